@@ -1,0 +1,9 @@
+pub mod Values
+pub mod WorkingMemory
+pub mod Matching
+pub mod Instances
+pub mod ConflictSet
+pub mod Dominance
+pub mod Refraction
+pub mod Expression
+pub mod Valid

@@ -2,5 +2,16 @@
 //! found by direct matching.
 #![tactic(auto)]
 
+pub mod actions;
+pub mod commands;
+pub mod conditions;
+pub mod direct;
+pub mod elements;
+pub mod endings;
+pub mod expression;
 pub mod list;
+pub mod matching;
 pub mod memory;
+pub mod programs;
+pub mod rules;
+pub mod values;

@@ -1,0 +1,48 @@
+-- What an instantiation is and what the conflict set is, apart from how they are found.
+use Rattle.std.specs.Prelude.{◌≡◌, ℕ, ◌<◌, List, [], ◌∷◌, ◌⊎◌, Some, None, slice_get}
+use Rattle.std.specs.Bool.{MatchBool}
+use Rattle.ops_base.specs.declared.elements.Element.{Element}
+use Rattle.ops_base.specs.declared.conditions.Condition.{Condition}
+use Rattle.ops_base.specs.declared.rules.Rule.{Rule}
+use Rattle.ops_base.specs.declared.rules.Inst.{Inst}
+use Rattle.ops_base.specs.declared.matching.Binding.{Binding}
+use Rattle.ops_base.specs.Matching.{match_of}
+
+-- x is an item of the list
+abbrev pub IsMember : {X : Type 0} → X → List X → Type 0
+IsMember x [] = ⊥
+IsMember x (y ∷ ys) = (x ≡ y) ⊎ IsMember x ys
+
+-- Walking the conditions from these bindings, the tags name an element of working memory for each positive condition,
+-- which it meets, and no element of working memory meets a negated one. At the end no tag is left.
+abbrev pub Meets : List Element → List Condition → List Binding → List ℕ → Type 0
+Meets wm [] bindings tags = tags ≡ []
+Meets wm (c ∷ cs) bindings tags =
+    MatchBool c.negated
+    (((e : Element) → IsMember e wm → match_of c e bindings ≡ None) × Meets wm cs bindings tags)
+    ((e : Element) × (next : List Binding) × (rest : List ℕ) × IsMember e wm × (match_of c e bindings ≡ Some next) × (tags ≡ e.tag ∷ rest) × Meets wm cs next rest)
+
+-- a rule with tags that meet its conditions
+abbrev pub IsInst : List Rule → List Element → Inst → Type 0
+IsInst rules wm i = (r : Rule) × (slice_get rules i.rule ≡ Some r) × Meets wm r.conditions [] i.tags
+
+-- the tags at the first difference are smaller, or there are fewer
+abbrev pub TagsBefore : List ℕ → List ℕ → Type 0
+TagsBefore xs [] = ⊥
+TagsBefore [] (y ∷ ys) = Unit {0}
+TagsBefore (x ∷ xs) (y ∷ ys) = (x < y) ⊎ ((x ≡ y) × TagsBefore xs ys)
+
+-- by rule, then by tags
+abbrev pub Before : Inst → Inst → Type 0
+Before i j = (i.rule < j.rule) ⊎ ((i.rule ≡ j.rule) × TagsBefore i.tags j.tags)
+
+-- each is before all that follow it, so each is there once
+abbrev pub IsInOrder : List Inst → Type 0
+IsInOrder [] = Unit {0}
+IsInOrder (i ∷ is) = ((j : Inst) → IsMember j is → Before i j) × IsInOrder is
+
+-- The conflict set: all instantiations, in the order of rule and then tags, each once.
+pub record IsConflictSet (rules : List Rule) (wm : List Element) (set : List Inst) : Type 0 where
+  pub sound : (i : Inst) → IsMember i set → IsInst rules wm i
+  pub complete : (i : Inst) → IsInst rules wm i → IsMember i set
+  pub in_order : IsInOrder set

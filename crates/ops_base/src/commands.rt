@@ -1,0 +1,35 @@
+//! The commands of a program.
+
+use crate::list::Listed;
+use crate::values::{Sym, Value};
+
+/// The constants given for one attribute.
+#[derive(Drop)]
+pub struct Fixed {
+    pub field: usize,
+    pub values: Listed<Value>,
+}
+
+/// How instantiations are ordered.
+#[derive(Clone, Copy, Debug, PartialEq, Eq)]
+pub enum Strategy {
+    Lex,
+    Mea,
+}
+
+#[derive(Drop)]
+pub enum Command {
+    Make { class: usize, puts: Listed<Fixed> },
+    Remove { tags: Listed<u64> },
+    RemoveAll,
+    Run { count: Option<u64> },
+    Wm { tags: Listed<u64> },
+    /// The class and the constants that a printed element must have.
+    Ppwm { pattern: Option<(usize, Listed<Fixed>)> },
+    Cs,
+    Pm { names: Listed<Sym> },
+    Strategy { set: Option<Strategy> },
+    Watch { set: Option<u8> },
+    Pbreak { names: Listed<Sym> },
+    Exit,
+}

@@ -1,0 +1,151 @@
+//! The conflict set by looking at every element of working memory for every condition.
+ghost use Rattle.std.specs.Prelude.{◌≡◌, List, ℕ, ◌++◌, ◌∷◌, [], OnOk, IfOk};
+ghost use Rattle.std.specs.List.{flat_map};
+ghost use Rattle.ops_base.specs.WorkingMemory.{HasRisingTags};
+ghost use Rattle.ops_base.specs.ConflictSet.{some_meets, extended, at_condition, walk, empty_partial, matches_of, insts_of, conflict_set};
+
+use crate::conditions::Condition;
+use crate::elements::Element;
+use crate::list::Listed;
+use crate::matching::{Binding, matched};
+use crate::memory::OutOfMemory;
+use crate::programs::Program;
+use crate::rules::{Inst, Rule};
+use std::alloc::Global;
+
+/// The tags of the elements that meet the first positive conditions, with the bindings that they gave.
+#[derive(Drop)]
+pub struct Partial {
+    pub tags: Listed<u64>,
+    pub bindings: Listed<Binding>,
+}
+
+fn some_element_meets(
+    alloc: Global,
+    wm: &[Element],
+    condition: &Condition,
+    bindings: &[Binding],
+) -> Result<bool, OutOfMemory>
+    ensures { IfOk result (λ b. b ≡ some_meets wm.now condition.now bindings.now) }
+{
+    for e in wm {
+        if matched(alloc, condition, e, bindings)?.is_some() {
+            return Ok(true);
+        }
+    }
+    Ok(false)
+}
+
+fn with_tag(alloc: Global, tags: &[u64], tag: u64) -> Result<Listed<u64>, OutOfMemory>
+    ensures { IfOk result (λ v. v ≡ tags.now ++ tag ∷ []) }
+{
+    let mut longer = Vec::from_slice(alloc, tags)?;
+    longer.push(tag)?;
+    Ok(Listed::from_vec(longer))
+}
+
+/// Adds the partial matches with one element more.
+fn extend(
+    alloc: Global,
+    wm: &[Element],
+    condition: &Condition,
+    from: &Partial,
+    found: &mut Vec<Partial>,
+) -> Result<(), OutOfMemory>
+    ensures { OnOk result (found.new.items ≡ found.old.items ++ flat_map (extended condition.now from.now) wm.now) }
+{
+    for e in wm {
+        if let Some(bindings) = matched(alloc, condition, e, from.bindings.as_slice())? {
+            let tags = with_tag(alloc, from.tags.as_slice(), e.tag)?;
+            let bindings = Listed::from_vec(bindings);
+            found.push(Partial { tags, bindings })?;
+        }
+    }
+    Ok(())
+}
+
+/// Adds what one partial match gives at one condition.
+fn pass_condition(
+    alloc: Global,
+    wm: &[Element],
+    condition: &Condition,
+    from: Partial,
+    found: &mut Vec<Partial>,
+) -> Result<(), OutOfMemory>
+    ensures { OnOk result (found.new.items ≡ found.old.items ++ at_condition wm.now condition.now from) }
+{
+    if !condition.negated {
+        return extend(alloc, wm, condition, &from, found);
+    }
+    if !some_element_meets(alloc, wm, condition, from.bindings.as_slice())? {
+        found.push(from)?;
+    }
+    Ok(())
+}
+
+fn pass_all(
+    alloc: Global,
+    wm: &[Element],
+    condition: &Condition,
+    from: Vec<Partial>,
+) -> Result<Vec<Partial>, OutOfMemory>
+    ensures { IfOk result (λ v. v.items ≡ flat_map (at_condition wm.now condition.now) from.items) }
+{
+    let mut found = Vec::new(alloc);
+    for p in from {
+        pass_condition(alloc, wm, condition, p, &mut found)?;
+    }
+    Ok(found)
+}
+
+fn walk_conditions(
+    alloc: Global,
+    wm: &[Element],
+    conditions: &[Condition],
+) -> Result<Vec<Partial>, OutOfMemory>
+    ensures { IfOk result (λ v. v.items ≡ matches_of wm.now conditions.now) }
+{
+    let mut found = Vec::new(alloc);
+    found.push(Partial {
+        tags: Listed::new(alloc),
+        bindings: Listed::new(alloc),
+    })?;
+    for condition in conditions {
+        found = pass_all(alloc, wm, condition, found)?;
+    }
+    Ok(found)
+}
+
+fn add_insts(rule: usize, from: Vec<Partial>, found: &mut Vec<Inst>) -> Result<(), OutOfMemory>
+    ensures { OnOk result (found.new.items ≡ found.old.items ++ insts_of rule from.items) }
+{
+    for p in from {
+        found.push(Inst { rule, tags: p.tags })?;
+    }
+    Ok(())
+}
+
+/// The instantiations of these rules.
+fn insts(alloc: Global, rules: &[Rule], wm: &[Element]) -> Result<Vec<Inst>, OutOfMemory>
+    ensures { IfOk result (λ v. v.items ≡ conflict_set rules.now wm.now) }
+{
+    let mut found = Vec::new(alloc);
+    for (rule, r) in rules.iter().enumerate() {
+        let partials = walk_conditions(alloc, wm, r.conditions.as_slice())?;
+        add_insts(rule, partials, &mut found)?;
+    }
+    Ok(found)
+}
+
+/// The conflict set, in the order of rule number and then tags, each instantiation once.
+pub fn direct_set(
+    alloc: Global,
+    program: &Program,
+    wm: &[Element],
+) -> Result<Listed<Inst>, OutOfMemory>
+    requires { HasRisingTags wm.now }
+    ensures { IfOk result (λ set. set ≡ conflict_set program.now.rules wm.now) }
+{
+    let found = insts(alloc, program.rules.as_slice(), wm)?;
+    Ok(Listed::from_vec(found))
+}
