@@ -7,3 +7,4 @@ pub mod Dominance
 pub mod Refraction
 pub mod Expression
 pub mod Valid
+pub mod Names
