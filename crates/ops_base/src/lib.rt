@@ -2,5 +2,6 @@
 //! found by direct matching.
 #![tactic(auto)]
 
+pub mod expression;
 pub mod list;
 pub mod memory;
