@@ -18,9 +18,10 @@ use Rattle.ops_base.specs.declared.actions.Action.TheVariants as action
 use Rattle.ops_base.specs.Values.{nil}
 use Rattle.ops_base.specs.Valid.{class_of}
 use Rattle.ops_base.specs.Names.{Spellings}
-use Rattle.ops_base.specs.WorkingMemory.{without_tag}
+use Rattle.ops_base.specs.WorkingMemory.{change_done}
 use Rattle.ops_base.specs.Matching.{match_of, value_of}
 use Rattle.ops_io.specs.Output.{column_after}
+use Rattle.ops_meaning.specs.declared.states.Doing.{Doing}
 use Rattle.ops_meaning.specs.Effects.{Effect, writes, and_then}
 use Rattle.ops_meaning.specs.Layout.{value_text, gap}
 
@@ -47,12 +48,9 @@ pub record Scene : Type 0 where
   pub bindings : List Binding
   pub tags : List ℕ
 
--- what the actions change: working memory, the last tag, the changes so far, and whether `halt` was done
-pub record Doing : Type 0 where
-  pub wm : List Element
-  pub last : ℕ
-  pub changes : List Change
-  pub halted : Bool
+-- one change to working memory is done
+abbrev pub changed : Doing → Change → Doing
+changed d c = record d { wm = change_done d.wm c }
 
 -- the value of a term; the other terms stand in no text yet
 abbrev pub term_value : List Binding → Term → Value
@@ -79,8 +77,7 @@ has_tag wm tag = list_any (λ e. e.tag == tag) wm
 
 -- Removing an absent element does nothing.
 abbrev pub removed : Doing → ℕ → Doing
-removed d tag =
-    if has_tag d.wm tag then record d { wm = without_tag tag d.wm; changes = d.changes ++ change.Remove tag ∷ [] } else d
+removed d tag = if has_tag d.wm tag then changed d (change.Remove tag) else d
 
 abbrev pub cell_tag : List ℕ → ℕ → ℕ
 cell_tag tags cell = unwrap_or (slice_get tags cell) 0
@@ -98,8 +95,7 @@ fields_of bindings count puts = fold (λ fields p. slice_set fields p.field (fir
 -- the element gets the next tag
 abbrev pub made : Doing → ℕ → List Value → Doing
 made d class fields =
-    let e : Element = record { tag = d.last + 1; class = class; fields = fields } in
-    record d { wm = d.wm ++ e ∷ []; last = d.last + 1; changes = d.changes ++ change.Add e ∷ [] }
+    changed (record d { last = d.last + 1 }) (change.Add (record { tag = d.last + 1; class = class; fields = fields }))
 
 -- ---- actions
 

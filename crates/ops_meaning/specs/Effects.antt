@@ -28,13 +28,21 @@ going_on bytes (Err e) next = record { bytes = bytes; outcome = Err e }
 abbrev pub and_then : {S T : Type 0} → ℕ → Effect S → (ℕ → S → Effect T) → Effect T
 and_then column e next = going_on e.bytes e.outcome (next (column_after column e.bytes))
 
--- What a call that does this leaves: the bytes are put and the outcome is the effect's; or the sink refused or memory
--- ran out, and the sink has a prefix.
+-- What a call leaves that came to an ending of its effect, was refused by the sink or lacked memory. All was put before
+-- an ending of the effect's own; of the other two the sink has a prefix.
+abbrev pub Fails : {S : Type 0} → Ending → Port → Port → Effect S → Type 0
+Fails ending.WriteFault old new e = Stopped stop.Write old new e.bytes
+Fails ending.OutOfMemory old new e = Stopped stop.OutOfMemory old new e.bytes
+Fails f old new e = (e.outcome ≡ Err f) × Put old new e.bytes
+
+-- What a call that does this leaves.
 abbrev pub Performs : {X S : Type 0} → (X → S) → Result X Ending → Port → Port → Effect S → Type 0
 Performs view (Ok x) old new e = (e.outcome ≡ Ok (view x)) × Put old new e.bytes
-Performs view (Err ending.WriteFault) old new e = Stopped stop.Write old new e.bytes
-Performs view (Err ending.OutOfMemory) old new e = Stopped stop.OutOfMemory old new e.bytes
-Performs view (Err f) old new e = (e.outcome ≡ Err f) × Put old new e.bytes
+Performs view (Err f) old new e = Fails f old new e
+
+-- What a call that writes these bytes and leaves nothing else to tell leaves.
+abbrev pub Puts : {X : Type 0} → Result X Ending → Port → Port → List ℕ → Type 0
+Puts r old new bytes = let e : Effect (Unit {0}) = writes bytes tt in Performs (λ _. tt) r old new e
 
 -- Of the whole this rest is still to come, and what comes before it was put.
 pub record Pending {S : Type 0} (start now : Port) (whole rest : Effect S) : Type 0 where

@@ -22,7 +22,7 @@ fresh_line column = if column == 0 then [] else 10 ∷ []
 
 -- a line of its own
 abbrev pub line_at : ℕ → List ℕ → List ℕ
-line_at column text = fresh_line column ++ text ++ 10 ∷ []
+line_at column text = fresh_line column ++ (text ++ 10 ∷ [])
 
 -- the line that tells an ending
 abbrev pub last_line : ℕ → Ending → List ℕ

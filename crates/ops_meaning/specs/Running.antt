@@ -3,6 +3,7 @@ use Rattle.std.specs.Prelude.{ℕ, zero, suc, ◌+◌, ◌-◌, List, [], ◌∷
 use Rattle.ops_base.specs.declared.values.Value.{Value}
 use Rattle.ops_base.specs.declared.elements.Class.{Class}
 use Rattle.ops_base.specs.declared.elements.Element.{Element}
+use Rattle.ops_base.specs.declared.elements.Change.TheVariants as change
 use Rattle.ops_base.specs.declared.conditions.Condition.{Condition}
 use Rattle.ops_base.specs.declared.actions.Action.{Action}
 use Rattle.ops_base.specs.declared.rules.Rule.{Rule}
@@ -16,24 +17,21 @@ use Rattle.ops_base.specs.declared.endings.Ending.TheVariants as ending
 use Rattle.ops_base.specs.Values.{nil}
 use Rattle.ops_base.specs.Names.{Spellings}
 use Rattle.ops_base.specs.Valid.{class_of}
+use Rattle.ops_base.specs.WorkingMemory.{change_done}
 use Rattle.ops_base.specs.Refraction.{unfired, still_fired, dominant}
 use Rattle.ops_io.specs.Output.{column_after}
+use Rattle.ops_meaning.specs.declared.states.Doing.{Doing}
+use Rattle.ops_meaning.specs.declared.states.Memory.{Memory}
+use Rattle.ops_meaning.specs.declared.states.Fired.{Fired}
 use Rattle.ops_meaning.specs.Effects.{Effect, writes, ends_with, and_then}
 use Rattle.ops_meaning.specs.Layout.{line_at}
-use Rattle.ops_meaning.specs.Acting.{Scene, Doing, bindings_of, actions_done}
+use Rattle.ops_meaning.specs.Acting.{Scene, bindings_of, actions_done}
 
 -- what stands still during a session
 pub record Setting : Type 0 where
   pub names : Spellings
   pub classes : List Class
   pub rules : List Rule
-
--- working memory, the instantiations that are marked as fired, how many firings were made, and the last tag
-pub record Memory : Type 0 where
-  pub wm : List Element
-  pub fired : List Inst
-  pub firings : ℕ
-  pub last : ℕ
 
 abbrev pub nothing_yet : Memory
 nothing_yet = record { wm = []; fired = []; firings = 0; last = 0 }
@@ -59,15 +57,10 @@ abbrev pub after_firing : List Rule → Inst → Memory → Doing → Memory
 after_firing rules i m d =
     record { wm = d.wm; fired = still_fired rules d.wm (m.fired ++ i ∷ []); firings = m.firings + 1; last = d.last }
 
--- what a firing leaves, and whether `halt` was done
-pub record Fired : Type 0 where
-  pub memory : Memory
-  pub halted : Bool
-
 abbrev pub firing : Setting → ℕ → Inst → Memory → Effect Fired
 firing s column i m =
     and_then column
-    (actions_done (scene_of s i m) column (actions_of s.rules i.rule) (record { wm = m.wm; last = m.last; changes = []; halted = false }))
+    (actions_done (scene_of s i m) column (actions_of s.rules i.rule) (record { wm = m.wm; last = m.last; halted = false }))
     (λ next d. writes [] (record { memory = after_firing s.rules i m d; halted = d.halted }))
 
 -- ---- a run
@@ -101,7 +94,8 @@ fixed_fields count puts = fold (λ fields p. slice_set fields p.field (first_con
 -- A top-level `make` is one phase.
 abbrev pub made_at_top : Setting → ℕ → List Fixed → Memory → Memory
 made_at_top s class puts m =
-    let wm : List Element = m.wm ++ record { tag = m.last + 1; class = class; fields = fixed_fields (length (class_of s.classes class).attrs) puts } ∷ [] in
+    let e : Element = record { tag = m.last + 1; class = class; fields = fixed_fields (length (class_of s.classes class).attrs) puts } in
+    let wm = change_done m.wm (change.Add e) in
     record { wm = wm; fired = still_fired s.rules wm m.fired; firings = m.firings; last = m.last + 1 }
 
 -- what one command does from a column on; the other commands stand in no text yet

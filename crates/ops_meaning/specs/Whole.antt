@@ -9,10 +9,11 @@ use Rattle.ops_io.specs.Outside.{GrewBy, GrewByPrefix}
 use Rattle.ops_io.specs.Output.{column_after}
 use Rattle.ops_meaning.specs.declared.statuses.Status.{Status}
 use Rattle.ops_meaning.specs.declared.statuses.Status.TheVariants as status
+use Rattle.ops_meaning.specs.declared.states.Memory.{Memory}
 use Rattle.ops_meaning.specs.Effects.{Effect}
 use Rattle.ops_meaning.specs.Layout.{usage_line, unread_line, last_line}
 use Rattle.ops_meaning.specs.Reads.{Read, reads}
-use Rattle.ops_meaning.specs.Running.{Setting, Memory, session_of, ending_of}
+use Rattle.ops_meaning.specs.Running.{Setting, session_of, ending_of}
 
 -- the bytes that are written, and the status
 pub record Outcome : Type 0 where
