@@ -78,12 +78,8 @@ impl Shelf for MemShelf {
         ensures kept { self.new ≡ record self.old { names = self.new.names; faults = self.new.faults } }
     {
         let alloc = *into.allocator();
-        let Ok(kept) = Vec::from_slice(alloc, name.as_bytes()) else {
-            return Err(LoadError::OutOfMemory);
-        };
-        if self.names.push(kept).is_err() {
-            return Err(LoadError::OutOfMemory);
-        }
+        let kept = Vec::from_slice(alloc, name.as_bytes())?;
+        self.names.push(kept)?;
         let call = self.names.len() as u64;
         if self.failing.contains(&call) {
             self.faults += 1;
@@ -96,9 +92,7 @@ impl Shelf for MemShelf {
         if bytes.len() > room {
             return Ok(false);
         }
-        if into.extend_from_slice(bytes).is_err() {
-            return Err(LoadError::OutOfMemory);
-        }
+        into.extend_from_slice(bytes)?;
         Ok(true)
     }
 }

@@ -4,7 +4,7 @@ ghost use Rattle.std.specs.Io.{ReadsAtMost};
 ghost use Rattle.ops_io.specs.Outside.{CountsFailure, ReadGives, WriteGives, LoadGives, LoadCounts, LoadNames};
 ghost use Rattle.ops_io.specs.declared.outside.LoadError.TheVariants as load;
 
-use std::alloc::AllocError;
+use std::alloc::{AllocError, AllocFailed};
 
 /// A device refused.
 #[derive(Clone, Copy, Debug, PartialEq, Eq)]
@@ -23,6 +23,14 @@ impl From<AllocError> for LoadError {
     ghost from_gives = { λ _ why. why ≡ load.OutOfMemory };
 
     fn from(_error: AllocError) -> Self {
+        LoadError::OutOfMemory
+    }
+}
+
+impl<T: Drop> From<AllocFailed<T>> for LoadError {
+    ghost from_gives = { λ _ why. why ≡ load.OutOfMemory };
+
+    fn from(_error: AllocFailed<T>) -> Self {
         LoadError::OutOfMemory
     }
 }

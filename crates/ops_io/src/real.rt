@@ -174,12 +174,8 @@ impl<'r, R: Files> Shelf for StdShelf<'r, R> {
     /// Reads the file into memory of its own first, so that a refusal leaves `into` unchanged.
     fn load(&mut self, name: &str, room: usize, into: &mut Vec<u8>) -> Result<bool, LoadError> {
         let alloc = *into.allocator();
-        let Ok(kept) = Vec::from_slice(alloc, name.as_bytes()) else {
-            return Err(LoadError::OutOfMemory);
-        };
-        if self.names.push(kept).is_err() {
-            return Err(LoadError::OutOfMemory);
-        }
+        let kept = Vec::from_slice(alloc, name.as_bytes())?;
+        self.names.push(kept)?;
         match read_file(self.rt, alloc, name, room) {
             Ok(Some(text)) => {
                 into.extend_from_slice(&text)?;
