@@ -1,1 +1,4 @@
 pub mod Scenes
+pub mod Lines
+pub mod Told
+pub mod Calls

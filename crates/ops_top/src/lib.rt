@@ -2,5 +2,14 @@
 #![tactic(auto)]
 
 pub mod acting;
+pub mod answer;
 pub mod bindings;
+pub mod files;
+pub mod lines;
 pub mod printing;
+pub mod saying;
+pub mod session;
+
+pub mod words;
+
+
