@@ -3,6 +3,8 @@ ghost use Rattle.std.specs.Prelude.{◌≡◌, List, ℕ, ◌++◌, ◌∷◌, [
 ghost use Rattle.std.specs.List.{flat_map};
 ghost use Rattle.ops_base.specs.WorkingMemory.{HasRisingTags};
 ghost use Rattle.ops_base.specs.ConflictSet.{some_meets, extended, at_condition, walk, empty_partial, matches_of, insts_of, conflict_set};
+ghost use Rattle.ops_base.specs.Instances.{IsConflictSet};
+ghost use Rattle.ops_base.specs.declared.rules.Inst.{Inst};
 
 use crate::conditions::Condition;
 use crate::elements::Element;
@@ -144,7 +146,10 @@ pub fn direct_set(
     wm: &[Element],
 ) -> Result<Listed<Inst>, OutOfMemory>
     requires { HasRisingTags wm.now }
-    ensures { IfOk result (λ set. set ≡ conflict_set program.now.rules wm.now) }
+    ensures set { IfOk result (λ set. IsConflictSet program.now.rules wm.now set) }
+    ensures only { IfOk result
+        (λ set. (other : List Inst) → IsConflictSet program.now.rules wm.now other → other ≡ set) }
+    ensures computed { IfOk result (λ set. set ≡ conflict_set program.now.rules wm.now) }
 {
     let found = insts(alloc, program.rules.as_slice(), wm)?;
     Ok(Listed::from_vec(found))
