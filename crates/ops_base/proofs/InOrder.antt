@@ -1,11 +1,13 @@
 -- The matches that the walk finds stand in the order of their tags.
-use Rattle.std.proofs.Common.{◌≡◌, ℕ, ◌+◌, ◌<◌, List, [], ◌∷◌, ◌++◌, map, length, Bool, true, false, cond, not, Option, Some, None, refl, ap, sym, ◌∙◌, subst, inl, inr, arith, length-append}
+use Rattle.std.proofs.Common.{◌≡◌, ℕ, suc, ◌+◌, ◌<◌, List, [], ◌∷◌, ◌++◌, map, length, Bool, true, false, cond, not, Option, Some, None, refl, ap, sym, ◌∙◌, subst, inl, inr, arith, length-append}
 use Rattle.std.proofs.lemmas.List.{append-nil}
 use Rattle.std.proofs.lemmas.Cmp.{ranked}
 use Rattle.std.proofs.lemmas.Map.Keys.{sorted_from_strictly_increasing}
 use Rattle.std.specs.declared.cmp.Ordering.TheVariants.{Less}
 use Rattle.std.specs.Ordering.{nat_cmp}
-use Rattle.std.specs.List.{flat_map, AllByRecursion}
+use Rattle.std.proofs.lemmas.List.Elements.{All-nil, All-cons, recursion_from_All}
+use Rattle.std.proofs.lemmas.List.Kept.{AllPairs-cons}
+use Rattle.std.specs.List.{flat_map, All, AllPairs, AllByRecursion}
 use Rattle.std.specs.List.Sorted.{IsStrictlySortedBy}
 use Rattle.ops_base.specs.declared.elements.Element.{Element}
 use Rattle.ops_base.specs.declared.conditions.Condition.{Condition}
@@ -49,6 +51,31 @@ all_before-map {X} {Y} S R f (x ∷ xs) h a = (
   λ y m. (let g = map_member f y xs m in let P : Y → Type 0 = R (f x) in subst P (sym g.2) (h x g.0 (a.0 g.0 g.1))),
   all_before-map S R f xs h a.1,
 )
+
+-- what holds of each member holds at each index
+all_from_members : {X : Type 0} (P : X → Type 0) (xs : List X) → ((y : X) → IsMember y xs → P y) → All P xs
+all_from_members P [] h = All-nil P
+all_from_members P (x ∷ xs) h = All-cons P x xs (h x (inl refl)) (all_from_members P xs (λ y m. h y (inr m)))
+
+-- what holds of each item holds of each member
+members_from_each : {X : Type 0} (P : X → Type 0) (xs : List X) → AllByRecursion P xs → (y : X) → IsMember y xs → P y
+members_from_each P [] h y m = absurd m
+members_from_each P (x ∷ xs) h y (inl e) = subst P (sym e) h.0
+members_from_each P (x ∷ xs) h y (inr m) = members_from_each P xs h.1 y m
+
+-- items in order are in order at each two places
+pub all_pairs_from_before : {X : Type 0} (R : X → X → Type 0) (xs : List X) → AllBefore R xs → AllPairs R xs
+all_pairs_from_before R [] a = λ i j d l h. absurd (omega arith)
+all_pairs_from_before R (x ∷ xs) a =
+    AllPairs-cons R x xs (all_from_members (R x) xs a.0) (all_pairs_from_before R xs a.1)
+
+-- items that are in order at each two places are in order
+pub before_from_all_pairs : {X : Type 0} (R : X → X → Type 0) (xs : List X) → AllPairs R xs → AllBefore R xs
+before_from_all_pairs R [] a = tt
+before_from_all_pairs {X} R (x ∷ xs) a =
+    let head : All (R x) xs = λ k d h. a 0 (suc k) d (omega arith) (omega arith) in
+    let tail : AllPairs R xs = λ i j d l h. a (suc i) (suc j) d (omega arith) (omega arith) in
+    (members_from_each (R x) xs (recursion_from_All (R x) xs head), before_from_all_pairs R xs tail)
 
 -- the element stands before the other by its tag
 abbrev pub TagBelow : Element → Element → Type 0
