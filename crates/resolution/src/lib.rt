@@ -39,21 +39,31 @@ fn first_of(tags: &[u64]) -> u64
     }
 }
 
-/// The key of an instantiation of one of the program's productions. It copies the tags twice and sorts one copy.
-pub fn key(alloc: Global, program: &Program, inst: &Inst) -> Result<Key, OutOfMemory>
-    requires { inst.now.rule < length program.now.rules }
-    ensures { IfOk result (λ key. IsKey program.now.rules inst.now key) }
+fn key_of(alloc: Global, rule: usize, specificity: u32, tags: &[u64]) -> Result<Key, OutOfMemory>
+    ensures first { IfOk result (λ key. key.first ≡ unwrap_or (slice_get tags.now 0) 0) }
+    ensures sorted { IfOk result (λ key. key.sorted ≡ downwards tags.now) }
+    ensures specificity { IfOk result (λ key. key.specificity ≡ specificity) }
+    ensures rule { IfOk result (λ key. key.rule ≡ rule) }
+    ensures tags { IfOk result (λ key. key.tags ≡ tags.now) }
 {
-    let tags = inst.tags.as_slice();
     let sorted = sorted_downwards(alloc, tags)?;
     let copy = Vec::from_slice(alloc, tags)?;
     Ok(Key {
         first: first_of(tags),
         sorted: Listed::from_vec(sorted),
-        specificity: program.rules.as_slice()[inst.rule].specificity,
-        rule: inst.rule,
+        specificity,
+        rule,
         tags: Listed::from_vec(copy),
     })
+}
+
+/// The key of an instantiation of one of the program's productions. It copies the tags twice and sorts one copy.
+pub fn key(alloc: Global, program: &Program, inst: &Inst) -> Result<Key, OutOfMemory>
+    requires { inst.now.rule < length program.now.rules }
+    ensures { IfOk result (λ key. IsKey program.now.rules inst.now key) }
+{
+    let specificity = program.rules.as_slice()[inst.rule].specificity;
+    key_of(alloc, inst.rule, specificity, inst.tags.as_slice())
 }
 
 /// The first difference decides. Where one list is the beginning of the other, the longer is greater.
@@ -111,4 +121,97 @@ pub fn compare(strategy: Strategy, a: &Key, b: &Key) -> Ordering
     ensures total_order { IsTotalOrder (compare_keys strategy) }
 {
     compare_by(strategy, a, b)
+}
+
+#[cfg(test)]
+mod tests {
+    use super::*;
+    use ops_base::conditions::Condition;
+    use ops_base::elements::Class;
+    use ops_base::rules::Rule;
+    use ops_base::values::Sym;
+    use std::test::Fail;
+
+    /// `(literalize a) (p first (a) --> )`
+    fn first(alloc: Global) -> Result<Program, OutOfMemory>
+        ensures { IfOk result (λ p. length p.rules ≡ 1) }
+    {
+        let mut classes = Vec::new(alloc);
+        classes.push(Class {
+            name: Sym(1),
+            attrs: Listed::new(alloc),
+            vector: false,
+        })?;
+        let mut conditions = Vec::new(alloc);
+        conditions.push(Condition {
+            class: 0,
+            negated: false,
+            tests: Listed::new(alloc),
+        })?;
+        let mut rules = Vec::new(alloc);
+        rules.push(Rule {
+            name: Sym(2),
+            conditions: Listed::from_vec(conditions),
+            actions: Listed::new(alloc),
+            specificity: 1,
+            variables: 0,
+            cells: 1,
+            first: 0,
+            past: 0,
+        })?;
+        Ok(Program::new(
+            Listed::from_vec(classes),
+            Listed::from_vec(rules),
+            Listed::new(alloc),
+            Listed::new(alloc),
+        ))
+    }
+
+    #[test]
+    fn a_key_has_what_decides(rt: HostRuntime) -> Result<(), Fail> {
+        let program = first(rt.alloc())?;
+        let tags = Listed::from_vec(Vec::from_slice(rt.alloc(), &[4])?);
+        let found = key(rt.alloc(), &program, &Inst { rule: 0, tags })?;
+        assert_eq!(rt; (found.first, found.specificity, found.rule), (4, 1, 0));
+        assert_eq!(rt; found.sorted.as_slice(), [4].as_slice());
+        assert_eq!(rt; found.tags.as_slice(), [4].as_slice());
+        Ok(())
+    }
+
+    #[test]
+    fn the_first_tag_decides_under_mea(rt: HostRuntime) -> Result<(), Fail> {
+        let old = key_of(rt.alloc(), 0, 3, &[1, 3])?;
+        let new = key_of(rt.alloc(), 1, 2, &[2])?;
+        assert_eq!(rt; compare(Strategy::Lex, &old, &new), Ordering::Greater);
+        assert_eq!(rt; compare(Strategy::Mea, &old, &new), Ordering::Less);
+        Ok(())
+    }
+
+    #[test]
+    fn the_longer_list_dominates(rt: HostRuntime) -> Result<(), Fail> {
+        let two = key_of(rt.alloc(), 0, 4, &[3, 2])?;
+        let three = key_of(rt.alloc(), 1, 3, &[3, 2, 1])?;
+        assert_eq!(rt; compare(Strategy::Lex, &three, &two), Ordering::Greater);
+        assert_eq!(rt; compare(Strategy::Lex, &two, &three), Ordering::Less);
+        Ok(())
+    }
+
+    #[test]
+    fn the_earlier_production_dominates(rt: HostRuntime) -> Result<(), Fail> {
+        let first = key_of(rt.alloc(), 0, 1, &[1])?;
+        let second = key_of(rt.alloc(), 1, 1, &[1])?;
+        assert_eq!(rt; compare(Strategy::Lex, &first, &second), Ordering::Greater);
+        Ok(())
+    }
+
+    #[test]
+    fn the_condition_order_decides_last(rt: HostRuntime) -> Result<(), Fail> {
+        let both = key_of(rt.alloc(), 0, 3, &[2, 2])?;
+        let down = key_of(rt.alloc(), 0, 3, &[2, 1])?;
+        let up = key_of(rt.alloc(), 0, 3, &[1, 2])?;
+        assert_eq!(rt; compare(Strategy::Lex, &both, &down), Ordering::Greater);
+        assert_eq!(rt; compare(Strategy::Lex, &down, &up), Ordering::Greater);
+        assert_eq!(rt; compare(Strategy::Lex, &up, &up), Ordering::Equal);
+        Ok(())
+    }
 }
