@@ -1,1 +1,3 @@
 pub mod Scenes
+pub mod Candidates
+pub mod Settings

@@ -3,4 +3,6 @@
 
 pub mod acting;
 pub mod bindings;
+pub mod choosing;
 pub mod printing;
+pub mod running;
