@@ -1,5 +1,5 @@
 -- Which instantiation fires, and which stay marked as fired.
-use Rattle.std.specs.Prelude.{◌≡◌, ◌≢◌, List, [], ◌∷◌, filter, fold, Bool, not, ◌==◌, ◌&&◌, bytes_eq, if◌then◌else◌, Option, Some, None, IsTrue}
+use Rattle.std.specs.Prelude.{◌≢◌, List, filter, fold, Bool, not, ◌==◌, ◌&&◌, bytes_eq, if◌then◌else◌, Option, Some, None, IsTrue}
 use Rattle.std.specs.List.{list_any}
 use Rattle.ops_base.specs.declared.elements.Element.{Element}
 use Rattle.ops_base.specs.declared.rules.Rule.{Rule}

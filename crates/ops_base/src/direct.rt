@@ -1,8 +1,10 @@
 //! The conflict set by looking at every element of working memory for every condition.
-ghost use Rattle.std.specs.Prelude.{◌≡◌, List, ℕ, ◌++◌, ◌∷◌, [], OnOk, IfOk};
+ghost use Rattle.std.specs.Prelude.{◌≡◌, List, ℕ, ◌++◌, ◌∷◌, [], OnOk, IfOk, true, false};
 ghost use Rattle.std.specs.List.{flat_map};
 ghost use Rattle.ops_base.specs.WorkingMemory.{HasRisingTags};
 ghost use Rattle.ops_base.specs.ConflictSet.{some_meets, extended, at_condition, walk, empty_partial, matches_of, insts_of, conflict_set};
+ghost use Rattle.ops_base.specs.Instances.{IsConflictSet};
+ghost use Rattle.ops_base.specs.declared.rules.Inst.{Inst};
 
 use crate::conditions::Condition;
 use crate::elements::Element;
@@ -143,9 +145,129 @@ pub fn direct_set(
     program: &Program,
     wm: &[Element],
 ) -> Result<Listed<Inst>, OutOfMemory>
-    requires { HasRisingTags wm.now }
-    ensures { IfOk result (λ set. set ≡ conflict_set program.now.rules wm.now) }
+    ensures computed { IfOk result (λ set. set ≡ conflict_set program.now.rules wm.now) }
+
+    // Where the tags rise, as those of working memory do, it is the one list that is a conflict set.
+    ensures set { IfOk result (λ set. HasRisingTags wm.now → IsConflictSet program.now.rules wm.now set) }
+    ensures only { IfOk result
+        (λ set. HasRisingTags wm.now → (other : List Inst) → IsConflictSet program.now.rules wm.now other → other ≡ set) }
 {
     let found = insts(alloc, program.rules.as_slice(), wm)?;
     Ok(Listed::from_vec(found))
+}
+
+#[cfg(test)]
+mod tests {
+    use super::*;
+    use crate::conditions::{Operand, Test};
+    use crate::elements::Class;
+    use crate::values::{Pred, Sym, Value};
+    use std::test::Fail;
+
+    fn one<T: Drop>(alloc: Global, item: T) -> Result<Listed<T>, OutOfMemory>
+        ensures { IfOk result (λ l. l ≡ item ∷ []) }
+    {
+        let mut items = Vec::new(alloc);
+        items.push(item)?;
+        Ok(Listed::from_vec(items))
+    }
+
+    fn two<T: Drop>(alloc: Global, first: T, second: T) -> Result<Listed<T>, OutOfMemory>
+        ensures { IfOk result (λ l. l ≡ first ∷ second ∷ []) }
+    {
+        let mut items = Vec::new(alloc);
+        items.push(first)?;
+        items.push(second)?;
+        Ok(Listed::from_vec(items))
+    }
+
+    fn element(alloc: Global, tag: u64, class: usize, n: i64) -> Result<Element, OutOfMemory>
+        ensures { IfOk result (λ e. e.tag ≡ tag) }
+    {
+        let fields = one(alloc, Value::Whole(n))?;
+        Ok(Element { tag, class, fields })
+    }
+
+    fn class(alloc: Global, name: u64) -> Result<Class, OutOfMemory>
+        ensures { IfOk result (λ c.
+            c ≡ record { name = record { 0 = name }; attrs = record { 0 = 9 } ∷ []; vector = false }) }
+    {
+        let name = Sym(name);
+        let attrs = one(alloc, Sym(9))?;
+        let vector = false;
+        Ok(Class {
+            name,
+            attrs,
+            vector,
+        })
+    }
+
+    /// Of the class whose first field is the first variable.
+    fn with_x(
+        alloc: Global,
+        class: usize,
+        negated: bool,
+        binds: bool,
+    ) -> Result<Condition, OutOfMemory>
+        ensures { IfOk result (λ c. c ≡ record { class = class; negated = negated; tests
+            = record { field = 0; pred = Pred.Eq; operand = Operand.Variable 0; binds = binds } ∷ [] }) }
+    {
+        let test = Test {
+            field: 0,
+            pred: Pred::Eq,
+            operand: Operand::Variable(0),
+            binds,
+        };
+        let tests = one(alloc, test)?;
+        Ok(Condition {
+            class,
+            negated,
+            tests,
+        })
+    }
+
+    /// `(p twin (a ^n <x>) (a ^n <x>) - (b ^n <x>) --> )`
+    fn twin(alloc: Global) -> Result<Program, OutOfMemory> {
+        let classes = two(alloc, class(alloc, 1)?, class(alloc, 2)?)?;
+        let mut conditions = Vec::new(alloc);
+        conditions.push(with_x(alloc, 0, false, true)?)?;
+        conditions.push(with_x(alloc, 0, false, false)?)?;
+        conditions.push(with_x(alloc, 1, true, false)?)?;
+        let rule = Rule {
+            name: Sym(3),
+            conditions: Listed::from_vec(conditions),
+            actions: Listed::new(alloc),
+            specificity: 5,
+            variables: 1,
+            cells: 2,
+            first: 0,
+            past: 0,
+        };
+        let rules = one(alloc, rule)?;
+        Ok(Program::new(
+            classes,
+            rules,
+            Listed::new(alloc),
+            Listed::new(alloc),
+        ))
+    }
+
+    #[test]
+    fn joins_and_blocks(rt: HostRuntime) -> Result<(), Fail> {
+        let alloc = rt.alloc();
+        let program = twin(alloc)?;
+        let wm = [
+            element(alloc, 1, 0, 5)?,
+            element(alloc, 2, 0, 5)?,
+            element(alloc, 3, 0, 6)?,
+            element(alloc, 4, 1, 6)?,
+        ];
+        let set = direct_set(alloc, &program, &wm)?.into_vec();
+        let mut tags = Vec::new(alloc);
+        for inst in &set {
+            tags.extend_from_slice(inst.tags.as_slice())?;
+        }
+        assert_eq!(rt; tags.as_slice(), [1, 1, 1, 2, 2, 1, 2, 2].as_slice());
+        Ok(())
+    }
 }

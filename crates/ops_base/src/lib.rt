@@ -6,6 +6,7 @@ pub mod actions;
 pub mod commands;
 pub mod conditions;
 pub mod direct;
+pub mod dominance;
 pub mod elements;
 pub mod endings;
 pub mod expression;

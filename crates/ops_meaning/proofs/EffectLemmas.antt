@@ -4,7 +4,7 @@ use Rattle.std.proofs.lemmas.List.{append-nil}
 use Rattle.ops_base.specs.declared.endings.Ending.{Ending}
 use Rattle.ops_base.specs.declared.endings.Ending.TheVariants as ending
 use Rattle.ops_io.specs.Output.{column_after}
-use Rattle.ops_io.specs.Ports.{Port, Put, Stopped}
+use Rattle.ops_io.specs.Ports.{Port, Put, Stopped, Underway}
 use Rattle.ops_io.specs.declared.stop.Stop.{Stop}
 use Rattle.ops_io.specs.declared.stop.Stop.TheVariants as stop
 use Rattle.ops_io.proofs.PortLemmas.{put_nothing, put_then, stopped_then, stopped_more, put_short}
@@ -137,3 +137,9 @@ puts_fail (ending.Done f n t) a b bytes s p = absurd (cc p.0)
 puts_fail (ending.Act f r n k) a b bytes s p = absurd (cc p.0)
 puts_fail (ending.Limit f) a b bytes s p = absurd (cc p.0)
 puts_fail ending.ReadFault a b bytes s p = absurd (cc p.0)
+
+-- a put that fails on the way ends what was to be put
+pub underway_fails : (f : Ending) (a b c : Port) (all rest xs more : List ℕ) → Underway a b all rest → rest ≡ xs ++ more → Fails f b c (told xs) → Fails f a c (told all)
+underway_fails f a b c all rest xs more u e p =
+    let P : List ℕ → Type 0 = λ ys. Fails f b c (told ys) in
+    pending_fails f a b c (told all) (told rest) (record { sofar = u.sofar; put = u.put; bytes = u.split; outcome = refl }) (subst P (sym e) (puts_stop f b c xs more p))

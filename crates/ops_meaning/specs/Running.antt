@@ -57,11 +57,15 @@ abbrev pub after_firing : List Rule → Inst → Memory → Doing → Memory
 after_firing rules i m d =
     record { wm = d.wm; fired = still_fired rules d.wm (m.fired ++ i ∷ []); firings = m.firings + 1; last = d.last }
 
+-- what a firing leaves whose actions left this
+abbrev pub fired_of : List Rule → Inst → Memory → Doing → Fired
+fired_of rules i m d = record { memory = after_firing rules i m d; halted = d.halted }
+
 abbrev pub firing : Setting → ℕ → Inst → Memory → Effect Fired
 firing s column i m =
     and_then column
     (actions_done (scene_of s i m) column (actions_of s.rules i.rule) (record { wm = m.wm; last = m.last; halted = false }))
-    (λ next d. writes [] (record { memory = after_firing s.rules i m d; halted = d.halted }))
+    (λ next d. writes [] (fired_of s.rules i m d))
 
 -- ---- a run
 

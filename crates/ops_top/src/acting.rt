@@ -1,5 +1,5 @@
 //! The right side of a production.
-ghost use Rattle.std.specs.Prelude.{◌≡◌, ◌^◌, ◌<◌, ◌+◌, IsTrue, IfOk, fold, length};
+ghost use Rattle.std.specs.Prelude.{◌≡◌, ◌^◌, ◌<◌, ◌+◌, IsTrue, IfOk, fold, length, true};
 ghost use Rattle.ops_io.specs.Ports.{port};
 ghost use Rattle.ops_meaning.specs.Effects.{Puts, Performs};
 ghost use Rattle.ops_meaning.specs.Acting.{term_value, item_bytes, items_bytes, has_tag, removed, cell_tag, first_value, fields_of, made, action_done, actions_done};
@@ -206,4 +206,86 @@ pub fn made(doing: Doing, class: usize, fields: Vec<Value>) -> Result<Doing, Out
         last: tag,
         halted,
     })
+}
+
+// ---- actions
+
+/// Does one action.
+fn act_one<K: Sink>(
+    alloc: Global,
+    scene: &Scene<'_>,
+    action: &Action,
+    doing: Doing,
+    out: &mut Out,
+    sink: &mut K,
+) -> Result<Doing, Ending>
+    requires whole { IsTrue out.old.whole }
+    requires faults { K.faults sink.old < 2 ^ 63 }
+    ensures { Performs (λ d. d) result (port (K.taken sink.old) (K.faults sink.old) out.old)
+        (port (K.taken sink.new) (K.faults sink.new) out.new)
+        (action_done (scene_of scene.now) out.old.column action.now doing) }
+{
+    match action {
+        Action::Make { class, puts } => match make(alloc, scene, *class, puts.as_slice(), doing) {
+            Ok(next) => Ok(next),
+            Err(_) => Err(Ending::OutOfMemory),
+        },
+        Action::Remove { cells } => match cells_removed(alloc, scene.tags, cells.as_slice(), doing) {
+            Ok(next) => Ok(next),
+            Err(_) => Err(Ending::OutOfMemory),
+        },
+        Action::Write { items } => match put_items(scene, items.as_slice(), out, sink) {
+            Ok(()) => Ok(doing),
+            Err(ending) => Err(ending),
+        },
+        Action::Halt => Ok(halted(doing)),
+        Action::Modify { .. } | Action::Bind { .. } | Action::Cbind { .. } => Ok(doing),
+    }
+}
+
+/// Makes the element of an action `make`.
+fn make(
+    alloc: Global,
+    scene: &Scene<'_>,
+    class: usize,
+    puts: &[Put],
+    doing: Doing,
+) -> Result<Doing, OutOfMemory>
+    ensures { IfOk result (λ d. d ≡ made doing class (fields_of scene.now.bindings.now (length (class_of scene.now.classes.now class).attrs) puts.now)) }
+{
+    let count = attribute_count(scene.classes, class);
+    let fields = fields_of(alloc, scene.bindings, count, puts)?;
+    made(doing, class, fields)
+}
+
+fn halted(doing: Doing) -> Doing
+    ensures { result ≡ record doing { halted = true } }
+{
+    Doing {
+        wm: doing.wm,
+        last: doing.last,
+        halted: true,
+    }
+}
+
+/// Does the actions of a right side in order.
+pub fn act<K: Sink>(
+    alloc: Global,
+    scene: &Scene<'_>,
+    actions: &[Action],
+    doing: Doing,
+    out: &mut Out,
+    sink: &mut K,
+) -> Result<Doing, Ending>
+    requires whole { IsTrue out.old.whole }
+    requires faults { K.faults sink.old < 2 ^ 63 }
+    ensures { Performs (λ d. d) result (port (K.taken sink.old) (K.faults sink.old) out.old)
+        (port (K.taken sink.new) (K.faults sink.new) out.new)
+        (actions_done (scene_of scene.now) out.old.column actions.now doing) }
+{
+    let mut doing = doing;
+    for action in actions {
+        doing = act_one(alloc, scene, action, doing, out, sink)?;
+    }
+    Ok(doing)
 }

@@ -4,12 +4,11 @@
 pub mod acting;
 pub mod answer;
 pub mod bindings;
+pub mod choosing;
 pub mod files;
 pub mod lines;
 pub mod printing;
+pub mod running;
 pub mod saying;
 pub mod session;
-
 pub mod words;
-
-

@@ -1,0 +1,176 @@
+-- The conflict set as it is computed is the conflict set as it is defined, and no other list is.
+use Rattle.std.proofs.Common.{◌≡◌, ℕ, zero, suc, ◌+◌, ◌<◌, List, [], ◌∷◌, Some, refl, ap, sym, ◌∙◌, subst, inl, inr, arith}
+use Rattle.std.specs.Prelude.{slice_get}
+use Rattle.ops_base.specs.declared.elements.Element.{Element}
+use Rattle.ops_base.specs.declared.direct.Partial.{Partial}
+use Rattle.ops_base.specs.declared.rules.Rule.{Rule}
+use Rattle.ops_base.specs.declared.rules.Inst.{Inst}
+use Rattle.ops_base.specs.WorkingMemory.{HasRisingTags}
+use Rattle.ops_base.specs.ConflictSet.{matches_of, insts_of, insts_from, conflict_set}
+use Rattle.ops_base.specs.Instances.{IsMember, Meets, IsInst, TagsBefore, Before, IsInOrder, IsConflictSet}
+use Rattle.ops_base.proofs.Members.{member_left, member_right, member_cases, member-map, map_member}
+use Rattle.ops_base.proofs.WalkFinds.{matches_of-meets, meets-matches_of}
+use Rattle.ops_base.proofs.InOrder.{AllBefore, PartialBefore, all_before-append, all_before-map, matches_in_order}
+
+abbrev inst : ℕ → List ℕ → Inst
+inst n tags = record { rule = n; tags = tags }
+
+-- an instantiation of one of these rules, the first of which has number n
+pub record IsInstFrom (n : ℕ) (rules : List Rule) (wm : List Element) (i : Inst) : Type 0 where
+  pub place : ℕ
+  pub rule : Rule
+  pub number : i.rule ≡ n + place
+  pub there : slice_get rules place ≡ Some rule
+  pub meets : Meets wm rule.conditions [] i.tags
+
+-- what a rule's matches give are instantiations of that rule
+pub insts_of-rule : (n : ℕ) (ps : List Partial) (i : Inst) → IsMember i (insts_of n ps) → (p : Partial) × IsMember p ps × (i.rule ≡ n) × (i.tags ≡ p.tags)
+insts_of-rule n ps i m =
+    let r = map_member (λ (p : Partial). inst n p.tags) i ps m in
+    (r.0, r.1, ap (λ (w : Inst). w.rule) r.2, ap (λ (w : Inst). w.tags) r.2)
+
+-- a match's tags, with the rule, are among what the rule's matches give
+pub member-insts_of : (n : ℕ) (ps : List Partial) (p : Partial) (tags : List ℕ) → IsMember p ps → p.tags ≡ tags → IsMember (inst n tags) (insts_of n ps)
+member-insts_of n ps p tags m e =
+    let P : List ℕ → Type 0 = λ w. IsMember (inst n w) (insts_of n ps) in
+    subst P e (member-map (λ (q : Partial). inst n q.tags) p ps m)
+
+-- what is computed for these rules are instantiations of them
+pub insts_from-sound : (n : ℕ) (rules : List Rule) (wm : List Element) (i : Inst) → IsMember i (insts_from n rules wm) → IsInstFrom n rules wm i
+insts_from-sound n [] wm i m = absurd m
+insts_from-sound n (r ∷ rs) wm i m =
+    elim (member_cases i (insts_of n (matches_of wm r.conditions)) (insts_from (n + 1) rs wm) m) [
+      | inl a ↦ (let f = insts_of-rule n (matches_of wm r.conditions) i a in
+          let P : List ℕ → Type 0 = Meets wm r.conditions [] in record {
+            place = 0;
+            rule = r;
+            number = f.2 ∙ omega arith;
+            there = refl;
+            meets = subst P (sym f.3) (matches_of-meets wm r.conditions f.0 f.1);
+          })
+      | inr b ↦ (let f = insts_from-sound (n + 1) rs wm i b in record {
+        place = suc f.place;
+        rule = f.rule;
+        number = f.number ∙ omega arith;
+        there = f.there;
+        meets = f.meets;
+      })
+    ]
+
+-- what is computed for these rules has all instantiations of them
+pub insts_from-complete : (n : ℕ) (rules : List Rule) (wm : List Element) (k : ℕ) (tags : List ℕ) (r : Rule) → slice_get rules k ≡ Some r → Meets wm r.conditions [] tags → IsMember (inst (n + k) tags) (insts_from n rules wm)
+insts_from-complete n [] wm k tags r there meets = cc
+insts_from-complete n (s ∷ rs) wm zero tags r there meets =
+    let same : s ≡ r = cc in
+    let P : Rule → Type 0 = λ w. Meets wm w.conditions [] tags in
+    let f = meets-matches_of wm s.conditions tags (subst P (sym same) meets) in
+    let m = member-insts_of n (matches_of wm s.conditions) f.0 tags f.1 f.2 in
+    let e : n ≡ n + 0 = omega arith in
+    let Q : ℕ → Type 0 = λ w. IsMember (inst w tags) (insts_of n (matches_of wm s.conditions)) in
+    member_left (inst (n + 0) tags) (insts_of n (matches_of wm s.conditions)) (insts_from (n + 1) rs wm) (subst Q e m)
+insts_from-complete n (s ∷ rs) wm (suc k) tags r there meets =
+    let m = insts_from-complete (n + 1) rs wm k tags r there meets in
+    let e : (n + 1) + k ≡ n + suc k = omega arith in
+    let Q : ℕ → Type 0 = λ w. IsMember (inst w tags) (insts_from (n + 1) rs wm) in
+    member_right (inst (n + suc k) tags) (insts_of n (matches_of wm s.conditions)) (insts_from (n + 1) rs wm) (subst Q e m)
+
+-- the instantiations of rules from n on are in order
+pub insts_from-in_order : (n : ℕ) (rules : List Rule) (wm : List Element) → HasRisingTags wm → AllBefore Before (insts_from n rules wm)
+insts_from-in_order n [] wm h = tt
+insts_from-in_order n (r ∷ rs) wm h =
+    all_before-append Before (insts_of n (matches_of wm r.conditions)) (insts_from (n + 1) rs wm)
+    (all_before-map PartialBefore Before (λ (p : Partial). inst n p.tags) (matches_of wm r.conditions) (λ p q b. inr (refl, b)) (matches_in_order wm r.conditions h))
+    (insts_from-in_order (n + 1) rs wm h)
+    (λ i j mi mj.
+    let a = insts_of-rule n (matches_of wm r.conditions) i mi in
+    let b = insts_from-sound (n + 1) rs wm j mj in
+    let below : i.rule < j.rule = omega (arith, a.2, b.number) in
+    inl below)
+
+all_before-is : (is : List Inst) → AllBefore Before is → IsInOrder is
+all_before-is [] a = tt
+all_before-is (i ∷ is) a = (a.0, all_before-is is a.1)
+
+-- The list that is computed is the conflict set: it has the instantiations and no others, in order, each once.
+pub conflict_set-is : (rules : List Rule) (wm : List Element) → HasRisingTags wm → IsConflictSet rules wm (conflict_set rules wm)
+conflict_set-is rules wm h = record { sound = sound; complete = complete; in_order = all_before-is (conflict_set rules wm) (insts_from-in_order 0 rules wm h) }
+  where
+    sound : (i : Inst) → IsMember i (conflict_set rules wm) → IsInst rules wm i
+    sound i m =
+        let f = insts_from-sound 0 rules wm i m in
+        let e : i.rule ≡ f.place = omega (arith, f.number) in
+        (f.rule, ap (slice_get rules) e ∙ f.there, f.meets)
+
+    complete : (i : Inst) → IsInst rules wm i → IsMember i (conflict_set rules wm)
+    complete i is =
+        let e : 0 + i.rule ≡ i.rule = omega arith in
+        let P : ℕ → Type 0 = λ w. IsMember (inst w i.tags) (conflict_set rules wm) in
+        subst P e (insts_from-complete 0 rules wm i.rule i.tags is.0 is.1 is.2)
+
+-- no list of tags is before itself
+pub tags_before_itself : (xs : List ℕ) → TagsBefore xs xs → ⊥
+tags_before_itself [] h = h
+tags_before_itself (x ∷ xs) (inl h) = omega arith
+tags_before_itself (x ∷ xs) (inr h) = tags_before_itself xs h.1
+
+-- two lists of tags are not each before the other
+pub tags_before_both : (xs ys : List ℕ) → TagsBefore xs ys → TagsBefore ys xs → ⊥
+tags_before_both [] [] a b = a
+tags_before_both [] (y ∷ ys) a b = b
+tags_before_both (x ∷ xs) [] a b = a
+tags_before_both (x ∷ xs) (y ∷ ys) (inl a) (inl b) = omega arith
+tags_before_both (x ∷ xs) (y ∷ ys) (inl a) (inr b) = omega (arith, b.0)
+tags_before_both (x ∷ xs) (y ∷ ys) (inr a) (inl b) = omega (arith, a.0)
+tags_before_both (x ∷ xs) (y ∷ ys) (inr a) (inr b) = tags_before_both xs ys a.1 b.1
+
+-- no instantiation is before itself
+pub before_itself : (i : Inst) → Before i i → ⊥
+before_itself i (inl h) = omega arith
+before_itself i (inr h) = tags_before_itself i.tags h.1
+
+-- two instantiations are not each before the other
+pub before_both : (i j : Inst) → Before i j → Before j i → ⊥
+before_both i j (inl a) (inl b) = omega arith
+before_both i j (inl a) (inr b) = omega (arith, b.0)
+before_both i j (inr a) (inl b) = omega (arith, a.0)
+before_both i j (inr a) (inr b) = tags_before_both i.tags j.tags a.1 b.1
+
+-- two lists in order with the same members are equal
+pub same_members : (xs ys : List Inst) → IsInOrder xs → IsInOrder ys → ((i : Inst) → IsMember i xs → IsMember i ys) → ((i : Inst) → IsMember i ys → IsMember i xs) → xs ≡ ys
+same_members [] [] a b to from = refl
+same_members [] (y ∷ ys) a b to from = absurd (from y (inl refl))
+same_members (x ∷ xs) [] a b to from = absurd (to x (inl refl))
+same_members (x ∷ xs) (y ∷ ys) a b to from =
+    let e = heads (to x (inl refl)) (from y (inl refl)) in
+    let t = same_members xs ys a.1 b.1 (λ i m. tail_to e i m (to i (inr m))) (λ i m. tail_from e i m (from i (inr m))) in
+    cc
+  where
+    heads : IsMember x (y ∷ ys) → IsMember y (x ∷ xs) → x ≡ y
+    heads (inl e) n = e
+    heads (inr m) (inl e) = sym e
+    heads (inr m) (inr n) = absurd (before_both x y (a.0 y n) (b.0 x m))
+
+    tail_to : x ≡ y → (i : Inst) → IsMember i xs → IsMember i (y ∷ ys) → IsMember i ys
+    tail_to e i m (inl is) =
+        let P : Inst → Type 0 = Before x in absurd (before_itself x (subst P (is ∙ sym e) (a.0 i m)))
+    tail_to e i m (inr n) = n
+
+    tail_from : x ≡ y → (i : Inst) → IsMember i ys → IsMember i (x ∷ xs) → IsMember i xs
+    tail_from e i m (inl is) =
+        let P : Inst → Type 0 = Before y in absurd (before_itself y (subst P (is ∙ e) (b.0 i m)))
+    tail_from e i m (inr n) = n
+
+-- There is one conflict set at most.
+pub conflict_set_only : (rules : List Rule) (wm : List Element) (one other : List Inst) → IsConflictSet rules wm one → IsConflictSet rules wm other → other ≡ one
+conflict_set_only rules wm one other a b =
+    same_members other one b.in_order a.in_order (λ i m. a.complete i (b.sound i m)) (λ i m. b.complete i (a.sound i m))
+
+-- a list that is what is computed is the conflict set
+pub computed_is : (rules : List Rule) (wm : List Element) (set : List Inst) → HasRisingTags wm → set ≡ conflict_set rules wm → IsConflictSet rules wm set
+computed_is rules wm set h e =
+    let P : List Inst → Type 0 = IsConflictSet rules wm in subst P (sym e) (conflict_set-is rules wm h)
+
+-- any conflict set is a list that is what is computed
+pub computed_only : (rules : List Rule) (wm : List Element) (set : List Inst) → HasRisingTags wm → set ≡ conflict_set rules wm → (other : List Inst) → IsConflictSet rules wm other → other ≡ set
+computed_only rules wm set h e other is =
+    conflict_set_only rules wm (conflict_set rules wm) other (conflict_set-is rules wm h) is ∙ sym e

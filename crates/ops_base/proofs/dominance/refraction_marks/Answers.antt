@@ -1,0 +1,12 @@
+-- The tests decide, and the filters keep what passes them.
+use Rattle.ops_base.proofs.RefractionLaws.{is_among-Decides, member-unfired, member-still_fired}
+use Rattle.ops_base.proofs.dominance.refraction_marks.Goals as goal
+
+pub returns-clause-among : goal.returns-clause-among
+returns-clause-among c = λ insts i. is_among-Decides insts i
+
+pub returns-clause-unmarked : goal.returns-clause-unmarked
+returns-clause-unmarked c = λ rules wm fired i. member-unfired rules wm fired i
+
+pub returns-clause-stays : goal.returns-clause-stays
+returns-clause-stays c = λ rules wm fired i. member-still_fired rules wm fired i

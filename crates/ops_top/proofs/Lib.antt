@@ -1,0 +1,4 @@
+pub mod ActionSteps
+pub mod Deliveries
+pub mod Sessions
+pub mod Endings

@@ -1,0 +1,2 @@
+pub mod TagLists
+pub mod KeyLaws

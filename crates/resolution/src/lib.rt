@@ -1,0 +1,224 @@
+//! Conflict resolution: keys that are made once for an instantiation, and their comparison.
+#![tactic(auto)]
+
+ghost use Rattle.std.specs.Prelude.{◌≡◌, ◌<◌, ◌↔◌, List, IfOk, IsTrue, length, unwrap_or, slice_get};
+ghost use Rattle.std.specs.declared.cmp.Ordering.{Ordering};
+ghost use Rattle.std.specs.Cmp.{IsTotalOrder};
+ghost use Rattle.std.specs.Ordering.{MatchOrdering};
+ghost use Rattle.ops_base.specs.declared.rules.Inst.{Inst};
+ghost use Rattle.ops_base.specs.declared.rules.Rule.{Rule};
+ghost use Rattle.ops_base.specs.Dominance.{downwards, compare_lists, compare_insts, dominates, specificity_of};
+ghost use Rattle.resolution.specs.Keys.{IsKey, compare_keys, compare_keys_lex};
+
+pub mod keys;
+
+use crate::keys::Key;
+use ops_base::commands::Strategy;
+use ops_base::list::Listed;
+use ops_base::memory::OutOfMemory;
+use ops_base::programs::Program;
+use ops_base::rules::{Inst, Rule};
+use std::alloc::Global;
+use std::cmp::Ordering;
+
+fn sorted_downwards(alloc: Global, tags: &[u64]) -> Result<Vec<u64>, OutOfMemory>
+    ensures { IfOk result (λ v. v.items ≡ downwards tags.now) }
+{
+    let mut sorted = Vec::from_slice(alloc, tags)?;
+    sorted.sort_unstable();
+    sorted.reverse();
+    Ok(sorted)
+}
+
+fn first_of(tags: &[u64]) -> u64
+    ensures { result ≡ unwrap_or (slice_get tags.now 0) 0 }
+{
+    match tags.first() {
+        Some(tag) => *tag,
+        None => 0,
+    }
+}
+
+fn key_of(alloc: Global, rule: usize, specificity: u32, tags: &[u64]) -> Result<Key, OutOfMemory>
+    ensures first { IfOk result (λ key. key.first ≡ unwrap_or (slice_get tags.now 0) 0) }
+    ensures sorted { IfOk result (λ key. key.sorted ≡ downwards tags.now) }
+    ensures specificity { IfOk result (λ key. key.specificity ≡ specificity) }
+    ensures rule { IfOk result (λ key. key.rule ≡ rule) }
+    ensures tags { IfOk result (λ key. key.tags ≡ tags.now) }
+{
+    let sorted = sorted_downwards(alloc, tags)?;
+    let copy = Vec::from_slice(alloc, tags)?;
+    Ok(Key {
+        first: first_of(tags),
+        sorted: Listed::from_vec(sorted),
+        specificity,
+        rule,
+        tags: Listed::from_vec(copy),
+    })
+}
+
+fn specificity_of(rules: &[Rule], rule: usize) -> u32
+    ensures { result ≡ specificity_of rules.now rule }
+{
+    match rules.get(rule) {
+        Some(r) => r.specificity,
+        None => 0,
+    }
+}
+
+/// The key of an instantiation of one of the program's productions. It copies the tags twice and sorts one copy.
+pub fn key(alloc: Global, program: &Program, inst: &Inst) -> Result<Key, OutOfMemory>
+    ensures { IfOk result (λ key. IsKey program.now.rules inst.now key) }
+{
+    let specificity = specificity_of(program.rules.as_slice(), inst.rule);
+    key_of(alloc, inst.rule, specificity, inst.tags.as_slice())
+}
+
+/// The first difference decides. Where one list is the beginning of the other, the longer is greater.
+fn compare_tags(a: &[u64], b: &[u64]) -> Ordering
+    ensures { result ≡ compare_lists a.now b.now }
+{
+    let both = a.len().min(b.len());
+    for i in 0..both {
+        if a[i] != b[i] {
+            return a[i].cmp(&b[i]);
+        }
+    }
+    a.len().cmp(&b.len())
+}
+
+fn compare_by_lex(a: &Key, b: &Key) -> Ordering
+    ensures { result ≡ compare_keys_lex a.now b.now }
+{
+    let sorted = compare_tags(a.sorted.as_slice(), b.sorted.as_slice());
+    if sorted.is_ne() {
+        return sorted;
+    }
+    if a.specificity != b.specificity {
+        return a.specificity.cmp(&b.specificity);
+    }
+    if a.rule != b.rule {
+        return b.rule.cmp(&a.rule);
+    }
+    compare_tags(a.tags.as_slice(), b.tags.as_slice())
+}
+
+fn compare_by(strategy: Strategy, a: &Key, b: &Key) -> Ordering
+    ensures { result ≡ compare_keys strategy a.now b.now }
+{
+    if strategy == Strategy::Mea && a.first != b.first {
+        return a.first.cmp(&b.first);
+    }
+    compare_by_lex(a, b)
+}
+
+/// Compares the instantiations of two keys: greater where the first dominates, less where the second does. It takes no
+/// memory, and is done at the first difference.
+pub fn compare(strategy: Strategy, a: &Key, b: &Key) -> Ordering
+    ensures dominance { (rules : List Rule) (i j : Inst)
+        → IsKey rules i a.now → IsKey rules j b.now
+        → MatchOrdering result
+        (IsTrue (dominates strategy rules j i))
+        (i ≡ j)
+        (IsTrue (dominates strategy rules i j)) }
+    ensures equal { (rules : List Rule) (i j : Inst)
+        → IsKey rules i a.now → IsKey rules j b.now → (result ≡ Ordering.Equal) ↔ (i ≡ j) }
+    ensures instantiations { (rules : List Rule) (i j : Inst)
+        → IsKey rules i a.now → IsKey rules j b.now → result ≡ compare_insts strategy rules i j }
+    ensures keys { result ≡ compare_keys strategy a.now b.now }
+    ensures total_order { IsTotalOrder (compare_keys strategy) }
+{
+    compare_by(strategy, a, b)
+}
+
+#[cfg(test)]
+mod tests {
+    use super::*;
+    use ops_base::conditions::Condition;
+    use ops_base::elements::Class;
+    use ops_base::values::Sym;
+    use std::test::Fail;
+
+    /// `(literalize a) (p first (a) --> )`
+    fn first(alloc: Global) -> Result<Program, OutOfMemory>
+        ensures { IfOk result (λ p. length p.rules ≡ 1) }
+    {
+        let mut classes = Vec::new(alloc);
+        classes.push(Class {
+            name: Sym(1),
+            attrs: Listed::new(alloc),
+            vector: false,
+        })?;
+        let mut conditions = Vec::new(alloc);
+        conditions.push(Condition {
+            class: 0,
+            negated: false,
+            tests: Listed::new(alloc),
+        })?;
+        let mut rules = Vec::new(alloc);
+        rules.push(Rule {
+            name: Sym(2),
+            conditions: Listed::from_vec(conditions),
+            actions: Listed::new(alloc),
+            specificity: 1,
+            variables: 0,
+            cells: 1,
+            first: 0,
+            past: 0,
+        })?;
+        Ok(Program::new(
+            Listed::from_vec(classes),
+            Listed::from_vec(rules),
+            Listed::new(alloc),
+            Listed::new(alloc),
+        ))
+    }
+
+    #[test]
+    fn a_key_has_what_decides(rt: HostRuntime) -> Result<(), Fail> {
+        let program = first(rt.alloc())?;
+        let tags = Listed::from_vec(Vec::from_slice(rt.alloc(), &[4])?);
+        let found = key(rt.alloc(), &program, &Inst { rule: 0, tags })?;
+        assert_eq!(rt; (found.first, found.specificity, found.rule), (4, 1, 0));
+        assert_eq!(rt; found.sorted.as_slice(), [4].as_slice());
+        assert_eq!(rt; found.tags.as_slice(), [4].as_slice());
+        Ok(())
+    }
+
+    #[test]
+    fn the_first_tag_decides_under_mea(rt: HostRuntime) -> Result<(), Fail> {
+        let old = key_of(rt.alloc(), 0, 3, &[1, 3])?;
+        let new = key_of(rt.alloc(), 1, 2, &[2])?;
+        assert_eq!(rt; compare(Strategy::Lex, &old, &new), Ordering::Greater);
+        assert_eq!(rt; compare(Strategy::Mea, &old, &new), Ordering::Less);
+        Ok(())
+    }
+
+    #[test]
+    fn the_longer_list_dominates(rt: HostRuntime) -> Result<(), Fail> {
+        let two = key_of(rt.alloc(), 0, 4, &[3, 2])?;
+        let three = key_of(rt.alloc(), 1, 3, &[3, 2, 1])?;
+        assert_eq!(rt; compare(Strategy::Lex, &three, &two), Ordering::Greater);
+        assert_eq!(rt; compare(Strategy::Lex, &two, &three), Ordering::Less);
+        Ok(())
+    }
+
+    #[test]
+    fn the_earlier_production_dominates(rt: HostRuntime) -> Result<(), Fail> {
+        let first = key_of(rt.alloc(), 0, 1, &[1])?;
+        let second = key_of(rt.alloc(), 1, 1, &[1])?;
+        assert_eq!(rt; compare(Strategy::Lex, &first, &second), Ordering::Greater);
+        Ok(())
+    }
+
+    #[test]
+    fn the_condition_order_decides_last(rt: HostRuntime) -> Result<(), Fail> {
+        let both = key_of(rt.alloc(), 0, 3, &[2, 2])?;
+        let down = key_of(rt.alloc(), 0, 3, &[2, 1])?;
+        let up = key_of(rt.alloc(), 0, 3, &[1, 2])?;
+        assert_eq!(rt; compare(Strategy::Lex, &both, &down), Ordering::Greater);
+        assert_eq!(rt; compare(Strategy::Lex, &down, &up), Ordering::Greater);
+        assert_eq!(rt; compare(Strategy::Lex, &up, &up), Ordering::Equal);
+        Ok(())
+    }
+}
