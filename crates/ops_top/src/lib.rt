@@ -11,4 +11,5 @@ pub mod printing;
 pub mod running;
 pub mod saying;
 pub mod session;
+pub mod top;
 pub mod words;
