@@ -13,3 +13,7 @@ pub mod saying;
 pub mod session;
 pub mod top;
 pub mod words;
+#[cfg(test)]
+mod rows;
+#[cfg(test)]
+mod tests;

@@ -1,0 +1,43 @@
+//! Runs programs of OPS5.
+#![tactic(auto)]
+
+use ops_io::outside::OpenGate;
+use ops_io::real::{StdShelf, StdSink, StdSource};
+use ops_meaning::Status;
+use ops_top::top::{code, ops_run};
+use std::alloc::{AllocError, AllocGlobal, Global};
+use std::env;
+use std::io;
+use std::process::ExitCode;
+use std::rt::Env;
+
+/// The words after the program's name. Where one is not UTF-8 no words are given, which fit as little as that one.
+fn words_of<R: Env + AllocGlobal>(alloc: Global, rt: &R) -> Result<Vec<String>, AllocError> {
+    let mut words = Vec::new(alloc);
+    match env::args(rt) {
+        Ok(args) => {
+            for word in args.skip(1) {
+                words.push(word)?;
+            }
+            Ok(words)
+        }
+        Err(error) => {
+            if error.kind() == io::ErrorKind::OutOfMemory {
+                return Err(AllocError);
+            }
+            Ok(words)
+        }
+    }
+}
+
+fn main(rt: HostRuntime) -> ExitCode {
+    let alloc = rt.alloc();
+    let Ok(words) = words_of(alloc, &rt) else {
+        return ExitCode::from(code(&Status::OutOfMemory));
+    };
+    let mut shelf = StdShelf::new(alloc, &rt);
+    let mut input = StdSource::new(rt.reader());
+    let mut sink = StdSink::new(io::writer(&rt));
+    let status = ops_run(&rt, alloc, &words, &mut shelf, &mut input, &mut sink, &OpenGate);
+    ExitCode::from(code(&status))
+}

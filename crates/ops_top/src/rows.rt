@@ -1,0 +1,85 @@
+//! Whole programs through the top call.
+ghost use Rattle.std.specs.Prelude.{◌^◌, ◌<◌};
+
+use crate::tests::{one_file, one_word};
+use crate::top::{ops_run, still_run};
+use ops_base::endings::Fault;
+use ops_io::memory::{MemSink, MemSource};
+use ops_io::outside::OpenGate;
+use ops_meaning::Status;
+use std::alloc::Global;
+use std::test::Fail;
+use std::thread::Threads;
+
+const HELLO: &[u8] = b"(literalize start)\n(p hello (start) --> (write Hello from OPS5 (crlf)) (remove 1))\n(make start)\n(run)\n";
+
+/// What is answered to a file of these bytes.
+fn answer<R: Threads + Clone + Drop + Send + Sync>(
+    rt: &R,
+    alloc: Global,
+    bytes: &[u8],
+    sink: &mut MemSink,
+) -> Result<Option<Status>, Fail>
+    requires { sink.old.faults < 2 ^ 63 }
+{
+    let mut shelf = one_file(alloc, "a.ops", bytes)?;
+    let mut input = MemSource::new(Vec::new(alloc), 1, Vec::new(alloc));
+    let words = one_word(alloc, "a.ops")?;
+    Ok(still_run(rt, alloc, &words, &mut shelf, &mut input, sink, &OpenGate))
+}
+
+#[test]
+fn hello(rt: HostRuntime) -> Result<(), Fail> {
+    let alloc = rt.alloc();
+    let mut shelf = one_file(alloc, "hello.ops", HELLO)?;
+    let mut input = MemSource::new(Vec::new(alloc), 1, Vec::new(alloc));
+    let mut sink = MemSink::new(alloc, 1_000, 1_000, Vec::new(alloc))?;
+    let words = one_word(alloc, "hello.ops")?;
+    let status = ops_run(&rt, alloc, &words, &mut shelf, &mut input, &mut sink, &OpenGate);
+    assert_eq!(rt; status, Status::Done);
+    assert_eq!(rt; sink.written(), b"Hello from OPS5\nend -- no production true\n".as_slice());
+    Ok(())
+}
+
+#[test]
+fn failing_sink(rt: HostRuntime) -> Result<(), Fail> {
+    let alloc = rt.alloc();
+    let mut sink = MemSink::new(alloc, 1_000, 4, vec![in alloc; 3]?)?;
+    assert_eq!(rt; answer(&rt, alloc, HELLO, &mut sink)?, Some(Status::WriteFault));
+    assert_eq!(rt; sink.written(), b"Hello fr".as_slice());
+    Ok(())
+}
+
+#[test]
+fn empty_file(rt: HostRuntime) -> Result<(), Fail> {
+    let alloc = rt.alloc();
+    let mut sink = MemSink::new(alloc, 1_000, 1_000, Vec::new(alloc))?;
+    assert_eq!(rt; answer(&rt, alloc, b"", &mut sink)?, Some(Status::Done));
+    assert_eq!(rt; sink.written(), b"".as_slice());
+    Ok(())
+}
+
+#[test]
+fn nothing_to_run_and_no_last_lf(rt: HostRuntime) -> Result<(), Fail> {
+    let alloc = rt.alloc();
+    let mut sink = MemSink::new(alloc, 1_000, 1_000, Vec::new(alloc))?;
+    let text = b"(literalize a n) (p r (a ^n 1) --> (halt)) (run)";
+    assert_eq!(rt; answer(&rt, alloc, text, &mut sink)?, Some(Status::Done));
+    assert_eq!(rt; sink.written(), b"end -- no production true\n".as_slice());
+    Ok(())
+}
+
+#[test]
+fn unknown_class(rt: HostRuntime) -> Result<(), Fail> {
+    let alloc = rt.alloc();
+    let mut sink = MemSink::new(alloc, 1_000, 1_000, Vec::new(alloc))?;
+    let refused = Status::Refused {
+        fault: Fault::UnknownClass,
+        line: 1,
+        column: 1,
+    };
+    let status = answer(&rt, alloc, b"(literalize a) (make b)", &mut sink)?;
+    assert_eq!(rt; status, Some(refused));
+    assert_eq!(rt; sink.written(), b"ops: 1:1: unknown class\n".as_slice());
+    Ok(())
+}

@@ -1,0 +1,122 @@
+//! Each public call once, on words and files that need no program.
+ghost use Rattle.std.specs.Prelude.{◌≡◌, [], IfOk};
+
+use crate::top::{code, ops_run, still_run};
+use ops_base::endings::Fault;
+use ops_io::memory::{MemShelf, MemSink, MemSource};
+use ops_io::outside::OpenGate;
+use ops_meaning::Status;
+use std::alloc::{AllocError, Global};
+use std::test::Fail;
+use std::thread::Threads;
+
+/// A shelf with one file, of which no load fails.
+pub fn one_file(alloc: Global, name: &str, bytes: &[u8]) -> Result<MemShelf, AllocError>
+    ensures { IfOk result (λ shelf. (shelf.names ≡ []) × (shelf.faults ≡ 0)) }
+{
+    let mut files = Vec::new(alloc);
+    let name = String::from_str(alloc, name)?;
+    let bytes = Vec::from_slice(alloc, bytes)?;
+    files.push((name, bytes))?;
+    Ok(MemShelf::new(alloc, files, Vec::new(alloc)))
+}
+
+/// One word.
+pub fn one_word(alloc: Global, word: &str) -> Result<Vec<String>, AllocError> {
+    let mut words = Vec::new(alloc);
+    words.push(String::from_str(alloc, word)?)?;
+    Ok(words)
+}
+
+const USAGE: &[u8] = b"usage: ops [--match direct|serial|rounds|free] [--workers N] [--lines L] [--limit N] FILE.. | ops --gen SEED SIZE | ops --net FILE..\n";
+
+#[test]
+fn words_that_do_not_fit(rt: HostRuntime) -> Result<(), Fail> {
+    let alloc = rt.alloc();
+    let mut shelf = one_file(alloc, "a.ops", b"")?;
+    let mut input = MemSource::new(Vec::new(alloc), 1, Vec::new(alloc));
+    let mut sink = MemSink::new(alloc, 1_000, 1_000, Vec::new(alloc))?;
+    let mut words = Vec::new(alloc);
+    let none = still_run(&rt, alloc, &words, &mut shelf, &mut input, &mut sink, &OpenGate);
+    assert_eq!(rt; none, Some(Status::Usage));
+    assert_eq!(rt; sink.written(), USAGE);
+
+    words.push(String::from_str(alloc, "-x")?)?;
+    let mut sink = MemSink::new(alloc, 1_000, 1_000, Vec::new(alloc))?;
+    let option = still_run(&rt, alloc, &words, &mut shelf, &mut input, &mut sink, &OpenGate);
+    assert_eq!(rt; option, Some(Status::Usage));
+    assert_eq!(rt; sink.written(), USAGE);
+    Ok(())
+}
+
+#[test]
+fn two_words(rt: HostRuntime) -> Result<(), Fail> {
+    let alloc = rt.alloc();
+    let mut shelf = one_file(alloc, "a.ops", b"")?;
+    let mut input = MemSource::new(Vec::new(alloc), 1, Vec::new(alloc));
+    let mut words = one_word(alloc, "a.ops")?;
+    words.push(String::from_str(alloc, "a.ops")?)?;
+
+    // The sink takes 7 bytes a call, and its third call fails.
+    let mut sink = MemSink::new(alloc, 1_000, 7, vec![in alloc; 3]?)?;
+    let status = ops_run(&rt, alloc, &words, &mut shelf, &mut input, &mut sink, &OpenGate);
+    assert_eq!(rt; status, Status::WriteFault);
+    assert_eq!(rt; sink.written(), b"usage: ops [--".as_slice());
+    Ok(())
+}
+
+#[test]
+fn missing_file(rt: HostRuntime) -> Result<(), Fail> {
+    let alloc = rt.alloc();
+    let mut shelf = one_file(alloc, "a.ops", b"")?;
+    let mut input = MemSource::new(Vec::new(alloc), 1, Vec::new(alloc));
+    let mut sink = MemSink::new(alloc, 1_000, 1_000, Vec::new(alloc))?;
+    let words = one_word(alloc, "-")?;
+    let status = ops_run(&rt, alloc, &words, &mut shelf, &mut input, &mut sink, &OpenGate);
+    assert_eq!(rt; status, Status::ReadFault);
+    assert_eq!(rt; sink.written(), b"ops: cannot read -\n".as_slice());
+    Ok(())
+}
+
+/// What is answered to a file of so many letters.
+fn letters<R: Threads + Clone + Drop + Send + Sync>(
+    rt: &R,
+    alloc: Global,
+    count: usize,
+    sink: &mut MemSink,
+) -> Result<Option<Status>, Fail>
+    requires { sink.old.faults ≡ 0 }
+{
+    let bytes = vec![in alloc; b'x'; count]?;
+    let mut shelf = one_file(alloc, "x", bytes.as_slice())?;
+    let mut input = MemSource::new(Vec::new(alloc), 1, Vec::new(alloc));
+    let words = one_word(alloc, "x")?;
+    Ok(still_run(rt, alloc, &words, &mut shelf, &mut input, sink, &OpenGate))
+}
+
+const TOO_LONG: Status = Status::Refused {
+    fault: Fault::BadForm,
+    line: 1,
+    column: 1,
+};
+
+#[test]
+fn long_files(rt: HostRuntime) -> Result<(), Fail> {
+    let alloc = rt.alloc();
+    let mut sink = MemSink::new(alloc, 1_000, 1_000, Vec::new(alloc))?;
+    let longer = letters(&rt, alloc, 16_777_217, &mut sink)?;
+    assert_eq!(rt; longer, Some(TOO_LONG));
+    assert_eq!(rt; sink.written(), b"ops: 1:1: bad form\n".as_slice());
+
+    // It fits, and the LF that it lacks does not.
+    let mut sink = MemSink::new(alloc, 1_000, 1_000, Vec::new(alloc))?;
+    let as_long = letters(&rt, alloc, 16_777_216, &mut sink)?;
+    assert_eq!(rt; as_long, Some(TOO_LONG));
+    assert_eq!(rt; sink.written(), b"ops: 1:1: bad form\n".as_slice());
+    Ok(())
+}
+
+#[test]
+fn codes(rt: HostRuntime) {
+    assert_eq!(rt; code(&TOO_LONG), 1);
+}
