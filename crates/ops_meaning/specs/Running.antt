@@ -48,9 +48,12 @@ actions_of rules n = unwrap_or (option_map (λ r. r.actions) (slice_get rules n)
 
 -- ---- one firing
 
-abbrev pub scene_of : Setting → Inst → Memory → Scene
-scene_of s i m =
-    record { names = s.names; classes = s.classes; bindings = bindings_of m.wm (conditions_of s.rules i.rule) i.tags []; tags = i.tags }
+-- what the right side does, from what stands before it
+abbrev pub acted : Setting → ℕ → Inst → Doing → Effect Doing
+acted s column i d =
+    actions_done
+    (record { names = s.names; classes = s.classes; bindings = bindings_of d.wm (conditions_of s.rules i.rule) i.tags []; tags = i.tags })
+    column (actions_of s.rules i.rule) d
 
 -- one phase, in which this instantiation fired
 abbrev pub after_firing : List Rule → Inst → Memory → Doing → Memory
@@ -63,9 +66,7 @@ fired_of rules i m d = record { memory = after_firing rules i m d; halted = d.ha
 
 abbrev pub firing : Setting → ℕ → Inst → Memory → Effect Fired
 firing s column i m =
-    and_then column
-    (actions_done (scene_of s i m) column (actions_of s.rules i.rule) (record { wm = m.wm; last = m.last; halted = false }))
-    (λ next d. writes [] (fired_of s.rules i m d))
+    and_then column (acted s column i (record { wm = m.wm; last = m.last; halted = false })) (λ next d. writes [] (fired_of s.rules i m d))
 
 -- ---- a run
 

@@ -1,1 +1,2 @@
 pub mod ActionSteps
+pub mod Turns
