@@ -97,15 +97,15 @@ abbrev pub fixed_fields : ℕ → List Fixed → List Value
 fixed_fields count puts = fold (λ fields p. slice_set fields p.field (first_constant p.values)) (replicate count nil) puts
 
 -- A top-level `make` is one phase.
-abbrev pub made_at_top : Setting → ℕ → List Fixed → Memory → Memory
-made_at_top s class puts m =
-    let e : Element = record { tag = m.last + 1; class = class; fields = fixed_fields (length (class_of s.classes class).attrs) puts } in
+abbrev pub made_at_top : List Class → List Rule → ℕ → List Fixed → Memory → Memory
+made_at_top classes rules class puts m =
+    let e : Element = record { tag = m.last + 1; class = class; fields = fixed_fields (length (class_of classes class).attrs) puts } in
     let wm = change_done m.wm (change.Add e) in
-    record { wm = wm; fired = still_fired s.rules wm m.fired; firings = m.firings; last = m.last + 1 }
+    record { wm = wm; fired = still_fired rules wm m.fired; firings = m.firings; last = m.last + 1 }
 
 -- what one command does from a column on; the other commands stand in no text yet
 abbrev pub command_done : Setting → ℕ → Command → Memory → Effect Memory
-command_done s column (command.Make class puts) m = writes [] (made_at_top s class puts m)
+command_done s column (command.Make class puts) m = writes [] (made_at_top s.classes s.rules class puts m)
 command_done s column (command.Run None) m = run_on (most_firings - m.firings) s column false m
 command_done s column _ m = writes [] m
 

@@ -1,2 +1,3 @@
 pub mod ActionSteps
 pub mod Turns
+pub mod Commands

@@ -6,3 +6,4 @@ pub mod bindings;
 pub mod choosing;
 pub mod printing;
 pub mod running;
+pub mod session;
