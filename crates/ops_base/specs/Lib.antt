@@ -6,4 +6,6 @@ pub mod ConflictSet
 pub mod Dominance
 pub mod Refraction
 pub mod Expression
+pub mod ExpressionCode
 pub mod Valid
+pub mod Names

@@ -80,14 +80,13 @@ is_equality pred.Eq = true
 is_equality _ = false
 
 -- The first place of a variable binds it, by an equality; a later place stands where it is in sight.
-abbrev pub operand_is_valid : ℕ → Sight → Pred → Bool → Operand → Bool
-operand_is_valid variables s p binds (operand.Constant v) = not binds
-operand_is_valid variables s p binds (operand.OneOf vs) = not binds && fits vs
-operand_is_valid variables s p binds (operand.Variable v) =
-    nat_lt v variables && (if binds then is_equality p && not (is_in v s.given) else is_in v s.bound)
+abbrev pub operand_is_valid : Sight → Pred → Bool → Operand → Bool
+operand_is_valid s p binds (operand.Constant v) = not binds
+operand_is_valid s p binds (operand.OneOf vs) = not binds && fits vs
+operand_is_valid s p binds (operand.Variable v) = if binds then is_equality p && not (is_in v s.given) else is_in v s.bound
 
-abbrev pub test_is_valid : ℕ → Class → Sight → Test → Bool
-test_is_valid variables c s t = is_field c t.field && operand_is_valid variables s t.pred t.binds t.operand
+abbrev pub test_is_valid : Class → Sight → Test → Bool
+test_is_valid c s t = is_field c t.field && operand_is_valid s t.pred t.binds t.operand
 
 abbrev pub sight_with : Sight → Operand → Sight
 sight_with s (operand.Variable v) = record { bound = s.bound ++ v ∷ []; given = s.given ++ v ∷ [] }
@@ -96,9 +95,9 @@ sight_with s _ = s
 abbrev pub sight_after : Sight → Test → Sight
 sight_after s t = if t.binds then sight_with s t.operand else s
 
-abbrev pub tests_are_valid : ℕ → Class → Sight → List Test → Bool
-tests_are_valid variables c s [] = true
-tests_are_valid variables c s (t ∷ ts) = test_is_valid variables c s t && tests_are_valid variables c (sight_after s t) ts
+abbrev pub tests_are_valid : Class → Sight → List Test → Bool
+tests_are_valid c s [] = true
+tests_are_valid c s (t ∷ ts) = test_is_valid c s t && tests_are_valid c (sight_after s t) ts
 
 abbrev pub sight_after_tests : Sight → List Test → Sight
 sight_after_tests s [] = s
@@ -109,14 +108,14 @@ abbrev pub sight_after_condition : Sight → Condition → Sight
 sight_after_condition s c =
     let after = sight_after_tests s c.tests in if c.negated then record { bound = s.bound; given = after.given } else after
 
-abbrev pub condition_is_valid : List Class → ℕ → Sight → Condition → Bool
-condition_is_valid classes variables s c =
-    nat_lt c.class (length classes) && fits c.tests && tests_are_valid variables (class_of classes c.class) s c.tests
+abbrev pub condition_is_valid : List Class → Sight → Condition → Bool
+condition_is_valid classes s c =
+    nat_lt c.class (length classes) && fits c.tests && tests_are_valid (class_of classes c.class) s c.tests
 
-abbrev pub conditions_are_valid : List Class → ℕ → Sight → List Condition → Bool
-conditions_are_valid classes variables s [] = true
-conditions_are_valid classes variables s (c ∷ cs) =
-    condition_is_valid classes variables s c && conditions_are_valid classes variables (sight_after_condition s c) cs
+abbrev pub conditions_are_valid : List Class → Sight → List Condition → Bool
+conditions_are_valid classes s [] = true
+conditions_are_valid classes s (c ∷ cs) =
+    condition_is_valid classes s c && conditions_are_valid classes (sight_after_condition s c) cs
 
 abbrev pub sight_after_conditions : Sight → List Condition → Sight
 sight_after_conditions s [] = s
@@ -141,9 +140,10 @@ first_is_positive (c ∷ cs) = not c.negated
 
 -- ---- right sides
 
--- the value variables in sight, the class of each cell, and the class of the element made last
+-- the value variables in sight, all that were bound so far, the class of each cell, and the class of the element made last
 pub record Known : Type 0 where
   pub bound : List ℕ
+  pub given : List ℕ
   pub cells : List ℕ
   pub made : Option ℕ
 
@@ -182,45 +182,49 @@ item_is_valid classes k item.Crlf = true
 item_is_valid classes k (item.TabTo n) = is_column n
 item_is_valid classes k (item.RightIn n) = is_column n
 
-abbrev pub action_is_valid : List Class → ℕ → Known → Action → Bool
-action_is_valid classes variables k (action.Make class puts) =
+abbrev pub action_is_valid : List Class → Known → Action → Bool
+action_is_valid classes k (action.Make class puts) =
     nat_lt class (length classes) && puts_are_valid classes k (class_of classes class) puts
-action_is_valid classes variables k (action.Modify cell puts) =
+action_is_valid classes k (action.Modify cell puts) =
     is_cell k cell && puts_are_valid classes k (class_of_cell classes k cell) puts
-action_is_valid classes variables k (action.Remove cells) = fits cells && list_all (is_cell k) cells
-action_is_valid classes variables k (action.Write items) = fits items && list_all (item_is_valid classes k) items
-action_is_valid classes variables k (action.Bind variable t) = nat_lt variable variables && term_is_valid classes k false t
-action_is_valid classes variables k (action.Cbind cell) = is_some k.made && (cell == length k.cells)
-action_is_valid classes variables k action.Halt = true
+action_is_valid classes k (action.Remove cells) = fits cells && list_all (is_cell k) cells
+action_is_valid classes k (action.Write items) = fits items && list_all (item_is_valid classes k) items
+action_is_valid classes k (action.Bind variable t) = term_is_valid classes k false t
+action_is_valid classes k (action.Cbind cell) = is_some k.made && (cell == length k.cells)
+action_is_valid classes k action.Halt = true
 
 abbrev pub known_after : Known → Action → Known
 known_after k (action.Make class puts) = record k { made = Some class }
 known_after k (action.Modify cell puts) = record k { made = slice_get k.cells cell }
-known_after k (action.Bind variable t) = record k { bound = k.bound ++ variable ∷ [] }
+known_after k (action.Bind variable t) = record k { bound = k.bound ++ variable ∷ []; given = k.given ++ variable ∷ [] }
 known_after k (action.Cbind cell) = record k { cells = k.cells ++ unwrap_or k.made 0 ∷ [] }
 known_after k _ = k
 
-abbrev pub actions_are_valid : List Class → ℕ → Known → List Action → Bool
-actions_are_valid classes variables k [] = true
-actions_are_valid classes variables k (a ∷ as') = action_is_valid classes variables k a && actions_are_valid classes variables (known_after k a) as'
+abbrev pub actions_are_valid : List Class → Known → List Action → Bool
+actions_are_valid classes k [] = true
+actions_are_valid classes k (a ∷ rest) = action_is_valid classes k a && actions_are_valid classes (known_after k a) rest
 
 abbrev pub known_after_actions : Known → List Action → Known
 known_after_actions k [] = k
-known_after_actions k (a ∷ as') = known_after_actions (known_after k a) as'
+known_after_actions k (a ∷ rest) = known_after_actions (known_after k a) rest
 
 -- what a right side knows at its start
 abbrev pub known_of : List Condition → Known
-known_of cs = record { bound = (sight_after_conditions nothing_in_sight cs).bound; cells = cells_of cs; made = None }
+known_of cs = let sight = sight_after_conditions nothing_in_sight cs in record { bound = sight.bound; given = sight.given; cells = cells_of cs; made = None }
+
+-- what it knows at its end
+abbrev pub known_at_end : Rule → Known
+known_at_end r = known_after_actions (known_of r.conditions) r.actions
 
 -- ---- rules, commands, programs
 
 abbrev pub rule_is_valid : List Class → ℕ → Rule → Bool
 rule_is_valid classes text r =
     first_is_positive r.conditions && nat_le (length r.conditions) most_conditions
-    && conditions_are_valid classes r.variables nothing_in_sight r.conditions
-    && fits r.actions && actions_are_valid classes r.variables (known_of r.conditions) r.actions
+    && conditions_are_valid classes nothing_in_sight r.conditions
+    && fits r.actions && actions_are_valid classes (known_of r.conditions) r.actions
     && (r.specificity == specificity r.conditions)
-    && (r.cells == length (known_after_actions (known_of r.conditions) r.actions).cells)
+    && list_all (λ v. nat_lt v r.variables) (known_at_end r).given && (r.cells == length (known_at_end r).cells)
     && nat_le r.first r.past && nat_le r.past text
 
 -- a scalar attribute has exactly one value, and no value passes the last field

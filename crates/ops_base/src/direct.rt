@@ -145,11 +145,12 @@ pub fn direct_set(
     program: &Program,
     wm: &[Element],
 ) -> Result<Listed<Inst>, OutOfMemory>
-    requires { HasRisingTags wm.now }
-    ensures set { IfOk result (λ set. IsConflictSet program.now.rules wm.now set) }
-    ensures only { IfOk result
-        (λ set. (other : List Inst) → IsConflictSet program.now.rules wm.now other → other ≡ set) }
     ensures computed { IfOk result (λ set. set ≡ conflict_set program.now.rules wm.now) }
+
+    // Where the tags rise, as those of working memory do, it is the one list that is a conflict set.
+    ensures set { IfOk result (λ set. HasRisingTags wm.now → IsConflictSet program.now.rules wm.now set) }
+    ensures only { IfOk result
+        (λ set. HasRisingTags wm.now → (other : List Inst) → IsConflictSet program.now.rules wm.now other → other ≡ set) }
 {
     let found = insts(alloc, program.rules.as_slice(), wm)?;
     Ok(Listed::from_vec(found))

@@ -1,6 +1,12 @@
-//! Expressions.
-use crate::list::Listed;
+//! What `compute` calculates: flat in memory, and a tree to a contract.
+ghost use Rattle.std.specs.Prelude.{◌≡◌, ◌↔◌, IfOk, IsTrue};
+ghost use Rattle.ops_base.specs.Expression.{number, variable, apply as applied, words_of};
 
+use crate::memory::OutOfMemory;
+use std::alloc::Global;
+use std::marker::Model;
+
+/// An operation on two numbers.
 #[derive(Clone, Copy, Debug, PartialEq, Eq)]
 pub enum Op {
     Add,
@@ -9,7 +15,104 @@ pub enum Op {
     Div,
     Rem,
 }
+
+/// One step of a loop that evaluates an expression on a stack. An operand goes on top. An operation takes two from the
+/// top, the left operand above the right one, and puts what it gives of them there.
+#[derive(Clone, Copy, Debug, PartialEq, Eq)]
+pub enum Word {
+    Number(i64),
+    /// A variable by its number.
+    Variable(usize),
+    Apply(Op),
+}
+
+/// Operations on numbers and variables, nested to any depth. A text can hold millions of operands in a row, so nothing
+/// here recurses: an expression is made, copied, compared and dropped as the list of its words.
 #[derive(Drop)]
 pub struct Expr {
-    pub words: Listed<u64>,
+    words: Vec<Word>,
+}
+
+impl Model for Expr {
+    ghost use Rattle.std.specs.Prelude.{◌≡◌};
+    ghost use Rattle.ops_base.specs.Expression.{Formula, formula_from, words_of};
+    ghost use Rattle.ops_base.specs.ExpressionCode.{formula_code};
+
+    ghost Value = { Formula };
+
+    ghost coded = { formula_code };
+
+    ghost view = { λ e. formula_from e.words.items };
+
+    ghost invariant = { λ e. words_of (formula_from e.words.items) ≡ e.words.items };
+}
+
+impl Expr {
+    pub fn number(alloc: Global, n: i64) -> Result<Expr, OutOfMemory>
+        ensures { IfOk result (λ e. e ≡ number n) }
+    {
+        let words = vec![in alloc; Word::Number(n)]?;
+        Ok(Expr { words })
+    }
+
+    /// The variable with the number `v`.
+    pub fn variable(alloc: Global, v: usize) -> Result<Expr, OutOfMemory>
+        ensures { IfOk result (λ e. e ≡ variable v) }
+    {
+        let words = vec![in alloc; Word::Variable(v)]?;
+        Ok(Expr { words })
+    }
+
+    /// Takes amortized time in proportion to the words of `left` alone, so a chain is best made from its right end. A
+    /// refusal drops both operands.
+    pub fn apply(op: Op, left: Expr, right: Expr) -> Result<Expr, OutOfMemory>
+        ensures { IfOk result (λ e. e ≡ applied op left right) }
+    {
+        let mut words = right.words;
+        words.extend_from_slice(left.words.as_slice())?;
+        words.push(Word::Apply(op))?;
+        Ok(Expr { words })
+    }
+
+    /// In the order in which a loop evaluates them, from a stack that is empty to one that holds the value alone.
+    pub fn words(&self) -> &[Word]
+        ensures { result.now ≡ words_of self.now }
+    {
+        &self.words
+    }
+
+    pub fn copy(&self, alloc: Global) -> Result<Expr, OutOfMemory>
+        ensures { IfOk result (λ e. e ≡ self.now) }
+    {
+        let words = Vec::from_slice(alloc, self.words.as_slice())?;
+        Ok(Expr { words })
+    }
+
+    /// Whether both are the same tree, which is more than to have the same value.
+    pub fn equals(&self, other: &Expr) -> bool
+        ensures { IsTrue result ↔ (self.now ≡ other.now) }
+    {
+        self.words.as_slice() == other.words.as_slice()
+    }
+}
+
+#[cfg(test)]
+mod tests {
+    use super::*;
+
+    const OPERANDS: usize = 100_000;
+
+    // As many boxes, one in another, would overflow the stack.
+    #[test]
+    fn long_chain(rt: HostRuntime) -> Result<(), OutOfMemory> {
+        let alloc = rt.alloc();
+        let mut chain = Expr::variable(alloc, 7)?;
+        for _ in 1..OPERANDS {
+            chain = Expr::apply(Op::Add, Expr::number(alloc, 1)?, chain)?;
+        }
+        let copy = chain.copy(alloc)?;
+        assert_eq!(rt; copy.words().len(), 2 * OPERANDS - 1);
+        assert!(rt; copy.equals(&chain));
+        Ok(())
+    }
 }

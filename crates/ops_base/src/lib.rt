@@ -15,4 +15,5 @@ pub mod matching;
 pub mod memory;
 pub mod programs;
 pub mod rules;
+pub mod symbols;
 pub mod values;

@@ -7,7 +7,7 @@ ghost use Rattle.std.specs.Cmp.{IsTotalOrder};
 ghost use Rattle.std.specs.Ordering.{MatchOrdering};
 ghost use Rattle.ops_base.specs.declared.rules.Inst.{Inst};
 ghost use Rattle.ops_base.specs.declared.rules.Rule.{Rule};
-ghost use Rattle.ops_base.specs.Dominance.{downwards, compare_lists, compare_insts, dominates};
+ghost use Rattle.ops_base.specs.Dominance.{downwards, compare_lists, compare_insts, dominates, specificity_of};
 ghost use Rattle.resolution.specs.Keys.{IsKey, compare_keys, compare_keys_lex};
 
 pub mod keys;
@@ -17,7 +17,7 @@ use ops_base::commands::Strategy;
 use ops_base::list::Listed;
 use ops_base::memory::OutOfMemory;
 use ops_base::programs::Program;
-use ops_base::rules::Inst;
+use ops_base::rules::{Inst, Rule};
 use std::alloc::Global;
 use std::cmp::Ordering;
 
@@ -57,12 +57,20 @@ fn key_of(alloc: Global, rule: usize, specificity: u32, tags: &[u64]) -> Result<
     })
 }
 
+fn specificity_of(rules: &[Rule], rule: usize) -> u32
+    ensures { result ≡ specificity_of rules.now rule }
+{
+    match rules.get(rule) {
+        Some(r) => r.specificity,
+        None => 0,
+    }
+}
+
 /// The key of an instantiation of one of the program's productions. It copies the tags twice and sorts one copy.
 pub fn key(alloc: Global, program: &Program, inst: &Inst) -> Result<Key, OutOfMemory>
-    requires { inst.now.rule < length program.now.rules }
     ensures { IfOk result (λ key. IsKey program.now.rules inst.now key) }
 {
-    let specificity = program.rules.as_slice()[inst.rule].specificity;
+    let specificity = specificity_of(program.rules.as_slice(), inst.rule);
     key_of(alloc, inst.rule, specificity, inst.tags.as_slice())
 }
 
@@ -128,7 +136,6 @@ mod tests {
     use super::*;
     use ops_base::conditions::Condition;
     use ops_base::elements::Class;
-    use ops_base::rules::Rule;
     use ops_base::values::Sym;
     use std::test::Fail;
 

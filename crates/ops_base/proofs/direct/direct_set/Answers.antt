@@ -5,11 +5,11 @@ use Rattle.ops_base.proofs.ConflictSetLaws.{computed_is, computed_only}
 use Rattle.ops_base.proofs.direct.direct_set.Goals as goal
 
 pub returns-clause-set : goal.returns-clause-set
-returns-clause-set c =
-    computed_is c.args.program.now.rules c.args.wm.now c.from_vec.result c.requires
+returns-clause-set c = λ rising.
+    computed_is c.args.program.now.rules c.args.wm.now c.from_vec.result rising
     (c.from_vec.ensures ∙ c.in_ok-found.ensures ∙ ap (λ rules. conflict_set rules c.args.wm.now) c.as_slice.ensures)
 
 pub returns-clause-only : goal.returns-clause-only
-returns-clause-only c =
-    computed_only c.args.program.now.rules c.args.wm.now c.from_vec.result c.requires
+returns-clause-only c = λ rising.
+    computed_only c.args.program.now.rules c.args.wm.now c.from_vec.result rising
     (c.from_vec.ensures ∙ c.in_ok-found.ensures ∙ ap (λ rules. conflict_set rules c.args.wm.now) c.as_slice.ensures)

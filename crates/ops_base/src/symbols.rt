@@ -1,0 +1,101 @@
+//! Symbols and their spellings.
+ghost use Rattle.std.specs.Prelude.{◌≡◌, ◌<◌, length, IfOk, OnOk, OnErr, slice_get, Some};
+ghost use Rattle.std.specs.Prelude.{◌++◌, ◌∷◌, [], bytes_eq, false};
+ghost use Rattle.std.specs.List.{list_any};
+ghost use Rattle.ops_base.specs.Names.{spellings, place_of, with_spelling, spelling_of, only_nil, AreDistinct};
+
+use crate::memory::OutOfMemory;
+use crate::values::Sym;
+use indexmap::IndexSet;
+use std::alloc::Global;
+use std::marker::Model;
+
+/// The spellings of all symbols, each once. A spelling is looked up by its hash.
+#[derive(Drop)]
+pub struct Names {
+    held: IndexSet<Vec<u8>>,
+    made: u64,
+}
+
+impl Model for Names {
+    ghost use Rattle.ops_base.specs.Names.{Spellings, spellings, AreDistinct};
+
+    ghost Value = { Spellings };
+
+    ghost view = { λ n. record { held = spellings n.held.keys; made = n.made } };
+
+    ghost invariant = { λ n. AreDistinct (spellings n.held.keys) };
+}
+
+/// The place of a spelling, which is added where it is not held. Where that fails the place is where it would stand.
+fn place_in(
+    held: &mut IndexSet<Vec<u8>>,
+    spelling: &[u8],
+) -> (usize, Result<(), OutOfMemory>)
+    ensures place { result.0 ≡ place_of (spellings held.old.keys) spelling.now }
+    ensures ok { OnOk result.1 (spellings held.new.keys ≡ with_spelling (spellings held.old.keys) spelling.now) }
+    ensures err { OnErr result.1 (spellings held.new.keys ≡ spellings held.old.keys) }
+    ensures distinct { AreDistinct (spellings held.old.keys) → AreDistinct (spellings held.new.keys) }
+{
+    match held.get_index_of(spelling) {
+        Some(place) => (place, Ok(())),
+        None => {
+            let place = held.len();
+            (place, add(held, spelling))
+        }
+    }
+}
+
+/// Adds a spelling that is not held.
+fn add(held: &mut IndexSet<Vec<u8>>, spelling: &[u8]) -> Result<(), OutOfMemory>
+    requires { list_any (λ v. bytes_eq spelling.now v.items) held.old.keys ≡ false }
+    ensures ok { OnOk result (spellings held.new.keys ≡ spellings held.old.keys ++ spelling.now ∷ []) }
+    ensures err { OnErr result (spellings held.new.keys ≡ spellings held.old.keys) }
+{
+    let copy = Vec::from_slice(*held.allocator(), spelling)?;
+    held.insert(copy)?;
+    Ok(())
+}
+
+impl Names {
+    /// Holds `nil` alone, which is the symbol 0.
+    pub fn new(alloc: Global) -> Result<Names, OutOfMemory>
+        ensures { IfOk result (λ names. names ≡ only_nil) }
+    {
+        let mut held = IndexSet::new(alloc);
+        let nil = Vec::from_slice(alloc, b"nil")?;
+        held.insert(nil)?;
+        Ok(Names { held, made: 0 })
+    }
+
+    /// The symbol of that spelling, new or old. Each symbol that was held keeps its spelling, and where memory runs out
+    /// nothing has changed.
+    pub fn intern(&mut self, spelling: &[u8]) -> Result<Sym, OutOfMemory>
+        ensures symbol { IfOk result (λ sym. sym.0 ≡ place_of self.old.held spelling.now) }
+        ensures names { OnOk result (self.new ≡ record self.old { held = with_spelling self.old.held spelling.now }) }
+        ensures err { OnErr result (self.new ≡ self.old) }
+    {
+        let (place, added) = place_in(&mut self.held, spelling);
+        added?;
+        Ok(Sym(place as u64))
+    }
+
+    /// The spelling of a symbol.
+    pub fn spelling(&self, sym: Sym) -> &[u8]
+        requires { sym.0 < length self.now.held }
+        ensures spelling { slice_get self.now.held sym.0 ≡ Some result.now }
+        ensures distinct { AreDistinct self.now.held }
+    {
+        self.held[sym.0 as usize].as_slice()
+    }
+
+    /// The spelling of a symbol, empty where it is not held.
+    pub fn text(&self, sym: Sym) -> &[u8]
+        ensures { result.now ≡ spelling_of self.now sym }
+    {
+        match self.held.get_index(sym.0 as usize) {
+            Some(spelling) => spelling.as_slice(),
+            None => &[],
+        }
+    }
+}

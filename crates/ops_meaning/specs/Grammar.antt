@@ -1,0 +1,440 @@
+-- The grammar of program texts, as what a word does where something is wanted.
+use Rattle.std.specs.Prelude.{◌≡◌, ℕ, ◌+◌, ◌-◌, List, [], ◌∷◌, ◌++◌, length, position, Bool, true, false, not, ◌==◌, ◌&&◌, ◌||◌, nat_lt, if◌then◌else◌, Option, Some, None, Result, Ok, Err, ℤ, pos, negsuc, slice_get, codes}
+use Rattle.std.specs.List.{list_any}
+use Rattle.ops_base.specs.declared.values.Sym.{Sym}
+use Rattle.ops_base.specs.declared.values.Value.{Value}
+use Rattle.ops_base.specs.declared.values.Value.TheVariants as value
+use Rattle.ops_base.specs.declared.values.Pred.TheVariants as pred
+use Rattle.ops_base.specs.declared.elements.Class.{Class}
+use Rattle.ops_base.specs.declared.conditions.Operand.{Operand}
+use Rattle.ops_base.specs.declared.conditions.Operand.TheVariants as operand
+use Rattle.ops_base.specs.declared.conditions.Test.{Test}
+use Rattle.ops_base.specs.declared.conditions.Condition.{Condition}
+use Rattle.ops_base.specs.declared.actions.Term.{Term}
+use Rattle.ops_base.specs.declared.actions.Term.TheVariants as term
+use Rattle.ops_base.specs.declared.actions.Put.{Put}
+use Rattle.ops_base.specs.declared.actions.Item.{Item}
+use Rattle.ops_base.specs.declared.actions.Item.TheVariants as item
+use Rattle.ops_base.specs.declared.actions.Action.{Action}
+use Rattle.ops_base.specs.declared.actions.Action.TheVariants as action
+use Rattle.ops_base.specs.declared.rules.Rule.{Rule}
+use Rattle.ops_base.specs.declared.commands.Fixed.{Fixed}
+use Rattle.ops_base.specs.declared.commands.Command.{Command}
+use Rattle.ops_base.specs.declared.commands.Command.TheVariants as command
+use Rattle.ops_base.specs.declared.endings.Fault.{Fault}
+use Rattle.ops_base.specs.declared.endings.Fault.TheVariants as fault
+use Rattle.ops_base.specs.declared.endings.Limit.TheVariants as limit
+use Rattle.ops_base.specs.Names.{Spellings}
+use Rattle.ops_base.specs.Valid.{most_fields, most_conditions, longest_list, specificity, cells_of}
+use Rattle.ops_tokens.specs.declared.token.TokenKind.{TokenKind}
+use Rattle.ops_tokens.specs.declared.token.TokenKind.TheVariants as kind
+use Rattle.ops_tokens.specs.declared.token.LexFault.{LexFault}
+use Rattle.ops_meaning.specs.declared.words.Word.{Word}
+use Rattle.ops_meaning.specs.declared.words.Named.{Named}
+use Rattle.ops_meaning.specs.declared.words.Keyword.{Keyword}
+use Rattle.ops_meaning.specs.declared.words.Keyword.TheVariants as keyword
+use Rattle.ops_meaning.specs.Words.{Lexed, lexed}
+
+-- where attributes with values stand: in a pattern, in an action `make`, in a command `make`
+pub data Use : Type 0 where
+  InPattern : Use
+  InPut : Use
+  InFixed : Use
+
+-- what a closing bracket ends
+pub data Ends : Type 0 where
+  EndsRun : Ends
+  EndsHalt : Ends
+  EndsCrlf : Ends
+
+-- what the grammar wants next, one a line of the grammar
+pub data Wanted : Type 0 where
+  -- form*
+  Forms : Wanted
+  -- literalize NAME NAME* ) | p NAME pattern pattern* --> action* ) | make CLASS fixed* ) | run )
+  Form : Wanted
+  -- NAME
+  ClassDeclared : Wanted
+  -- NAME* )
+  Attributes : Wanted
+  -- NAME
+  RuleName : Wanted
+  -- pattern* -->, of which one pattern at least
+  Patterns : Wanted
+  -- CLASS
+  ClassName : Wanted
+  -- term* ), put* ) or fixed* )
+  Terms : (use_of : Use) → Wanted
+  -- ATTR value
+  Attribute : (use_of : Use) → Wanted
+  -- WHOLE | NAME | VARIABLE
+  ValueFor : (use_of : Use) → (field : ℕ) → Wanted
+  -- action* )
+  Actions : Wanted
+  -- make CLASS put* ) | remove WHOLE WHOLE* ) | write item* ) | halt )
+  ActionWord : Wanted
+  -- WHOLE
+  Cell : Wanted
+  -- WHOLE* )
+  Cells : Wanted
+  -- item* )
+  Items : Wanted
+  -- crlf )
+  ItemWord : Wanted
+  -- )
+  Closes : (what : Ends) → Wanted
+
+-- What was read so far. A class that is not declared and a variable that is not bound are noted, and reading goes on.
+pub record State : Type 0 where
+  pub classes : List Class
+  pub rules : List Rule
+  pub commands : List Command
+  pub unknown : Bool
+  pub unbound : Bool
+  -- of the form that is being read
+  pub name : Sym
+  pub first : ℕ
+  pub attrs : List Sym
+  pub class : ℕ
+  pub tests : List Test
+  pub puts : List Put
+  pub fixed : List Fixed
+  pub cells : List ℕ
+  pub items : List Item
+  pub values : List Named
+  pub conditions : List Condition
+  pub actions : List Action
+
+-- what a word does: nothing more is wanted, something else is, or the word is refused
+pub data Step : Type 0 where
+  Stops : (s : State) → Step
+  Next : (ws : List Wanted) → (s : State) → Step
+  Refuses : (f : Fault) → Step
+
+-- ---- words
+
+abbrev pub is_left : TokenKind → Bool
+is_left kind.Left = true
+is_left _ = false
+
+abbrev pub is_right : TokenKind → Bool
+is_right kind.Right = true
+is_right _ = false
+
+abbrev pub is_caret : TokenKind → Bool
+is_caret kind.Caret = true
+is_caret _ = false
+
+abbrev pub is_name : TokenKind → Bool
+is_name kind.Symbol = true
+is_name _ = false
+
+abbrev pub is_variable : TokenKind → Bool
+is_variable kind.Variable = true
+is_variable _ = false
+
+abbrev pub is_arrow : Keyword → Bool
+is_arrow keyword.Arrow = true
+is_arrow _ = false
+
+abbrev pub is_crlf : Keyword → Bool
+is_crlf keyword.Crlf = true
+is_crlf _ = false
+
+-- the constant that a name or a whole number is
+abbrev pub constant_of : TokenKind → Sym → Option Value
+constant_of (kind.Whole n) name = Some (value.Whole n)
+constant_of kind.Symbol name = Some (value.Symbol name)
+constant_of _ name = None
+
+-- the number that a whole number from 1 on is
+abbrev pub natural_of : ℤ → Option ℕ
+natural_of (pos n) = if n == 0 then None else Some n
+natural_of (negsuc n) = None
+
+abbrev pub is_one_of : Sym → List Sym → Bool
+is_one_of name names = list_any (λ n. n.0 == name.0) names
+
+-- the number of a variable of that name
+abbrev pub number_of : Sym → List Named → Option ℕ
+number_of name [] = None
+number_of name (n ∷ ns) = if n.name.0 == name.0 then Some n.number else number_of name ns
+
+-- ---- declarations
+
+-- nothing but declarations was read
+abbrev pub may_declare : State → Bool
+may_declare s = (length s.rules == 0) && (length s.commands == 0)
+
+abbrev pub is_class : State → Sym → Bool
+is_class s name = list_any (λ c. c.name.0 == name.0) s.classes
+
+abbrev pub is_rule : State → Sym → Bool
+is_rule s name = list_any (λ r. r.name.0 == name.0) s.rules
+
+abbrev pub form : Word → Keyword → List Wanted → State → Step
+form w keyword.Literalize ws s =
+    if may_declare s then Next (ClassDeclared ∷ Attributes ∷ ws) s else Refuses fault.LateDeclaration
+form w keyword.Production ws s =
+    if length s.commands == 0 then Next (RuleName ∷ Patterns ∷ Actions ∷ ws) s else Refuses fault.LateProduction
+form w keyword.Make ws s = Next (ClassName ∷ Terms InFixed ∷ ws) (record s { fixed = [] })
+form w keyword.Run ws s = Next (Closes EndsRun ∷ ws) s
+form w _ ws s = Refuses fault.UnknownCommand
+
+abbrev pub class_declared : Word → List Wanted → State → Step
+class_declared w ws s =
+    if is_name w.kind then (if is_class s w.name then Refuses fault.DeclaredTwice else Next ws (record s { name = w.name; attrs = [] }))
+    else Refuses fault.BadForm
+
+abbrev pub with_class : State → State
+with_class s = record s { classes = s.classes ++ record { name = s.name; attrs = s.attrs; vector = false } ∷ [] }
+
+abbrev pub attribute_declared : Word → List Wanted → State → Step
+attribute_declared w ws s =
+    if is_one_of w.name s.attrs then Refuses fault.DeclaredTwice
+    else if nat_lt (length s.attrs) most_fields then Next (Attributes ∷ ws) (record s { attrs = s.attrs ++ w.name ∷ [] })
+    else Refuses (fault.LimitPassed limit.Fields)
+
+abbrev pub attributes : Word → List Wanted → State → Step
+attributes w ws s =
+    if is_right w.kind then Next ws (with_class s)
+    else if is_name w.kind then attribute_declared w ws s
+    else Refuses fault.BadForm
+
+-- ---- elements: a class with attributes and values
+
+abbrev pub class_at : Option ℕ → List Wanted → State → Step
+class_at (Some c) ws s = Next ws (record s { class = c })
+class_at None ws s = Next ws (record s { class = length s.classes; unknown = true })
+
+abbrev pub class_name : Word → List Wanted → State → Step
+class_name w ws s =
+    if is_name w.kind then class_at (position (λ c. c.name.0 == w.name.0) s.classes) ws s else Refuses fault.BadForm
+
+-- the attributes of the class that was named, none where it is not declared
+abbrev pub attributes_of : Option Class → Option (List Sym)
+attributes_of (Some c) = Some c.attrs
+attributes_of None = None
+
+abbrev pub field_at : Use → Option ℕ → List Wanted → State → Step
+field_at u (Some f) ws s = Next (ValueFor u f ∷ ws) s
+field_at u None ws s = Refuses fault.UnknownAttribute
+
+-- An attribute of a class that is not declared is any name.
+abbrev pub attribute_of : Use → Word → Option (List Sym) → List Wanted → State → Step
+attribute_of u w (Some attrs) ws s = field_at u (position (λ a. a.0 == w.name.0) attrs) ws s
+attribute_of u w None ws s = Next (ValueFor u 0 ∷ ws) s
+
+abbrev pub attribute : Use → Word → List Wanted → State → Step
+attribute u w ws s =
+    if is_name w.kind then attribute_of u w (attributes_of (slice_get s.classes s.class)) ws s else Refuses fault.BadForm
+
+abbrev pub with_test : State → ℕ → Operand → Bool → State
+with_test s f o binds = record s { tests = s.tests ++ record { field = f; pred = pred.Eq; operand = o; binds = binds } ∷ [] }
+
+-- the first place of a variable binds it
+abbrev pub with_variable : State → ℕ → Sym → Option ℕ → State
+with_variable s f name (Some n) = with_test s f (operand.Variable n) false
+with_variable s f name None =
+    with_test (record s { values = s.values ++ record { name = name; number = length s.values } ∷ [] }) f (operand.Variable (length s.values)) true
+
+abbrev pub with_put : State → ℕ → Term → State
+with_put s f t = record s { puts = s.puts ++ record { field = f; terms = t ∷ [] } ∷ [] }
+
+-- a variable of a right side, which a condition must bind
+abbrev pub with_put_variable : State → ℕ → Option ℕ → State
+with_put_variable s f (Some n) = with_put s f (term.Variable n)
+with_put_variable s f None = record s { unbound = true }
+
+abbrev pub with_fixed : State → ℕ → Value → State
+with_fixed s f v = record s { fixed = s.fixed ++ record { field = f; values = v ∷ [] } ∷ [] }
+
+abbrev pub with_constant : Use → State → ℕ → Value → State
+with_constant InPattern s f v = with_test s f (operand.Constant v) false
+with_constant InPut s f v = with_put s f (term.Constant v)
+with_constant InFixed s f v = with_fixed s f v
+
+-- A variable in a command is bound nowhere.
+abbrev pub with_named : Use → State → ℕ → Sym → State
+with_named InPattern s f name = with_variable s f name (number_of name s.values)
+with_named InPut s f name = with_put_variable s f (number_of name s.values)
+with_named InFixed s f name = record s { unbound = true }
+
+abbrev pub value_for : Use → ℕ → Word → Option Value → List Wanted → State → Step
+value_for u f w (Some v) ws s = Next ws (with_constant u s f v)
+value_for u f w None ws s = if is_variable w.kind then Next ws (with_named u s f w.name) else Refuses fault.BadForm
+
+abbrev pub with_action : State → Action → State
+with_action s a = record s { actions = s.actions ++ a ∷ [] }
+
+abbrev pub with_command : State → Command → State
+with_command s c = record s { commands = s.commands ++ c ∷ [] }
+
+-- an element form ends
+abbrev pub with_element : Use → State → State
+with_element InPattern s =
+    record s { conditions = s.conditions ++ record { class = s.class; negated = false; tests = s.tests } ∷ []; tests = [] }
+with_element InPut s = record (with_action s (action.Make s.class s.puts)) { puts = [] }
+with_element InFixed s = record (with_command s (command.Make s.class s.fixed)) { fixed = [] }
+
+abbrev pub terms : Use → Word → List Wanted → State → Step
+terms u w ws s =
+    if is_right w.kind then Next ws (with_element u s)
+    else if is_caret w.kind then Next (Attribute u ∷ Terms u ∷ ws) s
+    else Refuses fault.BadForm
+
+-- ---- productions
+
+abbrev pub rule_name : Word → List Wanted → State → Step
+rule_name w ws s =
+    if is_name w.kind
+    then (if is_rule s w.name then Refuses fault.DeclaredTwice
+      else Next ws (record s { name = w.name; tests = []; values = []; conditions = []; actions = [] }))
+    else Refuses fault.BadForm
+
+abbrev pub patterns : Word → List Wanted → State → Step
+patterns w ws s =
+    if is_arrow w.keyword && not (length s.conditions == 0) then Next ws s
+    else if is_left w.kind
+    then (if nat_lt (length s.conditions) most_conditions then Next (ClassName ∷ Terms InPattern ∷ Patterns ∷ ws) s
+      else Refuses (fault.LimitPassed limit.Conditions))
+    else Refuses fault.BadForm
+
+abbrev pub with_rule : State → ℕ → State
+with_rule s past =
+    record s {
+      rules = s.rules ++ record {
+        name = s.name;
+        conditions = s.conditions;
+        actions = s.actions;
+        specificity = specificity s.conditions;
+        variables = length s.values;
+        cells = length s.conditions;
+        first = s.first;
+        past = past
+      } ∷ []
+    }
+
+abbrev pub actions : Word → List Wanted → State → Step
+actions w ws s =
+    if is_right w.kind then Next ws (with_rule s w.past)
+    else if is_left w.kind then Next (ActionWord ∷ Actions ∷ ws) s
+    else Refuses fault.BadForm
+
+abbrev pub action_word : Keyword → List Wanted → State → Step
+action_word keyword.Make ws s = Next (ClassName ∷ Terms InPut ∷ ws) (record s { puts = [] })
+action_word keyword.Remove ws s = Next (Cell ∷ Cells ∷ ws) (record s { cells = [] })
+action_word keyword.Write ws s = Next (Items ∷ ws) (record s { items = [] })
+action_word keyword.Halt ws s = Next (Closes EndsHalt ∷ ws) s
+action_word _ ws s = Refuses fault.BadForm
+
+-- a number of a condition, counted from 1
+abbrev pub cell_of : Option ℕ → List Wanted → State → Step
+cell_of (Some n) ws s =
+    if nat_lt (length s.conditions) n then Refuses fault.BadDesignator else Next ws (record s { cells = s.cells ++ (n - 1) ∷ [] })
+cell_of None ws s = Refuses fault.BadDesignator
+
+abbrev pub cell : TokenKind → List Wanted → State → Step
+cell (kind.Whole n) ws s = cell_of (natural_of n) ws s
+cell _ ws s = Refuses fault.BadForm
+
+abbrev pub cells : Word → List Wanted → State → Step
+cells w ws s = if is_right w.kind then Next ws (with_action s (action.Remove s.cells)) else cell w.kind (Cells ∷ ws) s
+
+abbrev pub with_item : State → Item → State
+with_item s i = record s { items = s.items ++ i ∷ [] }
+
+abbrev pub with_item_variable : State → Option ℕ → State
+with_item_variable s (Some n) = with_item s (item.Print (term.Variable n))
+with_item_variable s None = record s { unbound = true }
+
+abbrev pub item_value : Word → Option Value → List Wanted → State → Step
+item_value w (Some v) ws s = Next ws (with_item s (item.Print (term.Constant v)))
+item_value w None ws s =
+    if is_variable w.kind then Next ws (with_item_variable s (number_of w.name s.values)) else Refuses fault.BadForm
+
+abbrev pub items : Word → List Wanted → State → Step
+items w ws s =
+    if is_right w.kind then Next ws (with_action s (action.Write s.items))
+    else if is_left w.kind then Next (ItemWord ∷ Items ∷ ws) s
+    else item_value w (constant_of w.kind w.name) (Items ∷ ws) s
+
+abbrev pub item_word : Word → List Wanted → State → Step
+item_word w ws s = if is_crlf w.keyword then Next (Closes EndsCrlf ∷ ws) s else Refuses fault.BadForm
+
+abbrev pub ended : Ends → State → State
+ended EndsRun s = with_command s (command.Run None)
+ended EndsHalt s = with_action s action.Halt
+ended EndsCrlf s = with_item s item.Crlf
+
+abbrev pub closes : Ends → Word → List Wanted → State → Step
+closes e w ws s = if is_right w.kind then Next ws (ended e s) else Refuses fault.BadForm
+
+-- ---- the walk over the words
+
+-- a form begins at its bracket
+abbrev pub forms : Word → List Wanted → State → Step
+forms w ws s = if is_left w.kind then Next (Form ∷ Forms ∷ ws) (record s { first = w.first }) else Refuses fault.Stray
+
+-- what a word does where this is wanted
+unfoldable pub step : Word → List Wanted → State → Step
+step w [] s = Stops s
+step w (Forms ∷ ws) s = forms w ws s
+step w (Form ∷ ws) s = form w w.keyword ws s
+step w (ClassDeclared ∷ ws) s = class_declared w ws s
+step w (Attributes ∷ ws) s = attributes w ws s
+step w (RuleName ∷ ws) s = rule_name w ws s
+step w (Patterns ∷ ws) s = patterns w ws s
+step w (ClassName ∷ ws) s = class_name w ws s
+step w (Terms u ∷ ws) s = terms u w ws s
+step w (Attribute u ∷ ws) s = attribute u w ws s
+step w (ValueFor u f ∷ ws) s = value_for u f w (constant_of w.kind w.name) ws s
+step w (Actions ∷ ws) s = actions w ws s
+step w (ActionWord ∷ ws) s = action_word w.keyword ws s
+step w (Cell ∷ ws) s = cell w.kind ws s
+step w (Cells ∷ ws) s = cells w ws s
+step w (Items ∷ ws) s = items w ws s
+step w (ItemWord ∷ ws) s = item_word w ws s
+step w (Closes e ∷ ws) s = closes e w ws s
+
+-- the state that was reached with the words that are left, or the fault at the word that goes on to nothing
+abbrev pub Outcome : Type 0
+Outcome = Result (State × List Word) (Fault × Option Word)
+
+-- where no word is left, a form may not be open
+unfoldable pub ends : List Wanted → State → Outcome
+ends [] s = Ok (s, [])
+ends (Forms ∷ ws) s = ends ws s
+ends (w ∷ ws) s = Err (fault.Unclosed, None)
+
+abbrev pub after : (List Wanted → State → Outcome) → Word → List Word → Step → Outcome
+after rest w words (Stops s) = Ok (s, w ∷ words)
+after rest w words (Next ws s) = rest ws s
+after rest w words (Refuses f) = Err (f, Some w)
+
+-- The words, from what is wanted on.
+unfoldable pub goes : List Word → List Wanted → State → Outcome
+goes [] ws s = ends ws s
+goes (w ∷ words) ws s = after (goes words) w words (step w ws s)
+
+abbrev pub nothing_read : State
+nothing_read =
+    record {
+      classes = [];
+      rules = [];
+      commands = [];
+      unknown = false;
+      unbound = false;
+      name = record { 0 = 0 };
+      first = 0;
+      attrs = [];
+      class = 0;
+      tests = [];
+      puts = [];
+      fixed = [];
+      cells = [];
+      items = [];
+      values = [];
+      conditions = [];
+      actions = []
+    }

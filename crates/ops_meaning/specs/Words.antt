@@ -1,0 +1,76 @@
+-- The words of a text.
+use Rattle.std.specs.Prelude.{◌≡◌, ℕ, zero, suc, List, [], ◌∷◌, length, codes, bytes_eq, Bool, true, false, if◌then◌else◌, Option, Some, None, Result, Ok, Err}
+use Rattle.ops_base.specs.declared.values.Sym.{Sym}
+use Rattle.ops_base.specs.Names.{Spellings, only_nil, place_of, with_spelling}
+use Rattle.ops_tokens.specs.declared.token.Token.{Token}
+use Rattle.ops_tokens.specs.declared.token.TokenKind.{TokenKind}
+use Rattle.ops_tokens.specs.declared.token.TokenKind.TheVariants as kind
+use Rattle.ops_tokens.specs.declared.token.LexFault.{LexFault}
+use Rattle.ops_tokens.specs.Tokens.{Next, token_at, spelling}
+use Rattle.ops_meaning.specs.declared.words.Word.{Word}
+use Rattle.ops_meaning.specs.declared.words.Keyword.{Keyword}
+use Rattle.ops_meaning.specs.declared.words.Keyword.TheVariants as keyword
+
+-- the keyword of a plain symbol
+abbrev pub keyword_of_symbol : List ℕ → Keyword
+keyword_of_symbol s =
+    if bytes_eq s (codes "literalize") then keyword.Literalize
+    else if bytes_eq s (codes "p") then keyword.Production
+    else if bytes_eq s (codes "make") then keyword.Make
+    else if bytes_eq s (codes "remove") then keyword.Remove
+    else if bytes_eq s (codes "run") then keyword.Run
+    else if bytes_eq s (codes "write") then keyword.Write
+    else if bytes_eq s (codes "crlf") then keyword.Crlf
+    else if bytes_eq s (codes "halt") then keyword.Halt
+    else keyword.Other
+
+-- the keyword of an operator
+abbrev pub keyword_of_operator : List ℕ → Keyword
+keyword_of_operator s = if bytes_eq s (codes "-->") then keyword.Arrow else keyword.Other
+
+abbrev pub keyword_of : TokenKind → List ℕ → Keyword
+keyword_of kind.Symbol s = keyword_of_symbol s
+keyword_of kind.Operator s = keyword_of_operator s
+keyword_of _ s = keyword.Other
+
+-- its spelling is a symbol of the text
+abbrev pub has_name : TokenKind → Bool
+has_name kind.Symbol = true
+has_name kind.Quoted = true
+has_name kind.Variable = true
+has_name _ = false
+
+-- the names with a token's spelling, if it has a name
+abbrev pub names_with : Spellings → TokenKind → List ℕ → Spellings
+names_with names k s = if has_name k then record names { held = with_spelling names.held s } else names
+
+abbrev pub name_in : Spellings → TokenKind → List ℕ → ℕ
+name_in names k s = if has_name k then place_of names.held s else 0
+
+abbrev pub word_of : Spellings → Token → List ℕ → Word
+word_of names t s =
+    record { kind = t.kind; keyword = keyword_of t.kind s; name = record { 0 = name_in names t.kind s }; first = t.first; past = t.past }
+
+-- the words of a text up to its end or its first lexical fault, and the names in them
+pub record Lexed : Type 0 where
+  pub words : List Word
+  pub names : Spellings
+  pub stop : Option LexFault
+
+abbrev pub led_by : Word → Lexed → Lexed
+led_by w l = record { words = w ∷ l.words; names = l.names; stop = l.stop }
+
+abbrev pub lexed_after : (ℕ → Spellings → Lexed) → List ℕ → Spellings → Next → Lexed
+lexed_after rest text names (Ok None) = record { words = []; names = names; stop = None }
+lexed_after rest text names (Ok (Some t)) =
+    led_by (word_of names t (spelling text t)) (rest t.past (names_with names t.kind (spelling text t)))
+lexed_after rest text names (Err f) = record { words = []; names = names; stop = Some f }
+
+-- at most n words from a place on, where these names are held
+abbrev pub lexed_from : ℕ → List ℕ → ℕ → Spellings → Lexed
+lexed_from zero text from names = record { words = []; names = names; stop = None }
+lexed_from (suc n) text from names = lexed_after (lexed_from n text) text names (token_at text from)
+
+-- all words: a text has no more of them than bytes
+abbrev pub lexed : List ℕ → Lexed
+lexed text = lexed_from (suc (length text)) text 0 only_nil

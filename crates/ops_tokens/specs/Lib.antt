@@ -1,0 +1,9 @@
+pub mod Regex
+pub mod Bytes
+pub mod Gaps
+pub mod Spellings
+pub mod Numbers
+pub mod Tokens
+pub mod Meanings
+pub mod Program
+pub mod Runs

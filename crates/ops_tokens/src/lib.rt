@@ -1,0 +1,11 @@
+//! The tokens of a program text: their kinds and spellings, and the next one from a place on.
+#![tactic(auto)]
+
+mod bytes;
+mod number;
+pub mod scanner;
+mod table;
+pub mod token;
+
+pub use scanner::{Scanner, next_token};
+pub use token::{LexFault, Token, TokenKind, spelling_of};
