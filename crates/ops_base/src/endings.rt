@@ -1,4 +1,8 @@
 //! How a session ends, and what a program text is refused for.
+ghost use Rattle.std.specs.Prelude.{◌≡◌};
+ghost use Rattle.ops_base.specs.declared.endings.Ending.TheVariants.{OutOfMemory as NoMemory};
+
+use crate::memory::OutOfMemory;
 
 /// What a firing can't do.
 #[derive(Clone, Copy, Debug, PartialEq, Eq)]
@@ -30,6 +34,14 @@ pub enum Ending {
     ReadFault,
     WriteFault,
     OutOfMemory,
+}
+
+impl From<OutOfMemory> for Ending {
+    ghost from_gives = { λ _ ending. ending ≡ NoMemory };
+
+    fn from(_error: OutOfMemory) -> Self {
+        Ending::OutOfMemory
+    }
 }
 
 /// A limit of the language that a program text passes.

@@ -76,7 +76,8 @@ pub fn field(e: &Element, f: usize) -> Value
     }
 }
 
-fn bound_value(bindings: &[Binding], variable: usize) -> Option<Value>
+/// What was put at a variable last.
+pub fn bound_value(bindings: &[Binding], variable: usize) -> Option<Value>
     ensures { result ≡ value_of bindings.now variable }
 {
     let mut found = None;

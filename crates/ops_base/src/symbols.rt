@@ -88,4 +88,14 @@ impl Names {
     {
         self.held[sym.0 as usize].as_slice()
     }
+
+    /// The spelling of a symbol, empty where it is not held.
+    pub fn text(&self, sym: Sym) -> &[u8]
+        ensures { result.now ≡ spelling_of self.now sym }
+    {
+        match self.held.get_index(sym.0 as usize) {
+            Some(spelling) => spelling.as_slice(),
+            None => &[],
+        }
+    }
 }

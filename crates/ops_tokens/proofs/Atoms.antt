@@ -8,7 +8,7 @@ use Rattle.std.proofs.lemmas.Bool.{cond-true, cond-false, eq-eqb, ne_eqb}
 use Rattle.ops_tokens.specs.Bytes.{is_plain}
 use Rattle.ops_tokens.specs.Spellings.{is_operator, is_whole, is_fraction, is_variable, is_atom, row_of}
 use Rattle.ops_tokens.specs.Numbers.{whole_value}
-use Rattle.ops_tokens.specs.Tokens.{Next, number, atom, begun, bracket_of, standing, run_at}
+use Rattle.ops_tokens.specs.Tokens.{number, atom, begun, bracket_of, standing, run_at}
 
 second : (a b c d e : Bool) (n : ℕ) → n ≡ 2 → n ≡ cond a 1 (cond b 2 (cond c 3 (cond d 4 (cond e 5 0)))) → (a ≡ false) × (b ≡ true)
 second true b c d e n two h = absurd (omega arith)

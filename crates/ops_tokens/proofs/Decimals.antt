@@ -1,5 +1,5 @@
 -- The number that digits spell, digit by digit.
-use Rattle.std.proofs.Common.{◌≡◌, ℕ, ◌+◌, ◌-◌, ◌*◌, ◌^◌, ◌<◌, ◌≤◌, Bool, true, false, List, [], ◌∷◌, length, get_or, take, drop, fold, refl, sym, ap, ◌∙◌, arith, inl, inr}
+use Rattle.std.proofs.Common.{◌≡◌, ℕ, ◌+◌, ◌-◌, ◌*◌, ◌<◌, ◌≤◌, true, false, List, [], ◌∷◌, length, get_or, take, drop, fold, refl, ap, ◌∙◌, arith, inl, inr}
 use Rattle.std.specs.Prelude.{take_while}
 use Rattle.std.specs.List.{prefix_len}
 use Rattle.std.proofs.lemmas.List.Sums.{fold_more, fold-append, prefix_len_is, prefix_len_stops}
@@ -25,7 +25,7 @@ unfolding decimal
 decimal-take-le xs i n le =
     let sum : n ≡ i + (n - i) = omega arith in
     let parts : decimal (take n xs) ≡ fold (λ (m b : ℕ). 10 * m + (b - 48)) (decimal (take i xs)) (take (n - i) (drop i xs)) =
-      ap (λ (k : ℕ). decimal (take k xs)) sum ∙ ap decimal (take-add i (n - i) xs) ∙ fold-append (λ (m b : ℕ). 10 * m + (b - 48)) 0 (take i xs) (take (n - i) (drop i xs)) in
+    ap (λ (k : ℕ). decimal (take k xs)) sum ∙ ap decimal (take-add i (n - i) xs) ∙ fold-append (λ (m b : ℕ). 10 * m + (b - 48)) 0 (take i xs) (take (n - i) (drop i xs)) in
     rw parts (grows (decimal (take i xs)) (take (n - i) (drop i xs)))
 
 abbrev pub AreDigits : List ℕ → ℕ → Type 0

@@ -1,9 +1,9 @@
 -- The bytes between tokens are white space and comments.
-use Rattle.std.proofs.Common.{◌≡◌, ℕ, suc, ◌+◌, ◌<◌, ◌≤◌, Bool, true, false, cond, List, [], ◌∷◌, length, fold, refl, sym, ap, ◌∙◌, arith}
+use Rattle.std.proofs.Common.{◌≡◌, ℕ, suc, ◌<◌, ◌≤◌, Bool, true, false, cond, List, [], ◌∷◌, length, fold, refl, sym, ap, ◌∙◌, arith}
 use Rattle.std.specs.Prelude.{◌==◌, ◌↔◌, not}
 use Rattle.std.specs.List.{AllByRecursion}
-use Rattle.std.proofs.lemmas.Bool.{false≢true, cond-true, cond-false, cond_both}
-use Rattle.ops_tokens.specs.Regex.{Regex, Never, Or, Then, Many, One, Matches, nullable, after, matches, same}
+use Rattle.std.proofs.lemmas.Bool.{false≢true}
+use Rattle.ops_tokens.specs.Regex.{Regex, Never, Or, Then, Many, One, nullable, after, matches, same}
 use Rattle.ops_tokens.specs.Bytes.{is_white}
 use Rattle.ops_tokens.specs.Gaps.{white, comment, IsGap}
 use Rattle.ops_tokens.specs.Tokens.{gap}
@@ -66,10 +66,11 @@ are_matched : (s : List ℕ) → AllByRecursion (λ b. b < 256) s → AreMatched
 unfolding after_outside after_within
 are_matched [] bytes = (refl, refl, refl)
 are_matched (b ∷ s) bytes =
-    let rest = are_matched s bytes.1 in
-    (ap (λ (r : Regex). matches r s) (same-is _ _ (all_below-at (λ c. same (after outside c) (after_outside c)) 256 b steps_outside bytes.0)) ∙ pick_outside (is_white b) (b == 59) s rest,
-     ap (λ (r : Regex). matches r s) (same-is _ _ (all_below-at (λ c. same (after within c) (after_within c)) 256 b steps_within bytes.0)) ∙ pick_within (b == 10) (is_white b) s rest,
-     ap (λ (r : Regex). matches r s) (same-is _ _ (all_below-at (λ c. same (after either_way c) (after_within c)) 256 b steps_either bytes.0)) ∙ pick_within (b == 10) (is_white b) s rest)
+    let rest = are_matched s bytes.1 in (
+      ap (λ (r : Regex). matches r s) (same-is _ _ (all_below-at (λ c. same (after outside c) (after_outside c)) 256 b steps_outside bytes.0)) ∙ pick_outside (is_white b) (b == 59) s rest,
+      ap (λ (r : Regex). matches r s) (same-is _ _ (all_below-at (λ c. same (after within c) (after_within c)) 256 b steps_within bytes.0)) ∙ pick_within (b == 10) (is_white b) s rest,
+      ap (λ (r : Regex). matches r s) (same-is _ _ (all_below-at (λ c. same (after either_way c) (after_within c)) 256 b steps_either bytes.0)) ∙ pick_within (b == 10) (is_white b) s rest,
+    )
 
 gap-byte : (inside w c l : Bool) (s : List ℕ) → ((i : Bool) → all_gap i s ≡ true → gap i s ≡ length s)
     → cond inside (all_gap l s) (cond w (all_gap false s) (cond c (all_gap true s) false)) ≡ true → cond inside (suc (gap l s)) (cond w (suc (gap false s)) (cond c (suc (gap true s)) 0)) ≡ suc (length s)
@@ -96,9 +97,10 @@ whole-gap (b ∷ s) inside e = whole-byte inside (is_white b) (b == 59) (not (b 
 -- a gap reaches the end of the bytes exactly where they are white space and comments
 pub gap-end : (s : List ℕ) → AllByRecursion (λ b. b < 256) s → (gap false s ≡ length s) ↔ IsGap s
 unfolding IsGap
-gap-end s bytes =
-    (λ e. (matches-is s outside).0 ((are_matched s bytes).0 ∙ whole-gap s false e),
-     λ m. gap-whole s false (sym (are_matched s bytes).0 ∙ (matches-is s outside).1 m))
+gap-end s bytes = (
+  λ e. (matches-is s outside).0 ((are_matched s bytes).0 ∙ whole-gap s false e),
+  λ m. gap-whole s false (sym (are_matched s bytes).0 ∙ (matches-is s outside).1 m),
+)
 
 le-byte : (inside w c l : Bool) (s : List ℕ) → ((i : Bool) → gap i s ≤ length s) → cond inside (suc (gap l s)) (cond w (suc (gap false s)) (cond c (suc (gap true s)) 0)) ≤ suc (length s)
 le-byte true w c l s rest = omega (arith, rest l)

@@ -6,3 +6,4 @@ pub mod Program
 pub mod Runs
 pub mod Atoms
 pub mod Gaps
+pub mod Clauses

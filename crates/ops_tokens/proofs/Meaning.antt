@@ -1,8 +1,7 @@
 -- What is left after a byte means what it should, so a text is matched exactly where its meaning holds.
-use Rattle.std.proofs.Common.{◌≡◌, ℕ, zero, suc, ◌+◌, ◌<◌, ◌≤◌, ◌⊎◌, Bool, true, false, cond, leb, List, [], ◌∷◌, ◌++◌, fold, refl, sym, ap, ◌∙◌, subst, arith, inl, inr}
-use Rattle.std.specs.Prelude.{◌&&◌, ◌||◌, nat_le}
+use Rattle.std.proofs.Common.{◌≡◌, ℕ, zero, suc, ◌⊎◌, Bool, true, false, cond, leb, List, [], ◌∷◌, ◌++◌, refl, sym, ap, ◌∙◌, subst, arith, inl, inr}
+use Rattle.std.specs.Prelude.{◌&&◌, ◌||◌}
 use Rattle.std.proofs.lemmas.Bool.{false≢true, leb-true, le-leb, and_parts}
-use Rattle.std.proofs.lemmas.Bool.Decides.{nat_tests}
 use Rattle.ops_tokens.specs.Regex.{Regex, Never, Empty, One, Then, Or, Many, Matches, Repeats, nullable, same, among, joined, either, behind, after, matches}
 use Rattle.ops_tokens.proofs.Residuals.{same-is}
 
@@ -78,9 +77,10 @@ either-is (Then x y) c s = joined-is (Then x y) c s
 either-is (Many x) c s = joined-is (Many x) c s
 either-is (Or x y) c s =
     let j = joined-is x (either y c) s in
-    let k = either-is y c s in
-    (λ m. elim (j.0 m) [ inl h ↦ inl (inl h) | inr h ↦ elim (k.0 h) [ inl i ↦ inl (inr i) | inr i ↦ inr i ] ],
-     λ m. elim m [ inl h ↦ elim h [ inl i ↦ j.1 (inl i) | inr i ↦ j.1 (inr (k.1 (inl i))) ] | inr h ↦ j.1 (inr (k.1 (inr h))) ])
+    let k = either-is y c s in (
+      λ m. elim (j.0 m) [ inl h ↦ inl (inl h) | inr h ↦ elim (k.0 h) [ inl i ↦ inl (inr i) | inr i ↦ inr i ] ],
+      λ m. elim m [ inl h ↦ elim h [ inl i ↦ j.1 (inl i) | inr i ↦ j.1 (inr (k.1 (inl i))) ] | inr h ↦ j.1 (inr (k.1 (inr h))) ],
+    )
 
 abbrev Same : Regex → Regex → List ℕ → Type 0
 Same r q s = (Matches r s → Matches q s) × (Matches q s → Matches r s)
@@ -108,26 +108,28 @@ one-is low high b s false y e f =
     (λ m. absurd m, λ (c, h, lo, hi). let same : b ≡ c = (heads b c s [] h).0 in absurd (false≢true (sym e ∙ le-leb low b (omega arith))))
 
 then_front : (a c : Regex) (b : ℕ) (s : List ℕ) (n : Bool) → nullable a ≡ n → ((t : List ℕ) → After a b t) → After c b s → (Matches (Then (after a b) c) s ⊎ Matches (cond n (after c b) Never) s → Matches (Then a c) (b ∷ s)) × (Matches (Then a c) (b ∷ s) → Matches (Then (after a b) c) s ⊎ Matches (cond n (after c b) Never) s)
-then_front a c b s true e ia ic =
-    (λ m. elim m [
-        | inl (x, y, h, mx, my) ↦ (b ∷ x, y, ap (λ (t : List ℕ). b ∷ t) h, (ia x).0 mx, my)
-        | inr h ↦ ([], b ∷ s, refl, nullable-matches a e, ic.0 h)
-      ],
-     λ (x, y, h, mx, my). back x y h mx my)
+then_front a c b s true e ia ic = (
+  λ m. elim m [
+    | inl (x, y, h, mx, my) ↦ (b ∷ x, y, ap (λ (t : List ℕ). b ∷ t) h, (ia x).0 mx, my)
+    | inr h ↦ ([], b ∷ s, refl, nullable-matches a e, ic.0 h)
+  ],
+  λ (x, y, h, mx, my). back x y h mx my,
+)
   where
-  back : (x y : List ℕ) → b ∷ s ≡ x ++ y → Matches a x → Matches c y → Matches (Then (after a b) c) s ⊎ Matches (after c b) s
-  back [] y h mx my = inr (ic.1 (subst (λ (t : List ℕ). Matches c t) (sym h) my))
-  back (d ∷ x) y h mx my = let p = heads b d s (x ++ y) h in inl (x, y, p.1, (ia x).1 (subst (λ (k : ℕ). Matches a (k ∷ x)) (sym p.0) mx), my)
-then_front a c b s false e ia ic =
-    (λ m. elim m [
-        | inl (x, y, h, mx, my) ↦ (b ∷ x, y, ap (λ (t : List ℕ). b ∷ t) h, (ia x).0 mx, my)
-        | inr h ↦ absurd h
-      ],
-     λ (x, y, h, mx, my). back x y h mx my)
+    back : (x y : List ℕ) → b ∷ s ≡ x ++ y → Matches a x → Matches c y → Matches (Then (after a b) c) s ⊎ Matches (after c b) s
+    back [] y h mx my = inr (ic.1 (subst (λ (t : List ℕ). Matches c t) (sym h) my))
+    back (d ∷ x) y h mx my = let p = heads b d s (x ++ y) h in inl (x, y, p.1, (ia x).1 (subst (λ (k : ℕ). Matches a (k ∷ x)) (sym p.0) mx), my)
+then_front a c b s false e ia ic = (
+  λ m. elim m [
+    | inl (x, y, h, mx, my) ↦ (b ∷ x, y, ap (λ (t : List ℕ). b ∷ t) h, (ia x).0 mx, my)
+    | inr h ↦ absurd h
+  ],
+  λ (x, y, h, mx, my). back x y h mx my,
+)
   where
-  back : (x y : List ℕ) → b ∷ s ≡ x ++ y → Matches a x → Matches c y → Matches (Then (after a b) c) s ⊎ ⊥
-  back [] y h mx my = absurd (false≢true (sym e ∙ matches-nullable a [] refl mx))
-  back (d ∷ x) y h mx my = let p = heads b d s (x ++ y) h in inl (x, y, p.1, (ia x).1 (subst (λ (k : ℕ). Matches a (k ∷ x)) (sym p.0) mx), my)
+    back : (x y : List ℕ) → b ∷ s ≡ x ++ y → Matches a x → Matches c y → Matches (Then (after a b) c) s ⊎ ⊥
+    back [] y h mx my = absurd (false≢true (sym e ∙ matches-nullable a [] refl mx))
+    back (d ∷ x) y h mx my = let p = heads b d s (x ++ y) h in inl (x, y, p.1, (ia x).1 (subst (λ (k : ℕ). Matches a (k ∷ x)) (sym p.0) mx), my)
 
 many_back : (a : Regex) (b : ℕ) (s : List ℕ) → ((t : List ℕ) → After a b t) → (n : ℕ) (whole : List ℕ) → whole ≡ b ∷ s → Repeats (Matches a) n whole → Matches (Then (after a b) (Many a)) s
 many_back a b s ia zero whole w m = absurd (let e = sym w ∙ m in cc)
@@ -142,17 +144,20 @@ after-is (One low high) b s = one-is low high b s (leb low b) (leb b high) refl 
 after-is (Then a c) b s =
     let t = then_front a c b s (nullable a) refl (after-is a b) (after-is c b s) in
     let k = behind-is (after a b) c s in
-    let j = either-is (behind (after a b) c) (cond (nullable a) (after c b) Never) s in
-    (λ m. t.0 (elim (j.0 m) [ inl h ↦ inl (k.0 h) | inr h ↦ inr h ]),
-     λ m. j.1 (elim (t.1 m) [ inl h ↦ inl (k.1 h) | inr h ↦ inr h ]))
+    let j = either-is (behind (after a b) c) (cond (nullable a) (after c b) Never) s in (
+      λ m. t.0 (elim (j.0 m) [ inl h ↦ inl (k.0 h) | inr h ↦ inr h ]),
+      λ m. j.1 (elim (t.1 m) [ inl h ↦ inl (k.1 h) | inr h ↦ inr h ]),
+    )
 after-is (Or a c) b s =
-    let j = either-is (after a b) (after c b) s in
-    (λ m. elim (j.0 m) [ inl h ↦ inl ((after-is a b s).0 h) | inr h ↦ inr ((after-is c b s).0 h) ],
-     λ m. j.1 (elim m [ inl h ↦ inl ((after-is a b s).1 h) | inr h ↦ inr ((after-is c b s).1 h) ]))
+    let j = either-is (after a b) (after c b) s in (
+      λ m. elim (j.0 m) [ inl h ↦ inl ((after-is a b s).0 h) | inr h ↦ inr ((after-is c b s).0 h) ],
+      λ m. j.1 (elim m [ inl h ↦ inl ((after-is a b s).1 h) | inr h ↦ inr ((after-is c b s).1 h) ]),
+    )
 after-is (Many a) b s =
-    let k = behind-is (after a b) (Many a) s in
-    (λ m. let (x, y, e, mx, my) = k.0 m in (suc my.0, (b ∷ x, y, ap (λ (t : List ℕ). b ∷ t) e, (after-is a b x).0 mx, my.1)),
-     λ m. k.1 (many_back a b s (after-is a b) m.0 (b ∷ s) refl m.1))
+    let k = behind-is (after a b) (Many a) s in (
+      λ m. let (x, y, e, mx, my) = k.0 m in (suc my.0, (b ∷ x, y, ap (λ (t : List ℕ). b ∷ t) e, (after-is a b x).0 mx, my.1)),
+      λ m. k.1 (many_back a b s (after-is a b) m.0 (b ∷ s) refl m.1),
+    )
 
 -- the test says just what the expression means
 pub matches-is : (s : List ℕ) (r : Regex) → (matches r s ≡ true → Matches r s) × (Matches r s → matches r s ≡ true)

@@ -1,11 +1,11 @@
 -- The table of plain atoms is a table, decides their rows, and takes plain bytes alone.
-use Rattle.std.proofs.Common.{◌≡◌, ◌≢◌, ℕ, ◌+◌, ◌<◌, Bool, true, false, List, [], ◌∷◌, length, map, fold, refl, sym, ap, ◌∙◌, get_or, eqb, arith, Option, Some, None}
-use Rattle.std.proofs.lemmas.Bool.{eqb-true, eqb-false, ltb-true, and_parts, not-true}
+use Rattle.std.proofs.Common.{◌≡◌, ◌≢◌, ℕ, ◌<◌, Bool, true, false, List, [], ◌∷◌, length, map, fold, refl, ap, arith, Option, Some, None}
+use Rattle.std.proofs.lemmas.Bool.{eqb-false, ltb-true, and_parts, not-true}
 use Rattle.std.specs.Prelude.{◌&&◌, ◌||◌, ◌==◌, not, nat_lt, slice_index, slice_index_or, SomeIff}
-use Rattle.std.specs.List.{AllByRecursion, list_all}
+use Rattle.std.specs.List.{AllByRecursion}
 use mathlib.Core.Bool.{beq}
-use Rattle.scan_table.specs.Table.{Table, step_of, state_after, accepted, AreBelow, AreRowsBelow, IsTable}
-use Rattle.ops_tokens.specs.Regex.{Regex, after, matches}
+use Rattle.scan_table.specs.Table.{Table, step_of, accepted, AreBelow, IsTable}
+use Rattle.ops_tokens.specs.Regex.{Regex, after}
 use Rattle.ops_tokens.specs.Bytes.{is_plain}
 use Rattle.ops_tokens.specs.Spellings.{operator, whole, fraction, variable, some, plain, is_operator, is_whole, is_fraction, is_variable, is_atom, row_of}
 use Rattle.ops_tokens.specs.Program.{program_table}
@@ -20,9 +20,11 @@ are_below-at limit items e k lt = ltb-true _ _ (all_below-at (λ i. nat_lt (slic
 
 pub is_table : IsTable 22 11 program_table
 unfolding program_table all_below
-is_table =
-    (omega arith, are_below-at 11 program_table.classes refl,
-     λ k lt. are_below-at 22 (slice_index_or program_table.next k []) (all_below-at (λ q. are_below 22 (slice_index_or program_table.next q [])) 22 k refl lt))
+is_table = (
+  omega arith,
+  are_below-at 11 program_table.classes refl,
+  λ k lt. are_below-at 22 (slice_index_or program_table.next k []) (all_below-at (λ q. are_below 22 (slice_index_or program_table.next q [])) 22 k refl lt),
+)
 
 abbrev rows : List Regex
 rows = operator ∷ whole ∷ fraction ∷ variable ∷ some plain ∷ []

@@ -1,5 +1,5 @@
 -- A state of a table means what the expressions leave of the text, so the table decides them.
-use Rattle.std.proofs.Common.{◌≡◌, ℕ, suc, ◌+◌, ◌<◌, Bool, true, false, List, [], ◌∷◌, map, fold, refl, sym, ap, ◌∙◌, get_or, eqb, cond, arith}
+use Rattle.std.proofs.Common.{◌≡◌, ℕ, ◌+◌, ◌<◌, Bool, true, false, List, [], ◌∷◌, map, fold, refl, sym, ap, ◌∙◌, get_or, eqb, cond}
 use Rattle.std.proofs.lemmas.Bool.{eqb-true, ltb-true, and_parts}
 use Rattle.std.specs.Prelude.{◌&&◌, ◌==◌, nat_lt, slice_index}
 use Rattle.std.specs.List.{AllByRecursion}

@@ -1,10 +1,10 @@
 -- The longest prefix that the table accepts is the run of plain bytes.
-use Rattle.std.proofs.Common.{◌≡◌, ◌≢◌, ℕ, suc, ◌+◌, ◌-◌, ◌<◌, ◌≤◌, Bool, true, false, List, [], ◌∷◌, length, take, drop, fold, refl, sym, ap, ◌∙◌, get_or, eqb, arith, inl, inr, Option, Some, None, subst}
+use Rattle.std.proofs.Common.{◌≡◌, ◌≢◌, ℕ, suc, ◌+◌, ◌-◌, ◌<◌, ◌≤◌, Bool, true, false, List, [], ◌∷◌, length, take, drop, fold, refl, sym, ap, ◌∙◌, get_or, arith, inl, inr, Option, Some, None, subst}
 use Rattle.std.proofs.lemmas.Bool.{eq-eqb, ne_eqb, cases_Bool, cases_lt, false≢true, not-true, not-false}
 use Rattle.std.proofs.lemmas.List.{get_or-drop, get_or-take, get_or_past, length-drop, length-take}
 use Rattle.std.proofs.lemmas.List.Sums.{prefix_len_is, prefix_len_passes}
 use Rattle.std.proofs.lemmas.List.Folds.{list_all_more, list_all_at}
-use Rattle.std.specs.Prelude.{◌&&◌, ◌||◌, ◌==◌, not, slice_index, slice_range}
+use Rattle.std.specs.Prelude.{◌&&◌, ◌||◌, ◌==◌, not, slice_range}
 use Rattle.std.specs.List.{AllByRecursion, list_all, prefix_len}
 use Rattle.scan_table.specs.Table.{step_of, state_after, accepted, IsLongest}
 use Rattle.ops_tokens.specs.Bytes.{is_plain}
@@ -91,7 +91,7 @@ ends_at text first n lt bytes before none =
     let none_more : accepted program_table (take (n + 1) (drop first text)) ≡ 0 = sym (ap (λ (m : ℕ). accepted program_table (take m (drop first text))) k) ∙ none in
     let long : n < length (drop first text) = omega (arith, length-drop first text) in
     plain-next (drop first text) n long before
-      (plain-not_all (take (n + 1) (drop first text)) (IsBytes-prefix text first (n + 1) bytes) (omega (arith, length-take (n + 1) (drop first text))) none_more)
+    (plain-not_all (take (n + 1) (drop first text)) (IsBytes-prefix text first (n + 1) bytes) (omega (arith, length-take (n + 1) (drop first text))) none_more)
 
 run_ends : (text : List ℕ) (first n row : ℕ) → 0 < n → first + n ≤ length text → IsBytes text → row ≢ 0 → accepted program_table (take n (drop first text)) ≡ row
     → ((end : ℕ) → first + n < end → end ≤ length text → accepted program_table (slice_range text first end) ≡ 0) → prefix_len is_plain (drop first text) ≡ n
@@ -100,8 +100,8 @@ run_ends text first n row some le bytes ne is none =
     let size : length (take n (drop first text)) ≡ n = omega (arith, length-take n (drop first text)) in
     let plain : list_all is_plain (take n (drop first text)) ≡ true = plain-all (take n (drop first text)) (IsBytes-prefix text first n bytes) (omega arith) (λ e. ne (sym is ∙ e)) in
     prefix_len_is is_plain (drop first text) n 0 long
-      (λ k lt. sym (ap is_plain (get_or-take n (drop first text) k 0 lt)) ∙ plain-at (take n (drop first text)) k (omega arith) plain)
-      (λ lt. ends_at text first n (omega (arith, length-drop first text)) bytes plain (none (first + n + 1) (omega arith) (omega (arith, length-drop first text))))
+    (λ k lt. sym (ap is_plain (get_or-take n (drop first text) k 0 lt)) ∙ plain-at (take n (drop first text)) k (omega arith) plain)
+    (λ lt. ends_at text first n (omega (arith, length-drop first text)) bytes plain (none (first + n + 1) (omega arith) (omega (arith, length-drop first text))))
 
 head_is : (text : List ℕ) (first : ℕ) → get_or (drop first text) 0 0 ≡ get_or text first 0
 head_is text first = get_or-drop first text 0 0 ∙ ap (λ (k : ℕ). get_or text k 0) (let e : first + 0 ≡ first = omega arith in e)
@@ -112,7 +112,7 @@ run_is text first n row lt some le bytes is size =
     record {
       plain = sym (ap is_plain (head_is text first)) ∙ prefix_len_passes is_plain (drop first text) 0 0 (omega arith);
       end = sym (ap (λ (s : List ℕ). first + length s) same ∙ (let e : first + length (take n (drop first text)) ≡ first + n = omega (arith, length-take n (drop first text), length-drop first text) in e));
-      row_is = sym is ∙ accepted-row (take n (drop first text)) (all_bytes _ (IsBytes-prefix text first n bytes)) ∙ ap row_of (sym same)
+      row_is = sym is ∙ accepted-row (take n (drop first text)) (all_bytes _ (IsBytes-prefix text first n bytes)) ∙ ap row_of (sym same);
     }
 
 pub finds_run : (text : List ℕ) (first : ℕ) → first < length text → IsBytes text → (r : Option (ℕ × ℕ)) → IsLongest program_table text first r → FindsRun text first r
@@ -124,5 +124,5 @@ finds_run text first lt bytes (Some (past, row)) found =
     let some : 0 < past - first = omega arith in
     let end : first + (past - first) ≡ past = omega arith in
     let size : prefix_len is_plain (drop first text) ≡ past - first =
-      run_ends text first (past - first) row some (omega arith) bytes found.2 found.3 (λ other above below. found.4 other (omega arith) below) in
+    run_ends text first (past - first) row some (omega arith) bytes found.2 found.3 (λ other above below. found.4 other (omega arith) below) in
     subst (λ (p : ℕ). IsRun text first p row) end (run_is text first (past - first) row lt some (omega arith) bytes found.3 size)

@@ -1,5 +1,5 @@
 -- Regular expressions over bytes, and what they mean.
-use Rattle.std.specs.Prelude.{◌≡◌, ℕ, zero, suc, ◌+◌, ◌<◌, ◌≤◌, ◌⊎◌, ◌==◌, ◌&&◌, ◌||◌, Bool, true, false, List, [], ◌∷◌, ◌++◌, fold, nat_le, if◌then◌else◌}
+use Rattle.std.specs.Prelude.{◌≡◌, ℕ, zero, suc, ◌≤◌, ◌⊎◌, ◌==◌, ◌&&◌, ◌||◌, Bool, true, false, List, [], ◌∷◌, ◌++◌, fold, nat_le, if◌then◌else◌}
 
 -- an expression
 pub data Regex : Type 0 where
@@ -60,7 +60,7 @@ either Never c = c
 either (Or x y) c = joined x (either y c)
 either a c = joined a c
 
--- a and then c, of which a may be plain to see
+-- a and then c, written shorter where a is Never or Empty
 abbrev pub behind : Regex → Regex → Regex
 behind Never c = Never
 behind Empty c = c

@@ -1,5 +1,5 @@
 -- What the table finds in a text.
-use Rattle.std.specs.Prelude.{◌≡◌, ℕ, ◌+◌, ◌≤◌, true, false, List, length, slice_index, Option, Some, None}
+use Rattle.std.specs.Prelude.{◌≡◌, ℕ, ◌+◌, true, false, List, length, slice_index, Option, Some, None}
 use Rattle.ops_tokens.specs.Bytes.{is_plain}
 use Rattle.ops_tokens.specs.Spellings.{row_of}
 use Rattle.ops_tokens.specs.Tokens.{run_at}

@@ -1,10 +1,10 @@
 //! The tokens of a program text: their kinds and spellings, and the next one from a place on.
 #![tactic(auto)]
 
-pub mod bytes;
-pub mod number;
+mod bytes;
+mod number;
 pub mod scanner;
-pub mod table;
+mod table;
 pub mod token;
 
 pub use scanner::{Scanner, next_token};

@@ -1,19 +1,17 @@
 //! The next token of a text.
-ghost use Rattle.std.specs.Prelude.{◌≡◌, ◌↔◌, ◌+◌, ◌<◌, ◌≤◌, length, drop, position, slice_index, IfOk};
+ghost use Rattle.std.specs.Prelude.{◌≡◌, ◌↔◌, ◌+◌, ◌<◌, ◌≤◌, length, drop, position, slice_index, IfOk, IfErr, IfSome};
 ghost use Rattle.ops_tokens.specs.Bytes.{is_bar};
+ghost use Rattle.ops_tokens.specs.Gaps.{IsGap};
+ghost use Rattle.ops_tokens.specs.Meanings.{IsSpelled};
 ghost use Rattle.ops_tokens.specs.Numbers.{whole_value};
 ghost use Rattle.ops_tokens.specs.Program.{program_table};
 ghost use Rattle.ops_tokens.specs.Runs.{FindsRun, IsRun};
-ghost use Rattle.ops_tokens.specs.Tokens.{bracket_of, quoted, number, atom, run_at, begun, token_at, spelling};
+ghost use Rattle.ops_tokens.specs.Tokens.{bracket_of, quoted, number, atom, run_at, begun, token_at, spelling, StandsFrom};
 
 use crate::bytes::{bad_in, bar_in, gap_end};
 use crate::number::whole_of;
-use crate::table::{
-    CLASS_OF, CLASSES, FRACTION, KINDS, NEXT, OPERATOR, STATES, VARIABLE, WHOLE,
-};
-use crate::token::{
-    BAD_BYTE, FRACTION_NUMBER, LexFault, NUMBER_RANGE, Token, TokenKind, UNCLOSED,
-};
+use crate::table::{CLASS_OF, CLASSES, FRACTION, KINDS, NEXT, OPERATOR, STATES, VARIABLE, WHOLE};
+use crate::token::{BAD_BYTE, FRACTION_NUMBER, LexFault, NUMBER_RANGE, Token, TokenKind, UNCLOSED};
 use scan_table::Dfa;
 
 /// What reads tokens. It is made once, for any number of texts.
@@ -35,7 +33,11 @@ impl Scanner {
     /// the token and for the token alone.
     pub fn next_token(&self, text: &[u8], from: usize) -> Result<Option<Token>, LexFault>
         requires { from ≤ length text.now }
-        ensures { result ≡ token_at text.now from }
+        ensures token { result ≡ token_at text.now from }
+        ensures place { IfOk result (λ found. IfSome found (StandsFrom text.now from)) }
+        ensures spelled { IfOk result (λ found. IfSome found (λ t. IsSpelled t.kind (spelling text.now t))) }
+        ensures end { (result ≡ Ok None) ↔ IsGap (drop from text.now) }
+        ensures fault { IfErr result (λ fault. (from ≤ fault.at) × (fault.at < length text.now)) }
     {
         self.found(text, from)
     }
@@ -87,7 +89,11 @@ impl Scanner {
 /// The next token from `from` on, or `None` at the end of the text, by a scanner of its own. Takes no memory.
 pub fn next_token(text: &[u8], from: usize) -> Result<Option<Token>, LexFault>
     requires { from ≤ length text.now }
-    ensures { result ≡ token_at text.now from }
+    ensures token { result ≡ token_at text.now from }
+    ensures place { IfOk result (λ found. IfSome found (StandsFrom text.now from)) }
+    ensures spelled { IfOk result (λ found. IfSome found (λ t. IsSpelled t.kind (spelling text.now t))) }
+    ensures end { (result ≡ Ok None) ↔ IsGap (drop from text.now) }
+    ensures fault { IfErr result (λ fault. (from ≤ fault.at) × (fault.at < length text.now)) }
 {
     Scanner::new().next_token(text, from)
 }
@@ -162,5 +168,126 @@ fn number(spelling: &[u8], first: usize, past: usize) -> Result<Option<Token>, L
             number: NUMBER_RANGE,
             at: first,
         }),
+    }
+}
+
+#[cfg(test)]
+mod tests {
+    use super::*;
+    use crate::token::spelling_of;
+
+    fn token(kind: TokenKind, first: usize, past: usize) -> Result<Option<Token>, LexFault> {
+        Ok(Some(Token { kind, first, past }))
+    }
+
+    fn fault(number: u8, at: usize) -> Result<Option<Token>, LexFault> {
+        Err(LexFault { number, at })
+    }
+
+    #[test]
+    fn tells_kinds_of_atoms_apart(rt: HostRuntime) {
+        let scanner = Scanner::new();
+        for (text, kind) in [
+            ("(", TokenKind::Left),
+            (")", TokenKind::Right),
+            ("{", TokenKind::LeftBrace),
+            ("}", TokenKind::RightBrace),
+            ("^", TokenKind::Caret),
+            ("-", TokenKind::Operator),
+            ("-->", TokenKind::Operator),
+            ("<=>", TokenKind::Operator),
+            ("//", TokenKind::Operator),
+            ("<x>", TokenKind::Variable),
+            ("<<>", TokenKind::Variable),
+            ("<<a", TokenKind::Symbol),
+            ("--", TokenKind::Symbol),
+            ("+", TokenKind::Symbol),
+            ("1e", TokenKind::Symbol),
+            ("1.2.", TokenKind::Symbol),
+            ("||", TokenKind::Quoted),
+        ] {
+            let bytes = text.as_bytes();
+            assert_eq!(rt;
+                scanner.next_token(bytes, 0),
+                token(kind, 0, bytes.len()),
+                "in {text}"
+            );
+        }
+    }
+
+    #[test]
+    fn reads_numbers(rt: HostRuntime) {
+        let scanner = Scanner::new();
+        for (text, value) in [
+            ("12.", 12),
+            ("+5", 5),
+            ("-007", -7),
+            ("9223372036854775807", i64::MAX),
+            ("-9223372036854775808", i64::MIN),
+            ("0000000000000000000000000000001", 1),
+        ] {
+            let bytes = text.as_bytes();
+            let kind = TokenKind::Whole(value);
+            assert_eq!(rt;
+                scanner.next_token(bytes, 0),
+                token(kind, 0, bytes.len()),
+                "in {text}"
+            );
+        }
+        for text in [
+            "9223372036854775808",
+            "-9223372036854775809",
+            "99999999999999999999",
+        ] {
+            assert_eq!(rt;
+                scanner.next_token(text.as_bytes(), 0),
+                fault(5, 0),
+                "in {text}"
+            );
+        }
+        for text in ["1.5", ".5e3", "+1e-9", "1.E0"] {
+            assert_eq!(rt;
+                scanner.next_token(text.as_bytes(), 0),
+                fault(4, 0),
+                "in {text}"
+            );
+        }
+    }
+
+    #[test]
+    fn answers_places(rt: HostRuntime) {
+        for (text, want) in [
+            ("", Ok(None)),
+            (" \t\r\n\u{c}; | \u{1} é", Ok(None)),
+            (";|\n |a\nb|c", token(TokenKind::Quoted, 4, 9)),
+            ("ab(", token(TokenKind::Symbol, 0, 2)),
+            ("ab\u{7f}", token(TokenKind::Symbol, 0, 2)),
+            ("12;", token(TokenKind::Whole(12), 0, 2)),
+            ("  \u{7f}", fault(1, 2)),
+            (" |a\u{1}b\u{2}|", fault(1, 3)),
+            (" |a\u{1}b", fault(2, 1)),
+        ] {
+            assert_eq!(rt; next_token(text.as_bytes(), 0), want, "in {text}");
+        }
+    }
+
+    #[test]
+    fn spells_what_it_reads(rt: HostRuntime) {
+        for (text, from, want) in [
+            ("(|a b|)", 1, "a b"),
+            ("(|a b|)", 0, "("),
+            (" <x> ", 0, "<x>"),
+        ] {
+            match next_token(text.as_bytes(), from) {
+                Ok(Some(token)) => {
+                    assert_eq!(rt;
+                        spelling_of(text.as_bytes(), &token),
+                        want.as_bytes(),
+                        "in {text}"
+                    );
+                }
+                _ => panic!(rt; "no token in {text}"),
+            }
+        }
     }
 }

@@ -1,4 +1,4 @@
-use Rattle.std.proofs.Common.{◌≡◌, List, ℕ, ◌∙◌, ap}
+use Rattle.std.proofs.Common.{List, ℕ, ◌∙◌, ap}
 use Rattle.ops_tokens.specs.Numbers.{whole_value}
 use Rattle.ops_tokens.specs.Tokens.{number}
 use Rattle.ops_tokens.proofs.Atoms.{atom-whole, slice-run}

@@ -1,5 +1,4 @@
-use Rattle.std.proofs.Common.{◌≡◌, refl, Option, Some}
-use Rattle.scan_table.specs.Table.{Table}
+use Rattle.std.proofs.Common.{◌≡◌, refl, Some}
 use Rattle.ops_tokens.specs.Program.{program_table}
 use Rattle.ops_tokens.proofs.Program.{made}
 use Rattle.ops_tokens.proofs.scanner.Scanner.new.Goals as goal

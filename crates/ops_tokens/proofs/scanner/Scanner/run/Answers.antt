@@ -6,4 +6,4 @@ use Rattle.ops_tokens.proofs.scanner.Scanner.run.Goals as goal
 pub returns : goal.returns
 returns c =
     finds_run c.args.text.now c.args.first c.requires (λ i. omega (arith, c.type_inv.text i)) c.longest.result
-      (subst (λ (t : Table). IsLongest t c.args.text.now c.args.first c.longest.result) c.args.self.now.is_program_table c.longest.ensures)
+    (subst (λ (t : Table). IsLongest t c.args.text.now c.args.first c.longest.result) c.args.self.now.is_program_table c.longest.ensures)

@@ -1,0 +1,157 @@
+//! Each public call once, with memory enough, and the real files and streams.
+ghost use Rattle.std.specs.Prelude.{◌≡◌, [], IfOk};
+
+use crate::memory::{MemShelf, MemSink, MemSource};
+use crate::out::{Out, WriteFailed};
+use crate::outside::{Failed, Gate, LoadError, OpenGate, Shelf, Sink, Source};
+use crate::port::{flush_all, put_bytes};
+use crate::real::{StdShelf, StdSink, StdSource};
+use crate::stop::Stop;
+use ops_base::memory::OutOfMemory;
+use std::alloc::{AllocError, Global};
+use std::fs;
+use std::test::Fail;
+
+/// A shelf with the file `a.ops`, whose second load fails.
+fn one_file(alloc: Global) -> Result<MemShelf, AllocError>
+    ensures { IfOk result (λ shelf. (shelf.names ≡ []) × (shelf.faults ≡ 0)) }
+{
+    let mut files = Vec::new(alloc);
+    let name = String::from_str(alloc, "a.ops")?;
+    let bytes = b"(exit)".to_vec(alloc)?;
+    files.push((name, bytes))?;
+    Ok(MemShelf::new(alloc, files, vec![in alloc; 2]?))
+}
+
+#[test]
+fn shelf_in_memory(rt: HostRuntime) -> Result<(), Fail> {
+    let alloc = rt.alloc();
+    let mut shelf = one_file(alloc)?;
+    let mut text = b"; ".to_vec(alloc)?;
+    assert_eq!(rt; shelf.load("a.ops", 5, &mut text)?, false);
+    let listed = shelf.load("a.ops", 6, &mut text).err();
+    assert_eq!(rt;
+        listed.ok_or("the second load is listed")?,
+        LoadError::Failed
+    );
+    assert_eq!(rt; shelf.load("a.ops", 6, &mut text)?, true);
+    assert_eq!(rt; text.as_slice(), b"; (exit)".as_slice());
+    assert_eq!(rt; shelf.load("b.ops", 6, &mut text), Err(LoadError::Failed));
+    Ok(())
+}
+
+#[test]
+fn source_in_memory(rt: HostRuntime) -> Result<(), Fail> {
+    let alloc = rt.alloc();
+    let mut source = MemSource::new(b"abcde".to_vec(alloc)?, 2, vec![in alloc; 2]?);
+    let mut buf = [0; 4];
+    assert_eq!(rt; source.read(&mut buf)?, 2);
+    let listed = source.read(&mut buf).err();
+    assert_eq!(rt; listed.ok_or("the second read is listed")?, Failed);
+    assert_eq!(rt; source.read(&mut buf)?, 2);
+    assert_eq!(rt; source.read(&mut buf)?, 1);
+    assert_eq!(rt; source.read(&mut buf)?, 0);
+    assert_eq!(rt; buf.as_slice(), b"ed\0\0".as_slice());
+    Ok(())
+}
+
+#[test]
+fn sink_in_memory(rt: HostRuntime) -> Result<(), Fail> {
+    let alloc = rt.alloc();
+    let mut sink = MemSink::new(alloc, 3, 2, vec![in alloc; 2]?)?;
+    assert_eq!(rt; sink.write(b"abcd")?, 2);
+    let listed = sink.write(b"cd").err();
+    assert_eq!(rt; listed.ok_or("the second write is listed")?, Failed);
+    assert_eq!(rt; sink.write(b"cd")?, 1);
+    assert_eq!(rt; sink.write(b"d"), Err(Failed));
+    assert_eq!(rt; sink.written(), b"abc".as_slice());
+    Ok(())
+}
+
+#[test]
+fn output_buffer(rt: HostRuntime) -> Result<(), Fail> {
+    let alloc = rt.alloc();
+    let mut sink = MemSink::new(alloc, 20, 3, Vec::new(alloc))?;
+    let mut out = Out::new(alloc)?;
+    out.put(&mut sink, b"ab\ncd")?;
+    assert_eq!(rt; (out.column(), sink.written().len()), (2, 0));
+    out.flush(&mut sink)?;
+    assert_eq!(rt; out.column(), 2);
+    assert_eq!(rt; sink.written(), b"ab\ncd".as_slice());
+    Ok(())
+}
+
+#[test]
+fn long_output(rt: HostRuntime) -> Result<(), Fail> {
+    let alloc = rt.alloc();
+    let mut sink = MemSink::new(alloc, 20_000, 3_000, Vec::new(alloc))?;
+    let mut out = Out::new(alloc)?;
+    put_bytes(&mut out, &mut sink, &[b'x'; 9_000])?;
+    assert_eq!(rt; (out.column(), sink.written().len()), (9_000, 8_192));
+    flush_all(&mut out, &mut sink)?;
+    assert_eq!(rt; (out.column(), sink.written().len()), (9_000, 9_000));
+    Ok(())
+}
+
+#[test]
+fn output_refused(rt: HostRuntime) -> Result<(), Fail> {
+    let alloc = rt.alloc();
+    let mut sink = MemSink::new(alloc, 4, 3, Vec::new(alloc))?;
+    let mut out = Out::new(alloc)?;
+    out.put(&mut sink, b"abcdef")?;
+    assert_eq!(rt; flush_all(&mut out, &mut sink), Err(Stop::Write));
+    assert_eq!(rt; sink.written(), b"abcd".as_slice());
+    assert_eq!(rt; Stop::from(WriteFailed), Stop::Write);
+    assert_eq!(rt; Stop::from(OutOfMemory), Stop::OutOfMemory);
+    Ok(())
+}
+
+#[test]
+fn open_gate() {
+    OpenGate.enter(0, 0);
+    (&OpenGate).enter(0, 0);
+}
+
+#[test]
+fn real_shelf(rt: HostRuntime) -> Result<(), Fail> {
+    fs::write(&rt, "ops_io_shelf.txt", "(make a)")?;
+    let alloc = rt.alloc();
+    let mut shelf = StdShelf::new(alloc, &rt);
+    let mut text = b"; ".to_vec(alloc)?;
+    assert_eq!(rt; shelf.load("ops_io_shelf.txt", 7, &mut text)?, false);
+    assert_eq!(rt; shelf.load("ops_io_shelf.txt", 8, &mut text)?, true);
+    assert_eq!(rt; text.as_slice(), b"; (make a)".as_slice());
+    let missing = shelf.load("ops_io_none.txt", 8, &mut text);
+    assert_eq!(rt; missing, Err(LoadError::Failed));
+    fs::remove_file(&rt, "ops_io_shelf.txt")?;
+    Ok(())
+}
+
+#[test]
+fn real_source(rt: HostRuntime) -> Result<(), Fail> {
+    fs::write(&rt, "ops_io_source.txt", "abc")?;
+    let mut source = StdSource::new(fs::open(&rt, "ops_io_source.txt")?);
+    let mut buf = [0; 2];
+    assert_eq!(rt; source.read(&mut buf)?, 2);
+    assert_eq!(rt; source.read(&mut buf)?, 1);
+    assert_eq!(rt; source.read(&mut buf)?, 0);
+    assert_eq!(rt; buf.as_slice(), b"cb".as_slice());
+    fs::remove_file(&rt, "ops_io_source.txt")?;
+    Ok(())
+}
+
+#[test]
+fn real_sink(rt: HostRuntime) -> Result<(), Fail> {
+    let mut sink = StdSink::new(fs::create(&rt, "ops_io_sink.txt")?);
+    assert_eq!(rt; sink.write(b"abc"), Ok(3));
+    assert_eq!(rt;
+        fs::read(&rt, "ops_io_sink.txt")?.as_slice(),
+        b"abc".as_slice()
+    );
+
+    // A file that is open for reading alone takes nothing.
+    let mut refusing = StdSink::new(fs::open(&rt, "ops_io_sink.txt")?);
+    assert_eq!(rt; refusing.write(b"abc"), Err(Failed));
+    fs::remove_file(&rt, "ops_io_sink.txt")?;
+    Ok(())
+}

@@ -1,0 +1,142 @@
+-- What holds of what was read so far, for each thing that may be wanted next.
+use Rattle.std.proofs.Common.{◌≡◌, ℕ, ◌<◌, ◌≤◌, true, false, not, ◌==◌, List, [], ◌∷◌, length, map, nat_lt}
+use Rattle.std.specs.List.{list_all, list_any}
+use Rattle.ops_base.specs.declared.values.Sym.{Sym}
+use Rattle.ops_base.specs.declared.elements.Class.{Class}
+use Rattle.ops_base.specs.declared.conditions.Test.{Test}
+use Rattle.ops_base.specs.declared.conditions.Condition.{Condition}
+use Rattle.ops_base.specs.declared.actions.Action.{Action}
+use Rattle.ops_base.specs.declared.rules.Rule.{Rule}
+use Rattle.ops_base.specs.declared.commands.Command.{Command}
+use Rattle.ops_base.specs.Valid.{most_fields, most_conditions, are_distinct, class_of, class_is_valid, is_attribute, Sight, tests_are_valid, sight_after_tests, conditions_are_valid, sight_after_conditions, nothing_in_sight, first_is_positive, known_of, is_cell, Known, known_after_actions, put_is_valid, item_is_valid, actions_are_valid, rule_is_valid, fixed_is_valid, command_is_valid}
+use Rattle.ops_meaning.specs.declared.words.Named.{Named}
+use Rattle.ops_meaning.specs.Grammar.{Use, InPattern, InPut, InFixed, EndsRun, EndsHalt, EndsCrlf, Wanted, Forms, Form, ClassDeclared, Attributes, RuleName, Patterns, ClassName, Terms, Attribute, ValueFor, Actions, ActionWord, Cell, Cells, Items, ItemWord, Closes, State, Step, Stops, Next, Refuses}
+
+-- the form that is read began before the place, and no list is longer than the place
+abbrev pub IsShort : ℕ → State → Type 0
+IsShort n s =
+    (s.first ≤ n) × (length s.classes ≤ n) × (length s.rules ≤ n) × (length s.commands ≤ n) × (length s.tests ≤ n) × (length s.puts ≤ n)
+    × (length s.fixed ≤ n) × (length s.cells ≤ n) × (length s.items ≤ n) × (length s.actions ≤ n)
+
+-- the forms that were read
+pub record IsProgram (text : ℕ) (classes : List Class) (rules : List Rule) (commands : List Command) : Type 0 where
+  pub classes_valid : list_all class_is_valid classes ≡ true
+  pub rules_valid : list_all (rule_is_valid classes text) rules ≡ true
+  pub commands_valid : list_all (command_is_valid classes) commands ≡ true
+  pub class_names : are_distinct (map (λ c. c.name.0) classes) ≡ true
+  pub rule_names : are_distinct (map (λ r. r.name.0) rules) ≡ true
+
+-- a class may come
+pub record IsDeclaring (text : ℕ) (classes : List Class) (rules : List Rule) (commands : List Command) : Type 0 where
+  pub program : IsProgram text classes rules commands
+  pub no_rules : length rules ≡ 0
+  pub no_commands : length commands ≡ 0
+
+-- a class of that name may have these attributes
+pub record IsClass (classes : List Class) (name : Sym) (attrs : List Sym) : Type 0 where
+  pub is_new : list_any (λ c. c.name.0 == name.0) classes ≡ false
+  pub few : length attrs ≤ most_fields
+  pub distinct : are_distinct (map (λ a. a.0) attrs) ≡ true
+
+abbrev pub numbers : List Named → List ℕ
+numbers values = map (λ n. n.number) values
+
+-- the variables with these numbers are in sight
+abbrev pub sight_of : List Named → Sight
+sight_of values = record { bound = numbers values; given = numbers values }
+
+-- the left side of a rule up to some tests of a condition
+pub record IsHead (text : ℕ) (classes : List Class) (rules : List Rule) (commands : List Command) (name : Sym) (values : List Named) (conditions : List Condition) (tests : List Test) : Type 0 where
+  pub program : IsProgram text classes rules commands
+  pub is_new : list_any (λ r. r.name.0 == name.0) rules ≡ false
+  pub few : length conditions ≤ most_conditions
+  pub valid : conditions_are_valid classes nothing_in_sight conditions ≡ true
+  pub positive : list_all (λ c. not c.negated) conditions ≡ true
+  pub sight : sight_after_tests (sight_after_conditions nothing_in_sight conditions) tests ≡ sight_of values
+  pub below : list_all (λ v. nat_lt v (length values)) (numbers values) ≡ true
+
+-- what the right side of a rule knows after some actions
+abbrev pub known : List Condition → List Action → Known
+known conditions actions = known_after_actions (known_of conditions) actions
+
+-- a rule up to some actions
+pub record IsBody (text : ℕ) (classes : List Class) (rules : List Rule) (commands : List Command) (name : Sym) (values : List Named) (conditions : List Condition) (actions : List Action) : Type 0 where
+  pub head : IsHead text classes rules commands name values conditions []
+  pub some : first_is_positive conditions ≡ true
+  pub valid : actions_are_valid classes (known_of conditions) actions ≡ true
+  pub bound : (known conditions actions).bound ≡ numbers values
+  pub given : (known conditions actions).given ≡ numbers values
+  pub cells : length (known conditions actions).cells ≡ length conditions
+
+abbrev pub Program : ℕ → State → Type 0
+Program text s = IsProgram text s.classes s.rules s.commands
+
+abbrev pub Declaring : ℕ → State → Type 0
+Declaring text s = IsDeclaring text s.classes s.rules s.commands
+
+abbrev pub Head : ℕ → State → Type 0
+Head text s = IsHead text s.classes s.rules s.commands s.name s.values s.conditions s.tests
+
+abbrev pub Body : ℕ → State → Type 0
+Body text s = IsBody text s.classes s.rules s.commands s.name s.values s.conditions s.actions
+
+-- where an element stands
+abbrev pub Around : Use → ℕ → State → Type 0
+Around InPattern text s = Head text s × (length s.conditions < most_conditions) × (s.actions ≡ [])
+Around InPut text s = Body text s
+Around InFixed text s = Program text s
+
+-- no attribute of it was read
+abbrev pub IsEmpty : Use → State → Type 0
+IsEmpty InPattern s = s.tests ≡ []
+IsEmpty InPut s = s.puts ≡ []
+IsEmpty InFixed s = s.fixed ≡ []
+
+-- the attributes that were read
+abbrev pub HasFields : Use → State → Type 0
+HasFields InPattern s = tests_are_valid (class_of s.classes s.class) (sight_after_conditions nothing_in_sight s.conditions) s.tests ≡ true
+HasFields InPut s = list_all (put_is_valid s.classes (known s.conditions s.actions) (class_of s.classes s.class)) s.puts ≡ true
+HasFields InFixed s = list_all (fixed_is_valid (class_of s.classes s.class)) s.fixed ≡ true
+
+pub record IsElement (u : Use) (text : ℕ) (s : State) : Type 0 where
+  pub around : Around u text s
+  pub class : s.class < length s.classes
+  pub fields : HasFields u s
+
+-- what is wanted after an element
+abbrev pub behind : Use → List Wanted
+behind InPattern = Patterns ∷ Actions ∷ Forms ∷ []
+behind InPut = Actions ∷ Forms ∷ []
+behind InFixed = Forms ∷ []
+
+-- nothing was used that is not there
+abbrev pub IsClear : State → Type 0
+IsClear s = (s.unknown ≡ false) × (s.unbound ≡ false)
+
+-- what may be wanted, and what then holds where nothing was used that is not there
+pub data IsRead (text : ℕ) (s : State) : List Wanted → Type 0 where
+  at_forms : (IsClear s → Program text s) → IsRead text s (Forms ∷ [])
+  at_form : (IsClear s → Program text s) → IsRead text s (Form ∷ Forms ∷ [])
+  at_class_declared : (IsClear s → Declaring text s) → IsRead text s (ClassDeclared ∷ Attributes ∷ Forms ∷ [])
+  at_attributes : (IsClear s → Declaring text s × IsClass s.classes s.name s.attrs) → IsRead text s (Attributes ∷ Forms ∷ [])
+  at_rule_name : (IsClear s → Program text s) → IsRead text s (RuleName ∷ Patterns ∷ Actions ∷ Forms ∷ [])
+  at_patterns : (IsClear s → Head text s × (s.tests ≡ []) × (s.actions ≡ [])) → IsRead text s (Patterns ∷ Actions ∷ Forms ∷ [])
+  at_class_name : (u : Use) → (IsClear s → Around u text s × IsEmpty u s) → IsRead text s (ClassName ∷ Terms u ∷ behind u)
+  at_terms : (u : Use) → (IsClear s → IsElement u text s) → IsRead text s (Terms u ∷ behind u)
+  at_attribute : (u : Use) → (IsClear s → IsElement u text s) → IsRead text s (Attribute u ∷ Terms u ∷ behind u)
+  at_value : (u : Use) → (f : ℕ) → (IsClear s → IsElement u text s × (is_attribute (class_of s.classes s.class) f ≡ true)) → IsRead text s (ValueFor u f ∷ Terms u ∷ behind u)
+  at_actions : (IsClear s → Body text s) → IsRead text s (Actions ∷ Forms ∷ [])
+  at_action_word : (IsClear s → Body text s) → IsRead text s (ActionWord ∷ Actions ∷ Forms ∷ [])
+  at_cell : (IsClear s → Body text s × (list_all (is_cell (known s.conditions s.actions)) s.cells ≡ true)) → IsRead text s (Cell ∷ Cells ∷ Actions ∷ Forms ∷ [])
+  at_cells : (IsClear s → Body text s × (list_all (is_cell (known s.conditions s.actions)) s.cells ≡ true)) → IsRead text s (Cells ∷ Actions ∷ Forms ∷ [])
+  at_items : (IsClear s → Body text s × (list_all (item_is_valid s.classes (known s.conditions s.actions)) s.items ≡ true)) → IsRead text s (Items ∷ Actions ∷ Forms ∷ [])
+  at_item_word : (IsClear s → Body text s × (list_all (item_is_valid s.classes (known s.conditions s.actions)) s.items ≡ true)) → IsRead text s (ItemWord ∷ Items ∷ Actions ∷ Forms ∷ [])
+  at_crlf : (IsClear s → Body text s × (list_all (item_is_valid s.classes (known s.conditions s.actions)) s.items ≡ true)) → IsRead text s (Closes EndsCrlf ∷ Items ∷ Actions ∷ Forms ∷ [])
+  at_halt : (IsClear s → Body text s) → IsRead text s (Closes EndsHalt ∷ Actions ∷ Forms ∷ [])
+  at_run : (IsClear s → Program text s) → IsRead text s (Closes EndsRun ∷ Forms ∷ [])
+
+-- where a step leads, up to a place
+abbrev pub Leads : ℕ → ℕ → Step → Type 0
+Leads text n (Stops s) = ⊥
+Leads text n (Next ws s) = IsShort n s × IsRead text s ws
+Leads text n (Refuses f) = Unit {0}

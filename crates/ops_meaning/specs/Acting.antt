@@ -1,0 +1,114 @@
+-- What a firing does.
+use Rattle.std.specs.Prelude.{ℕ, ◌+◌, List, [], ◌∷◌, ◌++◌, length, fold, replicate, Bool, true, false, ◌==◌, if◌then◌else◌, slice_get, slice_set, unwrap_or, find, option_map, Option, Some, None}
+use Rattle.std.specs.List.{list_any}
+use Rattle.ops_base.specs.declared.values.Value.{Value}
+use Rattle.ops_base.specs.declared.elements.Class.{Class}
+use Rattle.ops_base.specs.declared.elements.Element.{Element}
+use Rattle.ops_base.specs.declared.elements.Change.{Change}
+use Rattle.ops_base.specs.declared.elements.Change.TheVariants as change
+use Rattle.ops_base.specs.declared.conditions.Condition.{Condition}
+use Rattle.ops_base.specs.declared.matching.Binding.{Binding}
+use Rattle.ops_base.specs.declared.actions.Term.{Term}
+use Rattle.ops_base.specs.declared.actions.Term.TheVariants as term
+use Rattle.ops_base.specs.declared.actions.Put.{Put}
+use Rattle.ops_base.specs.declared.actions.Item.{Item}
+use Rattle.ops_base.specs.declared.actions.Item.TheVariants as item
+use Rattle.ops_base.specs.declared.actions.Action.{Action}
+use Rattle.ops_base.specs.declared.actions.Action.TheVariants as action
+use Rattle.ops_base.specs.Values.{nil}
+use Rattle.ops_base.specs.Valid.{class_of}
+use Rattle.ops_base.specs.Names.{Spellings}
+use Rattle.ops_base.specs.WorkingMemory.{change_done}
+use Rattle.ops_base.specs.Matching.{match_of, value_of}
+use Rattle.ops_io.specs.Output.{column_after}
+use Rattle.ops_meaning.specs.declared.states.Doing.{Doing}
+use Rattle.ops_meaning.specs.Effects.{Effect, writes, and_then}
+use Rattle.ops_meaning.specs.Layout.{value_text, gap}
+
+-- the element of a tag
+abbrev pub element_of : List Element → ℕ → Option Element
+element_of wm tag = find (λ e. e.tag == tag) wm
+
+-- the bindings after an element met a condition
+abbrev pub matched_by : Condition → Option Element → List Binding → List Binding
+matched_by c None bindings = bindings
+matched_by c (Some e) bindings = unwrap_or (match_of c e bindings) bindings
+
+-- the bindings that the elements of these tags give, one for each positive condition
+abbrev pub bindings_of : List Element → List Condition → List ℕ → List Binding → List Binding
+bindings_of wm [] tags bindings = bindings
+bindings_of wm (c ∷ cs) [] bindings = bindings
+bindings_of wm (c ∷ cs) (t ∷ ts) bindings =
+    if c.negated then bindings_of wm cs (t ∷ ts) bindings else bindings_of wm cs ts (matched_by c (element_of wm t) bindings)
+
+-- what stands still during a firing
+pub record Scene : Type 0 where
+  pub names : Spellings
+  pub classes : List Class
+  pub bindings : List Binding
+  pub tags : List ℕ
+
+-- one change to working memory is done
+abbrev pub changed : Doing → Change → Doing
+changed d c = record d { wm = change_done d.wm c }
+
+-- the value of a term; the other terms stand in no text yet
+abbrev pub term_value : List Binding → Term → Value
+term_value bindings (term.Constant v) = v
+term_value bindings (term.Variable v) = unwrap_or (value_of bindings v) nil
+term_value bindings _ = nil
+
+-- ---- write
+
+-- the bytes of one item from a column on; the other items stand in no text yet
+abbrev pub item_bytes : Scene → ℕ → Item → List ℕ
+item_bytes scene column (item.Print t) = gap column ++ value_text scene.names (term_value scene.bindings t)
+item_bytes scene column item.Crlf = 10 ∷ []
+item_bytes scene column _ = []
+
+abbrev pub items_bytes : Scene → ℕ → List Item → List ℕ
+items_bytes scene column [] = []
+items_bytes scene column (i ∷ is) = item_bytes scene column i ++ items_bytes scene (column_after column (item_bytes scene column i)) is
+
+-- ---- remove
+
+abbrev pub has_tag : List Element → ℕ → Bool
+has_tag wm tag = list_any (λ e. e.tag == tag) wm
+
+-- Removing an absent element does nothing.
+abbrev pub removed : Doing → ℕ → Doing
+removed d tag = if has_tag d.wm tag then changed d (change.Remove tag) else d
+
+abbrev pub cell_tag : List ℕ → ℕ → ℕ
+cell_tag tags cell = unwrap_or (slice_get tags cell) 0
+
+-- ---- make
+
+abbrev pub first_value : List Binding → List Term → Value
+first_value bindings [] = nil
+first_value bindings (t ∷ ts) = term_value bindings t
+
+-- each attribute holds nil until a value is put there, and of two values the later one counts
+abbrev pub fields_of : List Binding → ℕ → List Put → List Value
+fields_of bindings count puts = fold (λ fields p. slice_set fields p.field (first_value bindings p.terms)) (replicate count nil) puts
+
+-- the element gets the next tag
+abbrev pub made : Doing → ℕ → List Value → Doing
+made d class fields =
+    changed (record d { last = d.last + 1 }) (change.Add (record { tag = d.last + 1; class = class; fields = fields }))
+
+-- ---- actions
+
+-- what one action does from a column on; the other actions stand in no text yet
+abbrev pub action_done : Scene → ℕ → Action → Doing → Effect Doing
+action_done scene column (action.Make class puts) d =
+    writes [] (made d class (fields_of scene.bindings (length (class_of scene.classes class).attrs) puts))
+action_done scene column (action.Remove cells) d = writes [] (fold (λ d c. removed d (cell_tag scene.tags c)) d cells)
+action_done scene column (action.Write items) d = writes (items_bytes scene column items) d
+action_done scene column action.Halt d = writes [] (record d { halted = true })
+action_done scene column _ d = writes [] d
+
+-- the actions in order
+abbrev pub actions_done : Scene → ℕ → List Action → Doing → Effect Doing
+actions_done scene column [] d = writes [] d
+actions_done scene column (a ∷ rest) d = and_then column (action_done scene column a d) (λ next d. actions_done scene next rest d)

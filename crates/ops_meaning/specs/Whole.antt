@@ -1,0 +1,124 @@
+-- What the program answers to its words and files.
+use Rattle.std.specs.Prelude.{◌≡◌, ℕ, ◌+◌, ◌<◌, List, [], ◌∷◌, ◌++◌, length, map, Bool, true, false, not, ◌==◌, ◌&&◌, ◌||◌, nat_le, nat_lt, if◌then◌else◌, Option, Some, None, Result, Ok, Err, String, string_bytes, slice_index, codes, decimal}
+use Rattle.ops_base.specs.declared.endings.Ending.{Ending}
+use Rattle.ops_base.specs.declared.endings.Ending.TheVariants as ending
+use Rattle.ops_base.specs.declared.endings.Fault.{Fault}
+use Rattle.ops_base.specs.declared.endings.Fault.TheVariants as fault
+use Rattle.ops_base.specs.Valid.{longest_list}
+use Rattle.ops_io.specs.Outside.{GrewBy, GrewByPrefix}
+use Rattle.ops_io.specs.Output.{column_after}
+use Rattle.ops_meaning.specs.declared.statuses.Status.{Status}
+use Rattle.ops_meaning.specs.declared.statuses.Status.TheVariants as status
+use Rattle.ops_meaning.specs.declared.states.Memory.{Memory}
+use Rattle.ops_meaning.specs.Effects.{Effect}
+use Rattle.ops_meaning.specs.Layout.{usage_line, unread_line, last_line}
+use Rattle.ops_meaning.specs.Reads.{Read, reads}
+use Rattle.ops_meaning.specs.Running.{Setting, session_of, ending_of}
+
+-- the bytes that are written, and the status
+pub record Outcome : Type 0 where
+  pub bytes : List ℕ
+  pub status : Status
+
+-- ---- words and files
+
+-- one word, which is a name: it does not begin with - or is - alone
+abbrev pub words_fit : List (List ℕ) → Bool
+words_fit [] = false
+words_fit (w ∷ []) = not (slice_index w 0 == 45) || (length w == 1)
+words_fit (w ∷ v ∷ ws) = false
+
+abbrev pub first_word : List (List ℕ) → List ℕ
+first_word [] = []
+first_word (w ∷ ws) = w
+
+-- it ends in LF
+abbrev pub ends_in_line : List ℕ → Bool
+ends_in_line [] = true
+ends_in_line (b ∷ []) = b == 10
+ends_in_line (b ∷ c ∷ bs) = ends_in_line (c ∷ bs)
+
+-- a file's bytes, with an LF after them where the last line lacks it
+abbrev pub text_of : List ℕ → List ℕ
+text_of bytes = if ends_in_line bytes then bytes else bytes ++ 10 ∷ []
+
+-- ---- the answer to a text
+
+abbrev pub fault_text : Fault → List ℕ
+fault_text fault.BadByte = codes "bad byte"
+fault_text fault.Unclosed = codes "unclosed"
+fault_text fault.Stray = codes "stray"
+fault_text fault.FractionNumber = codes "fraction"
+fault_text fault.NumberRange = codes "number out of range"
+fault_text fault.UnknownCommand = codes "unknown command"
+fault_text fault.BadForm = codes "bad form"
+fault_text fault.UnknownClass = codes "unknown class"
+fault_text fault.UnknownAttribute = codes "unknown attribute"
+fault_text fault.DeclaredTwice = codes "declared twice"
+fault_text fault.TwoVectors = codes "two vector attributes"
+fault_text fault.LateDeclaration = codes "late declaration"
+fault_text fault.LateProduction = codes "late production"
+fault_text fault.FirstNegated = codes "first condition negated"
+fault_text fault.UnboundVariable = codes "unbound variable"
+fault_text fault.BadDesignator = codes "bad designator"
+fault_text fault.AmbiguousDesignator = codes "ambiguous designator"
+fault_text (fault.LimitPassed l) = codes "limit passed"
+fault_text fault.TooLong = codes "text too long"
+
+-- a refusal stands at line 1, column 1
+abbrev pub refused : Fault → Outcome
+refused f = record { bytes = codes "ops: 1:1: " ++ fault_text f ++ 10 ∷ []; status = status.Refused f 1 1 }
+
+abbrev pub status_of : Ending → Status
+status_of (ending.Done firings elements last_tag) = status.Done
+status_of (ending.Act firing rule action kind) = status.ActFault firing rule action kind
+status_of (ending.Limit firings) = status.Limit
+status_of ending.ReadFault = status.ReadFault
+status_of ending.WriteFault = status.WriteFault
+status_of ending.OutOfMemory = status.OutOfMemory
+
+-- the bytes of a session, and the last line of its ending
+abbrev pub told : Effect Memory → Outcome
+told e =
+    record { bytes = e.bytes ++ last_line (column_after 0 e.bytes) (ending_of e.outcome); status = status_of (ending_of e.outcome) }
+
+abbrev pub setting_of : Read → Setting
+setting_of p = record { names = p.names; classes = p.classes; rules = p.rules }
+
+abbrev pub answer_read : Result Read Fault → Outcome
+answer_read (Err f) = refused f
+answer_read (Ok p) = told (session_of (setting_of p) p.commands)
+
+abbrev pub answer_to : List ℕ → Outcome
+answer_to text = answer_read (reads text)
+
+-- ---- the whole
+
+-- A file that fits, with its LF, is answered as a text; one that does not is no text of the grammar.
+abbrev pub answer_file : List ℕ → Outcome
+answer_file bytes = if nat_le (length (text_of bytes)) longest_list then answer_to (text_of bytes) else refused fault.BadForm
+
+abbrev pub unread : List ℕ → Outcome
+unread name = record { bytes = unread_line name; status = status.ReadFault }
+
+-- `broken` tells whether the load failed, and the content is none where there is no such file
+abbrev pub whole_file : List ℕ → Option (List ℕ) → Bool → Outcome
+whole_file name content true = unread name
+whole_file name None false = unread name
+whole_file name (Some bytes) false = answer_file bytes
+
+abbrev pub whole : List (List ℕ) → Option (List ℕ) → Bool → Outcome
+whole words content broken =
+    if words_fit words then whole_file (first_word words) content broken else record { bytes = usage_line; status = status.Usage }
+
+-- ---- what a call leaves
+
+-- All bytes went out, with their status; or the output refused or memory ran out, and a prefix of them went out.
+abbrev pub Answers : Status → Outcome → Option (List ℕ) → Option (List ℕ) → Type 0
+Answers status.OutOfMemory o old new = GrewByPrefix old new o.bytes
+Answers status.WriteFault o old new = GrewByPrefix old new o.bytes
+Answers s o old new = (s ≡ o.status) × GrewBy old new o.bytes
+
+-- the words as bytes
+abbrev pub words_of : {A : Type 0} → List (String A) → List (List ℕ)
+words_of words = map string_bytes words

@@ -1,0 +1,209 @@
+//! The right side of a production.
+ghost use Rattle.std.specs.Prelude.{◌≡◌, ◌^◌, ◌<◌, ◌+◌, IsTrue, IfOk, fold, length};
+ghost use Rattle.ops_io.specs.Ports.{port};
+ghost use Rattle.ops_meaning.specs.Effects.{Puts, Performs};
+ghost use Rattle.ops_meaning.specs.Acting.{term_value, item_bytes, items_bytes, has_tag, removed, cell_tag, first_value, fields_of, made, action_done, actions_done};
+ghost use Rattle.ops_base.specs.WorkingMemory.{without_tag};
+ghost use Rattle.ops_base.specs.Valid.{class_of};
+ghost use Rattle.ops_top.specs.Scenes.{scene_of};
+
+use crate::printing::{put, put_gap, put_value};
+use ops_base::actions::{Action, Item, Put, Term};
+use ops_base::elements::{Class, Element};
+use ops_base::endings::Ending;
+use ops_base::list::Listed;
+use ops_base::matching::{Binding, bound_value};
+use ops_base::memory::OutOfMemory;
+use ops_base::symbols::Names;
+use ops_base::values::{NIL, Value};
+use ops_io::out::Out;
+use ops_io::outside::Sink;
+use ops_meaning::Doing;
+use std::alloc::Global;
+
+/// What stands still during a firing.
+#[derive(Clone, Copy)]
+pub struct Scene<'s> {
+    pub names: &'s Names,
+    pub classes: &'s [Class],
+    pub bindings: &'s [Binding],
+    pub tags: &'s [u64],
+}
+
+const NOTHING: Value = Value::Symbol(NIL);
+
+fn term_value(bindings: &[Binding], term: &Term) -> Value
+    ensures { result ≡ term_value bindings.now term.now }
+{
+    match term {
+        Term::Constant(value) => *value,
+        Term::Variable(v) => bound_value(bindings, *v).unwrap_or(NOTHING),
+        Term::Compute(_) | Term::One { .. } | Term::Rest { .. } | Term::Fresh | Term::Accept => NOTHING,
+    }
+}
+
+// ---- write
+
+/// Puts one item.
+fn put_item<K: Sink>(
+    scene: &Scene<'_>,
+    item: &Item,
+    out: &mut Out,
+    sink: &mut K,
+) -> Result<(), Ending>
+    requires whole { IsTrue out.old.whole }
+    requires faults { K.faults sink.old < 2 ^ 63 }
+    ensures { Puts result (port (K.taken sink.old) (K.faults sink.old) out.old)
+        (port (K.taken sink.new) (K.faults sink.new) out.new) (item_bytes (scene_of scene.now) out.old.column item.now) }
+{
+    match item {
+        Item::Print(term) => {
+            put_gap(out, sink)?;
+            put_value(out, sink, scene.names, term_value(scene.bindings, term))
+        }
+        Item::Crlf => put(out, sink, b"\n"),
+        Item::TabTo(_) | Item::RightIn(_) => put(out, sink, &[]),
+    }
+}
+
+/// Puts the items of a `write`.
+fn put_items<K: Sink>(
+    scene: &Scene<'_>,
+    items: &[Item],
+    out: &mut Out,
+    sink: &mut K,
+) -> Result<(), Ending>
+    requires whole { IsTrue out.old.whole }
+    requires faults { K.faults sink.old < 2 ^ 63 }
+    ensures { Puts result (port (K.taken sink.old) (K.faults sink.old) out.old)
+        (port (K.taken sink.new) (K.faults sink.new) out.new) (items_bytes (scene_of scene.now) out.old.column items.now) }
+{
+    for item in items {
+        put_item(scene, item, out, sink)?;
+    }
+    Ok(())
+}
+
+// ---- remove
+
+fn has_tag(wm: &[Element], tag: u64) -> bool
+    ensures { result ≡ has_tag wm.now tag }
+{
+    wm.iter().any(|e| e.tag == tag)
+}
+
+/// Working memory without the element of this tag.
+fn without_tag(alloc: Global, wm: Vec<Element>, tag: u64) -> Result<Vec<Element>, OutOfMemory>
+    ensures { IfOk result (λ v. v.items ≡ without_tag tag wm.items) }
+{
+    let mut kept = Vec::new(alloc);
+    for e in wm {
+        if e.tag != tag {
+            kept.push(e)?;
+        }
+    }
+    Ok(kept)
+}
+
+/// Removes the element of a tag, if it is present.
+fn removed(alloc: Global, doing: Doing, tag: u64) -> Result<Doing, OutOfMemory>
+    ensures { IfOk result (λ d. d ≡ removed doing tag) }
+{
+    let Doing { wm, last, halted } = doing;
+    let wm = wm.into_vec();
+    if !has_tag(&wm, tag) {
+        return Ok(Doing {
+            wm: Listed::from_vec(wm),
+            last,
+            halted,
+        });
+    }
+    let kept = without_tag(alloc, wm, tag)?;
+    Ok(Doing {
+        wm: Listed::from_vec(kept),
+        last,
+        halted,
+    })
+}
+
+fn tag_of_cell(tags: &[u64], cell: usize) -> u64
+    ensures { result ≡ cell_tag tags.now cell }
+{
+    tags.get(cell).copied().unwrap_or(0)
+}
+
+/// Removes the elements of these cells.
+fn cells_removed(
+    alloc: Global,
+    tags: &[u64],
+    cells: &[usize],
+    doing: Doing,
+) -> Result<Doing, OutOfMemory>
+    ensures { IfOk result (λ d. d ≡ fold (λ d c. removed d (cell_tag tags.now c)) doing cells.now) }
+{
+    let mut doing = doing;
+    for cell in cells {
+        doing = removed(alloc, doing, tag_of_cell(tags, *cell))?;
+    }
+    Ok(doing)
+}
+
+// ---- make
+
+fn first_value(bindings: &[Binding], terms: &[Term]) -> Value
+    ensures { result ≡ first_value bindings.now terms.now }
+{
+    match terms.first() {
+        Some(term) => term_value(bindings, term),
+        None => NOTHING,
+    }
+}
+
+/// The fields of a new element of a class with so many attributes.
+fn fields_of(
+    alloc: Global,
+    bindings: &[Binding],
+    count: usize,
+    puts: &[Put],
+) -> Result<Vec<Value>, OutOfMemory>
+    ensures { IfOk result (λ v. v.items ≡ fields_of bindings.now count puts.now) }
+{
+    let mut fields = vec![in alloc; NOTHING; count]?;
+    for put in puts {
+        let value = first_value(bindings, put.terms.as_slice());
+        if put.field < fields.len() {
+            fields[put.field] = value;
+        }
+    }
+    Ok(fields)
+}
+
+fn attribute_count(classes: &[Class], class: usize) -> usize
+    ensures { result ≡ length (class_of classes.now class).attrs }
+{
+    match classes.get(class) {
+        Some(c) => c.attrs.len(),
+        None => 0,
+    }
+}
+
+/// Makes an element, with the next tag. A session is over long before the tags are.
+pub fn made(doing: Doing, class: usize, fields: Vec<Value>) -> Result<Doing, OutOfMemory>
+    ensures { IfOk result (λ d. d ≡ made doing class fields.items) }
+{
+    let Doing { wm, last, halted } = doing;
+    let Some(tag) = last.checked_add(1) else {
+        return Err(OutOfMemory);
+    };
+    let mut wm = wm.into_vec();
+    wm.push(Element {
+        tag,
+        class,
+        fields: Listed::from_vec(fields),
+    })?;
+    Ok(Doing {
+        wm: Listed::from_vec(wm),
+        last: tag,
+        halted,
+    })
+}
