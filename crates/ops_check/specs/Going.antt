@@ -33,7 +33,7 @@ view d =
       items = d.items.items;
       values = d.values.items;
       conditions = d.conditions.items;
-      actions = d.actions.items
+      actions = d.actions.items;
     }
 
 abbrev pub use_of : Place → Use

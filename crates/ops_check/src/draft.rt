@@ -103,9 +103,7 @@ impl Draft {
     pub fn class_of(&self, name: Sym) -> Option<usize>
         ensures { result ≡ position (λ c. c.name.0 == name.0) (view self.now).classes }
     {
-        self.classes
-            .iter()
-            .position(|class| class.name == name)
+        self.classes.iter().position(|class| class.name == name)
     }
 }
 

@@ -11,11 +11,7 @@ use ops_meaning::Word;
 
 impl Draft {
     // CLASS term* )
-    pub fn element<'a>(
-        &mut self,
-        place: Place,
-        words: &'a [Word],
-    ) -> Result<&'a [Word], Refusal>
+    pub fn element<'a>(&mut self, place: Place, words: &'a [Word]) -> Result<&'a [Word], Refusal>
         ensures reads { Goes (λ ws. goes words.now (ClassName ∷ Terms (use_of place) ∷ ws) (view self.old)) (view self.new) result }
         ensures within { IsWithin words.now result }
     {
@@ -64,11 +60,7 @@ impl Draft {
 
     // ATTR value
     #[tactic(auto, unfolding(ops_meaning::specs::Grammar::goes, ops_meaning::specs::Grammar::step, ops_meaning::specs::Grammar::ends))]
-    fn attribute<'a>(
-        &mut self,
-        place: Place,
-        words: &'a [Word],
-    ) -> Result<&'a [Word], Refusal>
+    fn attribute<'a>(&mut self, place: Place, words: &'a [Word]) -> Result<&'a [Word], Refusal>
         ensures reads { Reads (Attribute (use_of place)) (view self.old) (view self.new) words.now result }
         ensures within { IsWithin words.now result }
     {

@@ -9,6 +9,8 @@ mod kinds;
 mod productions;
 mod program;
 mod refusals;
+#[cfg(test)]
+mod tests;
 mod words;
 
 pub use program::{LONGEST_TEXT, ProgramFault, read_program};

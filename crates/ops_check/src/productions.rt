@@ -4,7 +4,9 @@ ghost use Rattle.ops_meaning.specs.Grammar.{goes, cell, item_value, constant_of,
 ghost use Rattle.ops_check.specs.Going.{view, Goes, Reads, Acts, IsWithin};
 
 use crate::draft::{Draft, Place};
-use crate::kinds::{constant_of, is_arrow, is_crlf, is_left, is_name, is_right, is_variable, natural_of, whole_of};
+use crate::kinds::{
+    constant_of, is_arrow, is_crlf, is_left, is_name, is_right, is_variable, natural_of, whole_of,
+};
 use crate::refusals::{Refusal, closing, first_of, refused};
 use ops_base::actions::{Action, Item, Term};
 use ops_base::endings::{Fault, Limit};
