@@ -187,7 +187,7 @@ class_declared w ws s =
     else Refuses fault.BadForm
 
 abbrev pub with_class : State → State
-with_class s = record s { classes = s.classes ++ record { name = s.name; attrs = s.attrs; vector = false } ∷ [] }
+with_class s = record s { classes = s.classes ++ record { name = s.name; attrs = s.attrs; vector = false } ∷ []; attrs = [] }
 
 abbrev pub attribute_declared : Word → List Wanted → State → Step
 attribute_declared w ws s =
@@ -312,7 +312,9 @@ with_rule s past =
         cells = length s.conditions;
         first = s.first;
         past = past
-      } ∷ []
+      } ∷ [];
+      conditions = [];
+      actions = []
     }
 
 abbrev pub actions : Word → List Wanted → State → Step
@@ -338,8 +340,12 @@ abbrev pub cell : TokenKind → List Wanted → State → Step
 cell (kind.Whole n) ws s = cell_of (natural_of n) ws s
 cell _ ws s = Refuses fault.BadForm
 
+-- an action `remove` ends
+abbrev pub with_remove : State → State
+with_remove s = record (with_action s (action.Remove s.cells)) { cells = [] }
+
 abbrev pub cells : Word → List Wanted → State → Step
-cells w ws s = if is_right w.kind then Next ws (with_action s (action.Remove s.cells)) else cell w.kind (Cells ∷ ws) s
+cells w ws s = if is_right w.kind then Next ws (with_remove s) else cell w.kind (Cells ∷ ws) s
 
 abbrev pub with_item : State → Item → State
 with_item s i = record s { items = s.items ++ i ∷ [] }
@@ -353,9 +359,13 @@ item_value w (Some v) ws s = Next ws (with_item s (item.Print (term.Constant v))
 item_value w None ws s =
     if is_variable w.kind then Next ws (with_item_variable s (number_of w.name s.values)) else Refuses fault.BadForm
 
+-- an action `write` ends
+abbrev pub with_write : State → State
+with_write s = record (with_action s (action.Write s.items)) { items = [] }
+
 abbrev pub items : Word → List Wanted → State → Step
 items w ws s =
-    if is_right w.kind then Next ws (with_action s (action.Write s.items))
+    if is_right w.kind then Next ws (with_write s)
     else if is_left w.kind then Next (ItemWord ∷ Items ∷ ws) s
     else item_value w (constant_of w.kind w.name) (Items ∷ ws) s
 
