@@ -1,5 +1,5 @@
 -- The grammar of program texts, as what a word does where something is wanted.
-use Rattle.std.specs.Prelude.{◌≡◌, ℕ, ◌+◌, ◌-◌, List, [], ◌∷◌, ◌++◌, length, position, Bool, true, false, not, ◌==◌, ◌&&◌, ◌||◌, nat_lt, if◌then◌else◌, Option, Some, None, Result, Ok, Err, ℤ, pos, negsuc, slice_get, codes}
+use Rattle.std.specs.Prelude.{ℕ, ◌-◌, List, [], ◌∷◌, ◌++◌, length, position, Bool, true, false, not, ◌==◌, ◌&&◌, nat_lt, if◌then◌else◌, Option, Some, None, Result, Ok, Err, ℤ, pos, negsuc, slice_get}
 use Rattle.std.specs.List.{list_any}
 use Rattle.ops_base.specs.declared.values.Sym.{Sym}
 use Rattle.ops_base.specs.declared.values.Value.{Value}
@@ -24,16 +24,13 @@ use Rattle.ops_base.specs.declared.commands.Command.TheVariants as command
 use Rattle.ops_base.specs.declared.endings.Fault.{Fault}
 use Rattle.ops_base.specs.declared.endings.Fault.TheVariants as fault
 use Rattle.ops_base.specs.declared.endings.Limit.TheVariants as limit
-use Rattle.ops_base.specs.Names.{Spellings}
-use Rattle.ops_base.specs.Valid.{most_fields, most_conditions, longest_list, specificity, cells_of}
+use Rattle.ops_base.specs.Valid.{most_fields, most_conditions, specificity}
 use Rattle.ops_tokens.specs.declared.token.TokenKind.{TokenKind}
 use Rattle.ops_tokens.specs.declared.token.TokenKind.TheVariants as kind
-use Rattle.ops_tokens.specs.declared.token.LexFault.{LexFault}
 use Rattle.ops_meaning.specs.declared.words.Word.{Word}
 use Rattle.ops_meaning.specs.declared.words.Named.{Named}
 use Rattle.ops_meaning.specs.declared.words.Keyword.{Keyword}
 use Rattle.ops_meaning.specs.declared.words.Keyword.TheVariants as keyword
-use Rattle.ops_meaning.specs.Words.{Lexed, lexed}
 
 -- where attributes with values stand: in a pattern, in an action `make`, in a command `make`
 pub data Use : Type 0 where
@@ -289,7 +286,7 @@ abbrev pub rule_name : Word → List Wanted → State → Step
 rule_name w ws s =
     if is_name w.kind
     then (if is_rule s w.name then Refuses fault.DeclaredTwice
-      else Next ws (record s { name = w.name; tests = []; values = []; conditions = []; actions = [] }))
+    else Next ws (record s { name = w.name; tests = []; values = []; conditions = []; actions = [] }))
     else Refuses fault.BadForm
 
 abbrev pub patterns : Word → List Wanted → State → Step
@@ -297,7 +294,7 @@ patterns w ws s =
     if is_arrow w.keyword && not (length s.conditions == 0) then Next ws s
     else if is_left w.kind
     then (if nat_lt (length s.conditions) most_conditions then Next (ClassName ∷ Terms InPattern ∷ Patterns ∷ ws) s
-      else Refuses (fault.LimitPassed limit.Conditions))
+    else Refuses (fault.LimitPassed limit.Conditions))
     else Refuses fault.BadForm
 
 abbrev pub with_rule : State → ℕ → State
@@ -311,10 +308,10 @@ with_rule s past =
         variables = length s.values;
         cells = length s.conditions;
         first = s.first;
-        past = past
+        past = past;
       } ∷ [];
       conditions = [];
-      actions = []
+      actions = [];
     }
 
 abbrev pub actions : Word → List Wanted → State → Step
@@ -446,5 +443,5 @@ nothing_read =
       items = [];
       values = [];
       conditions = [];
-      actions = []
+      actions = [];
     }

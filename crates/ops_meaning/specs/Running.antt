@@ -1,5 +1,5 @@
 -- The recognise-act cycle and the session.
-use Rattle.std.specs.Prelude.{ℕ, zero, suc, ◌+◌, ◌-◌, List, [], ◌∷◌, ◌++◌, length, fold, replicate, map, Bool, true, false, Option, Some, None, Result, Ok, Err, slice_get, slice_set, unwrap_or, option_map, codes}
+use Rattle.std.specs.Prelude.{ℕ, zero, suc, ◌+◌, ◌-◌, List, [], ◌∷◌, ◌++◌, length, fold, replicate, Bool, true, false, Option, Some, None, Result, Ok, Err, slice_get, slice_set, unwrap_or, option_map, codes}
 use Rattle.ops_base.specs.declared.values.Value.{Value}
 use Rattle.ops_base.specs.declared.elements.Class.{Class}
 use Rattle.ops_base.specs.declared.elements.Element.{Element}
@@ -19,13 +19,12 @@ use Rattle.ops_base.specs.Names.{Spellings}
 use Rattle.ops_base.specs.Valid.{class_of}
 use Rattle.ops_base.specs.WorkingMemory.{change_done}
 use Rattle.ops_base.specs.Refraction.{unfired, still_fired, dominant}
-use Rattle.ops_io.specs.Output.{column_after}
 use Rattle.ops_meaning.specs.declared.states.Doing.{Doing}
 use Rattle.ops_meaning.specs.declared.states.Memory.{Memory}
 use Rattle.ops_meaning.specs.declared.states.Fired.{Fired}
 use Rattle.ops_meaning.specs.Effects.{Effect, writes, ends_with, and_then}
 use Rattle.ops_meaning.specs.Layout.{line_at}
-use Rattle.ops_meaning.specs.Acting.{Scene, bindings_of, actions_done}
+use Rattle.ops_meaning.specs.Acting.{bindings_of, actions_done}
 
 -- what stands still during a session
 pub record Setting : Type 0 where
