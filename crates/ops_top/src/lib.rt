@@ -2,8 +2,14 @@
 #![tactic(auto)]
 
 pub mod acting;
+pub mod answer;
 pub mod bindings;
 pub mod choosing;
+pub mod files;
+pub mod lines;
 pub mod printing;
 pub mod running;
+pub mod saying;
 pub mod session;
+pub mod top;
+pub mod words;

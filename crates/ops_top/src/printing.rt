@@ -61,7 +61,7 @@ fn gap_at(column: u64) -> &'static [u8]
     if column == 0 { &[] } else { b" " }
 }
 
-fn fresh_line_at(column: u64) -> &'static [u8]
+pub(crate) fn fresh_line_at(column: u64) -> &'static [u8]
     ensures { result.now ≡ fresh_line column }
 {
     if column == 0 { &[] } else { b"\n" }

@@ -1,0 +1,223 @@
+-- What a delivered whole tells of the answer.
+use Rattle.std.proofs.Common.{◌≡◌, ℕ, suc, ◌+◌, ◌<◌, List, [], ◌∷◌, ◌++◌, Bool, true, false, ◌&&◌, Option, Some, None, Result, Ok, Err, is_ok, refl, ap, sym, ◌∙◌, subst, nat_lt, nat_le, length, cond, ◌⊎◌, inl, inr, arith}
+use Rattle.std.proofs.lemmas.Bool.Decides.{nat_tests}
+use Rattle.std.proofs.lemmas.List.{append-nil}
+use Rattle.ops_base.specs.Valid.{longest_list}
+use Rattle.ops_base.specs.declared.endings.Ending.{Ending}
+use Rattle.ops_base.specs.declared.endings.Fault.{Fault}
+use Rattle.ops_base.specs.declared.endings.Fault.TheVariants as fault
+use Rattle.ops_io.specs.Outside.{GrewBy, GrewByPrefix}
+use Rattle.ops_io.specs.declared.stop.Stop.{Stop}
+use Rattle.ops_io.specs.declared.stop.Stop.TheVariants as stop
+use Rattle.ops_meaning.specs.declared.states.Memory.{Memory}
+use Rattle.ops_meaning.specs.declared.statuses.Status.{Status}
+use Rattle.ops_meaning.specs.declared.statuses.Status.TheVariants as status
+use Rattle.ops_meaning.specs.Reads.{Read, reads}
+use Rattle.ops_meaning.specs.Running.{session_of, ending_of}
+use Rattle.ops_meaning.specs.Whole.{Outcome, Answers, status_of, answer_read, answer_to, answer_file, text_of, setting_of, refused, unread, whole_file, whole, words_fit, first_word}
+use Rattle.ops_top.specs.Calls.{OfContent, TellsFailedWrite, TellsWords, usage, runs_through, file_runs_through, text_runs_through}
+use Rattle.ops_top.specs.Told.{Delivers, status_after}
+use Rattle.ops_top.proofs.Endings.{IsOfText, answer_file_of_text}
+use Rattle.ops_top.proofs.Loads.{of_map}
+
+-- what holds whatever the content is
+of_some : (told : Option (Option (List ℕ))) (P : Option (List ℕ) → Type 0) (Q : Type 0) → ((content : Option (List ℕ)) → P content → Q) → OfContent told P → Q
+of_some None P Q f p = f p.0 p.1
+of_some (Some content) P Q f p = f content p
+
+-- ---- bytes
+
+grew_prefix : (old new : Option (List ℕ)) (bytes : List ℕ) → GrewBy old new bytes → GrewByPrefix old new bytes
+grew_prefix old new bytes e = (bytes, [], sym (append-nil bytes), e)
+
+all_answers : (s : Status) (o : Outcome) (old new : Option (List ℕ)) → s ≡ o.status → GrewBy old new o.bytes → Answers s o old new
+all_answers status.Done o old new is e = (is, e)
+all_answers (status.Refused f line column) o old new is e = (is, e)
+all_answers status.Usage o old new is e = (is, e)
+all_answers (status.ActFault f r n k) o old new is e = (is, e)
+all_answers status.Limit o old new is e = (is, e)
+all_answers status.ReadFault o old new is e = (is, e)
+all_answers status.WriteFault o old new is e = grew_prefix old new o.bytes e
+all_answers status.OutOfMemory o old new is e = grew_prefix old new o.bytes e
+
+-- an outcome that is delivered is answered
+pub delivered_answers : (r : Result Status Stop) (o : Outcome) (k n : Option (List ℕ)) (b a : ℕ) → Delivers r o k b n a → Answers (status_after r) o k n
+delivered_answers (Ok s) o k n b a d = all_answers s o k n d.0 d.1
+delivered_answers (Err stop.Write) o k n b a d = d.0
+delivered_answers (Err stop.OutOfMemory) o k n b a d = d.0
+
+-- ---- statuses
+
+-- a status that the words and the file decide
+abbrev IsPlain : Status → Type 0
+IsPlain status.Done = Unit {0}
+IsPlain (status.Refused f line column) = Unit {0}
+IsPlain status.Usage = Unit {0}
+IsPlain (status.ActFault f r n k) = Unit {0}
+IsPlain status.Limit = Unit {0}
+IsPlain status.ReadFault = Unit {0}
+IsPlain status.WriteFault = ⊥
+IsPlain status.OutOfMemory = ⊥
+
+text_is_plain : (s : Status) → IsOfText s → IsPlain s
+text_is_plain status.Done p = tt
+text_is_plain (status.Refused f line column) p = tt
+text_is_plain status.Usage p = tt
+text_is_plain (status.ActFault f r n k) p = tt
+text_is_plain status.Limit p = tt
+text_is_plain status.ReadFault p = tt
+text_is_plain status.WriteFault p = p
+text_is_plain status.OutOfMemory p = p
+
+file_is_plain : (name : List ℕ) (content : Option (List ℕ)) (broken : Bool) → IsPlain (whole_file name content broken).status
+file_is_plain name content true = tt
+file_is_plain name None false = tt
+file_is_plain name (Some bytes) false = text_is_plain (answer_file bytes).status (answer_file_of_text bytes)
+
+whole_is_plain : (ws : List (List ℕ)) (content : Option (List ℕ)) (broken : Bool) → IsPlain (whole ws content broken).status
+whole_is_plain ws content broken = by (words_fit ws)
+  where
+  by : (fit : Bool) → IsPlain (cond fit (whole_file (first_word ws) content broken) usage).status
+  by true = file_is_plain (first_word ws) content broken
+  by false = tt
+
+plain_tells : (s : Status) (before now : ℕ) → IsPlain s → now ≡ before → TellsFailedWrite s before now
+plain_tells status.Done before now p h = h
+plain_tells (status.Refused f line column) before now p h = h
+plain_tells status.Usage before now p h = h
+plain_tells (status.ActFault f r n k) before now p h = h
+plain_tells status.Limit before now p h = h
+plain_tells status.ReadFault before now p h = h
+plain_tells status.WriteFault before now p h = absurd p
+plain_tells status.OutOfMemory before now p h = h
+
+tells_write : (r : Result Status Stop) (o : Outcome) (k n : Option (List ℕ)) (b a : ℕ) → IsPlain o.status → Delivers r o k b n a → TellsFailedWrite (status_after r) b a
+tells_write (Ok s) o k n b a p d = plain_tells s b a (subst IsPlain (sym d.0) p) d.2
+tells_write (Err stop.Write) o k n b a p d = d.1
+tells_write (Err stop.OutOfMemory) o k n b a p d = d.1
+
+text_fits : (s : Status) → IsOfText s → TellsWords s true
+text_fits status.Done p = refl
+text_fits (status.Refused f line column) p = refl
+text_fits status.Usage p = absurd p
+text_fits (status.ActFault f r n k) p = refl
+text_fits status.Limit p = refl
+text_fits status.ReadFault p = refl
+text_fits status.WriteFault p = tt
+text_fits status.OutOfMemory p = tt
+
+file_fits : (name : List ℕ) (content : Option (List ℕ)) (broken : Bool) → TellsWords (whole_file name content broken).status true
+file_fits name content true = refl
+file_fits name None false = refl
+file_fits name (Some bytes) false = text_fits (answer_file bytes).status (answer_file_of_text bytes)
+
+whole_tells_words : (ws : List (List ℕ)) (content : Option (List ℕ)) (broken : Bool) → TellsWords (whole ws content broken).status (words_fit ws)
+whole_tells_words ws content broken = by (words_fit ws)
+  where
+  by : (fit : Bool) → TellsWords (cond fit (whole_file (first_word ws) content broken) usage).status fit
+  by true = file_fits (first_word ws) content broken
+  by false = refl
+
+tells_words : (r : Result Status Stop) (o : Outcome) (fit : Bool) (k n : Option (List ℕ)) (b a : ℕ) → TellsWords o.status fit → Delivers r o k b n a → TellsWords (status_after r) fit
+tells_words (Ok s) o fit k n b a p d = let P : Status → Type 0 = λ s. TellsWords s fit in subst P (sym d.0) p
+tells_words (Err stop.Write) o fit k n b a p d = tt
+tells_words (Err stop.OutOfMemory) o fit k n b a p d = tt
+
+-- ---- the clauses of a call, of words whose whole is delivered
+
+-- the content and the counts that the clauses speak of
+abbrev pub DeliversWhole : Result Status Stop → List (List ℕ) → Option (Option (List ℕ)) → Bool → Option (List ℕ) → ℕ → Option (List ℕ) → ℕ → Type 0
+DeliversWhole r ws told broken k b n a = OfContent told (λ content. Delivers r (whole ws content broken) k b n a)
+
+pub whole_answers : (r : Result Status Stop) (ws : List (List ℕ)) (told : Option (Option (List ℕ))) (broken : Bool) (k n : Option (List ℕ)) (b a : ℕ) → DeliversWhole r ws told broken k b n a → OfContent told (λ content. Answers (status_after r) (whole ws content broken) k n)
+whole_answers r ws told broken k n b a d =
+    of_map told _ _ (λ content d. delivered_answers r (whole ws content broken) k n b a d) d
+
+pub whole_tells_write : (r : Result Status Stop) (ws : List (List ℕ)) (told : Option (Option (List ℕ))) (broken : Bool) (k n : Option (List ℕ)) (b a : ℕ) → DeliversWhole r ws told broken k b n a → TellsFailedWrite (status_after r) b a
+whole_tells_write r ws told broken k n b a d =
+    of_some told _ _ (λ content d. tells_write r (whole ws content broken) k n b a (whole_is_plain ws content broken) d) d
+
+pub whole_fits_words : (r : Result Status Stop) (ws : List (List ℕ)) (told : Option (Option (List ℕ))) (broken : Bool) (k n : Option (List ℕ)) (b a : ℕ) → DeliversWhole r ws told broken k b n a → TellsWords (status_after r) (words_fit ws)
+whole_fits_words r ws told broken k n b a d =
+    of_some told _ _ (λ content d. tells_words r (whole ws content broken) (words_fit ws) k n b a (whole_tells_words ws content broken) d) d
+
+-- words that don't fit are answered with the usage line
+pub unfit_answers : (r : Result Status Stop) (ws : List (List ℕ)) (told : Option (Option (List ℕ))) (broken : Bool) (k n : Option (List ℕ)) (b a : ℕ) → DeliversWhole r ws told broken k b n a → words_fit ws ≡ false → Answers (status_after r) usage k n
+unfit_answers r ws told broken k n b a d unfit =
+    let P : Outcome → Type 0 = λ o. Answers (status_after r) o k n in
+    of_some told _ _
+    (λ content d. let by : Bool → Outcome = λ fit. cond fit (whole_file (first_word ws) content broken) usage in
+        subst P (ap by unfit) (delivered_answers r (whole ws content broken) k n b a d)) d
+
+broken_fits : (b : Bool) (ws : List (List ℕ)) (before now : ℕ) → words_fit ws ≡ b → (words_fit ws ≡ false → now ≡ before) → before < now → words_fit ws ≡ true
+broken_fits true ws before now is unasked rose = is
+broken_fits false ws before now is unasked rose = let same = unasked is in absurd (omega arith)
+
+is_broken : (before now : ℕ) → before < now → nat_lt before now ≡ true
+is_broken before now h = grind (arith, nat_tests)
+
+whole_unread : (ws : List (List ℕ)) (content : Option (List ℕ)) (broken : Bool) → words_fit ws ≡ true → broken ≡ true → whole ws content broken ≡ unread (first_word ws)
+whole_unread ws content broken fit is =
+    let by : Bool → Outcome = λ fit. cond fit (whole_file (first_word ws) content broken) usage in
+    let file : Bool → Outcome = λ broken. whole_file (first_word ws) content broken in
+    ap by fit ∙ ap file is
+
+-- a load that failed is answered with the line that tells so
+pub unread_answers : (r : Result Status Stop) (ws : List (List ℕ)) (told : Option (Option (List ℕ))) (before now : ℕ) (k n : Option (List ℕ)) (b a : ℕ) → DeliversWhole r ws told (nat_lt before now) k b n a → (words_fit ws ≡ false → now ≡ before) → before < now → Answers (status_after r) (unread (first_word ws)) k n
+unread_answers r ws told before now k n b a d unasked rose =
+    let P : Outcome → Type 0 = λ o. Answers (status_after r) o k n in
+    let fit = broken_fits (words_fit ws) ws before now refl unasked rose in
+    of_some told _ _
+    (λ content d. subst P (whole_unread ws content (nat_lt before now) fit (is_broken before now rose)) (delivered_answers r (whole ws content (nat_lt before now)) k n b a d)) d
+
+-- ---- completeness
+
+and_left : (a b : Bool) → (a && b) ≡ true → a ≡ true
+and_left true b h = refl
+and_left false b h = h
+
+and_right : (a b : Bool) → (a && b) ≡ true → b ≡ true
+and_right true b h = h
+and_right false b h = absurd (cc)
+
+done_session : (o : Result Memory Ending) → is_ok o ≡ true → status_of (ending_of o) ≡ status.Done
+done_session (Ok m) h = refl
+done_session (Err f) h = absurd (cc)
+
+done_text : (r : Result Read Fault) → text_runs_through r ≡ true → (answer_read r).status ≡ status.Done
+done_text (Err f) h = absurd (cc)
+done_text (Ok p) h = done_session (session_of (setting_of p) p.commands).outcome h
+
+done_file : (bytes : List ℕ) → file_runs_through bytes ≡ true → (answer_file bytes).status ≡ status.Done
+done_file bytes h =
+    let short = nat_le (length (text_of bytes)) longest_list in
+    let through = text_runs_through (reads (text_of bytes)) in
+    let by : Bool → Status = λ b. (cond b (answer_to (text_of bytes)) (refused fault.BadForm)).status in
+    ap by (and_left short through h) ∙ done_text (reads (text_of bytes)) (and_right short through h)
+
+done_whole : (ws : List (List ℕ)) (bytes : List ℕ) (broken : Bool) → (words_fit ws && file_runs_through bytes) ≡ true → broken ≡ false → (whole ws (Some bytes) broken).status ≡ status.Done
+done_whole ws bytes broken h is =
+    let by : Bool → Status = λ fit. (cond fit (whole_file (first_word ws) (Some bytes) broken) usage).status in
+    let file : Bool → Status = λ broken. (whole_file (first_word ws) (Some bytes) broken).status in
+    ap by (and_left (words_fit ws) (file_runs_through bytes) h) ∙ ap file is ∙ done_file bytes (and_right (words_fit ws) (file_runs_through bytes) h)
+
+done_or_short : (s : Status) (o : Outcome) (k n : Option (List ℕ)) (b a : ℕ) → o.status ≡ status.Done → Answers s o k n → TellsFailedWrite s b a → a ≡ b → (s ≡ status.Done) ⊎ (s ≡ status.OutOfMemory)
+done_or_short status.Done o k n b a h p w e = inl refl
+done_or_short (status.Refused f line column) o k n b a h p w e = inl (p.0 ∙ h)
+done_or_short status.Usage o k n b a h p w e = inl (p.0 ∙ h)
+done_or_short (status.ActFault f r i kind) o k n b a h p w e = inl (p.0 ∙ h)
+done_or_short status.Limit o k n b a h p w e = inl (p.0 ∙ h)
+done_or_short status.ReadFault o k n b a h p w e = inl (p.0 ∙ h)
+done_or_short status.WriteFault o k n b a h p w e = absurd (omega arith)
+done_or_short status.OutOfMemory o k n b a h p w e = inr refl
+
+unbroken : (before now : ℕ) → now ≡ before → nat_lt before now ≡ false
+unbroken before now h = grind (arith, nat_tests)
+
+-- a program that runs through is done, where no device failed
+pub runs_to_end : (s : Status) (ws : List (List ℕ)) (told : Option (Option (List ℕ))) (before now : ℕ) (k n : Option (List ℕ)) (b a : ℕ) → OfContent told (λ content. Answers s (whole ws content (nat_lt before now)) k n) → TellsFailedWrite s b a → runs_through ws told ≡ true → now ≡ before → a ≡ b → (s ≡ status.Done) ⊎ (s ≡ status.OutOfMemory)
+runs_to_end s ws None before now k n b a p w h same e = absurd (cc)
+runs_to_end s ws (Some None) before now k n b a p w h same e = absurd (cc)
+runs_to_end s ws (Some (Some bytes)) before now k n b a p w h same e =
+    let is : nat_lt before now ≡ false = unbroken before now same in
+    done_or_short s (whole ws (Some bytes) (nat_lt before now)) k n b a (done_whole ws bytes (nat_lt before now) h is) p w e

@@ -1,0 +1,121 @@
+-- What a load decides of the answer.
+use Rattle.std.proofs.Common.{◌≡◌, ℕ, zero, suc, ◌+◌, ◌<◌, ◌≤◌, List, [], ◌∷◌, ◌++◌, Bool, true, false, Option, Some, None, Result, Ok, Err, refl, ap, sym, ◌∙◌, subst, nat_lt, nat_le, length, map, cond, String, string_bytes, get_or, arith, inl, inr}
+use Rattle.std.proofs.lemmas.Bool.Decides.{nat_tests}
+use Rattle.std.proofs.lemmas.Grind.{common_steps}
+use Rattle.ops_base.specs.Valid.{longest_list}
+use Rattle.ops_base.specs.declared.endings.Fault.TheVariants as fault
+use Rattle.ops_io.specs.Outside.{LoadGives}
+use Rattle.ops_io.specs.declared.outside.LoadError.{LoadError}
+use Rattle.ops_io.specs.declared.stop.Stop.{Stop}
+use Rattle.ops_io.specs.declared.stop.Stop.TheVariants as stop
+use Rattle.ops_meaning.specs.declared.statuses.Status.{Status}
+use Rattle.ops_meaning.specs.declared.statuses.Status.TheVariants as status
+use Rattle.ops_meaning.specs.Whole.{Outcome, ends_in_line, text_of, answer_to, answer_file, refused, unread, whole_file, whole, words_fit, words_of, first_word}
+use Rattle.ops_top.specs.Calls.{OfContent, TellsFailedLoad, usage}
+use Rattle.ops_top.specs.Told.{Delivers, status_after}
+use Rattle.ops_top.proofs.Endings.{IsOfText}
+
+not_below : (m n : ℕ) → m < n → nat_le n m ≡ false
+not_below m n h = grind (arith, nat_tests)
+
+not_broken : (before now : ℕ) → now ≡ before → nat_lt before now ≡ false
+not_broken before now h = grind (arith, nat_tests)
+
+is_broken : (before now : ℕ) → now ≡ before + 1 → nat_lt before now ≡ true
+is_broken before now h = grind (arith, nat_tests)
+
+-- a file whose text is too long is refused
+pub too_long : (bytes : List ℕ) → longest_list < length (text_of bytes) → refused fault.BadForm ≡ answer_file bytes
+too_long bytes h =
+    let by : Bool → Outcome = λ b. cond b (answer_to (text_of bytes)) (refused fault.BadForm) in
+    ap by (sym (not_below longest_list (length (text_of bytes)) h))
+
+text_as_long : (bytes : List ℕ) → length bytes ≤ length (text_of bytes)
+text_as_long bytes = by (ends_in_line bytes)
+  where
+  by : (b : Bool) → length bytes ≤ length (cond b bytes (bytes ++ 10 ∷ []))
+  by true = omega arith
+  by false = grind (arith, common_steps)
+
+some_list : (n : ℕ) → (xs : List ℕ) × (length xs ≡ n)
+some_list zero = ([], refl)
+some_list (suc n) = let xs = some_list n in (0 ∷ xs.0, grind (arith, common_steps, xs.1))
+
+-- ---- contents
+
+pub of_map : (told : Option (Option (List ℕ))) (P Q : Option (List ℕ) → Type 0) → ((content : Option (List ℕ)) → P content → Q content) → OfContent told P → OfContent told Q
+of_map None P Q f p = (p.0, f p.0 p.1)
+of_map (Some content) P Q f p = f content p
+
+pub of_any : (told : Option (Option (List ℕ))) (P : Option (List ℕ) → Type 0) → ((content : Option (List ℕ)) → P content) → OfContent told P
+of_any None P f = (None, f None)
+of_any (Some content) P f = f content
+
+of_loaded : (told : Option (Option (List ℕ))) (P : Option (List ℕ) → Type 0) (room : ℕ) (new : List ℕ) → (let r : Result Bool LoadError = Ok true in LoadGives told room r [] new) → P (Some new) → OfContent told P
+of_loaded None P room new h p = (Some new, p)
+of_loaded (Some None) P room new h p = absurd h
+of_loaded (Some (Some bytes)) P room new h p = let Q : List ℕ → Type 0 = λ xs. P (Some xs) in subst Q h.1 p
+
+of_long : (told : Option (Option (List ℕ))) (P : Option (List ℕ) → Type 0) (room : ℕ) (old new : List ℕ) → (let r : Result Bool LoadError = Ok false in LoadGives told room r old new) → ((bytes : List ℕ) → room < length bytes → P (Some bytes)) → OfContent told P
+of_long None P room old new h f = let xs = some_list (suc room) in (Some xs.0, f xs.0 (omega (arith, xs.1)))
+of_long (Some None) P room old new h f = absurd h
+of_long (Some (Some bytes)) P room old new h f = f bytes h.0
+
+-- ---- the arms of a load
+
+-- the file was loaded, and its text is answered
+pub loaded_delivers : (D : Outcome → Type 0) (name : List ℕ) (told : Option (Option (List ℕ))) (room before now : ℕ) (old new : List ℕ) → old ≡ [] → (let r : Result Bool LoadError = Ok true in LoadGives told room r old new) → now ≡ before → D (answer_file new) → OfContent told (λ content. D (whole_file name content (nat_lt before now)))
+loaded_delivers D name told room before now old new empty h same d =
+    let G : List ℕ → Type 0 = λ xs. (let r : Result Bool LoadError = Ok true in LoadGives told room r xs new) in
+    let B : Bool → Type 0 = λ b. D (whole_file name (Some new) b) in
+    of_loaded told _ room new (subst G empty h) (subst B (sym (not_broken before now same)) d)
+
+-- the file is longer than any text, and is refused
+pub long_delivers : (D : Outcome → Type 0) (name : List ℕ) (told : Option (Option (List ℕ))) (room before now : ℕ) (old new : List ℕ) → room ≡ longest_list → (let r : Result Bool LoadError = Ok false in LoadGives told room r old new) → now ≡ before → D (refused fault.BadForm) → OfContent told (λ content. D (whole_file name content (nat_lt before now)))
+long_delivers D name told room before now old new is h same d =
+    of_long told _ room old new h
+    (λ bytes long. let B : Bool → Type 0 = λ b. D (whole_file name (Some bytes) b) in
+        subst B (sym (not_broken before now same)) (subst D (too_long bytes (omega (arith, text_as_long bytes))) d))
+
+unread_any : (name : List ℕ) (content : Option (List ℕ)) → unread name ≡ whole_file name content true
+unread_any name content = refl
+
+-- the load failed
+pub failed_delivers : (D : Outcome → Type 0) (name : List ℕ) (told : Option (Option (List ℕ))) (before now : ℕ) → now ≡ before + 1 → D (unread name) → OfContent told (λ content. D (whole_file name content (nat_lt before now)))
+failed_delivers D name told before now rose d =
+    of_any told _
+    (λ content. let B : Bool → Type 0 = λ b. D (whole_file name content b) in
+        subst B (sym (is_broken before now rose)) (subst D (unread_any name content) d))
+
+of_text_tells : (s : Status) (before now : ℕ) → IsOfText s → now ≡ before → TellsFailedLoad s before now
+of_text_tells status.Done before now p h = h
+of_text_tells (status.Refused f line column) before now p h = h
+of_text_tells status.Usage before now p h = h
+of_text_tells (status.ActFault f r n k) before now p h = h
+of_text_tells status.Limit before now p h = h
+of_text_tells status.ReadFault before now p h = absurd p
+of_text_tells status.WriteFault before now p h = inl h
+of_text_tells status.OutOfMemory before now p h = inl h
+
+-- an answer to a text does not blame the load
+pub loaded_tells : (r : Result Status Stop) (o : Outcome) (k n : Option (List ℕ)) (b a before now : ℕ) → IsOfText o.status → Delivers r o k b n a → now ≡ before → TellsFailedLoad (status_after r) before now
+loaded_tells (Ok s) o k n b a before now p d h = of_text_tells s before now (subst IsOfText (sym d.0) p) h
+loaded_tells (Err stop.Write) o k n b a before now p d h = inl h
+loaded_tells (Err stop.OutOfMemory) o k n b a before now p d h = inl h
+
+-- ---- words
+
+whole_fits : (ws : List (List ℕ)) (content : Option (List ℕ)) (broken : Bool) → words_fit ws ≡ true → whole_file (first_word ws) content broken ≡ whole ws content broken
+whole_fits ws content broken fit =
+    let by : Bool → Outcome = λ b. cond b (whole_file (first_word ws) content broken) usage in ap by (sym fit)
+
+-- what is answered to the file of the first word is answered to the words
+pub words_deliver : (D : Outcome → Type 0) (ws : List (List ℕ)) (name : List ℕ) (told : List ℕ → Option (Option (List ℕ))) (broken : Bool) → words_fit ws ≡ true → name ≡ first_word ws → OfContent (told name) (λ content. D (whole_file name content broken)) → OfContent (told (first_word ws)) (λ content. D (whole ws content broken))
+words_deliver D ws name told broken fit is p =
+    let N : List ℕ → Type 0 = λ w. OfContent (told w) (λ content. D (whole_file w content broken)) in
+    of_map (told (first_word ws)) _ _ (λ content d. subst D (whole_fits ws content broken fit) d) (subst N is p)
+
+-- the first word, of words that fit
+pub first_is : {A : Type 0} (words : List (String A)) (w : String A) → words_fit (words_of words) ≡ true → w ≡ get_or words 0 w → string_bytes w ≡ first_word (words_of words)
+first_is [] w fit is = absurd (cc)
+first_is (v ∷ vs) w fit is = ap string_bytes is

@@ -1,0 +1,77 @@
+//! The answer to a file.
+ghost use Rattle.std.specs.Prelude.{◌≡◌, ◌^◌, ◌<◌, ℕ, List, length, nat_lt, IfOk};
+ghost use Rattle.ops_meaning.specs.Whole.{ends_in_line, text_of, answer_file, whole_file};
+ghost use Rattle.ops_top.specs.Calls.{OfContent, TellsFailedLoad, AskedFor};
+ghost use Rattle.ops_top.specs.Told.{Delivers, status_after};
+
+use crate::answer::answer_text;
+use crate::saying::{refuse, say_unread};
+use ops_base::endings::Fault;
+use ops_base::memory::OutOfMemory;
+use ops_check::LONGEST_TEXT;
+use ops_io::outside::{LoadError, Shelf, Sink};
+use ops_io::stop::Stop;
+use ops_meaning::Status;
+use std::alloc::Global;
+
+fn ends_in_line(bytes: &[u8]) -> bool
+    ensures { result ≡ ends_in_line bytes.now }
+{
+    match bytes.last() {
+        Some(byte) => *byte == b'\n',
+        None => true,
+    }
+}
+
+/// The text of a file: its bytes, with an LF after them where the last line lacks it.
+fn text_of(bytes: Vec<u8>) -> Result<Vec<u8>, OutOfMemory>
+    ensures { IfOk result (λ v. v.items ≡ text_of bytes.items) }
+{
+    let mut text = bytes;
+    if !ends_in_line(text.as_slice()) {
+        text.push(b'\n')?;
+    }
+    Ok(text)
+}
+
+/// The answer to a file of these bytes.
+fn answer_file<K: Sink>(
+    alloc: Global,
+    bytes: Vec<u8>,
+    sink: &mut K,
+) -> Result<Status, Stop>
+    requires faults { K.faults sink.old < 2 ^ 63 }
+    ensures { Delivers result (answer_file bytes.items) (K.taken sink.old) (K.faults sink.old) (K.taken sink.new) (K.faults sink.new) }
+{
+    let text = text_of(bytes)?;
+    if text.len() > LONGEST_TEXT {
+        return refuse(alloc, Fault::BadForm, 1, 1, sink);
+    }
+    answer_text(alloc, text, sink)
+}
+
+/// Loads the file of this name and answers it. It asks the shelf once.
+pub fn run_file<H: Shelf, K: Sink>(
+    alloc: Global,
+    name: &str,
+    shelf: &mut H,
+    sink: &mut K,
+) -> Result<Status, Stop>
+    requires shelf { H.faults shelf.old < 2 ^ 63 }
+    requires loads { length (H.names shelf.old) < 2 ^ 63 }
+    requires faults { K.faults sink.old < 2 ^ 63 }
+    ensures delivers { OfContent (H.told shelf.old name.now) (λ content.
+        Delivers result (whole_file name.now content (nat_lt (H.faults shelf.old) (H.faults shelf.new)))
+            (K.taken sink.old) (K.faults sink.old) (K.taken sink.new) (K.faults sink.new)) }
+    ensures load { TellsFailedLoad (status_after result) (H.faults shelf.old) (H.faults shelf.new) }
+    ensures names { AskedFor (status_after result) name.now (H.names shelf.old) (H.names shelf.new) }
+    ensures told { (n : List ℕ) → H.told shelf.new n ≡ H.told shelf.old n }
+{
+    let mut bytes = Vec::new(alloc);
+    match shelf.load(name, LONGEST_TEXT, &mut bytes) {
+        Ok(true) => answer_file(alloc, bytes, sink),
+        Ok(false) => refuse(alloc, Fault::BadForm, 1, 1, sink),
+        Err(LoadError::Failed) => say_unread(alloc, name.as_bytes(), sink),
+        Err(LoadError::OutOfMemory) => Err(Stop::OutOfMemory),
+    }
+}

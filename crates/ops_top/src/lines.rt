@@ -1,0 +1,99 @@
+//! The lines that end a run.
+ghost use Rattle.std.specs.Prelude.{◌≡◌, ◌++◌, ◌∷◌, [], codes, decimal, IfOk};
+ghost use Rattle.ops_meaning.specs.Layout.{usage_line, unread_line, last_line};
+ghost use Rattle.ops_meaning.specs.Whole.{fault_text};
+ghost use Rattle.ops_top.specs.Lines.{fault_line};
+
+use crate::printing::fresh_line_at;
+use itoa::Buffer;
+use ops_base::endings::{Ending, Fault};
+use ops_base::memory::OutOfMemory;
+use std::alloc::Global;
+
+/// The line that answers words that don't fit.
+pub fn usage_line() -> &'static [u8]
+    ensures { result.now ≡ usage_line }
+{
+    b"usage: ops [--match direct|serial|rounds|free] [--workers N] [--lines L] [--limit N] FILE.. | ops --gen SEED SIZE | ops --net FILE..\n"
+}
+
+/// The line that answers a file that can't be read.
+pub fn unread_line(alloc: Global, name: &[u8]) -> Result<Vec<u8>, OutOfMemory>
+    ensures { IfOk result (λ v. v.items ≡ unread_line name.now) }
+{
+    let mut line = Vec::from_slice(alloc, b"ops: cannot read ")?;
+    line.extend_from_slice(name)?;
+    line.push(b'\n')?;
+    Ok(line)
+}
+
+/// What a fault is called.
+pub fn fault_text(fault: Fault) -> &'static [u8]
+    ensures { result.now ≡ fault_text fault }
+{
+    match fault {
+        Fault::BadByte => b"bad byte",
+        Fault::Unclosed => b"unclosed",
+        Fault::Stray => b"stray",
+        Fault::FractionNumber => b"fraction",
+        Fault::NumberRange => b"number out of range",
+        Fault::UnknownCommand => b"unknown command",
+        Fault::BadForm => b"bad form",
+        Fault::UnknownClass => b"unknown class",
+        Fault::UnknownAttribute => b"unknown attribute",
+        Fault::DeclaredTwice => b"declared twice",
+        Fault::TwoVectors => b"two vector attributes",
+        Fault::LateDeclaration => b"late declaration",
+        Fault::LateProduction => b"late production",
+        Fault::FirstNegated => b"first condition negated",
+        Fault::UnboundVariable => b"unbound variable",
+        Fault::BadDesignator => b"bad designator",
+        Fault::AmbiguousDesignator => b"ambiguous designator",
+        Fault::LimitPassed { .. } => b"limit passed",
+        Fault::TooLong => b"text too long",
+    }
+}
+
+/// The line that answers a text with a fault.
+pub fn fault_line(
+    alloc: Global,
+    fault: Fault,
+    line: u64,
+    column: u64,
+) -> Result<Vec<u8>, OutOfMemory>
+    ensures { IfOk result (λ v. v.items ≡ fault_line fault line column) }
+{
+    let mut buffer = Buffer::new();
+    let mut text = Vec::from_slice(alloc, b"ops: ")?;
+    text.extend_from_slice(buffer.format(line).as_bytes())?;
+    text.extend_from_slice(b":")?;
+    text.extend_from_slice(buffer.format(column).as_bytes())?;
+    text.extend_from_slice(b": ")?;
+    text.extend_from_slice(fault_text(fault))?;
+    text.push(b'\n')?;
+    Ok(text)
+}
+
+fn limit_line(alloc: Global, firings: u64) -> Result<Vec<u8>, OutOfMemory>
+    ensures { IfOk result (λ v. v.items ≡ (codes "ops: limit of " ++ decimal firings ++ codes " firings reached") ++ 10 ∷ []) }
+{
+    let mut buffer = Buffer::new();
+    let mut line = Vec::from_slice(alloc, b"ops: limit of ")?;
+    line.extend_from_slice(buffer.format(firings).as_bytes())?;
+    line.extend_from_slice(b" firings reached")?;
+    line.push(b'\n')?;
+    Ok(line)
+}
+
+/// The line that tells an ending, from a fresh line on. Most endings have none.
+pub fn last_line(alloc: Global, column: u64, ending: Ending) -> Result<Vec<u8>, OutOfMemory>
+    ensures { IfOk result (λ v. v.items ≡ last_line column ending) }
+{
+    let Ending::Limit { firings } = ending else {
+        return Ok(Vec::new(alloc));
+    };
+    let limit = limit_line(alloc, firings)?;
+    let mut line = Vec::from_slice(alloc, fresh_line_at(column))?;
+    line.extend_from_slice(&limit)?;
+    Ok(line)
+}

@@ -1,0 +1,81 @@
+//! Saying one line and no more.
+ghost use Rattle.std.specs.Prelude.{◌≡◌, ◌^◌, ◌<◌};
+ghost use Rattle.ops_meaning.specs.Whole.{unread};
+ghost use Rattle.ops_top.specs.Calls.{usage};
+ghost use Rattle.ops_top.specs.Lines.{refused_at};
+ghost use Rattle.ops_top.specs.Told.{Delivers, status_after};
+
+use crate::lines::{fault_line, unread_line, usage_line};
+use ops_base::endings::Fault;
+use ops_io::out::Out;
+use ops_io::outside::Sink;
+use ops_io::port::{flush_all, put_bytes};
+use ops_io::stop::Stop;
+use ops_meaning::Status;
+use std::alloc::Global;
+
+/// Writes these bytes, and answers the status.
+fn say<K: Sink>(
+    alloc: Global,
+    bytes: &[u8],
+    status: Status,
+    sink: &mut K,
+) -> Result<Status, Stop>
+    requires faults { K.faults sink.old < 2 ^ 63 }
+    ensures { Delivers result (record { bytes = bytes.now; status = status })
+        (K.taken sink.old) (K.faults sink.old) (K.taken sink.new) (K.faults sink.new) }
+{
+    let mut out = Out::new(alloc)?;
+    put_bytes(&mut out, sink, bytes)?;
+    flush_all(&mut out, sink)?;
+    Ok(status)
+}
+
+/// Answers words that don't fit.
+pub fn say_usage<K: Sink>(alloc: Global, sink: &mut K) -> Result<Status, Stop>
+    requires faults { K.faults sink.old < 2 ^ 63 }
+    ensures { Delivers result usage (K.taken sink.old) (K.faults sink.old) (K.taken sink.new) (K.faults sink.new) }
+{
+    say(alloc, usage_line(), Status::Usage, sink)
+}
+
+/// Answers a file that can't be read.
+pub fn say_unread<K: Sink>(alloc: Global, name: &[u8], sink: &mut K) -> Result<Status, Stop>
+    requires faults { K.faults sink.old < 2 ^ 63 }
+    ensures { Delivers result (unread name.now) (K.taken sink.old) (K.faults sink.old) (K.taken sink.new) (K.faults sink.new) }
+{
+    let line = unread_line(alloc, name)?;
+    say(alloc, &line, Status::ReadFault, sink)
+}
+
+/// Answers a text with a fault at this line and column.
+pub fn refuse<K: Sink>(
+    alloc: Global,
+    fault: Fault,
+    line: u64,
+    column: u64,
+    sink: &mut K,
+) -> Result<Status, Stop>
+    requires faults { K.faults sink.old < 2 ^ 63 }
+    ensures { Delivers result (refused_at fault line column)
+        (K.taken sink.old) (K.faults sink.old) (K.taken sink.new) (K.faults sink.new) }
+{
+    let text = fault_line(alloc, fault, line, column)?;
+    let status = Status::Refused {
+        fault,
+        line,
+        column,
+    };
+    say(alloc, &text, status, sink)
+}
+
+/// The status of a call that may have given up.
+pub fn status_after(told: Result<Status, Stop>) -> Status
+    ensures { result ≡ status_after told }
+{
+    match told {
+        Ok(status) => status,
+        Err(Stop::Write) => Status::WriteFault,
+        Err(Stop::OutOfMemory) => Status::OutOfMemory,
+    }
+}

@@ -1,0 +1,50 @@
+//! The words of the command line.
+ghost use Rattle.std.specs.Prelude.{◌≡◌, ◌^◌, ◌<◌, ℕ, List, length, nat_lt, false};
+ghost use Rattle.ops_meaning.specs.Whole.{whole, words_of, words_fit, first_word};
+ghost use Rattle.ops_top.specs.Calls.{OfContent, TellsFailedLoad, AskedForWords};
+ghost use Rattle.ops_top.specs.Told.{Delivers, status_after};
+
+use crate::files::run_file;
+use crate::saying::say_usage;
+use ops_io::outside::{Shelf, Sink};
+use ops_io::stop::Stop;
+use ops_meaning::Status;
+use std::alloc::Global;
+
+/// One word, which is a name: it does not begin with `-`, or is `-` alone.
+fn are_fit(words: &[String]) -> bool
+    ensures { result ≡ words_fit (words_of words.now) }
+{
+    if words.len() != 1 {
+        return false;
+    }
+    let word = words[0].as_bytes();
+    match word.first() {
+        None => true,
+        Some(byte) => *byte != b'-' || word.len() == 1,
+    }
+}
+
+/// Answers the words.
+pub fn run_words<H: Shelf, K: Sink>(
+    alloc: Global,
+    words: &[String],
+    shelf: &mut H,
+    sink: &mut K,
+) -> Result<Status, Stop>
+    requires shelf { H.faults shelf.old < 2 ^ 63 }
+    requires loads { length (H.names shelf.old) < 2 ^ 63 }
+    requires faults { K.faults sink.old < 2 ^ 63 }
+    ensures delivers { OfContent (H.told shelf.old (first_word (words_of words.now))) (λ content.
+        Delivers result (whole (words_of words.now) content (nat_lt (H.faults shelf.old) (H.faults shelf.new)))
+            (K.taken sink.old) (K.faults sink.old) (K.taken sink.new) (K.faults sink.new)) }
+    ensures load { TellsFailedLoad (status_after result) (H.faults shelf.old) (H.faults shelf.new) }
+    ensures names { AskedForWords (status_after result) (words_of words.now) (words_fit (words_of words.now)) (H.names shelf.old) (H.names shelf.new) }
+    ensures unasked { words_fit (words_of words.now) ≡ false → H.faults shelf.new ≡ H.faults shelf.old }
+    ensures told { (n : List ℕ) → H.told shelf.new n ≡ H.told shelf.old n }
+{
+    if !are_fit(words) {
+        return say_usage(alloc, sink);
+    }
+    run_file(alloc, words[0].as_str(), shelf, sink)
+}
