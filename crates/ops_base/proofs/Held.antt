@@ -1,6 +1,6 @@
 -- Spellings that are held: where one stands, and what one more leaves.
-use Rattle.std.proofs.Common.{◌≡◌, ℕ, zero, suc, ◌+◌, ◌<◌, ◌≤◌, Bool, true, false, cond, not, List, [], ◌∷◌, ◌++◌, map, length, length-append, Option, Some, None, refl, sym, ap, ◌∙◌, arith, ltb, slice_get, subst, Result, Ok, Err, OnOk, OnErr, inl, inr, ◌⊎◌}
-use Rattle.std.proofs.lemmas.Bool.{false≢true, cases_lt}
+use Rattle.std.proofs.Common.{◌≡◌, ℕ, zero, suc, ◌+◌, ◌<◌, ◌≤◌, Bool, true, false, cond, not, List, [], ◌∷◌, ◌++◌, map, length, Option, Some, None, refl, sym, ap, ◌∙◌, arith, slice_get, subst, Result, Ok, Err, OnOk, OnErr, inl, inr, ◌⊎◌}
+use Rattle.std.proofs.lemmas.Bool.{false≢true}
 use Rattle.std.proofs.lemmas.Bool.Decides.{nat_tests}
 use Rattle.std.proofs.lemmas.Slice.Eq.{bytes_eq-Decides}
 use Rattle.std.specs.Prelude.{bytes_eq, nat_lt}
@@ -35,9 +35,9 @@ prefix_len-le : {X : Type 0} (p : X → Bool) (xs : List X) → prefix_len p xs 
 prefix_len-le p [] = omega arith
 prefix_len-le p (x ∷ xs) = one_more (p x) (prefix_len p xs) (length xs) (prefix_len-le p xs)
   where
-  one_more : (b : Bool) (m n : ℕ) → m ≤ n → cond b (1 + m) 0 ≤ suc n
-  one_more true m n le = omega arith
-  one_more false m n le = omega arith
+    one_more : (b : Bool) (m n : ℕ) → m ≤ n → cond b (1 + m) 0 ≤ suc n
+    one_more true m n le = omega arith
+    one_more false m n le = omega arith
 
 -- a key that is found is the symbol of its spelling
 pub found_is : {V : Type 0} (f : V → List ℕ) (s : List ℕ) (keys : List V) (i : ℕ) → position (λ v. bytes_eq s (f v)) keys ≡ Some i → (place_of (map f keys) s ≡ i) × (i < length (map f keys))
@@ -80,14 +80,16 @@ absent_from_place [] s e i h = none_some s s h
 absent_from_place (x ∷ xs) s e i h =
     at i h (split (bytes_eq s x) (place_of xs s) (length xs) refl e) (λ f k. absent_from_place xs s f k)
   where
-  split : (b : Bool) (m n : ℕ) → bytes_eq s x ≡ b → cond (not b) (1 + m) 0 ≡ suc n → (bytes_eq s x ≡ false) × (m ≡ n)
-  split true m n is f = absurd (omega (arith, f))
-  split false m n is f = (is, let q : m ≡ n = omega (arith, f) in q)
-  differs : bytes_eq s x ≡ false → x ≡ s → ⊥
-  differs f g = false≢true (sym f ∙ (bytes_eq-Decides s x).1 (sym g))
-  at : (i : ℕ) → slice_get (x ∷ xs) i ≡ Some s → (bytes_eq s x ≡ false) × (place_of xs s ≡ length xs) → (place_of xs s ≡ length xs → IsAbsent xs s) → ⊥
-  at zero h t rest = differs t.0 (spelled x s h)
-  at (suc i) h t rest = rest t.1 i h
+    split : (b : Bool) (m n : ℕ) → bytes_eq s x ≡ b → cond (not b) (1 + m) 0 ≡ suc n → (bytes_eq s x ≡ false) × (m ≡ n)
+    split true m n is f = absurd (omega (arith, f))
+    split false m n is f = (is, let q : m ≡ n = omega (arith, f) in q)
+
+    differs : bytes_eq s x ≡ false → x ≡ s → ⊥
+    differs f g = false≢true (sym f ∙ (bytes_eq-Decides s x).1 (sym g))
+
+    at : (i : ℕ) → slice_get (x ∷ xs) i ≡ Some s → (bytes_eq s x ≡ false) × (place_of xs s ≡ length xs) → (place_of xs s ≡ length xs → IsAbsent xs s) → ⊥
+    at zero h t rest = differs t.0 (spelled x s h)
+    at (suc i) h t rest = rest t.1 i h
 
 -- what stands at a place of a list with one item more
 pushed : (xs : List (List ℕ)) (y t : List ℕ) (i : ℕ) → slice_get (xs ++ y ∷ []) i ≡ Some t → (slice_get xs i ≡ Some t) ⊎ ((i ≡ length xs) × (t ≡ y))
@@ -100,13 +102,14 @@ pushed (x ∷ xs) y t (suc i) h = elim (pushed xs y t i h) [ inl a ↦ inl a | i
 pub distinct-push : (held : List (List ℕ)) (s : List ℕ) → AreDistinct held → IsAbsent held s → AreDistinct (held ++ s ∷ [])
 distinct-push held s apart absent i j t p q = both (pushed held s t i p) (pushed held s t j q)
   where
-  here : (k : ℕ) → slice_get held k ≡ Some t → t ≡ s → ⊥
-  here k h e = absent k (h ∙ ap Some e)
-  both : (slice_get held i ≡ Some t) ⊎ ((i ≡ length held) × (t ≡ s)) → (slice_get held j ≡ Some t) ⊎ ((j ≡ length held) × (t ≡ s)) → i ≡ j
-  both (inl a) (inl b) = apart i j t a b
-  both (inl a) (inr b) = absurd (here i a b.1)
-  both (inr a) (inl b) = absurd (here j b a.1)
-  both (inr a) (inr b) = a.0 ∙ sym b.0
+    here : (k : ℕ) → slice_get held k ≡ Some t → t ≡ s → ⊥
+    here k h e = absent k (h ∙ ap Some e)
+
+    both : (slice_get held i ≡ Some t) ⊎ ((i ≡ length held) × (t ≡ s)) → (slice_get held j ≡ Some t) ⊎ ((j ≡ length held) × (t ≡ s)) → i ≡ j
+    both (inl a) (inl b) = apart i j t a b
+    both (inl a) (inr b) = absurd (here i a b.1)
+    both (inr a) (inl b) = absurd (here j b a.1)
+    both (inr a) (inr b) = a.0 ∙ sym b.0
 
 -- one spelling alone is distinct
 pub distinct-one : (s : List ℕ) → AreDistinct (s ∷ [])

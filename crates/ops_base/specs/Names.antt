@@ -1,5 +1,5 @@
 -- The spellings that are held; a symbol is the place of its spelling.
-use Rattle.std.specs.Prelude.{◌≡◌, ℕ, ◌+◌, List, [], ◌∷◌, ◌++◌, length, bytes_eq, nat_lt, if◌then◌else◌, slice_get, unwrap_or, codes, map, Some, Vec}
+use Rattle.std.specs.Prelude.{◌≡◌, ℕ, List, [], ◌∷◌, ◌++◌, length, bytes_eq, nat_lt, if◌then◌else◌, slice_get, unwrap_or, codes, map, Some, Vec}
 use Rattle.std.specs.List.{position_or_len}
 use Rattle.std.specs.declared.alloc.Global.{Global}
 use Rattle.ops_base.specs.declared.values.Sym.{Sym}

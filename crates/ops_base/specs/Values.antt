@@ -1,5 +1,5 @@
 -- Values and what a predicate holds of.
-use Rattle.std.specs.Prelude.{ℕ, Bool, true, false, not, ◌==◌, ℤ, int_lt, int_le}
+use Rattle.std.specs.Prelude.{Bool, true, false, not, ◌==◌, ℤ, int_lt, int_le}
 use Rattle.std.specs.Ordering.{int_eq}
 use Rattle.ops_base.specs.declared.values.Value.{Value}
 use Rattle.ops_base.specs.declared.values.Value.TheVariants.{Symbol, Whole}

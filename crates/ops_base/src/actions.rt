@@ -12,14 +12,9 @@ pub enum Term {
     Variable(usize),
     Compute(Expr),
     /// `(substr <w> attr attr)`: the value of one field of the cell's element.
-    One {
-        cell: usize,
-        field: usize,
-    },
+    One { cell: usize, field: usize },
     /// `(substr <w> vec inf)`: all values of the vector attribute of the cell's element.
-    Rest {
-        cell: usize,
-    },
+    Rest { cell: usize },
     /// `(genatom)`
     Fresh,
     /// `(accept)`

@@ -19,17 +19,36 @@ pub enum Strategy {
 
 #[derive(Drop)]
 pub enum Command {
-    Make { class: usize, puts: Listed<Fixed> },
-    Remove { tags: Listed<u64> },
+    Make {
+        class: usize,
+        puts: Listed<Fixed>,
+    },
+    Remove {
+        tags: Listed<u64>,
+    },
     RemoveAll,
-    Run { count: Option<u64> },
-    Wm { tags: Listed<u64> },
+    Run {
+        count: Option<u64>,
+    },
+    Wm {
+        tags: Listed<u64>,
+    },
     /// The class and the constants that a printed element must have.
-    Ppwm { pattern: Option<(usize, Listed<Fixed>)> },
+    Ppwm {
+        pattern: Option<(usize, Listed<Fixed>)>,
+    },
     Cs,
-    Pm { names: Listed<Sym> },
-    Strategy { set: Option<Strategy> },
-    Watch { set: Option<u8> },
-    Pbreak { names: Listed<Sym> },
+    Pm {
+        names: Listed<Sym>,
+    },
+    Strategy {
+        set: Option<Strategy>,
+    },
+    Watch {
+        set: Option<u8>,
+    },
+    Pbreak {
+        names: Listed<Sym>,
+    },
     Exit,
 }

@@ -209,8 +209,12 @@ mod tests {
         negated: bool,
         binds: bool,
     ) -> Result<Condition, OutOfMemory>
-        ensures { IfOk result (λ c. c ≡ record { class = class; negated = negated; tests
-            = record { field = 0; pred = Pred.Eq; operand = Operand.Variable 0; binds = binds } ∷ [] }) }
+        ensures { IfOk result (λ c. c ≡ record {
+          class = class;
+          negated = negated;
+          tests
+              = record { field = 0; pred = Pred.Eq; operand = Operand.Variable 0; binds = binds } ∷ [];
+        }) }
     {
         let test = Test {
             field: 0,
@@ -244,12 +248,7 @@ mod tests {
             past: 0,
         };
         let rules = one(alloc, rule)?;
-        Ok(Program::new(
-            classes,
-            rules,
-            Listed::new(alloc),
-            Listed::new(alloc),
-        ))
+        Ok(Program::new(classes, rules, Listed::new(alloc), Listed::new(alloc)))
     }
 
     #[test]

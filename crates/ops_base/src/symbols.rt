@@ -28,10 +28,7 @@ impl Model for Names {
 }
 
 /// The place of a spelling, which is added where it is not held. Where that fails the place is where it would stand.
-fn place_in(
-    held: &mut IndexSet<Vec<u8>>,
-    spelling: &[u8],
-) -> (usize, Result<(), OutOfMemory>)
+fn place_in(held: &mut IndexSet<Vec<u8>>, spelling: &[u8]) -> (usize, Result<(), OutOfMemory>)
     ensures place { result.0 ≡ place_of (spellings held.old.keys) spelling.now }
     ensures ok { OnOk result.1 (spellings held.new.keys ≡ with_spelling (spellings held.old.keys) spelling.now) }
     ensures err { OnErr result.1 (spellings held.new.keys ≡ spellings held.old.keys) }
@@ -97,5 +94,25 @@ impl Names {
             Some(spelling) => spelling.as_slice(),
             None => &[],
         }
+    }
+}
+
+#[cfg(test)]
+mod tests {
+    use super::*;
+    use std::test::Fail;
+
+    #[test]
+    fn one_symbol_a_spelling(rt: HostRuntime) -> Result<(), Fail> {
+        let mut names = Names::new(rt.alloc())?;
+        let words = [b"goal".as_slice(), b"nil", b"item", b"goal", b""];
+        let mut symbols = Vec::new(rt.alloc());
+        for word in words {
+            symbols.push(names.intern(word)?.0)?;
+        }
+        assert_eq!(rt; symbols.as_slice(), [1, 0, 2, 1, 3].as_slice());
+        assert_eq!(rt; names.text(Sym(2)), b"item".as_slice());
+        assert_eq!(rt; names.text(Sym(9)), b"".as_slice());
+        Ok(())
     }
 }

@@ -38,9 +38,9 @@ performs_then {T = T} view seen x r a b c e next p q =
 pub and_then-front : {S T : Type 0} (column : ℕ) (e : Effect S) (next : ℕ → S → Effect T) → (more : List ℕ) × ((and_then column e next).bytes ≡ e.bytes ++ more)
 and_then-front {S} column e next = by e.outcome
   where
-  by : (o : Result S Ending) → (more : List ℕ) × ((going_on e.bytes o (next (column_after column e.bytes))).bytes ≡ e.bytes ++ more)
-  by (Ok s) = ((next (column_after column e.bytes) s).bytes, refl)
-  by (Err f) = ([], sym (append-nil e.bytes))
+    by : (o : Result S Ending) → (more : List ℕ) × ((going_on e.bytes o (next (column_after column e.bytes))).bytes ≡ e.bytes ++ more)
+    by (Ok s) = ((next (column_after column e.bytes) s).bytes, refl)
+    by (Err f) = ([], sym (append-nil e.bytes))
 
 and_then-err : {S T : Type 0} (column : ℕ) (e : Effect S) (f : Ending) (next : ℕ → S → Effect T) → (let o : Result S Ending = Err f in e.outcome ≡ o) → (let whole : Effect T = record { bytes = e.bytes; outcome = Err f } in whole ≡ and_then column e next)
 and_then-err column e f next is = ap (λ o. going_on e.bytes o (next (column_after column e.bytes))) (sym is)

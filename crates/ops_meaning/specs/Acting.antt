@@ -1,5 +1,5 @@
 -- What a firing does.
-use Rattle.std.specs.Prelude.{ℕ, ◌+◌, List, [], ◌∷◌, ◌++◌, length, fold, replicate, Bool, true, false, ◌==◌, if◌then◌else◌, slice_get, slice_set, unwrap_or, find, option_map, Option, Some, None}
+use Rattle.std.specs.Prelude.{ℕ, ◌+◌, List, [], ◌∷◌, ◌++◌, length, fold, replicate, Bool, true, ◌==◌, if◌then◌else◌, slice_get, slice_set, unwrap_or, find, Option, Some, None}
 use Rattle.std.specs.List.{list_any}
 use Rattle.ops_base.specs.declared.values.Value.{Value}
 use Rattle.ops_base.specs.declared.elements.Class.{Class}

@@ -1,5 +1,5 @@
 -- The grammar of program texts, as what a word does where something is wanted.
-use Rattle.std.specs.Prelude.{◌≡◌, ℕ, ◌+◌, ◌-◌, List, [], ◌∷◌, ◌++◌, length, position, Bool, true, false, not, ◌==◌, ◌&&◌, ◌||◌, nat_lt, if◌then◌else◌, Option, Some, None, Result, Ok, Err, ℤ, pos, negsuc, slice_get, codes}
+use Rattle.std.specs.Prelude.{ℕ, ◌-◌, List, [], ◌∷◌, ◌++◌, length, position, Bool, true, false, not, ◌==◌, ◌&&◌, nat_lt, if◌then◌else◌, Option, Some, None, Result, Ok, Err, ℤ, pos, negsuc, slice_get}
 use Rattle.std.specs.List.{list_any}
 use Rattle.ops_base.specs.declared.values.Sym.{Sym}
 use Rattle.ops_base.specs.declared.values.Value.{Value}
@@ -24,16 +24,13 @@ use Rattle.ops_base.specs.declared.commands.Command.TheVariants as command
 use Rattle.ops_base.specs.declared.endings.Fault.{Fault}
 use Rattle.ops_base.specs.declared.endings.Fault.TheVariants as fault
 use Rattle.ops_base.specs.declared.endings.Limit.TheVariants as limit
-use Rattle.ops_base.specs.Names.{Spellings}
-use Rattle.ops_base.specs.Valid.{most_fields, most_conditions, longest_list, specificity, cells_of}
+use Rattle.ops_base.specs.Valid.{most_fields, most_conditions, specificity}
 use Rattle.ops_tokens.specs.declared.token.TokenKind.{TokenKind}
 use Rattle.ops_tokens.specs.declared.token.TokenKind.TheVariants as kind
-use Rattle.ops_tokens.specs.declared.token.LexFault.{LexFault}
 use Rattle.ops_meaning.specs.declared.words.Word.{Word}
 use Rattle.ops_meaning.specs.declared.words.Named.{Named}
 use Rattle.ops_meaning.specs.declared.words.Keyword.{Keyword}
 use Rattle.ops_meaning.specs.declared.words.Keyword.TheVariants as keyword
-use Rattle.ops_meaning.specs.Words.{Lexed, lexed}
 
 -- where attributes with values stand: in a pattern, in an action `make`, in a command `make`
 pub data Use : Type 0 where
@@ -187,7 +184,7 @@ class_declared w ws s =
     else Refuses fault.BadForm
 
 abbrev pub with_class : State → State
-with_class s = record s { classes = s.classes ++ record { name = s.name; attrs = s.attrs; vector = false } ∷ [] }
+with_class s = record s { classes = s.classes ++ record { name = s.name; attrs = s.attrs; vector = false } ∷ []; attrs = [] }
 
 abbrev pub attribute_declared : Word → List Wanted → State → Step
 attribute_declared w ws s =
@@ -289,7 +286,7 @@ abbrev pub rule_name : Word → List Wanted → State → Step
 rule_name w ws s =
     if is_name w.kind
     then (if is_rule s w.name then Refuses fault.DeclaredTwice
-      else Next ws (record s { name = w.name; tests = []; values = []; conditions = []; actions = [] }))
+    else Next ws (record s { name = w.name; tests = []; values = []; conditions = []; actions = [] }))
     else Refuses fault.BadForm
 
 abbrev pub patterns : Word → List Wanted → State → Step
@@ -297,7 +294,7 @@ patterns w ws s =
     if is_arrow w.keyword && not (length s.conditions == 0) then Next ws s
     else if is_left w.kind
     then (if nat_lt (length s.conditions) most_conditions then Next (ClassName ∷ Terms InPattern ∷ Patterns ∷ ws) s
-      else Refuses (fault.LimitPassed limit.Conditions))
+    else Refuses (fault.LimitPassed limit.Conditions))
     else Refuses fault.BadForm
 
 abbrev pub with_rule : State → ℕ → State
@@ -311,8 +308,10 @@ with_rule s past =
         variables = length s.values;
         cells = length s.conditions;
         first = s.first;
-        past = past
-      } ∷ []
+        past = past;
+      } ∷ [];
+      conditions = [];
+      actions = [];
     }
 
 abbrev pub actions : Word → List Wanted → State → Step
@@ -338,8 +337,12 @@ abbrev pub cell : TokenKind → List Wanted → State → Step
 cell (kind.Whole n) ws s = cell_of (natural_of n) ws s
 cell _ ws s = Refuses fault.BadForm
 
+-- an action `remove` ends
+abbrev pub with_remove : State → State
+with_remove s = record (with_action s (action.Remove s.cells)) { cells = [] }
+
 abbrev pub cells : Word → List Wanted → State → Step
-cells w ws s = if is_right w.kind then Next ws (with_action s (action.Remove s.cells)) else cell w.kind (Cells ∷ ws) s
+cells w ws s = if is_right w.kind then Next ws (with_remove s) else cell w.kind (Cells ∷ ws) s
 
 abbrev pub with_item : State → Item → State
 with_item s i = record s { items = s.items ++ i ∷ [] }
@@ -353,9 +356,13 @@ item_value w (Some v) ws s = Next ws (with_item s (item.Print (term.Constant v))
 item_value w None ws s =
     if is_variable w.kind then Next ws (with_item_variable s (number_of w.name s.values)) else Refuses fault.BadForm
 
+-- an action `write` ends
+abbrev pub with_write : State → State
+with_write s = record (with_action s (action.Write s.items)) { items = [] }
+
 abbrev pub items : Word → List Wanted → State → Step
 items w ws s =
-    if is_right w.kind then Next ws (with_action s (action.Write s.items))
+    if is_right w.kind then Next ws (with_write s)
     else if is_left w.kind then Next (ItemWord ∷ Items ∷ ws) s
     else item_value w (constant_of w.kind w.name) (Items ∷ ws) s
 
@@ -436,5 +443,5 @@ nothing_read =
       items = [];
       values = [];
       conditions = [];
-      actions = []
+      actions = [];
     }

@@ -1,5 +1,5 @@
 -- What a program text is read as.
-use Rattle.std.specs.Prelude.{◌≡◌, ℕ, List, [], ◌∷◌, length, Bool, true, false, nat_lt, if◌then◌else◌, Option, Some, None, Result, Ok, Err}
+use Rattle.std.specs.Prelude.{ℕ, List, [], ◌∷◌, length, nat_lt, if◌then◌else◌, Option, Some, None, Result, Ok, Err}
 use Rattle.ops_base.specs.declared.elements.Class.{Class}
 use Rattle.ops_base.specs.declared.rules.Rule.{Rule}
 use Rattle.ops_base.specs.declared.commands.Command.{Command}
@@ -9,7 +9,7 @@ use Rattle.ops_base.specs.Names.{Spellings}
 use Rattle.ops_base.specs.Valid.{longest_list}
 use Rattle.ops_tokens.specs.declared.token.LexFault.{LexFault}
 use Rattle.ops_meaning.specs.Words.{Lexed, lexed}
-use Rattle.ops_meaning.specs.Grammar.{State, Outcome, Forms, goes, nothing_read}
+use Rattle.ops_meaning.specs.Grammar.{Outcome, Forms, goes, nothing_read}
 
 -- the parts of a program, and the names of its symbols
 pub record Read : Type 0 where

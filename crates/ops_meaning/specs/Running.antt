@@ -1,5 +1,5 @@
 -- The recognise-act cycle and the session.
-use Rattle.std.specs.Prelude.{ℕ, zero, suc, ◌+◌, ◌-◌, List, [], ◌∷◌, ◌++◌, length, fold, replicate, map, Bool, true, false, Option, Some, None, Result, Ok, Err, slice_get, slice_set, unwrap_or, option_map, codes}
+use Rattle.std.specs.Prelude.{ℕ, zero, suc, ◌+◌, ◌-◌, List, [], ◌∷◌, ◌++◌, length, fold, replicate, Bool, true, false, Option, Some, None, Result, Ok, Err, slice_get, slice_set, unwrap_or, option_map, codes}
 use Rattle.ops_base.specs.declared.values.Value.{Value}
 use Rattle.ops_base.specs.declared.elements.Class.{Class}
 use Rattle.ops_base.specs.declared.elements.Element.{Element}
@@ -19,13 +19,12 @@ use Rattle.ops_base.specs.Names.{Spellings}
 use Rattle.ops_base.specs.Valid.{class_of}
 use Rattle.ops_base.specs.WorkingMemory.{change_done}
 use Rattle.ops_base.specs.Refraction.{unfired, still_fired, dominant}
-use Rattle.ops_io.specs.Output.{column_after}
 use Rattle.ops_meaning.specs.declared.states.Doing.{Doing}
 use Rattle.ops_meaning.specs.declared.states.Memory.{Memory}
 use Rattle.ops_meaning.specs.declared.states.Fired.{Fired}
 use Rattle.ops_meaning.specs.Effects.{Effect, writes, ends_with, and_then}
 use Rattle.ops_meaning.specs.Layout.{line_at}
-use Rattle.ops_meaning.specs.Acting.{Scene, bindings_of, actions_done}
+use Rattle.ops_meaning.specs.Acting.{bindings_of, actions_done}
 
 -- what stands still during a session
 pub record Setting : Type 0 where
@@ -48,9 +47,12 @@ actions_of rules n = unwrap_or (option_map (λ r. r.actions) (slice_get rules n)
 
 -- ---- one firing
 
-abbrev pub scene_of : Setting → Inst → Memory → Scene
-scene_of s i m =
-    record { names = s.names; classes = s.classes; bindings = bindings_of m.wm (conditions_of s.rules i.rule) i.tags []; tags = i.tags }
+-- what the right side does, from what stands before it
+abbrev pub acted : Setting → ℕ → Inst → Doing → Effect Doing
+acted s column i d =
+    actions_done
+    (record { names = s.names; classes = s.classes; bindings = bindings_of d.wm (conditions_of s.rules i.rule) i.tags []; tags = i.tags })
+    column (actions_of s.rules i.rule) d
 
 -- one phase, in which this instantiation fired
 abbrev pub after_firing : List Rule → Inst → Memory → Doing → Memory
@@ -63,9 +65,7 @@ fired_of rules i m d = record { memory = after_firing rules i m d; halted = d.ha
 
 abbrev pub firing : Setting → ℕ → Inst → Memory → Effect Fired
 firing s column i m =
-    and_then column
-    (actions_done (scene_of s i m) column (actions_of s.rules i.rule) (record { wm = m.wm; last = m.last; halted = false }))
-    (λ next d. writes [] (fired_of s.rules i m d))
+    and_then column (acted s column i (record { wm = m.wm; last = m.last; halted = false })) (λ next d. writes [] (fired_of s.rules i m d))
 
 -- ---- a run
 
@@ -96,15 +96,15 @@ abbrev pub fixed_fields : ℕ → List Fixed → List Value
 fixed_fields count puts = fold (λ fields p. slice_set fields p.field (first_constant p.values)) (replicate count nil) puts
 
 -- A top-level `make` is one phase.
-abbrev pub made_at_top : Setting → ℕ → List Fixed → Memory → Memory
-made_at_top s class puts m =
-    let e : Element = record { tag = m.last + 1; class = class; fields = fixed_fields (length (class_of s.classes class).attrs) puts } in
+abbrev pub made_at_top : List Class → List Rule → ℕ → List Fixed → Memory → Memory
+made_at_top classes rules class puts m =
+    let e : Element = record { tag = m.last + 1; class = class; fields = fixed_fields (length (class_of classes class).attrs) puts } in
     let wm = change_done m.wm (change.Add e) in
-    record { wm = wm; fired = still_fired s.rules wm m.fired; firings = m.firings; last = m.last + 1 }
+    record { wm = wm; fired = still_fired rules wm m.fired; firings = m.firings; last = m.last + 1 }
 
 -- what one command does from a column on; the other commands stand in no text yet
 abbrev pub command_done : Setting → ℕ → Command → Memory → Effect Memory
-command_done s column (command.Make class puts) m = writes [] (made_at_top s class puts m)
+command_done s column (command.Make class puts) m = writes [] (made_at_top s.classes s.rules class puts m)
 command_done s column (command.Run None) m = run_on (most_firings - m.firings) s column false m
 command_done s column _ m = writes [] m
 

@@ -1,4 +1,6 @@
 pub mod ActionSteps
+pub mod Turns
+pub mod Commands
 pub mod Deliveries
 pub mod Sessions
 pub mod Endings

@@ -178,7 +178,8 @@ fn fields_of(
     Ok(fields)
 }
 
-fn attribute_count(classes: &[Class], class: usize) -> usize
+/// How many attributes a class has.
+pub fn attribute_count(classes: &[Class], class: usize) -> usize
     ensures { result ≡ length (class_of classes.now class).attrs }
 {
     match classes.get(class) {

@@ -3,7 +3,7 @@ ghost use Rattle.std.specs.Prelude.{◌≡◌, ◌^◌, ◌<◌, ◌-◌, IsTrue
 ghost use Rattle.ops_io.specs.Ports.{port};
 ghost use Rattle.ops_meaning.specs.Effects.{Performs, writes};
 ghost use Rattle.ops_meaning.specs.Layout.{line_at};
-ghost use Rattle.ops_meaning.specs.Running.{conditions_of, actions_of, fired_of, firing, next_to_fire, run_on, most_firings};
+ghost use Rattle.ops_meaning.specs.Running.{conditions_of, actions_of, fired_of, acted, firing, next_to_fire, run_on, most_firings};
 ghost use Rattle.ops_top.specs.Settings.{setting_of};
 
 use crate::acting::{Scene, act};
@@ -56,18 +56,14 @@ fn settle(
     alloc: Global,
     program: &Program,
     inst: Inst,
-    memory: Memory,
+    fired: Listed<Inst>,
+    firings: u64,
     doing: Doing,
 ) -> Result<Turned, OutOfMemory>
-    ensures fired { IfOk result (λ t. t.fired ≡ fired_of program.now.rules inst memory doing) }
+    ensures fired { IfOk result (λ t. t.fired ≡ fired_of program.now.rules inst
+        (record { wm = doing.wm; fired = fired; firings = firings; last = doing.last }) doing) }
     ensures next { IfOk result (λ t. t.next ≡ next_to_fire program.now.rules t.fired.memory) }
 {
-    let Memory {
-        wm: _,
-        fired,
-        firings,
-        last: _,
-    } = memory;
     let Doing { wm, last, halted } = doing;
     let mut marks = fired.into_vec();
     marks.push(inst)?;
@@ -87,4 +83,140 @@ fn settle(
         },
         next,
     })
+}
+
+/// Does the right side of an instantiation.
+fn act_for<K: Sink>(
+    alloc: Global,
+    program: &Program,
+    names: &Names,
+    inst: &Inst,
+    doing: Doing,
+    out: &mut Out,
+    sink: &mut K,
+) -> Result<Doing, Ending>
+    requires whole { IsTrue out.old.whole }
+    requires faults { K.faults sink.old < 2 ^ 63 }
+    ensures { Performs (λ d. d) result (port (K.taken sink.old) (K.faults sink.old) out.old)
+        (port (K.taken sink.new) (K.faults sink.new) out.new)
+        (acted (setting_of names.now program.now) out.old.column inst.now doing) }
+{
+    let rules = program.rules.as_slice();
+    let conditions = conditions_of(rules, inst.rule);
+    let tags = inst.tags.as_slice();
+    match bindings_of(alloc, doing.wm.as_slice(), conditions, tags) {
+        Err(_) => Err(Ending::OutOfMemory),
+        Ok(bindings) => {
+            let scene = Scene {
+                names,
+                classes: program.classes.as_slice(),
+                bindings: bindings.as_slice(),
+                tags,
+            };
+            act(alloc, &scene, actions_of(rules, inst.rule), doing, out, sink)
+        }
+    }
+}
+
+/// One firing, which is one phase.
+fn fire<K: Sink>(
+    alloc: Global,
+    program: &Program,
+    names: &Names,
+    inst: Inst,
+    memory: Memory,
+    out: &mut Out,
+    sink: &mut K,
+) -> Result<Turned, Ending>
+    requires whole { IsTrue out.old.whole }
+    requires faults { K.faults sink.old < 2 ^ 63 }
+    ensures performs { Performs (λ t. t.fired) result (port (K.taken sink.old) (K.faults sink.old) out.old)
+        (port (K.taken sink.new) (K.faults sink.new) out.new)
+        (firing (setting_of names.now program.now) out.old.column inst memory) }
+    ensures next { IfOk result (λ t. t.next ≡ next_to_fire program.now.rules t.fired.memory) }
+{
+    let Memory {
+        wm,
+        fired,
+        firings,
+        last,
+    } = memory;
+    let start = Doing {
+        wm,
+        last,
+        halted: false,
+    };
+    match act_for(alloc, program, names, &inst, start, out, sink) {
+        Err(ending) => Err(ending),
+        Ok(doing) => match settle(alloc, program, inst, fired, firings, doing) {
+            Err(_) => Err(Ending::OutOfMemory),
+            Ok(turned) => Ok(turned),
+        },
+    }
+}
+
+/// Ends a run with a line.
+fn end_run<K: Sink>(
+    text: &[u8],
+    memory: Memory,
+    out: &mut Out,
+    sink: &mut K,
+) -> Result<Memory, Ending>
+    requires whole { IsTrue out.old.whole }
+    requires faults { K.faults sink.old < 2 ^ 63 }
+    ensures { Performs (λ m. m) result (port (K.taken sink.old) (K.faults sink.old) out.old)
+        (port (K.taken sink.new) (K.faults sink.new) out.new)
+        (writes (line_at out.old.column text.now) memory) }
+{
+    match put_line(out, sink, text) {
+        Err(ending) => Err(ending),
+        Ok(()) => Ok(memory),
+    }
+}
+
+/// A run, until it ends or the session has made its last firing. The conflict set is found once a firing.
+pub fn run<K: Sink>(
+    alloc: Global,
+    program: &Program,
+    names: &Names,
+    memory: Memory,
+    out: &mut Out,
+    sink: &mut K,
+) -> Result<Memory, Ending>
+    requires whole { IsTrue out.old.whole }
+    requires faults { K.faults sink.old < 2 ^ 63 }
+    ensures { Performs (λ m. m) result (port (K.taken sink.old) (K.faults sink.old) out.old)
+        (port (K.taken sink.new) (K.faults sink.new) out.new)
+        (run_on (most_firings - memory.firings) (setting_of names.now program.now) out.old.column false memory) }
+{
+    let mut left = MOST_FIRINGS.saturating_sub(memory.firings);
+    let mut next = match next_to_fire(alloc, program, &memory) {
+        Ok(next) => next,
+        Err(_) => return Err(Ending::OutOfMemory),
+    };
+    let mut memory = memory;
+    let mut halted = false;
+    'turns: loop {
+        if halted {
+            return end_run(b"end -- explicit halt", memory, out, sink);
+        }
+        let inst = match next {
+            Some(inst) => inst,
+            None => return end_run(b"end -- no production true", memory, out, sink),
+        };
+        if left == 0 {
+            return Err(Ending::Limit {
+                firings: memory.firings,
+            });
+        }
+        left -= 1;
+        match fire(alloc, program, names, inst, memory, out, sink) {
+            Err(ending) => return Err(ending),
+            Ok(turned) => {
+                memory = turned.fired.memory;
+                halted = turned.fired.halted;
+                next = turned.next;
+            }
+        }
+    }
 }

@@ -1,18 +1,118 @@
-//! The session of a program.
-ghost use Rattle.std.specs.Prelude.{◌≡◌, ◌^◌, ◌<◌, IsTrue};
+//! The session: the commands of a program in the order of the text.
+ghost use Rattle.std.specs.Prelude.{◌≡◌, ◌^◌, ◌<◌, IsTrue, IfOk};
 ghost use Rattle.ops_io.specs.Ports.{port};
 ghost use Rattle.ops_meaning.specs.Effects.{Performs};
-ghost use Rattle.ops_meaning.specs.Running.{session_of};
+ghost use Rattle.ops_meaning.specs.Running.{first_constant, fixed_fields, made_at_top, command_done, session_of};
+ghost use Rattle.ops_top.specs.Settings.{setting_of};
 
+use crate::acting::attribute_count;
+use crate::choosing::marks_after;
+use crate::running::run;
+use ops_base::commands::{Command, Fixed};
+use ops_base::elements::Element;
 use ops_base::endings::Ending;
+use ops_base::list::Listed;
+use ops_base::memory::OutOfMemory;
 use ops_base::programs::Program;
 use ops_base::symbols::Names;
+use ops_base::values::{NIL, Value};
 use ops_io::out::Out;
 use ops_io::outside::Sink;
 use ops_meaning::Memory;
 use std::alloc::Global;
 
-/// Runs the session of a program, from column 0.
+const NOTHING: Value = Value::Symbol(NIL);
+
+fn first_constant(values: &[Value]) -> Value
+    ensures { result ≡ first_constant values.now }
+{
+    match values.first() {
+        Some(value) => *value,
+        None => NOTHING,
+    }
+}
+
+/// The fields of an element that a command makes.
+fn fixed_fields(alloc: Global, count: usize, puts: &[Fixed]) -> Result<Vec<Value>, OutOfMemory>
+    ensures { IfOk result (λ v. v.items ≡ fixed_fields count puts.now) }
+{
+    let mut fields = vec![in alloc; NOTHING; count]?;
+    for put in puts {
+        let value = first_constant(put.values.as_slice());
+        if put.field < fields.len() {
+            fields[put.field] = value;
+        }
+    }
+    Ok(fields)
+}
+
+/// A top-level `make`, which is one phase. The conflict set is looked at only where an instantiation is marked.
+fn make_at_top(
+    alloc: Global,
+    program: &Program,
+    class: usize,
+    puts: &[Fixed],
+    memory: Memory,
+) -> Result<Memory, OutOfMemory>
+    ensures { IfOk result (λ m. m ≡ made_at_top program.now.classes program.now.rules class puts.now memory) }
+{
+    let Memory {
+        wm,
+        fired,
+        firings,
+        last,
+    } = memory;
+    let count = attribute_count(program.classes.as_slice(), class);
+    let fields = fixed_fields(alloc, count, puts)?;
+    let Some(tag) = last.checked_add(1) else {
+        return Err(OutOfMemory);
+    };
+    let mut wm = wm.into_vec();
+    wm.push(Element {
+        tag,
+        class,
+        fields: Listed::from_vec(fields),
+    })?;
+    let fired = marks_after(alloc, program, &wm, fired.into_vec())?;
+    Ok(Memory {
+        wm: Listed::from_vec(wm),
+        fired: Listed::from_vec(fired),
+        firings,
+        last: tag,
+    })
+}
+
+/// Does one command.
+fn do_command<K: Sink>(
+    alloc: Global,
+    program: &Program,
+    names: &Names,
+    command: &Command,
+    memory: Memory,
+    out: &mut Out,
+    sink: &mut K,
+) -> Result<Memory, Ending>
+    requires whole { IsTrue out.old.whole }
+    requires faults { K.faults sink.old < 2 ^ 63 }
+    ensures { Performs (λ m. m) result (port (K.taken sink.old) (K.faults sink.old) out.old)
+        (port (K.taken sink.new) (K.faults sink.new) out.new)
+        (command_done (setting_of names.now program.now) out.old.column command.now memory) }
+{
+    match command {
+        Command::Make { class, puts } => match make_at_top(alloc, program, *class, puts.as_slice(), memory) {
+            Ok(next) => Ok(next),
+            Err(_) => Err(Ending::OutOfMemory),
+        },
+        Command::Run { count: None } => run(alloc, program, names, memory, out, sink),
+        Command::Run { count: Some(_) } => Ok(memory),
+        Command::Remove { .. } | Command::RemoveAll => Ok(memory),
+        Command::Wm { .. } | Command::Ppwm { .. } | Command::Cs | Command::Pm { .. } => Ok(memory),
+        Command::Strategy { .. } | Command::Watch { .. } => Ok(memory),
+        Command::Pbreak { .. } | Command::Exit => Ok(memory),
+    }
+}
+
+/// Does the commands of a program in order, from nothing.
 pub fn run_session<K: Sink>(
     alloc: Global,
     program: &Program,
@@ -24,7 +124,20 @@ pub fn run_session<K: Sink>(
     requires faults { K.faults sink.old < 2 ^ 63 }
     requires column { out.old.column ≡ 0 }
     ensures { Performs (λ m. m) result (port (K.taken sink.old) (K.faults sink.old) out.old)
-        (port (K.taken sink.new) (K.faults sink.new) out.new) (session_of (record { names = names.now; classes = program.now.classes; rules = program.now.rules }) program.now.commands) }
+        (port (K.taken sink.new) (K.faults sink.new) out.new)
+        (session_of (setting_of names.now program.now) program.now.commands) }
 {
-    Err(Ending::OutOfMemory)
+    let mut memory = Memory {
+        wm: Listed::new(alloc),
+        fired: Listed::new(alloc),
+        firings: 0,
+        last: 0,
+    };
+    for command in program.commands.as_slice() {
+        match do_command(alloc, program, names, command, memory, out, sink) {
+            Ok(next) => memory = next,
+            Err(ending) => return Err(ending),
+        }
+    }
+    Ok(memory)
 }

@@ -1,4 +1,4 @@
-use Rattle.std.proofs.Common.{◌≡◌, drop, fold, cond, ◌==◌, Some, None}
+use Rattle.std.proofs.Common.{◌≡◌, drop, fold, cond, ◌==◌, Some}
 use Rattle.ops_base.specs.Matching.{value_of}
 use Rattle.ops_base.proofs.matching.bound_value.Given as goal
 

@@ -1,6 +1,6 @@
-use Rattle.std.proofs.Common.{◌≡◌, sym, ◌∙◌, subst, List, ℕ, ◌<◌}
-use Rattle.ops_base.specs.Names.{spellings, AreDistinct, place_of}
-use Rattle.ops_base.proofs.Held.{found_is, absent_is, with-held, with-new, length-map, distinct-push, absent_from_place, with-either, distinct-either}
+use Rattle.std.proofs.Common.{sym, ◌∙◌}
+use Rattle.ops_base.specs.Names.{spellings}
+use Rattle.ops_base.proofs.Held.{found_is, absent_is, with-held, length-map, with-either, distinct-either}
 use Rattle.ops_base.proofs.symbols.place_in.Goals as goal
 
 pub returns-in-Some-clause-place : goal.returns-in-Some-clause-place

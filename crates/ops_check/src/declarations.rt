@@ -1,0 +1,75 @@
+//! Declarations of classes.
+ghost use Rattle.std.specs.Prelude.{◌≡◌, ◌∷◌};
+ghost use Rattle.ops_meaning.specs.Grammar.{goes, attribute_declared, ClassDeclared, Attributes};
+ghost use Rattle.ops_check.specs.Going.{view, Goes, Reads, Acts, IsWithin};
+
+use crate::draft::Draft;
+use crate::kinds::{is_name, is_right};
+use crate::refusals::{Refusal, first_of, refused};
+use ops_base::endings::{Fault, Limit};
+use ops_meaning::Word;
+
+/// How many attributes a class may have.
+const MOST_FIELDS: usize = 126;
+
+impl Draft {
+    // NAME NAME* )
+    pub fn declaration<'a>(&mut self, words: &'a [Word]) -> Result<&'a [Word], Refusal>
+        ensures reads { Goes (λ ws. goes words.now (ClassDeclared ∷ Attributes ∷ ws) (view self.old)) (view self.new) result }
+        ensures within { IsWithin words.now result }
+    {
+        match self.class_declared(words) {
+            Ok(rest) => return self.attributes(rest),
+            Err(refusal) => return Err(refusal),
+        }
+    }
+
+    #[tactic(auto, unfolding(ops_meaning::specs::Grammar::goes, ops_meaning::specs::Grammar::step, ops_meaning::specs::Grammar::ends))]
+    fn class_declared<'a>(&mut self, words: &'a [Word]) -> Result<&'a [Word], Refusal>
+        ensures reads { Reads ClassDeclared (view self.old) (view self.new) words.now result }
+        ensures within { IsWithin words.now result }
+    {
+        let (word, rest) = first_of(words)?;
+        if !is_name(word.kind) {
+            return refused(Fault::BadForm, word);
+        }
+        if self.is_class(word.name) {
+            return refused(Fault::DeclaredTwice, word);
+        }
+        self.name = word.name;
+        self.attrs.clear();
+        Ok(rest)
+    }
+
+    // NAME* )
+    #[tactic(auto, unfolding(ops_meaning::specs::Grammar::goes, ops_meaning::specs::Grammar::step, ops_meaning::specs::Grammar::ends))]
+    fn attributes<'a>(&mut self, words: &'a [Word]) -> Result<&'a [Word], Refusal>
+        ensures reads { Reads Attributes (view self.old) (view self.new) words.now result }
+        ensures within { IsWithin words.now result }
+    {
+        let mut rest = words;
+        'attributes: loop {
+            let (word, after) = first_of(rest)?;
+            if is_right(word.kind) {
+                self.end_class()?;
+                return Ok(after);
+            }
+            if !is_name(word.kind) {
+                return refused(Fault::BadForm, word);
+            }
+            if self.is_attribute(word.name) {
+                return refused(Fault::DeclaredTwice, word);
+            }
+            if self.attrs.len() >= MOST_FIELDS {
+                return refused(
+                    Fault::LimitPassed {
+                        limit: Limit::Fields,
+                    },
+                    word,
+                );
+            }
+            self.attrs.push(word.name)?;
+            rest = after;
+        }
+    }
+}

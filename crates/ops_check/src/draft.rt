@@ -1,0 +1,365 @@
+//! What was read so far of a program, and how it grows.
+ghost use Rattle.std.specs.Prelude.{◌≡◌, ◌+◌, ◌==◌, not, count_by, List, position, SomeIff, ◌<◌, ◌^◌, slice_get};
+ghost use Rattle.ops_base.specs.Valid.{specificity};
+ghost use Rattle.ops_meaning.specs.Grammar.{nothing_read, is_class, is_rule, is_one_of, may_declare, with_class, with_test, with_variable, with_put, with_put_variable, with_fixed, with_constant, with_named, with_element, with_action, with_command, with_rule, with_remove, with_write, with_item, with_item_variable, number_of, class_at, attributes_of, InPattern, InPut, InFixed, Wanted, Next};
+ghost use Rattle.ops_check.specs.Going.{view, use_of, field_in, Becomes};
+
+use crate::kinds::number_of;
+use crate::refusals::Refusal;
+use ops_base::actions::{Action, Item, Put, Term};
+use ops_base::commands::{Command, Fixed};
+use ops_base::conditions::{Condition, Operand, Test};
+use ops_base::elements::Class;
+use ops_base::list::Listed;
+use ops_base::rules::Rule;
+use ops_base::values::{NIL, Pred, Sym, Value};
+use ops_meaning::Named;
+use std::alloc::Global;
+use std::mem;
+
+/// Where attributes with values stand: in a pattern, in an action `make` or in a command `make`.
+#[derive(Clone, Copy, Debug, PartialEq, Eq)]
+pub enum Place {
+    Pattern,
+    Put,
+    Fixed,
+}
+
+/// The classes, rules and commands that were read, whether a class is used that is not declared and a variable that is
+/// not bound, and the parts of the form that is being read.
+#[derive(Drop)]
+pub struct Draft {
+    pub classes: Vec<Class>,
+    pub rules: Vec<Rule>,
+    pub commands: Vec<Command>,
+    pub unknown: bool,
+    pub unbound: bool,
+    pub name: Sym,
+    pub first: usize,
+    pub attrs: Vec<Sym>,
+    pub class: usize,
+    pub tests: Vec<Test>,
+    pub puts: Vec<Put>,
+    pub fixed: Vec<Fixed>,
+    pub cells: Vec<usize>,
+    pub items: Vec<Item>,
+    pub values: Vec<Named>,
+    pub conditions: Vec<Condition>,
+    pub actions: Vec<Action>,
+    pub alloc: Global,
+}
+
+impl Draft {
+    pub fn new(alloc: Global) -> Draft
+        ensures { view result ≡ nothing_read }
+    {
+        Draft {
+            classes: Vec::new(alloc),
+            rules: Vec::new(alloc),
+            commands: Vec::new(alloc),
+            unknown: false,
+            unbound: false,
+            name: NIL,
+            first: 0,
+            attrs: Vec::new(alloc),
+            class: 0,
+            tests: Vec::new(alloc),
+            puts: Vec::new(alloc),
+            fixed: Vec::new(alloc),
+            cells: Vec::new(alloc),
+            items: Vec::new(alloc),
+            values: Vec::new(alloc),
+            conditions: Vec::new(alloc),
+            actions: Vec::new(alloc),
+            alloc,
+        }
+    }
+
+    // nothing but declarations was read
+    pub fn may_declare(&self) -> bool
+        ensures { result ≡ may_declare (view self.now) }
+    {
+        self.rules.is_empty() && self.commands.is_empty()
+    }
+
+    pub fn is_class(&self, name: Sym) -> bool
+        ensures { result ≡ is_class (view self.now) name }
+    {
+        self.classes.iter().any(|class| class.name == name)
+    }
+
+    pub fn is_rule(&self, name: Sym) -> bool
+        ensures { result ≡ is_rule (view self.now) name }
+    {
+        self.rules.iter().any(|rule| rule.name == name)
+    }
+
+    pub fn is_attribute(&self, name: Sym) -> bool
+        ensures { result ≡ is_one_of name (view self.now).attrs }
+    {
+        self.attrs.iter().any(|attr| *attr == name)
+    }
+
+    pub fn class_of(&self, name: Sym) -> Option<usize>
+        ensures { result ≡ position (λ c. c.name.0 == name.0) (view self.now).classes }
+    {
+        self.classes.iter().position(|class| class.name == name)
+    }
+}
+
+impl Draft {
+    pub fn end_class(&mut self) -> Result<(), Refusal>
+        ensures { Becomes (view self.new) (with_class (view self.old)) result }
+    {
+        let none = Vec::new(self.alloc);
+        let attrs = Listed::from_vec(mem::replace(&mut self.attrs, none));
+        self.classes.push(Class {
+            name: self.name,
+            attrs,
+            vector: false,
+        })?;
+        Ok(())
+    }
+
+    fn add_test(&mut self, field: usize, operand: Operand, binds: bool) -> Result<(), Refusal>
+        ensures { Becomes (view self.new) (with_test (view self.old) field operand binds) result }
+    {
+        self.tests.push(Test {
+            field,
+            pred: Pred::Eq,
+            operand,
+            binds,
+        })?;
+        Ok(())
+    }
+
+    fn add_put(&mut self, field: usize, term: Term) -> Result<(), Refusal>
+        ensures { Becomes (view self.new) (with_put (view self.old) field term) result }
+    {
+        let mut terms = Listed::new(self.alloc);
+        terms.push(term)?;
+        self.puts.push(Put { field, terms })?;
+        Ok(())
+    }
+
+    fn add_fixed(&mut self, field: usize, value: Value) -> Result<(), Refusal>
+        ensures { Becomes (view self.new) (with_fixed (view self.old) field value) result }
+    {
+        let mut values = Listed::new(self.alloc);
+        values.push(value)?;
+        self.fixed.push(Fixed { field, values })?;
+        Ok(())
+    }
+
+    pub fn add_action(&mut self, action: Action) -> Result<(), Refusal>
+        ensures { Becomes (view self.new) (with_action (view self.old) action) result }
+    {
+        self.actions.push(action)?;
+        Ok(())
+    }
+
+    pub fn add_command(&mut self, command: Command) -> Result<(), Refusal>
+        ensures { Becomes (view self.new) (with_command (view self.old) command) result }
+    {
+        self.commands.push(command)?;
+        Ok(())
+    }
+
+    pub fn add_item(&mut self, item: Item) -> Result<(), Refusal>
+        ensures { Becomes (view self.new) (with_item (view self.old) item) result }
+    {
+        self.items.push(item)?;
+        Ok(())
+    }
+}
+
+impl Draft {
+    // the first place of a variable binds it
+    fn add_variable(&mut self, field: usize, name: Sym) -> Result<(), Refusal>
+        ensures { Becomes (view self.new) (with_variable (view self.old) field name (number_of name (view self.old).values)) result }
+    {
+        if let Some(number) = number_of(&self.values, name) {
+            return self.add_test(field, Operand::Variable(number), false);
+        }
+        let number = self.values.len();
+        self.values.push(Named { name, number })?;
+        self.add_test(field, Operand::Variable(number), true)
+    }
+
+    // a variable of a right side, which a condition must bind
+    fn add_put_variable(&mut self, field: usize, name: Sym) -> Result<(), Refusal>
+        ensures { Becomes (view self.new) (with_put_variable (view self.old) field (number_of name (view self.old).values)) result }
+    {
+        match number_of(&self.values, name) {
+            Some(number) => return self.add_put(field, Term::Variable(number)),
+            None => self.unbound = true,
+        }
+        Ok(())
+    }
+
+    pub fn add_item_variable(&mut self, name: Sym) -> Result<(), Refusal>
+        ensures { Becomes (view self.new) (with_item_variable (view self.old) (number_of name (view self.old).values)) result }
+    {
+        match number_of(&self.values, name) {
+            Some(number) => return self.add_item(Item::Print(Term::Variable(number))),
+            None => self.unbound = true,
+        }
+        Ok(())
+    }
+
+    pub fn add_constant(&mut self, place: Place, field: usize, value: Value) -> Result<(), Refusal>
+        ensures { Becomes (view self.new) (with_constant (use_of place) (view self.old) field value) result }
+    {
+        match place {
+            Place::Pattern => self.add_test(field, Operand::Constant(value), false),
+            Place::Put => self.add_put(field, Term::Constant(value)),
+            Place::Fixed => self.add_fixed(field, value),
+        }
+    }
+
+    // A variable in a command is bound nowhere.
+    pub fn add_named(&mut self, place: Place, field: usize, name: Sym) -> Result<(), Refusal>
+        ensures { Becomes (view self.new) (with_named (use_of place) (view self.old) field name) result }
+    {
+        match place {
+            Place::Pattern => self.add_variable(field, name),
+            Place::Put => self.add_put_variable(field, name),
+            Place::Fixed => {
+                self.unbound = true;
+                Ok(())
+            }
+        }
+    }
+
+    // the class of an element form, which may be one that is not declared
+    pub fn set_class(&mut self, name: Sym)
+        ensures { (ws : List Wanted) → class_at (position (λ c. c.name.0 == name.0) (view self.old).classes) ws (view self.old) ≡ Next ws (view self.new) }
+    {
+        match self.class_of(name) {
+            Some(class) => self.class = class,
+            None => {
+                self.class = self.classes.len();
+                self.unknown = true;
+            }
+        }
+    }
+
+    // The field of an attribute of the class that was named. An attribute of a class that is not declared is any name.
+    pub fn field_of(&self, name: Sym) -> Option<usize>
+        ensures { result ≡ field_in (attributes_of (slice_get (view self.now).classes (view self.now).class)) name }
+    {
+        match self.classes.as_slice().get(self.class) {
+            Some(class) => place_in(class.attrs.as_slice(), name),
+            None => Some(0),
+        }
+    }
+}
+
+impl Draft {
+    fn end_pattern(&mut self) -> Result<(), Refusal>
+        ensures { Becomes (view self.new) (with_element InPattern (view self.old)) result }
+    {
+        let none = Vec::new(self.alloc);
+        let tests = Listed::from_vec(mem::replace(&mut self.tests, none));
+        self.conditions.push(Condition {
+            class: self.class,
+            negated: false,
+            tests,
+        })?;
+        Ok(())
+    }
+
+    fn end_put(&mut self) -> Result<(), Refusal>
+        ensures { Becomes (view self.new) (with_element InPut (view self.old)) result }
+    {
+        let none = Vec::new(self.alloc);
+        let puts = Listed::from_vec(mem::replace(&mut self.puts, none));
+        let class = self.class;
+        self.add_action(Action::Make { class, puts })
+    }
+
+    fn end_fixed(&mut self) -> Result<(), Refusal>
+        ensures { Becomes (view self.new) (with_element InFixed (view self.old)) result }
+    {
+        let none = Vec::new(self.alloc);
+        let puts = Listed::from_vec(mem::replace(&mut self.fixed, none));
+        let class = self.class;
+        self.add_command(Command::Make { class, puts })
+    }
+
+    pub fn end_element(&mut self, place: Place) -> Result<(), Refusal>
+        ensures { Becomes (view self.new) (with_element (use_of place) (view self.old)) result }
+    {
+        match place {
+            Place::Pattern => self.end_pattern(),
+            Place::Put => self.end_put(),
+            Place::Fixed => self.end_fixed(),
+        }
+    }
+
+    pub fn end_remove(&mut self) -> Result<(), Refusal>
+        ensures { Becomes (view self.new) (with_remove (view self.old)) result }
+    {
+        let none = Vec::new(self.alloc);
+        let cells = Listed::from_vec(mem::replace(&mut self.cells, none));
+        self.add_action(Action::Remove { cells })
+    }
+
+    pub fn end_write(&mut self) -> Result<(), Refusal>
+        ensures { Becomes (view self.new) (with_write (view self.old)) result }
+    {
+        let none = Vec::new(self.alloc);
+        let items = Listed::from_vec(mem::replace(&mut self.items, none));
+        self.add_action(Action::Write { items })
+    }
+
+    pub fn end_rule(&mut self, past: usize) -> Result<(), Refusal>
+        ensures { Becomes (view self.new) (with_rule (view self.old) past) result }
+    {
+        // The tests of a text of 16,777,216 bytes can't be as many as a u32 doesn't hold.
+        let Some(specificity) = specificity(&self.conditions) else {
+            return Err(Refusal::OutOfMemory);
+        };
+        let (variables, cells) = (self.values.len(), self.conditions.len());
+        let none = Vec::new(self.alloc);
+        let conditions = Listed::from_vec(mem::replace(&mut self.conditions, none));
+        let none = Vec::new(self.alloc);
+        let actions = Listed::from_vec(mem::replace(&mut self.actions, none));
+        self.rules.push(Rule {
+            name: self.name,
+            conditions,
+            actions,
+            specificity,
+            variables,
+            cells,
+            first: self.first,
+            past,
+        })?;
+        Ok(())
+    }
+}
+
+fn place_in(attrs: &[Sym], name: Sym) -> Option<usize>
+    ensures { result ≡ position (λ a. a.0 == name.0) attrs.now }
+{
+    attrs.iter().position(|attr| *attr == name)
+}
+
+// one per condition, and one per test that does not bind
+fn specificity(conditions: &[Condition]) -> Option<u32>
+    ensures { SomeIff result (specificity conditions.now < 2 ^ 32) (specificity conditions.now) }
+{
+    let mut total: u32 = 0;
+    for condition in conditions {
+        total = total.checked_add(specificity_of(condition)?)?;
+    }
+    Some(total)
+}
+
+fn specificity_of(condition: &Condition) -> Option<u32>
+    ensures { SomeIff result (1 + count_by (λ t. not t.binds) condition.now.tests < 2 ^ 32) (1 + count_by (λ t. not t.binds) condition.now.tests) }
+{
+    let tests = condition.tests.as_slice();
+    let tests = tests.iter().filter(|test| !test.binds).count();
+    u32::try_from(tests).ok()?.checked_add(1)
+}

@@ -1,0 +1,82 @@
+//! The forms of a program text.
+ghost use Rattle.std.specs.Prelude.{◌≡◌, MatchOption, [], ◌∷◌};
+ghost use Rattle.ops_meaning.specs.Grammar.{Form, Closes, EndsRun};
+ghost use Rattle.ops_check.specs.Going.{view, Reads, ReadsAll, IsWithin};
+
+use crate::draft::{Draft, Place};
+use crate::kinds::is_left;
+use crate::refusals::{Refusal, closing, first_of, refused};
+use ops_base::commands::Command;
+use ops_base::endings::Fault;
+use ops_meaning::{Keyword, Word};
+
+impl Draft {
+    // form*
+    #[tactic(auto, unfolding(ops_meaning::specs::Grammar::goes, ops_meaning::specs::Grammar::step, ops_meaning::specs::Grammar::ends))]
+    pub fn forms(&mut self, words: &[Word]) -> Result<(), Refusal>
+        ensures { ReadsAll (view self.old) (view self.new) words.now result }
+    {
+        let mut rest = words;
+        'forms: loop {
+            let Some((word, after)) = next_of(rest) else {
+                return Ok(());
+            };
+            if !is_left(word.kind) {
+                return refused(Fault::Stray, word);
+            }
+            self.first = word.first;
+            match self.form(after) {
+                Ok(next) => rest = next,
+                Err(refusal) => return Err(refusal),
+            }
+        }
+    }
+
+    // literalize NAME NAME* ) | p NAME pattern pattern* --> action* ) | make CLASS fixed* ) | run )
+    #[tactic(auto, unfolding(ops_meaning::specs::Grammar::goes, ops_meaning::specs::Grammar::step, ops_meaning::specs::Grammar::ends))]
+    fn form<'a>(&mut self, words: &'a [Word]) -> Result<&'a [Word], Refusal>
+        ensures reads { Reads Form (view self.old) (view self.new) words.now result }
+        ensures within { IsWithin words.now result }
+    {
+        let (word, rest) = first_of(words)?;
+        match word.keyword {
+            Keyword::Literalize => {
+                if !self.may_declare() {
+                    return refused(Fault::LateDeclaration, word);
+                }
+                self.declaration(rest)
+            }
+            Keyword::Production => {
+                if !self.commands.is_empty() {
+                    return refused(Fault::LateProduction, word);
+                }
+                self.production(rest)
+            }
+            Keyword::Make => {
+                self.fixed.clear();
+                self.element(Place::Fixed, rest)
+            }
+            Keyword::Run => self.run(rest),
+            _ => refused(Fault::UnknownCommand, word),
+        }
+    }
+
+    // )
+    fn run<'a>(&mut self, words: &'a [Word]) -> Result<&'a [Word], Refusal>
+        ensures reads { Reads (Closes EndsRun) (view self.old) (view self.new) words.now result }
+        ensures within { IsWithin words.now result }
+    {
+        let rest = closing(words)?;
+        self.add_command(Command::Run { count: None })?;
+        Ok(rest)
+    }
+}
+
+fn next_of(words: &[Word]) -> Option<(Word, &[Word])>
+    ensures { MatchOption result (words.now ≡ []) (λ x. words.now ≡ x.0 ∷ x.1.now) }
+{
+    match words {
+        [] => None,
+        [word, rest @ ..] => Some((*word, rest)),
+    }
+}

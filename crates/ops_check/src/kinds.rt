@@ -1,0 +1,113 @@
+//! What a word may be where something is wanted.
+ghost use Rattle.std.specs.Prelude.{◌≡◌};
+ghost use Rattle.ops_meaning.specs.Grammar.{is_left, is_right, is_caret, is_name, is_variable, is_arrow, is_crlf, constant_of, natural_of, number_of};
+ghost use Rattle.ops_check.specs.Going.{whole_of};
+
+use ops_base::values::{Sym, Value};
+use ops_meaning::{Keyword, Named};
+use ops_tokens::TokenKind;
+
+pub fn is_left(kind: TokenKind) -> bool
+    ensures { result ≡ is_left kind }
+{
+    match kind {
+        TokenKind::Left => true,
+        _ => false,
+    }
+}
+
+pub fn is_right(kind: TokenKind) -> bool
+    ensures { result ≡ is_right kind }
+{
+    match kind {
+        TokenKind::Right => true,
+        _ => false,
+    }
+}
+
+pub fn is_caret(kind: TokenKind) -> bool
+    ensures { result ≡ is_caret kind }
+{
+    match kind {
+        TokenKind::Caret => true,
+        _ => false,
+    }
+}
+
+pub fn is_name(kind: TokenKind) -> bool
+    ensures { result ≡ is_name kind }
+{
+    match kind {
+        TokenKind::Symbol => true,
+        _ => false,
+    }
+}
+
+pub fn is_variable(kind: TokenKind) -> bool
+    ensures { result ≡ is_variable kind }
+{
+    match kind {
+        TokenKind::Variable => true,
+        _ => false,
+    }
+}
+
+pub fn is_arrow(keyword: Keyword) -> bool
+    ensures { result ≡ is_arrow keyword }
+{
+    match keyword {
+        Keyword::Arrow => true,
+        _ => false,
+    }
+}
+
+pub fn is_crlf(keyword: Keyword) -> bool
+    ensures { result ≡ is_crlf keyword }
+{
+    match keyword {
+        Keyword::Crlf => true,
+        _ => false,
+    }
+}
+
+// the constant that a name or a whole number is
+pub fn constant_of(kind: TokenKind, name: Sym) -> Option<Value>
+    ensures { result ≡ constant_of kind name }
+{
+    match kind {
+        TokenKind::Whole(number) => Some(Value::Whole(number)),
+        TokenKind::Symbol => Some(Value::Symbol(name)),
+        _ => None,
+    }
+}
+
+// the number that a whole number from 1 on is
+pub fn natural_of(number: i64) -> Option<usize>
+    ensures { result ≡ natural_of number }
+{
+    match usize::try_from(number) {
+        Ok(0) | Err(_) => None,
+        Ok(natural) => Some(natural),
+    }
+}
+
+// the number of the variable of that name
+pub fn number_of(named: &[Named], name: Sym) -> Option<usize>
+    ensures { result ≡ number_of name named.now }
+{
+    for each in named {
+        if each.name == name {
+            return Some(each.number);
+        }
+    }
+    None
+}
+
+pub fn whole_of(kind: TokenKind) -> Option<i64>
+    ensures { result ≡ whole_of kind }
+{
+    match kind {
+        TokenKind::Whole(number) => Some(number),
+        _ => None,
+    }
+}

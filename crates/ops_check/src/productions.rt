@@ -1,0 +1,271 @@
+//! Productions.
+ghost use Rattle.std.specs.Prelude.{◌≡◌, ◌∷◌, if◌then◌else◌};
+ghost use Rattle.ops_meaning.specs.Grammar.{goes, cell, item_value, constant_of, is_left, RuleName, Patterns, Actions, ActionWord, Cell, Cells, Items, ItemWord, Closes, EndsHalt, EndsCrlf, Next};
+ghost use Rattle.ops_check.specs.Going.{view, Goes, Reads, Acts, IsWithin};
+
+use crate::draft::{Draft, Place};
+use crate::kinds::{
+    constant_of, is_arrow, is_crlf, is_left, is_name, is_right, is_variable, natural_of, whole_of,
+};
+use crate::refusals::{Refusal, closing, first_of, refused};
+use ops_base::actions::{Action, Item, Term};
+use ops_base::endings::{Fault, Limit};
+use ops_meaning::{Keyword, Word};
+
+/// How many conditions a production may have.
+const MOST_CONDITIONS: usize = 64;
+
+impl Draft {
+    // NAME pattern pattern* --> action* )
+    pub fn production<'a>(&mut self, words: &'a [Word]) -> Result<&'a [Word], Refusal>
+        ensures reads { Goes (λ ws. goes words.now (RuleName ∷ Patterns ∷ Actions ∷ ws) (view self.old)) (view self.new) result }
+        ensures within { IsWithin words.now result }
+    {
+        match self.rule_name(words) {
+            Ok(rest) => return self.sides(rest),
+            Err(refusal) => return Err(refusal),
+        }
+    }
+
+    fn sides<'a>(&mut self, words: &'a [Word]) -> Result<&'a [Word], Refusal>
+        ensures reads { Goes (λ ws. goes words.now (Patterns ∷ Actions ∷ ws) (view self.old)) (view self.new) result }
+        ensures within { IsWithin words.now result }
+    {
+        match self.patterns(words) {
+            Ok(rest) => return self.actions(rest),
+            Err(refusal) => return Err(refusal),
+        }
+    }
+
+    #[tactic(auto, unfolding(ops_meaning::specs::Grammar::goes, ops_meaning::specs::Grammar::step, ops_meaning::specs::Grammar::ends))]
+    fn rule_name<'a>(&mut self, words: &'a [Word]) -> Result<&'a [Word], Refusal>
+        ensures reads { Reads RuleName (view self.old) (view self.new) words.now result }
+        ensures within { IsWithin words.now result }
+    {
+        let (word, rest) = first_of(words)?;
+        if !is_name(word.kind) {
+            return refused(Fault::BadForm, word);
+        }
+        if self.is_rule(word.name) {
+            return refused(Fault::DeclaredTwice, word);
+        }
+        self.name = word.name;
+        self.tests.clear();
+        self.values.clear();
+        self.conditions.clear();
+        self.actions.clear();
+        Ok(rest)
+    }
+
+    // pattern* -->, of which one pattern at least
+    #[tactic(auto, unfolding(ops_meaning::specs::Grammar::goes, ops_meaning::specs::Grammar::step, ops_meaning::specs::Grammar::ends))]
+    fn patterns<'a>(&mut self, words: &'a [Word]) -> Result<&'a [Word], Refusal>
+        ensures reads { Reads Patterns (view self.old) (view self.new) words.now result }
+        ensures within { IsWithin words.now result }
+    {
+        let mut rest = words;
+        'patterns: loop {
+            let (word, after) = first_of(rest)?;
+            if is_arrow(word.keyword) && !self.conditions.is_empty() {
+                return Ok(after);
+            }
+            if !is_left(word.kind) {
+                return refused(Fault::BadForm, word);
+            }
+            if self.conditions.len() >= MOST_CONDITIONS {
+                return refused(
+                    Fault::LimitPassed {
+                        limit: Limit::Conditions,
+                    },
+                    word,
+                );
+            }
+            match self.element(Place::Pattern, after) {
+                Ok(next) => rest = next,
+                Err(refusal) => return Err(refusal),
+            }
+        }
+    }
+
+    // action* )
+    #[tactic(auto, unfolding(ops_meaning::specs::Grammar::goes, ops_meaning::specs::Grammar::step, ops_meaning::specs::Grammar::ends))]
+    fn actions<'a>(&mut self, words: &'a [Word]) -> Result<&'a [Word], Refusal>
+        ensures reads { Reads Actions (view self.old) (view self.new) words.now result }
+        ensures within { IsWithin words.now result }
+    {
+        let mut rest = words;
+        'actions: loop {
+            let (word, after) = first_of(rest)?;
+            if is_right(word.kind) {
+                self.end_rule(word.past)?;
+                return Ok(after);
+            }
+            if !is_left(word.kind) {
+                return refused(Fault::BadForm, word);
+            }
+            match self.action(after) {
+                Ok(next) => rest = next,
+                Err(refusal) => return Err(refusal),
+            }
+        }
+    }
+
+    // make CLASS put* ) | remove WHOLE WHOLE* ) | write item* ) | halt )
+    #[tactic(auto, unfolding(ops_meaning::specs::Grammar::goes, ops_meaning::specs::Grammar::step, ops_meaning::specs::Grammar::ends))]
+    fn action<'a>(&mut self, words: &'a [Word]) -> Result<&'a [Word], Refusal>
+        ensures reads { Reads ActionWord (view self.old) (view self.new) words.now result }
+        ensures within { IsWithin words.now result }
+    {
+        let (word, rest) = first_of(words)?;
+        match word.keyword {
+            Keyword::Make => {
+                self.puts.clear();
+                self.element(Place::Put, rest)
+            }
+            Keyword::Remove => {
+                self.cells.clear();
+                self.remove(rest)
+            }
+            Keyword::Write => {
+                self.items.clear();
+                self.write_items(rest)
+            }
+            Keyword::Halt => self.halt(rest),
+            _ => refused(Fault::BadForm, word),
+        }
+    }
+
+    // )
+    fn halt<'a>(&mut self, words: &'a [Word]) -> Result<&'a [Word], Refusal>
+        ensures reads { Reads (Closes EndsHalt) (view self.old) (view self.new) words.now result }
+        ensures within { IsWithin words.now result }
+    {
+        let rest = closing(words)?;
+        self.add_action(Action::Halt)?;
+        Ok(rest)
+    }
+}
+
+impl Draft {
+    // WHOLE WHOLE* )
+    #[tactic(auto, unfolding(ops_meaning::specs::Grammar::goes, ops_meaning::specs::Grammar::step, ops_meaning::specs::Grammar::ends))]
+    fn remove<'a>(&mut self, words: &'a [Word]) -> Result<&'a [Word], Refusal>
+        ensures reads { Goes (λ ws. goes words.now (Cell ∷ Cells ∷ ws) (view self.old)) (view self.new) result }
+        ensures within { IsWithin words.now result }
+    {
+        let (word, rest) = first_of(words)?;
+        match self.cell(word, rest) {
+            Ok(rest) => return self.remove_cells(rest),
+            Err(refusal) => return Err(refusal),
+        }
+    }
+
+    // WHOLE* )
+    #[tactic(auto, unfolding(ops_meaning::specs::Grammar::goes, ops_meaning::specs::Grammar::step, ops_meaning::specs::Grammar::ends))]
+    fn remove_cells<'a>(&mut self, words: &'a [Word]) -> Result<&'a [Word], Refusal>
+        ensures reads { Reads Cells (view self.old) (view self.new) words.now result }
+        ensures within { IsWithin words.now result }
+    {
+        let mut rest = words;
+        'cells: loop {
+            let (word, after) = first_of(rest)?;
+            if is_right(word.kind) {
+                self.end_remove()?;
+                return Ok(after);
+            }
+            match self.cell(word, after) {
+                Ok(next) => rest = next,
+                Err(refusal) => return Err(refusal),
+            }
+        }
+    }
+
+    // a number of a condition, counted from 1, that is the word
+    fn cell<'a>(&mut self, word: Word, rest: &'a [Word]) -> Result<&'a [Word], Refusal>
+        ensures acts { Acts (λ ws s. cell word.kind ws s) word (view self.old) (view self.new) rest.now result }
+        ensures within { IsWithin rest.now result }
+    {
+        let Some(number) = whole_of(word.kind) else {
+            return refused(Fault::BadForm, word);
+        };
+        let Some(natural) = natural_of(number) else {
+            return refused(Fault::BadDesignator, word);
+        };
+        if natural > self.conditions.len() {
+            return refused(Fault::BadDesignator, word);
+        }
+        self.cells.push(natural - 1)?;
+        Ok(rest)
+    }
+}
+
+impl Draft {
+    // item* )
+    #[tactic(auto, unfolding(ops_meaning::specs::Grammar::goes, ops_meaning::specs::Grammar::step, ops_meaning::specs::Grammar::ends))]
+    fn write_items<'a>(&mut self, words: &'a [Word]) -> Result<&'a [Word], Refusal>
+        ensures reads { Reads Items (view self.old) (view self.new) words.now result }
+        ensures within { IsWithin words.now result }
+    {
+        let mut rest = words;
+        'items: loop {
+            let (word, after) = first_of(rest)?;
+            if is_right(word.kind) {
+                self.end_write()?;
+                return Ok(after);
+            }
+            match self.item(word, after) {
+                Ok(next) => rest = next,
+                Err(refusal) => return Err(refusal),
+            }
+        }
+    }
+
+    // ( crlf ) | WHOLE | NAME | VARIABLE, of which the first word is taken
+    fn item<'a>(&mut self, word: Word, rest: &'a [Word]) -> Result<&'a [Word], Refusal>
+        ensures acts { Acts (λ ws s. if is_left word.kind then Next (ItemWord ∷ ws) s else item_value word (constant_of word.kind word.name) ws s) word (view self.old) (view self.new) rest.now result }
+        ensures within { IsWithin rest.now result }
+    {
+        if is_left(word.kind) {
+            return self.item_word(rest);
+        }
+        self.item_value(word, rest)
+    }
+
+    fn item_value<'a>(&mut self, word: Word, rest: &'a [Word]) -> Result<&'a [Word], Refusal>
+        ensures acts { Acts (λ ws s. item_value word (constant_of word.kind word.name) ws s) word (view self.old) (view self.new) rest.now result }
+        ensures within { IsWithin rest.now result }
+    {
+        if let Some(constant) = constant_of(word.kind, word.name) {
+            self.add_item(Item::Print(Term::Constant(constant)))?;
+            return Ok(rest);
+        }
+        if !is_variable(word.kind) {
+            return refused(Fault::BadForm, word);
+        }
+        self.add_item_variable(word.name)?;
+        Ok(rest)
+    }
+
+    // crlf )
+    #[tactic(auto, unfolding(ops_meaning::specs::Grammar::goes, ops_meaning::specs::Grammar::step, ops_meaning::specs::Grammar::ends))]
+    fn item_word<'a>(&mut self, words: &'a [Word]) -> Result<&'a [Word], Refusal>
+        ensures reads { Reads ItemWord (view self.old) (view self.new) words.now result }
+        ensures within { IsWithin words.now result }
+    {
+        let (word, rest) = first_of(words)?;
+        if !is_crlf(word.keyword) {
+            return refused(Fault::BadForm, word);
+        }
+        self.crlf(rest)
+    }
+
+    // )
+    fn crlf<'a>(&mut self, words: &'a [Word]) -> Result<&'a [Word], Refusal>
+        ensures reads { Reads (Closes EndsCrlf) (view self.old) (view self.new) words.now result }
+        ensures within { IsWithin words.now result }
+    {
+        let rest = closing(words)?;
+        self.add_item(Item::Crlf)?;
+        Ok(rest)
+    }
+}
