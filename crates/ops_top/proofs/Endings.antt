@@ -16,10 +16,10 @@ use Rattle.ops_meaning.specs.declared.states.Doing.{Doing}
 use Rattle.ops_meaning.specs.declared.states.Fired.{Fired}
 use Rattle.ops_meaning.specs.declared.statuses.Status.{Status}
 use Rattle.ops_meaning.specs.declared.statuses.Status.TheVariants as status
-use Rattle.ops_meaning.specs.Effects.{Effect, and_then, going_on}
-use Rattle.ops_meaning.specs.Acting.{Scene, action_done, actions_done}
+use Rattle.ops_meaning.specs.Effects.{Effect, writes, and_then, going_on}
+use Rattle.ops_meaning.specs.Acting.{Scene, bindings_of, action_done, actions_done}
 use Rattle.ops_meaning.specs.Reads.{Read, reads}
-use Rattle.ops_meaning.specs.Running.{Setting, nothing_yet, firing, scene_of, actions_of, after_firing, turn, run_on, most_firings, next_to_fire, command_done, commands_done, session_of, ending_of}
+use Rattle.ops_meaning.specs.Running.{Setting, nothing_yet, conditions_of, actions_of, acted, fired_of, firing, turn, run_on, most_firings, next_to_fire, command_done, commands_done, session_of, ending_of}
 use Rattle.ops_meaning.specs.Whole.{status_of, told, answer_read, answer_to, answer_file, text_of, setting_of, refused}
 
 -- an ending that is none of a device or of memory
@@ -56,11 +56,17 @@ own_actions scene column (a ∷ rest) d =
     let e = action_done scene column a d in
     own_then e.bytes e.outcome (λ d. actions_done scene (column_after column e.bytes) rest d) (own_action scene column a d) (λ d. own_actions scene (column_after column e.bytes) rest d)
 
+own_acted : (s : Setting) (column : ℕ) (i : Inst) (d : Doing) → IsOwn (acted s column i d).outcome
+own_acted s column i d =
+    own_actions
+    (record { names = s.names; classes = s.classes; bindings = bindings_of d.wm (conditions_of s.rules i.rule) i.tags []; tags = i.tags })
+    column (actions_of s.rules i.rule) d
+
 own_firing : (s : Setting) (column : ℕ) (i : Inst) (m : Memory) → IsOwn (firing s column i m).outcome
 own_firing s column i m =
     let d : Doing = record { wm = m.wm; last = m.last; halted = false } in
-    let e = actions_done (scene_of s i m) column (actions_of s.rules i.rule) d in
-    own_then e.bytes e.outcome _ (own_actions (scene_of s i m) column (actions_of s.rules i.rule) d) (λ d. tt)
+    let e = acted s column i d in
+    own_then e.bytes e.outcome (λ d. writes [] (fired_of s.rules i m d)) (own_acted s column i d) (λ d. tt)
 
 own_turn : (column : ℕ) (halted : Bool) (m : Memory) (next : Option Inst) (go_on : Inst → Effect Memory) → ((i : Inst) → IsOwn (go_on i).outcome) → IsOwn (turn column halted m next go_on).outcome
 own_turn column true m next go_on p = tt
