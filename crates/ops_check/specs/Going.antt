@@ -17,8 +17,8 @@ use Rattle.ops_check.specs.declared.refusals.Refusal.TheVariants as refusal
 abbrev pub view : Draft → State
 view d =
     record {
-      classes = d.classes.items;
-      rules = d.rules.items;
+      classes = d.classes;
+      rules = d.rules;
       commands = d.commands.items;
       unknown = d.unknown;
       unbound = d.unbound;

@@ -20,7 +20,7 @@ IsRefusal text e = IsFaultOf (reads text) e
 
 -- the program that a draft holds, with these names
 abbrev pub read_of : Draft → Spellings → Read
-read_of d names = record { classes = d.classes.items; rules = d.rules.items; commands = d.commands.items; names = names }
+read_of d names = record { classes = d.classes; rules = d.rules; commands = d.commands.items; names = names }
 
 -- what is answered for the words of a text, whatever its names are
 abbrev pub IsVerdict : Option LexFault → Outcome → Result Draft ProgramFault → Type 0

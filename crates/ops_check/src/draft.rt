@@ -4,6 +4,7 @@ ghost use Rattle.ops_base.specs.Valid.{specificity};
 ghost use Rattle.ops_meaning.specs.Grammar.{nothing_read, is_class, is_rule, is_one_of, may_declare, with_class, with_test, with_variable, with_put, with_put_variable, with_fixed, with_constant, with_named, with_element, with_action, with_command, with_rule, with_remove, with_write, with_item, with_item_variable, number_of, class_at, attributes_of, InPattern, InPut, InFixed, Wanted, Next};
 ghost use Rattle.ops_check.specs.Going.{view, use_of, field_in, Becomes};
 
+use crate::declared::Declared;
 use crate::kinds::number_of;
 use crate::refusals::Refusal;
 use ops_base::actions::{Action, Item, Put, Term};
@@ -29,8 +30,8 @@ pub enum Place {
 /// not bound, and the parts of the form that is being read.
 #[derive(Drop)]
 pub struct Draft {
-    pub classes: Vec<Class>,
-    pub rules: Vec<Rule>,
+    pub classes: Declared<Class>,
+    pub rules: Declared<Rule>,
     pub commands: Vec<Command>,
     pub unknown: bool,
     pub unbound: bool,
@@ -54,8 +55,8 @@ impl Draft {
         ensures { view result ≡ nothing_read }
     {
         Draft {
-            classes: Vec::new(alloc),
-            rules: Vec::new(alloc),
+            classes: Declared::new(alloc),
+            rules: Declared::new(alloc),
             commands: Vec::new(alloc),
             unknown: false,
             unbound: false,
@@ -79,19 +80,19 @@ impl Draft {
     pub fn may_declare(&self) -> bool
         ensures { result ≡ may_declare (view self.now) }
     {
-        self.rules.is_empty() && self.commands.is_empty()
+        self.rules.len() == 0 && self.commands.is_empty()
     }
 
     pub fn is_class(&self, name: Sym) -> bool
         ensures { result ≡ is_class (view self.now) name }
     {
-        self.classes.iter().any(|class| class.name == name)
+        self.classes.place_of(name).is_some()
     }
 
     pub fn is_rule(&self, name: Sym) -> bool
         ensures { result ≡ is_rule (view self.now) name }
     {
-        self.rules.iter().any(|rule| rule.name == name)
+        self.rules.place_of(name).is_some()
     }
 
     pub fn is_attribute(&self, name: Sym) -> bool
@@ -103,7 +104,7 @@ impl Draft {
     pub fn class_of(&self, name: Sym) -> Option<usize>
         ensures { result ≡ position (λ c. c.name.0 == name.0) (view self.now).classes }
     {
-        self.classes.iter().position(|class| class.name == name)
+        self.classes.place_of(name)
     }
 }
 
@@ -248,7 +249,7 @@ impl Draft {
     pub fn field_of(&self, name: Sym) -> Option<usize>
         ensures { result ≡ field_in (attributes_of (slice_get (view self.now).classes (view self.now).class)) name }
     {
-        match self.classes.as_slice().get(self.class) {
+        match self.classes.get(self.class) {
             Some(class) => place_in(class.attrs.as_slice(), name),
             None => Some(0),
         }

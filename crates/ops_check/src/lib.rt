@@ -2,6 +2,7 @@
 #![tactic(auto)]
 
 mod declarations;
+mod declared;
 mod draft;
 mod elements;
 mod forms;

@@ -90,9 +90,9 @@ fn draft_of(alloc: Global, words: &[Word], stop: Option<LexFault>) -> Result<Dra
 }
 
 fn program_of(draft: Draft, text: Vec<u8>) -> Program
-    requires { IsTrue (is_valid draft.classes.items draft.rules.items draft.commands.items (length text.items)) }
-    ensures classes { result.classes ≡ draft.classes.items }
-    ensures rules { result.rules ≡ draft.rules.items }
+    requires { IsTrue (is_valid draft.classes draft.rules draft.commands.items (length text.items)) }
+    ensures classes { result.classes ≡ draft.classes }
+    ensures rules { result.rules ≡ draft.rules }
     ensures commands { result.commands ≡ draft.commands.items }
     ensures text { result.text ≡ text.items }
 {
@@ -103,8 +103,8 @@ fn program_of(draft: Draft, text: Vec<u8>) -> Program
         ..
     } = draft;
     Program::new(
-        Listed::from_vec(classes),
-        Listed::from_vec(rules),
+        Listed::from_vec(classes.into_vec()),
+        Listed::from_vec(rules.into_vec()),
         Listed::from_vec(commands),
         Listed::from_vec(text),
     )

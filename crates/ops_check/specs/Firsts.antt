@@ -1,0 +1,12 @@
+-- Where the first of each name stands.
+use Rattle.std.specs.Prelude.{◌≡◌, ◌==◌, ℕ, List, position, nat_eq, Bool, if◌then◌else◌, Option, Some, None}
+use Rattle.indexmap.specs.IndexMap.{IndexMap, get}
+
+-- the place that was noted, or this one where the name is that one
+abbrev pub or_else : Option ℕ → Bool → ℕ → Option ℕ
+or_else (Some k) is_it place = Some k
+or_else None is_it place = if is_it then Some place else None
+
+-- each name is noted with the place of the first item that has it, and no other name is
+abbrev pub AreFirsts : {X H : Type 0} → (X → ℕ) → IndexMap ℕ ℕ H → List X → Type 0
+AreFirsts title firsts items = (n : ℕ) → get nat_eq firsts n ≡ position (λ x. title x == n) items

@@ -1,0 +1,116 @@
+//! What was declared, found by its name.
+ghost use Rattle.std.specs.Prelude.{◌≡◌, ◌==◌, ◌++◌, ◌∷◌, ℕ, List, [], length, position, slice_get, nat_eq, IfErr, OnErr, OnOk};
+ghost use Rattle.std.specs.Option.{option_copied};
+ghost use Rattle.indexmap.specs.IndexMap.{get};
+ghost use Rattle.ops_check.specs.Firsts.{or_else, AreFirsts};
+
+use crate::refusals::Refusal;
+use indexmap::IndexMap;
+use ops_base::elements::Class;
+use ops_base::rules::Rule;
+use ops_base::values::Sym;
+use std::alloc::Global;
+use std::marker::Model;
+
+/// What has a name.
+pub trait Titled {
+    ghost title: { Self → ℕ };
+
+    fn title(&self) -> Sym
+        ensures { result.0 ≡ title self.now };
+}
+
+impl Titled for Class {
+    ghost title = { λ c. c.name.0 };
+
+    fn title(&self) -> Sym {
+        self.name
+    }
+}
+
+impl Titled for Rule {
+    ghost title = { λ r. r.name.0 };
+
+    fn title(&self) -> Sym {
+        self.name
+    }
+}
+
+/// What was declared, in order. A name is looked up in a time that does not depend on how many there are.
+#[derive(Drop)]
+pub struct Declared<T: Titled> {
+    list: Vec<T>,
+    firsts: IndexMap<u64, usize>,
+}
+
+impl<T: Titled> Model for Declared<T> {
+    ghost Value = { List T };
+
+    ghost view = { λ d. d.list.items };
+
+    ghost invariant = { λ d. AreFirsts T.title d.firsts d.list.items };
+}
+
+/// Notes the place of a name that has none yet.
+fn note(firsts: &mut IndexMap<u64, usize>, name: u64, place: usize) -> Result<(), Refusal>
+    ensures memory { IfErr result (λ e. e ≡ Refusal.OutOfMemory) }
+    ensures err { OnErr result ((n : ℕ) → get nat_eq firsts.new n ≡ get nat_eq firsts.old n) }
+    ensures ok { OnOk result ((n : ℕ) → get nat_eq firsts.new n ≡ or_else (get nat_eq firsts.old n) (name == n) place) }
+{
+    if firsts.get(&name).is_none() {
+        firsts.insert(name, place)?;
+    }
+    Ok(())
+}
+
+impl<T: Titled + Drop> Declared<T> {
+    pub fn new(alloc: Global) -> Declared<T>
+        ensures { result ≡ [] }
+    {
+        Declared {
+            list: Vec::new(alloc),
+            firsts: IndexMap::new(alloc),
+        }
+    }
+
+    /// Where memory runs out nothing has changed.
+    pub fn push(&mut self, item: T) -> Result<(), Refusal>
+        ensures ok { OnOk result (self.new ≡ self.old ++ item ∷ []) }
+        ensures memory { IfErr result (λ e. e ≡ Refusal.OutOfMemory) }
+    {
+        let (name, place) = (item.title().0, self.list.len());
+        self.list.push(item)?;
+        match note(&mut self.firsts, name, place) {
+            Ok(()) => Ok(()),
+            Err(refusal) => {
+                self.list.pop();
+                Err(refusal)
+            }
+        }
+    }
+
+    /// The place of the first of that name.
+    pub fn place_of(&self, name: Sym) -> Option<usize>
+        ensures { result ≡ position (λ x. T.title x == name.0) self.now }
+    {
+        self.firsts.get(&name.0).copied()
+    }
+
+    pub fn get(&self, place: usize) -> Option<&T>
+        ensures { option_copied result ≡ slice_get self.now place }
+    {
+        self.list.get(place)
+    }
+
+    pub fn len(&self) -> usize
+        ensures { result ≡ length self.now }
+    {
+        self.list.len()
+    }
+
+    pub fn into_vec(self) -> Vec<T>
+        ensures { result.items ≡ self }
+    {
+        self.list
+    }
+}
