@@ -1,6 +1,6 @@
 -- Working memory holds its elements in the order of their tags through a whole session, so each conflict set that the
 -- session looks at is the set of all instantiations.
-use Rattle.std.proofs.Common.{◌≡◌, ℕ, zero, suc, ◌+◌, ◌-◌, ◌<◌, ◌≤◌, List, [], ◌∷◌, ◌++◌, filter, fold, length, Bool, true, false, cond, not, ◌==◌, Option, Some, None, Result, Ok, Err, IfOk, refl, ap, sym, subst, inl, inr, ◌⊎◌, arith, get_or}
+use Rattle.std.proofs.Common.{◌≡◌, ℕ, zero, suc, ◌+◌, ◌-◌, ◌<◌, ◌≤◌, List, [], ◌∷◌, ◌++◌, filter, fold, length, Bool, true, false, cond, not, ◌==◌, Option, Some, None, Result, Ok, Err, IfOk, refl, ap, sym, ◌∙◌, subst, inl, inr, ◌⊎◌, arith, get_or}
 use Rattle.std.proofs.lemmas.Bool.{cases_lt}
 use Rattle.std.proofs.lemmas.List.{length_push, get_or_append_left, get_or_push, map-append}
 use Rattle.std.proofs.lemmas.List.Elements.{All-nil, All-cons, All-append, All-filter}
@@ -18,14 +18,18 @@ use Rattle.ops_base.specs.declared.endings.Ending.{Ending}
 use Rattle.ops_base.specs.declared.rules.Inst.{Inst}
 use Rattle.ops_base.specs.declared.rules.Rule.{Rule}
 use Rattle.ops_base.specs.declared.values.Value.{Value}
-use Rattle.ops_base.specs.WorkingMemory.{tags_of, without_tag}
+use Rattle.ops_base.specs.WorkingMemory.{tags_of, HasRisingTags, without_tag}
+use Rattle.ops_base.specs.declared.commands.Strategy.TheVariants.{Lex}
+use Rattle.ops_base.specs.ConflictSet.{conflict_set}
+use Rattle.ops_base.specs.Refraction.{is_among, still_fired, dominant}
+use Rattle.ops_base.proofs.ConflictSetLaws.{conflict_set-is, conflict_set_only}
 use Rattle.ops_io.specs.Output.{column_after}
 use Rattle.ops_meaning.specs.declared.states.Doing.{Doing}
 use Rattle.ops_meaning.specs.declared.states.Fired.{Fired}
 use Rattle.ops_meaning.specs.declared.states.Memory.{Memory}
 use Rattle.ops_meaning.specs.Acting.{Scene, bindings_of, has_tag, removed, cell_tag, made, action_done, actions_done}
-use Rattle.ops_meaning.specs.Effects.{Effect, writes, going_on}
-use Rattle.ops_meaning.specs.Kept.{WellKept}
+use Rattle.ops_meaning.specs.Effects.{Effect, writes, led_by, going_on, and_then}
+use Rattle.ops_meaning.specs.Kept.{WellKept, Finder, next_by, marks_by, fired_by, firing_by, run_by, made_by, command_by, commands_by, FindsConflictSets, GoesByConflictSets}
 use Rattle.ops_meaning.specs.Running.{Setting, nothing_yet, conditions_of, actions_of, acted, fired_of, firing, turn, run_on, most_firings, next_to_fire, made_at_top, command_done, commands_done, session_of}
 
 -- ---- lists of tags
@@ -176,3 +180,83 @@ nothing_kept = (λ k within. absurd (omega arith), All-nil (λ t. t ≤ 0))
 -- what a session leaves is well kept
 pub session_kept : (s : Setting) (commands : List Command) → IfOk (session_of s commands).outcome (λ m. WellKept m.wm m.last)
 session_kept s commands = commands_kept s 0 commands nothing_yet nothing_kept
+
+-- ---- the session by any finder of conflict sets
+
+same_then : {S T : Type 0} (P : S → Type 0) (bytes : List ℕ) (o : Result S Ending) (f g : S → Effect T) → IfOk o P → ((s : S) → P s → f s ≡ g s) → going_on bytes o f ≡ going_on bytes o g
+same_then P bytes (Ok s) f g p h = ap (led_by bytes) (h s p)
+same_then P bytes (Err e) f g p h = refl
+
+same_turn : (column : ℕ) (halted : Bool) (m : Memory) (next other : Option Inst) (f g : Inst → Effect Memory) → next ≡ other → ((i : Inst) → f i ≡ g i) → turn column halted m next f ≡ turn column halted m other g
+same_turn column halted m next other f g e h = λ j. turn column halted m (e j) (λ i. h i j)
+
+module _ (s : Setting) (found : Finder) (finds : FindsConflictSets s.rules found) where
+  found_is : (wm : List Element) → HasRisingTags wm → conflict_set s.rules wm ≡ found wm
+  found_is wm rising =
+      sym (conflict_set_only s.rules wm (conflict_set s.rules wm) (found wm) (conflict_set-is s.rules wm rising) (finds wm rising))
+
+  next_is : (m : Memory) → KeptMemory m → next_to_fire s.rules m ≡ next_by found s.rules m
+  next_is m p = ap (λ set. dominant Lex s.rules (filter (λ i. not (is_among m.fired i)) set)) (found_is m.wm p.0)
+
+  marks_are : (wm : List Element) (fired : List Inst) → HasRisingTags wm → still_fired s.rules wm fired ≡ marks_by found wm fired
+  marks_are wm fired rising = ap (λ set. filter (λ i. is_among set i) fired) (found_is wm rising)
+
+  fired_is : (i : Inst) (m : Memory) (d : Doing) → KeptDoing d → fired_of s.rules i m d ≡ fired_by found i m d
+  fired_is i m d p =
+      ap (λ marks. let f : Fired = record { memory = record { wm = d.wm; fired = marks; firings = m.firings + 1; last = d.last }; halted = d.halted } in f)
+      (marks_are d.wm (m.fired ++ i ∷ []) p.0)
+
+  firing_is : (column : ℕ) (i : Inst) (m : Memory) → KeptMemory m → firing s column i m ≡ firing_by found s column i m
+  firing_is column i m p =
+      let d : Doing = record { wm = m.wm; last = m.last; halted = false } in
+      let e = acted s column i d in
+      same_then KeptDoing e.bytes e.outcome (λ d. writes [] (fired_of s.rules i m d)) (λ d. writes [] (fired_by found i m d)) (acted_kept s column i d p)
+      (λ d q. ap (writes []) (fired_is i m d q))
+
+  run_is : (left column : ℕ) (halted : Bool) (m : Memory) → KeptMemory m → run_on left s column halted m ≡ run_by found left s column halted m
+  run_is zero column halted m p = same_turn column halted m _ _ _ _ (next_is m p) (λ i. refl)
+  run_is (suc left) column halted m p =
+      same_turn column halted m _ _ _ _ (next_is m p)
+      (λ i. let e = firing s column i m in
+          same_then KeptFired e.bytes e.outcome
+          (λ f. run_on left s (column_after column e.bytes) f.halted f.memory)
+          (λ f. run_by found left s (column_after column e.bytes) f.halted f.memory)
+          (firing_kept s column i m p)
+          (λ f q. run_is left (column_after column e.bytes) f.halted f.memory q)
+          ∙ ap (λ e. and_then column e (λ next f. run_by found left s next f.halted f.memory)) (firing_is column i m p))
+
+  made_is : (class : ℕ) (puts : List Fixed) (m : Memory) → KeptMemory m → made_at_top s.classes s.rules class puts m ≡ made_by found s.classes class puts m
+  made_is class puts m p =
+      let n = made_at_top s.classes s.rules class puts m in
+      ap (λ marks. let k : Memory = record { wm = n.wm; fired = marks; firings = m.firings; last = m.last + 1 } in k)
+      (marks_are n.wm m.fired (made_at_top-kept s.classes s.rules class puts m p).0)
+
+  command_is : (column : ℕ) (c : Command) (m : Memory) → KeptMemory m → command_done s column c m ≡ command_by found s column c m
+  command_is column (command.Make class puts) m p = ap (writes []) (made_is class puts m p)
+  command_is column (command.Run None) m p = run_is (most_firings - m.firings) column false m p
+  command_is column (command.Run (Some n)) m p = refl
+  command_is column (command.Remove tags) m p = refl
+  command_is column command.RemoveAll m p = refl
+  command_is column (command.Wm tags) m p = refl
+  command_is column (command.Ppwm pattern) m p = refl
+  command_is column command.Cs m p = refl
+  command_is column (command.Pm names) m p = refl
+  command_is column (command.Strategy x) m p = refl
+  command_is column (command.Watch x) m p = refl
+  command_is column (command.Pbreak names) m p = refl
+  command_is column command.Exit m p = refl
+
+  commands_are : (column : ℕ) (commands : List Command) (m : Memory) → KeptMemory m → commands_done s column commands m ≡ commands_by found s column commands m
+  commands_are column [] m p = refl
+  commands_are column (c ∷ rest) m p =
+      let e = command_done s column c m in
+      same_then KeptMemory e.bytes e.outcome
+      (λ m. commands_done s (column_after column e.bytes) rest m)
+      (λ m. commands_by found s (column_after column e.bytes) rest m)
+      (command_kept s column c m p)
+      (λ m q. commands_are (column_after column e.bytes) rest m q)
+      ∙ ap (λ e. and_then column e (λ next m. commands_by found s next rest m)) (command_is column c m p)
+
+-- a session goes by the conflict sets, however they are found
+pub session_goes : (s : Setting) (commands : List Command) → GoesByConflictSets s commands
+session_goes s commands found finds = commands_are s found finds 0 commands nothing_yet nothing_kept
