@@ -65,11 +65,10 @@ Tags tags last = IsStrictlyIncreasing tags × All (λ t. t ≤ last) tags
 added_kept : (wm : List Element) (last : ℕ) (e : Element) → e.tag ≡ last + 1 → WellKept wm last → WellKept (wm ++ e ∷ []) (last + 1)
 added_kept wm last e is p =
     let P : List ℕ → Type 0 = λ ts. Tags ts (last + 1) in
-    subst P (sym (tags_push wm e))
-    (
+    subst P (sym (tags_push wm e)) (
       rising_push (tags_of wm) e.tag p.0 (λ k d within. let le = p.1 k d within in omega (arith, is)),
       All-append (λ t. t ≤ last + 1) (tags_of wm) (e.tag ∷ []) (λ k d within. let le = p.1 k d within in omega arith)
-      (All-cons (λ t. t ≤ last + 1) e.tag [] (omega (arith, is)) (All-nil (λ t. t ≤ last + 1))),
+          (All-cons (λ t. t ≤ last + 1) e.tag [] (omega (arith, is)) (All-nil (λ t. t ≤ last + 1))),
     )
 
 -- the element of a tag is taken out
@@ -146,8 +145,8 @@ run_kept zero s column halted m p = turn_kept column halted m (next_to_fire s.ru
 run_kept (suc left) s column halted m p =
     turn_kept column halted m (next_to_fire s.rules m) _ p
     (λ i. let e = firing s column i m in
-        kept_then KeptFired KeptMemory e.bytes e.outcome (λ f. run_on left s (column_after column e.bytes) f.halted f.memory) (firing_kept s column i m p)
-        (λ f q. run_kept left s (column_after column e.bytes) f.halted f.memory q))
+    kept_then KeptFired KeptMemory e.bytes e.outcome (λ f. run_on left s (column_after column e.bytes) f.halted f.memory) (firing_kept s column i m p)
+    (λ f q. run_kept left s (column_after column e.bytes) f.halted f.memory q))
 
 pub made_at_top-kept : (classes : List Class) (rules : List Rule) (class : ℕ) (puts : List Fixed) (m : Memory) → KeptMemory m → KeptMemory (made_at_top classes rules class puts m)
 made_at_top-kept classes rules class puts m p = added_kept m.wm m.last _ refl p
@@ -218,12 +217,12 @@ module _ (s : Setting) (found : Finder) (finds : FindsConflictSets s.rules found
   run_is (suc left) column halted m p =
       same_turn column halted m _ _ _ _ (next_is m p)
       (λ i. let e = firing s column i m in
-          same_then KeptFired e.bytes e.outcome
-          (λ f. run_on left s (column_after column e.bytes) f.halted f.memory)
-          (λ f. run_by found left s (column_after column e.bytes) f.halted f.memory)
-          (firing_kept s column i m p)
-          (λ f q. run_is left (column_after column e.bytes) f.halted f.memory q)
-          ∙ ap (λ e. and_then column e (λ next f. run_by found left s next f.halted f.memory)) (firing_is column i m p))
+      same_then KeptFired e.bytes e.outcome
+      (λ f. run_on left s (column_after column e.bytes) f.halted f.memory)
+      (λ f. run_by found left s (column_after column e.bytes) f.halted f.memory)
+      (firing_kept s column i m p)
+      (λ f q. run_is left (column_after column e.bytes) f.halted f.memory q)
+      ∙ ap (λ e. and_then column e (λ next f. run_by found left s next f.halted f.memory)) (firing_is column i m p))
 
   made_is : (class : ℕ) (puts : List Fixed) (m : Memory) → KeptMemory m → made_at_top s.classes s.rules class puts m ≡ made_by found s.classes class puts m
   made_is class puts m p =
