@@ -99,7 +99,13 @@ fn do_command<K: Sink>(
         (command_done (setting_of names.now program.now) out.old.column command.now memory) }
 {
     match command {
-        Command::Make { class, puts } => match make_at_top(alloc, program, *class, puts.as_slice(), memory) {
+        Command::Make { class, puts } => match make_at_top(
+            alloc,
+            program,
+            *class,
+            puts.as_slice(),
+            memory,
+        ) {
             Ok(next) => Ok(next),
             Err(_) => Err(Ending::OutOfMemory),
         },
