@@ -92,3 +92,66 @@ fn unknown_class(rt: HostRuntime) -> Result<(), Fail> {
     assert_eq!(rt; sink.written(), b"ops: 1:1: unknown class\n".as_slice());
     Ok(())
 }
+
+#[test]
+fn unbound_variable(rt: HostRuntime) -> Result<(), Fail> {
+    let alloc = rt.alloc();
+    let mut sink = MemSink::new(alloc, 1_000, 1_000, Vec::new(alloc))?;
+    let refused = Status::Refused {
+        fault: Fault::UnboundVariable,
+        line: 1,
+        column: 1,
+    };
+    let status = answer(&rt, alloc, b"(literalize a) (p r (a) --> (write <x>))", &mut sink)?;
+    assert_eq!(rt; status, Some(refused));
+    assert_eq!(rt; sink.written(), b"ops: 1:1: unbound variable\n".as_slice());
+    Ok(())
+}
+
+#[test]
+fn bad_form(rt: HostRuntime) -> Result<(), Fail> {
+    let alloc = rt.alloc();
+    let mut sink = MemSink::new(alloc, 1_000, 1_000, Vec::new(alloc))?;
+    let refused = Status::Refused {
+        fault: Fault::BadForm,
+        line: 1,
+        column: 1,
+    };
+    assert_eq!(rt; answer(&rt, alloc, b"(foo)", &mut sink)?, Some(refused));
+    assert_eq!(rt; sink.written(), b"ops: 1:1: bad form\n".as_slice());
+    Ok(())
+}
+
+const PAIR: &[u8] = b"(literalize a n)
+(p pair (a ^n <x>) (a ^n <x>) --> (write pair <x> (crlf)) (remove 1))
+(make a ^n 5)
+(make a ^n 6)
+(run)
+";
+
+/// The later of two elements fires first, each is matched by both conditions, and what is removed fires no more.
+#[test]
+fn pair(rt: HostRuntime) -> Result<(), Fail> {
+    let alloc = rt.alloc();
+    let mut sink = MemSink::new(alloc, 1_000, 1_000, Vec::new(alloc))?;
+    assert_eq!(rt; answer(&rt, alloc, PAIR, &mut sink)?, Some(Status::Done));
+    let expected = b"pair 6\npair 5\nend -- no production true\n".as_slice();
+    assert_eq!(rt; sink.written(), expected);
+    Ok(())
+}
+
+const COUNTER: &[u8] = b"(literalize n)
+(p again (n) --> (make n) (remove 1))
+(make n)
+(run)
+";
+
+/// A run that would go on for ever ends with the limit.
+#[test]
+fn limit(rt: HostRuntime) -> Result<(), Fail> {
+    let alloc = rt.alloc();
+    let mut sink = MemSink::new(alloc, 1_000, 1_000, Vec::new(alloc))?;
+    assert_eq!(rt; answer(&rt, alloc, COUNTER, &mut sink)?, Some(Status::Limit));
+    assert_eq!(rt; sink.written(), b"ops: limit of 1000000 firings reached\n".as_slice());
+    Ok(())
+}
