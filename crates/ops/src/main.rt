@@ -6,10 +6,9 @@ use ops_io::real::{StdShelf, StdSink, StdSource};
 use ops_meaning::Status;
 use ops_top::top::{code, ops_run};
 use std::alloc::{AllocError, AllocGlobal, Global};
-use std::env;
-use std::io;
 use std::process::ExitCode;
 use std::rt::Env;
+use std::{env, io};
 
 /// The words after the program's name. Where one is not UTF-8 no words are given, which fit as little as that one.
 fn words_of<R: Env + AllocGlobal>(alloc: Global, rt: &R) -> Result<Vec<String>, AllocError> {
@@ -38,6 +37,8 @@ fn main(rt: HostRuntime) -> ExitCode {
     let mut shelf = StdShelf::new(alloc, &rt);
     let mut input = StdSource::new(rt.reader());
     let mut sink = StdSink::new(io::writer(&rt));
-    let status = ops_run(&rt, alloc, &words, &mut shelf, &mut input, &mut sink, &OpenGate);
+    let status = ops_run(
+        &rt, alloc, &words, &mut shelf, &mut input, &mut sink, &OpenGate,
+    );
     ExitCode::from(code(&status))
 }

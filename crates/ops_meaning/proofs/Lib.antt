@@ -5,3 +5,4 @@ pub mod Sound
 pub mod Grown
 pub mod Steps
 pub mod ReadsValid
+pub mod RisingTags

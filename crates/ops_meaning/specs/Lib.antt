@@ -5,4 +5,5 @@ pub mod Effects
 pub mod Layout
 pub mod Acting
 pub mod Running
+pub mod Kept
 pub mod Whole

@@ -1,5 +1,5 @@
 -- What a delivered whole tells of the answer.
-use Rattle.std.proofs.Common.{◌≡◌, ℕ, suc, ◌+◌, ◌<◌, List, [], ◌∷◌, ◌++◌, Bool, true, false, ◌&&◌, Option, Some, None, Result, Ok, Err, is_ok, refl, ap, sym, ◌∙◌, subst, nat_lt, nat_le, length, cond, ◌⊎◌, inl, inr, arith}
+use Rattle.std.proofs.Common.{◌≡◌, ℕ, ◌<◌, List, [], Bool, true, false, ◌&&◌, Option, Some, None, Result, Ok, Err, is_ok, refl, ap, sym, ◌∙◌, subst, nat_lt, nat_le, length, cond, ◌⊎◌, inl, inr, arith}
 use Rattle.std.proofs.lemmas.Bool.Decides.{nat_tests}
 use Rattle.std.proofs.lemmas.List.{append-nil}
 use Rattle.ops_base.specs.Valid.{longest_list}
@@ -77,9 +77,9 @@ file_is_plain name (Some bytes) false = text_is_plain (answer_file bytes).status
 whole_is_plain : (ws : List (List ℕ)) (content : Option (List ℕ)) (broken : Bool) → IsPlain (whole ws content broken).status
 whole_is_plain ws content broken = by (words_fit ws)
   where
-  by : (fit : Bool) → IsPlain (cond fit (whole_file (first_word ws) content broken) usage).status
-  by true = file_is_plain (first_word ws) content broken
-  by false = tt
+    by : (fit : Bool) → IsPlain (cond fit (whole_file (first_word ws) content broken) usage).status
+    by true = file_is_plain (first_word ws) content broken
+    by false = tt
 
 plain_tells : (s : Status) (before now : ℕ) → IsPlain s → now ≡ before → TellsFailedWrite s before now
 plain_tells status.Done before now p h = h
@@ -114,9 +114,9 @@ file_fits name (Some bytes) false = text_fits (answer_file bytes).status (answer
 whole_tells_words : (ws : List (List ℕ)) (content : Option (List ℕ)) (broken : Bool) → TellsWords (whole ws content broken).status (words_fit ws)
 whole_tells_words ws content broken = by (words_fit ws)
   where
-  by : (fit : Bool) → TellsWords (cond fit (whole_file (first_word ws) content broken) usage).status fit
-  by true = file_fits (first_word ws) content broken
-  by false = refl
+    by : (fit : Bool) → TellsWords (cond fit (whole_file (first_word ws) content broken) usage).status fit
+    by true = file_fits (first_word ws) content broken
+    by false = refl
 
 tells_words : (r : Result Status Stop) (o : Outcome) (fit : Bool) (k n : Option (List ℕ)) (b a : ℕ) → TellsWords o.status fit → Delivers r o k b n a → TellsWords (status_after r) fit
 tells_words (Ok s) o fit k n b a p d = let P : Status → Type 0 = λ s. TellsWords s fit in subst P (sym d.0) p
@@ -147,7 +147,7 @@ unfit_answers r ws told broken k n b a d unfit =
     let P : Outcome → Type 0 = λ o. Answers (status_after r) o k n in
     of_some told _ _
     (λ content d. let by : Bool → Outcome = λ fit. cond fit (whole_file (first_word ws) content broken) usage in
-        subst P (ap by unfit) (delivered_answers r (whole ws content broken) k n b a d)) d
+    subst P (ap by unfit) (delivered_answers r (whole ws content broken) k n b a d)) d
 
 broken_fits : (b : Bool) (ws : List (List ℕ)) (before now : ℕ) → words_fit ws ≡ b → (words_fit ws ≡ false → now ≡ before) → before < now → words_fit ws ≡ true
 broken_fits true ws before now is unasked rose = is

@@ -1,12 +1,14 @@
 -- One command more of a session.
-use Rattle.std.proofs.Common.{◌≡◌, ◌∙◌, ap, drop, get_or, sym, ◌∷◌, ◌+◌, ◌<◌, ℕ, List, length, Result, Ok}
-use Rattle.std.proofs.lemmas.List.{drop_more}
+use Rattle.std.proofs.Common.{◌≡◌, ◌∙◌, ap, drop, get_or, sym, ◌∷◌, ◌+◌, ◌<◌, ℕ, List, length, Result, Ok, ◌≤◌, IfOk, subst}
+use Rattle.std.proofs.lemmas.List.{drop_all, drop_more}
 use Rattle.ops_base.specs.declared.commands.Command.{Command}
 use Rattle.ops_base.specs.declared.endings.Ending.{Ending}
 use Rattle.ops_io.specs.Ports.{Port}
 use Rattle.ops_meaning.specs.declared.states.Memory.{Memory}
 use Rattle.ops_meaning.specs.Effects.{Effect, and_then, Pending, Performs, Fails}
-use Rattle.ops_meaning.specs.Running.{Setting, command_done, commands_done}
+use Rattle.ops_meaning.specs.Running.{Setting, command_done, commands_done, session_of}
+use Rattle.ops_meaning.specs.Kept.{WellKept}
+use Rattle.ops_meaning.proofs.RisingTags.{session_kept}
 use Rattle.ops_meaning.proofs.EffectLemmas.{pending_step, pending_stop}
 
 -- the commands from a place on begin with the command there
@@ -24,3 +26,9 @@ pub last_command : (f : Ending) (s : Setting) (a b c : Port) (whole : Effect Mem
     → Fails f b c (command_done s b.out.column x m) → Fails f a c whole
 last_command f s a b c whole commands i x m p lt is q =
     pending_stop f a b c whole (commands_done s b.out.column (drop i commands) m) (command_done s b.out.column x m) (λ n m. commands_done s n (drop (i + 1) commands) m) p (here s b.out.column commands i x m lt is) q
+
+-- where no command is left, working memory is well kept
+pub left_kept : (s : Setting) (a b : Port) (all commands : List Command) (i : ℕ) (m : Memory) → Pending a b (session_of s all) (commands_done s b.out.column (drop i commands) m) → length commands ≤ i → WellKept m.wm m.last
+left_kept s a b all commands i m p le =
+    let P : Result Memory Ending → Type 0 = λ o. IfOk o (λ m. WellKept m.wm m.last) in
+    subst P (p.outcome ∙ ap (λ rest. (commands_done s b.out.column rest m).outcome) (drop_all i commands le)) (session_kept s all)

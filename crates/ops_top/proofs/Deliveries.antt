@@ -1,8 +1,7 @@
 -- What was put and written out is delivered.
-use Rattle.std.proofs.Common.{◌≡◌, ℕ, List, [], ◌∷◌, ◌++◌, Option, Result, Ok, Err, refl, ap, sym, ◌∙◌, subst}
+use Rattle.std.proofs.Common.{◌≡◌, ℕ, List, [], ◌++◌, Option, Ok, Err, refl, sym, ◌∙◌, subst}
 use Rattle.ops_io.specs.Outside.{GrewBy, GrewByPrefix}
-use Rattle.ops_io.specs.Output.{OutState}
-use Rattle.ops_io.specs.Ports.{Port, Put, Stopped, Flushed, Cause, Emits}
+use Rattle.ops_io.specs.Ports.{Port, Put, Stopped, Flushed, Cause}
 use Rattle.ops_io.specs.declared.stop.Stop.{Stop}
 use Rattle.ops_io.specs.declared.stop.Stop.TheVariants as stop
 use Rattle.ops_io.proofs.Known.{append_known-nothing}

@@ -1,5 +1,5 @@
 -- The endings that a session can come to of itself: no device is asked in it, and no memory is wanted.
-use Rattle.std.proofs.Common.{◌≡◌, ℕ, zero, suc, ◌-◌, List, [], ◌∷◌, ◌++◌, Bool, true, false, Option, Some, None, Result, Ok, Err, refl, ap, sym, ◌∙◌, subst, nat_le, length, cond}
+use Rattle.std.proofs.Common.{ℕ, zero, suc, ◌-◌, List, [], ◌∷◌, Bool, true, false, Option, Some, None, Result, Ok, Err, nat_le, length, cond}
 use Rattle.ops_base.specs.Valid.{longest_list}
 use Rattle.ops_base.specs.declared.endings.Ending.{Ending}
 use Rattle.ops_base.specs.declared.endings.Ending.TheVariants as ending
@@ -13,14 +13,13 @@ use Rattle.ops_base.specs.declared.rules.Inst.{Inst}
 use Rattle.ops_io.specs.Output.{column_after}
 use Rattle.ops_meaning.specs.declared.states.Memory.{Memory}
 use Rattle.ops_meaning.specs.declared.states.Doing.{Doing}
-use Rattle.ops_meaning.specs.declared.states.Fired.{Fired}
 use Rattle.ops_meaning.specs.declared.statuses.Status.{Status}
 use Rattle.ops_meaning.specs.declared.statuses.Status.TheVariants as status
-use Rattle.ops_meaning.specs.Effects.{Effect, writes, and_then, going_on}
+use Rattle.ops_meaning.specs.Effects.{Effect, writes, going_on}
 use Rattle.ops_meaning.specs.Acting.{Scene, bindings_of, action_done, actions_done}
 use Rattle.ops_meaning.specs.Reads.{Read, reads}
 use Rattle.ops_meaning.specs.Running.{Setting, nothing_yet, conditions_of, actions_of, acted, fired_of, firing, turn, run_on, most_firings, next_to_fire, command_done, commands_done, session_of, ending_of}
-use Rattle.ops_meaning.specs.Whole.{status_of, told, answer_read, answer_to, answer_file, text_of, setting_of, refused}
+use Rattle.ops_meaning.specs.Whole.{status_of, answer_read, answer_to, answer_file, text_of, setting_of, refused}
 
 -- an ending that is none of a device or of memory
 abbrev pub IsOwn : {S : Type 0} → Result S Ending → Type 0
@@ -78,8 +77,8 @@ own_run zero s column halted m = own_turn column halted m (next_to_fire s.rules 
 own_run (suc left) s column halted m =
     own_turn column halted m (next_to_fire s.rules m) _
     (λ i. let e = firing s column i m in
-        own_then e.bytes e.outcome (λ f. run_on left s (column_after column e.bytes) f.halted f.memory) (own_firing s column i m)
-        (λ f. own_run left s (column_after column e.bytes) f.halted f.memory))
+    own_then e.bytes e.outcome (λ f. run_on left s (column_after column e.bytes) f.halted f.memory) (own_firing s column i m)
+    (λ f. own_run left s (column_after column e.bytes) f.halted f.memory))
 
 own_command : (s : Setting) (column : ℕ) (c : Command) (m : Memory) → IsOwn (command_done s column c m).outcome
 own_command s column (command.Make class puts) m = tt
@@ -132,6 +131,6 @@ answer_read_of_text (Ok p) =
 pub answer_file_of_text : (bytes : List ℕ) → IsOfText (answer_file bytes).status
 answer_file_of_text bytes = by (nat_le (length (text_of bytes)) longest_list)
   where
-  by : (b : Bool) → IsOfText (cond b (answer_to (text_of bytes)) (refused fault.BadForm)).status
-  by true = answer_read_of_text (reads (text_of bytes))
-  by false = tt
+    by : (b : Bool) → IsOfText (cond b (answer_to (text_of bytes)) (refused fault.BadForm)).status
+    by true = answer_read_of_text (reads (text_of bytes))
+    by false = tt

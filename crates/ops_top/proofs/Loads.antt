@@ -1,5 +1,5 @@
 -- What a load decides of the answer.
-use Rattle.std.proofs.Common.{◌≡◌, ℕ, zero, suc, ◌+◌, ◌<◌, ◌≤◌, List, [], ◌∷◌, ◌++◌, Bool, true, false, Option, Some, None, Result, Ok, Err, refl, ap, sym, ◌∙◌, subst, nat_lt, nat_le, length, map, cond, String, string_bytes, get_or, arith, inl, inr}
+use Rattle.std.proofs.Common.{◌≡◌, ℕ, zero, suc, ◌+◌, ◌<◌, ◌≤◌, List, [], ◌∷◌, ◌++◌, Bool, true, false, Option, Some, None, Result, Ok, Err, refl, ap, sym, subst, nat_lt, nat_le, length, cond, String, string_bytes, get_or, arith, inl}
 use Rattle.std.proofs.lemmas.Bool.Decides.{nat_tests}
 use Rattle.std.proofs.lemmas.Grind.{common_steps}
 use Rattle.ops_base.specs.Valid.{longest_list}
@@ -33,9 +33,9 @@ too_long bytes h =
 text_as_long : (bytes : List ℕ) → length bytes ≤ length (text_of bytes)
 text_as_long bytes = by (ends_in_line bytes)
   where
-  by : (b : Bool) → length bytes ≤ length (cond b bytes (bytes ++ 10 ∷ []))
-  by true = omega arith
-  by false = grind (arith, common_steps)
+    by : (b : Bool) → length bytes ≤ length (cond b bytes (bytes ++ 10 ∷ []))
+    by true = omega arith
+    by false = grind (arith, common_steps)
 
 some_list : (n : ℕ) → (xs : List ℕ) × (length xs ≡ n)
 some_list zero = ([], refl)
@@ -75,7 +75,7 @@ pub long_delivers : (D : Outcome → Type 0) (name : List ℕ) (told : Option (O
 long_delivers D name told room before now old new is h same d =
     of_long told _ room old new h
     (λ bytes long. let B : Bool → Type 0 = λ b. D (whole_file name (Some bytes) b) in
-        subst B (sym (not_broken before now same)) (subst D (too_long bytes (omega (arith, text_as_long bytes))) d))
+    subst B (sym (not_broken before now same)) (subst D (too_long bytes (omega (arith, text_as_long bytes))) d))
 
 unread_any : (name : List ℕ) (content : Option (List ℕ)) → unread name ≡ whole_file name content true
 unread_any name content = refl
@@ -85,7 +85,7 @@ pub failed_delivers : (D : Outcome → Type 0) (name : List ℕ) (told : Option 
 failed_delivers D name told before now rose d =
     of_any told _
     (λ content. let B : Bool → Type 0 = λ b. D (whole_file name content b) in
-        subst B (sym (is_broken before now rose)) (subst D (unread_any name content) d))
+    subst B (sym (is_broken before now rose)) (subst D (unread_any name content) d))
 
 of_text_tells : (s : Status) (before now : ℕ) → IsOfText s → now ≡ before → TellsFailedLoad s before now
 of_text_tells status.Done before now p h = h

@@ -1,9 +1,8 @@
 -- A text that is refused.
-use Rattle.std.proofs.Common.{◌≡◌, ℕ, ◌+◌, List, [], ◌∷◌, ◌++◌, Result, Err, ap, sym, ◌∙◌, codes, lit<}
+use Rattle.std.proofs.Common.{◌≡◌, ℕ, List, [], ◌∷◌, ◌++◌, ap, sym, ◌∙◌, codes, lit<}
 use Rattle.std.proofs.lemmas.Fmt.{decimal_digit}
 use Rattle.ops_base.specs.declared.endings.Fault.{Fault}
 use Rattle.ops_meaning.specs.declared.statuses.Status.TheVariants as status
-use Rattle.ops_meaning.specs.Reads.{Read, reads}
 use Rattle.ops_meaning.specs.Whole.{Outcome, refused, fault_text, answer_read, answer_to}
 use Rattle.ops_check.specs.declared.program.ProgramFault.TheVariants as refusal
 use Rattle.ops_check.specs.Refused.{IsRefusal}
@@ -13,8 +12,8 @@ use Rattle.ops_top.specs.Lines.{refused_at}
 pub first_place : (f : Fault) → refused_at f 1 1 ≡ refused f
 first_place f =
     let numbered : List ℕ → Outcome = λ d. record {
-        bytes = codes "ops: " ++ d ++ codes ":" ++ d ++ codes ": " ++ fault_text f ++ 10 ∷ [];
-        status = status.Refused f 1 1;
+      bytes = codes "ops: " ++ d ++ codes ":" ++ d ++ codes ": " ++ fault_text f ++ 10 ∷ [];
+      status = status.Refused f 1 1;
     } in
     ap numbered (decimal_digit 1 (lit< tt))
 

@@ -1,5 +1,5 @@
 -- What is told of a session, and the endings that it can come to.
-use Rattle.std.proofs.Common.{◌≡◌, ℕ, zero, suc, ◌-◌, List, [], ◌∷◌, ◌++◌, Bool, true, false, Option, Some, None, Result, Ok, Err, refl, ap, sym, ◌∙◌, subst, IsTrue}
+use Rattle.std.proofs.Common.{◌≡◌, ℕ, List, ◌++◌, Result, Ok, Err, ap, sym, ◌∙◌, subst}
 use Rattle.ops_base.specs.declared.endings.Ending.{Ending}
 use Rattle.ops_base.specs.declared.endings.Ending.TheVariants as ending
 use Rattle.ops_io.specs.Output.{column_after}
@@ -12,7 +12,7 @@ use Rattle.ops_meaning.specs.Effects.{Effect, Fails, Performs}
 use Rattle.ops_meaning.specs.Layout.{last_line}
 use Rattle.ops_meaning.specs.Running.{ending_of}
 use Rattle.ops_meaning.specs.Whole.{told}
-use Rattle.ops_top.specs.Told.{ended, TellsSession}
+use Rattle.ops_top.specs.Told.{ended}
 
 -- The bytes of a session were put, and this is its ending; or the call gave up.
 abbrev pub Ended : Result Ending Stop → Port → Port → Effect Memory → Type 0

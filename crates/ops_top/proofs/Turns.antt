@@ -1,5 +1,5 @@
 -- One turn of a run.
-use Rattle.std.proofs.Common.{◌≡◌, ◌∙◌, ap, sym, ◌-◌, ◌<◌, ℕ, zero, suc, List, Bool, true, false, Option, Some, None, Result, Ok, refl, subst, arith, codes}
+use Rattle.std.proofs.Common.{◌≡◌, ◌∙◌, ap, sym, ◌-◌, ◌<◌, ℕ, zero, suc, Bool, true, false, Option, Some, None, Result, Ok, refl, subst, arith, codes}
 use Rattle.ops_base.specs.declared.rules.Inst.{Inst}
 use Rattle.ops_base.specs.declared.endings.Ending.{Ending}
 use Rattle.ops_io.specs.Ports.{Port}

@@ -38,7 +38,8 @@ fn term_value(bindings: &[Binding], term: &Term) -> Value
     match term {
         Term::Constant(value) => *value,
         Term::Variable(v) => bound_value(bindings, *v).unwrap_or(NOTHING),
-        Term::Compute(_) | Term::One { .. } | Term::Rest { .. } | Term::Fresh | Term::Accept => NOTHING,
+        Term::Compute(_) | Term::One { .. } | Term::Rest { .. } | Term::Fresh | Term::Accept =>
+            NOTHING,
     }
 }
 
@@ -231,7 +232,12 @@ fn act_one<K: Sink>(
             Ok(next) => Ok(next),
             Err(_) => Err(Ending::OutOfMemory),
         },
-        Action::Remove { cells } => match cells_removed(alloc, scene.tags, cells.as_slice(), doing) {
+        Action::Remove { cells } => match cells_removed(
+            alloc,
+            scene.tags,
+            cells.as_slice(),
+            doing,
+        ) {
             Ok(next) => Ok(next),
             Err(_) => Err(Ending::OutOfMemory),
         },

@@ -96,21 +96,19 @@ fn answer_program<K: Sink>(
 }
 
 /// The answer to a text: its fault, or what its session writes.
-pub fn answer_text<K: Sink>(
-    alloc: Global,
-    text: Vec<u8>,
-    sink: &mut K,
-) -> Result<Status, Stop>
+pub fn answer_text<K: Sink>(alloc: Global, text: Vec<u8>, sink: &mut K) -> Result<Status, Stop>
     requires faults { K.faults sink.old < 2 ^ 63 }
     ensures { Delivers result (answer_to text.items) (K.taken sink.old) (K.faults sink.old) (K.taken sink.new) (K.faults sink.new) }
 {
     match read_program(alloc, text) {
         Ok((program, names)) => answer_program(alloc, &program, &names, sink),
-        Err(ProgramFault::At {
-            fault,
-            line,
-            column,
-        }) => refuse(alloc, fault, line, column, sink),
+        Err(
+            ProgramFault::At {
+                fault,
+                line,
+                column,
+            },
+        ) => refuse(alloc, fault, line, column, sink),
         Err(ProgramFault::OutOfMemory) => Err(Stop::OutOfMemory),
     }
 }

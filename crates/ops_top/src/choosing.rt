@@ -96,7 +96,13 @@ fn better_of(program: &Program, best: Option<Candidate>, next: Candidate) -> Can
 {
     match best {
         None => next,
-        Some(so_far) => { if beats(program, &next, &so_far) { next } else { so_far } }
+        Some(so_far) => {
+            if beats(program, &next, &so_far) {
+                next
+            } else {
+                so_far
+            }
+        }
     }
 }
 

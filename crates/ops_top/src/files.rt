@@ -35,11 +35,7 @@ fn text_of(bytes: Vec<u8>) -> Result<Vec<u8>, OutOfMemory>
 }
 
 /// The answer to a file of these bytes.
-fn answer_file<K: Sink>(
-    alloc: Global,
-    bytes: Vec<u8>,
-    sink: &mut K,
-) -> Result<Status, Stop>
+fn answer_file<K: Sink>(alloc: Global, bytes: Vec<u8>, sink: &mut K) -> Result<Status, Stop>
     requires faults { K.faults sink.old < 2 ^ 63 }
     ensures { Delivers result (answer_file bytes.items) (K.taken sink.old) (K.faults sink.old) (K.taken sink.new) (K.faults sink.new) }
 {
@@ -62,7 +58,7 @@ pub fn run_file<H: Shelf, K: Sink>(
     requires faults { K.faults sink.old < 2 ^ 63 }
     ensures delivers { OfContent (H.told shelf.old name.now) (λ content.
         Delivers result (whole_file name.now content (nat_lt (H.faults shelf.old) (H.faults shelf.new)))
-            (K.taken sink.old) (K.faults sink.old) (K.taken sink.new) (K.faults sink.new)) }
+        (K.taken sink.old) (K.faults sink.old) (K.taken sink.new) (K.faults sink.new)) }
     ensures load { TellsFailedLoad (status_after result) (H.faults shelf.old) (H.faults shelf.new) }
     ensures names { AskedFor (status_after result) name.now (H.names shelf.old) (H.names shelf.new) }
     ensures told { (n : List ℕ) → H.told shelf.new n ≡ H.told shelf.old n }

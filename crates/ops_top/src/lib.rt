@@ -8,12 +8,12 @@ pub mod choosing;
 pub mod files;
 pub mod lines;
 pub mod printing;
+#[cfg(test)]
+mod rows;
 pub mod running;
 pub mod saying;
 pub mod session;
-pub mod top;
-pub mod words;
-#[cfg(test)]
-mod rows;
 #[cfg(test)]
 mod tests;
+pub mod top;
+pub mod words;

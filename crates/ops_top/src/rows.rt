@@ -11,7 +11,8 @@ use std::alloc::Global;
 use std::test::Fail;
 use std::thread::Threads;
 
-const HELLO: &[u8] = b"(literalize start)\n(p hello (start) --> (write Hello from OPS5 (crlf)) (remove 1))\n(make start)\n(run)\n";
+const HELLO: &[u8] =
+    b"(literalize start)\n(p hello (start) --> (write Hello from OPS5 (crlf)) (remove 1))\n(make start)\n(run)\n";
 
 /// What is answered to a file of these bytes.
 fn answer<R: Threads + Clone + Drop + Send + Sync>(
@@ -35,9 +36,14 @@ fn hello(rt: HostRuntime) -> Result<(), Fail> {
     let mut input = MemSource::new(Vec::new(alloc), 1, Vec::new(alloc));
     let mut sink = MemSink::new(alloc, 1_000, 1_000, Vec::new(alloc))?;
     let words = one_word(alloc, "hello.ops")?;
-    let status = ops_run(&rt, alloc, &words, &mut shelf, &mut input, &mut sink, &OpenGate);
+    let status = ops_run(
+        &rt, alloc, &words, &mut shelf, &mut input, &mut sink, &OpenGate,
+    );
     assert_eq!(rt; status, Status::Done);
-    assert_eq!(rt; sink.written(), b"Hello from OPS5\nend -- no production true\n".as_slice());
+    assert_eq!(rt;
+        sink.written(),
+        b"Hello from OPS5\nend -- no production true\n".as_slice()
+    );
     Ok(())
 }
 
@@ -45,7 +51,10 @@ fn hello(rt: HostRuntime) -> Result<(), Fail> {
 fn failing_sink(rt: HostRuntime) -> Result<(), Fail> {
     let alloc = rt.alloc();
     let mut sink = MemSink::new(alloc, 1_000, 4, vec![in alloc; 3]?)?;
-    assert_eq!(rt; answer(&rt, alloc, HELLO, &mut sink)?, Some(Status::WriteFault));
+    assert_eq!(rt;
+        answer(&rt, alloc, HELLO, &mut sink)?,
+        Some(Status::WriteFault)
+    );
     assert_eq!(rt; sink.written(), b"Hello fr".as_slice());
     Ok(())
 }

@@ -113,7 +113,14 @@ fn act_for<K: Sink>(
                 bindings: bindings.as_slice(),
                 tags,
             };
-            act(alloc, &scene, actions_of(rules, inst.rule), doing, out, sink)
+            act(
+                alloc,
+                &scene,
+                actions_of(rules, inst.rule),
+                doing,
+                out,
+                sink,
+            )
         }
     }
 }

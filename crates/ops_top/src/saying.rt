@@ -15,12 +15,7 @@ use ops_meaning::Status;
 use std::alloc::Global;
 
 /// Writes these bytes, and answers the status.
-fn say<K: Sink>(
-    alloc: Global,
-    bytes: &[u8],
-    status: Status,
-    sink: &mut K,
-) -> Result<Status, Stop>
+fn say<K: Sink>(alloc: Global, bytes: &[u8], status: Status, sink: &mut K) -> Result<Status, Stop>
     requires faults { K.faults sink.old < 2 ^ 63 }
     ensures { Delivers result (record { bytes = bytes.now; status = status })
         (K.taken sink.old) (K.faults sink.old) (K.taken sink.new) (K.faults sink.new) }

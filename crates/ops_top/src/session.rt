@@ -2,6 +2,7 @@
 ghost use Rattle.std.specs.Prelude.{◌≡◌, ◌^◌, ◌<◌, IsTrue, IfOk};
 ghost use Rattle.ops_io.specs.Ports.{port};
 ghost use Rattle.ops_meaning.specs.Effects.{Performs};
+ghost use Rattle.ops_meaning.specs.Kept.{WellKept, GoesByConflictSets};
 ghost use Rattle.ops_meaning.specs.Running.{first_constant, fixed_fields, made_at_top, command_done, session_of};
 ghost use Rattle.ops_top.specs.Settings.{setting_of};
 
@@ -99,7 +100,13 @@ fn do_command<K: Sink>(
         (command_done (setting_of names.now program.now) out.old.column command.now memory) }
 {
     match command {
-        Command::Make { class, puts } => match make_at_top(alloc, program, *class, puts.as_slice(), memory) {
+        Command::Make { class, puts } => match make_at_top(
+            alloc,
+            program,
+            *class,
+            puts.as_slice(),
+            memory,
+        ) {
             Ok(next) => Ok(next),
             Err(_) => Err(Ending::OutOfMemory),
         },
@@ -112,7 +119,8 @@ fn do_command<K: Sink>(
     }
 }
 
-/// Does the commands of a program in order, from nothing.
+/// Does the commands of a program in order, from nothing. Working memory is left in the order of its tags, and wherever
+/// the session looks for instantiations it looks at the conflict set.
 pub fn run_session<K: Sink>(
     alloc: Global,
     program: &Program,
@@ -123,9 +131,11 @@ pub fn run_session<K: Sink>(
     requires whole { IsTrue out.old.whole }
     requires faults { K.faults sink.old < 2 ^ 63 }
     requires column { out.old.column ≡ 0 }
-    ensures { Performs (λ m. m) result (port (K.taken sink.old) (K.faults sink.old) out.old)
+    ensures performs { Performs (λ m. m) result (port (K.taken sink.old) (K.faults sink.old) out.old)
         (port (K.taken sink.new) (K.faults sink.new) out.new)
         (session_of (setting_of names.now program.now) program.now.commands) }
+    ensures kept { IfOk result (λ m. WellKept m.wm m.last) }
+    ensures sets { GoesByConflictSets (setting_of names.now program.now) program.now.commands }
 {
     let mut memory = Memory {
         wm: Listed::new(alloc),

@@ -28,7 +28,8 @@ pub fn one_word(alloc: Global, word: &str) -> Result<Vec<String>, AllocError> {
     Ok(words)
 }
 
-const USAGE: &[u8] = b"usage: ops [--match direct|serial|rounds|free] [--workers N] [--lines L] [--limit N] FILE.. | ops --gen SEED SIZE | ops --net FILE..\n";
+const USAGE: &[u8] =
+    b"usage: ops [--match direct|serial|rounds|free] [--workers N] [--lines L] [--limit N] FILE.. | ops --gen SEED SIZE | ops --net FILE..\n";
 
 #[test]
 fn words_that_do_not_fit(rt: HostRuntime) -> Result<(), Fail> {
@@ -37,13 +38,17 @@ fn words_that_do_not_fit(rt: HostRuntime) -> Result<(), Fail> {
     let mut input = MemSource::new(Vec::new(alloc), 1, Vec::new(alloc));
     let mut sink = MemSink::new(alloc, 1_000, 1_000, Vec::new(alloc))?;
     let mut words = Vec::new(alloc);
-    let none = still_run(&rt, alloc, &words, &mut shelf, &mut input, &mut sink, &OpenGate);
+    let none = still_run(
+        &rt, alloc, &words, &mut shelf, &mut input, &mut sink, &OpenGate,
+    );
     assert_eq!(rt; none, Some(Status::Usage));
     assert_eq!(rt; sink.written(), USAGE);
 
     words.push(String::from_str(alloc, "-x")?)?;
     let mut sink = MemSink::new(alloc, 1_000, 1_000, Vec::new(alloc))?;
-    let option = still_run(&rt, alloc, &words, &mut shelf, &mut input, &mut sink, &OpenGate);
+    let option = still_run(
+        &rt, alloc, &words, &mut shelf, &mut input, &mut sink, &OpenGate,
+    );
     assert_eq!(rt; option, Some(Status::Usage));
     assert_eq!(rt; sink.written(), USAGE);
     Ok(())
@@ -59,7 +64,9 @@ fn two_words(rt: HostRuntime) -> Result<(), Fail> {
 
     // The sink takes 7 bytes a call, and its third call fails.
     let mut sink = MemSink::new(alloc, 1_000, 7, vec![in alloc; 3]?)?;
-    let status = ops_run(&rt, alloc, &words, &mut shelf, &mut input, &mut sink, &OpenGate);
+    let status = ops_run(
+        &rt, alloc, &words, &mut shelf, &mut input, &mut sink, &OpenGate,
+    );
     assert_eq!(rt; status, Status::WriteFault);
     assert_eq!(rt; sink.written(), b"usage: ops [--".as_slice());
     Ok(())
@@ -72,7 +79,9 @@ fn missing_file(rt: HostRuntime) -> Result<(), Fail> {
     let mut input = MemSource::new(Vec::new(alloc), 1, Vec::new(alloc));
     let mut sink = MemSink::new(alloc, 1_000, 1_000, Vec::new(alloc))?;
     let words = one_word(alloc, "-")?;
-    let status = ops_run(&rt, alloc, &words, &mut shelf, &mut input, &mut sink, &OpenGate);
+    let status = ops_run(
+        &rt, alloc, &words, &mut shelf, &mut input, &mut sink, &OpenGate,
+    );
     assert_eq!(rt; status, Status::ReadFault);
     assert_eq!(rt; sink.written(), b"ops: cannot read -\n".as_slice());
     Ok(())

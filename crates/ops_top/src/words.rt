@@ -37,7 +37,7 @@ pub fn run_words<H: Shelf, K: Sink>(
     requires faults { K.faults sink.old < 2 ^ 63 }
     ensures delivers { OfContent (H.told shelf.old (first_word (words_of words.now))) (λ content.
         Delivers result (whole (words_of words.now) content (nat_lt (H.faults shelf.old) (H.faults shelf.new)))
-            (K.taken sink.old) (K.faults sink.old) (K.taken sink.new) (K.faults sink.new)) }
+        (K.taken sink.old) (K.faults sink.old) (K.taken sink.new) (K.faults sink.new)) }
     ensures load { TellsFailedLoad (status_after result) (H.faults shelf.old) (H.faults shelf.new) }
     ensures names { AskedForWords (status_after result) (words_of words.now) (words_fit (words_of words.now)) (H.names shelf.old) (H.names shelf.new) }
     ensures unasked { words_fit (words_of words.now) ≡ false → H.faults shelf.new ≡ H.faults shelf.old }

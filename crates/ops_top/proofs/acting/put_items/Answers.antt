@@ -22,8 +22,8 @@ returns-in_err-put_item g c =
     let column = c.loop-item.out.column in
     rw (p.1, p.2)
     (underway_fails c.in_err-put_item.field-0.0 _ _ _ _ _ _ _ c.loop-item.invariant
-      (ap (items_bytes scene column) (drop_more c.args.items.now c.loop-item.item-index c.item-item.result c.loop-item-test.true ∙ ap (λ y. y ∷ drop (c.loop-item.item-index + 1) c.args.items.now) (sym c.item-item.is)))
-      c.in_err-put_item.ensures)
+    (ap (items_bytes scene column) (drop_more c.args.items.now c.loop-item.item-index c.item-item.result c.loop-item-test.true ∙ ap (λ y. y ∷ drop (c.loop-item.item-index + 1) c.args.items.now) (sym c.item-item.is)))
+    c.in_err-put_item.ensures)
 
 pub loop-item-preserved : goal.loop-item-preserved
 loop-item-preserved g c =

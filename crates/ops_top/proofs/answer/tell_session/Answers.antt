@@ -10,14 +10,14 @@ returns-in_err-ending g c =
     let p = err_from_is_err_and c.from_residual.result c.from_residual.ensures.1 in
     let s : Setting = record { names = c.args.names.now; classes = c.args.program.now.classes; rules = c.args.program.now.rules } in
     let e = session_of s c.args.program.now.commands in
-    rw (p.1, p.2) (tells_stopped c.in_err-ending.field-0.0 _ _ e (ended_as (Err c.in_err-ending.field-0.0) c.run_session.result _ _ e c.in_err-ending.ensures c.run_session.ensures))
+    rw (p.1, p.2) (tells_stopped c.in_err-ending.field-0.0 _ _ e (ended_as (Err c.in_err-ending.field-0.0) c.run_session.result _ _ e c.in_err-ending.ensures c.run_session.ensures.performs))
 
 pub returns-in_err-line : goal.returns-in_err-line
 returns-in_err-line g c =
     let p = err_from_is_err_and c.from_residual-in_err-line.result c.from_residual-in_err-line.ensures.1 in
     let s : Setting = record { names = c.args.names.now; classes = c.args.program.now.classes; rules = c.args.program.now.rules } in
     let e = session_of s c.args.program.now.commands in
-    let done = ended_as (Ok c.in_ok-ending.ending) c.run_session.result _ _ e c.in_ok-ending.ensures c.run_session.ensures in
+    let done = ended_as (Ok c.in_ok-ending.ending) c.run_session.result _ _ e c.in_ok-ending.ensures c.run_session.ensures.performs in
     rw (p.1, p.2) (tells_short _ _ e done.1)
 
 pub returns-in_err-put_bytes : goal.returns-in_err-put_bytes
@@ -26,7 +26,7 @@ returns-in_err-put_bytes g c =
     let s : Setting = record { names = c.args.names.now; classes = c.args.program.now.classes; rules = c.args.program.now.rules } in
     let e = session_of s c.args.program.now.commands in
     let f = c.in_ok-ending.ending in
-    let done = ended_as (Ok f) c.run_session.result _ _ e c.in_ok-ending.ensures c.run_session.ensures in
+    let done = ended_as (Ok f) c.run_session.result _ _ e c.in_ok-ending.ensures c.run_session.ensures.performs in
     let line = c.deref.ensures.value ∙ c.in_ok-line.ensures ∙ ap (λ (n : ℕ). last_line n f) c.column.ensures in
     rw (p.1, p.2) (tells_cut c.in_err-put_bytes.field-0.0 _ _ _ f _ e c.requires.column done.0 done.1 line c.in_err-put_bytes.ensures.emits)
 
@@ -35,6 +35,6 @@ returns g c =
     let s : Setting = record { names = c.args.names.now; classes = c.args.program.now.classes; rules = c.args.program.now.rules } in
     let e = session_of s c.args.program.now.commands in
     let f = c.in_ok-ending.ending in
-    let done = ended_as (Ok f) c.run_session.result _ _ e c.in_ok-ending.ensures c.run_session.ensures in
+    let done = ended_as (Ok f) c.run_session.result _ _ e c.in_ok-ending.ensures c.run_session.ensures.performs in
     let line = c.deref.ensures.value ∙ c.in_ok-line.ensures ∙ ap (λ (n : ℕ). last_line n f) c.column.ensures in
     (done.0, tells_all _ _ _ f _ e c.requires.column done.0 done.1 line c.in_ok-put_bytes.ensures.emits)

@@ -1,4 +1,3 @@
-use Rattle.std.proofs.Common.{◌≡◌, ◌<◌, ℕ, nat_lt}
 use Rattle.ops_meaning.specs.Whole.{words_of}
 use Rattle.ops_top.proofs.Answering.{whole_answers, whole_tells_write, whole_fits_words, unfit_answers, unread_answers, runs_to_end}
 use Rattle.ops_top.proofs.top.still_run.Goals as goal
@@ -27,5 +26,5 @@ pub returns-clause-complete : goal.returns-clause-complete
 returns-clause-complete g c =
     rw c.status_after.ensures
     (λ through same sinks. runs_to_end _ (words_of c.args.words.now) _ _ _ _ _ _ _
-        (whole_answers c.run_words.result (words_of c.args.words.now) _ _ _ _ _ _ c.run_words.ensures.delivers)
-        (whole_tells_write c.run_words.result (words_of c.args.words.now) _ _ _ _ _ _ c.run_words.ensures.delivers) through same sinks)
+    (whole_answers c.run_words.result (words_of c.args.words.now) _ _ _ _ _ _ c.run_words.ensures.delivers)
+    (whole_tells_write c.run_words.result (words_of c.args.words.now) _ _ _ _ _ _ c.run_words.ensures.delivers) through same sinks)
