@@ -14,6 +14,7 @@ position-cons p x xs = by (p x) (position_or_len p xs) (length xs)
     by_test : (b : Bool) (n : ℕ) → cond b (Some (suc n)) None ≡ option_map suc (cond b (Some n) None)
     by_test true n = refl
     by_test false n = refl
+
     by : (b : Bool) (n l : ℕ) → cond (nat_lt (cond (not b) (1 + n) 0) (suc l)) (Some (cond (not b) (1 + n) 0)) None ≡ cond b (Some 0) (option_map suc (cond (nat_lt n l) (Some n) None))
     by true n l = let test : nat_lt 0 (suc l) ≡ true = grind (arith, nat_tests) in rw test refl
     by false n l = let more : 1 + n ≡ suc n = omega arith in rw (more, suc_lt n l) (by_test (nat_lt n l) n)

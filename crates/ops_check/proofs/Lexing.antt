@@ -1,11 +1,10 @@
 -- Words of a text that were made, in front of those that are not.
-use Rattle.std.proofs.Common.{◌≡◌, ℕ, suc, ◌-◌, ◌<◌, ◌≤◌, List, [], ◌∷◌, ◌++◌, length, Option, Some, None, Result, Ok, Err, refl, sym, ap, ◌∙◌, append_assoc, arith, length-append}
+use Rattle.std.proofs.Common.{◌≡◌, ℕ, suc, ◌-◌, ◌<◌, List, [], ◌∷◌, ◌++◌, length, Some, Ok, refl, sym, ap, ◌∙◌, append_assoc, arith, length-append}
 use Rattle.ops_base.specs.Names.{Spellings}
 use Rattle.ops_tokens.specs.declared.token.Token.{Token}
-use Rattle.ops_tokens.specs.declared.token.LexFault.{LexFault}
 use Rattle.ops_tokens.specs.Tokens.{Next, token_at, spelling}
 use Rattle.ops_meaning.specs.declared.words.Word.{Word}
-use Rattle.ops_meaning.specs.Words.{Lexed, lexed, lexed_from, lexed_after, led_by, word_of, names_with}
+use Rattle.ops_meaning.specs.Words.{Lexed, lexed, lexed_from, lexed_after, word_of, names_with}
 
 abbrev pub led : List Word → Lexed → Lexed
 led ws l = record { words = ws ++ l.words; names = l.names; stop = l.stop }

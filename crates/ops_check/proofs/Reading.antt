@@ -1,14 +1,14 @@
 -- What a text is read as.
-use Rattle.std.proofs.Common.{◌≡◌, ℕ, ◌<◌, ◌≤◌, List, [], ◌∷◌, length, true, false, Option, Result, Ok, Err, refl, ap, ◌∙◌, ltb}
+use Rattle.std.proofs.Common.{◌≡◌, ℕ, ◌<◌, ◌≤◌, List, [], ◌∷◌, length, Option, Err, refl, ap}
 use Rattle.std.proofs.lemmas.Bool.{lt-ltb, le-ltb}
-use Rattle.ops_base.specs.Valid.{longest_list, is_valid}
+use Rattle.ops_base.specs.Valid.{longest_list}
 use Rattle.ops_base.specs.declared.endings.Fault.TheVariants as fault
 use Rattle.ops_base.specs.Names.{Spellings}
 use Rattle.ops_tokens.specs.declared.token.LexFault.{LexFault}
 use Rattle.ops_meaning.specs.declared.words.Word.{Word}
 use Rattle.ops_meaning.specs.Words.{Lexed, lexed}
 use Rattle.ops_meaning.specs.Grammar.{Forms, goes, nothing_read}
-use Rattle.ops_meaning.specs.Reads.{Read, reads, verdict, read_words}
+use Rattle.ops_meaning.specs.Reads.{reads, verdict, read_words}
 
 pub reads_long : (text : List ℕ) → longest_list < length text → reads text ≡ Err fault.BadForm
 unfolding reads

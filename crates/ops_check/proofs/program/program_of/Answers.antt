@@ -1,4 +1,3 @@
-use Rattle.std.proofs.Common.{◌≡◌}
 use Rattle.ops_check.proofs.program.program_of.Goals as goal
 
 pub new-requires : goal.new-requires

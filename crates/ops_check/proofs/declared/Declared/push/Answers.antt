@@ -1,4 +1,4 @@
-use Rattle.std.proofs.Common.{rules, ◌≡◌, ◌==◌, sym, ◌∙◌}
+use Rattle.std.proofs.Common.{◌==◌, sym, ◌∙◌}
 use Rattle.ops_check.proofs.Firsts.{position_snoc}
 use Rattle.ops_check.proofs.declared.Declared.push.Goals as goal
 

@@ -1,4 +1,4 @@
-use Rattle.std.proofs.Common.{◌≡◌, ◌==◌, is_some, ap, sym, ◌∙◌}
+use Rattle.std.proofs.Common.{◌==◌, is_some, ap, sym, ◌∙◌}
 use Rattle.ops_check.proofs.Firsts.{list_any_position}
 use Rattle.ops_check.proofs.draft.Draft.is_class.Goals as goal
 
