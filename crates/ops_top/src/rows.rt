@@ -102,7 +102,12 @@ fn unbound_variable(rt: HostRuntime) -> Result<(), Fail> {
         line: 1,
         column: 1,
     };
-    let status = answer(&rt, alloc, b"(literalize a) (p r (a) --> (write <x>))", &mut sink)?;
+    let status = answer(
+        &rt,
+        alloc,
+        b"(literalize a) (p r (a) --> (write <x>))",
+        &mut sink,
+    )?;
     assert_eq!(rt; status, Some(refused));
     assert_eq!(rt; sink.written(), b"ops: 1:1: unbound variable\n".as_slice());
     Ok(())
@@ -151,7 +156,13 @@ const COUNTER: &[u8] = b"(literalize n)
 fn limit(rt: HostRuntime) -> Result<(), Fail> {
     let alloc = rt.alloc();
     let mut sink = MemSink::new(alloc, 1_000, 1_000, Vec::new(alloc))?;
-    assert_eq!(rt; answer(&rt, alloc, COUNTER, &mut sink)?, Some(Status::Limit));
-    assert_eq!(rt; sink.written(), b"ops: limit of 1000000 firings reached\n".as_slice());
+    assert_eq!(rt;
+        answer(&rt, alloc, COUNTER, &mut sink)?,
+        Some(Status::Limit)
+    );
+    assert_eq!(rt;
+        sink.written(),
+        b"ops: limit of 1000000 firings reached\n".as_slice()
+    );
     Ok(())
 }
