@@ -48,7 +48,7 @@ pub data Ends : Type 0 where
 pub data Wanted : Type 0 where
   -- form*
   Forms : Wanted
-  -- literalize NAME NAME* ) | p NAME pattern pattern* --> action* ) | make CLASS fixed* ) | run )
+  -- literalize NAME NAME* ) | p NAME first pattern* --> action* ) | make CLASS fixed* ) | run )
   Form : Wanted
   -- NAME
   ClassDeclared : Wanted
@@ -56,7 +56,9 @@ pub data Wanted : Type 0 where
   Attributes : Wanted
   -- NAME
   RuleName : Wanted
-  -- pattern* -->, of which one pattern at least
+  -- ( CLASS term* )
+  FirstPattern : Wanted
+  -- pattern* -->
   Patterns : Wanted
   -- CLASS
   ClassName : Wanted
@@ -81,13 +83,11 @@ pub data Wanted : Type 0 where
   -- )
   Closes : (what : Ends) → Wanted
 
--- What was read so far. A class that is not declared and a variable that is not bound are noted, and reading goes on.
+-- What was read so far.
 pub record State : Type 0 where
   pub classes : List Class
   pub rules : List Rule
   pub commands : List Command
-  pub unknown : Bool
-  pub unbound : Bool
   -- of the form that is being read
   pub name : Sym
   pub first : ℕ
@@ -102,9 +102,8 @@ pub record State : Type 0 where
   pub conditions : List Condition
   pub actions : List Action
 
--- what a word does: nothing more is wanted, something else is, or the word is refused
+-- what a word does: something else is wanted now, or the word is refused
 pub data Step : Type 0 where
-  Stops : (s : State) → Step
   Next : (ws : List Wanted) → (s : State) → Step
   Refuses : (f : Fault) → Step
 
@@ -124,6 +123,7 @@ is_caret _ = false
 
 abbrev pub is_name : TokenKind → Bool
 is_name kind.Symbol = true
+is_name kind.Quoted = true
 is_name _ = false
 
 abbrev pub is_variable : TokenKind → Bool
@@ -142,6 +142,7 @@ is_crlf _ = false
 abbrev pub constant_of : TokenKind → Sym → Option Value
 constant_of (kind.Whole n) name = Some (value.Whole n)
 constant_of kind.Symbol name = Some (value.Symbol name)
+constant_of kind.Quoted name = Some (value.Symbol name)
 constant_of _ name = None
 
 -- the number that a whole number from 1 on is
@@ -173,7 +174,7 @@ abbrev pub form : Word → Keyword → List Wanted → State → Step
 form w keyword.Literalize ws s =
     if may_declare s then Next (ClassDeclared ∷ Attributes ∷ ws) s else Refuses fault.LateDeclaration
 form w keyword.Production ws s =
-    if length s.commands == 0 then Next (RuleName ∷ Patterns ∷ Actions ∷ ws) s else Refuses fault.LateProduction
+    if length s.commands == 0 then Next (RuleName ∷ FirstPattern ∷ Patterns ∷ Actions ∷ ws) s else Refuses fault.LateProduction
 form w keyword.Make ws s = Next (ClassName ∷ Terms InFixed ∷ ws) (record s { fixed = [] })
 form w keyword.Run ws s = Next (Closes EndsRun ∷ ws) s
 form w _ ws s = Refuses fault.UnknownCommand
@@ -202,29 +203,25 @@ attributes w ws s =
 
 abbrev pub class_at : Option ℕ → List Wanted → State → Step
 class_at (Some c) ws s = Next ws (record s { class = c })
-class_at None ws s = Next ws (record s { class = length s.classes; unknown = true })
+class_at None ws s = Refuses fault.UnknownClass
 
 abbrev pub class_name : Word → List Wanted → State → Step
 class_name w ws s =
     if is_name w.kind then class_at (position (λ c. c.name.0 == w.name.0) s.classes) ws s else Refuses fault.BadForm
 
--- the attributes of the class that was named, none where it is not declared
-abbrev pub attributes_of : Option Class → Option (List Sym)
-attributes_of (Some c) = Some c.attrs
-attributes_of None = None
+-- the attributes of a class
+abbrev pub attributes_of : Option Class → List Sym
+attributes_of (Some c) = c.attrs
+attributes_of None = []
 
 abbrev pub field_at : Use → Option ℕ → List Wanted → State → Step
 field_at u (Some f) ws s = Next (ValueFor u f ∷ ws) s
 field_at u None ws s = Refuses fault.UnknownAttribute
 
--- An attribute of a class that is not declared is any name.
-abbrev pub attribute_of : Use → Word → Option (List Sym) → List Wanted → State → Step
-attribute_of u w (Some attrs) ws s = field_at u (position (λ a. a.0 == w.name.0) attrs) ws s
-attribute_of u w None ws s = Next (ValueFor u 0 ∷ ws) s
-
 abbrev pub attribute : Use → Word → List Wanted → State → Step
 attribute u w ws s =
-    if is_name w.kind then attribute_of u w (attributes_of (slice_get s.classes s.class)) ws s else Refuses fault.BadForm
+    if is_name w.kind then field_at u (position (λ a. a.0 == w.name.0) (attributes_of (slice_get s.classes s.class))) ws s
+    else Refuses fault.BadForm
 
 abbrev pub with_test : State → ℕ → Operand → Bool → State
 with_test s f o binds = record s { tests = s.tests ++ record { field = f; pred = pred.Eq; operand = o; binds = binds } ∷ [] }
@@ -238,11 +235,6 @@ with_variable s f name None =
 abbrev pub with_put : State → ℕ → Term → State
 with_put s f t = record s { puts = s.puts ++ record { field = f; terms = t ∷ [] } ∷ [] }
 
--- a variable of a right side, which a condition must bind
-abbrev pub with_put_variable : State → ℕ → Option ℕ → State
-with_put_variable s f (Some n) = with_put s f (term.Variable n)
-with_put_variable s f None = record s { unbound = true }
-
 abbrev pub with_fixed : State → ℕ → Value → State
 with_fixed s f v = record s { fixed = s.fixed ++ record { field = f; values = v ∷ [] } ∷ [] }
 
@@ -251,15 +243,21 @@ with_constant InPattern s f v = with_test s f (operand.Constant v) false
 with_constant InPut s f v = with_put s f (term.Constant v)
 with_constant InFixed s f v = with_fixed s f v
 
+-- a variable of a right side, which a condition must bind
+abbrev pub put_variable : ℕ → Option ℕ → List Wanted → State → Step
+put_variable f (Some n) ws s = Next ws (with_put s f (term.Variable n))
+put_variable f None ws s = Refuses fault.UnboundVariable
+
 -- A variable in a command is bound nowhere.
-abbrev pub with_named : Use → State → ℕ → Sym → State
-with_named InPattern s f name = with_variable s f name (number_of name s.values)
-with_named InPut s f name = with_put_variable s f (number_of name s.values)
-with_named InFixed s f name = record s { unbound = true }
+abbrev pub variable_for : Use → ℕ → Option ℕ → Sym → List Wanted → State → Step
+variable_for InPattern f number name ws s = Next ws (with_variable s f name number)
+variable_for InPut f number name ws s = put_variable f number ws s
+variable_for InFixed f number name ws s = Refuses fault.UnboundVariable
 
 abbrev pub value_for : Use → ℕ → Word → Option Value → List Wanted → State → Step
 value_for u f w (Some v) ws s = Next ws (with_constant u s f v)
-value_for u f w None ws s = if is_variable w.kind then Next ws (with_named u s f w.name) else Refuses fault.BadForm
+value_for u f w None ws s =
+    if is_variable w.kind then variable_for u f (number_of w.name s.values) w.name ws s else Refuses fault.BadForm
 
 abbrev pub with_action : State → Action → State
 with_action s a = record s { actions = s.actions ++ a ∷ [] }
@@ -289,9 +287,12 @@ rule_name w ws s =
     else Next ws (record s { name = w.name; tests = []; values = []; conditions = []; actions = [] }))
     else Refuses fault.BadForm
 
+abbrev pub first_pattern : Word → List Wanted → State → Step
+first_pattern w ws s = if is_left w.kind then Next (ClassName ∷ Terms InPattern ∷ ws) s else Refuses fault.BadForm
+
 abbrev pub patterns : Word → List Wanted → State → Step
 patterns w ws s =
-    if is_arrow w.keyword && not (length s.conditions == 0) then Next ws s
+    if is_arrow w.keyword then Next ws s
     else if is_left w.kind
     then (if nat_lt (length s.conditions) most_conditions then Next (ClassName ∷ Terms InPattern ∷ Patterns ∷ ws) s
     else Refuses (fault.LimitPassed limit.Conditions))
@@ -347,14 +348,14 @@ cells w ws s = if is_right w.kind then Next ws (with_remove s) else cell w.kind 
 abbrev pub with_item : State → Item → State
 with_item s i = record s { items = s.items ++ i ∷ [] }
 
-abbrev pub with_item_variable : State → Option ℕ → State
-with_item_variable s (Some n) = with_item s (item.Print (term.Variable n))
-with_item_variable s None = record s { unbound = true }
+abbrev pub item_variable : Option ℕ → List Wanted → State → Step
+item_variable (Some n) ws s = Next ws (with_item s (item.Print (term.Variable n)))
+item_variable None ws s = Refuses fault.UnboundVariable
 
 abbrev pub item_value : Word → Option Value → List Wanted → State → Step
 item_value w (Some v) ws s = Next ws (with_item s (item.Print (term.Constant v)))
 item_value w None ws s =
-    if is_variable w.kind then Next ws (with_item_variable s (number_of w.name s.values)) else Refuses fault.BadForm
+    if is_variable w.kind then item_variable (number_of w.name s.values) ws s else Refuses fault.BadForm
 
 -- an action `write` ends
 abbrev pub with_write : State → State
@@ -383,14 +384,15 @@ closes e w ws s = if is_right w.kind then Next ws (ended e s) else Refuses fault
 abbrev pub forms : Word → List Wanted → State → Step
 forms w ws s = if is_left w.kind then Next (Form ∷ Forms ∷ ws) (record s { first = w.first }) else Refuses fault.Stray
 
--- what a word does where this is wanted
+-- What a word does where this is wanted. Where nothing is, it does not belong there.
 unfoldable pub step : Word → List Wanted → State → Step
-step w [] s = Stops s
+step w [] s = Refuses fault.Stray
 step w (Forms ∷ ws) s = forms w ws s
 step w (Form ∷ ws) s = form w w.keyword ws s
 step w (ClassDeclared ∷ ws) s = class_declared w ws s
 step w (Attributes ∷ ws) s = attributes w ws s
 step w (RuleName ∷ ws) s = rule_name w ws s
+step w (FirstPattern ∷ ws) s = first_pattern w ws s
 step w (Patterns ∷ ws) s = patterns w ws s
 step w (ClassName ∷ ws) s = class_name w ws s
 step w (Terms u ∷ ws) s = terms u w ws s
@@ -404,25 +406,24 @@ step w (Items ∷ ws) s = items w ws s
 step w (ItemWord ∷ ws) s = item_word w ws s
 step w (Closes e ∷ ws) s = closes e w ws s
 
--- the state that was reached with the words that are left, or the fault at the word that goes on to nothing
+-- the state that was reached, or the fault at the word that goes on to nothing, and at none where the words end too early
 abbrev pub Outcome : Type 0
-Outcome = Result (State × List Word) (Fault × Option Word)
+Outcome = Result State (Fault × Option Word)
 
 -- where no word is left, a form may not be open
 unfoldable pub ends : List Wanted → State → Outcome
-ends [] s = Ok (s, [])
+ends [] s = Ok s
 ends (Forms ∷ ws) s = ends ws s
 ends (w ∷ ws) s = Err (fault.Unclosed, None)
 
-abbrev pub after : (List Wanted → State → Outcome) → Word → List Word → Step → Outcome
-after rest w words (Stops s) = Ok (s, w ∷ words)
-after rest w words (Next ws s) = rest ws s
-after rest w words (Refuses f) = Err (f, Some w)
+abbrev pub after : (List Wanted → State → Outcome) → Word → Step → Outcome
+after rest w (Next ws s) = rest ws s
+after rest w (Refuses f) = Err (f, Some w)
 
 -- The words, from what is wanted on.
 unfoldable pub goes : List Word → List Wanted → State → Outcome
 goes [] ws s = ends ws s
-goes (w ∷ words) ws s = after (goes words) w words (step w ws s)
+goes (w ∷ words) ws s = after (goes words) w (step w ws s)
 
 abbrev pub nothing_read : State
 nothing_read =
@@ -430,8 +431,6 @@ nothing_read =
       classes = [];
       rules = [];
       commands = [];
-      unknown = false;
-      unbound = false;
       name = record { 0 = 0 };
       first = 0;
       attrs = [];

@@ -1,6 +1,9 @@
 pub mod Words
+pub mod Places
 pub mod Grammar
+pub mod Derivation
 pub mod Reads
+pub mod Standing
 pub mod Effects
 pub mod Layout
 pub mod Acting

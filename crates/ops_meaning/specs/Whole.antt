@@ -1,10 +1,11 @@
 -- What the program answers to its words and files.
-use Rattle.std.specs.Prelude.{◌≡◌, ℕ, List, [], ◌∷◌, ◌++◌, length, map, Bool, true, false, not, ◌==◌, ◌||◌, nat_le, if◌then◌else◌, Option, Some, None, Result, Ok, Err, String, string_bytes, slice_index, codes}
+use Rattle.std.specs.Prelude.{◌≡◌, ℕ, List, [], ◌∷◌, ◌++◌, length, map, Bool, true, false, not, ◌==◌, ◌||◌, if◌then◌else◌, Option, Some, None, Result, Ok, Err, String, string_bytes, slice_index, codes, decimal}
 use Rattle.ops_base.specs.declared.endings.Ending.{Ending}
 use Rattle.ops_base.specs.declared.endings.Ending.TheVariants as ending
 use Rattle.ops_base.specs.declared.endings.Fault.{Fault}
 use Rattle.ops_base.specs.declared.endings.Fault.TheVariants as fault
-use Rattle.ops_base.specs.Valid.{longest_list}
+use Rattle.ops_base.specs.declared.endings.Limit.{Limit}
+use Rattle.ops_base.specs.declared.endings.Limit.TheVariants as limit
 use Rattle.ops_io.specs.Outside.{GrewBy, GrewByPrefix}
 use Rattle.ops_io.specs.Output.{column_after}
 use Rattle.ops_meaning.specs.declared.statuses.Status.{Status}
@@ -12,7 +13,8 @@ use Rattle.ops_meaning.specs.declared.statuses.Status.TheVariants as status
 use Rattle.ops_meaning.specs.declared.states.Memory.{Memory}
 use Rattle.ops_meaning.specs.Effects.{Effect}
 use Rattle.ops_meaning.specs.Layout.{usage_line, unread_line, last_line}
-use Rattle.ops_meaning.specs.Reads.{Read, reads}
+use Rattle.ops_meaning.specs.Places.{line_of, column_of}
+use Rattle.ops_meaning.specs.Reads.{Read, Placed, reads}
 use Rattle.ops_meaning.specs.Running.{Setting, session_of, ending_of}
 
 -- the bytes that are written, and the status
@@ -44,6 +46,11 @@ text_of bytes = if ends_in_line bytes then bytes else bytes ++ 10 ∷ []
 
 -- ---- the answer to a text
 
+abbrev pub limit_text : Limit → List ℕ
+limit_text limit.Conditions = codes "limit passed: conditions"
+limit_text limit.Fields = codes "limit passed: fields"
+limit_text limit.Nesting = codes "limit passed: nesting"
+
 abbrev pub fault_text : Fault → List ℕ
 fault_text fault.BadByte = codes "bad byte"
 fault_text fault.Unclosed = codes "unclosed"
@@ -62,12 +69,19 @@ fault_text fault.FirstNegated = codes "first condition negated"
 fault_text fault.UnboundVariable = codes "unbound variable"
 fault_text fault.BadDesignator = codes "bad designator"
 fault_text fault.AmbiguousDesignator = codes "ambiguous designator"
-fault_text (fault.LimitPassed l) = codes "limit passed"
+fault_text (fault.LimitPassed l) = limit_text l
 fault_text fault.TooLong = codes "text too long"
 
--- a refusal stands at line 1, column 1
-abbrev pub refused : Fault → Outcome
-refused f = record { bytes = codes "ops: 1:1: " ++ fault_text f ++ 10 ∷ []; status = status.Refused f 1 1 }
+-- the line of a fault that stands at this line and column
+abbrev pub fault_line : Fault → ℕ → ℕ → List ℕ
+fault_line f line column = codes "ops: " ++ decimal line ++ codes ":" ++ decimal column ++ codes ": " ++ fault_text f ++ 10 ∷ []
+
+abbrev pub refused_at : Fault → ℕ → ℕ → Outcome
+refused_at f line column = record { bytes = fault_line f line column; status = status.Refused f line column }
+
+-- a text is refused at the line and column of its fault
+abbrev pub refused : List ℕ → Placed → Outcome
+refused text p = refused_at p.fault (line_of text p.at) (column_of text p.at)
 
 abbrev pub status_of : Ending → Status
 status_of (ending.Done firings elements last_tag) = status.Done
@@ -85,18 +99,14 @@ told e =
 abbrev pub setting_of : Read → Setting
 setting_of p = record { names = p.names; classes = p.classes; rules = p.rules }
 
-abbrev pub answer_read : Result Read Fault → Outcome
-answer_read (Err f) = refused f
-answer_read (Ok p) = told (session_of (setting_of p) p.commands)
+abbrev pub answer_read : List ℕ → Result Read Placed → Outcome
+answer_read text (Err p) = refused text p
+answer_read text (Ok p) = told (session_of (setting_of p) p.commands)
 
 abbrev pub answer_to : List ℕ → Outcome
-answer_to text = answer_read (reads text)
+answer_to text = answer_read text (reads text)
 
 -- ---- the whole
-
--- A file that fits, with its LF, is answered as a text; one that does not is no text of the grammar.
-abbrev pub answer_file : List ℕ → Outcome
-answer_file bytes = if nat_le (length (text_of bytes)) longest_list then answer_to (text_of bytes) else refused fault.BadForm
 
 abbrev pub unread : List ℕ → Outcome
 unread name = record { bytes = unread_line name; status = status.ReadFault }
@@ -105,7 +115,7 @@ unread name = record { bytes = unread_line name; status = status.ReadFault }
 abbrev pub whole_file : List ℕ → Option (List ℕ) → Bool → Outcome
 whole_file name content true = unread name
 whole_file name None false = unread name
-whole_file name (Some bytes) false = answer_file bytes
+whole_file name (Some bytes) false = answer_to (text_of bytes)
 
 abbrev pub whole : List (List ℕ) → Option (List ℕ) → Bool → Outcome
 whole words content broken =

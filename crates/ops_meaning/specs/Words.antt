@@ -1,6 +1,6 @@
 -- The words of a text.
 use Rattle.std.specs.Prelude.{ℕ, zero, suc, List, [], ◌∷◌, length, codes, bytes_eq, Bool, true, false, if◌then◌else◌, Option, Some, None, Ok, Err}
-use Rattle.ops_base.specs.Names.{Spellings, only_nil, place_of, with_spelling}
+use Rattle.ops_base.specs.Names.{Spellings, place_of, with_spelling}
 use Rattle.ops_tokens.specs.declared.token.Token.{Token}
 use Rattle.ops_tokens.specs.declared.token.TokenKind.{TokenKind}
 use Rattle.ops_tokens.specs.declared.token.TokenKind.TheVariants as kind
@@ -50,26 +50,37 @@ abbrev pub word_of : Spellings → Token → List ℕ → Word
 word_of names t s =
     record { kind = t.kind; keyword = keyword_of t.kind s; name = record { 0 = name_in names t.kind s }; first = t.first; past = t.past }
 
--- the words of a text up to its end or its first lexical fault, and the names in them
+-- the words of tokens of a text, where these names are held before them
+abbrev pub words_from : List ℕ → Spellings → List Token → List Word
+words_from text names [] = []
+words_from text names (t ∷ ts) = word_of names t (spelling text t) ∷ words_from text (names_with names t.kind (spelling text t)) ts
+
+-- the names that are held behind them
+abbrev pub names_from : List ℕ → Spellings → List Token → Spellings
+names_from text names [] = names
+names_from text names (t ∷ ts) = names_from text (names_with names t.kind (spelling text t)) ts
+
+-- the tokens of a text up to its end or its first lexical fault
 pub record Lexed : Type 0 where
-  pub words : List Word
-  pub names : Spellings
+  pub tokens : List Token
   pub stop : Option LexFault
 
-abbrev pub led_by : Word → Lexed → Lexed
-led_by w l = record { words = w ∷ l.words; names = l.names; stop = l.stop }
+abbrev pub led_by : Token → Lexed → Lexed
+led_by t l = record { tokens = t ∷ l.tokens; stop = l.stop }
 
-abbrev pub lexed_after : (ℕ → Spellings → Lexed) → List ℕ → Spellings → Next → Lexed
-lexed_after rest text names (Ok None) = record { words = []; names = names; stop = None }
-lexed_after rest text names (Ok (Some t)) =
-    led_by (word_of names t (spelling text t)) (rest t.past (names_with names t.kind (spelling text t)))
-lexed_after rest text names (Err f) = record { words = []; names = names; stop = Some f }
+abbrev pub lexed_after : (ℕ → Lexed) → Next → Lexed
+lexed_after rest (Ok None) = record { tokens = []; stop = None }
+lexed_after rest (Ok (Some t)) = led_by t (rest t.past)
+lexed_after rest (Err f) = record { tokens = []; stop = Some f }
 
--- at most n words from a place on, where these names are held
-abbrev pub lexed_from : ℕ → List ℕ → ℕ → Spellings → Lexed
-lexed_from zero text from names = record { words = []; names = names; stop = None }
-lexed_from (suc n) text from names = lexed_after (lexed_from n text) text names (token_at text from)
+-- at most n tokens from a place on
+abbrev pub lexed_from : ℕ → List ℕ → ℕ → Lexed
+lexed_from zero text from = record { tokens = []; stop = None }
+lexed_from (suc n) text from = lexed_after (lexed_from n text) (token_at text from)
 
--- all words: a text has no more of them than bytes
+-- all tokens from a place on: a text has no more of them than bytes
+abbrev pub lexed_at : List ℕ → ℕ → Lexed
+lexed_at text from = lexed_from (suc (length text)) text from
+
 abbrev pub lexed : List ℕ → Lexed
-lexed text = lexed_from (suc (length text)) text 0 only_nil
+lexed text = lexed_at text 0

@@ -1,0 +1,73 @@
+-- The grammar alone: which words may stand where something is wanted, whatever was declared and bound before them.
+use Rattle.std.specs.Prelude.{◌≡◌, ℕ, List, [], ◌∷◌, Bool, true, false, ◌||◌, is_some}
+use Rattle.ops_base.specs.declared.endings.Fault.{Fault}
+use Rattle.ops_base.specs.declared.endings.Fault.TheVariants as fault
+use Rattle.ops_tokens.specs.declared.token.TokenKind.{TokenKind}
+use Rattle.ops_tokens.specs.declared.token.TokenKind.TheVariants as kind
+use Rattle.ops_meaning.specs.declared.words.Word.{Word}
+use Rattle.ops_meaning.specs.declared.words.Keyword.TheVariants as keyword
+use Rattle.ops_meaning.specs.Grammar.{Use, InPattern, InPut, InFixed, Ends, EndsRun, EndsHalt, EndsCrlf, Wanted, Forms, Form, ClassDeclared, Attributes, RuleName, FirstPattern, Patterns, ClassName, Terms, Attribute, ValueFor, Actions, ActionWord, Cell, Cells, Items, ItemWord, Closes, is_left, is_right, is_caret, is_name, is_variable, constant_of}
+
+-- WHOLE
+abbrev pub is_whole : TokenKind → Bool
+is_whole (kind.Whole n) = true
+is_whole _ = false
+
+-- WHOLE | NAME | VARIABLE
+abbrev pub is_value : Word → Bool
+is_value w = is_some (constant_of w.kind w.name) || is_variable w.kind
+
+-- The words derive from what is wanted, one case for each line of the grammar.
+pub data Derives : List Wanted → List Word → Type 0 where
+  nothing : Derives [] []
+  -- text = form*
+  no_form : {ws : List Wanted} {ts : List Word} → Derives ws ts → Derives (Forms ∷ ws) ts
+  a_form : {ws : List Wanted} {w : Word} {ts : List Word} → is_left w.kind ≡ true → Derives (Form ∷ Forms ∷ ws) ts → Derives (Forms ∷ ws) (w ∷ ts)
+  -- form = ( literalize NAME NAME* )
+  a_literalize : {ws : List Wanted} {w : Word} {ts : List Word} → w.keyword ≡ keyword.Literalize → Derives (ClassDeclared ∷ Attributes ∷ ws) ts → Derives (Form ∷ ws) (w ∷ ts)
+  a_class : {ws : List Wanted} {w : Word} {ts : List Word} → is_name w.kind ≡ true → Derives ws ts → Derives (ClassDeclared ∷ ws) (w ∷ ts)
+  an_attribute : {ws : List Wanted} {w : Word} {ts : List Word} → is_name w.kind ≡ true → Derives (Attributes ∷ ws) ts → Derives (Attributes ∷ ws) (w ∷ ts)
+  no_attribute : {ws : List Wanted} {w : Word} {ts : List Word} → is_right w.kind ≡ true → Derives ws ts → Derives (Attributes ∷ ws) (w ∷ ts)
+  -- form = ( p NAME first pattern* --> action* )
+  a_production : {ws : List Wanted} {w : Word} {ts : List Word} → w.keyword ≡ keyword.Production → Derives (RuleName ∷ FirstPattern ∷ Patterns ∷ Actions ∷ ws) ts → Derives (Form ∷ ws) (w ∷ ts)
+  a_rule : {ws : List Wanted} {w : Word} {ts : List Word} → is_name w.kind ≡ true → Derives ws ts → Derives (RuleName ∷ ws) (w ∷ ts)
+  a_first : {ws : List Wanted} {w : Word} {ts : List Word} → is_left w.kind ≡ true → Derives (ClassName ∷ Terms InPattern ∷ ws) ts → Derives (FirstPattern ∷ ws) (w ∷ ts)
+  a_pattern : {ws : List Wanted} {w : Word} {ts : List Word} → is_left w.kind ≡ true → Derives (ClassName ∷ Terms InPattern ∷ Patterns ∷ ws) ts → Derives (Patterns ∷ ws) (w ∷ ts)
+  an_arrow : {ws : List Wanted} {w : Word} {ts : List Word} → w.keyword ≡ keyword.Arrow → Derives ws ts → Derives (Patterns ∷ ws) (w ∷ ts)
+  -- form = ( make CLASS fixed* ), form = ( run )
+  a_make : {ws : List Wanted} {w : Word} {ts : List Word} → w.keyword ≡ keyword.Make → Derives (ClassName ∷ Terms InFixed ∷ ws) ts → Derives (Form ∷ ws) (w ∷ ts)
+  a_run : {ws : List Wanted} {w : Word} {ts : List Word} → w.keyword ≡ keyword.Run → Derives (Closes EndsRun ∷ ws) ts → Derives (Form ∷ ws) (w ∷ ts)
+  -- CLASS, and term = ^ ATTR value, also put and fixed
+  a_class_name : {ws : List Wanted} {w : Word} {ts : List Word} → is_name w.kind ≡ true → Derives ws ts → Derives (ClassName ∷ ws) (w ∷ ts)
+  a_term : {u : Use} {ws : List Wanted} {w : Word} {ts : List Word} → is_caret w.kind ≡ true → Derives (Attribute u ∷ Terms u ∷ ws) ts → Derives (Terms u ∷ ws) (w ∷ ts)
+  no_term : {u : Use} {ws : List Wanted} {w : Word} {ts : List Word} → is_right w.kind ≡ true → Derives ws ts → Derives (Terms u ∷ ws) (w ∷ ts)
+  an_attribute_name : {u : Use} {f : ℕ} {ws : List Wanted} {w : Word} {ts : List Word} → is_name w.kind ≡ true → Derives (ValueFor u f ∷ ws) ts → Derives (Attribute u ∷ ws) (w ∷ ts)
+  a_value : {u : Use} {f : ℕ} {ws : List Wanted} {w : Word} {ts : List Word} → is_value w ≡ true → Derives ws ts → Derives (ValueFor u f ∷ ws) (w ∷ ts)
+  -- action = ( make CLASS put* ) | ( remove WHOLE WHOLE* ) | ( write item* ) | ( halt )
+  an_action : {ws : List Wanted} {w : Word} {ts : List Word} → is_left w.kind ≡ true → Derives (ActionWord ∷ Actions ∷ ws) ts → Derives (Actions ∷ ws) (w ∷ ts)
+  no_action : {ws : List Wanted} {w : Word} {ts : List Word} → is_right w.kind ≡ true → Derives ws ts → Derives (Actions ∷ ws) (w ∷ ts)
+  to_make : {ws : List Wanted} {w : Word} {ts : List Word} → w.keyword ≡ keyword.Make → Derives (ClassName ∷ Terms InPut ∷ ws) ts → Derives (ActionWord ∷ ws) (w ∷ ts)
+  to_remove : {ws : List Wanted} {w : Word} {ts : List Word} → w.keyword ≡ keyword.Remove → Derives (Cell ∷ Cells ∷ ws) ts → Derives (ActionWord ∷ ws) (w ∷ ts)
+  to_write : {ws : List Wanted} {w : Word} {ts : List Word} → w.keyword ≡ keyword.Write → Derives (Items ∷ ws) ts → Derives (ActionWord ∷ ws) (w ∷ ts)
+  to_halt : {ws : List Wanted} {w : Word} {ts : List Word} → w.keyword ≡ keyword.Halt → Derives (Closes EndsHalt ∷ ws) ts → Derives (ActionWord ∷ ws) (w ∷ ts)
+  a_cell : {ws : List Wanted} {w : Word} {ts : List Word} → is_whole w.kind ≡ true → Derives ws ts → Derives (Cell ∷ ws) (w ∷ ts)
+  one_more_cell : {ws : List Wanted} {w : Word} {ts : List Word} → is_whole w.kind ≡ true → Derives (Cells ∷ ws) ts → Derives (Cells ∷ ws) (w ∷ ts)
+  no_more_cells : {ws : List Wanted} {w : Word} {ts : List Word} → is_right w.kind ≡ true → Derives ws ts → Derives (Cells ∷ ws) (w ∷ ts)
+  -- item = value | ( crlf )
+  an_item : {ws : List Wanted} {w : Word} {ts : List Word} → is_value w ≡ true → Derives (Items ∷ ws) ts → Derives (Items ∷ ws) (w ∷ ts)
+  an_item_form : {ws : List Wanted} {w : Word} {ts : List Word} → is_left w.kind ≡ true → Derives (ItemWord ∷ Items ∷ ws) ts → Derives (Items ∷ ws) (w ∷ ts)
+  no_item : {ws : List Wanted} {w : Word} {ts : List Word} → is_right w.kind ≡ true → Derives ws ts → Derives (Items ∷ ws) (w ∷ ts)
+  a_crlf : {ws : List Wanted} {w : Word} {ts : List Word} → w.keyword ≡ keyword.Crlf → Derives (Closes EndsCrlf ∷ ws) ts → Derives (ItemWord ∷ ws) (w ∷ ts)
+  -- )
+  a_closing : {e : Ends} {ws : List Wanted} {w : Word} {ts : List Word} → is_right w.kind ≡ true → Derives ws ts → Derives (Closes e ∷ ws) (w ∷ ts)
+
+-- the words are a text of the grammar
+abbrev pub IsText : List Word → Type 0
+IsText words = Derives (Forms ∷ []) words
+
+-- the fault says that a word continues no form of the grammar
+abbrev pub is_no_form : Fault → Bool
+is_no_form fault.Stray = true
+is_no_form fault.UnknownCommand = true
+is_no_form fault.BadForm = true
+is_no_form _ = false
