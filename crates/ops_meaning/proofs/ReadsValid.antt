@@ -1,7 +1,6 @@
 -- What is read is a valid program.
-use Rattle.std.proofs.Common.{◌≡◌, ℕ, suc, zero, ◌≤◌, Bool, true, false, cond, List, [], ◌∷◌, length, refl, sym, ap, ◌∙◌, arith, Option, Some, None, Result, Ok, Err, IfOk, IfSome, nat_lt}
+use Rattle.std.proofs.Common.{◌≡◌, ℕ, suc, zero, ◌<◌, ◌≤◌, Bool, true, false, cond, List, [], ◌∷◌, length, refl, sym, ap, ◌∙◌, arith, Option, Some, None, Result, Ok, Err, IfOk, IfSome, nat_lt}
 use Rattle.std.proofs.lemmas.Bool.{and_from, le-leb, ltb-false}
-use Rattle.ops_base.specs.declared.endings.Fault.{Fault}
 use Rattle.ops_base.specs.declared.endings.Fault.TheVariants as fault
 use Rattle.ops_base.specs.Names.{Spellings, only_nil}
 use Rattle.ops_base.specs.Valid.{longest_list, is_valid}
@@ -10,40 +9,36 @@ use Rattle.ops_tokens.specs.Tokens.{StandsFrom, token_at, spelling}
 use Rattle.ops_tokens.specs.declared.token.Token.{Token}
 use Rattle.ops_tokens.proofs.Clauses.{token-place}
 use Rattle.ops_meaning.specs.declared.words.Word.{Word}
-use Rattle.ops_meaning.specs.Words.{Lexed, lexed, lexed_from, lexed_after, names_with}
-use Rattle.ops_meaning.specs.Grammar.{Wanted, Forms, State, Step, Stops, Next, Refuses, Outcome, step, ends, after, goes, nothing_read}
-use Rattle.ops_meaning.specs.Reads.{Read, verdict, read_words, reads}
+use Rattle.ops_meaning.specs.Words.{Lexed, lexed, lexed_from, lexed_after, word_of, words_from, names_from, names_with}
+use Rattle.ops_meaning.specs.Grammar.{Wanted, Forms, State, Step, Next, Refuses, Outcome, step, ends, after, goes, nothing_read}
+use Rattle.ops_meaning.specs.Reads.{Read, Placed, verdict, read_lexed, reads}
 use Rattle.ops_meaning.proofs.Grown.{fits_below}
-use Rattle.ops_meaning.proofs.Sound.{IsShort, IsClear, Program, IsRead, at_forms, Leads}
-use Rattle.ops_meaning.proofs.Steps.{IsPlaced, step_leads}
+use Rattle.ops_meaning.proofs.Sound.{IsShort, Program, IsRead, at_forms, Leads}
+use Rattle.ops_meaning.proofs.Steps.{step_leads}
 
--- the words stand in a text of this length from the place on, one behind the other
-abbrev pub ArePlaced : ℕ → ℕ → List Word → Type 0
+-- the tokens stand in a text of this length from the place on, one behind the other
+abbrev pub ArePlaced : ℕ → ℕ → List Token → Type 0
 ArePlaced text n [] = n ≤ text
-ArePlaced text n (w ∷ words) = IsPlaced text n w × ArePlaced text w.past words
+ArePlaced text n (t ∷ ts) = (n ≤ t.first) × (t.first < t.past) × (t.past ≤ text) × ArePlaced text t.past ts
 
--- ---- the words of a text
+-- ---- the tokens of a text
 
-abbrev Rest : Type 0
-Rest = ℕ → Spellings → Lexed
+after_placed : (rest : ℕ → Lexed) (text : List ℕ) (from : ℕ) → from ≤ length text → ((past : ℕ) → past ≤ length text → ArePlaced (length text) past (rest past).tokens)
+    → (r : Result (Option Token) LexFault) → IfOk r (λ found. IfSome found (StandsFrom text from)) → ArePlaced (length text) from (lexed_after rest r).tokens
+after_placed rest text from le ih (Ok None) stands = le
+after_placed rest text from le ih (Ok (Some t)) stands = (stands.begins, stands.some, stands.lies.within, ih t.past stands.lies.within)
+after_placed rest text from le ih (Err f) stands = le
 
-after_placed : (rest : Rest) (text : List ℕ) (names : Spellings) (from : ℕ) → from ≤ length text → ((past : ℕ) (more : Spellings) → past ≤ length text → ArePlaced (length text) past (rest past more).words)
-    → (r : Result (Option Token) LexFault) → IfOk r (λ found. IfSome found (StandsFrom text from)) → ArePlaced (length text) from (lexed_after rest text names r).words
-after_placed rest text names from le ih (Ok None) stands = le
-after_placed rest text names from le ih (Ok (Some t)) stands =
-    (record { begins = stands.begins; some = stands.some; within = stands.lies.within }, ih t.past (names_with names t.kind (spelling text t)) stands.lies.within)
-after_placed rest text names from le ih (Err f) stands = le
+lexed_placed : (n : ℕ) (text : List ℕ) (from : ℕ) → from ≤ length text → ArePlaced (length text) from (lexed_from n text from).tokens
+lexed_placed zero text from le = le
+lexed_placed (suc n) text from le =
+    after_placed (lexed_from n text) text from le (λ past within. lexed_placed n text past within) (token_at text from) (token-place text from le)
 
-lexed_placed : (n : ℕ) (text : List ℕ) (from : ℕ) (names : Spellings) → from ≤ length text → ArePlaced (length text) from (lexed_from n text from names).words
-lexed_placed zero text from names le = le
-lexed_placed (suc n) text from names le =
-    after_placed (lexed_from n text) text names from le (λ past more within. lexed_placed n text past more within) (token_at text from) (token-place text from le)
+-- ---- the walk over their words
 
--- ---- the walk over them
-
--- what was read is valid, where nothing was used that is not there
+-- what was read is valid
 abbrev IsDone : ℕ → Outcome → Type 0
-IsDone text (Ok x) = IsClear x.0 → is_valid x.0.classes x.0.rules x.0.commands text ≡ true
+IsDone text (Ok s) = is_valid s.classes s.rules s.commands text ≡ true
 IsDone text (Err e) = Unit {0}
 
 valid_of : (text n : ℕ) (s : State) → text ≤ longest_list → n ≤ text → IsShort n s → Program text s → is_valid s.classes s.rules s.commands text ≡ true
@@ -55,42 +50,40 @@ valid_of text n s fit within short p =
 
 ends_done : (text n : ℕ) (ws : List Wanted) (s : State) → text ≤ longest_list → n ≤ text → IsShort n s → IsRead text s ws → IsDone text (ends ws s)
 unfolding ends
-ends_done text n ws s fit within short (at_forms g) = λ c. valid_of text n s fit within short (g c)
+ends_done text n ws s fit within short (at_forms g) = valid_of text n s fit within short g
 ends_done text n ws s fit within short _ = tt
 
-goes_by : (text n : ℕ) (w : Word) (words : List Word) (r : Step) → ((ws : List Wanted) (s : State) → IsShort n s → IsRead text s ws → IsDone text (goes words ws s)) → Leads text n r → IsDone text (after (goes words) w words r)
-goes_by text n w words (Stops s) ih leads = absurd leads
+goes_by : (text n : ℕ) (w : Word) (words : List Word) (r : Step) → ((ws : List Wanted) (s : State) → IsShort n s → IsRead text s ws → IsDone text (goes words ws s)) → Leads text n r → IsDone text (after (goes words) w r)
 goes_by text n w words (Next ws s) ih leads = ih ws s leads.0 leads.1
 goes_by text n w words (Refuses f) ih leads = tt
 
-goes_done : (words : List Word) (text n : ℕ) (ws : List Wanted) (s : State) → text ≤ longest_list → ArePlaced text n words → IsShort n s → IsRead text s ws → IsDone text (goes words ws s)
+goes_done : (source : List ℕ) (names : Spellings) (ts : List Token) (text n : ℕ) (ws : List Wanted) (s : State) → text ≤ longest_list → ArePlaced text n ts → IsShort n s → IsRead text s ws → IsDone text (goes (words_from source names ts) ws s)
 unfolding goes
-goes_done [] text n ws s fit placed short read = ends_done text n ws s fit placed short read
-goes_done (w ∷ words) text n ws s fit placed short read =
-    goes_by text w.past w words (step w ws s) (λ ws' s' short' read'. goes_done words text w.past ws' s' fit placed.1 short' read') (step_leads text n w fit placed.0 s ws short read)
+goes_done source names [] text n ws s fit placed short read = ends_done text n ws s fit placed short read
+goes_done source names (t ∷ ts) text n ws s fit placed short read =
+    let names' = names_with names t.kind (spelling source t) in
+    let w = word_of names t (spelling source t) in
+    goes_by text t.past w (words_from source names' ts) (step w ws s) (λ ws' s' short' read'. goes_done source names' ts text t.past ws' s' fit placed.3 short' read')
+    (step_leads text n w fit (record { begins = placed.0; some = placed.1; within = placed.2 }) s ws short read)
 
 -- ---- the law
 
-by_flags : (unknown unbound : Bool) (r p : Read) → (let x : Result Read Fault = cond unknown (Err fault.UnknownClass) (cond unbound (Err fault.UnboundVariable) (Ok r)) in x ≡ Ok p) → (unknown ≡ false) × (unbound ≡ false) × (r ≡ p)
-by_flags true unbound r p e = absurd (cc)
-by_flags false true r p e = absurd (cc)
-by_flags false false r p e = (refl, refl, cc)
-
-verdict_valid : (text : ℕ) (names : Spellings) (stop : Option LexFault) (o : Outcome) (p : Read) → IsDone text o → verdict names stop o ≡ Ok p → is_valid p.classes p.rules p.commands text ≡ true
-verdict_valid text names (Some f) o p done e = absurd (cc)
-verdict_valid text names None (Err f) p done e = absurd (cc)
-verdict_valid text names None (Ok x) p done e =
-    let h = by_flags x.0.unknown x.0.unbound (record { classes = x.0.classes; rules = x.0.rules; commands = x.0.commands; names = names }) p e in
-    ap (λ (q : Read). is_valid q.classes q.rules q.commands text) (sym h.2) ∙ done (h.0, h.1)
+verdict_valid : (text : ℕ) (names : Spellings) (stop : Option LexFault) (o : Outcome) (p : Read) → IsDone text o → verdict text names stop o ≡ Ok p → is_valid p.classes p.rules p.commands text ≡ true
+verdict_valid text names stop (Err (f, Some w)) p done e = absurd (cc)
+verdict_valid text names stop (Err (f, None)) p done e = absurd (cc)
+verdict_valid text names (Some f) (Ok s) p done e = absurd (cc)
+verdict_valid text names None (Ok s) p done e =
+    let same : record { classes = s.classes; rules = s.rules; commands = s.commands; names = names } ≡ p = cc in
+    ap (λ (q : Read). is_valid q.classes q.rules q.commands text) (sym same) ∙ done
 
 nothing_valid : (text : ℕ) → Program text nothing_read
 nothing_valid text = record { classes_valid = refl; rules_valid = refl; commands_valid = refl; class_names = refl; rule_names = refl }
 
-by_length : (text : List ℕ) (p : Read) (long : Bool) → nat_lt longest_list (length text) ≡ long → (let x : Result Read Fault = cond long (Err fault.BadForm) (read_words (lexed text)) in x ≡ Ok p) → is_valid p.classes p.rules p.commands (length text) ≡ true
+by_length : (text : List ℕ) (p : Read) (long : Bool) → nat_lt longest_list (length text) ≡ long → (let x : Result Read Placed = cond long (Err (record { fault = fault.TooLong; at = 0 })) (read_lexed text (lexed text)) in x ≡ Ok p) → is_valid p.classes p.rules p.commands (length text) ≡ true
 by_length text p true is e = absurd (cc)
 by_length text p false is e =
-    verdict_valid (length text) (lexed text).names (lexed text).stop (goes (lexed text).words (Forms ∷ []) nothing_read) p
-    (goes_done (lexed text).words (length text) 0 (Forms ∷ []) nothing_read (ltb-false longest_list (length text) is) (lexed_placed (suc (length text)) text 0 only_nil (omega arith)) (omega arith) (at_forms (λ c. nothing_valid (length text))))
+    verdict_valid (length text) (names_from text only_nil (lexed text).tokens) (lexed text).stop (goes (words_from text only_nil (lexed text).tokens) (Forms ∷ []) nothing_read) p
+    (goes_done text only_nil (lexed text).tokens (length text) 0 (Forms ∷ []) nothing_read (ltb-false longest_list (length text) is) (lexed_placed (suc (length text)) text 0 (omega arith)) (omega arith) (at_forms (nothing_valid (length text))))
     e
 
 pub reads-valid : (text : List ℕ) (p : Read) → reads text ≡ Ok p → is_valid p.classes p.rules p.commands (length text) ≡ true

@@ -10,7 +10,7 @@ use Rattle.ops_base.specs.declared.rules.Rule.{Rule}
 use Rattle.ops_base.specs.declared.commands.Command.{Command}
 use Rattle.ops_base.specs.Valid.{most_fields, most_conditions, are_distinct, class_of, class_is_valid, is_attribute, Sight, tests_are_valid, sight_after_tests, conditions_are_valid, sight_after_conditions, nothing_in_sight, first_is_positive, known_of, is_cell, Known, known_after_actions, put_is_valid, item_is_valid, actions_are_valid, rule_is_valid, fixed_is_valid, command_is_valid}
 use Rattle.ops_meaning.specs.declared.words.Named.{Named}
-use Rattle.ops_meaning.specs.Grammar.{Use, InPattern, InPut, InFixed, EndsRun, EndsHalt, EndsCrlf, Wanted, Forms, Form, ClassDeclared, Attributes, RuleName, Patterns, ClassName, Terms, Attribute, ValueFor, Actions, ActionWord, Cell, Cells, Items, ItemWord, Closes, State, Step, Stops, Next, Refuses}
+use Rattle.ops_meaning.specs.Grammar.{Use, InPattern, InPut, InFixed, EndsRun, EndsHalt, EndsCrlf, Wanted, Forms, Form, ClassDeclared, Attributes, RuleName, FirstPattern, Patterns, ClassName, Terms, Attribute, ValueFor, Actions, ActionWord, Cell, Cells, Items, ItemWord, Closes, State, Step, Next, Refuses}
 
 -- the form that is read began before the place, and no list is longer than the place
 abbrev pub IsShort : ℕ → State → Type 0
@@ -109,34 +109,30 @@ behind InPattern = Patterns ∷ Actions ∷ Forms ∷ []
 behind InPut = Actions ∷ Forms ∷ []
 behind InFixed = Forms ∷ []
 
--- nothing was used that is not there
-abbrev pub IsClear : State → Type 0
-IsClear s = (s.unknown ≡ false) × (s.unbound ≡ false)
-
--- what may be wanted, and what then holds where nothing was used that is not there
+-- what may be wanted, and what then holds
 pub data IsRead (text : ℕ) (s : State) : List Wanted → Type 0 where
-  at_forms : (IsClear s → Program text s) → IsRead text s (Forms ∷ [])
-  at_form : (IsClear s → Program text s) → IsRead text s (Form ∷ Forms ∷ [])
-  at_class_declared : (IsClear s → Declaring text s) → IsRead text s (ClassDeclared ∷ Attributes ∷ Forms ∷ [])
-  at_attributes : (IsClear s → Declaring text s × IsClass s.classes s.name s.attrs) → IsRead text s (Attributes ∷ Forms ∷ [])
-  at_rule_name : (IsClear s → Program text s) → IsRead text s (RuleName ∷ Patterns ∷ Actions ∷ Forms ∷ [])
-  at_patterns : (IsClear s → Head text s × (s.tests ≡ []) × (s.actions ≡ [])) → IsRead text s (Patterns ∷ Actions ∷ Forms ∷ [])
-  at_class_name : (u : Use) → (IsClear s → Around u text s × IsEmpty u s) → IsRead text s (ClassName ∷ Terms u ∷ behind u)
-  at_terms : (u : Use) → (IsClear s → IsElement u text s) → IsRead text s (Terms u ∷ behind u)
-  at_attribute : (u : Use) → (IsClear s → IsElement u text s) → IsRead text s (Attribute u ∷ Terms u ∷ behind u)
-  at_value : (u : Use) → (f : ℕ) → (IsClear s → IsElement u text s × (is_attribute (class_of s.classes s.class) f ≡ true)) → IsRead text s (ValueFor u f ∷ Terms u ∷ behind u)
-  at_actions : (IsClear s → Body text s) → IsRead text s (Actions ∷ Forms ∷ [])
-  at_action_word : (IsClear s → Body text s) → IsRead text s (ActionWord ∷ Actions ∷ Forms ∷ [])
-  at_cell : (IsClear s → Body text s × (list_all (is_cell (known s.conditions s.actions)) s.cells ≡ true)) → IsRead text s (Cell ∷ Cells ∷ Actions ∷ Forms ∷ [])
-  at_cells : (IsClear s → Body text s × (list_all (is_cell (known s.conditions s.actions)) s.cells ≡ true)) → IsRead text s (Cells ∷ Actions ∷ Forms ∷ [])
-  at_items : (IsClear s → Body text s × (list_all (item_is_valid s.classes (known s.conditions s.actions)) s.items ≡ true)) → IsRead text s (Items ∷ Actions ∷ Forms ∷ [])
-  at_item_word : (IsClear s → Body text s × (list_all (item_is_valid s.classes (known s.conditions s.actions)) s.items ≡ true)) → IsRead text s (ItemWord ∷ Items ∷ Actions ∷ Forms ∷ [])
-  at_crlf : (IsClear s → Body text s × (list_all (item_is_valid s.classes (known s.conditions s.actions)) s.items ≡ true)) → IsRead text s (Closes EndsCrlf ∷ Items ∷ Actions ∷ Forms ∷ [])
-  at_halt : (IsClear s → Body text s) → IsRead text s (Closes EndsHalt ∷ Actions ∷ Forms ∷ [])
-  at_run : (IsClear s → Program text s) → IsRead text s (Closes EndsRun ∷ Forms ∷ [])
+  at_forms : (Program text s) → IsRead text s (Forms ∷ [])
+  at_form : (Program text s) → IsRead text s (Form ∷ Forms ∷ [])
+  at_class_declared : (Declaring text s) → IsRead text s (ClassDeclared ∷ Attributes ∷ Forms ∷ [])
+  at_attributes : (Declaring text s × IsClass s.classes s.name s.attrs) → IsRead text s (Attributes ∷ Forms ∷ [])
+  at_rule_name : (Program text s) → IsRead text s (RuleName ∷ FirstPattern ∷ Patterns ∷ Actions ∷ Forms ∷ [])
+  at_first_pattern : (Head text s × (s.tests ≡ []) × (s.actions ≡ []) × (length s.conditions ≡ 0)) → IsRead text s (FirstPattern ∷ Patterns ∷ Actions ∷ Forms ∷ [])
+  at_patterns : (Head text s × (s.tests ≡ []) × (s.actions ≡ []) × (0 < length s.conditions)) → IsRead text s (Patterns ∷ Actions ∷ Forms ∷ [])
+  at_class_name : (u : Use) → (Around u text s × IsEmpty u s) → IsRead text s (ClassName ∷ Terms u ∷ behind u)
+  at_terms : (u : Use) → (IsElement u text s) → IsRead text s (Terms u ∷ behind u)
+  at_attribute : (u : Use) → (IsElement u text s) → IsRead text s (Attribute u ∷ Terms u ∷ behind u)
+  at_value : (u : Use) → (f : ℕ) → (IsElement u text s × (is_attribute (class_of s.classes s.class) f ≡ true)) → IsRead text s (ValueFor u f ∷ Terms u ∷ behind u)
+  at_actions : (Body text s) → IsRead text s (Actions ∷ Forms ∷ [])
+  at_action_word : (Body text s) → IsRead text s (ActionWord ∷ Actions ∷ Forms ∷ [])
+  at_cell : (Body text s × (list_all (is_cell (known s.conditions s.actions)) s.cells ≡ true)) → IsRead text s (Cell ∷ Cells ∷ Actions ∷ Forms ∷ [])
+  at_cells : (Body text s × (list_all (is_cell (known s.conditions s.actions)) s.cells ≡ true)) → IsRead text s (Cells ∷ Actions ∷ Forms ∷ [])
+  at_items : (Body text s × (list_all (item_is_valid s.classes (known s.conditions s.actions)) s.items ≡ true)) → IsRead text s (Items ∷ Actions ∷ Forms ∷ [])
+  at_item_word : (Body text s × (list_all (item_is_valid s.classes (known s.conditions s.actions)) s.items ≡ true)) → IsRead text s (ItemWord ∷ Items ∷ Actions ∷ Forms ∷ [])
+  at_crlf : (Body text s × (list_all (item_is_valid s.classes (known s.conditions s.actions)) s.items ≡ true)) → IsRead text s (Closes EndsCrlf ∷ Items ∷ Actions ∷ Forms ∷ [])
+  at_halt : (Body text s) → IsRead text s (Closes EndsHalt ∷ Actions ∷ Forms ∷ [])
+  at_run : (Program text s) → IsRead text s (Closes EndsRun ∷ Forms ∷ [])
 
 -- where a step leads, up to a place
 abbrev pub Leads : ℕ → ℕ → Step → Type 0
-Leads text n (Stops s) = ⊥
 Leads text n (Next ws s) = IsShort n s × IsRead text s ws
 Leads text n (Refuses f) = Unit {0}

@@ -1,7 +1,7 @@
 -- Each word leads from what is sound to what is sound.
-use Rattle.std.proofs.Common.{◌≡◌, ℕ, ◌-◌, ◌<◌, ◌≤◌, Bool, true, false, not, ◌&&◌, ◌==◌, List, [], ◌∷◌, ◌++◌, length, refl, sym, ap, subst, ◌∙◌, arith, Option, Some, None, nat_lt, length-append, unwrap_or, true≢false, slice_get, position}
+use Rattle.std.proofs.Common.{◌≡◌, ℕ, ◌-◌, ◌<◌, ◌≤◌, Bool, true, false, ◌==◌, List, [], ◌∷◌, ◌++◌, length, refl, sym, ap, subst, ◌∙◌, arith, Option, Some, None, nat_lt, length-append, unwrap_or, true≢false, slice_get, position, get_or}
 use Rattle.std.specs.List.{list_all}
-use Rattle.std.proofs.lemmas.Bool.{and_parts, and_from, cond_both, eqb-true, eqb-false, lt-ltb, ltb-true, ltb-false, not-true, not_from_false}
+use Rattle.std.proofs.lemmas.Bool.{and_parts, and_from, cond_both, eqb-true, lt-ltb, ltb-true, ltb-false, not_from_false}
 use Rattle.std.proofs.lemmas.List.Quantifiers.{position-Some}
 use Rattle.std.proofs.lemmas.Option.{slice_get-get_or}
 use Rattle.ops_base.specs.declared.values.Value.{Value}
@@ -26,9 +26,9 @@ use Rattle.ops_tokens.specs.declared.token.TokenKind.TheVariants as kind
 use Rattle.ops_meaning.specs.declared.words.Word.{Word}
 use Rattle.ops_meaning.specs.declared.words.Keyword.{Keyword}
 use Rattle.ops_meaning.specs.declared.words.Keyword.TheVariants as keyword
-use Rattle.ops_meaning.specs.Grammar.{Use, InPattern, InPut, InFixed, EndsRun, EndsHalt, EndsCrlf, Wanted, Forms, Attributes, Patterns, Terms, Actions, Cells, Items, State, Next, is_left, is_right, is_caret, is_name, is_variable, is_arrow, is_crlf, constant_of, natural_of, is_one_of, number_of, may_declare, is_class, is_rule, form, class_declared, attribute_declared, attributes, class_at, class_name, attributes_of, field_at, attribute_of, attribute, with_constant, with_named, with_variable, with_put_variable, value_for, with_element, terms, rule_name, patterns, actions, action_word, cell_of, cell, cells, with_item_variable, item_value, items, item_word, closes, forms, step}
+use Rattle.ops_meaning.specs.Grammar.{Use, InPattern, InPut, InFixed, EndsRun, EndsHalt, EndsCrlf, Wanted, Forms, Attributes, FirstPattern, Patterns, Terms, Actions, Cells, Items, State, Next, is_left, is_right, is_caret, is_name, is_variable, is_arrow, is_crlf, constant_of, natural_of, is_one_of, number_of, may_declare, is_class, is_rule, form, class_declared, attribute_declared, attributes, class_at, class_name, attributes_of, field_at, attribute, with_constant, variable_for, with_variable, put_variable, value_for, with_element, terms, rule_name, first_pattern, patterns, actions, action_word, cell_of, cell, cells, item_variable, item_value, items, item_word, closes, forms, step}
 use Rattle.ops_meaning.proofs.Lists.{all_push, not_below}
-use Rattle.ops_meaning.proofs.Sound.{IsShort, IsHead, IsBody, numbers, known, Program, Declaring, IsClass, Head, Body, Around, IsEmpty, IsElement, behind, IsClear, IsRead, at_forms, at_form, at_class_declared, at_attributes, at_rule_name, at_patterns, at_class_name, at_terms, at_attribute, at_value, at_actions, at_action_word, at_cell, at_cells, at_items, at_item_word, at_crlf, at_halt, at_run, Leads}
+use Rattle.ops_meaning.proofs.Sound.{IsShort, IsHead, IsBody, numbers, known, Program, Declaring, IsClass, Head, Body, Around, IsEmpty, IsElement, behind, IsRead, at_forms, at_form, at_class_declared, at_attributes, at_rule_name, at_first_pattern, at_patterns, at_class_name, at_terms, at_attribute, at_value, at_actions, at_action_word, at_cell, at_cells, at_items, at_item_word, at_crlf, at_halt, at_run, Leads}
 use Rattle.ops_meaning.proofs.Grown.{fits_below, class_begun, attribute_added, class_added, number_in, head_begun, test_kept, test_bound, test_valid, condition_added, body_begun, action_added, rule_added, put_valid, command_added, fixed_valid}
 
 -- the word stands in a text of this length, from the place on
@@ -44,7 +44,7 @@ some_first (c ∷ cs) e = omega arith
 module _ (text n : ℕ) (w : Word) (fit : text ≤ longest_list) (placed : IsPlaced text n w) where
   -- ---- declarations
 
-  forms_leads : (s : State) → IsShort n s → (IsClear s → Program text s) → Leads text w.past (forms w [] s)
+  forms_leads : (s : State) → IsShort n s → (Program text s) → Leads text w.past (forms w [] s)
   forms_leads s short g = cond_both (is_left w.kind) _ _ (Leads text w.past) (λ _. (omega arith, at_form g)) (λ _. tt)
 
   declaring : (s : State) → Program text s → may_declare s ≡ true → Declaring text s
@@ -52,30 +52,30 @@ module _ (text n : ℕ) (w : Word) (fit : text ≤ longest_list) (placed : IsPla
       let parts = and_parts (length s.rules == 0) (length s.commands == 0) e in
       record { program = p; no_rules = eqb-true _ _ parts.0; no_commands = eqb-true _ _ parts.1 }
 
-  form_leads : (s : State) → IsShort n s → (IsClear s → Program text s) → (k : Keyword) → Leads text w.past (form w k (Forms ∷ []) s)
-  form_leads s short g keyword.Literalize = cond_both (may_declare s) _ _ (Leads text w.past) (λ e. (omega arith, at_class_declared (λ c. declaring s (g c) e))) (λ _. tt)
+  form_leads : (s : State) → IsShort n s → (Program text s) → (k : Keyword) → Leads text w.past (form w k (Forms ∷ []) s)
+  form_leads s short g keyword.Literalize = cond_both (may_declare s) _ _ (Leads text w.past) (λ e. (omega arith, at_class_declared (declaring s g e))) (λ _. tt)
   form_leads s short g keyword.Production = cond_both (length s.commands == 0) _ _ (Leads text w.past) (λ _. (omega arith, at_rule_name g)) (λ _. tt)
-  form_leads s short g keyword.Make = (omega arith, at_class_name InFixed (λ c. (g c, refl)))
+  form_leads s short g keyword.Make = (omega arith, at_class_name InFixed ((g, refl)))
   form_leads s short g keyword.Run = (omega arith, at_run g)
   form_leads s short g _ = tt
 
-  class_declared_leads : (s : State) → IsShort n s → (IsClear s → Declaring text s) → Leads text w.past (class_declared w (Attributes ∷ Forms ∷ []) s)
+  class_declared_leads : (s : State) → IsShort n s → (Declaring text s) → Leads text w.past (class_declared w (Attributes ∷ Forms ∷ []) s)
   class_declared_leads s short g =
       cond_both (is_name w.kind) _ _ (Leads text w.past)
-      (λ _. cond_both (is_class s w.name) _ _ (Leads text w.past) (λ _. tt) (λ e. (omega arith, at_attributes (λ c. (g c, class_begun s.classes w.name e)))))
+      (λ _. cond_both (is_class s w.name) _ _ (Leads text w.past) (λ _. tt) (λ e. (omega arith, at_attributes ((g, class_begun s.classes w.name e)))))
       (λ _. tt)
 
-  attribute_declared_leads : (s : State) → IsShort n s → (IsClear s → Declaring text s × IsClass s.classes s.name s.attrs) → Leads text w.past (attribute_declared w (Forms ∷ []) s)
+  attribute_declared_leads : (s : State) → IsShort n s → (Declaring text s × IsClass s.classes s.name s.attrs) → Leads text w.past (attribute_declared w (Forms ∷ []) s)
   attribute_declared_leads s short g =
       cond_both (is_one_of w.name s.attrs) _ _ (Leads text w.past) (λ _. tt)
       (λ e. cond_both (nat_lt (length s.attrs) most_fields) _ _ (Leads text w.past)
-      (λ lt. (omega arith, at_attributes (λ c. let h = g c in (h.0, attribute_added s.classes s.name s.attrs w.name h.1 e (ltb-true _ _ lt)))))
+      (λ lt. (omega arith, at_attributes ((g.0, attribute_added s.classes s.name s.attrs w.name g.1 e (ltb-true _ _ lt)))))
       (λ _. tt))
 
-  attributes_leads : (s : State) → IsShort n s → (IsClear s → Declaring text s × IsClass s.classes s.name s.attrs) → Leads text w.past (attributes w (Forms ∷ []) s)
+  attributes_leads : (s : State) → IsShort n s → (Declaring text s × IsClass s.classes s.name s.attrs) → Leads text w.past (attributes w (Forms ∷ []) s)
   attributes_leads s short g =
       cond_both (is_right w.kind) _ _ (Leads text w.past)
-      (λ _. (omega (arith, length-append {A = Class}), at_forms (λ c. let h = g c in class_added text s.classes s.rules s.commands s.name s.attrs h.0 h.1)))
+      (λ _. (omega (arith, length-append {A = Class}), at_forms (class_added text s.classes s.rules s.commands s.name s.attrs g.0 g.1)))
       (λ _. cond_both (is_name w.kind) _ _ (Leads text w.past) (λ _. attribute_declared_leads s short g) (λ _. tt))
 
   -- ---- elements
@@ -85,29 +85,27 @@ module _ (text n : ℕ) (w : Word) (fit : text ≤ longest_list) (placed : IsPla
   element_named InPut s c h lt = record { around = h.0; class = lt; fields = ap (list_all (put_is_valid s.classes (known s.conditions s.actions) (class_of s.classes c))) h.1 }
   element_named InFixed s c h lt = record { around = h.0; class = lt; fields = ap (list_all (fixed_is_valid (class_of s.classes c))) h.1 }
 
-  class_at_leads : (u : Use) (s : State) → IsShort n s → (IsClear s → Around u text s × IsEmpty u s) → (o : Option ℕ) → position (λ c. c.name.0 == w.name.0) s.classes ≡ o → Leads text w.past (class_at o (Terms u ∷ behind u) s)
+  class_at_leads : (u : Use) (s : State) → IsShort n s → (Around u text s × IsEmpty u s) → (o : Option ℕ) → position (λ c. c.name.0 == w.name.0) s.classes ≡ o → Leads text w.past (class_at o (Terms u ∷ behind u) s)
   class_at_leads u s short g (Some c) e =
-      (omega arith, at_terms u (λ k. element_named u s c (g k) (position-Some (λ c. c.name.0 == w.name.0) s.classes c no_class e).0))
-  class_at_leads u s short g None e = (omega arith, at_terms u (λ k. absurd (true≢false k.0)))
+      (omega arith, at_terms u (element_named u s c g (position-Some (λ c. c.name.0 == w.name.0) s.classes c no_class e).0))
+  class_at_leads u s short g None e = tt
 
-  class_name_leads : (u : Use) (s : State) → IsShort n s → (IsClear s → Around u text s × IsEmpty u s) → Leads text w.past (class_name w (Terms u ∷ behind u) s)
+  class_name_leads : (u : Use) (s : State) → IsShort n s → (Around u text s × IsEmpty u s) → Leads text w.past (class_name w (Terms u ∷ behind u) s)
   class_name_leads u s short g =
       cond_both (is_name w.kind) _ _ (Leads text w.past) (λ _. class_at_leads u s short g (position (λ c. c.name.0 == w.name.0) s.classes) refl) (λ _. tt)
 
-  field_at_leads : (u : Use) (s : State) → IsShort n s → (IsClear s → IsElement u text s) → (c : Class) → slice_get s.classes s.class ≡ Some c → (o : Option ℕ) → position (λ a. a.0 == w.name.0) c.attrs ≡ o → Leads text w.past (field_at u o (Terms u ∷ behind u) s)
-  field_at_leads u s short g c is None e = tt
-  field_at_leads u s short g c is (Some f) e =
-      let lt : f < length c.attrs = (position-Some (λ a. a.0 == w.name.0) c.attrs f (record { 0 = 0 }) e).0 in
-      (omega arith, at_value u f (λ k. (g k, ap (λ (o : Option Class). nat_lt f (length (unwrap_or o no_class).attrs)) is ∙ lt-ltb _ _ lt)))
+  field_at_leads : (u : Use) (s : State) → IsShort n s → IsElement u text s → (o : Option ℕ) → position (λ a. a.0 == w.name.0) (attributes_of (slice_get s.classes s.class)) ≡ o → Leads text w.past (field_at u o (Terms u ∷ behind u) s)
+  field_at_leads u s short g None e = tt
+  field_at_leads u s short g (Some f) e =
+      let c = get_or s.classes s.class no_class in
+      let here : slice_get s.classes s.class ≡ Some c = slice_get-get_or s.classes s.class no_class g.class in
+      let lt : f < length c.attrs = (position-Some (λ a. a.0 == w.name.0) c.attrs f (record { 0 = 0 }) (rw here at e)).0 in
+      (omega arith, at_value u f (g, ap (λ (o : Option Class). nat_lt f (length (unwrap_or o no_class).attrs)) here ∙ lt-ltb _ _ lt))
 
-  attribute_of_leads : (u : Use) (s : State) → IsShort n s → (IsClear s → IsElement u text s) → (o : Option Class) → slice_get s.classes s.class ≡ o → Leads text w.past (attribute_of u w (attributes_of o) (Terms u ∷ behind u) s)
-  attribute_of_leads u s short g None is =
-      (omega arith, at_value u 0 (λ k. let here = slice_get-get_or s.classes s.class no_class (g k).class in absurd (cc)))
-  attribute_of_leads u s short g (Some c) is = field_at_leads u s short g c is (position (λ a. a.0 == w.name.0) c.attrs) refl
-
-  attribute_leads : (u : Use) (s : State) → IsShort n s → (IsClear s → IsElement u text s) → Leads text w.past (attribute u w (Terms u ∷ behind u) s)
+  attribute_leads : (u : Use) (s : State) → IsShort n s → IsElement u text s → Leads text w.past (attribute u w (Terms u ∷ behind u) s)
   attribute_leads u s short g =
-      cond_both (is_name w.kind) _ _ (Leads text w.past) (λ _. attribute_of_leads u s short g (slice_get s.classes s.class) refl) (λ _. tt)
+      cond_both (is_name w.kind) _ _ (Leads text w.past)
+      (λ _. field_at_leads u s short g (position (λ a. a.0 == w.name.0) (attributes_of (slice_get s.classes s.class))) refl) (λ _. tt)
 
   abbrev HasAttribute : State → ℕ → Type 0
   HasAttribute s f = is_attribute (class_of s.classes s.class) f ≡ true
@@ -121,127 +119,131 @@ module _ (text n : ℕ) (w : Word) (fit : text ≤ longest_list) (placed : IsPla
             (put_valid s.classes (known s.conditions s.actions) (class_of s.classes s.class) f t a valid);
       }
 
-  constant_leads : (u : Use) (f : ℕ) (v : Value) (s : State) → IsShort n s → (IsClear s → IsElement u text s × HasAttribute s f) → Leads text w.past (Next (Terms u ∷ behind u) (with_constant u s f v))
+  constant_leads : (u : Use) (f : ℕ) (v : Value) (s : State) → IsShort n s → (IsElement u text s × HasAttribute s f) → Leads text w.past (Next (Terms u ∷ behind u) (with_constant u s f v))
   constant_leads InPattern f v s short g = (
     omega (arith, length-append {A = Test}),
-    at_terms InPattern (λ k. let h = g k in record {
-      around = (test_kept text s.classes s.rules s.commands s.name s.values s.conditions s.tests f (operand.Constant v) h.0.around.0, h.0.around.1, h.0.around.2);
-      class = h.0.class;
-      fields = test_valid text s.classes s.rules s.commands s.name (class_of s.classes s.class) s.values s.conditions s.tests f (operand.Constant v) false h.0.around.0 h.0.fields h.1 refl;
+    at_terms InPattern (record {
+      around = (test_kept text s.classes s.rules s.commands s.name s.values s.conditions s.tests f (operand.Constant v) g.0.around.0, g.0.around.1, g.0.around.2);
+      class = g.0.class;
+      fields = test_valid text s.classes s.rules s.commands s.name (class_of s.classes s.class) s.values s.conditions s.tests f (operand.Constant v) false g.0.around.0 g.0.fields g.1 refl;
     }),
   )
   constant_leads InPut f v s short g = (
     omega (arith, length-append {A = Put}),
-    at_terms InPut (λ k. let h = g k in put_added s f (term.Constant v) h.0 h.1 (λ b. refl)),
+    at_terms InPut (put_added s f (term.Constant v) g.0 g.1 (λ b. refl)),
   )
   constant_leads InFixed f v s short g = (
     omega (arith, length-append {A = Fixed}),
-    at_terms InFixed (λ k. let h = g k in record {
-      around = h.0.around;
-      class = h.0.class;
-      fields = all_push (fixed_is_valid (class_of s.classes s.class)) s.fixed (record { field = f; values = v ∷ [] }) h.0.fields (fixed_valid s.classes s.class f v h.0.around.classes_valid h.0.class h.1);
+    at_terms InFixed (record {
+      around = g.0.around;
+      class = g.0.class;
+      fields = all_push (fixed_is_valid (class_of s.classes s.class)) s.fixed (record { field = f; values = v ∷ [] }) g.0.fields (fixed_valid s.classes s.class f v g.0.around.classes_valid g.0.class g.1);
     }),
   )
 
-  variable_leads : (f : ℕ) (s : State) → IsShort n s → (IsClear s → IsElement InPattern text s × HasAttribute s f) → (o : Option ℕ) → number_of w.name s.values ≡ o → Leads text w.past (Next (Terms InPattern ∷ behind InPattern) (with_variable s f w.name o))
+  variable_leads : (f : ℕ) (s : State) → IsShort n s → (IsElement InPattern text s × HasAttribute s f) → (o : Option ℕ) → number_of w.name s.values ≡ o → Leads text w.past (Next (Terms InPattern ∷ behind InPattern) (with_variable s f w.name o))
   variable_leads f s short g (Some m) e = (
     omega (arith, length-append {A = Test}),
-    at_terms InPattern (λ k. let h = g k in record {
-      around = (test_kept text s.classes s.rules s.commands s.name s.values s.conditions s.tests f (operand.Variable m) h.0.around.0, h.0.around.1, h.0.around.2);
-      class = h.0.class;
-      fields = test_valid text s.classes s.rules s.commands s.name (class_of s.classes s.class) s.values s.conditions s.tests f (operand.Variable m) false h.0.around.0 h.0.fields h.1 (number_in w.name s.values m e);
+    at_terms InPattern (record {
+      around = (test_kept text s.classes s.rules s.commands s.name s.values s.conditions s.tests f (operand.Variable m) g.0.around.0, g.0.around.1, g.0.around.2);
+      class = g.0.class;
+      fields = test_valid text s.classes s.rules s.commands s.name (class_of s.classes s.class) s.values s.conditions s.tests f (operand.Variable m) false g.0.around.0 g.0.fields g.1 (number_in w.name s.values m e);
     }),
   )
   variable_leads f s short g None e = (
     omega (arith, length-append {A = Test}),
-    at_terms InPattern (λ k. let h = g k in record {
-      around = (test_bound text s.classes s.rules s.commands s.name s.values s.conditions s.tests f w.name h.0.around.0, h.0.around.1, h.0.around.2);
-      class = h.0.class;
-      fields = test_valid text s.classes s.rules s.commands s.name (class_of s.classes s.class) s.values s.conditions s.tests f (operand.Variable (length s.values)) true h.0.around.0 h.0.fields h.1
-          (not_from_false _ (not_below (numbers s.values) (length s.values) h.0.around.0.below));
+    at_terms InPattern (record {
+      around = (test_bound text s.classes s.rules s.commands s.name s.values s.conditions s.tests f w.name g.0.around.0, g.0.around.1, g.0.around.2);
+      class = g.0.class;
+      fields = test_valid text s.classes s.rules s.commands s.name (class_of s.classes s.class) s.values s.conditions s.tests f (operand.Variable (length s.values)) true g.0.around.0 g.0.fields g.1
+          (not_from_false _ (not_below (numbers s.values) (length s.values) g.0.around.0.below));
     }),
   )
 
-  put_variable_leads : (f : ℕ) (s : State) → IsShort n s → (IsClear s → IsElement InPut text s × HasAttribute s f) → (o : Option ℕ) → number_of w.name s.values ≡ o → Leads text w.past (Next (Terms InPut ∷ behind InPut) (with_put_variable s f o))
+  put_variable_leads : (f : ℕ) (s : State) → IsShort n s → IsElement InPut text s × HasAttribute s f → (o : Option ℕ) → number_of w.name s.values ≡ o → Leads text w.past (put_variable f o (Terms InPut ∷ behind InPut) s)
   put_variable_leads f s short g (Some m) e = (
     omega (arith, length-append {A = Put}),
-    at_terms InPut (λ k. let h = g k in put_added s f (term.Variable m) h.0 h.1 (λ b. ap (is_in m) h.0.around.bound ∙ number_in w.name s.values m e)),
+    at_terms InPut (put_added s f (term.Variable m) g.0 g.1 (λ b. ap (is_in m) g.0.around.bound ∙ number_in w.name s.values m e)),
   )
-  put_variable_leads f s short g None e = (omega arith, at_terms InPut (λ k. absurd (true≢false k.1)))
+  put_variable_leads f s short g None e = tt
 
-  named_leads : (u : Use) (f : ℕ) (s : State) → IsShort n s → (IsClear s → IsElement u text s × HasAttribute s f) → Leads text w.past (Next (Terms u ∷ behind u) (with_named u s f w.name))
+  named_leads : (u : Use) (f : ℕ) (s : State) → IsShort n s → IsElement u text s × HasAttribute s f → Leads text w.past (variable_for u f (number_of w.name s.values) w.name (Terms u ∷ behind u) s)
   named_leads InPattern f s short g = variable_leads f s short g (number_of w.name s.values) refl
   named_leads InPut f s short g = put_variable_leads f s short g (number_of w.name s.values) refl
-  named_leads InFixed f s short g = (omega arith, at_terms InFixed (λ k. absurd (true≢false k.1)))
+  named_leads InFixed f s short g = tt
 
-  value_leads : (u : Use) (f : ℕ) (s : State) → IsShort n s → (IsClear s → IsElement u text s × HasAttribute s f) → (o : Option Value) → Leads text w.past (value_for u f w o (Terms u ∷ behind u) s)
+  value_leads : (u : Use) (f : ℕ) (s : State) → IsShort n s → IsElement u text s × HasAttribute s f → (o : Option Value) → Leads text w.past (value_for u f w o (Terms u ∷ behind u) s)
   value_leads u f s short g (Some v) = constant_leads u f v s short g
   value_leads u f s short g None = cond_both (is_variable w.kind) _ _ (Leads text w.past) (λ _. named_leads u f s short g) (λ _. tt)
 
   place_fits : n ≤ longest_list
   place_fits = omega arith
 
-  element_leads : (u : Use) (s : State) → IsShort n s → (IsClear s → IsElement u text s) → Leads text w.past (Next (behind u) (with_element u s))
+  element_leads : (u : Use) (s : State) → IsShort n s → (IsElement u text s) → Leads text w.past (Next (behind u) (with_element u s))
   element_leads InPattern s short g = (
     omega arith,
-    at_patterns (λ k. let h = g k in (
-      condition_added text s.classes s.rules s.commands s.name s.class s.values s.conditions s.tests h.around.0 h.around.1 h.class (fits_below s.tests n short.4 place_fits) h.fields,
+    at_patterns ((
+      condition_added text s.classes s.rules s.commands s.name s.class s.values s.conditions s.tests g.around.0 g.around.1 g.class (fits_below s.tests n short.4 place_fits) g.fields,
       refl,
-      h.around.2,
+      g.around.2,
+      omega (arith, length-append {A = Condition}),
     )),
   )
   element_leads InPut s short g = (
     omega (arith, length-append {A = Action}),
-    at_actions (λ k. let h = g k in action_added text s.classes s.rules s.commands s.name s.values s.conditions s.actions (action.Make s.class s.puts) h.around
-        (and_from _ _ (lt-ltb _ _ h.class) (and_from _ _ (fits_below s.puts n short.5 place_fits) h.fields)) refl refl refl),
+    at_actions (action_added text s.classes s.rules s.commands s.name s.values s.conditions s.actions (action.Make s.class s.puts) g.around
+        (and_from _ _ (lt-ltb _ _ g.class) (and_from _ _ (fits_below s.puts n short.5 place_fits) g.fields)) refl refl refl),
   )
   element_leads InFixed s short g = (
     omega (arith, length-append {A = Command}),
-    at_forms (λ k. let h = g k in command_added text s.classes s.rules s.commands (command.Make s.class s.fixed) h.around
-        (and_from _ _ (and_from _ _ (lt-ltb _ _ h.class) (fits_below s.fixed n short.6 place_fits)) h.fields)),
+    at_forms (command_added text s.classes s.rules s.commands (command.Make s.class s.fixed) g.around
+        (and_from _ _ (and_from _ _ (lt-ltb _ _ g.class) (fits_below s.fixed n short.6 place_fits)) g.fields)),
   )
 
-  terms_leads : (u : Use) (s : State) → IsShort n s → (IsClear s → IsElement u text s) → Leads text w.past (terms u w (behind u) s)
+  terms_leads : (u : Use) (s : State) → IsShort n s → (IsElement u text s) → Leads text w.past (terms u w (behind u) s)
   terms_leads u s short g =
       cond_both (is_right w.kind) _ _ (Leads text w.past) (λ _. element_leads u s short g)
       (λ _. cond_both (is_caret w.kind) _ _ (Leads text w.past) (λ _. (omega arith, at_attribute u g)) (λ _. tt))
 
   -- ---- productions
 
-  rule_name_leads : (s : State) → IsShort n s → (IsClear s → Program text s) → Leads text w.past (rule_name w (Patterns ∷ Actions ∷ Forms ∷ []) s)
+  rule_name_leads : (s : State) → IsShort n s → Program text s → Leads text w.past (rule_name w (FirstPattern ∷ Patterns ∷ Actions ∷ Forms ∷ []) s)
   rule_name_leads s short g =
       cond_both (is_name w.kind) _ _ (Leads text w.past)
       (λ _. cond_both (is_rule s w.name) _ _ (Leads text w.past) (λ _. tt)
-      (λ e. (omega arith, at_patterns (λ k. (head_begun text s.classes s.rules s.commands w.name (g k) e, refl, refl)))))
+      (λ e. (omega arith, at_first_pattern (head_begun text s.classes s.rules s.commands w.name g e, refl, refl, refl))))
       (λ _. tt)
 
-  body_at_arrow : (s : State) → Head text s × (s.tests ≡ []) × (s.actions ≡ []) → (is_arrow w.keyword && not (length s.conditions == 0)) ≡ true → Body text s
-  body_at_arrow s h e =
-      let ne : (length s.conditions ≡ 0) → ⊥ = eqb-false (length s.conditions) 0 (not-true _ (and_parts (is_arrow w.keyword) (not (length s.conditions == 0)) e).1) in
-      let head = subst (λ (ts : List Test). IsHead text s.classes s.rules s.commands s.name s.values s.conditions ts) h.1 h.0 in
-      subst (λ (xs : List Action). IsBody text s.classes s.rules s.commands s.name s.values s.conditions xs) (sym h.2) (body_begun text s.classes s.rules s.commands s.name s.values s.conditions head (omega arith))
+  first_pattern_leads : (s : State) → IsShort n s → Head text s × (s.tests ≡ []) × (s.actions ≡ []) × (length s.conditions ≡ 0) → Leads text w.past (first_pattern w (Patterns ∷ Actions ∷ Forms ∷ []) s)
+  first_pattern_leads s short g =
+      cond_both (is_left w.kind) _ _ (Leads text w.past) (λ _. (omega arith, at_class_name InPattern ((g.0, omega (arith, g.3), g.2), g.1))) (λ _. tt)
 
-  patterns_leads : (s : State) → IsShort n s → (IsClear s → Head text s × (s.tests ≡ []) × (s.actions ≡ [])) → Leads text w.past (patterns w (Actions ∷ Forms ∷ []) s)
+  body_at_arrow : (s : State) → Head text s × (s.tests ≡ []) × (s.actions ≡ []) × (0 < length s.conditions) → Body text s
+  body_at_arrow s h =
+      let head = subst (λ (ts : List Test). IsHead text s.classes s.rules s.commands s.name s.values s.conditions ts) h.1 h.0 in
+      subst (λ (xs : List Action). IsBody text s.classes s.rules s.commands s.name s.values s.conditions xs) (sym h.2) (body_begun text s.classes s.rules s.commands s.name s.values s.conditions head h.3)
+
+  patterns_leads : (s : State) → IsShort n s → Head text s × (s.tests ≡ []) × (s.actions ≡ []) × (0 < length s.conditions) → Leads text w.past (patterns w (Actions ∷ Forms ∷ []) s)
   patterns_leads s short g =
-      cond_both (is_arrow w.keyword && not (length s.conditions == 0)) _ _ (Leads text w.past) (λ e. (omega arith, at_actions (λ k. body_at_arrow s (g k) e)))
+      cond_both (is_arrow w.keyword) _ _ (Leads text w.past) (λ _. (omega arith, at_actions (body_at_arrow s g)))
       (λ _. cond_both (is_left w.kind) _ _ (Leads text w.past)
       (λ _. cond_both (nat_lt (length s.conditions) most_conditions) _ _ (Leads text w.past)
-      (λ lt. (omega arith, at_class_name InPattern (λ k. let h = g k in ((h.0, ltb-true _ _ lt, h.2), h.1))))
+      (λ lt. (omega arith, at_class_name InPattern ((g.0, ltb-true _ _ lt, g.2), g.1)))
       (λ _. tt))
       (λ _. tt))
 
   rule_leads : (s : State) → IsShort n s → Body text s → Program text (record s { rules = s.rules ++ record { name = s.name; conditions = s.conditions; actions = s.actions; specificity = specificity s.conditions; variables = length s.values; cells = length s.conditions; first = s.first; past = w.past } ∷ [] })
   rule_leads s short h = rule_added text s.classes s.rules s.commands s.name s.values s.conditions s.actions s.first w.past h (fits_below s.actions n short.9 place_fits) (omega arith) placed.within
 
-  actions_leads : (s : State) → IsShort n s → (IsClear s → Body text s) → Leads text w.past (actions w (Forms ∷ []) s)
+  actions_leads : (s : State) → IsShort n s → (Body text s) → Leads text w.past (actions w (Forms ∷ []) s)
   actions_leads s short g =
-      cond_both (is_right w.kind) _ _ (Leads text w.past) (λ _. (omega (arith, length-append {A = Rule}), at_forms (λ k. rule_leads s short (g k))))
+      cond_both (is_right w.kind) _ _ (Leads text w.past) (λ _. (omega (arith, length-append {A = Rule}), at_forms (rule_leads s short g)))
       (λ _. cond_both (is_left w.kind) _ _ (Leads text w.past) (λ _. (omega arith, at_action_word g)) (λ _. tt))
 
-  action_word_leads : (s : State) → IsShort n s → (IsClear s → Body text s) → (k : Keyword) → Leads text w.past (action_word k (Actions ∷ Forms ∷ []) s)
-  action_word_leads s short g keyword.Make = (omega arith, at_class_name InPut (λ k. (g k, refl)))
-  action_word_leads s short g keyword.Remove = (omega arith, at_cell (λ k. (g k, refl)))
-  action_word_leads s short g keyword.Write = (omega arith, at_items (λ k. (g k, refl)))
+  action_word_leads : (s : State) → IsShort n s → (Body text s) → (k : Keyword) → Leads text w.past (action_word k (Actions ∷ Forms ∷ []) s)
+  action_word_leads s short g keyword.Make = (omega arith, at_class_name InPut ((g, refl)))
+  action_word_leads s short g keyword.Remove = (omega arith, at_cell ((g, refl)))
+  action_word_leads s short g keyword.Write = (omega arith, at_items ((g, refl)))
   action_word_leads s short g keyword.Halt = (omega arith, at_halt g)
   action_word_leads s short g _ = tt
 
@@ -253,67 +255,67 @@ module _ (text n : ℕ) (w : Word) (fit : text ≤ longest_list) (placed : IsPla
       let some : 0 < length s.conditions = some_first s.conditions h.0.some in
       all_push (is_cell (known s.conditions s.actions)) s.cells (m - 1) h.1 (lt-ltb _ _ (omega (arith, h.0.cells)))
 
-  cell_of_leads : (s : State) → IsShort n s → (IsClear s → HasCells s) → (o : Option ℕ) → Leads text w.past (cell_of o (Cells ∷ Actions ∷ Forms ∷ []) s)
+  cell_of_leads : (s : State) → IsShort n s → (HasCells s) → (o : Option ℕ) → Leads text w.past (cell_of o (Cells ∷ Actions ∷ Forms ∷ []) s)
   cell_of_leads s short g None = tt
   cell_of_leads s short g (Some m) =
       cond_both (nat_lt (length s.conditions) m) _ _ (Leads text w.past) (λ _. tt)
-      (λ e. (omega (arith, length-append {A = ℕ}), at_cells (λ k. let h = g k in (h.0, cell_added s m h (ltb-false _ _ e)))))
+      (λ e. (omega (arith, length-append {A = ℕ}), at_cells ((g.0, cell_added s m g (ltb-false _ _ e)))))
 
-  cell_leads : (s : State) → IsShort n s → (IsClear s → HasCells s) → (k : TokenKind) → Leads text w.past (cell k (Cells ∷ Actions ∷ Forms ∷ []) s)
+  cell_leads : (s : State) → IsShort n s → (HasCells s) → (k : TokenKind) → Leads text w.past (cell k (Cells ∷ Actions ∷ Forms ∷ []) s)
   cell_leads s short g (kind.Whole z) = cell_of_leads s short g (natural_of z)
   cell_leads s short g _ = tt
 
-  cells_leads : (s : State) → IsShort n s → (IsClear s → HasCells s) → Leads text w.past (cells w (Actions ∷ Forms ∷ []) s)
+  cells_leads : (s : State) → IsShort n s → (HasCells s) → Leads text w.past (cells w (Actions ∷ Forms ∷ []) s)
   cells_leads s short g =
       cond_both (is_right w.kind) _ _ (Leads text w.past)
       (λ _. (
         omega (arith, length-append {A = Action}),
-        at_actions (λ k. let h = g k in action_added text s.classes s.rules s.commands s.name s.values s.conditions s.actions (action.Remove s.cells) h.0
-            (and_from _ _ (fits_below s.cells n short.7 place_fits) h.1) refl refl refl),
+        at_actions (action_added text s.classes s.rules s.commands s.name s.values s.conditions s.actions (action.Remove s.cells) g.0
+            (and_from _ _ (fits_below s.cells n short.7 place_fits) g.1) refl refl refl),
       ))
       (λ _. cell_leads s short g w.kind)
 
   abbrev HasItems : State → Type 0
   HasItems s = Body text s × (list_all (item_is_valid s.classes (known s.conditions s.actions)) s.items ≡ true)
 
-  item_added : (s : State) (i : Item) → IsShort n s → (IsClear s → HasItems s) → ((k : IsClear s) → item_is_valid s.classes (known s.conditions s.actions) i ≡ true) → Leads text w.past (Next (Items ∷ Actions ∷ Forms ∷ []) (record s { items = s.items ++ i ∷ [] }))
+  item_added : (s : State) (i : Item) → IsShort n s → (HasItems s) → (item_is_valid s.classes (known s.conditions s.actions) i ≡ true) → Leads text w.past (Next (Items ∷ Actions ∷ Forms ∷ []) (record s { items = s.items ++ i ∷ [] }))
   item_added s i short g valid =
-      (omega (arith, length-append {A = Item}), at_items (λ k. let h = g k in (h.0, all_push (item_is_valid s.classes (known s.conditions s.actions)) s.items i h.1 (valid k))))
+      (omega (arith, length-append {A = Item}), at_items ((g.0, all_push (item_is_valid s.classes (known s.conditions s.actions)) s.items i g.1 valid)))
 
-  item_variable_leads : (s : State) → IsShort n s → (IsClear s → HasItems s) → (o : Option ℕ) → number_of w.name s.values ≡ o → Leads text w.past (Next (Items ∷ Actions ∷ Forms ∷ []) (with_item_variable s o))
-  item_variable_leads s short g (Some m) e = item_added s (item.Print (term.Variable m)) short g (λ k. ap (is_in m) (g k).0.bound ∙ number_in w.name s.values m e)
-  item_variable_leads s short g None e = (omega arith, at_items (λ k. absurd (true≢false k.1)))
+  item_variable_leads : (s : State) → IsShort n s → (HasItems s) → (o : Option ℕ) → number_of w.name s.values ≡ o → Leads text w.past (item_variable o (Items ∷ Actions ∷ Forms ∷ []) s)
+  item_variable_leads s short g (Some m) e = item_added s (item.Print (term.Variable m)) short g (ap (is_in m) g.0.bound ∙ number_in w.name s.values m e)
+  item_variable_leads s short g None e = tt
 
-  item_value_leads : (s : State) → IsShort n s → (IsClear s → HasItems s) → (o : Option Value) → Leads text w.past (item_value w o (Items ∷ Actions ∷ Forms ∷ []) s)
-  item_value_leads s short g (Some v) = item_added s (item.Print (term.Constant v)) short g (λ k. refl)
+  item_value_leads : (s : State) → IsShort n s → (HasItems s) → (o : Option Value) → Leads text w.past (item_value w o (Items ∷ Actions ∷ Forms ∷ []) s)
+  item_value_leads s short g (Some v) = item_added s (item.Print (term.Constant v)) short g refl
   item_value_leads s short g None = cond_both (is_variable w.kind) _ _ (Leads text w.past) (λ _. item_variable_leads s short g (number_of w.name s.values) refl) (λ _. tt)
 
-  items_leads : (s : State) → IsShort n s → (IsClear s → HasItems s) → Leads text w.past (items w (Actions ∷ Forms ∷ []) s)
+  items_leads : (s : State) → IsShort n s → (HasItems s) → Leads text w.past (items w (Actions ∷ Forms ∷ []) s)
   items_leads s short g =
       cond_both (is_right w.kind) _ _ (Leads text w.past)
       (λ _. (
         omega (arith, length-append {A = Action}),
-        at_actions (λ k. let h = g k in action_added text s.classes s.rules s.commands s.name s.values s.conditions s.actions (action.Write s.items) h.0
-            (and_from _ _ (fits_below s.items n short.8 place_fits) h.1) refl refl refl),
+        at_actions (action_added text s.classes s.rules s.commands s.name s.values s.conditions s.actions (action.Write s.items) g.0
+            (and_from _ _ (fits_below s.items n short.8 place_fits) g.1) refl refl refl),
       ))
       (λ _. cond_both (is_left w.kind) _ _ (Leads text w.past) (λ _. (omega arith, at_item_word g)) (λ _. item_value_leads s short g (constant_of w.kind w.name)))
 
-  item_word_leads : (s : State) → IsShort n s → (IsClear s → HasItems s) → Leads text w.past (item_word w (Items ∷ Actions ∷ Forms ∷ []) s)
+  item_word_leads : (s : State) → IsShort n s → (HasItems s) → Leads text w.past (item_word w (Items ∷ Actions ∷ Forms ∷ []) s)
   item_word_leads s short g = cond_both (is_crlf w.keyword) _ _ (Leads text w.past) (λ _. (omega arith, at_crlf g)) (λ _. tt)
 
-  crlf_leads : (s : State) → IsShort n s → (IsClear s → HasItems s) → Leads text w.past (closes EndsCrlf w (Items ∷ Actions ∷ Forms ∷ []) s)
-  crlf_leads s short g = cond_both (is_right w.kind) _ _ (Leads text w.past) (λ _. item_added s item.Crlf short g (λ k. refl)) (λ _. tt)
+  crlf_leads : (s : State) → IsShort n s → (HasItems s) → Leads text w.past (closes EndsCrlf w (Items ∷ Actions ∷ Forms ∷ []) s)
+  crlf_leads s short g = cond_both (is_right w.kind) _ _ (Leads text w.past) (λ _. item_added s item.Crlf short g refl) (λ _. tt)
 
-  halt_leads : (s : State) → IsShort n s → (IsClear s → Body text s) → Leads text w.past (closes EndsHalt w (Actions ∷ Forms ∷ []) s)
+  halt_leads : (s : State) → IsShort n s → (Body text s) → Leads text w.past (closes EndsHalt w (Actions ∷ Forms ∷ []) s)
   halt_leads s short g =
       cond_both (is_right w.kind) _ _ (Leads text w.past)
-      (λ _. (omega (arith, length-append {A = Action}), at_actions (λ k. action_added text s.classes s.rules s.commands s.name s.values s.conditions s.actions action.Halt (g k) refl refl refl refl)))
+      (λ _. (omega (arith, length-append {A = Action}), at_actions (action_added text s.classes s.rules s.commands s.name s.values s.conditions s.actions action.Halt g refl refl refl refl)))
       (λ _. tt)
 
-  run_leads : (s : State) → IsShort n s → (IsClear s → Program text s) → Leads text w.past (closes EndsRun w (Forms ∷ []) s)
+  run_leads : (s : State) → IsShort n s → (Program text s) → Leads text w.past (closes EndsRun w (Forms ∷ []) s)
   run_leads s short g =
       cond_both (is_right w.kind) _ _ (Leads text w.past)
-      (λ _. (omega (arith, length-append {A = Command}), at_forms (λ k. command_added text s.classes s.rules s.commands (command.Run None) (g k) refl)))
+      (λ _. (omega (arith, length-append {A = Command}), at_forms (command_added text s.classes s.rules s.commands (command.Run None) g refl)))
       (λ _. tt)
 
   -- ---- a word
@@ -325,6 +327,7 @@ module _ (text n : ℕ) (w : Word) (fit : text ≤ longest_list) (placed : IsPla
   step_leads s ws short (at_class_declared g) = class_declared_leads s short g
   step_leads s ws short (at_attributes g) = attributes_leads s short g
   step_leads s ws short (at_rule_name g) = rule_name_leads s short g
+  step_leads s ws short (at_first_pattern g) = first_pattern_leads s short g
   step_leads s ws short (at_patterns g) = patterns_leads s short g
   step_leads s ws short (at_class_name u g) = class_name_leads u s short g
   step_leads s ws short (at_terms u g) = terms_leads u s short g

@@ -3,7 +3,7 @@ use Rattle.std.proofs.Common.{◌≡◌, ℕ, suc, ◌+◌, nat_lt, ◌||◌, Bo
 use Prim.Native.Nat.compare
 use Rattle.std.proofs.lemmas.Bool.Decides.{nat_tests}
 use Rattle.std.specs.List.{list_any, position_or_len}
-use Rattle.ops_check.specs.Firsts.{or_else}
+use Rattle.ops_forms.specs.Firsts.{or_else}
 
 suc_lt : (n l : ℕ) → nat_lt (suc n) (suc l) ≡ nat_lt n l
 suc_lt n l = rw (compare.suc-suc (suc n) l) refl

@@ -2,13 +2,14 @@
 ghost use Rattle.std.specs.Prelude.{◌≡◌, ◌==◌, ◌++◌, ◌∷◌, ℕ, List, [], length, position, slice_get, nat_eq, IfErr, OnErr, OnOk};
 ghost use Rattle.std.specs.Option.{option_copied};
 ghost use Rattle.indexmap.specs.IndexMap.{get};
-ghost use Rattle.ops_check.specs.Firsts.{or_else, AreFirsts};
+ghost use Rattle.ops_forms.specs.Firsts.{or_else, AreFirsts};
 
-use crate::refusals::Refusal;
 use indexmap::IndexMap;
 use ops_base::elements::Class;
+use ops_base::memory::OutOfMemory;
 use ops_base::rules::Rule;
 use ops_base::values::Sym;
+use ops_meaning::Named;
 use std::alloc::Global;
 use std::marker::Model;
 
@@ -36,6 +37,14 @@ impl Titled for Rule {
     }
 }
 
+impl Titled for Named {
+    ghost title = { λ n. n.name.0 };
+
+    fn title(&self) -> Sym {
+        self.name
+    }
+}
+
 /// What was declared, in order. A name is looked up in a time that does not depend on how many there are.
 #[derive(Drop)]
 pub struct Declared<T: Titled> {
@@ -52,8 +61,7 @@ impl<T: Titled> Model for Declared<T> {
 }
 
 /// Notes the place of a name that has none yet.
-fn note(firsts: &mut IndexMap<u64, usize>, name: u64, place: usize) -> Result<(), Refusal>
-    ensures memory { IfErr result (λ e. e ≡ Refusal.OutOfMemory) }
+fn note(firsts: &mut IndexMap<u64, usize>, name: u64, place: usize) -> Result<(), OutOfMemory>
     ensures err { OnErr result ((n : ℕ) → get nat_eq firsts.new n ≡ get nat_eq firsts.old n) }
     ensures ok { OnOk result ((n : ℕ) → get nat_eq firsts.new n ≡ or_else (get nat_eq firsts.old n) (name == n) place) }
 {
@@ -73,18 +81,25 @@ impl<T: Titled + Drop> Declared<T> {
         }
     }
 
-    /// Where memory runs out nothing has changed.
-    pub fn push(&mut self, item: T) -> Result<(), Refusal>
-        ensures ok { OnOk result (self.new ≡ self.old ++ item ∷ []) }
-        ensures memory { IfErr result (λ e. e ≡ Refusal.OutOfMemory) }
+    pub fn clear(&mut self)
+        ensures { self.new ≡ [] }
     {
+        self.list.clear();
+        self.firsts.clear();
+    }
+
+    /// Where memory runs out nothing has changed.
+    pub fn push(&mut self, item: T) -> Result<(), OutOfMemory>
+        ensures ok { OnOk result (self.new ≡ self.old ++ item ∷ []) }
+        ensures err { OnErr result (self.new ≡ self.old) }
+        {
         let (name, place) = (item.title().0, self.list.len());
         self.list.push(item)?;
         match note(&mut self.firsts, name, place) {
             Ok(()) => Ok(()),
-            Err(refusal) => {
+            Err(error) => {
                 self.list.pop();
-                Err(refusal)
+                Err(error)
             }
         }
     }

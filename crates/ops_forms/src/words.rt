@@ -1,53 +1,31 @@
 //! The words of a text.
-ghost use Rattle.std.specs.Prelude.{◌≡◌, bytes_eq, codes, IfOk, OnOk, OnErr};
+ghost use Rattle.std.specs.Prelude.{◌≡◌, bytes_eq, codes, All, IfOk, OnOk};
 ghost use Rattle.ops_tokens.specs.Tokens.{spelling, LiesIn};
-ghost use Rattle.ops_meaning.specs.Words.{keyword_of, keyword_of_symbol, keyword_of_operator, has_name, names_with, name_in, word_of, lexed};
+ghost use Rattle.ops_meaning.specs.Words.{keyword_of, keyword_of_symbol, keyword_of_operator, has_name, names_with, name_in, word_of, words_from, names_from};
 
 use ops_base::memory::OutOfMemory;
 use ops_base::symbols::Names;
 use ops_base::values::{NIL, Sym};
 use ops_meaning::{Keyword, Word};
-use ops_tokens::{LexFault, Scanner, Token, TokenKind, spelling_of};
+use ops_tokens::{Token, TokenKind, spelling_of};
 use std::alloc::Global;
 
-/// The words up to the end of a text or to its first lexical fault, and the names in them.
-#[derive(Drop)]
-pub struct Lexed {
-    pub words: Vec<Word>,
-    pub names: Names,
-    pub stop: Option<LexFault>,
-}
-
-/// Takes time in proportion to the text.
-pub fn words_of(alloc: Global, text: &[u8]) -> Result<Lexed, OutOfMemory>
-    ensures { IfOk result (λ l. lexed text.now ≡ record { words = l.words.items; names = l.names; stop = l.stop }) }
+/// The words of tokens of a text, whose names are held from then on. Takes time in proportion to the tokens' bytes.
+pub fn words_of(
+    alloc: Global,
+    names: &mut Names,
+    text: &[u8],
+    tokens: &[Token],
+) -> Result<Vec<Word>, OutOfMemory>
+    requires { All (λ t. LiesIn text.now t) tokens.now }
+    ensures words { IfOk result (λ words. words.items ≡ words_from text.now names.old tokens.now) }
+    ensures names { OnOk result (names.new ≡ names_from text.now names.old tokens.now) }
 {
-    let scanner = Scanner::new();
     let mut words = Vec::new(alloc);
-    let mut names = Names::new(alloc)?;
-    let mut from = 0;
-    'words: loop {
-        let token = match scanner.next_token(text, from) {
-            Ok(Some(token)) => token,
-            Ok(None) => {
-                return Ok(Lexed {
-                    words,
-                    names,
-                    stop: None,
-                });
-            }
-            Err(fault) => {
-                return Ok(Lexed {
-                    words,
-                    names,
-                    stop: Some(fault),
-                });
-            }
-        };
-        let word = word_of(&mut names, text, token)?;
-        words.push(word)?;
-        from = token.past;
+    for token in tokens {
+        words.push(word_of(names, text, *token)?)?;
     }
+    Ok(words)
 }
 
 fn word_of(names: &mut Names, text: &[u8], token: Token) -> Result<Word, OutOfMemory>

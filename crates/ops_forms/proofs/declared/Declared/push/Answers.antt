@@ -1,6 +1,6 @@
 use Rattle.std.proofs.Common.{◌==◌, sym, ◌∙◌}
-use Rattle.ops_check.proofs.Firsts.{position_snoc}
-use Rattle.ops_check.proofs.declared.Declared.push.Goals as goal
+use Rattle.ops_forms.proofs.Firsts.{position_snoc}
+use Rattle.ops_forms.proofs.declared.Declared.push.Goals as goal
 
 pub invariant_of-self-in-Ok : goal.invariant_of-self-in-Ok
 invariant_of-self-in-Ok g c = λ n.

@@ -1,0 +1,13 @@
+//! The forms of a program text: its tokens from bracket to bracket, their words, and what stands in sight while they are
+//! read.
+#![tactic(auto)]
+
+pub mod declared;
+pub mod form;
+pub mod places;
+pub mod words;
+
+pub use declared::{Declared, Titled};
+pub use form::{Form, FormEnd, FormFault, FormReader, read_form};
+pub use places::{Place, place_of};
+pub use words::words_of;
