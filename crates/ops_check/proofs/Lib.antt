@@ -1,3 +1,2 @@
-pub mod Lexing
-pub mod Reading
-pub mod Firsts
+pub mod Ways
+pub mod Numbered

@@ -1,7 +1,6 @@
 -- How the code's walk over the words goes along with the definition's.
-use Rattle.std.specs.Prelude.{◌≡◌, ℕ, ℤ, ◌<◌, ◌≤◌, List, [], ◌∷◌, length, position, ◌==◌, Option, Some, None, Result, Ok, Err}
+use Rattle.std.specs.Prelude.{◌≡◌, ℕ, ℤ, ◌<◌, ◌≤◌, List, [], ◌∷◌, ◌++◌, length, Option, Some, None, Result, Ok, Err}
 use Rattle.std.specs.Borrow.{Bor}
-use Rattle.ops_base.specs.declared.values.Sym.{Sym}
 use Rattle.ops_base.specs.declared.endings.Fault.TheVariants as fault
 use Rattle.ops_tokens.specs.declared.token.TokenKind.{TokenKind}
 use Rattle.ops_tokens.specs.declared.token.TokenKind.TheVariants as kind
@@ -20,8 +19,6 @@ view d =
       classes = d.classes;
       rules = d.rules;
       commands = d.commands.items;
-      unknown = d.unknown;
-      unbound = d.unbound;
       name = d.name;
       first = d.first;
       attrs = d.attrs.items;
@@ -31,7 +28,7 @@ view d =
       fixed = d.fixed.items;
       cells = d.cells.items;
       items = d.items.items;
-      values = d.values.items;
+      values = d.values;
       conditions = d.conditions.items;
       actions = d.actions.items;
     }
@@ -41,46 +38,47 @@ use_of place.Pattern = InPattern
 use_of place.Put = InPut
 use_of place.Fixed = InFixed
 
--- the field of an attribute among those of a class, or 0 where the class is not declared
-abbrev pub field_in : Option (List Sym) → Sym → Option ℕ
-field_in (Some attrs) name = position (λ a. a.0 == name.0) attrs
-field_in None name = Some 0
-
 -- the value of a whole number
 abbrev pub whole_of : TokenKind → Option ℤ
 whole_of (kind.Whole n) = Some n
 whole_of _ = None
 
--- a refusal is the one that this ends in, whatever is wanted afterwards
-abbrev pub Fails : (List Wanted → Outcome) → Refusal → Type 0
-Fails from refusal.OutOfMemory = Unit {0}
-Fails from (refusal.At f word) = (ws : List Wanted) → from ws ≡ Err (f, word)
+-- how it goes with more words behind and with more wanted afterwards
+abbrev pub Way : Type 0
+Way = List Word → List Wanted → Outcome
 
--- How it goes from here, whatever is wanted afterwards, is how the rest goes from the new state, or it is the refusal.
--- Memory may run out.
-abbrev pub Goes : (List Wanted → Outcome) → State → Result (Bor (List Word)) Refusal → Type 0
-Goes from new (Ok rest) = (ws : List Wanted) → from ws ≡ goes rest.now ws new
+-- A refusal is the one that this ends in: at a word whatever stands behind it, and at none where none does.
+abbrev pub Fails : Way → Refusal → Type 0
+Fails from refusal.OutOfMemory = Unit {0}
+Fails from (refusal.At f None) = (ws : List Wanted) → from [] ws ≡ Err (f, None)
+Fails from (refusal.At f (Some w)) = (more : List Word) (ws : List Wanted) → from more ws ≡ Err (f, Some w)
+
+-- How it goes from here is how the rest goes from the new state, or it is the refusal. Memory may run out.
+abbrev pub Goes : Way → State → Result (Bor (List Word)) Refusal → Type 0
+Goes from new (Ok rest) = (more : List Word) (ws : List Wanted) → from more ws ≡ goes (rest.now ++ more) ws new
 Goes from new (Err e) = Fails from e
 
 -- a call read what was wanted
 abbrev pub Reads : Wanted → State → State → List Word → Result (Bor (List Word)) Refusal → Type 0
-Reads w old new words result = Goes (λ ws. goes words (w ∷ ws) old) new result
+Reads w old new words result = Goes (λ more ws. goes (words ++ more) (w ∷ ws) old) new result
 
 -- a call read all words as forms
 abbrev pub ReadsAll : State → State → List Word → Result Unit Refusal → Type 0
-ReadsAll old new words (Ok x) = goes words (Forms ∷ []) old ≡ Ok (new, [])
+ReadsAll old new words (Ok x) = (more : List Word) → goes (words ++ more) (Forms ∷ []) old ≡ goes more (Forms ∷ []) new
 ReadsAll old new words (Err refusal.OutOfMemory) = Unit {0}
-ReadsAll old new words (Err (refusal.At f word)) = goes words (Forms ∷ []) old ≡ Err (f, word)
+ReadsAll old new words (Err (refusal.At f None)) = goes (words ++ []) (Forms ∷ []) old ≡ Err (f, None)
+ReadsAll old new words (Err (refusal.At f (Some w))) = (more : List Word) → goes (words ++ more) (Forms ∷ []) old ≡ Err (f, Some w)
 
 -- a call did this with a word that was taken, and read on in the words after it
 abbrev pub Acts : (List Wanted → State → Step) → Word → State → State → List Word → Result (Bor (List Word)) Refusal → Type 0
-Acts does w old new rest result = Goes (λ ws. after (goes rest) w rest (does ws old)) new result
+Acts does w old new rest result = Goes (λ more ws. after (goes (rest ++ more)) w (does ws old)) new result
 
 -- a call read a closing bracket, whatever it ends
 abbrev pub ReadsClosing : List Word → Result (Bor (List Word)) Refusal → Type 0
-ReadsClosing words (Ok rest) = (e : Ends) (ws : List Wanted) (s : State) → goes words (Closes e ∷ ws) s ≡ goes rest.now ws (ended e s)
+ReadsClosing words (Ok rest) = (e : Ends) (more : List Word) (ws : List Wanted) (s : State) → goes (words ++ more) (Closes e ∷ ws) s ≡ goes (rest.now ++ more) ws (ended e s)
 ReadsClosing words (Err refusal.OutOfMemory) = ⊥
-ReadsClosing words (Err (refusal.At f word)) = (e : Ends) (ws : List Wanted) (s : State) → goes words (Closes e ∷ ws) s ≡ Err (f, word)
+ReadsClosing words (Err (refusal.At f None)) = (e : Ends) (ws : List Wanted) (s : State) → goes (words ++ []) (Closes e ∷ ws) s ≡ Err (f, None)
+ReadsClosing words (Err (refusal.At f (Some w))) = (e : Ends) (more : List Word) (ws : List Wanted) (s : State) → goes (words ++ more) (Closes e ∷ ws) s ≡ Err (f, Some w)
 
 -- the new state, unless memory ran out
 abbrev pub Becomes : {X : Type 0} → State → State → Result X Refusal → Type 0

@@ -1,3 +1,2 @@
 pub mod Going
-pub mod Refused
-pub mod Firsts
+pub mod Answered

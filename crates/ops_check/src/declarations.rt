@@ -1,5 +1,5 @@
 //! Declarations of classes.
-ghost use Rattle.std.specs.Prelude.{◌≡◌, ◌∷◌};
+ghost use Rattle.std.specs.Prelude.{◌≡◌, ◌∷◌, ◌++◌};
 ghost use Rattle.ops_meaning.specs.Grammar.{goes, attribute_declared, ClassDeclared, Attributes};
 ghost use Rattle.ops_check.specs.Going.{view, Goes, Reads, Acts, IsWithin};
 
@@ -15,7 +15,7 @@ const MOST_FIELDS: usize = 126;
 impl Draft {
     // NAME NAME* )
     pub fn declaration<'a>(&mut self, words: &'a [Word]) -> Result<&'a [Word], Refusal>
-        ensures reads { Goes (λ ws. goes words.now (ClassDeclared ∷ Attributes ∷ ws) (view self.old)) (view self.new) result }
+        ensures reads { Goes (λ more ws. goes (words.now ++ more) (ClassDeclared ∷ Attributes ∷ ws) (view self.old)) (view self.new) result }
         ensures within { IsWithin words.now result }
     {
         match self.class_declared(words) {

@@ -1,11 +1,9 @@
 //! What was read so far of a program, and how it grows.
-ghost use Rattle.std.specs.Prelude.{◌≡◌, ◌+◌, ◌==◌, not, count_by, List, position, SomeIff, ◌<◌, ◌^◌, slice_get};
+ghost use Rattle.std.specs.Prelude.{◌≡◌, ◌+◌, ◌==◌, not, count_by, position, SomeIff, ◌<◌, ◌^◌, slice_get};
 ghost use Rattle.ops_base.specs.Valid.{specificity};
-ghost use Rattle.ops_meaning.specs.Grammar.{nothing_read, is_class, is_rule, is_one_of, may_declare, with_class, with_test, with_variable, with_put, with_put_variable, with_fixed, with_constant, with_named, with_element, with_action, with_command, with_rule, with_remove, with_write, with_item, with_item_variable, number_of, class_at, attributes_of, InPattern, InPut, InFixed, Wanted, Next};
-ghost use Rattle.ops_check.specs.Going.{view, use_of, field_in, Becomes};
+ghost use Rattle.ops_meaning.specs.Grammar.{nothing_read, is_class, is_rule, is_one_of, may_declare, with_class, with_test, with_variable, with_put, with_fixed, with_constant, with_element, with_action, with_command, with_rule, with_remove, with_write, with_item, number_of, attributes_of, InPattern, InPut, InFixed};
+ghost use Rattle.ops_check.specs.Going.{view, use_of, Becomes};
 
-use crate::declared::Declared;
-use crate::kinds::number_of;
 use crate::refusals::Refusal;
 use ops_base::actions::{Action, Item, Put, Term};
 use ops_base::commands::{Command, Fixed};
@@ -14,6 +12,7 @@ use ops_base::elements::Class;
 use ops_base::list::Listed;
 use ops_base::rules::Rule;
 use ops_base::values::{NIL, Pred, Sym, Value};
+use ops_forms::Declared;
 use ops_meaning::Named;
 use std::alloc::Global;
 use std::mem;
@@ -26,15 +25,12 @@ pub enum Place {
     Fixed,
 }
 
-/// The classes, rules and commands that were read, whether a class is used that is not declared and a variable that is
-/// not bound, and the parts of the form that is being read.
+/// The classes, rules and commands that were read, and the parts of the form that is being read.
 #[derive(Drop)]
 pub struct Draft {
     pub classes: Declared<Class>,
     pub rules: Declared<Rule>,
     pub commands: Vec<Command>,
-    pub unknown: bool,
-    pub unbound: bool,
     pub name: Sym,
     pub first: usize,
     pub attrs: Vec<Sym>,
@@ -44,7 +40,7 @@ pub struct Draft {
     pub fixed: Vec<Fixed>,
     pub cells: Vec<usize>,
     pub items: Vec<Item>,
-    pub values: Vec<Named>,
+    pub values: Declared<Named>,
     pub conditions: Vec<Condition>,
     pub actions: Vec<Action>,
     pub alloc: Global,
@@ -58,8 +54,6 @@ impl Draft {
             classes: Declared::new(alloc),
             rules: Declared::new(alloc),
             commands: Vec::new(alloc),
-            unknown: false,
-            unbound: false,
             name: NIL,
             first: 0,
             attrs: Vec::new(alloc),
@@ -69,7 +63,7 @@ impl Draft {
             fixed: Vec::new(alloc),
             cells: Vec::new(alloc),
             items: Vec::new(alloc),
-            values: Vec::new(alloc),
+            values: Declared::new(alloc),
             conditions: Vec::new(alloc),
             actions: Vec::new(alloc),
             alloc,
@@ -134,7 +128,7 @@ impl Draft {
         Ok(())
     }
 
-    fn add_put(&mut self, field: usize, term: Term) -> Result<(), Refusal>
+    pub fn add_put(&mut self, field: usize, term: Term) -> Result<(), Refusal>
         ensures { Becomes (view self.new) (with_put (view self.old) field term) result }
     {
         let mut terms = Listed::new(self.alloc);
@@ -175,37 +169,24 @@ impl Draft {
 }
 
 impl Draft {
+    // the number of a variable in sight
+    pub fn number_of(&self, name: Sym) -> Option<usize>
+        ensures { result ≡ number_of name (view self.now).values }
+    {
+        let place = self.values.place_of(name)?;
+        Some(self.values.get(place)?.number)
+    }
+
     // the first place of a variable binds it
-    fn add_variable(&mut self, field: usize, name: Sym) -> Result<(), Refusal>
+    pub fn add_variable(&mut self, field: usize, name: Sym) -> Result<(), Refusal>
         ensures { Becomes (view self.new) (with_variable (view self.old) field name (number_of name (view self.old).values)) result }
     {
-        if let Some(number) = number_of(&self.values, name) {
+        if let Some(number) = self.number_of(name) {
             return self.add_test(field, Operand::Variable(number), false);
         }
         let number = self.values.len();
         self.values.push(Named { name, number })?;
         self.add_test(field, Operand::Variable(number), true)
-    }
-
-    // a variable of a right side, which a condition must bind
-    fn add_put_variable(&mut self, field: usize, name: Sym) -> Result<(), Refusal>
-        ensures { Becomes (view self.new) (with_put_variable (view self.old) field (number_of name (view self.old).values)) result }
-    {
-        match number_of(&self.values, name) {
-            Some(number) => return self.add_put(field, Term::Variable(number)),
-            None => self.unbound = true,
-        }
-        Ok(())
-    }
-
-    pub fn add_item_variable(&mut self, name: Sym) -> Result<(), Refusal>
-        ensures { Becomes (view self.new) (with_item_variable (view self.old) (number_of name (view self.old).values)) result }
-    {
-        match number_of(&self.values, name) {
-            Some(number) => return self.add_item(Item::Print(Term::Variable(number))),
-            None => self.unbound = true,
-        }
-        Ok(())
     }
 
     pub fn add_constant(&mut self, place: Place, field: usize, value: Value) -> Result<(), Refusal>
@@ -218,41 +199,12 @@ impl Draft {
         }
     }
 
-    // A variable in a command is bound nowhere.
-    pub fn add_named(&mut self, place: Place, field: usize, name: Sym) -> Result<(), Refusal>
-        ensures { Becomes (view self.new) (with_named (use_of place) (view self.old) field name) result }
-    {
-        match place {
-            Place::Pattern => self.add_variable(field, name),
-            Place::Put => self.add_put_variable(field, name),
-            Place::Fixed => {
-                self.unbound = true;
-                Ok(())
-            }
-        }
-    }
-
-    // the class of an element form, which may be one that is not declared
-    pub fn set_class(&mut self, name: Sym)
-        ensures { (ws : List Wanted) → class_at (position (λ c. c.name.0 == name.0) (view self.old).classes) ws (view self.old) ≡ Next ws (view self.new) }
-    {
-        match self.class_of(name) {
-            Some(class) => self.class = class,
-            None => {
-                self.class = self.classes.len();
-                self.unknown = true;
-            }
-        }
-    }
-
-    // The field of an attribute of the class that was named. An attribute of a class that is not declared is any name.
+    // the field of an attribute of the class that was named
     pub fn field_of(&self, name: Sym) -> Option<usize>
-        ensures { result ≡ field_in (attributes_of (slice_get (view self.now).classes (view self.now).class)) name }
+        ensures { result ≡ position (λ a. a.0 == name.0) (attributes_of (slice_get (view self.now).classes (view self.now).class)) }
     {
-        match self.classes.get(self.class) {
-            Some(class) => place_in(class.attrs.as_slice(), name),
-            None => Some(0),
-        }
+        let class = self.classes.get(self.class)?;
+        place_in(class.attrs.as_slice(), name)
     }
 }
 

@@ -1,18 +1,19 @@
 //! Elements: a class with attributes and values.
-ghost use Rattle.std.specs.Prelude.{◌≡◌, ◌∷◌};
-ghost use Rattle.ops_meaning.specs.Grammar.{goes, ClassName, Terms, Attribute, ValueFor};
-ghost use Rattle.ops_check.specs.Going.{view, use_of, Goes, Reads, IsShorter, IsWithin};
+ghost use Rattle.std.specs.Prelude.{◌≡◌, ◌∷◌, ◌++◌};
+ghost use Rattle.ops_meaning.specs.Grammar.{goes, number_of, variable_for, put_variable, ClassName, Terms, Attribute, ValueFor};
+ghost use Rattle.ops_check.specs.Going.{view, use_of, Goes, Reads, Acts, IsWithin};
 
 use crate::draft::{Draft, Place};
 use crate::kinds::{constant_of, is_caret, is_name, is_right, is_variable};
 use crate::refusals::{Refusal, first_of, refused};
+use ops_base::actions::Term;
 use ops_base::endings::Fault;
 use ops_meaning::Word;
 
 impl Draft {
     // CLASS term* )
     pub fn element<'a>(&mut self, place: Place, words: &'a [Word]) -> Result<&'a [Word], Refusal>
-        ensures reads { Goes (λ ws. goes words.now (ClassName ∷ Terms (use_of place) ∷ ws) (view self.old)) (view self.new) result }
+        ensures reads { Goes (λ more ws. goes (words.now ++ more) (ClassName ∷ Terms (use_of place) ∷ ws) (view self.old)) (view self.new) result }
         ensures within { IsWithin words.now result }
     {
         match self.class_name(words) {
@@ -31,7 +32,10 @@ impl Draft {
         if !is_name(word.kind) {
             return refused(Fault::BadForm, word);
         }
-        self.set_class(word.name);
+        let Some(class) = self.class_of(word.name) else {
+            return refused(Fault::UnknownClass, word);
+        };
+        self.class = class;
         Ok(rest)
     }
 
@@ -93,7 +97,43 @@ impl Draft {
         if !is_variable(word.kind) {
             return refused(Fault::BadForm, word);
         }
-        self.add_named(place, field, word.name)?;
+        self.variable(place, field, word, rest)
+    }
+
+    // a variable, which is the word
+    fn variable<'a>(
+        &mut self,
+        place: Place,
+        field: usize,
+        word: Word,
+        rest: &'a [Word],
+    ) -> Result<&'a [Word], Refusal>
+        ensures acts { Acts (λ ws s. variable_for (use_of place) field (number_of word.name s.values) word.name ws s) word (view self.old) (view self.new) rest.now result }
+        ensures within { IsWithin rest.now result }
+    {
+        match place {
+            Place::Pattern => self.add_variable(field, word.name)?,
+            Place::Put => return self.put_variable(field, word, rest),
+            // A variable in a command is bound nowhere.
+            Place::Fixed => return refused(Fault::UnboundVariable, word),
+        }
+        Ok(rest)
+    }
+
+    // a variable of a right side, which a condition must bind
+    fn put_variable<'a>(
+        &mut self,
+        field: usize,
+        word: Word,
+        rest: &'a [Word],
+    ) -> Result<&'a [Word], Refusal>
+        ensures acts { Acts (λ ws s. put_variable field (number_of word.name s.values) ws s) word (view self.old) (view self.new) rest.now result }
+        ensures within { IsWithin rest.now result }
+    {
+        let Some(number) = self.number_of(word.name) else {
+            return refused(Fault::UnboundVariable, word);
+        };
+        self.add_put(field, Term::Variable(number))?;
         Ok(rest)
     }
 }

@@ -1,10 +1,10 @@
 //! What a word may be where something is wanted.
 ghost use Rattle.std.specs.Prelude.{◌≡◌};
-ghost use Rattle.ops_meaning.specs.Grammar.{is_left, is_right, is_caret, is_name, is_variable, is_arrow, is_crlf, constant_of, natural_of, number_of};
+ghost use Rattle.ops_meaning.specs.Grammar.{is_left, is_right, is_caret, is_name, is_variable, is_arrow, is_crlf, constant_of, natural_of};
 ghost use Rattle.ops_check.specs.Going.{whole_of};
 
 use ops_base::values::{Sym, Value};
-use ops_meaning::{Keyword, Named};
+use ops_meaning::Keyword;
 use ops_tokens::TokenKind;
 
 pub fn is_left(kind: TokenKind) -> bool
@@ -38,7 +38,7 @@ pub fn is_name(kind: TokenKind) -> bool
     ensures { result ≡ is_name kind }
 {
     match kind {
-        TokenKind::Symbol => true,
+        TokenKind::Symbol | TokenKind::Quoted => true,
         _ => false,
     }
 }
@@ -76,7 +76,7 @@ pub fn constant_of(kind: TokenKind, name: Sym) -> Option<Value>
 {
     match kind {
         TokenKind::Whole(number) => Some(Value::Whole(number)),
-        TokenKind::Symbol => Some(Value::Symbol(name)),
+        TokenKind::Symbol | TokenKind::Quoted => Some(Value::Symbol(name)),
         _ => None,
     }
 }
@@ -89,18 +89,6 @@ pub fn natural_of(number: i64) -> Option<usize>
         Ok(0) | Err(_) => None,
         Ok(natural) => Some(natural),
     }
-}
-
-// the number of the variable of that name
-pub fn number_of(named: &[Named], name: Sym) -> Option<usize>
-    ensures { result ≡ number_of name named.now }
-{
-    for each in named {
-        if each.name == name {
-            return Some(each.number);
-        }
-    }
-    None
 }
 
 pub fn whole_of(kind: TokenKind) -> Option<i64>

@@ -1,10 +1,10 @@
-//! Reading a program text: its words, and what the grammar makes of them.
+//! Reading a program text: what the grammar makes of its words, form by form.
 #![tactic(auto)]
 
 mod declarations;
-mod declared;
 mod draft;
 mod elements;
+mod faults;
 mod forms;
 mod kinds;
 mod productions;
@@ -12,6 +12,6 @@ mod program;
 mod refusals;
 #[cfg(test)]
 mod tests;
-mod words;
 
-pub use program::{LONGEST_TEXT, ProgramFault, read_program};
+pub use faults::{ProgramFault, fault_text};
+pub use program::{LONGEST_TEXT, read_program};

@@ -1,6 +1,6 @@
 //! Productions.
-ghost use Rattle.std.specs.Prelude.{◌≡◌, ◌∷◌, if◌then◌else◌};
-ghost use Rattle.ops_meaning.specs.Grammar.{goes, cell, item_value, constant_of, is_left, RuleName, Patterns, Actions, ActionWord, Cell, Cells, Items, ItemWord, Closes, EndsHalt, EndsCrlf, Next};
+ghost use Rattle.std.specs.Prelude.{◌≡◌, ◌∷◌, ◌++◌, if◌then◌else◌};
+ghost use Rattle.ops_meaning.specs.Grammar.{goes, cell, item_value, item_variable, number_of, constant_of, is_left, RuleName, FirstPattern, Patterns, Actions, ActionWord, Cell, Cells, Items, ItemWord, Closes, EndsHalt, EndsCrlf, Next};
 ghost use Rattle.ops_check.specs.Going.{view, Goes, Reads, Acts, IsWithin};
 
 use crate::draft::{Draft, Place};
@@ -18,7 +18,7 @@ const MOST_CONDITIONS: usize = 64;
 impl Draft {
     // NAME pattern pattern* --> action* )
     pub fn production<'a>(&mut self, words: &'a [Word]) -> Result<&'a [Word], Refusal>
-        ensures reads { Goes (λ ws. goes words.now (RuleName ∷ Patterns ∷ Actions ∷ ws) (view self.old)) (view self.new) result }
+        ensures reads { Goes (λ more ws. goes (words.now ++ more) (RuleName ∷ FirstPattern ∷ Patterns ∷ Actions ∷ ws) (view self.old)) (view self.new) result }
         ensures within { IsWithin words.now result }
     {
         match self.rule_name(words) {
@@ -28,11 +28,22 @@ impl Draft {
     }
 
     fn sides<'a>(&mut self, words: &'a [Word]) -> Result<&'a [Word], Refusal>
-        ensures reads { Goes (λ ws. goes words.now (Patterns ∷ Actions ∷ ws) (view self.old)) (view self.new) result }
+        ensures reads { Goes (λ more ws. goes (words.now ++ more) (FirstPattern ∷ Patterns ∷ Actions ∷ ws) (view self.old)) (view self.new) result }
         ensures within { IsWithin words.now result }
     {
-        match self.patterns(words) {
+        match self.left_side(words) {
             Ok(rest) => return self.actions(rest),
+            Err(refusal) => return Err(refusal),
+        }
+    }
+
+    // first pattern* -->
+    fn left_side<'a>(&mut self, words: &'a [Word]) -> Result<&'a [Word], Refusal>
+        ensures reads { Goes (λ more ws. goes (words.now ++ more) (FirstPattern ∷ Patterns ∷ ws) (view self.old)) (view self.new) result }
+        ensures within { IsWithin words.now result }
+    {
+        match self.first_pattern(words) {
+            Ok(rest) => return self.patterns(rest),
             Err(refusal) => return Err(refusal),
         }
     }
@@ -57,7 +68,20 @@ impl Draft {
         Ok(rest)
     }
 
-    // pattern* -->, of which one pattern at least
+    // ( CLASS term* )
+    #[tactic(auto, unfolding(ops_meaning::specs::Grammar::goes, ops_meaning::specs::Grammar::step, ops_meaning::specs::Grammar::ends))]
+    fn first_pattern<'a>(&mut self, words: &'a [Word]) -> Result<&'a [Word], Refusal>
+        ensures reads { Reads FirstPattern (view self.old) (view self.new) words.now result }
+        ensures within { IsWithin words.now result }
+    {
+        let (word, rest) = first_of(words)?;
+        if !is_left(word.kind) {
+            return refused(Fault::BadForm, word);
+        }
+        self.element(Place::Pattern, rest)
+    }
+
+    // pattern* -->
     #[tactic(auto, unfolding(ops_meaning::specs::Grammar::goes, ops_meaning::specs::Grammar::step, ops_meaning::specs::Grammar::ends))]
     fn patterns<'a>(&mut self, words: &'a [Word]) -> Result<&'a [Word], Refusal>
         ensures reads { Reads Patterns (view self.old) (view self.new) words.now result }
@@ -66,7 +90,7 @@ impl Draft {
         let mut rest = words;
         'patterns: loop {
             let (word, after) = first_of(rest)?;
-            if is_arrow(word.keyword) && !self.conditions.is_empty() {
+            if is_arrow(word.keyword) {
                 return Ok(after);
             }
             if !is_left(word.kind) {
@@ -150,7 +174,7 @@ impl Draft {
     // WHOLE WHOLE* )
     #[tactic(auto, unfolding(ops_meaning::specs::Grammar::goes, ops_meaning::specs::Grammar::step, ops_meaning::specs::Grammar::ends))]
     fn remove<'a>(&mut self, words: &'a [Word]) -> Result<&'a [Word], Refusal>
-        ensures reads { Goes (λ ws. goes words.now (Cell ∷ Cells ∷ ws) (view self.old)) (view self.new) result }
+        ensures reads { Goes (λ more ws. goes (words.now ++ more) (Cell ∷ Cells ∷ ws) (view self.old)) (view self.new) result }
         ensures within { IsWithin words.now result }
     {
         let (word, rest) = first_of(words)?;
@@ -242,7 +266,18 @@ impl Draft {
         if !is_variable(word.kind) {
             return refused(Fault::BadForm, word);
         }
-        self.add_item_variable(word.name)?;
+        self.item_variable(word, rest)
+    }
+
+    // a variable, which a condition must bind
+    fn item_variable<'a>(&mut self, word: Word, rest: &'a [Word]) -> Result<&'a [Word], Refusal>
+        ensures acts { Acts (λ ws s. item_variable (number_of word.name s.values) ws s) word (view self.old) (view self.new) rest.now result }
+        ensures within { IsWithin rest.now result }
+    {
+        let Some(number) = self.number_of(word.name) else {
+            return refused(Fault::UnboundVariable, word);
+        };
+        self.add_item(Item::Print(Term::Variable(number)))?;
         Ok(rest)
     }
 

@@ -1,92 +1,122 @@
 //! Reading a program.
-ghost use Rattle.std.specs.Prelude.{◌≡◌, [], ◌∷◌, length, IsTrue, IfOk, IfErr, Ok};
+ghost use Rattle.std.specs.Prelude.{◌≡◌, ◌≤◌, ℕ, length, All, IsTrue, IfOk, IfErr, Ok};
 ghost use Rattle.ops_base.specs.Valid.{is_valid};
-ghost use Rattle.ops_meaning.specs.Grammar.{Forms, goes, nothing_read};
+ghost use Rattle.ops_tokens.specs.Tokens.{LiesIn};
 ghost use Rattle.ops_meaning.specs.Reads.{reads};
-ghost use Rattle.ops_check.specs.Refused.{IsFaultOf, IsRefusal, IsVerdict};
-ghost use Rattle.ops_check.specs.declared.program.ProgramFault.TheVariants.{OutOfMemory as WantOfMemory};
+ghost use Rattle.ops_forms.specs.Forms.{IsForm};
+ghost use Rattle.ops_check.specs.Answered.{IsRefusal, IsAnswer, Comes, Continues, rest_of};
+ghost use Rattle.ops_check.specs.Going.{view};
 
 use crate::draft::Draft;
+use crate::faults::{ProgramFault, TextFault, cut_off, fault_of};
 use crate::refusals::Refusal;
-use crate::words::{Lexed, words_of};
 use ops_base::endings::Fault;
 use ops_base::list::Listed;
-use ops_base::memory::OutOfMemory;
 use ops_base::programs::Program;
 use ops_base::symbols::Names;
-use ops_meaning::Word;
-use ops_tokens::LexFault;
+use ops_forms::{Form, FormFault, FormReader, place_of, words_of};
 use std::alloc::Global;
 
-/// A longer text is refused without being read.
+/// How many bytes a text may have. A longer text is refused without being read.
 pub const LONGEST_TEXT: usize = 16_777_216;
 
-/// Why a text is no program. Lines and columns are counted from 1; each refusal stands at the text's first byte.
-#[derive(Clone, Copy, Debug, PartialEq, Eq)]
-pub enum ProgramFault {
-    At {
-        fault: Fault,
-        line: u64,
-        column: u64,
-    },
-    OutOfMemory,
-}
-
-impl From<OutOfMemory> for ProgramFault {
-    ghost from_gives = { λ _ e. e ≡ WantOfMemory };
-
-    fn from(_error: OutOfMemory) -> ProgramFault {
-        ProgramFault::OutOfMemory
-    }
-}
-
 /// Reads a program and the names in it. The text is moved into the program, and dropped with a refusal. Takes time in
-/// proportion to the text, but for names, which are looked up among those that are declared.
+/// proportion to the text, times the logarithm of the number of names.
 pub fn read_program(alloc: Global, text: Vec<u8>) -> Result<(Program, Names), ProgramFault>
     ensures ok { IfOk result (λ r. reads text.items ≡ Ok (record { classes = r.0.classes; rules = r.0.rules; commands = r.0.commands; names = r.1 })) }
     ensures text { IfOk result (λ r. r.0.text ≡ text.items) }
     ensures fault { IfErr result (λ e. IsRefusal text.items e) }
 {
+    match read_text(alloc, text.as_slice()) {
+        Ok((draft, names)) => Ok((program_of(draft, text), names)),
+        Err(TextFault::OutOfMemory) => Err(ProgramFault::OutOfMemory),
+        Err(TextFault::At { fault, at }) => {
+            let place = place_of(text.as_slice(), at);
+            Err(ProgramFault::At {
+                fault,
+                line: place.line,
+                column: place.column,
+            })
+        }
+    }
+}
+
+fn read_text(alloc: Global, text: &[u8]) -> Result<(Draft, Names), TextFault>
+    ensures { IsAnswer (reads text.now) result }
+{
     if text.len() > LONGEST_TEXT {
-        return Err(refusal_for(Fault::BadForm));
+        return Err(TextFault::At {
+            fault: Fault::TooLong,
+            at: 0,
+        });
     }
-    let Lexed { words, names, stop } = words_of(alloc, text.as_slice())?;
-    match draft_of(alloc, &words, stop) {
-        Ok(draft) => Ok((program_of(draft, text), names)),
-        Err(fault) => Err(fault),
-    }
-}
-
-fn refusal_for(fault: Fault) -> ProgramFault
-    ensures { result ≡ ProgramFault.At fault 1 1 }
-{
-    ProgramFault::At {
-        fault,
-        line: 1,
-        column: 1,
-    }
-}
-
-// what the words are read as, where no lexical fault stops them
-fn draft_of(alloc: Global, words: &[Word], stop: Option<LexFault>) -> Result<Draft, ProgramFault>
-    ensures { IsVerdict stop (goes words.now (Forms ∷ []) nothing_read) result }
-{
-    if stop.is_some() {
-        return Err(refusal_for(Fault::BadForm));
-    }
+    let reader = FormReader::new();
+    let mut names = Names::new(alloc)?;
     let mut draft = Draft::new(alloc);
-    match draft.forms(words) {
-        Err(Refusal::OutOfMemory) => return Err(ProgramFault::OutOfMemory),
-        Err(Refusal::At { .. }) => return Err(refusal_for(Fault::BadForm)),
-        Ok(()) => {}
+    let mut from = 0;
+    'forms: loop {
+        let form = match next_form(&reader, alloc, text, from) {
+            Ok(Some(form)) => form,
+            Ok(None) => return Ok((draft, names)),
+            Err(fault) => return Err(fault),
+        };
+        match read_form(alloc, text, &form, &mut names, &mut draft) {
+            Ok(()) => from = form.past,
+            Err(fault) => return Err(fault),
+        }
     }
-    if draft.unknown {
-        return Err(refusal_for(Fault::UnknownClass));
+}
+
+// the next form, or the fault that stands between forms
+fn next_form(
+    reader: &FormReader,
+    alloc: Global,
+    text: &[u8],
+    from: usize,
+) -> Result<Option<Form>, TextFault>
+    requires { from ≤ length text.now }
+    ensures { Comes text.now from result }
+{
+    match reader.read_form(alloc, text, from) {
+        Ok(form) => Ok(form),
+        Err(FormFault::Lex(fault)) => Err(TextFault::At {
+            fault: fault_of(fault),
+            at: fault.at,
+        }),
+        Err(FormFault::Stray { at }) => Err(TextFault::At {
+            fault: Fault::Stray,
+            at,
+        }),
+        Err(FormFault::OutOfMemory) => Err(TextFault::OutOfMemory),
     }
-    if draft.unbound {
-        return Err(refusal_for(Fault::UnboundVariable));
+}
+
+fn read_form(
+    alloc: Global,
+    text: &[u8],
+    form: &Form,
+    names: &mut Names,
+    draft: &mut Draft,
+) -> Result<(), TextFault>
+    requires { All (λ t. LiesIn text.now t) form.now.tokens.items }
+    ensures { (from : ℕ) → IsForm text.now from form.now
+        → Continues (rest_of text.now names.old from (view draft.old)) (rest_of text.now names.new form.now.past (view draft.new)) result }
+{
+    let words = words_of(alloc, names, text, form.tokens.as_slice())?;
+    match draft.forms(words.as_slice()) {
+        Ok(()) => Ok(()),
+        Err(Refusal::OutOfMemory) => Err(TextFault::OutOfMemory),
+        Err(
+            Refusal::At {
+                fault,
+                word: Some(word),
+            },
+        ) => Err(TextFault::At {
+            fault,
+            at: word.first,
+        }),
+        Err(Refusal::At { word: None, .. }) => Err(cut_off(form.end, text.len())),
     }
-    Ok(draft)
 }
 
 fn program_of(draft: Draft, text: Vec<u8>) -> Program

@@ -16,6 +16,14 @@ pub enum Refusal {
     OutOfMemory,
 }
 
+impl From<OutOfMemory> for Refusal {
+    ghost from_gives = { λ _ e. e ≡ WantOfMemory };
+
+    fn from(_error: OutOfMemory) -> Refusal {
+        Refusal::OutOfMemory
+    }
+}
+
 impl From<AllocError> for Refusal {
     ghost from_gives = { λ _ e. e ≡ WantOfMemory };
 

@@ -8,7 +8,7 @@ use Rattle.ops_forms.specs.Firsts.{or_else}
 suc_lt : (n l : ℕ) → nat_lt (suc n) (suc l) ≡ nat_lt n l
 suc_lt n l = rw (compare.suc-suc (suc n) l) refl
 
-position-cons : {X : Type 0} (p : X → Bool) (x : X) (xs : List X) → position p (x ∷ xs) ≡ cond (p x) (Some 0) (option_map suc (position p xs))
+pub position-cons : {X : Type 0} (p : X → Bool) (x : X) (xs : List X) → position p (x ∷ xs) ≡ cond (p x) (Some 0) (option_map suc (position p xs))
 position-cons p x xs = by (p x) (position_or_len p xs) (length xs)
   where
     by_test : (b : Bool) (n : ℕ) → cond b (Some (suc n)) None ≡ option_map suc (cond b (Some n) None)

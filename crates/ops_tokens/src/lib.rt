@@ -8,4 +8,6 @@ mod table;
 pub mod token;
 
 pub use scanner::{Scanner, next_token};
-pub use token::{LexFault, Token, TokenKind, spelling_of};
+pub use token::{
+    BAD_BYTE, FRACTION_NUMBER, LexFault, NUMBER_RANGE, Token, TokenKind, UNCLOSED, spelling_of,
+};

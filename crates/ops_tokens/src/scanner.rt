@@ -23,7 +23,9 @@ pub struct Scanner {
 
 impl Scanner {
     /// Takes no memory.
-    pub fn new() -> Scanner {
+    pub fn new() -> Scanner
+        ensures { result.table ≡ program_table }
+    {
         Scanner {
             table: Dfa::new(CLASS_OF, NEXT, KINDS).unwrap(),
         }

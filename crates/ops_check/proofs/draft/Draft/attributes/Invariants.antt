@@ -1,11 +1,12 @@
-use Rattle.std.proofs.Common.{◌≡◌, List, length, ◌∷◌, ◌≤◌}
+use Rattle.std.proofs.Common.{◌≡◌, List, length, ◌∷◌, ◌++◌, ◌≤◌}
+use Rattle.ops_meaning.specs.declared.words.Word.{Word}
 use Rattle.ops_meaning.specs.Grammar.{Wanted, Attributes, goes}
 use Rattle.ops_check.specs.Going.{view}
 use Rattle.ops_check.proofs.draft.Draft.attributes.Given as goal
 
 abbrev pub invariant-attributes : goal.invariant-attributes
 invariant-attributes l =
-    ((ws : List Wanted) → goes l.fn.words (Attributes ∷ ws) (view l.fn.self) ≡ goes l.rest (Attributes ∷ ws) (view l.self)) × (length l.rest ≤ length l.fn.words)
+    ((more : List Word) (ws : List Wanted) → goes (l.fn.words ++ more) (Attributes ∷ ws) (view l.fn.self) ≡ goes (l.rest ++ more) (Attributes ∷ ws) (view l.self)) × (length l.rest ≤ length l.fn.words)
 
 abbrev pub decreases-attributes : goal.decreases-attributes
 decreases-attributes l = length l.rest

@@ -1,5 +1,5 @@
 use Rattle.std.proofs.Common.{◌==◌, is_some, ap, sym, ◌∙◌}
-use Rattle.ops_check.proofs.Firsts.{list_any_position}
+use Rattle.ops_forms.proofs.Firsts.{list_any_position}
 use Rattle.ops_check.proofs.draft.Draft.is_rule.Goals as goal
 
 pub returns : goal.returns

@@ -1,0 +1,27 @@
+-- The number of a variable by its place.
+use Rattle.std.proofs.Common.{◌≡◌, ℕ, zero, suc, ◌==◌, Bool, true, false, cond, List, [], ◌∷◌, Option, Some, None, option_map, refl, ap, sym, ◌∙◌, position, slice_get}
+use Rattle.ops_base.specs.declared.values.Sym.{Sym}
+use Rattle.ops_meaning.specs.declared.words.Named.{Named}
+use Rattle.ops_meaning.specs.Grammar.{number_of}
+use Rattle.ops_forms.proofs.Firsts.{position-cons}
+
+pub number_unnamed : (name : Sym) (ns : List Named) → position (λ n. n.name.0 == name.0) ns ≡ None → number_of name ns ≡ None
+number_unnamed name [] e = refl
+number_unnamed name (n ∷ ns) e = by (n.name.0 == name.0) (position (λ n. n.name.0 == name.0) ns) (sym (position-cons (λ n. n.name.0 == name.0) n ns) ∙ e) (number_unnamed name ns)
+  where
+    by : (b : Bool) (o : Option ℕ) → cond b (Some 0) (option_map suc o) ≡ None → (o ≡ None → number_of name ns ≡ None) → cond b (Some n.number) (number_of name ns) ≡ None
+    by true o e ih = absurd (cc)
+    by false (Some k) e ih = absurd (cc)
+    by false None e ih = ih refl
+
+named_by : (name : Sym) (n m : Named) (ns : List Named) (b : Bool) (o : Option ℕ) (k : ℕ) → ((j : ℕ) → o ≡ Some j → slice_get ns j ≡ Some m → number_of name ns ≡ Some m.number) → cond b (Some 0) (option_map suc o) ≡ Some k → slice_get (n ∷ ns) k ≡ Some m → cond b (Some n.number) (number_of name ns) ≡ Some m.number
+named_by name n m ns true o zero ih e at = ap (option_map (λ (x : Named). x.number)) at
+named_by name n m ns true o (suc k) ih e at = absurd (cc)
+named_by name n m ns false (Some j) zero ih e at = absurd (cc)
+named_by name n m ns false (Some j) (suc k) ih e at = let same : j ≡ k = cc in ih j refl (rw same at)
+named_by name n m ns false None k ih e at = absurd (cc)
+
+pub number_named : (name : Sym) (ns : List Named) (k : ℕ) (m : Named) → position (λ n. n.name.0 == name.0) ns ≡ Some k → slice_get ns k ≡ Some m → number_of name ns ≡ Some m.number
+number_named name [] k m e at = absurd (cc)
+number_named name (n ∷ ns) k m e at =
+    named_by name n m ns (n.name.0 == name.0) (position (λ n. n.name.0 == name.0) ns) k (λ j here there. number_named name ns j m here there) (sym (position-cons (λ n. n.name.0 == name.0) n ns) ∙ e) at

@@ -1,0 +1,44 @@
+-- Steps of the walk over words, with more words behind.
+use Rattle.std.proofs.Common.{◌≡◌, ℕ, true, false, List, [], ◌∷◌, ◌++◌, Option, None, Some, Result, Ok, Err, refl, ◌∙◌, if◌then◌else◌}
+use Rattle.std.specs.Borrow.{Bor}
+use Rattle.ops_meaning.specs.declared.words.Word.{Word}
+use Rattle.ops_meaning.specs.Grammar.{Use, Wanted, Cell, Cells, Items, ItemWord, ValueFor, State, Next, after, step, goes, is_left, is_right, is_variable, constant_of, number_of, variable_for, cell, item_value}
+use Rattle.ops_check.specs.declared.refusals.Refusal.{Refusal}
+use Rattle.ops_check.specs.declared.refusals.Refusal.TheVariants as refusal
+use Rattle.ops_check.specs.Going.{Way, Fails, Goes}
+
+-- what fails on one way fails on a way that is the same
+pub fails_as : (from by : Way) → ((more : List Word) (ws : List Wanted) → from more ws ≡ by more ws) → (e : Refusal) → Fails by e → Fails from e
+fails_as from by same refusal.OutOfMemory h = tt
+fails_as from by same (refusal.At f None) h = λ ws. same [] ws ∙ h ws
+fails_as from by same (refusal.At f (Some w)) h = λ more ws. same more ws ∙ h more ws
+
+-- what fails whatever is wanted afterwards fails where more is
+pub fails_under : (by : Way) (under : List Wanted → List Wanted) (e : Refusal) → Fails by e → Fails (λ more ws. by more (under ws)) e
+fails_under by under refusal.OutOfMemory h = tt
+fails_under by under (refusal.At f None) h = λ ws. h (under ws)
+fails_under by under (refusal.At f (Some w)) h = λ more ws. h more (under ws)
+
+pub goes_as : (from by : Way) → ((more : List Word) (ws : List Wanted) → from more ws ≡ by more ws) → (new : State) (r : Result (Bor (List Word)) Refusal) → Goes by new r → Goes from new r
+goes_as from by same new (Ok rest) h = λ more ws. same more ws ∙ h more ws
+goes_as from by same new (Err e) h = fails_as from by same e h
+
+pub goes_first : (words rest more : List Word) (w : Word) (ws : List Wanted) (s : State) → words ≡ w ∷ rest → goes (words ++ more) ws s ≡ after (goes (rest ++ more)) w (step w ws s)
+unfolding goes
+goes_first words rest more w ws s e = rw e refl
+
+pub cell_first : (words rest more : List Word) (w : Word) (ws : List Wanted) (s : State) → words ≡ w ∷ rest → goes (words ++ more) (Cell ∷ ws) s ≡ after (goes (rest ++ more)) w (cell w.kind ws s)
+unfolding goes step
+cell_first words rest more w ws s e = rw e refl
+
+pub cells_first : (words rest more : List Word) (w : Word) (ws : List Wanted) (s : State) → words ≡ w ∷ rest → is_right w.kind ≡ false → goes (words ++ more) (Cells ∷ ws) s ≡ after (goes (rest ++ more)) w (cell w.kind (Cells ∷ ws) s)
+unfolding goes step
+cells_first words rest more w ws s e other = rw (e, other) refl
+
+pub items_first : (words rest more : List Word) (w : Word) (ws : List Wanted) (s : State) → words ≡ w ∷ rest → is_right w.kind ≡ false → goes (words ++ more) (Items ∷ ws) s ≡ after (goes (rest ++ more)) w (if is_left w.kind then Next (ItemWord ∷ Items ∷ ws) s else item_value w (constant_of w.kind w.name) (Items ∷ ws) s)
+unfolding goes step
+items_first words rest more w ws s e other = rw (e, other) refl
+
+pub variable_first : (u : Use) (f : ℕ) (words rest more : List Word) (w : Word) (ws : List Wanted) (s : State) → words ≡ w ∷ rest → constant_of w.kind w.name ≡ None → is_variable w.kind ≡ true → goes (words ++ more) (ValueFor u f ∷ ws) s ≡ after (goes (rest ++ more)) w (variable_for u f (number_of w.name s.values) w.name ws s)
+unfolding goes step
+variable_first u f words rest more w ws s e none is = rw (e, none, is) refl

@@ -1,0 +1,14 @@
+use Rattle.std.proofs.Common.{◌≡◌, ◌≤◌, ◌-◌, length}
+use Rattle.ops_meaning.specs.Reads.{reads}
+use Rattle.ops_check.specs.Going.{view}
+use Rattle.ops_check.specs.Answered.{rest_of}
+use Rattle.ops_check.proofs.program.read_text.Given as goal
+
+abbrev pub invariant-forms : goal.invariant-forms
+invariant-forms l = record {
+  so_far : reads l.text ≡ rest_of l.text l.names l.from (view l.draft);
+  within : l.from ≤ length l.text;
+}
+
+abbrev pub decreases-forms : goal.decreases-forms
+decreases-forms l = length l.text - l.from

@@ -1,0 +1,106 @@
+//! The faults of a text, where they stand, and how they are told.
+ghost use Rattle.std.specs.Prelude.{◌≡◌};
+ghost use Rattle.ops_meaning.specs.Reads.{fault_of, between_forms, cut_off};
+ghost use Rattle.ops_meaning.specs.Whole.{limit_text, fault_text};
+ghost use Rattle.ops_check.specs.Answered.{stop_of, placed};
+ghost use Rattle.ops_check.specs.declared.faults.ProgramFault.TheVariants.{OutOfMemory as WantOfMemory};
+ghost use Rattle.ops_check.specs.declared.faults.TextFault.TheVariants.{OutOfMemory as NoMemory};
+
+use ops_base::endings::{Fault, Limit};
+use ops_base::memory::OutOfMemory;
+use ops_forms::FormEnd;
+use ops_tokens::{BAD_BYTE, FRACTION_NUMBER, LexFault, UNCLOSED};
+use thiserror::Error;
+
+/// Why a text is no program. Lines and columns are counted from 1.
+#[derive(Clone, Copy, Debug, PartialEq, Eq, Error)]
+pub enum ProgramFault {
+    #[error("{line}:{column}: {}", fault_text(*fault))]
+    At {
+        fault: Fault,
+        line: u64,
+        column: u64,
+    },
+    #[error("out of memory")]
+    OutOfMemory,
+}
+
+/// Why a text is no program, by the byte at which the fault stands.
+#[derive(Clone, Copy, Debug, PartialEq, Eq)]
+pub enum TextFault {
+    At { fault: Fault, at: usize },
+    OutOfMemory,
+}
+
+impl From<OutOfMemory> for TextFault {
+    ghost from_gives = { λ _ e. e ≡ NoMemory };
+
+    fn from(_error: OutOfMemory) -> TextFault {
+        TextFault::OutOfMemory
+    }
+}
+
+// the fault of bytes that are no token, in a form
+pub fn fault_of(fault: LexFault) -> Fault
+    ensures { result ≡ fault_of fault }
+{
+    match fault.number {
+        BAD_BYTE => Fault::BadByte,
+        UNCLOSED => Fault::Unclosed,
+        FRACTION_NUMBER => Fault::FractionNumber,
+        _ => Fault::NumberRange,
+    }
+}
+
+// the fault of a form that is open where its tokens end
+pub fn cut_off(end: FormEnd, length: usize) -> TextFault
+    ensures { result ≡ placed (cut_off length (stop_of end)) }
+{
+    match end {
+        FormEnd::Fault(fault) => TextFault::At {
+            fault: fault_of(fault),
+            at: fault.at,
+        },
+        FormEnd::Closed | FormEnd::Text => TextFault::At {
+            fault: Fault::Unclosed,
+            at: length,
+        },
+    }
+}
+
+/// What is told of a fault.
+pub fn fault_text(fault: Fault) -> &'static str
+    ensures { result.now ≡ fault_text fault }
+{
+    match fault {
+        Fault::BadByte => "bad byte",
+        Fault::Unclosed => "unclosed",
+        Fault::Stray => "stray",
+        Fault::FractionNumber => "fraction",
+        Fault::NumberRange => "number out of range",
+        Fault::UnknownCommand => "unknown command",
+        Fault::BadForm => "bad form",
+        Fault::UnknownClass => "unknown class",
+        Fault::UnknownAttribute => "unknown attribute",
+        Fault::DeclaredTwice => "declared twice",
+        Fault::TwoVectors => "two vector attributes",
+        Fault::LateDeclaration => "late declaration",
+        Fault::LateProduction => "late production",
+        Fault::FirstNegated => "first condition negated",
+        Fault::UnboundVariable => "unbound variable",
+        Fault::BadDesignator => "bad designator",
+        Fault::AmbiguousDesignator => "ambiguous designator",
+        Fault::LimitPassed { limit } => limit_text(limit),
+        Fault::TooLong => "text too long",
+    }
+}
+
+fn limit_text(limit: Limit) -> &'static str
+    ensures { result.now ≡ limit_text limit }
+{
+    match limit {
+        Limit::Conditions => "limit passed: conditions",
+        Limit::Fields => "limit passed: fields",
+        Limit::Nesting => "limit passed: nesting",
+    }
+}
