@@ -5,7 +5,6 @@ ghost use Rattle.std.specs.BTreeMap.{get};
 ghost use Rattle.std.specs.Ordering.{nat_cmp};
 ghost use Rattle.ops_forms.specs.Firsts.{or_else, AreFirsts};
 
-
 use ops_base::elements::Class;
 use ops_base::memory::OutOfMemory;
 use ops_base::rules::Rule;
@@ -94,7 +93,7 @@ impl<T: Titled + Drop> Declared<T> {
     pub fn push(&mut self, item: T) -> Result<(), OutOfMemory>
         ensures ok { OnOk result (self.new ≡ self.old ++ item ∷ []) }
         ensures err { OnErr result (self.new ≡ self.old) }
-        {
+    {
         let (name, place) = (item.title().0, self.list.len());
         self.list.push(item)?;
         match note(&mut self.firsts, name, place) {

@@ -94,22 +94,21 @@ impl FormReader {
         tokens.push(left)?;
         let mut past = left.past;
         let mut depth = 1;
-        loop {
-            let end = match self.scanner.next_token(text, past) {
+        let end = loop {
+            match self.scanner.next_token(text, past) {
                 Ok(Some(token)) => {
                     tokens.push(token)?;
                     past = token.past;
                     depth = depth_behind(depth, token.kind);
-                    if depth > 0 {
-                        continue;
+                    if depth == 0 {
+                        break FormEnd::Closed;
                     }
-                    FormEnd::Closed
                 }
-                Ok(None) => FormEnd::Text,
-                Err(fault) => FormEnd::Fault(fault),
-            };
-            return Ok(Form { tokens, past, end });
-        }
+                Ok(None) => break FormEnd::Text,
+                Err(fault) => break FormEnd::Fault(fault),
+            }
+        };
+        Ok(Form { tokens, past, end })
     }
 }
 
