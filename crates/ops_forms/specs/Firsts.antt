@@ -1,6 +1,7 @@
 -- Where the first of each name stands.
-use Rattle.std.specs.Prelude.{◌≡◌, ◌==◌, ℕ, List, position, nat_eq, Bool, if◌then◌else◌, Option, Some, None}
-use Rattle.indexmap.specs.IndexMap.{IndexMap, get}
+use Rattle.std.specs.Prelude.{◌≡◌, ◌==◌, ℕ, List, position, Bool, if◌then◌else◌, Option, Some, None}
+use Rattle.std.specs.BTreeMap.{BTreeMap, get}
+use Rattle.std.specs.Ordering.{nat_cmp}
 
 -- the place that was noted, or this one where the name is that one
 abbrev pub or_else : Option ℕ → Bool → ℕ → Option ℕ
@@ -8,5 +9,5 @@ or_else (Some k) is_it place = Some k
 or_else None is_it place = if is_it then Some place else None
 
 -- each name is noted with the place of the first item that has it, and no other name is
-abbrev pub AreFirsts : {X H : Type 0} → (X → ℕ) → IndexMap ℕ ℕ H → List X → Type 0
-AreFirsts title firsts items = (n : ℕ) → get nat_eq firsts n ≡ position (λ x. title x == n) items
+abbrev pub AreFirsts : {X : Type 0} → (X → ℕ) → BTreeMap ℕ ℕ → List X → Type 0
+AreFirsts title firsts items = (n : ℕ) → get nat_cmp firsts n ≡ position (λ x. title x == n) items

@@ -1,16 +1,17 @@
 //! What was declared, found by its name.
-ghost use Rattle.std.specs.Prelude.{◌≡◌, ◌==◌, ◌++◌, ◌∷◌, ℕ, List, [], length, position, slice_get, nat_eq, IfErr, OnErr, OnOk};
+ghost use Rattle.std.specs.Prelude.{◌≡◌, ◌==◌, ◌++◌, ◌∷◌, ℕ, List, [], length, position, slice_get, IfErr, OnErr, OnOk};
 ghost use Rattle.std.specs.Option.{option_copied};
-ghost use Rattle.indexmap.specs.IndexMap.{get};
+ghost use Rattle.std.specs.BTreeMap.{get};
+ghost use Rattle.std.specs.Ordering.{nat_cmp};
 ghost use Rattle.ops_forms.specs.Firsts.{or_else, AreFirsts};
 
-use indexmap::IndexMap;
 use ops_base::elements::Class;
 use ops_base::memory::OutOfMemory;
 use ops_base::rules::Rule;
 use ops_base::values::Sym;
 use ops_meaning::Named;
 use std::alloc::Global;
+use std::collections::BTreeMap;
 use std::marker::Model;
 
 /// What has a name.
@@ -45,11 +46,11 @@ impl Titled for Named {
     }
 }
 
-/// What was declared, in order. A name is looked up in a time that does not depend on how many there are.
+/// What was declared, in order. A name is looked up in a time that grows with the logarithm of their number.
 #[derive(Drop)]
 pub struct Declared<T: Titled> {
     list: Vec<T>,
-    firsts: IndexMap<u64, usize>,
+    firsts: BTreeMap<u64, usize>,
 }
 
 impl<T: Titled> Model for Declared<T> {
@@ -61,9 +62,9 @@ impl<T: Titled> Model for Declared<T> {
 }
 
 /// Notes the place of a name that has none yet.
-fn note(firsts: &mut IndexMap<u64, usize>, name: u64, place: usize) -> Result<(), OutOfMemory>
-    ensures err { OnErr result ((n : ℕ) → get nat_eq firsts.new n ≡ get nat_eq firsts.old n) }
-    ensures ok { OnOk result ((n : ℕ) → get nat_eq firsts.new n ≡ or_else (get nat_eq firsts.old n) (name == n) place) }
+fn note(firsts: &mut BTreeMap<u64, usize>, name: u64, place: usize) -> Result<(), OutOfMemory>
+    ensures err { OnErr result ((n : ℕ) → get nat_cmp firsts.new n ≡ get nat_cmp firsts.old n) }
+    ensures ok { OnOk result ((n : ℕ) → get nat_cmp firsts.new n ≡ or_else (get nat_cmp firsts.old n) (name == n) place) }
 {
     if firsts.get(&name).is_none() {
         firsts.insert(name, place)?;
@@ -77,7 +78,7 @@ impl<T: Titled + Drop> Declared<T> {
     {
         Declared {
             list: Vec::new(alloc),
-            firsts: IndexMap::new(alloc),
+            firsts: BTreeMap::new(alloc),
         }
     }
 
@@ -92,7 +93,7 @@ impl<T: Titled + Drop> Declared<T> {
     pub fn push(&mut self, item: T) -> Result<(), OutOfMemory>
         ensures ok { OnOk result (self.new ≡ self.old ++ item ∷ []) }
         ensures err { OnErr result (self.new ≡ self.old) }
-        {
+    {
         let (name, place) = (item.title().0, self.list.len());
         self.list.push(item)?;
         match note(&mut self.firsts, name, place) {

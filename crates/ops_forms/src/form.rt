@@ -1,8 +1,14 @@
 //! The next form of a text.
-ghost use Rattle.std.specs.Prelude.{◌≤◌, length};
-ghost use Rattle.ops_forms.specs.Forms.{IsNext};
+ghost use Rattle.std.specs.Prelude.{ℕ, ◌≡◌, ◌≤◌, ◌<◌, ◌^◌, length, true, if◌then◌else◌, IfOk, Ok, Some, Err, None, Option, Result};
+ghost use Rattle.ops_tokens.specs.Tokens.{token_at, LiesIn};
+ghost use Rattle.ops_meaning.specs.Grammar.{is_left};
+ghost use Rattle.ops_forms.specs.Forms.{open_behind, IsForm, IsNext};
+ghost use Rattle.ops_meaning.specs.Reads.{is_numeric};
+ghost use Rattle.ops_forms.specs.declared.form.FormFault.TheVariants.{Lex as Bad, Stray as Astray, OutOfMemory as WantOfMemory};
 
-use ops_tokens::{LexFault, Scanner, Token};
+use ops_base::memory::OutOfMemory;
+use ops_tokens::token::{FRACTION_NUMBER, NUMBER_RANGE};
+use ops_tokens::{LexFault, Scanner, Token, TokenKind};
 use std::alloc::Global;
 
 /// How the tokens of a form end.
@@ -34,6 +40,14 @@ pub enum FormFault {
     OutOfMemory,
 }
 
+impl From<OutOfMemory> for FormFault {
+    ghost from_gives = { λ _ e. e ≡ WantOfMemory };
+
+    fn from(_error: OutOfMemory) -> FormFault {
+        FormFault::OutOfMemory
+    }
+}
+
 /// What reads forms. It is made once, for any number of texts.
 #[derive(Drop)]
 pub struct FormReader {
@@ -59,7 +73,66 @@ impl FormReader {
         requires { from ≤ length text.now }
         ensures { IsNext text.now from result }
     {
-        Err(FormFault::OutOfMemory)
+        match self.scanner.next_token(text, from) {
+            Ok(None) => Ok(None),
+            Ok(Some(token)) => match token.kind {
+                TokenKind::Left => Ok(Some(self.form_of(alloc, text, token)?)),
+                _ => Err(FormFault::Stray { at: token.first }),
+            },
+            Err(fault) => Err(no_form(fault)),
+        }
+    }
+
+    /// The form that the bracket `left` begins.
+    fn form_of(&self, alloc: Global, text: &[u8], left: Token) -> Result<Form, OutOfMemory>
+        requires opens { is_left left.kind ≡ true }
+        requires some { left.first < left.past }
+        requires lies { LiesIn text.now left }
+        ensures { IfOk result (λ form. (from : ℕ) → from ≤ length text.now → token_at text.now from ≡ Ok (Some left) → IsForm text.now from form) }
+    {
+        let mut tokens = Vec::new(alloc);
+        tokens.push(left)?;
+        let mut past = left.past;
+        let mut depth = 1;
+        let end = loop {
+            match self.scanner.next_token(text, past) {
+                Ok(Some(token)) => {
+                    tokens.push(token)?;
+                    past = token.past;
+                    depth = depth_behind(depth, token.kind);
+                    if depth == 0 {
+                        break FormEnd::Closed;
+                    }
+                }
+                Ok(None) => break FormEnd::Text,
+                Err(fault) => break FormEnd::Fault(fault),
+            }
+        };
+        Ok(Form { tokens, past, end })
+    }
+}
+
+/// How many brackets are open behind a token, where `depth` are open before it.
+fn depth_behind(depth: usize, kind: TokenKind) -> usize
+    requires inside { 0 < depth }
+    requires fits { depth < 2 ^ 63 }
+    ensures { result ≡ open_behind depth kind }
+{
+    match kind {
+        TokenKind::Left => depth + 1,
+        TokenKind::Right => depth - 1,
+        _ => depth,
+    }
+}
+
+/// Why no form stands where no token does: an atom that is no number of the language is stray.
+fn no_form(fault: LexFault) -> FormFault
+    ensures { result ≡ if is_numeric fault then Astray fault.at else Bad fault }
+{
+    if fault.number == FRACTION_NUMBER || fault.number == NUMBER_RANGE {
+        FormFault::Stray { at: fault.at }
+    } else {
+        FormFault::Lex(fault)
     }
 }
 

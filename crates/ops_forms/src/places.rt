@@ -32,5 +32,9 @@ fn line_of(before: &[u8]) -> u64
 fn column_of(before: &[u8]) -> u64
     ensures { result ≡ 1 + length (take_while (λ b. not (b == 10)) (reverse before.now)) }
 {
-    1 + before.iter().rev().take_while(|byte| **byte != b'\n').count() as u64
+    let mut column = 1;
+    for byte in before {
+        column = if *byte == b'\n' { 1 } else { column + 1 };
+    }
+    column
 }

@@ -1,0 +1,55 @@
+//! What is in sight while a production is read.
+ghost use Rattle.std.specs.Prelude.{◌≡◌, [], IfOk};
+ghost use Rattle.ops_base.specs.Names.{only_nil};
+
+use crate::declared::Declared;
+use ops_base::elements::Class;
+use ops_base::list::Listed;
+use ops_base::memory::OutOfMemory;
+use ops_base::symbols::Names;
+use ops_meaning::Named;
+use std::alloc::Global;
+
+/// The text and its names, the classes that were declared, and what is in sight while the two sides of a production are
+/// read.
+#[derive(Drop)]
+pub struct Scope {
+    pub text: Vec<u8>,
+    pub names: Names,
+    pub classes: Declared<Class>,
+    /// The value variables in sight, with their numbers.
+    pub values: Declared<Named>,
+    /// The element variables in sight, with their cells.
+    pub elements: Declared<Named>,
+    /// The class of each cell.
+    pub cells: Listed<usize>,
+    /// The cell of each condition, `None` for a negated one.
+    pub conditions: Listed<Option<usize>>,
+    /// How many numbers of variables were given.
+    pub variables: usize,
+}
+
+impl Scope {
+    /// This text, the names of `Names::new`, and nothing else.
+    pub fn new(alloc: Global, text: Vec<u8>) -> Result<Scope, OutOfMemory>
+        ensures text { IfOk result (λ scope. scope.text ≡ text) }
+        ensures names { IfOk result (λ scope. scope.names ≡ only_nil) }
+        ensures classes { IfOk result (λ scope. scope.classes ≡ []) }
+        ensures values { IfOk result (λ scope. scope.values ≡ []) }
+        ensures elements { IfOk result (λ scope. scope.elements ≡ []) }
+        ensures cells { IfOk result (λ scope. scope.cells ≡ []) }
+        ensures conditions { IfOk result (λ scope. scope.conditions ≡ []) }
+        ensures variables { IfOk result (λ scope. scope.variables ≡ 0) }
+    {
+        Ok(Scope {
+            text,
+            names: Names::new(alloc)?,
+            classes: Declared::new(alloc),
+            values: Declared::new(alloc),
+            elements: Declared::new(alloc),
+            cells: Listed::new(alloc),
+            conditions: Listed::new(alloc),
+            variables: 0,
+        })
+    }
+}
