@@ -1,5 +1,5 @@
 -- A form of which some tokens were read.
-use Rattle.std.proofs.Common.{◌≡◌, ℕ, suc, zero, ◌+◌, ◌-◌, ◌<◌, ◌≤◌, ◌==◌, ◌&&◌, not, Bool, true, false, cond, if◌then◌else◌, List, [], ◌∷◌, ◌++◌, length, All, refl, sym, ap, ◌∙◌, arith, append_assoc, Option, Some, None, Result, Ok, Err, IfOk, IfSome, Vec, rules, subst}
+use Rattle.std.proofs.Common.{◌≡◌, ℕ, suc, zero, ◌+◌, ◌-◌, ◌<◌, ◌≤◌, ◌==◌, ◌&&◌, not, Bool, true, false, cond, if◌then◌else◌, List, [], ◌∷◌, ◌++◌, length, All, refl, sym, ap, ◌∙◌, arith, append_assoc, Some, None, Ok, Err, IfOk, IfSome, Vec, subst}
 use Rattle.std.proofs.lemmas.Grind.{common_steps}
 use Rattle.std.specs.declared.alloc.Global.{Global}
 use Rattle.std.proofs.lemmas.Bool.{ne_eqb}
@@ -138,28 +138,10 @@ pub record IsOpen (text : List ℕ) (left : Token) (tokens : List Token) (at dep
   pub within : at ≤ length text
 
 left_opens : (k : TokenKind) (n : ℕ) → is_left k ≡ true → open_behind n k ≡ n + 1
-left_opens kind.Left n e = refl
-left_opens kind.Right n e = absurd cc
-left_opens kind.LeftBrace n e = absurd cc
-left_opens kind.RightBrace n e = absurd cc
-left_opens kind.Caret n e = absurd cc
-left_opens kind.Operator n e = absurd cc
-left_opens kind.Variable n e = absurd cc
-left_opens (kind.Whole v) n e = absurd cc
-left_opens kind.Symbol n e = absurd cc
-left_opens kind.Quoted n e = absurd cc
+left_opens k n e = grind (arith, common_steps)
 
 one_more_at_most : (k : TokenKind) (n : ℕ) → open_behind n k ≤ n + 1
-one_more_at_most kind.Left n = omega arith
-one_more_at_most kind.Right n = omega arith
-one_more_at_most kind.LeftBrace n = omega arith
-one_more_at_most kind.RightBrace n = omega arith
-one_more_at_most kind.Caret n = omega arith
-one_more_at_most kind.Operator n = omega arith
-one_more_at_most kind.Variable n = omega arith
-one_more_at_most (kind.Whole v) n = omega arith
-one_more_at_most kind.Symbol n = omega arith
-one_more_at_most kind.Quoted n = omega arith
+one_more_at_most k n = grind (arith, common_steps)
 
 pub open_first : (text : List ℕ) (left : Token) → is_left left.kind ≡ true → left.first < left.past → LiesIn text left → IsOpen text left (left ∷ []) left.past 1
 open_first text left is some lies =
@@ -214,16 +196,7 @@ cut_form text left tokens at depth f o is from le next =
 -- ---- what begins no form
 
 not_left : (k : TokenKind) → (k ≡ kind.Left → ⊥) → is_left k ≡ false
-not_left kind.Left n = absurd (n refl)
-not_left kind.Right n = refl
-not_left kind.LeftBrace n = refl
-not_left kind.RightBrace n = refl
-not_left kind.Caret n = refl
-not_left kind.Operator n = refl
-not_left kind.Variable n = refl
-not_left (kind.Whole v) n = refl
-not_left kind.Symbol n = refl
-not_left kind.Quoted n = refl
+not_left k n = grind (arith, common_steps)
 
 pub stray_token : (text : List ℕ) (from : ℕ) (t : Token) → from ≤ length text → token_at text from ≡ Ok (Some t) → (t.kind ≡ kind.Left → ⊥) → IsStray text from t.first
 stray_token text from t le is apart = token t (lexed_at text t.past).tokens (lexed_at text t.past).stop (lexed_token text from t le is) (not_left t.kind apart) refl

@@ -1,9 +1,9 @@
 //! The next form of a text.
-ghost use Rattle.std.specs.Prelude.{ℕ, ◌≡◌, ◌≤◌, ◌<◌, ◌^◌, length, true, if◌then◌else◌, IfOk, Ok, Some, Err, None, Option, Result};
+ghost use Rattle.std.specs.Prelude.{ℕ, ◌≡◌, ◌≤◌, ◌<◌, ◌^◌, length, true, if◌then◌else◌, IfOk, Ok, Some};
 ghost use Rattle.ops_tokens.specs.Tokens.{token_at, LiesIn};
 ghost use Rattle.ops_meaning.specs.Grammar.{is_left};
-ghost use Rattle.ops_forms.specs.Forms.{open_behind, IsForm, IsNext};
 ghost use Rattle.ops_meaning.specs.Reads.{is_numeric};
+ghost use Rattle.ops_forms.specs.Forms.{open_behind, IsForm, IsNext};
 ghost use Rattle.ops_forms.specs.declared.form.FormFault.TheVariants.{Lex as Bad, Stray as Astray, OutOfMemory as WantOfMemory};
 
 use ops_base::memory::OutOfMemory;
@@ -62,8 +62,8 @@ impl FormReader {
         }
     }
 
-    /// The next form from `from` on, or `None` where only white space and comments are left. Takes time and memory in
-    /// proportion to the form.
+    /// The next form from `from` on, or `None` where only white space and comments are left. Takes time in proportion to
+    /// the bytes that it passes, and memory in proportion to the form's tokens.
     pub fn read_form(
         &self,
         alloc: Global,

@@ -1,7 +1,7 @@
 //! Texts with the forms, words and places that are read of them.
 
 use crate::declared::Declared;
-use crate::form::{FormEnd, FormFault, FormReader, read_form};
+use crate::form::{FormEnd, FormFault, read_form};
 use crate::places::{Place, place_of};
 use crate::scope::Scope;
 use crate::words::words_of;
@@ -10,22 +10,29 @@ use ops_base::symbols::Names;
 use ops_base::values::Sym;
 use ops_meaning::{Keyword, Named, Word};
 use ops_tokens::{LexFault, TokenKind};
+use std::alloc::Global;
+
+// how many tokens a form has, the byte past them, and how they end
+fn read(
+    alloc: Global,
+    text: &[u8],
+    from: usize,
+) -> Result<Option<(usize, usize, FormEnd)>, FormFault> {
+    let found = read_form(alloc, text, from.min(text.len()))?;
+    Ok(found.map(|form| (form.tokens.len(), form.past, form.end)))
+}
 
 #[test]
 fn forms_follow_each_other(rt: HostRuntime) -> Result<(), FormFault> {
     let text = b"; two forms\n(make a ^b 7) ((a) run) ; no more";
-    let reader = FormReader::new();
-    let mut at = 0;
-    for (count, past) in [(7, 25), (6, 35)] {
-        if let Some(form) = reader.read_form(rt.alloc(), text, at)? {
-            assert_eq!(rt; form.tokens.len(), count);
-            assert_eq!(rt; form.end, FormEnd::Closed);
-            assert_eq!(rt; form.past, past);
-            at = form.past;
-        }
+    let rows = [
+        (0, Some((7, 25, FormEnd::Closed))),
+        (25, Some((6, 35, FormEnd::Closed))),
+        (35, None),
+    ];
+    for (from, form) in rows {
+        assert_eq!(rt; read(rt.alloc(), text, from)?, form);
     }
-    assert_eq!(rt; at, 35);
-    assert_eq!(rt; reader.read_form(rt.alloc(), text, at)?.is_none(), true);
     Ok(())
 }
 
@@ -33,18 +40,14 @@ fn forms_follow_each_other(rt: HostRuntime) -> Result<(), FormFault> {
 fn open_forms_end(rt: HostRuntime) -> Result<(), FormFault> {
     let fraction = FormEnd::Fault(LexFault { number: 4, at: 6 });
     let unclosed = FormEnd::Fault(LexFault { number: 2, at: 6 });
-    let rows: [(&[u8], usize, usize, FormEnd); 4] = [
-        (b"(p (a) ", 5, 6, FormEnd::Text),
-        (b"(make {", 3, 7, FormEnd::Text),
-        (b"(make 1.5)", 2, 5, fraction),
-        (b"(make |a)", 2, 5, unclosed),
+    let rows: [(&[u8], (usize, usize, FormEnd)); 4] = [
+        (b"(p (a) ", (5, 6, FormEnd::Text)),
+        (b"(make {", (3, 7, FormEnd::Text)),
+        (b"(make 1.5)", (2, 5, fraction)),
+        (b"(make |a)", (2, 5, unclosed)),
     ];
-    for (text, count, past, end) in rows {
-        if let Some(form) = read_form(rt.alloc(), text, 0)? {
-            assert_eq!(rt; form.tokens.len(), count);
-            assert_eq!(rt; form.past, past);
-            assert_eq!(rt; form.end, end);
-        }
+    for (text, form) in rows {
+        assert_eq!(rt; read(rt.alloc(), text, 0)?, Some(form));
     }
     Ok(())
 }

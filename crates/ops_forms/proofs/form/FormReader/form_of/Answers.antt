@@ -1,4 +1,4 @@
-use Rattle.std.proofs.Common.{sym, ◌∙◌, arith}
+use Rattle.std.proofs.Common.{sym, arith}
 use Rattle.ops_forms.proofs.Reading.{open_first, open_more, closed_form, open_form, cut_form}
 use Rattle.ops_forms.proofs.form.FormReader.form_of.Goals.{in-Ok-Some+in_ok-push-in-Ok-Some+then-depth-eq0, in-Ok-None, in-Err}
 use Rattle.ops_forms.proofs.form.FormReader.form_of.Goals as goal

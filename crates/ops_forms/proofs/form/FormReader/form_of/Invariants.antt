@@ -1,4 +1,4 @@
-use Rattle.std.proofs.Common.{ℕ, ◌-◌, length}
+use Rattle.std.proofs.Common.{◌-◌, length}
 use Rattle.ops_forms.proofs.Reading.{IsOpen}
 use Rattle.ops_forms.proofs.form.FormReader.form_of.Given as goal
 
