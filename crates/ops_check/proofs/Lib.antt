@@ -1,2 +1,4 @@
 pub mod Ways
 pub mod Numbered
+pub mod Balance
+pub mod Texts

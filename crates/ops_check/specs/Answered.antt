@@ -6,12 +6,14 @@ use Rattle.ops_tokens.specs.declared.token.LexFault.{LexFault}
 use Rattle.ops_meaning.specs.Words.{Lexed, lexed_at, words_from, names_from}
 use Rattle.ops_meaning.specs.Grammar.{State, Forms, goes}
 use Rattle.ops_meaning.specs.Places.{line_of, column_of}
-use Rattle.ops_meaning.specs.Reads.{Read, Placed, reads, verdict}
+use Rattle.ops_meaning.specs.Reads.{Read, Placed, reads, verdict, cut_off}
 use Rattle.ops_forms.specs.Forms.{IsForm, none_by}
 use Rattle.ops_forms.specs.declared.form.Form.{Form}
 use Rattle.ops_forms.specs.declared.form.FormEnd.{FormEnd}
 use Rattle.ops_forms.specs.declared.form.FormEnd.TheVariants as end
 use Rattle.ops_check.specs.declared.draft.Draft.{Draft}
+use Rattle.ops_check.specs.declared.refusals.Refusal.{Refusal}
+use Rattle.ops_check.specs.declared.refusals.Refusal.TheVariants as refused
 use Rattle.ops_check.specs.declared.faults.ProgramFault.{ProgramFault}
 use Rattle.ops_check.specs.declared.faults.ProgramFault.TheVariants as refusal
 use Rattle.ops_check.specs.declared.faults.TextFault.{TextFault}
@@ -41,6 +43,12 @@ abbrev pub stop_of : FormEnd → Option LexFault
 stop_of end.Closed = None
 stop_of (end.Fault f) = Some f
 stop_of end.Text = None
+
+-- where a refusal stands in a text of this length
+abbrev pub fault_at : Refusal → FormEnd → ℕ → TextFault
+fault_at refused.OutOfMemory e length = answer.OutOfMemory
+fault_at (refused.At f None) e length = placed (cut_off length (stop_of e))
+fault_at (refused.At f (Some w)) e length = answer.At f w.first
 
 abbrev pub rest_by : List ℕ → Spellings → State → Lexed → Result Read Placed
 rest_by text names s l = verdict (length text) (names_from text names l.tokens) l.stop (goes (words_from text names l.tokens) (Forms ∷ []) s)

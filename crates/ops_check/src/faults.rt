@@ -1,11 +1,12 @@
 //! The faults of a text, where they stand, and how they are told.
 ghost use Rattle.std.specs.Prelude.{◌≡◌};
-ghost use Rattle.ops_meaning.specs.Reads.{fault_of, between_forms, cut_off};
+ghost use Rattle.ops_meaning.specs.Reads.{fault_of, cut_off};
 ghost use Rattle.ops_meaning.specs.Whole.{limit_text, fault_text};
-ghost use Rattle.ops_check.specs.Answered.{stop_of, placed};
+ghost use Rattle.ops_check.specs.Answered.{stop_of, placed, fault_at};
 ghost use Rattle.ops_check.specs.declared.faults.ProgramFault.TheVariants.{OutOfMemory as WantOfMemory};
 ghost use Rattle.ops_check.specs.declared.faults.TextFault.TheVariants.{OutOfMemory as NoMemory};
 
+use crate::refusals::Refusal;
 use ops_base::endings::{Fault, Limit};
 use ops_base::memory::OutOfMemory;
 use ops_forms::FormEnd;
@@ -53,7 +54,7 @@ pub fn fault_of(fault: LexFault) -> Fault
 }
 
 // the fault of a form that is open where its tokens end
-pub fn cut_off(end: FormEnd, length: usize) -> TextFault
+fn cut_off(end: FormEnd, length: usize) -> TextFault
     ensures { result ≡ placed (cut_off length (stop_of end)) }
 {
     match end {
@@ -65,6 +66,23 @@ pub fn cut_off(end: FormEnd, length: usize) -> TextFault
             fault: Fault::Unclosed,
             at: length,
         },
+    }
+}
+
+/// Where a refusal stands in a text of this length: at its word, or where the tokens of its form end.
+pub fn fault_at(refusal: Refusal, end: FormEnd, length: usize) -> TextFault
+    ensures { result ≡ fault_at refusal end length }
+{
+    match refusal {
+        Refusal::At {
+            fault,
+            word: Some(word),
+        } => TextFault::At {
+            fault,
+            at: word.first,
+        },
+        Refusal::At { word: None, .. } => cut_off(end, length),
+        Refusal::OutOfMemory => TextFault::OutOfMemory,
     }
 }
 

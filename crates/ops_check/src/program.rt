@@ -8,8 +8,7 @@ ghost use Rattle.ops_check.specs.Answered.{IsRefusal, IsAnswer, Comes, Continues
 ghost use Rattle.ops_check.specs.Going.{view};
 
 use crate::draft::Draft;
-use crate::faults::{ProgramFault, TextFault, cut_off, fault_of};
-use crate::refusals::Refusal;
+use crate::faults::{ProgramFault, TextFault, fault_at, fault_of};
 use ops_base::endings::Fault;
 use ops_base::list::Listed;
 use ops_base::programs::Program;
@@ -105,17 +104,7 @@ fn read_form(
     let words = words_of(alloc, names, text, form.tokens.as_slice())?;
     match draft.forms(words.as_slice()) {
         Ok(()) => Ok(()),
-        Err(Refusal::OutOfMemory) => Err(TextFault::OutOfMemory),
-        Err(
-            Refusal::At {
-                fault,
-                word: Some(word),
-            },
-        ) => Err(TextFault::At {
-            fault,
-            at: word.first,
-        }),
-        Err(Refusal::At { word: None, .. }) => Err(cut_off(form.end, text.len())),
+        Err(refusal) => Err(fault_at(refusal, form.end, text.len())),
     }
 }
 

@@ -79,4 +79,4 @@ IsNext text from (Ok None) = lexed_at text from ≡ none_by None
 IsNext text from (Ok (Some form)) = IsForm text from form
 IsNext text from (Err (fault.Lex f)) = (lexed_at text from ≡ none_by (Some f)) × (is_numeric f ≡ false)
 IsNext text from (Err (fault.Stray at)) = IsStray text from at
-IsNext text from (Err fault.OutOfMemory) = Unit {0}
+IsNext text from (Err fault.OutOfMemory) = opens (lexed_at text from).tokens ≡ true

@@ -29,7 +29,7 @@ after_placed rest text from le ih (Ok None) stands = le
 after_placed rest text from le ih (Ok (Some t)) stands = (stands.begins, stands.some, stands.lies.within, ih t.past stands.lies.within)
 after_placed rest text from le ih (Err f) stands = le
 
-lexed_placed : (n : ℕ) (text : List ℕ) (from : ℕ) → from ≤ length text → ArePlaced (length text) from (lexed_from n text from).tokens
+pub lexed_placed : (n : ℕ) (text : List ℕ) (from : ℕ) → from ≤ length text → ArePlaced (length text) from (lexed_from n text from).tokens
 lexed_placed zero text from le = le
 lexed_placed (suc n) text from le =
     after_placed (lexed_from n text) text from le (λ past within. lexed_placed n text past within) (token_at text from) (token-place text from le)

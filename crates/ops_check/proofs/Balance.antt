@@ -1,0 +1,321 @@
+-- Brackets: the words of a form that is closed do not end too early, and those of a form that is open do not end.
+use Rattle.std.proofs.Common.{◌≡◌, ℕ, zero, suc, ◌+◌, ◌-◌, ◌<◌, ◌≤◌, Bool, true, false, cond, not, ◌&&◌, ◌||◌, ◌==◌, List, [], ◌∷◌, length, Option, Some, None, Ok, Err, refl, sym, ap, subst, ◌∙◌, arith, true≢false, position, slice_get, nat_lt}
+use Rattle.std.proofs.lemmas.Bool.{and_parts, cond_both, eqb-true, eqb-false, not-true}
+use Rattle.ops_base.specs.Names.{Spellings}
+use Rattle.ops_base.specs.declared.values.Sym.{Sym}
+use Rattle.ops_base.specs.declared.values.Value.{Value}
+use Rattle.ops_base.specs.Valid.{most_fields, most_conditions}
+use Rattle.ops_tokens.specs.declared.token.Token.{Token}
+use Rattle.ops_tokens.specs.declared.token.TokenKind.{TokenKind}
+use Rattle.ops_tokens.specs.declared.token.TokenKind.TheVariants as kind
+use Rattle.ops_tokens.specs.Tokens.{spelling}
+use Rattle.ops_meaning.specs.declared.words.Word.{Word}
+use Rattle.ops_meaning.specs.declared.words.Keyword.{Keyword}
+use Rattle.ops_meaning.specs.declared.words.Keyword.TheVariants as keyword
+use Rattle.ops_meaning.specs.Words.{keyword_of, names_with, word_of, words_from}
+use Rattle.ops_meaning.specs.Grammar.{Use, InPattern, InPut, InFixed, Ends, Wanted, Forms, Form, ClassDeclared, Attributes, RuleName, FirstPattern, Patterns, ClassName, Terms, Attribute, ValueFor, Actions, ActionWord, Cell, Cells, Items, ItemWord, Closes, State, Step, Next, Refuses, Outcome, is_left, is_right, is_caret, is_name, is_variable, is_arrow, is_crlf, constant_of, natural_of, is_one_of, number_of, may_declare, is_class, is_rule, form, attribute_declared, class_at, attributes_of, field_at, variable_for, put_variable, value_for, action_word, cell_of, cell, item_variable, item_value, step, ends, after, goes}
+use Rattle.ops_forms.specs.Forms.{open_behind, is_last, closes_last, stays_open, opens}
+
+-- ---- what is owed
+
+-- a closing bracket ends what is wanted
+abbrev owes : Wanted → Bool
+owes Form = true
+owes Attributes = true
+owes (Terms u) = true
+owes Actions = true
+owes ActionWord = true
+owes Cells = true
+owes Items = true
+owes ItemWord = true
+owes (Closes e) = true
+owes _ = false
+
+-- how many closing brackets end what is wanted
+abbrev pub owed : List Wanted → ℕ
+owed [] = 0
+owed (w ∷ ws) = cond (owes w) (1 + owed ws) (owed ws)
+
+-- a part of a form is wanted next
+abbrev in_form : List Wanted → Bool
+in_form [] = false
+in_form (Forms ∷ ws) = false
+in_form (w ∷ ws) = true
+
+abbrev is_empty : List Wanted → Bool
+is_empty [] = true
+is_empty (w ∷ ws) = false
+
+-- forms are wanted at the bottom alone, and what takes no closing bracket stands above another part of a form
+abbrev pub stands : List Wanted → Bool
+stands [] = false
+stands (Forms ∷ ws) = is_empty ws
+stands (w ∷ ws) = (owes w || in_form ws) && stands ws
+
+in_form_owes : (ws : List Wanted) → in_form ws ≡ true → stands ws ≡ true → 1 ≤ owed ws
+in_form_owes [] i h = absurd (true≢false (sym i))
+in_form_owes (Forms ∷ ws) i h = absurd (true≢false (sym i))
+in_form_owes (Form ∷ ws) i h = omega arith
+in_form_owes (Attributes ∷ ws) i h = omega arith
+in_form_owes (Terms u ∷ ws) i h = omega arith
+in_form_owes (Actions ∷ ws) i h = omega arith
+in_form_owes (ActionWord ∷ ws) i h = omega arith
+in_form_owes (Cells ∷ ws) i h = omega arith
+in_form_owes (Items ∷ ws) i h = omega arith
+in_form_owes (ItemWord ∷ ws) i h = omega arith
+in_form_owes (Closes e ∷ ws) i h = omega arith
+in_form_owes (ClassDeclared ∷ ws) i h = let p = and_parts (in_form ws) (stands ws) h in in_form_owes ws p.0 p.1
+in_form_owes (RuleName ∷ ws) i h = let p = and_parts (in_form ws) (stands ws) h in in_form_owes ws p.0 p.1
+in_form_owes (FirstPattern ∷ ws) i h = let p = and_parts (in_form ws) (stands ws) h in in_form_owes ws p.0 p.1
+in_form_owes (Patterns ∷ ws) i h = let p = and_parts (in_form ws) (stands ws) h in in_form_owes ws p.0 p.1
+in_form_owes (ClassName ∷ ws) i h = let p = and_parts (in_form ws) (stands ws) h in in_form_owes ws p.0 p.1
+in_form_owes (Attribute u ∷ ws) i h = let p = and_parts (in_form ws) (stands ws) h in in_form_owes ws p.0 p.1
+in_form_owes (ValueFor u f ∷ ws) i h = let p = and_parts (in_form ws) (stands ws) h in in_form_owes ws p.0 p.1
+in_form_owes (Cell ∷ ws) i h = let p = and_parts (in_form ws) (stands ws) h in in_form_owes ws p.0 p.1
+
+-- ---- brackets by kinds
+
+left_opens : (k : TokenKind) (n : ℕ) → is_left k ≡ true → open_behind n k ≡ n + 1
+left_opens kind.Left n e = refl
+left_opens _ n e = absurd (true≢false (sym e))
+
+right_closes : (k : TokenKind) (n : ℕ) → is_right k ≡ true → open_behind n k ≡ n - 1
+right_closes kind.Right n e = refl
+right_closes _ n e = absurd (true≢false (sym e))
+
+caret_keeps : (k : TokenKind) (n : ℕ) → is_caret k ≡ true → open_behind n k ≡ n
+caret_keeps kind.Caret n e = refl
+caret_keeps _ n e = absurd (true≢false (sym e))
+
+name_keeps : (k : TokenKind) (n : ℕ) → is_name k ≡ true → open_behind n k ≡ n
+name_keeps kind.Symbol n e = refl
+name_keeps kind.Quoted n e = refl
+name_keeps _ n e = absurd (true≢false (sym e))
+
+variable_keeps : (k : TokenKind) (n : ℕ) → is_variable k ≡ true → open_behind n k ≡ n
+variable_keeps kind.Variable n e = refl
+variable_keeps _ n e = absurd (true≢false (sym e))
+
+constant_keeps : (k : TokenKind) (name : Sym) (v : Value) (n : ℕ) → constant_of k name ≡ Some v → open_behind n k ≡ n
+constant_keeps (kind.Whole z) name v n e = refl
+constant_keeps kind.Symbol name v n e = refl
+constant_keeps kind.Quoted name v n e = refl
+constant_keeps _ name v n e = absurd (cc)
+
+keyword_keeps : (k : TokenKind) (s : List ℕ) (n : ℕ) → (keyword_of k s ≡ keyword.Other → ⊥) → open_behind n k ≡ n
+keyword_keeps kind.Symbol s n e = refl
+keyword_keeps kind.Operator s n e = refl
+keyword_keeps _ s n e = absurd (e refl)
+
+-- ---- a step keeps the balance
+
+abbrev Balanced : ℕ → Step → Type 0
+Balanced n (Next ws s) = (stands ws ≡ true) × (owed ws ≡ n)
+Balanced n (Refuses f) = Unit {0}
+
+module _ (w : Word) (quiet : (n : ℕ) → (w.keyword ≡ keyword.Other → ⊥) → open_behind n w.kind ≡ n) where
+  abbrev B : List Wanted → Step → Type 0
+  B ws r = Balanced (open_behind (owed ws) w.kind) r
+
+  form_balanced : (k : Keyword) (ws : List Wanted) (s : State) → w.keyword ≡ k → stands ws ≡ true → B (Form ∷ ws) (form w k ws s)
+  form_balanced keyword.Literalize ws s e h = cond_both (may_declare s) _ _ (B (Form ∷ ws)) (λ _. (h, sym (quiet (1 + owed ws) (λ o. absurd (cc))))) (λ _. tt)
+  form_balanced keyword.Production ws s e h = cond_both (length s.commands == 0) _ _ (B (Form ∷ ws)) (λ _. (h, sym (quiet (1 + owed ws) (λ o. absurd (cc))))) (λ _. tt)
+  form_balanced keyword.Make ws s e h = (h, sym (quiet (1 + owed ws) (λ o. absurd (cc))))
+  form_balanced keyword.Run ws s e h = (h, sym (quiet (1 + owed ws) (λ o. absurd (cc))))
+  form_balanced _ ws s e h = tt
+
+  action_word_balanced : (k : Keyword) (ws : List Wanted) (s : State) → w.keyword ≡ k → stands ws ≡ true → B (ActionWord ∷ ws) (action_word k ws s)
+  action_word_balanced keyword.Make ws s e h = (h, sym (quiet (1 + owed ws) (λ o. absurd (cc))))
+  action_word_balanced keyword.Remove ws s e h = (h, sym (quiet (1 + owed ws) (λ o. absurd (cc))))
+  action_word_balanced keyword.Write ws s e h = (h, sym (quiet (1 + owed ws) (λ o. absurd (cc))))
+  action_word_balanced keyword.Halt ws s e h = (h, sym (quiet (1 + owed ws) (λ o. absurd (cc))))
+  action_word_balanced _ ws s e h = tt
+
+  named : (ws : List Wanted) → is_name w.kind ≡ true → owed ws ≡ open_behind (owed ws) w.kind
+  named ws e = sym (name_keeps w.kind (owed ws) e)
+
+  -- ---- what a step does behind its tests
+
+  class_at_balanced : (o : Option ℕ) (ws : List Wanted) (s : State) → is_name w.kind ≡ true → stands ws ≡ true → B ws (class_at o ws s)
+  class_at_balanced (Some c) ws s e h = (h, named ws e)
+  class_at_balanced None ws s e h = tt
+
+  field_at_balanced : (u : Use) (o : Option ℕ) (ws : List Wanted) (s : State) → is_name w.kind ≡ true → (in_form ws && stands ws) ≡ true → B ws (field_at u o ws s)
+  field_at_balanced u (Some f) ws s e h = (h, named ws e)
+  field_at_balanced u None ws s e h = tt
+
+  put_variable_balanced : (f : ℕ) (o : Option ℕ) (ws : List Wanted) (s : State) → is_variable w.kind ≡ true → stands ws ≡ true → B ws (put_variable f o ws s)
+  put_variable_balanced f (Some n) ws s e h = (h, sym (variable_keeps w.kind (owed ws) e))
+  put_variable_balanced f None ws s e h = tt
+
+  variable_balanced : (u : Use) (f : ℕ) (o : Option ℕ) (ws : List Wanted) (s : State) → is_variable w.kind ≡ true → stands ws ≡ true → B ws (variable_for u f o w.name ws s)
+  variable_balanced InPattern f o ws s e h = (h, sym (variable_keeps w.kind (owed ws) e))
+  variable_balanced InPut f o ws s e h = put_variable_balanced f o ws s e h
+  variable_balanced InFixed f o ws s e h = tt
+
+  value_balanced : (u : Use) (f : ℕ) (o : Option Value) (ws : List Wanted) (s : State) → constant_of w.kind w.name ≡ o → stands ws ≡ true → B ws (value_for u f w o ws s)
+  value_balanced u f (Some v) ws s e h = (h, sym (constant_keeps w.kind w.name v (owed ws) e))
+  value_balanced u f None ws s e h = cond_both (is_variable w.kind) _ _ (B ws) (λ is. variable_balanced u f (number_of w.name s.values) ws s is h) (λ _. tt)
+
+  cell_of_balanced : (o : Option ℕ) (ws : List Wanted) (s : State) → owed ws ≡ open_behind (owed ws) w.kind → stands ws ≡ true → B ws (cell_of o ws s)
+  cell_of_balanced (Some m) ws s e h = cond_both (nat_lt (length s.conditions) m) _ _ (B ws) (λ _. tt) (λ _. (h, e))
+  cell_of_balanced None ws s e h = tt
+
+  cell_balanced : (k : TokenKind) (ws : List Wanted) (s : State) → w.kind ≡ k → stands ws ≡ true → B ws (cell k ws s)
+  cell_balanced (kind.Whole z) ws s e h = cell_of_balanced (natural_of z) ws s (ap (open_behind (owed ws)) (sym e)) h
+  cell_balanced _ ws s e h = tt
+
+  item_variable_balanced : (o : Option ℕ) (ws : List Wanted) (s : State) → is_variable w.kind ≡ true → stands ws ≡ true → B ws (item_variable o ws s)
+  item_variable_balanced (Some n) ws s e h = (h, sym (variable_keeps w.kind (owed ws) e))
+  item_variable_balanced None ws s e h = tt
+
+  item_balanced : (o : Option Value) (ws : List Wanted) (s : State) → constant_of w.kind w.name ≡ o → stands ws ≡ true → B ws (item_value w o ws s)
+  item_balanced (Some v) ws s e h = (h, sym (constant_keeps w.kind w.name v (owed ws) e))
+  item_balanced None ws s e h = cond_both (is_variable w.kind) _ _ (B ws) (λ is. item_variable_balanced (number_of w.name s.values) ws s is h) (λ _. tt)
+
+  -- ---- a step
+
+  abbrev closed : (ws : List Wanted) → is_right w.kind ≡ true → owed ws ≡ open_behind (1 + owed ws) w.kind
+  closed ws e = let k = right_closes w.kind (1 + owed ws) e in omega (arith, k)
+
+  abbrev opened : (ws : List Wanted) → is_left w.kind ≡ true → 1 + owed ws ≡ open_behind (owed ws) w.kind
+  opened ws e = let k = left_opens w.kind (owed ws) e in omega (arith, k)
+
+  arrow_known : (k : Keyword) → is_arrow k ≡ true → k ≡ keyword.Other → ⊥
+  arrow_known keyword.Arrow e o = absurd (cc)
+  arrow_known _ e o = absurd (true≢false (sym e))
+
+  crlf_known : (k : Keyword) → is_crlf k ≡ true → k ≡ keyword.Other → ⊥
+  crlf_known keyword.Crlf e o = absurd (cc)
+  crlf_known _ e o = absurd (true≢false (sym e))
+
+  step_balanced : (ws : List Wanted) (s : State) → stands ws ≡ true → B ws (step w ws s)
+  unfolding step
+  step_balanced [] s h = tt
+  step_balanced (Forms ∷ ws) s h = cond_both (is_left w.kind) _ _ (B (Forms ∷ ws)) (λ e. (h, opened ws e)) (λ _. tt)
+  step_balanced (Form ∷ ws) s h = form_balanced w.keyword ws s refl h
+  step_balanced (ClassDeclared ∷ ws) s h =
+      cond_both (is_name w.kind) _ _ (B (ClassDeclared ∷ ws))
+      (λ e. cond_both (is_class s w.name) _ _ (B (ClassDeclared ∷ ws)) (λ _. tt) (λ _. ((and_parts (in_form ws) (stands ws) h).1, named ws e))) (λ _. tt)
+  step_balanced (Attributes ∷ ws) s h =
+      cond_both (is_right w.kind) _ _ (B (Attributes ∷ ws)) (λ e. (h, closed ws e))
+      (λ _. cond_both (is_name w.kind) _ _ (B (Attributes ∷ ws))
+      (λ e. cond_both (is_one_of w.name s.attrs) _ _ (B (Attributes ∷ ws)) (λ _. tt)
+      (λ _. cond_both (nat_lt (length s.attrs) most_fields) _ _ (B (Attributes ∷ ws)) (λ _. (h, named (Attributes ∷ ws) e)) (λ _. tt)))
+      (λ _. tt))
+  step_balanced (RuleName ∷ ws) s h =
+      cond_both (is_name w.kind) _ _ (B (RuleName ∷ ws))
+      (λ e. cond_both (is_rule s w.name) _ _ (B (RuleName ∷ ws)) (λ _. tt) (λ _. ((and_parts (in_form ws) (stands ws) h).1, named ws e))) (λ _. tt)
+  step_balanced (FirstPattern ∷ ws) s h =
+      cond_both (is_left w.kind) _ _ (B (FirstPattern ∷ ws)) (λ e. ((and_parts (in_form ws) (stands ws) h).1, opened ws e)) (λ _. tt)
+  step_balanced (Patterns ∷ ws) s h =
+      cond_both (is_arrow w.keyword) _ _ (B (Patterns ∷ ws)) (λ e. ((and_parts (in_form ws) (stands ws) h).1, sym (quiet (owed ws) (arrow_known w.keyword e))))
+      (λ _. cond_both (is_left w.kind) _ _ (B (Patterns ∷ ws))
+      (λ e. cond_both (nat_lt (length s.conditions) most_conditions) _ _ (B (Patterns ∷ ws)) (λ _. (h, opened (Patterns ∷ ws) e)) (λ _. tt)) (λ _. tt))
+  step_balanced (ClassName ∷ ws) s h =
+      cond_both (is_name w.kind) _ _ (B (ClassName ∷ ws)) (λ e. class_at_balanced (position (λ c. c.name.0 == w.name.0) s.classes) ws s e (and_parts (in_form ws) (stands ws) h).1) (λ _. tt)
+  step_balanced (Terms u ∷ ws) s h =
+      cond_both (is_right w.kind) _ _ (B (Terms u ∷ ws)) (λ e. (h, closed ws e))
+      (λ _. cond_both (is_caret w.kind) _ _ (B (Terms u ∷ ws)) (λ e. (h, sym (caret_keeps w.kind (1 + owed ws) e))) (λ _. tt))
+  step_balanced (Attribute u ∷ ws) s h =
+      cond_both (is_name w.kind) _ _ (B (Attribute u ∷ ws))
+      (λ e. field_at_balanced u (position (λ a. a.0 == w.name.0) (attributes_of (slice_get s.classes s.class))) ws s e h) (λ _. tt)
+  step_balanced (ValueFor u f ∷ ws) s h = value_balanced u f (constant_of w.kind w.name) ws s refl (and_parts (in_form ws) (stands ws) h).1
+  step_balanced (Actions ∷ ws) s h =
+      cond_both (is_right w.kind) _ _ (B (Actions ∷ ws)) (λ e. (h, closed ws e))
+      (λ _. cond_both (is_left w.kind) _ _ (B (Actions ∷ ws)) (λ e. (h, opened (Actions ∷ ws) e)) (λ _. tt))
+  step_balanced (ActionWord ∷ ws) s h = action_word_balanced w.keyword ws s refl h
+  step_balanced (Cell ∷ ws) s h = cell_balanced w.kind ws s refl (and_parts (in_form ws) (stands ws) h).1
+  step_balanced (Cells ∷ ws) s h =
+      cond_both (is_right w.kind) _ _ (B (Cells ∷ ws)) (λ e. (h, closed ws e)) (λ _. cell_balanced w.kind (Cells ∷ ws) s refl h)
+  step_balanced (Items ∷ ws) s h =
+      cond_both (is_right w.kind) _ _ (B (Items ∷ ws)) (λ e. (h, closed ws e))
+      (λ _. cond_both (is_left w.kind) _ _ (B (Items ∷ ws)) (λ e. (h, opened (Items ∷ ws) e)) (λ _. item_balanced (constant_of w.kind w.name) (Items ∷ ws) s refl h))
+  step_balanced (ItemWord ∷ ws) s h =
+      cond_both (is_crlf w.keyword) _ _ (B (ItemWord ∷ ws)) (λ e. (h, sym (quiet (1 + owed ws) (crlf_known w.keyword e)))) (λ _. tt)
+  step_balanced (Closes x ∷ ws) s h = cond_both (is_right w.kind) _ _ (B (Closes x ∷ ws)) (λ e. (h, closed ws e)) (λ _. tt)
+
+-- ---- where the words end
+
+-- the words do not end too early
+abbrev pub NotCut : Outcome → Type 0
+NotCut (Ok s) = Unit {0}
+NotCut (Err (f, Some w)) = Unit {0}
+NotCut (Err (f, None)) = ⊥
+
+-- the words are not read to their end
+abbrev pub NotDone : Outcome → Type 0
+NotDone (Ok s) = ⊥
+NotDone (Err e) = Unit {0}
+
+ends_read : (ws : List Wanted) (s : State) → stands ws ≡ true → owed ws ≡ 0 → NotCut (ends ws s)
+unfolding ends
+ends_read [] s h e = tt
+ends_read (Forms ∷ []) s h e = tt
+ends_read (Forms ∷ (v ∷ ws)) s h e = absurd (true≢false (sym h))
+ends_read (w ∷ ws) s h e = absurd (let k = in_form_owes (w ∷ ws) refl h in omega (arith, k))
+
+ends_cut : (ws : List Wanted) (s : State) → stands ws ≡ true → 1 ≤ owed ws → NotDone (ends ws s)
+unfolding ends
+ends_cut [] s h e = absurd (true≢false (sym h))
+ends_cut (Forms ∷ []) s h e = absurd (omega arith)
+ends_cut (Forms ∷ (v ∷ ws)) s h e = absurd (true≢false (sym h))
+ends_cut (w ∷ ws) s h e = tt
+
+quiet_word : (names : Spellings) (t : Token) (s : List ℕ) (n : ℕ) → ((word_of names t s).keyword ≡ keyword.Other → ⊥) → open_behind n t.kind ≡ n
+quiet_word names t s n known = keyword_keeps t.kind s n known
+
+read_on : (rest : List Wanted → State → Outcome) (w : Word) (n : ℕ) (r : Step) → Balanced n r → ((ws : List Wanted) (s : State) → stands ws ≡ true → owed ws ≡ n → NotCut (rest ws s)) → NotCut (after rest w r)
+read_on rest w n (Next ws s) h f = f ws s h.0 h.1
+read_on rest w n (Refuses x) h f = tt
+
+cut_on : (rest : List Wanted → State → Outcome) (w : Word) (n : ℕ) (r : Step) → Balanced n r → ((ws : List Wanted) (s : State) → stands ws ≡ true → owed ws ≡ n → NotDone (rest ws s)) → NotDone (after rest w r)
+cut_on rest w n (Next ws s) h f = f ws s h.0 h.1
+cut_on rest w n (Refuses x) h f = tt
+
+none_left : (ts : List Token) → is_last ts ≡ true → ts ≡ []
+none_left [] e = refl
+none_left (t ∷ ts) e = absurd (true≢false (sym e))
+
+either_end : (X : Type 0) (b : Bool) (m : ℕ) (ts : List Token) → (m == 0) ≡ b → cond b (is_last ts) (closes_last m ts) ≡ true → (m ≡ 0 → ts ≡ [] → X) → (closes_last m ts ≡ true → X) → X
+either_end X true m ts is c done more = done (eqb-true m 0 is) (none_left ts c)
+either_end X false m ts is c done more = more c
+
+-- the words of a form whose brackets are closed are not cut off
+pub closed_reads : (text : List ℕ) (ts : List Token) (names : Spellings) (n : ℕ) (ws : List Wanted) (s : State) → stands ws ≡ true → owed ws ≡ n → closes_last n ts ≡ true → NotCut (goes (words_from text names ts) ws s)
+unfolding goes
+closed_reads text [] names n ws s h e c = absurd (true≢false (sym c))
+closed_reads text (t ∷ ts) names n ws s h e c =
+    let w = word_of names t (spelling text t) in
+    let names' = names_with names t.kind (spelling text t) in
+    let m = open_behind n t.kind in
+    read_on (goes (words_from text names' ts)) w m (step w ws s) (rw e at (step_balanced w (quiet_word names t (spelling text t)) ws s h))
+    (λ ws' s' h' e'. either_end (NotCut (goes (words_from text names' ts) ws' s')) (m == 0) m ts refl c
+    (λ none last. subst (λ (us : List Token). NotCut (goes (words_from text names' us) ws' s')) (sym last) (ends_read ws' s' h' (e' ∙ none)))
+    (λ more. closed_reads text ts names' m ws' s' h' e' more))
+
+-- the words of a form whose brackets stay open do not end
+pub open_goes_on : (text : List ℕ) (ts : List Token) (names : Spellings) (n : ℕ) (ws : List Wanted) (s : State) → stands ws ≡ true → owed ws ≡ n → 1 ≤ n → stays_open n ts ≡ true → NotDone (goes (words_from text names ts) ws s)
+unfolding goes
+open_goes_on text [] names n ws s h e some c = ends_cut ws s h (omega arith)
+open_goes_on text (t ∷ ts) names n ws s h e some c =
+    let w = word_of names t (spelling text t) in
+    let names' = names_with names t.kind (spelling text t) in
+    let m = open_behind n t.kind in
+    let parts = and_parts (not (m == 0)) (stays_open m ts) c in
+    let apart : (m ≡ 0) → ⊥ = eqb-false m 0 (not-true _ parts.0) in
+    cut_on (goes (words_from text names' ts)) w m (step w ws s) (rw e at (step_balanced w (quiet_word names t (spelling text t)) ws s h))
+    (λ ws' s' h' e'. open_goes_on text ts names' m ws' s' h' e' (omega arith) parts.1)
+
+-- so from its first bracket on
+pub open_form_goes_on : (text : List ℕ) (ts : List Token) (names : Spellings) (s : State) → opens ts ≡ true → stays_open 0 ts ≡ true → NotDone (goes (words_from text names ts) (Forms ∷ []) s)
+unfolding goes
+open_form_goes_on text [] names s o c = absurd (true≢false (sym o))
+open_form_goes_on text (t ∷ ts) names s o c =
+    let w = word_of names t (spelling text t) in
+    let names' = names_with names t.kind (spelling text t) in
+    let m = open_behind 0 t.kind in
+    let parts = and_parts (not (m == 0)) (stays_open m ts) c in
+    let apart : (m ≡ 0) → ⊥ = eqb-false m 0 (not-true _ parts.0) in
+    cut_on (goes (words_from text names' ts)) w m (step w (Forms ∷ []) s) (step_balanced w (quiet_word names t (spelling text t)) (Forms ∷ []) s refl)
+    (λ ws' s' h' e'. open_goes_on text ts names' m ws' s' h' e' (omega arith) parts.1)

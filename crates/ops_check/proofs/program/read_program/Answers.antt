@@ -1,0 +1,23 @@
+use Rattle.std.proofs.Common.{◌≡◌, ◌≤◌, ◌∙◌, sym, ap, length, Err}
+use Rattle.ops_meaning.proofs.ReadsValid.{reads-valid}
+use Rattle.ops_meaning.proofs.ReadsWithin.{reads-within}
+use Rattle.ops_meaning.specs.Reads.{reads}
+use Rattle.ops_check.specs.Answered.{read_of}
+use Rattle.ops_check.proofs.program.read_program.Goals as goal
+
+pub program_of-requires : goal.program_of-requires
+program_of-requires c =
+    reads-valid c.args.text.items (read_of c.in-Ok.draft c.in-Ok.names) (ap reads (sym c.as_slice.ensures.value) ∙ c.in-Ok.ensures)
+
+pub place_of-place-requires : goal.place_of-place-requires
+place_of-place-requires c =
+    let is : reads c.as_slice.result.now ≡ Err (record { fault = c.in-Err-At.fault; at = c.in-Err-At.at }) = rw c.in-Err-At.field-0-is at c.in-Err-At.ensures in
+    let there : reads c.args.text.items ≡ Err (record { fault = c.in-Err-At.fault; at = c.in-Err-At.at }) = ap reads (sym c.as_slice.ensures.value) ∙ is in
+    rw c.as_slice-in-Err-At.ensures.value (reads-within c.args.text.items (record { fault = c.in-Err-At.fault; at = c.in-Err-At.at }) there)
+
+pub returns-clause-fault : goal.returns-clause-fault
+returns-clause-fault c =
+    let is : reads c.as_slice.result.now ≡ Err (record { fault = c.in-Err-At.fault; at = c.in-Err-At.at }) = rw c.in-Err-At.field-0-is at c.in-Err-At.ensures in
+    let there : reads c.args.text.items ≡ Err (record { fault = c.in-Err-At.fault; at = c.in-Err-At.at }) = ap reads (sym c.as_slice.ensures.value) ∙ is in
+    let placed = rw c.as_slice-in-Err-At.ensures.value at c.place_of-place.ensures in
+    (c.in-Err-At.at, there, placed.line, placed.column)
