@@ -108,6 +108,10 @@ answer_to text = answer_read text (reads text)
 
 -- ---- the whole
 
+-- A file is answered as its text. One that does not fit is a text that is too long.
+abbrev pub answer_file : List ℕ → Outcome
+answer_file bytes = answer_to (text_of bytes)
+
 abbrev pub unread : List ℕ → Outcome
 unread name = record { bytes = unread_line name; status = status.ReadFault }
 
@@ -115,7 +119,7 @@ unread name = record { bytes = unread_line name; status = status.ReadFault }
 abbrev pub whole_file : List ℕ → Option (List ℕ) → Bool → Outcome
 whole_file name content true = unread name
 whole_file name None false = unread name
-whole_file name (Some bytes) false = answer_to (text_of bytes)
+whole_file name (Some bytes) false = answer_file bytes
 
 abbrev pub whole : List (List ℕ) → Option (List ℕ) → Bool → Outcome
 whole words content broken =

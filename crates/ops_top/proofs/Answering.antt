@@ -12,7 +12,7 @@ use Rattle.ops_io.specs.declared.stop.Stop.TheVariants as stop
 use Rattle.ops_meaning.specs.declared.states.Memory.{Memory}
 use Rattle.ops_meaning.specs.declared.statuses.Status.{Status}
 use Rattle.ops_meaning.specs.declared.statuses.Status.TheVariants as status
-use Rattle.ops_meaning.specs.Reads.{Read, reads}
+use Rattle.ops_meaning.specs.Reads.{Read, Placed, reads}
 use Rattle.ops_meaning.specs.Running.{session_of, ending_of}
 use Rattle.ops_meaning.specs.Whole.{Outcome, Answers, status_of, answer_read, answer_to, answer_file, text_of, setting_of, refused, unread, whole_file, whole, words_fit, first_word}
 use Rattle.ops_top.specs.Calls.{OfContent, TellsFailedWrite, TellsWords, usage, runs_through, file_runs_through, text_runs_through}
@@ -184,16 +184,12 @@ done_session : (o : Result Memory Ending) → is_ok o ≡ true → status_of (en
 done_session (Ok m) h = refl
 done_session (Err f) h = absurd (cc)
 
-done_text : (r : Result Read Fault) → text_runs_through r ≡ true → (answer_read r).status ≡ status.Done
-done_text (Err f) h = absurd (cc)
-done_text (Ok p) h = done_session (session_of (setting_of p) p.commands).outcome h
+done_text : (text : List ℕ) (r : Result Read Placed) → text_runs_through r ≡ true → (answer_read text r).status ≡ status.Done
+done_text text (Err p) h = absurd (cc)
+done_text text (Ok p) h = done_session (session_of (setting_of p) p.commands).outcome h
 
 done_file : (bytes : List ℕ) → file_runs_through bytes ≡ true → (answer_file bytes).status ≡ status.Done
-done_file bytes h =
-    let short = nat_le (length (text_of bytes)) longest_list in
-    let through = text_runs_through (reads (text_of bytes)) in
-    let by : Bool → Status = λ b. (cond b (answer_to (text_of bytes)) (refused fault.BadForm)).status in
-    ap by (and_left short through h) ∙ done_text (reads (text_of bytes)) (and_right short through h)
+done_file bytes h = done_text (text_of bytes) (reads (text_of bytes)) h
 
 done_whole : (ws : List (List ℕ)) (bytes : List ℕ) (broken : Bool) → (words_fit ws && file_runs_through bytes) ≡ true → broken ≡ false → (whole ws (Some bytes) broken).status ≡ status.Done
 done_whole ws bytes broken h is =

@@ -17,7 +17,7 @@ use Rattle.ops_meaning.specs.declared.statuses.Status.{Status}
 use Rattle.ops_meaning.specs.declared.statuses.Status.TheVariants as status
 use Rattle.ops_meaning.specs.Effects.{Effect, writes, going_on}
 use Rattle.ops_meaning.specs.Acting.{Scene, bindings_of, action_done, actions_done}
-use Rattle.ops_meaning.specs.Reads.{Read, reads}
+use Rattle.ops_meaning.specs.Reads.{Read, Placed, reads}
 use Rattle.ops_meaning.specs.Running.{Setting, nothing_yet, conditions_of, actions_of, acted, fired_of, firing, turn, run_on, most_firings, next_to_fire, command_done, commands_done, session_of, ending_of}
 use Rattle.ops_meaning.specs.Whole.{status_of, answer_read, answer_to, answer_file, text_of, setting_of, refused}
 
@@ -122,15 +122,11 @@ own_of_text (Err ending.ReadFault) p = absurd p
 own_of_text (Err ending.WriteFault) p = absurd p
 own_of_text (Err ending.OutOfMemory) p = absurd p
 
-answer_read_of_text : (r : Result Read Fault) → IsOfText (answer_read r).status
-answer_read_of_text (Err f) = tt
-answer_read_of_text (Ok p) =
+answer_read_of_text : (text : List ℕ) (r : Result Read Placed) → IsOfText (answer_read text r).status
+answer_read_of_text text (Err p) = tt
+answer_read_of_text text (Ok p) =
     own_of_text (session_of (setting_of p) p.commands).outcome (own_commands (setting_of p) 0 p.commands nothing_yet)
 
 -- the status of a file that was loaded is one of a text
 pub answer_file_of_text : (bytes : List ℕ) → IsOfText (answer_file bytes).status
-answer_file_of_text bytes = by (nat_le (length (text_of bytes)) longest_list)
-  where
-    by : (b : Bool) → IsOfText (cond b (answer_to (text_of bytes)) (refused fault.BadForm)).status
-    by true = answer_read_of_text (reads (text_of bytes))
-    by false = tt
+answer_file_of_text bytes = answer_read_of_text (text_of bytes) (reads (text_of bytes))

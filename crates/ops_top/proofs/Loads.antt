@@ -10,25 +10,17 @@ use Rattle.ops_io.specs.declared.stop.Stop.{Stop}
 use Rattle.ops_io.specs.declared.stop.Stop.TheVariants as stop
 use Rattle.ops_meaning.specs.declared.statuses.Status.{Status}
 use Rattle.ops_meaning.specs.declared.statuses.Status.TheVariants as status
-use Rattle.ops_meaning.specs.Whole.{Outcome, ends_in_line, text_of, answer_to, answer_file, refused, unread, whole_file, whole, words_fit, words_of, first_word}
+use Rattle.ops_meaning.specs.Whole.{Outcome, ends_in_line, text_of, answer_file, refused_at, unread, whole_file, whole, words_fit, words_of, first_word}
 use Rattle.ops_top.specs.Calls.{OfContent, TellsFailedLoad, usage}
 use Rattle.ops_top.specs.Told.{Delivers, status_after}
 use Rattle.ops_top.proofs.Endings.{IsOfText}
-
-not_below : (m n : ℕ) → m < n → nat_le n m ≡ false
-not_below m n h = grind (arith, nat_tests)
+use Rattle.ops_top.proofs.Refusals.{too_long}
 
 not_broken : (before now : ℕ) → now ≡ before → nat_lt before now ≡ false
 not_broken before now h = grind (arith, nat_tests)
 
 is_broken : (before now : ℕ) → now ≡ before + 1 → nat_lt before now ≡ true
 is_broken before now h = grind (arith, nat_tests)
-
--- a file whose text is too long is refused
-pub too_long : (bytes : List ℕ) → longest_list < length (text_of bytes) → refused fault.BadForm ≡ answer_file bytes
-too_long bytes h =
-    let by : Bool → Outcome = λ b. cond b (answer_to (text_of bytes)) (refused fault.BadForm) in
-    ap by (sym (not_below longest_list (length (text_of bytes)) h))
 
 text_as_long : (bytes : List ℕ) → length bytes ≤ length (text_of bytes)
 text_as_long bytes = by (ends_in_line bytes)
@@ -71,11 +63,11 @@ loaded_delivers D name told room before now old new empty h same d =
     of_loaded told _ room new (subst G empty h) (subst B (sym (not_broken before now same)) d)
 
 -- the file is longer than any text, and is refused
-pub long_delivers : (D : Outcome → Type 0) (name : List ℕ) (told : Option (Option (List ℕ))) (room before now : ℕ) (old new : List ℕ) → room ≡ longest_list → (let r : Result Bool LoadError = Ok false in LoadGives told room r old new) → now ≡ before → D (refused fault.BadForm) → OfContent told (λ content. D (whole_file name content (nat_lt before now)))
+pub long_delivers : (D : Outcome → Type 0) (name : List ℕ) (told : Option (Option (List ℕ))) (room before now : ℕ) (old new : List ℕ) → room ≡ longest_list → (let r : Result Bool LoadError = Ok false in LoadGives told room r old new) → now ≡ before → D (refused_at fault.TooLong 1 1) → OfContent told (λ content. D (whole_file name content (nat_lt before now)))
 long_delivers D name told room before now old new is h same d =
     of_long told _ room old new h
     (λ bytes long. let B : Bool → Type 0 = λ b. D (whole_file name (Some bytes) b) in
-    subst B (sym (not_broken before now same)) (subst D (too_long bytes (omega (arith, text_as_long bytes))) d))
+    subst B (sym (not_broken before now same)) (subst D (too_long (text_of bytes) (omega (arith, text_as_long bytes))) d))
 
 unread_any : (name : List ℕ) (content : Option (List ℕ)) → unread name ≡ whole_file name content true
 unread_any name content = refl

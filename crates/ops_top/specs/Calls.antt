@@ -1,11 +1,9 @@
 -- What a call of the program leaves, beside the bytes: what each answer tells of the words and of the outside.
-use Rattle.std.specs.Prelude.{◌≡◌, ℕ, ◌+◌, List, [], ◌∷◌, ◌++◌, length, Bool, true, false, ◌&&◌, nat_le, Option, Some, None, Result, Ok, Err, is_ok, ◌⊎◌}
-use Rattle.ops_base.specs.Valid.{longest_list}
-use Rattle.ops_base.specs.declared.endings.Fault.{Fault}
+use Rattle.std.specs.Prelude.{◌≡◌, ℕ, ◌+◌, List, [], ◌∷◌, ◌++◌, length, Bool, true, false, ◌&&◌, Option, Some, None, Result, Ok, Err, is_ok, ◌⊎◌}
 use Rattle.ops_meaning.specs.declared.statuses.Status.{Status}
 use Rattle.ops_meaning.specs.declared.statuses.Status.TheVariants as status
 use Rattle.ops_meaning.specs.Layout.{usage_line}
-use Rattle.ops_meaning.specs.Reads.{Read, reads}
+use Rattle.ops_meaning.specs.Reads.{Read, Placed, reads}
 use Rattle.ops_meaning.specs.Running.{session_of}
 use Rattle.ops_meaning.specs.Whole.{Outcome, words_fit, first_word, text_of, setting_of}
 
@@ -48,14 +46,14 @@ abbrev pub usage : Outcome
 usage = record { bytes = usage_line; status = status.Usage }
 
 -- The text is a program whose session comes to its end.
-abbrev pub text_runs_through : Result Read Fault → Bool
-text_runs_through (Err f) = false
+abbrev pub text_runs_through : Result Read Placed → Bool
+text_runs_through (Err p) = false
 text_runs_through (Ok p) = is_ok (session_of (setting_of p) p.commands).outcome
 
 abbrev pub file_runs_through : List ℕ → Bool
-file_runs_through bytes = nat_le (length (text_of bytes)) longest_list && text_runs_through (reads (text_of bytes))
+file_runs_through bytes = text_runs_through (reads (text_of bytes))
 
--- The words fit, the file is there and fits, and it is a program whose session comes to its end.
+-- The words fit, the file is there, and its text is a program whose session comes to its end.
 abbrev pub runs_through : List (List ℕ) → Option (Option (List ℕ)) → Bool
 runs_through words (Some (Some bytes)) = words_fit words && file_runs_through bytes
 runs_through words (Some None) = false

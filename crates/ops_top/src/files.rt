@@ -40,9 +40,6 @@ fn answer_file<K: Sink>(alloc: Global, bytes: Vec<u8>, sink: &mut K) -> Result<S
     ensures { Delivers result (answer_file bytes.items) (K.taken sink.old) (K.faults sink.old) (K.taken sink.new) (K.faults sink.new) }
 {
     let text = text_of(bytes)?;
-    if text.len() > LONGEST_TEXT {
-        return refuse(alloc, Fault::BadForm, 1, 1, sink);
-    }
     answer_text(alloc, text, sink)
 }
 
@@ -66,7 +63,7 @@ pub fn run_file<H: Shelf, K: Sink>(
     let mut bytes = Vec::new(alloc);
     match shelf.load(name, LONGEST_TEXT, &mut bytes) {
         Ok(true) => answer_file(alloc, bytes, sink),
-        Ok(false) => refuse(alloc, Fault::BadForm, 1, 1, sink),
+        Ok(false) => refuse(alloc, Fault::TooLong, 1, 1, sink),
         Err(LoadError::Failed) => say_unread(alloc, name.as_bytes(), sink),
         Err(LoadError::OutOfMemory) => Err(Stop::OutOfMemory),
     }

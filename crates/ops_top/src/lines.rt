@@ -1,13 +1,13 @@
 //! The lines that end a run.
 ghost use Rattle.std.specs.Prelude.{◌≡◌, ◌++◌, ◌∷◌, [], codes, decimal, IfOk};
 ghost use Rattle.ops_meaning.specs.Layout.{usage_line, unread_line, last_line};
-ghost use Rattle.ops_meaning.specs.Whole.{fault_text};
-ghost use Rattle.ops_top.specs.Lines.{fault_line};
+ghost use Rattle.ops_meaning.specs.Whole.{fault_line};
 
 use crate::printing::fresh_line_at;
 use itoa::Buffer;
 use ops_base::endings::{Ending, Fault};
 use ops_base::memory::OutOfMemory;
+use ops_check::fault_text;
 use std::alloc::Global;
 
 /// The line that answers words that don't fit.
@@ -27,33 +27,6 @@ pub fn unread_line(alloc: Global, name: &[u8]) -> Result<Vec<u8>, OutOfMemory>
     Ok(line)
 }
 
-/// What a fault is called.
-pub fn fault_text(fault: Fault) -> &'static [u8]
-    ensures { result.now ≡ fault_text fault }
-{
-    match fault {
-        Fault::BadByte => b"bad byte",
-        Fault::Unclosed => b"unclosed",
-        Fault::Stray => b"stray",
-        Fault::FractionNumber => b"fraction",
-        Fault::NumberRange => b"number out of range",
-        Fault::UnknownCommand => b"unknown command",
-        Fault::BadForm => b"bad form",
-        Fault::UnknownClass => b"unknown class",
-        Fault::UnknownAttribute => b"unknown attribute",
-        Fault::DeclaredTwice => b"declared twice",
-        Fault::TwoVectors => b"two vector attributes",
-        Fault::LateDeclaration => b"late declaration",
-        Fault::LateProduction => b"late production",
-        Fault::FirstNegated => b"first condition negated",
-        Fault::UnboundVariable => b"unbound variable",
-        Fault::BadDesignator => b"bad designator",
-        Fault::AmbiguousDesignator => b"ambiguous designator",
-        Fault::LimitPassed { .. } => b"limit passed",
-        Fault::TooLong => b"text too long",
-    }
-}
-
 /// The line that answers a text with a fault.
 pub fn fault_line(
     alloc: Global,
@@ -69,7 +42,7 @@ pub fn fault_line(
     text.extend_from_slice(b":")?;
     text.extend_from_slice(buffer.format(column).as_bytes())?;
     text.extend_from_slice(b": ")?;
-    text.extend_from_slice(fault_text(fault))?;
+    text.extend_from_slice(fault_text(fault).as_bytes())?;
     text.push(b'\n')?;
     Ok(text)
 }

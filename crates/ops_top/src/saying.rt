@@ -1,8 +1,7 @@
 //! Saying one line and no more.
 ghost use Rattle.std.specs.Prelude.{◌≡◌, ◌^◌, ◌<◌};
-ghost use Rattle.ops_meaning.specs.Whole.{unread};
+ghost use Rattle.ops_meaning.specs.Whole.{refused_at, unread};
 ghost use Rattle.ops_top.specs.Calls.{usage};
-ghost use Rattle.ops_top.specs.Lines.{refused_at};
 ghost use Rattle.ops_top.specs.Told.{Delivers, status_after};
 
 use crate::lines::{fault_line, unread_line, usage_line};

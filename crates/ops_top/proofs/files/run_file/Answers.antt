@@ -1,10 +1,8 @@
 use Rattle.std.proofs.Common.{ℕ, List, refl, subst}
-use Rattle.ops_base.specs.declared.endings.Fault.TheVariants as fault
 use Rattle.ops_meaning.specs.Whole.{Outcome, answer_file, unread}
 use Rattle.ops_top.specs.Told.{Delivers}
 use Rattle.ops_top.proofs.Endings.{answer_file_of_text}
 use Rattle.ops_top.proofs.Loads.{loaded_delivers, long_delivers, failed_delivers, loaded_tells}
-use Rattle.ops_top.proofs.Refusals.{first_place}
 use Rattle.ops_top.proofs.files.run_file.Goals as goal
 
 pub returns-in-Ok-true-clause-delivers : goal.returns-in-Ok-true-clause-delivers
@@ -21,7 +19,7 @@ pub returns-in-Ok-false-clause-delivers : goal.returns-in-Ok-false-clause-delive
 returns-in-Ok-false-clause-delivers g c =
     let D : Outcome → Type 0 = λ o. Delivers c.refuse.result o (g.K.Sink.taken c.args.sink.now) (g.K.Sink.faults c.args.sink.now) (g.K.Sink.taken c.refuse.new.sink) (g.K.Sink.faults c.refuse.new.sink) in
     let long = rw c.in-Ok-false.field-0-test at c.in-Ok-false.ensures.bytes in
-    long_delivers D c.args.name.now _ 16777216 _ _ _ _ refl long c.in-Ok-false.ensures.cause (subst D (first_place fault.BadForm) c.refuse.ensures)
+    long_delivers D c.args.name.now _ 16777216 _ _ _ _ refl long c.in-Ok-false.ensures.cause c.refuse.ensures
 
 pub returns-in-Err-Failed-clause-delivers : goal.returns-in-Err-Failed-clause-delivers
 returns-in-Err-Failed-clause-delivers g c =
