@@ -26,6 +26,14 @@ pub enum ProgramFault {
     OutOfMemory,
 }
 
+impl From<OutOfMemory> for ProgramFault {
+    ghost from_gives = { λ _ e. e ≡ WantOfMemory };
+
+    fn from(_error: OutOfMemory) -> ProgramFault {
+        ProgramFault::OutOfMemory
+    }
+}
+
 /// Why a text is no program, by the byte at which the fault stands.
 #[derive(Clone, Copy, Debug, PartialEq, Eq)]
 pub enum TextFault {

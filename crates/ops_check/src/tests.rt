@@ -1,10 +1,13 @@
 //! Texts with what they are read as.
 
-use crate::program::{ProgramFault, read_program};
-use ops_base::endings::Fault;
+use crate::faults::ProgramFault;
+use crate::program::read_program;
+use ops_base::endings::{Fault, Limit};
 use ops_base::programs::Program;
 use ops_base::symbols::Names;
+use ops_forms::place_of;
 use std::alloc::Global;
+use std::test::Fail;
 
 const STACK: &[u8] = b"; two conditions that share a variable
 (literalize goal status type)
@@ -41,39 +44,83 @@ fn program_is_read(rt: HostRuntime) -> Result<(), ProgramFault> {
 }
 
 #[test]
-fn texts_are_refused(rt: HostRuntime) {
+fn faults_stand_at_their_places(rt: HostRuntime) {
     let alloc = rt.alloc();
-    let rows: [(&[u8], Fault); 12] = [
-        (b"(literalize a) (make b)", Fault::UnknownClass),
-        (
-            b"(literalize a) (p r (a) --> (write <x>))",
-            Fault::UnboundVariable,
-        ),
-        (b"(literalize a) (make b ^c <x>)", Fault::UnknownClass),
-        (b"(foo)", Fault::BadForm),
-        (b"(literalize a", Fault::BadForm),
-        (b"(literalize a))", Fault::BadForm),
-        (b"(literalize a) (literalize a)", Fault::BadForm),
-        (b"(literalize a b b)", Fault::BadForm),
-        (
-            b"(literalize a) (p r (a) -->) (p r (a) -->)",
-            Fault::BadForm,
-        ),
-        (b"(literalize a) (make a) (literalize b)", Fault::BadForm),
-        (b"(literalize a) (p r (a) --> (remove 0))", Fault::BadForm),
-        (
-            b"(literalize a) (p r (a) (a) --> (remove 3))",
-            Fault::BadForm,
-        ),
+    let rows: [(&[u8], Fault, u64, u64); 23] = [
+        (b"(literalize a) (make b)", Fault::UnknownClass, 1, 22),
+        (b"(literalize a) (p r (a) --> (write <x>))", Fault::UnboundVariable, 1, 36),
+        (b"(literalize a) (make b ^c <x>)", Fault::UnknownClass, 1, 22),
+        (b"(literalize a n) (make a ^n <x>)", Fault::UnboundVariable, 1, 29),
+        (b"(foo)", Fault::UnknownCommand, 1, 2),
+        (b")", Fault::Stray, 1, 1),
+        (b"1.5", Fault::Stray, 1, 1),
+        (b"(run 1.5", Fault::FractionNumber, 1, 6),
+        (b"(literalize a", Fault::Unclosed, 1, 14),
+        (b"(literalize a))", Fault::Stray, 1, 15),
+        (b"(literalize a) (literalize a)", Fault::DeclaredTwice, 1, 28),
+        (b"(literalize a b a b)", Fault::DeclaredTwice, 1, 19),
+        (b"(literalize a) (p r (a) -->) (p r (a) -->)", Fault::DeclaredTwice, 1, 33),
+        (b"(literalize a) (make a) (literalize b)", Fault::LateDeclaration, 1, 26),
+        (b"(literalize a) (make a) (p r (a) -->)", Fault::LateProduction, 1, 26),
+        (b"(literalize a) (p r (a) --> (remove 0))", Fault::BadDesignator, 1, 37),
+        (b"(literalize a) (p r (a) (a) --> (remove 3))", Fault::BadDesignator, 1, 41),
+        (b"(literalize a n) (make a ^q 1)", Fault::UnknownAttribute, 1, 27),
+        (b"(literalize a n) (make a ^n 9223372036854775808)", Fault::NumberRange, 1, 29),
+        (b"(literalize a) (p r --> (halt))", Fault::BadForm, 1, 21),
+        (b"(literalize a) (p |r (a) --> )", Fault::Unclosed, 1, 19),
+        (b"; (\n(run) \x80", Fault::BadByte, 2, 7),
+        (b"(run)\r\n\n (run x)", Fault::BadForm, 3, 7),
     ];
-    for (text, fault) in rows {
+    for (text, fault, line, column) in rows {
         let at = ProgramFault::At {
             fault,
-            line: 1,
-            column: 1,
+            line,
+            column,
         };
         assert_eq!(rt; read(alloc, text).err(), Some(at));
     }
+}
+
+// A program is cut after each of its bytes: between forms it is a program, and elsewhere its fault stands in the cut
+// text, or at its end.
+#[test]
+fn cut_texts_are_refused_within(rt: HostRuntime) {
+    let alloc = rt.alloc();
+    let mut depth = 0;
+    for past in 0..=STACK.len() {
+        let end = place_of(STACK, past);
+        match read(alloc, &STACK[..past]) {
+            Ok(_) => assert_eq!(rt; depth, 0),
+            Err(
+                ProgramFault::At {
+                    line, column, ..
+                },
+            ) => {
+                assert!(rt; depth > 0);
+                assert!(rt; (1, 1) <= (line, column) && (line, column) <= (end.line, end.column));
+            }
+            Err(ProgramFault::OutOfMemory) => panic!(rt; "no memory"),
+        }
+        depth = match STACK.get(past) {
+            Some(b'(') => depth + 1,
+            Some(b')') => depth - 1,
+            _ => depth,
+        };
+    }
+}
+
+#[test]
+fn a_fault_is_told(rt: HostRuntime) -> Result<(), Fail> {
+    let fault = ProgramFault::At {
+        fault: Fault::LimitPassed {
+            limit: Limit::Fields,
+        },
+        line: 3,
+        column: 14,
+    };
+    let told = format!(in rt.alloc(); "{fault}")?;
+    assert_eq!(rt; told.as_str(), "3:14: limit passed: fields");
+    Ok(())
 }
 
 #[test]

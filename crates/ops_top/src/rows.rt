@@ -85,11 +85,11 @@ fn unknown_class(rt: HostRuntime) -> Result<(), Fail> {
     let refused = Status::Refused {
         fault: Fault::UnknownClass,
         line: 1,
-        column: 1,
+        column: 22,
     };
     let status = answer(&rt, alloc, b"(literalize a) (make b)", &mut sink)?;
     assert_eq!(rt; status, Some(refused));
-    assert_eq!(rt; sink.written(), b"ops: 1:1: unknown class\n".as_slice());
+    assert_eq!(rt; sink.written(), b"ops: 1:22: unknown class\n".as_slice());
     Ok(())
 }
 
@@ -100,7 +100,7 @@ fn unbound_variable(rt: HostRuntime) -> Result<(), Fail> {
     let refused = Status::Refused {
         fault: Fault::UnboundVariable,
         line: 1,
-        column: 1,
+        column: 36,
     };
     let status = answer(
         &rt,
@@ -109,21 +109,21 @@ fn unbound_variable(rt: HostRuntime) -> Result<(), Fail> {
         &mut sink,
     )?;
     assert_eq!(rt; status, Some(refused));
-    assert_eq!(rt; sink.written(), b"ops: 1:1: unbound variable\n".as_slice());
+    assert_eq!(rt; sink.written(), b"ops: 1:36: unbound variable\n".as_slice());
     Ok(())
 }
 
 #[test]
-fn bad_form(rt: HostRuntime) -> Result<(), Fail> {
+fn unknown_command(rt: HostRuntime) -> Result<(), Fail> {
     let alloc = rt.alloc();
     let mut sink = MemSink::new(alloc, 1_000, 1_000, Vec::new(alloc))?;
     let refused = Status::Refused {
-        fault: Fault::BadForm,
+        fault: Fault::UnknownCommand,
         line: 1,
-        column: 1,
+        column: 2,
     };
     assert_eq!(rt; answer(&rt, alloc, b"(foo)", &mut sink)?, Some(refused));
-    assert_eq!(rt; sink.written(), b"ops: 1:1: bad form\n".as_slice());
+    assert_eq!(rt; sink.written(), b"ops: 1:2: unknown command\n".as_slice());
     Ok(())
 }
 

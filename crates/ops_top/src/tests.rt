@@ -104,7 +104,7 @@ fn letters<R: Threads + Clone + Drop + Send + Sync>(
 }
 
 const TOO_LONG: Status = Status::Refused {
-    fault: Fault::BadForm,
+    fault: Fault::TooLong,
     line: 1,
     column: 1,
 };
@@ -115,13 +115,13 @@ fn long_files(rt: HostRuntime) -> Result<(), Fail> {
     let mut sink = MemSink::new(alloc, 1_000, 1_000, Vec::new(alloc))?;
     let longer = letters(&rt, alloc, 16_777_217, &mut sink)?;
     assert_eq!(rt; longer, Some(TOO_LONG));
-    assert_eq!(rt; sink.written(), b"ops: 1:1: bad form\n".as_slice());
+    assert_eq!(rt; sink.written(), b"ops: 1:1: text too long\n".as_slice());
 
     // It fits, and the LF that it lacks does not.
     let mut sink = MemSink::new(alloc, 1_000, 1_000, Vec::new(alloc))?;
     let as_long = letters(&rt, alloc, 16_777_216, &mut sink)?;
     assert_eq!(rt; as_long, Some(TOO_LONG));
-    assert_eq!(rt; sink.written(), b"ops: 1:1: bad form\n".as_slice());
+    assert_eq!(rt; sink.written(), b"ops: 1:1: text too long\n".as_slice());
     Ok(())
 }
 
