@@ -6,3 +6,4 @@ pub mod Grown
 pub mod Steps
 pub mod ReadsValid
 pub mod RisingTags
+pub mod Derived
