@@ -7,3 +7,4 @@ pub mod Steps
 pub mod ReadsValid
 pub mod RisingTags
 pub mod Derived
+pub mod Follows
