@@ -8,3 +8,5 @@ pub mod ReadsValid
 pub mod RisingTags
 pub mod Derived
 pub mod Follows
+pub mod Reached
+pub mod Standing
