@@ -10,3 +10,4 @@ pub mod Derived
 pub mod Follows
 pub mod Reached
 pub mod Standing
+pub mod ReadsBack
