@@ -11,3 +11,5 @@ pub mod Follows
 pub mod Reached
 pub mod Standing
 pub mod ReadsBack
+pub mod Places
+pub mod ReadsFacts

@@ -12,7 +12,7 @@ use Rattle.ops_meaning.specs.Spelling.{opening, closing, spelled_keyword, spelle
 use Rattle.ops_meaning.proofs.Lists.{turned}
 
 -- a word that is taken leads on
-by_word : (w : Word) (words : List Word) (ws ws' : List Wanted) (s s' : State) → step w ws s ≡ Next ws' s' → goes (w ∷ words) ws s ≡ goes words ws' s'
+pub by_word : (w : Word) (words : List Word) (ws ws' : List Wanted) (s s' : State) → step w ws s ≡ Next ws' s' → goes (w ∷ words) ws s ≡ goes words ws' s'
 unfolding goes
 by_word w words ws ws' s s' e = ap (after (goes words) w) e
 
