@@ -13,3 +13,4 @@ pub mod Standing
 pub mod ReadsBack
 pub mod Places
 pub mod ReadsFacts
+pub mod ReadsPatterns
