@@ -14,3 +14,5 @@ pub mod ReadsBack
 pub mod Places
 pub mod ReadsFacts
 pub mod ReadsPatterns
+pub mod ReadsActions
+pub mod ReadsRules

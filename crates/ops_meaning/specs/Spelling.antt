@@ -12,6 +12,14 @@ use Rattle.ops_base.specs.declared.conditions.Operand.{Operand}
 use Rattle.ops_base.specs.declared.conditions.Operand.TheVariants as operand
 use Rattle.ops_base.specs.declared.conditions.Test.{Test}
 use Rattle.ops_base.specs.declared.conditions.Condition.{Condition}
+use Rattle.ops_base.specs.declared.actions.Term.{Term}
+use Rattle.ops_base.specs.declared.actions.Term.TheVariants as term
+use Rattle.ops_base.specs.declared.actions.Put.{Put}
+use Rattle.ops_base.specs.declared.actions.Item.{Item}
+use Rattle.ops_base.specs.declared.actions.Item.TheVariants as item
+use Rattle.ops_base.specs.declared.actions.Action.{Action}
+use Rattle.ops_base.specs.declared.actions.Action.TheVariants as action
+use Rattle.ops_base.specs.declared.rules.Rule.{Rule}
 use Rattle.ops_base.specs.Valid.{most_conditions, class_of, is_attribute, is_equality, specificity}
 use Rattle.ops_tokens.specs.declared.token.TokenKind.TheVariants as kind
 use Rattle.ops_meaning.specs.declared.words.Word.{Word}
@@ -126,3 +134,79 @@ after_tests k (t ∷ ts) = after_tests (after_test k t) ts
 abbrev pub condition_is_plain : List Class → ℕ → Condition → Bool
 condition_is_plain classes k c =
     nat_lt c.class (length classes) && not c.negated && tests_are_plain (class_of classes c.class) k c.tests
+
+abbrev pub conditions_are_plain : List Class → ℕ → List Condition → Bool
+conditions_are_plain classes k [] = true
+conditions_are_plain classes k (c ∷ cs) = condition_is_plain classes k c && conditions_are_plain classes (after_tests k c.tests) cs
+
+abbrev pub after_conditions : ℕ → List Condition → ℕ
+after_conditions k [] = k
+after_conditions k (c ∷ cs) = after_conditions (after_tests k c.tests) cs
+
+-- ---- right sides
+
+abbrev pub spelled_term : Term → List Word
+spelled_term (term.Constant v) = spelled_value v ∷ []
+spelled_term (term.Variable n) = spelled_variable n ∷ []
+spelled_term _ = []
+
+abbrev pub spelled_put : Class → Put → List Word
+spelled_put c p = spelled_attribute c p.field (spelled_each spelled_term p.terms)
+
+-- counted from 1
+abbrev pub spelled_cell : ℕ → Word
+spelled_cell n = record { kind = kind.Whole (pos (suc n)); keyword = keyword.Other; name = unnamed; first = 0; past = 0 }
+
+abbrev pub spelled_item : Item → List Word
+spelled_item (item.Print t) = spelled_term t
+spelled_item item.Crlf = opening ∷ spelled_keyword keyword.Crlf ∷ closing ∷ []
+spelled_item _ = []
+
+-- ( make CLASS put* ) | ( remove WHOLE WHOLE* ) | ( write item* ) | ( halt )
+abbrev pub spelled_action : List Class → Action → List Word
+spelled_action classes (action.Make class puts) =
+    opening ∷ spelled_keyword keyword.Make ∷ spelled_name (class_of classes class).name ∷ spelled_each (spelled_put (class_of classes class)) puts ++ closing ∷ []
+spelled_action classes (action.Remove cells) = opening ∷ spelled_keyword keyword.Remove ∷ map spelled_cell cells ++ closing ∷ []
+spelled_action classes (action.Write items) = opening ∷ spelled_keyword keyword.Write ∷ spelled_each spelled_item items ++ closing ∷ []
+spelled_action classes action.Halt = opening ∷ spelled_keyword keyword.Halt ∷ closing ∷ []
+spelled_action classes _ = []
+
+-- a constant, or a variable with a number below this one
+abbrev pub term_is_plain : ℕ → Term → Bool
+term_is_plain k (term.Constant v) = true
+term_is_plain k (term.Variable n) = nat_lt n k
+term_is_plain k _ = false
+
+abbrev pub put_is_plain : Class → ℕ → Put → Bool
+put_is_plain c k p = is_attribute c p.field && (length p.terms == 1) && list_all (term_is_plain k) p.terms
+
+abbrev pub item_is_plain : ℕ → Item → Bool
+item_is_plain k (item.Print t) = term_is_plain k t
+item_is_plain k item.Crlf = true
+item_is_plain k _ = false
+
+-- behind so many conditions that bind so many variables
+abbrev pub action_is_plain : List Class → ℕ → ℕ → Action → Bool
+action_is_plain classes n k (action.Make class puts) = nat_lt class (length classes) && list_all (put_is_plain (class_of classes class) k) puts
+action_is_plain classes n k (action.Remove cells) = nat_lt 0 (length cells) && list_all (λ c. nat_lt c n) cells
+action_is_plain classes n k (action.Write items) = list_all (item_is_plain k) items
+action_is_plain classes n k action.Halt = true
+action_is_plain classes n k _ = false
+
+-- ---- productions
+
+abbrev pub arrow : Word
+arrow = record { kind = kind.Operator; keyword = keyword.Arrow; name = unnamed; first = 0; past = 0 }
+
+-- ( p NAME pattern pattern* --> action* ), at the place of the rule
+abbrev pub spelled_rule : List Class → Rule → List Word
+spelled_rule classes r =
+    record opening { first = r.first } ∷ spelled_keyword keyword.Production ∷ spelled_name r.name ∷ spelled_each (spelled_condition classes) r.conditions
+    ++ arrow ∷ spelled_each (spelled_action classes) r.actions
+    ++ record closing { past = r.past } ∷ []
+
+abbrev pub rule_is_plain : List Class → Rule → Bool
+rule_is_plain classes r =
+    nat_lt 0 (length r.conditions) && nat_le (length r.conditions) most_conditions && conditions_are_plain classes 0 r.conditions
+    && list_all (action_is_plain classes (length r.conditions) r.variables) r.actions
+    && (r.variables == after_conditions 0 r.conditions) && (r.specificity == specificity r.conditions) && (r.cells == length r.conditions)
