@@ -16,3 +16,4 @@ pub mod ReadsFacts
 pub mod ReadsPatterns
 pub mod ReadsActions
 pub mod ReadsRules
+pub mod ReadsProgram

@@ -23,7 +23,7 @@ apart_at f [] x ys n h = (or_parts (f x == n) (is_in n (map f ys)) h).0
 apart_at f (y ∷ xs) x ys n h = apart_at f xs x ys n (or_parts (f y == n) (is_in n (map f (xs ++ x ∷ ys))) h).1
 
 -- a name that stands behind others is none of them
-apart_before : {X : Type 0} (f : X → ℕ) (xs : List X) (x : X) (ys : List X) → are_distinct (map f (xs ++ x ∷ ys)) ≡ true → list_any (λ y. f y == f x) xs ≡ false
+pub apart_before : {X : Type 0} (f : X → ℕ) (xs : List X) (x : X) (ys : List X) → are_distinct (map f (xs ++ x ∷ ys)) ≡ true → list_any (λ y. f y == f x) xs ≡ false
 apart_before f [] x ys h = refl
 apart_before f (y ∷ xs) x ys h =
     let each = and_parts (not (is_in (f y) (map f (xs ++ x ∷ ys)))) (are_distinct (map f (xs ++ x ∷ ys))) h in

@@ -12,7 +12,7 @@ use Rattle.ops_base.specs.Valid.{are_distinct, no_class, class_of, is_attribute}
 use Rattle.ops_meaning.specs.declared.words.Word.{Word}
 use Rattle.ops_meaning.specs.declared.words.Keyword.TheVariants as keyword
 use Rattle.ops_meaning.specs.Grammar.{Use, InFixed, Wanted, Forms, ClassName, Terms, Attribute, ValueFor, State, Next, with_fixed, with_element, step, goes}
-use Rattle.ops_meaning.specs.Spelling.{unnamed, opening, closing, caret, spelled_keyword, spelled_name, spelled_value, spelled_each, attribute_name, spelled_attribute, spelled_fixed, spelled_fact, spelled_run}
+use Rattle.ops_meaning.specs.Spelling.{unnamed, opening, closing, caret, spelled_keyword, spelled_name, spelled_value, spelled_each, attribute_name, spelled_attribute, spelled_fixed, spelled_fact, spelled_run, fixed_is_plain}
 use Rattle.ops_meaning.proofs.Places.{place_found}
 use Rattle.ops_meaning.proofs.ReadsBack.{by_word}
 
@@ -54,10 +54,6 @@ attribute_read u f values more ws s names lt is =
     ∙ by_word name (values ++ more) (Attribute u ∷ Terms u ∷ ws) (ValueFor u f ∷ Terms u ∷ ws) s s (attribute_step u f (Terms u ∷ ws) s names lt is)
 
 -- ---- commands
-
--- one value for an attribute of the class
-abbrev pub fixed_is_plain : Class → Fixed → Bool
-fixed_is_plain c p = is_attribute c p.field && (length p.values == 1)
 
 fixed_step : (f : ℕ) (v : Value) (ws : List Wanted) (s : State) → step (spelled_value v) (ValueFor InFixed f ∷ ws) s ≡ Next ws (with_fixed s f v)
 unfolding step

@@ -118,7 +118,7 @@ pattern_begun : (words : List Word) (ws : List Wanted) (s : State) → length s.
 unfolding goes step
 pattern_begun words ws s lt = rw (lt-ltb _ _ lt) refl
 
-first_begun : (words : List Word) (ws : List Wanted) (s : State) → goes (opening ∷ words) (FirstPattern ∷ ws) s ≡ goes words (ClassName ∷ Terms InPattern ∷ ws) s
+pub first_begun : (words : List Word) (ws : List Wanted) (s : State) → goes (opening ∷ words) (FirstPattern ∷ ws) s ≡ goes words (ClassName ∷ Terms InPattern ∷ ws) s
 unfolding goes step
 first_begun words ws s = refl
 

@@ -20,7 +20,7 @@ use Rattle.ops_base.specs.declared.actions.Item.TheVariants as item
 use Rattle.ops_base.specs.declared.actions.Action.{Action}
 use Rattle.ops_base.specs.declared.actions.Action.TheVariants as action
 use Rattle.ops_base.specs.declared.rules.Rule.{Rule}
-use Rattle.ops_base.specs.Valid.{most_conditions, class_of, is_attribute, is_equality, specificity}
+use Rattle.ops_base.specs.Valid.{most_conditions, are_distinct, class_is_valid, class_of, is_attribute, is_equality, specificity}
 use Rattle.ops_tokens.specs.declared.token.TokenKind.TheVariants as kind
 use Rattle.ops_meaning.specs.declared.words.Word.{Word}
 use Rattle.ops_meaning.specs.declared.words.Keyword.{Keyword}
@@ -210,3 +210,27 @@ rule_is_plain classes r =
     nat_lt 0 (length r.conditions) && nat_le (length r.conditions) most_conditions && conditions_are_plain classes 0 r.conditions
     && list_all (action_is_plain classes (length r.conditions) r.variables) r.actions
     && (r.variables == after_conditions 0 r.conditions) && (r.specificity == specificity r.conditions) && (r.cells == length r.conditions)
+
+-- ---- programs
+
+abbrev pub class_is_plain : Class → Bool
+class_is_plain c = not c.vector && class_is_valid c
+
+-- one value for an attribute of the class
+abbrev pub fixed_is_plain : Class → Fixed → Bool
+fixed_is_plain c p = is_attribute c p.field && (length p.values == 1)
+
+abbrev pub command_is_plain : List Class → Command → Bool
+command_is_plain classes (command.Make class puts) = nat_lt class (length classes) && list_all (fixed_is_plain (class_of classes class)) puts
+command_is_plain classes (command.Run None) = true
+command_is_plain classes _ = false
+
+-- the program has a spelling
+abbrev pub is_plain : List Class → List Rule → List Command → Bool
+is_plain classes rules commands =
+    list_all class_is_plain classes && list_all (rule_is_plain classes) rules && list_all (command_is_plain classes) commands
+    && are_distinct (map (λ c. c.name.0) classes) && are_distinct (map (λ r. r.name.0) rules)
+
+abbrev pub spelled_program : List Class → List Rule → List Command → List Word
+spelled_program classes rules commands =
+    spelled_each spelled_class classes ++ spelled_each (spelled_rule classes) rules ++ spelled_each (spelled_command classes) commands
