@@ -116,3 +116,111 @@ module _ (classes : List Class) (rules : List Rule) (more : List Word) (ws : Lis
       ∙ ap (λ (n : ℕ). whole r rest n (specificity r.conditions) (length r.conditions)) (length-numbered k ∙ sym variables)
       ∙ ap (λ (n : ℕ). whole r rest r.variables n (length r.conditions)) (sym (eqb-true r.specificity _ p2.1))
       ∙ ap (λ (n : ℕ). whole r rest r.variables r.specificity n) (sym (eqb-true r.cells _ p1.1))
+
+-- ---- lists of forms
+
+class_parts : (c : Class) → class_is_plain c ≡ true → (c.vector ≡ false) × (length c.attrs ≤ most_fields) × (are_distinct (map (λ a. a.0) c.attrs) ≡ true)
+class_parts c plain =
+    let p1 = and_parts (not c.vector) (class_is_valid c) plain in
+    let p2 = and_parts (nat_le (length c.attrs) most_fields && are_distinct (map (λ a. a.0) c.attrs)) (not c.vector || nat_lt 0 (length c.attrs)) p1.1 in
+    let p3 = and_parts (nat_le (length c.attrs) most_fields) (are_distinct (map (λ a. a.0) c.attrs)) p2.0 in
+    (not-true _ p1.0, leb-true _ _ p3.0, p3.1)
+
+named_attributes : (classes : List Class) → list_all class_is_plain classes ≡ true → (i : ℕ) → are_distinct (map (λ a. a.0) (class_of classes i).attrs) ≡ true
+named_attributes [] plain i = refl
+named_attributes (c ∷ cs) plain zero = (class_parts c (and_parts (class_is_plain c) (list_all class_is_plain cs) plain).0).2
+named_attributes (c ∷ cs) plain (suc i) = named_attributes cs (and_parts (class_is_plain c) (list_all class_is_plain cs) plain).1 i
+
+abbrev Reads : List Word → Rest → List Class → List Rule → List Command → List Class → List Rule → List Command → Type 0
+Reads words rest classes rules commands classes' rules' commands' =
+    (rest' : Rest) × ((more : List Word) → goes (words ++ more) (Forms ∷ []) (idle rest classes rules commands) ≡ goes more (Forms ∷ []) (idle rest' classes' rules' commands'))
+
+classes_read : (cs done : List Class) (rest : Rest) → list_all class_is_plain cs ≡ true → are_distinct (map (λ c. c.name.0) (done ++ cs)) ≡ true
+    → Reads (spelled_each spelled_class cs) rest done [] [] (done ++ cs) [] []
+classes_read [] done rest plain distinct = (rest, λ more. ap (λ (xs : List Class). goes more (Forms ∷ []) (idle rest xs [] [])) (sym (append-nil done)))
+classes_read (c ∷ cs) done rest plain distinct =
+    let each = and_parts (class_is_plain c) (list_all class_is_plain cs) plain in
+    let parts = class_parts c each.0 in
+    let all : done ++ c ∷ [] ++ cs ≡ done ++ c ∷ cs = append_assoc done (c ∷ []) cs in
+    let others = spelled_each spelled_class cs in
+    let next : Rest = record rest { first = 0; name = c.name } in
+    let behind = classes_read cs (done ++ c ∷ []) next each.1 (subst (λ (xs : List Class). are_distinct (map (λ c. c.name.0) xs) ≡ true) (sym all) distinct) in
+    (behind.0, λ more.
+    ap (λ (x : List Word). goes x (Forms ∷ []) (idle rest done [] [])) (append_assoc (spelled_class c) others more)
+    ∙ class-read c (others ++ more) [] (idle rest done [] []) refl (apart_before (λ (c : Class). c.name.0) done c cs distinct) parts.0 parts.2 parts.1
+    ∙ behind.1 more
+    ∙ ap (λ (xs : List Class). goes more (Forms ∷ []) (idle behind.0 xs [] [])) all)
+
+rules_read : (classes : List Class) (rs done : List Rule) (rest : Rest) → AreNamed classes → list_all (rule_is_plain classes) rs ≡ true → are_distinct (map (λ r. r.name.0) (done ++ rs)) ≡ true
+    → Reads (spelled_each (spelled_rule classes) rs) rest classes done [] classes (done ++ rs) []
+rules_read classes [] done rest names plain distinct = (rest, λ more. ap (λ (xs : List Rule). goes more (Forms ∷ []) (idle rest classes xs [])) (sym (append-nil done)))
+rules_read classes (r ∷ rs) done rest names plain distinct =
+    let each = and_parts (rule_is_plain classes r) (list_all (rule_is_plain classes) rs) plain in
+    let all : done ++ r ∷ [] ++ rs ≡ done ++ r ∷ rs = append_assoc done (r ∷ []) rs in
+    let others = spelled_each (spelled_rule classes) rs in
+    let behind = rules_read classes rs (done ++ r ∷ []) (after_rule rest r) names each.1 (subst (λ (xs : List Rule). are_distinct (map (λ r. r.name.0) xs) ≡ true) (sym all) distinct) in
+    (behind.0, λ more.
+    ap (λ (x : List Word). goes x (Forms ∷ []) (idle rest classes done [])) (append_assoc (spelled_rule classes r) others more)
+    ∙ rule-read classes done (others ++ more) [] names r rest (apart_before (λ (r : Rule). r.name.0) done r rs distinct) each.0
+    ∙ behind.1 more
+    ∙ ap (λ (xs : List Rule). goes more (Forms ∷ []) (idle behind.0 classes xs [])) all)
+
+command_read : (classes : List Class) (rules : List Rule) (c : Command) (done : List Command) (rest : Rest) → AreNamed classes → command_is_plain classes c ≡ true
+    → Reads (spelled_command classes c) rest classes rules done classes rules (done ++ c ∷ [])
+command_read classes rules (command.Make class puts) done rest names plain =
+    let parts = and_parts (nat_lt class (length classes)) (list_all (fixed_is_plain (class_of classes class)) puts) plain in
+    (record rest { first = 0; class = class }, λ more. fact-read class puts more [] (idle rest classes rules done) names (ltb-true _ _ parts.0) parts.1)
+command_read classes rules (command.Run None) done rest names plain = (record rest { first = 0 }, λ more. run-read more [] (idle rest classes rules done))
+command_read classes rules _ done rest names plain = absurd (true≢false (sym plain))
+
+commands_read : (classes : List Class) (rules : List Rule) (cs done : List Command) (rest : Rest) → AreNamed classes → list_all (command_is_plain classes) cs ≡ true
+    → Reads (spelled_each (spelled_command classes) cs) rest classes rules done classes rules (done ++ cs)
+commands_read classes rules [] done rest names plain = (rest, λ more. ap (λ (xs : List Command). goes more (Forms ∷ []) (idle rest classes rules xs)) (sym (append-nil done)))
+commands_read classes rules (c ∷ cs) done rest names plain =
+    let each = and_parts (command_is_plain classes c) (list_all (command_is_plain classes) cs) plain in
+    let all : done ++ c ∷ [] ++ cs ≡ done ++ c ∷ cs = append_assoc done (c ∷ []) cs in
+    let others = spelled_each (spelled_command classes) cs in
+    let first = command_read classes rules c done rest names each.0 in
+    let behind = commands_read classes rules cs (done ++ c ∷ []) first.0 names each.1 in
+    (behind.0, λ more.
+    ap (λ (x : List Word). goes x (Forms ∷ []) (idle rest classes rules done)) (append_assoc (spelled_command classes c) others more)
+    ∙ first.1 (others ++ more)
+    ∙ behind.1 more
+    ∙ ap (λ (xs : List Command). goes more (Forms ∷ []) (idle behind.0 classes rules xs)) all)
+
+-- ---- the law
+
+-- the words are read as this program
+pub record AreRead (words : List Word) (classes : List Class) (rules : List Rule) (commands : List Command) : Type 0 where
+  pub state : State
+  pub outcome : outcome_of words ≡ Ok state
+  pub classes_are : state.classes ≡ classes
+  pub rules_are : state.rules ≡ rules
+  pub commands_are : state.commands ≡ commands
+
+at_end : (s : State) → goes [] (Forms ∷ []) s ≡ Ok s
+unfolding goes ends
+at_end s = refl
+
+-- Each program that has a spelling is what its spelling is read as.
+pub program-read : (classes : List Class) (rules : List Rule) (commands : List Command) → is_plain classes rules commands ≡ true → AreRead (spelled_program classes rules commands) classes rules commands
+program-read classes rules commands plain =
+    let p1 = and_parts _ (are_distinct (map (λ r. r.name.0) rules)) plain in
+    let p2 = and_parts _ (are_distinct (map (λ c. c.name.0) classes)) p1.0 in
+    let p3 = and_parts _ (list_all (command_is_plain classes) commands) p2.0 in
+    let p4 = and_parts (list_all class_is_plain classes) (list_all (rule_is_plain classes) rules) p3.0 in
+    let names : AreNamed classes = record { classes_apart = p2.1; attributes_apart = named_attributes classes p4.0 } in
+    let first_words = spelled_each spelled_class classes in
+    let next_words = spelled_each (spelled_rule classes) rules in
+    let last_words = spelled_each (spelled_command classes) commands in
+    let first = classes_read classes [] (record { name = record { 0 = 0 }; first = 0; class = 0; variables = 0 }) p4.0 p2.1 in
+    let next = rules_read classes rules [] first.0 names p4.1 p1.1 in
+    let last = commands_read classes rules commands [] next.0 names p3.1 in
+    record {
+      state = idle last.0 classes rules commands;
+      outcome = ap (λ (x : List Word). outcome_of x) (sym (append-nil (first_words ++ next_words ++ last_words)) ∙ append_assoc (first_words ++ next_words) last_words [] ∙ append_assoc first_words next_words (last_words ++ []))
+          ∙ first.1 (next_words ++ (last_words ++ [])) ∙ next.1 (last_words ++ []) ∙ last.1 [] ∙ at_end (idle last.0 classes rules commands);
+      classes_are = refl;
+      rules_are = refl;
+      commands_are = refl;
+    }
