@@ -17,3 +17,4 @@ pub mod ReadsPatterns
 pub mod ReadsActions
 pub mod ReadsRules
 pub mod ReadsProgram
+pub mod StandingEnd

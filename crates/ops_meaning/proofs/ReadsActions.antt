@@ -1,27 +1,22 @@
 -- What is spelled of a right side is read back.
-use Rattle.std.proofs.Common.{◌≡◌, ℕ, zero, suc, ◌-◌, ◌<◌, ◌≤◌, Bool, true, false, not, ◌&&◌, ◌==◌, cond, List, [], ◌∷◌, ◌++◌, length, map, refl, sym, ap, subst, ◌∙◌, arith, Option, Some, None, nat_lt, append-nil, append_assoc, true≢false}
+use Rattle.std.proofs.Common.{◌≡◌, ℕ, suc, ◌-◌, ◌<◌, true, false, ◌&&◌, ◌==◌, List, [], ◌∷◌, ◌++◌, length, map, refl, sym, ap, ◌∙◌, arith, Option, Some, nat_lt, append-nil, append_assoc, true≢false}
 use Rattle.std.specs.Prelude.{pos}
 use Rattle.std.specs.List.{list_all}
 use Rattle.std.proofs.lemmas.Bool.{and_parts, ltb-true, eqb-true, ne_eqb, le-ltb}
-use Rattle.ops_base.specs.declared.values.Sym.{Sym}
 use Rattle.ops_base.specs.declared.values.Value.{Value}
 use Rattle.ops_base.specs.declared.values.Value.TheVariants as value
-use Rattle.ops_base.specs.declared.elements.Class.{Class}
 use Rattle.ops_base.specs.declared.actions.Term.{Term}
 use Rattle.ops_base.specs.declared.actions.Term.TheVariants as term
 use Rattle.ops_base.specs.declared.actions.Put.{Put}
 use Rattle.ops_base.specs.declared.actions.Item.{Item}
 use Rattle.ops_base.specs.declared.actions.Item.TheVariants as item
-use Rattle.ops_base.specs.declared.actions.Action.{Action}
-use Rattle.ops_base.specs.declared.actions.Action.TheVariants as action
 use Rattle.ops_base.specs.Valid.{class_of, is_attribute}
 use Rattle.ops_meaning.specs.declared.words.Word.{Word}
-use Rattle.ops_meaning.specs.declared.words.Keyword.TheVariants as keyword
-use Rattle.ops_meaning.specs.Grammar.{Use, InPut, Wanted, ClassName, Terms, ValueFor, Actions, Cell, Cells, Items, State, Step, Next, natural_of, number_of, cell_of, item_variable, put_variable, with_put, with_remove, with_write, with_item, with_element, step, after, goes}
-use Rattle.ops_meaning.specs.Spelling.{opening, closing, spelled_keyword, spelled_name, spelled_value, spelled_variable, spelled_each, spelled_term, spelled_put, spelled_cell, spelled_item, spelled_action, term_is_plain, put_is_plain, item_is_plain, action_is_plain}
+use Rattle.ops_meaning.specs.Grammar.{InPut, Wanted, Terms, ValueFor, Cell, Cells, Items, State, Next, natural_of, number_of, cell_of, item_variable, put_variable, with_put, with_item, step, goes}
+use Rattle.ops_meaning.specs.Spelling.{spelled_value, spelled_variable, spelled_each, spelled_term, spelled_put, spelled_cell, spelled_item, term_is_plain, put_is_plain, item_is_plain}
 use Rattle.ops_meaning.proofs.Places.{numbered, number_below}
 use Rattle.ops_meaning.proofs.ReadsBack.{by_word}
-use Rattle.ops_meaning.proofs.ReadsFacts.{AreNamed, class_step, attribute_read, element_closed}
+use Rattle.ops_meaning.proofs.ReadsFacts.{AreNamed, attribute_read}
 
 bound : (k n : ℕ) (s : State) → s.values ≡ numbered k → nat_lt n k ≡ true → number_of (record { 0 = n }) s.values ≡ Some n
 bound k n s e lt = ap (number_of (record { 0 = n })) e ∙ number_below k n (ltb-true _ _ lt)

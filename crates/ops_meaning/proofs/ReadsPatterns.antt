@@ -1,20 +1,18 @@
 -- What is spelled of a left side is read back.
-use Rattle.std.proofs.Common.{◌≡◌, ℕ, zero, suc, ◌<◌, ◌≤◌, Bool, true, false, not, ◌&&◌, ◌==◌, cond, List, [], ◌∷◌, ◌++◌, length, map, refl, sym, ap, subst, ◌∙◌, arith, Option, Some, None, nat_lt, append-nil, append_assoc, true≢false}
+use Rattle.std.proofs.Common.{◌≡◌, ℕ, suc, ◌<◌, Bool, true, false, not, ◌&&◌, cond, List, [], ◌∷◌, ◌++◌, length, refl, sym, ap, subst, ◌∙◌, arith, Option, nat_lt, append-nil, append_assoc, true≢false}
 use Rattle.std.proofs.lemmas.Bool.{and_parts, ltb-true, eqb-true, not-true}
-use Rattle.ops_base.specs.declared.values.Sym.{Sym}
 use Rattle.ops_base.specs.declared.values.Value.{Value}
 use Rattle.ops_base.specs.declared.values.Value.TheVariants as value
 use Rattle.ops_base.specs.declared.values.Pred.{Pred}
 use Rattle.ops_base.specs.declared.values.Pred.TheVariants as pred
-use Rattle.ops_base.specs.declared.elements.Class.{Class}
 use Rattle.ops_base.specs.declared.conditions.Operand.{Operand}
 use Rattle.ops_base.specs.declared.conditions.Operand.TheVariants as operand
 use Rattle.ops_base.specs.declared.conditions.Test.{Test}
 use Rattle.ops_base.specs.declared.conditions.Condition.{Condition}
-use Rattle.ops_base.specs.Valid.{most_conditions, class_of, is_attribute, is_equality}
+use Rattle.ops_base.specs.Valid.{class_of, is_attribute, is_equality}
 use Rattle.ops_meaning.specs.declared.words.Word.{Word}
-use Rattle.ops_meaning.specs.Grammar.{Use, InPattern, Wanted, ClassName, Terms, ValueFor, State, Step, Next, number_of, with_test, with_variable, with_element, step, after, goes}
-use Rattle.ops_meaning.specs.Spelling.{opening, closing, spelled_name, spelled_value, spelled_variable, spelled_each, spelled_operand, spelled_test, spelled_pattern, operand_is_plain, test_is_plain, after_test, tests_are_plain, after_tests, condition_is_plain}
+use Rattle.ops_meaning.specs.Grammar.{InPattern, Wanted, ClassName, Terms, ValueFor, State, Next, number_of, with_test, with_variable, step, goes}
+use Rattle.ops_meaning.specs.Spelling.{closing, spelled_name, spelled_value, spelled_variable, spelled_each, spelled_operand, spelled_test, spelled_pattern, operand_is_plain, test_is_plain, after_test, tests_are_plain, after_tests, condition_is_plain}
 use Rattle.ops_meaning.proofs.Places.{numbered, length-numbered, number_below, number_above}
 use Rattle.ops_meaning.proofs.ReadsBack.{by_word}
 use Rattle.ops_meaning.proofs.ReadsFacts.{AreNamed, class_step, attribute_read, element_closed}

@@ -1,24 +1,23 @@
 -- A program that is spelled is read back.
-use Rattle.std.proofs.Common.{◌≡◌, ℕ, zero, suc, ◌<◌, ◌≤◌, Bool, true, false, not, ◌&&◌, ◌||◌, ◌==◌, cond, List, [], ◌∷◌, ◌++◌, length, map, refl, sym, ap, subst, ◌∙◌, arith, Option, Some, None, Ok, nat_lt, nat_le, append-nil, append_assoc, true≢false}
-use Rattle.std.specs.List.{list_all, list_any}
-use Rattle.std.proofs.lemmas.Bool.{and_parts, ltb-true, leb-true, eqb-true, eq-eqb, not-true}
+use Rattle.std.proofs.Common.{◌≡◌, ℕ, zero, suc, ◌<◌, ◌≤◌, true, false, not, ◌&&◌, ◌||◌, ◌==◌, List, [], ◌∷◌, ◌++◌, length, map, refl, sym, ap, subst, ◌∙◌, arith, None, Ok, nat_lt, nat_le, append-nil, append_assoc, true≢false}
+use Rattle.std.specs.List.{list_all}
+use Rattle.std.proofs.lemmas.Bool.{and_parts, ltb-true, leb-true, eqb-true, not-true}
 use Rattle.ops_base.specs.declared.values.Sym.{Sym}
 use Rattle.ops_base.specs.declared.elements.Class.{Class}
 use Rattle.ops_base.specs.declared.conditions.Condition.{Condition}
-use Rattle.ops_base.specs.declared.actions.Action.{Action}
 use Rattle.ops_base.specs.declared.rules.Rule.{Rule}
 use Rattle.ops_base.specs.declared.commands.Command.{Command}
 use Rattle.ops_base.specs.declared.commands.Command.TheVariants as command
 use Rattle.ops_base.specs.Valid.{most_fields, most_conditions, are_distinct, class_of, class_is_valid, specificity}
 use Rattle.ops_meaning.specs.declared.words.Word.{Word}
 use Rattle.ops_meaning.specs.declared.words.Keyword.TheVariants as keyword
-use Rattle.ops_meaning.specs.Grammar.{Use, InPattern, Wanted, Forms, FirstPattern, Patterns, ClassName, Terms, Actions, State, Outcome, step, is_rule, with_rule, ends, goes, nothing_read}
+use Rattle.ops_meaning.specs.Grammar.{Wanted, Forms, FirstPattern, Patterns, Actions, State, Outcome, step, is_rule, with_rule, ends, goes}
 use Rattle.ops_meaning.specs.Standing.{outcome_of}
 use Rattle.ops_meaning.specs.Spelling.{opening, closing, arrow, spelled_keyword, spelled_name, spelled_each, spelled_class, spelled_action, spelled_pattern, spelled_condition, spelled_rule, spelled_command, spelled_program, action_is_plain, after_tests, condition_is_plain, conditions_are_plain, after_conditions, rule_is_plain, class_is_plain, fixed_is_plain, command_is_plain, is_plain}
 use Rattle.ops_meaning.proofs.Places.{numbered, length-numbered}
 use Rattle.ops_meaning.proofs.ReadsBack.{apart_before, class-read}
 use Rattle.ops_meaning.proofs.ReadsFacts.{AreNamed, fact-read, run-read}
-use Rattle.ops_meaning.proofs.ReadsPatterns.{tests_at, pattern-read}
+use Rattle.ops_meaning.proofs.ReadsPatterns.{pattern-read}
 use Rattle.ops_meaning.proofs.ReadsRules.{acted, class_after_all, actions-read, matched, class_behind, first_begun, conditions-read}
 
 -- what a form leaves behind that no later one looks at
@@ -144,12 +143,14 @@ classes_read (c ∷ cs) done rest plain distinct =
     let all : done ++ c ∷ [] ++ cs ≡ done ++ c ∷ cs = append_assoc done (c ∷ []) cs in
     let others = spelled_each spelled_class cs in
     let next : Rest = record rest { first = 0; name = c.name } in
-    let behind = classes_read cs (done ++ c ∷ []) next each.1 (subst (λ (xs : List Class). are_distinct (map (λ c. c.name.0) xs) ≡ true) (sym all) distinct) in
-    (behind.0, λ more.
-    ap (λ (x : List Word). goes x (Forms ∷ []) (idle rest done [] [])) (append_assoc (spelled_class c) others more)
-    ∙ class-read c (others ++ more) [] (idle rest done [] []) refl (apart_before (λ (c : Class). c.name.0) done c cs distinct) parts.0 parts.2 parts.1
-    ∙ behind.1 more
-    ∙ ap (λ (xs : List Class). goes more (Forms ∷ []) (idle behind.0 xs [] [])) all)
+    let behind = classes_read cs (done ++ c ∷ []) next each.1 (subst (λ (xs : List Class). are_distinct (map (λ c. c.name.0) xs) ≡ true) (sym all) distinct) in (
+      behind.0,
+      λ more.
+          ap (λ (x : List Word). goes x (Forms ∷ []) (idle rest done [] [])) (append_assoc (spelled_class c) others more)
+          ∙ class-read c (others ++ more) [] (idle rest done [] []) refl (apart_before (λ (c : Class). c.name.0) done c cs distinct) parts.0 parts.2 parts.1
+          ∙ behind.1 more
+          ∙ ap (λ (xs : List Class). goes more (Forms ∷ []) (idle behind.0 xs [] [])) all,
+    )
 
 rules_read : (classes : List Class) (rs done : List Rule) (rest : Rest) → AreNamed classes → list_all (rule_is_plain classes) rs ≡ true → are_distinct (map (λ r. r.name.0) (done ++ rs)) ≡ true
     → Reads (spelled_each (spelled_rule classes) rs) rest classes done [] classes (done ++ rs) []
@@ -158,12 +159,14 @@ rules_read classes (r ∷ rs) done rest names plain distinct =
     let each = and_parts (rule_is_plain classes r) (list_all (rule_is_plain classes) rs) plain in
     let all : done ++ r ∷ [] ++ rs ≡ done ++ r ∷ rs = append_assoc done (r ∷ []) rs in
     let others = spelled_each (spelled_rule classes) rs in
-    let behind = rules_read classes rs (done ++ r ∷ []) (after_rule rest r) names each.1 (subst (λ (xs : List Rule). are_distinct (map (λ r. r.name.0) xs) ≡ true) (sym all) distinct) in
-    (behind.0, λ more.
-    ap (λ (x : List Word). goes x (Forms ∷ []) (idle rest classes done [])) (append_assoc (spelled_rule classes r) others more)
-    ∙ rule-read classes done (others ++ more) [] names r rest (apart_before (λ (r : Rule). r.name.0) done r rs distinct) each.0
-    ∙ behind.1 more
-    ∙ ap (λ (xs : List Rule). goes more (Forms ∷ []) (idle behind.0 classes xs [])) all)
+    let behind = rules_read classes rs (done ++ r ∷ []) (after_rule rest r) names each.1 (subst (λ (xs : List Rule). are_distinct (map (λ r. r.name.0) xs) ≡ true) (sym all) distinct) in (
+      behind.0,
+      λ more.
+          ap (λ (x : List Word). goes x (Forms ∷ []) (idle rest classes done [])) (append_assoc (spelled_rule classes r) others more)
+          ∙ rule-read classes done (others ++ more) [] names r rest (apart_before (λ (r : Rule). r.name.0) done r rs distinct) each.0
+          ∙ behind.1 more
+          ∙ ap (λ (xs : List Rule). goes more (Forms ∷ []) (idle behind.0 classes xs [])) all,
+    )
 
 command_read : (classes : List Class) (rules : List Rule) (c : Command) (done : List Command) (rest : Rest) → AreNamed classes → command_is_plain classes c ≡ true
     → Reads (spelled_command classes c) rest classes rules done classes rules (done ++ c ∷ [])
@@ -181,12 +184,14 @@ commands_read classes rules (c ∷ cs) done rest names plain =
     let all : done ++ c ∷ [] ++ cs ≡ done ++ c ∷ cs = append_assoc done (c ∷ []) cs in
     let others = spelled_each (spelled_command classes) cs in
     let first = command_read classes rules c done rest names each.0 in
-    let behind = commands_read classes rules cs (done ++ c ∷ []) first.0 names each.1 in
-    (behind.0, λ more.
-    ap (λ (x : List Word). goes x (Forms ∷ []) (idle rest classes rules done)) (append_assoc (spelled_command classes c) others more)
-    ∙ first.1 (others ++ more)
-    ∙ behind.1 more
-    ∙ ap (λ (xs : List Command). goes more (Forms ∷ []) (idle behind.0 classes rules xs)) all)
+    let behind = commands_read classes rules cs (done ++ c ∷ []) first.0 names each.1 in (
+      behind.0,
+      λ more.
+          ap (λ (x : List Word). goes x (Forms ∷ []) (idle rest classes rules done)) (append_assoc (spelled_command classes c) others more)
+          ∙ first.1 (others ++ more)
+          ∙ behind.1 more
+          ∙ ap (λ (xs : List Command). goes more (Forms ∷ []) (idle behind.0 classes rules xs)) all,
+    )
 
 -- ---- the law
 

@@ -1,25 +1,19 @@
 -- What is spelled of a production is read back.
-use Rattle.std.proofs.Common.{◌≡◌, ℕ, zero, suc, ◌<◌, ◌≤◌, Bool, true, false, not, ◌&&◌, ◌==◌, cond, List, [], ◌∷◌, ◌++◌, length, map, refl, sym, ap, subst, ◌∙◌, arith, Option, Some, None, nat_lt, nat_le, append-nil, append_assoc, length-append, true≢false}
+use Rattle.std.proofs.Common.{◌≡◌, ℕ, ◌<◌, ◌≤◌, true, List, [], ◌∷◌, ◌++◌, length, map, refl, sym, ap, subst, ◌∙◌, arith, nat_lt, append-nil, append_assoc, length-append, true≢false}
 use Rattle.std.specs.List.{list_all}
-use Rattle.std.proofs.lemmas.Bool.{and_parts, ltb-true, leb-true, lt-ltb, eqb-true, eq-eqb}
-use Rattle.ops_base.specs.declared.values.Sym.{Sym}
-use Rattle.ops_base.specs.declared.elements.Class.{Class}
-use Rattle.ops_base.specs.declared.conditions.Test.{Test}
+use Rattle.std.proofs.lemmas.Bool.{and_parts, ltb-true, lt-ltb}
 use Rattle.ops_base.specs.declared.conditions.Condition.{Condition}
-use Rattle.ops_base.specs.declared.actions.Put.{Put}
-use Rattle.ops_base.specs.declared.actions.Item.{Item}
 use Rattle.ops_base.specs.declared.actions.Action.{Action}
 use Rattle.ops_base.specs.declared.actions.Action.TheVariants as action
-use Rattle.ops_base.specs.declared.rules.Rule.{Rule}
-use Rattle.ops_base.specs.Valid.{most_conditions, class_of, specificity}
+use Rattle.ops_base.specs.Valid.{most_conditions, class_of}
 use Rattle.ops_meaning.specs.declared.words.Word.{Word}
 use Rattle.ops_meaning.specs.declared.words.Keyword.TheVariants as keyword
-use Rattle.ops_meaning.specs.Grammar.{Use, InPattern, InPut, Wanted, Forms, RuleName, FirstPattern, Patterns, ClassName, Terms, Actions, Cell, Cells, Items, State, Step, Next, is_rule, with_action, with_remove, with_write, with_rule, step, after, goes}
-use Rattle.ops_meaning.specs.Spelling.{opening, closing, arrow, spelled_keyword, spelled_name, spelled_each, spelled_put, spelled_cell, spelled_item, spelled_action, spelled_pattern, spelled_condition, spelled_rule, put_is_plain, item_is_plain, action_is_plain, after_tests, condition_is_plain, conditions_are_plain, after_conditions, rule_is_plain}
-use Rattle.ops_meaning.proofs.Places.{numbered, length-numbered}
+use Rattle.ops_meaning.specs.Grammar.{InPattern, InPut, Wanted, FirstPattern, Patterns, ClassName, Terms, Actions, Cell, Cells, Items, State, with_action, with_remove, with_write, step, goes}
+use Rattle.ops_meaning.specs.Spelling.{opening, closing, spelled_keyword, spelled_name, spelled_each, spelled_put, spelled_cell, spelled_item, spelled_action, spelled_pattern, spelled_condition, put_is_plain, action_is_plain, after_tests, condition_is_plain, conditions_are_plain, after_conditions}
+use Rattle.ops_meaning.proofs.Places.{numbered}
 use Rattle.ops_meaning.proofs.ReadsBack.{by_word}
 use Rattle.ops_meaning.proofs.ReadsFacts.{AreNamed, class_step, element_closed}
-use Rattle.ops_meaning.proofs.ReadsPatterns.{tests_at, pattern-read}
+use Rattle.ops_meaning.proofs.ReadsPatterns.{pattern-read}
 use Rattle.ops_meaning.proofs.ReadsActions.{puts_read, remove_read, items_read}
 
 -- ---- actions
