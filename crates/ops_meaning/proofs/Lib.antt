@@ -18,3 +18,4 @@ pub mod ReadsActions
 pub mod ReadsRules
 pub mod ReadsProgram
 pub mod StandingEnd
+pub mod Reasons
