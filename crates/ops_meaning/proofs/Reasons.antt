@@ -1,5 +1,5 @@
 -- Why a word is refused.
-use Rattle.std.proofs.Common.{◌≡◌, ℕ, zero, suc, ◌+◌, ◌<◌, Bool, true, false, not, ◌||◌, ◌&&◌, ◌==◌, cond, List, [], ◌∷◌, length, refl, sym, ap, subst, ◌∙◌, arith, Option, Some, None, nat_lt, is_some, position, slice_get, true≢false}
+use Rattle.std.proofs.Common.{◌≡◌, ℕ, suc, ◌<◌, Bool, true, false, not, ◌||◌, ◌==◌, cond, List, [], ◌∷◌, length, refl, sym, ap, subst, ◌∙◌, arith, Option, Some, None, Err, nat_lt, is_some, position, slice_get, true≢false}
 use Rattle.std.specs.List.{list_any, position_or_len}
 use Rattle.std.proofs.lemmas.Bool.{cond_both, lt-ltb}
 use Rattle.ops_base.specs.declared.values.Sym.{Sym}
@@ -13,8 +13,10 @@ use Rattle.ops_tokens.specs.declared.token.TokenKind.TheVariants as kind
 use Rattle.ops_meaning.specs.declared.words.Word.{Word}
 use Rattle.ops_meaning.specs.declared.words.Keyword.{Keyword}
 use Rattle.ops_meaning.specs.declared.words.Keyword.TheVariants as keyword
-use Rattle.ops_meaning.specs.Grammar.{Use, InPattern, InPut, InFixed, Ends, Wanted, Forms, Form, ClassDeclared, Attributes, RuleName, FirstPattern, Patterns, ClassName, Terms, Attribute, ValueFor, Actions, ActionWord, Cell, Cells, Items, ItemWord, Closes, State, Step, Next, Refuses, is_left, is_right, is_caret, is_name, is_variable, is_arrow, is_crlf, constant_of, natural_of, is_one_of, number_of, may_declare, is_class, is_rule, form, class_declared, attributes, class_at, class_name, attributes_of, field_at, attribute, put_variable, variable_for, value_for, terms, rule_name, first_pattern, patterns, actions, action_word, cell_of, cell, cells, item_variable, item_value, items, item_word, closes, forms, step}
+use Rattle.ops_meaning.specs.Grammar.{Use, InPattern, InPut, InFixed, Wanted, Forms, Form, ClassDeclared, Attributes, RuleName, FirstPattern, Patterns, ClassName, Terms, Attribute, ValueFor, Actions, ActionWord, Cell, Cells, Items, ItemWord, Closes, State, Step, Next, Refuses, nothing_read, is_left, is_right, is_caret, is_name, is_variable, is_arrow, is_crlf, constant_of, natural_of, is_one_of, number_of, may_declare, is_class, is_rule, form, class_at, attributes_of, field_at, put_variable, variable_for, value_for, action_word, cell_of, cell, item_variable, item_value, step}
 use Rattle.ops_meaning.specs.Derivation.{is_whole}
+use Rattle.ops_meaning.specs.Standing.{outcome_of}
+use Rattle.ops_meaning.proofs.Reached.{Stopped, stopped}
 
 -- the fault of a word that continues no form
 abbrev pub no_form_fault : List Wanted → Fault
@@ -185,3 +187,14 @@ step_reason w (Closes e ∷ ws) s = cond_both (is_right w.kind) _ _ (HasReason (
 -- A word is refused for the reason that the fault names.
 pub refused-because : (w : Word) (ws : List Wanted) (s : State) (f : Fault) → step w ws s ≡ Refuses f → Because f w ws s
 refused-because w ws s f e = subst (HasReason ws w s) e (step_reason w ws s)
+
+-- the words before the refused one, what they lead to, and the reason there
+pub record Reason (words : List Word) (f : Fault) (w : Word) : Type 0 where
+  pub stopped_there : Stopped words (Forms ∷ []) nothing_read f w
+  pub because : Because f w stopped_there.to stopped_there.at
+
+-- Where a word is refused, it is so for the reason that its fault names, in the state that the words before it lead to.
+pub fault-because : (words : List Word) (f : Fault) (w : Word) → outcome_of words ≡ Err (f, Some w) → Reason words f w
+fault-because words f w e =
+    let there = stopped words (Forms ∷ []) nothing_read f w e in
+    record { stopped_there = there; because = refused-because w there.to there.at f there.refused }
