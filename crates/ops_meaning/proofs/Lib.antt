@@ -19,3 +19,6 @@ pub mod ReadsRules
 pub mod ReadsProgram
 pub mod StandingEnd
 pub mod Reasons
+pub mod Plain
+pub mod PlainSteps
+pub mod PlainRead
