@@ -22,3 +22,4 @@ pub mod Reasons
 pub mod Plain
 pub mod PlainSteps
 pub mod PlainRead
+pub mod Alike
