@@ -30,7 +30,7 @@ Goes (w ∷ ts) ws s = Went w ts (step w ws s)
 
 -- ---- kinds of words
 
-name_not_right : (k : TokenKind) → is_name k ≡ true → is_right k ≡ false
+pub name_not_right : (k : TokenKind) → is_name k ≡ true → is_right k ≡ false
 name_not_right kind.Right e = absurd (true≢false (sym e))
 name_not_right _ e = refl
 
@@ -42,7 +42,7 @@ left_not_right : (k : TokenKind) → is_left k ≡ true → is_right k ≡ false
 left_not_right kind.Right e = absurd (true≢false (sym e))
 left_not_right _ e = refl
 
-whole_not_right : (k : TokenKind) → is_whole k ≡ true → is_right k ≡ false
+pub whole_not_right : (k : TokenKind) → is_whole k ≡ true → is_right k ≡ false
 whole_not_right kind.Right e = absurd (true≢false (sym e))
 whole_not_right _ e = refl
 

@@ -23,3 +23,4 @@ pub mod Plain
 pub mod PlainSteps
 pub mod PlainRead
 pub mod Alike
+pub mod Taken
