@@ -58,7 +58,7 @@ pub number_in : (name : Sym) (values : List Named) (n : ℕ) → number_of name 
 number_in name [] n e = absurd (cc)
 number_in name (v ∷ vs) n e = number_by (v.name.0 == name.0) v.number n (number_of name vs) (numbers vs) e (number_in name vs n)
 
-below_more : (values : List Named) (name : Sym) → list_all (λ v. nat_lt v (length values)) (numbers values) ≡ true → list_all (λ v. nat_lt v (length (values ++ record { name = name; number = length values } ∷ []))) (numbers (values ++ record { name = name; number = length values } ∷ [])) ≡ true
+pub below_more : (values : List Named) (name : Sym) → list_all (λ v. nat_lt v (length values)) (numbers values) ≡ true → list_all (λ v. nat_lt v (length (values ++ record { name = name; number = length values } ∷ []))) (numbers (values ++ record { name = name; number = length values } ∷ [])) ≡ true
 below_more values name h =
     let more : length (values ++ record { name = name; number = length values } ∷ []) ≡ length values + 1 = length-append values (record { name = name; number = length values } ∷ []) in
     let p : ℕ → Bool = λ v. nat_lt v (length (values ++ record { name = name; number = length values } ∷ [])) in

@@ -23,7 +23,7 @@ all_at p [] i d h lt = absurd (omega arith)
 all_at p (x ∷ xs) zero d h lt = (and_parts (p x) (list_all p xs) h).0
 all_at p (x ∷ xs) (suc i) d h lt = all_at p xs i d (and_parts (p x) (list_all p xs) h).1 (omega arith)
 
-turned : (x y : ℕ) → (x == y) ≡ false → (y == x) ≡ false
+pub turned : (x y : ℕ) → (x == y) ≡ false → (y == x) ≡ false
 turned x y e = ne_eqb y x (λ same. eqb-false x y e (sym same))
 
 pub distinct_push : (xs : List ℕ) (x : ℕ) → are_distinct xs ≡ true → is_in x xs ≡ false → are_distinct (xs ++ x ∷ []) ≡ true

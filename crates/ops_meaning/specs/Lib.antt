@@ -4,6 +4,7 @@ pub mod Grammar
 pub mod Derivation
 pub mod Reads
 pub mod Standing
+pub mod Spelling
 pub mod Effects
 pub mod Layout
 pub mod Acting

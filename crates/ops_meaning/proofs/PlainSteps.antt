@@ -1,0 +1,271 @@
+-- Each word leads from what has a spelling to what has one.
+use Rattle.std.proofs.Common.{◌≡◌, ℕ, ◌-◌, ◌<◌, ◌≤◌, true, false, not, ◌==◌, List, [], ◌∷◌, ◌++◌, length, refl, sym, ap, subst, ◌∙◌, arith, Option, Some, None, nat_lt, unwrap_or, slice_get, position, get_or, length-append}
+use Rattle.std.specs.List.{list_all, list_any}
+use Rattle.std.proofs.lemmas.Bool.{cond_both, and_parts, and_from, eqb-true, eq-eqb, lt-ltb, ltb-true, ltb-false, le-leb}
+use Rattle.std.proofs.lemmas.List.Quantifiers.{position-Some}
+use Rattle.std.proofs.lemmas.Option.{slice_get-get_or}
+use Rattle.ops_base.specs.declared.values.Sym.{Sym}
+use Rattle.ops_base.specs.declared.values.Value.{Value}
+use Rattle.ops_base.specs.declared.values.Pred.TheVariants as pred
+use Rattle.ops_base.specs.declared.elements.Class.{Class}
+use Rattle.ops_base.specs.declared.conditions.Operand.{Operand}
+use Rattle.ops_base.specs.declared.conditions.Operand.TheVariants as operand
+use Rattle.ops_base.specs.declared.conditions.Test.{Test}
+use Rattle.ops_base.specs.declared.conditions.Condition.{Condition}
+use Rattle.ops_base.specs.declared.actions.Term.{Term}
+use Rattle.ops_base.specs.declared.actions.Term.TheVariants as term
+use Rattle.ops_base.specs.declared.actions.Item.{Item}
+use Rattle.ops_base.specs.declared.actions.Item.TheVariants as item
+use Rattle.ops_base.specs.declared.actions.Action.{Action}
+use Rattle.ops_base.specs.declared.actions.Action.TheVariants as action
+use Rattle.ops_base.specs.declared.commands.Command.{Command}
+use Rattle.ops_base.specs.declared.commands.Command.TheVariants as command
+use Rattle.ops_base.specs.Valid.{most_fields, most_conditions, no_class, class_of, specificity}
+use Rattle.ops_tokens.specs.declared.token.TokenKind.{TokenKind}
+use Rattle.ops_tokens.specs.declared.token.TokenKind.TheVariants as kind
+use Rattle.ops_meaning.specs.declared.words.Word.{Word}
+use Rattle.ops_meaning.specs.declared.words.Named.{Named}
+use Rattle.ops_meaning.specs.declared.words.Keyword.{Keyword}
+use Rattle.ops_meaning.specs.declared.words.Keyword.TheVariants as keyword
+use Rattle.ops_meaning.specs.Grammar.{Use, InPattern, InPut, InFixed, Wanted, Forms, Attributes, Terms, Actions, Cells, Items, State, Next, is_left, is_right, is_caret, is_name, is_variable, is_arrow, is_crlf, constant_of, natural_of, is_one_of, number_of, may_declare, is_class, is_rule, form, class_declared, attributes, class_at, attributes_of, field_at, with_constant, variable_for, with_variable, put_variable, value_for, with_element, patterns, with_rule, action_word, cell_of, cell, item_variable, item_value, step}
+use Rattle.ops_meaning.specs.Spelling.{test_is_plain, after_tests, operand_is_plain, after_conditions, term_is_plain, put_is_plain, item_is_plain, action_is_plain, rule_is_plain, fixed_is_plain, command_is_plain}
+use Rattle.ops_meaning.proofs.Lists.{all_push, all_none}
+use Rattle.ops_meaning.proofs.Sound.{behind, IsEmpty, numbers}
+use Rattle.ops_meaning.proofs.Grown.{number_in, below_more}
+use Rattle.ops_meaning.proofs.Plain.{IsBase, IsLeft, IsRight, Base, Left, Right, Declaring, Around, IsElement, HasCells, HasItems, IsPlainly, at_forms, at_form, at_class_declared, at_attributes, at_rule_name, at_first_pattern, at_patterns, at_class_name, at_terms, at_attribute, at_value, at_actions, at_action_word, at_cell, at_cells, at_items, at_item_word, at_crlf, at_halt, at_run, Keeps, after_tests-push, tests_push, after_conditions-push, conditions_push, all_in}
+
+number_known : (name : Sym) (values : List Named) (n : ℕ) → list_all (λ v. nat_lt v (length values)) (numbers values) ≡ true → number_of name values ≡ Some n → nat_lt n (length values) ≡ true
+number_known name values n below e = all_in (λ v. nat_lt v (length values)) (numbers values) n below (number_in name values n e)
+
+command_kept : (s : State) (c : Command) → Base s → command_is_plain s.classes c ≡ true → IsBase s.classes s.rules (s.commands ++ c ∷ [])
+command_kept s c g plain = record { scalar = g.scalar; rules_plain = g.rules_plain; commands_plain = all_push (command_is_plain s.classes) s.commands c g.commands_plain plain }
+
+action_kept : (s : State) (a : Action) → Right s → action_is_plain s.classes (length s.conditions) (length s.values) a ≡ true → IsRight s.classes s.values s.conditions (s.actions ++ a ∷ [])
+action_kept s a g plain =
+    record { left = g.left; some = g.some; few = g.few; plain = all_push (action_is_plain s.classes (length s.conditions) (length s.values)) s.actions a g.plain plain }
+
+module _ (w : Word) where
+  -- ---- declarations
+
+  form_keeps : (s : State) → Base s → (k : Keyword) → Keeps (form w k (Forms ∷ []) s)
+  form_keeps s g keyword.Literalize =
+      cond_both (may_declare s) _ _ Keeps
+      (λ e. let parts = and_parts (length s.rules == 0) (length s.commands == 0) e in at_class_declared (g, eqb-true _ _ parts.0, eqb-true _ _ parts.1)) (λ _. tt)
+  form_keeps s g keyword.Production = cond_both (length s.commands == 0) _ _ Keeps (λ _. at_rule_name g) (λ _. tt)
+  form_keeps s g keyword.Make = at_class_name InFixed (g, refl)
+  form_keeps s g keyword.Run = at_run g
+  form_keeps s g _ = tt
+
+  class_declared_keeps : (s : State) → Declaring s → Keeps (class_declared w (Attributes ∷ Forms ∷ []) s)
+  class_declared_keeps s g = cond_both (is_name w.kind) _ _ Keeps (λ _. cond_both (is_class s w.name) _ _ Keeps (λ _. tt) (λ _. at_attributes g)) (λ _. tt)
+
+  attributes_keep : (s : State) → Declaring s → Keeps (attributes w (Forms ∷ []) s)
+  attributes_keep s g =
+      cond_both (is_right w.kind) _ _ Keeps
+      (λ _. at_forms (record {
+        scalar = all_push (λ c. not c.vector) s.classes (record { name = s.name; attrs = s.attrs; vector = false }) g.0.scalar refl;
+        rules_plain = all_none _ s.rules g.1;
+        commands_plain = all_none _ s.commands g.2;
+      }))
+      (λ _. cond_both (is_name w.kind) _ _ Keeps
+      (λ _. cond_both (is_one_of w.name s.attrs) _ _ Keeps (λ _. tt) (λ _. cond_both (nat_lt (length s.attrs) most_fields) _ _ Keeps (λ _. at_attributes g) (λ _. tt))) (λ _. tt))
+
+  -- ---- elements
+
+  element_named : (u : Use) (s : State) (c : ℕ) → Around u s × IsEmpty u s → c < length s.classes → IsElement u (record s { class = c })
+  element_named InPattern s c h lt = record { around = h.0; class = lt; fields = ap (Rattle.ops_meaning.specs.Spelling.tests_are_plain (class_of s.classes c) (after_conditions 0 s.conditions)) h.1 }
+  element_named InPut s c h lt = record { around = h.0; class = lt; fields = ap (list_all (put_is_plain (class_of s.classes c) (length s.values))) h.1 }
+  element_named InFixed s c h lt = record { around = h.0; class = lt; fields = ap (list_all (fixed_is_plain (class_of s.classes c))) h.1 }
+
+  class_at_keeps : (u : Use) (s : State) → Around u s × IsEmpty u s → (o : Option ℕ) → position (λ c. c.name.0 == w.name.0) s.classes ≡ o → Keeps (class_at o (Terms u ∷ behind u) s)
+  class_at_keeps u s g (Some c) e = at_terms u (element_named u s c g (position-Some (λ c. c.name.0 == w.name.0) s.classes c no_class e).0)
+  class_at_keeps u s g None e = tt
+
+  field_at_keeps : (u : Use) (s : State) → IsElement u s → (o : Option ℕ) → position (λ a. a.0 == w.name.0) (attributes_of (slice_get s.classes s.class)) ≡ o → Keeps (field_at u o (Terms u ∷ behind u) s)
+  field_at_keeps u s g None e = tt
+  field_at_keeps u s g (Some f) e =
+      let c = get_or s.classes s.class no_class in
+      let here : slice_get s.classes s.class ≡ Some c = slice_get-get_or s.classes s.class no_class g.class in
+      let lt : f < length c.attrs = (position-Some (λ a. a.0 == w.name.0) c.attrs f (record { 0 = 0 }) (rw here at e)).0 in
+      at_value u f (g, ap (λ (o : Option Class). nat_lt f (length (unwrap_or o no_class).attrs)) here ∙ lt-ltb _ _ lt)
+
+  abbrev HasAttribute : State → ℕ → Type 0
+  HasAttribute s f = nat_lt f (length (class_of s.classes s.class).attrs) ≡ true
+
+  test_kept : (s : State) (f : ℕ) (o : Operand) → IsElement InPattern s → HasAttribute s f → operand_is_plain (length s.values) false o ≡ true → IsElement InPattern (record s { tests = s.tests ++ record { field = f; pred = pred.Eq; operand = o; binds = false } ∷ [] })
+  test_kept s f o g a plain =
+      let left = g.around.1 in
+      let t : Test = record { field = f; pred = pred.Eq; operand = o; binds = false } in
+      record {
+        around = (g.around.0, record { plain = left.plain; count = left.count ∙ sym (after_tests-push s.tests (after_conditions 0 s.conditions) t); below = left.below }, g.around.2, g.around.3);
+        class = g.class;
+        fields = tests_push (class_of s.classes s.class) s.tests (after_conditions 0 s.conditions) t g.fields
+            (and_from _ _ (and_from _ _ a refl) (subst (λ (n : ℕ). operand_is_plain n false o ≡ true) left.count plain));
+      }
+
+  test_bound : (s : State) (f : ℕ) → IsElement InPattern s → HasAttribute s f → IsElement InPattern (with_variable s f w.name None)
+  test_bound s f g a =
+      let left = g.around.1 in
+      let t : Test = record { field = f; pred = pred.Eq; operand = operand.Variable (length s.values); binds = true } in
+      let v : Named = record { name = w.name; number = length s.values } in
+      let more = length-append s.values (v ∷ []) in
+      let count = left.count in
+      record {
+        around = (
+          g.around.0,
+          record { plain = left.plain; count = more ∙ omega (arith, count) ∙ sym (after_tests-push s.tests (after_conditions 0 s.conditions) t); below = below_more s.values w.name left.below },
+          g.around.2,
+          g.around.3,
+        );
+        class = g.class;
+        fields = tests_push (class_of s.classes s.class) s.tests (after_conditions 0 s.conditions) t g.fields (and_from _ _ (and_from _ _ a refl) (eq-eqb _ _ left.count));
+      }
+
+  put_kept : (s : State) (f : ℕ) (t : Term) → IsElement InPut s → HasAttribute s f → term_is_plain (length s.values) t ≡ true → IsElement InPut (record s { puts = s.puts ++ record { field = f; terms = t ∷ [] } ∷ [] })
+  put_kept s f t g a plain =
+      record {
+        around = g.around;
+        class = g.class;
+        fields = all_push (put_is_plain (class_of s.classes s.class) (length s.values)) s.puts (record { field = f; terms = t ∷ [] }) g.fields (and_from _ _ (and_from _ _ a refl) (and_from _ _ plain refl));
+      }
+
+  constant_keeps : (u : Use) (f : ℕ) (v : Value) (s : State) → IsElement u s → HasAttribute s f → IsElement u (with_constant u s f v)
+  constant_keeps InPattern f v s g a = test_kept s f (operand.Constant v) g a refl
+  constant_keeps InPut f v s g a = put_kept s f (term.Constant v) g a refl
+  constant_keeps InFixed f v s g a =
+      record {
+        around = g.around;
+        class = g.class;
+        fields = all_push (fixed_is_plain (class_of s.classes s.class)) s.fixed (record { field = f; values = v ∷ [] }) g.fields (and_from _ _ a refl);
+      }
+
+  pattern_variable : (f : ℕ) (s : State) → IsElement InPattern s → HasAttribute s f → (o : Option ℕ) → number_of w.name s.values ≡ o → IsElement InPattern (with_variable s f w.name o)
+  pattern_variable f s g a (Some n) e = test_kept s f (operand.Variable n) g a (number_known w.name s.values n g.around.1.below e)
+  pattern_variable f s g a None e = test_bound s f g a
+
+  put_variable_keeps : (f : ℕ) (s : State) → IsElement InPut s → HasAttribute s f → (o : Option ℕ) → number_of w.name s.values ≡ o → Keeps (put_variable f o (Terms InPut ∷ behind InPut) s)
+  put_variable_keeps f s g a (Some n) e = at_terms InPut (put_kept s f (term.Variable n) g a (number_known w.name s.values n g.around.1.left.below e))
+  put_variable_keeps f s g a None e = tt
+
+  variable_keeps : (u : Use) (f : ℕ) (s : State) → IsElement u s → HasAttribute s f → Keeps (variable_for u f (number_of w.name s.values) w.name (Terms u ∷ behind u) s)
+  variable_keeps InPattern f s g a = at_terms InPattern (pattern_variable f s g a (number_of w.name s.values) refl)
+  variable_keeps InPut f s g a = put_variable_keeps f s g a (number_of w.name s.values) refl
+  variable_keeps InFixed f s g a = tt
+
+  value_keeps : (u : Use) (f : ℕ) (s : State) → IsElement u s → HasAttribute s f → (o : Option Value) → Keeps (value_for u f w o (Terms u ∷ behind u) s)
+  value_keeps u f s g a (Some v) = at_terms u (constant_keeps u f v s g a)
+  value_keeps u f s g a None = cond_both (is_variable w.kind) _ _ Keeps (λ _. variable_keeps u f s g a) (λ _. tt)
+
+  element_keeps : (u : Use) (s : State) → IsElement u s → Keeps (Next (behind u) (with_element u s))
+  element_keeps InPattern s g =
+      let c : Condition = record { class = s.class; negated = false; tests = s.tests } in
+      let left = g.around.1 in
+      let more = length-append s.conditions (c ∷ []) in
+      let room = g.around.2 in
+      at_patterns (
+        g.around.0,
+        record {
+          plain = conditions_push s.classes s.conditions 0 c left.plain (and_from _ _ (and_from _ _ (lt-ltb _ _ g.class) refl) g.fields);
+          count = left.count ∙ sym (after_conditions-push s.conditions 0 c);
+          below = left.below;
+        },
+        refl,
+        g.around.3,
+        omega (arith, more),
+        omega (arith, more, room),
+      )
+  element_keeps InPut s g = at_actions (g.around.0, action_kept s (action.Make s.class s.puts) g.around.1 (and_from _ _ (lt-ltb _ _ g.class) g.fields))
+  element_keeps InFixed s g = at_forms (command_kept s (command.Make s.class s.fixed) g.around (and_from _ _ (lt-ltb _ _ g.class) g.fields))
+
+  -- ---- productions
+
+  right_begun : (s : State) → Left s → s.tests ≡ [] → s.actions ≡ [] → 0 < length s.conditions → length s.conditions ≤ most_conditions → Right s
+  right_begun s left none idle some few =
+      record {
+        left = subst (λ (ts : List Test). IsLeft s.classes s.values s.conditions ts) none left;
+        some = some;
+        few = few;
+        plain = ap (list_all (action_is_plain s.classes (length s.conditions) (length s.values))) idle;
+      }
+
+  patterns_keep : (s : State) → Base s × Left s × (s.tests ≡ []) × (s.actions ≡ []) × (0 < length s.conditions) × (length s.conditions ≤ most_conditions) → Keeps (patterns w (Actions ∷ Forms ∷ []) s)
+  patterns_keep s g =
+      cond_both (is_arrow w.keyword) _ _ Keeps (λ _. at_actions (g.0, right_begun s g.1 g.2 g.3 g.4 g.5))
+      (λ _. cond_both (is_left w.kind) _ _ Keeps
+      (λ _. cond_both (nat_lt (length s.conditions) most_conditions) _ _ Keeps (λ lt. at_class_name InPattern ((g.0, g.1, ltb-true _ _ lt, g.3), g.2)) (λ _. tt)) (λ _. tt))
+
+  rule_kept : (s : State) → Base s → Right s → IsBase s.classes (with_rule s w.past).rules s.commands
+  rule_kept s b g =
+      record {
+        scalar = b.scalar;
+        rules_plain = all_push (rule_is_plain s.classes) s.rules _ b.rules_plain
+            (and_from _ _ (and_from _ _ (and_from _ _ (and_from _ _ (and_from _ _ (and_from _ _ (lt-ltb _ _ g.some) (le-leb _ _ g.few)) g.left.plain) g.plain) (eq-eqb _ _ g.left.count)) (eq-eqb (specificity s.conditions) (specificity s.conditions) refl)) (eq-eqb (length s.conditions) (length s.conditions) refl));
+        commands_plain = b.commands_plain;
+      }
+
+  action_word_keeps : (s : State) → Base s × Right s → (k : Keyword) → Keeps (action_word k (Actions ∷ Forms ∷ []) s)
+  action_word_keeps s g keyword.Make = at_class_name InPut (g, refl)
+  action_word_keeps s g keyword.Remove = at_cell (g.0, g.1, refl)
+  action_word_keeps s g keyword.Write = at_items (g.0, g.1, refl)
+  action_word_keeps s g keyword.Halt = at_halt g
+  action_word_keeps s g _ = tt
+
+  -- a cell in front of what may follow
+  cell_of_keeps : (s : State) → HasCells s → (z : Rattle.std.specs.Prelude.ℤ) → (o : Option ℕ) → natural_of z ≡ o → Keeps (cell_of o (Cells ∷ Actions ∷ Forms ∷ []) s)
+  cell_of_keeps s g z None e = tt
+  cell_of_keeps s g z (Some m) e =
+      let some = g.1.some in
+      let more = length-append s.cells ((m - 1) ∷ []) in
+      cond_both (nat_lt (length s.conditions) m) _ _ Keeps (λ _. tt)
+      (λ far. let within = ltb-false _ _ far in
+      at_cells ((g.0, g.1, all_push (λ c. nat_lt c (length s.conditions)) s.cells (m - 1) g.2 (lt-ltb _ _ (omega (arith, some, within)))), omega (arith, more)))
+
+  cell_keeps : (s : State) → HasCells s → (k : TokenKind) → Keeps (cell k (Cells ∷ Actions ∷ Forms ∷ []) s)
+  cell_keeps s g (kind.Whole z) = cell_of_keeps s g z (natural_of z) refl
+  cell_keeps s g _ = tt
+
+  item_kept : (s : State) (i : Item) → HasItems s → item_is_plain (length s.values) i ≡ true → Keeps (Next (Items ∷ Actions ∷ Forms ∷ []) (record s { items = s.items ++ i ∷ [] }))
+  item_kept s i g plain = at_items (g.0, g.1, all_push (item_is_plain (length s.values)) s.items i g.2 plain)
+
+  item_variable_keeps : (s : State) → HasItems s → (o : Option ℕ) → number_of w.name s.values ≡ o → Keeps (item_variable o (Items ∷ Actions ∷ Forms ∷ []) s)
+  item_variable_keeps s g (Some m) e = item_kept s (item.Print (term.Variable m)) g (number_known w.name s.values m g.1.left.below e)
+  item_variable_keeps s g None e = tt
+
+  item_value_keeps : (s : State) → HasItems s → (o : Option Value) → Keeps (item_value w o (Items ∷ Actions ∷ Forms ∷ []) s)
+  item_value_keeps s g (Some v) = item_kept s (item.Print (term.Constant v)) g refl
+  item_value_keeps s g None = cond_both (is_variable w.kind) _ _ Keeps (λ _. item_variable_keeps s g (number_of w.name s.values) refl) (λ _. tt)
+
+  -- ---- a word
+
+  pub step_keeps : (s : State) (ws : List Wanted) → IsPlainly s ws → Keeps (step w ws s)
+  unfolding step
+  step_keeps s ws (at_forms g) = cond_both (is_left w.kind) _ _ Keeps (λ _. at_form g) (λ _. tt)
+  step_keeps s ws (at_form g) = form_keeps s g w.keyword
+  step_keeps s ws (at_class_declared g) = class_declared_keeps s g
+  step_keeps s ws (at_attributes g) = attributes_keep s g
+  step_keeps s ws (at_rule_name g) =
+      cond_both (is_name w.kind) _ _ Keeps
+      (λ _. cond_both (is_rule s w.name) _ _ Keeps (λ _. tt) (λ _. at_first_pattern (g, record { plain = refl; count = refl; below = refl }, refl, refl, refl))) (λ _. tt)
+  step_keeps s ws (at_first_pattern g) =
+      let none = g.4 in cond_both (is_left w.kind) _ _ Keeps (λ _. at_class_name InPattern ((g.0, g.1, omega (arith, none), g.3), g.2)) (λ _. tt)
+  step_keeps s ws (at_patterns g) = patterns_keep s g
+  step_keeps s ws (at_class_name u g) = cond_both (is_name w.kind) _ _ Keeps (λ _. class_at_keeps u s g (position (λ c. c.name.0 == w.name.0) s.classes) refl) (λ _. tt)
+  step_keeps s ws (at_terms u g) =
+      cond_both (is_right w.kind) _ _ Keeps (λ _. element_keeps u s g) (λ _. cond_both (is_caret w.kind) _ _ Keeps (λ _. at_attribute u g) (λ _. tt))
+  step_keeps s ws (at_attribute u g) =
+      cond_both (is_name w.kind) _ _ Keeps (λ _. field_at_keeps u s g (position (λ a. a.0 == w.name.0) (attributes_of (slice_get s.classes s.class))) refl) (λ _. tt)
+  step_keeps s ws (at_value u f g) = value_keeps u f s g.0 g.1 (constant_of w.kind w.name)
+  step_keeps s ws (at_actions g) =
+      cond_both (is_right w.kind) _ _ Keeps (λ _. at_forms (rule_kept s g.0 g.1)) (λ _. cond_both (is_left w.kind) _ _ Keeps (λ _. at_action_word g) (λ _. tt))
+  step_keeps s ws (at_action_word g) = action_word_keeps s g w.keyword
+  step_keeps s ws (at_cell g) = cell_keeps s g w.kind
+  step_keeps s ws (at_cells g) =
+      cond_both (is_right w.kind) _ _ Keeps
+      (λ _. at_actions (g.0.0, action_kept s (action.Remove s.cells) g.0.1 (and_from _ _ (lt-ltb _ _ g.1) g.0.2))) (λ _. cell_keeps s g.0 w.kind)
+  step_keeps s ws (at_items g) =
+      cond_both (is_right w.kind) _ _ Keeps (λ _. at_actions (g.0, action_kept s (action.Write s.items) g.1 g.2))
+      (λ _. cond_both (is_left w.kind) _ _ Keeps (λ _. at_item_word g) (λ _. item_value_keeps s g (constant_of w.kind w.name)))
+  step_keeps s ws (at_item_word g) = cond_both (is_crlf w.keyword) _ _ Keeps (λ _. at_crlf g) (λ _. tt)
+  step_keeps s ws (at_crlf g) = cond_both (is_right w.kind) _ _ Keeps (λ _. item_kept s item.Crlf g refl) (λ _. tt)
+  step_keeps s ws (at_halt g) = cond_both (is_right w.kind) _ _ Keeps (λ _. at_actions (g.0, action_kept s action.Halt g.1 refl)) (λ _. tt)
+  step_keeps s ws (at_run g) = cond_both (is_right w.kind) _ _ Keeps (λ _. at_forms (command_kept s (command.Run None) g refl)) (λ _. tt)

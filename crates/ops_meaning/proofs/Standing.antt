@@ -1,0 +1,172 @@
+-- How a fault stands in a text, and which texts are read.
+use Rattle.std.proofs.Common.{◌≡◌, ℕ, Bool, true, false, not, ◌&&◌, cond, List, [], ◌∷◌, ◌++◌, length, refl, sym, ap, subst, ◌∙◌, Option, Some, None, inl, inr, Result, Ok, Err, nat_lt}
+use Rattle.std.specs.List.{list_all}
+use Rattle.std.proofs.lemmas.Bool.{and_parts, and_from, ltb-true}
+use Rattle.std.proofs.lemmas.List.Folds.{list_all-append}
+use Rattle.ops_base.specs.declared.endings.Fault.{Fault}
+use Rattle.ops_base.specs.declared.endings.Fault.TheVariants as fault
+use Rattle.ops_base.specs.Names.{Spellings, only_nil}
+use Rattle.ops_base.specs.Valid.{longest_list}
+use Rattle.ops_tokens.specs.declared.token.Token.{Token}
+use Rattle.ops_tokens.specs.declared.token.TokenKind.{TokenKind}
+use Rattle.ops_tokens.specs.declared.token.TokenKind.TheVariants as kind
+use Rattle.ops_tokens.specs.declared.token.LexFault.{LexFault}
+use Rattle.ops_tokens.specs.Tokens.{spelling}
+use Rattle.ops_meaning.specs.declared.words.Word.{Word}
+use Rattle.ops_meaning.specs.Words.{lexed, keyword_of, names_with, words_from, names_from}
+use Rattle.ops_meaning.specs.Grammar.{Wanted, Forms, State, Step, Next, Refuses, Outcome, is_left, is_arrow, step, ends, after, goes, nothing_read}
+use Rattle.ops_meaning.specs.Derivation.{Derives, nothing, no_form, IsText, is_no_form}
+use Rattle.ops_meaning.specs.Reads.{Read, Placed, verdict, read_lexed, reads}
+use Rattle.ops_meaning.specs.Standing.{words_of, outcome_of, IsTaken, StandsAt, StandsAtWord, StandsAtEnd, Stands}
+use Rattle.ops_meaning.proofs.Derived.{forms_last, completed, taken_derives, taken_last, refused_in_form}
+use Rattle.ops_meaning.proofs.Follows.{is_proper, Went, derived_goes, refused_in_no_form}
+use Rattle.ops_meaning.proofs.Reached.{Reached, goes_behind, derives_before, derives_behind, last_behind, taken_before, taken_reached, stopped}
+
+-- ---- the words of a text
+
+proper_kind : (k : TokenKind) (s : List ℕ) → not (is_left k && is_arrow (keyword_of k s)) ≡ true
+proper_kind kind.Left s = refl
+proper_kind _ s = refl
+
+-- An arrow of a text is no bracket.
+words_proper : (text : List ℕ) (names : Spellings) (ts : List Token) → list_all is_proper (words_from text names ts) ≡ true
+words_proper text names [] = refl
+words_proper text names (t ∷ ts) =
+    and_from _ _ (proper_kind t.kind (spelling text t)) (words_proper text (names_with names t.kind (spelling text t)) ts)
+
+-- ---- a word that is refused
+
+refuses : (w : Word) (to : List Wanted) (at : State) (f : Fault) (more : List Word) → step w to at ≡ Refuses f → goes (w ∷ more) to at ≡ Err (f, Some w)
+unfolding goes
+refuses w to at f more e = ap (after (goes more) w) e
+
+module _ (before : List Word) (w : Word) (f : Fault) (to : List Wanted) (at : State) where
+  stands_at : Reached to at before (Forms ∷ []) nothing_read → step w to at ≡ Refuses f → list_all is_proper before ≡ true → StandsAt f before w
+  stands_at reached refused proper =
+      let last : forms_last to ≡ true = last_behind to at before (Forms ∷ []) nothing_read reached refl in
+      record {
+        taken = taken_before to at before (Forms ∷ []) nothing_read reached;
+        refused = λ more. goes_behind to at before (Forms ∷ []) nothing_read reached (w ∷ more) ∙ refuses w to at f more refused;
+        goes_on = let c = completed to in (c.0, derives_before to at before (Forms ∷ []) nothing_read reached c.0 c.1);
+        in_a_form = λ no. let c = refused_in_form w to at f refused no in (c.0, derives_before to at before (Forms ∷ []) nothing_read reached (w ∷ c.0) c.1);
+        in_no_form = λ is more d. refused_in_no_form w to at last f refused is more (derives_behind to at before (Forms ∷ []) nothing_read reached refl proper (w ∷ more) d);
+      }
+
+stands_at_word : (text : List ℕ) (f : Fault) (w : Word) → outcome_of (words_of text) ≡ Err (f, Some w) → StandsAtWord text (record { fault = f; at = w.first })
+stands_at_word text f w e =
+    let stop = stopped (words_of text) (Forms ∷ []) nothing_read f w e in
+    let proper : list_all is_proper (stop.before ++ w ∷ stop.behind) ≡ true = subst (λ (x : List Word). list_all is_proper x ≡ true) stop.words_are (words_proper text only_nil (lexed text).tokens) in
+    record {
+      before = stop.before;
+      word = w;
+      behind = stop.behind;
+      words = stop.words_are;
+      place = refl;
+      stands = stands_at stop.before w f stop.to stop.at stop.reached stop.refused
+          (and_parts _ _ (sym (list_all-append is_proper stop.before (w ∷ stop.behind)) ∙ proper)).0;
+    }
+
+stands_at_end : (text : List ℕ) (p : Placed) → IsTaken (outcome_of (words_of text)) → StandsAtEnd text p
+stands_at_end text p taken =
+    let r = taken_reached (words_of text) (Forms ∷ []) nothing_read taken in
+    let c = completed r.0 in
+    record { all_taken = taken; goes_on = (c.0, derives_before r.0 r.1 (words_of text) (Forms ∷ []) nothing_read r.2 c.0 c.1) }
+
+-- ---- the laws of faults
+
+verdict_stands : (text : List ℕ) (o : Outcome) (names : Spellings) (stop : Option LexFault) (p : Placed) → outcome_of (words_of text) ≡ o → verdict (length text) names stop o ≡ Err p → Stands text p
+verdict_stands text (Err (f, Some w)) names stop p is e =
+    let same : record { fault = f; at = w.first } ≡ p = cc in inl (subst (StandsAtWord text) same (stands_at_word text f w is))
+verdict_stands text (Err (f, None)) names stop p is e = inr (inl (stands_at_end text p (subst IsTaken (sym is) tt)))
+verdict_stands text (Ok s) names (Some f) p is e = inr (inl (stands_at_end text p (subst IsTaken (sym is) tt)))
+verdict_stands text (Ok s) names None p is e = absurd (cc)
+
+fault_by_length : (text : List ℕ) (p : Placed) (long : Bool) → nat_lt longest_list (length text) ≡ long
+    → (let x : Result Read Placed = cond long (Err (record { fault = fault.TooLong; at = 0 })) (read_lexed text (lexed text)) in x ≡ Err p) → Stands text p
+fault_by_length text p true is e = let same : record { fault = fault.TooLong; at = 0 } ≡ p = cc in inr (inr (ltb-true _ _ is, sym same))
+fault_by_length text p false is e =
+    verdict_stands text (outcome_of (words_of text)) (names_from text only_nil (lexed text).tokens) (lexed text).stop p refl e
+
+-- Where a text has a fault, the fault stands there.
+pub fault-stands : (text : List ℕ) (p : Placed) → reads text ≡ Err p → Stands text p
+unfolding reads
+fault-stands text p e = fault_by_length text p (nat_lt longest_list (length text)) refl e
+
+-- ---- the texts that are read
+
+ends_derive : (ws : List Wanted) (s : State) (r : State) → ends ws s ≡ Ok r → Derives ws []
+unfolding ends
+ends_derive [] s r e = nothing
+ends_derive (Forms ∷ ws) s r e = no_form (ends_derive ws s r e)
+ends_derive (w ∷ ws) s r e = absurd (cc)
+
+derived_by : (w : Word) (words : List Word) (ws : List Wanted) (s : State) (r : State) → ((ws' : List Wanted) (s' : State) → goes words ws' s' ≡ Ok r → Derives ws' words)
+    → (x : Step) → step w ws s ≡ x → after (goes words) w x ≡ Ok r → Derives ws (w ∷ words)
+derived_by w words ws s r ih (Next ws' s') is e = taken_derives w ws s ws' s' is words (ih ws' s' e)
+derived_by w words ws s r ih (Refuses f) is e = absurd (cc)
+
+-- Words that are read derive.
+pub read_derives : (words : List Word) (ws : List Wanted) (s : State) (r : State) → goes words ws s ≡ Ok r → Derives ws words
+unfolding goes
+read_derives [] ws s r e = ends_derive ws s r e
+read_derives (w ∷ words) ws s r e = derived_by w words ws s r (λ ws' s' e'. read_derives words ws' s' r e') (step w ws s) refl e
+
+verdict_derives : (text : List ℕ) (o : Outcome) (names : Spellings) (stop : Option LexFault) (r : Read) → outcome_of (words_of text) ≡ o → verdict (length text) names stop o ≡ Ok r → IsText (words_of text)
+verdict_derives text (Err (f, Some w)) names stop r is e = absurd (cc)
+verdict_derives text (Err (f, None)) names stop r is e = absurd (cc)
+verdict_derives text (Ok s) names (Some f) r is e = absurd (cc)
+verdict_derives text (Ok s) names None r is e = read_derives (words_of text) (Forms ∷ []) nothing_read s is
+
+text_by_length : (text : List ℕ) (r : Read) (long : Bool) → (let x : Result Read Placed = cond long (Err (record { fault = fault.TooLong; at = 0 })) (read_lexed text (lexed text)) in x ≡ Ok r) → IsText (words_of text)
+text_by_length text r true e = absurd (cc)
+text_by_length text r false e =
+    verdict_derives text (outcome_of (words_of text)) (names_from text only_nil (lexed text).tokens) (lexed text).stop r refl e
+
+-- A text that is read is one of the grammar.
+pub text-derived : (text : List ℕ) (r : Read) → reads text ≡ Ok r → IsText (words_of text)
+unfolding reads
+text-derived text r e = text_by_length text r (nat_lt longest_list (length text)) e
+
+-- ---- the texts of the grammar
+
+-- the words are read, or one of them is refused in a form
+abbrev pub IsReadOrInForm : Outcome → Type 0
+IsReadOrInForm (Ok s) = Unit {0}
+IsReadOrInForm (Err (f, Some w)) = is_no_form f ≡ false
+IsReadOrInForm (Err (f, None)) = ⊥
+
+-- where no word is left, no form is open
+abbrev EndsWell : List Word → List Wanted → State → Type 0
+EndsWell [] ws s = IsReadOrInForm (ends ws s)
+EndsWell (w ∷ words) ws s = Unit {0}
+
+no_form_ends : (words : List Word) (ws : List Wanted) (s : State) → EndsWell words ws s → EndsWell words (Forms ∷ ws) s
+unfolding ends
+no_form_ends [] ws s h = h
+no_form_ends (w ∷ words) ws s h = tt
+
+derived_ends : (ws : List Wanted) (words : List Word) (s : State) → Derives ws words → EndsWell words ws s
+unfolding ends
+derived_ends ws words s nothing = tt
+derived_ends ws words s (no_form {ws = rest} d) = no_form_ends words rest s (derived_ends rest words s d)
+derived_ends ws words s _ = tt
+
+went_read : (w : Word) (words : List Word) (ws : List Wanted) (s : State) → forms_last ws ≡ true → is_proper w ≡ true
+    → ((ws' : List Wanted) (s' : State) → Derives ws' words → forms_last ws' ≡ true → IsReadOrInForm (goes words ws' s'))
+    → (x : Step) → step w ws s ≡ x → Went w words x → IsReadOrInForm (after (goes words) w x)
+went_read w words ws s last proper ih (Next ws' s') is go = ih ws' s' (go proper) (taken_last w ws s ws' s' is last)
+went_read w words ws s last proper ih (Refuses f) is go = go
+
+pub derived_goes_on : (words : List Word) (ws : List Wanted) (s : State) → Derives ws words → forms_last ws ≡ true → list_all is_proper words ≡ true → IsReadOrInForm (goes words ws s)
+unfolding goes
+derived_goes_on [] ws s d last proper = derived_ends ws [] s d
+derived_goes_on (w ∷ words) ws s d last proper =
+    let each = and_parts (is_proper w) (list_all is_proper words) proper in
+    went_read w words ws s last each.0 (λ ws' s' d' last'. derived_goes_on words ws' s' d' last' each.1) (step w ws s) refl (derived_goes ws (w ∷ words) s d last)
+
+-- Words of the grammar are read, or refused in a form, by what was declared and bound before or by a limit.
+pub derived-read : (words : List Word) → list_all is_proper words ≡ true → IsText words → IsReadOrInForm (outcome_of words)
+derived-read words proper d = derived_goes_on words (Forms ∷ []) nothing_read d refl proper
+
+pub text-read : (text : List ℕ) → IsText (words_of text) → IsReadOrInForm (outcome_of (words_of text))
+text-read text d = derived-read (words_of text) (words_proper text only_nil (lexed text).tokens) d

@@ -1,0 +1,173 @@
+-- What holds of a word that is taken, besides the grammar.
+use Rattle.std.proofs.Common.{◌≡◌, ℕ, zero, suc, ◌<◌, Bool, true, false, not, ◌==◌, List, [], ◌∷◌, length, refl, sym, ap, subst, ◌∙◌, arith, Option, Some, None, nat_lt, is_some, position, slice_get, get_or, true≢false}
+use Rattle.std.specs.List.{list_any}
+use Rattle.std.proofs.lemmas.Bool.{cond_both, or_left, or_right}
+use Rattle.std.proofs.lemmas.List.Quantifiers.{position-Some}
+use Rattle.ops_base.specs.declared.values.Sym.{Sym}
+use Rattle.ops_base.specs.declared.values.Value.{Value}
+use Rattle.ops_base.specs.Valid.{most_fields, most_conditions, no_class}
+use Rattle.ops_tokens.specs.declared.token.TokenKind.{TokenKind}
+use Rattle.ops_tokens.specs.declared.token.TokenKind.TheVariants as kind
+use Rattle.ops_meaning.specs.declared.words.Word.{Word}
+use Rattle.ops_meaning.specs.declared.words.Keyword.{Keyword}
+use Rattle.ops_meaning.specs.declared.words.Keyword.TheVariants as keyword
+use Rattle.ops_meaning.specs.Grammar.{Use, InPattern, InPut, InFixed, Wanted, Form, ClassDeclared, Attributes, RuleName, Patterns, ClassName, Attribute, ValueFor, Cell, Cells, Items, State, Step, Next, Refuses, is_left, is_right, is_name, is_variable, is_arrow, constant_of, natural_of, is_one_of, number_of, may_declare, is_class, is_rule, form, class_at, attributes_of, field_at, put_variable, variable_for, value_for, cell_of, cell, item_variable, item_value, step}
+use Rattle.ops_meaning.specs.Derivation.{is_whole}
+use Rattle.ops_meaning.proofs.Follows.{name_not_right, whole_not_right}
+use Rattle.ops_meaning.proofs.Reasons.{is_condition, designates}
+
+-- a declaration comes before all else, and a production before the commands
+abbrev pub FormFits : Keyword → State → Type 0
+FormFits keyword.Literalize s = may_declare s ≡ true
+FormFits keyword.Production s = (length s.commands == 0) ≡ true
+FormFits _ s = Unit {0}
+
+-- a pattern may bind a variable, an action may not, and a command sees none
+abbrev pub ValueFits : Use → Word → State → Type 0
+ValueFits InPattern w s = Unit {0}
+ValueFits InPut w s = is_variable w.kind ≡ true → is_some (number_of w.name s.values) ≡ true
+ValueFits InFixed w s = is_variable w.kind ≡ false
+
+-- what a word that is taken meets where this is wanted
+abbrev pub Fits : List Wanted → Word → State → Type 0
+Fits (Form ∷ ws) w s = FormFits w.keyword s
+Fits (ClassDeclared ∷ ws) w s = is_class s w.name ≡ false
+Fits (Attributes ∷ ws) w s = is_name w.kind ≡ true → (is_one_of w.name s.attrs ≡ false) × (nat_lt (length s.attrs) most_fields ≡ true)
+Fits (RuleName ∷ ws) w s = is_rule s w.name ≡ false
+Fits (Patterns ∷ ws) w s = is_arrow w.keyword ≡ false → nat_lt (length s.conditions) most_conditions ≡ true
+Fits (ClassName ∷ ws) w s = is_class s w.name ≡ true
+Fits (Attribute u ∷ ws) w s = is_one_of w.name (attributes_of (slice_get s.classes s.class)) ≡ true
+Fits (ValueFor u f ∷ ws) w s = ValueFits u w s
+Fits (Cell ∷ ws) w s = designates w.kind s ≡ true
+Fits (Cells ∷ ws) w s = is_whole w.kind ≡ true → designates w.kind s ≡ true
+Fits (Items ∷ ws) w s = is_variable w.kind ≡ true → is_some (number_of w.name s.values) ≡ true
+Fits ws w s = Unit {0}
+
+abbrev IfTaken : Type 0 → Step → Type 0
+IfTaken P (Next ws s) = P
+IfTaken P (Refuses f) = Unit {0}
+
+-- ---- kinds and places
+
+variable_not_right : (k : TokenKind) → is_variable k ≡ true → is_right k ≡ false
+variable_not_right kind.Right e = absurd (true≢false (sym e))
+variable_not_right _ e = refl
+
+variable_not_left : (k : TokenKind) → is_variable k ≡ true → is_left k ≡ false
+variable_not_left kind.Left e = absurd (true≢false (sym e))
+variable_not_left _ e = refl
+
+constant_not_variable : (k : TokenKind) (name : Sym) (v : Value) → constant_of k name ≡ Some v → is_variable k ≡ false
+constant_not_variable kind.Variable name v e = absurd (cc)
+constant_not_variable _ name v e = refl
+
+clash : {A : Type 0} (b : Bool) → b ≡ true → b ≡ false → A
+clash b met unmet = absurd (true≢false (sym met ∙ unmet))
+
+any_at : {X : Type 0} (p : X → Bool) (xs : List X) (i : ℕ) (d : X) → i < length xs → p (get_or xs i d) ≡ true → list_any p xs ≡ true
+any_at p [] i d lt e = absurd (omega arith)
+any_at p (x ∷ xs) zero d lt e = or_left _ _ e
+any_at p (x ∷ xs) (suc i) d lt e = or_right _ _ (any_at p xs i d (omega arith) e)
+
+found_any : {X : Type 0} (p : X → Bool) (xs : List X) (i : ℕ) (d : X) → position p xs ≡ Some i → list_any p xs ≡ true
+found_any p xs i d e = let at = position-Some p xs i d e in any_at p xs i d at.0 at.1
+
+-- ---- each thing that is wanted
+
+module _ (w : Word) (ws : List Wanted) (s : State) where
+  form_fits : (k : Keyword) → IfTaken (FormFits k s) (form w k ws s)
+  form_fits keyword.Literalize = cond_both (may_declare s) _ _ (IfTaken (may_declare s ≡ true)) (λ e. e) (λ _. tt)
+  form_fits keyword.Production = cond_both (length s.commands == 0) _ _ (IfTaken ((length s.commands == 0) ≡ true)) (λ e. e) (λ _. tt)
+  form_fits keyword.Make = tt
+  form_fits keyword.Run = tt
+  form_fits _ = tt
+
+  class_fits : (o : Option ℕ) → position (λ c. c.name.0 == w.name.0) s.classes ≡ o → IfTaken (is_class s w.name ≡ true) (class_at o ws s)
+  class_fits (Some c) e = found_any (λ c. c.name.0 == w.name.0) s.classes c no_class e
+  class_fits None e = tt
+
+  field_fits : (u : Use) (o : Option ℕ) → position (λ a. a.0 == w.name.0) (attributes_of (slice_get s.classes s.class)) ≡ o → IfTaken (is_one_of w.name (attributes_of (slice_get s.classes s.class)) ≡ true) (field_at u o ws s)
+  field_fits u (Some f) e = found_any (λ (a : Sym). a.0 == w.name.0) (attributes_of (slice_get s.classes s.class)) f (record { 0 = 0 }) e
+  field_fits u None e = tt
+
+  abbrev Known : Type 0
+  Known = is_variable w.kind ≡ true → is_some (number_of w.name s.values) ≡ true
+
+  put_fits : (f : ℕ) (o : Option ℕ) → number_of w.name s.values ≡ o → IfTaken Known (put_variable f o ws s)
+  put_fits f (Some n) e = λ _. ap is_some e
+  put_fits f None e = tt
+
+  variable_fits : (u : Use) (f : ℕ) → IfTaken (ValueFits u w s) (variable_for u f (number_of w.name s.values) w.name ws s)
+  variable_fits InPattern f = tt
+  variable_fits InPut f = put_fits f (number_of w.name s.values) refl
+  variable_fits InFixed f = tt
+
+  constant_fits : (u : Use) (v : Value) → constant_of w.kind w.name ≡ Some v → ValueFits u w s
+  constant_fits InPattern v e = tt
+  constant_fits InPut v e = λ is. clash (is_variable w.kind) is (constant_not_variable w.kind w.name v e)
+  constant_fits InFixed v e = constant_not_variable w.kind w.name v e
+
+  value_fits : (u : Use) (f : ℕ) (o : Option Value) → constant_of w.kind w.name ≡ o → IfTaken (ValueFits u w s) (value_for u f w o ws s)
+  value_fits u f (Some v) e = constant_fits u v e
+  value_fits u f None e = cond_both (is_variable w.kind) _ _ (IfTaken (ValueFits u w s)) (λ _. variable_fits u f) (λ _. tt)
+
+  cell_of_fits : (o : Option ℕ) → IfTaken (is_condition s o ≡ true) (cell_of o ws s)
+  cell_of_fits (Some n) = cond_both (nat_lt (length s.conditions) n) _ _ (IfTaken (not (nat_lt (length s.conditions) n) ≡ true)) (λ _. tt) (λ near. ap not near)
+  cell_of_fits None = tt
+
+  cell_fits : (k : TokenKind) → IfTaken (designates k s ≡ true) (cell k ws s)
+  cell_fits (kind.Whole n) = cell_of_fits (natural_of n)
+  cell_fits _ = tt
+
+  item_variable_fits : (o : Option ℕ) → number_of w.name s.values ≡ o → IfTaken Known (item_variable o ws s)
+  item_variable_fits (Some n) e = λ _. ap is_some e
+  item_variable_fits None e = tt
+
+  item_value_fits : (o : Option Value) → constant_of w.kind w.name ≡ o → IfTaken Known (item_value w o ws s)
+  item_value_fits (Some v) e = λ is. clash (is_variable w.kind) is (constant_not_variable w.kind w.name v e)
+  item_value_fits None e = cond_both (is_variable w.kind) _ _ (IfTaken Known) (λ _. item_variable_fits (number_of w.name s.values) refl) (λ _. tt)
+
+weaker : (P Q : Type 0) → (P → Q) → (r : Step) → IfTaken P r → IfTaken Q r
+weaker P Q f (Next ws s) h = f h
+weaker P Q f (Refuses x) h = tt
+
+-- whatever is wanted, a word that is taken may be so
+whatever : (r : Step) → IfTaken (Unit {0}) r
+whatever (Next ws s) = tt
+whatever (Refuses f) = tt
+
+step_fits : (w : Word) (ws : List Wanted) (s : State) → IfTaken (Fits ws w s) (step w ws s)
+unfolding step
+step_fits w (Form ∷ ws) s = form_fits w ws s w.keyword
+step_fits w (ClassDeclared ∷ ws) s =
+    cond_both (is_name w.kind) _ _ (IfTaken (is_class s w.name ≡ false)) (λ _. cond_both (is_class s w.name) _ _ (IfTaken (is_class s w.name ≡ false)) (λ _. tt) (λ new. new)) (λ _. tt)
+step_fits w (Attributes ∷ ws) s =
+    let P : Type 0 = Fits (Attributes ∷ ws) w s in
+    cond_both (is_right w.kind) _ _ (IfTaken P) (λ right name. clash (is_right w.kind) right (name_not_right w.kind name))
+    (λ _. cond_both (is_name w.kind) _ _ (IfTaken P)
+    (λ _. cond_both (is_one_of w.name s.attrs) _ _ (IfTaken P) (λ _. tt) (λ new. cond_both (nat_lt (length s.attrs) most_fields) _ _ (IfTaken P) (λ room _. (new, room)) (λ _. tt))) (λ _. tt))
+step_fits w (RuleName ∷ ws) s =
+    cond_both (is_name w.kind) _ _ (IfTaken (is_rule s w.name ≡ false)) (λ _. cond_both (is_rule s w.name) _ _ (IfTaken (is_rule s w.name ≡ false)) (λ _. tt) (λ new. new)) (λ _. tt)
+step_fits w (Patterns ∷ ws) s =
+    let P : Type 0 = Fits (Patterns ∷ ws) w s in
+    cond_both (is_arrow w.keyword) _ _ (IfTaken P) (λ arrow other. clash (is_arrow w.keyword) arrow other)
+    (λ _. cond_both (is_left w.kind) _ _ (IfTaken P) (λ _. cond_both (nat_lt (length s.conditions) most_conditions) _ _ (IfTaken P) (λ room _. room) (λ _. tt)) (λ _. tt))
+step_fits w (ClassName ∷ ws) s =
+    cond_both (is_name w.kind) _ _ (IfTaken (is_class s w.name ≡ true)) (λ _. class_fits w ws s (position (λ c. c.name.0 == w.name.0) s.classes) refl) (λ _. tt)
+step_fits w (Attribute u ∷ ws) s =
+    cond_both (is_name w.kind) _ _ (IfTaken (Fits (Attribute u ∷ ws) w s)) (λ _. field_fits w ws s u (position (λ a. a.0 == w.name.0) (attributes_of (slice_get s.classes s.class))) refl) (λ _. tt)
+step_fits w (ValueFor u f ∷ ws) s = value_fits w ws s u f (constant_of w.kind w.name) refl
+step_fits w (Cell ∷ ws) s = cell_fits w ws s w.kind
+step_fits w (Cells ∷ ws) s =
+    let P : Type 0 = Fits (Cells ∷ ws) w s in
+    cond_both (is_right w.kind) _ _ (IfTaken P) (λ right whole. clash (is_right w.kind) right (whole_not_right w.kind whole))
+    (λ _. weaker (designates w.kind s ≡ true) P (λ is _. is) _ (cell_fits w (Cells ∷ ws) s w.kind))
+step_fits w (Items ∷ ws) s =
+    let P : Type 0 = Fits (Items ∷ ws) w s in
+    cond_both (is_right w.kind) _ _ (IfTaken P) (λ right is. clash (is_right w.kind) right (variable_not_right w.kind is))
+    (λ _. cond_both (is_left w.kind) _ _ (IfTaken P) (λ left is. clash (is_left w.kind) left (variable_not_left w.kind is)) (λ _. item_value_fits w (Items ∷ ws) s (constant_of w.kind w.name) refl))
+step_fits w ws s = whatever (step w ws s)
+
+-- A word is taken only where it may be so: what it names is declared or bound, or new where it is declared.
+pub taken-fits : (w : Word) (ws ws' : List Wanted) (s s' : State) → step w ws s ≡ Next ws' s' → Fits ws w s
+taken-fits w ws ws' s s' e = subst (IfTaken (Fits ws w s)) e (step_fits w ws s)

@@ -1,0 +1,236 @@
+-- How what a program declares is spelled.
+use Rattle.std.specs.Prelude.{ℕ, suc, List, [], ◌∷◌, ◌++◌, map, length, unwrap_or, slice_get, Bool, true, false, not, ◌&&◌, ◌==◌, nat_lt, nat_le, if◌then◌else◌, None, pos}
+use Rattle.std.specs.List.{list_all}
+use Rattle.ops_base.specs.declared.values.Sym.{Sym}
+use Rattle.ops_base.specs.declared.values.Value.{Value}
+use Rattle.ops_base.specs.declared.values.Value.TheVariants as value
+use Rattle.ops_base.specs.declared.elements.Class.{Class}
+use Rattle.ops_base.specs.declared.commands.Fixed.{Fixed}
+use Rattle.ops_base.specs.declared.commands.Command.{Command}
+use Rattle.ops_base.specs.declared.commands.Command.TheVariants as command
+use Rattle.ops_base.specs.declared.conditions.Operand.{Operand}
+use Rattle.ops_base.specs.declared.conditions.Operand.TheVariants as operand
+use Rattle.ops_base.specs.declared.conditions.Test.{Test}
+use Rattle.ops_base.specs.declared.conditions.Condition.{Condition}
+use Rattle.ops_base.specs.declared.actions.Term.{Term}
+use Rattle.ops_base.specs.declared.actions.Term.TheVariants as term
+use Rattle.ops_base.specs.declared.actions.Put.{Put}
+use Rattle.ops_base.specs.declared.actions.Item.{Item}
+use Rattle.ops_base.specs.declared.actions.Item.TheVariants as item
+use Rattle.ops_base.specs.declared.actions.Action.{Action}
+use Rattle.ops_base.specs.declared.actions.Action.TheVariants as action
+use Rattle.ops_base.specs.declared.rules.Rule.{Rule}
+use Rattle.ops_base.specs.Valid.{most_conditions, are_distinct, class_is_valid, class_of, is_attribute, is_equality, specificity}
+use Rattle.ops_tokens.specs.declared.token.TokenKind.TheVariants as kind
+use Rattle.ops_meaning.specs.declared.words.Word.{Word}
+use Rattle.ops_meaning.specs.declared.words.Keyword.{Keyword}
+use Rattle.ops_meaning.specs.declared.words.Keyword.TheVariants as keyword
+
+-- ---- words, where their places do not matter
+
+abbrev pub unnamed : Sym
+unnamed = record { 0 = 0 }
+
+abbrev pub opening : Word
+opening = record { kind = kind.Left; keyword = keyword.Other; name = unnamed; first = 0; past = 0 }
+
+abbrev pub closing : Word
+closing = record { kind = kind.Right; keyword = keyword.Other; name = unnamed; first = 0; past = 0 }
+
+abbrev pub spelled_keyword : Keyword → Word
+spelled_keyword k = record { kind = kind.Symbol; keyword = k; name = unnamed; first = 0; past = 0 }
+
+-- in bars, so that it is no keyword
+abbrev pub spelled_name : Sym → Word
+spelled_name name = record { kind = kind.Quoted; keyword = keyword.Other; name = name; first = 0; past = 0 }
+
+abbrev pub spelled_value : Value → Word
+spelled_value (value.Whole n) = record { kind = kind.Whole n; keyword = keyword.Other; name = unnamed; first = 0; past = 0 }
+spelled_value (value.Symbol name) = spelled_name name
+
+-- a variable, named by its number
+abbrev pub spelled_variable : ℕ → Word
+spelled_variable n = record { kind = kind.Variable; keyword = keyword.Other; name = record { 0 = n }; first = 0; past = 0 }
+
+abbrev pub caret : Word
+caret = record { kind = kind.Caret; keyword = keyword.Other; name = unnamed; first = 0; past = 0 }
+
+abbrev pub spelled_each : {X : Type 0} → (X → List Word) → List X → List Word
+spelled_each spelled [] = []
+spelled_each spelled (x ∷ xs) = spelled x ++ spelled_each spelled xs
+
+-- ---- declarations
+
+-- ( literalize NAME NAME* )
+abbrev pub spelled_class : Class → List Word
+spelled_class c = opening ∷ spelled_keyword keyword.Literalize ∷ spelled_name c.name ∷ map spelled_name c.attrs ++ closing ∷ []
+
+-- ---- attributes with values
+
+abbrev pub attribute_name : Class → ℕ → Sym
+attribute_name c f = unwrap_or (slice_get c.attrs f) unnamed
+
+-- ^ ATTR value
+abbrev pub spelled_attribute : Class → ℕ → List Word → List Word
+spelled_attribute c f values = caret ∷ spelled_name (attribute_name c f) ∷ values
+
+-- ---- commands
+
+abbrev pub spelled_fixed : Class → Fixed → List Word
+spelled_fixed c p = spelled_attribute c p.field (map spelled_value p.values)
+
+-- ( make CLASS fixed* )
+abbrev pub spelled_fact : Class → List Fixed → List Word
+spelled_fact c puts = opening ∷ spelled_keyword keyword.Make ∷ spelled_name c.name ∷ spelled_each (spelled_fixed c) puts ++ closing ∷ []
+
+-- ( run )
+abbrev pub spelled_run : List Word
+spelled_run = opening ∷ spelled_keyword keyword.Run ∷ closing ∷ []
+
+abbrev pub spelled_command : List Class → Command → List Word
+spelled_command classes (command.Make class puts) = spelled_fact (class_of classes class) puts
+spelled_command classes (command.Run None) = spelled_run
+spelled_command classes _ = []
+
+-- ---- left sides
+
+-- a list of values has no spelling here
+abbrev pub spelled_operand : Operand → List Word
+spelled_operand (operand.Constant v) = spelled_value v ∷ []
+spelled_operand (operand.Variable n) = spelled_variable n ∷ []
+spelled_operand (operand.OneOf vs) = []
+
+abbrev pub spelled_test : Class → Test → List Word
+spelled_test c t = spelled_attribute c t.field (spelled_operand t.operand)
+
+-- ( CLASS term* )
+abbrev pub spelled_pattern : Class → List Test → List Word
+spelled_pattern c tests = spelled_name c.name ∷ spelled_each (spelled_test c) tests ++ closing ∷ []
+
+abbrev pub spelled_condition : List Class → Condition → List Word
+spelled_condition classes c = opening ∷ spelled_pattern (class_of classes c.class) c.tests
+
+-- a constant, or a variable with a number below this one where it is bound already, and with this number where it is bound
+abbrev pub operand_is_plain : ℕ → Bool → Operand → Bool
+operand_is_plain k binds (operand.Constant v) = not binds
+operand_is_plain k binds (operand.Variable n) = if binds then n == k else nat_lt n k
+operand_is_plain k binds (operand.OneOf vs) = false
+
+abbrev pub test_is_plain : Class → ℕ → Test → Bool
+test_is_plain c k t = is_attribute c t.field && is_equality t.pred && operand_is_plain k t.binds t.operand
+
+-- how many variables are bound after it, where so many were before it
+abbrev pub after_test : ℕ → Test → ℕ
+after_test k t = if t.binds then suc k else k
+
+abbrev pub tests_are_plain : Class → ℕ → List Test → Bool
+tests_are_plain c k [] = true
+tests_are_plain c k (t ∷ ts) = test_is_plain c k t && tests_are_plain c (after_test k t) ts
+
+abbrev pub after_tests : ℕ → List Test → ℕ
+after_tests k [] = k
+after_tests k (t ∷ ts) = after_tests (after_test k t) ts
+
+abbrev pub condition_is_plain : List Class → ℕ → Condition → Bool
+condition_is_plain classes k c =
+    nat_lt c.class (length classes) && not c.negated && tests_are_plain (class_of classes c.class) k c.tests
+
+abbrev pub conditions_are_plain : List Class → ℕ → List Condition → Bool
+conditions_are_plain classes k [] = true
+conditions_are_plain classes k (c ∷ cs) = condition_is_plain classes k c && conditions_are_plain classes (after_tests k c.tests) cs
+
+abbrev pub after_conditions : ℕ → List Condition → ℕ
+after_conditions k [] = k
+after_conditions k (c ∷ cs) = after_conditions (after_tests k c.tests) cs
+
+-- ---- right sides
+
+abbrev pub spelled_term : Term → List Word
+spelled_term (term.Constant v) = spelled_value v ∷ []
+spelled_term (term.Variable n) = spelled_variable n ∷ []
+spelled_term _ = []
+
+abbrev pub spelled_put : Class → Put → List Word
+spelled_put c p = spelled_attribute c p.field (spelled_each spelled_term p.terms)
+
+-- counted from 1
+abbrev pub spelled_cell : ℕ → Word
+spelled_cell n = record { kind = kind.Whole (pos (suc n)); keyword = keyword.Other; name = unnamed; first = 0; past = 0 }
+
+abbrev pub spelled_item : Item → List Word
+spelled_item (item.Print t) = spelled_term t
+spelled_item item.Crlf = opening ∷ spelled_keyword keyword.Crlf ∷ closing ∷ []
+spelled_item _ = []
+
+-- ( make CLASS put* ) | ( remove WHOLE WHOLE* ) | ( write item* ) | ( halt )
+abbrev pub spelled_action : List Class → Action → List Word
+spelled_action classes (action.Make class puts) =
+    opening ∷ spelled_keyword keyword.Make ∷ spelled_name (class_of classes class).name ∷ spelled_each (spelled_put (class_of classes class)) puts ++ closing ∷ []
+spelled_action classes (action.Remove cells) = opening ∷ spelled_keyword keyword.Remove ∷ map spelled_cell cells ++ closing ∷ []
+spelled_action classes (action.Write items) = opening ∷ spelled_keyword keyword.Write ∷ spelled_each spelled_item items ++ closing ∷ []
+spelled_action classes action.Halt = opening ∷ spelled_keyword keyword.Halt ∷ closing ∷ []
+spelled_action classes _ = []
+
+-- a constant, or a variable with a number below this one
+abbrev pub term_is_plain : ℕ → Term → Bool
+term_is_plain k (term.Constant v) = true
+term_is_plain k (term.Variable n) = nat_lt n k
+term_is_plain k _ = false
+
+abbrev pub put_is_plain : Class → ℕ → Put → Bool
+put_is_plain c k p = is_attribute c p.field && (length p.terms == 1) && list_all (term_is_plain k) p.terms
+
+abbrev pub item_is_plain : ℕ → Item → Bool
+item_is_plain k (item.Print t) = term_is_plain k t
+item_is_plain k item.Crlf = true
+item_is_plain k _ = false
+
+-- behind so many conditions that bind so many variables
+abbrev pub action_is_plain : List Class → ℕ → ℕ → Action → Bool
+action_is_plain classes n k (action.Make class puts) = nat_lt class (length classes) && list_all (put_is_plain (class_of classes class) k) puts
+action_is_plain classes n k (action.Remove cells) = nat_lt 0 (length cells) && list_all (λ c. nat_lt c n) cells
+action_is_plain classes n k (action.Write items) = list_all (item_is_plain k) items
+action_is_plain classes n k action.Halt = true
+action_is_plain classes n k _ = false
+
+-- ---- productions
+
+abbrev pub arrow : Word
+arrow = record { kind = kind.Operator; keyword = keyword.Arrow; name = unnamed; first = 0; past = 0 }
+
+-- ( p NAME pattern pattern* --> action* ), at the place of the rule
+abbrev pub spelled_rule : List Class → Rule → List Word
+spelled_rule classes r =
+    record opening { first = r.first } ∷ spelled_keyword keyword.Production ∷ spelled_name r.name ∷ spelled_each (spelled_condition classes) r.conditions
+    ++ arrow ∷ spelled_each (spelled_action classes) r.actions
+    ++ record closing { past = r.past } ∷ []
+
+abbrev pub rule_is_plain : List Class → Rule → Bool
+rule_is_plain classes r =
+    nat_lt 0 (length r.conditions) && nat_le (length r.conditions) most_conditions && conditions_are_plain classes 0 r.conditions
+    && list_all (action_is_plain classes (length r.conditions) r.variables) r.actions
+    && (r.variables == after_conditions 0 r.conditions) && (r.specificity == specificity r.conditions) && (r.cells == length r.conditions)
+
+-- ---- programs
+
+abbrev pub class_is_plain : Class → Bool
+class_is_plain c = not c.vector && class_is_valid c
+
+-- one value for an attribute of the class
+abbrev pub fixed_is_plain : Class → Fixed → Bool
+fixed_is_plain c p = is_attribute c p.field && (length p.values == 1)
+
+abbrev pub command_is_plain : List Class → Command → Bool
+command_is_plain classes (command.Make class puts) = nat_lt class (length classes) && list_all (fixed_is_plain (class_of classes class)) puts
+command_is_plain classes (command.Run None) = true
+command_is_plain classes _ = false
+
+-- the program has a spelling
+abbrev pub is_plain : List Class → List Rule → List Command → Bool
+is_plain classes rules commands =
+    list_all class_is_plain classes && list_all (rule_is_plain classes) rules && list_all (command_is_plain classes) commands
+    && are_distinct (map (λ c. c.name.0) classes) && are_distinct (map (λ r. r.name.0) rules)
+
+abbrev pub spelled_program : List Class → List Rule → List Command → List Word
+spelled_program classes rules commands =
+    spelled_each spelled_class classes ++ spelled_each (spelled_rule classes) rules ++ spelled_each (spelled_command classes) commands
