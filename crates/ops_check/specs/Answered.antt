@@ -7,6 +7,7 @@ use Rattle.ops_meaning.specs.Words.{Lexed, lexed_at, words_from, names_from}
 use Rattle.ops_meaning.specs.Grammar.{State, Forms, goes}
 use Rattle.ops_meaning.specs.Places.{line_of, column_of}
 use Rattle.ops_meaning.specs.Reads.{Read, Placed, reads, verdict, cut_off}
+use Rattle.ops_meaning.specs.Standing.{Stands}
 use Rattle.ops_forms.specs.Forms.{IsForm, none_by}
 use Rattle.ops_forms.specs.declared.form.Form.{Form}
 use Rattle.ops_forms.specs.declared.form.FormEnd.{FormEnd}
@@ -24,6 +25,12 @@ abbrev pub IsRefusal : List ℕ → ProgramFault → Type 0
 IsRefusal text refusal.OutOfMemory = Unit {0}
 IsRefusal text (refusal.At f line column) =
     (at : ℕ) × (reads text ≡ Err (record { fault = f; at = at })) × (line ≡ line_of text at) × (column ≡ column_of text at)
+
+-- the fault stands so in the text, at this line and column
+abbrev pub IsStanding : List ℕ → ProgramFault → Type 0
+IsStanding text refusal.OutOfMemory = Unit {0}
+IsStanding text (refusal.At f line column) =
+    (at : ℕ) × Stands text (record { fault = f; at = at }) × (line ≡ line_of text at) × (column ≡ column_of text at)
 
 -- the program that a draft holds, with these names
 abbrev pub read_of : Draft → Spellings → Read

@@ -7,6 +7,7 @@ mod elements;
 mod faults;
 mod forms;
 mod kinds;
+pub mod laws;
 mod productions;
 mod program;
 mod refusals;

@@ -2,9 +2,12 @@
 ghost use Rattle.std.specs.Prelude.{◌≡◌, ◌≤◌, ℕ, length, All, IsTrue, IfOk, IfErr, Ok};
 ghost use Rattle.ops_base.specs.Valid.{is_valid};
 ghost use Rattle.ops_tokens.specs.Tokens.{LiesIn};
+ghost use Rattle.ops_meaning.specs.Derivation.{IsText};
 ghost use Rattle.ops_meaning.specs.Reads.{reads};
+ghost use Rattle.ops_meaning.specs.Spelling.{spelled_program};
+ghost use Rattle.ops_meaning.specs.Standing.{words_of, AreRead};
 ghost use Rattle.ops_forms.specs.Forms.{IsForm};
-ghost use Rattle.ops_check.specs.Answered.{IsRefusal, IsAnswer, Comes, Continues, rest_of};
+ghost use Rattle.ops_check.specs.Answered.{IsRefusal, IsStanding, IsAnswer, Comes, Continues, rest_of};
 ghost use Rattle.ops_check.specs.Going.{view};
 
 use crate::draft::Draft;
@@ -25,6 +28,9 @@ pub fn read_program(alloc: Global, text: Vec<u8>) -> Result<(Program, Names), Pr
     ensures ok { IfOk result (λ r. reads text.items ≡ Ok (record { classes = r.0.classes; rules = r.0.rules; commands = r.0.commands; names = r.1 })) }
     ensures text { IfOk result (λ r. r.0.text ≡ text.items) }
     ensures fault { IfErr result (λ e. IsRefusal text.items e) }
+    ensures stands { IfErr result (λ e. IsStanding text.items e) }
+    ensures derived { IfOk result (λ r. IsText (words_of text.items)) }
+    ensures again { IfOk result (λ r. AreRead (spelled_program r.0.classes r.0.rules r.0.commands) r.0.classes r.0.rules r.0.commands) }
 {
     match read_text(alloc, text.as_slice()) {
         Ok((draft, names)) => Ok((program_of(draft, text), names)),

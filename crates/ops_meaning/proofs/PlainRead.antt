@@ -11,12 +11,12 @@ use Rattle.ops_meaning.specs.declared.words.Word.{Word}
 use Rattle.ops_meaning.specs.Words.{lexed, names_from}
 use Rattle.ops_meaning.specs.Grammar.{Wanted, Forms, State, Step, Next, Refuses, Outcome, step, ends, after, goes, nothing_read}
 use Rattle.ops_meaning.specs.Reads.{Read, Placed, verdict, read_lexed, reads}
-use Rattle.ops_meaning.specs.Standing.{words_of, outcome_of}
+use Rattle.ops_meaning.specs.Standing.{words_of, outcome_of, AreRead}
 use Rattle.ops_meaning.specs.Spelling.{class_is_plain, is_plain, spelled_program}
 use Rattle.ops_meaning.proofs.ReadsValid.{reads-valid}
 use Rattle.ops_meaning.proofs.Plain.{IsBase, Base, IsPlainly, at_forms, Keeps}
 use Rattle.ops_meaning.proofs.PlainSteps.{step_keeps}
-use Rattle.ops_meaning.proofs.ReadsProgram.{AreRead, program-read}
+use Rattle.ops_meaning.proofs.ReadsProgram.{program-read}
 
 abbrev IsDone : Outcome → Type 0
 IsDone (Ok s) = Base s

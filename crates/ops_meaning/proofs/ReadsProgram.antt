@@ -12,7 +12,7 @@ use Rattle.ops_base.specs.Valid.{most_fields, most_conditions, are_distinct, cla
 use Rattle.ops_meaning.specs.declared.words.Word.{Word}
 use Rattle.ops_meaning.specs.declared.words.Keyword.TheVariants as keyword
 use Rattle.ops_meaning.specs.Grammar.{Wanted, Forms, FirstPattern, Patterns, Actions, State, Outcome, step, is_rule, with_rule, ends, goes}
-use Rattle.ops_meaning.specs.Standing.{outcome_of}
+use Rattle.ops_meaning.specs.Standing.{outcome_of, AreRead}
 use Rattle.ops_meaning.specs.Spelling.{opening, closing, arrow, spelled_keyword, spelled_name, spelled_each, spelled_class, spelled_action, spelled_pattern, spelled_condition, spelled_rule, spelled_command, spelled_program, action_is_plain, after_tests, condition_is_plain, conditions_are_plain, after_conditions, rule_is_plain, class_is_plain, fixed_is_plain, command_is_plain, is_plain}
 use Rattle.ops_meaning.proofs.Places.{numbered, length-numbered}
 use Rattle.ops_meaning.proofs.ReadsBack.{apart_before, class-read}
@@ -194,14 +194,6 @@ commands_read classes rules (c ∷ cs) done rest names plain =
     )
 
 -- ---- the law
-
--- the words are read as this program
-pub record AreRead (words : List Word) (classes : List Class) (rules : List Rule) (commands : List Command) : Type 0 where
-  pub state : State
-  pub outcome : outcome_of words ≡ Ok state
-  pub classes_are : state.classes ≡ classes
-  pub rules_are : state.rules ≡ rules
-  pub commands_are : state.commands ≡ commands
 
 at_end : (s : State) → goes [] (Forms ∷ []) s ≡ Ok s
 unfolding goes ends

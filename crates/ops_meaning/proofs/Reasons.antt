@@ -15,52 +15,7 @@ use Rattle.ops_meaning.specs.declared.words.Keyword.{Keyword}
 use Rattle.ops_meaning.specs.declared.words.Keyword.TheVariants as keyword
 use Rattle.ops_meaning.specs.Grammar.{Use, InPattern, InPut, InFixed, Wanted, Forms, Form, ClassDeclared, Attributes, RuleName, FirstPattern, Patterns, ClassName, Terms, Attribute, ValueFor, Actions, ActionWord, Cell, Cells, Items, ItemWord, Closes, State, Step, Next, Refuses, nothing_read, is_left, is_right, is_caret, is_name, is_variable, is_arrow, is_crlf, constant_of, natural_of, is_one_of, number_of, may_declare, is_class, is_rule, form, class_at, attributes_of, field_at, put_variable, variable_for, value_for, action_word, cell_of, cell, item_variable, item_value, step}
 use Rattle.ops_meaning.specs.Derivation.{is_whole}
-use Rattle.ops_meaning.specs.Standing.{outcome_of}
-use Rattle.ops_meaning.proofs.Reached.{Stopped, stopped}
-
--- the fault of a word that continues no form
-abbrev pub no_form_fault : List Wanted → Fault
-no_form_fault [] = fault.Stray
-no_form_fault (Forms ∷ ws) = fault.Stray
-no_form_fault (Form ∷ ws) = fault.UnknownCommand
-no_form_fault (w ∷ ws) = fault.BadForm
-
--- such a name was declared already
-abbrev pub is_declared : List Wanted → Sym → State → Bool
-is_declared (ClassDeclared ∷ ws) name s = is_class s name
-is_declared (Attributes ∷ ws) name s = is_one_of name s.attrs
-is_declared (RuleName ∷ ws) name s = is_rule s name
-is_declared ws name s = false
-
--- A command sees no variable.
-abbrev pub is_bound : List Wanted → Sym → State → Bool
-is_bound (ValueFor InFixed f ∷ ws) name s = false
-is_bound ws name s = is_some (number_of name s.values)
-
-abbrev pub is_condition : State → Option ℕ → Bool
-is_condition s (Some n) = not (nat_lt (length s.conditions) n)
-is_condition s None = false
-
--- the number of a condition
-abbrev pub designates : TokenKind → State → Bool
-designates (kind.Whole n) s = is_condition s (natural_of n)
-designates _ s = false
-
--- the reason why the word is refused with this fault
-abbrev pub Because : Fault → Word → List Wanted → State → Type 0
-Because fault.UnknownClass w ws s = (is_name w.kind ≡ true) × (is_class s w.name ≡ false)
-Because fault.UnknownAttribute w ws s = (is_name w.kind ≡ true) × (is_one_of w.name (attributes_of (slice_get s.classes s.class)) ≡ false)
-Because fault.DeclaredTwice w ws s = (is_name w.kind ≡ true) × (is_declared ws w.name s ≡ true)
-Because fault.LateDeclaration w ws s = (w.keyword ≡ keyword.Literalize) × (may_declare s ≡ false)
-Because fault.LateProduction w ws s = (w.keyword ≡ keyword.Production) × ((length s.commands == 0) ≡ false)
-Because fault.UnboundVariable w ws s = (is_variable w.kind ≡ true) × (is_bound ws w.name s ≡ false)
-Because fault.BadDesignator w ws s = (is_whole w.kind ≡ true) × (designates w.kind s ≡ false)
-Because (fault.LimitPassed limit.Fields) w ws s = nat_lt (length s.attrs) most_fields ≡ false
-Because (fault.LimitPassed limit.Conditions) w ws s = nat_lt (length s.conditions) most_conditions ≡ false
-Because fault.Stray w ws s = no_form_fault ws ≡ fault.Stray
-Because fault.UnknownCommand w ws s = no_form_fault ws ≡ fault.UnknownCommand
-Because fault.BadForm w ws s = no_form_fault ws ≡ fault.BadForm
-Because _ w ws s = ⊥
+use Rattle.ops_meaning.specs.Reasons.{no_form_fault, is_declared, is_bound, is_condition, designates, Because}
 
 abbrev pub HasReason : List Wanted → Word → State → Step → Type 0
 HasReason ws w s (Next ws' s') = Unit {0}
@@ -187,14 +142,3 @@ step_reason w (Closes e ∷ ws) s = cond_both (is_right w.kind) _ _ (HasReason (
 -- A word is refused for the reason that the fault names.
 pub refused-because : (w : Word) (ws : List Wanted) (s : State) (f : Fault) → step w ws s ≡ Refuses f → Because f w ws s
 refused-because w ws s f e = subst (HasReason ws w s) e (step_reason w ws s)
-
--- the words before the refused one, what they lead to, and the reason there
-pub record Reason (words : List Word) (f : Fault) (w : Word) : Type 0 where
-  pub stopped_there : Stopped words (Forms ∷ []) nothing_read f w
-  pub because : Because f w stopped_there.to stopped_there.at
-
--- Where a word is refused, it is so for the reason that its fault names, in the state that the words before it lead to.
-pub fault-because : (words : List Word) (f : Fault) (w : Word) → outcome_of words ≡ Err (f, Some w) → Reason words f w
-fault-because words f w e =
-    let there = stopped words (Forms ∷ []) nothing_read f w e in
-    record { stopped_there = there; because = refused-because w there.to there.at f there.refused }

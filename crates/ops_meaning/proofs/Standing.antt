@@ -17,9 +17,10 @@ use Rattle.ops_meaning.specs.Words.{lexed, keyword_of, names_with, words_from, n
 use Rattle.ops_meaning.specs.Grammar.{Wanted, Forms, State, Step, Next, Refuses, Outcome, is_left, is_arrow, step, ends, after, goes, nothing_read}
 use Rattle.ops_meaning.specs.Derivation.{Derives, nothing, no_form, IsText, is_no_form}
 use Rattle.ops_meaning.specs.Reads.{Read, Placed, verdict, read_lexed, reads}
-use Rattle.ops_meaning.specs.Standing.{words_of, outcome_of, IsTaken, StandsAt, StandsAtWord, StandsAtEnd, Stands}
+use Rattle.ops_meaning.specs.Standing.{words_of, outcome_of, IsTaken, StandsAt, StandsAtWord, IsReadOrInForm}
 use Rattle.ops_meaning.proofs.Derived.{forms_last, completed, taken_derives, taken_last, refused_in_form}
 use Rattle.ops_meaning.proofs.Follows.{is_proper, Went, derived_goes, refused_in_no_form}
+use Rattle.ops_meaning.proofs.Reasons.{refused-because}
 use Rattle.ops_meaning.proofs.Reached.{Reached, goes_behind, derives_before, derives_behind, last_behind, taken_before, taken_reached, stopped}
 
 -- ---- the words of a text
@@ -47,12 +48,13 @@ module _ (before : List Word) (w : Word) (f : Fault) (to : List Wanted) (at : St
       record {
         taken = taken_before to at before (Forms ∷ []) nothing_read reached;
         refused = λ more. goes_behind to at before (Forms ∷ []) nothing_read reached (w ∷ more) ∙ refuses w to at f more refused;
+        because = (to, at, goes_behind to at before (Forms ∷ []) nothing_read reached, refused-because w to at f refused);
         goes_on = let c = completed to in (c.0, derives_before to at before (Forms ∷ []) nothing_read reached c.0 c.1);
         in_a_form = λ no. let c = refused_in_form w to at f refused no in (c.0, derives_before to at before (Forms ∷ []) nothing_read reached (w ∷ c.0) c.1);
         in_no_form = λ is more d. refused_in_no_form w to at last f refused is more (derives_behind to at before (Forms ∷ []) nothing_read reached refl proper (w ∷ more) d);
       }
 
-stands_at_word : (text : List ℕ) (f : Fault) (w : Word) → outcome_of (words_of text) ≡ Err (f, Some w) → StandsAtWord text (record { fault = f; at = w.first })
+pub stands_at_word : (text : List ℕ) (f : Fault) (w : Word) → outcome_of (words_of text) ≡ Err (f, Some w) → StandsAtWord text (record { fault = f; at = w.first })
 stands_at_word text f w e =
     let stop = stopped (words_of text) (Forms ∷ []) nothing_read f w e in
     let proper : list_all is_proper (stop.before ++ w ∷ stop.behind) ≡ true = subst (λ (x : List Word). list_all is_proper x ≡ true) stop.words_are (words_proper text only_nil (lexed text).tokens) in
@@ -65,32 +67,6 @@ stands_at_word text f w e =
       stands = stands_at stop.before w f stop.to stop.at stop.reached stop.refused
           (and_parts _ _ (sym (list_all-append is_proper stop.before (w ∷ stop.behind)) ∙ proper)).0;
     }
-
-stands_at_end : (text : List ℕ) (p : Placed) → IsTaken (outcome_of (words_of text)) → StandsAtEnd text p
-stands_at_end text p taken =
-    let r = taken_reached (words_of text) (Forms ∷ []) nothing_read taken in
-    let c = completed r.0 in
-    record { all_taken = taken; goes_on = (c.0, derives_before r.0 r.1 (words_of text) (Forms ∷ []) nothing_read r.2 c.0 c.1) }
-
--- ---- the laws of faults
-
-verdict_stands : (text : List ℕ) (o : Outcome) (names : Spellings) (stop : Option LexFault) (p : Placed) → outcome_of (words_of text) ≡ o → verdict (length text) names stop o ≡ Err p → Stands text p
-verdict_stands text (Err (f, Some w)) names stop p is e =
-    let same : record { fault = f; at = w.first } ≡ p = cc in inl (subst (StandsAtWord text) same (stands_at_word text f w is))
-verdict_stands text (Err (f, None)) names stop p is e = inr (inl (stands_at_end text p (subst IsTaken (sym is) tt)))
-verdict_stands text (Ok s) names (Some f) p is e = inr (inl (stands_at_end text p (subst IsTaken (sym is) tt)))
-verdict_stands text (Ok s) names None p is e = absurd (cc)
-
-fault_by_length : (text : List ℕ) (p : Placed) (long : Bool) → nat_lt longest_list (length text) ≡ long
-    → (let x : Result Read Placed = cond long (Err (record { fault = fault.TooLong; at = 0 })) (read_lexed text (lexed text)) in x ≡ Err p) → Stands text p
-fault_by_length text p true is e = let same : record { fault = fault.TooLong; at = 0 } ≡ p = cc in inr (inr (ltb-true _ _ is, sym same))
-fault_by_length text p false is e =
-    verdict_stands text (outcome_of (words_of text)) (names_from text only_nil (lexed text).tokens) (lexed text).stop p refl e
-
--- Where a text has a fault, the fault stands there.
-pub fault-stands : (text : List ℕ) (p : Placed) → reads text ≡ Err p → Stands text p
-unfolding reads
-fault-stands text p e = fault_by_length text p (nat_lt longest_list (length text)) refl e
 
 -- ---- the texts that are read
 
@@ -128,12 +104,6 @@ unfolding reads
 text-derived text r e = text_by_length text r (nat_lt longest_list (length text)) e
 
 -- ---- the texts of the grammar
-
--- the words are read, or one of them is refused in a form
-abbrev pub IsReadOrInForm : Outcome → Type 0
-IsReadOrInForm (Ok s) = Unit {0}
-IsReadOrInForm (Err (f, Some w)) = is_no_form f ≡ false
-IsReadOrInForm (Err (f, None)) = ⊥
 
 -- where no word is left, no form is open
 abbrev EndsWell : List Word → List Wanted → State → Type 0

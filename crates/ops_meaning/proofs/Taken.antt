@@ -14,7 +14,7 @@ use Rattle.ops_meaning.specs.declared.words.Keyword.TheVariants as keyword
 use Rattle.ops_meaning.specs.Grammar.{Use, InPattern, InPut, InFixed, Wanted, Form, ClassDeclared, Attributes, RuleName, Patterns, ClassName, Attribute, ValueFor, Cell, Cells, Items, State, Step, Next, Refuses, is_left, is_right, is_name, is_variable, is_arrow, constant_of, natural_of, is_one_of, number_of, may_declare, is_class, is_rule, form, class_at, attributes_of, field_at, put_variable, variable_for, value_for, cell_of, cell, item_variable, item_value, step}
 use Rattle.ops_meaning.specs.Derivation.{is_whole}
 use Rattle.ops_meaning.proofs.Follows.{name_not_right, whole_not_right}
-use Rattle.ops_meaning.proofs.Reasons.{is_condition, designates}
+use Rattle.ops_meaning.specs.Reasons.{is_condition, designates}
 
 -- a declaration comes before all else, and a production before the commands
 abbrev pub FormFits : Keyword → State → Type 0

@@ -3,6 +3,7 @@ pub mod Places
 pub mod Grammar
 pub mod Derivation
 pub mod Reads
+pub mod Reasons
 pub mod Standing
 pub mod Spelling
 pub mod Effects

@@ -1,6 +1,9 @@
 use Rattle.std.proofs.Common.{◌≡◌, ◌≤◌, ◌∙◌, sym, ap, length, Err}
 use Rattle.ops_meaning.proofs.ReadsValid.{reads-valid}
 use Rattle.ops_meaning.proofs.ReadsWithin.{reads-within}
+use Rattle.ops_meaning.proofs.Standing.{text-derived}
+use Rattle.ops_meaning.proofs.StandingEnd.{fault-stands}
+use Rattle.ops_meaning.proofs.PlainRead.{reads-again}
 use Rattle.ops_meaning.specs.Reads.{reads}
 use Rattle.ops_check.specs.Answered.{read_of}
 use Rattle.ops_check.proofs.program.read_program.Goals as goal
@@ -21,3 +24,20 @@ returns-clause-fault c =
     let there : reads c.args.text.items ≡ Err (record { fault = c.in-Err-At.fault; at = c.in-Err-At.at }) = ap reads (sym c.as_slice.ensures.value) ∙ is in
     let placed = rw c.as_slice-in-Err-At.ensures.value at c.place_of-place.ensures in
     (c.in-Err-At.at, there, placed.line, placed.column)
+
+pub returns-clause-stands : goal.returns-clause-stands
+returns-clause-stands c =
+    let is : reads c.as_slice.result.now ≡ Err (record { fault = c.in-Err-At.fault; at = c.in-Err-At.at }) = rw c.in-Err-At.field-0-is at c.in-Err-At.ensures in
+    let there : reads c.args.text.items ≡ Err (record { fault = c.in-Err-At.fault; at = c.in-Err-At.at }) = ap reads (sym c.as_slice.ensures.value) ∙ is in
+    let placed = rw c.as_slice-in-Err-At.ensures.value at c.place_of-place.ensures in
+    (c.in-Err-At.at, fault-stands c.args.text.items (record { fault = c.in-Err-At.fault; at = c.in-Err-At.at }) there, placed.line, placed.column)
+
+pub returns-in-Ok-clause-derived : goal.returns-in-Ok-clause-derived
+returns-in-Ok-clause-derived c =
+    text-derived c.args.text.items (read_of c.in-Ok.draft c.in-Ok.names) (ap reads (sym c.as_slice.ensures.value) ∙ c.in-Ok.ensures)
+
+pub returns-in-Ok-clause-again : goal.returns-in-Ok-clause-again
+returns-in-Ok-clause-again c =
+    let parts = c.program_of.ensures in
+    rw (parts.classes, parts.rules, parts.commands)
+    (reads-again c.args.text.items (read_of c.in-Ok.draft c.in-Ok.names) (ap reads (sym c.as_slice.ensures.value) ∙ c.in-Ok.ensures))

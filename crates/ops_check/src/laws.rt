@@ -1,0 +1,22 @@
+//! Laws of the grammar that hold of the definitions alone. Each is the contract of a function that does nothing.
+ghost use Rattle.std.specs.Prelude.{◌≡◌, true, List};
+ghost use Rattle.ops_base.specs.declared.elements.Class.{Class};
+ghost use Rattle.ops_base.specs.declared.rules.Rule.{Rule};
+ghost use Rattle.ops_base.specs.declared.commands.Command.{Command};
+ghost use Rattle.ops_meaning.specs.Derivation.{IsText};
+ghost use Rattle.ops_meaning.specs.Spelling.{is_plain, spelled_program};
+ghost use Rattle.ops_meaning.specs.Standing.{words_of, outcome_of, IsReadOrInForm, AreRead};
+
+/// The words of a text of the grammar are read, or one is refused in a form: for a name or a variable that it does not
+/// know, for one that it knows already, for its order or for a limit. None continues no form, and none lacks a bracket.
+pub fn grammar_is_read(text: &[u8])
+    ensures { IsText (words_of text.now) → IsReadOrInForm (outcome_of (words_of text.now)) }
+{
+}
+
+/// Each program of the language has a spelling, and its spelling is read as that program.
+pub fn spelling_is_read_back()
+    ensures { (classes : List Class) (rules : List Rule) (commands : List Command) → is_plain classes rules commands ≡ true
+        → AreRead (spelled_program classes rules commands) classes rules commands }
+{
+}
