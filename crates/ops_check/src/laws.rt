@@ -11,12 +11,10 @@ ghost use Rattle.ops_meaning.specs.Standing.{words_of, outcome_of, IsReadOrInFor
 /// know, for one that it knows already, for its order or for a limit. None continues no form, and none lacks a bracket.
 pub fn grammar_is_read(text: &[u8])
     ensures { IsText (words_of text.now) → IsReadOrInForm (outcome_of (words_of text.now)) }
-{
-}
+{}
 
 /// Each program of the language has a spelling, and its spelling is read as that program.
 pub fn spelling_is_read_back()
     ensures { (classes : List Class) (rules : List Rule) (commands : List Command) → is_plain classes rules commands ≡ true
         → AreRead (spelled_program classes rules commands) classes rules commands }
-{
-}
+{}

@@ -1,6 +1,5 @@
 -- A fault stands in its text, or at its end.
-use Rattle.std.proofs.Common.{◌≡◌, ℕ, suc, zero, ◌<◌, ◌≤◌, Bool, true, false, true≢false, cond, List, [], ◌∷◌, length, refl, sym, ap, subst, arith, Option, Some, None, Result, Ok, Err, IfOk, IfSome, IfErr, nat_lt}
-use Rattle.ops_base.specs.declared.endings.Fault.{Fault}
+use Rattle.std.proofs.Common.{◌≡◌, ℕ, suc, zero, ◌<◌, ◌≤◌, Bool, true, false, cond, List, [], ◌∷◌, length, subst, arith, Option, Some, None, Result, Ok, Err, IfOk, IfSome, IfErr, nat_lt}
 use Rattle.ops_base.specs.declared.endings.Fault.TheVariants as fault
 use Rattle.ops_base.specs.Names.{Spellings, only_nil}
 use Rattle.ops_base.specs.Valid.{longest_list}

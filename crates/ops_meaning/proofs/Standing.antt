@@ -1,7 +1,7 @@
 -- How a fault stands in a text, and which texts are read.
-use Rattle.std.proofs.Common.{◌≡◌, ℕ, Bool, true, false, not, ◌&&◌, cond, List, [], ◌∷◌, ◌++◌, length, refl, sym, ap, subst, ◌∙◌, Option, Some, None, inl, inr, Result, Ok, Err, nat_lt}
+use Rattle.std.proofs.Common.{◌≡◌, ℕ, Bool, true, false, not, ◌&&◌, cond, List, [], ◌∷◌, ◌++◌, length, refl, sym, ap, subst, ◌∙◌, Option, Some, None, Result, Ok, Err, nat_lt}
 use Rattle.std.specs.List.{list_all}
-use Rattle.std.proofs.lemmas.Bool.{and_parts, and_from, ltb-true}
+use Rattle.std.proofs.lemmas.Bool.{and_parts, and_from}
 use Rattle.std.proofs.lemmas.List.Folds.{list_all-append}
 use Rattle.ops_base.specs.declared.endings.Fault.{Fault}
 use Rattle.ops_base.specs.declared.endings.Fault.TheVariants as fault
@@ -15,13 +15,13 @@ use Rattle.ops_tokens.specs.Tokens.{spelling}
 use Rattle.ops_meaning.specs.declared.words.Word.{Word}
 use Rattle.ops_meaning.specs.Words.{lexed, keyword_of, names_with, words_from, names_from}
 use Rattle.ops_meaning.specs.Grammar.{Wanted, Forms, State, Step, Next, Refuses, Outcome, is_left, is_arrow, step, ends, after, goes, nothing_read}
-use Rattle.ops_meaning.specs.Derivation.{Derives, nothing, no_form, IsText, is_no_form}
+use Rattle.ops_meaning.specs.Derivation.{Derives, nothing, no_form, IsText}
 use Rattle.ops_meaning.specs.Reads.{Read, Placed, verdict, read_lexed, reads}
-use Rattle.ops_meaning.specs.Standing.{words_of, outcome_of, IsTaken, StandsAt, StandsAtWord, IsReadOrInForm}
+use Rattle.ops_meaning.specs.Standing.{words_of, outcome_of, StandsAt, StandsAtWord, IsReadOrInForm}
 use Rattle.ops_meaning.proofs.Derived.{forms_last, completed, taken_derives, taken_last, refused_in_form}
 use Rattle.ops_meaning.proofs.Follows.{is_proper, Went, derived_goes, refused_in_no_form}
 use Rattle.ops_meaning.proofs.Reasons.{refused-because}
-use Rattle.ops_meaning.proofs.Reached.{Reached, goes_behind, derives_before, derives_behind, last_behind, taken_before, taken_reached, stopped}
+use Rattle.ops_meaning.proofs.Reached.{Reached, goes_behind, derives_before, derives_behind, last_behind, taken_before, stopped}
 
 -- ---- the words of a text
 

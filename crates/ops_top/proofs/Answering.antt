@@ -1,11 +1,9 @@
 -- What a delivered whole tells of the answer.
-use Rattle.std.proofs.Common.{◌≡◌, ℕ, ◌<◌, List, [], Bool, true, false, ◌&&◌, Option, Some, None, Result, Ok, Err, is_ok, refl, ap, sym, ◌∙◌, subst, nat_lt, nat_le, length, cond, ◌⊎◌, inl, inr, arith}
+use Rattle.std.proofs.Common.{◌≡◌, ℕ, ◌<◌, List, [], Bool, true, false, ◌&&◌, Option, Some, None, Result, Ok, Err, is_ok, refl, ap, sym, ◌∙◌, subst, nat_lt, cond, ◌⊎◌, inl, inr, arith}
 use Rattle.std.proofs.lemmas.Bool.Decides.{nat_tests}
 use Rattle.std.proofs.lemmas.List.{append-nil}
-use Rattle.ops_base.specs.Valid.{longest_list}
 use Rattle.ops_base.specs.declared.endings.Ending.{Ending}
 use Rattle.ops_base.specs.declared.endings.Fault.{Fault}
-use Rattle.ops_base.specs.declared.endings.Fault.TheVariants as fault
 use Rattle.ops_io.specs.Outside.{GrewBy, GrewByPrefix}
 use Rattle.ops_io.specs.declared.stop.Stop.{Stop}
 use Rattle.ops_io.specs.declared.stop.Stop.TheVariants as stop
@@ -14,7 +12,7 @@ use Rattle.ops_meaning.specs.declared.statuses.Status.{Status}
 use Rattle.ops_meaning.specs.declared.statuses.Status.TheVariants as status
 use Rattle.ops_meaning.specs.Reads.{Read, Placed, reads}
 use Rattle.ops_meaning.specs.Running.{session_of, ending_of}
-use Rattle.ops_meaning.specs.Whole.{Outcome, Answers, status_of, answer_read, answer_to, answer_file, text_of, setting_of, refused, unread, whole_file, whole, words_fit, first_word}
+use Rattle.ops_meaning.specs.Whole.{Outcome, Answers, status_of, answer_read, answer_file, text_of, setting_of, unread, whole_file, whole, words_fit, first_word}
 use Rattle.ops_top.specs.Calls.{OfContent, TellsFailedWrite, TellsWords, usage, runs_through, file_runs_through, text_runs_through}
 use Rattle.ops_top.specs.Told.{Delivers, status_after}
 use Rattle.ops_top.proofs.Endings.{IsOfText, answer_file_of_text}

@@ -1,10 +1,8 @@
 -- The endings that a session can come to of itself: no device is asked in it, and no memory is wanted.
-use Rattle.std.proofs.Common.{ℕ, zero, suc, ◌-◌, List, [], ◌∷◌, Bool, true, false, Option, Some, None, Result, Ok, Err, nat_le, length, cond}
-use Rattle.ops_base.specs.Valid.{longest_list}
+use Rattle.std.proofs.Common.{ℕ, zero, suc, ◌-◌, List, [], ◌∷◌, Bool, true, false, Option, Some, None, Result, Ok, Err, cond}
 use Rattle.ops_base.specs.declared.endings.Ending.{Ending}
 use Rattle.ops_base.specs.declared.endings.Ending.TheVariants as ending
 use Rattle.ops_base.specs.declared.endings.Fault.{Fault}
-use Rattle.ops_base.specs.declared.endings.Fault.TheVariants as fault
 use Rattle.ops_base.specs.declared.actions.Action.{Action}
 use Rattle.ops_base.specs.declared.actions.Action.TheVariants as action
 use Rattle.ops_base.specs.declared.commands.Command.{Command}
@@ -19,7 +17,7 @@ use Rattle.ops_meaning.specs.Effects.{Effect, writes, going_on}
 use Rattle.ops_meaning.specs.Acting.{Scene, bindings_of, action_done, actions_done}
 use Rattle.ops_meaning.specs.Reads.{Read, Placed, reads}
 use Rattle.ops_meaning.specs.Running.{Setting, nothing_yet, conditions_of, actions_of, acted, fired_of, firing, turn, run_on, most_firings, next_to_fire, command_done, commands_done, session_of, ending_of}
-use Rattle.ops_meaning.specs.Whole.{status_of, answer_read, answer_to, answer_file, text_of, setting_of, refused}
+use Rattle.ops_meaning.specs.Whole.{status_of, answer_read, answer_file, text_of, setting_of}
 
 -- an ending that is none of a device or of memory
 abbrev pub IsOwn : {S : Type 0} → Result S Ending → Type 0

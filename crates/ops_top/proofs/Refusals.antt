@@ -4,7 +4,7 @@ use Rattle.std.proofs.lemmas.Bool.{lt-ltb}
 use Rattle.ops_base.specs.Valid.{longest_list}
 use Rattle.ops_base.specs.declared.endings.Fault.{Fault}
 use Rattle.ops_base.specs.declared.endings.Fault.TheVariants as fault
-use Rattle.ops_meaning.specs.Places.{line_of, column_of}
+use Rattle.ops_meaning.specs.Places.{line_of}
 use Rattle.ops_meaning.specs.Reads.{reads}
 use Rattle.ops_meaning.specs.Whole.{refused_at, answer_read, answer_to}
 use Rattle.ops_check.specs.declared.faults.ProgramFault.TheVariants as refusal
