@@ -1,5 +1,5 @@
 -- What a text is read as, form by form.
-use Rattle.std.proofs.Common.{◌≡◌, ℕ, ◌<◌, ◌≤◌, Bool, true, false, true≢false, List, [], ◌∷◌, ◌++◌, length, Option, None, Some, Result, Ok, Err, refl, sym, ap, ◌∙◌, append_assoc, arith}
+use Rattle.std.proofs.Common.{◌≡◌, ℕ, ◌<◌, ◌≤◌, Bool, true, false, true≢false, List, [], ◌∷◌, ◌++◌, length, Option, None, Some, Result, Ok, Err, refl, sym, ap, ◌∙◌, arith}
 use Rattle.std.proofs.lemmas.List.{append-nil}
 use Rattle.std.proofs.lemmas.Bool.{lt-ltb, le-ltb}
 use Rattle.ops_base.specs.Valid.{longest_list}
@@ -10,10 +10,10 @@ use Rattle.ops_tokens.specs.Tokens.{spelling}
 use Rattle.ops_tokens.specs.declared.token.Token.{Token}
 use Rattle.ops_tokens.specs.declared.token.LexFault.{LexFault}
 use Rattle.ops_meaning.specs.declared.words.Word.{Word}
-use Rattle.ops_meaning.specs.Words.{Lexed, lexed, lexed_at, words_from, names_from, names_with, word_of}
-use Rattle.ops_meaning.specs.Grammar.{Wanted, Forms, State, Outcome, is_left, ends, step, goes, nothing_read}
-use Rattle.ops_meaning.specs.Reads.{Read, Placed, reads, read_lexed, verdict, is_numeric, fault_of, between_forms, cut_off}
-use Rattle.ops_forms.specs.Forms.{IsForm, IsStray, token, atom, led, none_by, opens, closes_last, stays_open, Ends}
+use Rattle.ops_meaning.specs.Words.{Lexed, lexed_at, words_from, names_from, names_with, word_of}
+use Rattle.ops_meaning.specs.Grammar.{Forms, State, Outcome, ends, step, goes, nothing_read}
+use Rattle.ops_meaning.specs.Reads.{Read, Placed, reads, is_numeric, fault_of, between_forms, cut_off}
+use Rattle.ops_forms.specs.Forms.{IsForm, IsStray, token, atom, led, none_by, opens, Ends}
 use Rattle.ops_forms.specs.declared.form.Form.{Form}
 use Rattle.ops_forms.specs.declared.form.FormEnd.{FormEnd}
 use Rattle.ops_forms.specs.declared.form.FormEnd.TheVariants as end

@@ -1,5 +1,5 @@
 -- Steps of the walk over words, with more words behind.
-use Rattle.std.proofs.Common.{◌≡◌, ℕ, true, false, List, [], ◌∷◌, ◌++◌, Option, None, Some, Result, Ok, Err, refl, ◌∙◌, if◌then◌else◌}
+use Rattle.std.proofs.Common.{◌≡◌, ℕ, true, false, List, [], ◌∷◌, ◌++◌, None, Some, Result, Ok, Err, refl, ◌∙◌, if◌then◌else◌}
 use Rattle.std.specs.Borrow.{Bor}
 use Rattle.ops_meaning.specs.declared.words.Word.{Word}
 use Rattle.ops_meaning.specs.Grammar.{Use, Wanted, Cell, Cells, Items, ItemWord, ValueFor, State, Next, after, step, goes, is_left, is_right, is_variable, constant_of, number_of, variable_for, cell, item_value}

@@ -1,7 +1,6 @@
 -- What is answered of a text.
 use Rattle.std.specs.Prelude.{◌≡◌, ℕ, List, [], ◌∷◌, length, Option, Some, None, Result, Ok, Err}
 use Rattle.ops_base.specs.Names.{Spellings}
-use Rattle.ops_base.specs.declared.endings.Fault.{Fault}
 use Rattle.ops_tokens.specs.declared.token.LexFault.{LexFault}
 use Rattle.ops_meaning.specs.Words.{Lexed, lexed_at, words_from, names_from}
 use Rattle.ops_meaning.specs.Grammar.{State, Forms, goes}

@@ -3,7 +3,6 @@ use Rattle.std.proofs.Common.{◌≡◌, ℕ, ◌<◌, List, [], Bool, true, fal
 use Rattle.std.proofs.lemmas.Bool.Decides.{nat_tests}
 use Rattle.std.proofs.lemmas.List.{append-nil}
 use Rattle.ops_base.specs.declared.endings.Ending.{Ending}
-use Rattle.ops_base.specs.declared.endings.Fault.{Fault}
 use Rattle.ops_io.specs.Outside.{GrewBy, GrewByPrefix}
 use Rattle.ops_io.specs.declared.stop.Stop.{Stop}
 use Rattle.ops_io.specs.declared.stop.Stop.TheVariants as stop

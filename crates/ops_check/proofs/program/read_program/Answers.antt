@@ -1,4 +1,4 @@
-use Rattle.std.proofs.Common.{◌≡◌, ◌≤◌, ◌∙◌, sym, ap, length, Err}
+use Rattle.std.proofs.Common.{◌≡◌, ◌∙◌, sym, ap, Err}
 use Rattle.ops_meaning.proofs.ReadsValid.{reads-valid}
 use Rattle.ops_meaning.proofs.ReadsWithin.{reads-within}
 use Rattle.ops_meaning.proofs.Standing.{text-derived}

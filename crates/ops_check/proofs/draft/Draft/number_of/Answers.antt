@@ -1,4 +1,4 @@
-use Rattle.std.proofs.Common.{◌≡◌, ◌<◌, ◌==◌, sym, ◌∙◌, length}
+use Rattle.std.proofs.Common.{◌<◌, ◌==◌, sym, ◌∙◌, length}
 use Rattle.std.proofs.lemmas.List.Quantifiers.{position-Some}
 use Rattle.std.proofs.lemmas.Option.{slice_get-get_or}
 use Rattle.ops_meaning.specs.declared.words.Named.{Named}

@@ -1,5 +1,4 @@
 use Rattle.std.proofs.Common.{sym, ◌∙◌}
-use Rattle.ops_meaning.specs.Grammar.{goes, after, variable_for, number_of}
 use Rattle.ops_check.specs.Going.{view, use_of}
 use Rattle.ops_check.proofs.Ways.{goes_as, variable_first}
 use Rattle.ops_check.proofs.draft.Draft.value.Goals as goal
