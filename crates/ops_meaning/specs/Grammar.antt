@@ -4,6 +4,7 @@ use Rattle.std.specs.List.{list_any}
 use Rattle.ops_base.specs.declared.values.Sym.{Sym}
 use Rattle.ops_base.specs.declared.values.Value.{Value}
 use Rattle.ops_base.specs.declared.values.Value.TheVariants as value
+use Rattle.ops_base.specs.declared.values.Pred.{Pred}
 use Rattle.ops_base.specs.declared.values.Pred.TheVariants as pred
 use Rattle.ops_base.specs.declared.elements.Class.{Class}
 use Rattle.ops_base.specs.declared.conditions.Operand.{Operand}
@@ -38,6 +39,13 @@ pub data Use : Type 0 where
   InPut : Use
   InFixed : Use
 
+-- where a constant goes
+pub data Target : Type 0 where
+  ToTest : (field : ℕ) → (p : Pred) → Target
+  ToPut : (field : ℕ) → Target
+  ToFixed : (field : ℕ) → Target
+  ToItem : Target
+
 -- what a closing bracket ends
 pub data Ends : Type 0 where
   EndsRun : Ends
@@ -64,10 +72,20 @@ pub data Wanted : Type 0 where
   ClassName : Wanted
   -- term* ), put* ) or fixed* )
   Terms : (use_of : Use) → Wanted
-  -- ATTR value
+  -- ATTR place, or ATTR value
   Attribute : (use_of : Use) → Wanted
-  -- WHOLE | NAME | VARIABLE
-  ValueFor : (use_of : Use) → (field : ℕ) → Wanted
+  -- test | { test* }
+  Place : (field : ℕ) → Wanted
+  -- test* }
+  Tests : (field : ℕ) → Wanted
+  -- constant | VARIABLE
+  Tested : (field : ℕ) → (p : Pred) → Wanted
+  -- atom* >>
+  Choice : (field : ℕ) → Wanted
+  -- atom
+  Atom : (target : Target) → Wanted
+  -- rconstant | VARIABLE
+  ValueFor : (target : Target) → Wanted
   -- action* )
   Actions : Wanted
   -- make CLASS put* ) | remove WHOLE WHOLE* ) | write item* ) | halt )
@@ -94,6 +112,7 @@ pub record State : Type 0 where
   pub attrs : List Sym
   pub class : ℕ
   pub tests : List Test
+  pub choice : List Value
   pub puts : List Put
   pub fixed : List Fixed
   pub cells : List ℕ
@@ -117,6 +136,14 @@ abbrev pub is_right : TokenKind → Bool
 is_right kind.Right = true
 is_right _ = false
 
+abbrev pub is_left_brace : TokenKind → Bool
+is_left_brace kind.LeftBrace = true
+is_left_brace _ = false
+
+abbrev pub is_right_brace : TokenKind → Bool
+is_right_brace kind.RightBrace = true
+is_right_brace _ = false
+
 abbrev pub is_caret : TokenKind → Bool
 is_caret kind.Caret = true
 is_caret _ = false
@@ -134,6 +161,31 @@ abbrev pub is_arrow : Keyword → Bool
 is_arrow keyword.Arrow = true
 is_arrow _ = false
 
+-- // before an atom
+abbrev pub is_literal : Keyword → Bool
+is_literal keyword.Literal = true
+is_literal _ = false
+
+-- << before constants
+abbrev pub opens_choice : Keyword → Bool
+opens_choice keyword.OpenChoice = true
+opens_choice _ = false
+
+-- >> behind them
+abbrev pub closes_choice : Keyword → Bool
+closes_choice keyword.CloseChoice = true
+closes_choice _ = false
+
+abbrev pub pred_of : Keyword → Option Pred
+pred_of keyword.Equal = Some pred.Eq
+pred_of keyword.NotEqual = Some pred.Ne
+pred_of keyword.Less = Some pred.Lt
+pred_of keyword.AtMost = Some pred.Le
+pred_of keyword.Greater = Some pred.Gt
+pred_of keyword.AtLeast = Some pred.Ge
+pred_of keyword.SameKind = Some pred.SameKind
+pred_of _ = None
+
 abbrev pub is_crlf : Keyword → Bool
 is_crlf keyword.Crlf = true
 is_crlf _ = false
@@ -144,6 +196,23 @@ constant_of (kind.Whole n) name = Some (value.Whole n)
 constant_of kind.Symbol name = Some (value.Symbol name)
 constant_of kind.Quoted name = Some (value.Symbol name)
 constant_of _ name = None
+
+-- the constant that an atom is, whatever it spells
+abbrev pub atom_of : TokenKind → Sym → Option Value
+atom_of (kind.Whole n) name = Some (value.Whole n)
+atom_of kind.Symbol name = Some (value.Symbol name)
+atom_of kind.Quoted name = Some (value.Symbol name)
+atom_of kind.Operator name = Some (value.Symbol name)
+atom_of kind.Variable name = Some (value.Symbol name)
+atom_of _ name = None
+
+-- the constant that a value is: an atom, but a variable and //
+abbrev pub value_of : TokenKind → Sym → Option Value
+value_of (kind.Whole n) name = Some (value.Whole n)
+value_of kind.Symbol name = Some (value.Symbol name)
+value_of kind.Quoted name = Some (value.Symbol name)
+value_of kind.Operator name = Some (value.Symbol name)
+value_of _ name = None
 
 -- the number that a whole number from 1 on is
 abbrev pub natural_of : ℤ → Option ℕ
@@ -214,8 +283,14 @@ abbrev pub attributes_of : Option Class → List Sym
 attributes_of (Some c) = c.attrs
 attributes_of None = []
 
+-- what stands behind the name of an attribute
+abbrev pub behind_attribute : Use → ℕ → Wanted
+behind_attribute InPattern f = Place f
+behind_attribute InPut f = ValueFor (ToPut f)
+behind_attribute InFixed f = ValueFor (ToFixed f)
+
 abbrev pub field_at : Use → Option ℕ → List Wanted → State → Step
-field_at u (Some f) ws s = Next (ValueFor u f ∷ ws) s
+field_at u (Some f) ws s = Next (behind_attribute u f ∷ ws) s
 field_at u None ws s = Refuses fault.UnknownAttribute
 
 abbrev pub attribute : Use → Word → List Wanted → State → Step
@@ -223,14 +298,8 @@ attribute u w ws s =
     if is_name w.kind then field_at u (position (λ a. a.0 == w.name.0) (attributes_of (slice_get s.classes s.class))) ws s
     else Refuses fault.BadForm
 
-abbrev pub with_test : State → ℕ → Operand → Bool → State
-with_test s f o binds = record s { tests = s.tests ++ record { field = f; pred = pred.Eq; operand = o; binds = binds } ∷ [] }
-
--- the first place of a variable binds it
-abbrev pub with_variable : State → ℕ → Sym → Option ℕ → State
-with_variable s f name (Some n) = with_test s f (operand.Variable n) false
-with_variable s f name None =
-    with_test (record s { values = s.values ++ record { name = name; number = length s.values } ∷ [] }) f (operand.Variable (length s.values)) true
+abbrev pub with_test : State → ℕ → Pred → Operand → Bool → State
+with_test s f p o binds = record s { tests = s.tests ++ record { field = f; pred = p; operand = o; binds = binds } ∷ [] }
 
 abbrev pub with_put : State → ℕ → Term → State
 with_put s f t = record s { puts = s.puts ++ record { field = f; terms = t ∷ [] } ∷ [] }
@@ -238,26 +307,87 @@ with_put s f t = record s { puts = s.puts ++ record { field = f; terms = t ∷ [
 abbrev pub with_fixed : State → ℕ → Value → State
 with_fixed s f v = record s { fixed = s.fixed ++ record { field = f; values = v ∷ [] } ∷ [] }
 
-abbrev pub with_constant : Use → State → ℕ → Value → State
-with_constant InPattern s f v = with_test s f (operand.Constant v) false
-with_constant InPut s f v = with_put s f (term.Constant v)
-with_constant InFixed s f v = with_fixed s f v
+abbrev pub with_item : State → Item → State
+with_item s i = record s { items = s.items ++ i ∷ [] }
+
+abbrev pub with_constant : Target → State → Value → State
+with_constant (ToTest f p) s v = with_test s f p (operand.Constant v) false
+with_constant (ToPut f) s v = with_put s f (term.Constant v)
+with_constant (ToFixed f) s v = with_fixed s f v
+with_constant ToItem s v = with_item s (item.Print (term.Constant v))
+
+-- ---- tests
+
+-- the first place of a variable
+abbrev pub with_bound : State → ℕ → Sym → State
+with_bound s f name =
+    with_test (record s { values = s.values ++ record { name = name; number = length s.values } ∷ [] }) f pred.Eq (operand.Variable (length s.values)) true
+
+-- The first place of a variable binds it, by an equality.
+abbrev pub variable_tested : ℕ → Pred → Option ℕ → Sym → List Wanted → State → Step
+variable_tested f p (Some n) name ws s = Next ws (with_test s f p (operand.Variable n) false)
+variable_tested f pred.Eq None name ws s = Next ws (with_bound s f name)
+variable_tested f p None name ws s = Refuses fault.UnboundVariable
+
+abbrev pub constant_tested : ℕ → Pred → Word → Option Value → List Wanted → State → Step
+constant_tested f p w (Some v) ws s = Next ws (with_constant (ToTest f p) s v)
+constant_tested f p w None ws s =
+    if is_variable w.kind then variable_tested f p (number_of w.name s.values) w.name ws s else Refuses fault.BadForm
+
+-- an operand behind a predicate, or where none is written
+abbrev pub tested : ℕ → Pred → Word → List Wanted → State → Step
+tested f p w ws s =
+    if is_literal w.keyword then Next (Atom (ToTest f p) ∷ ws) s else constant_tested f p w (constant_of w.kind w.name) ws s
+
+abbrev pub predicated : ℕ → Word → Option Pred → List Wanted → State → Step
+predicated f w (Some p) ws s = Next (Tested f p ∷ ws) s
+predicated f w None ws s = tested f pred.Eq w ws s
+
+abbrev pub test : ℕ → Word → List Wanted → State → Step
+test f w ws s =
+    if opens_choice w.keyword then Next (Choice f ∷ ws) (record s { choice = [] }) else predicated f w (pred_of w.keyword) ws s
+
+abbrev pub place : ℕ → Word → List Wanted → State → Step
+place f w ws s = if is_left_brace w.kind then Next (Tests f ∷ ws) s else test f w ws s
+
+abbrev pub tests : ℕ → Word → List Wanted → State → Step
+tests f w ws s = if is_right_brace w.kind then Next ws s else test f w (Tests f ∷ ws) s
+
+-- a disjunction ends
+abbrev pub with_choice : State → ℕ → State
+with_choice s f = record (with_test s f pred.Eq (operand.OneOf s.choice) false) { choice = [] }
+
+abbrev pub chosen : Option Value → List Wanted → State → Step
+chosen (Some v) ws s = Next ws (record s { choice = s.choice ++ v ∷ [] })
+chosen None ws s = Refuses fault.BadForm
+
+abbrev pub choice : ℕ → Word → List Wanted → State → Step
+choice f w ws s = if closes_choice w.keyword then Next ws (with_choice s f) else chosen (atom_of w.kind w.name) (Choice f ∷ ws) s
+
+abbrev pub atom_at : Target → Option Value → List Wanted → State → Step
+atom_at t (Some v) ws s = Next ws (with_constant t s v)
+atom_at t None ws s = Refuses fault.BadForm
+
+-- ---- values
 
 -- a variable of a right side, which a condition must bind
-abbrev pub put_variable : ℕ → Option ℕ → List Wanted → State → Step
-put_variable f (Some n) ws s = Next ws (with_put s f (term.Variable n))
-put_variable f None ws s = Refuses fault.UnboundVariable
+abbrev pub term_at : Target → Term → List Wanted → State → Step
+term_at (ToPut f) t ws s = Next ws (with_put s f t)
+term_at ToItem t ws s = Next ws (with_item s (item.Print t))
+term_at _ t ws s = Refuses fault.UnboundVariable
+
+abbrev pub bound_at : Target → Option ℕ → List Wanted → State → Step
+bound_at t (Some n) ws s = term_at t (term.Variable n) ws s
+bound_at t None ws s = Refuses fault.UnboundVariable
+
+abbrev pub constant_at : Target → Word → Option Value → List Wanted → State → Step
+constant_at t w (Some v) ws s = Next ws (with_constant t s v)
+constant_at t w None ws s =
+    if is_variable w.kind then bound_at t (number_of w.name s.values) ws s else Refuses fault.BadForm
 
 -- A variable in a command is bound nowhere.
-abbrev pub variable_for : Use → ℕ → Option ℕ → Sym → List Wanted → State → Step
-variable_for InPattern f number name ws s = Next ws (with_variable s f name number)
-variable_for InPut f number name ws s = put_variable f number ws s
-variable_for InFixed f number name ws s = Refuses fault.UnboundVariable
-
-abbrev pub value_for : Use → ℕ → Word → Option Value → List Wanted → State → Step
-value_for u f w (Some v) ws s = Next ws (with_constant u s f v)
-value_for u f w None ws s =
-    if is_variable w.kind then variable_for u f (number_of w.name s.values) w.name ws s else Refuses fault.BadForm
+abbrev pub value_for : Target → Word → List Wanted → State → Step
+value_for t w ws s = if is_literal w.keyword then Next (Atom t ∷ ws) s else constant_at t w (value_of w.kind w.name) ws s
 
 abbrev pub with_action : State → Action → State
 with_action s a = record s { actions = s.actions ++ a ∷ [] }
@@ -345,18 +475,6 @@ with_remove s = record (with_action s (action.Remove s.cells)) { cells = [] }
 abbrev pub cells : Word → List Wanted → State → Step
 cells w ws s = if is_right w.kind then Next ws (with_remove s) else cell w.kind (Cells ∷ ws) s
 
-abbrev pub with_item : State → Item → State
-with_item s i = record s { items = s.items ++ i ∷ [] }
-
-abbrev pub item_variable : Option ℕ → List Wanted → State → Step
-item_variable (Some n) ws s = Next ws (with_item s (item.Print (term.Variable n)))
-item_variable None ws s = Refuses fault.UnboundVariable
-
-abbrev pub item_value : Word → Option Value → List Wanted → State → Step
-item_value w (Some v) ws s = Next ws (with_item s (item.Print (term.Constant v)))
-item_value w None ws s =
-    if is_variable w.kind then item_variable (number_of w.name s.values) ws s else Refuses fault.BadForm
-
 -- an action `write` ends
 abbrev pub with_write : State → State
 with_write s = record (with_action s (action.Write s.items)) { items = [] }
@@ -365,7 +483,7 @@ abbrev pub items : Word → List Wanted → State → Step
 items w ws s =
     if is_right w.kind then Next ws (with_write s)
     else if is_left w.kind then Next (ItemWord ∷ Items ∷ ws) s
-    else item_value w (constant_of w.kind w.name) (Items ∷ ws) s
+    else value_for ToItem w (Items ∷ ws) s
 
 abbrev pub item_word : Word → List Wanted → State → Step
 item_word w ws s = if is_crlf w.keyword then Next (Closes EndsCrlf ∷ ws) s else Refuses fault.BadForm
@@ -397,7 +515,12 @@ step w (Patterns ∷ ws) s = patterns w ws s
 step w (ClassName ∷ ws) s = class_name w ws s
 step w (Terms u ∷ ws) s = terms u w ws s
 step w (Attribute u ∷ ws) s = attribute u w ws s
-step w (ValueFor u f ∷ ws) s = value_for u f w (constant_of w.kind w.name) ws s
+step w (Place f ∷ ws) s = place f w ws s
+step w (Tests f ∷ ws) s = tests f w ws s
+step w (Tested f p ∷ ws) s = tested f p w ws s
+step w (Choice f ∷ ws) s = choice f w ws s
+step w (Atom t ∷ ws) s = atom_at t (atom_of w.kind w.name) ws s
+step w (ValueFor t ∷ ws) s = value_for t w ws s
 step w (Actions ∷ ws) s = actions w ws s
 step w (ActionWord ∷ ws) s = action_word w.keyword ws s
 step w (Cell ∷ ws) s = cell w.kind ws s
@@ -436,6 +559,7 @@ nothing_read =
       attrs = [];
       class = 0;
       tests = [];
+      choice = [];
       puts = [];
       fixed = [];
       cells = [];

@@ -4,6 +4,8 @@ use Rattle.std.specs.List.{list_all}
 use Rattle.ops_base.specs.declared.values.Sym.{Sym}
 use Rattle.ops_base.specs.declared.values.Value.{Value}
 use Rattle.ops_base.specs.declared.values.Value.TheVariants as value
+use Rattle.ops_base.specs.declared.values.Pred.{Pred}
+use Rattle.ops_base.specs.declared.values.Pred.TheVariants as pred
 use Rattle.ops_base.specs.declared.elements.Class.{Class}
 use Rattle.ops_base.specs.declared.commands.Fixed.{Fixed}
 use Rattle.ops_base.specs.declared.commands.Command.{Command}
@@ -94,14 +96,26 @@ spelled_command classes _ = []
 
 -- ---- left sides
 
--- a list of values has no spelling here
-abbrev pub spelled_operand : Operand → List Word
-spelled_operand (operand.Constant v) = spelled_value v ∷ []
-spelled_operand (operand.Variable n) = spelled_variable n ∷ []
-spelled_operand (operand.OneOf vs) = []
+abbrev pub spelled_operator : Keyword → Word
+spelled_operator k = record { kind = kind.Operator; keyword = k; name = unnamed; first = 0; past = 0 }
+
+abbrev pub keyword_of_pred : Pred → Keyword
+keyword_of_pred pred.Eq = keyword.Equal
+keyword_of_pred pred.Ne = keyword.NotEqual
+keyword_of_pred pred.Lt = keyword.Less
+keyword_of_pred pred.Le = keyword.AtMost
+keyword_of_pred pred.Gt = keyword.Greater
+keyword_of_pred pred.Ge = keyword.AtLeast
+keyword_of_pred pred.SameKind = keyword.SameKind
+
+-- PRED constant | PRED VARIABLE | << atom* >>
+abbrev pub spelled_operand : Pred → Operand → List Word
+spelled_operand p (operand.Constant v) = spelled_operator (keyword_of_pred p) ∷ spelled_value v ∷ []
+spelled_operand p (operand.Variable n) = spelled_operator (keyword_of_pred p) ∷ spelled_variable n ∷ []
+spelled_operand p (operand.OneOf vs) = spelled_operator keyword.OpenChoice ∷ map spelled_value vs ++ spelled_operator keyword.CloseChoice ∷ []
 
 abbrev pub spelled_test : Class → Test → List Word
-spelled_test c t = spelled_attribute c t.field (spelled_operand t.operand)
+spelled_test c t = spelled_attribute c t.field (spelled_operand t.pred t.operand)
 
 -- ( CLASS term* )
 abbrev pub spelled_pattern : Class → List Test → List Word
@@ -110,14 +124,15 @@ spelled_pattern c tests = spelled_name c.name ∷ spelled_each (spelled_test c) 
 abbrev pub spelled_condition : List Class → Condition → List Word
 spelled_condition classes c = opening ∷ spelled_pattern (class_of classes c.class) c.tests
 
--- a constant, or a variable with a number below this one where it is bound already, and with this number where it is bound
-abbrev pub operand_is_plain : ℕ → Bool → Operand → Bool
-operand_is_plain k binds (operand.Constant v) = not binds
-operand_is_plain k binds (operand.Variable n) = if binds then n == k else nat_lt n k
-operand_is_plain k binds (operand.OneOf vs) = false
+-- A constant; constants, one of which is equal; or a variable, with a number below this one where it is bound already, and
+-- with this number and an equality where it is bound here.
+abbrev pub operand_is_plain : ℕ → Pred → Bool → Operand → Bool
+operand_is_plain k p binds (operand.Constant v) = not binds
+operand_is_plain k p binds (operand.Variable n) = if binds then is_equality p && (n == k) else nat_lt n k
+operand_is_plain k p binds (operand.OneOf vs) = not binds && is_equality p
 
 abbrev pub test_is_plain : Class → ℕ → Test → Bool
-test_is_plain c k t = is_attribute c t.field && is_equality t.pred && operand_is_plain k t.binds t.operand
+test_is_plain c k t = is_attribute c t.field && operand_is_plain k t.pred t.binds t.operand
 
 -- how many variables are bound after it, where so many were before it
 abbrev pub after_test : ℕ → Test → ℕ

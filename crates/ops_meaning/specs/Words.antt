@@ -25,7 +25,19 @@ keyword_of_symbol s =
 
 -- the keyword of an operator
 abbrev pub keyword_of_operator : List ℕ → Keyword
-keyword_of_operator s = if bytes_eq s (codes "-->") then keyword.Arrow else keyword.Other
+keyword_of_operator s =
+    if bytes_eq s (codes "-->") then keyword.Arrow
+    else if bytes_eq s (codes "=") then keyword.Equal
+    else if bytes_eq s (codes "<>") then keyword.NotEqual
+    else if bytes_eq s (codes "<") then keyword.Less
+    else if bytes_eq s (codes "<=") then keyword.AtMost
+    else if bytes_eq s (codes ">") then keyword.Greater
+    else if bytes_eq s (codes ">=") then keyword.AtLeast
+    else if bytes_eq s (codes "<=>") then keyword.SameKind
+    else if bytes_eq s (codes "<<") then keyword.OpenChoice
+    else if bytes_eq s (codes ">>") then keyword.CloseChoice
+    else if bytes_eq s (codes "//") then keyword.Literal
+    else keyword.Other
 
 abbrev pub keyword_of : TokenKind → List ℕ → Keyword
 keyword_of kind.Symbol s = keyword_of_symbol s
@@ -37,6 +49,7 @@ abbrev pub has_name : TokenKind → Bool
 has_name kind.Symbol = true
 has_name kind.Quoted = true
 has_name kind.Variable = true
+has_name kind.Operator = true
 has_name _ = false
 
 -- the names with a token's spelling, if it has a name

@@ -16,6 +16,16 @@ pub enum Keyword {
     Crlf,
     Halt,
     Arrow,
+    Equal,
+    NotEqual,
+    Less,
+    AtMost,
+    Greater,
+    AtLeast,
+    SameKind,
+    OpenChoice,
+    CloseChoice,
+    Literal,
     Other,
 }
 
