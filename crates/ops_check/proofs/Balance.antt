@@ -4,6 +4,8 @@ use Rattle.std.proofs.lemmas.Bool.{and_parts, cond_both, eqb-true, eqb-false, no
 use Rattle.ops_base.specs.Names.{Spellings}
 use Rattle.ops_base.specs.declared.values.Sym.{Sym}
 use Rattle.ops_base.specs.declared.values.Value.{Value}
+use Rattle.ops_base.specs.declared.values.Pred.{Pred}
+use Rattle.ops_base.specs.declared.values.Pred.TheVariants as pred
 use Rattle.ops_base.specs.Valid.{most_fields, most_conditions}
 use Rattle.ops_tokens.specs.declared.token.Token.{Token}
 use Rattle.ops_tokens.specs.declared.token.TokenKind.{TokenKind}
@@ -13,7 +15,7 @@ use Rattle.ops_meaning.specs.declared.words.Word.{Word}
 use Rattle.ops_meaning.specs.declared.words.Keyword.{Keyword}
 use Rattle.ops_meaning.specs.declared.words.Keyword.TheVariants as keyword
 use Rattle.ops_meaning.specs.Words.{keyword_of, names_with, word_of, words_from}
-use Rattle.ops_meaning.specs.Grammar.{Use, InPattern, InPut, InFixed, Wanted, Forms, Form, ClassDeclared, Attributes, RuleName, FirstPattern, Patterns, ClassName, Terms, Attribute, ValueFor, Actions, ActionWord, Cell, Cells, Items, ItemWord, Closes, State, Step, Next, Refuses, Outcome, is_left, is_right, is_caret, is_name, is_variable, is_arrow, is_crlf, constant_of, natural_of, is_one_of, number_of, may_declare, is_class, is_rule, form, class_at, attributes_of, field_at, variable_for, put_variable, value_for, action_word, cell_of, cell, item_variable, item_value, step, ends, after, goes}
+use Rattle.ops_meaning.specs.Grammar.{Use, InPattern, InPut, InFixed, Target, ToTest, ToPut, ToFixed, ToItem, Wanted, Forms, Form, ClassDeclared, Attributes, RuleName, FirstPattern, Patterns, ClassName, Terms, Attribute, Place, Tests, Tested, Choice, Atom, ValueFor, Actions, ActionWord, Cell, Cells, Items, ItemWord, Closes, State, Step, Next, Refuses, Outcome, is_left, is_right, is_left_brace, is_right_brace, is_caret, is_name, is_variable, is_arrow, is_crlf, is_literal, opens_choice, closes_choice, pred_of, constant_of, value_of, atom_of, natural_of, is_one_of, number_of, may_declare, is_class, is_rule, form, class_at, attributes_of, field_at, variable_tested, constant_tested, tested, predicated, test, chosen, atom_at, bound_at, constant_at, value_for, action_word, cell_of, cell, step, ends, after, goes}
 use Rattle.ops_forms.specs.Forms.{open_behind, is_last, closes_last, stays_open, opens}
 
 -- ---- what is owed
@@ -70,7 +72,12 @@ in_form_owes (FirstPattern ∷ ws) i h = let p = and_parts (in_form ws) (stands 
 in_form_owes (Patterns ∷ ws) i h = let p = and_parts (in_form ws) (stands ws) h in in_form_owes ws p.0 p.1
 in_form_owes (ClassName ∷ ws) i h = let p = and_parts (in_form ws) (stands ws) h in in_form_owes ws p.0 p.1
 in_form_owes (Attribute u ∷ ws) i h = let p = and_parts (in_form ws) (stands ws) h in in_form_owes ws p.0 p.1
-in_form_owes (ValueFor u f ∷ ws) i h = let p = and_parts (in_form ws) (stands ws) h in in_form_owes ws p.0 p.1
+in_form_owes (Place f ∷ ws) i h = let p = and_parts (in_form ws) (stands ws) h in in_form_owes ws p.0 p.1
+in_form_owes (Tests f ∷ ws) i h = let p = and_parts (in_form ws) (stands ws) h in in_form_owes ws p.0 p.1
+in_form_owes (Tested f x ∷ ws) i h = let p = and_parts (in_form ws) (stands ws) h in in_form_owes ws p.0 p.1
+in_form_owes (Choice f ∷ ws) i h = let p = and_parts (in_form ws) (stands ws) h in in_form_owes ws p.0 p.1
+in_form_owes (Atom t ∷ ws) i h = let p = and_parts (in_form ws) (stands ws) h in in_form_owes ws p.0 p.1
+in_form_owes (ValueFor t ∷ ws) i h = let p = and_parts (in_form ws) (stands ws) h in in_form_owes ws p.0 p.1
 in_form_owes (Cell ∷ ws) i h = let p = and_parts (in_form ws) (stands ws) h in in_form_owes ws p.0 p.1
 
 -- ---- brackets by kinds
@@ -87,6 +94,14 @@ caret_keeps : (k : TokenKind) (n : ℕ) → is_caret k ≡ true → open_behind 
 caret_keeps kind.Caret n e = refl
 caret_keeps _ n e = absurd (true≢false (sym e))
 
+left_brace_keeps : (k : TokenKind) (n : ℕ) → is_left_brace k ≡ true → open_behind n k ≡ n
+left_brace_keeps kind.LeftBrace n e = refl
+left_brace_keeps _ n e = absurd (true≢false (sym e))
+
+right_brace_keeps : (k : TokenKind) (n : ℕ) → is_right_brace k ≡ true → open_behind n k ≡ n
+right_brace_keeps kind.RightBrace n e = refl
+right_brace_keeps _ n e = absurd (true≢false (sym e))
+
 name_keeps : (k : TokenKind) (n : ℕ) → is_name k ≡ true → open_behind n k ≡ n
 name_keeps kind.Symbol n e = refl
 name_keeps kind.Quoted n e = refl
@@ -101,6 +116,39 @@ constant_keeps (kind.Whole z) name v n e = refl
 constant_keeps kind.Symbol name v n e = refl
 constant_keeps kind.Quoted name v n e = refl
 constant_keeps _ name v n e = absurd (cc)
+
+atom_keeps : (k : TokenKind) (name : Sym) (v : Value) (n : ℕ) → atom_of k name ≡ Some v → open_behind n k ≡ n
+atom_keeps (kind.Whole z) name v n e = refl
+atom_keeps kind.Symbol name v n e = refl
+atom_keeps kind.Quoted name v n e = refl
+atom_keeps kind.Operator name v n e = refl
+atom_keeps kind.Variable name v n e = refl
+atom_keeps _ name v n e = absurd (cc)
+
+value_keeps : (k : TokenKind) (name : Sym) (v : Value) (n : ℕ) → value_of k name ≡ Some v → open_behind n k ≡ n
+value_keeps (kind.Whole z) name v n e = refl
+value_keeps kind.Symbol name v n e = refl
+value_keeps kind.Quoted name v n e = refl
+value_keeps kind.Operator name v n e = refl
+value_keeps _ name v n e = absurd (cc)
+
+-- ---- keywords that are there
+
+literal_known : (k : Keyword) → is_literal k ≡ true → k ≡ keyword.Other → ⊥
+literal_known keyword.Literal e o = absurd (cc)
+literal_known _ e o = absurd (true≢false (sym e))
+
+opening_known : (k : Keyword) → opens_choice k ≡ true → k ≡ keyword.Other → ⊥
+opening_known keyword.OpenChoice e o = absurd (cc)
+opening_known _ e o = absurd (true≢false (sym e))
+
+closing_known : (k : Keyword) → closes_choice k ≡ true → k ≡ keyword.Other → ⊥
+closing_known keyword.CloseChoice e o = absurd (cc)
+closing_known _ e o = absurd (true≢false (sym e))
+
+pred_known : (k : Keyword) (p : Pred) → pred_of k ≡ Some p → k ≡ keyword.Other → ⊥
+pred_known keyword.Other p e o = absurd (cc)
+pred_known _ p e o = absurd (cc)
 
 keyword_keeps : (k : TokenKind) (s : List ℕ) (n : ℕ) → (keyword_of k s ≡ keyword.Other → ⊥) → open_behind n k ≡ n
 keyword_keeps kind.Symbol s n e = refl
@@ -141,21 +189,60 @@ module _ (w : Word) (quiet : (n : ℕ) → (w.keyword ≡ keyword.Other → ⊥)
   class_at_balanced None ws s e h = tt
 
   field_at_balanced : (u : Use) (o : Option ℕ) (ws : List Wanted) (s : State) → is_name w.kind ≡ true → (in_form ws && stands ws) ≡ true → B ws (field_at u o ws s)
-  field_at_balanced u (Some f) ws s e h = (h, named ws e)
+  field_at_balanced InPattern (Some f) ws s e h = (h, named ws e)
+  field_at_balanced InPut (Some f) ws s e h = (h, named ws e)
+  field_at_balanced InFixed (Some f) ws s e h = (h, named ws e)
   field_at_balanced u None ws s e h = tt
 
-  put_variable_balanced : (f : ℕ) (o : Option ℕ) (ws : List Wanted) (s : State) → is_variable w.kind ≡ true → stands ws ≡ true → B ws (put_variable f o ws s)
-  put_variable_balanced f (Some n) ws s e h = (h, sym (variable_keeps w.kind (owed ws) e))
-  put_variable_balanced f None ws s e h = tt
+  -- ---- tests and values
 
-  variable_balanced : (u : Use) (f : ℕ) (o : Option ℕ) (ws : List Wanted) (s : State) → is_variable w.kind ≡ true → stands ws ≡ true → B ws (variable_for u f o w.name ws s)
-  variable_balanced InPattern f o ws s e h = (h, sym (variable_keeps w.kind (owed ws) e))
-  variable_balanced InPut f o ws s e h = put_variable_balanced f o ws s e h
-  variable_balanced InFixed f o ws s e h = tt
+  variable_tested_balanced : (f : ℕ) (p : Pred) (o : Option ℕ) (ws : List Wanted) (s : State) → is_variable w.kind ≡ true → stands ws ≡ true → B ws (variable_tested f p o w.name ws s)
+  variable_tested_balanced f p (Some n) ws s e h = (h, sym (variable_keeps w.kind (owed ws) e))
+  variable_tested_balanced f pred.Eq None ws s e h = (h, sym (variable_keeps w.kind (owed ws) e))
+  variable_tested_balanced f _ None ws s e h = tt
 
-  value_balanced : (u : Use) (f : ℕ) (o : Option Value) (ws : List Wanted) (s : State) → constant_of w.kind w.name ≡ o → stands ws ≡ true → B ws (value_for u f w o ws s)
-  value_balanced u f (Some v) ws s e h = (h, sym (constant_keeps w.kind w.name v (owed ws) e))
-  value_balanced u f None ws s e h = cond_both (is_variable w.kind) _ _ (B ws) (λ is. variable_balanced u f (number_of w.name s.values) ws s is h) (λ _. tt)
+  constant_tested_balanced : (f : ℕ) (p : Pred) (o : Option Value) (ws : List Wanted) (s : State) → constant_of w.kind w.name ≡ o → stands ws ≡ true → B ws (constant_tested f p w o ws s)
+  constant_tested_balanced f p (Some v) ws s e h = (h, sym (constant_keeps w.kind w.name v (owed ws) e))
+  constant_tested_balanced f p None ws s e h =
+      cond_both (is_variable w.kind) _ _ (B ws) (λ is. variable_tested_balanced f p (number_of w.name s.values) ws s is h) (λ _. tt)
+
+  tested_balanced : (f : ℕ) (p : Pred) (ws : List Wanted) (s : State) → (in_form ws && stands ws) ≡ true → B ws (tested f p w ws s)
+  tested_balanced f p ws s h =
+      cond_both (is_literal w.keyword) _ _ (B ws) (λ e. (h, sym (quiet (owed ws) (literal_known w.keyword e))))
+      (λ _. constant_tested_balanced f p (constant_of w.kind w.name) ws s refl (and_parts (in_form ws) (stands ws) h).1)
+
+  predicated_balanced : (f : ℕ) (o : Option Pred) (ws : List Wanted) (s : State) → pred_of w.keyword ≡ o → (in_form ws && stands ws) ≡ true → B ws (predicated f w o ws s)
+  predicated_balanced f (Some p) ws s e h = (h, sym (quiet (owed ws) (pred_known w.keyword p e)))
+  predicated_balanced f None ws s e h = tested_balanced f pred.Eq ws s h
+
+  test_balanced : (f : ℕ) (ws : List Wanted) (s : State) → (in_form ws && stands ws) ≡ true → B ws (test f w ws s)
+  test_balanced f ws s h =
+      cond_both (opens_choice w.keyword) _ _ (B ws) (λ e. (h, sym (quiet (owed ws) (opening_known w.keyword e))))
+      (λ _. predicated_balanced f (pred_of w.keyword) ws s refl h)
+
+  chosen_balanced : (f : ℕ) (o : Option Value) (ws : List Wanted) (s : State) → atom_of w.kind w.name ≡ o → stands ws ≡ true → B ws (chosen o ws s)
+  chosen_balanced f (Some v) ws s e h = (h, sym (atom_keeps w.kind w.name v (owed ws) e))
+  chosen_balanced f None ws s e h = tt
+
+  atom_balanced : (t : Target) (o : Option Value) (ws : List Wanted) (s : State) → atom_of w.kind w.name ≡ o → stands ws ≡ true → B ws (atom_at t o ws s)
+  atom_balanced t (Some v) ws s e h = (h, sym (atom_keeps w.kind w.name v (owed ws) e))
+  atom_balanced t None ws s e h = tt
+
+  bound_balanced : (t : Target) (o : Option ℕ) (ws : List Wanted) (s : State) → is_variable w.kind ≡ true → stands ws ≡ true → B ws (bound_at t o ws s)
+  bound_balanced (ToPut f) (Some n) ws s e h = (h, sym (variable_keeps w.kind (owed ws) e))
+  bound_balanced ToItem (Some n) ws s e h = (h, sym (variable_keeps w.kind (owed ws) e))
+  bound_balanced (ToTest f p) (Some n) ws s e h = tt
+  bound_balanced (ToFixed f) (Some n) ws s e h = tt
+  bound_balanced t None ws s e h = tt
+
+  constant_balanced : (t : Target) (o : Option Value) (ws : List Wanted) (s : State) → value_of w.kind w.name ≡ o → stands ws ≡ true → B ws (constant_at t w o ws s)
+  constant_balanced t (Some v) ws s e h = (h, sym (value_keeps w.kind w.name v (owed ws) e))
+  constant_balanced t None ws s e h = cond_both (is_variable w.kind) _ _ (B ws) (λ is. bound_balanced t (number_of w.name s.values) ws s is h) (λ _. tt)
+
+  value_balanced : (t : Target) (ws : List Wanted) (s : State) → (in_form ws && stands ws) ≡ true → B ws (value_for t w ws s)
+  value_balanced t ws s h =
+      cond_both (is_literal w.keyword) _ _ (B ws) (λ e. (h, sym (quiet (owed ws) (literal_known w.keyword e))))
+      (λ _. constant_balanced t (value_of w.kind w.name) ws s refl (and_parts (in_form ws) (stands ws) h).1)
 
   cell_of_balanced : (o : Option ℕ) (ws : List Wanted) (s : State) → owed ws ≡ open_behind (owed ws) w.kind → stands ws ≡ true → B ws (cell_of o ws s)
   cell_of_balanced (Some m) ws s e h = cond_both (nat_lt (length s.conditions) m) _ _ (B ws) (λ _. tt) (λ _. (h, e))
@@ -164,14 +251,6 @@ module _ (w : Word) (quiet : (n : ℕ) → (w.keyword ≡ keyword.Other → ⊥)
   cell_balanced : (k : TokenKind) (ws : List Wanted) (s : State) → w.kind ≡ k → stands ws ≡ true → B ws (cell k ws s)
   cell_balanced (kind.Whole z) ws s e h = cell_of_balanced (natural_of z) ws s (ap (open_behind (owed ws)) (sym e)) h
   cell_balanced _ ws s e h = tt
-
-  item_variable_balanced : (o : Option ℕ) (ws : List Wanted) (s : State) → is_variable w.kind ≡ true → stands ws ≡ true → B ws (item_variable o ws s)
-  item_variable_balanced (Some n) ws s e h = (h, sym (variable_keeps w.kind (owed ws) e))
-  item_variable_balanced None ws s e h = tt
-
-  item_balanced : (o : Option Value) (ws : List Wanted) (s : State) → constant_of w.kind w.name ≡ o → stands ws ≡ true → B ws (item_value w o ws s)
-  item_balanced (Some v) ws s e h = (h, sym (constant_keeps w.kind w.name v (owed ws) e))
-  item_balanced None ws s e h = cond_both (is_variable w.kind) _ _ (B ws) (λ is. item_variable_balanced (number_of w.name s.values) ws s is h) (λ _. tt)
 
   -- ---- a step
 
@@ -220,7 +299,17 @@ module _ (w : Word) (quiet : (n : ℕ) → (w.keyword ≡ keyword.Other → ⊥)
   step_balanced (Attribute u ∷ ws) s h =
       cond_both (is_name w.kind) _ _ (B (Attribute u ∷ ws))
       (λ e. field_at_balanced u (position (λ a. a.0 == w.name.0) (attributes_of (slice_get s.classes s.class))) ws s e h) (λ _. tt)
-  step_balanced (ValueFor u f ∷ ws) s h = value_balanced u f (constant_of w.kind w.name) ws s refl (and_parts (in_form ws) (stands ws) h).1
+  step_balanced (Place f ∷ ws) s h =
+      cond_both (is_left_brace w.kind) _ _ (B (Place f ∷ ws)) (λ e. (h, sym (left_brace_keeps w.kind (owed ws) e))) (λ _. test_balanced f ws s h)
+  step_balanced (Tests f ∷ ws) s h =
+      cond_both (is_right_brace w.kind) _ _ (B (Tests f ∷ ws)) (λ e. ((and_parts (in_form ws) (stands ws) h).1, sym (right_brace_keeps w.kind (owed ws) e)))
+      (λ _. test_balanced f (Tests f ∷ ws) s h)
+  step_balanced (Tested f p ∷ ws) s h = tested_balanced f p ws s h
+  step_balanced (Choice f ∷ ws) s h =
+      cond_both (closes_choice w.keyword) _ _ (B (Choice f ∷ ws)) (λ e. ((and_parts (in_form ws) (stands ws) h).1, sym (quiet (owed ws) (closing_known w.keyword e))))
+      (λ _. chosen_balanced f (atom_of w.kind w.name) (Choice f ∷ ws) s refl h)
+  step_balanced (Atom t ∷ ws) s h = atom_balanced t (atom_of w.kind w.name) ws s refl (and_parts (in_form ws) (stands ws) h).1
+  step_balanced (ValueFor t ∷ ws) s h = value_balanced t ws s h
   step_balanced (Actions ∷ ws) s h =
       cond_both (is_right w.kind) _ _ (B (Actions ∷ ws)) (λ e. (h, closed ws e))
       (λ _. cond_both (is_left w.kind) _ _ (B (Actions ∷ ws)) (λ e. (h, opened (Actions ∷ ws) e)) (λ _. tt))
@@ -230,7 +319,7 @@ module _ (w : Word) (quiet : (n : ℕ) → (w.keyword ≡ keyword.Other → ⊥)
       cond_both (is_right w.kind) _ _ (B (Cells ∷ ws)) (λ e. (h, closed ws e)) (λ _. cell_balanced w.kind (Cells ∷ ws) s refl h)
   step_balanced (Items ∷ ws) s h =
       cond_both (is_right w.kind) _ _ (B (Items ∷ ws)) (λ e. (h, closed ws e))
-      (λ _. cond_both (is_left w.kind) _ _ (B (Items ∷ ws)) (λ e. (h, opened (Items ∷ ws) e)) (λ _. item_balanced (constant_of w.kind w.name) (Items ∷ ws) s refl h))
+      (λ _. cond_both (is_left w.kind) _ _ (B (Items ∷ ws)) (λ e. (h, opened (Items ∷ ws) e)) (λ _. value_balanced ToItem (Items ∷ ws) s h))
   step_balanced (ItemWord ∷ ws) s h =
       cond_both (is_crlf w.keyword) _ _ (B (ItemWord ∷ ws)) (λ e. (h, sym (quiet (1 + owed ws) (crlf_known w.keyword e)))) (λ _. tt)
   step_balanced (Closes x ∷ ws) s h = cond_both (is_right w.kind) _ _ (B (Closes x ∷ ws)) (λ e. (h, closed ws e)) (λ _. tt)

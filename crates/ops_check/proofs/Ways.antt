@@ -2,7 +2,7 @@
 use Rattle.std.proofs.Common.{◌≡◌, ℕ, true, false, List, [], ◌∷◌, ◌++◌, None, Some, Result, Ok, Err, refl, ◌∙◌, if◌then◌else◌}
 use Rattle.std.specs.Borrow.{Bor}
 use Rattle.ops_meaning.specs.declared.words.Word.{Word}
-use Rattle.ops_meaning.specs.Grammar.{Use, Wanted, Cell, Cells, Items, ItemWord, ValueFor, State, Next, after, step, goes, is_left, is_right, is_variable, constant_of, number_of, variable_for, cell, item_value}
+use Rattle.ops_meaning.specs.Grammar.{Wanted, Cell, Cells, Items, ItemWord, Tests, ToItem, State, Next, after, step, goes, is_left, is_right, is_right_brace, test, value_for, cell}
 use Rattle.ops_check.specs.declared.refusals.Refusal.{Refusal}
 use Rattle.ops_check.specs.declared.refusals.Refusal.TheVariants as refusal
 use Rattle.ops_check.specs.Going.{Way, Fails, Goes}
@@ -35,10 +35,10 @@ pub cells_first : (words rest more : List Word) (w : Word) (ws : List Wanted) (s
 unfolding goes step
 cells_first words rest more w ws s e other = rw (e, other) refl
 
-pub items_first : (words rest more : List Word) (w : Word) (ws : List Wanted) (s : State) → words ≡ w ∷ rest → is_right w.kind ≡ false → goes (words ++ more) (Items ∷ ws) s ≡ after (goes (rest ++ more)) w (if is_left w.kind then Next (ItemWord ∷ Items ∷ ws) s else item_value w (constant_of w.kind w.name) (Items ∷ ws) s)
+pub items_first : (words rest more : List Word) (w : Word) (ws : List Wanted) (s : State) → words ≡ w ∷ rest → is_right w.kind ≡ false → goes (words ++ more) (Items ∷ ws) s ≡ after (goes (rest ++ more)) w (if is_left w.kind then Next (ItemWord ∷ Items ∷ ws) s else value_for ToItem w (Items ∷ ws) s)
 unfolding goes step
 items_first words rest more w ws s e other = rw (e, other) refl
 
-pub variable_first : (u : Use) (f : ℕ) (words rest more : List Word) (w : Word) (ws : List Wanted) (s : State) → words ≡ w ∷ rest → constant_of w.kind w.name ≡ None → is_variable w.kind ≡ true → goes (words ++ more) (ValueFor u f ∷ ws) s ≡ after (goes (rest ++ more)) w (variable_for u f (number_of w.name s.values) w.name ws s)
+pub tests_first : (f : ℕ) (words rest more : List Word) (w : Word) (ws : List Wanted) (s : State) → words ≡ w ∷ rest → is_right_brace w.kind ≡ false → goes (words ++ more) (Tests f ∷ ws) s ≡ after (goes (rest ++ more)) w (test f w (Tests f ∷ ws) s)
 unfolding goes step
-variable_first u f words rest more w ws s e none is = rw (e, none, is) refl
+tests_first f words rest more w ws s e other = rw (e, other) refl

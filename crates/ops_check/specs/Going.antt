@@ -5,10 +5,12 @@ use Rattle.ops_base.specs.declared.endings.Fault.TheVariants as fault
 use Rattle.ops_tokens.specs.declared.token.TokenKind.{TokenKind}
 use Rattle.ops_tokens.specs.declared.token.TokenKind.TheVariants as kind
 use Rattle.ops_meaning.specs.declared.words.Word.{Word}
-use Rattle.ops_meaning.specs.Grammar.{Use, InPattern, InPut, InFixed, Ends, Wanted, Forms, Closes, State, Step, Outcome, after, goes, ended}
+use Rattle.ops_meaning.specs.Grammar.{Use, InPattern, InPut, InFixed, Target as Goal, ToTest, ToPut, ToFixed, ToItem, Ends, Wanted, Forms, Closes, State, Step, Outcome, after, goes, ended}
 use Rattle.ops_check.specs.declared.draft.Draft.{Draft}
 use Rattle.ops_check.specs.declared.draft.Place.{Place}
 use Rattle.ops_check.specs.declared.draft.Place.TheVariants as place
+use Rattle.ops_check.specs.declared.draft.Target.{Target}
+use Rattle.ops_check.specs.declared.draft.Target.TheVariants as target
 use Rattle.ops_check.specs.declared.refusals.Refusal.{Refusal}
 use Rattle.ops_check.specs.declared.refusals.Refusal.TheVariants as refusal
 
@@ -24,6 +26,7 @@ view d =
       attrs = d.attrs.items;
       class = d.class;
       tests = d.tests.items;
+      choice = d.choice.items;
       puts = d.puts.items;
       fixed = d.fixed.items;
       cells = d.cells.items;
@@ -37,6 +40,12 @@ abbrev pub use_of : Place → Use
 use_of place.Pattern = InPattern
 use_of place.Put = InPut
 use_of place.Fixed = InFixed
+
+abbrev pub target_of : Target → Goal
+target_of (target.Test f p) = ToTest f p
+target_of (target.Put f) = ToPut f
+target_of (target.Fixed f) = ToFixed f
+target_of target.Item = ToItem
 
 -- the value of a whole number
 abbrev pub whole_of : TokenKind → Option ℤ

@@ -1,8 +1,8 @@
 //! What was read so far of a program, and how it grows.
 ghost use Rattle.std.specs.Prelude.{◌≡◌, ◌+◌, ◌==◌, not, count_by, position, SomeIff, ◌<◌, ◌^◌, slice_get};
 ghost use Rattle.ops_base.specs.Valid.{specificity};
-ghost use Rattle.ops_meaning.specs.Grammar.{nothing_read, is_class, is_rule, is_one_of, may_declare, with_class, with_test, with_variable, with_put, with_fixed, with_constant, with_element, with_action, with_command, with_rule, with_remove, with_write, with_item, number_of, attributes_of, InPattern, InPut, InFixed};
-ghost use Rattle.ops_check.specs.Going.{view, use_of, Becomes};
+ghost use Rattle.ops_meaning.specs.Grammar.{nothing_read, is_class, is_rule, is_one_of, may_declare, with_class, with_test, with_bound, with_choice, with_put, with_fixed, with_constant, with_element, with_action, with_command, with_rule, with_remove, with_write, with_item, number_of, attributes_of, InPattern, InPut, InFixed};
+ghost use Rattle.ops_check.specs.Going.{view, use_of, target_of, Becomes};
 
 use crate::refusals::Refusal;
 use ops_base::actions::{Action, Item, Put, Term};
@@ -25,6 +25,15 @@ pub enum Place {
     Fixed,
 }
 
+/// Where a constant goes: into a test, a value of an action or of a command `make`, or an item of `write`.
+#[derive(Clone, Copy, Debug, PartialEq, Eq)]
+pub enum Target {
+    Test { field: usize, pred: Pred },
+    Put { field: usize },
+    Fixed { field: usize },
+    Item,
+}
+
 /// The classes, rules and commands that were read, and the parts of the form that is being read.
 #[derive(Drop)]
 pub struct Draft {
@@ -36,6 +45,7 @@ pub struct Draft {
     pub attrs: Vec<Sym>,
     pub class: usize,
     pub tests: Vec<Test>,
+    pub choice: Vec<Value>,
     pub puts: Vec<Put>,
     pub fixed: Vec<Fixed>,
     pub cells: Vec<usize>,
@@ -59,6 +69,7 @@ impl Draft {
             attrs: Vec::new(alloc),
             class: 0,
             tests: Vec::new(alloc),
+            choice: Vec::new(alloc),
             puts: Vec::new(alloc),
             fixed: Vec::new(alloc),
             cells: Vec::new(alloc),
@@ -116,12 +127,18 @@ impl Draft {
         Ok(())
     }
 
-    fn add_test(&mut self, field: usize, operand: Operand, binds: bool) -> Result<(), Refusal>
-        ensures { Becomes (view self.new) (with_test (view self.old) field operand binds) result }
+    pub fn add_test(
+        &mut self,
+        field: usize,
+        pred: Pred,
+        operand: Operand,
+        binds: bool,
+    ) -> Result<(), Refusal>
+        ensures { Becomes (view self.new) (with_test (view self.old) field pred operand binds) result }
     {
         self.tests.push(Test {
             field,
-            pred: Pred::Eq,
+            pred,
             operand,
             binds,
         })?;
@@ -178,25 +195,33 @@ impl Draft {
     }
 
     // the first place of a variable binds it
-    pub fn add_variable(&mut self, field: usize, name: Sym) -> Result<(), Refusal>
-        ensures { Becomes (view self.new) (with_variable (view self.old) field name (number_of name (view self.old).values)) result }
+    pub fn add_bound(&mut self, field: usize, name: Sym) -> Result<(), Refusal>
+        ensures { Becomes (view self.new) (with_bound (view self.old) field name) result }
     {
-        if let Some(number) = self.number_of(name) {
-            return self.add_test(field, Operand::Variable(number), false);
-        }
         let number = self.values.len();
         self.values.push(Named { name, number })?;
-        self.add_test(field, Operand::Variable(number), true)
+        self.add_test(field, Pred::Eq, Operand::Variable(number), true)
     }
 
-    pub fn add_constant(&mut self, place: Place, field: usize, value: Value) -> Result<(), Refusal>
-        ensures { Becomes (view self.new) (with_constant (use_of place) (view self.old) field value) result }
+    pub fn add_constant(&mut self, target: Target, value: Value) -> Result<(), Refusal>
+        ensures { Becomes (view self.new) (with_constant (target_of target) (view self.old) value) result }
     {
-        match place {
-            Place::Pattern => self.add_test(field, Operand::Constant(value), false),
-            Place::Put => self.add_put(field, Term::Constant(value)),
-            Place::Fixed => self.add_fixed(field, value),
+        match target {
+            Target::Test { field, pred } => {
+                self.add_test(field, pred, Operand::Constant(value), false)
+            }
+            Target::Put { field } => self.add_put(field, Term::Constant(value)),
+            Target::Fixed { field } => self.add_fixed(field, value),
+            Target::Item => self.add_item(Item::Print(Term::Constant(value))),
         }
+    }
+
+    pub fn end_choice(&mut self, field: usize) -> Result<(), Refusal>
+        ensures { Becomes (view self.new) (with_choice (view self.old) field) result }
+    {
+        let none = Vec::new(self.alloc);
+        let values = Listed::from_vec(mem::replace(&mut self.choice, none));
+        self.add_test(field, Pred::Eq, Operand::OneOf(values), false)
     }
 
     // the field of an attribute of the class that was named

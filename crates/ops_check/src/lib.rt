@@ -11,8 +11,10 @@ pub mod laws;
 mod productions;
 mod program;
 mod refusals;
+mod testing;
 #[cfg(test)]
 mod tests;
+mod values;
 
 pub use faults::{ProgramFault, fault_text};
 pub use program::{LONGEST_TEXT, read_program};

@@ -1,14 +1,12 @@
 //! Productions.
 ghost use Rattle.std.specs.Prelude.{◌≡◌, ◌∷◌, ◌++◌, if◌then◌else◌};
-ghost use Rattle.ops_meaning.specs.Grammar.{goes, cell, item_value, item_variable, number_of, constant_of, is_left, RuleName, FirstPattern, Patterns, Actions, ActionWord, Cell, Cells, Items, ItemWord, Closes, EndsHalt, EndsCrlf, Next};
+ghost use Rattle.ops_meaning.specs.Grammar.{goes, cell, value_for, is_left, ToItem, RuleName, FirstPattern, Patterns, Actions, ActionWord, Cell, Cells, Items, ItemWord, Closes, EndsHalt, EndsCrlf, Next};
 ghost use Rattle.ops_check.specs.Going.{view, Goes, Reads, Acts, IsWithin};
 
-use crate::draft::{Draft, Place};
-use crate::kinds::{
-    constant_of, is_arrow, is_crlf, is_left, is_name, is_right, is_variable, natural_of, whole_of,
-};
+use crate::draft::{Draft, Place, Target};
+use crate::kinds::{is_arrow, is_crlf, is_left, is_name, is_right, natural_of, whole_of};
 use crate::refusals::{Refusal, closing, first_of, refused};
-use ops_base::actions::{Action, Item, Term};
+use ops_base::actions::{Action, Item};
 use ops_base::endings::{Fault, Limit};
 use ops_meaning::{Keyword, Word};
 
@@ -244,41 +242,15 @@ impl Draft {
         }
     }
 
-    // ( crlf ) | WHOLE | NAME | VARIABLE, of which the first word is taken
+    // ( crlf ) | value, of which the first word is taken
     fn item<'a>(&mut self, word: Word, rest: &'a [Word]) -> Result<&'a [Word], Refusal>
-        ensures acts { Acts (λ ws s. if is_left word.kind then Next (ItemWord ∷ ws) s else item_value word (constant_of word.kind word.name) ws s) word (view self.old) (view self.new) rest.now result }
+        ensures acts { Acts (λ ws s. if is_left word.kind then Next (ItemWord ∷ ws) s else value_for ToItem word ws s) word (view self.old) (view self.new) rest.now result }
         ensures within { IsWithin rest.now result }
     {
         if is_left(word.kind) {
             return self.item_word(rest);
         }
-        self.item_value(word, rest)
-    }
-
-    fn item_value<'a>(&mut self, word: Word, rest: &'a [Word]) -> Result<&'a [Word], Refusal>
-        ensures acts { Acts (λ ws s. item_value word (constant_of word.kind word.name) ws s) word (view self.old) (view self.new) rest.now result }
-        ensures within { IsWithin rest.now result }
-    {
-        if let Some(constant) = constant_of(word.kind, word.name) {
-            self.add_item(Item::Print(Term::Constant(constant)))?;
-            return Ok(rest);
-        }
-        if !is_variable(word.kind) {
-            return refused(Fault::BadForm, word);
-        }
-        self.item_variable(word, rest)
-    }
-
-    // a variable, which a condition must bind
-    fn item_variable<'a>(&mut self, word: Word, rest: &'a [Word]) -> Result<&'a [Word], Refusal>
-        ensures acts { Acts (λ ws s. item_variable (number_of word.name s.values) ws s) word (view self.old) (view self.new) rest.now result }
-        ensures within { IsWithin rest.now result }
-    {
-        let Some(number) = self.number_of(word.name) else {
-            return refused(Fault::UnboundVariable, word);
-        };
-        self.add_item(Item::Print(Term::Variable(number)))?;
-        Ok(rest)
+        self.value(Target::Item, word, rest)
     }
 
     // crlf )

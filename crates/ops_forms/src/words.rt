@@ -60,7 +60,7 @@ fn has_name(kind: TokenKind) -> bool
     ensures { result ≡ has_name kind }
 {
     match kind {
-        TokenKind::Symbol | TokenKind::Quoted | TokenKind::Variable => true,
+        TokenKind::Symbol | TokenKind::Quoted | TokenKind::Variable | TokenKind::Operator => true,
         _ => false,
     }
 }
@@ -70,8 +70,38 @@ fn keyword_of(kind: TokenKind, spelling: &[u8]) -> Keyword
 {
     match kind {
         TokenKind::Symbol => keyword_of_symbol(spelling),
-        TokenKind::Operator if is(spelling, b"-->") => Keyword::Arrow,
+        TokenKind::Operator => keyword_of_operator(spelling),
         _ => Keyword::Other,
+    }
+}
+
+fn keyword_of_operator(spelling: &[u8]) -> Keyword
+    ensures { result ≡ keyword_of_operator spelling.now }
+{
+    if is(spelling, b"-->") {
+        Keyword::Arrow
+    } else if is(spelling, b"=") {
+        Keyword::Equal
+    } else if is(spelling, b"<>") {
+        Keyword::NotEqual
+    } else if is(spelling, b"<") {
+        Keyword::Less
+    } else if is(spelling, b"<=") {
+        Keyword::AtMost
+    } else if is(spelling, b">") {
+        Keyword::Greater
+    } else if is(spelling, b">=") {
+        Keyword::AtLeast
+    } else if is(spelling, b"<=>") {
+        Keyword::SameKind
+    } else if is(spelling, b"<<") {
+        Keyword::OpenChoice
+    } else if is(spelling, b">>") {
+        Keyword::CloseChoice
+    } else if is(spelling, b"//") {
+        Keyword::Literal
+    } else {
+        Keyword::Other
     }
 }
 

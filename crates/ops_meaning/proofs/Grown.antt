@@ -5,6 +5,7 @@ use Rattle.std.proofs.lemmas.Bool.{and_parts, and_from, or_left, or_right, eq-eq
 use Rattle.std.proofs.lemmas.List.{map-append}
 use Rattle.ops_base.specs.declared.values.Sym.{Sym}
 use Rattle.ops_base.specs.declared.values.Value.{Value}
+use Rattle.ops_base.specs.declared.values.Pred.{Pred}
 use Rattle.ops_base.specs.declared.values.Pred.TheVariants as pred
 use Rattle.ops_base.specs.declared.elements.Class.{Class}
 use Rattle.ops_base.specs.declared.conditions.Operand.{Operand}
@@ -86,9 +87,9 @@ module _ (text : ℕ) (classes : List Class) (rules : List Rule) (commands : Lis
         below = below;
       }
 
-  pub test_kept : (values : List Named) (conditions : List Condition) (tests : List Test) (f : ℕ) (o : Operand) → IsHead text classes rules commands name values conditions tests
-      → IsHead text classes rules commands name values conditions (tests ++ record { field = f; pred = pred.Eq; operand = o; binds = false } ∷ [])
-  test_kept values conditions tests f o h = test_added values values conditions tests _ h refl h.below
+  pub test_kept : (values : List Named) (conditions : List Condition) (tests : List Test) (f : ℕ) (p : Pred) (o : Operand) → IsHead text classes rules commands name values conditions tests
+      → IsHead text classes rules commands name values conditions (tests ++ record { field = f; pred = p; operand = o; binds = false } ∷ [])
+  test_kept values conditions tests f p o h = test_added values values conditions tests _ h refl h.below
 
   pub test_bound : (values : List Named) (conditions : List Condition) (tests : List Test) (f : ℕ) (variable : Sym) → IsHead text classes rules commands name values conditions tests
       → IsHead text classes rules commands name (values ++ record { name = variable; number = length values } ∷ []) conditions (tests ++ record { field = f; pred = pred.Eq; operand = operand.Variable (length values); binds = true } ∷ [])
@@ -97,12 +98,12 @@ module _ (text : ℕ) (classes : List Class) (rules : List Rule) (commands : Lis
       (ap (λ (ns : List ℕ). let s : Sight = record { bound = ns; given = ns } in s) (sym (map-append (λ n. n.number) values (record { name = variable; number = length values } ∷ []))))
       (below_more values variable h.below)
 
-  pub test_valid : (c : Class) (values : List Named) (conditions : List Condition) (tests : List Test) (f : ℕ) (o : Operand) (binds : Bool) → IsHead text classes rules commands name values conditions tests
-      → tests_are_valid c (sight_after_conditions nothing_in_sight conditions) tests ≡ true → is_attribute c f ≡ true → operand_is_valid (sight_of values) pred.Eq binds o ≡ true
-      → tests_are_valid c (sight_after_conditions nothing_in_sight conditions) (tests ++ record { field = f; pred = pred.Eq; operand = o; binds = binds } ∷ []) ≡ true
-  test_valid c values conditions tests f o binds h fields attribute valid =
+  pub test_valid : (c : Class) (values : List Named) (conditions : List Condition) (tests : List Test) (f : ℕ) (p : Pred) (o : Operand) (binds : Bool) → IsHead text classes rules commands name values conditions tests
+      → tests_are_valid c (sight_after_conditions nothing_in_sight conditions) tests ≡ true → is_attribute c f ≡ true → operand_is_valid (sight_of values) p binds o ≡ true
+      → tests_are_valid c (sight_after_conditions nothing_in_sight conditions) (tests ++ record { field = f; pred = p; operand = o; binds = binds } ∷ []) ≡ true
+  test_valid c values conditions tests f p o binds h fields attribute valid =
       tests_push c (sight_after_conditions nothing_in_sight conditions) tests _ fields
-      (subst (λ (s : Sight). test_is_valid c s (record { field = f; pred = pred.Eq; operand = o; binds = binds }) ≡ true) (sym h.sight) (and_from _ _ (or_left _ _ attribute) valid))
+      (subst (λ (s : Sight). test_is_valid c s (record { field = f; pred = p; operand = o; binds = binds }) ≡ true) (sym h.sight) (and_from _ _ (or_left _ _ attribute) valid))
 
   pub condition_added : (class : ℕ) (values : List Named) (conditions : List Condition) (tests : List Test) → IsHead text classes rules commands name values conditions tests → length conditions < most_conditions → class < length classes → fits tests ≡ true
       → tests_are_valid (class_of classes class) (sight_after_conditions nothing_in_sight conditions) tests ≡ true

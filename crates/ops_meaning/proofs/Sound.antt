@@ -1,7 +1,8 @@
 -- What holds of what was read so far, for each thing that may be wanted next.
-use Rattle.std.proofs.Common.{◌≡◌, ℕ, ◌<◌, ◌≤◌, true, false, not, ◌==◌, List, [], ◌∷◌, length, map, nat_lt}
+use Rattle.std.proofs.Common.{◌≡◌, ℕ, ◌<◌, ◌≤◌, Bool, true, false, not, ◌==◌, List, [], ◌∷◌, length, map, nat_lt}
 use Rattle.std.specs.List.{list_all, list_any}
 use Rattle.ops_base.specs.declared.values.Sym.{Sym}
+use Rattle.ops_base.specs.declared.values.Pred.{Pred}
 use Rattle.ops_base.specs.declared.elements.Class.{Class}
 use Rattle.ops_base.specs.declared.conditions.Test.{Test}
 use Rattle.ops_base.specs.declared.conditions.Condition.{Condition}
@@ -10,13 +11,13 @@ use Rattle.ops_base.specs.declared.rules.Rule.{Rule}
 use Rattle.ops_base.specs.declared.commands.Command.{Command}
 use Rattle.ops_base.specs.Valid.{most_fields, most_conditions, are_distinct, class_of, class_is_valid, is_attribute, Sight, tests_are_valid, sight_after_tests, conditions_are_valid, sight_after_conditions, nothing_in_sight, first_is_positive, known_of, is_cell, Known, known_after_actions, put_is_valid, item_is_valid, actions_are_valid, rule_is_valid, fixed_is_valid, command_is_valid}
 use Rattle.ops_meaning.specs.declared.words.Named.{Named}
-use Rattle.ops_meaning.specs.Grammar.{Use, InPattern, InPut, InFixed, EndsRun, EndsHalt, EndsCrlf, Wanted, Forms, Form, ClassDeclared, Attributes, RuleName, FirstPattern, Patterns, ClassName, Terms, Attribute, ValueFor, Actions, ActionWord, Cell, Cells, Items, ItemWord, Closes, State, Step, Next, Refuses}
+use Rattle.ops_meaning.specs.Grammar.{Use, InPattern, InPut, InFixed, ToTest, ToPut, ToFixed, ToItem, EndsRun, EndsHalt, EndsCrlf, Wanted, Forms, Form, ClassDeclared, Attributes, RuleName, FirstPattern, Patterns, ClassName, Terms, Attribute, Place, Tests, Tested, Choice, Atom, ValueFor, Actions, ActionWord, Cell, Cells, Items, ItemWord, Closes, State, Step, Next, Refuses}
 
 -- the form that is read began before the place, and no list is longer than the place
 abbrev pub IsShort : ℕ → State → Type 0
 IsShort n s =
     (s.first ≤ n) × (length s.classes ≤ n) × (length s.rules ≤ n) × (length s.commands ≤ n) × (length s.tests ≤ n) × (length s.puts ≤ n)
-    × (length s.fixed ≤ n) × (length s.cells ≤ n) × (length s.items ≤ n) × (length s.actions ≤ n)
+    × (length s.fixed ≤ n) × (length s.cells ≤ n) × (length s.items ≤ n) × (length s.actions ≤ n) × (length s.choice ≤ n)
 
 -- the forms that were read
 pub record IsProgram (text : ℕ) (classes : List Class) (rules : List Rule) (commands : List Command) : Type 0 where
@@ -109,6 +110,15 @@ behind InPattern = Patterns ∷ Actions ∷ Forms ∷ []
 behind InPut = Actions ∷ Forms ∷ []
 behind InFixed = Forms ∷ []
 
+-- what is wanted behind a test: more tests of a conjunction, or more attributes
+abbrev pub behind_test : ℕ → Bool → List Wanted
+behind_test f true = Tests f ∷ Terms InPattern ∷ behind InPattern
+behind_test f false = Terms InPattern ∷ behind InPattern
+
+-- an element that is read up to a value for this field
+abbrev pub AtField : Use → ℕ → State → ℕ → Type 0
+AtField u text s f = IsElement u text s × (is_attribute (class_of s.classes s.class) f ≡ true)
+
 -- what may be wanted, and what then holds
 pub data IsRead (text : ℕ) (s : State) : List Wanted → Type 0 where
   at_forms : (Program text s) → IsRead text s (Forms ∷ [])
@@ -121,7 +131,16 @@ pub data IsRead (text : ℕ) (s : State) : List Wanted → Type 0 where
   at_class_name : (u : Use) → (Around u text s × IsEmpty u s) → IsRead text s (ClassName ∷ Terms u ∷ behind u)
   at_terms : (u : Use) → (IsElement u text s) → IsRead text s (Terms u ∷ behind u)
   at_attribute : (u : Use) → (IsElement u text s) → IsRead text s (Attribute u ∷ Terms u ∷ behind u)
-  at_value : (u : Use) → (f : ℕ) → (IsElement u text s × (is_attribute (class_of s.classes s.class) f ≡ true)) → IsRead text s (ValueFor u f ∷ Terms u ∷ behind u)
+  at_place : (f : ℕ) → AtField InPattern text s f → IsRead text s (Place f ∷ Terms InPattern ∷ behind InPattern)
+  at_tests : (f : ℕ) → AtField InPattern text s f → IsRead text s (Tests f ∷ Terms InPattern ∷ behind InPattern)
+  at_tested : (f : ℕ) → (p : Pred) → (among : Bool) → AtField InPattern text s f → IsRead text s (Tested f p ∷ behind_test f among)
+  at_choice : (f : ℕ) → (among : Bool) → AtField InPattern text s f → IsRead text s (Choice f ∷ behind_test f among)
+  at_test_atom : (f : ℕ) → (p : Pred) → (among : Bool) → AtField InPattern text s f → IsRead text s (Atom (ToTest f p) ∷ behind_test f among)
+  at_put_value : (f : ℕ) → AtField InPut text s f → IsRead text s (ValueFor (ToPut f) ∷ Terms InPut ∷ behind InPut)
+  at_put_atom : (f : ℕ) → AtField InPut text s f → IsRead text s (Atom (ToPut f) ∷ Terms InPut ∷ behind InPut)
+  at_fixed_value : (f : ℕ) → AtField InFixed text s f → IsRead text s (ValueFor (ToFixed f) ∷ Terms InFixed ∷ behind InFixed)
+  at_fixed_atom : (f : ℕ) → AtField InFixed text s f → IsRead text s (Atom (ToFixed f) ∷ Terms InFixed ∷ behind InFixed)
+  at_item_atom : (Body text s × (list_all (item_is_valid s.classes (known s.conditions s.actions)) s.items ≡ true)) → IsRead text s (Atom ToItem ∷ Items ∷ Actions ∷ Forms ∷ [])
   at_actions : (Body text s) → IsRead text s (Actions ∷ Forms ∷ [])
   at_action_word : (Body text s) → IsRead text s (ActionWord ∷ Actions ∷ Forms ∷ [])
   at_cell : (Body text s × (list_all (is_cell (known s.conditions s.actions)) s.cells ≡ true)) → IsRead text s (Cell ∷ Cells ∷ Actions ∷ Forms ∷ [])

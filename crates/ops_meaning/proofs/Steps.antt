@@ -1,10 +1,13 @@
 -- Each word leads from what is sound to what is sound.
-use Rattle.std.proofs.Common.{◌≡◌, ℕ, ◌-◌, ◌<◌, ◌≤◌, Bool, true, false, ◌==◌, List, [], ◌∷◌, ◌++◌, length, refl, sym, ap, subst, ◌∙◌, arith, Option, Some, None, nat_lt, length-append, unwrap_or, true≢false, slice_get, position, get_or}
+use Rattle.std.proofs.Common.{◌≡◌, ℕ, ◌-◌, ◌<◌, ◌≤◌, Bool, true, false, ◌==◌, List, [], ◌∷◌, ◌++◌, length, refl, sym, ap, subst, ◌∙◌, arith, Option, Some, None, nat_lt, length-append, unwrap_or, true≢false, slice_get, position, get_or, nat_le}
 use Rattle.std.specs.List.{list_all}
-use Rattle.std.proofs.lemmas.Bool.{and_parts, and_from, cond_both, eqb-true, lt-ltb, ltb-true, ltb-false, not_from_false}
+use Rattle.std.proofs.lemmas.Bool.{and_parts, and_from, cond_both, eqb-true, lt-ltb, le-leb, ltb-true, ltb-false, not_from_false}
 use Rattle.std.proofs.lemmas.List.Quantifiers.{position-Some}
 use Rattle.std.proofs.lemmas.Option.{slice_get-get_or}
 use Rattle.ops_base.specs.declared.values.Value.{Value}
+use Rattle.ops_base.specs.declared.values.Pred.{Pred}
+use Rattle.ops_base.specs.declared.values.Pred.TheVariants as pred
+use Rattle.ops_base.specs.declared.conditions.Operand.{Operand}
 use Rattle.ops_base.specs.declared.elements.Class.{Class}
 use Rattle.ops_base.specs.declared.conditions.Operand.TheVariants as operand
 use Rattle.ops_base.specs.declared.conditions.Test.{Test}
@@ -20,15 +23,15 @@ use Rattle.ops_base.specs.declared.rules.Rule.{Rule}
 use Rattle.ops_base.specs.declared.commands.Fixed.{Fixed}
 use Rattle.ops_base.specs.declared.commands.Command.{Command}
 use Rattle.ops_base.specs.declared.commands.Command.TheVariants as command
-use Rattle.ops_base.specs.Valid.{longest_list, most_fields, most_conditions, is_in, no_class, class_of, specificity, term_is_valid, is_attribute, is_cell, first_is_positive, tests_are_valid, sight_after_conditions, nothing_in_sight, put_is_valid, item_is_valid, fixed_is_valid}
+use Rattle.ops_base.specs.Valid.{longest_list, most_fields, most_conditions, is_in, no_class, class_of, specificity, term_is_valid, is_attribute, is_cell, first_is_positive, operand_is_valid, tests_are_valid, sight_after_conditions, nothing_in_sight, put_is_valid, item_is_valid, fixed_is_valid}
 use Rattle.ops_tokens.specs.declared.token.TokenKind.{TokenKind}
 use Rattle.ops_tokens.specs.declared.token.TokenKind.TheVariants as kind
 use Rattle.ops_meaning.specs.declared.words.Word.{Word}
 use Rattle.ops_meaning.specs.declared.words.Keyword.{Keyword}
 use Rattle.ops_meaning.specs.declared.words.Keyword.TheVariants as keyword
-use Rattle.ops_meaning.specs.Grammar.{Use, InPattern, InPut, InFixed, EndsRun, EndsHalt, EndsCrlf, Wanted, Forms, Attributes, FirstPattern, Patterns, Terms, Actions, Cells, Items, State, Next, is_left, is_right, is_caret, is_name, is_variable, is_arrow, is_crlf, constant_of, natural_of, is_one_of, number_of, may_declare, is_class, is_rule, form, class_declared, attribute_declared, attributes, class_at, class_name, attributes_of, field_at, attribute, with_constant, variable_for, with_variable, put_variable, value_for, with_element, terms, rule_name, first_pattern, patterns, actions, action_word, cell_of, cell, cells, item_variable, item_value, items, item_word, closes, forms, step}
+use Rattle.ops_meaning.specs.Grammar.{Use, InPattern, InPut, InFixed, ToTest, ToPut, ToFixed, ToItem, EndsRun, EndsHalt, EndsCrlf, Wanted, Forms, Attributes, FirstPattern, Patterns, Terms, Tests, Tested, Choice, Actions, Cells, Items, State, Next, is_left, is_right, is_left_brace, is_right_brace, is_caret, is_name, is_variable, is_arrow, is_crlf, is_literal, opens_choice, closes_choice, pred_of, constant_of, value_of, atom_of, natural_of, is_one_of, number_of, may_declare, is_class, is_rule, form, class_declared, attribute_declared, attributes, class_at, class_name, attributes_of, behind_attribute, field_at, attribute, with_test, with_bound, with_constant, variable_tested, constant_tested, tested, predicated, test, place, tests, with_choice, chosen, choice, atom_at, bound_at, constant_at, value_for, with_element, terms, rule_name, first_pattern, patterns, actions, action_word, cell_of, cell, cells, items, item_word, closes, forms, step}
 use Rattle.ops_meaning.proofs.Lists.{all_push, not_below}
-use Rattle.ops_meaning.proofs.Sound.{IsShort, IsHead, IsBody, numbers, known, Program, Declaring, IsClass, Head, Body, Around, IsEmpty, IsElement, behind, IsRead, at_forms, at_form, at_class_declared, at_attributes, at_rule_name, at_first_pattern, at_patterns, at_class_name, at_terms, at_attribute, at_value, at_actions, at_action_word, at_cell, at_cells, at_items, at_item_word, at_crlf, at_halt, at_run, Leads}
+use Rattle.ops_meaning.proofs.Sound.{IsShort, IsHead, IsBody, numbers, known, Program, Declaring, IsClass, Head, Body, Around, IsEmpty, IsElement, AtField, behind, behind_test, sight_of, IsRead, at_forms, at_form, at_class_declared, at_attributes, at_rule_name, at_first_pattern, at_patterns, at_class_name, at_terms, at_attribute, at_place, at_tests, at_tested, at_choice, at_test_atom, at_put_value, at_put_atom, at_fixed_value, at_fixed_atom, at_item_atom, at_actions, at_action_word, at_cell, at_cells, at_items, at_item_word, at_crlf, at_halt, at_run, Leads}
 use Rattle.ops_meaning.proofs.Grown.{fits_below, class_begun, attribute_added, class_added, number_in, head_begun, test_kept, test_bound, test_valid, condition_added, body_begun, action_added, rule_added, put_valid, command_added, fixed_valid}
 
 -- the word stands in a text of this length, from the place on
@@ -94,13 +97,18 @@ module _ (text n : ℕ) (w : Word) (fit : text ≤ longest_list) (placed : IsPla
   class_name_leads u s short g =
       cond_both (is_name w.kind) _ _ (Leads text w.past) (λ _. class_at_leads u s short g (position (λ c. c.name.0 == w.name.0) s.classes) refl) (λ _. tt)
 
+  at_field : {s : State} (u : Use) (f : ℕ) → AtField u text s f → IsRead text s (behind_attribute u f ∷ Terms u ∷ behind u)
+  at_field InPattern f g = at_place f g
+  at_field InPut f g = at_put_value f g
+  at_field InFixed f g = at_fixed_value f g
+
   field_at_leads : (u : Use) (s : State) → IsShort n s → IsElement u text s → (o : Option ℕ) → position (λ a. a.0 == w.name.0) (attributes_of (slice_get s.classes s.class)) ≡ o → Leads text w.past (field_at u o (Terms u ∷ behind u) s)
   field_at_leads u s short g None e = tt
   field_at_leads u s short g (Some f) e =
       let c = get_or s.classes s.class no_class in
       let here : slice_get s.classes s.class ≡ Some c = slice_get-get_or s.classes s.class no_class g.class in
       let lt : f < length c.attrs = (position-Some (λ a. a.0 == w.name.0) c.attrs f (record { 0 = 0 }) (rw here at e)).0 in
-      (omega arith, at_value u f (g, ap (λ (o : Option Class). nat_lt f (length (unwrap_or o no_class).attrs)) here ∙ lt-ltb _ _ lt))
+      (omega arith, at_field u f (g, ap (λ (o : Option Class). nat_lt f (length (unwrap_or o no_class).attrs)) here ∙ lt-ltb _ _ lt))
 
   attribute_leads : (u : Use) (s : State) → IsShort n s → IsElement u text s → Leads text w.past (attribute u w (Terms u ∷ behind u) s)
   attribute_leads u s short g =
@@ -119,62 +127,133 @@ module _ (text n : ℕ) (w : Word) (fit : text ≤ longest_list) (placed : IsPla
             (put_valid s.classes (known s.conditions s.actions) (class_of s.classes s.class) f t a valid);
       }
 
-  constant_leads : (u : Use) (f : ℕ) (v : Value) (s : State) → IsShort n s → (IsElement u text s × HasAttribute s f) → Leads text w.past (Next (Terms u ∷ behind u) (with_constant u s f v))
-  constant_leads InPattern f v s short g = (
+  fixed_added : (s : State) (f : ℕ) (v : Value) → AtField InFixed text s f → IsElement InFixed text (record s { fixed = s.fixed ++ record { field = f; values = v ∷ [] } ∷ [] })
+  fixed_added s f v g =
+      record {
+        around = g.0.around;
+        class = g.0.class;
+        fields = all_push (fixed_is_valid (class_of s.classes s.class)) s.fixed (record { field = f; values = v ∷ [] }) g.0.fields (fixed_valid s.classes s.class f v g.0.around.classes_valid g.0.class g.1);
+      }
+
+  -- ---- tests
+
+  behind_leads : (f : ℕ) (among : Bool) (s : State) → AtField InPattern text s f → IsRead text s (behind_test f among)
+  behind_leads f true s g = at_tests f g
+  behind_leads f false s g = at_terms InPattern g.0
+
+  test_leads : (f : ℕ) (p : Pred) (o : Operand) (among : Bool) (s : State) → IsShort n s → AtField InPattern text s f → operand_is_valid (sight_of s.values) p false o ≡ true → Leads text w.past (Next (behind_test f among) (with_test s f p o false))
+  test_leads f p o among s short g valid = (
     omega (arith, length-append {A = Test}),
-    at_terms InPattern (record {
-      around = (test_kept text s.classes s.rules s.commands s.name s.values s.conditions s.tests f (operand.Constant v) g.0.around.0, g.0.around.1, g.0.around.2);
+    behind_leads f among (with_test s f p o false) (record {
+      around = (test_kept text s.classes s.rules s.commands s.name s.values s.conditions s.tests f p o g.0.around.0, g.0.around.1, g.0.around.2);
       class = g.0.class;
-      fields = test_valid text s.classes s.rules s.commands s.name (class_of s.classes s.class) s.values s.conditions s.tests f (operand.Constant v) false g.0.around.0 g.0.fields g.1 refl;
-    }),
-  )
-  constant_leads InPut f v s short g = (
-    omega (arith, length-append {A = Put}),
-    at_terms InPut (put_added s f (term.Constant v) g.0 g.1 (λ b. refl)),
-  )
-  constant_leads InFixed f v s short g = (
-    omega (arith, length-append {A = Fixed}),
-    at_terms InFixed (record {
-      around = g.0.around;
-      class = g.0.class;
-      fields = all_push (fixed_is_valid (class_of s.classes s.class)) s.fixed (record { field = f; values = v ∷ [] }) g.0.fields (fixed_valid s.classes s.class f v g.0.around.classes_valid g.0.class g.1);
-    }),
+      fields = test_valid text s.classes s.rules s.commands s.name (class_of s.classes s.class) s.values s.conditions s.tests f p o false g.0.around.0 g.0.fields g.1 valid;
+    }, g.1),
   )
 
-  variable_leads : (f : ℕ) (s : State) → IsShort n s → (IsElement InPattern text s × HasAttribute s f) → (o : Option ℕ) → number_of w.name s.values ≡ o → Leads text w.past (Next (Terms InPattern ∷ behind InPattern) (with_variable s f w.name o))
-  variable_leads f s short g (Some m) e = (
+  bound_leads : (f : ℕ) (among : Bool) (s : State) → IsShort n s → AtField InPattern text s f → Leads text w.past (Next (behind_test f among) (with_bound s f w.name))
+  bound_leads f among s short g = (
     omega (arith, length-append {A = Test}),
-    at_terms InPattern (record {
-      around = (test_kept text s.classes s.rules s.commands s.name s.values s.conditions s.tests f (operand.Variable m) g.0.around.0, g.0.around.1, g.0.around.2);
-      class = g.0.class;
-      fields = test_valid text s.classes s.rules s.commands s.name (class_of s.classes s.class) s.values s.conditions s.tests f (operand.Variable m) false g.0.around.0 g.0.fields g.1 (number_in w.name s.values m e);
-    }),
-  )
-  variable_leads f s short g None e = (
-    omega (arith, length-append {A = Test}),
-    at_terms InPattern (record {
+    behind_leads f among (with_bound s f w.name) (record {
       around = (test_bound text s.classes s.rules s.commands s.name s.values s.conditions s.tests f w.name g.0.around.0, g.0.around.1, g.0.around.2);
       class = g.0.class;
-      fields = test_valid text s.classes s.rules s.commands s.name (class_of s.classes s.class) s.values s.conditions s.tests f (operand.Variable (length s.values)) true g.0.around.0 g.0.fields g.1
+      fields = test_valid text s.classes s.rules s.commands s.name (class_of s.classes s.class) s.values s.conditions s.tests f pred.Eq (operand.Variable (length s.values)) true g.0.around.0 g.0.fields g.1
           (not_from_false _ (not_below (numbers s.values) (length s.values) g.0.around.0.below));
-    }),
+    }, g.1),
   )
 
-  put_variable_leads : (f : ℕ) (s : State) → IsShort n s → IsElement InPut text s × HasAttribute s f → (o : Option ℕ) → number_of w.name s.values ≡ o → Leads text w.past (put_variable f o (Terms InPut ∷ behind InPut) s)
-  put_variable_leads f s short g (Some m) e = (
+  variable_tested_leads : (f : ℕ) (p : Pred) (among : Bool) (s : State) → IsShort n s → AtField InPattern text s f → (o : Option ℕ) → number_of w.name s.values ≡ o → Leads text w.past (variable_tested f p o w.name (behind_test f among) s)
+  variable_tested_leads f p among s short g (Some m) e = test_leads f p (operand.Variable m) among s short g (number_in w.name s.values m e)
+  variable_tested_leads f pred.Eq among s short g None e = bound_leads f among s short g
+  variable_tested_leads f _ among s short g None e = tt
+
+  constant_tested_leads : (f : ℕ) (p : Pred) (among : Bool) (s : State) → IsShort n s → AtField InPattern text s f → (o : Option Value) → Leads text w.past (constant_tested f p w o (behind_test f among) s)
+  constant_tested_leads f p among s short g (Some v) = test_leads f p (operand.Constant v) among s short g refl
+  constant_tested_leads f p among s short g None =
+      cond_both (is_variable w.kind) _ _ (Leads text w.past) (λ _. variable_tested_leads f p among s short g (number_of w.name s.values) refl) (λ _. tt)
+
+  tested_leads : (f : ℕ) (p : Pred) (among : Bool) (s : State) → IsShort n s → AtField InPattern text s f → Leads text w.past (tested f p w (behind_test f among) s)
+  tested_leads f p among s short g =
+      cond_both (is_literal w.keyword) _ _ (Leads text w.past) (λ _. (omega arith, at_test_atom f p among g)) (λ _. constant_tested_leads f p among s short g (constant_of w.kind w.name))
+
+  predicated_leads : (f : ℕ) (among : Bool) (s : State) → IsShort n s → AtField InPattern text s f → (o : Option Pred) → Leads text w.past (predicated f w o (behind_test f among) s)
+  predicated_leads f among s short g (Some p) = (omega arith, at_tested f p among g)
+  predicated_leads f among s short g None = tested_leads f pred.Eq among s short g
+
+  one_test_leads : (f : ℕ) (among : Bool) (s : State) → IsShort n s → AtField InPattern text s f → Leads text w.past (test f w (behind_test f among) s)
+  one_test_leads f among s short g =
+      cond_both (opens_choice w.keyword) _ _ (Leads text w.past) (λ _. (omega arith, at_choice f among (record { around = g.0.around; class = g.0.class; fields = g.0.fields }, g.1)))
+      (λ _. predicated_leads f among s short g (pred_of w.keyword))
+
+  place_leads : (f : ℕ) (s : State) → IsShort n s → AtField InPattern text s f → Leads text w.past (place f w (Terms InPattern ∷ behind InPattern) s)
+  place_leads f s short g = cond_both (is_left_brace w.kind) _ _ (Leads text w.past) (λ _. (omega arith, at_tests f g)) (λ _. one_test_leads f false s short g)
+
+  tests_leads : (f : ℕ) (s : State) → IsShort n s → AtField InPattern text s f → Leads text w.past (tests f w (Terms InPattern ∷ behind InPattern) s)
+  tests_leads f s short g = cond_both (is_right_brace w.kind) _ _ (Leads text w.past) (λ _. (omega arith, at_terms InPattern g.0)) (λ _. one_test_leads f true s short g)
+
+  chosen_leads : (f : ℕ) (among : Bool) (s : State) → IsShort n s → AtField InPattern text s f → (o : Option Value) → Leads text w.past (chosen o (Choice f ∷ behind_test f among) s)
+  chosen_leads f among s short g (Some v) =
+      (omega (arith, length-append {A = Value}), at_choice f among (record { around = g.0.around; class = g.0.class; fields = g.0.fields }, g.1))
+  chosen_leads f among s short g None = tt
+
+  choice_ended : (f : ℕ) (among : Bool) (s : State) → IsShort n s → AtField InPattern text s f → Leads text w.past (Next (behind_test f among) (with_choice s f))
+  choice_ended f among s short g =
+      let fit : nat_le (length s.choice) longest_list ≡ true = le-leb (length s.choice) longest_list (omega arith) in
+      let u : AtField InPattern text (with_choice s f) f = (record {
+        around = (test_kept text s.classes s.rules s.commands s.name s.values s.conditions s.tests f pred.Eq (operand.OneOf s.choice) g.0.around.0, g.0.around.1, g.0.around.2);
+        class = g.0.class;
+        fields = test_valid text s.classes s.rules s.commands s.name (class_of s.classes s.class) s.values s.conditions s.tests f pred.Eq (operand.OneOf s.choice) false g.0.around.0 g.0.fields g.1 fit;
+      }, g.1) in
+      (omega (arith, length-append {A = Test}), behind_leads f among (with_choice s f) u)
+
+  choice_leads : (f : ℕ) (among : Bool) (s : State) → IsShort n s → AtField InPattern text s f → Leads text w.past (choice f w (behind_test f among) s)
+  choice_leads f among s short g =
+      cond_both (closes_choice w.keyword) _ _ (Leads text w.past) (λ _. choice_ended f among s short g) (λ _. chosen_leads f among s short g (atom_of w.kind w.name))
+
+  test_atom_leads : (f : ℕ) (p : Pred) (among : Bool) (s : State) → IsShort n s → AtField InPattern text s f → (o : Option Value) → Leads text w.past (atom_at (ToTest f p) o (behind_test f among) s)
+  test_atom_leads f p among s short g (Some v) = test_leads f p (operand.Constant v) among s short g refl
+  test_atom_leads f p among s short g None = tt
+
+  -- ---- values
+
+  put_constant_leads : (f : ℕ) (v : Value) (s : State) → IsShort n s → AtField InPut text s f → Leads text w.past (Next (Terms InPut ∷ behind InPut) (with_constant (ToPut f) s v))
+  put_constant_leads f v s short g = (omega (arith, length-append {A = Put}), at_terms InPut (put_added s f (term.Constant v) g.0 g.1 (λ b. refl)))
+
+  put_atom_leads : (f : ℕ) (s : State) → IsShort n s → AtField InPut text s f → (o : Option Value) → Leads text w.past (atom_at (ToPut f) o (Terms InPut ∷ behind InPut) s)
+  put_atom_leads f s short g (Some v) = put_constant_leads f v s short g
+  put_atom_leads f s short g None = tt
+
+  put_bound_leads : (f : ℕ) (s : State) → IsShort n s → AtField InPut text s f → (o : Option ℕ) → number_of w.name s.values ≡ o → Leads text w.past (bound_at (ToPut f) o (Terms InPut ∷ behind InPut) s)
+  put_bound_leads f s short g (Some m) e = (
     omega (arith, length-append {A = Put}),
     at_terms InPut (put_added s f (term.Variable m) g.0 g.1 (λ b. ap (is_in m) g.0.around.bound ∙ number_in w.name s.values m e)),
   )
-  put_variable_leads f s short g None e = tt
+  put_bound_leads f s short g None e = tt
 
-  named_leads : (u : Use) (f : ℕ) (s : State) → IsShort n s → IsElement u text s × HasAttribute s f → Leads text w.past (variable_for u f (number_of w.name s.values) w.name (Terms u ∷ behind u) s)
-  named_leads InPattern f s short g = variable_leads f s short g (number_of w.name s.values) refl
-  named_leads InPut f s short g = put_variable_leads f s short g (number_of w.name s.values) refl
-  named_leads InFixed f s short g = tt
+  put_word_leads : (f : ℕ) (s : State) → IsShort n s → AtField InPut text s f → (o : Option Value) → Leads text w.past (constant_at (ToPut f) w o (Terms InPut ∷ behind InPut) s)
+  put_word_leads f s short g (Some v) = put_constant_leads f v s short g
+  put_word_leads f s short g None = cond_both (is_variable w.kind) _ _ (Leads text w.past) (λ _. put_bound_leads f s short g (number_of w.name s.values) refl) (λ _. tt)
 
-  value_leads : (u : Use) (f : ℕ) (s : State) → IsShort n s → IsElement u text s × HasAttribute s f → (o : Option Value) → Leads text w.past (value_for u f w o (Terms u ∷ behind u) s)
-  value_leads u f s short g (Some v) = constant_leads u f v s short g
-  value_leads u f s short g None = cond_both (is_variable w.kind) _ _ (Leads text w.past) (λ _. named_leads u f s short g) (λ _. tt)
+  put_value_leads : (f : ℕ) (s : State) → IsShort n s → AtField InPut text s f → Leads text w.past (value_for (ToPut f) w (Terms InPut ∷ behind InPut) s)
+  put_value_leads f s short g =
+      cond_both (is_literal w.keyword) _ _ (Leads text w.past) (λ _. (omega arith, at_put_atom f g)) (λ _. put_word_leads f s short g (value_of w.kind w.name))
+
+  fixed_atom_leads : (f : ℕ) (s : State) → IsShort n s → AtField InFixed text s f → (o : Option Value) → Leads text w.past (atom_at (ToFixed f) o (Terms InFixed ∷ behind InFixed) s)
+  fixed_atom_leads f s short g (Some v) = (omega (arith, length-append {A = Fixed}), at_terms InFixed (fixed_added s f v g))
+  fixed_atom_leads f s short g None = tt
+
+  -- A variable in a command is bound nowhere.
+  fixed_bound_leads : (f : ℕ) (s : State) (o : Option ℕ) → Leads text w.past (bound_at (ToFixed f) o (Terms InFixed ∷ behind InFixed) s)
+  fixed_bound_leads f s (Some m) = tt
+  fixed_bound_leads f s None = tt
+
+  fixed_word_leads : (f : ℕ) (s : State) → IsShort n s → AtField InFixed text s f → (o : Option Value) → Leads text w.past (constant_at (ToFixed f) w o (Terms InFixed ∷ behind InFixed) s)
+  fixed_word_leads f s short g (Some v) = (omega (arith, length-append {A = Fixed}), at_terms InFixed (fixed_added s f v g))
+  fixed_word_leads f s short g None = cond_both (is_variable w.kind) _ _ (Leads text w.past) (λ _. fixed_bound_leads f s (number_of w.name s.values)) (λ _. tt)
+
+  fixed_value_leads : (f : ℕ) (s : State) → IsShort n s → AtField InFixed text s f → Leads text w.past (value_for (ToFixed f) w (Terms InFixed ∷ behind InFixed) s)
+  fixed_value_leads f s short g =
+      cond_both (is_literal w.keyword) _ _ (Leads text w.past) (λ _. (omega arith, at_fixed_atom f g)) (λ _. fixed_word_leads f s short g (value_of w.kind w.name))
 
   place_fits : n ≤ longest_list
   place_fits = omega arith
@@ -282,13 +361,24 @@ module _ (text n : ℕ) (w : Word) (fit : text ≤ longest_list) (placed : IsPla
   item_added s i short g valid =
       (omega (arith, length-append {A = Item}), at_items ((g.0, all_push (item_is_valid s.classes (known s.conditions s.actions)) s.items i g.1 valid)))
 
-  item_variable_leads : (s : State) → IsShort n s → (HasItems s) → (o : Option ℕ) → number_of w.name s.values ≡ o → Leads text w.past (item_variable o (Items ∷ Actions ∷ Forms ∷ []) s)
-  item_variable_leads s short g (Some m) e = item_added s (item.Print (term.Variable m)) short g (ap (is_in m) g.0.bound ∙ number_in w.name s.values m e)
-  item_variable_leads s short g None e = tt
+  item_constant_leads : (s : State) → IsShort n s → HasItems s → (v : Value) → Leads text w.past (Next (Items ∷ Actions ∷ Forms ∷ []) (with_constant ToItem s v))
+  item_constant_leads s short g v = item_added s (item.Print (term.Constant v)) short g refl
 
-  item_value_leads : (s : State) → IsShort n s → (HasItems s) → (o : Option Value) → Leads text w.past (item_value w o (Items ∷ Actions ∷ Forms ∷ []) s)
-  item_value_leads s short g (Some v) = item_added s (item.Print (term.Constant v)) short g refl
-  item_value_leads s short g None = cond_both (is_variable w.kind) _ _ (Leads text w.past) (λ _. item_variable_leads s short g (number_of w.name s.values) refl) (λ _. tt)
+  item_atom_leads : (s : State) → IsShort n s → HasItems s → (o : Option Value) → Leads text w.past (atom_at ToItem o (Items ∷ Actions ∷ Forms ∷ []) s)
+  item_atom_leads s short g (Some v) = item_constant_leads s short g v
+  item_atom_leads s short g None = tt
+
+  item_bound_leads : (s : State) → IsShort n s → HasItems s → (o : Option ℕ) → number_of w.name s.values ≡ o → Leads text w.past (bound_at ToItem o (Items ∷ Actions ∷ Forms ∷ []) s)
+  item_bound_leads s short g (Some m) e = item_added s (item.Print (term.Variable m)) short g (ap (is_in m) g.0.bound ∙ number_in w.name s.values m e)
+  item_bound_leads s short g None e = tt
+
+  item_word_value_leads : (s : State) → IsShort n s → HasItems s → (o : Option Value) → Leads text w.past (constant_at ToItem w o (Items ∷ Actions ∷ Forms ∷ []) s)
+  item_word_value_leads s short g (Some v) = item_constant_leads s short g v
+  item_word_value_leads s short g None = cond_both (is_variable w.kind) _ _ (Leads text w.past) (λ _. item_bound_leads s short g (number_of w.name s.values) refl) (λ _. tt)
+
+  item_value_leads : (s : State) → IsShort n s → HasItems s → Leads text w.past (value_for ToItem w (Items ∷ Actions ∷ Forms ∷ []) s)
+  item_value_leads s short g =
+      cond_both (is_literal w.keyword) _ _ (Leads text w.past) (λ _. (omega arith, at_item_atom g)) (λ _. item_word_value_leads s short g (value_of w.kind w.name))
 
   items_leads : (s : State) → IsShort n s → (HasItems s) → Leads text w.past (items w (Actions ∷ Forms ∷ []) s)
   items_leads s short g =
@@ -298,7 +388,7 @@ module _ (text n : ℕ) (w : Word) (fit : text ≤ longest_list) (placed : IsPla
         at_actions (action_added text s.classes s.rules s.commands s.name s.values s.conditions s.actions (action.Write s.items) g.0
             (and_from _ _ (fits_below s.items n short.8 place_fits) g.1) refl refl refl),
       ))
-      (λ _. cond_both (is_left w.kind) _ _ (Leads text w.past) (λ _. (omega arith, at_item_word g)) (λ _. item_value_leads s short g (constant_of w.kind w.name)))
+      (λ _. cond_both (is_left w.kind) _ _ (Leads text w.past) (λ _. (omega arith, at_item_word g)) (λ _. item_value_leads s short g))
 
   item_word_leads : (s : State) → IsShort n s → (HasItems s) → Leads text w.past (item_word w (Items ∷ Actions ∷ Forms ∷ []) s)
   item_word_leads s short g = cond_both (is_crlf w.keyword) _ _ (Leads text w.past) (λ _. (omega arith, at_crlf g)) (λ _. tt)
@@ -332,7 +422,16 @@ module _ (text n : ℕ) (w : Word) (fit : text ≤ longest_list) (placed : IsPla
   step_leads s ws short (at_class_name u g) = class_name_leads u s short g
   step_leads s ws short (at_terms u g) = terms_leads u s short g
   step_leads s ws short (at_attribute u g) = attribute_leads u s short g
-  step_leads s ws short (at_value u f g) = value_leads u f s short g (constant_of w.kind w.name)
+  step_leads s ws short (at_place f g) = place_leads f s short g
+  step_leads s ws short (at_tests f g) = tests_leads f s short g
+  step_leads s ws short (at_tested f p among g) = tested_leads f p among s short g
+  step_leads s ws short (at_choice f among g) = choice_leads f among s short g
+  step_leads s ws short (at_test_atom f p among g) = test_atom_leads f p among s short g (atom_of w.kind w.name)
+  step_leads s ws short (at_put_value f g) = put_value_leads f s short g
+  step_leads s ws short (at_put_atom f g) = put_atom_leads f s short g (atom_of w.kind w.name)
+  step_leads s ws short (at_fixed_value f g) = fixed_value_leads f s short g
+  step_leads s ws short (at_fixed_atom f g) = fixed_atom_leads f s short g (atom_of w.kind w.name)
+  step_leads s ws short (at_item_atom g) = item_atom_leads s short g (atom_of w.kind w.name)
   step_leads s ws short (at_actions g) = actions_leads s short g
   step_leads s ws short (at_action_word g) = action_word_leads s short g w.keyword
   step_leads s ws short (at_cell g) = cell_leads s short g w.kind
