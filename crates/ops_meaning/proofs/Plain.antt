@@ -2,6 +2,7 @@
 use Rattle.std.proofs.Common.{◌≡◌, ℕ, ◌<◌, ◌≤◌, Bool, true, false, not, ◌||◌, ◌==◌, List, [], ◌∷◌, ◌++◌, length, refl, sym, ap, ◌∙◌, nat_lt, true≢false}
 use Rattle.std.specs.List.{list_all}
 use Rattle.std.proofs.lemmas.Bool.{and_parts, and_from, eqb-true}
+use Rattle.ops_base.specs.declared.values.Pred.{Pred}
 use Rattle.ops_base.specs.declared.elements.Class.{Class}
 use Rattle.ops_base.specs.declared.conditions.Test.{Test}
 use Rattle.ops_base.specs.declared.conditions.Condition.{Condition}
@@ -10,7 +11,7 @@ use Rattle.ops_base.specs.declared.rules.Rule.{Rule}
 use Rattle.ops_base.specs.declared.commands.Command.{Command}
 use Rattle.ops_base.specs.Valid.{most_conditions, is_in, class_of}
 use Rattle.ops_meaning.specs.declared.words.Named.{Named}
-use Rattle.ops_meaning.specs.Grammar.{Use, InPattern, InPut, InFixed, EndsRun, EndsHalt, EndsCrlf, Wanted, Forms, Form, ClassDeclared, Attributes, RuleName, FirstPattern, Patterns, ClassName, Terms, Attribute, ValueFor, Actions, ActionWord, Cell, Cells, Items, ItemWord, Closes, State, Step, Next, Refuses}
+use Rattle.ops_meaning.specs.Grammar.{Use, InPattern, InPut, InFixed, Target, ToTest, ToPut, ToFixed, ToItem, EndsRun, EndsHalt, EndsCrlf, Wanted, Forms, Form, ClassDeclared, Attributes, RuleName, FirstPattern, Patterns, ClassName, Terms, Attribute, Place, Tests, Tested, Choice, Atom, ValueFor, Actions, ActionWord, Cell, Cells, Items, ItemWord, Closes, State, Step, Next, Refuses}
 use Rattle.ops_meaning.specs.Spelling.{test_is_plain, after_test, tests_are_plain, after_tests, condition_is_plain, conditions_are_plain, after_conditions, put_is_plain, item_is_plain, action_is_plain, rule_is_plain, fixed_is_plain, command_is_plain}
 use Rattle.ops_meaning.proofs.Sound.{behind, IsEmpty, numbers}
 
@@ -66,6 +67,29 @@ HasCells s = Base s × Right s × (list_all (λ c. nat_lt c (length s.conditions
 abbrev pub HasItems : State → Type 0
 HasItems s = Base s × Right s × (list_all (item_is_plain (length s.values)) s.items ≡ true)
 
+-- an attribute of the element's class
+abbrev pub HasAttribute : State → ℕ → Type 0
+HasAttribute s f = nat_lt f (length (class_of s.classes s.class).attrs) ≡ true
+
+-- where a constant goes
+abbrev pub HasTarget : Target → State → Type 0
+HasTarget (ToTest f p) s = IsElement InPattern s × HasAttribute s f
+HasTarget (ToPut f) s = IsElement InPut s × HasAttribute s f
+HasTarget (ToFixed f) s = IsElement InFixed s × HasAttribute s f
+HasTarget ToItem s = HasItems s
+
+-- what is wanted after a test: more of the conjunction that it stands in, or another attribute
+abbrev pub behind_test : Bool → ℕ → List Wanted
+behind_test true f = Tests f ∷ Terms InPattern ∷ behind InPattern
+behind_test false f = Terms InPattern ∷ behind InPattern
+
+-- what is wanted after a constant; of a test, in a conjunction or alone
+abbrev pub behind_target : Bool → Target → List Wanted
+behind_target among (ToTest f p) = behind_test among f
+behind_target among (ToPut f) = Terms InPut ∷ behind InPut
+behind_target among (ToFixed f) = Terms InFixed ∷ behind InFixed
+behind_target among ToItem = Items ∷ Actions ∷ Forms ∷ []
+
 -- what may be wanted, and what then holds
 pub data IsPlainly (s : State) : List Wanted → Type 0 where
   at_forms : Base s → IsPlainly s (Forms ∷ [])
@@ -78,7 +102,12 @@ pub data IsPlainly (s : State) : List Wanted → Type 0 where
   at_class_name : (u : Use) → Around u s × IsEmpty u s → IsPlainly s (ClassName ∷ Terms u ∷ behind u)
   at_terms : (u : Use) → IsElement u s → IsPlainly s (Terms u ∷ behind u)
   at_attribute : (u : Use) → IsElement u s → IsPlainly s (Attribute u ∷ Terms u ∷ behind u)
-  at_value : (u : Use) → (f : ℕ) → IsElement u s × (nat_lt f (length (class_of s.classes s.class).attrs) ≡ true) → IsPlainly s (ValueFor u f ∷ Terms u ∷ behind u)
+  at_place : (f : ℕ) → IsElement InPattern s × HasAttribute s f → IsPlainly s (Place f ∷ Terms InPattern ∷ behind InPattern)
+  at_tests : (f : ℕ) → IsElement InPattern s × HasAttribute s f → IsPlainly s (Tests f ∷ Terms InPattern ∷ behind InPattern)
+  at_tested : (among : Bool) → (f : ℕ) → (p : Pred) → IsElement InPattern s × HasAttribute s f → IsPlainly s (Tested f p ∷ behind_test among f)
+  at_choice : (among : Bool) → (f : ℕ) → IsElement InPattern s × HasAttribute s f → IsPlainly s (Choice f ∷ behind_test among f)
+  at_atom : (among : Bool) → (t : Target) → HasTarget t s → IsPlainly s (Atom t ∷ behind_target among t)
+  at_value : (among : Bool) → (t : Target) → HasTarget t s → IsPlainly s (ValueFor t ∷ behind_target among t)
   at_actions : Base s × Right s → IsPlainly s (Actions ∷ Forms ∷ [])
   at_action_word : Base s × Right s → IsPlainly s (ActionWord ∷ Actions ∷ Forms ∷ [])
   at_cell : HasCells s → IsPlainly s (Cell ∷ Cells ∷ Actions ∷ Forms ∷ [])

@@ -1,11 +1,12 @@
 -- Each word leads from what has a spelling to what has one.
-use Rattle.std.proofs.Common.{◌≡◌, ℕ, ◌-◌, ◌<◌, ◌≤◌, true, false, not, ◌==◌, List, [], ◌∷◌, ◌++◌, length, refl, sym, ap, subst, ◌∙◌, arith, Option, Some, None, nat_lt, unwrap_or, slice_get, position, get_or, length-append}
-use Rattle.std.specs.List.{list_all, list_any}
+use Rattle.std.proofs.Common.{◌≡◌, ℕ, ◌-◌, ◌<◌, ◌≤◌, Bool, true, false, not, ◌==◌, List, [], ◌∷◌, ◌++◌, length, refl, sym, ap, subst, ◌∙◌, arith, Option, Some, None, nat_lt, unwrap_or, slice_get, position, get_or, length-append}
+use Rattle.std.specs.List.{list_all}
 use Rattle.std.proofs.lemmas.Bool.{cond_both, and_parts, and_from, eqb-true, eq-eqb, lt-ltb, ltb-true, ltb-false, le-leb}
 use Rattle.std.proofs.lemmas.List.Quantifiers.{position-Some}
 use Rattle.std.proofs.lemmas.Option.{slice_get-get_or}
 use Rattle.ops_base.specs.declared.values.Sym.{Sym}
 use Rattle.ops_base.specs.declared.values.Value.{Value}
+use Rattle.ops_base.specs.declared.values.Pred.{Pred}
 use Rattle.ops_base.specs.declared.values.Pred.TheVariants as pred
 use Rattle.ops_base.specs.declared.elements.Class.{Class}
 use Rattle.ops_base.specs.declared.conditions.Operand.{Operand}
@@ -27,12 +28,12 @@ use Rattle.ops_meaning.specs.declared.words.Word.{Word}
 use Rattle.ops_meaning.specs.declared.words.Named.{Named}
 use Rattle.ops_meaning.specs.declared.words.Keyword.{Keyword}
 use Rattle.ops_meaning.specs.declared.words.Keyword.TheVariants as keyword
-use Rattle.ops_meaning.specs.Grammar.{Use, InPattern, InPut, InFixed, Wanted, Forms, Attributes, Terms, Actions, Cells, Items, State, Next, is_left, is_right, is_caret, is_name, is_variable, is_arrow, is_crlf, constant_of, natural_of, is_one_of, number_of, may_declare, is_class, is_rule, form, class_declared, attributes, class_at, attributes_of, field_at, with_constant, variable_for, with_variable, put_variable, value_for, with_element, patterns, with_rule, action_word, cell_of, cell, item_variable, item_value, step}
-use Rattle.ops_meaning.specs.Spelling.{test_is_plain, after_tests, operand_is_plain, after_conditions, term_is_plain, put_is_plain, item_is_plain, action_is_plain, rule_is_plain, fixed_is_plain, command_is_plain}
+use Rattle.ops_meaning.specs.Grammar.{Use, InPattern, InPut, InFixed, Target, ToTest, ToPut, ToFixed, ToItem, Wanted, Forms, Attributes, Terms, Choice, Actions, Cells, Items, State, Next, is_left, is_right, is_left_brace, is_right_brace, is_caret, is_name, is_variable, is_arrow, is_literal, opens_choice, closes_choice, pred_of, is_crlf, constant_of, atom_of, value_of, natural_of, is_one_of, number_of, may_declare, is_class, is_rule, form, class_declared, attributes, class_at, attributes_of, behind_attribute, field_at, with_test, with_put, with_fixed, with_item, with_constant, with_bound, variable_tested, constant_tested, tested, predicated, test, with_choice, chosen, choice, atom_at, bound_at, constant_at, value_for, with_element, patterns, with_rule, action_word, cell_of, cell, step}
+use Rattle.ops_meaning.specs.Spelling.{operand_is_plain, after_conditions, term_is_plain, put_is_plain, item_is_plain, action_is_plain, rule_is_plain, fixed_is_plain, command_is_plain}
 use Rattle.ops_meaning.proofs.Lists.{all_push, all_none}
 use Rattle.ops_meaning.proofs.Sound.{behind, IsEmpty, numbers}
 use Rattle.ops_meaning.proofs.Grown.{number_in, below_more}
-use Rattle.ops_meaning.proofs.Plain.{IsBase, IsLeft, IsRight, Base, Left, Right, Declaring, Around, IsElement, HasCells, HasItems, IsPlainly, at_forms, at_form, at_class_declared, at_attributes, at_rule_name, at_first_pattern, at_patterns, at_class_name, at_terms, at_attribute, at_value, at_actions, at_action_word, at_cell, at_cells, at_items, at_item_word, at_crlf, at_halt, at_run, Keeps, after_tests-push, tests_push, after_conditions-push, conditions_push, all_in}
+use Rattle.ops_meaning.proofs.Plain.{IsBase, IsLeft, IsRight, Base, Left, Right, Declaring, Around, IsElement, HasCells, HasItems, HasAttribute, HasTarget, behind_test, behind_target, IsPlainly, at_forms, at_form, at_class_declared, at_attributes, at_rule_name, at_first_pattern, at_patterns, at_class_name, at_terms, at_attribute, at_place, at_tests, at_tested, at_choice, at_atom, at_value, at_actions, at_action_word, at_cell, at_cells, at_items, at_item_word, at_crlf, at_halt, at_run, Keeps, after_tests-push, tests_push, after_conditions-push, conditions_push, all_in}
 
 number_known : (name : Sym) (values : List Named) (n : ℕ) → list_all (λ v. nat_lt v (length values)) (numbers values) ≡ true → number_of name values ≡ Some n → nat_lt n (length values) ≡ true
 number_known name values n below e = all_in (λ v. nat_lt v (length values)) (numbers values) n below (number_in name values n e)
@@ -81,29 +82,33 @@ module _ (w : Word) where
   class_at_keeps u s g (Some c) e = at_terms u (element_named u s c g (position-Some (λ c. c.name.0 == w.name.0) s.classes c no_class e).0)
   class_at_keeps u s g None e = tt
 
+  attribute_keeps : (u : Use) (f : ℕ) (s : State) → IsElement u s → HasAttribute s f → Keeps (Next (behind_attribute u f ∷ Terms u ∷ behind u) s)
+  attribute_keeps InPattern f s g a = at_place f (g, a)
+  attribute_keeps InPut f s g a = at_value false (ToPut f) (g, a)
+  attribute_keeps InFixed f s g a = at_value false (ToFixed f) (g, a)
+
   field_at_keeps : (u : Use) (s : State) → IsElement u s → (o : Option ℕ) → position (λ a. a.0 == w.name.0) (attributes_of (slice_get s.classes s.class)) ≡ o → Keeps (field_at u o (Terms u ∷ behind u) s)
   field_at_keeps u s g None e = tt
   field_at_keeps u s g (Some f) e =
       let c = get_or s.classes s.class no_class in
       let here : slice_get s.classes s.class ≡ Some c = slice_get-get_or s.classes s.class no_class g.class in
       let lt : f < length c.attrs = (position-Some (λ a. a.0 == w.name.0) c.attrs f (record { 0 = 0 }) (rw here at e)).0 in
-      at_value u f (g, ap (λ (o : Option Class). nat_lt f (length (unwrap_or o no_class).attrs)) here ∙ lt-ltb _ _ lt)
+      attribute_keeps u f s g (ap (λ (o : Option Class). nat_lt f (length (unwrap_or o no_class).attrs)) here ∙ lt-ltb _ _ lt)
 
-  abbrev HasAttribute : State → ℕ → Type 0
-  HasAttribute s f = nat_lt f (length (class_of s.classes s.class).attrs) ≡ true
+  -- ---- tests
 
-  test_kept : (s : State) (f : ℕ) (o : Operand) → IsElement InPattern s → HasAttribute s f → operand_is_plain (length s.values) false o ≡ true → IsElement InPattern (record s { tests = s.tests ++ record { field = f; pred = pred.Eq; operand = o; binds = false } ∷ [] })
-  test_kept s f o g a plain =
+  test_kept : (s : State) (f : ℕ) (p : Pred) (o : Operand) → IsElement InPattern s → HasAttribute s f → operand_is_plain (length s.values) p false o ≡ true → IsElement InPattern (with_test s f p o false)
+  test_kept s f p o g a plain =
       let left = g.around.1 in
-      let t : Test = record { field = f; pred = pred.Eq; operand = o; binds = false } in
+      let t : Test = record { field = f; pred = p; operand = o; binds = false } in
       record {
         around = (g.around.0, record { plain = left.plain; count = left.count ∙ sym (after_tests-push s.tests (after_conditions 0 s.conditions) t); below = left.below }, g.around.2, g.around.3);
         class = g.class;
         fields = tests_push (class_of s.classes s.class) s.tests (after_conditions 0 s.conditions) t g.fields
-            (and_from _ _ (and_from _ _ a refl) (subst (λ (n : ℕ). operand_is_plain n false o ≡ true) left.count plain));
+            (and_from _ _ a (subst (λ (n : ℕ). operand_is_plain n p false o ≡ true) left.count plain));
       }
 
-  test_bound : (s : State) (f : ℕ) → IsElement InPattern s → HasAttribute s f → IsElement InPattern (with_variable s f w.name None)
+  test_bound : (s : State) (f : ℕ) → IsElement InPattern s → HasAttribute s f → IsElement InPattern (with_bound s f w.name)
   test_bound s f g a =
       let left = g.around.1 in
       let t : Test = record { field = f; pred = pred.Eq; operand = operand.Variable (length s.values); binds = true } in
@@ -118,10 +123,20 @@ module _ (w : Word) where
           g.around.3,
         );
         class = g.class;
-        fields = tests_push (class_of s.classes s.class) s.tests (after_conditions 0 s.conditions) t g.fields (and_from _ _ (and_from _ _ a refl) (eq-eqb _ _ left.count));
+        fields = tests_push (class_of s.classes s.class) s.tests (after_conditions 0 s.conditions) t g.fields (and_from _ _ a (eq-eqb _ _ left.count));
       }
 
-  put_kept : (s : State) (f : ℕ) (t : Term) → IsElement InPut s → HasAttribute s f → term_is_plain (length s.values) t ≡ true → IsElement InPut (record s { puts = s.puts ++ record { field = f; terms = t ∷ [] } ∷ [] })
+  -- The constants of a disjunction that is being read do not matter.
+  choosing : (s : State) (vs : List Value) → IsElement InPattern s → IsElement InPattern (record s { choice = vs })
+  choosing s vs g = record { around = g.around; class = g.class; fields = g.fields }
+
+  test_goes_on : (among : Bool) (f : ℕ) (s : State) → IsElement InPattern s → HasAttribute s f → Keeps (Next (behind_test among f) s)
+  test_goes_on true f s g a = at_tests f (g, a)
+  test_goes_on false f s g a = at_terms InPattern g
+
+  -- ---- values
+
+  put_kept : (s : State) (f : ℕ) (t : Term) → IsElement InPut s → HasAttribute s f → term_is_plain (length s.values) t ≡ true → IsElement InPut (with_put s f t)
   put_kept s f t g a plain =
       record {
         around = g.around;
@@ -129,32 +144,75 @@ module _ (w : Word) where
         fields = all_push (put_is_plain (class_of s.classes s.class) (length s.values)) s.puts (record { field = f; terms = t ∷ [] }) g.fields (and_from _ _ (and_from _ _ a refl) (and_from _ _ plain refl));
       }
 
-  constant_keeps : (u : Use) (f : ℕ) (v : Value) (s : State) → IsElement u s → HasAttribute s f → IsElement u (with_constant u s f v)
-  constant_keeps InPattern f v s g a = test_kept s f (operand.Constant v) g a refl
-  constant_keeps InPut f v s g a = put_kept s f (term.Constant v) g a refl
-  constant_keeps InFixed f v s g a =
+  fixed_kept : (s : State) (f : ℕ) (v : Value) → IsElement InFixed s → HasAttribute s f → IsElement InFixed (with_fixed s f v)
+  fixed_kept s f v g a =
       record {
         around = g.around;
         class = g.class;
         fields = all_push (fixed_is_plain (class_of s.classes s.class)) s.fixed (record { field = f; values = v ∷ [] }) g.fields (and_from _ _ a refl);
       }
 
-  pattern_variable : (f : ℕ) (s : State) → IsElement InPattern s → HasAttribute s f → (o : Option ℕ) → number_of w.name s.values ≡ o → IsElement InPattern (with_variable s f w.name o)
-  pattern_variable f s g a (Some n) e = test_kept s f (operand.Variable n) g a (number_known w.name s.values n g.around.1.below e)
-  pattern_variable f s g a None e = test_bound s f g a
+  item_kept : (s : State) (i : Item) → HasItems s → item_is_plain (length s.values) i ≡ true → Keeps (Next (Items ∷ Actions ∷ Forms ∷ []) (with_item s i))
+  item_kept s i g plain = at_items (g.0, g.1, all_push (item_is_plain (length s.values)) s.items i g.2 plain)
 
-  put_variable_keeps : (f : ℕ) (s : State) → IsElement InPut s → HasAttribute s f → (o : Option ℕ) → number_of w.name s.values ≡ o → Keeps (put_variable f o (Terms InPut ∷ behind InPut) s)
-  put_variable_keeps f s g a (Some n) e = at_terms InPut (put_kept s f (term.Variable n) g a (number_known w.name s.values n g.around.1.left.below e))
-  put_variable_keeps f s g a None e = tt
+  constant_keeps : (among : Bool) (t : Target) (v : Value) (s : State) → HasTarget t s → Keeps (Next (behind_target among t) (with_constant t s v))
+  constant_keeps among (ToTest f p) v s g = test_goes_on among f (with_test s f p (operand.Constant v) false) (test_kept s f p (operand.Constant v) g.0 g.1 refl) g.1
+  constant_keeps among (ToPut f) v s g = at_terms InPut (put_kept s f (term.Constant v) g.0 g.1 refl)
+  constant_keeps among (ToFixed f) v s g = at_terms InFixed (fixed_kept s f v g.0 g.1)
+  constant_keeps among ToItem v s g = item_kept s (item.Print (term.Constant v)) g refl
 
-  variable_keeps : (u : Use) (f : ℕ) (s : State) → IsElement u s → HasAttribute s f → Keeps (variable_for u f (number_of w.name s.values) w.name (Terms u ∷ behind u) s)
-  variable_keeps InPattern f s g a = at_terms InPattern (pattern_variable f s g a (number_of w.name s.values) refl)
-  variable_keeps InPut f s g a = put_variable_keeps f s g a (number_of w.name s.values) refl
-  variable_keeps InFixed f s g a = tt
+  bound_keeps : (among : Bool) (t : Target) (s : State) → HasTarget t s → (o : Option ℕ) → number_of w.name s.values ≡ o → Keeps (bound_at t o (behind_target among t) s)
+  bound_keeps among (ToTest f p) s g (Some n) e = tt
+  bound_keeps among (ToPut f) s g (Some n) e = at_terms InPut (put_kept s f (term.Variable n) g.0 g.1 (number_known w.name s.values n g.0.around.1.left.below e))
+  bound_keeps among (ToFixed f) s g (Some n) e = tt
+  bound_keeps among ToItem s g (Some n) e = item_kept s (item.Print (term.Variable n)) g (number_known w.name s.values n g.1.left.below e)
+  bound_keeps among t s g None e = tt
 
-  value_keeps : (u : Use) (f : ℕ) (s : State) → IsElement u s → HasAttribute s f → (o : Option Value) → Keeps (value_for u f w o (Terms u ∷ behind u) s)
-  value_keeps u f s g a (Some v) = at_terms u (constant_keeps u f v s g a)
-  value_keeps u f s g a None = cond_both (is_variable w.kind) _ _ Keeps (λ _. variable_keeps u f s g a) (λ _. tt)
+  constant_at_keeps : (among : Bool) (t : Target) (s : State) → HasTarget t s → (o : Option Value) → Keeps (constant_at t w o (behind_target among t) s)
+  constant_at_keeps among t s g (Some v) = constant_keeps among t v s g
+  constant_at_keeps among t s g None = cond_both (is_variable w.kind) _ _ Keeps (λ _. bound_keeps among t s g (number_of w.name s.values) refl) (λ _. tt)
+
+  value_keeps : (among : Bool) (t : Target) (s : State) → HasTarget t s → Keeps (value_for t w (behind_target among t) s)
+  value_keeps among t s g = cond_both (is_literal w.keyword) _ _ Keeps (λ _. at_atom among t g) (λ _. constant_at_keeps among t s g (value_of w.kind w.name))
+
+  atom_keeps : (among : Bool) (t : Target) (s : State) → HasTarget t s → (o : Option Value) → Keeps (atom_at t o (behind_target among t) s)
+  atom_keeps among t s g (Some v) = constant_keeps among t v s g
+  atom_keeps among t s g None = tt
+
+  -- ---- a test, in a conjunction or alone
+
+  variable_keeps : (among : Bool) (f : ℕ) (p : Pred) (s : State) → IsElement InPattern s → HasAttribute s f → (o : Option ℕ) → number_of w.name s.values ≡ o
+      → Keeps (variable_tested f p o w.name (behind_test among f) s)
+  variable_keeps among f p s g a (Some n) e =
+      test_goes_on among f (with_test s f p (operand.Variable n) false) (test_kept s f p (operand.Variable n) g a (number_known w.name s.values n g.around.1.below e)) a
+  variable_keeps among f pred.Eq s g a None e = test_goes_on among f (with_bound s f w.name) (test_bound s f g a) a
+  variable_keeps among f _ s g a None e = tt
+
+  operand_keeps : (among : Bool) (f : ℕ) (p : Pred) (s : State) → IsElement InPattern s → HasAttribute s f → (o : Option Value) → Keeps (constant_tested f p w o (behind_test among f) s)
+  operand_keeps among f p s g a (Some v) = constant_keeps among (ToTest f p) v s (g, a)
+  operand_keeps among f p s g a None = cond_both (is_variable w.kind) _ _ Keeps (λ _. variable_keeps among f p s g a (number_of w.name s.values) refl) (λ _. tt)
+
+  tested_keeps : (among : Bool) (f : ℕ) (p : Pred) (s : State) → IsElement InPattern s → HasAttribute s f → Keeps (tested f p w (behind_test among f) s)
+  tested_keeps among f p s g a = cond_both (is_literal w.keyword) _ _ Keeps (λ _. at_atom among (ToTest f p) (g, a)) (λ _. operand_keeps among f p s g a (constant_of w.kind w.name))
+
+  predicated_keeps : (among : Bool) (f : ℕ) (s : State) → IsElement InPattern s → HasAttribute s f → (o : Option Pred) → Keeps (predicated f w o (behind_test among f) s)
+  predicated_keeps among f s g a (Some p) = at_tested among f p (g, a)
+  predicated_keeps among f s g a None = tested_keeps among f pred.Eq s g a
+
+  test_keeps : (among : Bool) (f : ℕ) (s : State) → IsElement InPattern s → HasAttribute s f → Keeps (test f w (behind_test among f) s)
+  test_keeps among f s g a = cond_both (opens_choice w.keyword) _ _ Keeps (λ _. at_choice among f (choosing s [] g, a)) (λ _. predicated_keeps among f s g a (pred_of w.keyword))
+
+  chosen_keeps : (among : Bool) (f : ℕ) (s : State) → IsElement InPattern s → HasAttribute s f → (o : Option Value) → Keeps (chosen o (Choice f ∷ behind_test among f) s)
+  chosen_keeps among f s g a (Some v) = at_choice among f (choosing s (s.choice ++ v ∷ []) g, a)
+  chosen_keeps among f s g a None = tt
+
+  choice_keeps : (among : Bool) (f : ℕ) (s : State) → IsElement InPattern s → HasAttribute s f → Keeps (choice f w (behind_test among f) s)
+  choice_keeps among f s g a =
+      cond_both (closes_choice w.keyword) _ _ Keeps
+      (λ _. test_goes_on among f (with_choice s f) (choosing (with_test s f pred.Eq (operand.OneOf s.choice) false) [] (test_kept s f pred.Eq (operand.OneOf s.choice) g a refl)) a)
+      (λ _. chosen_keeps among f s g a (atom_of w.kind w.name))
+
+  -- ---- the end of an element
 
   element_keeps : (u : Use) (s : State) → IsElement u s → Keeps (Next (behind u) (with_element u s))
   element_keeps InPattern s g =
@@ -224,17 +282,6 @@ module _ (w : Word) where
   cell_keeps s g (kind.Whole z) = cell_of_keeps s g z (natural_of z) refl
   cell_keeps s g _ = tt
 
-  item_kept : (s : State) (i : Item) → HasItems s → item_is_plain (length s.values) i ≡ true → Keeps (Next (Items ∷ Actions ∷ Forms ∷ []) (record s { items = s.items ++ i ∷ [] }))
-  item_kept s i g plain = at_items (g.0, g.1, all_push (item_is_plain (length s.values)) s.items i g.2 plain)
-
-  item_variable_keeps : (s : State) → HasItems s → (o : Option ℕ) → number_of w.name s.values ≡ o → Keeps (item_variable o (Items ∷ Actions ∷ Forms ∷ []) s)
-  item_variable_keeps s g (Some m) e = item_kept s (item.Print (term.Variable m)) g (number_known w.name s.values m g.1.left.below e)
-  item_variable_keeps s g None e = tt
-
-  item_value_keeps : (s : State) → HasItems s → (o : Option Value) → Keeps (item_value w o (Items ∷ Actions ∷ Forms ∷ []) s)
-  item_value_keeps s g (Some v) = item_kept s (item.Print (term.Constant v)) g refl
-  item_value_keeps s g None = cond_both (is_variable w.kind) _ _ Keeps (λ _. item_variable_keeps s g (number_of w.name s.values) refl) (λ _. tt)
-
   -- ---- a word
 
   pub step_keeps : (s : State) (ws : List Wanted) → IsPlainly s ws → Keeps (step w ws s)
@@ -254,7 +301,12 @@ module _ (w : Word) where
       cond_both (is_right w.kind) _ _ Keeps (λ _. element_keeps u s g) (λ _. cond_both (is_caret w.kind) _ _ Keeps (λ _. at_attribute u g) (λ _. tt))
   step_keeps s ws (at_attribute u g) =
       cond_both (is_name w.kind) _ _ Keeps (λ _. field_at_keeps u s g (position (λ a. a.0 == w.name.0) (attributes_of (slice_get s.classes s.class))) refl) (λ _. tt)
-  step_keeps s ws (at_value u f g) = value_keeps u f s g.0 g.1 (constant_of w.kind w.name)
+  step_keeps s ws (at_place f g) = cond_both (is_left_brace w.kind) _ _ Keeps (λ _. at_tests f g) (λ _. test_keeps false f s g.0 g.1)
+  step_keeps s ws (at_tests f g) = cond_both (is_right_brace w.kind) _ _ Keeps (λ _. at_terms InPattern g.0) (λ _. test_keeps true f s g.0 g.1)
+  step_keeps s ws (at_tested among f p g) = tested_keeps among f p s g.0 g.1
+  step_keeps s ws (at_choice among f g) = choice_keeps among f s g.0 g.1
+  step_keeps s ws (at_atom among t g) = atom_keeps among t s g (atom_of w.kind w.name)
+  step_keeps s ws (at_value among t g) = value_keeps among t s g
   step_keeps s ws (at_actions g) =
       cond_both (is_right w.kind) _ _ Keeps (λ _. at_forms (rule_kept s g.0 g.1)) (λ _. cond_both (is_left w.kind) _ _ Keeps (λ _. at_action_word g) (λ _. tt))
   step_keeps s ws (at_action_word g) = action_word_keeps s g w.keyword
@@ -264,7 +316,7 @@ module _ (w : Word) where
       (λ _. at_actions (g.0.0, action_kept s (action.Remove s.cells) g.0.1 (and_from _ _ (lt-ltb _ _ g.1) g.0.2))) (λ _. cell_keeps s g.0 w.kind)
   step_keeps s ws (at_items g) =
       cond_both (is_right w.kind) _ _ Keeps (λ _. at_actions (g.0, action_kept s (action.Write s.items) g.1 g.2))
-      (λ _. cond_both (is_left w.kind) _ _ Keeps (λ _. at_item_word g) (λ _. item_value_keeps s g (constant_of w.kind w.name)))
+      (λ _. cond_both (is_left w.kind) _ _ Keeps (λ _. at_item_word g) (λ _. value_keeps false ToItem s g))
   step_keeps s ws (at_item_word g) = cond_both (is_crlf w.keyword) _ _ Keeps (λ _. at_crlf g) (λ _. tt)
   step_keeps s ws (at_crlf g) = cond_both (is_right w.kind) _ _ Keeps (λ _. item_kept s item.Crlf g refl) (λ _. tt)
   step_keeps s ws (at_halt g) = cond_both (is_right w.kind) _ _ Keeps (λ _. at_actions (g.0, action_kept s action.Halt g.1 refl)) (λ _. tt)

@@ -12,7 +12,7 @@ use Rattle.ops_base.specs.declared.actions.Item.{Item}
 use Rattle.ops_base.specs.declared.actions.Item.TheVariants as item
 use Rattle.ops_base.specs.Valid.{class_of, is_attribute}
 use Rattle.ops_meaning.specs.declared.words.Word.{Word}
-use Rattle.ops_meaning.specs.Grammar.{InPut, Wanted, Terms, ValueFor, Cell, Cells, Items, State, Next, natural_of, number_of, cell_of, item_variable, put_variable, with_put, with_item, step, goes}
+use Rattle.ops_meaning.specs.Grammar.{InPut, ToPut, ToItem, Wanted, Terms, ValueFor, Cell, Cells, Items, State, Next, natural_of, number_of, bound_at, cell_of, with_put, with_item, step, goes}
 use Rattle.ops_meaning.specs.Spelling.{spelled_value, spelled_variable, spelled_each, spelled_term, spelled_put, spelled_cell, spelled_item, term_is_plain, put_is_plain, item_is_plain}
 use Rattle.ops_meaning.proofs.Places.{numbered, number_below}
 use Rattle.ops_meaning.proofs.ReadsBack.{by_word}
@@ -23,25 +23,25 @@ bound k n s e lt = ap (number_of (record { 0 = n })) e ∙ number_below k n (ltb
 
 -- ---- make
 
-put_constant_step : (f : ℕ) (v : Value) (ws : List Wanted) (s : State) → step (spelled_value v) (ValueFor InPut f ∷ ws) s ≡ Next ws (with_put s f (term.Constant v))
+put_constant_step : (f : ℕ) (v : Value) (ws : List Wanted) (s : State) → step (spelled_value v) (ValueFor (ToPut f) ∷ ws) s ≡ Next ws (with_put s f (term.Constant v))
 unfolding step
 put_constant_step f (value.Whole n) ws s = refl
 put_constant_step f (value.Symbol name) ws s = refl
 
-put_variable_step : (f n : ℕ) (ws : List Wanted) (s : State) → step (spelled_variable n) (ValueFor InPut f ∷ ws) s ≡ put_variable f (number_of (record { 0 = n }) s.values) ws s
+put_variable_step : (f n : ℕ) (ws : List Wanted) (s : State) → step (spelled_variable n) (ValueFor (ToPut f) ∷ ws) s ≡ bound_at (ToPut f) (number_of (record { 0 = n }) s.values) ws s
 unfolding step
 put_variable_step f n ws s = refl
 
 put_terms : (f k : ℕ) (terms : List Term) (more : List Word) (ws : List Wanted) (s : State) → s.values ≡ numbered k → length terms ≡ 1 → list_all (term_is_plain k) terms ≡ true
-    → goes (spelled_each spelled_term terms ++ more) (ValueFor InPut f ∷ ws) s ≡ goes more ws (record s { puts = s.puts ++ record { field = f; terms = terms } ∷ [] })
+    → goes (spelled_each spelled_term terms ++ more) (ValueFor (ToPut f) ∷ ws) s ≡ goes more ws (record s { puts = s.puts ++ record { field = f; terms = terms } ∷ [] })
 put_terms f k [] more ws s e one plain = absurd (omega arith)
 put_terms f k (t ∷ u ∷ ts) more ws s e one plain = absurd (omega arith)
 put_terms f k (term.Constant v ∷ []) more ws s e one plain =
-    by_word (spelled_value v) more (ValueFor InPut f ∷ ws) ws s (with_put s f (term.Constant v)) (put_constant_step f v ws s)
+    by_word (spelled_value v) more (ValueFor (ToPut f) ∷ ws) ws s (with_put s f (term.Constant v)) (put_constant_step f v ws s)
 put_terms f k (term.Variable n ∷ []) more ws s e one plain =
     let lt : nat_lt n k ≡ true = (and_parts (nat_lt n k) true plain).0 in
-    by_word (spelled_variable n) more (ValueFor InPut f ∷ ws) ws s (with_put s f (term.Variable n))
-    (put_variable_step f n ws s ∙ ap (λ (o : Option ℕ). put_variable f o ws s) (bound k n s e lt))
+    by_word (spelled_variable n) more (ValueFor (ToPut f) ∷ ws) ws s (with_put s f (term.Variable n))
+    (put_variable_step f n ws s ∙ ap (λ (o : Option ℕ). bound_at (ToPut f) o ws s) (bound k n s e lt))
 put_terms f k (_ ∷ []) more ws s e one plain = absurd (true≢false (sym plain))
 
 pub puts_read : (puts : List Put) (k : ℕ) (more : List Word) (ws : List Wanted) (s : State) → AreNamed s.classes → s.class < length s.classes → s.values ≡ numbered k → list_all (put_is_plain (class_of s.classes s.class) k) puts ≡ true
@@ -106,7 +106,7 @@ unfolding step
 item_constant_step (value.Whole n) ws s = refl
 item_constant_step (value.Symbol name) ws s = refl
 
-item_variable_step : (n : ℕ) (ws : List Wanted) (s : State) → step (spelled_variable n) (Items ∷ ws) s ≡ item_variable (number_of (record { 0 = n }) s.values) (Items ∷ ws) s
+item_variable_step : (n : ℕ) (ws : List Wanted) (s : State) → step (spelled_variable n) (Items ∷ ws) s ≡ bound_at ToItem (number_of (record { 0 = n }) s.values) (Items ∷ ws) s
 unfolding step
 item_variable_step n ws s = refl
 
@@ -117,7 +117,7 @@ crlf_read more ws s = refl
 item_read : (i : Item) (k : ℕ) (more : List Word) (ws : List Wanted) (s : State) → s.values ≡ numbered k → item_is_plain k i ≡ true → goes (spelled_item i ++ more) (Items ∷ ws) s ≡ goes more (Items ∷ ws) (with_item s i)
 item_read (item.Print (term.Constant v)) k more ws s e plain = by_word (spelled_value v) more (Items ∷ ws) (Items ∷ ws) s _ (item_constant_step v ws s)
 item_read (item.Print (term.Variable n)) k more ws s e plain =
-    by_word (spelled_variable n) more (Items ∷ ws) (Items ∷ ws) s _ (item_variable_step n ws s ∙ ap (λ (o : Option ℕ). item_variable o (Items ∷ ws) s) (bound k n s e plain))
+    by_word (spelled_variable n) more (Items ∷ ws) (Items ∷ ws) s _ (item_variable_step n ws s ∙ ap (λ (o : Option ℕ). bound_at ToItem o (Items ∷ ws) s) (bound k n s e plain))
 item_read item.Crlf k more ws s e plain = crlf_read more ws s
 item_read _ k more ws s e plain = absurd (true≢false (sym plain))
 

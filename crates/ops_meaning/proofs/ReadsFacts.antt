@@ -11,7 +11,7 @@ use Rattle.ops_base.specs.declared.commands.Command.TheVariants as command
 use Rattle.ops_base.specs.Valid.{are_distinct, no_class, class_of, is_attribute}
 use Rattle.ops_meaning.specs.declared.words.Word.{Word}
 use Rattle.ops_meaning.specs.declared.words.Keyword.TheVariants as keyword
-use Rattle.ops_meaning.specs.Grammar.{Use, InFixed, Wanted, Forms, ClassName, Terms, Attribute, ValueFor, State, Next, with_fixed, with_element, step, goes}
+use Rattle.ops_meaning.specs.Grammar.{Use, InFixed, Wanted, Forms, ClassName, Terms, Attribute, ValueFor, ToFixed, State, Next, behind_attribute, with_fixed, with_element, step, goes}
 use Rattle.ops_meaning.specs.Spelling.{unnamed, opening, closing, caret, spelled_keyword, spelled_name, spelled_value, spelled_each, attribute_name, spelled_attribute, spelled_fixed, spelled_fact, spelled_run, fixed_is_plain}
 use Rattle.ops_meaning.proofs.Places.{place_found}
 use Rattle.ops_meaning.proofs.ReadsBack.{by_word}
@@ -34,7 +34,7 @@ attributes_are (c ∷ cs) zero lt = refl
 attributes_are (c ∷ cs) (suc i) lt = attributes_are cs i (omega arith)
 
 pub attribute_step : (u : Use) (f : ℕ) (ws : List Wanted) (s : State) → AreNamed s.classes → s.class < length s.classes → is_attribute (class_of s.classes s.class) f ≡ true
-    → step (spelled_name (attribute_name (class_of s.classes s.class) f)) (Attribute u ∷ ws) s ≡ Next (ValueFor u f ∷ ws) s
+    → step (spelled_name (attribute_name (class_of s.classes s.class) f)) (Attribute u ∷ ws) s ≡ Next (behind_attribute u f ∷ ws) s
 unfolding step
 attribute_step u f ws s names lt is =
     let c = class_of s.classes s.class in
@@ -45,25 +45,25 @@ caret_step : (u : Use) (ws : List Wanted) (s : State) → step caret (Terms u �
 unfolding step
 caret_step u ws s = refl
 
--- up to the value of an attribute
+-- up to what stands behind an attribute
 pub attribute_read : (u : Use) (f : ℕ) (values more : List Word) (ws : List Wanted) (s : State) → AreNamed s.classes → s.class < length s.classes → is_attribute (class_of s.classes s.class) f ≡ true
-    → goes (spelled_attribute (class_of s.classes s.class) f values ++ more) (Terms u ∷ ws) s ≡ goes (values ++ more) (ValueFor u f ∷ Terms u ∷ ws) s
+    → goes (spelled_attribute (class_of s.classes s.class) f values ++ more) (Terms u ∷ ws) s ≡ goes (values ++ more) (behind_attribute u f ∷ Terms u ∷ ws) s
 attribute_read u f values more ws s names lt is =
     let name = spelled_name (attribute_name (class_of s.classes s.class) f) in
     by_word caret (name ∷ values ++ more) (Terms u ∷ ws) (Attribute u ∷ Terms u ∷ ws) s s (caret_step u ws s)
-    ∙ by_word name (values ++ more) (Attribute u ∷ Terms u ∷ ws) (ValueFor u f ∷ Terms u ∷ ws) s s (attribute_step u f (Terms u ∷ ws) s names lt is)
+    ∙ by_word name (values ++ more) (Attribute u ∷ Terms u ∷ ws) (behind_attribute u f ∷ Terms u ∷ ws) s s (attribute_step u f (Terms u ∷ ws) s names lt is)
 
 -- ---- commands
 
-fixed_step : (f : ℕ) (v : Value) (ws : List Wanted) (s : State) → step (spelled_value v) (ValueFor InFixed f ∷ ws) s ≡ Next ws (with_fixed s f v)
+fixed_step : (f : ℕ) (v : Value) (ws : List Wanted) (s : State) → step (spelled_value v) (ValueFor (ToFixed f) ∷ ws) s ≡ Next ws (with_fixed s f v)
 unfolding step
 fixed_step f (value.Whole n) ws s = refl
 fixed_step f (value.Symbol name) ws s = refl
 
 fixed_values : (f : ℕ) (values : List Value) (more : List Word) (ws : List Wanted) (s : State) → length values ≡ 1
-    → goes (map spelled_value values ++ more) (ValueFor InFixed f ∷ ws) s ≡ goes more ws (record s { fixed = s.fixed ++ record { field = f; values = values } ∷ [] })
+    → goes (map spelled_value values ++ more) (ValueFor (ToFixed f) ∷ ws) s ≡ goes more ws (record s { fixed = s.fixed ++ record { field = f; values = values } ∷ [] })
 fixed_values f [] more ws s e = absurd (omega arith)
-fixed_values f (v ∷ []) more ws s e = by_word (spelled_value v) more (ValueFor InFixed f ∷ ws) ws s (with_fixed s f v) (fixed_step f v ws s)
+fixed_values f (v ∷ []) more ws s e = by_word (spelled_value v) more (ValueFor (ToFixed f) ∷ ws) ws s (with_fixed s f v) (fixed_step f v ws s)
 fixed_values f (v ∷ w ∷ vs) more ws s e = absurd (omega arith)
 
 fixed_read : (puts : List Fixed) (more : List Word) (ws : List Wanted) (s : State) → AreNamed s.classes → s.class < length s.classes → list_all (fixed_is_plain (class_of s.classes s.class)) puts ≡ true

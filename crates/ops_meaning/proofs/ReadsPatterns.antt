@@ -1,5 +1,5 @@
 -- What is spelled of a left side is read back.
-use Rattle.std.proofs.Common.{◌≡◌, ℕ, suc, ◌<◌, Bool, true, false, not, ◌&&◌, cond, List, [], ◌∷◌, ◌++◌, length, refl, sym, ap, subst, ◌∙◌, arith, Option, nat_lt, append-nil, append_assoc, true≢false}
+use Rattle.std.proofs.Common.{◌≡◌, ℕ, suc, ◌<◌, Bool, true, false, not, ◌&&◌, cond, List, [], ◌∷◌, ◌++◌, length, map, refl, sym, ap, subst, ◌∙◌, arith, Option, nat_lt, append-nil, append_assoc, true≢false}
 use Rattle.std.proofs.lemmas.Bool.{and_parts, ltb-true, eqb-true, not-true}
 use Rattle.ops_base.specs.declared.values.Value.{Value}
 use Rattle.ops_base.specs.declared.values.Value.TheVariants as value
@@ -9,49 +9,105 @@ use Rattle.ops_base.specs.declared.conditions.Operand.{Operand}
 use Rattle.ops_base.specs.declared.conditions.Operand.TheVariants as operand
 use Rattle.ops_base.specs.declared.conditions.Test.{Test}
 use Rattle.ops_base.specs.declared.conditions.Condition.{Condition}
-use Rattle.ops_base.specs.Valid.{class_of, is_attribute, is_equality}
+use Rattle.ops_base.specs.Valid.{class_of, is_attribute}
 use Rattle.ops_meaning.specs.declared.words.Word.{Word}
-use Rattle.ops_meaning.specs.Grammar.{InPattern, Wanted, ClassName, Terms, ValueFor, State, Next, number_of, with_test, with_variable, step, goes}
-use Rattle.ops_meaning.specs.Spelling.{closing, spelled_name, spelled_value, spelled_variable, spelled_each, spelled_operand, spelled_test, spelled_pattern, operand_is_plain, test_is_plain, after_test, tests_are_plain, after_tests, condition_is_plain}
+use Rattle.ops_meaning.specs.declared.words.Keyword.TheVariants as keyword
+use Rattle.ops_meaning.specs.Grammar.{InPattern, Wanted, ClassName, Terms, Place, Tested, Choice, State, Next, number_of, with_test, variable_tested, with_choice, step, goes}
+use Rattle.ops_meaning.specs.Spelling.{closing, spelled_name, spelled_value, spelled_variable, spelled_each, spelled_operator, keyword_of_pred, spelled_operand, spelled_test, spelled_pattern, operand_is_plain, test_is_plain, after_test, tests_are_plain, after_tests, condition_is_plain}
 use Rattle.ops_meaning.proofs.Places.{numbered, length-numbered, number_below, number_above}
 use Rattle.ops_meaning.proofs.ReadsBack.{by_word}
 use Rattle.ops_meaning.proofs.ReadsFacts.{AreNamed, class_step, attribute_read, element_closed}
 
 -- where so many variables are bound, behind these tests
 abbrev pub tests_at : State → ℕ → List Test → State
-tests_at s k ts = record s { values = numbered k; tests = ts }
+tests_at s k ts = record s { values = numbered k; tests = ts; choice = [] }
 
-constant_step : (f : ℕ) (v : Value) (ws : List Wanted) (s : State) → step (spelled_value v) (ValueFor InPattern f ∷ ws) s ≡ Next ws (with_test s f (operand.Constant v) false)
+predicate_step : (f : ℕ) (p : Pred) (ws : List Wanted) (s : State) → step (spelled_operator (keyword_of_pred p)) (Place f ∷ ws) s ≡ Next (Tested f p ∷ ws) s
 unfolding step
-constant_step f (value.Whole n) ws s = refl
-constant_step f (value.Symbol name) ws s = refl
+predicate_step f pred.Eq ws s = refl
+predicate_step f pred.Ne ws s = refl
+predicate_step f pred.Lt ws s = refl
+predicate_step f pred.Le ws s = refl
+predicate_step f pred.Gt ws s = refl
+predicate_step f pred.Ge ws s = refl
+predicate_step f pred.SameKind ws s = refl
 
-variable_step : (f n : ℕ) (ws : List Wanted) (s : State) → step (spelled_variable n) (ValueFor InPattern f ∷ ws) s ≡ Next ws (with_variable s f (record { 0 = n }) (number_of (record { 0 = n }) s.values))
+constant_step : (f : ℕ) (p : Pred) (v : Value) (ws : List Wanted) (s : State) → step (spelled_value v) (Tested f p ∷ ws) s ≡ Next ws (with_test s f p (operand.Constant v) false)
 unfolding step
-variable_step f n ws s = refl
+constant_step f p (value.Whole n) ws s = refl
+constant_step f p (value.Symbol name) ws s = refl
+
+variable_step : (f : ℕ) (p : Pred) (n : ℕ) (ws : List Wanted) (s : State) → step (spelled_variable n) (Tested f p ∷ ws) s ≡ variable_tested f p (number_of (record { 0 = n }) s.values) (record { 0 = n }) ws s
+unfolding step
+variable_step f p n ws s = refl
+
+-- ---- a disjunction
+
+choice_begun : (f : ℕ) (words : List Word) (ws : List Wanted) (s : State) → goes (spelled_operator keyword.OpenChoice ∷ words) (Place f ∷ ws) s ≡ goes words (Choice f ∷ ws) (record s { choice = [] })
+unfolding goes step
+choice_begun f words ws s = refl
+
+choice_step : (f : ℕ) (v : Value) (ws : List Wanted) (s : State) → step (spelled_value v) (Choice f ∷ ws) s ≡ Next (Choice f ∷ ws) (record s { choice = s.choice ++ v ∷ [] })
+unfolding step
+choice_step f (value.Whole n) ws s = refl
+choice_step f (value.Symbol name) ws s = refl
+
+choice_closed : (f : ℕ) (words : List Word) (ws : List Wanted) (s : State) → goes (spelled_operator keyword.CloseChoice ∷ words) (Choice f ∷ ws) s ≡ goes words ws (with_choice s f)
+unfolding goes step
+choice_closed f words ws s = refl
+
+choices_read : (f : ℕ) (vs : List Value) (more : List Word) (ws : List Wanted) (s : State) → goes (map spelled_value vs ++ more) (Choice f ∷ ws) s ≡ goes more (Choice f ∷ ws) (record s { choice = s.choice ++ vs })
+choices_read f [] more ws s = ap (λ (xs : List Value). goes more (Choice f ∷ ws) (record s { choice = xs })) (sym (append-nil s.choice))
+choices_read f (v ∷ vs) more ws s =
+    let next : State = record s { choice = s.choice ++ v ∷ [] } in
+    by_word (spelled_value v) (map spelled_value vs ++ more) (Choice f ∷ ws) (Choice f ∷ ws) s next (choice_step f v ws s)
+    ∙ choices_read f vs more ws next
+    ∙ ap (λ (xs : List Value). goes more (Choice f ∷ ws) (record s { choice = xs })) (append_assoc s.choice (v ∷ []) vs)
+
+-- ---- tests
 
 module _ (f k : ℕ) (ts : List Test) (more : List Word) (ws : List Wanted) (s : State) where
-  -- a variable that is bound here
-  bound_read : goes (spelled_variable k ∷ more) (ValueFor InPattern f ∷ ws) (tests_at s k ts) ≡ goes more ws (tests_at s (suc k) (ts ++ record { field = f; pred = pred.Eq; operand = operand.Variable k; binds = true } ∷ []))
-  bound_read =
-      by_word (spelled_variable k) more (ValueFor InPattern f ∷ ws) ws (tests_at s k ts) _
-      (variable_step f k ws (tests_at s k ts)
-      ∙ ap (λ (o : Option ℕ). Next ws (with_variable (tests_at s k ts) f (record { 0 = k }) o)) (number_above k k (omega arith))
-      ∙ ap (λ (m : ℕ). Next ws (record s { values = numbered k ++ record { name = record { 0 = k }; number = m } ∷ []; tests = ts ++ record { field = f; pred = pred.Eq; operand = operand.Variable m; binds = true } ∷ [] })) (length-numbered k))
+  predicate_read : (p : Pred) (words : List Word) → goes (spelled_operator (keyword_of_pred p) ∷ words) (Place f ∷ ws) (tests_at s k ts) ≡ goes words (Tested f p ∷ ws) (tests_at s k ts)
+  predicate_read p words = by_word (spelled_operator (keyword_of_pred p)) words (Place f ∷ ws) (Tested f p ∷ ws) (tests_at s k ts) (tests_at s k ts) (predicate_step f p ws (tests_at s k ts))
 
-  operand_read : (p : Pred) (o : Operand) (b : Bool) → is_equality p ≡ true → operand_is_plain k b o ≡ true
-      → goes (spelled_operand o ++ more) (ValueFor InPattern f ∷ ws) (tests_at s k ts) ≡ goes more ws (tests_at s (cond b (suc k) k) (ts ++ record { field = f; pred = p; operand = o; binds = b } ∷ []))
-  operand_read pred.Eq (operand.Constant v) false e plain = by_word (spelled_value v) more (ValueFor InPattern f ∷ ws) ws (tests_at s k ts) _ (constant_step f v ws (tests_at s k ts))
-  operand_read pred.Eq (operand.Constant v) true e plain = absurd (true≢false (sym plain))
-  operand_read pred.Eq (operand.Variable n) false e plain =
-      by_word (spelled_variable n) more (ValueFor InPattern f ∷ ws) ws (tests_at s k ts) _
-      (variable_step f n ws (tests_at s k ts)
-      ∙ ap (λ (o : Option ℕ). Next ws (with_variable (tests_at s k ts) f (record { 0 = n }) o)) (number_below k n (ltb-true _ _ plain)))
-  operand_read pred.Eq (operand.Variable n) true e plain =
-      subst (λ (m : ℕ). goes (spelled_variable m ∷ more) (ValueFor InPattern f ∷ ws) (tests_at s k ts) ≡ goes more ws (tests_at s (suc k) (ts ++ record { field = f; pred = pred.Eq; operand = operand.Variable m; binds = true } ∷ [])))
+  -- a variable that is bound here
+  bound_read : goes (spelled_variable k ∷ more) (Tested f pred.Eq ∷ ws) (tests_at s k ts) ≡ goes more ws (tests_at s (suc k) (ts ++ record { field = f; pred = pred.Eq; operand = operand.Variable k; binds = true } ∷ []))
+  bound_read =
+      by_word (spelled_variable k) more (Tested f pred.Eq ∷ ws) ws (tests_at s k ts) _
+      (variable_step f pred.Eq k ws (tests_at s k ts)
+      ∙ ap (λ (o : Option ℕ). variable_tested f pred.Eq o (record { 0 = k }) ws (tests_at s k ts)) (number_above k k (omega arith))
+      ∙ ap (λ (m : ℕ). Next ws (record s { values = numbered k ++ record { name = record { 0 = k }; number = m } ∷ []; choice = []; tests = ts ++ record { field = f; pred = pred.Eq; operand = operand.Variable m; binds = true } ∷ [] })) (length-numbered k))
+
+  -- a variable that is bound already
+  known_read : (p : Pred) (n : ℕ) → n < k → goes (spelled_variable n ∷ more) (Tested f p ∷ ws) (tests_at s k ts) ≡ goes more ws (tests_at s k (ts ++ record { field = f; pred = p; operand = operand.Variable n; binds = false } ∷ []))
+  known_read p n lt =
+      by_word (spelled_variable n) more (Tested f p ∷ ws) ws (tests_at s k ts) _
+      (variable_step f p n ws (tests_at s k ts)
+      ∙ ap (λ (o : Option ℕ). variable_tested f p o (record { 0 = n }) ws (tests_at s k ts)) (number_below k n lt))
+
+  -- a disjunction
+  choice_read : (vs : List Value) → goes (spelled_operand pred.Eq (operand.OneOf vs) ++ more) (Place f ∷ ws) (tests_at s k ts) ≡ goes more ws (tests_at s k (ts ++ record { field = f; pred = pred.Eq; operand = operand.OneOf vs; binds = false } ∷ []))
+  choice_read vs =
+      let body = map spelled_value vs in
+      choice_begun f (body ++ spelled_operator keyword.CloseChoice ∷ [] ++ more) ws (tests_at s k ts)
+      ∙ ap (λ (x : List Word). goes x (Choice f ∷ ws) (tests_at s k ts)) (append_assoc body (spelled_operator keyword.CloseChoice ∷ []) more)
+      ∙ choices_read f vs (spelled_operator keyword.CloseChoice ∷ more) ws (tests_at s k ts)
+      ∙ choice_closed f more ws (record (tests_at s k ts) { choice = vs })
+
+  operand_read : (p : Pred) (o : Operand) (b : Bool) → operand_is_plain k p b o ≡ true
+      → goes (spelled_operand p o ++ more) (Place f ∷ ws) (tests_at s k ts) ≡ goes more ws (tests_at s (cond b (suc k) k) (ts ++ record { field = f; pred = p; operand = o; binds = b } ∷ []))
+  operand_read p (operand.Constant v) false plain =
+      predicate_read p (spelled_value v ∷ more) ∙ by_word (spelled_value v) more (Tested f p ∷ ws) ws (tests_at s k ts) _ (constant_step f p v ws (tests_at s k ts))
+  operand_read p (operand.Constant v) true plain = absurd (true≢false (sym plain))
+  operand_read p (operand.Variable n) false plain = predicate_read p (spelled_variable n ∷ more) ∙ known_read p n (ltb-true _ _ plain)
+  operand_read pred.Eq (operand.Variable n) true plain =
+      predicate_read pred.Eq (spelled_variable n ∷ more)
+      ∙ subst (λ (m : ℕ). goes (spelled_variable m ∷ more) (Tested f pred.Eq ∷ ws) (tests_at s k ts) ≡ goes more ws (tests_at s (suc k) (ts ++ record { field = f; pred = pred.Eq; operand = operand.Variable m; binds = true } ∷ [])))
       (sym (eqb-true n k plain)) bound_read
-  operand_read pred.Eq (operand.OneOf vs) b e plain = absurd (true≢false (sym plain))
-  operand_read _ o b e plain = absurd (true≢false (sym e))
+  operand_read _ (operand.Variable n) true plain = absurd (true≢false (sym plain))
+  operand_read pred.Eq (operand.OneOf vs) false plain = choice_read vs
+  operand_read _ (operand.OneOf vs) false plain = absurd (true≢false (sym plain))
+  operand_read _ (operand.OneOf vs) true plain = absurd (true≢false (sym plain))
 
 -- The tests of a pattern are read back.
 pub tests-read : (tests : List Test) (k : ℕ) (ts : List Test) (more : List Word) (ws : List Wanted) (s : State) → AreNamed s.classes → s.class < length s.classes → tests_are_plain (class_of s.classes s.class) k tests ≡ true
@@ -60,12 +116,11 @@ tests-read [] k ts more ws s names lt plain = ap (λ (xs : List Test). goes more
 tests-read (t ∷ tests) k ts more ws s names lt plain =
     let c = class_of s.classes s.class in
     let each = and_parts (test_is_plain c k t) (tests_are_plain c (after_test k t) tests) plain in
-    let parts = and_parts (is_attribute c t.field && is_equality t.pred) (operand_is_plain k t.binds t.operand) each.0 in
-    let first = and_parts (is_attribute c t.field) (is_equality t.pred) parts.0 in
+    let parts = and_parts (is_attribute c t.field) (operand_is_plain k t.pred t.binds t.operand) each.0 in
     let rest = spelled_each (spelled_test c) tests in
     ap (λ (x : List Word). goes x (Terms InPattern ∷ ws) (tests_at s k ts)) (append_assoc (spelled_test c t) rest more)
-    ∙ attribute_read InPattern t.field (spelled_operand t.operand) (rest ++ more) ws (tests_at s k ts) names lt first.0
-    ∙ operand_read t.field k ts (rest ++ more) (Terms InPattern ∷ ws) s t.pred t.operand t.binds first.1 parts.1
+    ∙ attribute_read InPattern t.field (spelled_operand t.pred t.operand) (rest ++ more) ws (tests_at s k ts) names lt parts.0
+    ∙ operand_read t.field k ts (rest ++ more) (Terms InPattern ∷ ws) s t.pred t.operand t.binds parts.1
     ∙ tests-read tests (after_test k t) (ts ++ t ∷ []) more ws s names lt each.1
     ∙ ap (λ (xs : List Test). goes more (Terms InPattern ∷ ws) (tests_at s (after_tests (after_test k t) tests) xs)) (append_assoc ts (t ∷ []) tests)
 

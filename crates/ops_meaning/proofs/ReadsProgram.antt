@@ -39,6 +39,7 @@ idle rest classes rules commands =
       attrs = [];
       class = rest.class;
       tests = [];
+      choice = [];
       puts = [];
       fixed = [];
       cells = [];

@@ -102,7 +102,7 @@ actions-read (a ∷ xs) k more ws s class done names e plain =
 
 -- behind these conditions
 abbrev pub matched : State → ℕ → ℕ → List Condition → State
-matched s class k done = record s { class = class; values = numbered k; tests = []; conditions = done }
+matched s class k done = record s { class = class; values = numbered k; tests = []; choice = []; conditions = done }
 
 abbrev pub class_behind : ℕ → List Condition → ℕ
 class_behind class [] = class
