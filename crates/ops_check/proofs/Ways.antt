@@ -1,8 +1,9 @@
 -- Steps of the walk over words, with more words behind.
 use Rattle.std.proofs.Common.{◌≡◌, ℕ, true, false, List, [], ◌∷◌, ◌++◌, None, Some, Result, Ok, Err, refl, ◌∙◌, if◌then◌else◌}
 use Rattle.std.specs.Borrow.{Bor}
+use Rattle.ops_base.specs.declared.values.Pred.{Pred}
 use Rattle.ops_meaning.specs.declared.words.Word.{Word}
-use Rattle.ops_meaning.specs.Grammar.{Wanted, Cell, Cells, Items, ItemWord, Tests, ToItem, State, Next, after, step, goes, is_left, is_right, is_right_brace, test, value_for, cell}
+use Rattle.ops_meaning.specs.Grammar.{Target, Wanted, Cell, Cells, Items, ItemWord, Place, Tests, Tested, ValueFor, ToItem, State, Next, after, step, goes, is_left, is_right, is_left_brace, is_right_brace, test, tested, value_for, cell}
 use Rattle.ops_check.specs.declared.refusals.Refusal.{Refusal}
 use Rattle.ops_check.specs.declared.refusals.Refusal.TheVariants as refusal
 use Rattle.ops_check.specs.Going.{Way, Fails, Goes}
@@ -42,3 +43,15 @@ items_first words rest more w ws s e other = rw (e, other) refl
 pub tests_first : (f : ℕ) (words rest more : List Word) (w : Word) (ws : List Wanted) (s : State) → words ≡ w ∷ rest → is_right_brace w.kind ≡ false → goes (words ++ more) (Tests f ∷ ws) s ≡ after (goes (rest ++ more)) w (test f w (Tests f ∷ ws) s)
 unfolding goes step
 tests_first f words rest more w ws s e other = rw (e, other) refl
+
+pub place_first : (f : ℕ) (words rest more : List Word) (w : Word) (ws : List Wanted) (s : State) → words ≡ w ∷ rest → is_left_brace w.kind ≡ false → goes (words ++ more) (Place f ∷ ws) s ≡ after (goes (rest ++ more)) w (test f w ws s)
+unfolding goes step
+place_first f words rest more w ws s e other = rw (e, other) refl
+
+pub tested_first : (f : ℕ) (p : Pred) (words rest more : List Word) (w : Word) (ws : List Wanted) (s : State) → words ≡ w ∷ rest → goes (words ++ more) (Tested f p ∷ ws) s ≡ after (goes (rest ++ more)) w (tested f p w ws s)
+unfolding goes step
+tested_first f p words rest more w ws s e = rw e refl
+
+pub value_first : (t : Target) (words rest more : List Word) (w : Word) (ws : List Wanted) (s : State) → words ≡ w ∷ rest → goes (words ++ more) (ValueFor t ∷ ws) s ≡ after (goes (rest ++ more)) w (value_for t w ws s)
+unfolding goes step
+value_first t words rest more w ws s e = rw e refl
