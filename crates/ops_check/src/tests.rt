@@ -2,9 +2,11 @@
 
 use crate::faults::ProgramFault;
 use crate::program::read_program;
+use ops_base::conditions::Operand;
 use ops_base::endings::{Fault, Limit};
 use ops_base::programs::Program;
 use ops_base::symbols::Names;
+use ops_base::values::{Pred, Value};
 use ops_forms::place_of;
 use std::alloc::Global;
 use std::test::Fail;
@@ -46,7 +48,44 @@ fn program_is_read(rt: HostRuntime) -> Result<(), ProgramFault> {
 #[test]
 fn faults_stand_at_their_places(rt: HostRuntime) {
     let alloc = rt.alloc();
-    let rows: [(&[u8], Fault, u64, u64); 23] = [
+    let rows: [(&[u8], Fault, u64, u64); 30] = [
+        (
+            b"(literalize a n) (p r (a ^n > <x>) -->)",
+            Fault::UnboundVariable,
+            1,
+            31,
+        ),
+        (
+            b"(literalize a n) (p r (a ^n { > 3 < 5 ) -->)",
+            Fault::BadForm,
+            1,
+            39,
+        ),
+        (
+            b"(literalize a n) (p r (a ^n << 1 <x>",
+            Fault::Unclosed,
+            1,
+            37,
+        ),
+        (
+            b"(literalize a n) (p r (a ^n >>) -->)",
+            Fault::BadForm,
+            1,
+            29,
+        ),
+        (
+            b"(literalize a n) (p r (a ^n > = 3) -->)",
+            Fault::BadForm,
+            1,
+            31,
+        ),
+        (b"(literalize a n) (make a ^n //)", Fault::BadForm, 1, 31),
+        (
+            b"(literalize a n) (p r (a ^n 1 2) -->)",
+            Fault::BadForm,
+            1,
+            31,
+        ),
         (b"(literalize a) (make b)", Fault::UnknownClass, 1, 22),
         (
             b"(literalize a) (p r (a) --> (write <x>))",
@@ -172,6 +211,30 @@ fn a_fault_is_told(rt: HostRuntime) -> Result<(), Fail> {
     };
     let told = format!(in rt.alloc(); "{fault}")?;
     assert_eq!(rt; told.as_str(), "3:14: limit passed: fields");
+    Ok(())
+}
+
+#[test]
+fn tests_are_read(rt: HostRuntime) -> Result<(), ProgramFault> {
+    let text = b"(literalize a n m)
+(p r (a ^n { <x> > 3 <= 9 } ^m << <x> 7 >>) (a ^n <> <x> ^m // <x>) --> (write // 7 =))";
+    let (program, mut names) = read(rt.alloc(), text)?;
+    let variable = Value::Symbol(names.intern(b"<x>")?);
+    for rule in program.rules.as_slice() {
+        let [first, second] = rule.conditions.as_slice() else {
+            panic!(rt; "two conditions");
+        };
+        let preds = first.tests.as_slice().iter().map(|test| test.pred);
+        assert!(rt; preds.eq([Pred::Eq, Pred::Gt, Pred::Le, Pred::Eq]));
+        for test in second.tests.as_slice() {
+            match &test.operand {
+                Operand::Constant(value) => assert_eq!(rt; (test.field, *value), (1, variable)),
+                Operand::Variable(number) => assert_eq!(rt; (test.pred, *number), (Pred::Ne, 0)),
+                Operand::OneOf(_) => panic!(rt; "no disjunction"),
+            }
+        }
+        assert_eq!(rt; (rule.variables, rule.specificity), (1, 7));
+    }
     Ok(())
 }
 

@@ -13,11 +13,7 @@ use ops_meaning::Word;
 impl Draft {
     // rconstant | VARIABLE
     #[tactic(auto, unfolding(ops_meaning::specs::Grammar::goes, ops_meaning::specs::Grammar::step, ops_meaning::specs::Grammar::ends))]
-    pub fn value_of<'a>(
-        &mut self,
-        target: Target,
-        words: &'a [Word],
-    ) -> Result<&'a [Word], Refusal>
+    pub fn value_of<'a>(&mut self, target: Target, words: &'a [Word]) -> Result<&'a [Word], Refusal>
         ensures reads { Reads (ValueFor (target_of target)) (view self.old) (view self.new) words.now result }
         ensures within { IsWithin words.now result }
     {

@@ -144,22 +144,28 @@ module _ (text n : ℕ) (w : Word) (fit : text ≤ longest_list) (placed : IsPla
   test_leads : (f : ℕ) (p : Pred) (o : Operand) (among : Bool) (s : State) → IsShort n s → AtField InPattern text s f → operand_is_valid (sight_of s.values) p false o ≡ true → Leads text w.past (Next (behind_test f among) (with_test s f p o false))
   test_leads f p o among s short g valid = (
     omega (arith, length-append {A = Test}),
-    behind_leads f among (with_test s f p o false) (record {
-      around = (test_kept text s.classes s.rules s.commands s.name s.values s.conditions s.tests f p o g.0.around.0, g.0.around.1, g.0.around.2);
-      class = g.0.class;
-      fields = test_valid text s.classes s.rules s.commands s.name (class_of s.classes s.class) s.values s.conditions s.tests f p o false g.0.around.0 g.0.fields g.1 valid;
-    }, g.1),
+    behind_leads f among (with_test s f p o false) (
+      record {
+        around = (test_kept text s.classes s.rules s.commands s.name s.values s.conditions s.tests f p o g.0.around.0, g.0.around.1, g.0.around.2);
+        class = g.0.class;
+        fields = test_valid text s.classes s.rules s.commands s.name (class_of s.classes s.class) s.values s.conditions s.tests f p o false g.0.around.0 g.0.fields g.1 valid;
+      },
+      g.1,
+    ),
   )
 
   bound_leads : (f : ℕ) (among : Bool) (s : State) → IsShort n s → AtField InPattern text s f → Leads text w.past (Next (behind_test f among) (with_bound s f w.name))
   bound_leads f among s short g = (
     omega (arith, length-append {A = Test}),
-    behind_leads f among (with_bound s f w.name) (record {
-      around = (test_bound text s.classes s.rules s.commands s.name s.values s.conditions s.tests f w.name g.0.around.0, g.0.around.1, g.0.around.2);
-      class = g.0.class;
-      fields = test_valid text s.classes s.rules s.commands s.name (class_of s.classes s.class) s.values s.conditions s.tests f pred.Eq (operand.Variable (length s.values)) true g.0.around.0 g.0.fields g.1
-          (not_from_false _ (not_below (numbers s.values) (length s.values) g.0.around.0.below));
-    }, g.1),
+    behind_leads f among (with_bound s f w.name) (
+      record {
+        around = (test_bound text s.classes s.rules s.commands s.name s.values s.conditions s.tests f w.name g.0.around.0, g.0.around.1, g.0.around.2);
+        class = g.0.class;
+        fields = test_valid text s.classes s.rules s.commands s.name (class_of s.classes s.class) s.values s.conditions s.tests f pred.Eq (operand.Variable (length s.values)) true g.0.around.0 g.0.fields g.1
+            (not_from_false _ (not_below (numbers s.values) (length s.values) g.0.around.0.below));
+      },
+      g.1,
+    ),
   )
 
   variable_tested_leads : (f : ℕ) (p : Pred) (among : Bool) (s : State) → IsShort n s → AtField InPattern text s f → (o : Option ℕ) → number_of w.name s.values ≡ o → Leads text w.past (variable_tested f p o w.name (behind_test f among) s)
@@ -199,11 +205,14 @@ module _ (text n : ℕ) (w : Word) (fit : text ≤ longest_list) (placed : IsPla
   choice_ended : (f : ℕ) (among : Bool) (s : State) → IsShort n s → AtField InPattern text s f → Leads text w.past (Next (behind_test f among) (with_choice s f))
   choice_ended f among s short g =
       let fit : nat_le (length s.choice) longest_list ≡ true = le-leb (length s.choice) longest_list (omega arith) in
-      let u : AtField InPattern text (with_choice s f) f = (record {
-        around = (test_kept text s.classes s.rules s.commands s.name s.values s.conditions s.tests f pred.Eq (operand.OneOf s.choice) g.0.around.0, g.0.around.1, g.0.around.2);
-        class = g.0.class;
-        fields = test_valid text s.classes s.rules s.commands s.name (class_of s.classes s.class) s.values s.conditions s.tests f pred.Eq (operand.OneOf s.choice) false g.0.around.0 g.0.fields g.1 fit;
-      }, g.1) in
+      let u : AtField InPattern text (with_choice s f) f = (
+        record {
+          around = (test_kept text s.classes s.rules s.commands s.name s.values s.conditions s.tests f pred.Eq (operand.OneOf s.choice) g.0.around.0, g.0.around.1, g.0.around.2);
+          class = g.0.class;
+          fields = test_valid text s.classes s.rules s.commands s.name (class_of s.classes s.class) s.values s.conditions s.tests f pred.Eq (operand.OneOf s.choice) false g.0.around.0 g.0.fields g.1 fit;
+        },
+        g.1,
+      ) in
       (omega (arith, length-append {A = Test}), behind_leads f among (with_choice s f) u)
 
   choice_leads : (f : ℕ) (among : Bool) (s : State) → IsShort n s → AtField InPattern text s f → Leads text w.past (choice f w (behind_test f among) s)

@@ -127,6 +127,31 @@ fn unknown_command(rt: HostRuntime) -> Result<(), Fail> {
     Ok(())
 }
 
+const PREDICATES: &[u8] = b"(literalize a n m)
+(p lt (a ^n < 5) --> (write lt (crlf)))
+(p same (a ^n <x> ^m <=> <x>) --> (write same (crlf)))
+(p one (a ^m << <x> 7 >>) --> (write one (crlf)))
+(p lit (a ^n // <x>) --> (write lit (crlf)))
+(make a ^n // <x> ^m 7)
+(make a ^n 3 ^m // <x>)
+(run)
+";
+
+#[test]
+fn predicates_and_quoted_atoms(rt: HostRuntime) -> Result<(), Fail> {
+    let alloc = rt.alloc();
+    let mut sink = MemSink::new(alloc, 1_000, 1_000, Vec::new(alloc))?;
+    assert_eq!(rt;
+        answer(&rt, alloc, PREDICATES, &mut sink)?,
+        Some(Status::Done)
+    );
+    assert_eq!(rt;
+        sink.written(),
+        b"lt\none\none\nlit\nend -- no production true\n".as_slice()
+    );
+    Ok(())
+}
+
 const PAIR: &[u8] = b"(literalize a n)
 (p pair (a ^n <x>) (a ^n <x>) --> (write pair <x> (crlf)) (remove 1))
 (make a ^n 5)
