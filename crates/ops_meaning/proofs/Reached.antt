@@ -8,7 +8,8 @@ use Rattle.ops_meaning.specs.Grammar.{Wanted, Forms, State, Step, Next, Refuses,
 use Rattle.ops_meaning.specs.Derivation.{Derives}
 use Rattle.ops_meaning.specs.Standing.{IsTaken}
 use Rattle.ops_meaning.proofs.Derived.{forms_last, taken_derives, taken_last}
-use Rattle.ops_meaning.proofs.Follows.{is_proper, derived_behind}
+use Rattle.ops_meaning.proofs.Proper.{is_proper}
+use Rattle.ops_meaning.proofs.Follows.{derived_behind}
 
 -- these words lead to what is wanted there, and to that state
 pub data Reached (to : List Wanted) (at : State) : List Word → List Wanted → State → Type 0 where

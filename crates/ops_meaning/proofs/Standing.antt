@@ -18,22 +18,12 @@ use Rattle.ops_meaning.specs.Grammar.{Wanted, Forms, State, Step, Next, Refuses,
 use Rattle.ops_meaning.specs.Derivation.{Derives, nothing, no_form, IsText}
 use Rattle.ops_meaning.specs.Reads.{Read, Placed, verdict, read_lexed, reads}
 use Rattle.ops_meaning.specs.Standing.{words_of, outcome_of, StandsAt, StandsAtWord, IsReadOrInForm}
-use Rattle.ops_meaning.proofs.Derived.{forms_last, completed, taken_derives, taken_last, refused_in_form}
-use Rattle.ops_meaning.proofs.Follows.{is_proper, Went, derived_goes, refused_in_no_form}
+use Rattle.ops_meaning.proofs.Derived.{forms_last, taken_derives, taken_last, refused_in_form}
+use Rattle.ops_meaning.proofs.Completed.{completed}
+use Rattle.ops_meaning.proofs.Proper.{is_proper, words_proper}
+use Rattle.ops_meaning.proofs.Follows.{Went, derived_goes, refused_in_no_form}
 use Rattle.ops_meaning.proofs.Reasons.{refused-because}
 use Rattle.ops_meaning.proofs.Reached.{Reached, goes_behind, derives_before, derives_behind, last_behind, taken_before, stopped}
-
--- ---- the words of a text
-
-proper_kind : (k : TokenKind) (s : List ℕ) → not (is_left k && is_arrow (keyword_of k s)) ≡ true
-proper_kind kind.Left s = refl
-proper_kind _ s = refl
-
--- An arrow of a text is no bracket.
-words_proper : (text : List ℕ) (names : Spellings) (ts : List Token) → list_all is_proper (words_from text names ts) ≡ true
-words_proper text names [] = refl
-words_proper text names (t ∷ ts) =
-    and_from _ _ (proper_kind t.kind (spelling text t)) (words_proper text (names_with names t.kind (spelling text t)) ts)
 
 -- ---- a word that is refused
 
