@@ -1,18 +1,20 @@
 -- Words that are read alike.
-use Rattle.std.proofs.Common.{◌≡◌, ℕ, Bool, true, false, not, List, [], ◌∷◌, refl, sym, ap, ◌∙◌, cond, Option, Some, None, true≢false}
+use Rattle.std.proofs.Common.{◌≡◌, ℕ, Bool, true, false, List, [], ◌∷◌, refl, sym, ap, ◌∙◌, cond, Option, Some, None, true≢false}
 use Rattle.std.specs.Prelude.{if◌then◌else◌}
 use Rattle.ops_base.specs.declared.values.Sym.{Sym}
 use Rattle.ops_base.specs.declared.values.Value.{Value}
 use Rattle.ops_base.specs.declared.values.Value.TheVariants as value
 use Rattle.ops_base.specs.declared.values.Pred.{Pred}
 use Rattle.ops_base.specs.declared.values.Pred.TheVariants as pred
+use Rattle.ops_tokens.specs.declared.token.TokenKind.{TokenKind}
 use Rattle.ops_tokens.specs.declared.token.TokenKind.TheVariants as kind
 use Rattle.ops_meaning.specs.declared.words.Word.{Word}
 use Rattle.ops_meaning.specs.declared.words.Keyword.{Keyword}
 use Rattle.ops_meaning.specs.declared.words.Keyword.TheVariants as keyword
-use Rattle.ops_meaning.specs.Grammar.{Use, Target, ToTest, ToItem, Wanted, Forms, Form, ClassDeclared, Attributes, RuleName, FirstPattern, Patterns, ClassName, Terms, Attribute, Place, Tests, Tested, Choice, Atom, ValueFor, Actions, ActionWord, Cell, Cells, Items, ItemWord, Closes, State, Step, Next, is_left, is_right, is_left_brace, is_right_brace, is_literal, opens_choice, closes_choice, pred_of, with_write, with_choice, with_constant, constant_of, value_of, atom_of, form, constant_tested, tested, predicated, test, chosen, constant_at, value_for, step}
+use Rattle.ops_meaning.specs.Grammar.{Target, ToTest, ToItem, Wanted, Forms, Form, ClassDeclared, Attributes, RuleName, FirstPattern, Patterns, ClassName, Terms, Attribute, Place, Tests, Tested, Choice, Atom, ValueFor, Actions, ActionWord, Cell, Cells, Items, ItemWord, Closes, State, Step, Next, is_left, is_right, is_left_brace, is_right_brace, is_literal, opens_choice, closes_choice, pred_of, with_write, with_constant, constant_of, value_of, atom_of, form, constant_tested, tested, predicated, test, chosen, atom_at, constant_at, value_for, step}
 use Rattle.ops_meaning.specs.Spelling.{spelled_name}
-use Rattle.ops_meaning.proofs.Proper.{is_mark}
+use Rattle.ops_meaning.specs.Words.{keyword_of_symbol, has_name}
+use Rattle.ops_meaning.proofs.Proper.{is_mark, symbol_unmarked}
 
 -- a name may stand here
 abbrev pub wants_name : Wanted → Bool
@@ -71,7 +73,7 @@ module _ (k : Keyword) (unmarked : is_mark k ≡ false) (name : Sym) (first past
   value_alike : (t : Target) → value_for t symbol ws s ≡ Next ws (with_constant t s (value.Symbol name))
   value_alike t = otherwise (is_literal k) _ _ (unmarked_literal k unmarked)
 
--- Where a name may stand, a plain symbol is read as the same name in bars, whatever keyword of symbols it is elsewhere.
+-- Where a name may stand, a plain symbol with a keyword of symbols or none is read as the same name in bars.
 pub symbol-alike : (k : Keyword) (name : Sym) (first past : ℕ) (h : Wanted) (ws : List Wanted) (s : State) → is_mark k ≡ false → wants_name h ≡ true
     → step (record { kind = kind.Symbol; keyword = k; name = name; first = first; past = past }) (h ∷ ws) s ≡ step (spelled_name name) (h ∷ ws) s
 unfolding step
@@ -88,6 +90,39 @@ symbol-alike k name first past (Atom t) ws s unmarked e = refl
 symbol-alike k name first past (ValueFor t) ws s unmarked e = value_alike k unmarked name first past ws s t
 symbol-alike k name first past Items ws s unmarked e = value_alike k unmarked name first past (Items ∷ ws) s ToItem
 symbol-alike k name first past _ ws s unmarked e = absurd (true≢false (sym e))
+
+-- Where a name may stand, a plain symbol is read as the same name in bars, whatever it spells.
+pub spelling-alike : (spelling : List ℕ) (name : Sym) (first past : ℕ) (h : Wanted) (ws : List Wanted) (s : State) → wants_name h ≡ true
+    → step (record { kind = kind.Symbol; keyword = keyword_of_symbol spelling; name = name; first = first; past = past }) (h ∷ ws) s ≡ step (spelled_name name) (h ∷ ws) s
+spelling-alike spelling name first past h ws s e = symbol-alike (keyword_of_symbol spelling) name first past h ws s (symbol_unmarked spelling) e
+
+-- ---- atoms of every kind
+
+atom_named : (k : TokenKind) (name : Sym) → has_name k ≡ true → atom_of k name ≡ Some (value.Symbol name)
+atom_named kind.Symbol name e = refl
+atom_named kind.Quoted name e = refl
+atom_named kind.Variable name e = refl
+atom_named kind.Operator name e = refl
+atom_named _ name e = absurd (true≢false (sym e))
+
+-- Behind // each atom that is no number is read as the same name in bars, whatever it spells.
+pub literal-alike : (w : Word) (t : Target) (ws : List Wanted) (s : State) → has_name w.kind ≡ true → step w (Atom t ∷ ws) s ≡ step (spelled_name w.name) (Atom t ∷ ws) s
+unfolding step
+literal-alike w t ws s e = ap (λ (o : Option Value). atom_at t o ws s) (atom_named w.kind w.name e)
+
+-- So it is in a disjunction, but for its end.
+pub choice-alike : (w : Word) (f : ℕ) (ws : List Wanted) (s : State) → has_name w.kind ≡ true → closes_choice w.keyword ≡ false → step w (Choice f ∷ ws) s ≡ step (spelled_name w.name) (Choice f ∷ ws) s
+unfolding step
+choice-alike w f ws s e open_yet =
+    otherwise (closes_choice w.keyword) _ _ open_yet ∙ ap (λ (o : Option Value). chosen o (Choice f ∷ ws) s) (atom_named w.kind w.name e)
+
+-- A value that is an operator but // is read as the same name in bars.
+pub operator-alike : (k : Keyword) (name : Sym) (first past : ℕ) (t : Target) (ws : List Wanted) (s : State) → is_literal k ≡ false
+    → step (record { kind = kind.Operator; keyword = k; name = name; first = first; past = past }) (ValueFor t ∷ ws) s ≡ step (spelled_name name) (ValueFor t ∷ ws) s
+unfolding step
+operator-alike k name first past t ws s e = otherwise (is_literal k) _ _ e
+
+-- ---- places
 
 -- the place of a word is kept here: of the bracket that begins a form, and of one that ends the actions
 abbrev pub keeps_place : Wanted → Bool

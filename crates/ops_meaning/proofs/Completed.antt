@@ -6,7 +6,7 @@ use Rattle.ops_meaning.specs.declared.words.Word.{Word}
 use Rattle.ops_meaning.specs.declared.words.Keyword.{Keyword}
 use Rattle.ops_meaning.specs.declared.words.Keyword.TheVariants as keyword
 use Rattle.ops_meaning.specs.Grammar.{InPattern, InPut, InFixed, Wanted, Forms, Form, ClassDeclared, Attributes, RuleName, FirstPattern, Patterns, ClassName, Terms, Attribute, Place, Tests, Tested, Choice, Atom, ValueFor, Actions, ActionWord, Cell, Cells, Items, ItemWord, Closes}
-use Rattle.ops_meaning.specs.Derivation.{Derives, nothing, no_form, a_form, a_class, no_attribute, a_rule, a_first, an_arrow, a_run, a_class_name, no_term, an_attribute_name, a_value, an_atom, no_more_tests, an_operand, a_tested_operand, no_more_choices, no_action, to_halt, a_cell, no_more_cells, no_item, a_crlf, a_closing}
+use Rattle.ops_meaning.specs.Derivation.{Derives, nothing, no_form, a_class, no_attribute, a_rule, a_first, an_arrow, a_run, a_class_name, no_term, an_attribute_name, a_value, an_atom, no_more_tests, an_operand, a_tested_operand, no_more_choices, no_action, to_halt, a_cell, no_more_cells, no_item, a_crlf, a_closing}
 
 abbrev closing : Word
 closing = record { kind = kind.Right; keyword = keyword.Other; name = record { 0 = 0 }; first = 0; past = 0 }

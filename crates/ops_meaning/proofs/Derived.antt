@@ -1,6 +1,6 @@
 -- What a word does, against the grammar alone.
 use Rattle.std.proofs.Common.{◌≡◌, ℕ, Bool, true, false, not, ◌||◌, List, [], ◌∷◌, refl, sym, ap, Option, Some, None, true≢false, subst, ◌==◌, nat_lt, length, is_some, position, slice_get}
-use Rattle.std.proofs.lemmas.Bool.{cond_both, or_left, or_right, and_from}
+use Rattle.std.proofs.lemmas.Bool.{cond_both, or_right, and_from}
 use Rattle.ops_base.specs.declared.values.Value.{Value}
 use Rattle.ops_base.specs.declared.values.Pred.{Pred}
 use Rattle.ops_base.specs.declared.values.Pred.TheVariants as pred
@@ -14,7 +14,7 @@ use Rattle.ops_meaning.specs.declared.words.Word.{Word}
 use Rattle.ops_meaning.specs.declared.words.Keyword.{Keyword}
 use Rattle.ops_meaning.specs.declared.words.Keyword.TheVariants as keyword
 use Rattle.ops_meaning.specs.Grammar.{Use, InPattern, InPut, InFixed, Target, ToTest, ToPut, ToFixed, ToItem, Ends, Wanted, Forms, Form, ClassDeclared, Attributes, RuleName, FirstPattern, Patterns, ClassName, Terms, Attribute, Place, Tests, Tested, Choice, Atom, ValueFor, Actions, ActionWord, Cell, Cells, Items, ItemWord, Closes, State, Step, Next, Refuses, is_left, is_right, is_left_brace, is_right_brace, is_caret, is_name, is_variable, is_arrow, is_crlf, is_literal, opens_choice, closes_choice, pred_of, constant_of, value_of, atom_of, natural_of, is_one_of, number_of, may_declare, is_class, is_rule, form, class_declared, attributes, class_at, class_name, attributes_of, behind_attribute, field_at, attribute, variable_tested, constant_tested, tested, predicated, test, place, tests, chosen, choice, atom_at, term_at, bound_at, constant_at, value_for, terms, rule_name, first_pattern, patterns, actions, action_word, cell_of, cell, cells, items, item_word, closes, forms, step}
-use Rattle.ops_meaning.specs.Derivation.{is_whole, is_operand, is_value, is_atom, is_choice, Derives, a_form, a_literalize, a_class, an_attribute, no_attribute, a_production, a_rule, a_first, a_pattern, an_arrow, a_make, a_run, a_class_name, a_term, no_term, an_attribute_name, a_value, a_literal_value, an_atom, a_conjunction, no_more_tests, an_operand, a_literal, a_predicate, a_disjunction, one_more_operand, one_more_literal, one_more_predicate, one_more_disjunction, a_tested_operand, a_tested_literal, one_more_choice, no_more_choices, an_action, no_action, to_make, to_remove, to_write, to_halt, a_cell, one_more_cell, no_more_cells, an_item, a_literal_item, an_item_form, no_item, a_crlf, a_closing, is_no_form}
+use Rattle.ops_meaning.specs.Derivation.{is_whole, is_operand, is_value, is_choice, Derives, a_form, a_literalize, a_class, an_attribute, no_attribute, a_production, a_rule, a_first, a_pattern, an_arrow, a_make, a_run, a_class_name, a_term, no_term, an_attribute_name, a_value, a_literal_value, an_atom, a_conjunction, no_more_tests, an_operand, a_literal, a_predicate, a_disjunction, one_more_operand, one_more_literal, one_more_predicate, one_more_disjunction, a_tested_operand, a_tested_literal, one_more_choice, no_more_choices, an_action, no_action, to_make, to_remove, to_write, to_halt, a_cell, one_more_cell, no_more_cells, an_item, a_literal_item, an_item_form, no_item, a_crlf, a_closing, is_no_form}
 use Rattle.ops_meaning.proofs.Completed.{completed}
 
 -- forms are wanted only behind all else

@@ -1,5 +1,5 @@
 -- What the machine does at a word that the grammar derives.
-use Rattle.std.proofs.Common.{◌≡◌, ℕ, Bool, true, false, not, ◌||◌, ◌&&◌, ◌==◌, List, [], ◌∷◌, length, refl, sym, ap, subst, ◌∙◌, cond, Option, Some, None, true≢false, nat_lt, is_some, position, slice_get}
+use Rattle.std.proofs.Common.{◌≡◌, ℕ, Bool, true, false, not, ◌||◌, ◌==◌, List, [], ◌∷◌, length, refl, sym, ap, subst, ◌∙◌, cond, Option, Some, None, true≢false, nat_lt, is_some, position, slice_get}
 use Rattle.std.proofs.lemmas.Bool.{cond_both, and_parts}
 use Rattle.ops_base.specs.declared.values.Sym.{Sym}
 use Rattle.ops_base.specs.declared.values.Value.{Value}
@@ -14,11 +14,11 @@ use Rattle.ops_tokens.specs.declared.token.TokenKind.TheVariants as kind
 use Rattle.ops_meaning.specs.declared.words.Word.{Word}
 use Rattle.ops_meaning.specs.declared.words.Keyword.{Keyword}
 use Rattle.ops_meaning.specs.declared.words.Keyword.TheVariants as keyword
-use Rattle.ops_meaning.specs.Grammar.{Use, Target, ToTest, ToPut, ToItem, Wanted, Forms, Tests, Choice, Atom, Tested, Cells, Items, State, Step, Next, Refuses, is_left, is_right, is_left_brace, is_right_brace, is_caret, is_name, is_variable, is_arrow, is_crlf, is_literal, opens_choice, closes_choice, pred_of, constant_of, value_of, atom_of, natural_of, is_one_of, number_of, may_declare, is_class, is_rule, form, class_at, attributes_of, behind_attribute, field_at, variable_tested, constant_tested, tested, predicated, test, place, tests, chosen, choice, atom_at, term_at, bound_at, constant_at, value_for, action_word, cell_of, cell, step}
-use Rattle.ops_meaning.specs.Derivation.{is_whole, is_operand, is_value, is_atom, Derives, nothing, no_form, a_form, a_literalize, a_class, an_attribute, no_attribute, a_production, a_rule, a_first, a_pattern, an_arrow, a_make, a_run, a_class_name, a_term, no_term, an_attribute_name, a_value, a_literal_value, an_atom, a_conjunction, no_more_tests, an_operand, a_literal, a_predicate, a_disjunction, one_more_operand, one_more_literal, one_more_predicate, one_more_disjunction, a_tested_operand, a_tested_literal, one_more_choice, no_more_choices, an_action, no_action, to_make, to_remove, to_write, to_halt, a_cell, one_more_cell, no_more_cells, an_item, a_literal_item, an_item_form, no_item, a_crlf, a_closing, is_no_form}
+use Rattle.ops_meaning.specs.Grammar.{Use, Target, ToTest, ToPut, ToItem, Wanted, Forms, Tests, Choice, Atom, Tested, Cells, Items, State, Step, Next, Refuses, is_left, is_right, is_left_brace, is_right_brace, is_caret, is_name, is_variable, is_arrow, is_crlf, is_literal, opens_choice, closes_choice, pred_of, constant_of, value_of, atom_of, natural_of, is_one_of, number_of, may_declare, is_class, is_rule, form, class_at, attributes_of, behind_attribute, field_at, variable_tested, constant_tested, tested, predicated, test, place, tests, chosen, atom_at, term_at, bound_at, constant_at, value_for, action_word, cell_of, cell, step}
+use Rattle.ops_meaning.specs.Derivation.{is_whole, is_operand, is_value, Derives, nothing, no_form, a_form, a_literalize, a_class, an_attribute, no_attribute, a_production, a_rule, a_first, a_pattern, an_arrow, a_make, a_run, a_class_name, a_term, no_term, an_attribute_name, a_value, a_literal_value, an_atom, a_conjunction, no_more_tests, an_operand, a_literal, a_predicate, a_disjunction, one_more_operand, one_more_literal, one_more_predicate, one_more_disjunction, a_tested_operand, a_tested_literal, one_more_choice, no_more_choices, an_action, no_action, to_make, to_remove, to_write, to_halt, a_cell, one_more_cell, no_more_cells, an_item, a_literal_item, an_item_form, no_item, a_crlf, a_closing, is_no_form}
 use Rattle.ops_meaning.proofs.Derived.{forms_last}
 use Rattle.ops_meaning.proofs.Moved.{at_any_place}
-use Rattle.ops_meaning.proofs.Proper.{is_mark, is_proper, arrow_marks, literal_marks, opening_marks, pred_marks, literal_no_opening, literal_no_pred, pred_no_opening, no_mark}
+use Rattle.ops_meaning.proofs.Proper.{is_mark, is_proper, arrow_marks, literal_marks, opening_marks, pred_marks, literal_no_opening, literal_no_pred, pred_no_opening, not_met, no_mark}
 
 -- What derives goes on where the word is taken, and the word is refused in a form at most.
 abbrev pub Went : Word → List Word → Step → Type 0
@@ -63,11 +63,6 @@ operand_not_left_brace _ name e = refl
 operand_not_right_brace : (k : TokenKind) (name : Sym) → (is_some (constant_of k name) || is_variable k) ≡ true → is_right_brace k ≡ false
 operand_not_right_brace kind.RightBrace name e = absurd (true≢false (sym e))
 operand_not_right_brace _ name e = refl
-
--- `not b` is false of what b is true of
-not_met : (b : Bool) → not b ≡ true → b ≡ false
-not_met true e = absurd (true≢false (sym e))
-not_met false e = refl
 
 -- An operand is no operator.
 operand_unmarked : {A : Type 0} (w : Word) → is_operand w ≡ true → is_mark w.keyword ≡ true → is_proper w ≡ true → A

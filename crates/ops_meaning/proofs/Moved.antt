@@ -1,8 +1,7 @@
 -- The place of an attribute does not matter for what derives behind it.
 use Rattle.std.proofs.Common.{◌≡◌, ℕ, zero, suc, List, [], ◌∷◌, refl, subst}
-use Rattle.ops_base.specs.declared.values.Pred.TheVariants as pred
 use Rattle.ops_meaning.specs.declared.words.Word.{Word}
-use Rattle.ops_meaning.specs.Grammar.{Use, InPattern, InPut, InFixed, Target, ToTest, ToPut, ToFixed, ToItem, EndsRun, EndsHalt, EndsCrlf, Wanted, Forms, Form, ClassDeclared, Attributes, RuleName, FirstPattern, Patterns, ClassName, Terms, Attribute, Place, Tests, Tested, Choice, Atom, ValueFor, Actions, ActionWord, Cell, Cells, Items, ItemWord, Closes, behind_attribute}
+use Rattle.ops_meaning.specs.Grammar.{Use, InPattern, InPut, InFixed, Target, ToTest, ToPut, ToFixed, ToItem, Wanted, Place, Tests, Tested, Choice, Atom, ValueFor, behind_attribute}
 use Rattle.ops_meaning.specs.Derivation.{Derives, nothing, no_form, a_form, a_literalize, a_class, an_attribute, no_attribute, a_production, a_rule, a_first, a_pattern, an_arrow, a_make, a_run, a_class_name, a_term, no_term, an_attribute_name, a_value, a_literal_value, an_atom, a_conjunction, no_more_tests, an_operand, a_literal, a_predicate, a_disjunction, one_more_operand, one_more_literal, one_more_predicate, one_more_disjunction, a_tested_operand, a_tested_literal, one_more_choice, no_more_choices, an_action, no_action, to_make, to_remove, to_write, to_halt, a_cell, one_more_cell, no_more_cells, an_item, a_literal_item, an_item_form, no_item, a_crlf, a_closing}
 
 abbrev target_at : ℕ → Target → Target

@@ -1,5 +1,5 @@
 -- The keywords that words of texts have.
-use Rattle.std.proofs.Common.{◌≡◌, ℕ, Bool, true, false, not, ◌||◌, ◌&&◌, List, [], ◌∷◌, refl, sym, ap, ◌∙◌, cond, Option, Some, None, true≢false}
+use Rattle.std.proofs.Common.{◌≡◌, ℕ, Bool, true, false, not, ◌||◌, List, [], ◌∷◌, refl, sym, ap, ◌∙◌, cond, Some, None, true≢false}
 use Rattle.std.specs.List.{list_all}
 use Rattle.std.specs.Prelude.{codes, bytes_eq}
 use Rattle.std.proofs.lemmas.Bool.{and_from}
@@ -13,7 +13,7 @@ use Rattle.ops_meaning.specs.declared.words.Word.{Word}
 use Rattle.ops_meaning.specs.declared.words.Keyword.{Keyword}
 use Rattle.ops_meaning.specs.declared.words.Keyword.TheVariants as keyword
 use Rattle.ops_meaning.specs.Words.{keyword_of, keyword_of_symbol, keyword_of_operator, names_with, words_from}
-use Rattle.ops_meaning.specs.Grammar.{is_arrow, is_literal, opens_choice, closes_choice, pred_of}
+use Rattle.ops_meaning.specs.Grammar.{is_arrow, is_literal, opens_choice, pred_of}
 
 abbrev pub is_other : Keyword → Bool
 is_other keyword.Other = true
@@ -51,6 +51,11 @@ either : (k : TokenKind) (b : Bool) (x y : Keyword) → may_have k x ≡ true �
 either k true x y ex ey = ex
 either k false x y ex ey = ey
 
+-- what `not` is true of is false
+pub not_met : (b : Bool) → not b ≡ true → b ≡ false
+not_met true e = absurd (true≢false (sym e))
+not_met false e = refl
+
 symbol_proper : (s : List ℕ) → may_have kind.Symbol (keyword_of_symbol s) ≡ true
 symbol_proper s =
     either kind.Symbol (bytes_eq s (codes "literalize")) _ _ refl
@@ -61,6 +66,10 @@ symbol_proper s =
     (either kind.Symbol (bytes_eq s (codes "write")) _ _ refl
     (either kind.Symbol (bytes_eq s (codes "crlf")) _ _ refl
     (either kind.Symbol (bytes_eq s (codes "halt")) _ _ refl refl)))))))
+
+-- a plain symbol has no keyword of operators
+pub symbol_unmarked : (s : List ℕ) → is_mark (keyword_of_symbol s) ≡ false
+symbol_unmarked s = not_met _ (symbol_proper s)
 
 operator_proper : (s : List ℕ) → may_have kind.Operator (keyword_of_operator s) ≡ true
 operator_proper s =
@@ -130,13 +139,9 @@ other_no_mark : {A : Type 0} (k : Keyword) → is_other k ≡ true → is_mark k
 other_no_mark keyword.Other o m = absurd (true≢false (sym m))
 other_no_mark _ o m = absurd (true≢false (sym o))
 
-no_symbol_mark : {A : Type 0} (b : Bool) → not b ≡ true → b ≡ true → A
-no_symbol_mark true without is = absurd (true≢false (sym without))
-no_symbol_mark false without is = absurd (true≢false (sym is))
-
 pub mark_kind : (k : TokenKind) (w : Keyword) → is_mark w ≡ true → may_have k w ≡ true → k ≡ kind.Operator
 mark_kind kind.Operator w m p = refl
-mark_kind kind.Symbol w m p = no_symbol_mark (is_mark w) p m
+mark_kind kind.Symbol w m p = absurd (true≢false (sym m ∙ not_met _ p))
 mark_kind _ w m p = other_no_mark w p m
 
 -- so it is of no kind that operators are not of

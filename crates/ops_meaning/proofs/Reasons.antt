@@ -16,7 +16,7 @@ use Rattle.ops_tokens.specs.declared.token.TokenKind.TheVariants as kind
 use Rattle.ops_meaning.specs.declared.words.Word.{Word}
 use Rattle.ops_meaning.specs.declared.words.Keyword.{Keyword}
 use Rattle.ops_meaning.specs.declared.words.Keyword.TheVariants as keyword
-use Rattle.ops_meaning.specs.Grammar.{Use, InPattern, InPut, InFixed, Target, ToTest, ToPut, ToFixed, ToItem, Wanted, Forms, Form, ClassDeclared, Attributes, RuleName, FirstPattern, Patterns, ClassName, Terms, Attribute, Place, Tests, Tested, Choice, Atom, ValueFor, Actions, ActionWord, Cell, Cells, Items, ItemWord, Closes, State, Step, Next, Refuses, is_left, is_right, is_left_brace, is_right_brace, is_caret, is_name, is_variable, is_arrow, is_crlf, is_literal, opens_choice, closes_choice, pred_of, constant_of, value_of, atom_of, natural_of, is_one_of, number_of, may_declare, is_class, is_rule, form, class_at, attributes_of, field_at, variable_tested, constant_tested, tested, predicated, test, chosen, atom_at, term_at, bound_at, constant_at, value_for, action_word, cell_of, cell, step}
+use Rattle.ops_meaning.specs.Grammar.{Use, Target, ToTest, ToPut, ToFixed, ToItem, Wanted, Forms, Form, ClassDeclared, Attributes, RuleName, FirstPattern, Patterns, ClassName, Terms, Attribute, Place, Tests, Tested, Choice, Atom, ValueFor, Actions, ActionWord, Cell, Cells, Items, ItemWord, Closes, State, Step, Next, Refuses, is_left, is_right, is_left_brace, is_right_brace, is_caret, is_name, is_variable, is_arrow, is_crlf, is_literal, opens_choice, closes_choice, pred_of, constant_of, value_of, atom_of, natural_of, is_one_of, number_of, may_declare, is_class, is_rule, form, class_at, attributes_of, field_at, variable_tested, constant_tested, tested, predicated, test, chosen, atom_at, term_at, bound_at, constant_at, value_for, action_word, cell_of, cell, step}
 use Rattle.ops_meaning.specs.Derivation.{is_whole}
 use Rattle.ops_meaning.specs.Reasons.{no_form_fault, is_bound, is_condition, designates, Because}
 use Rattle.ops_meaning.proofs.Derived.{no_test_valued}

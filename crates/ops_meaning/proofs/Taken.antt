@@ -7,14 +7,13 @@ use Rattle.ops_base.specs.declared.values.Sym.{Sym}
 use Rattle.ops_base.specs.declared.values.Value.{Value}
 use Rattle.ops_base.specs.declared.values.Pred.{Pred}
 use Rattle.ops_base.specs.declared.values.Pred.TheVariants as pred
-use Rattle.ops_base.specs.declared.actions.Term.TheVariants as term
 use Rattle.ops_base.specs.Valid.{most_fields, most_conditions, no_class}
 use Rattle.ops_tokens.specs.declared.token.TokenKind.{TokenKind}
 use Rattle.ops_tokens.specs.declared.token.TokenKind.TheVariants as kind
 use Rattle.ops_meaning.specs.declared.words.Word.{Word}
 use Rattle.ops_meaning.specs.declared.words.Keyword.{Keyword}
 use Rattle.ops_meaning.specs.declared.words.Keyword.TheVariants as keyword
-use Rattle.ops_meaning.specs.Grammar.{Use, InPattern, InPut, InFixed, Target, ToTest, ToPut, ToFixed, ToItem, Wanted, Form, ClassDeclared, Attributes, RuleName, Patterns, ClassName, Attribute, Tested, Atom, ValueFor, Cell, Cells, Items, State, Step, Next, Refuses, is_left, is_right, is_name, is_variable, is_arrow, is_literal, constant_of, value_of, natural_of, is_one_of, number_of, may_declare, is_class, is_rule, form, class_at, attributes_of, behind_attribute, field_at, variable_tested, constant_tested, tested, term_at, bound_at, constant_at, value_for, cell_of, cell, step}
+use Rattle.ops_meaning.specs.Grammar.{Use, Target, ToPut, ToItem, Wanted, Form, ClassDeclared, Attributes, RuleName, Patterns, ClassName, Attribute, Tested, ValueFor, Cell, Cells, Items, State, Step, Next, Refuses, is_left, is_right, is_name, is_variable, is_arrow, is_literal, constant_of, value_of, natural_of, is_one_of, number_of, may_declare, is_class, is_rule, form, class_at, attributes_of, field_at, variable_tested, constant_tested, tested, bound_at, constant_at, value_for, cell_of, cell, step}
 use Rattle.ops_meaning.specs.Derivation.{is_whole}
 use Rattle.ops_meaning.proofs.Follows.{name_not_right, whole_not_right}
 use Rattle.ops_meaning.specs.Reasons.{is_condition, designates}
