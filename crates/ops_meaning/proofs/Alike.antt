@@ -1,14 +1,20 @@
 -- Words that are read alike.
-use Rattle.std.proofs.Common.{◌≡◌, ℕ, Bool, true, false, List, ◌∷◌, refl, sym, ap, Option, Some, None, true≢false}
+use Rattle.std.proofs.Common.{◌≡◌, ℕ, Bool, true, false, List, [], ◌∷◌, refl, sym, ap, ◌∙◌, cond, Option, Some, None, true≢false}
 use Rattle.std.specs.Prelude.{if◌then◌else◌}
 use Rattle.ops_base.specs.declared.values.Sym.{Sym}
 use Rattle.ops_base.specs.declared.values.Value.{Value}
+use Rattle.ops_base.specs.declared.values.Value.TheVariants as value
+use Rattle.ops_base.specs.declared.values.Pred.{Pred}
+use Rattle.ops_base.specs.declared.values.Pred.TheVariants as pred
+use Rattle.ops_tokens.specs.declared.token.TokenKind.{TokenKind}
 use Rattle.ops_tokens.specs.declared.token.TokenKind.TheVariants as kind
 use Rattle.ops_meaning.specs.declared.words.Word.{Word}
 use Rattle.ops_meaning.specs.declared.words.Keyword.{Keyword}
 use Rattle.ops_meaning.specs.declared.words.Keyword.TheVariants as keyword
-use Rattle.ops_meaning.specs.Grammar.{Use, Wanted, Forms, Form, ClassDeclared, Attributes, RuleName, FirstPattern, Patterns, ClassName, Terms, Attribute, ValueFor, Actions, ActionWord, Cell, Cells, Items, ItemWord, Closes, State, Step, Next, is_left, is_right, with_write, constant_of, form, value_for, item_value, step}
+use Rattle.ops_meaning.specs.Grammar.{Target, ToTest, ToItem, Wanted, Forms, Form, ClassDeclared, Attributes, RuleName, FirstPattern, Patterns, ClassName, Terms, Attribute, Place, Tests, Tested, Choice, Atom, ValueFor, Actions, ActionWord, Cell, Cells, Items, ItemWord, Closes, State, Step, Next, is_left, is_right, is_left_brace, is_right_brace, is_literal, opens_choice, closes_choice, pred_of, with_write, with_constant, constant_of, value_of, atom_of, form, constant_tested, tested, predicated, test, chosen, atom_at, constant_at, value_for, step}
 use Rattle.ops_meaning.specs.Spelling.{spelled_name}
+use Rattle.ops_meaning.specs.Words.{keyword_of_symbol, has_name}
+use Rattle.ops_meaning.proofs.Proper.{is_mark, symbol_unmarked}
 
 -- a name may stand here
 abbrev pub wants_name : Wanted → Bool
@@ -17,22 +23,106 @@ wants_name Attributes = true
 wants_name RuleName = true
 wants_name ClassName = true
 wants_name (Attribute u) = true
-wants_name (ValueFor u f) = true
+wants_name (Place f) = true
+wants_name (Tests f) = true
+wants_name (Tested f p) = true
+wants_name (Choice f) = true
+wants_name (Atom t) = true
+wants_name (ValueFor t) = true
 wants_name Items = true
 wants_name _ = false
 
--- Where a name may stand, a plain symbol is read as the same name in bars, whatever keyword it is elsewhere.
-pub symbol-alike : (k : Keyword) (name : Sym) (first past : ℕ) (h : Wanted) (ws : List Wanted) (s : State) → wants_name h ≡ true
+-- ---- a keyword that is none of an operator
+
+unmarked_literal : (k : Keyword) → is_mark k ≡ false → is_literal k ≡ false
+unmarked_literal keyword.Literal e = absurd (true≢false e)
+unmarked_literal _ e = refl
+
+unmarked_opening : (k : Keyword) → is_mark k ≡ false → opens_choice k ≡ false
+unmarked_opening keyword.OpenChoice e = absurd (true≢false e)
+unmarked_opening _ e = refl
+
+unmarked_closing : (k : Keyword) → is_mark k ≡ false → closes_choice k ≡ false
+unmarked_closing keyword.CloseChoice e = absurd (true≢false e)
+unmarked_closing _ e = refl
+
+unmarked_pred : (k : Keyword) → is_mark k ≡ false → pred_of k ≡ None
+unmarked_pred keyword.Equal e = absurd (true≢false e)
+unmarked_pred keyword.NotEqual e = absurd (true≢false e)
+unmarked_pred keyword.Less e = absurd (true≢false e)
+unmarked_pred keyword.AtMost e = absurd (true≢false e)
+unmarked_pred keyword.Greater e = absurd (true≢false e)
+unmarked_pred keyword.AtLeast e = absurd (true≢false e)
+unmarked_pred keyword.SameKind e = absurd (true≢false e)
+unmarked_pred _ e = refl
+
+otherwise : (b : Bool) (x y : Step) → b ≡ false → cond b x y ≡ y
+otherwise b x y e = ap (λ (c : Bool). cond c x y) e
+
+module _ (k : Keyword) (unmarked : is_mark k ≡ false) (name : Sym) (first past : ℕ) (ws : List Wanted) (s : State) where
+  abbrev symbol : Word
+  symbol = record { kind = kind.Symbol; keyword = k; name = name; first = first; past = past }
+
+  tested_alike : (f : ℕ) (p : Pred) → tested f p symbol ws s ≡ Next ws (with_constant (ToTest f p) s (value.Symbol name))
+  tested_alike f p = otherwise (is_literal k) _ _ (unmarked_literal k unmarked)
+
+  test_alike : (f : ℕ) → test f symbol ws s ≡ Next ws (with_constant (ToTest f pred.Eq) s (value.Symbol name))
+  test_alike f =
+      otherwise (opens_choice k) _ _ (unmarked_opening k unmarked) ∙ ap (λ (o : Option Pred). predicated f symbol o ws s) (unmarked_pred k unmarked) ∙ tested_alike f pred.Eq
+
+  value_alike : (t : Target) → value_for t symbol ws s ≡ Next ws (with_constant t s (value.Symbol name))
+  value_alike t = otherwise (is_literal k) _ _ (unmarked_literal k unmarked)
+
+-- Where a name may stand, a plain symbol with a keyword of symbols or none is read as the same name in bars.
+pub symbol-alike : (k : Keyword) (name : Sym) (first past : ℕ) (h : Wanted) (ws : List Wanted) (s : State) → is_mark k ≡ false → wants_name h ≡ true
     → step (record { kind = kind.Symbol; keyword = k; name = name; first = first; past = past }) (h ∷ ws) s ≡ step (spelled_name name) (h ∷ ws) s
 unfolding step
-symbol-alike k name first past ClassDeclared ws s e = refl
-symbol-alike k name first past Attributes ws s e = refl
-symbol-alike k name first past RuleName ws s e = refl
-symbol-alike k name first past ClassName ws s e = refl
-symbol-alike k name first past (Attribute u) ws s e = refl
-symbol-alike k name first past (ValueFor u f) ws s e = refl
-symbol-alike k name first past Items ws s e = refl
-symbol-alike k name first past _ ws s e = absurd (true≢false (sym e))
+symbol-alike k name first past ClassDeclared ws s unmarked e = refl
+symbol-alike k name first past Attributes ws s unmarked e = refl
+symbol-alike k name first past RuleName ws s unmarked e = refl
+symbol-alike k name first past ClassName ws s unmarked e = refl
+symbol-alike k name first past (Attribute u) ws s unmarked e = refl
+symbol-alike k name first past (Place f) ws s unmarked e = test_alike k unmarked name first past ws s f
+symbol-alike k name first past (Tests f) ws s unmarked e = test_alike k unmarked name first past (Tests f ∷ ws) s f
+symbol-alike k name first past (Tested f p) ws s unmarked e = tested_alike k unmarked name first past ws s f p
+symbol-alike k name first past (Choice f) ws s unmarked e = otherwise (closes_choice k) _ _ (unmarked_closing k unmarked)
+symbol-alike k name first past (Atom t) ws s unmarked e = refl
+symbol-alike k name first past (ValueFor t) ws s unmarked e = value_alike k unmarked name first past ws s t
+symbol-alike k name first past Items ws s unmarked e = value_alike k unmarked name first past (Items ∷ ws) s ToItem
+symbol-alike k name first past _ ws s unmarked e = absurd (true≢false (sym e))
+
+-- Where a name may stand, a plain symbol is read as the same name in bars, whatever it spells.
+pub spelling-alike : (spelling : List ℕ) (name : Sym) (first past : ℕ) (h : Wanted) (ws : List Wanted) (s : State) → wants_name h ≡ true
+    → step (record { kind = kind.Symbol; keyword = keyword_of_symbol spelling; name = name; first = first; past = past }) (h ∷ ws) s ≡ step (spelled_name name) (h ∷ ws) s
+spelling-alike spelling name first past h ws s e = symbol-alike (keyword_of_symbol spelling) name first past h ws s (symbol_unmarked spelling) e
+
+-- ---- atoms of every kind
+
+atom_named : (k : TokenKind) (name : Sym) → has_name k ≡ true → atom_of k name ≡ Some (value.Symbol name)
+atom_named kind.Symbol name e = refl
+atom_named kind.Quoted name e = refl
+atom_named kind.Variable name e = refl
+atom_named kind.Operator name e = refl
+atom_named _ name e = absurd (true≢false (sym e))
+
+-- Behind // each atom that is no number is read as the same name in bars, whatever it spells.
+pub literal-alike : (w : Word) (t : Target) (ws : List Wanted) (s : State) → has_name w.kind ≡ true → step w (Atom t ∷ ws) s ≡ step (spelled_name w.name) (Atom t ∷ ws) s
+unfolding step
+literal-alike w t ws s e = ap (λ (o : Option Value). atom_at t o ws s) (atom_named w.kind w.name e)
+
+-- So it is in a disjunction, but for its end.
+pub choice-alike : (w : Word) (f : ℕ) (ws : List Wanted) (s : State) → has_name w.kind ≡ true → closes_choice w.keyword ≡ false → step w (Choice f ∷ ws) s ≡ step (spelled_name w.name) (Choice f ∷ ws) s
+unfolding step
+choice-alike w f ws s e open_yet =
+    otherwise (closes_choice w.keyword) _ _ open_yet ∙ ap (λ (o : Option Value). chosen o (Choice f ∷ ws) s) (atom_named w.kind w.name e)
+
+-- A value that is an operator but // is read as the same name in bars.
+pub operator-alike : (k : Keyword) (name : Sym) (first past : ℕ) (t : Target) (ws : List Wanted) (s : State) → is_literal k ≡ false
+    → step (record { kind = kind.Operator; keyword = k; name = name; first = first; past = past }) (ValueFor t ∷ ws) s ≡ step (spelled_name name) (ValueFor t ∷ ws) s
+unfolding step
+operator-alike k name first past t ws s e = otherwise (is_literal k) _ _ e
+
+-- ---- places
 
 -- the place of a word is kept here: of the bracket that begins a form, and of one that ends the actions
 abbrev pub keeps_place : Wanted → Bool
@@ -51,13 +141,26 @@ module _ (w : Word) (first past : ℕ) (ws : List Wanted) (s : State) where
   form_moved keyword.Run = refl
   form_moved _ = refl
 
-  value_moved : (u : Use) (f : ℕ) (o : Option Value) → value_for u f moved o ws s ≡ value_for u f w o ws s
-  value_moved u f (Some v) = refl
-  value_moved u f None = refl
+  constant_tested_moved : (f : ℕ) (p : Pred) (o : Option Value) → constant_tested f p moved o ws s ≡ constant_tested f p w o ws s
+  constant_tested_moved f p (Some v) = refl
+  constant_tested_moved f p None = refl
 
-  item_moved : (o : Option Value) → item_value moved o ws s ≡ item_value w o ws s
-  item_moved (Some v) = refl
-  item_moved None = refl
+  tested_moved : (f : ℕ) (p : Pred) → tested f p moved ws s ≡ tested f p w ws s
+  tested_moved f p = ap (λ (x : Step). if is_literal w.keyword then Next (Atom (ToTest f p) ∷ ws) s else x) (constant_tested_moved f p (constant_of w.kind w.name))
+
+  predicated_moved : (f : ℕ) (o : Option Pred) → predicated f moved o ws s ≡ predicated f w o ws s
+  predicated_moved f (Some p) = refl
+  predicated_moved f None = tested_moved f pred.Eq
+
+  test_moved : (f : ℕ) → test f moved ws s ≡ test f w ws s
+  test_moved f = ap (λ (x : Step). if opens_choice w.keyword then Next (Choice f ∷ ws) (record s { choice = [] }) else x) (predicated_moved f (pred_of w.keyword))
+
+  constant_at_moved : (t : Target) (o : Option Value) → constant_at t moved o ws s ≡ constant_at t w o ws s
+  constant_at_moved t (Some v) = refl
+  constant_at_moved t None = refl
+
+  value_moved : (t : Target) → value_for t moved ws s ≡ value_for t w ws s
+  value_moved t = ap (λ (x : Step). if is_literal w.keyword then Next (Atom t ∷ ws) s else x) (constant_at_moved t (value_of w.kind w.name))
 
 -- Elsewhere the place of a word does not matter.
 pub moved-alike : (w : Word) (first past : ℕ) (h : Wanted) (ws : List Wanted) (s : State) → keeps_place h ≡ false → step (record w { first = first; past = past }) (h ∷ ws) s ≡ step w (h ∷ ws) s
@@ -65,9 +168,14 @@ unfolding step
 moved-alike w first past Forms ws s e = absurd (true≢false e)
 moved-alike w first past Actions ws s e = absurd (true≢false e)
 moved-alike w first past Form ws s e = form_moved w first past ws s w.keyword
-moved-alike w first past (ValueFor u f) ws s e = value_moved w first past ws s u f (constant_of w.kind w.name)
+moved-alike w first past (Place f) ws s e = ap (λ (x : Step). if is_left_brace w.kind then Next (Tests f ∷ ws) s else x) (test_moved w first past ws s f)
+moved-alike w first past (Tests f) ws s e = ap (λ (x : Step). if is_right_brace w.kind then Next ws s else x) (test_moved w first past (Tests f ∷ ws) s f)
+moved-alike w first past (Tested f p) ws s e = tested_moved w first past ws s f p
+moved-alike w first past (Choice f) ws s e = refl
+moved-alike w first past (Atom t) ws s e = refl
+moved-alike w first past (ValueFor t) ws s e = value_moved w first past ws s t
 moved-alike w first past Items ws s e =
-    ap (λ (x : Step). if is_right w.kind then Next ws (with_write s) else if is_left w.kind then Next (ItemWord ∷ Items ∷ ws) s else x) (item_moved w first past (Items ∷ ws) s (constant_of w.kind w.name))
+    ap (λ (x : Step). if is_right w.kind then Next ws (with_write s) else if is_left w.kind then Next (ItemWord ∷ Items ∷ ws) s else x) (value_moved w first past (Items ∷ ws) s ToItem)
 moved-alike w first past ClassDeclared ws s e = refl
 moved-alike w first past Attributes ws s e = refl
 moved-alike w first past RuleName ws s e = refl

@@ -1,8 +1,12 @@
 -- What the machine does at a word that the grammar derives.
-use Rattle.std.proofs.Common.{◌≡◌, ℕ, Bool, true, false, not, ◌||◌, ◌&&◌, ◌==◌, List, [], ◌∷◌, length, refl, sym, ap, subst, ◌∙◌, cond, Option, Some, None, true≢false, nat_lt, is_some, position, slice_get}
-use Rattle.std.proofs.lemmas.Bool.{cond_both}
+use Rattle.std.proofs.Common.{◌≡◌, ℕ, Bool, true, false, not, ◌||◌, ◌==◌, List, [], ◌∷◌, length, refl, sym, ap, subst, ◌∙◌, cond, Option, Some, None, true≢false, nat_lt, is_some, position, slice_get}
+use Rattle.std.proofs.lemmas.Bool.{cond_both, and_parts}
 use Rattle.ops_base.specs.declared.values.Sym.{Sym}
 use Rattle.ops_base.specs.declared.values.Value.{Value}
+use Rattle.ops_base.specs.declared.values.Pred.{Pred}
+use Rattle.ops_base.specs.declared.values.Pred.TheVariants as pred
+use Rattle.ops_base.specs.declared.actions.Term.{Term}
+use Rattle.ops_base.specs.declared.actions.Term.TheVariants as term
 use Rattle.ops_base.specs.declared.endings.Fault.{Fault}
 use Rattle.ops_base.specs.Valid.{most_fields, most_conditions}
 use Rattle.ops_tokens.specs.declared.token.TokenKind.{TokenKind}
@@ -10,13 +14,11 @@ use Rattle.ops_tokens.specs.declared.token.TokenKind.TheVariants as kind
 use Rattle.ops_meaning.specs.declared.words.Word.{Word}
 use Rattle.ops_meaning.specs.declared.words.Keyword.{Keyword}
 use Rattle.ops_meaning.specs.declared.words.Keyword.TheVariants as keyword
-use Rattle.ops_meaning.specs.Grammar.{Use, InPattern, InPut, InFixed, Wanted, Forms, ValueFor, Cells, Items, State, Step, Next, Refuses, is_left, is_right, is_caret, is_name, is_variable, is_arrow, is_crlf, constant_of, natural_of, is_one_of, number_of, may_declare, is_class, is_rule, form, class_at, attributes_of, field_at, put_variable, variable_for, value_for, action_word, cell_of, cell, item_variable, item_value, step}
-use Rattle.ops_meaning.specs.Derivation.{is_whole, Derives, nothing, no_form, a_form, a_literalize, a_class, an_attribute, no_attribute, a_production, a_rule, a_first, a_pattern, an_arrow, a_make, a_run, a_class_name, a_term, no_term, an_attribute_name, a_value, an_action, no_action, to_make, to_remove, to_write, to_halt, a_cell, one_more_cell, no_more_cells, an_item, an_item_form, no_item, a_crlf, a_closing, is_no_form}
+use Rattle.ops_meaning.specs.Grammar.{Use, Target, ToTest, ToPut, ToItem, Wanted, Forms, Tests, Choice, Atom, Tested, Cells, Items, State, Step, Next, Refuses, is_left, is_right, is_left_brace, is_right_brace, is_caret, is_name, is_variable, is_arrow, is_crlf, is_literal, opens_choice, closes_choice, pred_of, constant_of, value_of, atom_of, natural_of, is_one_of, number_of, may_declare, is_class, is_rule, form, class_at, attributes_of, behind_attribute, field_at, variable_tested, constant_tested, tested, predicated, test, place, tests, chosen, atom_at, term_at, bound_at, constant_at, value_for, action_word, cell_of, cell, step}
+use Rattle.ops_meaning.specs.Derivation.{is_whole, is_operand, is_value, Derives, nothing, no_form, a_form, a_literalize, a_class, an_attribute, no_attribute, a_production, a_rule, a_first, a_pattern, an_arrow, a_make, a_run, a_class_name, a_term, no_term, an_attribute_name, a_value, a_literal_value, an_atom, a_conjunction, no_more_tests, an_operand, a_literal, a_predicate, a_disjunction, one_more_operand, one_more_literal, one_more_predicate, one_more_disjunction, a_tested_operand, a_tested_literal, one_more_choice, no_more_choices, an_action, no_action, to_make, to_remove, to_write, to_halt, a_cell, one_more_cell, no_more_cells, an_item, a_literal_item, an_item_form, no_item, a_crlf, a_closing, is_no_form}
 use Rattle.ops_meaning.proofs.Derived.{forms_last}
-
--- An arrow is no bracket: so it is for each word of a text.
-abbrev pub is_proper : Word → Bool
-is_proper w = not (is_left w.kind && is_arrow w.keyword)
+use Rattle.ops_meaning.proofs.Moved.{at_any_place}
+use Rattle.ops_meaning.proofs.Proper.{is_mark, is_proper, arrow_marks, literal_marks, opening_marks, pred_marks, literal_no_opening, literal_no_pred, pred_no_opening, not_met, no_mark}
 
 -- What derives goes on where the word is taken, and the word is refused in a form at most.
 abbrev pub Went : Word → List Word → Step → Type 0
@@ -46,22 +48,25 @@ pub whole_not_right : (k : TokenKind) → is_whole k ≡ true → is_right k ≡
 whole_not_right kind.Right e = absurd (true≢false (sym e))
 whole_not_right _ e = refl
 
-value_not_right : (k : TokenKind) (name : Sym) → (is_some (constant_of k name) || is_variable k) ≡ true → is_right k ≡ false
+value_not_right : (k : TokenKind) (name : Sym) → (is_some (value_of k name) || is_variable k) ≡ true → is_right k ≡ false
 value_not_right kind.Right name e = absurd (true≢false (sym e))
 value_not_right _ name e = refl
 
-value_not_left : (k : TokenKind) (name : Sym) → (is_some (constant_of k name) || is_variable k) ≡ true → is_left k ≡ false
+value_not_left : (k : TokenKind) (name : Sym) → (is_some (value_of k name) || is_variable k) ≡ true → is_left k ≡ false
 value_not_left kind.Left name e = absurd (true≢false (sym e))
 value_not_left _ name e = refl
 
-not_both : {A : Type 0} (l a : Bool) → l ≡ true → a ≡ true → not (l && a) ≡ true → A
-not_both true true el ea e = absurd (true≢false (sym e))
-not_both true false el ea e = absurd (true≢false (sym ea))
-not_both false a el ea e = absurd (true≢false (sym el))
+operand_not_left_brace : (k : TokenKind) (name : Sym) → (is_some (constant_of k name) || is_variable k) ≡ true → is_left_brace k ≡ false
+operand_not_left_brace kind.LeftBrace name e = absurd (true≢false (sym e))
+operand_not_left_brace _ name e = refl
 
--- the place of an attribute does not matter for what derives
-at_any_place : (u : Use) (f : ℕ) (ws : List Wanted) (ts : List Word) → Derives (ValueFor u f ∷ ws) ts → (g : ℕ) → Derives (ValueFor u g ∷ ws) ts
-at_any_place u f ws ts (a_value e d) g = a_value e d
+operand_not_right_brace : (k : TokenKind) (name : Sym) → (is_some (constant_of k name) || is_variable k) ≡ true → is_right_brace k ≡ false
+operand_not_right_brace kind.RightBrace name e = absurd (true≢false (sym e))
+operand_not_right_brace _ name e = refl
+
+-- An operand is no operator.
+operand_unmarked : {A : Type 0} (w : Word) → is_operand w ≡ true → is_mark w.keyword ≡ true → is_proper w ≡ true → A
+operand_unmarked w e mark proper = no_mark w (λ k. is_some (constant_of k w.name) || is_variable k) refl mark e proper
 
 -- from nothing only nothing derives
 abbrev IsNothing : List Wanted → List Word → Type 0
@@ -100,22 +105,80 @@ module _ (w : Word) (ts : List Word) where
     class_goes (Some c) d = λ _. d
     class_goes None d = refl
 
-    field_goes : (u : Use) (f : ℕ) (o : Option ℕ) → Derives (ValueFor u f ∷ ws) ts → Went w ts (field_at u o ws s)
+    field_goes : (u : Use) (f : ℕ) (o : Option ℕ) → Derives (behind_attribute u f ∷ ws) ts → Went w ts (field_at u o ws s)
     field_goes u f (Some g) d = λ _. at_any_place u f ws ts d g
     field_goes u f None d = refl
 
-    put_goes : (f : ℕ) (o : Option ℕ) → Derives ws ts → Went w ts (put_variable f o ws s)
-    put_goes f (Some n) d = λ _. d
-    put_goes f None d = refl
+    -- an operand
+    variable_goes : (f : ℕ) (p : Pred) (o : Option ℕ) → Derives ws ts → Went w ts (variable_tested f p o w.name ws s)
+    variable_goes f p (Some n) d = λ _. d
+    variable_goes f pred.Eq None d = λ _. d
+    variable_goes f _ None d = refl
 
-    variable_goes : (u : Use) (f : ℕ) (o : Option ℕ) → Derives ws ts → Went w ts (variable_for u f o w.name ws s)
-    variable_goes InPattern f o d = λ _. d
-    variable_goes InPut f o d = put_goes f o d
-    variable_goes InFixed f o d = refl
+    constant_goes : (f : ℕ) (p : Pred) (o : Option Value) → (is_some o || is_variable w.kind) ≡ true → Derives ws ts → Went w ts (constant_tested f p w o ws s)
+    constant_goes f p (Some v) e d = λ _. d
+    constant_goes f p None e d = met (is_variable w.kind) _ _ e (variable_goes f p (number_of w.name s.values) d)
 
-    value_goes : (u : Use) (f : ℕ) (o : Option Value) → (is_some o || is_variable w.kind) ≡ true → Derives ws ts → Went w ts (value_for u f w o ws s)
-    value_goes u f (Some v) e d = λ _. d
-    value_goes u f None e d = met (is_variable w.kind) _ _ e (variable_goes u f (number_of w.name s.values) d)
+    operand_goes : (f : ℕ) (p : Pred) → is_operand w ≡ true → Derives ws ts → Went w ts (tested f p w ws s)
+    operand_goes f p e d =
+        cond_both (is_literal w.keyword) _ _ (Went w ts) (λ l proper. operand_unmarked w e (literal_marks w.keyword l) proper)
+        (λ _. constant_goes f p (constant_of w.kind w.name) e d)
+
+    -- a test in each of its forms
+    predicated_goes : (f : ℕ) (o : Option Pred) → pred_of w.keyword ≡ o → is_operand w ≡ true → Derives ws ts → Went w ts (predicated f w o ws s)
+    predicated_goes f (Some p) is e d = λ proper. operand_unmarked w e (pred_marks w.keyword p is) proper
+    predicated_goes f None is e d = operand_goes f pred.Eq e d
+
+    test_operand_goes : (f : ℕ) → is_operand w ≡ true → Derives ws ts → Went w ts (test f w ws s)
+    test_operand_goes f e d =
+        cond_both (opens_choice w.keyword) _ _ (Went w ts) (λ o proper. operand_unmarked w e (opening_marks w.keyword o) proper)
+        (λ _. predicated_goes f (pred_of w.keyword) refl e d)
+
+    -- where its predicate is this one
+    test_by : (f : ℕ) (o : Option Pred) → pred_of w.keyword ≡ o → opens_choice w.keyword ≡ false → Went w ts (predicated f w o ws s) → Went w ts (test f w ws s)
+    test_by f o e no_opening h =
+        unmet (opens_choice w.keyword) _ _ no_opening (subst (λ (x : Option Pred). Went w ts (predicated f w x ws s)) (sym e) h)
+
+    test_literal_goes : (f : ℕ) → is_literal w.keyword ≡ true → Derives (Atom (ToTest f pred.Eq) ∷ ws) ts → Went w ts (test f w ws s)
+    test_literal_goes f e d = test_by f None (literal_no_pred w.keyword e) (literal_no_opening w.keyword e) (met (is_literal w.keyword) _ _ e (λ _. d))
+
+    test_predicate_goes : (f : ℕ) (p : Pred) → pred_of w.keyword ≡ Some p → Derives (Tested f p ∷ ws) ts → Went w ts (test f w ws s)
+    test_predicate_goes f p e d = test_by f (Some p) e (pred_no_opening w.keyword p e) (λ _. d)
+
+    -- a test that is no brace
+    place_goes : (f : ℕ) → is_mark w.keyword ≡ true → Went w ts (test f w ws s) → Went w ts (place f w ws s)
+    place_goes f mark h = cond_both (is_left_brace w.kind) _ _ (Went w ts) (λ b proper. no_mark w is_left_brace refl mark b proper) (λ _. h)
+
+    tests_go : (f : ℕ) → is_mark w.keyword ≡ true → Went w ts (test f w (Tests f ∷ ws) s) → Went w ts (tests f w ws s)
+    tests_go f mark h = cond_both (is_right_brace w.kind) _ _ (Went w ts) (λ b proper. no_mark w is_right_brace refl mark b proper) (λ _. h)
+
+    -- atoms
+    chosen_goes : (o : Option Value) → is_some o ≡ true → Derives ws ts → Went w ts (chosen o ws s)
+    chosen_goes (Some v) e d = λ _. d
+    chosen_goes None e d = absurd (true≢false (sym e))
+
+    atom_goes : (t : Target) (o : Option Value) → is_some o ≡ true → Derives ws ts → Went w ts (atom_at t o ws s)
+    atom_goes t (Some v) e d = λ _. d
+    atom_goes t None e d = absurd (true≢false (sym e))
+
+    -- a value
+    term_goes : (t : Target) (x : Term) → Derives ws ts → Went w ts (term_at t x ws s)
+    term_goes (ToPut f) x d = λ _. d
+    term_goes ToItem x d = λ _. d
+    term_goes _ x d = refl
+
+    bound_goes : (t : Target) (o : Option ℕ) → Derives ws ts → Went w ts (bound_at t o ws s)
+    bound_goes t (Some n) d = term_goes t (term.Variable n) d
+    bound_goes t None d = refl
+
+    constant_at_goes : (t : Target) (o : Option Value) → (is_some o || is_variable w.kind) ≡ true → Derives ws ts → Went w ts (constant_at t w o ws s)
+    constant_at_goes t (Some v) e d = λ _. d
+    constant_at_goes t None e d = met (is_variable w.kind) _ _ e (bound_goes t (number_of w.name s.values) d)
+
+    value_goes : (t : Target) → is_value w ≡ true → Derives ws ts → Went w ts (value_for t w ws s)
+    value_goes t e d =
+        let each = and_parts (not (is_literal w.keyword)) _ e in
+        unmet (is_literal w.keyword) _ _ (not_met _ each.0) (constant_at_goes t (value_of w.kind w.name) each.1 d)
 
     cell_of_goes : (o : Option ℕ) → Derives ws ts → Went w ts (cell_of o ws s)
     cell_of_goes (Some n) d = cond_both (nat_lt (length s.conditions) n) _ _ (Went w ts) (λ _. refl) (λ _ _. d)
@@ -124,14 +187,6 @@ module _ (w : Word) (ts : List Word) where
     cell_goes : (k : TokenKind) → is_whole k ≡ true → Derives ws ts → Went w ts (cell k ws s)
     cell_goes (kind.Whole n) e d = cell_of_goes (natural_of n) d
     cell_goes _ e d = absurd (true≢false (sym e))
-
-    item_variable_goes : (o : Option ℕ) → Derives ws ts → Went w ts (item_variable o ws s)
-    item_variable_goes (Some n) d = λ _. d
-    item_variable_goes None d = refl
-
-    item_goes : (o : Option Value) → (is_some o || is_variable w.kind) ≡ true → Derives ws ts → Went w ts (item_value w o ws s)
-    item_goes (Some v) e d = λ _. d
-    item_goes None e d = met (is_variable w.kind) _ _ e (item_variable_goes (number_of w.name s.values) d)
 
 -- What derives goes on behind its first word, or that is refused in a form.
 pub derived_goes : (ws : List Wanted) (words : List Word) (s : State) → Derives ws words → forms_last ws ≡ true → Goes words ws s
@@ -154,7 +209,7 @@ derived_goes ws words s (a_rule {w = w} {ts = ts} e d) last =
     met w ts (is_name w.kind) _ _ e (cond_both (is_rule s w.name) _ _ (Went w ts) (λ _. refl) (λ _ _. d))
 derived_goes ws words s (a_first {w = w} {ts = ts} e d) last = met w ts (is_left w.kind) _ _ e (λ _. d)
 derived_goes ws words s (a_pattern {w = w} {ts = ts} e d) last =
-    cond_both (is_arrow w.keyword) _ _ (Went w ts) (λ arrow proper. not_both (is_left w.kind) (is_arrow w.keyword) e arrow proper)
+    cond_both (is_arrow w.keyword) _ _ (Went w ts) (λ arrow proper. no_mark w is_left refl (arrow_marks w.keyword arrow) e proper)
     (λ _. met w ts (is_left w.kind) _ _ e (cond_both (nat_lt (length s.conditions) most_conditions) _ _ (Went w ts) (λ _ _. d) (λ _. refl)))
 derived_goes ws words s (an_arrow {w = w} {ts = ts} e d) last = met w ts (is_arrow w.keyword) _ _ (ap is_arrow e) (λ _. d)
 derived_goes ws words s (a_make {ws = rest} {w = w} {ts = ts} e d) last = form_goes w ts rest s keyword.Make e (λ _. d)
@@ -164,9 +219,35 @@ derived_goes ws words s (a_class_name {ws = rest} {w = w} {ts = ts} e d) last =
 derived_goes ws words s (a_term {w = w} {ts = ts} e d) last =
     unmet w ts (is_right w.kind) _ _ (caret_not_right w.kind e) (met w ts (is_caret w.kind) _ _ e (λ _. d))
 derived_goes ws words s (no_term {w = w} {ts = ts} e d) last = met w ts (is_right w.kind) _ _ e (λ _. d)
-derived_goes ws words s (an_attribute_name {u = u} {f = f} {ws = rest} {w = w} {ts = ts} e d) last =
+derived_goes ws words s (an_attribute_name {u = u} f {ws = rest} {w = w} {ts = ts} e d) last =
     met w ts (is_name w.kind) _ _ e (field_goes w ts rest s u f (position (λ a. a.0 == w.name.0) (attributes_of (slice_get s.classes s.class))) d)
-derived_goes ws words s (a_value {u = u} {f = f} {ws = rest} {w = w} {ts = ts} e d) last = value_goes w ts rest s u f (constant_of w.kind w.name) e d
+derived_goes ws words s (a_value {t = t} {ws = rest} {w = w} {ts = ts} e d) last = value_goes w ts rest s t e d
+derived_goes ws words s (a_literal_value {w = w} {ts = ts} e d) last = met w ts (is_literal w.keyword) _ _ e (λ _. d)
+derived_goes ws words s (an_atom {t = t} {ws = rest} {w = w} {ts = ts} e d) last = atom_goes w ts rest s t (atom_of w.kind w.name) e d
+derived_goes ws words s (a_conjunction {w = w} {ts = ts} e d) last = met w ts (is_left_brace w.kind) _ _ e (λ _. d)
+derived_goes ws words s (no_more_tests {w = w} {ts = ts} e d) last = met w ts (is_right_brace w.kind) _ _ e (λ _. d)
+derived_goes ws words s (an_operand {f = f} {ws = rest} {w = w} {ts = ts} e d) last =
+    unmet w ts (is_left_brace w.kind) _ _ (operand_not_left_brace w.kind w.name e) (test_operand_goes w ts rest s f e d)
+derived_goes ws words s (a_literal {f = f} {ws = rest} {w = w} {ts = ts} e d) last =
+    place_goes w ts rest s f (literal_marks w.keyword e) (test_literal_goes w ts rest s f e d)
+derived_goes ws words s (a_predicate {f = f} {p = p} {ws = rest} {w = w} {ts = ts} e d) last =
+    place_goes w ts rest s f (pred_marks w.keyword p e) (test_predicate_goes w ts rest s f p e d)
+derived_goes ws words s (a_disjunction {f = f} {ws = rest} {w = w} {ts = ts} e d) last =
+    place_goes w ts rest s f (opening_marks w.keyword e) (met w ts (opens_choice w.keyword) _ _ e (λ _. d))
+derived_goes ws words s (one_more_operand {f = f} {ws = rest} {w = w} {ts = ts} e d) last =
+    unmet w ts (is_right_brace w.kind) _ _ (operand_not_right_brace w.kind w.name e) (test_operand_goes w ts (Tests f ∷ rest) s f e d)
+derived_goes ws words s (one_more_literal {f = f} {ws = rest} {w = w} {ts = ts} e d) last =
+    tests_go w ts rest s f (literal_marks w.keyword e) (test_literal_goes w ts (Tests f ∷ rest) s f e d)
+derived_goes ws words s (one_more_predicate {f = f} {p = p} {ws = rest} {w = w} {ts = ts} e d) last =
+    tests_go w ts rest s f (pred_marks w.keyword p e) (test_predicate_goes w ts (Tests f ∷ rest) s f p e d)
+derived_goes ws words s (one_more_disjunction {f = f} {ws = rest} {w = w} {ts = ts} e d) last =
+    tests_go w ts rest s f (opening_marks w.keyword e) (met w ts (opens_choice w.keyword) _ _ e (λ _. d))
+derived_goes ws words s (a_tested_operand {f = f} {p = p} {ws = rest} {w = w} {ts = ts} e d) last = operand_goes w ts rest s f p e d
+derived_goes ws words s (a_tested_literal {w = w} {ts = ts} e d) last = met w ts (is_literal w.keyword) _ _ e (λ _. d)
+derived_goes ws words s (one_more_choice {f = f} {ws = rest} {w = w} {ts = ts} e d) last =
+    let each = and_parts (not (closes_choice w.keyword)) _ e in
+    unmet w ts (closes_choice w.keyword) _ _ (not_met _ each.0) (chosen_goes w ts (Choice f ∷ rest) s (atom_of w.kind w.name) each.1 d)
+derived_goes ws words s (no_more_choices {w = w} {ts = ts} e d) last = met w ts (closes_choice w.keyword) _ _ e (λ _. d)
 derived_goes ws words s (an_action {w = w} {ts = ts} e d) last =
     unmet w ts (is_right w.kind) _ _ (left_not_right w.kind e) (met w ts (is_left w.kind) _ _ e (λ _. d))
 derived_goes ws words s (no_action {w = w} {ts = ts} e d) last = met w ts (is_right w.kind) _ _ e (λ _. d)
@@ -179,8 +260,13 @@ derived_goes ws words s (one_more_cell {ws = rest} {w = w} {ts = ts} e d) last =
     unmet w ts (is_right w.kind) _ _ (whole_not_right w.kind e) (cell_goes w ts (Cells ∷ rest) s w.kind e d)
 derived_goes ws words s (no_more_cells {w = w} {ts = ts} e d) last = met w ts (is_right w.kind) _ _ e (λ _. d)
 derived_goes ws words s (an_item {ws = rest} {w = w} {ts = ts} e d) last =
-    unmet w ts (is_right w.kind) _ _ (value_not_right w.kind w.name e)
-    (unmet w ts (is_left w.kind) _ _ (value_not_left w.kind w.name e) (item_goes w ts (Items ∷ rest) s (constant_of w.kind w.name) e d))
+    let each = and_parts (not (is_literal w.keyword)) _ e in
+    unmet w ts (is_right w.kind) _ _ (value_not_right w.kind w.name each.1)
+    (unmet w ts (is_left w.kind) _ _ (value_not_left w.kind w.name each.1) (value_goes w ts (Items ∷ rest) s ToItem e d))
+derived_goes ws words s (a_literal_item {w = w} {ts = ts} e d) last =
+    cond_both (is_right w.kind) _ _ (Went w ts) (λ right proper. no_mark w is_right refl (literal_marks w.keyword e) right proper)
+    (λ _. cond_both (is_left w.kind) _ _ (Went w ts) (λ left proper. no_mark w is_left refl (literal_marks w.keyword e) left proper)
+    (λ _. met w ts (is_literal w.keyword) _ _ e (λ _. d)))
 derived_goes ws words s (an_item_form {w = w} {ts = ts} e d) last =
     unmet w ts (is_right w.kind) _ _ (left_not_right w.kind e) (met w ts (is_left w.kind) _ _ e (λ _. d))
 derived_goes ws words s (no_item {w = w} {ts = ts} e d) last = met w ts (is_right w.kind) _ _ e (λ _. d)

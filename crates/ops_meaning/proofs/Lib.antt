@@ -7,7 +7,10 @@ pub mod Steps
 pub mod ReadsValid
 pub mod RisingTags
 pub mod ReadsWithin
+pub mod Completed
 pub mod Derived
+pub mod Moved
+pub mod Proper
 pub mod Follows
 pub mod Reached
 pub mod Standing

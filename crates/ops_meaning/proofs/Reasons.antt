@@ -4,6 +4,10 @@ use Rattle.std.specs.List.{list_any, position_or_len}
 use Rattle.std.proofs.lemmas.Bool.{cond_both, lt-ltb}
 use Rattle.ops_base.specs.declared.values.Sym.{Sym}
 use Rattle.ops_base.specs.declared.values.Value.{Value}
+use Rattle.ops_base.specs.declared.values.Pred.{Pred}
+use Rattle.ops_base.specs.declared.values.Pred.TheVariants as pred
+use Rattle.ops_base.specs.declared.actions.Term.{Term}
+use Rattle.ops_base.specs.declared.actions.Term.TheVariants as term
 use Rattle.ops_base.specs.declared.endings.Fault.{Fault}
 use Rattle.ops_base.specs.declared.endings.Fault.TheVariants as fault
 use Rattle.ops_base.specs.Valid.{most_fields, most_conditions}
@@ -12,9 +16,10 @@ use Rattle.ops_tokens.specs.declared.token.TokenKind.TheVariants as kind
 use Rattle.ops_meaning.specs.declared.words.Word.{Word}
 use Rattle.ops_meaning.specs.declared.words.Keyword.{Keyword}
 use Rattle.ops_meaning.specs.declared.words.Keyword.TheVariants as keyword
-use Rattle.ops_meaning.specs.Grammar.{Use, InPattern, InPut, InFixed, Wanted, Forms, Form, ClassDeclared, Attributes, RuleName, FirstPattern, Patterns, ClassName, Terms, Attribute, ValueFor, Actions, ActionWord, Cell, Cells, Items, ItemWord, Closes, State, Step, Next, Refuses, is_left, is_right, is_caret, is_name, is_variable, is_arrow, is_crlf, constant_of, natural_of, is_one_of, number_of, may_declare, is_class, is_rule, form, class_at, attributes_of, field_at, put_variable, variable_for, value_for, action_word, cell_of, cell, item_variable, item_value, step}
+use Rattle.ops_meaning.specs.Grammar.{Use, Target, ToTest, ToPut, ToFixed, ToItem, Wanted, Forms, Form, ClassDeclared, Attributes, RuleName, FirstPattern, Patterns, ClassName, Terms, Attribute, Place, Tests, Tested, Choice, Atom, ValueFor, Actions, ActionWord, Cell, Cells, Items, ItemWord, Closes, State, Step, Next, Refuses, is_left, is_right, is_left_brace, is_right_brace, is_caret, is_name, is_variable, is_arrow, is_crlf, is_literal, opens_choice, closes_choice, pred_of, constant_of, value_of, atom_of, natural_of, is_one_of, number_of, may_declare, is_class, is_rule, form, class_at, attributes_of, field_at, variable_tested, constant_tested, tested, predicated, test, chosen, atom_at, term_at, bound_at, constant_at, value_for, action_word, cell_of, cell, step}
 use Rattle.ops_meaning.specs.Derivation.{is_whole}
-use Rattle.ops_meaning.specs.Reasons.{no_form_fault, is_condition, designates, Because}
+use Rattle.ops_meaning.specs.Reasons.{no_form_fault, is_bound, is_condition, designates, Because}
+use Rattle.ops_meaning.proofs.Derived.{no_test_valued}
 
 abbrev pub HasReason : List Wanted → Word → State → Step → Type 0
 HasReason ws w s (Next ws' s') = Unit {0}
@@ -61,18 +66,54 @@ module _ (w : Word) (ws : List Wanted) (s : State) where
   field_at_reason u is (Some f) e = tt
   field_at_reason u is None e = (is, position_none (λ (a : Sym). a.0 == w.name.0) (attributes_of (slice_get s.classes s.class)) e)
 
-  put_reason : (f : ℕ) → is_variable w.kind ≡ true → (o : Option ℕ) → number_of w.name s.values ≡ o → At (ValueFor InPut f ∷ ws) (put_variable f o ws s)
-  put_reason f is (Some n) e = tt
-  put_reason f is None e = (is, ap is_some e)
+  -- where no_form_fault is a bad form, and a variable with no number is not bound
+  module _ (here behind : List Wanted) (bad : no_form_fault here ≡ fault.BadForm) (unbound : number_of w.name s.values ≡ None → is_bound here w.name s ≡ false) where
+    variable_tested_reason : (f : ℕ) (p : Pred) → is_variable w.kind ≡ true → (o : Option ℕ) → number_of w.name s.values ≡ o → At here (variable_tested f p o w.name behind s)
+    variable_tested_reason f p is (Some n) e = tt
+    variable_tested_reason f pred.Eq is None e = tt
+    variable_tested_reason f _ is None e = (is, unbound e)
 
-  variable_reason : (u : Use) (f : ℕ) → is_variable w.kind ≡ true → At (ValueFor u f ∷ ws) (variable_for u f (number_of w.name s.values) w.name ws s)
-  variable_reason InPattern f is = tt
-  variable_reason InPut f is = put_reason f is (number_of w.name s.values) refl
-  variable_reason InFixed f is = (is, refl)
+    constant_tested_reason : (f : ℕ) (p : Pred) (o : Option Value) → At here (constant_tested f p w o behind s)
+    constant_tested_reason f p (Some v) = tt
+    constant_tested_reason f p None =
+        cond_both (is_variable w.kind) _ _ (At here) (λ is. variable_tested_reason f p is (number_of w.name s.values) refl) (λ _. bad)
 
-  value_reason : (u : Use) (f : ℕ) (o : Option Value) → At (ValueFor u f ∷ ws) (value_for u f w o ws s)
-  value_reason u f (Some v) = tt
-  value_reason u f None = cond_both (is_variable w.kind) _ _ (At (ValueFor u f ∷ ws)) (λ is. variable_reason u f is) (λ _. refl)
+    tested_reason : (f : ℕ) (p : Pred) → At here (tested f p w behind s)
+    tested_reason f p = cond_both (is_literal w.keyword) _ _ (At here) (λ _. tt) (λ _. constant_tested_reason f p (constant_of w.kind w.name))
+
+    predicated_reason : (f : ℕ) (o : Option Pred) → At here (predicated f w o behind s)
+    predicated_reason f (Some p) = tt
+    predicated_reason f None = tested_reason f pred.Eq
+
+    test_reason : (f : ℕ) → At here (test f w behind s)
+    test_reason f = cond_both (opens_choice w.keyword) _ _ (At here) (λ _. tt) (λ _. predicated_reason f (pred_of w.keyword))
+
+    -- a value, where a variable with a number is refused for a reason if at all
+    module _ (t : Target) (bound : is_variable w.kind ≡ true → (x : Term) → At here (term_at t x behind s)) where
+      bound_reason : is_variable w.kind ≡ true → (o : Option ℕ) → number_of w.name s.values ≡ o → At here (bound_at t o behind s)
+      bound_reason is (Some n) e = bound is (term.Variable n)
+      bound_reason is None e = (is, unbound e)
+
+      constant_at_reason : (o : Option Value) → At here (constant_at t w o behind s)
+      constant_at_reason (Some v) = tt
+      constant_at_reason None = cond_both (is_variable w.kind) _ _ (At here) (λ is. bound_reason is (number_of w.name s.values) refl) (λ _. bad)
+
+      value_reason : At here (value_for t w behind s)
+      value_reason = cond_both (is_literal w.keyword) _ _ (At here) (λ _. tt) (λ _. constant_at_reason (value_of w.kind w.name))
+
+  value_for_reason : (t : Target) → no_test_valued (ValueFor t ∷ ws) ≡ true → At (ValueFor t ∷ ws) (value_for t w ws s)
+  value_for_reason (ToTest f p) untested = absurd (true≢false (sym untested))
+  value_for_reason (ToPut f) untested = value_reason (ValueFor (ToPut f) ∷ ws) ws refl (λ e. ap is_some e) (ToPut f) (λ is x. tt)
+  value_for_reason (ToFixed f) untested = value_reason (ValueFor (ToFixed f) ∷ ws) ws refl (λ _. refl) (ToFixed f) (λ is x. (is, refl))
+  value_for_reason ToItem untested = value_reason (ValueFor ToItem ∷ ws) ws refl (λ e. ap is_some e) ToItem (λ is x. tt)
+
+  chosen_reason : (f : ℕ) (o : Option Value) → At (Choice f ∷ ws) (chosen o (Choice f ∷ ws) s)
+  chosen_reason f (Some v) = tt
+  chosen_reason f None = refl
+
+  atom_reason : (t : Target) (o : Option Value) → At (Atom t ∷ ws) (atom_at t o ws s)
+  atom_reason t (Some v) = tt
+  atom_reason t None = refl
 
   action_word_reason : (k : Keyword) → At (ActionWord ∷ ws) (action_word k ws s)
   action_word_reason keyword.Make = tt
@@ -90,54 +131,55 @@ module _ (w : Word) (ws : List Wanted) (s : State) where
   cell_reason here behind bad (kind.Whole n) e = cell_of_reason here behind (ap is_whole e) (natural_of n) (ap (λ (k : TokenKind). designates k s) e)
   cell_reason here behind bad _ e = bad
 
-  item_variable_reason : is_variable w.kind ≡ true → (o : Option ℕ) → number_of w.name s.values ≡ o → At (Items ∷ ws) (item_variable o (Items ∷ ws) s)
-  item_variable_reason is (Some n) e = tt
-  item_variable_reason is None e = (is, ap is_some e)
-
-  item_value_reason : (o : Option Value) → At (Items ∷ ws) (item_value w o (Items ∷ ws) s)
-  item_value_reason (Some v) = tt
-  item_value_reason None = cond_both (is_variable w.kind) _ _ (At (Items ∷ ws)) (λ is. item_variable_reason is (number_of w.name s.values) refl) (λ _. refl)
-
-step_reason : (w : Word) (ws : List Wanted) (s : State) → HasReason ws w s (step w ws s)
+step_reason : (w : Word) (ws : List Wanted) (s : State) → no_test_valued ws ≡ true → HasReason ws w s (step w ws s)
 unfolding step
-step_reason w [] s = refl
-step_reason w (Forms ∷ ws) s = cond_both (is_left w.kind) _ _ (HasReason (Forms ∷ ws) w s) (λ _. tt) (λ _. refl)
-step_reason w (Form ∷ ws) s = form_reason w ws s w.keyword refl
-step_reason w (ClassDeclared ∷ ws) s =
+step_reason w [] s untested = refl
+step_reason w (Forms ∷ ws) s untested = cond_both (is_left w.kind) _ _ (HasReason (Forms ∷ ws) w s) (λ _. tt) (λ _. refl)
+step_reason w (Form ∷ ws) s untested = form_reason w ws s w.keyword refl
+step_reason w (ClassDeclared ∷ ws) s untested =
     cond_both (is_name w.kind) _ _ (HasReason (ClassDeclared ∷ ws) w s) (λ is. cond_both (is_class s w.name) _ _ (HasReason (ClassDeclared ∷ ws) w s) (λ e. (is, e)) (λ _. tt)) (λ _. refl)
-step_reason w (Attributes ∷ ws) s =
+step_reason w (Attributes ∷ ws) s untested =
     cond_both (is_right w.kind) _ _ (HasReason (Attributes ∷ ws) w s) (λ _. tt)
     (λ _. cond_both (is_name w.kind) _ _ (HasReason (Attributes ∷ ws) w s)
     (λ is. cond_both (is_one_of w.name s.attrs) _ _ (HasReason (Attributes ∷ ws) w s) (λ e. (is, e))
     (λ _. cond_both (nat_lt (length s.attrs) most_fields) _ _ (HasReason (Attributes ∷ ws) w s) (λ _. tt) (λ full. full)))
     (λ _. refl))
-step_reason w (RuleName ∷ ws) s =
+step_reason w (RuleName ∷ ws) s untested =
     cond_both (is_name w.kind) _ _ (HasReason (RuleName ∷ ws) w s) (λ is. cond_both (is_rule s w.name) _ _ (HasReason (RuleName ∷ ws) w s) (λ e. (is, e)) (λ _. tt)) (λ _. refl)
-step_reason w (FirstPattern ∷ ws) s = cond_both (is_left w.kind) _ _ (HasReason (FirstPattern ∷ ws) w s) (λ _. tt) (λ _. refl)
-step_reason w (Patterns ∷ ws) s =
+step_reason w (FirstPattern ∷ ws) s untested = cond_both (is_left w.kind) _ _ (HasReason (FirstPattern ∷ ws) w s) (λ _. tt) (λ _. refl)
+step_reason w (Patterns ∷ ws) s untested =
     cond_both (is_arrow w.keyword) _ _ (HasReason (Patterns ∷ ws) w s) (λ _. tt)
     (λ _. cond_both (is_left w.kind) _ _ (HasReason (Patterns ∷ ws) w s)
     (λ _. cond_both (nat_lt (length s.conditions) most_conditions) _ _ (HasReason (Patterns ∷ ws) w s) (λ _. tt) (λ full. full)) (λ _. refl))
-step_reason w (ClassName ∷ ws) s =
+step_reason w (ClassName ∷ ws) s untested =
     cond_both (is_name w.kind) _ _ (HasReason (ClassName ∷ ws) w s) (λ is. class_at_reason w ws s is (position (λ c. c.name.0 == w.name.0) s.classes) refl) (λ _. refl)
-step_reason w (Terms u ∷ ws) s =
+step_reason w (Terms u ∷ ws) s untested =
     cond_both (is_right w.kind) _ _ (HasReason (Terms u ∷ ws) w s) (λ _. tt) (λ _. cond_both (is_caret w.kind) _ _ (HasReason (Terms u ∷ ws) w s) (λ _. tt) (λ _. refl))
-step_reason w (Attribute u ∷ ws) s =
+step_reason w (Attribute u ∷ ws) s untested =
     cond_both (is_name w.kind) _ _ (HasReason (Attribute u ∷ ws) w s)
     (λ is. field_at_reason w ws s u is (position (λ a. a.0 == w.name.0) (attributes_of (slice_get s.classes s.class))) refl) (λ _. refl)
-step_reason w (ValueFor u f ∷ ws) s = value_reason w ws s u f (constant_of w.kind w.name)
-step_reason w (Actions ∷ ws) s =
+step_reason w (Place f ∷ ws) s untested =
+    cond_both (is_left_brace w.kind) _ _ (HasReason (Place f ∷ ws) w s) (λ _. tt) (λ _. test_reason w ws s (Place f ∷ ws) ws refl (λ e. ap is_some e) f)
+step_reason w (Tests f ∷ ws) s untested =
+    cond_both (is_right_brace w.kind) _ _ (HasReason (Tests f ∷ ws) w s) (λ _. tt) (λ _. test_reason w ws s (Tests f ∷ ws) (Tests f ∷ ws) refl (λ e. ap is_some e) f)
+step_reason w (Tested f p ∷ ws) s untested = tested_reason w ws s (Tested f p ∷ ws) ws refl (λ e. ap is_some e) f p
+step_reason w (Choice f ∷ ws) s untested =
+    cond_both (closes_choice w.keyword) _ _ (HasReason (Choice f ∷ ws) w s) (λ _. tt) (λ _. chosen_reason w ws s f (atom_of w.kind w.name))
+step_reason w (Atom t ∷ ws) s untested = atom_reason w ws s t (atom_of w.kind w.name)
+step_reason w (ValueFor t ∷ ws) s untested = value_for_reason w ws s t untested
+step_reason w (Actions ∷ ws) s untested =
     cond_both (is_right w.kind) _ _ (HasReason (Actions ∷ ws) w s) (λ _. tt) (λ _. cond_both (is_left w.kind) _ _ (HasReason (Actions ∷ ws) w s) (λ _. tt) (λ _. refl))
-step_reason w (ActionWord ∷ ws) s = action_word_reason w ws s w.keyword
-step_reason w (Cell ∷ ws) s = cell_reason w ws s (Cell ∷ ws) ws refl w.kind refl
-step_reason w (Cells ∷ ws) s =
+step_reason w (ActionWord ∷ ws) s untested = action_word_reason w ws s w.keyword
+step_reason w (Cell ∷ ws) s untested = cell_reason w ws s (Cell ∷ ws) ws refl w.kind refl
+step_reason w (Cells ∷ ws) s untested =
     cond_both (is_right w.kind) _ _ (HasReason (Cells ∷ ws) w s) (λ _. tt) (λ _. cell_reason w ws s (Cells ∷ ws) (Cells ∷ ws) refl w.kind refl)
-step_reason w (Items ∷ ws) s =
+step_reason w (Items ∷ ws) s untested =
     cond_both (is_right w.kind) _ _ (HasReason (Items ∷ ws) w s) (λ _. tt)
-    (λ _. cond_both (is_left w.kind) _ _ (HasReason (Items ∷ ws) w s) (λ _. tt) (λ _. item_value_reason w ws s (constant_of w.kind w.name)))
-step_reason w (ItemWord ∷ ws) s = cond_both (is_crlf w.keyword) _ _ (HasReason (ItemWord ∷ ws) w s) (λ _. tt) (λ _. refl)
-step_reason w (Closes e ∷ ws) s = cond_both (is_right w.kind) _ _ (HasReason (Closes e ∷ ws) w s) (λ _. tt) (λ _. refl)
+    (λ _. cond_both (is_left w.kind) _ _ (HasReason (Items ∷ ws) w s) (λ _. tt) (λ _. value_reason w ws s (Items ∷ ws) (Items ∷ ws) refl (λ e. ap is_some e) ToItem (λ is x. tt)))
+step_reason w (ItemWord ∷ ws) s untested = cond_both (is_crlf w.keyword) _ _ (HasReason (ItemWord ∷ ws) w s) (λ _. tt) (λ _. refl)
+step_reason w (Closes e ∷ ws) s untested = cond_both (is_right w.kind) _ _ (HasReason (Closes e ∷ ws) w s) (λ _. tt) (λ _. refl)
 
--- A word is refused for the reason that the fault names.
-pub refused-because : (w : Word) (ws : List Wanted) (s : State) (f : Fault) → step w ws s ≡ Refuses f → Because f w ws s
-refused-because w ws s f e = subst (HasReason ws w s) e (step_reason w ws s)
+-- A word is refused for the reason that the fault names. (Where a value is wanted for a test, which no text comes to, a
+-- variable is refused as unbound though it may be bound.)
+pub refused-because : (w : Word) (ws : List Wanted) (s : State) (f : Fault) → no_test_valued ws ≡ true → step w ws s ≡ Refuses f → Because f w ws s
+refused-because w ws s f untested e = subst (HasReason ws w s) e (step_reason w ws s untested)

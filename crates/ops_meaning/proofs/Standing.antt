@@ -1,39 +1,25 @@
 -- How a fault stands in a text, and which texts are read.
-use Rattle.std.proofs.Common.{◌≡◌, ℕ, Bool, true, false, not, ◌&&◌, cond, List, [], ◌∷◌, ◌++◌, length, refl, sym, ap, subst, ◌∙◌, Option, Some, None, Result, Ok, Err, nat_lt}
+use Rattle.std.proofs.Common.{◌≡◌, ℕ, Bool, true, false, cond, List, [], ◌∷◌, ◌++◌, length, refl, sym, ap, subst, ◌∙◌, Option, Some, None, Result, Ok, Err, nat_lt}
 use Rattle.std.specs.List.{list_all}
-use Rattle.std.proofs.lemmas.Bool.{and_parts, and_from}
+use Rattle.std.proofs.lemmas.Bool.{and_parts}
 use Rattle.std.proofs.lemmas.List.Folds.{list_all-append}
 use Rattle.ops_base.specs.declared.endings.Fault.{Fault}
 use Rattle.ops_base.specs.declared.endings.Fault.TheVariants as fault
 use Rattle.ops_base.specs.Names.{Spellings, only_nil}
 use Rattle.ops_base.specs.Valid.{longest_list}
-use Rattle.ops_tokens.specs.declared.token.Token.{Token}
-use Rattle.ops_tokens.specs.declared.token.TokenKind.{TokenKind}
-use Rattle.ops_tokens.specs.declared.token.TokenKind.TheVariants as kind
 use Rattle.ops_tokens.specs.declared.token.LexFault.{LexFault}
-use Rattle.ops_tokens.specs.Tokens.{spelling}
 use Rattle.ops_meaning.specs.declared.words.Word.{Word}
-use Rattle.ops_meaning.specs.Words.{lexed, keyword_of, names_with, words_from, names_from}
-use Rattle.ops_meaning.specs.Grammar.{Wanted, Forms, State, Step, Next, Refuses, Outcome, is_left, is_arrow, step, ends, after, goes, nothing_read}
+use Rattle.ops_meaning.specs.Words.{lexed, names_from}
+use Rattle.ops_meaning.specs.Grammar.{Wanted, Forms, State, Step, Next, Refuses, Outcome, step, ends, after, goes, nothing_read}
 use Rattle.ops_meaning.specs.Derivation.{Derives, nothing, no_form, IsText}
 use Rattle.ops_meaning.specs.Reads.{Read, Placed, verdict, read_lexed, reads}
 use Rattle.ops_meaning.specs.Standing.{words_of, outcome_of, StandsAt, StandsAtWord, IsReadOrInForm}
-use Rattle.ops_meaning.proofs.Derived.{forms_last, completed, taken_derives, taken_last, refused_in_form}
-use Rattle.ops_meaning.proofs.Follows.{is_proper, Went, derived_goes, refused_in_no_form}
+use Rattle.ops_meaning.proofs.Derived.{forms_last, taken_derives, taken_last, refused_in_form}
+use Rattle.ops_meaning.proofs.Completed.{completed}
+use Rattle.ops_meaning.proofs.Proper.{is_proper, words_proper}
+use Rattle.ops_meaning.proofs.Follows.{Went, derived_goes, refused_in_no_form}
 use Rattle.ops_meaning.proofs.Reasons.{refused-because}
-use Rattle.ops_meaning.proofs.Reached.{Reached, goes_behind, derives_before, derives_behind, last_behind, taken_before, stopped}
-
--- ---- the words of a text
-
-proper_kind : (k : TokenKind) (s : List ℕ) → not (is_left k && is_arrow (keyword_of k s)) ≡ true
-proper_kind kind.Left s = refl
-proper_kind _ s = refl
-
--- An arrow of a text is no bracket.
-words_proper : (text : List ℕ) (names : Spellings) (ts : List Token) → list_all is_proper (words_from text names ts) ≡ true
-words_proper text names [] = refl
-words_proper text names (t ∷ ts) =
-    and_from _ _ (proper_kind t.kind (spelling text t)) (words_proper text (names_with names t.kind (spelling text t)) ts)
+use Rattle.ops_meaning.proofs.Reached.{Reached, goes_behind, derives_before, derives_behind, last_behind, untested_behind, taken_before, stopped}
 
 -- ---- a word that is refused
 
@@ -48,7 +34,7 @@ module _ (before : List Word) (w : Word) (f : Fault) (to : List Wanted) (at : St
       record {
         taken = taken_before to at before (Forms ∷ []) nothing_read reached;
         refused = λ more. goes_behind to at before (Forms ∷ []) nothing_read reached (w ∷ more) ∙ refuses w to at f more refused;
-        because = (to, at, goes_behind to at before (Forms ∷ []) nothing_read reached, refused-because w to at f refused);
+        because = (to, at, goes_behind to at before (Forms ∷ []) nothing_read reached, refused-because w to at f (untested_behind to at before (Forms ∷ []) nothing_read reached refl) refused);
         goes_on = let c = completed to in (c.0, derives_before to at before (Forms ∷ []) nothing_read reached c.0 c.1);
         in_a_form = λ no. let c = refused_in_form w to at f refused no in (c.0, derives_before to at before (Forms ∷ []) nothing_read reached (w ∷ c.0) c.1);
         in_no_form = λ is more d. refused_in_no_form w to at last f refused is more (derives_behind to at before (Forms ∷ []) nothing_read reached refl proper (w ∷ more) d);

@@ -11,7 +11,7 @@ use Rattle.ops_meaning.specs.Grammar.{Outcome, Forms, nothing_read}
 use Rattle.ops_meaning.specs.Derivation.{IsText}
 use Rattle.ops_meaning.specs.Reads.{Read, Placed, verdict, read_lexed, reads, cut_off, between_forms}
 use Rattle.ops_meaning.specs.Standing.{words_of, outcome_of, IsTaken, IsReadOrInForm, StandsAtWord, StandsAtEnd, Stands}
-use Rattle.ops_meaning.proofs.Derived.{completed}
+use Rattle.ops_meaning.proofs.Completed.{completed}
 use Rattle.ops_meaning.proofs.Reached.{taken_reached, derives_before}
 use Rattle.ops_meaning.proofs.Standing.{stands_at_word, text-read, read_derives}
 

@@ -5,13 +5,15 @@ use Rattle.std.proofs.lemmas.Bool.{cond_both, or_left, or_right}
 use Rattle.std.proofs.lemmas.List.Quantifiers.{position-Some}
 use Rattle.ops_base.specs.declared.values.Sym.{Sym}
 use Rattle.ops_base.specs.declared.values.Value.{Value}
+use Rattle.ops_base.specs.declared.values.Pred.{Pred}
+use Rattle.ops_base.specs.declared.values.Pred.TheVariants as pred
 use Rattle.ops_base.specs.Valid.{most_fields, most_conditions, no_class}
 use Rattle.ops_tokens.specs.declared.token.TokenKind.{TokenKind}
 use Rattle.ops_tokens.specs.declared.token.TokenKind.TheVariants as kind
 use Rattle.ops_meaning.specs.declared.words.Word.{Word}
 use Rattle.ops_meaning.specs.declared.words.Keyword.{Keyword}
 use Rattle.ops_meaning.specs.declared.words.Keyword.TheVariants as keyword
-use Rattle.ops_meaning.specs.Grammar.{Use, InPattern, InPut, InFixed, Wanted, Form, ClassDeclared, Attributes, RuleName, Patterns, ClassName, Attribute, ValueFor, Cell, Cells, Items, State, Step, Next, Refuses, is_left, is_right, is_name, is_variable, is_arrow, constant_of, natural_of, is_one_of, number_of, may_declare, is_class, is_rule, form, class_at, attributes_of, field_at, put_variable, variable_for, value_for, cell_of, cell, item_variable, item_value, step}
+use Rattle.ops_meaning.specs.Grammar.{Use, Target, ToPut, ToItem, Wanted, Form, ClassDeclared, Attributes, RuleName, Patterns, ClassName, Attribute, Tested, ValueFor, Cell, Cells, Items, State, Step, Next, Refuses, is_left, is_right, is_name, is_variable, is_arrow, is_literal, constant_of, value_of, natural_of, is_one_of, number_of, may_declare, is_class, is_rule, form, class_at, attributes_of, field_at, variable_tested, constant_tested, tested, bound_at, constant_at, value_for, cell_of, cell, step}
 use Rattle.ops_meaning.specs.Derivation.{is_whole}
 use Rattle.ops_meaning.proofs.Follows.{name_not_right, whole_not_right}
 use Rattle.ops_meaning.specs.Reasons.{is_condition, designates}
@@ -22,11 +24,20 @@ FormFits keyword.Literalize s = may_declare s ≡ true
 FormFits keyword.Production s = (length s.commands == 0) ≡ true
 FormFits _ s = Unit {0}
 
--- a pattern may bind a variable, an action may not, and a command sees none
-abbrev pub ValueFits : Use → Word → State → Type 0
-ValueFits InPattern w s = Unit {0}
-ValueFits InPut w s = is_variable w.kind ≡ true → is_some (number_of w.name s.values) ≡ true
-ValueFits InFixed w s = is_variable w.kind ≡ false
+-- what was bound before, where the word is a variable
+abbrev pub Known : Word → State → Type 0
+Known w s = is_literal w.keyword ≡ false → is_variable w.kind ≡ true → is_some (number_of w.name s.values) ≡ true
+
+-- an equality may bind a variable, another predicate may not
+abbrev pub OperandFits : Pred → Word → State → Type 0
+OperandFits pred.Eq w s = Unit {0}
+OperandFits _ w s = Known w s
+
+-- an action may not bind one, and a command sees none
+abbrev pub ValueFits : Target → Word → State → Type 0
+ValueFits (ToPut f) w s = Known w s
+ValueFits ToItem w s = Known w s
+ValueFits _ w s = is_literal w.keyword ≡ false → is_variable w.kind ≡ false
 
 -- what a word that is taken meets where this is wanted
 abbrev pub Fits : List Wanted → Word → State → Type 0
@@ -37,10 +48,11 @@ Fits (RuleName ∷ ws) w s = is_rule s w.name ≡ false
 Fits (Patterns ∷ ws) w s = is_arrow w.keyword ≡ false → nat_lt (length s.conditions) most_conditions ≡ true
 Fits (ClassName ∷ ws) w s = is_class s w.name ≡ true
 Fits (Attribute u ∷ ws) w s = is_one_of w.name (attributes_of (slice_get s.classes s.class)) ≡ true
-Fits (ValueFor u f ∷ ws) w s = ValueFits u w s
+Fits (Tested f p ∷ ws) w s = OperandFits p w s
+Fits (ValueFor t ∷ ws) w s = ValueFits t w s
 Fits (Cell ∷ ws) w s = designates w.kind s ≡ true
 Fits (Cells ∷ ws) w s = is_whole w.kind ≡ true → designates w.kind s ≡ true
-Fits (Items ∷ ws) w s = is_variable w.kind ≡ true → is_some (number_of w.name s.values) ≡ true
+Fits (Items ∷ ws) w s = Known w s
 Fits ws w s = Unit {0}
 
 abbrev IfTaken : Type 0 → Step → Type 0
@@ -61,6 +73,10 @@ constant_not_variable : (k : TokenKind) (name : Sym) (v : Value) → constant_of
 constant_not_variable kind.Variable name v e = absurd (cc)
 constant_not_variable _ name v e = refl
 
+value_not_variable : (k : TokenKind) (name : Sym) (v : Value) → value_of k name ≡ Some v → is_variable k ≡ false
+value_not_variable kind.Variable name v e = absurd (cc)
+value_not_variable _ name v e = refl
+
 clash : {A : Type 0} (b : Bool) → b ≡ true → b ≡ false → A
 clash b met unmet = absurd (true≢false (sym met ∙ unmet))
 
@@ -71,6 +87,15 @@ any_at p (x ∷ xs) (suc i) d lt e = or_right _ _ (any_at p xs i d (omega arith)
 
 found_any : {X : Type 0} (p : X → Bool) (xs : List X) (i : ℕ) (d : X) → position p xs ≡ Some i → list_any p xs ≡ true
 found_any p xs i d e = let at = position-Some p xs i d e in any_at p xs i d at.0 at.1
+
+weaker : (P Q : Type 0) → (P → Q) → (r : Step) → IfTaken P r → IfTaken Q r
+weaker P Q f (Next ws s) h = f h
+weaker P Q f (Refuses x) h = tt
+
+-- whatever is wanted, a word that is taken may be so
+whatever : (r : Step) → IfTaken (Unit {0}) r
+whatever (Next ws s) = tt
+whatever (Refuses f) = tt
 
 -- ---- each thing that is wanted
 
@@ -90,26 +115,46 @@ module _ (w : Word) (ws : List Wanted) (s : State) where
   field_fits u (Some f) e = found_any (λ (a : Sym). a.0 == w.name.0) (attributes_of (slice_get s.classes s.class)) f (record { 0 = 0 }) e
   field_fits u None e = tt
 
-  abbrev Known : Type 0
-  Known = is_variable w.kind ≡ true → is_some (number_of w.name s.values) ≡ true
+  -- an operand
+  operand_known : (p : Pred) → Known w s → OperandFits p w s
+  operand_known pred.Eq k = tt
+  operand_known _ k = k
 
-  put_fits : (f : ℕ) (o : Option ℕ) → number_of w.name s.values ≡ o → IfTaken Known (put_variable f o ws s)
-  put_fits f (Some n) e = λ _. ap is_some e
-  put_fits f None e = tt
+  variable_tested_fits : (f : ℕ) (p : Pred) (o : Option ℕ) → number_of w.name s.values ≡ o → IfTaken (OperandFits p w s) (variable_tested f p o w.name ws s)
+  variable_tested_fits f p (Some n) e = operand_known p (λ _ _. ap is_some e)
+  variable_tested_fits f pred.Eq None e = tt
+  variable_tested_fits f _ None e = tt
 
-  variable_fits : (u : Use) (f : ℕ) → IfTaken (ValueFits u w s) (variable_for u f (number_of w.name s.values) w.name ws s)
-  variable_fits InPattern f = tt
-  variable_fits InPut f = put_fits f (number_of w.name s.values) refl
-  variable_fits InFixed f = tt
+  constant_tested_fits : (f : ℕ) (p : Pred) (o : Option Value) → constant_of w.kind w.name ≡ o → IfTaken (OperandFits p w s) (constant_tested f p w o ws s)
+  constant_tested_fits f p (Some v) e = operand_known p (λ _ is. clash (is_variable w.kind) is (constant_not_variable w.kind w.name v e))
+  constant_tested_fits f p None e =
+      cond_both (is_variable w.kind) _ _ (IfTaken (OperandFits p w s)) (λ _. variable_tested_fits f p (number_of w.name s.values) refl) (λ _. tt)
 
-  constant_fits : (u : Use) (v : Value) → constant_of w.kind w.name ≡ Some v → ValueFits u w s
-  constant_fits InPattern v e = tt
-  constant_fits InPut v e = λ is. clash (is_variable w.kind) is (constant_not_variable w.kind w.name v e)
-  constant_fits InFixed v e = constant_not_variable w.kind w.name v e
+  tested_fits : (f : ℕ) (p : Pred) → IfTaken (OperandFits p w s) (tested f p w ws s)
+  tested_fits f p =
+      cond_both (is_literal w.keyword) _ _ (IfTaken (OperandFits p w s)) (λ l. operand_known p (λ unlike. clash (is_literal w.keyword) l unlike))
+      (λ _. constant_tested_fits f p (constant_of w.kind w.name) refl)
 
-  value_fits : (u : Use) (f : ℕ) (o : Option Value) → constant_of w.kind w.name ≡ o → IfTaken (ValueFits u w s) (value_for u f w o ws s)
-  value_fits u f (Some v) e = constant_fits u v e
-  value_fits u f None e = cond_both (is_variable w.kind) _ _ (IfTaken (ValueFits u w s)) (λ _. variable_fits u f) (λ _. tt)
+  -- a value
+  value_fits_where : (t : Target) → (is_literal w.keyword ≡ false → is_variable w.kind ≡ false) → ValueFits t w s
+  value_fits_where (ToPut f) h = λ l is. clash (is_variable w.kind) is (h l)
+  value_fits_where ToItem h = λ l is. clash (is_variable w.kind) is (h l)
+  value_fits_where _ h = h
+
+  bound_fits : (t : Target) (o : Option ℕ) → number_of w.name s.values ≡ o → IfTaken (ValueFits t w s) (bound_at t o ws s)
+  bound_fits (ToPut f) (Some n) e = λ _ _. ap is_some e
+  bound_fits ToItem (Some n) e = λ _ _. ap is_some e
+  bound_fits _ (Some n) e = tt
+  bound_fits t None e = tt
+
+  constant_at_fits : (t : Target) (o : Option Value) → value_of w.kind w.name ≡ o → IfTaken (ValueFits t w s) (constant_at t w o ws s)
+  constant_at_fits t (Some v) e = value_fits_where t (λ _. value_not_variable w.kind w.name v e)
+  constant_at_fits t None e = cond_both (is_variable w.kind) _ _ (IfTaken (ValueFits t w s)) (λ _. bound_fits t (number_of w.name s.values) refl) (λ _. tt)
+
+  value_fits : (t : Target) → IfTaken (ValueFits t w s) (value_for t w ws s)
+  value_fits t =
+      cond_both (is_literal w.keyword) _ _ (IfTaken (ValueFits t w s)) (λ l. value_fits_where t (λ unlike. clash (is_literal w.keyword) l unlike))
+      (λ _. constant_at_fits t (value_of w.kind w.name) refl)
 
   cell_of_fits : (o : Option ℕ) → IfTaken (is_condition s o ≡ true) (cell_of o ws s)
   cell_of_fits (Some n) = cond_both (nat_lt (length s.conditions) n) _ _ (IfTaken (not (nat_lt (length s.conditions) n) ≡ true)) (λ _. tt) (λ near. ap not near)
@@ -118,23 +163,6 @@ module _ (w : Word) (ws : List Wanted) (s : State) where
   cell_fits : (k : TokenKind) → IfTaken (designates k s ≡ true) (cell k ws s)
   cell_fits (kind.Whole n) = cell_of_fits (natural_of n)
   cell_fits _ = tt
-
-  item_variable_fits : (o : Option ℕ) → number_of w.name s.values ≡ o → IfTaken Known (item_variable o ws s)
-  item_variable_fits (Some n) e = λ _. ap is_some e
-  item_variable_fits None e = tt
-
-  item_value_fits : (o : Option Value) → constant_of w.kind w.name ≡ o → IfTaken Known (item_value w o ws s)
-  item_value_fits (Some v) e = λ is. clash (is_variable w.kind) is (constant_not_variable w.kind w.name v e)
-  item_value_fits None e = cond_both (is_variable w.kind) _ _ (IfTaken Known) (λ _. item_variable_fits (number_of w.name s.values) refl) (λ _. tt)
-
-weaker : (P Q : Type 0) → (P → Q) → (r : Step) → IfTaken P r → IfTaken Q r
-weaker P Q f (Next ws s) h = f h
-weaker P Q f (Refuses x) h = tt
-
--- whatever is wanted, a word that is taken may be so
-whatever : (r : Step) → IfTaken (Unit {0}) r
-whatever (Next ws s) = tt
-whatever (Refuses f) = tt
 
 step_fits : (w : Word) (ws : List Wanted) (s : State) → IfTaken (Fits ws w s) (step w ws s)
 unfolding step
@@ -156,7 +184,8 @@ step_fits w (ClassName ∷ ws) s =
     cond_both (is_name w.kind) _ _ (IfTaken (is_class s w.name ≡ true)) (λ _. class_fits w ws s (position (λ c. c.name.0 == w.name.0) s.classes) refl) (λ _. tt)
 step_fits w (Attribute u ∷ ws) s =
     cond_both (is_name w.kind) _ _ (IfTaken (Fits (Attribute u ∷ ws) w s)) (λ _. field_fits w ws s u (position (λ a. a.0 == w.name.0) (attributes_of (slice_get s.classes s.class))) refl) (λ _. tt)
-step_fits w (ValueFor u f ∷ ws) s = value_fits w ws s u f (constant_of w.kind w.name) refl
+step_fits w (Tested f p ∷ ws) s = tested_fits w ws s f p
+step_fits w (ValueFor t ∷ ws) s = value_fits w ws s t
 step_fits w (Cell ∷ ws) s = cell_fits w ws s w.kind
 step_fits w (Cells ∷ ws) s =
     let P : Type 0 = Fits (Cells ∷ ws) w s in
@@ -164,8 +193,8 @@ step_fits w (Cells ∷ ws) s =
     (λ _. weaker (designates w.kind s ≡ true) P (λ is _. is) _ (cell_fits w (Cells ∷ ws) s w.kind))
 step_fits w (Items ∷ ws) s =
     let P : Type 0 = Fits (Items ∷ ws) w s in
-    cond_both (is_right w.kind) _ _ (IfTaken P) (λ right is. clash (is_right w.kind) right (variable_not_right w.kind is))
-    (λ _. cond_both (is_left w.kind) _ _ (IfTaken P) (λ left is. clash (is_left w.kind) left (variable_not_left w.kind is)) (λ _. item_value_fits w (Items ∷ ws) s (constant_of w.kind w.name) refl))
+    cond_both (is_right w.kind) _ _ (IfTaken P) (λ right _ is. clash (is_right w.kind) right (variable_not_right w.kind is))
+    (λ _. cond_both (is_left w.kind) _ _ (IfTaken P) (λ left _ is. clash (is_left w.kind) left (variable_not_left w.kind is)) (λ _. value_fits w (Items ∷ ws) s ToItem))
 step_fits w ws s = whatever (step w ws s)
 
 -- A word is taken only where it may be so: what it names is declared or bound, or new where it is declared.
