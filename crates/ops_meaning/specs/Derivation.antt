@@ -8,7 +8,7 @@ use Rattle.ops_tokens.specs.declared.token.TokenKind.{TokenKind}
 use Rattle.ops_tokens.specs.declared.token.TokenKind.TheVariants as kind
 use Rattle.ops_meaning.specs.declared.words.Word.{Word}
 use Rattle.ops_meaning.specs.declared.words.Keyword.TheVariants as keyword
-use Rattle.ops_meaning.specs.Grammar.{Use, InPattern, InPut, InFixed, Target, ToTest, ToItem, Ends, EndsRun, EndsHalt, EndsCrlf, Wanted, Forms, Form, ClassDeclared, Attributes, RuleName, FirstPattern, Patterns, ClassName, Terms, Attribute, Place, Tests, Tested, Choice, Atom, ValueFor, Actions, ActionWord, Cell, Cells, Items, ItemWord, Closes, is_left, is_right, is_left_brace, is_right_brace, is_caret, is_name, is_variable, is_literal, opens_choice, closes_choice, pred_of, constant_of, value_of, atom_of, behind_attribute}
+use Rattle.ops_meaning.specs.Grammar.{Use, InPattern, InPut, InFixed, Target, ToTest, ToItem, Ends, EndsRun, EndsHalt, EndsCrlf, Wanted, Forms, Form, ClassDeclared, Attributes, RuleName, FirstPattern, Patterns, NegatedPattern, ClassName, Terms, Attribute, Place, Tests, Tested, Choice, Atom, ValueFor, Actions, ActionWord, Cell, Cells, Items, ItemWord, Closes, is_left, is_right, is_left_brace, is_right_brace, is_caret, is_name, is_variable, is_literal, is_minus, opens_choice, closes_choice, pred_of, constant_of, value_of, atom_of, behind_attribute}
 
 -- WHOLE
 abbrev pub is_whole : TokenKind → Bool
@@ -42,11 +42,14 @@ pub data Derives : List Wanted → List Word → Type 0 where
   a_class : {ws : List Wanted} {w : Word} {ts : List Word} → is_name w.kind ≡ true → Derives ws ts → Derives (ClassDeclared ∷ ws) (w ∷ ts)
   an_attribute : {ws : List Wanted} {w : Word} {ts : List Word} → is_name w.kind ≡ true → Derives (Attributes ∷ ws) ts → Derives (Attributes ∷ ws) (w ∷ ts)
   no_attribute : {ws : List Wanted} {w : Word} {ts : List Word} → is_right w.kind ≡ true → Derives ws ts → Derives (Attributes ∷ ws) (w ∷ ts)
-  -- form = ( p NAME first pattern* --> action* )
+  -- form = ( p NAME first condition* --> action* ); a first that is negated continues the grammar, and is refused as that
   a_production : {ws : List Wanted} {w : Word} {ts : List Word} → w.keyword ≡ keyword.Production → Derives (RuleName ∷ FirstPattern ∷ Patterns ∷ Actions ∷ ws) ts → Derives (Form ∷ ws) (w ∷ ts)
   a_rule : {ws : List Wanted} {w : Word} {ts : List Word} → is_name w.kind ≡ true → Derives ws ts → Derives (RuleName ∷ ws) (w ∷ ts)
   a_first : {ws : List Wanted} {w : Word} {ts : List Word} → is_left w.kind ≡ true → Derives (ClassName ∷ Terms InPattern ∷ ws) ts → Derives (FirstPattern ∷ ws) (w ∷ ts)
+  a_negated_first : {ws : List Wanted} {w : Word} {ts : List Word} → is_minus w.keyword ≡ true → Derives (NegatedPattern ∷ ws) ts → Derives (FirstPattern ∷ ws) (w ∷ ts)
   a_pattern : {ws : List Wanted} {w : Word} {ts : List Word} → is_left w.kind ≡ true → Derives (ClassName ∷ Terms InPattern ∷ Patterns ∷ ws) ts → Derives (Patterns ∷ ws) (w ∷ ts)
+  a_negated_pattern : {ws : List Wanted} {w : Word} {ts : List Word} → is_minus w.keyword ≡ true → Derives (NegatedPattern ∷ Patterns ∷ ws) ts → Derives (Patterns ∷ ws) (w ∷ ts)
+  behind_a_minus : {ws : List Wanted} {w : Word} {ts : List Word} → is_left w.kind ≡ true → Derives (ClassName ∷ Terms InPattern ∷ ws) ts → Derives (NegatedPattern ∷ ws) (w ∷ ts)
   an_arrow : {ws : List Wanted} {w : Word} {ts : List Word} → w.keyword ≡ keyword.Arrow → Derives ws ts → Derives (Patterns ∷ ws) (w ∷ ts)
   -- form = ( make CLASS fixed* ), form = ( run )
   a_make : {ws : List Wanted} {w : Word} {ts : List Word} → w.keyword ≡ keyword.Make → Derives (ClassName ∷ Terms InFixed ∷ ws) ts → Derives (Form ∷ ws) (w ∷ ts)

@@ -1,5 +1,5 @@
 -- The grammar of program texts, as what a word does where something is wanted.
-use Rattle.std.specs.Prelude.{ℕ, ◌-◌, List, [], ◌∷◌, ◌++◌, length, position, Bool, true, false, ◌==◌, ◌&&◌, nat_lt, if◌then◌else◌, Option, Some, None, Result, Ok, Err, ℤ, pos, negsuc, slice_get}
+use Rattle.std.specs.Prelude.{ℕ, ◌+◌, ◌-◌, List, [], ◌∷◌, ◌++◌, length, take, position, Bool, true, false, ◌==◌, ◌&&◌, nat_lt, if◌then◌else◌, Option, Some, None, Result, Ok, Err, ℤ, pos, negsuc, slice_get}
 use Rattle.std.specs.List.{list_any}
 use Rattle.ops_base.specs.declared.values.Sym.{Sym}
 use Rattle.ops_base.specs.declared.values.Value.{Value}
@@ -25,7 +25,7 @@ use Rattle.ops_base.specs.declared.commands.Command.TheVariants as command
 use Rattle.ops_base.specs.declared.endings.Fault.{Fault}
 use Rattle.ops_base.specs.declared.endings.Fault.TheVariants as fault
 use Rattle.ops_base.specs.declared.endings.Limit.TheVariants as limit
-use Rattle.ops_base.specs.Valid.{most_fields, most_conditions, specificity}
+use Rattle.ops_base.specs.Valid.{most_fields, most_conditions, specificity, cells_of}
 use Rattle.ops_tokens.specs.declared.token.TokenKind.{TokenKind}
 use Rattle.ops_tokens.specs.declared.token.TokenKind.TheVariants as kind
 use Rattle.ops_meaning.specs.declared.words.Word.{Word}
@@ -66,8 +66,10 @@ pub data Wanted : Type 0 where
   RuleName : Wanted
   -- ( CLASS term* )
   FirstPattern : Wanted
-  -- pattern* -->
+  -- condition* -->
   Patterns : Wanted
+  -- ( CLASS term* )
+  NegatedPattern : Wanted
   -- CLASS
   ClassName : Wanted
   -- term* ), put* ) or fixed* )
@@ -118,6 +120,10 @@ pub record State : Type 0 where
   pub cells : List ℕ
   pub items : List Item
   pub values : List Named
+  -- how many variables were given a number, whether the condition is negated, and how many variables are in sight around it
+  pub variables : ℕ
+  pub negated : Bool
+  pub around : ℕ
   pub conditions : List Condition
   pub actions : List Action
 
@@ -165,6 +171,11 @@ is_arrow _ = false
 abbrev pub is_literal : Keyword → Bool
 is_literal keyword.Literal = true
 is_literal _ = false
+
+-- - before a pattern
+abbrev pub is_minus : Keyword → Bool
+is_minus keyword.Minus = true
+is_minus _ = false
 
 -- << before constants
 abbrev pub opens_choice : Keyword → Bool
@@ -321,7 +332,7 @@ with_constant ToItem s v = with_item s (item.Print (term.Constant v))
 -- the first place of a variable
 abbrev pub with_bound : State → ℕ → Sym → State
 with_bound s f name =
-    with_test (record s { values = s.values ++ record { name = name; number = length s.values } ∷ [] }) f pred.Eq (operand.Variable (length s.values)) true
+    with_test (record s { values = s.values ++ record { name = name; number = s.variables } ∷ []; variables = s.variables + 1 }) f pred.Eq (operand.Variable s.variables) true
 
 -- The first place of a variable binds it, by an equality.
 abbrev pub variable_tested : ℕ → Pred → Option ℕ → Sym → List Wanted → State → Step
@@ -395,10 +406,19 @@ with_action s a = record s { actions = s.actions ++ a ∷ [] }
 abbrev pub with_command : State → Command → State
 with_command s c = record s { commands = s.commands ++ c ∷ [] }
 
+-- A condition ends. The variables of a negated one are out of sight behind it.
+abbrev pub with_condition : State → State
+with_condition s =
+    record s {
+      conditions = s.conditions ++ record { class = s.class; negated = s.negated; tests = s.tests } ∷ [];
+      tests = [];
+      values = if s.negated then take s.around s.values else s.values;
+      negated = false;
+    }
+
 -- an element form ends
 abbrev pub with_element : Use → State → State
-with_element InPattern s =
-    record s { conditions = s.conditions ++ record { class = s.class; negated = false; tests = s.tests } ∷ []; tests = [] }
+with_element InPattern s = with_condition s
 with_element InPut s = record (with_action s (action.Make s.class s.puts)) { puts = [] }
 with_element InFixed s = record (with_command s (command.Make s.class s.fixed)) { fixed = [] }
 
@@ -414,19 +434,29 @@ abbrev pub rule_name : Word → List Wanted → State → Step
 rule_name w ws s =
     if is_name w.kind
     then (if is_rule s w.name then Refuses fault.DeclaredTwice
-    else Next ws (record s { name = w.name; tests = []; values = []; conditions = []; actions = [] }))
+    else Next ws (record s { name = w.name; tests = []; values = []; variables = 0; negated = false; around = 0; conditions = []; actions = [] }))
     else Refuses fault.BadForm
 
+-- the first condition is positive
 abbrev pub first_pattern : Word → List Wanted → State → Step
-first_pattern w ws s = if is_left w.kind then Next (ClassName ∷ Terms InPattern ∷ ws) s else Refuses fault.BadForm
+first_pattern w ws s =
+    if is_left w.kind then Next (ClassName ∷ Terms InPattern ∷ ws) s
+    else if is_minus w.keyword then Refuses fault.FirstNegated
+    else Refuses fault.BadForm
+
+-- one more condition, where there is room for one
+abbrev pub one_more : List Wanted → State → Step
+one_more ws s = if nat_lt (length s.conditions) most_conditions then Next ws s else Refuses (fault.LimitPassed limit.Conditions)
 
 abbrev pub patterns : Word → List Wanted → State → Step
 patterns w ws s =
     if is_arrow w.keyword then Next ws s
-    else if is_left w.kind
-    then (if nat_lt (length s.conditions) most_conditions then Next (ClassName ∷ Terms InPattern ∷ Patterns ∷ ws) s
-    else Refuses (fault.LimitPassed limit.Conditions))
+    else if is_left w.kind then one_more (ClassName ∷ Terms InPattern ∷ Patterns ∷ ws) s
+    else if is_minus w.keyword then one_more (NegatedPattern ∷ Patterns ∷ ws) (record s { negated = true; around = length s.values })
     else Refuses fault.BadForm
+
+abbrev pub negated_pattern : Word → List Wanted → State → Step
+negated_pattern w ws s = if is_left w.kind then Next (ClassName ∷ Terms InPattern ∷ ws) s else Refuses fault.BadForm
 
 abbrev pub with_rule : State → ℕ → State
 with_rule s past =
@@ -436,8 +466,8 @@ with_rule s past =
         conditions = s.conditions;
         actions = s.actions;
         specificity = specificity s.conditions;
-        variables = length s.values;
-        cells = length s.conditions;
+        variables = s.variables;
+        cells = length (cells_of s.conditions);
         first = s.first;
         past = past;
       } ∷ [];
@@ -458,10 +488,17 @@ action_word keyword.Write ws s = Next (Items ∷ ws) (record s { items = [] })
 action_word keyword.Halt ws s = Next (Closes EndsHalt ∷ ws) s
 action_word _ ws s = Refuses fault.BadForm
 
+-- The condition that is designated is positive, and so is each before it; its cell has the number of conditions before it.
+abbrev pub designated : ℕ → Option Condition → List Wanted → State → Step
+designated before (Some c) ws s =
+    if c.negated then Refuses fault.BadDesignator
+    else if list_any (λ c. c.negated) (take before s.conditions) then Refuses fault.AmbiguousDesignator
+    else Next ws (record s { cells = s.cells ++ before ∷ [] })
+designated before None ws s = Refuses fault.BadDesignator
+
 -- a number of a condition, counted from 1
 abbrev pub cell_of : Option ℕ → List Wanted → State → Step
-cell_of (Some n) ws s =
-    if nat_lt (length s.conditions) n then Refuses fault.BadDesignator else Next ws (record s { cells = s.cells ++ (n - 1) ∷ [] })
+cell_of (Some n) ws s = designated (n - 1) (slice_get s.conditions (n - 1)) ws s
 cell_of None ws s = Refuses fault.BadDesignator
 
 abbrev pub cell : TokenKind → List Wanted → State → Step
@@ -512,6 +549,7 @@ step w (Attributes ∷ ws) s = attributes w ws s
 step w (RuleName ∷ ws) s = rule_name w ws s
 step w (FirstPattern ∷ ws) s = first_pattern w ws s
 step w (Patterns ∷ ws) s = patterns w ws s
+step w (NegatedPattern ∷ ws) s = negated_pattern w ws s
 step w (ClassName ∷ ws) s = class_name w ws s
 step w (Terms u ∷ ws) s = terms u w ws s
 step w (Attribute u ∷ ws) s = attribute u w ws s
@@ -565,6 +603,9 @@ nothing_read =
       cells = [];
       items = [];
       values = [];
+      variables = 0;
+      negated = false;
+      around = 0;
       conditions = [];
       actions = [];
     }

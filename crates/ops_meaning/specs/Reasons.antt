@@ -1,6 +1,8 @@
 -- Why a word is refused: what each fault says of the word, of what is wanted there and of what was read before.
-use Rattle.std.specs.Prelude.{◌≡◌, ℕ, List, [], ◌∷◌, length, Bool, true, false, not, ◌==◌, nat_lt, Option, Some, None, is_some, slice_get}
+use Rattle.std.specs.Prelude.{◌≡◌, ℕ, ◌-◌, List, [], ◌∷◌, length, Bool, true, false, not, ◌==◌, nat_lt, Option, Some, None, is_some, slice_get}
+use Rattle.std.specs.List.{list_any}
 use Rattle.ops_base.specs.declared.values.Sym.{Sym}
+use Rattle.ops_base.specs.declared.conditions.Condition.{Condition}
 use Rattle.ops_base.specs.declared.endings.Fault.{Fault}
 use Rattle.ops_base.specs.declared.endings.Fault.TheVariants as fault
 use Rattle.ops_base.specs.declared.endings.Limit.TheVariants as limit
@@ -9,7 +11,7 @@ use Rattle.ops_tokens.specs.declared.token.TokenKind.{TokenKind}
 use Rattle.ops_tokens.specs.declared.token.TokenKind.TheVariants as kind
 use Rattle.ops_meaning.specs.declared.words.Word.{Word}
 use Rattle.ops_meaning.specs.declared.words.Keyword.TheVariants as keyword
-use Rattle.ops_meaning.specs.Grammar.{ToFixed, Wanted, Forms, Form, ClassDeclared, Attributes, RuleName, ValueFor, State, is_name, is_variable, natural_of, is_one_of, number_of, may_declare, is_class, is_rule, attributes_of}
+use Rattle.ops_meaning.specs.Grammar.{ToFixed, Wanted, Forms, Form, ClassDeclared, Attributes, RuleName, ValueFor, State, is_name, is_variable, is_minus, natural_of, is_one_of, number_of, may_declare, is_class, is_rule, attributes_of}
 use Rattle.ops_meaning.specs.Derivation.{is_whole}
 
 -- the fault of a word that continues no form
@@ -31,11 +33,15 @@ abbrev pub is_bound : List Wanted → Sym → State → Bool
 is_bound (ValueFor (ToFixed f) ∷ ws) name s = false
 is_bound ws name s = is_some (number_of name s.values)
 
+abbrev pub is_positive : Option Condition → Bool
+is_positive (Some c) = not c.negated
+is_positive None = false
+
 abbrev pub is_condition : State → Option ℕ → Bool
-is_condition s (Some n) = not (nat_lt (length s.conditions) n)
+is_condition s (Some n) = is_positive (slice_get s.conditions (n - 1))
 is_condition s None = false
 
--- the number of a condition
+-- the number of a positive condition
 abbrev pub designates : TokenKind → State → Bool
 designates (kind.Whole n) s = is_condition s (natural_of n)
 designates _ s = false
@@ -54,4 +60,6 @@ Because (fault.LimitPassed limit.Conditions) w ws s = nat_lt (length s.condition
 Because fault.Stray w ws s = no_form_fault ws ≡ fault.Stray
 Because fault.UnknownCommand w ws s = no_form_fault ws ≡ fault.UnknownCommand
 Because fault.BadForm w ws s = no_form_fault ws ≡ fault.BadForm
+Because fault.FirstNegated w ws s = is_minus w.keyword ≡ true
+Because fault.AmbiguousDesignator w ws s = (is_whole w.kind ≡ true) × (list_any (λ c. c.negated) s.conditions ≡ true)
 Because _ w ws s = ⊥

@@ -37,6 +37,7 @@ keyword_of_operator s =
     else if bytes_eq s (codes "<<") then keyword.OpenChoice
     else if bytes_eq s (codes ">>") then keyword.CloseChoice
     else if bytes_eq s (codes "//") then keyword.Literal
+    else if bytes_eq s (codes "-") then keyword.Minus
     else keyword.Other
 
 abbrev pub keyword_of : TokenKind → List ℕ → Keyword

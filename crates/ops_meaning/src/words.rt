@@ -26,6 +26,7 @@ pub enum Keyword {
     OpenChoice,
     CloseChoice,
     Literal,
+    Minus,
     Other,
 }
 
