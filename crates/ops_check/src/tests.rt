@@ -45,127 +45,129 @@ fn program_is_read(rt: HostRuntime) -> Result<(), ProgramFault> {
     Ok(())
 }
 
+// texts, each with its fault, line and column
+const FAULTS: [(&[u8], Fault, u64, u64); 30] = [
+    (
+        b"(literalize a n) (p r (a ^n > <x>) -->)",
+        Fault::UnboundVariable,
+        1,
+        31,
+    ),
+    (
+        b"(literalize a n) (p r (a ^n { > 3 < 5 ) -->)",
+        Fault::BadForm,
+        1,
+        39,
+    ),
+    (
+        b"(literalize a n) (p r (a ^n << 1 <x>",
+        Fault::Unclosed,
+        1,
+        37,
+    ),
+    (
+        b"(literalize a n) (p r (a ^n >>) -->)",
+        Fault::BadForm,
+        1,
+        29,
+    ),
+    (
+        b"(literalize a n) (p r (a ^n > = 3) -->)",
+        Fault::BadForm,
+        1,
+        31,
+    ),
+    (b"(literalize a n) (make a ^n //)", Fault::BadForm, 1, 31),
+    (
+        b"(literalize a n) (p r (a ^n 1 2) -->)",
+        Fault::BadForm,
+        1,
+        31,
+    ),
+    (b"(literalize a) (make b)", Fault::UnknownClass, 1, 22),
+    (
+        b"(literalize a) (p r (a) --> (write <x>))",
+        Fault::UnboundVariable,
+        1,
+        36,
+    ),
+    (
+        b"(literalize a) (make b ^c <x>)",
+        Fault::UnknownClass,
+        1,
+        22,
+    ),
+    (
+        b"(literalize a n) (make a ^n <x>)",
+        Fault::UnboundVariable,
+        1,
+        29,
+    ),
+    (b"(foo)", Fault::UnknownCommand, 1, 2),
+    (b")", Fault::Stray, 1, 1),
+    (b"1.5", Fault::Stray, 1, 1),
+    (b"(run 1.5", Fault::FractionNumber, 1, 6),
+    (b"(literalize a", Fault::Unclosed, 1, 14),
+    (b"(literalize a))", Fault::Stray, 1, 15),
+    (
+        b"(literalize a) (literalize a)",
+        Fault::DeclaredTwice,
+        1,
+        28,
+    ),
+    (b"(literalize a b a b)", Fault::DeclaredTwice, 1, 19),
+    (
+        b"(literalize a) (p r (a) -->) (p r (a) -->)",
+        Fault::DeclaredTwice,
+        1,
+        33,
+    ),
+    (
+        b"(literalize a) (make a) (literalize b)",
+        Fault::LateDeclaration,
+        1,
+        26,
+    ),
+    (
+        b"(literalize a) (make a) (p r (a) -->)",
+        Fault::LateProduction,
+        1,
+        26,
+    ),
+    (
+        b"(literalize a) (p r (a) --> (remove 0))",
+        Fault::BadDesignator,
+        1,
+        37,
+    ),
+    (
+        b"(literalize a) (p r (a) (a) --> (remove 3))",
+        Fault::BadDesignator,
+        1,
+        41,
+    ),
+    (
+        b"(literalize a n) (make a ^q 1)",
+        Fault::UnknownAttribute,
+        1,
+        27,
+    ),
+    (
+        b"(literalize a n) (make a ^n 9223372036854775808)",
+        Fault::NumberRange,
+        1,
+        29,
+    ),
+    (b"(literalize a) (p r --> (halt))", Fault::BadForm, 1, 21),
+    (b"(literalize a) (p |r (a) --> )", Fault::Unclosed, 1, 19),
+    (b"; (\n(run) \x80", Fault::BadByte, 2, 7),
+    (b"(run)\r\n\n (run x)", Fault::BadForm, 3, 7),
+];
+
 #[test]
 fn faults_stand_at_their_places(rt: HostRuntime) {
     let alloc = rt.alloc();
-    let rows: [(&[u8], Fault, u64, u64); 30] = [
-        (
-            b"(literalize a n) (p r (a ^n > <x>) -->)",
-            Fault::UnboundVariable,
-            1,
-            31,
-        ),
-        (
-            b"(literalize a n) (p r (a ^n { > 3 < 5 ) -->)",
-            Fault::BadForm,
-            1,
-            39,
-        ),
-        (
-            b"(literalize a n) (p r (a ^n << 1 <x>",
-            Fault::Unclosed,
-            1,
-            37,
-        ),
-        (
-            b"(literalize a n) (p r (a ^n >>) -->)",
-            Fault::BadForm,
-            1,
-            29,
-        ),
-        (
-            b"(literalize a n) (p r (a ^n > = 3) -->)",
-            Fault::BadForm,
-            1,
-            31,
-        ),
-        (b"(literalize a n) (make a ^n //)", Fault::BadForm, 1, 31),
-        (
-            b"(literalize a n) (p r (a ^n 1 2) -->)",
-            Fault::BadForm,
-            1,
-            31,
-        ),
-        (b"(literalize a) (make b)", Fault::UnknownClass, 1, 22),
-        (
-            b"(literalize a) (p r (a) --> (write <x>))",
-            Fault::UnboundVariable,
-            1,
-            36,
-        ),
-        (
-            b"(literalize a) (make b ^c <x>)",
-            Fault::UnknownClass,
-            1,
-            22,
-        ),
-        (
-            b"(literalize a n) (make a ^n <x>)",
-            Fault::UnboundVariable,
-            1,
-            29,
-        ),
-        (b"(foo)", Fault::UnknownCommand, 1, 2),
-        (b")", Fault::Stray, 1, 1),
-        (b"1.5", Fault::Stray, 1, 1),
-        (b"(run 1.5", Fault::FractionNumber, 1, 6),
-        (b"(literalize a", Fault::Unclosed, 1, 14),
-        (b"(literalize a))", Fault::Stray, 1, 15),
-        (
-            b"(literalize a) (literalize a)",
-            Fault::DeclaredTwice,
-            1,
-            28,
-        ),
-        (b"(literalize a b a b)", Fault::DeclaredTwice, 1, 19),
-        (
-            b"(literalize a) (p r (a) -->) (p r (a) -->)",
-            Fault::DeclaredTwice,
-            1,
-            33,
-        ),
-        (
-            b"(literalize a) (make a) (literalize b)",
-            Fault::LateDeclaration,
-            1,
-            26,
-        ),
-        (
-            b"(literalize a) (make a) (p r (a) -->)",
-            Fault::LateProduction,
-            1,
-            26,
-        ),
-        (
-            b"(literalize a) (p r (a) --> (remove 0))",
-            Fault::BadDesignator,
-            1,
-            37,
-        ),
-        (
-            b"(literalize a) (p r (a) (a) --> (remove 3))",
-            Fault::BadDesignator,
-            1,
-            41,
-        ),
-        (
-            b"(literalize a n) (make a ^q 1)",
-            Fault::UnknownAttribute,
-            1,
-            27,
-        ),
-        (
-            b"(literalize a n) (make a ^n 9223372036854775808)",
-            Fault::NumberRange,
-            1,
-            29,
-        ),
-        (b"(literalize a) (p r --> (halt))", Fault::BadForm, 1, 21),
-        (b"(literalize a) (p |r (a) --> )", Fault::Unclosed, 1, 19),
-        (b"; (\n(run) \x80", Fault::BadByte, 2, 7),
-        (b"(run)\r\n\n (run x)", Fault::BadForm, 3, 7),
-    ];
-    for (text, fault, line, column) in rows {
+    for (text, fault, line, column) in FAULTS {
         let at = ProgramFault::At {
             fault,
             line,
