@@ -22,7 +22,7 @@ use Rattle.ops_base.specs.declared.actions.Item.TheVariants as item
 use Rattle.ops_base.specs.declared.actions.Action.{Action}
 use Rattle.ops_base.specs.declared.actions.Action.TheVariants as action
 use Rattle.ops_base.specs.declared.rules.Rule.{Rule}
-use Rattle.ops_base.specs.Valid.{most_conditions, are_distinct, class_is_valid, class_of, is_attribute, is_equality, specificity}
+use Rattle.ops_base.specs.Valid.{most_conditions, are_distinct, class_is_valid, class_of, is_attribute, is_equality, is_in, first_is_positive, cells_of, specificity}
 use Rattle.ops_tokens.specs.declared.token.TokenKind.TheVariants as kind
 use Rattle.ops_meaning.specs.declared.words.Word.{Word}
 use Rattle.ops_meaning.specs.declared.words.Keyword.{Keyword}
@@ -121,42 +121,55 @@ spelled_test c t = spelled_attribute c t.field (spelled_operand t.pred t.operand
 abbrev pub spelled_pattern : Class → List Test → List Word
 spelled_pattern c tests = spelled_name c.name ∷ spelled_each (spelled_test c) tests ++ closing ∷ []
 
+-- pattern | - pattern
 abbrev pub spelled_condition : List Class → Condition → List Word
-spelled_condition classes c = opening ∷ spelled_pattern (class_of classes c.class) c.tests
+spelled_condition classes c =
+    (if c.negated then spelled_operator keyword.Minus ∷ [] else []) ++ opening ∷ spelled_pattern (class_of classes c.class) c.tests
 
--- A constant; constants, one of which is equal; or a variable, with a number below this one where it is bound already, and
--- with this number and an equality where it is bound here.
-abbrev pub operand_is_plain : ℕ → Pred → Bool → Operand → Bool
+-- the numbers of the variables in sight, in the order in which they came, and how many were given
+pub record Numbered : Type 0 where
+  pub sight : List ℕ
+  pub given : ℕ
+
+-- A constant; constants, one of which is equal; a variable in sight; or a variable that is bound here, with an equality and the
+-- next number.
+abbrev pub operand_is_plain : Numbered → Pred → Bool → Operand → Bool
 operand_is_plain k p binds (operand.Constant v) = not binds
-operand_is_plain k p binds (operand.Variable n) = if binds then is_equality p && (n == k) else nat_lt n k
+operand_is_plain k p binds (operand.Variable n) = if binds then is_equality p && (n == k.given) else is_in n k.sight
 operand_is_plain k p binds (operand.OneOf vs) = not binds && is_equality p
 
-abbrev pub test_is_plain : Class → ℕ → Test → Bool
+abbrev pub test_is_plain : Class → Numbered → Test → Bool
 test_is_plain c k t = is_attribute c t.field && operand_is_plain k t.pred t.binds t.operand
 
--- how many variables are bound after it, where so many were before it
-abbrev pub after_test : ℕ → Test → ℕ
-after_test k t = if t.binds then suc k else k
+-- what is in sight behind it
+abbrev pub after_test : Numbered → Test → Numbered
+after_test k t = if t.binds then record { sight = k.sight ++ k.given ∷ []; given = suc k.given } else k
 
-abbrev pub tests_are_plain : Class → ℕ → List Test → Bool
+abbrev pub tests_are_plain : Class → Numbered → List Test → Bool
 tests_are_plain c k [] = true
 tests_are_plain c k (t ∷ ts) = test_is_plain c k t && tests_are_plain c (after_test k t) ts
 
-abbrev pub after_tests : ℕ → List Test → ℕ
+abbrev pub after_tests : Numbered → List Test → Numbered
 after_tests k [] = k
 after_tests k (t ∷ ts) = after_tests (after_test k t) ts
 
-abbrev pub condition_is_plain : List Class → ℕ → Condition → Bool
-condition_is_plain classes k c =
-    nat_lt c.class (length classes) && not c.negated && tests_are_plain (class_of classes c.class) k c.tests
+-- What a negated condition binds is out of sight behind it, and its numbers are not given again.
+abbrev pub after_condition : Numbered → Condition → Numbered
+after_condition k c = if c.negated then record { sight = k.sight; given = (after_tests k c.tests).given } else after_tests k c.tests
 
-abbrev pub conditions_are_plain : List Class → ℕ → List Condition → Bool
+abbrev pub condition_is_plain : List Class → Numbered → Condition → Bool
+condition_is_plain classes k c = nat_lt c.class (length classes) && tests_are_plain (class_of classes c.class) k c.tests
+
+abbrev pub conditions_are_plain : List Class → Numbered → List Condition → Bool
 conditions_are_plain classes k [] = true
-conditions_are_plain classes k (c ∷ cs) = condition_is_plain classes k c && conditions_are_plain classes (after_tests k c.tests) cs
+conditions_are_plain classes k (c ∷ cs) = condition_is_plain classes k c && conditions_are_plain classes (after_condition k c) cs
 
-abbrev pub after_conditions : ℕ → List Condition → ℕ
+abbrev pub after_conditions : Numbered → List Condition → Numbered
 after_conditions k [] = k
-after_conditions k (c ∷ cs) = after_conditions (after_tests k c.tests) cs
+after_conditions k (c ∷ cs) = after_conditions (after_condition k c) cs
+
+abbrev pub nothing_numbered : Numbered
+nothing_numbered = record { sight = []; given = 0 }
 
 -- ---- right sides
 
@@ -186,22 +199,27 @@ spelled_action classes (action.Write items) = opening ∷ spelled_keyword keywor
 spelled_action classes action.Halt = opening ∷ spelled_keyword keyword.Halt ∷ closing ∷ []
 spelled_action classes _ = []
 
--- a constant, or a variable with a number below this one
-abbrev pub term_is_plain : ℕ → Term → Bool
+-- a constant, or a variable in sight
+abbrev pub term_is_plain : List ℕ → Term → Bool
 term_is_plain k (term.Constant v) = true
-term_is_plain k (term.Variable n) = nat_lt n k
+term_is_plain k (term.Variable n) = is_in n k
 term_is_plain k _ = false
 
-abbrev pub put_is_plain : Class → ℕ → Put → Bool
+abbrev pub put_is_plain : Class → List ℕ → Put → Bool
 put_is_plain c k p = is_attribute c p.field && (length p.terms == 1) && list_all (term_is_plain k) p.terms
 
-abbrev pub item_is_plain : ℕ → Item → Bool
+abbrev pub item_is_plain : List ℕ → Item → Bool
 item_is_plain k (item.Print t) = term_is_plain k t
 item_is_plain k item.Crlf = true
 item_is_plain k _ = false
 
--- behind so many conditions that bind so many variables
-abbrev pub action_is_plain : List Class → ℕ → ℕ → Action → Bool
+-- how many conditions stand before the first negated one
+abbrev pub plainly_positive : List Condition → ℕ
+plainly_positive [] = 0
+plainly_positive (c ∷ cs) = if c.negated then 0 else suc (plainly_positive cs)
+
+-- behind conditions, so many of which stand before the first negated one, with these variables in sight
+abbrev pub action_is_plain : List Class → ℕ → List ℕ → Action → Bool
 action_is_plain classes n k (action.Make class puts) = nat_lt class (length classes) && list_all (put_is_plain (class_of classes class) k) puts
 action_is_plain classes n k (action.Remove cells) = nat_lt 0 (length cells) && list_all (λ c. nat_lt c n) cells
 action_is_plain classes n k (action.Write items) = list_all (item_is_plain k) items
@@ -222,9 +240,10 @@ spelled_rule classes r =
 
 abbrev pub rule_is_plain : List Class → Rule → Bool
 rule_is_plain classes r =
-    nat_lt 0 (length r.conditions) && nat_le (length r.conditions) most_conditions && conditions_are_plain classes 0 r.conditions
-    && list_all (action_is_plain classes (length r.conditions) r.variables) r.actions
-    && (r.variables == after_conditions 0 r.conditions) && (r.specificity == specificity r.conditions) && (r.cells == length r.conditions)
+    first_is_positive r.conditions && nat_le (length r.conditions) most_conditions && conditions_are_plain classes nothing_numbered r.conditions
+    && list_all (action_is_plain classes (plainly_positive r.conditions) (after_conditions nothing_numbered r.conditions).sight) r.actions
+    && (r.variables == (after_conditions nothing_numbered r.conditions).given) && (r.specificity == specificity r.conditions)
+    && (r.cells == length (cells_of r.conditions))
 
 -- ---- programs
 
