@@ -1,8 +1,8 @@
 -- What was read stays valid where one more part of it stands at the end.
-use Rattle.std.proofs.Common.{◌≡◌, ℕ, ◌+◌, ◌<◌, ◌≤◌, Bool, true, false, ◌&&◌, ◌||◌, ◌==◌, cond, List, [], ◌∷◌, ◌++◌, length, map, refl, sym, ap, subst, ◌∙◌, arith, Option, Some, nat_lt, nat_le, length-append}
+use Rattle.std.proofs.Common.{◌≡◌, ℕ, ◌+◌, ◌<◌, ◌≤◌, Bool, true, false, ◌&&◌, ◌||◌, ◌==◌, cond, List, [], ◌∷◌, ◌++◌, length, map, refl, sym, ap, subst, ◌∙◌, arith, Option, Some, nat_lt, nat_le, take, true≢false, length-append}
 use Rattle.std.specs.List.{list_all, list_any}
 use Rattle.std.proofs.lemmas.Bool.{and_parts, and_from, or_left, or_right, eq-eqb, ltb-true, lt-ltb, leb-true, le-leb}
-use Rattle.std.proofs.lemmas.List.{map-append}
+use Rattle.std.proofs.lemmas.List.{map-append, take-append-le, take_all}
 use Rattle.ops_base.specs.declared.values.Sym.{Sym}
 use Rattle.ops_base.specs.declared.values.Value.{Value}
 use Rattle.ops_base.specs.declared.values.Pred.{Pred}
@@ -16,12 +16,12 @@ use Rattle.ops_base.specs.declared.actions.Term.{Term}
 use Rattle.ops_base.specs.declared.actions.Action.{Action}
 use Rattle.ops_base.specs.declared.rules.Rule.{Rule}
 use Rattle.ops_base.specs.declared.commands.Command.{Command}
-use Rattle.ops_base.specs.Valid.{longest_list, most_fields, most_conditions, fits, is_in, are_distinct, no_class, class_of, class_is_valid, is_attribute, is_vector, Sight, operand_is_valid, test_is_valid, sight_after, tests_are_valid, sight_after_conditions, nothing_in_sight, specificity, known_of, Known, known_after, term_is_valid, put_is_valid, action_is_valid, fixed_is_valid, command_is_valid}
+use Rattle.ops_base.specs.Valid.{longest_list, most_fields, most_conditions, fits, is_in, are_distinct, no_class, class_of, class_is_valid, is_attribute, is_vector, Sight, operand_is_valid, test_is_valid, sight_after, tests_are_valid, sight_after_tests, nothing_in_sight, cells_of, specificity, known_of, Known, known_after, term_is_valid, put_is_valid, action_is_valid, fixed_is_valid, command_is_valid}
 use Rattle.ops_meaning.specs.declared.words.Named.{Named}
 use Rattle.ops_meaning.specs.Grammar.{number_of}
 use Rattle.ops_meaning.proofs.Lists.{all_push, all_none, all_weaker, all_at, distinct_push, in_map, cond_alike}
-use Rattle.ops_meaning.proofs.Parts.{tests_push, sight_push, conditions_push, sight_conditions_push, actions_push, known_push, cells_all, first_of_all}
-use Rattle.ops_meaning.proofs.Sound.{IsProgram, IsDeclaring, IsClass, numbers, sight_of, IsHead, known, IsBody}
+use Rattle.ops_meaning.proofs.Parts.{tests_push, sight_push, conditions_push, sight_conditions_push, actions_push, known_push, first_push}
+use Rattle.ops_meaning.proofs.Sound.{IsProgram, IsDeclaring, IsClass, numbers, Variables, seen, all_below, IsHead, known, IsBody}
 
 pub fits_below : {X : Type 0} (xs : List X) (n : ℕ) → length xs ≤ n → n ≤ longest_list → fits xs ≡ true
 fits_below xs n short le = le-leb (length xs) longest_list (omega arith)
@@ -68,91 +68,136 @@ below_more values name h =
     (all_weaker (λ v. nat_lt v (length values)) p (numbers values) (λ v lt. let below : v < length values = ltb-true v (length values) lt in lt-ltb _ _ (omega arith)) h)
     (lt-ltb _ _ (omega arith))
 
+pub below_next : (k : ℕ) (ns : List ℕ) → all_below k ns ≡ true → all_below (k + 1) (ns ++ k ∷ []) ≡ true
+below_next k ns h =
+    all_push (λ n. nat_lt n (k + 1)) ns k
+    (all_weaker (λ n. nat_lt n k) (λ n. nat_lt n (k + 1)) ns (λ n lt. let below : n < k = ltb-true n k lt in lt-ltb n (k + 1) (omega arith)) h)
+    (lt-ltb k (k + 1) (omega arith))
+
 -- ---- left sides
 
-module _ (text : ℕ) (classes : List Class) (rules : List Rule) (commands : List Command) (name : Sym) where
-  pub head_begun : IsProgram text classes rules commands → list_any (λ r. r.name.0 == name.0) rules ≡ false → IsHead text classes rules commands name [] [] []
-  head_begun p e = record { program = p; is_new = e; few = omega arith; valid = refl; positive = refl; sight = refl; below = refl }
+-- the variables with one more, which is bound here
+abbrev pub with_one : Variables → Sym → Variables
+with_one v name = record v { values = v.values ++ record { name = name; number = v.given } ∷ []; given = v.given + 1 }
 
-  test_added : (values after : List Named) (conditions : List Condition) (tests : List Test) (t : Test) → IsHead text classes rules commands name values conditions tests → sight_after (sight_of values) t ≡ sight_of after → list_all (λ v. nat_lt v (length after)) (numbers after) ≡ true
-      → IsHead text classes rules commands name after conditions (tests ++ t ∷ [])
-  test_added values after conditions tests t h e below =
+-- the variables behind a condition
+abbrev pub behind_condition : Variables → Variables
+behind_condition v = record v { values = cond v.negated (take v.around v.values) v.values; negated = false }
+
+module _ (text : ℕ) (classes : List Class) (rules : List Rule) (commands : List Command) (name : Sym) where
+  pub head_begun : IsProgram text classes rules commands → list_any (λ r. r.name.0 == name.0) rules ≡ false → IsHead text classes rules commands name (record { values = []; given = 0; negated = false; around = 0 }) [] []
+  head_begun p e =
+      record { program = p; is_new = e; few = omega arith; valid = refl; first = λ some. absurd (omega arith); bound = refl; below = refl; room = λ n. omega arith; outside = λ n. refl }
+
+  pub test_kept : (v : Variables) (conditions : List Condition) (tests : List Test) (f : ℕ) (p : Pred) (o : Operand) → IsHead text classes rules commands name v conditions tests
+      → IsHead text classes rules commands name v conditions (tests ++ record { field = f; pred = p; operand = o; binds = false } ∷ [])
+  test_kept v conditions tests f p o h =
+      let t : Test = record { field = f; pred = p; operand = o; binds = false } in
+      let same = sight_push (seen conditions) tests t in
       record {
         program = h.program;
         is_new = h.is_new;
         few = h.few;
         valid = h.valid;
-        positive = h.positive;
-        sight = sight_push (sight_after_conditions nothing_in_sight conditions) tests t ∙ ap (λ (s : Sight). sight_after s t) h.sight ∙ e;
-        below = below;
+        first = h.first;
+        bound = ap (λ (s : Sight). s.bound) same ∙ h.bound;
+        below = ap (λ (s : Sight). all_below v.given s.given) same ∙ h.below;
+        room = h.room;
+        outside = h.outside;
       }
 
-  pub test_kept : (values : List Named) (conditions : List Condition) (tests : List Test) (f : ℕ) (p : Pred) (o : Operand) → IsHead text classes rules commands name values conditions tests
-      → IsHead text classes rules commands name values conditions (tests ++ record { field = f; pred = p; operand = o; binds = false } ∷ [])
-  test_kept values conditions tests f p o h = test_added values values conditions tests _ h refl h.below
-
-  pub test_bound : (values : List Named) (conditions : List Condition) (tests : List Test) (f : ℕ) (variable : Sym) → IsHead text classes rules commands name values conditions tests
-      → IsHead text classes rules commands name (values ++ record { name = variable; number = length values } ∷ []) conditions (tests ++ record { field = f; pred = pred.Eq; operand = operand.Variable (length values); binds = true } ∷ [])
-  test_bound values conditions tests f variable h =
-      test_added values (values ++ record { name = variable; number = length values } ∷ []) conditions tests _ h
-      (ap (λ (ns : List ℕ). let s : Sight = record { bound = ns; given = ns } in s) (sym (map-append (λ n. n.number) values (record { name = variable; number = length values } ∷ []))))
-      (below_more values variable h.below)
-
-  pub test_valid : (c : Class) (values : List Named) (conditions : List Condition) (tests : List Test) (f : ℕ) (p : Pred) (o : Operand) (binds : Bool) → IsHead text classes rules commands name values conditions tests
-      → tests_are_valid c (sight_after_conditions nothing_in_sight conditions) tests ≡ true → is_attribute c f ≡ true → operand_is_valid (sight_of values) p binds o ≡ true
-      → tests_are_valid c (sight_after_conditions nothing_in_sight conditions) (tests ++ record { field = f; pred = p; operand = o; binds = binds } ∷ []) ≡ true
-  test_valid c values conditions tests f p o binds h fields attribute valid =
-      tests_push c (sight_after_conditions nothing_in_sight conditions) tests _ fields
-      (subst (λ (s : Sight). test_is_valid c s (record { field = f; pred = p; operand = o; binds = binds }) ≡ true) (sym h.sight) (and_from _ _ (or_left _ _ attribute) valid))
-
-  pub condition_added : (class : ℕ) (values : List Named) (conditions : List Condition) (tests : List Test) → IsHead text classes rules commands name values conditions tests → length conditions < most_conditions → class < length classes → fits tests ≡ true
-      → tests_are_valid (class_of classes class) (sight_after_conditions nothing_in_sight conditions) tests ≡ true
-      → IsHead text classes rules commands name values (conditions ++ record { class = class; negated = false; tests = tests } ∷ []) []
-  condition_added class values conditions tests h room within short fields =
+  pub test_bound : (v : Variables) (conditions : List Condition) (tests : List Test) (f : ℕ) (variable : Sym) → IsHead text classes rules commands name v conditions tests
+      → IsHead text classes rules commands name (with_one v variable) conditions (tests ++ record { field = f; pred = pred.Eq; operand = operand.Variable v.given; binds = true } ∷ [])
+  test_bound v conditions tests f variable h =
+      let t : Test = record { field = f; pred = pred.Eq; operand = operand.Variable v.given; binds = true } in
+      let same = sight_push (seen conditions) tests t in
+      let one : Named = record { name = variable; number = v.given } in
       record {
         program = h.program;
         is_new = h.is_new;
-        few = omega (arith, length-append conditions (record { class = class; negated = false; tests = tests } ∷ []));
-        valid = conditions_push classes nothing_in_sight conditions (record { class = class; negated = false; tests = tests }) h.valid
-            (and_from _ _ (and_from _ _ (lt-ltb _ _ within) short) fields);
-        positive = all_push _ conditions (record { class = class; negated = false; tests = tests }) h.positive refl;
-        sight = sight_conditions_push nothing_in_sight conditions (record { class = class; negated = false; tests = tests }) ∙ h.sight;
+        few = h.few;
+        valid = h.valid;
+        first = h.first;
+        bound = ap (λ (s : Sight). s.bound) same ∙ ap (λ (ns : List ℕ). ns ++ v.given ∷ []) h.bound ∙ sym (map-append (λ n. n.number) v.values (one ∷ []));
+        below = ap (λ (s : Sight). all_below (v.given + 1) s.given) same ∙ below_next v.given (sight_after_tests (seen conditions) tests).given h.below;
+        room = λ n. let le = h.room n in omega (arith, le, length-append v.values (one ∷ []));
+        outside = λ n. h.outside n ∙ ap numbers (sym (take-append-le v.around v.values (one ∷ []) (h.room n)));
+      }
+
+  pub test_valid : (c : Class) (conditions : List Condition) (tests : List Test) (f : ℕ) (p : Pred) (o : Operand) (binds : Bool) → tests_are_valid c (seen conditions) tests ≡ true → is_attribute c f ≡ true
+      → operand_is_valid (sight_after_tests (seen conditions) tests) p binds o ≡ true
+      → tests_are_valid c (seen conditions) (tests ++ record { field = f; pred = p; operand = o; binds = binds } ∷ []) ≡ true
+  test_valid c conditions tests f p o binds fields attribute valid =
+      tests_push c (seen conditions) tests (record { field = f; pred = p; operand = o; binds = binds }) fields (and_from _ _ (or_left _ _ attribute) valid)
+
+  -- what is in sight behind the condition
+  behind_bound : (b : Bool) (v : Variables) (conditions : List Condition) (tests : List Test) → v.negated ≡ b → IsHead text classes rules commands name v conditions tests
+      → (cond b (record { bound = (seen conditions).bound; given = (sight_after_tests (seen conditions) tests).given }) (sight_after_tests (seen conditions) tests)).bound ≡ numbers (cond b (take v.around v.values) v.values)
+  behind_bound true v conditions tests is h = h.outside is
+  behind_bound false v conditions tests is h = h.bound
+
+  behind_below : (b : Bool) (k : ℕ) (s t : Sight) → all_below k t.given ≡ true → all_below k (cond b (record { bound = s.bound; given = t.given }) t).given ≡ true
+  behind_below true k s t h = h
+  behind_below false k s t h = h
+
+  pub condition_added : (class : ℕ) (v : Variables) (conditions : List Condition) (tests : List Test) → IsHead text classes rules commands name v conditions tests → length conditions < most_conditions → class < length classes → fits tests ≡ true
+      → tests_are_valid (class_of classes class) (seen conditions) tests ≡ true → (length conditions ≡ 0 → v.negated ≡ false)
+      → IsHead text classes rules commands name (behind_condition v) (conditions ++ record { class = class; negated = v.negated; tests = tests } ∷ []) []
+  condition_added class v conditions tests h room within short fields positive =
+      let c : Condition = record { class = class; negated = v.negated; tests = tests } in
+      let same = sight_conditions_push nothing_in_sight conditions c in
+      record {
+        program = h.program;
+        is_new = h.is_new;
+        few = omega (arith, length-append conditions (c ∷ []));
+        valid = conditions_push classes nothing_in_sight conditions c h.valid (and_from _ _ (and_from _ _ (lt-ltb _ _ within) short) fields);
+        first = λ some. first_push conditions c h.first positive;
+        bound = ap (λ (s : Sight). s.bound) same ∙ behind_bound v.negated v conditions tests refl h;
+        below = ap (λ (s : Sight). all_below v.given s.given) same ∙ behind_below v.negated v.given (seen conditions) (sight_after_tests (seen conditions) tests) h.below;
+        room = λ n. absurd (true≢false (sym n));
+        outside = λ n. absurd (true≢false (sym n));
+      }
+
+  -- a negated condition begins
+  pub negated_begun : (v : Variables) (conditions : List Condition) → IsHead text classes rules commands name v conditions [] → IsHead text classes rules commands name (record v { negated = true; around = length v.values }) conditions []
+  negated_begun v conditions h =
+      record {
+        program = h.program;
+        is_new = h.is_new;
+        few = h.few;
+        valid = h.valid;
+        first = h.first;
+        bound = h.bound;
         below = h.below;
+        room = λ n. omega arith;
+        outside = λ n. h.bound ∙ ap numbers (sym (take_all (length v.values) v.values (omega arith)));
       }
 
   -- ---- right sides
 
-  pub body_begun : (values : List Named) (conditions : List Condition) → IsHead text classes rules commands name values conditions [] → 0 < length conditions → IsBody text classes rules commands name values conditions []
-  body_begun values conditions h some =
-      record {
-        head = h;
-        some = first_of_all conditions h.positive some;
-        valid = refl;
-        bound = ap (λ (s : Sight). s.bound) h.sight;
-        given = ap (λ (s : Sight). s.given) h.sight;
-        cells = cells_all conditions h.positive;
-      }
+  pub body_begun : (v : Variables) (conditions : List Condition) → IsHead text classes rules commands name v conditions [] → 0 < length conditions → IsBody text classes rules commands name v conditions []
+  body_begun v conditions h some = record { head = h; some = h.first some; valid = refl; bound = h.bound; given = h.below; cells = refl }
 
-  pub action_added : (values : List Named) (conditions : List Condition) (xs : List Action) (a : Action) → IsBody text classes rules commands name values conditions xs → action_is_valid classes (known conditions xs) a ≡ true
+  pub action_added : (v : Variables) (conditions : List Condition) (xs : List Action) (a : Action) → IsBody text classes rules commands name v conditions xs → action_is_valid classes (known conditions xs) a ≡ true
       → (known_after (known conditions xs) a).bound ≡ (known conditions xs).bound → (known_after (known conditions xs) a).given ≡ (known conditions xs).given → (known_after (known conditions xs) a).cells ≡ (known conditions xs).cells
-      → IsBody text classes rules commands name values conditions (xs ++ a ∷ [])
-  action_added values conditions xs a h valid bound given cells =
+      → IsBody text classes rules commands name v conditions (xs ++ a ∷ [])
+  action_added v conditions xs a h valid bound given cells =
       record {
         head = h.head;
         some = h.some;
         valid = actions_push classes (known_of conditions) xs a h.valid valid;
         bound = ap (λ (k : Known). k.bound) (known_push (known_of conditions) xs a) ∙ bound ∙ h.bound;
-        given = ap (λ (k : Known). k.given) (known_push (known_of conditions) xs a) ∙ given ∙ h.given;
-        cells = ap (λ (k : Known). length k.cells) (known_push (known_of conditions) xs a) ∙ ap length cells ∙ h.cells;
+        given = ap (λ (k : Known). all_below v.given k.given) (known_push (known_of conditions) xs a) ∙ ap (all_below v.given) given ∙ h.given;
+        cells = ap (λ (k : Known). k.cells) (known_push (known_of conditions) xs a) ∙ cells ∙ h.cells;
       }
 
-  pub rule_added : (values : List Named) (conditions : List Condition) (xs : List Action) (first past : ℕ) → IsBody text classes rules commands name values conditions xs → fits xs ≡ true → first ≤ past → past ≤ text
-      → IsProgram text classes (rules ++ record { name = name; conditions = conditions; actions = xs; specificity = specificity conditions; variables = length values; cells = length conditions; first = first; past = past } ∷ []) commands
-  rule_added values conditions xs first past h short ordered within =
+  pub rule_added : (v : Variables) (conditions : List Condition) (xs : List Action) (first past : ℕ) → IsBody text classes rules commands name v conditions xs → fits xs ≡ true → first ≤ past → past ≤ text
+      → IsProgram text classes (rules ++ record { name = name; conditions = conditions; actions = xs; specificity = specificity conditions; variables = v.given; cells = length (cells_of conditions); first = first; past = past } ∷ []) commands
+  rule_added v conditions xs first past h short ordered within =
       record {
         classes_valid = h.head.program.classes_valid;
         rules_valid = all_push _ rules _ h.head.program.rules_valid
-            (and_from _ _ (and_from _ _ (and_from _ _ (and_from _ _ (and_from _ _ (and_from _ _ (and_from _ _ (and_from _ _ (and_from _ _ h.some (le-leb _ _ h.head.few)) h.head.valid) short) h.valid) (eq-eqb (specificity conditions) (specificity conditions) refl)) (ap (list_all (λ v. nat_lt v (length values))) h.given ∙ h.head.below)) (eq-eqb _ _ (sym h.cells))) (le-leb _ _ ordered)) (le-leb _ _ within));
+            (and_from _ _ (and_from _ _ (and_from _ _ (and_from _ _ (and_from _ _ (and_from _ _ (and_from _ _ (and_from _ _ (and_from _ _ h.some (le-leb _ _ h.head.few)) h.head.valid) short) h.valid) (eq-eqb (specificity conditions) (specificity conditions) refl)) h.given) (eq-eqb _ _ (ap length (sym h.cells)))) (le-leb _ _ ordered)) (le-leb _ _ within));
         commands_valid = h.head.program.commands_valid;
         class_names = h.head.program.class_names;
         rule_names = named_apart (λ r. r.name.0) rules _ h.head.program.rule_names h.head.is_new;

@@ -1,7 +1,7 @@
 -- What is valid where one more test, condition or action stands at the end.
-use Rattle.std.proofs.Common.{◌≡◌, ◌<◌, true, false, not, List, [], ◌∷◌, ◌++◌, length, refl, arith}
-use Rattle.std.specs.List.{list_all}
-use Rattle.std.proofs.lemmas.Bool.{and_parts, and_from, not-true}
+use Rattle.std.proofs.Common.{◌≡◌, ℕ, zero, suc, ◌<◌, true, false, not, List, [], ◌∷◌, ◌++◌, length, take, Some, refl, ap, ◌∙◌, slice_get, arith}
+use Rattle.std.specs.List.{list_any}
+use Rattle.std.proofs.lemmas.Bool.{and_parts, and_from, or_parts, not_from_false}
 use Rattle.ops_base.specs.declared.elements.Class.{Class}
 use Rattle.ops_base.specs.declared.conditions.Test.{Test}
 use Rattle.ops_base.specs.declared.conditions.Condition.{Condition}
@@ -38,14 +38,19 @@ pub known_push : (k : Known) (xs : List Action) (a : Action) → known_after_act
 known_push k [] a = refl
 known_push k (b ∷ xs) a = known_push (known_after k b) xs a
 
--- each positive condition has a cell
-pub cells_all : (cs : List Condition) → list_all (λ c. not c.negated) cs ≡ true → length (cells_of cs) ≡ length cs
-cells_all [] h = refl
-cells_all (c ∷ cs) h =
-    let parts = and_parts (not c.negated) (list_all (λ c. not c.negated) cs) h in
-    let plain : c.negated ≡ false = not-true _ parts.0 in
-    rw plain (let rest = cells_all cs parts.1 in omega arith)
+-- one more condition behind others leaves the first as it is
+pub first_push : (cs : List Condition) (c : Condition) → (0 < length cs → first_is_positive cs ≡ true) → (length cs ≡ 0 → c.negated ≡ false) → first_is_positive (cs ++ c ∷ []) ≡ true
+first_push [] c h e = not_from_false _ (e refl)
+first_push (d ∷ cs) c h e = h (omega arith)
 
-pub first_of_all : (cs : List Condition) → list_all (λ c. not c.negated) cs ≡ true → 0 < length cs → first_is_positive cs ≡ true
-first_of_all [] h lt = absurd (omega arith)
-first_of_all (c ∷ cs) h lt = (and_parts (not c.negated) (list_all (λ c. not c.negated) cs) h).0
+-- a positive condition behind positive ones has the cell with its number
+pub has_cell : (cs : List Condition) (k : ℕ) (c : Condition) → slice_get cs k ≡ Some c → c.negated ≡ false → list_any (λ d. d.negated) (take k cs) ≡ false → k < length (cells_of cs)
+has_cell [] k c at positive plain = absurd (cc)
+has_cell (d ∷ cs) zero c at positive plain =
+    let same : d ≡ c = cc in
+    let here : d.negated ≡ false = ap (λ (x : Condition). x.negated) same ∙ positive in
+    rw here (omega arith)
+has_cell (d ∷ cs) (suc k) c at positive plain =
+    let parts = or_parts d.negated (list_any (λ d. d.negated) (take k cs)) plain in
+    let rest = has_cell cs k c at positive parts.1 in
+    rw parts.0 (omega (arith, rest))

@@ -1,5 +1,5 @@
 -- What holds of what was read so far, for each thing that may be wanted next.
-use Rattle.std.proofs.Common.{◌≡◌, ℕ, ◌<◌, ◌≤◌, Bool, true, false, not, ◌==◌, List, [], ◌∷◌, length, map, nat_lt}
+use Rattle.std.proofs.Common.{◌≡◌, ℕ, ◌<◌, ◌≤◌, Bool, true, false, not, ◌==◌, List, [], ◌∷◌, length, map, take, nat_lt}
 use Rattle.std.specs.List.{list_all, list_any}
 use Rattle.ops_base.specs.declared.values.Sym.{Sym}
 use Rattle.ops_base.specs.declared.values.Pred.{Pred}
@@ -9,9 +9,9 @@ use Rattle.ops_base.specs.declared.conditions.Condition.{Condition}
 use Rattle.ops_base.specs.declared.actions.Action.{Action}
 use Rattle.ops_base.specs.declared.rules.Rule.{Rule}
 use Rattle.ops_base.specs.declared.commands.Command.{Command}
-use Rattle.ops_base.specs.Valid.{most_fields, most_conditions, are_distinct, class_of, class_is_valid, is_attribute, Sight, tests_are_valid, sight_after_tests, conditions_are_valid, sight_after_conditions, nothing_in_sight, first_is_positive, known_of, is_cell, Known, known_after_actions, put_is_valid, item_is_valid, actions_are_valid, rule_is_valid, fixed_is_valid, command_is_valid}
+use Rattle.ops_base.specs.Valid.{most_fields, most_conditions, are_distinct, class_of, class_is_valid, is_attribute, Sight, tests_are_valid, sight_after_tests, conditions_are_valid, sight_after_conditions, nothing_in_sight, first_is_positive, cells_of, known_of, is_cell, Known, known_after_actions, put_is_valid, item_is_valid, actions_are_valid, rule_is_valid, fixed_is_valid, command_is_valid}
 use Rattle.ops_meaning.specs.declared.words.Named.{Named}
-use Rattle.ops_meaning.specs.Grammar.{Use, InPattern, InPut, InFixed, ToTest, ToPut, ToFixed, ToItem, EndsRun, EndsHalt, EndsCrlf, Wanted, Forms, Form, ClassDeclared, Attributes, RuleName, FirstPattern, Patterns, ClassName, Terms, Attribute, Place, Tests, Tested, Choice, Atom, ValueFor, Actions, ActionWord, Cell, Cells, Items, ItemWord, Closes, State, Step, Next, Refuses}
+use Rattle.ops_meaning.specs.Grammar.{Use, InPattern, InPut, InFixed, ToTest, ToPut, ToFixed, ToItem, EndsRun, EndsHalt, EndsCrlf, Wanted, Forms, Form, ClassDeclared, Attributes, RuleName, FirstPattern, Patterns, NegatedPattern, ClassName, Terms, Attribute, Place, Tests, Tested, Choice, Atom, ValueFor, Actions, ActionWord, Cell, Cells, Items, ItemWord, Closes, State, Step, Next, Refuses}
 
 -- the form that is read began before the place, and no list is longer than the place
 abbrev pub IsShort : ℕ → State → Type 0
@@ -42,32 +42,48 @@ pub record IsClass (classes : List Class) (name : Sym) (attrs : List Sym) : Type
 abbrev pub numbers : List Named → List ℕ
 numbers values = map (λ n. n.number) values
 
--- the variables with these numbers are in sight
-abbrev pub sight_of : List Named → Sight
-sight_of values = record { bound = numbers values; given = numbers values }
+-- the variables of a rule that is read: those in sight, how many were given a number, whether its condition is negated, and how
+-- many are in sight around that
+pub record Variables : Type 0 where
+  pub values : List Named
+  pub given : ℕ
+  pub negated : Bool
+  pub around : ℕ
+
+-- what is in sight behind the conditions
+abbrev pub seen : List Condition → Sight
+seen conditions = sight_after_conditions nothing_in_sight conditions
+
+abbrev pub all_below : ℕ → List ℕ → Bool
+all_below k ns = list_all (λ n. nat_lt n k) ns
 
 -- the left side of a rule up to some tests of a condition
-pub record IsHead (text : ℕ) (classes : List Class) (rules : List Rule) (commands : List Command) (name : Sym) (values : List Named) (conditions : List Condition) (tests : List Test) : Type 0 where
+pub record IsHead (text : ℕ) (classes : List Class) (rules : List Rule) (commands : List Command) (name : Sym) (v : Variables) (conditions : List Condition) (tests : List Test) : Type 0 where
   pub program : IsProgram text classes rules commands
   pub is_new : list_any (λ r. r.name.0 == name.0) rules ≡ false
   pub few : length conditions ≤ most_conditions
   pub valid : conditions_are_valid classes nothing_in_sight conditions ≡ true
-  pub positive : list_all (λ c. not c.negated) conditions ≡ true
-  pub sight : sight_after_tests (sight_after_conditions nothing_in_sight conditions) tests ≡ sight_of values
-  pub below : list_all (λ v. nat_lt v (length values)) (numbers values) ≡ true
+  pub first : 0 < length conditions → first_is_positive conditions ≡ true
+  pub bound : (sight_after_tests (seen conditions) tests).bound ≡ numbers v.values
+  pub below : all_below v.given (sight_after_tests (seen conditions) tests).given ≡ true
+  pub room : v.negated ≡ true → v.around ≤ length v.values
+  pub outside : v.negated ≡ true → (seen conditions).bound ≡ numbers (take v.around v.values)
 
 -- what the right side of a rule knows after some actions
 abbrev pub known : List Condition → List Action → Known
 known conditions actions = known_after_actions (known_of conditions) actions
 
 -- a rule up to some actions
-pub record IsBody (text : ℕ) (classes : List Class) (rules : List Rule) (commands : List Command) (name : Sym) (values : List Named) (conditions : List Condition) (actions : List Action) : Type 0 where
-  pub head : IsHead text classes rules commands name values conditions []
+pub record IsBody (text : ℕ) (classes : List Class) (rules : List Rule) (commands : List Command) (name : Sym) (v : Variables) (conditions : List Condition) (actions : List Action) : Type 0 where
+  pub head : IsHead text classes rules commands name v conditions []
   pub some : first_is_positive conditions ≡ true
   pub valid : actions_are_valid classes (known_of conditions) actions ≡ true
-  pub bound : (known conditions actions).bound ≡ numbers values
-  pub given : (known conditions actions).given ≡ numbers values
-  pub cells : length (known conditions actions).cells ≡ length conditions
+  pub bound : (known conditions actions).bound ≡ numbers v.values
+  pub given : all_below v.given (known conditions actions).given ≡ true
+  pub cells : (known conditions actions).cells ≡ cells_of conditions
+
+abbrev pub variables_of : State → Variables
+variables_of s = record { values = s.values; given = s.variables; negated = s.negated; around = s.around }
 
 abbrev pub Program : ℕ → State → Type 0
 Program text s = IsProgram text s.classes s.rules s.commands
@@ -76,14 +92,14 @@ abbrev pub Declaring : ℕ → State → Type 0
 Declaring text s = IsDeclaring text s.classes s.rules s.commands
 
 abbrev pub Head : ℕ → State → Type 0
-Head text s = IsHead text s.classes s.rules s.commands s.name s.values s.conditions s.tests
+Head text s = IsHead text s.classes s.rules s.commands s.name (variables_of s) s.conditions s.tests
 
 abbrev pub Body : ℕ → State → Type 0
-Body text s = IsBody text s.classes s.rules s.commands s.name s.values s.conditions s.actions
+Body text s = IsBody text s.classes s.rules s.commands s.name (variables_of s) s.conditions s.actions
 
 -- where an element stands
 abbrev pub Around : Use → ℕ → State → Type 0
-Around InPattern text s = Head text s × (length s.conditions < most_conditions) × (s.actions ≡ [])
+Around InPattern text s = Head text s × (length s.conditions < most_conditions) × (s.actions ≡ []) × (length s.conditions ≡ 0 → s.negated ≡ false)
 Around InPut text s = Body text s
 Around InFixed text s = Program text s
 
@@ -126,8 +142,9 @@ pub data IsRead (text : ℕ) (s : State) : List Wanted → Type 0 where
   at_class_declared : (Declaring text s) → IsRead text s (ClassDeclared ∷ Attributes ∷ Forms ∷ [])
   at_attributes : (Declaring text s × IsClass s.classes s.name s.attrs) → IsRead text s (Attributes ∷ Forms ∷ [])
   at_rule_name : (Program text s) → IsRead text s (RuleName ∷ FirstPattern ∷ Patterns ∷ Actions ∷ Forms ∷ [])
-  at_first_pattern : (Head text s × (s.tests ≡ []) × (s.actions ≡ []) × (length s.conditions ≡ 0)) → IsRead text s (FirstPattern ∷ Patterns ∷ Actions ∷ Forms ∷ [])
+  at_first_pattern : (Head text s × (s.tests ≡ []) × (s.actions ≡ []) × (length s.conditions ≡ 0) × (s.negated ≡ false)) → IsRead text s (FirstPattern ∷ Patterns ∷ Actions ∷ Forms ∷ [])
   at_patterns : (Head text s × (s.tests ≡ []) × (s.actions ≡ []) × (0 < length s.conditions)) → IsRead text s (Patterns ∷ Actions ∷ Forms ∷ [])
+  at_negated_pattern : (Head text s × (s.tests ≡ []) × (s.actions ≡ []) × (0 < length s.conditions) × (length s.conditions < most_conditions)) → IsRead text s (NegatedPattern ∷ Patterns ∷ Actions ∷ Forms ∷ [])
   at_class_name : (u : Use) → (Around u text s × IsEmpty u s) → IsRead text s (ClassName ∷ Terms u ∷ behind u)
   at_terms : (u : Use) → (IsElement u text s) → IsRead text s (Terms u ∷ behind u)
   at_attribute : (u : Use) → (IsElement u text s) → IsRead text s (Attribute u ∷ Terms u ∷ behind u)

@@ -1,6 +1,6 @@
 -- Each word leads from what is sound to what is sound.
-use Rattle.std.proofs.Common.{◌≡◌, ℕ, ◌-◌, ◌<◌, ◌≤◌, Bool, true, false, ◌==◌, List, [], ◌∷◌, ◌++◌, length, refl, sym, ap, subst, ◌∙◌, arith, Option, Some, None, nat_lt, length-append, unwrap_or, true≢false, slice_get, position, get_or, nat_le}
-use Rattle.std.specs.List.{list_all}
+use Rattle.std.proofs.Common.{◌≡◌, ℕ, ◌-◌, ◌<◌, ◌≤◌, Bool, true, false, ◌==◌, List, [], ◌∷◌, ◌++◌, length, refl, sym, ap, subst, ◌∙◌, arith, Option, Some, None, nat_lt, length-append, unwrap_or, true≢false, slice_get, position, get_or, nat_le, take}
+use Rattle.std.specs.List.{list_all, list_any}
 use Rattle.std.proofs.lemmas.Bool.{and_parts, and_from, cond_both, eqb-true, lt-ltb, le-leb, ltb-true, ltb-false, not_from_false}
 use Rattle.std.proofs.lemmas.List.Quantifiers.{position-Some}
 use Rattle.std.proofs.lemmas.Option.{slice_get-get_or}
@@ -23,16 +23,17 @@ use Rattle.ops_base.specs.declared.rules.Rule.{Rule}
 use Rattle.ops_base.specs.declared.commands.Fixed.{Fixed}
 use Rattle.ops_base.specs.declared.commands.Command.{Command}
 use Rattle.ops_base.specs.declared.commands.Command.TheVariants as command
-use Rattle.ops_base.specs.Valid.{longest_list, most_fields, most_conditions, is_in, no_class, class_of, specificity, term_is_valid, is_attribute, is_cell, first_is_positive, operand_is_valid, tests_are_valid, sight_after_conditions, nothing_in_sight, put_is_valid, item_is_valid, fixed_is_valid}
+use Rattle.ops_base.specs.Valid.{longest_list, most_fields, most_conditions, is_in, no_class, class_of, specificity, term_is_valid, is_attribute, is_cell, first_is_positive, operand_is_valid, tests_are_valid, sight_after_tests, cells_of, sight_after_conditions, nothing_in_sight, put_is_valid, item_is_valid, fixed_is_valid}
 use Rattle.ops_tokens.specs.declared.token.TokenKind.{TokenKind}
 use Rattle.ops_tokens.specs.declared.token.TokenKind.TheVariants as kind
 use Rattle.ops_meaning.specs.declared.words.Word.{Word}
 use Rattle.ops_meaning.specs.declared.words.Keyword.{Keyword}
 use Rattle.ops_meaning.specs.declared.words.Keyword.TheVariants as keyword
-use Rattle.ops_meaning.specs.Grammar.{Use, InPattern, InPut, InFixed, ToTest, ToPut, ToFixed, ToItem, EndsRun, EndsHalt, EndsCrlf, Wanted, Forms, Attributes, FirstPattern, Patterns, Terms, Tests, Tested, Choice, Actions, Cells, Items, State, Next, is_left, is_right, is_left_brace, is_right_brace, is_caret, is_name, is_variable, is_arrow, is_crlf, is_literal, opens_choice, closes_choice, pred_of, constant_of, value_of, atom_of, natural_of, is_one_of, number_of, may_declare, is_class, is_rule, form, class_declared, attribute_declared, attributes, class_at, class_name, attributes_of, behind_attribute, field_at, attribute, with_test, with_bound, with_constant, variable_tested, constant_tested, tested, predicated, test, place, tests, with_choice, chosen, choice, atom_at, bound_at, constant_at, value_for, with_element, terms, rule_name, first_pattern, patterns, actions, action_word, cell_of, cell, cells, items, item_word, closes, forms, step}
+use Rattle.ops_meaning.specs.Grammar.{Use, InPattern, InPut, InFixed, ToTest, ToPut, ToFixed, ToItem, EndsRun, EndsHalt, EndsCrlf, Wanted, Forms, Attributes, FirstPattern, Patterns, NegatedPattern, Terms, Tests, Tested, Choice, Actions, Cells, Items, State, Next, is_left, is_right, is_left_brace, is_right_brace, is_caret, is_name, is_variable, is_arrow, is_crlf, is_literal, is_minus, opens_choice, closes_choice, pred_of, constant_of, value_of, atom_of, natural_of, is_one_of, number_of, may_declare, is_class, is_rule, form, class_declared, attribute_declared, attributes, class_at, class_name, attributes_of, behind_attribute, field_at, attribute, with_test, with_bound, with_constant, variable_tested, constant_tested, tested, predicated, test, place, tests, with_choice, chosen, choice, atom_at, bound_at, constant_at, value_for, with_element, terms, rule_name, first_pattern, one_more, patterns, negated_pattern, actions, action_word, designated, cell_of, cell, cells, items, item_word, closes, forms, step}
 use Rattle.ops_meaning.proofs.Lists.{all_push, not_below}
-use Rattle.ops_meaning.proofs.Sound.{IsShort, IsHead, IsBody, numbers, known, Program, Declaring, IsClass, Head, Body, Around, IsEmpty, IsElement, AtField, behind, behind_test, sight_of, IsRead, at_forms, at_form, at_class_declared, at_attributes, at_rule_name, at_first_pattern, at_patterns, at_class_name, at_terms, at_attribute, at_place, at_tests, at_tested, at_choice, at_test_atom, at_put_value, at_put_atom, at_fixed_value, at_fixed_atom, at_item_atom, at_actions, at_action_word, at_cell, at_cells, at_items, at_item_word, at_crlf, at_halt, at_run, Leads}
-use Rattle.ops_meaning.proofs.Grown.{fits_below, class_begun, attribute_added, class_added, number_in, head_begun, test_kept, test_bound, test_valid, condition_added, body_begun, action_added, rule_added, put_valid, command_added, fixed_valid}
+use Rattle.ops_meaning.proofs.Parts.{has_cell}
+use Rattle.ops_meaning.proofs.Sound.{IsShort, IsHead, IsBody, numbers, known, Program, Declaring, IsClass, Head, Body, Around, IsEmpty, IsElement, AtField, behind, behind_test, Variables, variables_of, seen, IsRead, at_forms, at_form, at_class_declared, at_attributes, at_rule_name, at_first_pattern, at_patterns, at_negated_pattern, at_class_name, at_terms, at_attribute, at_place, at_tests, at_tested, at_choice, at_test_atom, at_put_value, at_put_atom, at_fixed_value, at_fixed_atom, at_item_atom, at_actions, at_action_word, at_cell, at_cells, at_items, at_item_word, at_crlf, at_halt, at_run, Leads}
+use Rattle.ops_meaning.proofs.Grown.{fits_below, class_begun, attribute_added, class_added, number_in, head_begun, negated_begun, test_kept, test_bound, test_valid, condition_added, body_begun, action_added, rule_added, put_valid, command_added, fixed_valid}
 
 -- the word stands in a text of this length, from the place on
 pub record IsPlaced (text n : ℕ) (w : Word) : Type 0 where
@@ -141,35 +142,37 @@ module _ (text n : ℕ) (w : Word) (fit : text ≤ longest_list) (placed : IsPla
   behind_leads f true s g = at_tests f g
   behind_leads f false s g = at_terms InPattern g.0
 
-  test_leads : (f : ℕ) (p : Pred) (o : Operand) (among : Bool) (s : State) → IsShort n s → AtField InPattern text s f → operand_is_valid (sight_of s.values) p false o ≡ true → Leads text w.past (Next (behind_test f among) (with_test s f p o false))
-  test_leads f p o among s short g valid = (
-    omega (arith, length-append {A = Test}),
-    behind_leads f among (with_test s f p o false) (
-      record {
-        around = (test_kept text s.classes s.rules s.commands s.name s.values s.conditions s.tests f p o g.0.around.0, g.0.around.1, g.0.around.2);
-        class = g.0.class;
-        fields = test_valid text s.classes s.rules s.commands s.name (class_of s.classes s.class) s.values s.conditions s.tests f p o false g.0.around.0 g.0.fields g.1 valid;
-      },
-      g.1,
-    ),
+  -- a test that binds nothing
+  test_added : (f : ℕ) (p : Pred) (o : Operand) (s : State) → AtField InPattern text s f → operand_is_valid (sight_after_tests (seen s.conditions) s.tests) p false o ≡ true → AtField InPattern text (with_test s f p o false) f
+  test_added f p o s g valid = (
+    record {
+      around = (test_kept text s.classes s.rules s.commands s.name (variables_of s) s.conditions s.tests f p o g.0.around.0, g.0.around.1, g.0.around.2, g.0.around.3);
+      class = g.0.class;
+      fields = test_valid text s.classes s.rules s.commands s.name (class_of s.classes s.class) s.conditions s.tests f p o false g.0.fields g.1 valid;
+    },
+    g.1,
   )
+
+  test_leads : (f : ℕ) (p : Pred) (o : Operand) (among : Bool) (s : State) → IsShort n s → AtField InPattern text s f → operand_is_valid (sight_after_tests (seen s.conditions) s.tests) p false o ≡ true → Leads text w.past (Next (behind_test f among) (with_test s f p o false))
+  test_leads f p o among s short g valid = (omega (arith, length-append {A = Test}), behind_leads f among (with_test s f p o false) (test_added f p o s g valid))
 
   bound_leads : (f : ℕ) (among : Bool) (s : State) → IsShort n s → AtField InPattern text s f → Leads text w.past (Next (behind_test f among) (with_bound s f w.name))
-  bound_leads f among s short g = (
-    omega (arith, length-append {A = Test}),
-    behind_leads f among (with_bound s f w.name) (
-      record {
-        around = (test_bound text s.classes s.rules s.commands s.name s.values s.conditions s.tests f w.name g.0.around.0, g.0.around.1, g.0.around.2);
-        class = g.0.class;
-        fields = test_valid text s.classes s.rules s.commands s.name (class_of s.classes s.class) s.values s.conditions s.tests f pred.Eq (operand.Variable (length s.values)) true g.0.around.0 g.0.fields g.1
-            (not_from_false _ (not_below (numbers s.values) (length s.values) g.0.around.0.below));
-      },
-      g.1,
-    ),
-  )
+  bound_leads f among s short g =
+      let head = g.0.around.0 in (
+        omega (arith, length-append {A = Test}),
+        behind_leads f among (with_bound s f w.name) (
+          record {
+            around = (test_bound text s.classes s.rules s.commands s.name (variables_of s) s.conditions s.tests f w.name head, g.0.around.1, g.0.around.2, g.0.around.3);
+            class = g.0.class;
+            fields = test_valid text s.classes s.rules s.commands s.name (class_of s.classes s.class) s.conditions s.tests f pred.Eq (operand.Variable s.variables) true g.0.fields g.1
+                (not_from_false _ (not_below (sight_after_tests (seen s.conditions) s.tests).given s.variables head.below));
+          },
+          g.1,
+        ),
+      )
 
   variable_tested_leads : (f : ℕ) (p : Pred) (among : Bool) (s : State) → IsShort n s → AtField InPattern text s f → (o : Option ℕ) → number_of w.name s.values ≡ o → Leads text w.past (variable_tested f p o w.name (behind_test f among) s)
-  variable_tested_leads f p among s short g (Some m) e = test_leads f p (operand.Variable m) among s short g (number_in w.name s.values m e)
+  variable_tested_leads f p among s short g (Some m) e = test_leads f p (operand.Variable m) among s short g (ap (is_in m) g.0.around.0.bound ∙ number_in w.name s.values m e)
   variable_tested_leads f pred.Eq among s short g None e = bound_leads f among s short g
   variable_tested_leads f _ among s short g None e = tt
 
@@ -205,14 +208,8 @@ module _ (text n : ℕ) (w : Word) (fit : text ≤ longest_list) (placed : IsPla
   choice_ended : (f : ℕ) (among : Bool) (s : State) → IsShort n s → AtField InPattern text s f → Leads text w.past (Next (behind_test f among) (with_choice s f))
   choice_ended f among s short g =
       let fit : nat_le (length s.choice) longest_list ≡ true = le-leb (length s.choice) longest_list (omega arith) in
-      let u : AtField InPattern text (with_choice s f) f = (
-        record {
-          around = (test_kept text s.classes s.rules s.commands s.name s.values s.conditions s.tests f pred.Eq (operand.OneOf s.choice) g.0.around.0, g.0.around.1, g.0.around.2);
-          class = g.0.class;
-          fields = test_valid text s.classes s.rules s.commands s.name (class_of s.classes s.class) s.values s.conditions s.tests f pred.Eq (operand.OneOf s.choice) false g.0.around.0 g.0.fields g.1 fit;
-        },
-        g.1,
-      ) in
+      let added = test_added f pred.Eq (operand.OneOf s.choice) s g fit in
+      let u : AtField InPattern text (with_choice s f) f = (record { around = added.0.around; class = added.0.class; fields = added.0.fields }, added.1) in
       (omega (arith, length-append {A = Test}), behind_leads f among (with_choice s f) u)
 
   choice_leads : (f : ℕ) (among : Bool) (s : State) → IsShort n s → AtField InPattern text s f → Leads text w.past (choice f w (behind_test f among) s)
@@ -271,7 +268,7 @@ module _ (text n : ℕ) (w : Word) (fit : text ≤ longest_list) (placed : IsPla
   element_leads InPattern s short g = (
     omega arith,
     at_patterns ((
-      condition_added text s.classes s.rules s.commands s.name s.class s.values s.conditions s.tests g.around.0 g.around.1 g.class (fits_below s.tests n short.4 place_fits) g.fields,
+      condition_added text s.classes s.rules s.commands s.name s.class (variables_of s) s.conditions s.tests g.around.0 g.around.1 g.class (fits_below s.tests n short.4 place_fits) g.fields g.around.3,
       refl,
       g.around.2,
       omega (arith, length-append {A = Condition}),
@@ -279,7 +276,7 @@ module _ (text n : ℕ) (w : Word) (fit : text ≤ longest_list) (placed : IsPla
   )
   element_leads InPut s short g = (
     omega (arith, length-append {A = Action}),
-    at_actions (action_added text s.classes s.rules s.commands s.name s.values s.conditions s.actions (action.Make s.class s.puts) g.around
+    at_actions (action_added text s.classes s.rules s.commands s.name (variables_of s) s.conditions s.actions (action.Make s.class s.puts) g.around
         (and_from _ _ (lt-ltb _ _ g.class) (and_from _ _ (fits_below s.puts n short.5 place_fits) g.fields)) refl refl refl),
   )
   element_leads InFixed s short g = (
@@ -299,29 +296,43 @@ module _ (text n : ℕ) (w : Word) (fit : text ≤ longest_list) (placed : IsPla
   rule_name_leads s short g =
       cond_both (is_name w.kind) _ _ (Leads text w.past)
       (λ _. cond_both (is_rule s w.name) _ _ (Leads text w.past) (λ _. tt)
-      (λ e. (omega arith, at_first_pattern (head_begun text s.classes s.rules s.commands w.name g e, refl, refl, refl))))
+      (λ e. (omega arith, at_first_pattern (head_begun text s.classes s.rules s.commands w.name g e, refl, refl, refl, refl))))
       (λ _. tt)
 
-  first_pattern_leads : (s : State) → IsShort n s → Head text s × (s.tests ≡ []) × (s.actions ≡ []) × (length s.conditions ≡ 0) → Leads text w.past (first_pattern w (Patterns ∷ Actions ∷ Forms ∷ []) s)
+  first_pattern_leads : (s : State) → IsShort n s → Head text s × (s.tests ≡ []) × (s.actions ≡ []) × (length s.conditions ≡ 0) × (s.negated ≡ false) → Leads text w.past (first_pattern w (Patterns ∷ Actions ∷ Forms ∷ []) s)
   first_pattern_leads s short g =
-      cond_both (is_left w.kind) _ _ (Leads text w.past) (λ _. (omega arith, at_class_name InPattern ((g.0, omega (arith, g.3), g.2), g.1))) (λ _. tt)
+      cond_both (is_left w.kind) _ _ (Leads text w.past) (λ _. (omega arith, at_class_name InPattern ((g.0, omega (arith, g.3), g.2, λ none. g.4), g.1)))
+      (λ _. cond_both (is_minus w.keyword) _ _ (Leads text w.past) (λ _. tt) (λ _. tt))
 
   body_at_arrow : (s : State) → Head text s × (s.tests ≡ []) × (s.actions ≡ []) × (0 < length s.conditions) → Body text s
   body_at_arrow s h =
-      let head = subst (λ (ts : List Test). IsHead text s.classes s.rules s.commands s.name s.values s.conditions ts) h.1 h.0 in
-      subst (λ (xs : List Action). IsBody text s.classes s.rules s.commands s.name s.values s.conditions xs) (sym h.2) (body_begun text s.classes s.rules s.commands s.name s.values s.conditions head h.3)
+      let head = subst (λ (ts : List Test). IsHead text s.classes s.rules s.commands s.name (variables_of s) s.conditions ts) h.1 h.0 in
+      subst (λ (xs : List Action). IsBody text s.classes s.rules s.commands s.name (variables_of s) s.conditions xs) (sym h.2) (body_begun text s.classes s.rules s.commands s.name (variables_of s) s.conditions head h.3)
+
+  negated_leads : (s : State) → IsShort n s → Head text s × (s.tests ≡ []) × (s.actions ≡ []) × (0 < length s.conditions) → Leads text w.past (one_more (NegatedPattern ∷ Patterns ∷ Actions ∷ Forms ∷ []) (record s { negated = true; around = length s.values }))
+  negated_leads s short g =
+      let begun : State = record s { negated = true; around = length s.values } in
+      let head = subst (λ (ts : List Test). IsHead text s.classes s.rules s.commands s.name (variables_of s) s.conditions ts) g.1 g.0 in
+      let negated = negated_begun text s.classes s.rules s.commands s.name (variables_of s) s.conditions head in
+      let back = subst (λ (ts : List Test). IsHead text s.classes s.rules s.commands s.name (variables_of begun) s.conditions ts) (sym g.1) negated in
+      cond_both (nat_lt (length s.conditions) most_conditions) _ _ (Leads text w.past) (λ lt. (omega arith, at_negated_pattern (back, g.1, g.2, g.3, ltb-true _ _ lt))) (λ _. tt)
 
   patterns_leads : (s : State) → IsShort n s → Head text s × (s.tests ≡ []) × (s.actions ≡ []) × (0 < length s.conditions) → Leads text w.past (patterns w (Actions ∷ Forms ∷ []) s)
   patterns_leads s short g =
       cond_both (is_arrow w.keyword) _ _ (Leads text w.past) (λ _. (omega arith, at_actions (body_at_arrow s g)))
       (λ _. cond_both (is_left w.kind) _ _ (Leads text w.past)
       (λ _. cond_both (nat_lt (length s.conditions) most_conditions) _ _ (Leads text w.past)
-      (λ lt. (omega arith, at_class_name InPattern ((g.0, ltb-true _ _ lt, g.2), g.1)))
+      (λ lt. (omega arith, at_class_name InPattern ((g.0, ltb-true _ _ lt, g.2, λ none. absurd (omega (arith, none, g.3))), g.1)))
       (λ _. tt))
-      (λ _. tt))
+      (λ _. cond_both (is_minus w.keyword) _ _ (Leads text w.past) (λ _. negated_leads s short g) (λ _. tt)))
 
-  rule_leads : (s : State) → IsShort n s → Body text s → Program text (record s { rules = s.rules ++ record { name = s.name; conditions = s.conditions; actions = s.actions; specificity = specificity s.conditions; variables = length s.values; cells = length s.conditions; first = s.first; past = w.past } ∷ [] })
-  rule_leads s short h = rule_added text s.classes s.rules s.commands s.name s.values s.conditions s.actions s.first w.past h (fits_below s.actions n short.9 place_fits) (omega arith) placed.within
+  negated_pattern_leads : (s : State) → IsShort n s → Head text s × (s.tests ≡ []) × (s.actions ≡ []) × (0 < length s.conditions) × (length s.conditions < most_conditions) → Leads text w.past (negated_pattern w (Patterns ∷ Actions ∷ Forms ∷ []) s)
+  negated_pattern_leads s short g =
+      cond_both (is_left w.kind) _ _ (Leads text w.past)
+      (λ _. (omega arith, at_class_name InPattern ((g.0, g.4, g.2, λ none. absurd (omega (arith, none, g.3))), g.1))) (λ _. tt)
+
+  rule_leads : (s : State) → IsShort n s → Body text s → Program text (record s { rules = s.rules ++ record { name = s.name; conditions = s.conditions; actions = s.actions; specificity = specificity s.conditions; variables = s.variables; cells = length (cells_of s.conditions); first = s.first; past = w.past } ∷ [] })
+  rule_leads s short h = rule_added text s.classes s.rules s.commands s.name (variables_of s) s.conditions s.actions s.first w.past h (fits_below s.actions n short.9 place_fits) (omega arith) placed.within
 
   actions_leads : (s : State) → IsShort n s → (Body text s) → Leads text w.past (actions w (Forms ∷ []) s)
   actions_leads s short g =
@@ -338,16 +349,21 @@ module _ (text n : ℕ) (w : Word) (fit : text ≤ longest_list) (placed : IsPla
   abbrev HasCells : State → Type 0
   HasCells s = Body text s × (list_all (is_cell (known s.conditions s.actions)) s.cells ≡ true)
 
-  cell_added : (s : State) (m : ℕ) → HasCells s → m ≤ length s.conditions → list_all (is_cell (known s.conditions s.actions)) (s.cells ++ (m - 1) ∷ []) ≡ true
-  cell_added s m h le =
-      let some : 0 < length s.conditions = some_first s.conditions h.0.some in
-      all_push (is_cell (known s.conditions s.actions)) s.cells (m - 1) h.1 (lt-ltb _ _ (omega (arith, h.0.cells)))
+  cell_added : (s : State) (k : ℕ) (c : Condition) → HasCells s → slice_get s.conditions k ≡ Some c → c.negated ≡ false → list_any (λ d. d.negated) (take k s.conditions) ≡ false → list_all (is_cell (known s.conditions s.actions)) (s.cells ++ k ∷ []) ≡ true
+  cell_added s k c h at positive plain =
+      let lt = has_cell s.conditions k c at positive plain in
+      all_push (is_cell (known s.conditions s.actions)) s.cells k h.1 (lt-ltb _ _ (subst (λ (cs : List ℕ). k < length cs) (sym h.0.cells) lt))
 
-  cell_of_leads : (s : State) → IsShort n s → (HasCells s) → (o : Option ℕ) → Leads text w.past (cell_of o (Cells ∷ Actions ∷ Forms ∷ []) s)
+  designated_leads : (s : State) → IsShort n s → HasCells s → (k : ℕ) (o : Option Condition) → slice_get s.conditions k ≡ o → Leads text w.past (designated k o (Cells ∷ Actions ∷ Forms ∷ []) s)
+  designated_leads s short g k None at = tt
+  designated_leads s short g k (Some c) at =
+      cond_both c.negated _ _ (Leads text w.past) (λ _. tt)
+      (λ positive. cond_both (list_any (λ d. d.negated) (take k s.conditions)) _ _ (Leads text w.past) (λ _. tt)
+      (λ plain. (omega (arith, length-append {A = ℕ}), at_cells (g.0, cell_added s k c g at positive plain))))
+
+  cell_of_leads : (s : State) → IsShort n s → HasCells s → (o : Option ℕ) → Leads text w.past (cell_of o (Cells ∷ Actions ∷ Forms ∷ []) s)
   cell_of_leads s short g None = tt
-  cell_of_leads s short g (Some m) =
-      cond_both (nat_lt (length s.conditions) m) _ _ (Leads text w.past) (λ _. tt)
-      (λ e. (omega (arith, length-append {A = ℕ}), at_cells ((g.0, cell_added s m g (ltb-false _ _ e)))))
+  cell_of_leads s short g (Some m) = designated_leads s short g (m - 1) (slice_get s.conditions (m - 1)) refl
 
   cell_leads : (s : State) → IsShort n s → (HasCells s) → (k : TokenKind) → Leads text w.past (cell k (Cells ∷ Actions ∷ Forms ∷ []) s)
   cell_leads s short g (kind.Whole z) = cell_of_leads s short g (natural_of z)
@@ -358,7 +374,7 @@ module _ (text n : ℕ) (w : Word) (fit : text ≤ longest_list) (placed : IsPla
       cond_both (is_right w.kind) _ _ (Leads text w.past)
       (λ _. (
         omega (arith, length-append {A = Action}),
-        at_actions (action_added text s.classes s.rules s.commands s.name s.values s.conditions s.actions (action.Remove s.cells) g.0
+        at_actions (action_added text s.classes s.rules s.commands s.name (variables_of s) s.conditions s.actions (action.Remove s.cells) g.0
             (and_from _ _ (fits_below s.cells n short.7 place_fits) g.1) refl refl refl),
       ))
       (λ _. cell_leads s short g w.kind)
@@ -394,7 +410,7 @@ module _ (text n : ℕ) (w : Word) (fit : text ≤ longest_list) (placed : IsPla
       cond_both (is_right w.kind) _ _ (Leads text w.past)
       (λ _. (
         omega (arith, length-append {A = Action}),
-        at_actions (action_added text s.classes s.rules s.commands s.name s.values s.conditions s.actions (action.Write s.items) g.0
+        at_actions (action_added text s.classes s.rules s.commands s.name (variables_of s) s.conditions s.actions (action.Write s.items) g.0
             (and_from _ _ (fits_below s.items n short.8 place_fits) g.1) refl refl refl),
       ))
       (λ _. cond_both (is_left w.kind) _ _ (Leads text w.past) (λ _. (omega arith, at_item_word g)) (λ _. item_value_leads s short g))
@@ -408,7 +424,7 @@ module _ (text n : ℕ) (w : Word) (fit : text ≤ longest_list) (placed : IsPla
   halt_leads : (s : State) → IsShort n s → (Body text s) → Leads text w.past (closes EndsHalt w (Actions ∷ Forms ∷ []) s)
   halt_leads s short g =
       cond_both (is_right w.kind) _ _ (Leads text w.past)
-      (λ _. (omega (arith, length-append {A = Action}), at_actions (action_added text s.classes s.rules s.commands s.name s.values s.conditions s.actions action.Halt g refl refl refl refl)))
+      (λ _. (omega (arith, length-append {A = Action}), at_actions (action_added text s.classes s.rules s.commands s.name (variables_of s) s.conditions s.actions action.Halt g refl refl refl refl)))
       (λ _. tt)
 
   run_leads : (s : State) → IsShort n s → (Program text s) → Leads text w.past (closes EndsRun w (Forms ∷ []) s)
@@ -428,6 +444,7 @@ module _ (text n : ℕ) (w : Word) (fit : text ≤ longest_list) (placed : IsPla
   step_leads s ws short (at_rule_name g) = rule_name_leads s short g
   step_leads s ws short (at_first_pattern g) = first_pattern_leads s short g
   step_leads s ws short (at_patterns g) = patterns_leads s short g
+  step_leads s ws short (at_negated_pattern g) = negated_pattern_leads s short g
   step_leads s ws short (at_class_name u g) = class_name_leads u s short g
   step_leads s ws short (at_terms u g) = terms_leads u s short g
   step_leads s ws short (at_attribute u g) = attribute_leads u s short g
