@@ -32,6 +32,9 @@ view d =
       cells = d.cells.items;
       items = d.items.items;
       values = d.values;
+      variables = d.variables;
+      negated = d.negated;
+      around = d.around;
       conditions = d.conditions.items;
       actions = d.actions.items;
     }

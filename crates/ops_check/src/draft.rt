@@ -1,6 +1,6 @@
 //! What was read so far of a program, and how it grows.
-ghost use Rattle.std.specs.Prelude.{◌≡◌, ◌+◌, ◌==◌, not, count_by, position, SomeIff, ◌<◌, ◌^◌, slice_get};
-ghost use Rattle.ops_base.specs.Valid.{specificity};
+ghost use Rattle.std.specs.Prelude.{◌≡◌, ◌+◌, ◌==◌, not, count_by, length, position, SomeIff, ◌<◌, ◌^◌, slice_get};
+ghost use Rattle.ops_base.specs.Valid.{cells_of, specificity};
 ghost use Rattle.ops_meaning.specs.Grammar.{nothing_read, is_class, is_rule, is_one_of, may_declare, with_class, with_test, with_bound, with_choice, with_put, with_fixed, with_constant, with_element, with_action, with_command, with_rule, with_remove, with_write, with_item, number_of, attributes_of, InPattern, InPut, InFixed};
 ghost use Rattle.ops_check.specs.Going.{view, use_of, target_of, Becomes};
 
@@ -51,6 +51,9 @@ pub struct Draft {
     pub cells: Vec<usize>,
     pub items: Vec<Item>,
     pub values: Declared<Named>,
+    pub variables: usize,
+    pub negated: bool,
+    pub around: usize,
     pub conditions: Vec<Condition>,
     pub actions: Vec<Action>,
     pub alloc: Global,
@@ -75,6 +78,9 @@ impl Draft {
             cells: Vec::new(alloc),
             items: Vec::new(alloc),
             values: Declared::new(alloc),
+            variables: 0,
+            negated: false,
+            around: 0,
             conditions: Vec::new(alloc),
             actions: Vec::new(alloc),
             alloc,
@@ -198,8 +204,9 @@ impl Draft {
     pub fn add_bound(&mut self, field: usize, name: Sym) -> Result<(), Refusal>
         ensures { Becomes (view self.new) (with_bound (view self.old) field name) result }
     {
-        let number = self.values.len();
+        let number = self.variables;
         self.values.push(Named { name, number })?;
+        self.variables = number.checked_add(1).ok_or(Refusal::OutOfMemory)?;
         self.add_test(field, Pred::Eq, Operand::Variable(number), true)
     }
 
@@ -241,9 +248,13 @@ impl Draft {
         let tests = Listed::from_vec(mem::replace(&mut self.tests, none));
         self.conditions.push(Condition {
             class: self.class,
-            negated: false,
+            negated: self.negated,
             tests,
         })?;
+        if self.negated {
+            self.values.truncate(self.around);
+        }
+        self.negated = false;
         Ok(())
     }
 
@@ -298,7 +309,7 @@ impl Draft {
         let Some(specificity) = specificity(&self.conditions) else {
             return Err(Refusal::OutOfMemory);
         };
-        let (variables, cells) = (self.values.len(), self.conditions.len());
+        let (variables, cells) = (self.variables, cells_of(&self.conditions));
         let none = Vec::new(self.alloc);
         let conditions = Listed::from_vec(mem::replace(&mut self.conditions, none));
         let none = Vec::new(self.alloc);
@@ -321,6 +332,13 @@ fn place_in(attrs: &[Sym], name: Sym) -> Option<usize>
     ensures { result ≡ position (λ a. a.0 == name.0) attrs.now }
 {
     attrs.iter().position(|attr| *attr == name)
+}
+
+// one per positive condition
+fn cells_of(conditions: &[Condition]) -> usize
+    ensures { result ≡ length (cells_of conditions.now) }
+{
+    conditions.iter().filter(|condition| !condition.negated).count()
 }
 
 // one per condition, and one per test that does not bind

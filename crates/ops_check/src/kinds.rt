@@ -1,6 +1,6 @@
 //! What a word may be where something is wanted.
 ghost use Rattle.std.specs.Prelude.{◌≡◌};
-ghost use Rattle.ops_meaning.specs.Grammar.{is_left, is_right, is_left_brace, is_right_brace, is_caret, is_name, is_variable, is_arrow, is_literal, opens_choice, closes_choice, pred_of, is_crlf, constant_of, atom_of, value_of, natural_of};
+ghost use Rattle.ops_meaning.specs.Grammar.{is_left, is_right, is_left_brace, is_right_brace, is_caret, is_name, is_variable, is_arrow, is_literal, is_minus, opens_choice, closes_choice, pred_of, is_crlf, constant_of, atom_of, value_of, natural_of};
 ghost use Rattle.ops_check.specs.Going.{whole_of};
 
 use ops_base::values::{Pred, Sym, Value};
@@ -85,6 +85,16 @@ pub fn is_literal(keyword: Keyword) -> bool
 {
     match keyword {
         Keyword::Literal => true,
+        _ => false,
+    }
+}
+
+// - before a pattern
+pub fn is_minus(keyword: Keyword) -> bool
+    ensures { result ≡ is_minus keyword }
+{
+    match keyword {
+        Keyword::Minus => true,
         _ => false,
     }
 }

@@ -1,10 +1,10 @@
 //! Productions.
-ghost use Rattle.std.specs.Prelude.{◌≡◌, ◌∷◌, ◌++◌, if◌then◌else◌};
-ghost use Rattle.ops_meaning.specs.Grammar.{goes, cell, value_for, is_left, ToItem, RuleName, FirstPattern, Patterns, Actions, ActionWord, Cell, Cells, Items, ItemWord, Closes, EndsHalt, EndsCrlf, Next};
+ghost use Rattle.std.specs.Prelude.{◌≡◌, slice_get, ◌∷◌, ◌++◌, if◌then◌else◌};
+ghost use Rattle.ops_meaning.specs.Grammar.{goes, cell, designated, more_patterns, value_for, is_left, ToItem, RuleName, FirstPattern, Patterns, NegatedPattern, Actions, ActionWord, Cell, Cells, Items, ItemWord, Closes, EndsHalt, EndsCrlf, Next};
 ghost use Rattle.ops_check.specs.Going.{view, Goes, Reads, Acts, IsWithin};
 
 use crate::draft::{Draft, Place, Target};
-use crate::kinds::{is_arrow, is_crlf, is_left, is_name, is_right, natural_of, whole_of};
+use crate::kinds::{is_arrow, is_crlf, is_left, is_minus, is_name, is_right, natural_of, whole_of};
 use crate::refusals::{Refusal, closing, first_of, refused};
 use ops_base::actions::{Action, Item};
 use ops_base::endings::{Fault, Limit};
@@ -61,6 +61,9 @@ impl Draft {
         self.name = word.name;
         self.tests.clear();
         self.values.clear();
+        self.variables = 0;
+        self.negated = false;
+        self.around = 0;
         self.conditions.clear();
         self.actions.clear();
         Ok(rest)
@@ -73,13 +76,16 @@ impl Draft {
         ensures within { IsWithin words.now result }
     {
         let (word, rest) = first_of(words)?;
-        if !is_left(word.kind) {
-            return refused(Fault::BadForm, word);
+        if is_left(word.kind) {
+            return self.element(Place::Pattern, rest);
         }
-        self.element(Place::Pattern, rest)
+        if is_minus(word.keyword) {
+            return refused(Fault::FirstNegated, word);
+        }
+        refused(Fault::BadForm, word)
     }
 
-    // pattern* -->
+    // condition* -->
     #[tactic(auto, unfolding(ops_meaning::specs::Grammar::goes, ops_meaning::specs::Grammar::step, ops_meaning::specs::Grammar::ends))]
     fn patterns<'a>(&mut self, words: &'a [Word]) -> Result<&'a [Word], Refusal>
         ensures reads { Reads Patterns (view self.old) (view self.new) words.now result }
@@ -91,22 +97,49 @@ impl Draft {
             if is_arrow(word.keyword) {
                 return Ok(after);
             }
-            if !is_left(word.kind) {
-                return refused(Fault::BadForm, word);
-            }
-            if self.conditions.len() >= MOST_CONDITIONS {
-                return refused(
-                    Fault::LimitPassed {
-                        limit: Limit::Conditions,
-                    },
-                    word,
-                );
-            }
-            match self.element(Place::Pattern, after) {
+            match self.condition(word, after) {
                 Ok(next) => rest = next,
                 Err(refusal) => return Err(refusal),
             }
         }
+    }
+
+    // pattern | - pattern, of which the first word is taken, where there is room for one more
+    fn condition<'a>(&mut self, word: Word, rest: &'a [Word]) -> Result<&'a [Word], Refusal>
+        ensures acts { Acts (λ ws s. more_patterns word ws s) word (view self.old) (view self.new) rest.now result }
+        ensures within { IsWithin rest.now result }
+    {
+        let negated = is_minus(word.keyword);
+        if !is_left(word.kind) && !negated {
+            return refused(Fault::BadForm, word);
+        }
+        if self.conditions.len() >= MOST_CONDITIONS {
+            return refused(
+                Fault::LimitPassed {
+                    limit: Limit::Conditions,
+                },
+                word,
+            );
+        }
+        if is_left(word.kind) {
+            return self.element(Place::Pattern, rest);
+        }
+        self.negated = true;
+        self.around = self.values.len();
+        self.negated_pattern(rest)
+    }
+
+    // ( CLASS term* )
+    #[tactic(auto, unfolding(ops_meaning::specs::Grammar::goes, ops_meaning::specs::Grammar::step, ops_meaning::specs::Grammar::ends))]
+    fn negated_pattern<'a>(&mut self, words: &'a [Word]) -> Result<&'a [Word], Refusal>
+        ensures reads { Reads NegatedPattern (view self.old) (view self.new) words.now result }
+        ensures within { IsWithin words.now result }
+    {
+        let (word, rest) = first_of(words)?;
+        if !is_left(word.kind) {
+            return refused(Fault::BadForm, word);
+        }
+        self.element(Place::Pattern, rest)
     }
 
     // action* )
@@ -213,10 +246,27 @@ impl Draft {
         let Some(natural) = natural_of(number) else {
             return refused(Fault::BadDesignator, word);
         };
-        if natural > self.conditions.len() {
-            return refused(Fault::BadDesignator, word);
+        self.designated(natural - 1, word, rest)
+    }
+
+    // the condition behind so many is positive, and so is each before it
+    fn designated<'a>(
+        &mut self,
+        before: usize,
+        word: Word,
+        rest: &'a [Word],
+    ) -> Result<&'a [Word], Refusal>
+        ensures acts { Acts (λ ws s. designated before (slice_get s.conditions before) ws s) word (view self.old) (view self.new) rest.now result }
+        ensures within { IsWithin rest.now result }
+    {
+        match self.conditions.get(before) {
+            Some(condition) if !condition.negated => {}
+            _ => return refused(Fault::BadDesignator, word),
         }
-        self.cells.push(natural - 1)?;
+        if self.conditions[..before].iter().any(|condition| condition.negated) {
+            return refused(Fault::AmbiguousDesignator, word);
+        }
+        self.cells.push(before)?;
         Ok(rest)
     }
 }

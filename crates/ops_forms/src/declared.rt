@@ -1,9 +1,9 @@
 //! What was declared, found by its name.
-ghost use Rattle.std.specs.Prelude.{◌≡◌, ◌==◌, ◌++◌, ◌∷◌, ℕ, List, [], length, position, slice_get, IfErr, OnErr, OnOk};
+ghost use Rattle.std.specs.Prelude.{◌≡◌, ◌==◌, ◌++◌, ◌∷◌, ℕ, List, [], length, position, slice_get, take, ◌-◌, IfErr, OnErr, OnOk};
 ghost use Rattle.std.specs.Option.{option_copied};
 ghost use Rattle.std.specs.BTreeMap.{get};
 ghost use Rattle.std.specs.Ordering.{nat_cmp};
-ghost use Rattle.ops_forms.specs.Firsts.{or_else, AreFirsts};
+ghost use Rattle.ops_forms.specs.Firsts.{or_else, without, AreFirsts};
 
 use ops_base::elements::Class;
 use ops_base::memory::OutOfMemory;
@@ -72,6 +72,17 @@ fn note(firsts: &mut BTreeMap<u64, usize>, name: u64, place: usize) -> Result<()
     Ok(())
 }
 
+/// Forgets the place of a name, where it is this one.
+fn forget(firsts: &mut BTreeMap<u64, usize>, name: u64, place: usize)
+    ensures { (n : ℕ) → get nat_cmp firsts.new n ≡ without (get nat_cmp firsts.old n) (name == n) place }
+{
+    if let Some(first) = firsts.get(&name).copied() {
+        if first == place {
+            firsts.remove(&name);
+        }
+    }
+}
+
 impl<T: Titled + Drop> Declared<T> {
     pub fn new(alloc: Global) -> Declared<T>
         ensures { result ≡ [] }
@@ -102,6 +113,27 @@ impl<T: Titled + Drop> Declared<T> {
                 self.list.pop();
                 Err(error)
             }
+        }
+    }
+
+    /// Drops the last, if there is one.
+    fn pop(&mut self)
+        ensures { self.new ≡ take (length self.old - 1) self.old }
+    {
+        if let Some(item) = self.list.pop() {
+            forget(&mut self.firsts, item.title().0, self.list.len());
+        }
+    }
+
+    /// Leaves the first so many, or all where there are not more. Takes time for those that it drops.
+    pub fn truncate(&mut self, len: usize)
+        ensures { self.new ≡ take len self.old }
+    {
+        'items: loop {
+            if self.len() <= len {
+                return;
+            }
+            self.pop();
         }
     }
 

@@ -100,6 +100,8 @@ fn keyword_of_operator(spelling: &[u8]) -> Keyword
         Keyword::CloseChoice
     } else if is(spelling, b"//") {
         Keyword::Literal
+    } else if is(spelling, b"-") {
+        Keyword::Minus
     } else {
         Keyword::Other
     }

@@ -448,12 +448,15 @@ first_pattern w ws s =
 abbrev pub one_more : List Wanted → State → Step
 one_more ws s = if nat_lt (length s.conditions) most_conditions then Next ws s else Refuses (fault.LimitPassed limit.Conditions)
 
-abbrev pub patterns : Word → List Wanted → State → Step
-patterns w ws s =
-    if is_arrow w.keyword then Next ws s
-    else if is_left w.kind then one_more (ClassName ∷ Terms InPattern ∷ Patterns ∷ ws) s
-    else if is_minus w.keyword then one_more (NegatedPattern ∷ Patterns ∷ ws) (record s { negated = true; around = length s.values })
+-- pattern | - pattern
+abbrev pub more_patterns : Word → List Wanted → State → Step
+more_patterns w ws s =
+    if is_left w.kind then one_more (ClassName ∷ Terms InPattern ∷ ws) s
+    else if is_minus w.keyword then one_more (NegatedPattern ∷ ws) (record s { negated = true; around = length s.values })
     else Refuses fault.BadForm
+
+abbrev pub patterns : Word → List Wanted → State → Step
+patterns w ws s = if is_arrow w.keyword then Next ws s else more_patterns w (Patterns ∷ ws) s
 
 abbrev pub negated_pattern : Word → List Wanted → State → Step
 negated_pattern w ws s = if is_left w.kind then Next (ClassName ∷ Terms InPattern ∷ ws) s else Refuses fault.BadForm
