@@ -16,6 +16,7 @@ pub mod Reached
 pub mod Standing
 pub mod ReadsBack
 pub mod Places
+pub mod Numbering
 pub mod ReadsFacts
 pub mod ReadsPatterns
 pub mod ReadsActions
