@@ -25,6 +25,7 @@ pub mod ReadsProgram
 pub mod StandingEnd
 pub mod Reasons
 pub mod Plain
+pub mod PlainKept
 pub mod PlainSteps
 pub mod PlainRead
 pub mod Alike

@@ -1,5 +1,5 @@
 -- The numbers of variables in sight and of those that were given, and the conditions before the first negated one.
-use Rattle.std.proofs.Common.{◌≡◌, ℕ, zero, suc, ◌<◌, ◌≤◌, Bool, true, false, cond, List, [], ◌∷◌, ◌++◌, length, refl, sym, ap, ◌∙◌, arith, Some, None, nat_lt, take, slice_get, append-nil, append_assoc, true≢false}
+use Rattle.std.proofs.Common.{◌≡◌, ℕ, zero, suc, ◌<◌, ◌≤◌, Bool, true, false, cond, List, [], ◌∷◌, ◌++◌, refl, sym, ap, ◌∙◌, arith, Some, nat_lt, take, slice_get, append-nil, append_assoc, true≢false}
 use Rattle.std.specs.List.{list_all, list_any}
 use Rattle.std.proofs.lemmas.Bool.{or_parts, or_from, lt-ltb, ltb-true}
 use Rattle.ops_base.specs.declared.conditions.Test.{Test}

@@ -3,7 +3,6 @@ use Rattle.std.proofs.Common.{◌≡◌, ℕ, zero, suc, ◌<◌, Bool, true, fa
 use Rattle.std.specs.List.{position_or_len}
 use Rattle.std.proofs.lemmas.Bool.{and_parts, or_left, or_right, or_parts, eqb-true, eq-eqb, ne_eqb, not-true, lt-ltb}
 use Rattle.std.proofs.lemmas.List.{map-append}
-use Rattle.ops_base.specs.declared.values.Sym.{Sym}
 use Rattle.ops_base.specs.Valid.{is_in, are_distinct}
 use Rattle.ops_meaning.specs.declared.words.Named.{Named}
 use Rattle.ops_meaning.specs.Grammar.{number_of}

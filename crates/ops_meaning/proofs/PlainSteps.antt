@@ -1,47 +1,33 @@
 -- Each word leads from what has a spelling to what has one.
-use Rattle.std.proofs.Common.{◌≡◌, ℕ, suc, ◌+◌, ◌-◌, ◌<◌, ◌≤◌, Bool, true, false, not, ◌==◌, List, [], ◌∷◌, ◌++◌, length, take, refl, sym, ap, subst, ◌∙◌, arith, Option, Some, None, nat_lt, unwrap_or, slice_get, position, get_or, length-append, true≢false}
+use Rattle.std.proofs.Common.{◌≡◌, ℕ, ◌-◌, ◌<◌, ◌≤◌, Bool, true, false, not, ◌==◌, List, [], ◌∷◌, ◌++◌, length, take, refl, sym, ap, ◌∙◌, arith, Option, Some, None, nat_lt, unwrap_or, slice_get, position, get_or, length-append, true≢false}
 use Rattle.std.specs.List.{list_all, list_any}
-use Rattle.std.proofs.lemmas.Bool.{cond_both, and_parts, and_from, eqb-true, eq-eqb, lt-ltb, ltb-true, le-leb}
-use Rattle.std.proofs.lemmas.List.{map-append, take-append-le, take_all}
+use Rattle.std.proofs.lemmas.Bool.{cond_both, and_parts, and_from, eqb-true, lt-ltb, ltb-true}
 use Rattle.std.proofs.lemmas.List.Quantifiers.{position-Some}
 use Rattle.std.proofs.lemmas.Option.{slice_get-get_or}
-use Rattle.ops_base.specs.declared.values.Sym.{Sym}
 use Rattle.ops_base.specs.declared.values.Value.{Value}
 use Rattle.ops_base.specs.declared.values.Pred.{Pred}
 use Rattle.ops_base.specs.declared.values.Pred.TheVariants as pred
 use Rattle.ops_base.specs.declared.elements.Class.{Class}
-use Rattle.ops_base.specs.declared.conditions.Operand.{Operand}
 use Rattle.ops_base.specs.declared.conditions.Operand.TheVariants as operand
-use Rattle.ops_base.specs.declared.conditions.Test.{Test}
 use Rattle.ops_base.specs.declared.conditions.Condition.{Condition}
-use Rattle.ops_base.specs.declared.actions.Term.{Term}
 use Rattle.ops_base.specs.declared.actions.Term.TheVariants as term
 use Rattle.ops_base.specs.declared.actions.Item.{Item}
 use Rattle.ops_base.specs.declared.actions.Item.TheVariants as item
-use Rattle.ops_base.specs.declared.actions.Action.{Action}
 use Rattle.ops_base.specs.declared.actions.Action.TheVariants as action
-use Rattle.ops_base.specs.declared.commands.Command.{Command}
 use Rattle.ops_base.specs.declared.commands.Command.TheVariants as command
-use Rattle.ops_base.specs.Valid.{most_fields, most_conditions, no_class, class_of, first_is_positive, cells_of, specificity}
+use Rattle.ops_base.specs.Valid.{most_fields, most_conditions, no_class, class_of, first_is_positive}
 use Rattle.ops_tokens.specs.declared.token.TokenKind.{TokenKind}
 use Rattle.ops_tokens.specs.declared.token.TokenKind.TheVariants as kind
 use Rattle.ops_meaning.specs.declared.words.Word.{Word}
-use Rattle.ops_meaning.specs.declared.words.Named.{Named}
 use Rattle.ops_meaning.specs.declared.words.Keyword.{Keyword}
 use Rattle.ops_meaning.specs.declared.words.Keyword.TheVariants as keyword
-use Rattle.ops_meaning.specs.Grammar.{Use, InPattern, InPut, InFixed, Target, ToTest, ToPut, ToFixed, ToItem, Wanted, Forms, Attributes, Terms, Choice, Actions, Cells, Items, State, Next, is_left, is_right, is_left_brace, is_right_brace, is_caret, is_name, is_variable, is_arrow, is_literal, is_minus, opens_choice, closes_choice, pred_of, is_crlf, constant_of, atom_of, value_of, natural_of, is_one_of, number_of, may_declare, is_class, is_rule, form, class_declared, attributes, class_at, attributes_of, behind_attribute, field_at, with_test, with_put, with_fixed, with_item, with_constant, with_bound, variable_tested, constant_tested, tested, predicated, test, with_choice, chosen, choice, atom_at, bound_at, constant_at, value_for, with_element, patterns, with_rule, action_word, designated, cell_of, cell, step}
-use Rattle.ops_meaning.specs.Spelling.{Numbered, nothing_numbered, plainly_positive, operand_is_plain, after_test, tests_are_plain, after_tests, after_conditions, term_is_plain, put_is_plain, item_is_plain, action_is_plain, rule_is_plain, fixed_is_plain, command_is_plain}
+use Rattle.ops_meaning.specs.Grammar.{Use, InPattern, InPut, InFixed, Target, ToTest, ToPut, ToFixed, ToItem, Wanted, Forms, Attributes, Terms, Choice, Actions, Cells, Items, State, Next, is_left, is_right, is_left_brace, is_right_brace, is_caret, is_name, is_variable, is_arrow, is_literal, is_minus, opens_choice, closes_choice, pred_of, is_crlf, constant_of, atom_of, value_of, natural_of, is_one_of, number_of, may_declare, is_class, is_rule, form, class_declared, attributes, class_at, attributes_of, behind_attribute, field_at, with_test, with_item, with_constant, with_bound, variable_tested, constant_tested, tested, predicated, test, with_choice, chosen, choice, atom_at, bound_at, constant_at, value_for, with_element, patterns, action_word, designated, cell_of, cell, step}
+use Rattle.ops_meaning.specs.Spelling.{nothing_numbered, plainly_positive, tests_are_plain, after_tests, after_conditions, put_is_plain, item_is_plain, fixed_is_plain}
 use Rattle.ops_meaning.proofs.Lists.{all_push, all_none}
 use Rattle.ops_meaning.proofs.Sound.{behind, IsEmpty}
 use Rattle.ops_meaning.proofs.Numbering.{plainly_below}
-use Rattle.ops_meaning.proofs.Plain.{numbers_in, numbered_in, IsBase, IsRight, Base, Left, Right, Declaring, Around, IsElement, HasCells, HasItems, HasAttribute, HasTarget, behind_test, behind_target, IsPlainly, at_forms, at_form, at_class_declared, at_attributes, at_rule_name, at_first_pattern, at_patterns, at_negated_pattern, at_class_name, at_terms, at_attribute, at_place, at_tests, at_tested, at_choice, at_atom, at_value, at_actions, at_action_word, at_cell, at_cells, at_items, at_item_word, at_crlf, at_halt, at_run, Keeps, after_tests-push, tests_push, after_conditions-push, conditions_push, condition_counted, begun_positive, begins_first, begins_behind, number_sighted}
-
-command_kept : (s : State) (c : Command) → Base s → command_is_plain s.classes c ≡ true → IsBase s.classes s.rules (s.commands ++ c ∷ [])
-command_kept s c g plain = record { scalar = g.scalar; rules_plain = g.rules_plain; commands_plain = all_push (command_is_plain s.classes) s.commands c g.commands_plain plain }
-
-action_kept : (s : State) (a : Action) → Right s → action_is_plain s.classes (plainly_positive s.conditions) (numbers_in s.values) a ≡ true → IsRight s.classes s.values s.variables s.conditions (s.actions ++ a ∷ [])
-action_kept s a g plain =
-    record { left = g.left; positive = g.positive; few = g.few; plain = all_push (action_is_plain s.classes (plainly_positive s.conditions) (numbers_in s.values)) s.actions a g.plain plain }
+use Rattle.ops_meaning.proofs.Plain.{numbers_in, Base, Left, Right, Declaring, Around, IsElement, HasCells, HasItems, HasAttribute, HasTarget, behind_test, behind_target, IsPlainly, at_forms, at_form, at_class_declared, at_attributes, at_rule_name, at_first_pattern, at_patterns, at_negated_pattern, at_class_name, at_terms, at_attribute, at_place, at_tests, at_tested, at_choice, at_atom, at_value, at_actions, at_action_word, at_cell, at_cells, at_items, at_item_word, at_crlf, at_halt, at_run, Keeps, after_conditions-push, conditions_push, condition_counted, begun_positive, begins_first, begins_behind, number_sighted}
+use Rattle.ops_meaning.proofs.PlainKept.{command_kept, action_kept, test_kept, test_bound, choosing, put_kept, fixed_kept, right_begun, negated_begun, rule_kept}
 
 module _ (w : Word) where
   -- ---- declarations
@@ -95,82 +81,11 @@ module _ (w : Word) where
 
   -- ---- tests
 
-  test_kept : (s : State) (f : ℕ) (p : Pred) (o : Operand) → IsElement InPattern s → HasAttribute s f → operand_is_plain (numbered_in s.values s.variables) p false o ≡ true → IsElement InPattern (with_test s f p o false)
-  test_kept s f p o g a plain =
-      let left = g.around.1 in
-      let t : Test = record { field = f; pred = p; operand = o; binds = false } in
-      record {
-        around = (
-          g.around.0,
-          record { plain = left.plain; count = after_tests-push s.tests (after_conditions nothing_numbered s.conditions) t ∙ left.count; within = left.within; sight = left.sight },
-          g.around.2,
-          g.around.3,
-          g.around.4,
-        );
-        class = g.class;
-        fields = tests_push (class_of s.classes s.class) s.tests (after_conditions nothing_numbered s.conditions) t g.fields
-            (and_from _ _ a (subst (λ (k : Numbered). operand_is_plain k p false o ≡ true) (sym left.count) plain));
-      }
-
-  bound_counted : (s : State) (f : ℕ) → Left s → after_tests (after_conditions nothing_numbered s.conditions) (s.tests ++ record { field = f; pred = pred.Eq; operand = operand.Variable s.variables; binds = true } ∷ []) ≡ numbered_in (s.values ++ record { name = w.name; number = s.variables } ∷ []) (s.variables + 1)
-  bound_counted s f left =
-      let t : Test = record { field = f; pred = pred.Eq; operand = operand.Variable s.variables; binds = true } in
-      let v : Named = record { name = w.name; number = s.variables } in
-      let next : suc s.variables ≡ s.variables + 1 = omega arith in
-      after_tests-push s.tests (after_conditions nothing_numbered s.conditions) t
-      ∙ ap (λ (k : Numbered). after_test k t) left.count
-      ∙ ap (λ (ns : List ℕ). let k : Numbered = record { sight = ns; given = suc s.variables } in k) (sym (map-append (λ (v : Named). v.number) s.values (v ∷ [])))
-      ∙ ap (numbered_in (s.values ++ v ∷ [])) next
-
-  test_bound : (s : State) (f : ℕ) → IsElement InPattern s → HasAttribute s f → IsElement InPattern (with_bound s f w.name)
-  test_bound s f g a =
-      let left = g.around.1 in
-      let t : Test = record { field = f; pred = pred.Eq; operand = operand.Variable s.variables; binds = true } in
-      let v : Named = record { name = w.name; number = s.variables } in
-      let more = length-append s.values (v ∷ []) in
-      record {
-        around = (
-          g.around.0,
-          record {
-            plain = left.plain;
-            count = bound_counted s f left;
-            within = λ is. let le = left.within is in omega (arith, more, le);
-            sight = λ is. ap numbers_in (take-append-le s.around s.values (v ∷ []) (left.within is)) ∙ left.sight is;
-          },
-          g.around.2,
-          g.around.3,
-          g.around.4,
-        );
-        class = g.class;
-        fields = tests_push (class_of s.classes s.class) s.tests (after_conditions nothing_numbered s.conditions) t g.fields
-            (and_from _ _ a (eq-eqb s.variables _ (sym (ap (λ (k : Numbered). k.given) left.count))));
-      }
-
-  -- The constants of a disjunction that is being read do not matter.
-  choosing : (s : State) (vs : List Value) → IsElement InPattern s → IsElement InPattern (record s { choice = vs })
-  choosing s vs g = record { around = g.around; class = g.class; fields = g.fields }
-
   test_goes_on : (among : Bool) (f : ℕ) (s : State) → IsElement InPattern s → HasAttribute s f → Keeps (Next (behind_test among f) s)
   test_goes_on true f s g a = at_tests f (g, a)
   test_goes_on false f s g a = at_terms InPattern g
 
   -- ---- values
-
-  put_kept : (s : State) (f : ℕ) (t : Term) → IsElement InPut s → HasAttribute s f → term_is_plain (numbers_in s.values) t ≡ true → IsElement InPut (with_put s f t)
-  put_kept s f t g a plain =
-      record {
-        around = g.around;
-        class = g.class;
-        fields = all_push (put_is_plain (class_of s.classes s.class) (numbers_in s.values)) s.puts (record { field = f; terms = t ∷ [] }) g.fields (and_from _ _ (and_from _ _ a refl) (and_from _ _ plain refl));
-      }
-
-  fixed_kept : (s : State) (f : ℕ) (v : Value) → IsElement InFixed s → HasAttribute s f → IsElement InFixed (with_fixed s f v)
-  fixed_kept s f v g a =
-      record {
-        around = g.around;
-        class = g.class;
-        fields = all_push (fixed_is_plain (class_of s.classes s.class)) s.fixed (record { field = f; values = v ∷ [] }) g.fields (and_from _ _ a refl);
-      }
 
   item_kept : (s : State) (i : Item) → HasItems s → item_is_plain (numbers_in s.values) i ≡ true → Keeps (Next (Items ∷ Actions ∷ Forms ∷ []) (with_item s i))
   item_kept s i g plain = at_items (g.0, g.1, all_push (item_is_plain (numbers_in s.values)) s.items i g.2 plain)
@@ -205,7 +120,7 @@ module _ (w : Word) where
       → Keeps (variable_tested f p o w.name (behind_test among f) s)
   variable_keeps among f p s g a (Some n) e =
       test_goes_on among f (with_test s f p (operand.Variable n) false) (test_kept s f p (operand.Variable n) g a (number_sighted w.name s.values n e)) a
-  variable_keeps among f pred.Eq s g a None e = test_goes_on among f (with_bound s f w.name) (test_bound s f g a) a
+  variable_keeps among f pred.Eq s g a None e = test_goes_on among f (with_bound s f w.name) (test_bound s f w.name g a) a
   variable_keeps among f _ s g a None e = tt
 
   operand_keeps : (among : Bool) (f : ℕ) (p : Pred) (s : State) → IsElement InPattern s → HasAttribute s f → (o : Option Value) → Keeps (constant_tested f p w o (behind_test among f) s)
@@ -260,30 +175,6 @@ module _ (w : Word) where
 
   -- ---- productions
 
-  -- what is in sight where no test of a condition was read
-  counted_before : (s : State) → Left s → s.tests ≡ [] → after_conditions nothing_numbered s.conditions ≡ numbered_in s.values s.variables
-  counted_before s left none =
-      subst (λ (ts : List Test). after_tests (after_conditions nothing_numbered s.conditions) ts ≡ numbered_in s.values s.variables) none left.count
-
-  right_begun : (s : State) → Left s → s.tests ≡ [] → s.actions ≡ [] → first_is_positive s.conditions ≡ true → length s.conditions ≤ most_conditions → Right s
-  right_begun s left none idle positive few =
-      record {
-        left = record { plain = left.plain; count = counted_before s left none; within = λ is. absurd (true≢false (sym is)); sight = λ is. absurd (true≢false (sym is)) };
-        positive = positive;
-        few = few;
-        plain = ap (list_all (action_is_plain s.classes (plainly_positive s.conditions) (numbers_in s.values))) idle;
-      }
-
-  -- the variables in sight before a negated condition are those around it
-  negated_begun : (s : State) → Left s → s.tests ≡ [] → Left (record s { negated = true; around = length s.values })
-  negated_begun s left none =
-      record {
-        plain = left.plain;
-        count = left.count;
-        within = λ _. omega arith;
-        sight = λ _. ap numbers_in (take_all (length s.values) s.values (omega arith)) ∙ sym (ap (λ (k : Numbered). k.sight) (counted_before s left none));
-      }
-
   patterns_keep : (s : State) → Base s × Left s × (s.tests ≡ []) × (s.actions ≡ []) × (first_is_positive s.conditions ≡ true) × (length s.conditions ≤ most_conditions) × (s.negated ≡ false) → Keeps (patterns w (Actions ∷ Forms ∷ []) s)
   patterns_keep s g =
       cond_both (is_arrow w.keyword) _ _ Keeps (λ _. at_actions (g.0, right_begun s g.1 g.2 g.3 g.4 g.5))
@@ -291,18 +182,6 @@ module _ (w : Word) where
       (λ _. cond_both (nat_lt (length s.conditions) most_conditions) _ _ Keeps (λ lt. at_class_name InPattern ((g.0, g.1, ltb-true _ _ lt, g.3, begins_behind s.conditions s.negated g.4), g.2)) (λ _. tt))
       (λ _. cond_both (is_minus w.keyword) _ _ Keeps
       (λ _. cond_both (nat_lt (length s.conditions) most_conditions) _ _ Keeps (λ lt. at_negated_pattern ((g.0, negated_begun s g.1 g.2, ltb-true _ _ lt, g.3, begins_behind s.conditions true g.4), g.2)) (λ _. tt)) (λ _. tt)))
-
-  rule_kept : (s : State) → Base s → Right s → IsBase s.classes (with_rule s w.past).rules s.commands
-  rule_kept s b g =
-      let count = g.left.count in
-      record {
-        scalar = b.scalar;
-        rules_plain = all_push (rule_is_plain s.classes) s.rules _ b.rules_plain
-            (and_from _ _ (and_from _ _ (and_from _ _ (and_from _ _ (and_from _ _ (and_from _ _ g.positive (le-leb _ _ g.few)) g.left.plain)
-            (subst (λ (k : Numbered). list_all (action_is_plain s.classes (plainly_positive s.conditions) k.sight) s.actions ≡ true) (sym count) g.plain))
-            (eq-eqb s.variables _ (sym (ap (λ (k : Numbered). k.given) count)))) (eq-eqb (specificity s.conditions) (specificity s.conditions) refl)) (eq-eqb (length (cells_of s.conditions)) (length (cells_of s.conditions)) refl));
-        commands_plain = b.commands_plain;
-      }
 
   action_word_keeps : (s : State) → Base s × Right s → (k : Keyword) → Keeps (action_word k (Actions ∷ Forms ∷ []) s)
   action_word_keeps s g keyword.Make = at_class_name InPut (g, refl)
@@ -357,7 +236,7 @@ module _ (w : Word) where
   step_keeps s ws (at_atom among t g) = atom_keeps among t s g (atom_of w.kind w.name)
   step_keeps s ws (at_value among t g) = value_keeps among t s g
   step_keeps s ws (at_actions g) =
-      cond_both (is_right w.kind) _ _ Keeps (λ _. at_forms (rule_kept s g.0 g.1)) (λ _. cond_both (is_left w.kind) _ _ Keeps (λ _. at_action_word g) (λ _. tt))
+      cond_both (is_right w.kind) _ _ Keeps (λ _. at_forms (rule_kept s w.past g.0 g.1)) (λ _. cond_both (is_left w.kind) _ _ Keeps (λ _. at_action_word g) (λ _. tt))
   step_keeps s ws (at_action_word g) = action_word_keeps s g w.keyword
   step_keeps s ws (at_cell g) = cell_keeps s g w.kind
   step_keeps s ws (at_cells g) =
