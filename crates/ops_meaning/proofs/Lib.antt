@@ -16,6 +16,7 @@ pub mod Reached
 pub mod Standing
 pub mod ReadsBack
 pub mod Places
+pub mod Numbering
 pub mod ReadsFacts
 pub mod ReadsPatterns
 pub mod ReadsActions
@@ -24,6 +25,7 @@ pub mod ReadsProgram
 pub mod StandingEnd
 pub mod Reasons
 pub mod Plain
+pub mod PlainKept
 pub mod PlainSteps
 pub mod PlainRead
 pub mod Alike

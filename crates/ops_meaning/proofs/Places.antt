@@ -1,8 +1,8 @@
 -- The places of names that are distinct, and the numbers of variables that are named by them.
-use Rattle.std.proofs.Common.{◌≡◌, ℕ, zero, suc, ◌<◌, ◌≤◌, Bool, true, false, not, ◌==◌, cond, List, [], ◌∷◌, ◌++◌, length, map, refl, sym, ap, ◌∙◌, arith, Option, Some, None, unwrap_or, slice_get, position, length-append, true≢false, ⊎_elim}
+use Rattle.std.proofs.Common.{◌≡◌, ℕ, zero, suc, ◌<◌, Bool, true, false, not, ◌||◌, ◌==◌, cond, List, [], ◌∷◌, ◌++◌, length, map, refl, sym, ap, ◌∙◌, arith, Option, Some, None, unwrap_or, slice_get, position, true≢false}
 use Rattle.std.specs.List.{position_or_len}
-use Rattle.std.proofs.lemmas.Bool.{and_parts, or_left, or_right, eq-eqb, ne_eqb, not-true, lt-ltb, cases_lt}
-use Rattle.ops_base.specs.declared.values.Sym.{Sym}
+use Rattle.std.proofs.lemmas.Bool.{and_parts, or_left, or_right, or_parts, eqb-true, eq-eqb, ne_eqb, not-true, lt-ltb}
+use Rattle.std.proofs.lemmas.List.{map-append}
 use Rattle.ops_base.specs.Valid.{is_in, are_distinct}
 use Rattle.ops_meaning.specs.declared.words.Named.{Named}
 use Rattle.ops_meaning.specs.Grammar.{number_of}
@@ -32,37 +32,21 @@ module _ {X : Type 0} (f : X → ℕ) (d : X) where
 -- ---- the number of a variable
 
 -- variables that are named by their numbers
-abbrev pub numbered : ℕ → List Named
-numbered zero = []
-numbered (suc k) = numbered k ++ record { name = record { 0 = k }; number = k } ∷ []
+abbrev pub numbered : List ℕ → List Named
+numbered ks = map (λ k. record { name = record { 0 = k }; number = k }) ks
 
-pub length-numbered : (k : ℕ) → length (numbered k) ≡ k
-length-numbered zero = refl
-length-numbered (suc k) = length-append (numbered k) (record { name = record { 0 = k }; number = k } ∷ []) ∙ (let ih = length-numbered k in omega (arith, ih))
+pub numbered-push : (ks : List ℕ) (k : ℕ) → numbered (ks ++ k ∷ []) ≡ numbered ks ++ record { name = record { 0 = k }; number = k } ∷ []
+numbered-push ks k = map-append (λ k. record { name = record { 0 = k }; number = k }) ks (k ∷ [])
 
-abbrev or_else : Option ℕ → Option ℕ → Option ℕ
-or_else (Some n) other = Some n
-or_else None other = other
+-- a variable with none of these numbers is none of these variables
+pub number_out : (ks : List ℕ) (n : ℕ) → is_in n ks ≡ false → number_of (record { 0 = n }) (numbered ks) ≡ None
+number_out [] n out = refl
+number_out (k ∷ ks) n out = let each = or_parts (k == n) (is_in n ks) out in rw each.0 (number_out ks n each.1)
 
-number_or : (b : Bool) (n : ℕ) (x y z : Option ℕ) → x ≡ or_else y z → cond b (Some n) x ≡ or_else (cond b (Some n) y) z
-number_or true n x y z e = refl
-number_or false n x y z e = e
+number_by : (b : Bool) (k n : ℕ) (there : Bool) (rest : Option ℕ) → (k == n) ≡ b → (b || there) ≡ true → (there ≡ true → rest ≡ Some n) → cond b (Some k) rest ≡ Some n
+number_by true k n there rest e h ih = ap Some (eqb-true k n e)
+number_by false k n there rest e h ih = ih h
 
-number_of-append : (name : Sym) (vs ws : List Named) → number_of name (vs ++ ws) ≡ or_else (number_of name vs) (number_of name ws)
-number_of-append name [] ws = refl
-number_of-append name (v ∷ vs) ws = number_or (v.name.0 == name.0) v.number _ _ _ (number_of-append name vs ws)
-
-pub number_above : (k n : ℕ) → k ≤ n → number_of (record { 0 = n }) (numbered k) ≡ None
-number_above zero n le = refl
-number_above (suc k) n le =
-    let apart : (k == n) ≡ false = ne_eqb k n (λ same. absurd (omega arith)) in
-    number_of-append (record { 0 = n }) (numbered k) (record { name = record { 0 = k }; number = k } ∷ []) ∙ rw (number_above k n (omega arith)) (rw apart refl)
-
-pub number_below : (k n : ℕ) → n < k → number_of (record { 0 = n }) (numbered k) ≡ Some n
-number_below zero n lt = absurd (omega arith)
-number_below (suc k) n lt =
-    number_of-append (record { 0 = n }) (numbered k) (record { name = record { 0 = k }; number = k } ∷ [])
-    ∙ ⊎_elim
-    (λ (below : n < k). rw (number_below k n below) refl)
-    (λ (above : k ≤ n). let here : (k == n) ≡ true = eq-eqb k n (omega arith) in rw (number_above k n above) (rw here (let same : k ≡ n = omega arith in ap Some same)))
-    (cases_lt n k)
+pub number_there : (ks : List ℕ) (n : ℕ) → is_in n ks ≡ true → number_of (record { 0 = n }) (numbered ks) ≡ Some n
+number_there [] n h = absurd (true≢false (sym h))
+number_there (k ∷ ks) n h = number_by (k == n) k n (is_in n ks) (number_of (record { 0 = n }) (numbered ks)) refl h (number_there ks n)

@@ -1,49 +1,33 @@
 -- Each word leads from what has a spelling to what has one.
-use Rattle.std.proofs.Common.{◌≡◌, ℕ, ◌-◌, ◌<◌, ◌≤◌, Bool, true, false, not, ◌==◌, List, [], ◌∷◌, ◌++◌, length, refl, sym, ap, subst, ◌∙◌, arith, Option, Some, None, nat_lt, unwrap_or, slice_get, position, get_or, length-append}
-use Rattle.std.specs.List.{list_all}
-use Rattle.std.proofs.lemmas.Bool.{cond_both, and_parts, and_from, eqb-true, eq-eqb, lt-ltb, ltb-true, ltb-false, le-leb}
+use Rattle.std.proofs.Common.{◌≡◌, ℕ, ◌-◌, ◌<◌, ◌≤◌, Bool, true, false, not, ◌==◌, List, [], ◌∷◌, ◌++◌, length, take, refl, sym, ap, ◌∙◌, arith, Option, Some, None, nat_lt, unwrap_or, slice_get, position, get_or, length-append, true≢false}
+use Rattle.std.specs.List.{list_all, list_any}
+use Rattle.std.proofs.lemmas.Bool.{cond_both, and_parts, and_from, eqb-true, lt-ltb, ltb-true}
 use Rattle.std.proofs.lemmas.List.Quantifiers.{position-Some}
 use Rattle.std.proofs.lemmas.Option.{slice_get-get_or}
-use Rattle.ops_base.specs.declared.values.Sym.{Sym}
 use Rattle.ops_base.specs.declared.values.Value.{Value}
 use Rattle.ops_base.specs.declared.values.Pred.{Pred}
 use Rattle.ops_base.specs.declared.values.Pred.TheVariants as pred
 use Rattle.ops_base.specs.declared.elements.Class.{Class}
-use Rattle.ops_base.specs.declared.conditions.Operand.{Operand}
 use Rattle.ops_base.specs.declared.conditions.Operand.TheVariants as operand
-use Rattle.ops_base.specs.declared.conditions.Test.{Test}
 use Rattle.ops_base.specs.declared.conditions.Condition.{Condition}
-use Rattle.ops_base.specs.declared.actions.Term.{Term}
 use Rattle.ops_base.specs.declared.actions.Term.TheVariants as term
 use Rattle.ops_base.specs.declared.actions.Item.{Item}
 use Rattle.ops_base.specs.declared.actions.Item.TheVariants as item
-use Rattle.ops_base.specs.declared.actions.Action.{Action}
 use Rattle.ops_base.specs.declared.actions.Action.TheVariants as action
-use Rattle.ops_base.specs.declared.commands.Command.{Command}
 use Rattle.ops_base.specs.declared.commands.Command.TheVariants as command
-use Rattle.ops_base.specs.Valid.{most_fields, most_conditions, no_class, class_of, specificity}
+use Rattle.ops_base.specs.Valid.{most_fields, most_conditions, no_class, class_of, first_is_positive}
 use Rattle.ops_tokens.specs.declared.token.TokenKind.{TokenKind}
 use Rattle.ops_tokens.specs.declared.token.TokenKind.TheVariants as kind
 use Rattle.ops_meaning.specs.declared.words.Word.{Word}
-use Rattle.ops_meaning.specs.declared.words.Named.{Named}
 use Rattle.ops_meaning.specs.declared.words.Keyword.{Keyword}
 use Rattle.ops_meaning.specs.declared.words.Keyword.TheVariants as keyword
-use Rattle.ops_meaning.specs.Grammar.{Use, InPattern, InPut, InFixed, Target, ToTest, ToPut, ToFixed, ToItem, Wanted, Forms, Attributes, Terms, Choice, Actions, Cells, Items, State, Next, is_left, is_right, is_left_brace, is_right_brace, is_caret, is_name, is_variable, is_arrow, is_literal, opens_choice, closes_choice, pred_of, is_crlf, constant_of, atom_of, value_of, natural_of, is_one_of, number_of, may_declare, is_class, is_rule, form, class_declared, attributes, class_at, attributes_of, behind_attribute, field_at, with_test, with_put, with_fixed, with_item, with_constant, with_bound, variable_tested, constant_tested, tested, predicated, test, with_choice, chosen, choice, atom_at, bound_at, constant_at, value_for, with_element, patterns, with_rule, action_word, cell_of, cell, step}
-use Rattle.ops_meaning.specs.Spelling.{operand_is_plain, after_conditions, term_is_plain, put_is_plain, item_is_plain, action_is_plain, rule_is_plain, fixed_is_plain, command_is_plain}
+use Rattle.ops_meaning.specs.Grammar.{Use, InPattern, InPut, InFixed, Target, ToTest, ToPut, ToFixed, ToItem, Wanted, Forms, Attributes, Terms, Choice, Actions, Cells, Items, State, Next, is_left, is_right, is_left_brace, is_right_brace, is_caret, is_name, is_variable, is_arrow, is_literal, is_minus, opens_choice, closes_choice, pred_of, is_crlf, constant_of, atom_of, value_of, natural_of, is_one_of, number_of, may_declare, is_class, is_rule, form, class_declared, attributes, class_at, attributes_of, behind_attribute, field_at, with_test, with_item, with_constant, with_bound, variable_tested, constant_tested, tested, predicated, test, with_choice, chosen, choice, atom_at, bound_at, constant_at, value_for, with_element, patterns, action_word, designated, cell_of, cell, step}
+use Rattle.ops_meaning.specs.Spelling.{nothing_numbered, plainly_positive, tests_are_plain, after_tests, after_conditions, put_is_plain, item_is_plain, fixed_is_plain}
 use Rattle.ops_meaning.proofs.Lists.{all_push, all_none}
-use Rattle.ops_meaning.proofs.Sound.{behind, IsEmpty, numbers}
-use Rattle.ops_meaning.proofs.Grown.{number_in, below_more}
-use Rattle.ops_meaning.proofs.Plain.{IsBase, IsLeft, IsRight, Base, Left, Right, Declaring, Around, IsElement, HasCells, HasItems, HasAttribute, HasTarget, behind_test, behind_target, IsPlainly, at_forms, at_form, at_class_declared, at_attributes, at_rule_name, at_first_pattern, at_patterns, at_class_name, at_terms, at_attribute, at_place, at_tests, at_tested, at_choice, at_atom, at_value, at_actions, at_action_word, at_cell, at_cells, at_items, at_item_word, at_crlf, at_halt, at_run, Keeps, after_tests-push, tests_push, after_conditions-push, conditions_push, all_in}
-
-number_known : (name : Sym) (values : List Named) (n : ℕ) → list_all (λ v. nat_lt v (length values)) (numbers values) ≡ true → number_of name values ≡ Some n → nat_lt n (length values) ≡ true
-number_known name values n below e = all_in (λ v. nat_lt v (length values)) (numbers values) n below (number_in name values n e)
-
-command_kept : (s : State) (c : Command) → Base s → command_is_plain s.classes c ≡ true → IsBase s.classes s.rules (s.commands ++ c ∷ [])
-command_kept s c g plain = record { scalar = g.scalar; rules_plain = g.rules_plain; commands_plain = all_push (command_is_plain s.classes) s.commands c g.commands_plain plain }
-
-action_kept : (s : State) (a : Action) → Right s → action_is_plain s.classes (length s.conditions) (length s.values) a ≡ true → IsRight s.classes s.values s.conditions (s.actions ++ a ∷ [])
-action_kept s a g plain =
-    record { left = g.left; some = g.some; few = g.few; plain = all_push (action_is_plain s.classes (length s.conditions) (length s.values)) s.actions a g.plain plain }
+use Rattle.ops_meaning.proofs.Sound.{behind, IsEmpty}
+use Rattle.ops_meaning.proofs.Numbering.{plainly_below}
+use Rattle.ops_meaning.proofs.Plain.{numbers_in, Base, Left, Right, Declaring, Around, IsElement, HasCells, HasItems, HasAttribute, HasTarget, behind_test, behind_target, IsPlainly, at_forms, at_form, at_class_declared, at_attributes, at_rule_name, at_first_pattern, at_patterns, at_negated_pattern, at_class_name, at_terms, at_attribute, at_place, at_tests, at_tested, at_choice, at_atom, at_value, at_actions, at_action_word, at_cell, at_cells, at_items, at_item_word, at_crlf, at_halt, at_run, Keeps, after_conditions-push, conditions_push, condition_counted, begun_positive, begins_first, begins_behind, number_sighted}
+use Rattle.ops_meaning.proofs.PlainKept.{command_kept, action_kept, test_kept, test_bound, choosing, put_kept, fixed_kept, right_begun, negated_begun, rule_kept}
 
 module _ (w : Word) where
   -- ---- declarations
@@ -74,8 +58,8 @@ module _ (w : Word) where
   -- ---- elements
 
   element_named : (u : Use) (s : State) (c : ℕ) → Around u s × IsEmpty u s → c < length s.classes → IsElement u (record s { class = c })
-  element_named InPattern s c h lt = record { around = h.0; class = lt; fields = ap (Rattle.ops_meaning.specs.Spelling.tests_are_plain (class_of s.classes c) (after_conditions 0 s.conditions)) h.1 }
-  element_named InPut s c h lt = record { around = h.0; class = lt; fields = ap (list_all (put_is_plain (class_of s.classes c) (length s.values))) h.1 }
+  element_named InPattern s c h lt = record { around = h.0; class = lt; fields = ap (tests_are_plain (class_of s.classes c) (after_conditions nothing_numbered s.conditions)) h.1 }
+  element_named InPut s c h lt = record { around = h.0; class = lt; fields = ap (list_all (put_is_plain (class_of s.classes c) (numbers_in s.values))) h.1 }
   element_named InFixed s c h lt = record { around = h.0; class = lt; fields = ap (list_all (fixed_is_plain (class_of s.classes c))) h.1 }
 
   class_at_keeps : (u : Use) (s : State) → Around u s × IsEmpty u s → (o : Option ℕ) → position (λ c. c.name.0 == w.name.0) s.classes ≡ o → Keeps (class_at o (Terms u ∷ behind u) s)
@@ -97,63 +81,14 @@ module _ (w : Word) where
 
   -- ---- tests
 
-  test_kept : (s : State) (f : ℕ) (p : Pred) (o : Operand) → IsElement InPattern s → HasAttribute s f → operand_is_plain (length s.values) p false o ≡ true → IsElement InPattern (with_test s f p o false)
-  test_kept s f p o g a plain =
-      let left = g.around.1 in
-      let t : Test = record { field = f; pred = p; operand = o; binds = false } in
-      record {
-        around = (g.around.0, record { plain = left.plain; count = left.count ∙ sym (after_tests-push s.tests (after_conditions 0 s.conditions) t); below = left.below }, g.around.2, g.around.3);
-        class = g.class;
-        fields = tests_push (class_of s.classes s.class) s.tests (after_conditions 0 s.conditions) t g.fields
-            (and_from _ _ a (subst (λ (n : ℕ). operand_is_plain n p false o ≡ true) left.count plain));
-      }
-
-  test_bound : (s : State) (f : ℕ) → IsElement InPattern s → HasAttribute s f → IsElement InPattern (with_bound s f w.name)
-  test_bound s f g a =
-      let left = g.around.1 in
-      let t : Test = record { field = f; pred = pred.Eq; operand = operand.Variable (length s.values); binds = true } in
-      let v : Named = record { name = w.name; number = length s.values } in
-      let more = length-append s.values (v ∷ []) in
-      let count = left.count in
-      record {
-        around = (
-          g.around.0,
-          record { plain = left.plain; count = more ∙ omega (arith, count) ∙ sym (after_tests-push s.tests (after_conditions 0 s.conditions) t); below = below_more s.values w.name left.below },
-          g.around.2,
-          g.around.3,
-        );
-        class = g.class;
-        fields = tests_push (class_of s.classes s.class) s.tests (after_conditions 0 s.conditions) t g.fields (and_from _ _ a (eq-eqb _ _ left.count));
-      }
-
-  -- The constants of a disjunction that is being read do not matter.
-  choosing : (s : State) (vs : List Value) → IsElement InPattern s → IsElement InPattern (record s { choice = vs })
-  choosing s vs g = record { around = g.around; class = g.class; fields = g.fields }
-
   test_goes_on : (among : Bool) (f : ℕ) (s : State) → IsElement InPattern s → HasAttribute s f → Keeps (Next (behind_test among f) s)
   test_goes_on true f s g a = at_tests f (g, a)
   test_goes_on false f s g a = at_terms InPattern g
 
   -- ---- values
 
-  put_kept : (s : State) (f : ℕ) (t : Term) → IsElement InPut s → HasAttribute s f → term_is_plain (length s.values) t ≡ true → IsElement InPut (with_put s f t)
-  put_kept s f t g a plain =
-      record {
-        around = g.around;
-        class = g.class;
-        fields = all_push (put_is_plain (class_of s.classes s.class) (length s.values)) s.puts (record { field = f; terms = t ∷ [] }) g.fields (and_from _ _ (and_from _ _ a refl) (and_from _ _ plain refl));
-      }
-
-  fixed_kept : (s : State) (f : ℕ) (v : Value) → IsElement InFixed s → HasAttribute s f → IsElement InFixed (with_fixed s f v)
-  fixed_kept s f v g a =
-      record {
-        around = g.around;
-        class = g.class;
-        fields = all_push (fixed_is_plain (class_of s.classes s.class)) s.fixed (record { field = f; values = v ∷ [] }) g.fields (and_from _ _ a refl);
-      }
-
-  item_kept : (s : State) (i : Item) → HasItems s → item_is_plain (length s.values) i ≡ true → Keeps (Next (Items ∷ Actions ∷ Forms ∷ []) (with_item s i))
-  item_kept s i g plain = at_items (g.0, g.1, all_push (item_is_plain (length s.values)) s.items i g.2 plain)
+  item_kept : (s : State) (i : Item) → HasItems s → item_is_plain (numbers_in s.values) i ≡ true → Keeps (Next (Items ∷ Actions ∷ Forms ∷ []) (with_item s i))
+  item_kept s i g plain = at_items (g.0, g.1, all_push (item_is_plain (numbers_in s.values)) s.items i g.2 plain)
 
   constant_keeps : (among : Bool) (t : Target) (v : Value) (s : State) → HasTarget t s → Keeps (Next (behind_target among t) (with_constant t s v))
   constant_keeps among (ToTest f p) v s g = test_goes_on among f (with_test s f p (operand.Constant v) false) (test_kept s f p (operand.Constant v) g.0 g.1 refl) g.1
@@ -163,9 +98,9 @@ module _ (w : Word) where
 
   bound_keeps : (among : Bool) (t : Target) (s : State) → HasTarget t s → (o : Option ℕ) → number_of w.name s.values ≡ o → Keeps (bound_at t o (behind_target among t) s)
   bound_keeps among (ToTest f p) s g (Some n) e = tt
-  bound_keeps among (ToPut f) s g (Some n) e = at_terms InPut (put_kept s f (term.Variable n) g.0 g.1 (number_known w.name s.values n g.0.around.1.left.below e))
+  bound_keeps among (ToPut f) s g (Some n) e = at_terms InPut (put_kept s f (term.Variable n) g.0 g.1 (number_sighted w.name s.values n e))
   bound_keeps among (ToFixed f) s g (Some n) e = tt
-  bound_keeps among ToItem s g (Some n) e = item_kept s (item.Print (term.Variable n)) g (number_known w.name s.values n g.1.left.below e)
+  bound_keeps among ToItem s g (Some n) e = item_kept s (item.Print (term.Variable n)) g (number_sighted w.name s.values n e)
   bound_keeps among t s g None e = tt
 
   constant_at_keeps : (among : Bool) (t : Target) (s : State) → HasTarget t s → (o : Option Value) → Keeps (constant_at t w o (behind_target among t) s)
@@ -184,8 +119,8 @@ module _ (w : Word) where
   variable_keeps : (among : Bool) (f : ℕ) (p : Pred) (s : State) → IsElement InPattern s → HasAttribute s f → (o : Option ℕ) → number_of w.name s.values ≡ o
       → Keeps (variable_tested f p o w.name (behind_test among f) s)
   variable_keeps among f p s g a (Some n) e =
-      test_goes_on among f (with_test s f p (operand.Variable n) false) (test_kept s f p (operand.Variable n) g a (number_known w.name s.values n g.around.1.below e)) a
-  variable_keeps among f pred.Eq s g a None e = test_goes_on among f (with_bound s f w.name) (test_bound s f g a) a
+      test_goes_on among f (with_test s f p (operand.Variable n) false) (test_kept s f p (operand.Variable n) g a (number_sighted w.name s.values n e)) a
+  variable_keeps among f pred.Eq s g a None e = test_goes_on among f (with_bound s f w.name) (test_bound s f w.name g a) a
   variable_keeps among f _ s g a None e = tt
 
   operand_keeps : (among : Bool) (f : ℕ) (p : Pred) (s : State) → IsElement InPattern s → HasAttribute s f → (o : Option Value) → Keeps (constant_tested f p w o (behind_test among f) s)
@@ -216,50 +151,37 @@ module _ (w : Word) where
 
   element_keeps : (u : Use) (s : State) → IsElement u s → Keeps (Next (behind u) (with_element u s))
   element_keeps InPattern s g =
-      let c : Condition = record { class = s.class; negated = false; tests = s.tests } in
+      let c : Condition = record { class = s.class; negated = s.negated; tests = s.tests } in
+      let k = after_conditions nothing_numbered s.conditions in
       let left = g.around.1 in
       let more = length-append s.conditions (c ∷ []) in
       let room = g.around.2 in
       at_patterns (
         g.around.0,
         record {
-          plain = conditions_push s.classes s.conditions 0 c left.plain (and_from _ _ (and_from _ _ (lt-ltb _ _ g.class) refl) g.fields);
-          count = left.count ∙ sym (after_conditions-push s.conditions 0 c);
-          below = left.below;
+          plain = conditions_push s.classes s.conditions nothing_numbered c left.plain (and_from _ _ (lt-ltb _ _ g.class) g.fields);
+          count = after_conditions-push s.conditions nothing_numbered c ∙ condition_counted s.negated s.around k (after_tests k s.tests) s.values s.variables left.count left.sight;
+          within = λ is. absurd (true≢false (sym is));
+          sight = λ is. absurd (true≢false (sym is));
         },
         refl,
         g.around.3,
-        omega (arith, more),
+        begun_positive s.conditions c g.around.4,
         omega (arith, more, room),
+        refl,
       )
   element_keeps InPut s g = at_actions (g.around.0, action_kept s (action.Make s.class s.puts) g.around.1 (and_from _ _ (lt-ltb _ _ g.class) g.fields))
   element_keeps InFixed s g = at_forms (command_kept s (command.Make s.class s.fixed) g.around (and_from _ _ (lt-ltb _ _ g.class) g.fields))
 
   -- ---- productions
 
-  right_begun : (s : State) → Left s → s.tests ≡ [] → s.actions ≡ [] → 0 < length s.conditions → length s.conditions ≤ most_conditions → Right s
-  right_begun s left none idle some few =
-      record {
-        left = subst (λ (ts : List Test). IsLeft s.classes s.values s.conditions ts) none left;
-        some = some;
-        few = few;
-        plain = ap (list_all (action_is_plain s.classes (length s.conditions) (length s.values))) idle;
-      }
-
-  patterns_keep : (s : State) → Base s × Left s × (s.tests ≡ []) × (s.actions ≡ []) × (0 < length s.conditions) × (length s.conditions ≤ most_conditions) → Keeps (patterns w (Actions ∷ Forms ∷ []) s)
+  patterns_keep : (s : State) → Base s × Left s × (s.tests ≡ []) × (s.actions ≡ []) × (first_is_positive s.conditions ≡ true) × (length s.conditions ≤ most_conditions) × (s.negated ≡ false) → Keeps (patterns w (Actions ∷ Forms ∷ []) s)
   patterns_keep s g =
       cond_both (is_arrow w.keyword) _ _ Keeps (λ _. at_actions (g.0, right_begun s g.1 g.2 g.3 g.4 g.5))
       (λ _. cond_both (is_left w.kind) _ _ Keeps
-      (λ _. cond_both (nat_lt (length s.conditions) most_conditions) _ _ Keeps (λ lt. at_class_name InPattern ((g.0, g.1, ltb-true _ _ lt, g.3), g.2)) (λ _. tt)) (λ _. tt))
-
-  rule_kept : (s : State) → Base s → Right s → IsBase s.classes (with_rule s w.past).rules s.commands
-  rule_kept s b g =
-      record {
-        scalar = b.scalar;
-        rules_plain = all_push (rule_is_plain s.classes) s.rules _ b.rules_plain
-            (and_from _ _ (and_from _ _ (and_from _ _ (and_from _ _ (and_from _ _ (and_from _ _ (lt-ltb _ _ g.some) (le-leb _ _ g.few)) g.left.plain) g.plain) (eq-eqb _ _ g.left.count)) (eq-eqb (specificity s.conditions) (specificity s.conditions) refl)) (eq-eqb (length s.conditions) (length s.conditions) refl));
-        commands_plain = b.commands_plain;
-      }
+      (λ _. cond_both (nat_lt (length s.conditions) most_conditions) _ _ Keeps (λ lt. at_class_name InPattern ((g.0, g.1, ltb-true _ _ lt, g.3, begins_behind s.conditions s.negated g.4), g.2)) (λ _. tt))
+      (λ _. cond_both (is_minus w.keyword) _ _ Keeps
+      (λ _. cond_both (nat_lt (length s.conditions) most_conditions) _ _ Keeps (λ lt. at_negated_pattern ((g.0, negated_begun s g.1 g.2, ltb-true _ _ lt, g.3, begins_behind s.conditions true g.4), g.2)) (λ _. tt)) (λ _. tt)))
 
   action_word_keeps : (s : State) → Base s × Right s → (k : Keyword) → Keeps (action_word k (Actions ∷ Forms ∷ []) s)
   action_word_keeps s g keyword.Make = at_class_name InPut (g, refl)
@@ -269,17 +191,20 @@ module _ (w : Word) where
   action_word_keeps s g _ = tt
 
   -- a cell in front of what may follow
-  cell_of_keeps : (s : State) → HasCells s → (z : Rattle.std.specs.Prelude.ℤ) → (o : Option ℕ) → natural_of z ≡ o → Keeps (cell_of o (Cells ∷ Actions ∷ Forms ∷ []) s)
-  cell_of_keeps s g z None e = tt
-  cell_of_keeps s g z (Some m) e =
-      let some = g.1.some in
-      let more = length-append s.cells ((m - 1) ∷ []) in
-      cond_both (nat_lt (length s.conditions) m) _ _ Keeps (λ _. tt)
-      (λ far. let within = ltb-false _ _ far in
-      at_cells ((g.0, g.1, all_push (λ c. nat_lt c (length s.conditions)) s.cells (m - 1) g.2 (lt-ltb _ _ (omega (arith, some, within)))), omega (arith, more)))
+  designated_keeps : (s : State) → HasCells s → (before : ℕ) → (o : Option Condition) → slice_get s.conditions before ≡ o → Keeps (designated before o (Cells ∷ Actions ∷ Forms ∷ []) s)
+  designated_keeps s g before None e = tt
+  designated_keeps s g before (Some c) e =
+      let more = length-append s.cells (before ∷ []) in
+      cond_both c.negated _ _ Keeps (λ _. tt)
+      (λ positive. cond_both (list_any (λ c. c.negated) (take before s.conditions)) _ _ Keeps (λ _. tt)
+      (λ none. at_cells ((g.0, g.1, all_push (λ c. nat_lt c (plainly_positive s.conditions)) s.cells before g.2 (lt-ltb _ _ (plainly_below s.conditions before c e positive none))), omega (arith, more))))
+
+  cell_of_keeps : (s : State) → HasCells s → (o : Option ℕ) → Keeps (cell_of o (Cells ∷ Actions ∷ Forms ∷ []) s)
+  cell_of_keeps s g None = tt
+  cell_of_keeps s g (Some m) = designated_keeps s g (m - 1) (slice_get s.conditions (m - 1)) refl
 
   cell_keeps : (s : State) → HasCells s → (k : TokenKind) → Keeps (cell k (Cells ∷ Actions ∷ Forms ∷ []) s)
-  cell_keeps s g (kind.Whole z) = cell_of_keeps s g z (natural_of z) refl
+  cell_keeps s g (kind.Whole z) = cell_of_keeps s g (natural_of z)
   cell_keeps s g _ = tt
 
   -- ---- a word
@@ -292,10 +217,13 @@ module _ (w : Word) where
   step_keeps s ws (at_attributes g) = attributes_keep s g
   step_keeps s ws (at_rule_name g) =
       cond_both (is_name w.kind) _ _ Keeps
-      (λ _. cond_both (is_rule s w.name) _ _ Keeps (λ _. tt) (λ _. at_first_pattern (g, record { plain = refl; count = refl; below = refl }, refl, refl, refl))) (λ _. tt)
+      (λ _. cond_both (is_rule s w.name) _ _ Keeps (λ _. tt) (λ _. at_first_pattern (g, record { plain = refl; count = refl; within = λ is. absurd (true≢false (sym is)); sight = λ is. absurd (true≢false (sym is)) }, refl, refl, refl, refl))) (λ _. tt)
   step_keeps s ws (at_first_pattern g) =
-      let none = g.4 in cond_both (is_left w.kind) _ _ Keeps (λ _. at_class_name InPattern ((g.0, g.1, omega (arith, none), g.3), g.2)) (λ _. tt)
+      let none = g.4 in
+      cond_both (is_left w.kind) _ _ Keeps (λ _. at_class_name InPattern ((g.0, g.1, omega (arith, none), g.3, begins_first s.conditions s.negated g.4 g.5), g.2))
+      (λ _. cond_both (is_minus w.keyword) _ _ Keeps (λ _. tt) (λ _. tt))
   step_keeps s ws (at_patterns g) = patterns_keep s g
+  step_keeps s ws (at_negated_pattern g) = cond_both (is_left w.kind) _ _ Keeps (λ _. at_class_name InPattern g) (λ _. tt)
   step_keeps s ws (at_class_name u g) = cond_both (is_name w.kind) _ _ Keeps (λ _. class_at_keeps u s g (position (λ c. c.name.0 == w.name.0) s.classes) refl) (λ _. tt)
   step_keeps s ws (at_terms u g) =
       cond_both (is_right w.kind) _ _ Keeps (λ _. element_keeps u s g) (λ _. cond_both (is_caret w.kind) _ _ Keeps (λ _. at_attribute u g) (λ _. tt))
@@ -308,7 +236,7 @@ module _ (w : Word) where
   step_keeps s ws (at_atom among t g) = atom_keeps among t s g (atom_of w.kind w.name)
   step_keeps s ws (at_value among t g) = value_keeps among t s g
   step_keeps s ws (at_actions g) =
-      cond_both (is_right w.kind) _ _ Keeps (λ _. at_forms (rule_kept s g.0 g.1)) (λ _. cond_both (is_left w.kind) _ _ Keeps (λ _. at_action_word g) (λ _. tt))
+      cond_both (is_right w.kind) _ _ Keeps (λ _. at_forms (rule_kept s w.past g.0 g.1)) (λ _. cond_both (is_left w.kind) _ _ Keeps (λ _. at_action_word g) (λ _. tt))
   step_keeps s ws (at_action_word g) = action_word_keeps s g w.keyword
   step_keeps s ws (at_cell g) = cell_keeps s g w.kind
   step_keeps s ws (at_cells g) =

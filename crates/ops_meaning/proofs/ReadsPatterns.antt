@@ -1,6 +1,7 @@
 -- What is spelled of a left side is read back.
-use Rattle.std.proofs.Common.{◌≡◌, ℕ, suc, ◌<◌, Bool, true, false, not, ◌&&◌, cond, List, [], ◌∷◌, ◌++◌, length, map, refl, sym, ap, subst, ◌∙◌, arith, Option, nat_lt, append-nil, append_assoc, true≢false}
-use Rattle.std.proofs.lemmas.Bool.{and_parts, ltb-true, eqb-true, not-true}
+use Rattle.std.proofs.Common.{◌≡◌, ℕ, suc, ◌+◌, ◌<◌, Bool, true, false, cond, List, [], ◌∷◌, ◌++◌, length, take, map, refl, sym, ap, subst, ◌∙◌, arith, Option, nat_lt, append-nil, append_assoc, true≢false}
+use Rattle.std.proofs.lemmas.Bool.{and_parts, ltb-true, eqb-true}
+use Rattle.std.proofs.lemmas.List.{map-append, take_at}
 use Rattle.ops_base.specs.declared.values.Value.{Value}
 use Rattle.ops_base.specs.declared.values.Value.TheVariants as value
 use Rattle.ops_base.specs.declared.values.Pred.{Pred}
@@ -9,18 +10,20 @@ use Rattle.ops_base.specs.declared.conditions.Operand.{Operand}
 use Rattle.ops_base.specs.declared.conditions.Operand.TheVariants as operand
 use Rattle.ops_base.specs.declared.conditions.Test.{Test}
 use Rattle.ops_base.specs.declared.conditions.Condition.{Condition}
-use Rattle.ops_base.specs.Valid.{class_of, is_attribute}
+use Rattle.ops_base.specs.Valid.{class_of, is_attribute, is_in}
 use Rattle.ops_meaning.specs.declared.words.Word.{Word}
+use Rattle.ops_meaning.specs.declared.words.Named.{Named}
 use Rattle.ops_meaning.specs.declared.words.Keyword.TheVariants as keyword
-use Rattle.ops_meaning.specs.Grammar.{InPattern, Wanted, ClassName, Terms, Place, Tested, Choice, State, Next, number_of, with_test, variable_tested, with_choice, step, goes}
-use Rattle.ops_meaning.specs.Spelling.{closing, spelled_name, spelled_value, spelled_variable, spelled_each, spelled_operator, keyword_of_pred, spelled_operand, spelled_test, spelled_pattern, operand_is_plain, test_is_plain, after_test, tests_are_plain, after_tests, condition_is_plain}
-use Rattle.ops_meaning.proofs.Places.{numbered, length-numbered, number_below, number_above}
+use Rattle.ops_meaning.specs.Grammar.{InPattern, Wanted, ClassName, Terms, Place, Tested, Choice, State, Next, number_of, with_test, variable_tested, with_choice, with_condition, step, goes}
+use Rattle.ops_meaning.specs.Spelling.{Numbered, closing, spelled_name, spelled_value, spelled_variable, spelled_each, spelled_operator, keyword_of_pred, spelled_operand, spelled_test, spelled_pattern, operand_is_plain, test_is_plain, after_test, tests_are_plain, after_tests, after_condition, condition_is_plain}
+use Rattle.ops_meaning.proofs.Places.{numbered, numbered-push, number_out, number_there}
+use Rattle.ops_meaning.proofs.Numbering.{are_given, next_apart, after_test-given, sight_prefix}
 use Rattle.ops_meaning.proofs.ReadsBack.{by_word}
 use Rattle.ops_meaning.proofs.ReadsFacts.{AreNamed, class_step, attribute_read, element_closed}
 
--- where so many variables are bound, behind these tests
-abbrev pub tests_at : State → ℕ → List Test → State
-tests_at s k ts = record s { values = numbered k; tests = ts; choice = [] }
+-- with these variables in sight and so many given, behind these tests
+abbrev pub tests_at : State → Numbered → List Test → State
+tests_at s k ts = record s { values = numbered k.sight; variables = k.given; tests = ts; choice = [] }
 
 predicate_step : (f : ℕ) (p : Pred) (ws : List Wanted) (s : State) → step (spelled_operator (keyword_of_pred p)) (Place f ∷ ws) s ≡ Next (Tested f p ∷ ws) s
 unfolding step
@@ -66,24 +69,26 @@ choices_read f (v ∷ vs) more ws s =
 
 -- ---- tests
 
-module _ (f k : ℕ) (ts : List Test) (more : List Word) (ws : List Wanted) (s : State) where
+module _ (f : ℕ) (k : Numbered) (ts : List Test) (more : List Word) (ws : List Wanted) (s : State) where
   predicate_read : (p : Pred) (words : List Word) → goes (spelled_operator (keyword_of_pred p) ∷ words) (Place f ∷ ws) (tests_at s k ts) ≡ goes words (Tested f p ∷ ws) (tests_at s k ts)
   predicate_read p words = by_word (spelled_operator (keyword_of_pred p)) words (Place f ∷ ws) (Tested f p ∷ ws) (tests_at s k ts) (tests_at s k ts) (predicate_step f p ws (tests_at s k ts))
 
   -- a variable that is bound here
-  bound_read : goes (spelled_variable k ∷ more) (Tested f pred.Eq ∷ ws) (tests_at s k ts) ≡ goes more ws (tests_at s (suc k) (ts ++ record { field = f; pred = pred.Eq; operand = operand.Variable k; binds = true } ∷ []))
-  bound_read =
-      by_word (spelled_variable k) more (Tested f pred.Eq ∷ ws) ws (tests_at s k ts) _
-      (variable_step f pred.Eq k ws (tests_at s k ts)
-      ∙ ap (λ (o : Option ℕ). variable_tested f pred.Eq o (record { 0 = k }) ws (tests_at s k ts)) (number_above k k (omega arith))
-      ∙ ap (λ (m : ℕ). Next ws (record s { values = numbered k ++ record { name = record { 0 = k }; number = m } ∷ []; choice = []; tests = ts ++ record { field = f; pred = pred.Eq; operand = operand.Variable m; binds = true } ∷ [] })) (length-numbered k))
+  bound_read : are_given k ≡ true → goes (spelled_variable k.given ∷ more) (Tested f pred.Eq ∷ ws) (tests_at s k ts) ≡ goes more ws (tests_at s (record { sight = k.sight ++ k.given ∷ []; given = suc k.given }) (ts ++ record { field = f; pred = pred.Eq; operand = operand.Variable k.given; binds = true } ∷ []))
+  bound_read given =
+      let next : k.given + 1 ≡ suc k.given = omega arith in
+      by_word (spelled_variable k.given) more (Tested f pred.Eq ∷ ws) ws (tests_at s k ts) _
+      (variable_step f pred.Eq k.given ws (tests_at s k ts)
+      ∙ ap (λ (o : Option ℕ). variable_tested f pred.Eq o (record { 0 = k.given }) ws (tests_at s k ts)) (number_out k.sight k.given (next_apart k given))
+      ∙ ap (λ (vs : List Named). Next ws (record s { values = vs; variables = k.given + 1; choice = []; tests = ts ++ record { field = f; pred = pred.Eq; operand = operand.Variable k.given; binds = true } ∷ [] })) (sym (numbered-push k.sight k.given))
+      ∙ ap (λ (m : ℕ). Next ws (record s { values = numbered (k.sight ++ k.given ∷ []); variables = m; choice = []; tests = ts ++ record { field = f; pred = pred.Eq; operand = operand.Variable k.given; binds = true } ∷ [] })) next)
 
-  -- a variable that is bound already
-  known_read : (p : Pred) (n : ℕ) → n < k → goes (spelled_variable n ∷ more) (Tested f p ∷ ws) (tests_at s k ts) ≡ goes more ws (tests_at s k (ts ++ record { field = f; pred = p; operand = operand.Variable n; binds = false } ∷ []))
-  known_read p n lt =
+  -- a variable that is in sight
+  known_read : (p : Pred) (n : ℕ) → is_in n k.sight ≡ true → goes (spelled_variable n ∷ more) (Tested f p ∷ ws) (tests_at s k ts) ≡ goes more ws (tests_at s k (ts ++ record { field = f; pred = p; operand = operand.Variable n; binds = false } ∷ []))
+  known_read p n there =
       by_word (spelled_variable n) more (Tested f p ∷ ws) ws (tests_at s k ts) _
       (variable_step f p n ws (tests_at s k ts)
-      ∙ ap (λ (o : Option ℕ). variable_tested f p o (record { 0 = n }) ws (tests_at s k ts)) (number_below k n lt))
+      ∙ ap (λ (o : Option ℕ). variable_tested f p o (record { 0 = n }) ws (tests_at s k ts)) (number_there k.sight n there))
 
   -- a disjunction
   choice_read : (vs : List Value) → goes (spelled_operand pred.Eq (operand.OneOf vs) ++ more) (Place f ∷ ws) (tests_at s k ts) ≡ goes more ws (tests_at s k (ts ++ record { field = f; pred = pred.Eq; operand = operand.OneOf vs; binds = false } ∷ []))
@@ -94,48 +99,66 @@ module _ (f k : ℕ) (ts : List Test) (more : List Word) (ws : List Wanted) (s :
       ∙ choices_read f vs (spelled_operator keyword.CloseChoice ∷ more) ws (tests_at s k ts)
       ∙ choice_closed f more ws (record (tests_at s k ts) { choice = vs })
 
-  operand_read : (p : Pred) (o : Operand) (b : Bool) → operand_is_plain k p b o ≡ true
-      → goes (spelled_operand p o ++ more) (Place f ∷ ws) (tests_at s k ts) ≡ goes more ws (tests_at s (cond b (suc k) k) (ts ++ record { field = f; pred = p; operand = o; binds = b } ∷ []))
-  operand_read p (operand.Constant v) false plain =
+  operand_read : (p : Pred) (o : Operand) (b : Bool) → are_given k ≡ true → operand_is_plain k p b o ≡ true
+      → goes (spelled_operand p o ++ more) (Place f ∷ ws) (tests_at s k ts)
+      ≡ goes more ws (tests_at s (cond b (record { sight = k.sight ++ k.given ∷ []; given = suc k.given }) k) (ts ++ record { field = f; pred = p; operand = o; binds = b } ∷ []))
+  operand_read p (operand.Constant v) false given plain =
       predicate_read p (spelled_value v ∷ more) ∙ by_word (spelled_value v) more (Tested f p ∷ ws) ws (tests_at s k ts) _ (constant_step f p v ws (tests_at s k ts))
-  operand_read p (operand.Constant v) true plain = absurd (true≢false (sym plain))
-  operand_read p (operand.Variable n) false plain = predicate_read p (spelled_variable n ∷ more) ∙ known_read p n (ltb-true _ _ plain)
-  operand_read pred.Eq (operand.Variable n) true plain =
+  operand_read p (operand.Constant v) true given plain = absurd (true≢false (sym plain))
+  operand_read p (operand.Variable n) false given plain = predicate_read p (spelled_variable n ∷ more) ∙ known_read p n plain
+  operand_read pred.Eq (operand.Variable n) true given plain =
       predicate_read pred.Eq (spelled_variable n ∷ more)
-      ∙ subst (λ (m : ℕ). goes (spelled_variable m ∷ more) (Tested f pred.Eq ∷ ws) (tests_at s k ts) ≡ goes more ws (tests_at s (suc k) (ts ++ record { field = f; pred = pred.Eq; operand = operand.Variable m; binds = true } ∷ [])))
-      (sym (eqb-true n k plain)) bound_read
-  operand_read _ (operand.Variable n) true plain = absurd (true≢false (sym plain))
-  operand_read pred.Eq (operand.OneOf vs) false plain = choice_read vs
-  operand_read _ (operand.OneOf vs) false plain = absurd (true≢false (sym plain))
-  operand_read _ (operand.OneOf vs) true plain = absurd (true≢false (sym plain))
+      ∙ subst (λ (m : ℕ). goes (spelled_variable m ∷ more) (Tested f pred.Eq ∷ ws) (tests_at s k ts) ≡ goes more ws (tests_at s (record { sight = k.sight ++ k.given ∷ []; given = suc k.given }) (ts ++ record { field = f; pred = pred.Eq; operand = operand.Variable m; binds = true } ∷ [])))
+      (sym (eqb-true n k.given plain)) (bound_read given)
+  operand_read _ (operand.Variable n) true given plain = absurd (true≢false (sym plain))
+  operand_read pred.Eq (operand.OneOf vs) false given plain = choice_read vs
+  operand_read _ (operand.OneOf vs) false given plain = absurd (true≢false (sym plain))
+  operand_read _ (operand.OneOf vs) true given plain = absurd (true≢false (sym plain))
 
 -- The tests of a pattern are read back.
-pub tests-read : (tests : List Test) (k : ℕ) (ts : List Test) (more : List Word) (ws : List Wanted) (s : State) → AreNamed s.classes → s.class < length s.classes → tests_are_plain (class_of s.classes s.class) k tests ≡ true
+pub tests-read : (tests : List Test) (k : Numbered) (ts : List Test) (more : List Word) (ws : List Wanted) (s : State) → AreNamed s.classes → s.class < length s.classes → are_given k ≡ true → tests_are_plain (class_of s.classes s.class) k tests ≡ true
     → goes (spelled_each (spelled_test (class_of s.classes s.class)) tests ++ more) (Terms InPattern ∷ ws) (tests_at s k ts) ≡ goes more (Terms InPattern ∷ ws) (tests_at s (after_tests k tests) (ts ++ tests))
-tests-read [] k ts more ws s names lt plain = ap (λ (xs : List Test). goes more (Terms InPattern ∷ ws) (tests_at s k xs)) (sym (append-nil ts))
-tests-read (t ∷ tests) k ts more ws s names lt plain =
+tests-read [] k ts more ws s names lt given plain = ap (λ (xs : List Test). goes more (Terms InPattern ∷ ws) (tests_at s k xs)) (sym (append-nil ts))
+tests-read (t ∷ tests) k ts more ws s names lt given plain =
     let c = class_of s.classes s.class in
     let each = and_parts (test_is_plain c k t) (tests_are_plain c (after_test k t) tests) plain in
     let parts = and_parts (is_attribute c t.field) (operand_is_plain k t.pred t.binds t.operand) each.0 in
     let rest = spelled_each (spelled_test c) tests in
     ap (λ (x : List Word). goes x (Terms InPattern ∷ ws) (tests_at s k ts)) (append_assoc (spelled_test c t) rest more)
     ∙ attribute_read InPattern t.field (spelled_operand t.pred t.operand) (rest ++ more) ws (tests_at s k ts) names lt parts.0
-    ∙ operand_read t.field k ts (rest ++ more) (Terms InPattern ∷ ws) s t.pred t.operand t.binds parts.1
-    ∙ tests-read tests (after_test k t) (ts ++ t ∷ []) more ws s names lt each.1
+    ∙ operand_read t.field k ts (rest ++ more) (Terms InPattern ∷ ws) s t.pred t.operand t.binds given parts.1
+    ∙ tests-read tests (after_test k t) (ts ++ t ∷ []) more ws s names lt (after_test-given k t given) each.1
     ∙ ap (λ (xs : List Test). goes more (Terms InPattern ∷ ws) (tests_at s (after_tests (after_test k t) tests) xs)) (append_assoc ts (t ∷ []) tests)
 
+-- what is in sight around a condition stands in front
+around_kept : (k : Numbered) (tests : List Test) → take (length (numbered k.sight)) (numbered (after_tests k tests).sight) ≡ numbered k.sight
+around_kept k tests =
+    let more = sight_prefix tests k in
+    ap (λ (ns : List ℕ). take (length (numbered k.sight)) (numbered ns)) more.1
+    ∙ ap (take (length (numbered k.sight))) (map-append (λ n. record { name = record { 0 = n }; number = n }) k.sight more.0)
+    ∙ take_at (numbered k.sight) (numbered more.0) (length (numbered k.sight)) refl
+
+-- behind a pattern, positive or negated
+behind_pattern : (b : Bool) (class : ℕ) (tests : List Test) (k : Numbered) (s : State) → (b ≡ true → s.around ≡ length (numbered k.sight))
+    → with_condition (tests_at (record s { class = class; negated = b }) (after_tests k tests) tests)
+    ≡ record (tests_at s (after_condition k (record { class = class; negated = b; tests = tests })) []) { class = class; negated = false; conditions = s.conditions ++ record { class = class; negated = b; tests = tests } ∷ [] }
+behind_pattern false class tests k s around = refl
+behind_pattern true class tests k s around =
+    ap (λ (vs : List Named). record (tests_at s (after_tests k tests) []) { class = class; negated = false; values = vs; conditions = s.conditions ++ record { class = class; negated = true; tests = tests } ∷ [] })
+    (ap (λ (n : ℕ). take n (numbered (after_tests k tests).sight)) (around refl) ∙ around_kept k tests)
+
 -- A pattern is read back.
-pub pattern-read : (c : Condition) (k : ℕ) (more : List Word) (ws : List Wanted) (s : State) → AreNamed s.classes → condition_is_plain s.classes k c ≡ true
-    → goes (spelled_pattern (class_of s.classes c.class) c.tests ++ more) (ClassName ∷ Terms InPattern ∷ ws) (tests_at s k []) ≡ goes more ws (record (tests_at s (after_tests k c.tests) []) { class = c.class; conditions = s.conditions ++ c ∷ [] })
-pattern-read c k more ws s names plain =
+pub pattern-read : (c : Condition) (k : Numbered) (more : List Word) (ws : List Wanted) (s : State) → AreNamed s.classes → are_given k ≡ true → (c.negated ≡ true → s.around ≡ length (numbered k.sight)) → condition_is_plain s.classes k c ≡ true
+    → goes (spelled_pattern (class_of s.classes c.class) c.tests ++ more) (ClassName ∷ Terms InPattern ∷ ws) (tests_at (record s { negated = c.negated }) k []) ≡ goes more ws (record (tests_at s (after_condition k c) []) { class = c.class; negated = false; conditions = s.conditions ++ c ∷ [] })
+pattern-read c k more ws s names given around plain =
     let d = class_of s.classes c.class in
-    let parts = and_parts (nat_lt c.class (length s.classes) && not c.negated) (tests_are_plain d k c.tests) plain in
-    let first = and_parts (nat_lt c.class (length s.classes)) (not c.negated) parts.0 in
-    let lt : c.class < length s.classes = ltb-true _ _ first.0 in
-    let named : State = record s { class = c.class } in
+    let parts = and_parts (nat_lt c.class (length s.classes)) (tests_are_plain d k c.tests) plain in
+    let lt : c.class < length s.classes = ltb-true _ _ parts.0 in
+    let begun : State = record s { negated = c.negated } in
+    let named : State = record s { class = c.class; negated = c.negated } in
     let body = spelled_each (spelled_test d) c.tests in
-    by_word (spelled_name d.name) (body ++ closing ∷ [] ++ more) (ClassName ∷ Terms InPattern ∷ ws) (Terms InPattern ∷ ws) (tests_at s k []) (tests_at named k []) (class_step c.class (Terms InPattern ∷ ws) (tests_at s k []) names lt)
+    by_word (spelled_name d.name) (body ++ closing ∷ [] ++ more) (ClassName ∷ Terms InPattern ∷ ws) (Terms InPattern ∷ ws) (tests_at begun k []) (tests_at named k []) (class_step c.class (Terms InPattern ∷ ws) (tests_at begun k []) names lt)
     ∙ ap (λ (x : List Word). goes x (Terms InPattern ∷ ws) (tests_at named k [])) (append_assoc body (closing ∷ []) more)
-    ∙ tests-read c.tests k [] (closing ∷ more) ws named names lt parts.1
+    ∙ tests-read c.tests k [] (closing ∷ more) ws named names lt given parts.1
     ∙ element_closed InPattern more ws (tests_at named (after_tests k c.tests) c.tests)
-    ∙ ap (λ (b : Bool). goes more ws (record (tests_at s (after_tests k c.tests) []) { class = c.class; conditions = s.conditions ++ record { class = c.class; negated = b; tests = c.tests } ∷ [] })) (sym (not-true _ first.1))
+    ∙ ap (goes more ws) (behind_pattern c.negated c.class c.tests k s around)

@@ -1,5 +1,6 @@
 -- A program that is spelled is read back.
-use Rattle.std.proofs.Common.{◌≡◌, ℕ, zero, suc, ◌<◌, ◌≤◌, true, false, not, ◌&&◌, ◌||◌, ◌==◌, List, [], ◌∷◌, ◌++◌, length, map, refl, sym, ap, subst, ◌∙◌, arith, None, Ok, nat_lt, nat_le, append-nil, append_assoc, true≢false}
+use Rattle.std.proofs.Common.{◌≡◌, ℕ, zero, suc, ◌≤◌, Bool, true, false, not, ◌&&◌, ◌||◌, ◌==◌, List, [], ◌∷◌, ◌++◌, length, map, refl, sym, ap, subst, ◌∙◌, None, Ok, nat_lt, nat_le, append-nil, append_assoc, true≢false}
+use Rattle.std.specs.Prelude.{if◌then◌else◌}
 use Rattle.std.specs.List.{list_all}
 use Rattle.std.proofs.lemmas.Bool.{and_parts, ltb-true, leb-true, eqb-true, not-true}
 use Rattle.ops_base.specs.declared.values.Sym.{Sym}
@@ -8,24 +9,26 @@ use Rattle.ops_base.specs.declared.conditions.Condition.{Condition}
 use Rattle.ops_base.specs.declared.rules.Rule.{Rule}
 use Rattle.ops_base.specs.declared.commands.Command.{Command}
 use Rattle.ops_base.specs.declared.commands.Command.TheVariants as command
-use Rattle.ops_base.specs.Valid.{most_fields, most_conditions, are_distinct, class_of, class_is_valid, specificity}
+use Rattle.ops_base.specs.Valid.{most_fields, most_conditions, are_distinct, class_of, class_is_valid, first_is_positive, cells_of, specificity}
 use Rattle.ops_meaning.specs.declared.words.Word.{Word}
 use Rattle.ops_meaning.specs.declared.words.Keyword.TheVariants as keyword
-use Rattle.ops_meaning.specs.Grammar.{Wanted, Forms, FirstPattern, Patterns, Actions, State, Outcome, step, is_rule, with_rule, ends, goes}
+use Rattle.ops_meaning.specs.Grammar.{InPattern, Wanted, Forms, FirstPattern, Patterns, ClassName, Terms, Actions, State, Outcome, step, is_rule, with_rule, ends, goes}
 use Rattle.ops_meaning.specs.Standing.{outcome_of, AreRead}
-use Rattle.ops_meaning.specs.Spelling.{opening, closing, arrow, spelled_keyword, spelled_name, spelled_each, spelled_class, spelled_action, spelled_pattern, spelled_condition, spelled_rule, spelled_command, spelled_program, action_is_plain, after_tests, condition_is_plain, conditions_are_plain, after_conditions, rule_is_plain, class_is_plain, fixed_is_plain, command_is_plain, is_plain}
-use Rattle.ops_meaning.proofs.Places.{numbered, length-numbered}
+use Rattle.ops_meaning.specs.Spelling.{Numbered, opening, closing, arrow, spelled_keyword, spelled_operator, spelled_name, spelled_each, spelled_class, spelled_action, spelled_pattern, spelled_condition, spelled_rule, spelled_command, spelled_program, action_is_plain, plainly_positive, nothing_numbered, after_condition, condition_is_plain, conditions_are_plain, after_conditions, rule_is_plain, class_is_plain, fixed_is_plain, command_is_plain, is_plain}
+use Rattle.ops_meaning.proofs.Places.{numbered}
+use Rattle.ops_meaning.proofs.Numbering.{after_condition-given}
 use Rattle.ops_meaning.proofs.ReadsBack.{apart_before, class-read}
 use Rattle.ops_meaning.proofs.ReadsFacts.{AreNamed, fact-read, run-read}
 use Rattle.ops_meaning.proofs.ReadsPatterns.{pattern-read}
-use Rattle.ops_meaning.proofs.ReadsRules.{acted, class_after_all, actions-read, matched, class_behind, first_begun, conditions-read}
+use Rattle.ops_meaning.proofs.ReadsRules.{acted, class_after_all, actions-read, matched, class_behind, around_behind, first_begun, conditions-read}
 
 -- what a form leaves behind that no later one looks at
 pub record Rest : Type 0 where
   pub name : Sym
   pub first : ℕ
   pub class : ℕ
-  pub variables : ℕ
+  pub variables : Numbered
+  pub around : ℕ
 
 -- where no form is open
 abbrev pub idle : Rest → List Class → List Rule → List Command → State
@@ -44,7 +47,10 @@ idle rest classes rules commands =
       fixed = [];
       cells = [];
       items = [];
-      values = numbered rest.variables;
+      values = numbered rest.variables.sight;
+      variables = rest.variables.given;
+      negated = false;
+      around = rest.around;
       conditions = [];
       actions = [];
     }
@@ -52,11 +58,11 @@ idle rest classes rules commands =
 -- ---- a production
 
 abbrev after_rule : Rest → Rule → Rest
-after_rule rest r = record { name = r.name; first = r.first; class = class_after_all (class_behind rest.class r.conditions) r.actions; variables = after_conditions 0 r.conditions }
+after_rule rest r = record { name = r.name; first = r.first; class = class_after_all (class_behind rest.class r.conditions) r.actions; variables = after_conditions nothing_numbered r.conditions; around = around_behind 0 nothing_numbered r.conditions }
 
 rule_begun : (r : Rule) (words : List Word) (ws : List Wanted) (s : State) → (length s.commands == 0) ≡ true → is_rule s r.name ≡ false
     → goes (record opening { first = r.first } ∷ spelled_keyword keyword.Production ∷ spelled_name r.name ∷ words) (Forms ∷ ws) s
-    ≡ goes words (FirstPattern ∷ Patterns ∷ Actions ∷ Forms ∷ ws) (record s { first = r.first; name = r.name; tests = []; values = []; conditions = []; actions = [] })
+    ≡ goes words (FirstPattern ∷ Patterns ∷ Actions ∷ Forms ∷ ws) (record s { first = r.first; name = r.name; tests = []; values = []; variables = 0; negated = false; around = 0; conditions = []; actions = [] })
 unfolding goes step
 rule_begun r words ws s none new = rw none (rw new refl)
 
@@ -71,20 +77,26 @@ rule_closed past words ws s = refl
 module _ (classes : List Class) (rules : List Rule) (more : List Word) (ws : List Wanted) (names : AreNamed classes) where
   -- where the rule's parts are wanted
   abbrev begun : Rest → Rule → State
-  begun rest r = record (idle rest classes rules []) { first = r.first; name = r.name; values = [] }
+  begun rest r = record (idle rest classes rules []) { first = r.first; name = r.name; values = []; variables = 0; around = 0 }
 
-  left_read : (r : Rule) (rest : Rest) (cs : List Condition) (words : List Word) → 0 < length cs → length cs ≤ most_conditions → conditions_are_plain classes 0 cs ≡ true
+  left_read : (r : Rule) (rest : Rest) (cs : List Condition) (words : List Word) → first_is_positive cs ≡ true → length cs ≤ most_conditions → conditions_are_plain classes nothing_numbered cs ≡ true
       → goes (spelled_each (spelled_condition classes) cs ++ words) (FirstPattern ∷ Patterns ∷ Actions ∷ Forms ∷ ws) (begun rest r)
-      ≡ goes words (Patterns ∷ Actions ∷ Forms ∷ ws) (matched (begun rest r) (class_behind rest.class cs) (after_conditions 0 cs) cs)
-  left_read r rest [] words some few plain = absurd (omega arith)
-  left_read r rest (c ∷ cs) words some few plain =
-      let each = and_parts (condition_is_plain classes 0 c) (conditions_are_plain classes (after_tests 0 c.tests) cs) plain in
+      ≡ goes words (Patterns ∷ Actions ∷ Forms ∷ ws) (matched (begun rest r) (class_behind rest.class cs) (after_conditions nothing_numbered cs) (around_behind 0 nothing_numbered cs) cs)
+  left_read r rest [] words positive few plain = absurd (true≢false (sym positive))
+  left_read r rest (c ∷ cs) words positive few plain =
+      let each = and_parts (condition_is_plain classes nothing_numbered c) (conditions_are_plain classes (after_condition nothing_numbered c) cs) plain in
+      let is : c.negated ≡ false = not-true _ positive in
       let body = spelled_pattern (class_of classes c.class) c.tests in
       let others = spelled_each (spelled_condition classes) cs in
-      ap (λ (x : List Word). goes x (FirstPattern ∷ Patterns ∷ Actions ∷ Forms ∷ ws) (begun rest r)) (append_assoc (spelled_condition classes c) others words)
-      ∙ first_begun (body ++ (others ++ words)) (Patterns ∷ Actions ∷ Forms ∷ ws) (begun rest r)
-      ∙ pattern-read c 0 (others ++ words) (Patterns ∷ Actions ∷ Forms ∷ ws) (begun rest r) names each.0
-      ∙ conditions-read cs words (Actions ∷ Forms ∷ ws) (begun rest r) c.class (after_tests 0 c.tests) (c ∷ []) names few each.1
+      let wanted : List Wanted = Patterns ∷ Actions ∷ Forms ∷ ws in
+      let after : ℕ → Outcome = λ n. goes words wanted (matched (begun rest r) (class_behind c.class cs) (after_conditions (after_condition nothing_numbered c) cs) (around_behind n (after_condition nothing_numbered c) cs) (c ∷ cs)) in
+      ap (λ (x : List Word). goes x (FirstPattern ∷ wanted) (begun rest r)) (append_assoc (spelled_condition classes c) others words)
+      ∙ ap (λ (b : Bool). goes ((if b then spelled_operator keyword.Minus ∷ [] else []) ++ opening ∷ body ++ (others ++ words)) (FirstPattern ∷ wanted) (begun rest r)) is
+      ∙ first_begun (body ++ (others ++ words)) wanted (begun rest r)
+      ∙ ap (λ (b : Bool). goes (body ++ (others ++ words)) (ClassName ∷ Terms InPattern ∷ wanted) (record (begun rest r) { negated = b })) (sym is)
+      ∙ pattern-read c nothing_numbered (others ++ words) wanted (begun rest r) names refl (λ _. refl) each.0
+      ∙ conditions-read cs words (Actions ∷ Forms ∷ ws) (begun rest r) c.class (after_condition nothing_numbered c) 0 (c ∷ []) names (after_condition-given nothing_numbered c refl) few each.1
+      ∙ ap (λ (b : Bool). after (if b then 0 else 0)) (sym is)
 
   abbrev whole : Rule → Rest → ℕ → ℕ → ℕ → Outcome
   whole r rest v p c = goes more (Forms ∷ ws) (idle (after_rule rest r) classes (rules ++ record { name = r.name; conditions = r.conditions; actions = r.actions; specificity = p; variables = v; cells = c; first = r.first; past = r.past } ∷ []) [])
@@ -93,28 +105,29 @@ module _ (classes : List Class) (rules : List Rule) (more : List Word) (ws : Lis
   pub rule-read : (r : Rule) (rest : Rest) → is_rule (idle rest classes rules []) r.name ≡ false → rule_is_plain classes r ≡ true
       → goes (spelled_rule classes r ++ more) (Forms ∷ ws) (idle rest classes rules []) ≡ goes more (Forms ∷ ws) (idle (after_rule rest r) classes (rules ++ r ∷ []) [])
   rule-read r rest new plain =
-      let p1 = and_parts _ (r.cells == length r.conditions) plain in
+      let k = after_conditions nothing_numbered r.conditions in
+      let around = around_behind 0 nothing_numbered r.conditions in
+      let cells = length (cells_of r.conditions) in
+      let p1 = and_parts _ (r.cells == cells) plain in
       let p2 = and_parts _ (r.specificity == specificity r.conditions) p1.0 in
-      let p3 = and_parts _ (r.variables == after_conditions 0 r.conditions) p2.0 in
-      let p4 = and_parts _ (list_all (action_is_plain classes (length r.conditions) r.variables) r.actions) p3.0 in
-      let p5 = and_parts _ (conditions_are_plain classes 0 r.conditions) p4.0 in
-      let p6 = and_parts (nat_lt 0 (length r.conditions)) (nat_le (length r.conditions) most_conditions) p5.0 in
-      let k = after_conditions 0 r.conditions in
-      let variables : r.variables ≡ k = eqb-true _ _ p3.1 in
+      let p3 = and_parts _ (r.variables == k.given) p2.0 in
+      let p4 = and_parts _ (list_all (action_is_plain classes (plainly_positive r.conditions) k.sight) r.actions) p3.0 in
+      let p5 = and_parts _ (conditions_are_plain classes nothing_numbered r.conditions) p4.0 in
+      let p6 = and_parts (first_is_positive r.conditions) (nat_le (length r.conditions) most_conditions) p5.0 in
       let left = spelled_each (spelled_condition classes) r.conditions in
       let right = spelled_each (spelled_action classes) r.actions in
       let end : Word = record closing { past = r.past } in
       let class = class_behind rest.class r.conditions in
-      let body : State = matched (begun rest r) class k r.conditions in
+      let body : State = matched (begun rest r) class k around r.conditions in
       let head : List Word = record opening { first = r.first } ∷ spelled_keyword keyword.Production ∷ spelled_name r.name ∷ left in
       ap (λ (x : List Word). goes x (Forms ∷ ws) (idle rest classes rules [])) (append_assoc (head ++ arrow ∷ right) (end ∷ []) more ∙ append_assoc head (arrow ∷ right) (end ∷ more))
       ∙ rule_begun r (left ++ (arrow ∷ right ++ (end ∷ more))) ws (idle rest classes rules []) refl new
-      ∙ left_read r rest r.conditions (arrow ∷ right ++ (end ∷ more)) (ltb-true _ _ p6.0) (leb-true _ _ p6.1) p5.1
+      ∙ left_read r rest r.conditions (arrow ∷ right ++ (end ∷ more)) p6.0 (leb-true _ _ p6.1) p5.1
       ∙ arrow_read (right ++ (end ∷ more)) (Actions ∷ Forms ∷ ws) body
-      ∙ actions-read r.actions k (end ∷ more) (Forms ∷ ws) body class [] names refl (subst (λ (n : ℕ). list_all (action_is_plain classes (length r.conditions) n) r.actions ≡ true) variables p4.1)
+      ∙ actions-read r.actions k.sight (end ∷ more) (Forms ∷ ws) body class [] names refl p4.1
       ∙ rule_closed r.past more (Forms ∷ ws) (acted body (class_after_all class r.actions) r.actions)
-      ∙ ap (λ (n : ℕ). whole r rest n (specificity r.conditions) (length r.conditions)) (length-numbered k ∙ sym variables)
-      ∙ ap (λ (n : ℕ). whole r rest r.variables n (length r.conditions)) (sym (eqb-true r.specificity _ p2.1))
+      ∙ ap (λ (n : ℕ). whole r rest n (specificity r.conditions) cells) (sym (eqb-true r.variables _ p3.1))
+      ∙ ap (λ (n : ℕ). whole r rest r.variables n cells) (sym (eqb-true r.specificity _ p2.1))
       ∙ ap (λ (n : ℕ). whole r rest r.variables r.specificity n) (sym (eqb-true r.cells _ p1.1))
 
 -- ---- lists of forms
@@ -211,7 +224,7 @@ program-read classes rules commands plain =
     let first_words = spelled_each spelled_class classes in
     let next_words = spelled_each (spelled_rule classes) rules in
     let last_words = spelled_each (spelled_command classes) commands in
-    let first = classes_read classes [] (record { name = record { 0 = 0 }; first = 0; class = 0; variables = 0 }) p4.0 p2.1 in
+    let first = classes_read classes [] (record { name = record { 0 = 0 }; first = 0; class = 0; variables = nothing_numbered; around = 0 }) p4.0 p2.1 in
     let next = rules_read classes rules [] first.0 names p4.1 p1.1 in
     let last = commands_read classes rules commands [] next.0 names p3.1 in
     record {
