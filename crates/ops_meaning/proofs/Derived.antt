@@ -1,9 +1,11 @@
 -- What a word does, against the grammar alone.
-use Rattle.std.proofs.Common.{◌≡◌, ℕ, Bool, true, false, not, ◌||◌, List, [], ◌∷◌, refl, sym, ap, Option, Some, None, true≢false, subst, ◌==◌, nat_lt, length, is_some, position, slice_get}
+use Rattle.std.proofs.Common.{◌≡◌, ℕ, ◌-◌, Bool, true, false, not, ◌||◌, List, [], ◌∷◌, refl, sym, ap, Option, Some, None, true≢false, subst, ◌==◌, nat_lt, length, take, is_some, position, slice_get}
+use Rattle.std.specs.List.{list_any}
 use Rattle.std.proofs.lemmas.Bool.{cond_both, or_right, and_from}
 use Rattle.ops_base.specs.declared.values.Value.{Value}
 use Rattle.ops_base.specs.declared.values.Pred.{Pred}
 use Rattle.ops_base.specs.declared.values.Pred.TheVariants as pred
+use Rattle.ops_base.specs.declared.conditions.Condition.{Condition}
 use Rattle.ops_base.specs.declared.actions.Term.{Term}
 use Rattle.ops_base.specs.declared.actions.Term.TheVariants as term
 use Rattle.ops_base.specs.declared.endings.Fault.{Fault}
@@ -13,8 +15,8 @@ use Rattle.ops_tokens.specs.declared.token.TokenKind.TheVariants as kind
 use Rattle.ops_meaning.specs.declared.words.Word.{Word}
 use Rattle.ops_meaning.specs.declared.words.Keyword.{Keyword}
 use Rattle.ops_meaning.specs.declared.words.Keyword.TheVariants as keyword
-use Rattle.ops_meaning.specs.Grammar.{Use, InPattern, InPut, InFixed, Target, ToTest, ToPut, ToFixed, ToItem, Ends, Wanted, Forms, Form, ClassDeclared, Attributes, RuleName, FirstPattern, Patterns, ClassName, Terms, Attribute, Place, Tests, Tested, Choice, Atom, ValueFor, Actions, ActionWord, Cell, Cells, Items, ItemWord, Closes, State, Step, Next, Refuses, is_left, is_right, is_left_brace, is_right_brace, is_caret, is_name, is_variable, is_arrow, is_crlf, is_literal, opens_choice, closes_choice, pred_of, constant_of, value_of, atom_of, natural_of, is_one_of, number_of, may_declare, is_class, is_rule, form, class_declared, attributes, class_at, class_name, attributes_of, behind_attribute, field_at, attribute, variable_tested, constant_tested, tested, predicated, test, place, tests, chosen, choice, atom_at, term_at, bound_at, constant_at, value_for, terms, rule_name, first_pattern, patterns, actions, action_word, cell_of, cell, cells, items, item_word, closes, forms, step}
-use Rattle.ops_meaning.specs.Derivation.{is_whole, is_operand, is_value, is_choice, Derives, a_form, a_literalize, a_class, an_attribute, no_attribute, a_production, a_rule, a_first, a_pattern, an_arrow, a_make, a_run, a_class_name, a_term, no_term, an_attribute_name, a_value, a_literal_value, an_atom, a_conjunction, no_more_tests, an_operand, a_literal, a_predicate, a_disjunction, one_more_operand, one_more_literal, one_more_predicate, one_more_disjunction, a_tested_operand, a_tested_literal, one_more_choice, no_more_choices, an_action, no_action, to_make, to_remove, to_write, to_halt, a_cell, one_more_cell, no_more_cells, an_item, a_literal_item, an_item_form, no_item, a_crlf, a_closing, is_no_form}
+use Rattle.ops_meaning.specs.Grammar.{Use, InPattern, InPut, InFixed, Target, ToTest, ToPut, ToFixed, ToItem, Ends, Wanted, Forms, Form, ClassDeclared, Attributes, RuleName, FirstPattern, Patterns, NegatedPattern, ClassName, Terms, Attribute, Place, Tests, Tested, Choice, Atom, ValueFor, Actions, ActionWord, Cell, Cells, Items, ItemWord, Closes, State, Step, Next, Refuses, is_left, is_right, is_left_brace, is_right_brace, is_caret, is_name, is_variable, is_arrow, is_crlf, is_literal, is_minus, opens_choice, closes_choice, pred_of, constant_of, value_of, atom_of, natural_of, is_one_of, number_of, may_declare, is_class, is_rule, form, class_declared, attributes, class_at, class_name, attributes_of, behind_attribute, field_at, attribute, variable_tested, constant_tested, tested, predicated, test, place, tests, chosen, choice, atom_at, term_at, bound_at, constant_at, value_for, terms, rule_name, first_pattern, one_more, patterns, negated_pattern, actions, action_word, designated, cell_of, cell, cells, items, item_word, closes, forms, step}
+use Rattle.ops_meaning.specs.Derivation.{is_whole, is_operand, is_value, is_choice, Derives, a_form, a_literalize, a_class, an_attribute, no_attribute, a_production, a_rule, a_first, a_negated_first, a_pattern, a_negated_pattern, behind_a_minus, an_arrow, a_make, a_run, a_class_name, a_term, no_term, an_attribute_name, a_value, a_literal_value, an_atom, a_conjunction, no_more_tests, an_operand, a_literal, a_predicate, a_disjunction, one_more_operand, one_more_literal, one_more_predicate, one_more_disjunction, a_tested_operand, a_tested_literal, one_more_choice, no_more_choices, an_action, no_action, to_make, to_remove, to_write, to_halt, a_cell, one_more_cell, no_more_cells, an_item, a_literal_item, an_item_form, no_item, a_crlf, a_closing, is_no_form}
 use Rattle.ops_meaning.proofs.Completed.{completed}
 
 -- forms are wanted only behind all else
@@ -116,15 +118,28 @@ module _ (w : Word) (ws : List Wanted) (s : State) where
       (λ _ f. no_fault f)
 
   first_pattern_continues : Continues (FirstPattern ∷ ws) w (first_pattern w ws s)
-  first_pattern_continues = cond_both (is_left w.kind) _ _ (Continues (FirstPattern ∷ ws) w) (λ e. (stays (λ h. h) (λ h. h), λ ts d. a_first e d)) (λ _ f. no_fault f)
+  first_pattern_continues =
+      cond_both (is_left w.kind) _ _ (Continues (FirstPattern ∷ ws) w) (λ e. (stays (λ h. h) (λ h. h), λ ts d. a_first e d))
+      (λ _. cond_both (is_minus w.keyword) _ _ (Continues (FirstPattern ∷ ws) w) (λ e _. behind (FirstPattern ∷ ws) (NegatedPattern ∷ ws) (λ ts d. a_negated_first e d))
+      (λ _ f. no_fault f))
+
+  -- one more condition, or none where there is no room
+  one_more_continues : (ws' : List Wanted) (s' : State) → Stays (Patterns ∷ ws) ws' → ((ts : List Word) → Derives ws' ts → Derives (Patterns ∷ ws) (w ∷ ts)) → Continues (Patterns ∷ ws) w (one_more ws' s')
+  one_more_continues ws' s' stay more =
+      cond_both (nat_lt (length s'.conditions) most_conditions) _ _ (Continues (Patterns ∷ ws) w) (λ _. (stay, more)) (λ _ _. behind (Patterns ∷ ws) ws' more)
 
   patterns_continue : Continues (Patterns ∷ ws) w (patterns w ws s)
   patterns_continue =
       cond_both (is_arrow w.keyword) _ _ (Continues (Patterns ∷ ws) w) (λ e. (stays (λ h. h) (λ h. h), λ ts d. an_arrow (arrow_of w.keyword e) d))
       (λ _. cond_both (is_left w.kind) _ _ (Continues (Patterns ∷ ws) w)
-      (λ e. cond_both (nat_lt (length s.conditions) most_conditions) _ _ (Continues (Patterns ∷ ws) w) (λ _. (stays (λ h. h) (λ h. h), λ ts d. a_pattern e d))
-      (λ _ _. behind (Patterns ∷ ws) (ClassName ∷ Terms InPattern ∷ Patterns ∷ ws) (λ ts d. a_pattern e d)))
-      (λ _ f. no_fault f))
+      (λ e. one_more_continues (ClassName ∷ Terms InPattern ∷ Patterns ∷ ws) s (stays (λ h. h) (λ h. h)) (λ ts d. a_pattern e d))
+      (λ _. cond_both (is_minus w.keyword) _ _ (Continues (Patterns ∷ ws) w)
+      (λ e. one_more_continues (NegatedPattern ∷ Patterns ∷ ws) (record s { negated = true; around = length s.values }) (stays (λ h. h) (λ h. h)) (λ ts d. a_negated_pattern e d))
+      (λ _ f. no_fault f)))
+
+  negated_pattern_continues : Continues (NegatedPattern ∷ ws) w (negated_pattern w ws s)
+  negated_pattern_continues =
+      cond_both (is_left w.kind) _ _ (Continues (NegatedPattern ∷ ws) w) (λ e. (stays (λ h. h) (λ h. h), λ ts d. behind_a_minus e d)) (λ _ f. no_fault f)
 
   class_at_continues : is_name w.kind ≡ true → (o : Option ℕ) → Continues (ClassName ∷ ws) w (class_at o ws s)
   class_at_continues e (Some c) = (stays (λ h. h) (λ h. h), λ ts d. a_class_name e d)
@@ -243,9 +258,15 @@ module _ (w : Word) (ws : List Wanted) (s : State) where
   action_word_continues _ e = λ f. no_fault f
 
   -- a cell in front of those that may follow it, or of what is wanted behind it
+  designated_continues : (head ws' : List Wanted) → Stays head ws' → ((ts : List Word) → Derives ws' ts → Derives head (w ∷ ts)) → (before : ℕ) (o : Option Condition) → Continues head w (designated before o ws' s)
+  designated_continues head ws' last more before None = λ _. behind head ws' more
+  designated_continues head ws' last more before (Some c) =
+      cond_both c.negated _ _ (Continues head w) (λ _ _. behind head ws' more)
+      (λ _. cond_both (list_any (λ c. c.negated) (take before s.conditions)) _ _ (Continues head w) (λ _ _. behind head ws' more) (λ _. (last, more)))
+
   cell_of_continues : (head ws' : List Wanted) → Stays head ws' → ((ts : List Word) → Derives ws' ts → Derives head (w ∷ ts)) → (o : Option ℕ) → Continues head w (cell_of o ws' s)
   cell_of_continues head ws' last more None = λ _. behind head ws' more
-  cell_of_continues head ws' last more (Some n) = cond_both (nat_lt (length s.conditions) n) _ _ (Continues head w) (λ _ _. behind head ws' more) (λ _. (last, more))
+  cell_of_continues head ws' last more (Some n) = designated_continues head ws' last more (n - 1) (slice_get s.conditions (n - 1))
 
   cell_continues : (head ws' : List Wanted) → Stays head ws' → (is_whole w.kind ≡ true → (ts : List Word) → Derives ws' ts → Derives head (w ∷ ts)) → (k : TokenKind) → w.kind ≡ k → Continues head w (cell k ws' s)
   cell_continues head ws' last more (kind.Whole n) e = cell_of_continues head ws' last (more (ap is_whole e)) (natural_of n)
@@ -278,6 +299,7 @@ step_continues w (Attributes ∷ ws) s = attributes_continue w ws s
 step_continues w (RuleName ∷ ws) s = rule_name_continues w ws s
 step_continues w (FirstPattern ∷ ws) s = first_pattern_continues w ws s
 step_continues w (Patterns ∷ ws) s = patterns_continue w ws s
+step_continues w (NegatedPattern ∷ ws) s = negated_pattern_continues w ws s
 step_continues w (ClassName ∷ ws) s = class_name_continues w ws s
 step_continues w (Terms u ∷ ws) s = terms_continue w ws s u
 step_continues w (Attribute u ∷ ws) s = attribute_continues w ws s u

@@ -1,11 +1,12 @@
 -- Why a word is refused.
-use Rattle.std.proofs.Common.{◌≡◌, ℕ, suc, ◌<◌, Bool, true, false, not, ◌||◌, ◌==◌, cond, List, [], ◌∷◌, length, refl, sym, ap, subst, ◌∙◌, arith, Option, Some, None, nat_lt, is_some, position, slice_get, true≢false}
+use Rattle.std.proofs.Common.{◌≡◌, ℕ, zero, suc, ◌-◌, ◌<◌, Bool, true, false, not, ◌||◌, ◌==◌, cond, List, [], ◌∷◌, length, take, refl, sym, ap, subst, ◌∙◌, arith, Option, Some, None, nat_lt, is_some, position, slice_get, true≢false}
 use Rattle.std.specs.List.{list_any, position_or_len}
-use Rattle.std.proofs.lemmas.Bool.{cond_both, lt-ltb}
+use Rattle.std.proofs.lemmas.Bool.{cond_both, lt-ltb, or_left, or_right}
 use Rattle.ops_base.specs.declared.values.Sym.{Sym}
 use Rattle.ops_base.specs.declared.values.Value.{Value}
 use Rattle.ops_base.specs.declared.values.Pred.{Pred}
 use Rattle.ops_base.specs.declared.values.Pred.TheVariants as pred
+use Rattle.ops_base.specs.declared.conditions.Condition.{Condition}
 use Rattle.ops_base.specs.declared.actions.Term.{Term}
 use Rattle.ops_base.specs.declared.actions.Term.TheVariants as term
 use Rattle.ops_base.specs.declared.endings.Fault.{Fault}
@@ -16,9 +17,9 @@ use Rattle.ops_tokens.specs.declared.token.TokenKind.TheVariants as kind
 use Rattle.ops_meaning.specs.declared.words.Word.{Word}
 use Rattle.ops_meaning.specs.declared.words.Keyword.{Keyword}
 use Rattle.ops_meaning.specs.declared.words.Keyword.TheVariants as keyword
-use Rattle.ops_meaning.specs.Grammar.{Use, Target, ToTest, ToPut, ToFixed, ToItem, Wanted, Forms, Form, ClassDeclared, Attributes, RuleName, FirstPattern, Patterns, ClassName, Terms, Attribute, Place, Tests, Tested, Choice, Atom, ValueFor, Actions, ActionWord, Cell, Cells, Items, ItemWord, Closes, State, Step, Next, Refuses, is_left, is_right, is_left_brace, is_right_brace, is_caret, is_name, is_variable, is_arrow, is_crlf, is_literal, opens_choice, closes_choice, pred_of, constant_of, value_of, atom_of, natural_of, is_one_of, number_of, may_declare, is_class, is_rule, form, class_at, attributes_of, field_at, variable_tested, constant_tested, tested, predicated, test, chosen, atom_at, term_at, bound_at, constant_at, value_for, action_word, cell_of, cell, step}
+use Rattle.ops_meaning.specs.Grammar.{Use, Target, ToTest, ToPut, ToFixed, ToItem, Wanted, Forms, Form, ClassDeclared, Attributes, RuleName, FirstPattern, Patterns, NegatedPattern, ClassName, Terms, Attribute, Place, Tests, Tested, Choice, Atom, ValueFor, Actions, ActionWord, Cell, Cells, Items, ItemWord, Closes, State, Step, Next, Refuses, is_left, is_right, is_left_brace, is_right_brace, is_caret, is_name, is_variable, is_arrow, is_crlf, is_literal, is_minus, opens_choice, closes_choice, pred_of, constant_of, value_of, atom_of, natural_of, is_one_of, number_of, may_declare, is_class, is_rule, form, class_at, attributes_of, field_at, variable_tested, constant_tested, tested, predicated, test, chosen, atom_at, term_at, bound_at, constant_at, value_for, one_more, action_word, designated, cell_of, cell, step}
 use Rattle.ops_meaning.specs.Derivation.{is_whole}
-use Rattle.ops_meaning.specs.Reasons.{no_form_fault, is_bound, is_condition, designates, Because}
+use Rattle.ops_meaning.specs.Reasons.{no_form_fault, is_bound, is_positive, is_condition, designates, Because}
 use Rattle.ops_meaning.proofs.Derived.{no_test_valued}
 
 abbrev pub HasReason : List Wanted → Word → State → Step → Type 0
@@ -44,6 +45,16 @@ none_by p xs true is e =
 
 position_none : {X : Type 0} (p : X → Bool) (xs : List X) → position p xs ≡ None → list_any p xs ≡ false
 position_none p xs e = none_by p xs (list_any p xs) refl e
+
+-- what is among the first of some is among them
+any_behind : (b c d : Bool) → (c ≡ true → d ≡ true) → (b || c) ≡ true → (b || d) ≡ true
+any_behind true c d f e = refl
+any_behind false c d f e = f e
+
+any_of_take : {X : Type 0} (p : X → Bool) (n : ℕ) (xs : List X) → list_any p (take n xs) ≡ true → list_any p xs ≡ true
+any_of_take p zero xs e = absurd (true≢false (sym e))
+any_of_take p (suc n) [] e = e
+any_of_take p (suc n) (x ∷ xs) e = any_behind (p x) _ _ (any_of_take p n xs) e
 
 -- ---- each thing that is wanted
 
@@ -123,8 +134,14 @@ module _ (w : Word) (ws : List Wanted) (s : State) where
   action_word_reason _ = refl
 
   -- where no_form_fault is a bad form
+  designated_reason : (here behind : List Wanted) → is_whole w.kind ≡ true → (before : ℕ) (o : Option Condition) → designates w.kind s ≡ is_positive o → At here (designated before o behind s)
+  designated_reason here behind is before (Some c) e =
+      cond_both c.negated _ _ (At here) (λ negated. (is, e ∙ ap not negated))
+      (λ _. cond_both (list_any (λ c. c.negated) (take before s.conditions)) _ _ (At here) (λ among. (is, any_of_take (λ c. c.negated) before s.conditions among)) (λ _. tt))
+  designated_reason here behind is before None e = (is, e)
+
   cell_of_reason : (here behind : List Wanted) → is_whole w.kind ≡ true → (o : Option ℕ) → designates w.kind s ≡ is_condition s o → At here (cell_of o behind s)
-  cell_of_reason here behind is (Some n) e = cond_both (nat_lt (length s.conditions) n) _ _ (At here) (λ far. (is, e ∙ ap not far)) (λ _. tt)
+  cell_of_reason here behind is (Some n) e = designated_reason here behind is (n - 1) (slice_get s.conditions (n - 1)) e
   cell_of_reason here behind is None e = (is, e)
 
   cell_reason : (here behind : List Wanted) → no_form_fault here ≡ fault.BadForm → (k : TokenKind) → w.kind ≡ k → At here (cell k behind s)
@@ -146,11 +163,15 @@ step_reason w (Attributes ∷ ws) s untested =
     (λ _. refl))
 step_reason w (RuleName ∷ ws) s untested =
     cond_both (is_name w.kind) _ _ (HasReason (RuleName ∷ ws) w s) (λ is. cond_both (is_rule s w.name) _ _ (HasReason (RuleName ∷ ws) w s) (λ e. (is, e)) (λ _. tt)) (λ _. refl)
-step_reason w (FirstPattern ∷ ws) s untested = cond_both (is_left w.kind) _ _ (HasReason (FirstPattern ∷ ws) w s) (λ _. tt) (λ _. refl)
+step_reason w (FirstPattern ∷ ws) s untested =
+    cond_both (is_left w.kind) _ _ (HasReason (FirstPattern ∷ ws) w s) (λ _. tt) (λ _. cond_both (is_minus w.keyword) _ _ (HasReason (FirstPattern ∷ ws) w s) (λ e. e) (λ _. refl))
 step_reason w (Patterns ∷ ws) s untested =
     cond_both (is_arrow w.keyword) _ _ (HasReason (Patterns ∷ ws) w s) (λ _. tt)
     (λ _. cond_both (is_left w.kind) _ _ (HasReason (Patterns ∷ ws) w s)
-    (λ _. cond_both (nat_lt (length s.conditions) most_conditions) _ _ (HasReason (Patterns ∷ ws) w s) (λ _. tt) (λ full. full)) (λ _. refl))
+    (λ _. cond_both (nat_lt (length s.conditions) most_conditions) _ _ (HasReason (Patterns ∷ ws) w s) (λ _. tt) (λ full. full))
+    (λ _. cond_both (is_minus w.keyword) _ _ (HasReason (Patterns ∷ ws) w s)
+    (λ _. cond_both (nat_lt (length s.conditions) most_conditions) _ _ (HasReason (Patterns ∷ ws) w s) (λ _. tt) (λ full. full)) (λ _. refl)))
+step_reason w (NegatedPattern ∷ ws) s untested = cond_both (is_left w.kind) _ _ (HasReason (NegatedPattern ∷ ws) w s) (λ _. tt) (λ _. refl)
 step_reason w (ClassName ∷ ws) s untested =
     cond_both (is_name w.kind) _ _ (HasReason (ClassName ∷ ws) w s) (λ is. class_at_reason w ws s is (position (λ c. c.name.0 == w.name.0) s.classes) refl) (λ _. refl)
 step_reason w (Terms u ∷ ws) s untested =
