@@ -11,7 +11,7 @@ use Rattle.ops_tokens.specs.declared.token.TokenKind.{TokenKind}
 use Rattle.ops_tokens.specs.declared.token.TokenKind.TheVariants as kind
 use Rattle.ops_meaning.specs.declared.words.Word.{Word}
 use Rattle.ops_meaning.specs.declared.words.Keyword.TheVariants as keyword
-use Rattle.ops_meaning.specs.Grammar.{ToFixed, Wanted, Forms, Form, ClassDeclared, Attributes, RuleName, ValueFor, State, is_name, is_variable, is_minus, natural_of, is_one_of, number_of, may_declare, is_class, is_rule, attributes_of}
+use Rattle.ops_meaning.specs.Grammar.{ToTest, ToFixed, Wanted, Forms, Form, ClassDeclared, Attributes, RuleName, ValueFor, State, is_name, is_variable, is_minus, natural_of, is_one_of, number_of, may_declare, is_class, is_rule, attributes_of}
 use Rattle.ops_meaning.specs.Derivation.{is_whole}
 
 -- the fault of a word that continues no form
@@ -28,8 +28,9 @@ is_declared (Attributes ∷ ws) name s = is_one_of name s.attrs
 is_declared (RuleName ∷ ws) name s = is_rule s name
 is_declared ws name s = false
 
--- A command sees no variable.
+-- A command sees no variable. (Nor does a value that is wanted for a test, which no text comes to.)
 abbrev pub is_bound : List Wanted → Sym → State → Bool
+is_bound (ValueFor (ToTest f p) ∷ ws) name s = false
 is_bound (ValueFor (ToFixed f) ∷ ws) name s = false
 is_bound ws name s = is_some (number_of name s.values)
 
