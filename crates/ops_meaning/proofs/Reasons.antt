@@ -1,5 +1,5 @@
 -- Why a word is refused.
-use Rattle.std.proofs.Common.{◌≡◌, ℕ, zero, suc, ◌-◌, ◌<◌, Bool, true, false, not, ◌||◌, ◌==◌, cond, List, [], ◌∷◌, length, take, refl, sym, ap, subst, ◌∙◌, arith, Option, Some, None, nat_lt, is_some, position, slice_get, true≢false}
+use Rattle.std.proofs.Common.{◌≡◌, ℕ, suc, ◌-◌, ◌<◌, Bool, true, false, not, ◌||◌, ◌==◌, cond, List, [], ◌∷◌, length, take, refl, sym, ap, subst, ◌∙◌, arith, Option, Some, None, nat_lt, is_some, position, slice_get, true≢false}
 use Rattle.std.specs.List.{list_any, position_or_len}
 use Rattle.std.proofs.lemmas.Bool.{cond_both, lt-ltb}
 use Rattle.ops_base.specs.declared.values.Sym.{Sym}
@@ -19,7 +19,7 @@ use Rattle.ops_meaning.specs.declared.words.Keyword.{Keyword}
 use Rattle.ops_meaning.specs.declared.words.Keyword.TheVariants as keyword
 use Rattle.ops_meaning.specs.Grammar.{Use, Target, ToTest, ToPut, ToFixed, ToItem, Wanted, Forms, Form, ClassDeclared, Attributes, RuleName, FirstPattern, Patterns, NegatedPattern, ClassName, Terms, Attribute, Place, Tests, Tested, Choice, Atom, ValueFor, Actions, ActionWord, Cell, Cells, Items, ItemWord, Closes, State, Step, Next, Refuses, is_left, is_right, is_left_brace, is_right_brace, is_caret, is_name, is_variable, is_arrow, is_crlf, is_literal, is_minus, opens_choice, closes_choice, pred_of, constant_of, value_of, atom_of, natural_of, is_one_of, number_of, may_declare, is_class, is_rule, form, class_at, attributes_of, field_at, variable_tested, constant_tested, tested, predicated, test, chosen, atom_at, term_at, bound_at, constant_at, value_for, action_word, designated, cell_of, cell, step}
 use Rattle.ops_meaning.specs.Derivation.{is_whole}
-use Rattle.ops_meaning.specs.Reasons.{no_form_fault, is_bound, is_positive, is_condition, designates, Because}
+use Rattle.ops_meaning.specs.Reasons.{no_form_fault, is_bound, is_positive, is_condition, designates, is_unclear, designates_unclearly, Because}
 
 abbrev pub HasReason : List Wanted → Word → State → Step → Type 0
 HasReason ws w s (Next ws' s') = Unit {0}
@@ -44,16 +44,6 @@ none_by p xs true is e =
 
 position_none : {X : Type 0} (p : X → Bool) (xs : List X) → position p xs ≡ None → list_any p xs ≡ false
 position_none p xs e = none_by p xs (list_any p xs) refl e
-
-any_behind : (b c d : Bool) → (c ≡ true → d ≡ true) → (b || c) ≡ true → (b || d) ≡ true
-any_behind true c d f e = refl
-any_behind false c d f e = f e
-
--- what is among the first of some is among them
-any_of_take : {X : Type 0} (p : X → Bool) (n : ℕ) (xs : List X) → list_any p (take n xs) ≡ true → list_any p xs ≡ true
-any_of_take p zero xs e = absurd (true≢false (sym e))
-any_of_take p (suc n) [] e = e
-any_of_take p (suc n) (x ∷ xs) e = any_behind (p x) _ _ (any_of_take p n xs) e
 
 -- ---- each thing that is wanted
 
@@ -133,18 +123,19 @@ module _ (w : Word) (ws : List Wanted) (s : State) where
   action_word_reason _ = refl
 
   -- where no_form_fault is a bad form
-  designated_reason : (here behind : List Wanted) → is_whole w.kind ≡ true → (before : ℕ) (o : Option Condition) → designates w.kind s ≡ is_positive o → At here (designated before o behind s)
-  designated_reason here behind is before (Some c) e =
+  designated_reason : (here behind : List Wanted) → is_whole w.kind ≡ true → (before : ℕ) (o : Option Condition) → designates w.kind s ≡ is_positive o
+      → designates_unclearly w.kind s ≡ list_any (λ c. c.negated) (take before s.conditions) → At here (designated before o behind s)
+  designated_reason here behind is before (Some c) e unclear =
       cond_both c.negated _ _ (At here) (λ negated. (is, e ∙ ap not negated))
-      (λ _. cond_both (list_any (λ c. c.negated) (take before s.conditions)) _ _ (At here) (λ among. (is, any_of_take (λ c. c.negated) before s.conditions among)) (λ _. tt))
-  designated_reason here behind is before None e = (is, e)
+      (λ positive. cond_both (list_any (λ c. c.negated) (take before s.conditions)) _ _ (At here) (λ among. (e ∙ ap not positive, unclear ∙ among)) (λ _. tt))
+  designated_reason here behind is before None e unclear = (is, e)
 
-  cell_of_reason : (here behind : List Wanted) → is_whole w.kind ≡ true → (o : Option ℕ) → designates w.kind s ≡ is_condition s o → At here (cell_of o behind s)
-  cell_of_reason here behind is (Some n) e = designated_reason here behind is (n - 1) (slice_get s.conditions (n - 1)) e
-  cell_of_reason here behind is None e = (is, e)
+  cell_of_reason : (here behind : List Wanted) → is_whole w.kind ≡ true → (o : Option ℕ) → designates w.kind s ≡ is_condition s o → designates_unclearly w.kind s ≡ is_unclear s o → At here (cell_of o behind s)
+  cell_of_reason here behind is (Some n) e unclear = designated_reason here behind is (n - 1) (slice_get s.conditions (n - 1)) e unclear
+  cell_of_reason here behind is None e unclear = (is, e)
 
   cell_reason : (here behind : List Wanted) → no_form_fault here ≡ fault.BadForm → (k : TokenKind) → w.kind ≡ k → At here (cell k behind s)
-  cell_reason here behind bad (kind.Whole n) e = cell_of_reason here behind (ap is_whole e) (natural_of n) (ap (λ (k : TokenKind). designates k s) e)
+  cell_reason here behind bad (kind.Whole n) e = cell_of_reason here behind (ap is_whole e) (natural_of n) (ap (λ (k : TokenKind). designates k s) e) (ap (λ (k : TokenKind). designates_unclearly k s) e)
   cell_reason here behind bad _ e = bad
 
 step_reason : (w : Word) (ws : List Wanted) (s : State) → HasReason ws w s (step w ws s)
@@ -163,7 +154,7 @@ step_reason w (Attributes ∷ ws) s =
 step_reason w (RuleName ∷ ws) s =
     cond_both (is_name w.kind) _ _ (HasReason (RuleName ∷ ws) w s) (λ is. cond_both (is_rule s w.name) _ _ (HasReason (RuleName ∷ ws) w s) (λ e. (is, e)) (λ _. tt)) (λ _. refl)
 step_reason w (FirstPattern ∷ ws) s =
-    cond_both (is_left w.kind) _ _ (HasReason (FirstPattern ∷ ws) w s) (λ _. tt) (λ _. cond_both (is_minus w.keyword) _ _ (HasReason (FirstPattern ∷ ws) w s) (λ e. e) (λ _. refl))
+    cond_both (is_left w.kind) _ _ (HasReason (FirstPattern ∷ ws) w s) (λ _. tt) (λ _. cond_both (is_minus w.keyword) _ _ (HasReason (FirstPattern ∷ ws) w s) (λ e. (e, refl)) (λ _. refl))
 step_reason w (Patterns ∷ ws) s =
     cond_both (is_arrow w.keyword) _ _ (HasReason (Patterns ∷ ws) w s) (λ _. tt)
     (λ _. cond_both (is_left w.kind) _ _ (HasReason (Patterns ∷ ws) w s)
