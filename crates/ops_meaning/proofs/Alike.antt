@@ -11,7 +11,7 @@ use Rattle.ops_tokens.specs.declared.token.TokenKind.TheVariants as kind
 use Rattle.ops_meaning.specs.declared.words.Word.{Word}
 use Rattle.ops_meaning.specs.declared.words.Keyword.{Keyword}
 use Rattle.ops_meaning.specs.declared.words.Keyword.TheVariants as keyword
-use Rattle.ops_meaning.specs.Grammar.{Target, ToTest, ToItem, Wanted, Forms, Form, ClassDeclared, Attributes, RuleName, FirstPattern, Patterns, ClassName, Terms, Attribute, Place, Tests, Tested, Choice, Atom, ValueFor, Actions, ActionWord, Cell, Cells, Items, ItemWord, Closes, State, Step, Next, is_left, is_right, is_left_brace, is_right_brace, is_literal, opens_choice, closes_choice, pred_of, with_write, with_constant, constant_of, value_of, atom_of, form, constant_tested, tested, predicated, test, chosen, atom_at, constant_at, value_for, step}
+use Rattle.ops_meaning.specs.Grammar.{Target, ToTest, ToItem, Wanted, Forms, Form, ClassDeclared, Attributes, RuleName, FirstPattern, Patterns, NegatedPattern, ClassName, Terms, Attribute, Place, Tests, Tested, Choice, Atom, ValueFor, Actions, ActionWord, Cell, Cells, Items, ItemWord, Closes, State, Step, Next, is_left, is_right, is_left_brace, is_right_brace, is_literal, opens_choice, closes_choice, pred_of, with_write, with_constant, constant_of, value_of, atom_of, form, constant_tested, tested, predicated, test, chosen, atom_at, constant_at, value_for, step}
 use Rattle.ops_meaning.specs.Spelling.{spelled_name}
 use Rattle.ops_meaning.specs.Words.{keyword_of_symbol, has_name}
 use Rattle.ops_meaning.proofs.Proper.{is_mark, symbol_unmarked}
@@ -181,6 +181,7 @@ moved-alike w first past Attributes ws s e = refl
 moved-alike w first past RuleName ws s e = refl
 moved-alike w first past FirstPattern ws s e = refl
 moved-alike w first past Patterns ws s e = refl
+moved-alike w first past NegatedPattern ws s e = refl
 moved-alike w first past ClassName ws s e = refl
 moved-alike w first past (Terms u) ws s e = refl
 moved-alike w first past (Attribute u) ws s e = refl

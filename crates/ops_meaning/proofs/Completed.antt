@@ -5,8 +5,8 @@ use Rattle.ops_tokens.specs.declared.token.TokenKind.TheVariants as kind
 use Rattle.ops_meaning.specs.declared.words.Word.{Word}
 use Rattle.ops_meaning.specs.declared.words.Keyword.{Keyword}
 use Rattle.ops_meaning.specs.declared.words.Keyword.TheVariants as keyword
-use Rattle.ops_meaning.specs.Grammar.{InPattern, InPut, InFixed, Wanted, Forms, Form, ClassDeclared, Attributes, RuleName, FirstPattern, Patterns, ClassName, Terms, Attribute, Place, Tests, Tested, Choice, Atom, ValueFor, Actions, ActionWord, Cell, Cells, Items, ItemWord, Closes}
-use Rattle.ops_meaning.specs.Derivation.{Derives, nothing, no_form, a_class, no_attribute, a_rule, a_first, an_arrow, a_run, a_class_name, no_term, an_attribute_name, a_value, an_atom, no_more_tests, an_operand, a_tested_operand, no_more_choices, no_action, to_halt, a_cell, no_more_cells, no_item, a_crlf, a_closing}
+use Rattle.ops_meaning.specs.Grammar.{InPattern, InPut, InFixed, Wanted, Forms, Form, ClassDeclared, Attributes, RuleName, FirstPattern, Patterns, NegatedPattern, ClassName, Terms, Attribute, Place, Tests, Tested, Choice, Atom, ValueFor, Actions, ActionWord, Cell, Cells, Items, ItemWord, Closes}
+use Rattle.ops_meaning.specs.Derivation.{Derives, nothing, no_form, a_class, no_attribute, a_rule, a_first, behind_a_minus, an_arrow, a_run, a_class_name, no_term, an_attribute_name, a_value, an_atom, no_more_tests, an_operand, a_tested_operand, no_more_choices, no_action, to_halt, a_cell, no_more_cells, no_item, a_crlf, a_closing}
 
 abbrev closing : Word
 closing = record { kind = kind.Right; keyword = keyword.Other; name = record { 0 = 0 }; first = 0; past = 0 }
@@ -39,6 +39,7 @@ complete Attributes ws c = (closing ∷ c.0, no_attribute refl c.1)
 complete RuleName ws c = (named keyword.Other ∷ c.0, a_rule refl c.1)
 complete FirstPattern ws c = (opening ∷ named keyword.Other ∷ closing ∷ c.0, a_first refl (a_class_name refl (no_term refl c.1)))
 complete Patterns ws c = (named keyword.Arrow ∷ c.0, an_arrow refl c.1)
+complete NegatedPattern ws c = (opening ∷ named keyword.Other ∷ closing ∷ c.0, behind_a_minus refl (a_class_name refl (no_term refl c.1)))
 complete ClassName ws c = (named keyword.Other ∷ c.0, a_class_name refl c.1)
 complete (Terms u) ws c = (closing ∷ c.0, no_term refl c.1)
 complete (Attribute InPattern) ws c = (named keyword.Other ∷ number ∷ c.0, an_attribute_name 0 refl (an_operand refl c.1))

@@ -1,10 +1,12 @@
 -- What the machine does at a word that the grammar derives.
-use Rattle.std.proofs.Common.{◌≡◌, ℕ, Bool, true, false, not, ◌||◌, ◌==◌, List, [], ◌∷◌, length, refl, sym, ap, subst, ◌∙◌, cond, Option, Some, None, true≢false, nat_lt, is_some, position, slice_get}
+use Rattle.std.proofs.Common.{◌≡◌, ℕ, ◌-◌, Bool, true, false, not, ◌||◌, ◌==◌, List, [], ◌∷◌, length, take, refl, sym, ap, subst, ◌∙◌, cond, Option, Some, None, true≢false, nat_lt, is_some, position, slice_get}
+use Rattle.std.specs.List.{list_any}
 use Rattle.std.proofs.lemmas.Bool.{cond_both, and_parts}
 use Rattle.ops_base.specs.declared.values.Sym.{Sym}
 use Rattle.ops_base.specs.declared.values.Value.{Value}
 use Rattle.ops_base.specs.declared.values.Pred.{Pred}
 use Rattle.ops_base.specs.declared.values.Pred.TheVariants as pred
+use Rattle.ops_base.specs.declared.conditions.Condition.{Condition}
 use Rattle.ops_base.specs.declared.actions.Term.{Term}
 use Rattle.ops_base.specs.declared.actions.Term.TheVariants as term
 use Rattle.ops_base.specs.declared.endings.Fault.{Fault}
@@ -14,11 +16,11 @@ use Rattle.ops_tokens.specs.declared.token.TokenKind.TheVariants as kind
 use Rattle.ops_meaning.specs.declared.words.Word.{Word}
 use Rattle.ops_meaning.specs.declared.words.Keyword.{Keyword}
 use Rattle.ops_meaning.specs.declared.words.Keyword.TheVariants as keyword
-use Rattle.ops_meaning.specs.Grammar.{Use, Target, ToTest, ToPut, ToItem, Wanted, Forms, Tests, Choice, Atom, Tested, Cells, Items, State, Step, Next, Refuses, is_left, is_right, is_left_brace, is_right_brace, is_caret, is_name, is_variable, is_arrow, is_crlf, is_literal, opens_choice, closes_choice, pred_of, constant_of, value_of, atom_of, natural_of, is_one_of, number_of, may_declare, is_class, is_rule, form, class_at, attributes_of, behind_attribute, field_at, variable_tested, constant_tested, tested, predicated, test, place, tests, chosen, atom_at, term_at, bound_at, constant_at, value_for, action_word, cell_of, cell, step}
-use Rattle.ops_meaning.specs.Derivation.{is_whole, is_operand, is_value, Derives, nothing, no_form, a_form, a_literalize, a_class, an_attribute, no_attribute, a_production, a_rule, a_first, a_pattern, an_arrow, a_make, a_run, a_class_name, a_term, no_term, an_attribute_name, a_value, a_literal_value, an_atom, a_conjunction, no_more_tests, an_operand, a_literal, a_predicate, a_disjunction, one_more_operand, one_more_literal, one_more_predicate, one_more_disjunction, a_tested_operand, a_tested_literal, one_more_choice, no_more_choices, an_action, no_action, to_make, to_remove, to_write, to_halt, a_cell, one_more_cell, no_more_cells, an_item, a_literal_item, an_item_form, no_item, a_crlf, a_closing, is_no_form}
+use Rattle.ops_meaning.specs.Grammar.{Use, InPattern, Target, ToTest, ToPut, ToItem, Wanted, Forms, Patterns, NegatedPattern, ClassName, Terms, Tests, Choice, Atom, Tested, Cells, Items, State, Step, Next, Refuses, is_left, is_right, is_left_brace, is_right_brace, is_caret, is_name, is_variable, is_arrow, is_crlf, is_literal, is_minus, opens_choice, closes_choice, pred_of, constant_of, value_of, atom_of, natural_of, is_one_of, number_of, may_declare, is_class, is_rule, form, class_at, attributes_of, behind_attribute, field_at, variable_tested, constant_tested, tested, predicated, test, place, tests, chosen, atom_at, term_at, bound_at, constant_at, value_for, one_more, action_word, designated, cell_of, cell, step}
+use Rattle.ops_meaning.specs.Derivation.{is_whole, is_operand, is_value, Derives, nothing, no_form, a_form, a_literalize, a_class, an_attribute, no_attribute, a_production, a_rule, a_first, a_negated_first, a_pattern, a_negated_pattern, behind_a_minus, an_arrow, a_make, a_run, a_class_name, a_term, no_term, an_attribute_name, a_value, a_literal_value, an_atom, a_conjunction, no_more_tests, an_operand, a_literal, a_predicate, a_disjunction, one_more_operand, one_more_literal, one_more_predicate, one_more_disjunction, a_tested_operand, a_tested_literal, one_more_choice, no_more_choices, an_action, no_action, to_make, to_remove, to_write, to_halt, a_cell, one_more_cell, no_more_cells, an_item, a_literal_item, an_item_form, no_item, a_crlf, a_closing, is_no_form}
 use Rattle.ops_meaning.proofs.Derived.{forms_last}
 use Rattle.ops_meaning.proofs.Moved.{at_any_place}
-use Rattle.ops_meaning.proofs.Proper.{is_mark, is_proper, arrow_marks, literal_marks, opening_marks, pred_marks, literal_no_opening, literal_no_pred, pred_no_opening, not_met, no_mark}
+use Rattle.ops_meaning.proofs.Proper.{is_mark, is_proper, arrow_marks, literal_marks, minus_marks, opening_marks, pred_marks, literal_no_opening, literal_no_pred, minus_no_arrow, pred_no_opening, not_met, no_mark}
 
 -- What derives goes on where the word is taken, and the word is refused in a form at most.
 abbrev pub Went : Word → List Word → Step → Type 0
@@ -180,8 +182,17 @@ module _ (w : Word) (ts : List Word) where
         let each = and_parts (not (is_literal w.keyword)) _ e in
         unmet (is_literal w.keyword) _ _ (not_met _ each.0) (constant_at_goes t (value_of w.kind w.name) each.1 d)
 
+    -- one more condition
+    one_more_goes : (is_proper w ≡ true → Derives ws ts) → Went w ts (one_more ws s)
+    one_more_goes h = cond_both (nat_lt (length s.conditions) most_conditions) _ _ (Went w ts) (λ _. h) (λ _. refl)
+
+    designated_goes : (before : ℕ) (o : Option Condition) → Derives ws ts → Went w ts (designated before o ws s)
+    designated_goes before (Some c) d =
+        cond_both c.negated _ _ (Went w ts) (λ _. refl) (λ _. cond_both (list_any (λ c. c.negated) (take before s.conditions)) _ _ (Went w ts) (λ _. refl) (λ _ _. d))
+    designated_goes before None d = refl
+
     cell_of_goes : (o : Option ℕ) → Derives ws ts → Went w ts (cell_of o ws s)
-    cell_of_goes (Some n) d = cond_both (nat_lt (length s.conditions) n) _ _ (Went w ts) (λ _. refl) (λ _ _. d)
+    cell_of_goes (Some n) d = designated_goes (n - 1) (slice_get s.conditions (n - 1)) d
     cell_of_goes None d = refl
 
     cell_goes : (k : TokenKind) → is_whole k ≡ true → Derives ws ts → Went w ts (cell k ws s)
@@ -208,9 +219,17 @@ derived_goes ws words s (a_production {ws = rest} {w = w} {ts = ts} e d) last =
 derived_goes ws words s (a_rule {w = w} {ts = ts} e d) last =
     met w ts (is_name w.kind) _ _ e (cond_both (is_rule s w.name) _ _ (Went w ts) (λ _. refl) (λ _ _. d))
 derived_goes ws words s (a_first {w = w} {ts = ts} e d) last = met w ts (is_left w.kind) _ _ e (λ _. d)
-derived_goes ws words s (a_pattern {w = w} {ts = ts} e d) last =
+derived_goes ws words s (a_negated_first {w = w} {ts = ts} e d) last =
+    cond_both (is_left w.kind) _ _ (Went w ts) (λ left proper. no_mark w is_left refl (minus_marks w.keyword e) left proper) (λ _. met w ts (is_minus w.keyword) _ _ e refl)
+derived_goes ws words s (a_pattern {ws = rest} {w = w} {ts = ts} e d) last =
     cond_both (is_arrow w.keyword) _ _ (Went w ts) (λ arrow proper. no_mark w is_left refl (arrow_marks w.keyword arrow) e proper)
-    (λ _. met w ts (is_left w.kind) _ _ e (cond_both (nat_lt (length s.conditions) most_conditions) _ _ (Went w ts) (λ _ _. d) (λ _. refl)))
+    (λ _. met w ts (is_left w.kind) _ _ e (one_more_goes w ts (ClassName ∷ Terms InPattern ∷ Patterns ∷ rest) s (λ _. d)))
+derived_goes ws words s (a_negated_pattern {ws = rest} {w = w} {ts = ts} e d) last =
+    unmet w ts (is_arrow w.keyword) _ _ (minus_no_arrow w.keyword e)
+    (cond_both (is_left w.kind) _ _ (Went w ts)
+    (λ left. one_more_goes w ts (ClassName ∷ Terms InPattern ∷ Patterns ∷ rest) s (λ proper. no_mark w is_left refl (minus_marks w.keyword e) left proper))
+    (λ _. met w ts (is_minus w.keyword) _ _ e (one_more_goes w ts (NegatedPattern ∷ Patterns ∷ rest) (record s { negated = true; around = length s.values }) (λ _. d))))
+derived_goes ws words s (behind_a_minus {w = w} {ts = ts} e d) last = met w ts (is_left w.kind) _ _ e (λ _. d)
 derived_goes ws words s (an_arrow {w = w} {ts = ts} e d) last = met w ts (is_arrow w.keyword) _ _ (ap is_arrow e) (λ _. d)
 derived_goes ws words s (a_make {ws = rest} {w = w} {ts = ts} e d) last = form_goes w ts rest s keyword.Make e (λ _. d)
 derived_goes ws words s (a_run {ws = rest} {w = w} {ts = ts} e d) last = form_goes w ts rest s keyword.Run e (λ _. d)

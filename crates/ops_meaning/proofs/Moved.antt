@@ -2,7 +2,7 @@
 use Rattle.std.proofs.Common.{◌≡◌, ℕ, zero, suc, List, [], ◌∷◌, refl, subst}
 use Rattle.ops_meaning.specs.declared.words.Word.{Word}
 use Rattle.ops_meaning.specs.Grammar.{Use, InPattern, InPut, InFixed, Target, ToTest, ToPut, ToFixed, ToItem, Wanted, Place, Tests, Tested, Choice, Atom, ValueFor, behind_attribute}
-use Rattle.ops_meaning.specs.Derivation.{Derives, nothing, no_form, a_form, a_literalize, a_class, an_attribute, no_attribute, a_production, a_rule, a_first, a_pattern, an_arrow, a_make, a_run, a_class_name, a_term, no_term, an_attribute_name, a_value, a_literal_value, an_atom, a_conjunction, no_more_tests, an_operand, a_literal, a_predicate, a_disjunction, one_more_operand, one_more_literal, one_more_predicate, one_more_disjunction, a_tested_operand, a_tested_literal, one_more_choice, no_more_choices, an_action, no_action, to_make, to_remove, to_write, to_halt, a_cell, one_more_cell, no_more_cells, an_item, a_literal_item, an_item_form, no_item, a_crlf, a_closing}
+use Rattle.ops_meaning.specs.Derivation.{Derives, nothing, no_form, a_form, a_literalize, a_class, an_attribute, no_attribute, a_production, a_rule, a_first, a_negated_first, a_pattern, a_negated_pattern, behind_a_minus, an_arrow, a_make, a_run, a_class_name, a_term, no_term, an_attribute_name, a_value, a_literal_value, an_atom, a_conjunction, no_more_tests, an_operand, a_literal, a_predicate, a_disjunction, one_more_operand, one_more_literal, one_more_predicate, one_more_disjunction, a_tested_operand, a_tested_literal, one_more_choice, no_more_choices, an_action, no_action, to_make, to_remove, to_write, to_halt, a_cell, one_more_cell, no_more_cells, an_item, a_literal_item, an_item_form, no_item, a_crlf, a_closing}
 
 abbrev target_at : ℕ → Target → Target
 target_at g (ToTest f p) = ToTest g p
@@ -44,7 +44,10 @@ front_moved g (no_attribute e d) (suc n) = no_attribute e (front_moved g d n)
 front_moved g (a_production e d) (suc n) = a_production e (front_moved g d (suc (suc (suc (suc n)))))
 front_moved g (a_rule e d) (suc n) = a_rule e (front_moved g d n)
 front_moved g (a_first e d) (suc n) = a_first e (front_moved g d (suc (suc n)))
+front_moved g (a_negated_first e d) (suc n) = a_negated_first e (front_moved g d (suc n))
 front_moved g (a_pattern e d) (suc n) = a_pattern e (front_moved g d (suc (suc (suc n))))
+front_moved g (a_negated_pattern e d) (suc n) = a_negated_pattern e (front_moved g d (suc (suc n)))
+front_moved g (behind_a_minus e d) (suc n) = behind_a_minus e (front_moved g d (suc (suc n)))
 front_moved g (an_arrow e d) (suc n) = an_arrow e (front_moved g d n)
 front_moved g (a_make e d) (suc n) = a_make e (front_moved g d (suc (suc n)))
 front_moved g (a_run e d) (suc n) = a_run e (front_moved g d (suc n))

@@ -13,7 +13,7 @@ use Rattle.ops_meaning.specs.declared.words.Word.{Word}
 use Rattle.ops_meaning.specs.declared.words.Keyword.{Keyword}
 use Rattle.ops_meaning.specs.declared.words.Keyword.TheVariants as keyword
 use Rattle.ops_meaning.specs.Words.{keyword_of, keyword_of_symbol, keyword_of_operator, names_with, words_from}
-use Rattle.ops_meaning.specs.Grammar.{is_arrow, is_literal, opens_choice, pred_of}
+use Rattle.ops_meaning.specs.Grammar.{is_arrow, is_literal, is_minus, opens_choice, pred_of}
 
 abbrev pub is_other : Keyword → Bool
 is_other keyword.Other = true
@@ -32,6 +32,7 @@ is_mark keyword.SameKind = true
 is_mark keyword.OpenChoice = true
 is_mark keyword.CloseChoice = true
 is_mark keyword.Literal = true
+is_mark keyword.Minus = true
 is_mark _ = false
 
 -- An operator has a keyword of operators or none, a plain symbol one of symbols or none, and every other word has none.
@@ -83,7 +84,8 @@ operator_proper s =
     (either kind.Operator (bytes_eq s (codes "<=>")) _ _ refl
     (either kind.Operator (bytes_eq s (codes "<<")) _ _ refl
     (either kind.Operator (bytes_eq s (codes ">>")) _ _ refl
-    (either kind.Operator (bytes_eq s (codes "//")) _ _ refl refl))))))))))
+    (either kind.Operator (bytes_eq s (codes "//")) _ _ refl
+    (either kind.Operator (bytes_eq s (codes "-")) _ _ refl refl)))))))))))
 
 proper_kind : (k : TokenKind) (s : List ℕ) → may_have k (keyword_of k s) ≡ true
 proper_kind kind.Symbol s = symbol_proper s
@@ -105,6 +107,10 @@ arrow_marks _ e = absurd (true≢false (sym e))
 pub literal_marks : (k : Keyword) → is_literal k ≡ true → is_mark k ≡ true
 literal_marks keyword.Literal e = refl
 literal_marks _ e = absurd (true≢false (sym e))
+
+pub minus_marks : (k : Keyword) → is_minus k ≡ true → is_mark k ≡ true
+minus_marks keyword.Minus e = refl
+minus_marks _ e = absurd (true≢false (sym e))
 
 pub opening_marks : (k : Keyword) → opens_choice k ≡ true → is_mark k ≡ true
 opening_marks keyword.OpenChoice e = refl
@@ -128,6 +134,10 @@ literal_no_opening _ e = absurd (true≢false (sym e))
 pub literal_no_pred : (k : Keyword) → is_literal k ≡ true → pred_of k ≡ None
 literal_no_pred keyword.Literal e = refl
 literal_no_pred _ e = absurd (true≢false (sym e))
+
+pub minus_no_arrow : (k : Keyword) → is_minus k ≡ true → is_arrow k ≡ false
+minus_no_arrow keyword.Minus e = refl
+minus_no_arrow _ e = absurd (true≢false (sym e))
 
 pub pred_no_opening : (k : Keyword) (p : Pred) → pred_of k ≡ Some p → opens_choice k ≡ false
 pred_no_opening keyword.OpenChoice p e = absurd (cc)

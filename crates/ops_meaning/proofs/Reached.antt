@@ -7,7 +7,7 @@ use Rattle.ops_meaning.specs.declared.words.Word.{Word}
 use Rattle.ops_meaning.specs.Grammar.{Wanted, Forms, State, Step, Next, Refuses, step, ends, after, goes}
 use Rattle.ops_meaning.specs.Derivation.{Derives}
 use Rattle.ops_meaning.specs.Standing.{IsTaken}
-use Rattle.ops_meaning.proofs.Derived.{forms_last, no_test_valued, taken_derives, taken_last, taken_untested}
+use Rattle.ops_meaning.proofs.Derived.{forms_last, taken_derives, taken_last}
 use Rattle.ops_meaning.proofs.Proper.{is_proper}
 use Rattle.ops_meaning.proofs.Follows.{derived_behind}
 
@@ -49,11 +49,6 @@ module _ (to : List Wanted) (at : State) where
   pub last_behind : (before : List Word) (ws : List Wanted) (s : State) → Reached to at before ws s → forms_last ws ≡ true → forms_last to ≡ true
   last_behind before ws s at_once last = last
   last_behind before ws s (by_word {w = w} {words = words} {ws' = ws'} {s' = s'} e r) last = last_behind words ws' s' r (taken_last w ws s ws' s' e last)
-
-  pub untested_behind : (before : List Word) (ws : List Wanted) (s : State) → Reached to at before ws s → no_test_valued ws ≡ true → no_test_valued to ≡ true
-  untested_behind before ws s at_once untested = untested
-  untested_behind before ws s (by_word {w = w} {words = words} {ws' = ws'} {s' = s'} e r) untested =
-      untested_behind words ws' s' r (taken_untested w ws s ws' s' e untested)
 
 -- ---- words that are taken
 

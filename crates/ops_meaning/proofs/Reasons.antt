@@ -1,11 +1,12 @@
 -- Why a word is refused.
-use Rattle.std.proofs.Common.{◌≡◌, ℕ, suc, ◌<◌, Bool, true, false, not, ◌||◌, ◌==◌, cond, List, [], ◌∷◌, length, refl, sym, ap, subst, ◌∙◌, arith, Option, Some, None, nat_lt, is_some, position, slice_get, true≢false}
+use Rattle.std.proofs.Common.{◌≡◌, ℕ, suc, ◌-◌, ◌<◌, Bool, true, false, not, ◌||◌, ◌==◌, cond, List, [], ◌∷◌, length, take, refl, sym, ap, subst, ◌∙◌, arith, Option, Some, None, nat_lt, is_some, position, slice_get, true≢false}
 use Rattle.std.specs.List.{list_any, position_or_len}
 use Rattle.std.proofs.lemmas.Bool.{cond_both, lt-ltb}
 use Rattle.ops_base.specs.declared.values.Sym.{Sym}
 use Rattle.ops_base.specs.declared.values.Value.{Value}
 use Rattle.ops_base.specs.declared.values.Pred.{Pred}
 use Rattle.ops_base.specs.declared.values.Pred.TheVariants as pred
+use Rattle.ops_base.specs.declared.conditions.Condition.{Condition}
 use Rattle.ops_base.specs.declared.actions.Term.{Term}
 use Rattle.ops_base.specs.declared.actions.Term.TheVariants as term
 use Rattle.ops_base.specs.declared.endings.Fault.{Fault}
@@ -16,10 +17,9 @@ use Rattle.ops_tokens.specs.declared.token.TokenKind.TheVariants as kind
 use Rattle.ops_meaning.specs.declared.words.Word.{Word}
 use Rattle.ops_meaning.specs.declared.words.Keyword.{Keyword}
 use Rattle.ops_meaning.specs.declared.words.Keyword.TheVariants as keyword
-use Rattle.ops_meaning.specs.Grammar.{Use, Target, ToTest, ToPut, ToFixed, ToItem, Wanted, Forms, Form, ClassDeclared, Attributes, RuleName, FirstPattern, Patterns, ClassName, Terms, Attribute, Place, Tests, Tested, Choice, Atom, ValueFor, Actions, ActionWord, Cell, Cells, Items, ItemWord, Closes, State, Step, Next, Refuses, is_left, is_right, is_left_brace, is_right_brace, is_caret, is_name, is_variable, is_arrow, is_crlf, is_literal, opens_choice, closes_choice, pred_of, constant_of, value_of, atom_of, natural_of, is_one_of, number_of, may_declare, is_class, is_rule, form, class_at, attributes_of, field_at, variable_tested, constant_tested, tested, predicated, test, chosen, atom_at, term_at, bound_at, constant_at, value_for, action_word, cell_of, cell, step}
+use Rattle.ops_meaning.specs.Grammar.{Use, Target, ToTest, ToPut, ToFixed, ToItem, Wanted, Forms, Form, ClassDeclared, Attributes, RuleName, FirstPattern, Patterns, NegatedPattern, ClassName, Terms, Attribute, Place, Tests, Tested, Choice, Atom, ValueFor, Actions, ActionWord, Cell, Cells, Items, ItemWord, Closes, State, Step, Next, Refuses, is_left, is_right, is_left_brace, is_right_brace, is_caret, is_name, is_variable, is_arrow, is_crlf, is_literal, is_minus, opens_choice, closes_choice, pred_of, constant_of, value_of, atom_of, natural_of, is_one_of, number_of, may_declare, is_class, is_rule, form, class_at, attributes_of, field_at, variable_tested, constant_tested, tested, predicated, test, chosen, atom_at, term_at, bound_at, constant_at, value_for, action_word, designated, cell_of, cell, step}
 use Rattle.ops_meaning.specs.Derivation.{is_whole}
-use Rattle.ops_meaning.specs.Reasons.{no_form_fault, is_bound, is_condition, designates, Because}
-use Rattle.ops_meaning.proofs.Derived.{no_test_valued}
+use Rattle.ops_meaning.specs.Reasons.{no_form_fault, is_bound, is_positive, is_condition, designates, is_unclear, designates_unclearly, Because}
 
 abbrev pub HasReason : List Wanted → Word → State → Step → Type 0
 HasReason ws w s (Next ws' s') = Unit {0}
@@ -101,11 +101,11 @@ module _ (w : Word) (ws : List Wanted) (s : State) where
       value_reason : At here (value_for t w behind s)
       value_reason = cond_both (is_literal w.keyword) _ _ (At here) (λ _. tt) (λ _. constant_at_reason (value_of w.kind w.name))
 
-  value_for_reason : (t : Target) → no_test_valued (ValueFor t ∷ ws) ≡ true → At (ValueFor t ∷ ws) (value_for t w ws s)
-  value_for_reason (ToTest f p) untested = absurd (true≢false (sym untested))
-  value_for_reason (ToPut f) untested = value_reason (ValueFor (ToPut f) ∷ ws) ws refl (λ e. ap is_some e) (ToPut f) (λ is x. tt)
-  value_for_reason (ToFixed f) untested = value_reason (ValueFor (ToFixed f) ∷ ws) ws refl (λ _. refl) (ToFixed f) (λ is x. (is, refl))
-  value_for_reason ToItem untested = value_reason (ValueFor ToItem ∷ ws) ws refl (λ e. ap is_some e) ToItem (λ is x. tt)
+  value_for_reason : (t : Target) → At (ValueFor t ∷ ws) (value_for t w ws s)
+  value_for_reason (ToTest f p) = value_reason (ValueFor (ToTest f p) ∷ ws) ws refl (λ _. refl) (ToTest f p) (λ is x. (is, refl))
+  value_for_reason (ToPut f) = value_reason (ValueFor (ToPut f) ∷ ws) ws refl (λ e. ap is_some e) (ToPut f) (λ is x. tt)
+  value_for_reason (ToFixed f) = value_reason (ValueFor (ToFixed f) ∷ ws) ws refl (λ _. refl) (ToFixed f) (λ is x. (is, refl))
+  value_for_reason ToItem = value_reason (ValueFor ToItem ∷ ws) ws refl (λ e. ap is_some e) ToItem (λ is x. tt)
 
   chosen_reason : (f : ℕ) (o : Option Value) → At (Choice f ∷ ws) (chosen o (Choice f ∷ ws) s)
   chosen_reason f (Some v) = tt
@@ -123,63 +123,73 @@ module _ (w : Word) (ws : List Wanted) (s : State) where
   action_word_reason _ = refl
 
   -- where no_form_fault is a bad form
-  cell_of_reason : (here behind : List Wanted) → is_whole w.kind ≡ true → (o : Option ℕ) → designates w.kind s ≡ is_condition s o → At here (cell_of o behind s)
-  cell_of_reason here behind is (Some n) e = cond_both (nat_lt (length s.conditions) n) _ _ (At here) (λ far. (is, e ∙ ap not far)) (λ _. tt)
-  cell_of_reason here behind is None e = (is, e)
+  designated_reason : (here behind : List Wanted) → is_whole w.kind ≡ true → (before : ℕ) (o : Option Condition) → designates w.kind s ≡ is_positive o
+      → designates_unclearly w.kind s ≡ list_any (λ c. c.negated) (take before s.conditions) → At here (designated before o behind s)
+  designated_reason here behind is before (Some c) e unclear =
+      cond_both c.negated _ _ (At here) (λ negated. (is, e ∙ ap not negated))
+      (λ positive. cond_both (list_any (λ c. c.negated) (take before s.conditions)) _ _ (At here) (λ among. (e ∙ ap not positive, unclear ∙ among)) (λ _. tt))
+  designated_reason here behind is before None e unclear = (is, e)
+
+  cell_of_reason : (here behind : List Wanted) → is_whole w.kind ≡ true → (o : Option ℕ) → designates w.kind s ≡ is_condition s o → designates_unclearly w.kind s ≡ is_unclear s o → At here (cell_of o behind s)
+  cell_of_reason here behind is (Some n) e unclear = designated_reason here behind is (n - 1) (slice_get s.conditions (n - 1)) e unclear
+  cell_of_reason here behind is None e unclear = (is, e)
 
   cell_reason : (here behind : List Wanted) → no_form_fault here ≡ fault.BadForm → (k : TokenKind) → w.kind ≡ k → At here (cell k behind s)
-  cell_reason here behind bad (kind.Whole n) e = cell_of_reason here behind (ap is_whole e) (natural_of n) (ap (λ (k : TokenKind). designates k s) e)
+  cell_reason here behind bad (kind.Whole n) e = cell_of_reason here behind (ap is_whole e) (natural_of n) (ap (λ (k : TokenKind). designates k s) e) (ap (λ (k : TokenKind). designates_unclearly k s) e)
   cell_reason here behind bad _ e = bad
 
-step_reason : (w : Word) (ws : List Wanted) (s : State) → no_test_valued ws ≡ true → HasReason ws w s (step w ws s)
+step_reason : (w : Word) (ws : List Wanted) (s : State) → HasReason ws w s (step w ws s)
 unfolding step
-step_reason w [] s untested = refl
-step_reason w (Forms ∷ ws) s untested = cond_both (is_left w.kind) _ _ (HasReason (Forms ∷ ws) w s) (λ _. tt) (λ _. refl)
-step_reason w (Form ∷ ws) s untested = form_reason w ws s w.keyword refl
-step_reason w (ClassDeclared ∷ ws) s untested =
+step_reason w [] s = refl
+step_reason w (Forms ∷ ws) s = cond_both (is_left w.kind) _ _ (HasReason (Forms ∷ ws) w s) (λ _. tt) (λ _. refl)
+step_reason w (Form ∷ ws) s = form_reason w ws s w.keyword refl
+step_reason w (ClassDeclared ∷ ws) s =
     cond_both (is_name w.kind) _ _ (HasReason (ClassDeclared ∷ ws) w s) (λ is. cond_both (is_class s w.name) _ _ (HasReason (ClassDeclared ∷ ws) w s) (λ e. (is, e)) (λ _. tt)) (λ _. refl)
-step_reason w (Attributes ∷ ws) s untested =
+step_reason w (Attributes ∷ ws) s =
     cond_both (is_right w.kind) _ _ (HasReason (Attributes ∷ ws) w s) (λ _. tt)
     (λ _. cond_both (is_name w.kind) _ _ (HasReason (Attributes ∷ ws) w s)
     (λ is. cond_both (is_one_of w.name s.attrs) _ _ (HasReason (Attributes ∷ ws) w s) (λ e. (is, e))
     (λ _. cond_both (nat_lt (length s.attrs) most_fields) _ _ (HasReason (Attributes ∷ ws) w s) (λ _. tt) (λ full. full)))
     (λ _. refl))
-step_reason w (RuleName ∷ ws) s untested =
+step_reason w (RuleName ∷ ws) s =
     cond_both (is_name w.kind) _ _ (HasReason (RuleName ∷ ws) w s) (λ is. cond_both (is_rule s w.name) _ _ (HasReason (RuleName ∷ ws) w s) (λ e. (is, e)) (λ _. tt)) (λ _. refl)
-step_reason w (FirstPattern ∷ ws) s untested = cond_both (is_left w.kind) _ _ (HasReason (FirstPattern ∷ ws) w s) (λ _. tt) (λ _. refl)
-step_reason w (Patterns ∷ ws) s untested =
+step_reason w (FirstPattern ∷ ws) s =
+    cond_both (is_left w.kind) _ _ (HasReason (FirstPattern ∷ ws) w s) (λ _. tt) (λ _. cond_both (is_minus w.keyword) _ _ (HasReason (FirstPattern ∷ ws) w s) (λ e. (e, refl)) (λ _. refl))
+step_reason w (Patterns ∷ ws) s =
     cond_both (is_arrow w.keyword) _ _ (HasReason (Patterns ∷ ws) w s) (λ _. tt)
     (λ _. cond_both (is_left w.kind) _ _ (HasReason (Patterns ∷ ws) w s)
-    (λ _. cond_both (nat_lt (length s.conditions) most_conditions) _ _ (HasReason (Patterns ∷ ws) w s) (λ _. tt) (λ full. full)) (λ _. refl))
-step_reason w (ClassName ∷ ws) s untested =
+    (λ _. cond_both (nat_lt (length s.conditions) most_conditions) _ _ (HasReason (Patterns ∷ ws) w s) (λ _. tt) (λ full. full))
+    (λ _. cond_both (is_minus w.keyword) _ _ (HasReason (Patterns ∷ ws) w s)
+    (λ _. cond_both (nat_lt (length s.conditions) most_conditions) _ _ (HasReason (Patterns ∷ ws) w s) (λ _. tt) (λ full. full)) (λ _. refl)))
+step_reason w (NegatedPattern ∷ ws) s = cond_both (is_left w.kind) _ _ (HasReason (NegatedPattern ∷ ws) w s) (λ _. tt) (λ _. refl)
+step_reason w (ClassName ∷ ws) s =
     cond_both (is_name w.kind) _ _ (HasReason (ClassName ∷ ws) w s) (λ is. class_at_reason w ws s is (position (λ c. c.name.0 == w.name.0) s.classes) refl) (λ _. refl)
-step_reason w (Terms u ∷ ws) s untested =
+step_reason w (Terms u ∷ ws) s =
     cond_both (is_right w.kind) _ _ (HasReason (Terms u ∷ ws) w s) (λ _. tt) (λ _. cond_both (is_caret w.kind) _ _ (HasReason (Terms u ∷ ws) w s) (λ _. tt) (λ _. refl))
-step_reason w (Attribute u ∷ ws) s untested =
+step_reason w (Attribute u ∷ ws) s =
     cond_both (is_name w.kind) _ _ (HasReason (Attribute u ∷ ws) w s)
     (λ is. field_at_reason w ws s u is (position (λ a. a.0 == w.name.0) (attributes_of (slice_get s.classes s.class))) refl) (λ _. refl)
-step_reason w (Place f ∷ ws) s untested =
+step_reason w (Place f ∷ ws) s =
     cond_both (is_left_brace w.kind) _ _ (HasReason (Place f ∷ ws) w s) (λ _. tt) (λ _. test_reason w ws s (Place f ∷ ws) ws refl (λ e. ap is_some e) f)
-step_reason w (Tests f ∷ ws) s untested =
+step_reason w (Tests f ∷ ws) s =
     cond_both (is_right_brace w.kind) _ _ (HasReason (Tests f ∷ ws) w s) (λ _. tt) (λ _. test_reason w ws s (Tests f ∷ ws) (Tests f ∷ ws) refl (λ e. ap is_some e) f)
-step_reason w (Tested f p ∷ ws) s untested = tested_reason w ws s (Tested f p ∷ ws) ws refl (λ e. ap is_some e) f p
-step_reason w (Choice f ∷ ws) s untested =
+step_reason w (Tested f p ∷ ws) s = tested_reason w ws s (Tested f p ∷ ws) ws refl (λ e. ap is_some e) f p
+step_reason w (Choice f ∷ ws) s =
     cond_both (closes_choice w.keyword) _ _ (HasReason (Choice f ∷ ws) w s) (λ _. tt) (λ _. chosen_reason w ws s f (atom_of w.kind w.name))
-step_reason w (Atom t ∷ ws) s untested = atom_reason w ws s t (atom_of w.kind w.name)
-step_reason w (ValueFor t ∷ ws) s untested = value_for_reason w ws s t untested
-step_reason w (Actions ∷ ws) s untested =
+step_reason w (Atom t ∷ ws) s = atom_reason w ws s t (atom_of w.kind w.name)
+step_reason w (ValueFor t ∷ ws) s = value_for_reason w ws s t
+step_reason w (Actions ∷ ws) s =
     cond_both (is_right w.kind) _ _ (HasReason (Actions ∷ ws) w s) (λ _. tt) (λ _. cond_both (is_left w.kind) _ _ (HasReason (Actions ∷ ws) w s) (λ _. tt) (λ _. refl))
-step_reason w (ActionWord ∷ ws) s untested = action_word_reason w ws s w.keyword
-step_reason w (Cell ∷ ws) s untested = cell_reason w ws s (Cell ∷ ws) ws refl w.kind refl
-step_reason w (Cells ∷ ws) s untested =
+step_reason w (ActionWord ∷ ws) s = action_word_reason w ws s w.keyword
+step_reason w (Cell ∷ ws) s = cell_reason w ws s (Cell ∷ ws) ws refl w.kind refl
+step_reason w (Cells ∷ ws) s =
     cond_both (is_right w.kind) _ _ (HasReason (Cells ∷ ws) w s) (λ _. tt) (λ _. cell_reason w ws s (Cells ∷ ws) (Cells ∷ ws) refl w.kind refl)
-step_reason w (Items ∷ ws) s untested =
+step_reason w (Items ∷ ws) s =
     cond_both (is_right w.kind) _ _ (HasReason (Items ∷ ws) w s) (λ _. tt)
     (λ _. cond_both (is_left w.kind) _ _ (HasReason (Items ∷ ws) w s) (λ _. tt) (λ _. value_reason w ws s (Items ∷ ws) (Items ∷ ws) refl (λ e. ap is_some e) ToItem (λ is x. tt)))
-step_reason w (ItemWord ∷ ws) s untested = cond_both (is_crlf w.keyword) _ _ (HasReason (ItemWord ∷ ws) w s) (λ _. tt) (λ _. refl)
-step_reason w (Closes e ∷ ws) s untested = cond_both (is_right w.kind) _ _ (HasReason (Closes e ∷ ws) w s) (λ _. tt) (λ _. refl)
+step_reason w (ItemWord ∷ ws) s = cond_both (is_crlf w.keyword) _ _ (HasReason (ItemWord ∷ ws) w s) (λ _. tt) (λ _. refl)
+step_reason w (Closes e ∷ ws) s = cond_both (is_right w.kind) _ _ (HasReason (Closes e ∷ ws) w s) (λ _. tt) (λ _. refl)
 
--- A word is refused for the reason that the fault names. (Where a value is wanted for a test, which no text comes to, a
--- variable is refused as unbound though it may be bound.)
-pub refused-because : (w : Word) (ws : List Wanted) (s : State) (f : Fault) → no_test_valued ws ≡ true → step w ws s ≡ Refuses f → Because f w ws s
-refused-because w ws s f untested e = subst (HasReason ws w s) e (step_reason w ws s untested)
+-- A word is refused for the reason that the fault names.
+pub refused-because : (w : Word) (ws : List Wanted) (s : State) (f : Fault) → step w ws s ≡ Refuses f → Because f w ws s
+refused-because w ws s f e = subst (HasReason ws w s) e (step_reason w ws s)

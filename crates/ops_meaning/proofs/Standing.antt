@@ -19,7 +19,7 @@ use Rattle.ops_meaning.proofs.Completed.{completed}
 use Rattle.ops_meaning.proofs.Proper.{is_proper, words_proper}
 use Rattle.ops_meaning.proofs.Follows.{Went, derived_goes, refused_in_no_form}
 use Rattle.ops_meaning.proofs.Reasons.{refused-because}
-use Rattle.ops_meaning.proofs.Reached.{Reached, goes_behind, derives_before, derives_behind, last_behind, untested_behind, taken_before, stopped}
+use Rattle.ops_meaning.proofs.Reached.{Reached, goes_behind, derives_before, derives_behind, last_behind, taken_before, stopped}
 
 -- ---- a word that is refused
 
@@ -34,7 +34,7 @@ module _ (before : List Word) (w : Word) (f : Fault) (to : List Wanted) (at : St
       record {
         taken = taken_before to at before (Forms ∷ []) nothing_read reached;
         refused = λ more. goes_behind to at before (Forms ∷ []) nothing_read reached (w ∷ more) ∙ refuses w to at f more refused;
-        because = (to, at, goes_behind to at before (Forms ∷ []) nothing_read reached, refused-because w to at f (untested_behind to at before (Forms ∷ []) nothing_read reached refl) refused);
+        because = (to, at, goes_behind to at before (Forms ∷ []) nothing_read reached, refused-because w to at f refused);
         goes_on = let c = completed to in (c.0, derives_before to at before (Forms ∷ []) nothing_read reached c.0 c.1);
         in_a_form = λ no. let c = refused_in_form w to at f refused no in (c.0, derives_before to at before (Forms ∷ []) nothing_read reached (w ∷ c.0) c.1);
         in_no_form = λ is more d. refused_in_no_form w to at last f refused is more (derives_behind to at before (Forms ∷ []) nothing_read reached refl proper (w ∷ more) d);

@@ -1,5 +1,5 @@
 -- What holds of a word that is taken, besides the grammar.
-use Rattle.std.proofs.Common.{◌≡◌, ℕ, zero, suc, ◌<◌, Bool, true, false, not, ◌==◌, List, [], ◌∷◌, length, refl, sym, ap, subst, ◌∙◌, arith, Option, Some, None, nat_lt, is_some, position, slice_get, get_or, true≢false}
+use Rattle.std.proofs.Common.{◌≡◌, ℕ, zero, suc, ◌-◌, ◌<◌, Bool, true, false, not, ◌==◌, List, [], ◌∷◌, length, take, refl, sym, ap, subst, ◌∙◌, arith, Option, Some, None, nat_lt, is_some, position, slice_get, get_or, true≢false}
 use Rattle.std.specs.List.{list_any}
 use Rattle.std.proofs.lemmas.Bool.{cond_both, or_left, or_right}
 use Rattle.std.proofs.lemmas.List.Quantifiers.{position-Some}
@@ -7,16 +7,17 @@ use Rattle.ops_base.specs.declared.values.Sym.{Sym}
 use Rattle.ops_base.specs.declared.values.Value.{Value}
 use Rattle.ops_base.specs.declared.values.Pred.{Pred}
 use Rattle.ops_base.specs.declared.values.Pred.TheVariants as pred
+use Rattle.ops_base.specs.declared.conditions.Condition.{Condition}
 use Rattle.ops_base.specs.Valid.{most_fields, most_conditions, no_class}
 use Rattle.ops_tokens.specs.declared.token.TokenKind.{TokenKind}
 use Rattle.ops_tokens.specs.declared.token.TokenKind.TheVariants as kind
 use Rattle.ops_meaning.specs.declared.words.Word.{Word}
 use Rattle.ops_meaning.specs.declared.words.Keyword.{Keyword}
 use Rattle.ops_meaning.specs.declared.words.Keyword.TheVariants as keyword
-use Rattle.ops_meaning.specs.Grammar.{Use, Target, ToPut, ToItem, Wanted, Form, ClassDeclared, Attributes, RuleName, Patterns, ClassName, Attribute, Tested, ValueFor, Cell, Cells, Items, State, Step, Next, Refuses, is_left, is_right, is_name, is_variable, is_arrow, is_literal, constant_of, value_of, natural_of, is_one_of, number_of, may_declare, is_class, is_rule, form, class_at, attributes_of, field_at, variable_tested, constant_tested, tested, bound_at, constant_at, value_for, cell_of, cell, step}
+use Rattle.ops_meaning.specs.Grammar.{Use, Target, ToPut, ToItem, Wanted, Form, ClassDeclared, Attributes, RuleName, Patterns, ClassName, Attribute, Tested, ValueFor, Cell, Cells, Items, State, Step, Next, Refuses, is_left, is_right, is_name, is_variable, is_arrow, is_literal, is_minus, constant_of, value_of, natural_of, is_one_of, number_of, may_declare, is_class, is_rule, form, class_at, attributes_of, field_at, variable_tested, constant_tested, tested, bound_at, constant_at, value_for, designated, cell_of, cell, step}
 use Rattle.ops_meaning.specs.Derivation.{is_whole}
 use Rattle.ops_meaning.proofs.Follows.{name_not_right, whole_not_right}
-use Rattle.ops_meaning.specs.Reasons.{is_condition, designates}
+use Rattle.ops_meaning.specs.Reasons.{is_positive, is_condition, designates, is_unclear, designates_unclearly}
 
 -- a declaration comes before all else, and a production before the commands
 abbrev pub FormFits : Keyword → State → Type 0
@@ -39,6 +40,10 @@ ValueFits (ToPut f) w s = Known w s
 ValueFits ToItem w s = Known w s
 ValueFits _ w s = is_literal w.keyword ≡ false → is_variable w.kind ≡ false
 
+-- the number of a positive condition, before which none is negated
+abbrev pub DesignatorFits : TokenKind → State → Type 0
+DesignatorFits k s = (designates k s ≡ true) × (designates_unclearly k s ≡ false)
+
 -- what a word that is taken meets where this is wanted
 abbrev pub Fits : List Wanted → Word → State → Type 0
 Fits (Form ∷ ws) w s = FormFits w.keyword s
@@ -50,8 +55,8 @@ Fits (ClassName ∷ ws) w s = is_class s w.name ≡ true
 Fits (Attribute u ∷ ws) w s = is_one_of w.name (attributes_of (slice_get s.classes s.class)) ≡ true
 Fits (Tested f p ∷ ws) w s = OperandFits p w s
 Fits (ValueFor t ∷ ws) w s = ValueFits t w s
-Fits (Cell ∷ ws) w s = designates w.kind s ≡ true
-Fits (Cells ∷ ws) w s = is_whole w.kind ≡ true → designates w.kind s ≡ true
+Fits (Cell ∷ ws) w s = DesignatorFits w.kind s
+Fits (Cells ∷ ws) w s = is_whole w.kind ≡ true → DesignatorFits w.kind s
 Fits (Items ∷ ws) w s = Known w s
 Fits ws w s = Unit {0}
 
@@ -156,11 +161,18 @@ module _ (w : Word) (ws : List Wanted) (s : State) where
       cond_both (is_literal w.keyword) _ _ (IfTaken (ValueFits t w s)) (λ l. value_fits_where t (λ unlike. clash (is_literal w.keyword) l unlike))
       (λ _. constant_at_fits t (value_of w.kind w.name) refl)
 
-  cell_of_fits : (o : Option ℕ) → IfTaken (is_condition s o ≡ true) (cell_of o ws s)
-  cell_of_fits (Some n) = cond_both (nat_lt (length s.conditions) n) _ _ (IfTaken (not (nat_lt (length s.conditions) n) ≡ true)) (λ _. tt) (λ near. ap not near)
+  designated_fits : (before : ℕ) (o : Option Condition) → IfTaken ((is_positive o ≡ true) × (list_any (λ c. c.negated) (take before s.conditions) ≡ false)) (designated before o ws s)
+  designated_fits before (Some c) =
+      let P : Type 0 = (not c.negated ≡ true) × (list_any (λ c. c.negated) (take before s.conditions) ≡ false) in
+      cond_both c.negated _ _ (IfTaken P) (λ _. tt)
+      (λ positive. cond_both (list_any (λ c. c.negated) (take before s.conditions)) _ _ (IfTaken P) (λ _. tt) (λ clear. (ap not positive, clear)))
+  designated_fits before None = tt
+
+  cell_of_fits : (o : Option ℕ) → IfTaken ((is_condition s o ≡ true) × (is_unclear s o ≡ false)) (cell_of o ws s)
+  cell_of_fits (Some n) = designated_fits (n - 1) (slice_get s.conditions (n - 1))
   cell_of_fits None = tt
 
-  cell_fits : (k : TokenKind) → IfTaken (designates k s ≡ true) (cell k ws s)
+  cell_fits : (k : TokenKind) → IfTaken (DesignatorFits k s) (cell k ws s)
   cell_fits (kind.Whole n) = cell_of_fits (natural_of n)
   cell_fits _ = tt
 
@@ -179,7 +191,8 @@ step_fits w (RuleName ∷ ws) s =
 step_fits w (Patterns ∷ ws) s =
     let P : Type 0 = Fits (Patterns ∷ ws) w s in
     cond_both (is_arrow w.keyword) _ _ (IfTaken P) (λ arrow other. clash (is_arrow w.keyword) arrow other)
-    (λ _. cond_both (is_left w.kind) _ _ (IfTaken P) (λ _. cond_both (nat_lt (length s.conditions) most_conditions) _ _ (IfTaken P) (λ room _. room) (λ _. tt)) (λ _. tt))
+    (λ _. cond_both (is_left w.kind) _ _ (IfTaken P) (λ _. cond_both (nat_lt (length s.conditions) most_conditions) _ _ (IfTaken P) (λ room _. room) (λ _. tt))
+    (λ _. cond_both (is_minus w.keyword) _ _ (IfTaken P) (λ _. cond_both (nat_lt (length s.conditions) most_conditions) _ _ (IfTaken P) (λ room _. room) (λ _. tt)) (λ _. tt)))
 step_fits w (ClassName ∷ ws) s =
     cond_both (is_name w.kind) _ _ (IfTaken (is_class s w.name ≡ true)) (λ _. class_fits w ws s (position (λ c. c.name.0 == w.name.0) s.classes) refl) (λ _. tt)
 step_fits w (Attribute u ∷ ws) s =
@@ -190,7 +203,7 @@ step_fits w (Cell ∷ ws) s = cell_fits w ws s w.kind
 step_fits w (Cells ∷ ws) s =
     let P : Type 0 = Fits (Cells ∷ ws) w s in
     cond_both (is_right w.kind) _ _ (IfTaken P) (λ right whole. clash (is_right w.kind) right (whole_not_right w.kind whole))
-    (λ _. weaker (designates w.kind s ≡ true) P (λ is _. is) _ (cell_fits w (Cells ∷ ws) s w.kind))
+    (λ _. weaker (DesignatorFits w.kind s) P (λ is _. is) _ (cell_fits w (Cells ∷ ws) s w.kind))
 step_fits w (Items ∷ ws) s =
     let P : Type 0 = Fits (Items ∷ ws) w s in
     cond_both (is_right w.kind) _ _ (IfTaken P) (λ right _ is. clash (is_right w.kind) right (variable_not_right w.kind is))
