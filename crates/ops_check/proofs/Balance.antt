@@ -1,11 +1,13 @@
 -- Brackets: the words of a form that is closed do not end too early, and those of a form that is open do not end.
-use Rattle.std.proofs.Common.{◌≡◌, ℕ, ◌+◌, ◌-◌, ◌≤◌, Bool, true, false, cond, not, ◌&&◌, ◌||◌, ◌==◌, List, [], ◌∷◌, length, Option, Some, None, Ok, Err, refl, sym, ap, subst, ◌∙◌, arith, true≢false, position, slice_get, nat_lt}
+use Rattle.std.proofs.Common.{◌≡◌, ℕ, ◌+◌, ◌-◌, ◌≤◌, Bool, true, false, cond, not, ◌&&◌, ◌||◌, ◌==◌, List, [], ◌∷◌, length, Option, Some, None, Ok, Err, refl, sym, ap, subst, ◌∙◌, arith, true≢false, position, slice_get, take, nat_lt}
+use Rattle.std.specs.List.{list_any}
 use Rattle.std.proofs.lemmas.Bool.{and_parts, cond_both, eqb-true, eqb-false, not-true}
 use Rattle.ops_base.specs.Names.{Spellings}
 use Rattle.ops_base.specs.declared.values.Sym.{Sym}
 use Rattle.ops_base.specs.declared.values.Value.{Value}
 use Rattle.ops_base.specs.declared.values.Pred.{Pred}
 use Rattle.ops_base.specs.declared.values.Pred.TheVariants as pred
+use Rattle.ops_base.specs.declared.conditions.Condition.{Condition}
 use Rattle.ops_base.specs.Valid.{most_fields, most_conditions}
 use Rattle.ops_tokens.specs.declared.token.Token.{Token}
 use Rattle.ops_tokens.specs.declared.token.TokenKind.{TokenKind}
@@ -15,7 +17,7 @@ use Rattle.ops_meaning.specs.declared.words.Word.{Word}
 use Rattle.ops_meaning.specs.declared.words.Keyword.{Keyword}
 use Rattle.ops_meaning.specs.declared.words.Keyword.TheVariants as keyword
 use Rattle.ops_meaning.specs.Words.{keyword_of, names_with, word_of, words_from}
-use Rattle.ops_meaning.specs.Grammar.{Use, InPattern, InPut, InFixed, Target, ToTest, ToPut, ToFixed, ToItem, Wanted, Forms, Form, ClassDeclared, Attributes, RuleName, FirstPattern, Patterns, ClassName, Terms, Attribute, Place, Tests, Tested, Choice, Atom, ValueFor, Actions, ActionWord, Cell, Cells, Items, ItemWord, Closes, State, Step, Next, Refuses, Outcome, is_left, is_right, is_left_brace, is_right_brace, is_caret, is_name, is_variable, is_arrow, is_crlf, is_literal, opens_choice, closes_choice, pred_of, constant_of, value_of, atom_of, natural_of, is_one_of, number_of, may_declare, is_class, is_rule, form, class_at, attributes_of, field_at, variable_tested, constant_tested, tested, predicated, test, chosen, atom_at, bound_at, constant_at, value_for, action_word, cell_of, cell, step, ends, after, goes}
+use Rattle.ops_meaning.specs.Grammar.{Use, InPattern, InPut, InFixed, Target, ToTest, ToPut, ToFixed, ToItem, Wanted, Forms, Form, ClassDeclared, Attributes, RuleName, FirstPattern, Patterns, NegatedPattern, ClassName, Terms, Attribute, Place, Tests, Tested, Choice, Atom, ValueFor, Actions, ActionWord, Cell, Cells, Items, ItemWord, Closes, State, Step, Next, Refuses, Outcome, is_left, is_right, is_left_brace, is_right_brace, is_caret, is_name, is_variable, is_arrow, is_crlf, is_literal, is_minus, opens_choice, closes_choice, pred_of, constant_of, value_of, atom_of, natural_of, is_one_of, number_of, may_declare, is_class, is_rule, form, class_at, attributes_of, field_at, variable_tested, constant_tested, tested, predicated, test, chosen, atom_at, bound_at, constant_at, value_for, action_word, designated, cell_of, cell, step, ends, after, goes}
 use Rattle.ops_forms.specs.Forms.{open_behind, is_last, closes_last, stays_open, opens}
 
 -- ---- what is owed
@@ -70,6 +72,7 @@ in_form_owes (ClassDeclared ∷ ws) i h = let p = and_parts (in_form ws) (stands
 in_form_owes (RuleName ∷ ws) i h = let p = and_parts (in_form ws) (stands ws) h in in_form_owes ws p.0 p.1
 in_form_owes (FirstPattern ∷ ws) i h = let p = and_parts (in_form ws) (stands ws) h in in_form_owes ws p.0 p.1
 in_form_owes (Patterns ∷ ws) i h = let p = and_parts (in_form ws) (stands ws) h in in_form_owes ws p.0 p.1
+in_form_owes (NegatedPattern ∷ ws) i h = let p = and_parts (in_form ws) (stands ws) h in in_form_owes ws p.0 p.1
 in_form_owes (ClassName ∷ ws) i h = let p = and_parts (in_form ws) (stands ws) h in in_form_owes ws p.0 p.1
 in_form_owes (Attribute u ∷ ws) i h = let p = and_parts (in_form ws) (stands ws) h in in_form_owes ws p.0 p.1
 in_form_owes (Place f ∷ ws) i h = let p = and_parts (in_form ws) (stands ws) h in in_form_owes ws p.0 p.1
@@ -145,6 +148,10 @@ opening_known _ e o = absurd (true≢false (sym e))
 closing_known : (k : Keyword) → closes_choice k ≡ true → k ≡ keyword.Other → ⊥
 closing_known keyword.CloseChoice e o = absurd (cc)
 closing_known _ e o = absurd (true≢false (sym e))
+
+minus_known : (k : Keyword) → is_minus k ≡ true → k ≡ keyword.Other → ⊥
+minus_known keyword.Minus e o = absurd (cc)
+minus_known _ e o = absurd (true≢false (sym e))
 
 pred_known : (k : Keyword) (p : Pred) → pred_of k ≡ Some p → k ≡ keyword.Other → ⊥
 pred_known keyword.Other p e o = absurd (cc)
@@ -244,8 +251,14 @@ module _ (w : Word) (quiet : (n : ℕ) → (w.keyword ≡ keyword.Other → ⊥)
       cond_both (is_literal w.keyword) _ _ (B ws) (λ e. (h, sym (quiet (owed ws) (literal_known w.keyword e))))
       (λ _. constant_balanced t (value_of w.kind w.name) ws s refl (and_parts (in_form ws) (stands ws) h).1)
 
+  designated_balanced : (k : ℕ) (o : Option Condition) (ws : List Wanted) (s : State) → owed ws ≡ open_behind (owed ws) w.kind → stands ws ≡ true → B ws (designated k o ws s)
+  designated_balanced k (Some c) ws s e h =
+      cond_both c.negated _ _ (B ws) (λ _. tt)
+      (λ _. cond_both (list_any (λ d. d.negated) (take k s.conditions)) _ _ (B ws) (λ _. tt) (λ _. (h, e)))
+  designated_balanced k None ws s e h = tt
+
   cell_of_balanced : (o : Option ℕ) (ws : List Wanted) (s : State) → owed ws ≡ open_behind (owed ws) w.kind → stands ws ≡ true → B ws (cell_of o ws s)
-  cell_of_balanced (Some m) ws s e h = cond_both (nat_lt (length s.conditions) m) _ _ (B ws) (λ _. tt) (λ _. (h, e))
+  cell_of_balanced (Some m) ws s e h = designated_balanced (m - 1) (slice_get s.conditions (m - 1)) ws s e h
   cell_of_balanced None ws s e h = tt
 
   cell_balanced : (k : TokenKind) (ws : List Wanted) (s : State) → w.kind ≡ k → stands ws ≡ true → B ws (cell k ws s)
@@ -286,11 +299,16 @@ module _ (w : Word) (quiet : (n : ℕ) → (w.keyword ≡ keyword.Other → ⊥)
       cond_both (is_name w.kind) _ _ (B (RuleName ∷ ws))
       (λ e. cond_both (is_rule s w.name) _ _ (B (RuleName ∷ ws)) (λ _. tt) (λ _. ((and_parts (in_form ws) (stands ws) h).1, named ws e))) (λ _. tt)
   step_balanced (FirstPattern ∷ ws) s h =
-      cond_both (is_left w.kind) _ _ (B (FirstPattern ∷ ws)) (λ e. ((and_parts (in_form ws) (stands ws) h).1, opened ws e)) (λ _. tt)
+      cond_both (is_left w.kind) _ _ (B (FirstPattern ∷ ws)) (λ e. ((and_parts (in_form ws) (stands ws) h).1, opened ws e))
+      (λ _. cond_both (is_minus w.keyword) _ _ (B (FirstPattern ∷ ws)) (λ _. tt) (λ _. tt))
   step_balanced (Patterns ∷ ws) s h =
       cond_both (is_arrow w.keyword) _ _ (B (Patterns ∷ ws)) (λ e. ((and_parts (in_form ws) (stands ws) h).1, sym (quiet (owed ws) (arrow_known w.keyword e))))
       (λ _. cond_both (is_left w.kind) _ _ (B (Patterns ∷ ws))
-      (λ e. cond_both (nat_lt (length s.conditions) most_conditions) _ _ (B (Patterns ∷ ws)) (λ _. (h, opened (Patterns ∷ ws) e)) (λ _. tt)) (λ _. tt))
+      (λ e. cond_both (nat_lt (length s.conditions) most_conditions) _ _ (B (Patterns ∷ ws)) (λ _. (h, opened (Patterns ∷ ws) e)) (λ _. tt))
+      (λ _. cond_both (is_minus w.keyword) _ _ (B (Patterns ∷ ws))
+      (λ e. cond_both (nat_lt (length s.conditions) most_conditions) _ _ (B (Patterns ∷ ws)) (λ _. (h, sym (quiet (owed ws) (minus_known w.keyword e)))) (λ _. tt)) (λ _. tt)))
+  step_balanced (NegatedPattern ∷ ws) s h =
+      cond_both (is_left w.kind) _ _ (B (NegatedPattern ∷ ws)) (λ e. ((and_parts (in_form ws) (stands ws) h).1, opened ws e)) (λ _. tt)
   step_balanced (ClassName ∷ ws) s h =
       cond_both (is_name w.kind) _ _ (B (ClassName ∷ ws)) (λ e. class_at_balanced (position (λ c. c.name.0 == w.name.0) s.classes) ws s e (and_parts (in_form ws) (stands ws) h).1) (λ _. tt)
   step_balanced (Terms u ∷ ws) s h =

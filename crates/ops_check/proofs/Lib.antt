@@ -2,3 +2,4 @@ pub mod Ways
 pub mod Numbered
 pub mod Balance
 pub mod Texts
+pub mod Cells

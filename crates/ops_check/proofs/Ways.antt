@@ -3,7 +3,7 @@ use Rattle.std.proofs.Common.{◌≡◌, ℕ, true, false, List, [], ◌∷◌, 
 use Rattle.std.specs.Borrow.{Bor}
 use Rattle.ops_base.specs.declared.values.Pred.{Pred}
 use Rattle.ops_meaning.specs.declared.words.Word.{Word}
-use Rattle.ops_meaning.specs.Grammar.{Target, Wanted, Cell, Cells, Items, ItemWord, Place, Tests, Tested, ValueFor, ToItem, State, Next, after, step, goes, is_left, is_right, is_left_brace, is_right_brace, test, tested, value_for, cell}
+use Rattle.ops_meaning.specs.Grammar.{Target, Wanted, Patterns, Cell, Cells, Items, ItemWord, Place, Tests, Tested, ValueFor, ToItem, State, Next, after, step, goes, is_left, is_right, is_left_brace, is_right_brace, is_arrow, more_patterns, test, tested, value_for, cell}
 use Rattle.ops_check.specs.declared.refusals.Refusal.{Refusal}
 use Rattle.ops_check.specs.declared.refusals.Refusal.TheVariants as refusal
 use Rattle.ops_check.specs.Going.{Way, Fails, Goes}
@@ -55,3 +55,7 @@ tested_first f p words rest more w ws s e = rw e refl
 pub value_first : (t : Target) (words rest more : List Word) (w : Word) (ws : List Wanted) (s : State) → words ≡ w ∷ rest → goes (words ++ more) (ValueFor t ∷ ws) s ≡ after (goes (rest ++ more)) w (value_for t w ws s)
 unfolding goes step
 value_first t words rest more w ws s e = rw e refl
+
+pub patterns_first : (words rest more : List Word) (w : Word) (ws : List Wanted) (s : State) → words ≡ w ∷ rest → is_arrow w.keyword ≡ false → goes (words ++ more) (Patterns ∷ ws) s ≡ after (goes (rest ++ more)) w (more_patterns w (Patterns ∷ ws) s)
+unfolding goes step
+patterns_first words rest more w ws s e other = rw (e, other) refl

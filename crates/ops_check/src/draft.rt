@@ -335,10 +335,14 @@ fn place_in(attrs: &[Sym], name: Sym) -> Option<usize>
 }
 
 // one per positive condition
+#[tactic(auto, using(crate::proofs::Cells::cells_counted))]
 fn cells_of(conditions: &[Condition]) -> usize
     ensures { result ≡ length (cells_of conditions.now) }
 {
-    conditions.iter().filter(|condition| !condition.negated).count()
+    conditions
+        .iter()
+        .filter(|condition| !condition.negated)
+        .count()
 }
 
 // one per condition, and one per test that does not bind

@@ -1,5 +1,6 @@
 //! Productions.
 ghost use Rattle.std.specs.Prelude.{◌≡◌, slice_get, ◌∷◌, ◌++◌, if◌then◌else◌};
+ghost use Rattle.std.specs.List.{list_any};
 ghost use Rattle.ops_meaning.specs.Grammar.{goes, cell, designated, more_patterns, value_for, is_left, ToItem, RuleName, FirstPattern, Patterns, NegatedPattern, Actions, ActionWord, Cell, Cells, Items, ItemWord, Closes, EndsHalt, EndsCrlf, Next};
 ghost use Rattle.ops_check.specs.Going.{view, Goes, Reads, Acts, IsWithin};
 
@@ -7,6 +8,7 @@ use crate::draft::{Draft, Place, Target};
 use crate::kinds::{is_arrow, is_crlf, is_left, is_minus, is_name, is_right, natural_of, whole_of};
 use crate::refusals::{Refusal, closing, first_of, refused};
 use ops_base::actions::{Action, Item};
+use ops_base::conditions::Condition;
 use ops_base::endings::{Fault, Limit};
 use ops_meaning::{Keyword, Word};
 
@@ -259,11 +261,13 @@ impl Draft {
         ensures acts { Acts (λ ws s. designated before (slice_get s.conditions before) ws s) word (view self.old) (view self.new) rest.now result }
         ensures within { IsWithin rest.now result }
     {
-        match self.conditions.get(before) {
-            Some(condition) if !condition.negated => {}
-            _ => return refused(Fault::BadDesignator, word),
+        let Some(condition) = self.conditions.get(before) else {
+            return refused(Fault::BadDesignator, word);
+        };
+        if condition.negated {
+            return refused(Fault::BadDesignator, word);
         }
-        if self.conditions[..before].iter().any(|condition| condition.negated) {
+        if is_any_negated(&self.conditions[..before]) {
             return refused(Fault::AmbiguousDesignator, word);
         }
         self.cells.push(before)?;
@@ -325,4 +329,10 @@ impl Draft {
         self.add_item(Item::Crlf)?;
         Ok(rest)
     }
+}
+
+fn is_any_negated(conditions: &[Condition]) -> bool
+    ensures { result ≡ list_any (λ c. c.negated) conditions.now }
+{
+    conditions.iter().any(|condition| condition.negated)
 }

@@ -46,7 +46,37 @@ fn program_is_read(rt: HostRuntime) -> Result<(), ProgramFault> {
 }
 
 // texts, each with its fault, line and column
-const FAULTS: [(&[u8], Fault, u64, u64); 30] = [
+const FAULTS: [(&[u8], Fault, u64, u64); 35] = [
+    (
+        b"(literalize a n) (p r (a) - (a ^n 1) (a ^n 2) --> (remove 3))",
+        Fault::AmbiguousDesignator,
+        1,
+        59,
+    ),
+    (
+        b"(literalize a n) (p r (a) - (a ^n 1) --> (remove 2))",
+        Fault::BadDesignator,
+        1,
+        50,
+    ),
+    (
+        b"(literalize a n) (p r - (a) -->)",
+        Fault::FirstNegated,
+        1,
+        23,
+    ),
+    (
+        b"(literalize a n) (p r (a) - (a ^n <x>) --> (write <x>))",
+        Fault::UnboundVariable,
+        1,
+        51,
+    ),
+    (
+        b"(literalize a n) (p r (a) - - (a) -->)",
+        Fault::BadForm,
+        1,
+        29,
+    ),
     (
         b"(literalize a n) (p r (a ^n > <x>) -->)",
         Fault::UnboundVariable,

@@ -56,7 +56,7 @@ pub data Ends : Type 0 where
 pub data Wanted : Type 0 where
   -- form*
   Forms : Wanted
-  -- literalize NAME NAME* ) | p NAME first pattern* --> action* ) | make CLASS fixed* ) | run )
+  -- literalize NAME NAME* ) | p NAME first condition* --> action* ) | make CLASS fixed* ) | run )
   Form : Wanted
   -- NAME
   ClassDeclared : Wanted

@@ -231,7 +231,7 @@ action_is_plain classes n k _ = false
 abbrev pub arrow : Word
 arrow = record { kind = kind.Operator; keyword = keyword.Arrow; name = unnamed; first = 0; past = 0 }
 
--- ( p NAME pattern pattern* --> action* ), at the place of the rule
+-- ( p NAME first condition* --> action* ), at the place of the rule
 abbrev pub spelled_rule : List Class → Rule → List Word
 spelled_rule classes r =
     record opening { first = r.first } ∷ spelled_keyword keyword.Production ∷ spelled_name r.name ∷ spelled_each (spelled_condition classes) r.conditions

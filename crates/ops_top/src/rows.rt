@@ -152,6 +152,24 @@ fn predicates_and_quoted_atoms(rt: HostRuntime) -> Result<(), Fail> {
     Ok(())
 }
 
+const FREE: &[u8] = b"(literalize a n) (literalize stop n)
+(p free (a ^n <x>) - (stop ^n <x>) - (stop ^n > 8) --> (write <x> (crlf)))
+(make a ^n 1) (make a ^n 2) (make stop ^n 2)
+(run)
+";
+
+#[test]
+fn negated_conditions(rt: HostRuntime) -> Result<(), Fail> {
+    let alloc = rt.alloc();
+    let mut sink = MemSink::new(alloc, 1_000, 1_000, Vec::new(alloc))?;
+    assert_eq!(rt; answer(&rt, alloc, FREE, &mut sink)?, Some(Status::Done));
+    assert_eq!(rt;
+        sink.written(),
+        b"1\nend -- no production true\n".as_slice()
+    );
+    Ok(())
+}
+
 const PAIR: &[u8] = b"(literalize a n)
 (p pair (a ^n <x>) (a ^n <x>) --> (write pair <x> (crlf)) (remove 1))
 (make a ^n 5)
