@@ -90,7 +90,7 @@ fn tokens_have_words(rt: HostRuntime) -> Result<(), FormFault> {
             word(TokenKind::Symbol, Keyword::Other, 2, 6, 7),
             word(TokenKind::Variable, Keyword::Other, 3, 8, 11),
             word(TokenKind::Quoted, Keyword::Other, 1, 12, 18),
-            word(TokenKind::Operator, Keyword::Arrow, 0, 19, 22),
+            word(TokenKind::Operator, Keyword::Arrow, 4, 19, 22),
             word(TokenKind::Whole(7), Keyword::Other, 0, 23, 24),
             word(TokenKind::Symbol, Keyword::Other, 2, 25, 26),
             word(TokenKind::Right, Keyword::Other, 0, 26, 27),
