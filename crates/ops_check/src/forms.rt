@@ -32,7 +32,7 @@ impl Draft {
         }
     }
 
-    // literalize NAME NAME* ) | p NAME pattern pattern* --> action* ) | make CLASS fixed* ) | run )
+    // literalize NAME NAME* ) | p NAME first condition* --> action* ) | make CLASS fixed* ) | run )
     #[tactic(auto, unfolding(ops_meaning::specs::Grammar::goes, ops_meaning::specs::Grammar::step, ops_meaning::specs::Grammar::ends))]
     fn form<'a>(&mut self, words: &'a [Word]) -> Result<&'a [Word], Refusal>
         ensures reads { Reads Form (view self.old) (view self.new) words.now result }

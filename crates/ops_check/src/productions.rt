@@ -16,7 +16,7 @@ use ops_meaning::{Keyword, Word};
 const MOST_CONDITIONS: usize = 64;
 
 impl Draft {
-    // NAME pattern pattern* --> action* )
+    // NAME first condition* --> action* )
     pub fn production<'a>(&mut self, words: &'a [Word]) -> Result<&'a [Word], Refusal>
         ensures reads { Goes (λ more ws. goes (words.now ++ more) (RuleName ∷ FirstPattern ∷ Patterns ∷ Actions ∷ ws) (view self.old)) (view self.new) result }
         ensures within { IsWithin words.now result }

@@ -31,7 +31,7 @@ is_atom w = is_some (atom_of w.kind w.name)
 abbrev pub is_choice : Word → Bool
 is_choice w = not (closes_choice w.keyword) && is_atom w
 
--- The words derive from what is wanted, one case for each line of the grammar.
+-- The words derive from what is wanted, a case for each choice of each line of the grammar.
 pub data Derives : List Wanted → List Word → Type 0 where
   nothing : Derives [] []
   -- text = form*
