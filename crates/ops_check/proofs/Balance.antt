@@ -8,7 +8,7 @@ use Rattle.ops_base.specs.declared.values.Value.{Value}
 use Rattle.ops_base.specs.declared.values.Pred.{Pred}
 use Rattle.ops_base.specs.declared.values.Pred.TheVariants as pred
 use Rattle.ops_base.specs.declared.conditions.Condition.{Condition}
-use Rattle.ops_base.specs.Valid.{most_fields, most_conditions}
+use Rattle.ops_base.specs.Valid.{most_fields, most_conditions, class_of, is_vector}
 use Rattle.ops_tokens.specs.declared.token.Token.{Token}
 use Rattle.ops_tokens.specs.declared.token.TokenKind.{TokenKind}
 use Rattle.ops_tokens.specs.declared.token.TokenKind.TheVariants as kind
@@ -17,7 +17,7 @@ use Rattle.ops_meaning.specs.declared.words.Word.{Word}
 use Rattle.ops_meaning.specs.declared.words.Keyword.{Keyword}
 use Rattle.ops_meaning.specs.declared.words.Keyword.TheVariants as keyword
 use Rattle.ops_meaning.specs.Words.{keyword_of, names_with, word_of, words_from}
-use Rattle.ops_meaning.specs.Grammar.{Use, InPattern, InPut, InFixed, Target, ToTest, ToPut, ToFixed, ToItem, Wanted, Forms, Form, ClassDeclared, Attributes, RuleName, FirstPattern, Patterns, NegatedPattern, ClassName, Terms, Attribute, Place, Tests, Tested, Choice, Atom, ValueFor, Actions, ActionWord, Cell, Cells, Items, ItemWord, Closes, State, Step, Next, Refuses, Outcome, is_left, is_right, is_left_brace, is_right_brace, is_caret, is_name, is_variable, is_arrow, is_crlf, is_literal, is_minus, opens_choice, closes_choice, pred_of, constant_of, value_of, atom_of, natural_of, is_one_of, number_of, may_declare, is_class, is_rule, form, class_at, attributes_of, field_at, variable_tested, constant_tested, tested, predicated, test, chosen, atom_at, bound_at, constant_at, value_for, action_word, designated, cell_of, cell, step, ends, after, goes}
+use Rattle.ops_meaning.specs.Grammar.{Use, InPattern, InPut, InFixed, Target, ToTest, ToPut, ToFixed, ToTerms, ToConstants, ToItem, Wanted, Forms, Form, ClassDeclared, Attributes, VectorName, VectorNames, RuleName, FirstPattern, Patterns, Pattern, Braced, ElementName, ClosesBrace, ClassName, Terms, Attribute, Several, Place, Tests, Tested, Choice, Atom, ValueFor, Actions, ActionWord, Cell, Cells, Items, ItemWord, Closes, State, Step, Next, Refuses, Outcome, is_left, is_right, is_left_brace, is_right_brace, is_caret, is_name, is_variable, is_arrow, is_crlf, is_literal, is_minus, opens_choice, closes_choice, pred_of, constant_of, value_of, atom_of, natural_of, is_one_of, number_of, may_declare, is_class, is_rule, is_second, makes_second, vector_declared, vector_name, form, class_at, attributes_of, behind_attribute, field_at, terms, within, one_of_several, with_several, place, element_at, element_name, cell_named, variable_tested, constant_tested, tested, predicated, test, chosen, atom_at, bound_at, constant_at, value_for, action_word, designated, cell_of, cell, step, ends, after, goes}
 use Rattle.ops_forms.specs.Forms.{open_behind, is_last, closes_last, stays_open, opens}
 
 -- ---- what is owed
@@ -26,7 +26,10 @@ use Rattle.ops_forms.specs.Forms.{open_behind, is_last, closes_last, stays_open,
 abbrev owes : Wanted → Bool
 owes Form = true
 owes Attributes = true
+owes VectorNames = true
 owes (Terms u) = true
+owes (Attribute u) = true
+owes (Several u f) = true
 owes Actions = true
 owes ActionWord = true
 owes Cells = true
@@ -61,7 +64,10 @@ in_form_owes [] i h = absurd (true≢false (sym i))
 in_form_owes (Forms ∷ ws) i h = absurd (true≢false (sym i))
 in_form_owes (Form ∷ ws) i h = omega arith
 in_form_owes (Attributes ∷ ws) i h = omega arith
+in_form_owes (VectorNames ∷ ws) i h = omega arith
 in_form_owes (Terms u ∷ ws) i h = omega arith
+in_form_owes (Attribute u ∷ ws) i h = omega arith
+in_form_owes (Several u f ∷ ws) i h = omega arith
 in_form_owes (Actions ∷ ws) i h = omega arith
 in_form_owes (ActionWord ∷ ws) i h = omega arith
 in_form_owes (Cells ∷ ws) i h = omega arith
@@ -69,12 +75,15 @@ in_form_owes (Items ∷ ws) i h = omega arith
 in_form_owes (ItemWord ∷ ws) i h = omega arith
 in_form_owes (Closes e ∷ ws) i h = omega arith
 in_form_owes (ClassDeclared ∷ ws) i h = let p = and_parts (in_form ws) (stands ws) h in in_form_owes ws p.0 p.1
+in_form_owes (VectorName ∷ ws) i h = let p = and_parts (in_form ws) (stands ws) h in in_form_owes ws p.0 p.1
 in_form_owes (RuleName ∷ ws) i h = let p = and_parts (in_form ws) (stands ws) h in in_form_owes ws p.0 p.1
 in_form_owes (FirstPattern ∷ ws) i h = let p = and_parts (in_form ws) (stands ws) h in in_form_owes ws p.0 p.1
 in_form_owes (Patterns ∷ ws) i h = let p = and_parts (in_form ws) (stands ws) h in in_form_owes ws p.0 p.1
-in_form_owes (NegatedPattern ∷ ws) i h = let p = and_parts (in_form ws) (stands ws) h in in_form_owes ws p.0 p.1
+in_form_owes (Pattern ∷ ws) i h = let p = and_parts (in_form ws) (stands ws) h in in_form_owes ws p.0 p.1
+in_form_owes (Braced ∷ ws) i h = let p = and_parts (in_form ws) (stands ws) h in in_form_owes ws p.0 p.1
+in_form_owes (ElementName ∷ ws) i h = let p = and_parts (in_form ws) (stands ws) h in in_form_owes ws p.0 p.1
+in_form_owes (ClosesBrace ∷ ws) i h = let p = and_parts (in_form ws) (stands ws) h in in_form_owes ws p.0 p.1
 in_form_owes (ClassName ∷ ws) i h = let p = and_parts (in_form ws) (stands ws) h in in_form_owes ws p.0 p.1
-in_form_owes (Attribute u ∷ ws) i h = let p = and_parts (in_form ws) (stands ws) h in in_form_owes ws p.0 p.1
 in_form_owes (Place f ∷ ws) i h = let p = and_parts (in_form ws) (stands ws) h in in_form_owes ws p.0 p.1
 in_form_owes (Tests f ∷ ws) i h = let p = and_parts (in_form ws) (stands ws) h in in_form_owes ws p.0 p.1
 in_form_owes (Tested f x ∷ ws) i h = let p = and_parts (in_form ws) (stands ws) h in in_form_owes ws p.0 p.1
@@ -174,6 +183,7 @@ module _ (w : Word) (quiet : (n : ℕ) → (w.keyword ≡ keyword.Other → ⊥)
 
   form_balanced : (k : Keyword) (ws : List Wanted) (s : State) → w.keyword ≡ k → stands ws ≡ true → B (Form ∷ ws) (form w k ws s)
   form_balanced keyword.Literalize ws s e h = cond_both (may_declare s) _ _ (B (Form ∷ ws)) (λ _. (h, sym (quiet (1 + owed ws) (λ o. absurd (cc))))) (λ _. tt)
+  form_balanced keyword.VectorAttribute ws s e h = cond_both (may_declare s) _ _ (B (Form ∷ ws)) (λ _. (h, sym (quiet (1 + owed ws) (λ o. absurd (cc))))) (λ _. tt)
   form_balanced keyword.Production ws s e h = cond_both (length s.commands == 0) _ _ (B (Form ∷ ws)) (λ _. (h, sym (quiet (1 + owed ws) (λ o. absurd (cc))))) (λ _. tt)
   form_balanced keyword.Make ws s e h = (h, sym (quiet (1 + owed ws) (λ o. absurd (cc))))
   form_balanced keyword.Run ws s e h = (h, sym (quiet (1 + owed ws) (λ o. absurd (cc))))
@@ -195,11 +205,33 @@ module _ (w : Word) (quiet : (n : ℕ) → (w.keyword ≡ keyword.Other → ⊥)
   class_at_balanced (Some c) ws s e h = (h, named ws e)
   class_at_balanced None ws s e h = tt
 
-  field_at_balanced : (u : Use) (o : Option ℕ) (ws : List Wanted) (s : State) → is_name w.kind ≡ true → (in_form ws && stands ws) ≡ true → B ws (field_at u o ws s)
-  field_at_balanced InPattern (Some f) ws s e h = (h, named ws e)
-  field_at_balanced InPut (Some f) ws s e h = (h, named ws e)
-  field_at_balanced InFixed (Some f) ws s e h = (h, named ws e)
+  scalar_balanced : (u : Use) (f : ℕ) (ws : List Wanted) (s : State) → is_name w.kind ≡ true → stands ws ≡ true → B (Attribute u ∷ ws) (Next (behind_attribute u f ∷ Terms u ∷ ws) s)
+  scalar_balanced InPattern f ws s e h = (h, named (Terms InPattern ∷ ws) e)
+  scalar_balanced InPut f ws s e h = (h, named (Terms InPut ∷ ws) e)
+  scalar_balanced InFixed f ws s e h = (h, named (Terms InFixed ∷ ws) e)
+
+  field_at_balanced : (u : Use) (o : Option ℕ) (ws : List Wanted) (s : State) → is_name w.kind ≡ true → stands ws ≡ true → B (Attribute u ∷ ws) (field_at u o ws s)
+  field_at_balanced u (Some f) ws s e h =
+      cond_both (is_vector (class_of s.classes s.class) f) _ _ (B (Attribute u ∷ ws)) (λ _. (h, named (Terms u ∷ ws) e)) (λ _. scalar_balanced u f ws s e h)
   field_at_balanced u None ws s e h = tt
+
+  -- ---- vector attributes, and element variables
+
+  vector_declared_balanced : (ws : List Wanted) (s : State) → is_name w.kind ≡ true → stands ws ≡ true → B ws (vector_declared w ws s)
+  vector_declared_balanced ws s e h =
+      cond_both (is_one_of w.name s.vectors) _ _ (B ws) (λ _. (h, named ws e))
+      (λ _. cond_both (makes_second w.name s.classes) _ _ (B ws) (λ _. tt) (λ _. (h, named ws e)))
+
+  vector_name_balanced : (ws : List Wanted) (s : State) → stands ws ≡ true → B ws (vector_name w ws s)
+  vector_name_balanced ws s h = cond_both (is_name w.kind) _ _ (B ws) (λ e. vector_declared_balanced ws s e h) (λ _. tt)
+
+  element_at_balanced : (o : Option ℕ) (ws : List Wanted) (s : State) → is_variable w.kind ≡ true → stands ws ≡ true → B ws (element_at o w.name ws s)
+  element_at_balanced (Some c) ws s e h = tt
+  element_at_balanced None ws s e h = (h, sym (variable_keeps w.kind (owed ws) e))
+
+  element_name_balanced : (ws : List Wanted) (s : State) → stands ws ≡ true → B ws (element_name w ws s)
+  element_name_balanced ws s h =
+      cond_both (is_variable w.kind) _ _ (B ws) (λ e. element_at_balanced (number_of w.name s.elements) ws s e h) (λ _. tt)
 
   -- ---- tests and values
 
@@ -239,7 +271,9 @@ module _ (w : Word) (quiet : (n : ℕ) → (w.keyword ≡ keyword.Other → ⊥)
   bound_balanced (ToPut f) (Some n) ws s e h = (h, sym (variable_keeps w.kind (owed ws) e))
   bound_balanced ToItem (Some n) ws s e h = (h, sym (variable_keeps w.kind (owed ws) e))
   bound_balanced (ToTest f p) (Some n) ws s e h = tt
+  bound_balanced ToTerms (Some n) ws s e h = (h, sym (variable_keeps w.kind (owed ws) e))
   bound_balanced (ToFixed f) (Some n) ws s e h = tt
+  bound_balanced ToConstants (Some n) ws s e h = tt
   bound_balanced t None ws s e h = tt
 
   constant_balanced : (t : Target) (o : Option Value) (ws : List Wanted) (s : State) → value_of w.kind w.name ≡ o → stands ws ≡ true → B ws (constant_at t w o ws s)
@@ -261,9 +295,31 @@ module _ (w : Word) (quiet : (n : ℕ) → (w.keyword ≡ keyword.Other → ⊥)
   cell_of_balanced (Some m) ws s e h = designated_balanced (m - 1) (slice_get s.conditions (m - 1)) ws s e h
   cell_of_balanced None ws s e h = tt
 
-  cell_balanced : (k : TokenKind) (ws : List Wanted) (s : State) → w.kind ≡ k → stands ws ≡ true → B ws (cell k ws s)
+  cell_named_balanced : (o : Option ℕ) (ws : List Wanted) (s : State) → owed ws ≡ open_behind (owed ws) w.kind → stands ws ≡ true → B ws (cell_named o ws s)
+  cell_named_balanced (Some c) ws s e h = (h, e)
+  cell_named_balanced None ws s e h = tt
+
+  cell_balanced : (k : TokenKind) (ws : List Wanted) (s : State) → w.kind ≡ k → stands ws ≡ true → B ws (cell k w.name ws s)
   cell_balanced (kind.Whole z) ws s e h = cell_of_balanced (natural_of z) ws s (ap (open_behind (owed ws)) (sym e)) h
+  cell_balanced kind.Variable ws s e h = cell_named_balanced (number_of w.name s.elements) ws s (ap (open_behind (owed ws)) (sym e)) h
   cell_balanced _ ws s e h = tt
+
+  -- ---- the places and values of a vector attribute
+
+  place_balanced : (f : ℕ) (ws : List Wanted) (s : State) → (in_form ws && stands ws) ≡ true → B ws (place f w ws s)
+  place_balanced f ws s h =
+      cond_both (is_left_brace w.kind) _ _ (B ws) (λ e. (h, sym (left_brace_keeps w.kind (owed ws) e))) (λ _. test_balanced f ws s h)
+
+  within_balanced : (b : Bool) (n : ℕ) (r : Step) → Balanced n r → Balanced n (within b r)
+  within_balanced true n r h = h
+  within_balanced false n (Next ws s) h = tt
+  within_balanced false n (Refuses f) h = tt
+
+  one_of_several_balanced : (u : Use) (f : ℕ) (ws : List Wanted) (s : State) → stands ws ≡ true → B (Several u f ∷ ws) (one_of_several u f w ws s)
+  one_of_several_balanced InPattern f ws s h = within_balanced (nat_lt f most_fields) _ _ (place_balanced f (Several InPattern (f + 1) ∷ ws) s h)
+  one_of_several_balanced InPut f ws s h = value_balanced ToTerms (Several InPut f ∷ ws) s h
+  one_of_several_balanced InFixed f ws s h =
+      within_balanced (nat_lt (f + length s.constants) most_fields) _ _ (value_balanced ToConstants (Several InFixed f ∷ ws) s h)
 
   -- ---- a step
 
@@ -272,6 +328,11 @@ module _ (w : Word) (quiet : (n : ℕ) → (w.keyword ≡ keyword.Other → ⊥)
 
   abbrev opened : (ws : List Wanted) → is_left w.kind ≡ true → 1 + owed ws ≡ open_behind (owed ws) w.kind
   opened ws e = let k = left_opens w.kind (owed ws) e in omega (arith, k)
+
+  terms_balanced : (u : Use) (ws : List Wanted) (s : State) → stands ws ≡ true → B (Terms u ∷ ws) (terms u w ws s)
+  terms_balanced u ws s h =
+      cond_both (is_right w.kind) _ _ (B (Terms u ∷ ws)) (λ e. (h, closed ws e))
+      (λ _. cond_both (is_caret w.kind) _ _ (B (Terms u ∷ ws)) (λ e. (h, sym (caret_keeps w.kind (1 + owed ws) e))) (λ _. tt))
 
   arrow_known : (k : Keyword) → is_arrow k ≡ true → k ≡ keyword.Other → ⊥
   arrow_known keyword.Arrow e o = absurd (cc)
@@ -293,32 +354,44 @@ module _ (w : Word) (quiet : (n : ℕ) → (w.keyword ≡ keyword.Other → ⊥)
       cond_both (is_right w.kind) _ _ (B (Attributes ∷ ws)) (λ e. (h, closed ws e))
       (λ _. cond_both (is_name w.kind) _ _ (B (Attributes ∷ ws))
       (λ e. cond_both (is_one_of w.name s.attrs) _ _ (B (Attributes ∷ ws)) (λ _. tt)
-      (λ _. cond_both (nat_lt (length s.attrs) most_fields) _ _ (B (Attributes ∷ ws)) (λ _. (h, named (Attributes ∷ ws) e)) (λ _. tt)))
+      (λ _. cond_both (is_second w.name s) _ _ (B (Attributes ∷ ws)) (λ _. tt)
+      (λ _. cond_both (nat_lt (length s.attrs) most_fields) _ _ (B (Attributes ∷ ws)) (λ _. (h, named (Attributes ∷ ws) e)) (λ _. tt))))
       (λ _. tt))
+  step_balanced (VectorName ∷ ws) s h = vector_name_balanced ws s (and_parts (in_form ws) (stands ws) h).1
+  step_balanced (VectorNames ∷ ws) s h =
+      cond_both (is_right w.kind) _ _ (B (VectorNames ∷ ws)) (λ e. (h, closed ws e)) (λ _. vector_name_balanced (VectorNames ∷ ws) s h)
   step_balanced (RuleName ∷ ws) s h =
       cond_both (is_name w.kind) _ _ (B (RuleName ∷ ws))
       (λ e. cond_both (is_rule s w.name) _ _ (B (RuleName ∷ ws)) (λ _. tt) (λ _. ((and_parts (in_form ws) (stands ws) h).1, named ws e))) (λ _. tt)
   step_balanced (FirstPattern ∷ ws) s h =
       cond_both (is_left w.kind) _ _ (B (FirstPattern ∷ ws)) (λ e. ((and_parts (in_form ws) (stands ws) h).1, opened ws e))
-      (λ _. cond_both (is_minus w.keyword) _ _ (B (FirstPattern ∷ ws)) (λ _. tt) (λ _. tt))
+      (λ _. cond_both (is_left_brace w.kind) _ _ (B (FirstPattern ∷ ws)) (λ e. (h, sym (left_brace_keeps w.kind (owed ws) e)))
+      (λ _. cond_both (is_minus w.keyword) _ _ (B (FirstPattern ∷ ws)) (λ _. tt) (λ _. tt)))
   step_balanced (Patterns ∷ ws) s h =
       cond_both (is_arrow w.keyword) _ _ (B (Patterns ∷ ws)) (λ e. ((and_parts (in_form ws) (stands ws) h).1, sym (quiet (owed ws) (arrow_known w.keyword e))))
       (λ _. cond_both (is_left w.kind) _ _ (B (Patterns ∷ ws))
       (λ e. cond_both (nat_lt (length s.conditions) most_conditions) _ _ (B (Patterns ∷ ws)) (λ _. (h, opened (Patterns ∷ ws) e)) (λ _. tt))
+      (λ _. cond_both (is_left_brace w.kind) _ _ (B (Patterns ∷ ws))
+      (λ e. cond_both (nat_lt (length s.conditions) most_conditions) _ _ (B (Patterns ∷ ws)) (λ _. (h, sym (left_brace_keeps w.kind (owed ws) e))) (λ _. tt))
       (λ _. cond_both (is_minus w.keyword) _ _ (B (Patterns ∷ ws))
-      (λ e. cond_both (nat_lt (length s.conditions) most_conditions) _ _ (B (Patterns ∷ ws)) (λ _. (h, sym (quiet (owed ws) (minus_known w.keyword e)))) (λ _. tt)) (λ _. tt)))
-  step_balanced (NegatedPattern ∷ ws) s h =
-      cond_both (is_left w.kind) _ _ (B (NegatedPattern ∷ ws)) (λ e. ((and_parts (in_form ws) (stands ws) h).1, opened ws e)) (λ _. tt)
+      (λ e. cond_both (nat_lt (length s.conditions) most_conditions) _ _ (B (Patterns ∷ ws)) (λ _. (h, sym (quiet (owed ws) (minus_known w.keyword e)))) (λ _. tt)) (λ _. tt))))
+  step_balanced (Pattern ∷ ws) s h =
+      cond_both (is_left w.kind) _ _ (B (Pattern ∷ ws)) (λ e. ((and_parts (in_form ws) (stands ws) h).1, opened ws e)) (λ _. tt)
+  step_balanced (Braced ∷ ws) s h =
+      cond_both (is_left w.kind) _ _ (B (Braced ∷ ws)) (λ e. (h, opened ws e)) (λ _. element_name_balanced (Pattern ∷ ClosesBrace ∷ ws) s h)
+  step_balanced (ElementName ∷ ws) s h = element_name_balanced ws s (and_parts (in_form ws) (stands ws) h).1
+  step_balanced (ClosesBrace ∷ ws) s h =
+      cond_both (is_right_brace w.kind) _ _ (B (ClosesBrace ∷ ws)) (λ e. ((and_parts (in_form ws) (stands ws) h).1, sym (right_brace_keeps w.kind (owed ws) e))) (λ _. tt)
   step_balanced (ClassName ∷ ws) s h =
       cond_both (is_name w.kind) _ _ (B (ClassName ∷ ws)) (λ e. class_at_balanced (position (λ c. c.name.0 == w.name.0) s.classes) ws s e (and_parts (in_form ws) (stands ws) h).1) (λ _. tt)
-  step_balanced (Terms u ∷ ws) s h =
-      cond_both (is_right w.kind) _ _ (B (Terms u ∷ ws)) (λ e. (h, closed ws e))
-      (λ _. cond_both (is_caret w.kind) _ _ (B (Terms u ∷ ws)) (λ e. (h, sym (caret_keeps w.kind (1 + owed ws) e))) (λ _. tt))
+  step_balanced (Terms u ∷ ws) s h = terms_balanced u ws s h
   step_balanced (Attribute u ∷ ws) s h =
       cond_both (is_name w.kind) _ _ (B (Attribute u ∷ ws))
       (λ e. field_at_balanced u (position (λ a. a.0 == w.name.0) (attributes_of (slice_get s.classes s.class))) ws s e h) (λ _. tt)
-  step_balanced (Place f ∷ ws) s h =
-      cond_both (is_left_brace w.kind) _ _ (B (Place f ∷ ws)) (λ e. (h, sym (left_brace_keeps w.kind (owed ws) e))) (λ _. test_balanced f ws s h)
+  step_balanced (Several u f ∷ ws) s h =
+      cond_both (is_right w.kind || is_caret w.kind) _ _ (B (Several u f ∷ ws)) (λ _. terms_balanced u ws (with_several u f s) h)
+      (λ _. one_of_several_balanced u f ws s h)
+  step_balanced (Place f ∷ ws) s h = place_balanced f ws s h
   step_balanced (Tests f ∷ ws) s h =
       cond_both (is_right_brace w.kind) _ _ (B (Tests f ∷ ws)) (λ e. ((and_parts (in_form ws) (stands ws) h).1, sym (right_brace_keeps w.kind (owed ws) e)))
       (λ _. test_balanced f (Tests f ∷ ws) s h)

@@ -1,5 +1,5 @@
 -- The cells of conditions, counted.
-use Rattle.std.proofs.Common.{◌≡◌, ◌+◌, Bool, true, false, not, cond, ℕ, List, ◌∷◌, length, refl, sym, count_by, arith}
+use Rattle.std.proofs.Common.{◌≡◌, ◌+◌, Bool, true, false, not, cond, List, ◌∷◌, length, refl, sym, count_by, arith}
 use Rattle.std.proofs.lemmas.List.Recursion.{is_count_by}
 use Rattle.ops_base.specs.declared.conditions.Condition.{Condition}
 use Rattle.ops_base.specs.Valid.{cells_of}

@@ -3,3 +3,4 @@ pub mod Numbered
 pub mod Balance
 pub mod Texts
 pub mod Cells
+pub mod Rooms

@@ -1,9 +1,9 @@
 -- Steps of the walk over words, with more words behind.
-use Rattle.std.proofs.Common.{◌≡◌, ℕ, true, false, List, [], ◌∷◌, ◌++◌, None, Some, Result, Ok, Err, refl, ◌∙◌, if◌then◌else◌}
+use Rattle.std.proofs.Common.{◌≡◌, ℕ, true, false, ◌||◌, List, [], ◌∷◌, ◌++◌, None, Some, Result, Ok, Err, refl, ◌∙◌, if◌then◌else◌}
 use Rattle.std.specs.Borrow.{Bor}
 use Rattle.ops_base.specs.declared.values.Pred.{Pred}
 use Rattle.ops_meaning.specs.declared.words.Word.{Word}
-use Rattle.ops_meaning.specs.Grammar.{Target, Wanted, Patterns, Cell, Cells, Items, ItemWord, Place, Tests, Tested, ValueFor, ToItem, State, Next, after, step, goes, is_left, is_right, is_left_brace, is_right_brace, is_arrow, more_patterns, test, tested, value_for, cell}
+use Rattle.ops_meaning.specs.Grammar.{Use, Target, Wanted, VectorName, VectorNames, Patterns, Pattern, Braced, ElementName, ClosesBrace, Terms, Several, Cell, Cells, Items, ItemWord, Place, Tests, Tested, ValueFor, ToItem, State, Next, after, step, goes, is_left, is_right, is_right_brace, is_caret, is_arrow, vector_name, more_patterns, element_name, place, test, tested, value_for, one_of_several, with_several, cell}
 use Rattle.ops_check.specs.declared.refusals.Refusal.{Refusal}
 use Rattle.ops_check.specs.declared.refusals.Refusal.TheVariants as refusal
 use Rattle.ops_check.specs.Going.{Way, Fails, Goes}
@@ -28,11 +28,11 @@ pub goes_first : (words rest more : List Word) (w : Word) (ws : List Wanted) (s 
 unfolding goes
 goes_first words rest more w ws s e = rw e refl
 
-pub cell_first : (words rest more : List Word) (w : Word) (ws : List Wanted) (s : State) → words ≡ w ∷ rest → goes (words ++ more) (Cell ∷ ws) s ≡ after (goes (rest ++ more)) w (cell w.kind ws s)
+pub cell_first : (words rest more : List Word) (w : Word) (ws : List Wanted) (s : State) → words ≡ w ∷ rest → goes (words ++ more) (Cell ∷ ws) s ≡ after (goes (rest ++ more)) w (cell w.kind w.name ws s)
 unfolding goes step
 cell_first words rest more w ws s e = rw e refl
 
-pub cells_first : (words rest more : List Word) (w : Word) (ws : List Wanted) (s : State) → words ≡ w ∷ rest → is_right w.kind ≡ false → goes (words ++ more) (Cells ∷ ws) s ≡ after (goes (rest ++ more)) w (cell w.kind (Cells ∷ ws) s)
+pub cells_first : (words rest more : List Word) (w : Word) (ws : List Wanted) (s : State) → words ≡ w ∷ rest → is_right w.kind ≡ false → goes (words ++ more) (Cells ∷ ws) s ≡ after (goes (rest ++ more)) w (cell w.kind w.name (Cells ∷ ws) s)
 unfolding goes step
 cells_first words rest more w ws s e other = rw (e, other) refl
 
@@ -44,9 +44,36 @@ pub tests_first : (f : ℕ) (words rest more : List Word) (w : Word) (ws : List 
 unfolding goes step
 tests_first f words rest more w ws s e other = rw (e, other) refl
 
-pub place_first : (f : ℕ) (words rest more : List Word) (w : Word) (ws : List Wanted) (s : State) → words ≡ w ∷ rest → is_left_brace w.kind ≡ false → goes (words ++ more) (Place f ∷ ws) s ≡ after (goes (rest ++ more)) w (test f w ws s)
+pub place_first : (f : ℕ) (words rest more : List Word) (w : Word) (ws : List Wanted) (s : State) → words ≡ w ∷ rest → goes (words ++ more) (Place f ∷ ws) s ≡ after (goes (rest ++ more)) w (place f w ws s)
 unfolding goes step
-place_first f words rest more w ws s e other = rw (e, other) refl
+place_first f words rest more w ws s e = rw e refl
+
+pub vector_first : (words rest more : List Word) (w : Word) (ws : List Wanted) (s : State) → words ≡ w ∷ rest → goes (words ++ more) (VectorName ∷ ws) s ≡ after (goes (rest ++ more)) w (vector_name w ws s)
+unfolding goes step
+vector_first words rest more w ws s e = rw e refl
+
+pub vectors_first : (words rest more : List Word) (w : Word) (ws : List Wanted) (s : State) → words ≡ w ∷ rest → is_right w.kind ≡ false → goes (words ++ more) (VectorNames ∷ ws) s ≡ after (goes (rest ++ more)) w (vector_name w (VectorNames ∷ ws) s)
+unfolding goes step
+vectors_first words rest more w ws s e other = rw (e, other) refl
+
+pub element_first : (words rest more : List Word) (w : Word) (ws : List Wanted) (s : State) → words ≡ w ∷ rest → goes (words ++ more) (ElementName ∷ ws) s ≡ after (goes (rest ++ more)) w (element_name w ws s)
+unfolding goes step
+element_first words rest more w ws s e = rw e refl
+
+-- an element variable in front of its pattern
+pub braced_named : (words rest more : List Word) (w : Word) (ws : List Wanted) (s : State) → words ≡ w ∷ rest → is_left w.kind ≡ false → goes (words ++ more) (Braced ∷ ws) s ≡ after (goes (rest ++ more)) w (element_name w (Pattern ∷ ClosesBrace ∷ ws) s)
+unfolding goes step
+braced_named words rest more w ws s e other = rw (e, other) refl
+
+-- one place or value more of the vector attribute
+pub several_first : (u : Use) (f : ℕ) (words rest more : List Word) (w : Word) (ws : List Wanted) (s : State) → words ≡ w ∷ rest → (is_right w.kind || is_caret w.kind) ≡ false → goes (words ++ more) (Several u f ∷ ws) s ≡ after (goes (rest ++ more)) w (one_of_several u f w ws s)
+unfolding goes step
+several_first u f words rest more w ws s e other = rw (e, other) refl
+
+-- no more of them: the rest of the element
+pub several_last : (u : Use) (f : ℕ) (words rest more : List Word) (w : Word) (ws : List Wanted) (s : State) → words ≡ w ∷ rest → (is_right w.kind || is_caret w.kind) ≡ true → goes (words ++ more) (Several u f ∷ ws) s ≡ goes (words ++ more) (Terms u ∷ ws) (with_several u f s)
+unfolding goes step
+several_last u f words rest more w ws s e over = rw (e, over) refl
 
 pub tested_first : (f : ℕ) (p : Pred) (words rest more : List Word) (w : Word) (ws : List Wanted) (s : State) → words ≡ w ∷ rest → goes (words ++ more) (Tested f p ∷ ws) s ≡ after (goes (rest ++ more)) w (tested f p w ws s)
 unfolding goes step

@@ -1,11 +1,11 @@
 -- How the code's walk over the words goes along with the definition's.
-use Rattle.std.specs.Prelude.{◌≡◌, ℤ, ◌<◌, ◌≤◌, List, [], ◌∷◌, ◌++◌, length, Option, Some, None, Result, Ok, Err}
+use Rattle.std.specs.Prelude.{◌≡◌, ℤ, ◌<◌, ◌≤◌, Bool, ◌||◌, is_some, List, [], ◌∷◌, ◌++◌, length, Option, Some, None, Result, Ok, Err}
 use Rattle.std.specs.Borrow.{Bor}
 use Rattle.ops_base.specs.declared.endings.Fault.TheVariants as fault
 use Rattle.ops_tokens.specs.declared.token.TokenKind.{TokenKind}
 use Rattle.ops_tokens.specs.declared.token.TokenKind.TheVariants as kind
 use Rattle.ops_meaning.specs.declared.words.Word.{Word}
-use Rattle.ops_meaning.specs.Grammar.{Use, InPattern, InPut, InFixed, Target as Goal, ToTest, ToPut, ToFixed, ToItem, Ends, Wanted, Forms, Closes, State, Step, Outcome, after, goes, ended}
+use Rattle.ops_meaning.specs.Grammar.{Use, InPattern, InPut, InFixed, Target as Goal, ToTest, ToPut, ToFixed, ToTerms, ToConstants, ToItem, Ends, Wanted, Forms, Terms, Closes, State, Step, Outcome, is_left_brace, is_variable, is_literal, opens_choice, pred_of, constant_of, value_of, after, goes, ended}
 use Rattle.ops_check.specs.declared.draft.Draft.{Draft}
 use Rattle.ops_check.specs.declared.draft.Place.{Place}
 use Rattle.ops_check.specs.declared.draft.Place.TheVariants as place
@@ -21,17 +21,22 @@ view d =
       classes = d.classes;
       rules = d.rules;
       commands = d.commands.items;
+      vectors = d.vectors;
       name = d.name;
       first = d.first;
       attrs = d.attrs.items;
       class = d.class;
       tests = d.tests.items;
       choice = d.choice.items;
+      terms = d.terms.items;
+      constants = d.constants.items;
       puts = d.puts.items;
       fixed = d.fixed.items;
       cells = d.cells.items;
       items = d.items.items;
       values = d.values;
+      elements = d.elements;
+      element = d.element;
       variables = d.variables;
       negated = d.negated;
       around = d.around;
@@ -48,6 +53,8 @@ abbrev pub target_of : Target → Goal
 target_of (target.Test f p) = ToTest f p
 target_of (target.Put f) = ToPut f
 target_of (target.Fixed f) = ToFixed f
+target_of target.Terms = ToTerms
+target_of target.Constants = ToConstants
 target_of target.Item = ToItem
 
 -- the value of a whole number
@@ -69,6 +76,11 @@ Fails from (refusal.At f (Some w)) = (more : List Word) (ws : List Wanted) → f
 abbrev pub Goes : Way → State → Result (Bor (List Word)) Refusal → Type 0
 Goes from new (Ok rest) = (more : List Word) (ws : List Wanted) → from more ws ≡ goes (rest.now ++ more) ws new
 Goes from new (Err e) = Fails from e
+
+-- The same, where more of an element is wanted afterwards.
+abbrev pub GoesToTerms : Place → Way → State → Result (Bor (List Word)) Refusal → Type 0
+GoesToTerms u from new (Ok rest) = (more : List Word) (ws : List Wanted) → from more ws ≡ goes (rest.now ++ more) (Terms (use_of u) ∷ ws) new
+GoesToTerms u from new (Err e) = Fails from e
 
 -- a call read what was wanted
 abbrev pub Reads : Wanted → State → State → List Word → Result (Bor (List Word)) Refusal → Type 0
@@ -110,3 +122,14 @@ IsShorter words (Err e) = Unit {0}
 abbrev pub IsWithin : List Word → Result (Bor (List Word)) Refusal → Type 0
 IsWithin words (Ok rest) = length (rest.now) ≤ length words
 IsWithin words (Err e) = Unit {0}
+
+-- the word begins a place: a constant, a variable, a predicate, // or an opening brace
+abbrev pub begins_place : Word → Bool
+begins_place w =
+    is_left_brace w.kind
+    || (opens_choice w.keyword
+    || (is_some (pred_of w.keyword) || (is_literal w.keyword || (is_some (constant_of w.kind w.name) || is_variable w.kind))))
+
+-- the word begins a constant
+abbrev pub begins_value : Word → Bool
+begins_value w = is_literal w.keyword || is_some (value_of w.kind w.name)

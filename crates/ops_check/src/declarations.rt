@@ -1,6 +1,6 @@
 //! Declarations of classes.
 ghost use Rattle.std.specs.Prelude.{◌≡◌, ◌∷◌, ◌++◌};
-ghost use Rattle.ops_meaning.specs.Grammar.{goes, attribute_declared, ClassDeclared, Attributes};
+ghost use Rattle.ops_meaning.specs.Grammar.{goes, vector_name, vector_declared, VectorName, VectorNames, attribute_declared, ClassDeclared, Attributes};
 ghost use Rattle.ops_check.specs.Going.{view, Goes, Reads, Acts, IsWithin};
 
 use crate::draft::Draft;
@@ -9,8 +9,8 @@ use crate::refusals::{Refusal, first_of, refused};
 use ops_base::endings::{Fault, Limit};
 use ops_meaning::Word;
 
-/// How many attributes a class may have.
-const MOST_FIELDS: usize = 126;
+/// How many fields an element may have behind its class.
+pub const MOST_FIELDS: usize = 126;
 
 impl Draft {
     // NAME NAME* )
@@ -60,6 +60,9 @@ impl Draft {
             if self.is_attribute(word.name) {
                 return refused(Fault::DeclaredTwice, word);
             }
+            if self.is_second(word.name) {
+                return refused(Fault::TwoVectors, word);
+            }
             if self.attrs.len() >= MOST_FIELDS {
                 return refused(
                     Fault::LimitPassed {
@@ -71,5 +74,57 @@ impl Draft {
             self.attrs.push(word.name)?;
             rest = after;
         }
+    }
+}
+
+impl Draft {
+    // NAME NAME* )
+    #[tactic(auto, unfolding(ops_meaning::specs::Grammar::goes, ops_meaning::specs::Grammar::step, ops_meaning::specs::Grammar::ends))]
+    pub fn vector_declaration<'a>(&mut self, words: &'a [Word]) -> Result<&'a [Word], Refusal>
+        ensures reads { Goes (λ more ws. goes (words.now ++ more) (VectorName ∷ VectorNames ∷ ws) (view self.old)) (view self.new) result }
+        ensures within { IsWithin words.now result }
+    {
+        let (word, rest) = first_of(words)?;
+        match self.vector_name(word, rest) {
+            Ok(rest) => return self.vector_names(rest),
+            Err(refusal) => return Err(refusal),
+        }
+    }
+
+    // NAME* )
+    #[tactic(auto, unfolding(ops_meaning::specs::Grammar::goes, ops_meaning::specs::Grammar::step, ops_meaning::specs::Grammar::ends))]
+    fn vector_names<'a>(&mut self, words: &'a [Word]) -> Result<&'a [Word], Refusal>
+        ensures reads { Reads VectorNames (view self.old) (view self.new) words.now result }
+        ensures within { IsWithin words.now result }
+    {
+        let mut rest = words;
+        'vectors: loop {
+            let (word, after) = first_of(rest)?;
+            if is_right(word.kind) {
+                return Ok(after);
+            }
+            match self.vector_name(word, after) {
+                Ok(next) => rest = next,
+                Err(refusal) => return Err(refusal),
+            }
+        }
+    }
+
+    // NAME, which is the word
+    fn vector_name<'a>(&mut self, word: Word, rest: &'a [Word]) -> Result<&'a [Word], Refusal>
+        ensures acts { Acts (λ ws s. vector_name word ws s) word (view self.old) (view self.new) rest.now result }
+        ensures within { IsWithin rest.now result }
+    {
+        if !is_name(word.kind) {
+            return refused(Fault::BadForm, word);
+        }
+        if self.is_vector_name(word.name) {
+            return Ok(rest);
+        }
+        if self.makes_second(word.name) {
+            return refused(Fault::TwoVectors, word);
+        }
+        self.add_vector(word.name)?;
+        Ok(rest)
     }
 }

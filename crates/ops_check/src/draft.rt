@@ -1,10 +1,11 @@
 //! What was read so far of a program, and how it grows.
-ghost use Rattle.std.specs.Prelude.{◌≡◌, ◌+◌, ◌==◌, not, count_by, length, position, SomeIff, ◌<◌, ◌^◌, slice_get};
-ghost use Rattle.ops_base.specs.Valid.{cells_of, specificity};
-ghost use Rattle.ops_meaning.specs.Grammar.{nothing_read, is_class, is_rule, is_one_of, may_declare, with_class, with_test, with_bound, with_choice, with_put, with_fixed, with_constant, with_element, with_action, with_command, with_rule, with_remove, with_write, with_item, number_of, attributes_of, InPattern, InPut, InFixed};
+ghost use Rattle.std.specs.Prelude.{◌≡◌, ◌+◌, ◌++◌, ◌∷◌, [], ◌==◌, not, count_by, length, position, SomeIff, ◌<◌, ◌^◌, slice_get};
+ghost use Rattle.ops_base.specs.Valid.{cells_of, class_of, is_vector, specificity};
+ghost use Rattle.ops_meaning.specs.Grammar.{nothing_read, is_class, is_rule, is_one_of, is_second, makes_second, may_declare, with_class, with_vector, with_several, with_bound_element, with_test, with_bound, with_choice, with_put, with_fixed, with_constant, with_element, with_action, with_command, with_rule, with_remove, with_write, with_item, number_of, attributes_of, InPattern, InPut, InFixed};
 ghost use Rattle.ops_check.specs.Going.{view, use_of, target_of, Becomes};
 
 use crate::refusals::Refusal;
+use crate::vectors::{arranged, classes_with, has_attribute, has_vector, is_one_of};
 use ops_base::actions::{Action, Item, Put, Term};
 use ops_base::commands::{Command, Fixed};
 use ops_base::conditions::{Condition, Operand, Test};
@@ -25,12 +26,15 @@ pub enum Place {
     Fixed,
 }
 
-/// Where a constant goes: into a test, a value of an action or of a command `make`, or an item of `write`.
+/// Where a constant goes: into a test, to a scalar attribute of an action or of a command `make`, among the values of their
+/// vector attribute, or to `write`.
 #[derive(Clone, Copy, Debug, PartialEq, Eq)]
 pub enum Target {
     Test { field: usize, pred: Pred },
     Put { field: usize },
     Fixed { field: usize },
+    Terms,
+    Constants,
     Item,
 }
 
@@ -40,17 +44,22 @@ pub struct Draft {
     pub classes: Declared<Class>,
     pub rules: Declared<Rule>,
     pub commands: Vec<Command>,
+    pub vectors: Declared<Sym>,
     pub name: Sym,
     pub first: usize,
     pub attrs: Vec<Sym>,
     pub class: usize,
     pub tests: Vec<Test>,
     pub choice: Vec<Value>,
+    pub terms: Vec<Term>,
+    pub constants: Vec<Value>,
     pub puts: Vec<Put>,
     pub fixed: Vec<Fixed>,
     pub cells: Vec<usize>,
     pub items: Vec<Item>,
     pub values: Declared<Named>,
+    pub elements: Declared<Named>,
+    pub element: Sym,
     pub variables: usize,
     pub negated: bool,
     pub around: usize,
@@ -67,17 +76,22 @@ impl Draft {
             classes: Declared::new(alloc),
             rules: Declared::new(alloc),
             commands: Vec::new(alloc),
+            vectors: Declared::new(alloc),
             name: NIL,
             first: 0,
             attrs: Vec::new(alloc),
             class: 0,
             tests: Vec::new(alloc),
             choice: Vec::new(alloc),
+            terms: Vec::new(alloc),
+            constants: Vec::new(alloc),
             puts: Vec::new(alloc),
             fixed: Vec::new(alloc),
             cells: Vec::new(alloc),
             items: Vec::new(alloc),
             values: Declared::new(alloc),
+            elements: Declared::new(alloc),
+            element: NIL,
             variables: 0,
             negated: false,
             around: 0,
@@ -112,6 +126,29 @@ impl Draft {
         self.attrs.iter().any(|attr| *attr == name)
     }
 
+    pub fn is_vector_name(&self, name: Sym) -> bool
+        ensures { result ≡ is_one_of name (view self.now).vectors }
+    {
+        is_one_of(name, &self.vectors)
+    }
+
+    // the class that is read would have a second vector attribute by this name
+    pub fn is_second(&self, name: Sym) -> bool
+        ensures { result ≡ is_second name (view self.now) }
+    {
+        is_one_of(name, &self.vectors) && has_vector(&self.vectors, &self.attrs)
+    }
+
+    // a class would get a second vector attribute by this name
+    pub fn makes_second(&self, name: Sym) -> bool
+        ensures { result ≡ makes_second name (view self.now).classes }
+    {
+        self.classes
+            .as_slice()
+            .iter()
+            .any(|class| class.vector && has_attribute(class, name))
+    }
+
     pub fn class_of(&self, name: Sym) -> Option<usize>
         ensures { result ≡ position (λ c. c.name.0 == name.0) (view self.now).classes }
     {
@@ -123,13 +160,25 @@ impl Draft {
     pub fn end_class(&mut self) -> Result<(), Refusal>
         ensures { Becomes (view self.new) (with_class (view self.old)) result }
     {
-        let none = Vec::new(self.alloc);
-        let attrs = Listed::from_vec(mem::replace(&mut self.attrs, none));
+        let attrs = arranged(self.alloc, &self.vectors, &self.attrs)?;
+        let vector = has_vector(&self.vectors, &self.attrs);
         self.classes.push(Class {
             name: self.name,
-            attrs,
-            vector: false,
+            attrs: Listed::from_vec(attrs),
+            vector,
         })?;
+        self.attrs.clear();
+        Ok(())
+    }
+
+    // A name becomes one of a vector attribute. Looks through all classes.
+    pub fn add_vector(&mut self, name: Sym) -> Result<(), Refusal>
+        ensures { Becomes (view self.new) (with_vector (view self.old) name) result }
+    {
+        self.vectors.push(name)?;
+        let none = Declared::new(self.alloc);
+        let classes = mem::replace(&mut self.classes, none);
+        self.classes = classes_with(self.alloc, name, classes)?;
         Ok(())
     }
 
@@ -157,6 +206,13 @@ impl Draft {
         let mut terms = Listed::new(self.alloc);
         terms.push(term)?;
         self.puts.push(Put { field, terms })?;
+        Ok(())
+    }
+
+    pub fn add_term(&mut self, term: Term) -> Result<(), Refusal>
+        ensures { Becomes (view self.new) (record (view self.old) { terms = (view self.old).terms ++ term ∷ [] }) result }
+    {
+        self.terms.push(term)?;
         Ok(())
     }
 
@@ -200,6 +256,14 @@ impl Draft {
         Some(self.values.get(place)?.number)
     }
 
+    // the cell of an element variable
+    pub fn element_of(&self, name: Sym) -> Option<usize>
+        ensures { result ≡ number_of name (view self.now).elements }
+    {
+        let place = self.elements.place_of(name)?;
+        Some(self.elements.get(place)?.number)
+    }
+
     // the first place of a variable binds it
     pub fn add_bound(&mut self, field: usize, name: Sym) -> Result<(), Refusal>
         ensures { Becomes (view self.new) (with_bound (view self.old) field name) result }
@@ -219,6 +283,11 @@ impl Draft {
             }
             Target::Put { field } => self.add_put(field, Term::Constant(value)),
             Target::Fixed { field } => self.add_fixed(field, value),
+            Target::Terms => self.add_term(Term::Constant(value)),
+            Target::Constants => {
+                self.constants.push(value)?;
+                Ok(())
+            }
             Target::Item => self.add_item(Item::Print(Term::Constant(value))),
         }
     }
@@ -231,6 +300,16 @@ impl Draft {
         self.add_test(field, Pred::Eq, Operand::OneOf(values), false)
     }
 
+    // the field is the vector attribute of the class that was named
+    pub fn is_vector(&self, field: usize) -> bool
+        ensures { result ≡ is_vector (class_of (view self.now).classes (view self.now).class) field }
+    {
+        match self.classes.get(self.class) {
+            Some(class) => class.vector && is_last(field, class.attrs.len()),
+            None => false,
+        }
+    }
+
     // the field of an attribute of the class that was named
     pub fn field_of(&self, name: Sym) -> Option<usize>
         ensures { result ≡ position (λ a. a.0 == name.0) (attributes_of (slice_get (view self.now).classes (view self.now).class)) }
@@ -241,6 +320,38 @@ impl Draft {
 }
 
 impl Draft {
+    // the values of the vector attribute of an action end
+    pub fn end_terms(&mut self, field: usize) -> Result<(), Refusal>
+        ensures { Becomes (view self.new) (with_several InPut field (view self.old)) result }
+    {
+        let none = Vec::new(self.alloc);
+        let terms = Listed::from_vec(mem::replace(&mut self.terms, none));
+        self.puts.push(Put { field, terms })?;
+        Ok(())
+    }
+
+    // the values of the vector attribute of a command end
+    pub fn end_constants(&mut self, field: usize) -> Result<(), Refusal>
+        ensures { Becomes (view self.new) (with_several InFixed field (view self.old)) result }
+    {
+        let none = Vec::new(self.alloc);
+        let values = Listed::from_vec(mem::replace(&mut self.constants, none));
+        self.fixed.push(Fixed { field, values })?;
+        Ok(())
+    }
+
+    // the element variable names the cell of the condition that was read last
+    pub fn bind_element(&mut self) -> Result<(), Refusal>
+        ensures { Becomes (view self.new) (with_bound_element (view self.old)) result }
+    {
+        let cells = cells_of(&self.conditions);
+        self.elements.push(Named {
+            name: self.element,
+            number: cells.saturating_sub(1),
+        })?;
+        Ok(())
+    }
+
     fn end_pattern(&mut self) -> Result<(), Refusal>
         ensures { Becomes (view self.new) (with_element InPattern (view self.old)) result }
     {
@@ -326,6 +437,12 @@ impl Draft {
         })?;
         Ok(())
     }
+}
+
+fn is_last(field: usize, len: usize) -> bool
+    ensures { result ≡ (field + 1 == len) }
+{
+    len > 0 && field == len - 1
 }
 
 fn place_in(attrs: &[Sym], name: Sym) -> Option<usize>

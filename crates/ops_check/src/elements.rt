@@ -1,7 +1,7 @@
 //! Elements: a class with attributes and values.
 ghost use Rattle.std.specs.Prelude.{◌≡◌, ◌∷◌, ◌++◌};
-ghost use Rattle.ops_meaning.specs.Grammar.{goes, ClassName, Terms, Attribute};
-ghost use Rattle.ops_check.specs.Going.{view, use_of, Goes, Reads, IsWithin};
+ghost use Rattle.ops_meaning.specs.Grammar.{goes, behind_attribute, ClassName, Terms, Attribute};
+ghost use Rattle.ops_check.specs.Going.{view, use_of, Goes, GoesToTerms, Reads, IsWithin};
 
 use crate::draft::{Draft, Place, Target};
 use crate::kinds::{is_caret, is_name, is_right};
@@ -61,10 +61,10 @@ impl Draft {
         }
     }
 
-    // ATTR place, or ATTR value
+    // ATTR place*, or ATTR value*
     #[tactic(auto, unfolding(ops_meaning::specs::Grammar::goes, ops_meaning::specs::Grammar::step, ops_meaning::specs::Grammar::ends))]
     fn attribute<'a>(&mut self, place: Place, words: &'a [Word]) -> Result<&'a [Word], Refusal>
-        ensures reads { Reads (Attribute (use_of place)) (view self.old) (view self.new) words.now result }
+        ensures reads { GoesToTerms place (λ more ws. goes (words.now ++ more) (Attribute (use_of place) ∷ ws) (view self.old)) (view self.new) result }
         ensures within { IsWithin words.now result }
     {
         let (word, rest) = first_of(words)?;
@@ -74,10 +74,28 @@ impl Draft {
         let Some(field) = self.field_of(word.name) else {
             return refused(Fault::UnknownAttribute, word);
         };
+        if self.is_vector(field) {
+            self.terms.clear();
+            self.constants.clear();
+            return self.several(place, field, rest);
+        }
+        self.one(place, field, rest)
+    }
+
+    // place, or value
+    fn one<'a>(
+        &mut self,
+        place: Place,
+        field: usize,
+        words: &'a [Word],
+    ) -> Result<&'a [Word], Refusal>
+        ensures reads { Reads (behind_attribute (use_of place) field) (view self.old) (view self.new) words.now result }
+        ensures within { IsWithin words.now result }
+    {
         match place {
-            Place::Pattern => self.place(field, rest),
-            Place::Put => self.value_of(Target::Put { field }, rest),
-            Place::Fixed => self.value_of(Target::Fixed { field }, rest),
+            Place::Pattern => self.place(field, words),
+            Place::Put => self.value_of(Target::Put { field }, words),
+            Place::Fixed => self.value_of(Target::Fixed { field }, words),
         }
     }
 }

@@ -32,7 +32,7 @@ impl Draft {
         }
     }
 
-    // literalize NAME NAME* ) | p NAME first condition* --> action* ) | make CLASS fixed* ) | run )
+    // literalize NAME NAME* ) | vector-attribute NAME NAME* ) | p NAME first condition* --> action* ) | make CLASS fixed* ) | run )
     #[tactic(auto, unfolding(ops_meaning::specs::Grammar::goes, ops_meaning::specs::Grammar::step, ops_meaning::specs::Grammar::ends))]
     fn form<'a>(&mut self, words: &'a [Word]) -> Result<&'a [Word], Refusal>
         ensures reads { Reads Form (view self.old) (view self.new) words.now result }
@@ -45,6 +45,12 @@ impl Draft {
                     return refused(Fault::LateDeclaration, word);
                 }
                 self.declaration(rest)
+            }
+            Keyword::VectorAttribute => {
+                if !self.may_declare() {
+                    return refused(Fault::LateDeclaration, word);
+                }
+                self.vector_declaration(rest)
             }
             Keyword::Production => {
                 if !self.commands.is_empty() {

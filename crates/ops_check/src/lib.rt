@@ -2,6 +2,7 @@
 #![tactic(auto)]
 
 mod declarations;
+mod designators;
 mod draft;
 mod elements;
 mod faults;
@@ -11,10 +12,12 @@ pub mod laws;
 mod productions;
 mod program;
 mod refusals;
+mod several;
 mod testing;
 #[cfg(test)]
 mod tests;
 mod values;
+mod vectors;
 
 pub use faults::{ProgramFault, fault_text};
 pub use program::{LONGEST_TEXT, read_program};

@@ -1,14 +1,12 @@
 //! Productions.
-ghost use Rattle.std.specs.Prelude.{◌≡◌, slice_get, ◌∷◌, ◌++◌, if◌then◌else◌};
-ghost use Rattle.std.specs.List.{list_any};
-ghost use Rattle.ops_meaning.specs.Grammar.{goes, cell, designated, more_patterns, value_for, is_left, ToItem, RuleName, FirstPattern, Patterns, NegatedPattern, Actions, ActionWord, Cell, Cells, Items, ItemWord, Closes, EndsHalt, EndsCrlf, Next};
+ghost use Rattle.std.specs.Prelude.{◌≡◌, ◌∷◌, ◌++◌, if◌then◌else◌};
+ghost use Rattle.ops_meaning.specs.Grammar.{goes, more_patterns, value_for, is_left, ToItem, RuleName, FirstPattern, Patterns, Pattern, Actions, ActionWord, Items, ItemWord, Closes, EndsHalt, EndsCrlf, Next};
 ghost use Rattle.ops_check.specs.Going.{view, Goes, Reads, Acts, IsWithin};
 
 use crate::draft::{Draft, Place, Target};
-use crate::kinds::{is_arrow, is_crlf, is_left, is_minus, is_name, is_right, natural_of, whole_of};
+use crate::kinds::{is_arrow, is_crlf, is_left, is_left_brace, is_minus, is_name, is_right};
 use crate::refusals::{Refusal, closing, first_of, refused};
 use ops_base::actions::{Action, Item};
-use ops_base::conditions::Condition;
 use ops_base::endings::{Fault, Limit};
 use ops_meaning::{Keyword, Word};
 
@@ -63,6 +61,7 @@ impl Draft {
         self.name = word.name;
         self.tests.clear();
         self.values.clear();
+        self.elements.clear();
         self.variables = 0;
         self.negated = false;
         self.around = 0;
@@ -71,7 +70,7 @@ impl Draft {
         Ok(rest)
     }
 
-    // ( CLASS term* )
+    // positive
     #[tactic(auto, unfolding(ops_meaning::specs::Grammar::goes, ops_meaning::specs::Grammar::step, ops_meaning::specs::Grammar::ends))]
     fn first_pattern<'a>(&mut self, words: &'a [Word]) -> Result<&'a [Word], Refusal>
         ensures reads { Reads FirstPattern (view self.old) (view self.new) words.now result }
@@ -80,6 +79,9 @@ impl Draft {
         let (word, rest) = first_of(words)?;
         if is_left(word.kind) {
             return self.element(Place::Pattern, rest);
+        }
+        if is_left_brace(word.kind) {
+            return self.braced(rest);
         }
         if is_minus(word.keyword) {
             return refused(Fault::FirstNegated, word);
@@ -106,13 +108,12 @@ impl Draft {
         }
     }
 
-    // pattern | - pattern, of which the first word is taken, where there is room for one more
+    // positive | - pattern, of which the first word is taken, where there is room for one more
     fn condition<'a>(&mut self, word: Word, rest: &'a [Word]) -> Result<&'a [Word], Refusal>
         ensures acts { Acts (λ ws s. more_patterns word ws s) word (view self.old) (view self.new) rest.now result }
         ensures within { IsWithin rest.now result }
     {
-        let negated = is_minus(word.keyword);
-        if !is_left(word.kind) && !negated {
+        if !is_left(word.kind) && !is_left_brace(word.kind) && !is_minus(word.keyword) {
             return refused(Fault::BadForm, word);
         }
         if self.conditions.len() >= MOST_CONDITIONS {
@@ -126,15 +127,18 @@ impl Draft {
         if is_left(word.kind) {
             return self.element(Place::Pattern, rest);
         }
+        if is_left_brace(word.kind) {
+            return self.braced(rest);
+        }
         self.negated = true;
         self.around = self.values.len();
-        self.negated_pattern(rest)
+        self.pattern(rest)
     }
 
     // ( CLASS term* )
     #[tactic(auto, unfolding(ops_meaning::specs::Grammar::goes, ops_meaning::specs::Grammar::step, ops_meaning::specs::Grammar::ends))]
-    fn negated_pattern<'a>(&mut self, words: &'a [Word]) -> Result<&'a [Word], Refusal>
-        ensures reads { Reads NegatedPattern (view self.old) (view self.new) words.now result }
+    pub fn pattern<'a>(&mut self, words: &'a [Word]) -> Result<&'a [Word], Refusal>
+        ensures reads { Reads Pattern (view self.old) (view self.new) words.now result }
         ensures within { IsWithin words.now result }
     {
         let (word, rest) = first_of(words)?;
@@ -167,7 +171,7 @@ impl Draft {
         }
     }
 
-    // make CLASS put* ) | remove WHOLE WHOLE* ) | write item* ) | halt )
+    // make CLASS put* ) | remove DESIGNATOR DESIGNATOR* ) | write item* ) | halt )
     #[tactic(auto, unfolding(ops_meaning::specs::Grammar::goes, ops_meaning::specs::Grammar::step, ops_meaning::specs::Grammar::ends))]
     fn action<'a>(&mut self, words: &'a [Word]) -> Result<&'a [Word], Refusal>
         ensures reads { Reads ActionWord (view self.old) (view self.new) words.now result }
@@ -199,78 +203,6 @@ impl Draft {
     {
         let rest = closing(words)?;
         self.add_action(Action::Halt)?;
-        Ok(rest)
-    }
-}
-
-impl Draft {
-    // WHOLE WHOLE* )
-    #[tactic(auto, unfolding(ops_meaning::specs::Grammar::goes, ops_meaning::specs::Grammar::step, ops_meaning::specs::Grammar::ends))]
-    fn remove<'a>(&mut self, words: &'a [Word]) -> Result<&'a [Word], Refusal>
-        ensures reads { Goes (λ more ws. goes (words.now ++ more) (Cell ∷ Cells ∷ ws) (view self.old)) (view self.new) result }
-        ensures within { IsWithin words.now result }
-    {
-        let (word, rest) = first_of(words)?;
-        match self.cell(word, rest) {
-            Ok(rest) => return self.remove_cells(rest),
-            Err(refusal) => return Err(refusal),
-        }
-    }
-
-    // WHOLE* )
-    #[tactic(auto, unfolding(ops_meaning::specs::Grammar::goes, ops_meaning::specs::Grammar::step, ops_meaning::specs::Grammar::ends))]
-    fn remove_cells<'a>(&mut self, words: &'a [Word]) -> Result<&'a [Word], Refusal>
-        ensures reads { Reads Cells (view self.old) (view self.new) words.now result }
-        ensures within { IsWithin words.now result }
-    {
-        let mut rest = words;
-        'cells: loop {
-            let (word, after) = first_of(rest)?;
-            if is_right(word.kind) {
-                self.end_remove()?;
-                return Ok(after);
-            }
-            match self.cell(word, after) {
-                Ok(next) => rest = next,
-                Err(refusal) => return Err(refusal),
-            }
-        }
-    }
-
-    // a number of a condition, counted from 1, that is the word
-    fn cell<'a>(&mut self, word: Word, rest: &'a [Word]) -> Result<&'a [Word], Refusal>
-        ensures acts { Acts (λ ws s. cell word.kind ws s) word (view self.old) (view self.new) rest.now result }
-        ensures within { IsWithin rest.now result }
-    {
-        let Some(number) = whole_of(word.kind) else {
-            return refused(Fault::BadForm, word);
-        };
-        let Some(natural) = natural_of(number) else {
-            return refused(Fault::BadDesignator, word);
-        };
-        self.designated(natural - 1, word, rest)
-    }
-
-    // the condition behind so many is positive, and so is each before it
-    fn designated<'a>(
-        &mut self,
-        before: usize,
-        word: Word,
-        rest: &'a [Word],
-    ) -> Result<&'a [Word], Refusal>
-        ensures acts { Acts (λ ws s. designated before (slice_get s.conditions before) ws s) word (view self.old) (view self.new) rest.now result }
-        ensures within { IsWithin rest.now result }
-    {
-        let Some(condition) = self.conditions.get(before) else {
-            return refused(Fault::BadDesignator, word);
-        };
-        if condition.negated {
-            return refused(Fault::BadDesignator, word);
-        }
-        if is_any_negated(&self.conditions[..before]) {
-            return refused(Fault::AmbiguousDesignator, word);
-        }
-        self.cells.push(before)?;
         Ok(rest)
     }
 }
@@ -329,10 +261,4 @@ impl Draft {
         self.add_item(Item::Crlf)?;
         Ok(rest)
     }
-}
-
-fn is_any_negated(conditions: &[Condition]) -> bool
-    ensures { result ≡ list_any (λ c. c.negated) conditions.now }
-{
-    conditions.iter().any(|condition| condition.negated)
 }

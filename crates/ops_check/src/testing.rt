@@ -1,6 +1,6 @@
 //! Tests of a condition.
 ghost use Rattle.std.specs.Prelude.{◌≡◌};
-ghost use Rattle.ops_meaning.specs.Grammar.{goes, number_of, test, tested, variable_tested, Place, Tests, Tested, Choice};
+ghost use Rattle.ops_meaning.specs.Grammar.{goes, number_of, place, test, tested, variable_tested, Place, Tests, Tested, Choice};
 ghost use Rattle.ops_check.specs.Going.{view, Reads, Acts, IsWithin};
 
 use crate::draft::{Draft, Target};
@@ -22,6 +22,19 @@ impl Draft {
         ensures within { IsWithin words.now result }
     {
         let (word, rest) = first_of(words)?;
+        self.place_from(field, word, rest)
+    }
+
+    // test | { test* }, of which the first word is taken
+    pub fn place_from<'a>(
+        &mut self,
+        field: usize,
+        word: Word,
+        rest: &'a [Word],
+    ) -> Result<&'a [Word], Refusal>
+        ensures acts { Acts (λ ws s. place field word ws s) word (view self.old) (view self.new) rest.now result }
+        ensures within { IsWithin rest.now result }
+    {
         if is_left_brace(word.kind) {
             return self.conjunction(field, rest);
         }

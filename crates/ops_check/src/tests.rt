@@ -2,8 +2,11 @@
 
 use crate::faults::ProgramFault;
 use crate::program::read_program;
+use ops_base::actions::Action;
+use ops_base::commands::Command;
 use ops_base::conditions::Operand;
 use ops_base::endings::{Fault, Limit};
+use ops_base::memory::OutOfMemory;
 use ops_base::programs::Program;
 use ops_base::symbols::Names;
 use ops_base::values::{Pred, Value};
@@ -46,7 +49,82 @@ fn program_is_read(rt: HostRuntime) -> Result<(), ProgramFault> {
 }
 
 // texts, each with its fault, line and column
-const FAULTS: [(&[u8], Fault, u64, u64); 35] = [
+const FAULTS: [(&[u8], Fault, u64, u64); 50] = [
+    (
+        b"(literalize a x y) (vector-attribute x y)",
+        Fault::TwoVectors,
+        1,
+        40,
+    ),
+    (
+        b"(vector-attribute x y) (literalize a x y)",
+        Fault::TwoVectors,
+        1,
+        40,
+    ),
+    (
+        b"(vector-attribute x x) (literalize a x x)",
+        Fault::DeclaredTwice,
+        1,
+        40,
+    ),
+    (
+        b"(literalize a x) (make a) (vector-attribute x)",
+        Fault::LateDeclaration,
+        1,
+        28,
+    ),
+    (
+        b"(literalize a x) (p r (a) -->) (vector-attribute x)",
+        Fault::LateDeclaration,
+        1,
+        33,
+    ),
+    (b"(vector-attribute )", Fault::BadForm, 1, 19),
+    (b"(literalize a x) (make a ^x 1 2)", Fault::BadForm, 1, 31),
+    (b"(literalize a x) (make a ^x)", Fault::BadForm, 1, 28),
+    (
+        b"(literalize a x) (vector-attribute x) (make a ^x 1 <y>)",
+        Fault::UnboundVariable,
+        1,
+        52,
+    ),
+    (
+        b"(literalize a) (p r { <w> (a) } { (a) <w> } -->)",
+        Fault::BadDesignator,
+        1,
+        39,
+    ),
+    (
+        b"(literalize a) (p r { <w> (a) (a) } -->)",
+        Fault::BadForm,
+        1,
+        31,
+    ),
+    (
+        b"(literalize a) (p r (a) - { <w> (a) } -->)",
+        Fault::BadForm,
+        1,
+        27,
+    ),
+    (
+        b"(literalize a) (p r { <w> (a) } --> (remove <v>))",
+        Fault::BadDesignator,
+        1,
+        45,
+    ),
+    (
+        b"(literalize a n) (p r { <w> (a ^n <x>) } --> (remove <x>))",
+        Fault::BadDesignator,
+        1,
+        54,
+    ),
+    (
+        b"(literalize a) (p q { <w> (a) } -->) (p r (a) --> (remove <w>))",
+        Fault::BadDesignator,
+        1,
+        59,
+    ),
     (
         b"(literalize a n) (p r (a) - (a ^n 1) (a ^n 2) --> (remove 3))",
         Fault::AmbiguousDesignator,
@@ -267,6 +345,73 @@ fn tests_are_read(rt: HostRuntime) -> Result<(), ProgramFault> {
         }
         assert_eq!(rt; (rule.variables, rule.specificity), (1, 7));
     }
+    Ok(())
+}
+
+const VECTORS: &[u8] = b"(literalize v list n) (vector-attribute list)
+(p r { (v ^list <h> { } 3 ^n <n>) <w> } { <u> (v) } --> (make v ^list <h> 1 <n>) (remove <u> <w>))
+(make v ^list a b)";
+
+#[test]
+fn vectors_are_read(rt: HostRuntime) -> Result<(), ProgramFault> {
+    let (program, mut names) = read(rt.alloc(), VECTORS)?;
+    let (list, n) = (names.intern(b"list")?, names.intern(b"n")?);
+    for class in program.classes.as_slice() {
+        assert_eq!(rt;
+            (class.attrs.as_slice(), class.vector),
+            ([n, list].as_slice(), true)
+        );
+    }
+    for rule in program.rules.as_slice() {
+        let [first, _second] = rule.conditions.as_slice() else {
+            panic!(rt; "two conditions");
+        };
+        let fields = first.tests.as_slice().iter().map(|test| test.field);
+        assert!(rt; fields.eq([1, 3, 0]));
+        let [Action::Make { puts, .. }, Action::Remove { cells }] = rule.actions.as_slice() else {
+            panic!(rt; "two actions");
+        };
+        let values = puts
+            .as_slice()
+            .iter()
+            .map(|put| (put.field, put.terms.len()));
+        assert!(rt; values.eq([(1, 3)]));
+        assert_eq!(rt; cells.as_slice(), [1, 0].as_slice());
+    }
+    let [Command::Make { puts, .. }] = program.commands.as_slice() else {
+        panic!(rt; "one command");
+    };
+    let values = puts
+        .as_slice()
+        .iter()
+        .map(|put| (put.field, put.values.len()));
+    assert!(rt; values.eq([(1, 2)]));
+    Ok(())
+}
+
+// a text that makes an element of a class with a vector attribute alone, with so many values
+fn made_of(alloc: Global, values: usize) -> Result<Vec<u8>, OutOfMemory> {
+    let head = b"(literalize a x) (vector-attribute x) (make a ^x";
+    let mut text = Vec::from_slice(alloc, head)?;
+    for _value in 0..values {
+        text.extend_from_slice(b" 1")?;
+    }
+    text.push(b')')?;
+    Ok(text)
+}
+
+#[test]
+fn an_element_has_127_fields(rt: HostRuntime) -> Result<(), ProgramFault> {
+    let alloc = rt.alloc();
+    assert!(rt; read_program(alloc, made_of(alloc, 126)?).is_ok());
+    let at = ProgramFault::At {
+        fault: Fault::LimitPassed {
+            limit: Limit::Fields,
+        },
+        line: 1,
+        column: 302,
+    };
+    assert_eq!(rt; read_program(alloc, made_of(alloc, 127)?).err(), Some(at));
     Ok(())
 }
 

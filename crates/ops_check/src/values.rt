@@ -73,8 +73,9 @@ impl Draft {
         };
         match target {
             Target::Put { field } => self.add_put(field, Term::Variable(number))?,
+            Target::Terms => self.add_term(Term::Variable(number))?,
             Target::Item => self.add_item(Item::Print(Term::Variable(number)))?,
-            Target::Fixed { .. } | Target::Test { .. } => {
+            Target::Fixed { .. } | Target::Constants | Target::Test { .. } => {
                 return refused(Fault::UnboundVariable, word);
             }
         }

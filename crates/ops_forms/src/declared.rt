@@ -38,6 +38,14 @@ impl Titled for Rule {
     }
 }
 
+impl Titled for Sym {
+    ghost title = { λ s. s.0 };
+
+    fn title(&self) -> Sym {
+        *self
+    }
+}
+
 impl Titled for Named {
     ghost title = { λ n. n.name.0 };
 
@@ -154,6 +162,12 @@ impl<T: Titled + Drop> Declared<T> {
         ensures { result ≡ length self.now }
     {
         self.list.len()
+    }
+
+    pub fn as_slice(&self) -> &[T]
+        ensures { result.now ≡ self.now }
+    {
+        self.list.as_slice()
     }
 
     pub fn into_vec(self) -> Vec<T>

@@ -1,5 +1,6 @@
 //! The next form of a text.
 ghost use Rattle.std.specs.Prelude.{ℕ, ◌≡◌, ◌≤◌, ◌<◌, ◌^◌, length, true, if◌then◌else◌, IfOk, Ok, Some};
+ghost use Rattle.ops_tokens.specs.Program.{program_table};
 ghost use Rattle.ops_tokens.specs.Tokens.{token_at, LiesIn};
 ghost use Rattle.ops_meaning.specs.Grammar.{is_left};
 ghost use Rattle.ops_meaning.specs.Reads.{is_numeric};
@@ -56,7 +57,9 @@ pub struct FormReader {
 
 impl FormReader {
     /// Takes no memory.
-    pub fn new() -> FormReader {
+    pub fn new() -> FormReader
+        ensures { result.scanner.table ≡ program_table }
+    {
         FormReader {
             scanner: Scanner::new(),
         }

@@ -113,6 +113,8 @@ fn keyword_of_symbol(spelling: &[u8]) -> Keyword
 {
     if is(spelling, b"literalize") {
         Keyword::Literalize
+    } else if is(spelling, b"vector-attribute") {
+        Keyword::VectorAttribute
     } else if is(spelling, b"p") {
         Keyword::Production
     } else if is(spelling, b"make") {

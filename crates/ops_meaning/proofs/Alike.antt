@@ -1,17 +1,18 @@
 -- Words that are read alike.
-use Rattle.std.proofs.Common.{◌≡◌, ℕ, Bool, true, false, List, [], ◌∷◌, refl, sym, ap, ◌∙◌, cond, Option, Some, None, true≢false}
+use Rattle.std.proofs.Common.{◌≡◌, ℕ, ◌+◌, Bool, true, false, ◌||◌, nat_lt, length, List, [], ◌∷◌, refl, sym, ap, ◌∙◌, cond, Option, Some, None, true≢false}
 use Rattle.std.specs.Prelude.{if◌then◌else◌}
 use Rattle.ops_base.specs.declared.values.Sym.{Sym}
 use Rattle.ops_base.specs.declared.values.Value.{Value}
 use Rattle.ops_base.specs.declared.values.Value.TheVariants as value
 use Rattle.ops_base.specs.declared.values.Pred.{Pred}
 use Rattle.ops_base.specs.declared.values.Pred.TheVariants as pred
+use Rattle.ops_base.specs.Valid.{most_fields}
 use Rattle.ops_tokens.specs.declared.token.TokenKind.{TokenKind}
 use Rattle.ops_tokens.specs.declared.token.TokenKind.TheVariants as kind
 use Rattle.ops_meaning.specs.declared.words.Word.{Word}
 use Rattle.ops_meaning.specs.declared.words.Keyword.{Keyword}
 use Rattle.ops_meaning.specs.declared.words.Keyword.TheVariants as keyword
-use Rattle.ops_meaning.specs.Grammar.{Target, ToTest, ToItem, Wanted, Forms, Form, ClassDeclared, Attributes, RuleName, FirstPattern, Patterns, NegatedPattern, ClassName, Terms, Attribute, Place, Tests, Tested, Choice, Atom, ValueFor, Actions, ActionWord, Cell, Cells, Items, ItemWord, Closes, State, Step, Next, is_left, is_right, is_left_brace, is_right_brace, is_literal, opens_choice, closes_choice, pred_of, with_write, with_constant, constant_of, value_of, atom_of, form, constant_tested, tested, predicated, test, chosen, atom_at, constant_at, value_for, step}
+use Rattle.ops_meaning.specs.Grammar.{Use, InPattern, InPut, InFixed, Target, ToTest, ToTerms, ToConstants, ToItem, Wanted, Forms, Form, ClassDeclared, Attributes, VectorName, VectorNames, RuleName, FirstPattern, Patterns, Pattern, Braced, ElementName, ClosesBrace, ClassName, Terms, Attribute, Several, Place, Tests, Tested, Choice, Atom, ValueFor, Actions, ActionWord, Cell, Cells, Items, ItemWord, Closes, State, Step, Next, is_left, is_right, is_left_brace, is_right_brace, is_caret, is_literal, opens_choice, closes_choice, pred_of, with_write, with_constant, constant_of, value_of, atom_of, form, constant_tested, tested, predicated, test, place, chosen, atom_at, constant_at, value_for, terms, within, one_of_several, with_several, step}
 use Rattle.ops_meaning.specs.Spelling.{spelled_name}
 use Rattle.ops_meaning.specs.Words.{keyword_of_symbol, has_name}
 use Rattle.ops_meaning.proofs.Proper.{is_mark, symbol_unmarked}
@@ -20,9 +21,12 @@ use Rattle.ops_meaning.proofs.Proper.{is_mark, symbol_unmarked}
 abbrev pub wants_name : Wanted → Bool
 wants_name ClassDeclared = true
 wants_name Attributes = true
+wants_name VectorName = true
+wants_name VectorNames = true
 wants_name RuleName = true
 wants_name ClassName = true
 wants_name (Attribute u) = true
+wants_name (Several u f) = true
 wants_name (Place f) = true
 wants_name (Tests f) = true
 wants_name (Tested f p) = true
@@ -79,9 +83,16 @@ pub symbol-alike : (k : Keyword) (name : Sym) (first past : ℕ) (h : Wanted) (w
 unfolding step
 symbol-alike k name first past ClassDeclared ws s unmarked e = refl
 symbol-alike k name first past Attributes ws s unmarked e = refl
+symbol-alike k name first past VectorName ws s unmarked e = refl
+symbol-alike k name first past VectorNames ws s unmarked e = refl
 symbol-alike k name first past RuleName ws s unmarked e = refl
 symbol-alike k name first past ClassName ws s unmarked e = refl
 symbol-alike k name first past (Attribute u) ws s unmarked e = refl
+symbol-alike k name first past (Several InPattern f) ws s unmarked e =
+    ap (within (nat_lt f most_fields)) (test_alike k unmarked name first past (Several InPattern (f + 1) ∷ ws) s f)
+symbol-alike k name first past (Several InPut f) ws s unmarked e = value_alike k unmarked name first past (Several InPut f ∷ ws) s ToTerms
+symbol-alike k name first past (Several InFixed f) ws s unmarked e =
+    ap (within (nat_lt (f + length s.constants) most_fields)) (value_alike k unmarked name first past (Several InFixed f ∷ ws) s ToConstants)
 symbol-alike k name first past (Place f) ws s unmarked e = test_alike k unmarked name first past ws s f
 symbol-alike k name first past (Tests f) ws s unmarked e = test_alike k unmarked name first past (Tests f ∷ ws) s f
 symbol-alike k name first past (Tested f p) ws s unmarked e = tested_alike k unmarked name first past ws s f p
@@ -162,13 +173,24 @@ module _ (w : Word) (first past : ℕ) (ws : List Wanted) (s : State) where
   value_moved : (t : Target) → value_for t moved ws s ≡ value_for t w ws s
   value_moved t = ap (λ (x : Step). if is_literal w.keyword then Next (Atom t ∷ ws) s else x) (constant_at_moved t (value_of w.kind w.name))
 
+  place_moved : (f : ℕ) → place f moved ws s ≡ place f w ws s
+  place_moved f = ap (λ (x : Step). if is_left_brace w.kind then Next (Tests f ∷ ws) s else x) (test_moved f)
+
+module _ (w : Word) (first past : ℕ) (ws : List Wanted) (s : State) where
+  one_moved : (u : Use) (f : ℕ) → one_of_several u f (moved w first past ws s) ws s ≡ one_of_several u f w ws s
+  one_moved InPattern f = ap (within (nat_lt f most_fields)) (place_moved w first past (Several InPattern (f + 1) ∷ ws) s f)
+  one_moved InPut f = value_moved w first past (Several InPut f ∷ ws) s ToTerms
+  one_moved InFixed f = ap (within (nat_lt (f + length s.constants) most_fields)) (value_moved w first past (Several InFixed f ∷ ws) s ToConstants)
+
 -- Elsewhere the place of a word does not matter.
 pub moved-alike : (w : Word) (first past : ℕ) (h : Wanted) (ws : List Wanted) (s : State) → keeps_place h ≡ false → step (record w { first = first; past = past }) (h ∷ ws) s ≡ step w (h ∷ ws) s
 unfolding step
 moved-alike w first past Forms ws s e = absurd (true≢false e)
 moved-alike w first past Actions ws s e = absurd (true≢false e)
 moved-alike w first past Form ws s e = form_moved w first past ws s w.keyword
-moved-alike w first past (Place f) ws s e = ap (λ (x : Step). if is_left_brace w.kind then Next (Tests f ∷ ws) s else x) (test_moved w first past ws s f)
+moved-alike w first past (Several u f) ws s e =
+    ap (λ (x : Step). if is_right w.kind || is_caret w.kind then terms u w ws (with_several u f s) else x) (one_moved w first past ws s u f)
+moved-alike w first past (Place f) ws s e = place_moved w first past ws s f
 moved-alike w first past (Tests f) ws s e = ap (λ (x : Step). if is_right_brace w.kind then Next ws s else x) (test_moved w first past (Tests f ∷ ws) s f)
 moved-alike w first past (Tested f p) ws s e = tested_moved w first past ws s f p
 moved-alike w first past (Choice f) ws s e = refl
@@ -178,10 +200,15 @@ moved-alike w first past Items ws s e =
     ap (λ (x : Step). if is_right w.kind then Next ws (with_write s) else if is_left w.kind then Next (ItemWord ∷ Items ∷ ws) s else x) (value_moved w first past (Items ∷ ws) s ToItem)
 moved-alike w first past ClassDeclared ws s e = refl
 moved-alike w first past Attributes ws s e = refl
+moved-alike w first past VectorName ws s e = refl
+moved-alike w first past VectorNames ws s e = refl
 moved-alike w first past RuleName ws s e = refl
 moved-alike w first past FirstPattern ws s e = refl
 moved-alike w first past Patterns ws s e = refl
-moved-alike w first past NegatedPattern ws s e = refl
+moved-alike w first past Pattern ws s e = refl
+moved-alike w first past Braced ws s e = refl
+moved-alike w first past ElementName ws s e = refl
+moved-alike w first past ClosesBrace ws s e = refl
 moved-alike w first past ClassName ws s e = refl
 moved-alike w first past (Terms u) ws s e = refl
 moved-alike w first past (Attribute u) ws s e = refl

@@ -1,7 +1,8 @@
 -- What a word does, against the grammar alone.
-use Rattle.std.proofs.Common.{◌≡◌, ℕ, ◌-◌, Bool, true, false, not, ◌||◌, List, [], ◌∷◌, refl, sym, ap, Option, Some, None, true≢false, subst, ◌==◌, nat_lt, length, take, is_some, position, slice_get}
+use Rattle.std.proofs.Common.{◌≡◌, ℕ, suc, arith, ◌+◌, ◌-◌, Bool, true, false, not, ◌||◌, List, [], ◌∷◌, ◌++◌, ◌∙◌, cond, refl, sym, ap, Option, Some, None, true≢false, subst, ◌==◌, nat_lt, length, take, is_some, position, slice_get}
 use Rattle.std.specs.List.{list_any}
 use Rattle.std.proofs.lemmas.Bool.{cond_both, or_right, and_from}
+use Rattle.ops_base.specs.declared.values.Sym.{Sym}
 use Rattle.ops_base.specs.declared.values.Value.{Value}
 use Rattle.ops_base.specs.declared.values.Pred.{Pred}
 use Rattle.ops_base.specs.declared.values.Pred.TheVariants as pred
@@ -9,15 +10,16 @@ use Rattle.ops_base.specs.declared.conditions.Condition.{Condition}
 use Rattle.ops_base.specs.declared.actions.Term.{Term}
 use Rattle.ops_base.specs.declared.actions.Term.TheVariants as term
 use Rattle.ops_base.specs.declared.endings.Fault.{Fault}
-use Rattle.ops_base.specs.Valid.{most_fields, most_conditions}
+use Rattle.ops_base.specs.Valid.{most_fields, most_conditions, class_of, is_vector}
 use Rattle.ops_tokens.specs.declared.token.TokenKind.{TokenKind}
 use Rattle.ops_tokens.specs.declared.token.TokenKind.TheVariants as kind
 use Rattle.ops_meaning.specs.declared.words.Word.{Word}
 use Rattle.ops_meaning.specs.declared.words.Keyword.{Keyword}
 use Rattle.ops_meaning.specs.declared.words.Keyword.TheVariants as keyword
-use Rattle.ops_meaning.specs.Grammar.{Use, InPattern, InPut, InFixed, Target, ToTest, ToPut, ToItem, Ends, Wanted, Forms, Form, ClassDeclared, Attributes, RuleName, FirstPattern, Patterns, NegatedPattern, ClassName, Terms, Attribute, Place, Tests, Tested, Choice, Atom, ValueFor, Actions, ActionWord, Cell, Cells, Items, ItemWord, Closes, State, Step, Next, Refuses, is_left, is_right, is_left_brace, is_right_brace, is_caret, is_name, is_variable, is_arrow, is_crlf, is_literal, is_minus, opens_choice, closes_choice, pred_of, constant_of, value_of, atom_of, natural_of, is_one_of, number_of, may_declare, is_class, is_rule, form, class_declared, attributes, class_at, class_name, attributes_of, behind_attribute, field_at, attribute, variable_tested, constant_tested, tested, predicated, test, place, tests, chosen, choice, atom_at, term_at, bound_at, constant_at, value_for, terms, rule_name, first_pattern, one_more, patterns, negated_pattern, actions, action_word, designated, cell_of, cell, cells, items, item_word, closes, forms, step}
-use Rattle.ops_meaning.specs.Derivation.{is_whole, is_operand, is_value, is_choice, Derives, a_form, a_literalize, a_class, an_attribute, no_attribute, a_production, a_rule, a_first, a_negated_first, a_pattern, a_negated_pattern, behind_a_minus, an_arrow, a_make, a_run, a_class_name, a_term, no_term, an_attribute_name, a_value, a_literal_value, an_atom, a_conjunction, no_more_tests, an_operand, a_literal, a_predicate, a_disjunction, one_more_operand, one_more_literal, one_more_predicate, one_more_disjunction, a_tested_operand, a_tested_literal, one_more_choice, no_more_choices, an_action, no_action, to_make, to_remove, to_write, to_halt, a_cell, one_more_cell, no_more_cells, an_item, a_literal_item, an_item_form, no_item, a_crlf, a_closing, is_no_form}
-use Rattle.ops_meaning.proofs.Completed.{completed}
+use Rattle.ops_meaning.specs.Grammar.{Use, InPattern, InPut, InFixed, Target, ToTest, ToPut, ToFixed, ToTerms, ToConstants, ToItem, Ends, EndsRun, EndsHalt, EndsCrlf, Wanted, Forms, Form, ClassDeclared, Attributes, VectorName, VectorNames, RuleName, FirstPattern, Patterns, Pattern, Braced, ElementName, ClosesBrace, ClassName, Terms, Attribute, Several, Place, Tests, Tested, Choice, Atom, ValueFor, Actions, ActionWord, Cell, Cells, Items, ItemWord, Closes, State, Step, Next, Refuses, is_left, is_right, is_left_brace, is_right_brace, is_caret, is_name, is_variable, is_arrow, is_crlf, is_literal, is_minus, opens_choice, closes_choice, pred_of, constant_of, value_of, atom_of, natural_of, is_one_of, number_of, may_declare, is_class, is_rule, form, class_declared, is_second, attributes, makes_second, vector_declared, vector_name, vector_names, class_at, class_name, attributes_of, behind_attribute, field_at, attribute, with_constant, variable_tested, constant_tested, tested, predicated, test, place, tests, chosen, choice, atom_at, term_at, bound_at, constant_at, value_for, with_element, terms, within, one_of_several, with_several, several, rule_name, first_pattern, one_more, patterns, pattern, element_at, element_name, braced, closes_brace, actions, action_word, designated, cell_of, cell_named, cell, cells, items, item_word, ended, closes, forms, step}
+use Rattle.ops_meaning.specs.Derivation.{is_designator, is_operand, is_value, is_choice, with_name, Derives, a_form, a_literalize, a_class, an_attribute, no_attribute, a_vector_declaration, a_vector, one_more_vector, no_more_vectors, a_production, a_rule, a_first, a_braced_first, a_negated_first, a_pattern, a_braced_pattern, a_negated_pattern, a_whole_pattern, a_name_before, a_name_behind, an_element_name, a_closed_brace, an_arrow, a_make, a_run, a_class_name, a_term, no_term, a_scalar_attribute, a_vector_attribute, one_more_place, one_more_term, one_more_constant, no_more_of_several, a_value, a_literal_value, an_atom, a_conjunction, no_more_tests, an_operand, a_literal, a_predicate, a_disjunction, one_more_operand, one_more_literal, one_more_predicate, one_more_disjunction, a_tested_operand, a_tested_literal, one_more_choice, no_more_choices, an_action, no_action, to_make, to_remove, to_write, to_halt, a_cell, one_more_cell, no_more_cells, an_item, a_literal_item, an_item_form, no_item, a_crlf, a_closing, is_no_form}
+use Rattle.ops_meaning.proofs.Completed.{completed, attribute_completed}
+use Rattle.ops_meaning.proofs.Arranged.{AreArranged, StayArranged, stays_arranged, kind_agrees}
 
 -- forms are wanted only behind all else
 abbrev pub forms_last : List Wanted → Bool
@@ -30,10 +32,38 @@ forms_last (w ∷ ws) = forms_last ws
 abbrev pub Stays : List Wanted → List Wanted → Type 0
 Stays ws ws' = forms_last ws ≡ true → forms_last ws' ≡ true
 
--- The step continues what derives behind it, or the word derives where it is refused in a form.
-abbrev pub Continues : List Wanted → Word → Step → Type 0
-Continues ws w (Next ws' s') = Stays ws ws' × ((ts : List Word) → Derives ws' ts → Derives ws (w ∷ ts))
-Continues ws w (Refuses f) = is_no_form f ≡ false → (ts : List Word) × Derives ws (w ∷ ts)
+-- The step continues what derives behind it, with the names of vector attributes that were read by then, or the word derives where
+-- it is refused in a form.
+abbrev pub Continues : List Sym → List Wanted → Word → Step → Type 0
+Continues vs ws w (Next ws' s') = Stays ws ws' × ((ts : List Word) → Derives s'.vectors ws' ts → Derives vs ws (w ∷ ts))
+Continues vs ws w (Refuses f) = is_no_form f ≡ false → (ts : List Word) × Derives vs ws (w ∷ ts)
+
+-- ---- a word that is no declaration of a vector attribute leaves the names of vector attributes
+
+pub constant_vectors : (t : Target) (s : State) (v : Value) → (with_constant t s v).vectors ≡ s.vectors
+constant_vectors (ToTest f p) s v = refl
+constant_vectors (ToPut f) s v = refl
+constant_vectors (ToFixed f) s v = refl
+constant_vectors ToTerms s v = refl
+constant_vectors ToConstants s v = refl
+constant_vectors ToItem s v = refl
+
+pub element_vectors : (u : Use) (s : State) → (with_element u s).vectors ≡ s.vectors
+element_vectors InPattern s = refl
+element_vectors InPut s = refl
+element_vectors InFixed s = refl
+
+pub several_vectors : (u : Use) (f : ℕ) (s : State) → (with_several u f s).vectors ≡ s.vectors
+several_vectors InPattern f s = refl
+several_vectors InPut f s = refl
+several_vectors InFixed f s = refl
+
+pub ended_vectors : (e : Ends) (s : State) → (ended e s).vectors ≡ s.vectors
+ended_vectors EndsRun s = refl
+ended_vectors EndsHalt s = refl
+ended_vectors EndsCrlf s = refl
+
+-- ---- words
 
 no_fault : {A : Type 0} → true ≡ false → A
 no_fault e = absurd (true≢false e)
@@ -63,177 +93,240 @@ atom_choice w v c e = and_from _ _ (ap not c) (ap (λ (o : Option Value). is_som
 
 module _ (w : Word) (ws : List Wanted) (s : State) where
   -- with what is wanted behind it, the word derives
-  behind : (head : List Wanted) (ws' : List Wanted) → ((ts : List Word) → Derives ws' ts → Derives head (w ∷ ts)) → (ts : List Word) × Derives head (w ∷ ts)
-  behind head ws' more = let c = completed ws' in (c.0, more c.0 c.1)
+  behind_names : (vs : List Sym) (head : List Wanted) (ws' : List Wanted) → ((ts : List Word) → Derives vs ws' ts → Derives s.vectors head (w ∷ ts)) → (ts : List Word) × Derives s.vectors head (w ∷ ts)
+  behind_names vs head ws' more = let c = completed vs ws' in (c.0, more c.0 c.1)
 
-  forms_continue : Continues (Forms ∷ ws) w (forms w ws s)
-  forms_continue = cond_both (is_left w.kind) _ _ (Continues (Forms ∷ ws) w) (λ e. (λ h. h, λ ts d. a_form e d)) (λ _ f. no_fault f)
+  behind : (head : List Wanted) (ws' : List Wanted) → ((ts : List Word) → Derives s.vectors ws' ts → Derives s.vectors head (w ∷ ts)) → (ts : List Word) × Derives s.vectors head (w ∷ ts)
+  behind head ws' more = behind_names s.vectors head ws' more
 
-  form_continues : (k : Keyword) → w.keyword ≡ k → Continues (Form ∷ ws) w (form w k ws s)
+  -- the state behind the word may be another, with the same names
+  kept : (s' : State) → s'.vectors ≡ s.vectors → (head ws' : List Wanted) → ((ts : List Word) → Derives s.vectors ws' ts → Derives s.vectors head (w ∷ ts)) → (ts : List Word) → Derives s'.vectors ws' ts → Derives s.vectors head (w ∷ ts)
+  kept s' same head ws' more ts d = more ts (subst (λ (vs : List Sym). Derives vs ws' ts) same d)
+
+  forms_continue : Continues s.vectors (Forms ∷ ws) w (forms w ws s)
+  forms_continue = cond_both (is_left w.kind) _ _ (Continues s.vectors (Forms ∷ ws) w) (λ e. (λ h. h, λ ts d. a_form e d)) (λ _ f. no_fault f)
+
+  form_continues : (k : Keyword) → w.keyword ≡ k → Continues s.vectors (Form ∷ ws) w (form w k ws s)
   form_continues keyword.Literalize e =
-      cond_both (may_declare s) _ _ (Continues (Form ∷ ws) w) (λ _. (λ h. h, λ ts d. a_literalize e d)) (λ _ _. behind (Form ∷ ws) (ClassDeclared ∷ Attributes ∷ ws) (λ ts d. a_literalize e d))
+      cond_both (may_declare s) _ _ (Continues s.vectors (Form ∷ ws) w) (λ _. (λ h. h, λ ts d. a_literalize e d)) (λ _ _. behind (Form ∷ ws) (ClassDeclared ∷ Attributes ∷ ws) (λ ts d. a_literalize e d))
+  form_continues keyword.VectorAttribute e =
+      cond_both (may_declare s) _ _ (Continues s.vectors (Form ∷ ws) w) (λ _. (λ h. h, λ ts d. a_vector_declaration e d))
+      (λ _ _. behind (Form ∷ ws) (VectorName ∷ VectorNames ∷ ws) (λ ts d. a_vector_declaration e d))
   form_continues keyword.Production e =
-      cond_both (length s.commands == 0) _ _ (Continues (Form ∷ ws) w) (λ _. (λ h. h, λ ts d. a_production e d))
+      cond_both (length s.commands == 0) _ _ (Continues s.vectors (Form ∷ ws) w) (λ _. (λ h. h, λ ts d. a_production e d))
       (λ _ _. behind (Form ∷ ws) (RuleName ∷ FirstPattern ∷ Patterns ∷ Actions ∷ ws) (λ ts d. a_production e d))
   form_continues keyword.Make e = (λ h. h, λ ts d. a_make e d)
   form_continues keyword.Run e = (λ h. h, λ ts d. a_run e d)
   form_continues _ e = λ f. no_fault f
 
-  class_declared_continues : Continues (ClassDeclared ∷ ws) w (class_declared w ws s)
+  class_declared_continues : Continues s.vectors (ClassDeclared ∷ ws) w (class_declared w ws s)
   class_declared_continues =
-      cond_both (is_name w.kind) _ _ (Continues (ClassDeclared ∷ ws) w)
-      (λ e. cond_both (is_class s w.name) _ _ (Continues (ClassDeclared ∷ ws) w) (λ _ _. behind (ClassDeclared ∷ ws) ws (λ ts d. a_class e d)) (λ _. (λ h. h, λ ts d. a_class e d)))
+      cond_both (is_name w.kind) _ _ (Continues s.vectors (ClassDeclared ∷ ws) w)
+      (λ e. cond_both (is_class s w.name) _ _ (Continues s.vectors (ClassDeclared ∷ ws) w) (λ _ _. behind (ClassDeclared ∷ ws) ws (λ ts d. a_class e d)) (λ _. (λ h. h, λ ts d. a_class e d)))
       (λ _ f. no_fault f)
 
-  attributes_continue : Continues (Attributes ∷ ws) w (attributes w ws s)
+  attributes_continue : Continues s.vectors (Attributes ∷ ws) w (attributes w ws s)
   attributes_continue =
-      let one : is_name w.kind ≡ true → (ts : List Word) × Derives (Attributes ∷ ws) (w ∷ ts) = λ e. behind (Attributes ∷ ws) (Attributes ∷ ws) (λ ts d. an_attribute e d) in
-      cond_both (is_right w.kind) _ _ (Continues (Attributes ∷ ws) w) (λ e. (λ h. h, λ ts d. no_attribute e d))
-      (λ _. cond_both (is_name w.kind) _ _ (Continues (Attributes ∷ ws) w)
-      (λ e. cond_both (is_one_of w.name s.attrs) _ _ (Continues (Attributes ∷ ws) w) (λ _ _. one e)
-      (λ _. cond_both (nat_lt (length s.attrs) most_fields) _ _ (Continues (Attributes ∷ ws) w) (λ _. (λ h. h, λ ts d. an_attribute e d)) (λ _ _. one e)))
+      let one : is_name w.kind ≡ true → (ts : List Word) × Derives s.vectors (Attributes ∷ ws) (w ∷ ts) = λ e. behind (Attributes ∷ ws) (Attributes ∷ ws) (λ ts d. an_attribute e d) in
+      cond_both (is_right w.kind) _ _ (Continues s.vectors (Attributes ∷ ws) w) (λ e. (λ h. h, λ ts d. no_attribute e d))
+      (λ _. cond_both (is_name w.kind) _ _ (Continues s.vectors (Attributes ∷ ws) w)
+      (λ e. cond_both (is_one_of w.name s.attrs) _ _ (Continues s.vectors (Attributes ∷ ws) w) (λ _ _. one e)
+      (λ _. cond_both (is_second w.name s) _ _ (Continues s.vectors (Attributes ∷ ws) w) (λ _ _. one e)
+      (λ _. cond_both (nat_lt (length s.attrs) most_fields) _ _ (Continues s.vectors (Attributes ∷ ws) w) (λ _. (λ h. h, λ ts d. an_attribute e d)) (λ _ _. one e))))
       (λ _ f. no_fault f))
 
-  rule_name_continues : Continues (RuleName ∷ ws) w (rule_name w ws s)
+  -- the name of a vector attribute in front of those that may follow it, or of what is wanted behind it
+  vector_declared_continues : (head ws' : List Wanted) → Stays head ws' → ((ts : List Word) → Derives (with_name w.name s.vectors) ws' ts → Derives s.vectors head (w ∷ ts)) → Continues s.vectors head w (vector_declared w ws' s)
+  vector_declared_continues head ws' stay more =
+      let named : (b : Bool) → is_one_of w.name s.vectors ≡ b → cond b s.vectors (s.vectors ++ w.name ∷ []) ≡ with_name w.name s.vectors =
+      λ b e. ap (λ (c : Bool). cond c s.vectors (s.vectors ++ w.name ∷ [])) (sym e) in
+      cond_both (is_one_of w.name s.vectors) _ _ (Continues s.vectors head w)
+      (λ e. (stay, λ ts d. more ts (subst (λ (vs : List Sym). Derives vs ws' ts) (named true e) d)))
+      (λ e. cond_both (makes_second w.name s.classes) _ _ (Continues s.vectors head w) (λ _ _. behind_names (with_name w.name s.vectors) head ws' more)
+      (λ _. (stay, λ ts d. more ts (subst (λ (vs : List Sym). Derives vs ws' ts) (named false e) d))))
+
+  vector_name_continues : (head ws' : List Wanted) → Stays head ws' → (is_name w.kind ≡ true → (ts : List Word) → Derives (with_name w.name s.vectors) ws' ts → Derives s.vectors head (w ∷ ts)) → Continues s.vectors head w (vector_name w ws' s)
+  vector_name_continues head ws' stay more =
+      cond_both (is_name w.kind) _ _ (Continues s.vectors head w) (λ e. vector_declared_continues head ws' stay (more e)) (λ _ f. no_fault f)
+
+  vector_names_continue : Continues s.vectors (VectorNames ∷ ws) w (vector_names w ws s)
+  vector_names_continue =
+      cond_both (is_right w.kind) _ _ (Continues s.vectors (VectorNames ∷ ws) w) (λ e. (λ h. h, λ ts d. no_more_vectors e d))
+      (λ _. vector_name_continues (VectorNames ∷ ws) (VectorNames ∷ ws) (λ h. h) (λ e ts d. one_more_vector e d))
+
+  rule_name_continues : Continues s.vectors (RuleName ∷ ws) w (rule_name w ws s)
   rule_name_continues =
-      cond_both (is_name w.kind) _ _ (Continues (RuleName ∷ ws) w)
-      (λ e. cond_both (is_rule s w.name) _ _ (Continues (RuleName ∷ ws) w) (λ _ _. behind (RuleName ∷ ws) ws (λ ts d. a_rule e d)) (λ _. (λ h. h, λ ts d. a_rule e d)))
+      cond_both (is_name w.kind) _ _ (Continues s.vectors (RuleName ∷ ws) w)
+      (λ e. cond_both (is_rule s w.name) _ _ (Continues s.vectors (RuleName ∷ ws) w) (λ _ _. behind (RuleName ∷ ws) ws (λ ts d. a_rule e d)) (λ _. (λ h. h, λ ts d. a_rule e d)))
       (λ _ f. no_fault f)
 
-  first_pattern_continues : Continues (FirstPattern ∷ ws) w (first_pattern w ws s)
+  first_pattern_continues : Continues s.vectors (FirstPattern ∷ ws) w (first_pattern w ws s)
   first_pattern_continues =
-      cond_both (is_left w.kind) _ _ (Continues (FirstPattern ∷ ws) w) (λ e. (λ h. h, λ ts d. a_first e d))
-      (λ _. cond_both (is_minus w.keyword) _ _ (Continues (FirstPattern ∷ ws) w) (λ e _. behind (FirstPattern ∷ ws) (NegatedPattern ∷ ws) (λ ts d. a_negated_first e d))
-      (λ _ f. no_fault f))
-
-  -- one more condition, or none where there is no room
-  one_more_continues : (ws' : List Wanted) (s' : State) → Stays (Patterns ∷ ws) ws' → ((ts : List Word) → Derives ws' ts → Derives (Patterns ∷ ws) (w ∷ ts)) → Continues (Patterns ∷ ws) w (one_more ws' s')
-  one_more_continues ws' s' stay more =
-      cond_both (nat_lt (length s'.conditions) most_conditions) _ _ (Continues (Patterns ∷ ws) w) (λ _. (stay, more)) (λ _ _. behind (Patterns ∷ ws) ws' more)
-
-  patterns_continue : Continues (Patterns ∷ ws) w (patterns w ws s)
-  patterns_continue =
-      cond_both (is_arrow w.keyword) _ _ (Continues (Patterns ∷ ws) w) (λ e. (λ h. h, λ ts d. an_arrow (arrow_of w.keyword e) d))
-      (λ _. cond_both (is_left w.kind) _ _ (Continues (Patterns ∷ ws) w)
-      (λ e. one_more_continues (ClassName ∷ Terms InPattern ∷ Patterns ∷ ws) s (λ h. h) (λ ts d. a_pattern e d))
-      (λ _. cond_both (is_minus w.keyword) _ _ (Continues (Patterns ∷ ws) w)
-      (λ e. one_more_continues (NegatedPattern ∷ Patterns ∷ ws) (record s { negated = true; around = length s.values }) (λ h. h) (λ ts d. a_negated_pattern e d))
+      cond_both (is_left w.kind) _ _ (Continues s.vectors (FirstPattern ∷ ws) w) (λ e. (λ h. h, λ ts d. a_first e d))
+      (λ _. cond_both (is_left_brace w.kind) _ _ (Continues s.vectors (FirstPattern ∷ ws) w) (λ e. (λ h. h, λ ts d. a_braced_first e d))
+      (λ _. cond_both (is_minus w.keyword) _ _ (Continues s.vectors (FirstPattern ∷ ws) w) (λ e _. behind (FirstPattern ∷ ws) (Pattern ∷ ws) (λ ts d. a_negated_first e d))
       (λ _ f. no_fault f)))
 
-  negated_pattern_continues : Continues (NegatedPattern ∷ ws) w (negated_pattern w ws s)
-  negated_pattern_continues =
-      cond_both (is_left w.kind) _ _ (Continues (NegatedPattern ∷ ws) w) (λ e. (λ h. h, λ ts d. behind_a_minus e d)) (λ _ f. no_fault f)
+  -- one more condition, or none where there is no room
+  one_more_continues : (ws' : List Wanted) (s' : State) → Stays (Patterns ∷ ws) ws' → ((ts : List Word) → Derives s'.vectors ws' ts → Derives s.vectors (Patterns ∷ ws) (w ∷ ts)) → Continues s.vectors (Patterns ∷ ws) w (one_more ws' s')
+  one_more_continues ws' s' stay more =
+      cond_both (nat_lt (length s'.conditions) most_conditions) _ _ (Continues s.vectors (Patterns ∷ ws) w) (λ _. (stay, more)) (λ _ _. behind_names s'.vectors (Patterns ∷ ws) ws' more)
 
-  class_at_continues : is_name w.kind ≡ true → (o : Option ℕ) → Continues (ClassName ∷ ws) w (class_at o ws s)
+  patterns_continue : Continues s.vectors (Patterns ∷ ws) w (patterns w ws s)
+  patterns_continue =
+      cond_both (is_arrow w.keyword) _ _ (Continues s.vectors (Patterns ∷ ws) w) (λ e. (λ h. h, λ ts d. an_arrow (arrow_of w.keyword e) d))
+      (λ _. cond_both (is_left w.kind) _ _ (Continues s.vectors (Patterns ∷ ws) w)
+      (λ e. one_more_continues (ClassName ∷ Terms InPattern ∷ Patterns ∷ ws) s (λ h. h) (λ ts d. a_pattern e d))
+      (λ _. cond_both (is_left_brace w.kind) _ _ (Continues s.vectors (Patterns ∷ ws) w)
+      (λ e. one_more_continues (Braced ∷ Patterns ∷ ws) s (λ h. h) (λ ts d. a_braced_pattern e d))
+      (λ _. cond_both (is_minus w.keyword) _ _ (Continues s.vectors (Patterns ∷ ws) w)
+      (λ e. one_more_continues (Pattern ∷ Patterns ∷ ws) (record s { negated = true; around = length s.values }) (λ h. h) (λ ts d. a_negated_pattern e d))
+      (λ _ f. no_fault f))))
+
+  pattern_continues : Continues s.vectors (Pattern ∷ ws) w (pattern w ws s)
+  pattern_continues =
+      cond_both (is_left w.kind) _ _ (Continues s.vectors (Pattern ∷ ws) w) (λ e. (λ h. h, λ ts d. a_whole_pattern e d)) (λ _ f. no_fault f)
+
+  -- an element variable in front of what is wanted behind it
+  element_at_continues : (head ws' : List Wanted) → Stays head ws' → ((ts : List Word) → Derives s.vectors ws' ts → Derives s.vectors head (w ∷ ts)) → (o : Option ℕ) → Continues s.vectors head w (element_at o w.name ws' s)
+  element_at_continues head ws' stay more (Some c) = λ _. behind head ws' more
+  element_at_continues head ws' stay more None = (stay, more)
+
+  element_name_continues : (head ws' : List Wanted) → Stays head ws' → (is_variable w.kind ≡ true → (ts : List Word) → Derives s.vectors ws' ts → Derives s.vectors head (w ∷ ts)) → Continues s.vectors head w (element_name w ws' s)
+  element_name_continues head ws' stay more =
+      cond_both (is_variable w.kind) _ _ (Continues s.vectors head w)
+      (λ e. element_at_continues head ws' stay (more e) (number_of w.name s.elements)) (λ _ f. no_fault f)
+
+  braced_continues : Continues s.vectors (Braced ∷ ws) w (braced w ws s)
+  braced_continues =
+      cond_both (is_left w.kind) _ _ (Continues s.vectors (Braced ∷ ws) w) (λ e. (λ h. h, λ ts d. a_name_behind e d))
+      (λ _. element_name_continues (Braced ∷ ws) (Pattern ∷ ClosesBrace ∷ ws) (λ h. h) (λ e ts d. a_name_before e d))
+
+  closes_brace_continues : Continues s.vectors (ClosesBrace ∷ ws) w (closes_brace w ws s)
+  closes_brace_continues =
+      cond_both (is_right_brace w.kind) _ _ (Continues s.vectors (ClosesBrace ∷ ws) w) (λ e. (λ h. h, λ ts d. a_closed_brace e d)) (λ _ f. no_fault f)
+
+  class_at_continues : is_name w.kind ≡ true → (o : Option ℕ) → Continues s.vectors (ClassName ∷ ws) w (class_at o ws s)
   class_at_continues e (Some c) = (λ h. h, λ ts d. a_class_name e d)
   class_at_continues e None = λ _. behind (ClassName ∷ ws) ws (λ ts d. a_class_name e d)
 
-  class_name_continues : Continues (ClassName ∷ ws) w (class_name w ws s)
+  class_name_continues : Continues s.vectors (ClassName ∷ ws) w (class_name w ws s)
   class_name_continues =
-      cond_both (is_name w.kind) _ _ (Continues (ClassName ∷ ws) w) (λ e. class_at_continues e (position (λ c. c.name.0 == w.name.0) s.classes)) (λ _ f. no_fault f)
+      cond_both (is_name w.kind) _ _ (Continues s.vectors (ClassName ∷ ws) w) (λ e. class_at_continues e (position (λ c. c.name.0 == w.name.0) s.classes)) (λ _ f. no_fault f)
 
-  terms_continue : (u : Use) → Continues (Terms u ∷ ws) w (terms u w ws s)
+  terms_continue : (u : Use) → Continues s.vectors (Terms u ∷ ws) w (terms u w ws s)
   terms_continue u =
-      cond_both (is_right w.kind) _ _ (Continues (Terms u ∷ ws) w) (λ e. (λ h. h, λ ts d. no_term e d))
-      (λ _. cond_both (is_caret w.kind) _ _ (Continues (Terms u ∷ ws) w) (λ e. (λ h. h, λ ts d. a_term e d)) (λ _ f. no_fault f))
+      cond_both (is_right w.kind) _ _ (Continues s.vectors (Terms u ∷ ws) w) (λ e. (λ h. h, kept (with_element u s) (element_vectors u s) (Terms u ∷ ws) ws (λ ts d. no_term e d)))
+      (λ _. cond_both (is_caret w.kind) _ _ (Continues s.vectors (Terms u ∷ ws) w) (λ e. (λ h. h, λ ts d. a_term e d)) (λ _ f. no_fault f))
 
-  field_at_continues : (u : Use) → is_name w.kind ≡ true → (o : Option ℕ) → Continues (Attribute u ∷ ws) w (field_at u o ws s)
-  field_at_continues InPattern e (Some f) = (λ h. h, λ ts d. an_attribute_name f e d)
-  field_at_continues InPut e (Some f) = (λ h. h, λ ts d. an_attribute_name f e d)
-  field_at_continues InFixed e (Some f) = (λ h. h, λ ts d. an_attribute_name f e d)
-  field_at_continues u e None = λ _. behind (Attribute u ∷ ws) (behind_attribute u 0 ∷ ws) (λ ts d. an_attribute_name 0 e d)
+  scalar_stays : (u : Use) (f : ℕ) → Stays (Attribute u ∷ ws) (behind_attribute u f ∷ Terms u ∷ ws)
+  scalar_stays InPattern f = λ h. h
+  scalar_stays InPut f = λ h. h
+  scalar_stays InFixed f = λ h. h
 
-  attribute_continues : (u : Use) → Continues (Attribute u ∷ ws) w (attribute u w ws s)
-  attribute_continues u =
-      cond_both (is_name w.kind) _ _ (Continues (Attribute u ∷ ws) w)
-      (λ e. field_at_continues u e (position (λ a. a.0 == w.name.0) (attributes_of (slice_get s.classes s.class)))) (λ _ f. no_fault f)
+  field_at_continues : (u : Use) → is_name w.kind ≡ true → (o : Option ℕ) → ((f : ℕ) → o ≡ Some f → is_vector (class_of s.classes s.class) f ≡ is_one_of w.name s.vectors) → Continues s.vectors (Attribute u ∷ ws) w (field_at u o ws s)
+  field_at_continues u is (Some f) agrees =
+      let same = sym (agrees f refl) in
+      cond_both (is_vector (class_of s.classes s.class) f) _ _ (Continues s.vectors (Attribute u ∷ ws) w)
+      (λ e. (λ h. h, λ ts d. a_vector_attribute f is (same ∙ e) d))
+      (λ e. (scalar_stays u f, λ ts d. a_scalar_attribute f is (same ∙ e) d))
+  field_at_continues u is None agrees = λ _. attribute_completed s.vectors u ws w (is_one_of w.name s.vectors) is refl (completed s.vectors ws)
+
+  attribute_continues : (u : Use) → AreArranged (Attribute u ∷ ws) s → Continues s.vectors (Attribute u ∷ ws) w (attribute u w ws s)
+  attribute_continues u a =
+      cond_both (is_name w.kind) _ _ (Continues s.vectors (Attribute u ∷ ws) w)
+      (λ e. field_at_continues u e (position (λ a. a.0 == w.name.0) (attributes_of (slice_get s.classes s.class))) (λ f at. kind_agrees (Attribute u ∷ ws) s w.name f a at)) (λ _ f. no_fault f)
 
   -- an operand in front of what is wanted behind it
   module _ (head ws' : List Wanted) (stay : Stays head ws') where
-    variable_tested_continues : ((ts : List Word) → Derives ws' ts → Derives head (w ∷ ts)) → (f : ℕ) (p : Pred) (o : Option ℕ) → Continues head w (variable_tested f p o w.name ws' s)
+    variable_tested_continues : ((ts : List Word) → Derives s.vectors ws' ts → Derives s.vectors head (w ∷ ts)) → (f : ℕ) (p : Pred) (o : Option ℕ) → Continues s.vectors head w (variable_tested f p o w.name ws' s)
     variable_tested_continues more f p (Some n) = (stay, more)
     variable_tested_continues more f pred.Eq None = (stay, more)
     variable_tested_continues more f _ None = λ _. behind head ws' more
 
-    constant_tested_continues : (is_operand w ≡ true → (ts : List Word) → Derives ws' ts → Derives head (w ∷ ts)) → (f : ℕ) (p : Pred) (o : Option Value) → constant_of w.kind w.name ≡ o → Continues head w (constant_tested f p w o ws' s)
+    constant_tested_continues : (is_operand w ≡ true → (ts : List Word) → Derives s.vectors ws' ts → Derives s.vectors head (w ∷ ts)) → (f : ℕ) (p : Pred) (o : Option Value) → constant_of w.kind w.name ≡ o → Continues s.vectors head w (constant_tested f p w o ws' s)
     constant_tested_continues more f p (Some v) e = (stay, more (constant_operand w v e))
     constant_tested_continues more f p None e =
-        cond_both (is_variable w.kind) _ _ (Continues head w)
+        cond_both (is_variable w.kind) _ _ (Continues s.vectors head w)
         (λ is. variable_tested_continues (more (variable_operand w is)) f p (number_of w.name s.values)) (λ _ f. no_fault f)
 
-    tested_continues : (f : ℕ) (p : Pred) → (is_operand w ≡ true → (ts : List Word) → Derives ws' ts → Derives head (w ∷ ts))
-        → (is_literal w.keyword ≡ true → (ts : List Word) → Derives (Atom (ToTest f p) ∷ ws') ts → Derives head (w ∷ ts)) → Continues head w (tested f p w ws' s)
+    tested_continues : (f : ℕ) (p : Pred) → (is_operand w ≡ true → (ts : List Word) → Derives s.vectors ws' ts → Derives s.vectors head (w ∷ ts))
+        → (is_literal w.keyword ≡ true → (ts : List Word) → Derives s.vectors (Atom (ToTest f p) ∷ ws') ts → Derives s.vectors head (w ∷ ts)) → Continues s.vectors head w (tested f p w ws' s)
     tested_continues f p more literal =
-        cond_both (is_literal w.keyword) _ _ (Continues head w) (λ e. (stay, literal e))
+        cond_both (is_literal w.keyword) _ _ (Continues s.vectors head w) (λ e. (stay, literal e))
         (λ _. constant_tested_continues more f p (constant_of w.kind w.name) refl)
 
     -- a test, in each of its forms
-    module _ (f : ℕ) (operand : is_operand w ≡ true → (ts : List Word) → Derives ws' ts → Derives head (w ∷ ts))
-        (literal : is_literal w.keyword ≡ true → (ts : List Word) → Derives (Atom (ToTest f pred.Eq) ∷ ws') ts → Derives head (w ∷ ts))
-        (predicate : (p : Pred) → pred_of w.keyword ≡ Some p → (ts : List Word) → Derives (Tested f p ∷ ws') ts → Derives head (w ∷ ts))
-        (disjunction : opens_choice w.keyword ≡ true → (ts : List Word) → Derives (Choice f ∷ ws') ts → Derives head (w ∷ ts)) where
-      predicated_continues : (o : Option Pred) → pred_of w.keyword ≡ o → Continues head w (predicated f w o ws' s)
+    module _ (f : ℕ) (operand : is_operand w ≡ true → (ts : List Word) → Derives s.vectors ws' ts → Derives s.vectors head (w ∷ ts))
+        (literal : is_literal w.keyword ≡ true → (ts : List Word) → Derives s.vectors (Atom (ToTest f pred.Eq) ∷ ws') ts → Derives s.vectors head (w ∷ ts))
+        (predicate : (p : Pred) → pred_of w.keyword ≡ Some p → (ts : List Word) → Derives s.vectors (Tested f p ∷ ws') ts → Derives s.vectors head (w ∷ ts))
+        (disjunction : opens_choice w.keyword ≡ true → (ts : List Word) → Derives s.vectors (Choice f ∷ ws') ts → Derives s.vectors head (w ∷ ts)) where
+      predicated_continues : (o : Option Pred) → pred_of w.keyword ≡ o → Continues s.vectors head w (predicated f w o ws' s)
       predicated_continues (Some p) e = (stay, predicate p e)
       predicated_continues None e = tested_continues f pred.Eq operand literal
 
-      test_continues : Continues head w (test f w ws' s)
+      test_continues : Continues s.vectors head w (test f w ws' s)
       test_continues =
-          cond_both (opens_choice w.keyword) _ _ (Continues head w) (λ e. (stay, disjunction e))
+          cond_both (opens_choice w.keyword) _ _ (Continues s.vectors head w) (λ e. (stay, disjunction e))
           (λ _. predicated_continues (pred_of w.keyword) refl)
 
     -- a value in front of what is wanted behind it
-    module _ (t : Target) (more : is_value w ≡ true → (ts : List Word) → Derives ws' ts → Derives head (w ∷ ts))
-        (literal : is_literal w.keyword ≡ true → (ts : List Word) → Derives (Atom t ∷ ws') ts → Derives head (w ∷ ts)) where
-      term_at_continues : is_value w ≡ true → (u : Target) (x : Term) → Continues head w (term_at u x ws' s)
+    module _ (t : Target) (more : is_value w ≡ true → (ts : List Word) → Derives s.vectors ws' ts → Derives s.vectors head (w ∷ ts))
+        (literal : is_literal w.keyword ≡ true → (ts : List Word) → Derives s.vectors (Atom t ∷ ws') ts → Derives s.vectors head (w ∷ ts)) where
+      term_at_continues : is_value w ≡ true → (u : Target) (x : Term) → Continues s.vectors head w (term_at u x ws' s)
       term_at_continues e (ToPut f) x = (stay, more e)
+      term_at_continues e ToTerms x = (stay, more e)
       term_at_continues e ToItem x = (stay, more e)
       term_at_continues e _ x = λ _. behind head ws' (more e)
 
-      bound_at_continues : is_value w ≡ true → (o : Option ℕ) → Continues head w (bound_at t o ws' s)
+      bound_at_continues : is_value w ≡ true → (o : Option ℕ) → Continues s.vectors head w (bound_at t o ws' s)
       bound_at_continues e (Some n) = term_at_continues e t (term.Variable n)
       bound_at_continues e None = λ _. behind head ws' (more e)
 
-      constant_at_continues : is_literal w.keyword ≡ false → (o : Option Value) → value_of w.kind w.name ≡ o → Continues head w (constant_at t w o ws' s)
-      constant_at_continues l (Some v) e = (stay, more (constant_value w v l e))
+      constant_at_continues : is_literal w.keyword ≡ false → (o : Option Value) → value_of w.kind w.name ≡ o → Continues s.vectors head w (constant_at t w o ws' s)
+      constant_at_continues l (Some v) e = (stay, kept (with_constant t s v) (constant_vectors t s v) head ws' (more (constant_value w v l e)))
       constant_at_continues l None e =
-          cond_both (is_variable w.kind) _ _ (Continues head w) (λ is. bound_at_continues (variable_value w l is) (number_of w.name s.values)) (λ _ f. no_fault f)
+          cond_both (is_variable w.kind) _ _ (Continues s.vectors head w) (λ is. bound_at_continues (variable_value w l is) (number_of w.name s.values)) (λ _ f. no_fault f)
 
-      value_for_continues : Continues head w (value_for t w ws' s)
+      value_for_continues : Continues s.vectors head w (value_for t w ws' s)
       value_for_continues =
-          cond_both (is_literal w.keyword) _ _ (Continues head w) (λ e. (stay, literal e))
+          cond_both (is_literal w.keyword) _ _ (Continues s.vectors head w) (λ e. (stay, literal e))
           (λ l. constant_at_continues l (value_of w.kind w.name) refl)
 
-  place_continues : (f : ℕ) → Continues (Place f ∷ ws) w (place f w ws s)
+  value_continues : (t : Target) → Continues s.vectors (ValueFor t ∷ ws) w (value_for t w ws s)
+  value_continues t = value_for_continues (ValueFor t ∷ ws) ws (λ h. h) t (λ e ts d. a_value e d) (λ e ts d. a_literal_value e d)
+
+  place_continues : (f : ℕ) → Continues s.vectors (Place f ∷ ws) w (place f w ws s)
   place_continues f =
-      cond_both (is_left_brace w.kind) _ _ (Continues (Place f ∷ ws) w) (λ e. (λ h. h, λ ts d. a_conjunction e d))
+      cond_both (is_left_brace w.kind) _ _ (Continues s.vectors (Place f ∷ ws) w) (λ e. (λ h. h, λ ts d. a_conjunction e d))
       (λ _. test_continues (Place f ∷ ws) ws (λ h. h) f (λ e ts d. an_operand e d) (λ e ts d. a_literal e d)
       (λ p e ts d. a_predicate e d) (λ e ts d. a_disjunction e d))
 
-  tests_continue : (f : ℕ) → Continues (Tests f ∷ ws) w (tests f w ws s)
+  tests_continue : (f : ℕ) → Continues s.vectors (Tests f ∷ ws) w (tests f w ws s)
   tests_continue f =
-      cond_both (is_right_brace w.kind) _ _ (Continues (Tests f ∷ ws) w) (λ e. (λ h. h, λ ts d. no_more_tests e d))
+      cond_both (is_right_brace w.kind) _ _ (Continues s.vectors (Tests f ∷ ws) w) (λ e. (λ h. h, λ ts d. no_more_tests e d))
       (λ _. test_continues (Tests f ∷ ws) (Tests f ∷ ws) (λ h. h) f (λ e ts d. one_more_operand e d) (λ e ts d. one_more_literal e d)
       (λ p e ts d. one_more_predicate e d) (λ e ts d. one_more_disjunction e d))
 
-  chosen_continues : (f : ℕ) → closes_choice w.keyword ≡ false → (o : Option Value) → atom_of w.kind w.name ≡ o → Continues (Choice f ∷ ws) w (chosen o (Choice f ∷ ws) s)
+  chosen_continues : (f : ℕ) → closes_choice w.keyword ≡ false → (o : Option Value) → atom_of w.kind w.name ≡ o → Continues s.vectors (Choice f ∷ ws) w (chosen o (Choice f ∷ ws) s)
   chosen_continues f c (Some v) e = (λ h. h, λ ts d. one_more_choice (atom_choice w v c e) d)
   chosen_continues f c None e = λ f. no_fault f
 
-  choice_continues : (f : ℕ) → Continues (Choice f ∷ ws) w (choice f w ws s)
+  choice_continues : (f : ℕ) → Continues s.vectors (Choice f ∷ ws) w (choice f w ws s)
   choice_continues f =
-      cond_both (closes_choice w.keyword) _ _ (Continues (Choice f ∷ ws) w) (λ e. (λ h. h, λ ts d. no_more_choices e d))
+      cond_both (closes_choice w.keyword) _ _ (Continues s.vectors (Choice f ∷ ws) w) (λ e. (λ h. h, λ ts d. no_more_choices e d))
       (λ c. chosen_continues f c (atom_of w.kind w.name) refl)
 
-  atom_continues : (t : Target) (o : Option Value) → atom_of w.kind w.name ≡ o → Continues (Atom t ∷ ws) w (atom_at t o ws s)
-  atom_continues t (Some v) e = (λ h. h, λ ts d. an_atom (ap (λ (o : Option Value). is_some o) e) d)
+  atom_continues : (t : Target) (o : Option Value) → atom_of w.kind w.name ≡ o → Continues s.vectors (Atom t ∷ ws) w (atom_at t o ws s)
+  atom_continues t (Some v) e = (λ h. h, kept (with_constant t s v) (constant_vectors t s v) (Atom t ∷ ws) ws (λ ts d. an_atom (ap (λ (o : Option Value). is_some o) e) d))
   atom_continues t None e = λ f. no_fault f
 
-  actions_continue : Continues (Actions ∷ ws) w (actions w ws s)
+  actions_continue : Continues s.vectors (Actions ∷ ws) w (actions w ws s)
   actions_continue =
-      cond_both (is_right w.kind) _ _ (Continues (Actions ∷ ws) w) (λ e. (λ h. h, λ ts d. no_action e d))
-      (λ _. cond_both (is_left w.kind) _ _ (Continues (Actions ∷ ws) w) (λ e. (λ h. h, λ ts d. an_action e d)) (λ _ f. no_fault f))
+      cond_both (is_right w.kind) _ _ (Continues s.vectors (Actions ∷ ws) w) (λ e. (λ h. h, λ ts d. no_action e d))
+      (λ _. cond_both (is_left w.kind) _ _ (Continues s.vectors (Actions ∷ ws) w) (λ e. (λ h. h, λ ts d. an_action e d)) (λ _ f. no_fault f))
 
-  action_word_continues : (k : Keyword) → w.keyword ≡ k → Continues (ActionWord ∷ ws) w (action_word k ws s)
+  action_word_continues : (k : Keyword) → w.keyword ≡ k → Continues s.vectors (ActionWord ∷ ws) w (action_word k ws s)
   action_word_continues keyword.Make e = (λ h. h, λ ts d. to_make e d)
   action_word_continues keyword.Remove e = (λ h. h, λ ts d. to_remove e d)
   action_word_continues keyword.Write e = (λ h. h, λ ts d. to_write e d)
@@ -241,75 +334,126 @@ module _ (w : Word) (ws : List Wanted) (s : State) where
   action_word_continues _ e = λ f. no_fault f
 
   -- a cell in front of those that may follow it, or of what is wanted behind it
-  designated_continues : (head ws' : List Wanted) → Stays head ws' → ((ts : List Word) → Derives ws' ts → Derives head (w ∷ ts)) → (before : ℕ) (o : Option Condition) → Continues head w (designated before o ws' s)
+  designated_continues : (head ws' : List Wanted) → Stays head ws' → ((ts : List Word) → Derives s.vectors ws' ts → Derives s.vectors head (w ∷ ts)) → (before : ℕ) (o : Option Condition) → Continues s.vectors head w (designated before o ws' s)
   designated_continues head ws' last more before None = λ _. behind head ws' more
   designated_continues head ws' last more before (Some c) =
-      cond_both c.negated _ _ (Continues head w) (λ _ _. behind head ws' more)
-      (λ _. cond_both (list_any (λ c. c.negated) (take before s.conditions)) _ _ (Continues head w) (λ _ _. behind head ws' more) (λ _. (last, more)))
+      cond_both c.negated _ _ (Continues s.vectors head w) (λ _ _. behind head ws' more)
+      (λ _. cond_both (list_any (λ c. c.negated) (take before s.conditions)) _ _ (Continues s.vectors head w) (λ _ _. behind head ws' more) (λ _. (last, more)))
 
-  cell_of_continues : (head ws' : List Wanted) → Stays head ws' → ((ts : List Word) → Derives ws' ts → Derives head (w ∷ ts)) → (o : Option ℕ) → Continues head w (cell_of o ws' s)
+  cell_of_continues : (head ws' : List Wanted) → Stays head ws' → ((ts : List Word) → Derives s.vectors ws' ts → Derives s.vectors head (w ∷ ts)) → (o : Option ℕ) → Continues s.vectors head w (cell_of o ws' s)
   cell_of_continues head ws' last more None = λ _. behind head ws' more
   cell_of_continues head ws' last more (Some n) = designated_continues head ws' last more (n - 1) (slice_get s.conditions (n - 1))
 
-  cell_continues : (head ws' : List Wanted) → Stays head ws' → (is_whole w.kind ≡ true → (ts : List Word) → Derives ws' ts → Derives head (w ∷ ts)) → (k : TokenKind) → w.kind ≡ k → Continues head w (cell k ws' s)
-  cell_continues head ws' last more (kind.Whole n) e = cell_of_continues head ws' last (more (ap is_whole e)) (natural_of n)
+  cell_named_continues : (head ws' : List Wanted) → Stays head ws' → ((ts : List Word) → Derives s.vectors ws' ts → Derives s.vectors head (w ∷ ts)) → (o : Option ℕ) → Continues s.vectors head w (cell_named o ws' s)
+  cell_named_continues head ws' last more None = λ _. behind head ws' more
+  cell_named_continues head ws' last more (Some c) = (last, more)
+
+  cell_continues : (head ws' : List Wanted) → Stays head ws' → (is_designator w.kind ≡ true → (ts : List Word) → Derives s.vectors ws' ts → Derives s.vectors head (w ∷ ts)) → (k : TokenKind) → w.kind ≡ k → Continues s.vectors head w (cell k w.name ws' s)
+  cell_continues head ws' last more (kind.Whole n) e = cell_of_continues head ws' last (more (ap is_designator e)) (natural_of n)
+  cell_continues head ws' last more kind.Variable e = cell_named_continues head ws' last (more (ap is_designator e)) (number_of w.name s.elements)
   cell_continues head ws' last more _ e = λ f. no_fault f
 
-  cells_continue : Continues (Cells ∷ ws) w (cells w ws s)
+  cells_continue : Continues s.vectors (Cells ∷ ws) w (cells w ws s)
   cells_continue =
-      cond_both (is_right w.kind) _ _ (Continues (Cells ∷ ws) w) (λ e. (λ h. h, λ ts d. no_more_cells e d))
+      cond_both (is_right w.kind) _ _ (Continues s.vectors (Cells ∷ ws) w) (λ e. (λ h. h, λ ts d. no_more_cells e d))
       (λ _. cell_continues (Cells ∷ ws) (Cells ∷ ws) (λ h. h) (λ e ts d. one_more_cell e d) w.kind refl)
 
-  items_continue : Continues (Items ∷ ws) w (items w ws s)
+  items_continue : Continues s.vectors (Items ∷ ws) w (items w ws s)
   items_continue =
-      cond_both (is_right w.kind) _ _ (Continues (Items ∷ ws) w) (λ e. (λ h. h, λ ts d. no_item e d))
-      (λ _. cond_both (is_left w.kind) _ _ (Continues (Items ∷ ws) w) (λ e. (λ h. h, λ ts d. an_item_form e d))
+      cond_both (is_right w.kind) _ _ (Continues s.vectors (Items ∷ ws) w) (λ e. (λ h. h, λ ts d. no_item e d))
+      (λ _. cond_both (is_left w.kind) _ _ (Continues s.vectors (Items ∷ ws) w) (λ e. (λ h. h, λ ts d. an_item_form e d))
       (λ _. value_for_continues (Items ∷ ws) (Items ∷ ws) (λ h. h) ToItem (λ e ts d. an_item e d) (λ e ts d. a_literal_item e d)))
 
-  item_word_continues : Continues (ItemWord ∷ ws) w (item_word w ws s)
-  item_word_continues = cond_both (is_crlf w.keyword) _ _ (Continues (ItemWord ∷ ws) w) (λ e. (λ h. h, λ ts d. a_crlf (crlf_of w.keyword e) d)) (λ _ f. no_fault f)
+  item_word_continues : Continues s.vectors (ItemWord ∷ ws) w (item_word w ws s)
+  item_word_continues = cond_both (is_crlf w.keyword) _ _ (Continues s.vectors (ItemWord ∷ ws) w) (λ e. (λ h. h, λ ts d. a_crlf (crlf_of w.keyword e) d)) (λ _ f. no_fault f)
 
-  closes_continues : (e : Ends) → Continues (Closes e ∷ ws) w (closes e w ws s)
-  closes_continues e = cond_both (is_right w.kind) _ _ (Continues (Closes e ∷ ws) w) (λ is. (λ h. h, λ ts d. a_closing is d)) (λ _ f. no_fault f)
+  closes_continues : (e : Ends) → Continues s.vectors (Closes e ∷ ws) w (closes e w ws s)
+  closes_continues e = cond_both (is_right w.kind) _ _ (Continues s.vectors (Closes e ∷ ws) w) (λ is. (λ h. h, kept (ended e s) (ended_vectors e s) (Closes e ∷ ws) ws (λ ts d. a_closing is d))) (λ _ f. no_fault f)
 
-step_continues : (w : Word) (ws : List Wanted) (s : State) → Continues ws w (step w ws s)
+module _ (w : Word) where
+  -- where what derives from these derives from those too, a step that continues these continues those
+  continues_so : (vs : List Sym) (from head : List Wanted) → Stays head from → ((ts : List Word) → Derives vs from ts → Derives vs head ts) → (x : Step) → Continues vs from w x → Continues vs head w x
+  continues_so vs from head stay more (Next ws' s') c = (λ h. c.0 (stay h), λ ts d. more (w ∷ ts) (c.1 ts d))
+  continues_so vs from head stay more (Refuses f) c = λ e. let k = c e in (k.0, more (w ∷ k.0) k.1)
+
+  within_continues : (vs : List Sym) (head : List Wanted) (b : Bool) (x : Step) → Continues vs head w x → Continues vs head w (within b x)
+  within_continues vs head true x c = c
+  within_continues vs head false (Next ws' s') c = λ _. let k = completed s'.vectors ws' in (k.0, c.1 k.0 k.1)
+  within_continues vs head false (Refuses f) c = c
+
+  -- one place or value more
+  one_of_several_continues : (ws : List Wanted) (s : State) (u : Use) (f : ℕ) → Continues s.vectors (Several u f ∷ ws) w (one_of_several u f w ws s)
+  one_of_several_continues ws s InPattern f =
+      let next : f + 1 ≡ suc f = omega arith in
+      within_continues s.vectors (Several InPattern f ∷ ws) (nat_lt f most_fields) (place f w (Several InPattern (f + 1) ∷ ws) s)
+      (continues_so s.vectors (Place f ∷ Several InPattern (f + 1) ∷ ws) (Several InPattern f ∷ ws) (λ h. h) (λ ts d. one_more_place (subst (λ (n : ℕ). Derives s.vectors (Place f ∷ Several InPattern n ∷ ws) ts) next d)) _
+      (place_continues w (Several InPattern (f + 1) ∷ ws) s f))
+  one_of_several_continues ws s InPut f =
+      continues_so s.vectors (ValueFor ToTerms ∷ Several InPut f ∷ ws) (Several InPut f ∷ ws) (λ h. h) (λ ts d. one_more_term d) _
+      (value_continues w (Several InPut f ∷ ws) s ToTerms)
+  one_of_several_continues ws s InFixed f =
+      within_continues s.vectors (Several InFixed f ∷ ws) (nat_lt (f + length s.constants) most_fields) (value_for ToConstants w (Several InFixed f ∷ ws) s)
+      (continues_so s.vectors (ValueFor ToConstants ∷ Several InFixed f ∷ ws) (Several InFixed f ∷ ws) (λ h. h) (λ ts d. one_more_constant d) _
+      (value_continues w (Several InFixed f ∷ ws) s ToConstants))
+
+  several_continue : (ws : List Wanted) (s : State) (u : Use) (f : ℕ) → Continues s.vectors (Several u f ∷ ws) w (several u f w ws s)
+  several_continue ws s u f =
+      cond_both (is_right w.kind || is_caret w.kind) _ _ (Continues s.vectors (Several u f ∷ ws) w)
+      (λ _. continues_so s.vectors (Terms u ∷ ws) (Several u f ∷ ws) (λ h. h) (λ ts d. no_more_of_several d) (terms u w ws (with_several u f s))
+      (subst (λ (vs : List Sym). Continues vs (Terms u ∷ ws) w (terms u w ws (with_several u f s))) (several_vectors u f s) (terms_continue w ws (with_several u f s) u)))
+      (λ _. one_of_several_continues ws s u f)
+
+step_continues : (w : Word) (ws : List Wanted) (s : State) → AreArranged ws s → Continues s.vectors ws w (step w ws s)
 unfolding step
-step_continues w [] s = λ f. no_fault f
-step_continues w (Forms ∷ ws) s = forms_continue w ws s
-step_continues w (Form ∷ ws) s = form_continues w ws s w.keyword refl
-step_continues w (ClassDeclared ∷ ws) s = class_declared_continues w ws s
-step_continues w (Attributes ∷ ws) s = attributes_continue w ws s
-step_continues w (RuleName ∷ ws) s = rule_name_continues w ws s
-step_continues w (FirstPattern ∷ ws) s = first_pattern_continues w ws s
-step_continues w (Patterns ∷ ws) s = patterns_continue w ws s
-step_continues w (NegatedPattern ∷ ws) s = negated_pattern_continues w ws s
-step_continues w (ClassName ∷ ws) s = class_name_continues w ws s
-step_continues w (Terms u ∷ ws) s = terms_continue w ws s u
-step_continues w (Attribute u ∷ ws) s = attribute_continues w ws s u
-step_continues w (Place f ∷ ws) s = place_continues w ws s f
-step_continues w (Tests f ∷ ws) s = tests_continue w ws s f
-step_continues w (Tested f p ∷ ws) s =
+step_continues w [] s a = λ f. no_fault f
+step_continues w (Forms ∷ ws) s a = forms_continue w ws s
+step_continues w (Form ∷ ws) s a = form_continues w ws s w.keyword refl
+step_continues w (ClassDeclared ∷ ws) s a = class_declared_continues w ws s
+step_continues w (Attributes ∷ ws) s a = attributes_continue w ws s
+step_continues w (VectorName ∷ ws) s a = vector_name_continues w ws s (VectorName ∷ ws) ws (λ h. h) (λ e ts d. a_vector e d)
+step_continues w (VectorNames ∷ ws) s a = vector_names_continue w ws s
+step_continues w (RuleName ∷ ws) s a = rule_name_continues w ws s
+step_continues w (FirstPattern ∷ ws) s a = first_pattern_continues w ws s
+step_continues w (Patterns ∷ ws) s a = patterns_continue w ws s
+step_continues w (Pattern ∷ ws) s a = pattern_continues w ws s
+step_continues w (Braced ∷ ws) s a = braced_continues w ws s
+step_continues w (ElementName ∷ ws) s a = element_name_continues w ws s (ElementName ∷ ws) ws (λ h. h) (λ e ts d. an_element_name e d)
+step_continues w (ClosesBrace ∷ ws) s a = closes_brace_continues w ws s
+step_continues w (ClassName ∷ ws) s a = class_name_continues w ws s
+step_continues w (Terms u ∷ ws) s a = terms_continue w ws s u
+step_continues w (Attribute u ∷ ws) s a = attribute_continues w ws s u a
+step_continues w (Several u f ∷ ws) s a = several_continue w ws s u f
+step_continues w (Place f ∷ ws) s a = place_continues w ws s f
+step_continues w (Tests f ∷ ws) s a = tests_continue w ws s f
+step_continues w (Tested f p ∷ ws) s a =
     tested_continues w ws s (Tested f p ∷ ws) ws (λ h. h) f p (λ e ts d. a_tested_operand e d) (λ e ts d. a_tested_literal e d)
-step_continues w (Choice f ∷ ws) s = choice_continues w ws s f
-step_continues w (Atom t ∷ ws) s = atom_continues w ws s t (atom_of w.kind w.name) refl
-step_continues w (ValueFor t ∷ ws) s = value_for_continues w ws s (ValueFor t ∷ ws) ws (λ h. h) t (λ e ts d. a_value e d) (λ e ts d. a_literal_value e d)
-step_continues w (Actions ∷ ws) s = actions_continue w ws s
-step_continues w (ActionWord ∷ ws) s = action_word_continues w ws s w.keyword refl
-step_continues w (Cell ∷ ws) s = cell_continues w ws s (Cell ∷ ws) ws (λ h. h) (λ e ts d. a_cell e d) w.kind refl
-step_continues w (Cells ∷ ws) s = cells_continue w ws s
-step_continues w (Items ∷ ws) s = items_continue w ws s
-step_continues w (ItemWord ∷ ws) s = item_word_continues w ws s
-step_continues w (Closes e ∷ ws) s = closes_continues w ws s e
+step_continues w (Choice f ∷ ws) s a = choice_continues w ws s f
+step_continues w (Atom t ∷ ws) s a = atom_continues w ws s t (atom_of w.kind w.name) refl
+step_continues w (ValueFor t ∷ ws) s a = value_continues w ws s t
+step_continues w (Actions ∷ ws) s a = actions_continue w ws s
+step_continues w (ActionWord ∷ ws) s a = action_word_continues w ws s w.keyword refl
+step_continues w (Cell ∷ ws) s a = cell_continues w ws s (Cell ∷ ws) ws (λ h. h) (λ e ts d. a_cell e d) w.kind refl
+step_continues w (Cells ∷ ws) s a = cells_continue w ws s
+step_continues w (Items ∷ ws) s a = items_continue w ws s
+step_continues w (ItemWord ∷ ws) s a = item_word_continues w ws s
+step_continues w (Closes e ∷ ws) s a = closes_continues w ws s e
 
-module _ (w : Word) (ws : List Wanted) (s : State) where
+module _ (w : Word) (ws : List Wanted) (s : State) (arranged : AreArranged ws s) where
+  taken_continues : (ws' : List Wanted) (s' : State) → step w ws s ≡ Next ws' s' → Continues s.vectors ws w (Next ws' s')
+  taken_continues ws' s' e = subst (Continues s.vectors ws w) e (step_continues w ws s arranged)
+
   -- where a word is taken, what derives behind it derives with it
-  pub taken_derives : (ws' : List Wanted) (s' : State) → step w ws s ≡ Next ws' s' → (ts : List Word) → Derives ws' ts → Derives ws (w ∷ ts)
-  taken_derives ws' s' e = let c : Continues ws w (Next ws' s') = subst (Continues ws w) e (step_continues w ws s) in c.1
+  pub taken_derives : (ws' : List Wanted) (s' : State) → step w ws s ≡ Next ws' s' → (ts : List Word) → Derives s'.vectors ws' ts → Derives s.vectors ws (w ∷ ts)
+  taken_derives ws' s' e = (taken_continues ws' s' e).1
 
   -- forms stay behind all else
   pub taken_last : (ws' : List Wanted) (s' : State) → step w ws s ≡ Next ws' s' → forms_last ws ≡ true → forms_last ws' ≡ true
-  taken_last ws' s' e = let c : Continues ws w (Next ws' s') = subst (Continues ws w) e (step_continues w ws s) in c.0
+  taken_last ws' s' e = (taken_continues ws' s' e).0
+
+  -- the classes stay arranged
+  pub taken_arranged : (ws' : List Wanted) (s' : State) → step w ws s ≡ Next ws' s' → AreArranged ws' s'
+  taken_arranged ws' s' e = subst StayArranged e (stays_arranged w ws s arranged)
 
   -- a word that is refused in a form goes on to a derivation
-  pub refused_in_form : (f : Fault) → step w ws s ≡ Refuses f → is_no_form f ≡ false → (ts : List Word) × Derives ws (w ∷ ts)
-  refused_in_form f e = let c : Continues ws w (Refuses f) = subst (Continues ws w) e (step_continues w ws s) in c
+  pub refused_in_form : (f : Fault) → step w ws s ≡ Refuses f → is_no_form f ≡ false → (ts : List Word) × Derives s.vectors ws (w ∷ ts)
+  refused_in_form f e = let c : Continues s.vectors ws w (Refuses f) = subst (Continues s.vectors ws w) e (step_continues w ws s arranged) in c

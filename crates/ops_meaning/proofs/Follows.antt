@@ -1,7 +1,7 @@
 -- What the machine does at a word that the grammar derives.
-use Rattle.std.proofs.Common.{◌≡◌, ℕ, ◌-◌, Bool, true, false, not, ◌||◌, ◌==◌, List, [], ◌∷◌, length, take, refl, sym, ap, subst, ◌∙◌, cond, Option, Some, None, true≢false, nat_lt, is_some, position, slice_get}
+use Rattle.std.proofs.Common.{◌≡◌, ℕ, suc, arith, ◌+◌, ◌-◌, Bool, true, false, not, ◌||◌, ◌==◌, List, [], ◌∷◌, ◌++◌, length, take, refl, sym, ap, subst, ◌∙◌, cond, Option, Some, None, true≢false, nat_lt, is_some, position, slice_get}
 use Rattle.std.specs.List.{list_any}
-use Rattle.std.proofs.lemmas.Bool.{cond_both, and_parts}
+use Rattle.std.proofs.lemmas.Bool.{cond_both, and_parts, or_left, or_right}
 use Rattle.ops_base.specs.declared.values.Sym.{Sym}
 use Rattle.ops_base.specs.declared.values.Value.{Value}
 use Rattle.ops_base.specs.declared.values.Pred.{Pred}
@@ -10,21 +10,22 @@ use Rattle.ops_base.specs.declared.conditions.Condition.{Condition}
 use Rattle.ops_base.specs.declared.actions.Term.{Term}
 use Rattle.ops_base.specs.declared.actions.Term.TheVariants as term
 use Rattle.ops_base.specs.declared.endings.Fault.{Fault}
-use Rattle.ops_base.specs.Valid.{most_fields, most_conditions}
+use Rattle.ops_base.specs.Valid.{most_fields, most_conditions, class_of, is_vector}
 use Rattle.ops_tokens.specs.declared.token.TokenKind.{TokenKind}
 use Rattle.ops_tokens.specs.declared.token.TokenKind.TheVariants as kind
 use Rattle.ops_meaning.specs.declared.words.Word.{Word}
 use Rattle.ops_meaning.specs.declared.words.Keyword.{Keyword}
 use Rattle.ops_meaning.specs.declared.words.Keyword.TheVariants as keyword
-use Rattle.ops_meaning.specs.Grammar.{Use, InPattern, Target, ToTest, ToPut, ToItem, Wanted, Forms, Patterns, NegatedPattern, ClassName, Terms, Tests, Choice, Atom, Tested, Cells, Items, State, Step, Next, Refuses, is_left, is_right, is_left_brace, is_right_brace, is_caret, is_name, is_variable, is_arrow, is_crlf, is_literal, is_minus, opens_choice, closes_choice, pred_of, constant_of, value_of, atom_of, natural_of, is_one_of, number_of, may_declare, is_class, is_rule, form, class_at, attributes_of, behind_attribute, field_at, variable_tested, constant_tested, tested, predicated, test, place, tests, chosen, atom_at, term_at, bound_at, constant_at, value_for, one_more, action_word, designated, cell_of, cell, step}
-use Rattle.ops_meaning.specs.Derivation.{is_whole, is_operand, is_value, Derives, nothing, no_form, a_form, a_literalize, a_class, an_attribute, no_attribute, a_production, a_rule, a_first, a_negated_first, a_pattern, a_negated_pattern, behind_a_minus, an_arrow, a_make, a_run, a_class_name, a_term, no_term, an_attribute_name, a_value, a_literal_value, an_atom, a_conjunction, no_more_tests, an_operand, a_literal, a_predicate, a_disjunction, one_more_operand, one_more_literal, one_more_predicate, one_more_disjunction, a_tested_operand, a_tested_literal, one_more_choice, no_more_choices, an_action, no_action, to_make, to_remove, to_write, to_halt, a_cell, one_more_cell, no_more_cells, an_item, a_literal_item, an_item_form, no_item, a_crlf, a_closing, is_no_form}
-use Rattle.ops_meaning.proofs.Derived.{forms_last}
-use Rattle.ops_meaning.proofs.Moved.{at_any_place}
-use Rattle.ops_meaning.proofs.Proper.{is_mark, is_proper, arrow_marks, literal_marks, minus_marks, opening_marks, pred_marks, literal_no_opening, literal_no_pred, minus_no_arrow, pred_no_opening, not_met, no_mark}
+use Rattle.ops_meaning.specs.Grammar.{Use, InPattern, InPut, InFixed, Target, ToTest, ToPut, ToTerms, ToConstants, ToItem, Wanted, Forms, Attribute, VectorNames, Patterns, Pattern, Braced, ClosesBrace, ClassName, Terms, Several, Place, Tests, Choice, ValueFor, Atom, Tested, Cells, Items, State, Step, Next, Refuses, is_left, is_right, is_left_brace, is_right_brace, is_caret, is_name, is_variable, is_arrow, is_crlf, is_literal, is_minus, opens_choice, closes_choice, pred_of, constant_of, value_of, atom_of, natural_of, is_one_of, number_of, may_declare, is_class, is_rule, is_second, makes_second, vector_declared, form, class_at, attributes_of, behind_attribute, field_at, with_constant, variable_tested, constant_tested, tested, predicated, test, place, tests, chosen, atom_at, term_at, bound_at, constant_at, value_for, with_element, terms, within, one_of_several, with_several, several, one_more, element_at, action_word, designated, cell_of, cell_named, cell, ended, step}
+use Rattle.ops_meaning.specs.Derivation.{is_designator, is_operand, is_value, with_name, Derives, nothing, no_form, a_form, a_literalize, a_class, an_attribute, no_attribute, a_vector_declaration, a_vector, one_more_vector, no_more_vectors, a_production, a_rule, a_first, a_braced_first, a_negated_first, a_pattern, a_braced_pattern, a_negated_pattern, a_whole_pattern, a_name_before, a_name_behind, an_element_name, a_closed_brace, an_arrow, a_make, a_run, a_class_name, a_term, no_term, a_scalar_attribute, a_vector_attribute, one_more_place, one_more_term, one_more_constant, no_more_of_several, a_value, a_literal_value, an_atom, a_conjunction, no_more_tests, an_operand, a_literal, a_predicate, a_disjunction, one_more_operand, one_more_literal, one_more_predicate, one_more_disjunction, a_tested_operand, a_tested_literal, one_more_choice, no_more_choices, an_action, no_action, to_make, to_remove, to_write, to_halt, a_cell, one_more_cell, no_more_cells, an_item, a_literal_item, an_item_form, no_item, a_crlf, a_closing, is_no_form}
+use Rattle.ops_meaning.proofs.Arranged.{AreArranged, kind_agrees}
+use Rattle.ops_meaning.proofs.Derived.{forms_last, constant_vectors, element_vectors, ended_vectors}
+use Rattle.ops_meaning.proofs.Moved.{at_any_place, several_at_any_place}
+use Rattle.ops_meaning.proofs.Proper.{is_mark, is_proper, arrow_marks, literal_marks, minus_marks, opening_marks, pred_marks, literal_no_opening, literal_no_pred, minus_no_arrow, pred_no_opening, not_met, mark_kind, no_mark}
 
 -- What derives goes on where the word is taken, and the word is refused in a form at most.
 abbrev pub Went : Word → List Word → Step → Type 0
-Went w ts (Next ws s) = is_proper w ≡ true → Derives ws ts
+Went w ts (Next ws s) = is_proper w ≡ true → Derives s.vectors ws ts
 Went w ts (Refuses f) = is_no_form f ≡ false
 
 -- the same at the first of some words
@@ -46,9 +47,17 @@ left_not_right : (k : TokenKind) → is_left k ≡ true → is_right k ≡ false
 left_not_right kind.Right e = absurd (true≢false (sym e))
 left_not_right _ e = refl
 
-pub whole_not_right : (k : TokenKind) → is_whole k ≡ true → is_right k ≡ false
-whole_not_right kind.Right e = absurd (true≢false (sym e))
-whole_not_right _ e = refl
+pub designator_not_right : (k : TokenKind) → is_designator k ≡ true → is_right k ≡ false
+designator_not_right kind.Right e = absurd (true≢false (sym e))
+designator_not_right _ e = refl
+
+left_brace_not_left : (k : TokenKind) → is_left_brace k ≡ true → is_left k ≡ false
+left_brace_not_left kind.Left e = absurd (true≢false (sym e))
+left_brace_not_left _ e = refl
+
+pub variable_not_left : (k : TokenKind) → is_variable k ≡ true → is_left k ≡ false
+variable_not_left kind.Left e = absurd (true≢false (sym e))
+variable_not_left _ e = refl
 
 value_not_right : (k : TokenKind) (name : Sym) → (is_some (value_of k name) || is_variable k) ≡ true → is_right k ≡ false
 value_not_right kind.Right name e = absurd (true≢false (sym e))
@@ -66,6 +75,43 @@ operand_not_right_brace : (k : TokenKind) (name : Sym) → (is_some (constant_of
 operand_not_right_brace kind.RightBrace name e = absurd (true≢false (sym e))
 operand_not_right_brace _ name e = refl
 
+-- what ends the values of a vector attribute
+abbrev ends_several : TokenKind → Bool
+ends_several k = is_right k || is_caret k
+
+left_brace_goes_on : (k : TokenKind) → is_left_brace k ≡ true → ends_several k ≡ false
+left_brace_goes_on kind.LeftBrace e = refl
+left_brace_goes_on _ e = absurd (true≢false (sym e))
+
+operand_goes_on : (k : TokenKind) (name : Sym) → (is_some (constant_of k name) || is_variable k) ≡ true → ends_several k ≡ false
+operand_goes_on kind.Right name e = absurd (true≢false (sym e))
+operand_goes_on kind.Caret name e = absurd (true≢false (sym e))
+operand_goes_on _ name e = refl
+
+value_goes_on : (k : TokenKind) (name : Sym) → (is_some (value_of k name) || is_variable k) ≡ true → ends_several k ≡ false
+value_goes_on kind.Right name e = absurd (true≢false (sym e))
+value_goes_on kind.Caret name e = absurd (true≢false (sym e))
+value_goes_on _ name e = refl
+
+mark_goes_on : (w : Word) → is_mark w.keyword ≡ true → is_proper w ≡ true → ends_several w.kind ≡ false
+mark_goes_on w mark proper = ap ends_several (mark_kind w.kind w.keyword mark proper)
+
+-- A place, a value and what ends several of them begin with words of their own.
+place_begins : (f : ℕ) (vs : List Sym) (ws : List Wanted) (w : Word) (ts : List Word) → Derives vs (Place f ∷ ws) (w ∷ ts) → is_proper w ≡ true → ends_several w.kind ≡ false
+place_begins f vs ws w ts (a_conjunction e d) proper = left_brace_goes_on w.kind e
+place_begins f vs ws w ts (an_operand e d) proper = operand_goes_on w.kind w.name e
+place_begins f vs ws w ts (a_literal e d) proper = mark_goes_on w (literal_marks w.keyword e) proper
+place_begins f vs ws w ts (a_predicate {p = p} e d) proper = mark_goes_on w (pred_marks w.keyword p e) proper
+place_begins f vs ws w ts (a_disjunction e d) proper = mark_goes_on w (opening_marks w.keyword e) proper
+
+value_begins : (t : Target) (vs : List Sym) (ws : List Wanted) (w : Word) (ts : List Word) → Derives vs (ValueFor t ∷ ws) (w ∷ ts) → is_proper w ≡ true → ends_several w.kind ≡ false
+value_begins t vs ws w ts (a_value e d) proper = value_goes_on w.kind w.name (and_parts (not (is_literal w.keyword)) _ e).1
+value_begins t vs ws w ts (a_literal_value e d) proper = mark_goes_on w (literal_marks w.keyword e) proper
+
+terms_begin : (u : Use) (vs : List Sym) (ws : List Wanted) (w : Word) (ts : List Word) → Derives vs (Terms u ∷ ws) (w ∷ ts) → ends_several w.kind ≡ true
+terms_begin u vs ws w ts (a_term e d) = or_right (is_right w.kind) _ e
+terms_begin u vs ws w ts (no_term e d) = or_left _ _ e
+
 -- An operand is no operator.
 operand_unmarked : {A : Type 0} (w : Word) → is_operand w ≡ true → is_mark w.keyword ≡ true → is_proper w ≡ true → A
 operand_unmarked w e mark proper = no_mark w (λ k. is_some (constant_of k w.name) || is_variable k) refl mark e proper
@@ -76,15 +122,15 @@ IsNothing [] [] = Unit {0}
 IsNothing [] (w ∷ ts) = ⊥
 IsNothing (w ∷ ws) ts = Unit {0}
 
-only_nothing : (ws : List Wanted) (ts : List Word) → Derives ws ts → IsNothing ws ts
-only_nothing ws ts nothing = tt
-only_nothing ws ts _ = tt
+only_nothing : (vs : List Sym) (ws : List Wanted) (ts : List Word) → Derives vs ws ts → IsNothing ws ts
+only_nothing vs ws ts nothing = tt
+only_nothing vs ws ts _ = tt
 
 -- ---- each production
 
-no_form_goes : (ws : List Wanted) (words : List Word) (s : State) → Derives ws words → forms_last (Forms ∷ ws) ≡ true → Goes words (Forms ∷ ws) s
+no_form_goes : (ws : List Wanted) (words : List Word) (s : State) → Derives s.vectors ws words → forms_last (Forms ∷ ws) ≡ true → Goes words (Forms ∷ ws) s
 no_form_goes ws [] s d last = tt
-no_form_goes [] (w ∷ ts) s d last = absurd (only_nothing [] (w ∷ ts) d)
+no_form_goes [] (w ∷ ts) s d last = absurd (only_nothing s.vectors [] (w ∷ ts) d)
 no_form_goes (v ∷ ws) (w ∷ ts) s d last = absurd (true≢false (sym last))
 
 module _ (w : Word) (ts : List Word) where
@@ -103,35 +149,46 @@ module _ (w : Word) (ts : List Word) where
     action_goes : (k : Keyword) → w.keyword ≡ k → Went w ts (action_word k ws s) → Went w ts (action_word w.keyword ws s)
     action_goes k e h = subst (λ (x : Keyword). Went w ts (action_word x ws s)) (sym e) h
 
-    class_goes : (o : Option ℕ) → Derives ws ts → Went w ts (class_at o ws s)
+    class_goes : (o : Option ℕ) → Derives s.vectors ws ts → Went w ts (class_at o ws s)
     class_goes (Some c) d = λ _. d
     class_goes None d = refl
 
-    field_goes : (u : Use) (f : ℕ) (o : Option ℕ) → Derives (behind_attribute u f ∷ ws) ts → Went w ts (field_at u o ws s)
-    field_goes u f (Some g) d = λ _. at_any_place u f ws ts d g
-    field_goes u f None d = refl
+    -- the state behind the word may be another, with the same names
+    same_names : (s' : State) → s'.vectors ≡ s.vectors → Derives s.vectors ws ts → Derives s'.vectors ws ts
+    same_names s' same d = subst (λ (vs : List Sym). Derives vs ws ts) (sym same) d
+
+    vector_declared_goes : Derives (with_name w.name s.vectors) ws ts → Went w ts (vector_declared w ws s)
+    vector_declared_goes d =
+        let named : (b : Bool) → is_one_of w.name s.vectors ≡ b → Derives (cond b s.vectors (s.vectors ++ w.name ∷ [])) ws ts =
+        λ b e. subst (λ (c : Bool). Derives (cond c s.vectors (s.vectors ++ w.name ∷ [])) ws ts) e d in
+        cond_both (is_one_of w.name s.vectors) _ _ (Went w ts) (λ e _. named true e)
+        (λ e. cond_both (makes_second w.name s.classes) _ _ (Went w ts) (λ _. refl) (λ _ _. named false e))
+
+    element_goes : (o : Option ℕ) → Derives s.vectors ws ts → Went w ts (element_at o w.name ws s)
+    element_goes (Some c) d = refl
+    element_goes None d = λ _. d
 
     -- an operand
-    variable_goes : (f : ℕ) (p : Pred) (o : Option ℕ) → Derives ws ts → Went w ts (variable_tested f p o w.name ws s)
+    variable_goes : (f : ℕ) (p : Pred) (o : Option ℕ) → Derives s.vectors ws ts → Went w ts (variable_tested f p o w.name ws s)
     variable_goes f p (Some n) d = λ _. d
     variable_goes f pred.Eq None d = λ _. d
     variable_goes f _ None d = refl
 
-    constant_goes : (f : ℕ) (p : Pred) (o : Option Value) → (is_some o || is_variable w.kind) ≡ true → Derives ws ts → Went w ts (constant_tested f p w o ws s)
+    constant_goes : (f : ℕ) (p : Pred) (o : Option Value) → (is_some o || is_variable w.kind) ≡ true → Derives s.vectors ws ts → Went w ts (constant_tested f p w o ws s)
     constant_goes f p (Some v) e d = λ _. d
     constant_goes f p None e d = met (is_variable w.kind) _ _ e (variable_goes f p (number_of w.name s.values) d)
 
-    operand_goes : (f : ℕ) (p : Pred) → is_operand w ≡ true → Derives ws ts → Went w ts (tested f p w ws s)
+    operand_goes : (f : ℕ) (p : Pred) → is_operand w ≡ true → Derives s.vectors ws ts → Went w ts (tested f p w ws s)
     operand_goes f p e d =
         cond_both (is_literal w.keyword) _ _ (Went w ts) (λ l proper. operand_unmarked w e (literal_marks w.keyword l) proper)
         (λ _. constant_goes f p (constant_of w.kind w.name) e d)
 
     -- a test in each of its forms
-    predicated_goes : (f : ℕ) (o : Option Pred) → pred_of w.keyword ≡ o → is_operand w ≡ true → Derives ws ts → Went w ts (predicated f w o ws s)
+    predicated_goes : (f : ℕ) (o : Option Pred) → pred_of w.keyword ≡ o → is_operand w ≡ true → Derives s.vectors ws ts → Went w ts (predicated f w o ws s)
     predicated_goes f (Some p) is e d = λ proper. operand_unmarked w e (pred_marks w.keyword p is) proper
     predicated_goes f None is e d = operand_goes f pred.Eq e d
 
-    test_operand_goes : (f : ℕ) → is_operand w ≡ true → Derives ws ts → Went w ts (test f w ws s)
+    test_operand_goes : (f : ℕ) → is_operand w ≡ true → Derives s.vectors ws ts → Went w ts (test f w ws s)
     test_operand_goes f e d =
         cond_both (opens_choice w.keyword) _ _ (Went w ts) (λ o proper. operand_unmarked w e (opening_marks w.keyword o) proper)
         (λ _. predicated_goes f (pred_of w.keyword) refl e d)
@@ -141,10 +198,10 @@ module _ (w : Word) (ts : List Word) where
     test_by f o e no_opening h =
         unmet (opens_choice w.keyword) _ _ no_opening (subst (λ (x : Option Pred). Went w ts (predicated f w x ws s)) (sym e) h)
 
-    test_literal_goes : (f : ℕ) → is_literal w.keyword ≡ true → Derives (Atom (ToTest f pred.Eq) ∷ ws) ts → Went w ts (test f w ws s)
+    test_literal_goes : (f : ℕ) → is_literal w.keyword ≡ true → Derives s.vectors (Atom (ToTest f pred.Eq) ∷ ws) ts → Went w ts (test f w ws s)
     test_literal_goes f e d = test_by f None (literal_no_pred w.keyword e) (literal_no_opening w.keyword e) (met (is_literal w.keyword) _ _ e (λ _. d))
 
-    test_predicate_goes : (f : ℕ) (p : Pred) → pred_of w.keyword ≡ Some p → Derives (Tested f p ∷ ws) ts → Went w ts (test f w ws s)
+    test_predicate_goes : (f : ℕ) (p : Pred) → pred_of w.keyword ≡ Some p → Derives s.vectors (Tested f p ∷ ws) ts → Went w ts (test f w ws s)
     test_predicate_goes f p e d = test_by f (Some p) e (pred_no_opening w.keyword p e) (λ _. d)
 
     -- a test that is no brace
@@ -155,149 +212,265 @@ module _ (w : Word) (ts : List Word) where
     tests_go f mark h = cond_both (is_right_brace w.kind) _ _ (Went w ts) (λ b proper. no_mark w is_right_brace refl mark b proper) (λ _. h)
 
     -- atoms
-    chosen_goes : (o : Option Value) → is_some o ≡ true → Derives ws ts → Went w ts (chosen o ws s)
+    chosen_goes : (o : Option Value) → is_some o ≡ true → Derives s.vectors ws ts → Went w ts (chosen o ws s)
     chosen_goes (Some v) e d = λ _. d
     chosen_goes None e d = absurd (true≢false (sym e))
 
-    atom_goes : (t : Target) (o : Option Value) → is_some o ≡ true → Derives ws ts → Went w ts (atom_at t o ws s)
-    atom_goes t (Some v) e d = λ _. d
+    atom_goes : (t : Target) (o : Option Value) → is_some o ≡ true → Derives s.vectors ws ts → Went w ts (atom_at t o ws s)
+    atom_goes t (Some v) e d = λ _. same_names (with_constant t s v) (constant_vectors t s v) d
     atom_goes t None e d = absurd (true≢false (sym e))
 
     -- a value
-    term_goes : (t : Target) (x : Term) → Derives ws ts → Went w ts (term_at t x ws s)
+    term_goes : (t : Target) (x : Term) → Derives s.vectors ws ts → Went w ts (term_at t x ws s)
     term_goes (ToPut f) x d = λ _. d
+    term_goes ToTerms x d = λ _. d
     term_goes ToItem x d = λ _. d
     term_goes _ x d = refl
 
-    bound_goes : (t : Target) (o : Option ℕ) → Derives ws ts → Went w ts (bound_at t o ws s)
+    bound_goes : (t : Target) (o : Option ℕ) → Derives s.vectors ws ts → Went w ts (bound_at t o ws s)
     bound_goes t (Some n) d = term_goes t (term.Variable n) d
     bound_goes t None d = refl
 
-    constant_at_goes : (t : Target) (o : Option Value) → (is_some o || is_variable w.kind) ≡ true → Derives ws ts → Went w ts (constant_at t w o ws s)
-    constant_at_goes t (Some v) e d = λ _. d
+    constant_at_goes : (t : Target) (o : Option Value) → (is_some o || is_variable w.kind) ≡ true → Derives s.vectors ws ts → Went w ts (constant_at t w o ws s)
+    constant_at_goes t (Some v) e d = λ _. same_names (with_constant t s v) (constant_vectors t s v) d
     constant_at_goes t None e d = met (is_variable w.kind) _ _ e (bound_goes t (number_of w.name s.values) d)
 
-    value_goes : (t : Target) → is_value w ≡ true → Derives ws ts → Went w ts (value_for t w ws s)
+    value_goes : (t : Target) → is_value w ≡ true → Derives s.vectors ws ts → Went w ts (value_for t w ws s)
     value_goes t e d =
         let each = and_parts (not (is_literal w.keyword)) _ e in
         unmet (is_literal w.keyword) _ _ (not_met _ each.0) (constant_at_goes t (value_of w.kind w.name) each.1 d)
 
+    -- what stands behind a vector attribute
+    ended_goes : (u : Use) (s' : State) → ends_several w.kind ≡ true → ¬ (is_proper w ≡ true) → Went w ts (terms u w ws s')
+    ended_goes u s' e improper =
+        cond_both (is_right w.kind) _ _ (Went w ts) (λ _ proper. absurd (improper proper))
+        (λ r. met (is_caret w.kind) _ _ (sym (ap (λ (b : Bool). b || is_caret w.kind) r) ∙ e) (λ proper. absurd (improper proper)))
+
+    within_goes : (b : Bool) (x : Step) → Went w ts x → Went w ts (within b x)
+    within_goes true x h = h
+    within_goes false (Next ws' s') h = refl
+    within_goes false (Refuses f) h = h
+
+    one_goes : (u : Use) (f : ℕ) → (is_proper w ≡ true → ends_several w.kind ≡ false) → Went w ts (one_of_several u f w ws s) → Went w ts (several u f w ws s)
+    one_goes u f goes_on h =
+        cond_both (is_right w.kind || is_caret w.kind) _ _ (Went w ts)
+        (λ e. ended_goes u (with_several u f s) e (λ proper. true≢false (sym e ∙ goes_on proper))) (λ _. h)
+
     -- one more condition
-    one_more_goes : (is_proper w ≡ true → Derives ws ts) → Went w ts (one_more ws s)
+    one_more_goes : (is_proper w ≡ true → Derives s.vectors ws ts) → Went w ts (one_more ws s)
     one_more_goes h = cond_both (nat_lt (length s.conditions) most_conditions) _ _ (Went w ts) (λ _. h) (λ _. refl)
 
-    designated_goes : (before : ℕ) (o : Option Condition) → Derives ws ts → Went w ts (designated before o ws s)
+    designated_goes : (before : ℕ) (o : Option Condition) → Derives s.vectors ws ts → Went w ts (designated before o ws s)
     designated_goes before (Some c) d =
         cond_both c.negated _ _ (Went w ts) (λ _. refl) (λ _. cond_both (list_any (λ c. c.negated) (take before s.conditions)) _ _ (Went w ts) (λ _. refl) (λ _ _. d))
     designated_goes before None d = refl
 
-    cell_of_goes : (o : Option ℕ) → Derives ws ts → Went w ts (cell_of o ws s)
+    cell_of_goes : (o : Option ℕ) → Derives s.vectors ws ts → Went w ts (cell_of o ws s)
     cell_of_goes (Some n) d = designated_goes (n - 1) (slice_get s.conditions (n - 1)) d
     cell_of_goes None d = refl
 
-    cell_goes : (k : TokenKind) → is_whole k ≡ true → Derives ws ts → Went w ts (cell k ws s)
+    cell_named_goes : (o : Option ℕ) → Derives s.vectors ws ts → Went w ts (cell_named o ws s)
+    cell_named_goes (Some c) d = λ _. d
+    cell_named_goes None d = refl
+
+    cell_goes : (k : TokenKind) → is_designator k ≡ true → Derives s.vectors ws ts → Went w ts (cell k w.name ws s)
     cell_goes (kind.Whole n) e d = cell_of_goes (natural_of n) d
+    cell_goes kind.Variable e d = cell_named_goes (number_of w.name s.elements) d
     cell_goes _ e d = absurd (true≢false (sym e))
 
--- What derives goes on behind its first word, or that is refused in a form.
-pub derived_goes : (ws : List Wanted) (words : List Word) (s : State) → Derives ws words → forms_last ws ≡ true → Goes words ws s
+-- behind a vector attribute
+place_more : (f : ℕ) (ws : List Wanted) (words : List Word) (s : State) → Derives s.vectors (Place f ∷ Several InPattern (suc f) ∷ ws) words
+    → Goes words (Place f ∷ Several InPattern (suc f) ∷ ws) s → Goes words (Several InPattern f ∷ ws) s
 unfolding step
-derived_goes ws words s nothing last = tt
-derived_goes ws words s (no_form {ws = rest} d) last = no_form_goes rest words s d last
-derived_goes ws words s (a_form {w = w} {ts = ts} e d) last = met w ts (is_left w.kind) _ _ e (λ _. d)
-derived_goes ws words s (a_literalize {ws = rest} {w = w} {ts = ts} e d) last =
+place_more f ws [] s d go = tt
+place_more f ws (w ∷ ts) s d go =
+    let next : suc f ≡ f + 1 = omega arith in
+    one_goes w ts ws s InPattern f (place_begins f s.vectors (Several InPattern (suc f) ∷ ws) w ts d)
+    (within_goes w ts ws s (nat_lt f most_fields) (place f w (Several InPattern (f + 1) ∷ ws) s)
+    (subst (λ (n : ℕ). Went w ts (place f w (Several InPattern n ∷ ws) s)) next go))
+
+term_more : (f : ℕ) (ws : List Wanted) (words : List Word) (s : State) → Derives s.vectors (ValueFor ToTerms ∷ Several InPut f ∷ ws) words
+    → Goes words (ValueFor ToTerms ∷ Several InPut f ∷ ws) s → Goes words (Several InPut f ∷ ws) s
+unfolding step
+term_more f ws [] s d go = tt
+term_more f ws (w ∷ ts) s d go = one_goes w ts ws s InPut f (value_begins ToTerms s.vectors (Several InPut f ∷ ws) w ts d) go
+
+constant_more : (f : ℕ) (ws : List Wanted) (words : List Word) (s : State) → Derives s.vectors (ValueFor ToConstants ∷ Several InFixed f ∷ ws) words
+    → Goes words (ValueFor ToConstants ∷ Several InFixed f ∷ ws) s → Goes words (Several InFixed f ∷ ws) s
+unfolding step
+constant_more f ws [] s d go = tt
+constant_more f ws (w ∷ ts) s d go =
+    one_goes w ts ws s InFixed f (value_begins ToConstants s.vectors (Several InFixed f ∷ ws) w ts d)
+    (within_goes w ts ws s (nat_lt (f + length s.constants) most_fields) (value_for ToConstants w (Several InFixed f ∷ ws) s) go)
+
+no_more : (u : Use) (f : ℕ) (ws : List Wanted) (words : List Word) (s : State) → Derives s.vectors (Terms u ∷ ws) words
+    → Goes words (Terms u ∷ ws) (with_several u f s) → Goes words (Several u f ∷ ws) s
+unfolding step
+no_more u f ws [] s d go = tt
+no_more u f ws (w ∷ ts) s d go = met w ts (is_right w.kind || is_caret w.kind) _ _ (terms_begin u s.vectors ws w ts d) go
+
+module _ (w : Word) (ts : List Word) (ws : List Wanted) (s : State) where
+  -- an attribute is of the same kind in a derivation and for the machine
+  abbrev Agrees : Option ℕ → Type 0
+  Agrees o = (g : ℕ) → o ≡ Some g → is_vector (class_of s.classes s.class) g ≡ is_one_of w.name s.vectors
+
+  scalar_goes : (u : Use) (f : ℕ) (o : Option ℕ) → Agrees o → is_one_of w.name s.vectors ≡ false → Derives s.vectors (behind_attribute u f ∷ Terms u ∷ ws) ts → Went w ts (field_at u o ws s)
+  scalar_goes u f (Some g) agrees e d =
+      cond_both (is_vector (class_of s.classes s.class) g) _ _ (Went w ts)
+      (λ is. absurd (true≢false (sym is ∙ agrees g refl ∙ e))) (λ _ _. at_any_place s.vectors u f (Terms u ∷ ws) ts d g)
+  scalar_goes u f None agrees e d = refl
+
+  vector_goes : (u : Use) (f : ℕ) (o : Option ℕ) → Agrees o → is_one_of w.name s.vectors ≡ true → Derives s.vectors (Several u f ∷ ws) ts → Went w ts (field_at u o ws s)
+  vector_goes u f (Some g) agrees e d =
+      cond_both (is_vector (class_of s.classes s.class) g) _ _ (Went w ts)
+      (λ _ _. several_at_any_place s.vectors u f ws ts d g) (λ isnt. absurd (true≢false (sym e ∙ sym (agrees g refl) ∙ isnt)))
+  vector_goes u f None agrees e d = refl
+
+  agrees_at : (u : Use) → AreArranged (Attribute u ∷ ws) s → Agrees (position (λ a. a.0 == w.name.0) (attributes_of (slice_get s.classes s.class)))
+  agrees_at u arranged g at = kind_agrees (Attribute u ∷ ws) s w.name g arranged at
+
+-- What derives goes on behind its first word, or that is refused in a form.
+pub derived_goes : (ws : List Wanted) (words : List Word) (s : State) → AreArranged ws s → Derives s.vectors ws words → forms_last ws ≡ true → Goes words ws s
+unfolding step
+derived_goes ws words s a nothing last = tt
+derived_goes ws words s a (no_form {ws = rest} d) last = no_form_goes rest words s d last
+derived_goes ws words s a (a_form {w = w} {ts = ts} e d) last = met w ts (is_left w.kind) _ _ e (λ _. d)
+derived_goes ws words s a (a_literalize {ws = rest} {w = w} {ts = ts} e d) last =
     form_goes w ts rest s keyword.Literalize e (cond_both (may_declare s) _ _ (Went w ts) (λ _ _. d) (λ _. refl))
-derived_goes ws words s (a_class {w = w} {ts = ts} e d) last =
+derived_goes ws words s a (a_class {w = w} {ts = ts} e d) last =
     met w ts (is_name w.kind) _ _ e (cond_both (is_class s w.name) _ _ (Went w ts) (λ _. refl) (λ _ _. d))
-derived_goes ws words s (an_attribute {w = w} {ts = ts} e d) last =
+derived_goes ws words s a (an_attribute {w = w} {ts = ts} e d) last =
     unmet w ts (is_right w.kind) _ _ (name_not_right w.kind e)
     (met w ts (is_name w.kind) _ _ e
-    (cond_both (is_one_of w.name s.attrs) _ _ (Went w ts) (λ _. refl) (λ _. cond_both (nat_lt (length s.attrs) most_fields) _ _ (Went w ts) (λ _ _. d) (λ _. refl))))
-derived_goes ws words s (no_attribute {w = w} {ts = ts} e d) last = met w ts (is_right w.kind) _ _ e (λ _. d)
-derived_goes ws words s (a_production {ws = rest} {w = w} {ts = ts} e d) last =
+    (cond_both (is_one_of w.name s.attrs) _ _ (Went w ts) (λ _. refl)
+    (λ _. cond_both (is_second w.name s) _ _ (Went w ts) (λ _. refl)
+    (λ _. cond_both (nat_lt (length s.attrs) most_fields) _ _ (Went w ts) (λ _ _. d) (λ _. refl)))))
+derived_goes ws words s a (no_attribute {w = w} {ts = ts} e d) last = met w ts (is_right w.kind) _ _ e (λ _. d)
+derived_goes ws words s a (a_vector_declaration {ws = rest} {w = w} {ts = ts} e d) last =
+    form_goes w ts rest s keyword.VectorAttribute e (cond_both (may_declare s) _ _ (Went w ts) (λ _ _. d) (λ _. refl))
+derived_goes ws words s a (a_vector {ws = rest} {w = w} {ts = ts} e d) last = met w ts (is_name w.kind) _ _ e (vector_declared_goes w ts rest s d)
+derived_goes ws words s a (one_more_vector {ws = rest} {w = w} {ts = ts} e d) last =
+    unmet w ts (is_right w.kind) _ _ (name_not_right w.kind e) (met w ts (is_name w.kind) _ _ e (vector_declared_goes w ts (VectorNames ∷ rest) s d))
+derived_goes ws words s a (no_more_vectors {w = w} {ts = ts} e d) last = met w ts (is_right w.kind) _ _ e (λ _. d)
+derived_goes ws words s a (a_production {ws = rest} {w = w} {ts = ts} e d) last =
     form_goes w ts rest s keyword.Production e (cond_both (length s.commands == 0) _ _ (Went w ts) (λ _ _. d) (λ _. refl))
-derived_goes ws words s (a_rule {w = w} {ts = ts} e d) last =
+derived_goes ws words s a (a_rule {w = w} {ts = ts} e d) last =
     met w ts (is_name w.kind) _ _ e (cond_both (is_rule s w.name) _ _ (Went w ts) (λ _. refl) (λ _ _. d))
-derived_goes ws words s (a_first {w = w} {ts = ts} e d) last = met w ts (is_left w.kind) _ _ e (λ _. d)
-derived_goes ws words s (a_negated_first {w = w} {ts = ts} e d) last =
-    cond_both (is_left w.kind) _ _ (Went w ts) (λ left proper. no_mark w is_left refl (minus_marks w.keyword e) left proper) (λ _. met w ts (is_minus w.keyword) _ _ e refl)
-derived_goes ws words s (a_pattern {ws = rest} {w = w} {ts = ts} e d) last =
+derived_goes ws words s a (a_first {w = w} {ts = ts} e d) last = met w ts (is_left w.kind) _ _ e (λ _. d)
+derived_goes ws words s a (a_braced_first {w = w} {ts = ts} e d) last =
+    unmet w ts (is_left w.kind) _ _ (left_brace_not_left w.kind e) (met w ts (is_left_brace w.kind) _ _ e (λ _. d))
+derived_goes ws words s a (a_negated_first {w = w} {ts = ts} e d) last =
+    cond_both (is_left w.kind) _ _ (Went w ts) (λ left proper. no_mark w is_left refl (minus_marks w.keyword e) left proper)
+    (λ _. cond_both (is_left_brace w.kind) _ _ (Went w ts) (λ brace proper. no_mark w is_left_brace refl (minus_marks w.keyword e) brace proper)
+    (λ _. met w ts (is_minus w.keyword) _ _ e refl))
+derived_goes ws words s a (a_pattern {ws = rest} {w = w} {ts = ts} e d) last =
     cond_both (is_arrow w.keyword) _ _ (Went w ts) (λ arrow proper. no_mark w is_left refl (arrow_marks w.keyword arrow) e proper)
     (λ _. met w ts (is_left w.kind) _ _ e (one_more_goes w ts (ClassName ∷ Terms InPattern ∷ Patterns ∷ rest) s (λ _. d)))
-derived_goes ws words s (a_negated_pattern {ws = rest} {w = w} {ts = ts} e d) last =
+derived_goes ws words s a (a_braced_pattern {ws = rest} {w = w} {ts = ts} e d) last =
+    cond_both (is_arrow w.keyword) _ _ (Went w ts) (λ arrow proper. no_mark w is_left_brace refl (arrow_marks w.keyword arrow) e proper)
+    (λ _. unmet w ts (is_left w.kind) _ _ (left_brace_not_left w.kind e)
+    (met w ts (is_left_brace w.kind) _ _ e (one_more_goes w ts (Braced ∷ Patterns ∷ rest) s (λ _. d))))
+derived_goes ws words s a (a_negated_pattern {ws = rest} {w = w} {ts = ts} e d) last =
     unmet w ts (is_arrow w.keyword) _ _ (minus_no_arrow w.keyword e)
     (cond_both (is_left w.kind) _ _ (Went w ts)
     (λ left. one_more_goes w ts (ClassName ∷ Terms InPattern ∷ Patterns ∷ rest) s (λ proper. no_mark w is_left refl (minus_marks w.keyword e) left proper))
-    (λ _. met w ts (is_minus w.keyword) _ _ e (one_more_goes w ts (NegatedPattern ∷ Patterns ∷ rest) (record s { negated = true; around = length s.values }) (λ _. d))))
-derived_goes ws words s (behind_a_minus {w = w} {ts = ts} e d) last = met w ts (is_left w.kind) _ _ e (λ _. d)
-derived_goes ws words s (an_arrow {w = w} {ts = ts} e d) last = met w ts (is_arrow w.keyword) _ _ (ap is_arrow e) (λ _. d)
-derived_goes ws words s (a_make {ws = rest} {w = w} {ts = ts} e d) last = form_goes w ts rest s keyword.Make e (λ _. d)
-derived_goes ws words s (a_run {ws = rest} {w = w} {ts = ts} e d) last = form_goes w ts rest s keyword.Run e (λ _. d)
-derived_goes ws words s (a_class_name {ws = rest} {w = w} {ts = ts} e d) last =
+    (λ _. cond_both (is_left_brace w.kind) _ _ (Went w ts)
+    (λ brace. one_more_goes w ts (Braced ∷ Patterns ∷ rest) s (λ proper. no_mark w is_left_brace refl (minus_marks w.keyword e) brace proper))
+    (λ _. met w ts (is_minus w.keyword) _ _ e (one_more_goes w ts (Pattern ∷ Patterns ∷ rest) (record s { negated = true; around = length s.values }) (λ _. d)))))
+derived_goes ws words s a (a_whole_pattern {w = w} {ts = ts} e d) last = met w ts (is_left w.kind) _ _ e (λ _. d)
+derived_goes ws words s a (a_name_before {ws = rest} {w = w} {ts = ts} e d) last =
+    unmet w ts (is_left w.kind) _ _ (variable_not_left w.kind e)
+    (met w ts (is_variable w.kind) _ _ e (element_goes w ts (Pattern ∷ ClosesBrace ∷ rest) s (number_of w.name s.elements) d))
+derived_goes ws words s a (a_name_behind {w = w} {ts = ts} e d) last = met w ts (is_left w.kind) _ _ e (λ _. d)
+derived_goes ws words s a (an_element_name {ws = rest} {w = w} {ts = ts} e d) last =
+    met w ts (is_variable w.kind) _ _ e (element_goes w ts rest s (number_of w.name s.elements) d)
+derived_goes ws words s a (a_closed_brace {w = w} {ts = ts} e d) last = met w ts (is_right_brace w.kind) _ _ e (λ _. d)
+derived_goes ws words s a (an_arrow {w = w} {ts = ts} e d) last = met w ts (is_arrow w.keyword) _ _ (ap is_arrow e) (λ _. d)
+derived_goes ws words s a (a_make {ws = rest} {w = w} {ts = ts} e d) last = form_goes w ts rest s keyword.Make e (λ _. d)
+derived_goes ws words s a (a_run {ws = rest} {w = w} {ts = ts} e d) last = form_goes w ts rest s keyword.Run e (λ _. d)
+derived_goes ws words s a (a_class_name {ws = rest} {w = w} {ts = ts} e d) last =
     met w ts (is_name w.kind) _ _ e (class_goes w ts rest s (position (λ c. c.name.0 == w.name.0) s.classes) d)
-derived_goes ws words s (a_term {w = w} {ts = ts} e d) last =
+derived_goes ws words s a (a_term {w = w} {ts = ts} e d) last =
     unmet w ts (is_right w.kind) _ _ (caret_not_right w.kind e) (met w ts (is_caret w.kind) _ _ e (λ _. d))
-derived_goes ws words s (no_term {w = w} {ts = ts} e d) last = met w ts (is_right w.kind) _ _ e (λ _. d)
-derived_goes ws words s (an_attribute_name {u = u} f {ws = rest} {w = w} {ts = ts} e d) last =
-    met w ts (is_name w.kind) _ _ e (field_goes w ts rest s u f (position (λ a. a.0 == w.name.0) (attributes_of (slice_get s.classes s.class))) d)
-derived_goes ws words s (a_value {t = t} {ws = rest} {w = w} {ts = ts} e d) last = value_goes w ts rest s t e d
-derived_goes ws words s (a_literal_value {w = w} {ts = ts} e d) last = met w ts (is_literal w.keyword) _ _ e (λ _. d)
-derived_goes ws words s (an_atom {t = t} {ws = rest} {w = w} {ts = ts} e d) last = atom_goes w ts rest s t (atom_of w.kind w.name) e d
-derived_goes ws words s (a_conjunction {w = w} {ts = ts} e d) last = met w ts (is_left_brace w.kind) _ _ e (λ _. d)
-derived_goes ws words s (no_more_tests {w = w} {ts = ts} e d) last = met w ts (is_right_brace w.kind) _ _ e (λ _. d)
-derived_goes ws words s (an_operand {f = f} {ws = rest} {w = w} {ts = ts} e d) last =
+derived_goes ws words s a (no_term {u = u} {ws = rest} {w = w} {ts = ts} e d) last =
+    met w ts (is_right w.kind) _ _ e (λ _. same_names w ts rest s (with_element u s) (element_vectors u s) d)
+derived_goes ws words s a (a_scalar_attribute {u = u} f {ws = rest} {w = w} {ts = ts} is e d) last =
+    met w ts (is_name w.kind) _ _ is
+    (scalar_goes w ts rest s u f (position (λ a. a.0 == w.name.0) (attributes_of (slice_get s.classes s.class))) (agrees_at w ts rest s u a) e d)
+derived_goes ws words s a (a_vector_attribute {u = u} f {ws = rest} {w = w} {ts = ts} is e d) last =
+    met w ts (is_name w.kind) _ _ is
+    (vector_goes w ts rest s u f (position (λ a. a.0 == w.name.0) (attributes_of (slice_get s.classes s.class))) (agrees_at w ts rest s u a) e d)
+derived_goes ws words s a (one_more_place {f = f} {ws = rest} d) last =
+    place_more f rest words s d (derived_goes (Place f ∷ Several InPattern (suc f) ∷ rest) words s a d last)
+derived_goes ws words s a (one_more_term {f = f} {ws = rest} d) last =
+    term_more f rest words s d (derived_goes (ValueFor ToTerms ∷ Several InPut f ∷ rest) words s a d last)
+derived_goes ws words s a (one_more_constant {f = f} {ws = rest} d) last =
+    constant_more f rest words s d (derived_goes (ValueFor ToConstants ∷ Several InFixed f ∷ rest) words s a d last)
+derived_goes ws words s a (no_more_of_several {u = InPattern} {f = f} {ws = rest} d) last =
+    no_more InPattern f rest words s d (derived_goes (Terms InPattern ∷ rest) words (with_several InPattern f s) a d last)
+derived_goes ws words s a (no_more_of_several {u = InPut} {f = f} {ws = rest} d) last =
+    no_more InPut f rest words s d (derived_goes (Terms InPut ∷ rest) words (with_several InPut f s) a d last)
+derived_goes ws words s a (no_more_of_several {u = InFixed} {f = f} {ws = rest} d) last =
+    no_more InFixed f rest words s d (derived_goes (Terms InFixed ∷ rest) words (with_several InFixed f s) a d last)
+derived_goes ws words s a (a_value {t = t} {ws = rest} {w = w} {ts = ts} e d) last = value_goes w ts rest s t e d
+derived_goes ws words s a (a_literal_value {w = w} {ts = ts} e d) last = met w ts (is_literal w.keyword) _ _ e (λ _. d)
+derived_goes ws words s a (an_atom {t = t} {ws = rest} {w = w} {ts = ts} e d) last = atom_goes w ts rest s t (atom_of w.kind w.name) e d
+derived_goes ws words s a (a_conjunction {w = w} {ts = ts} e d) last = met w ts (is_left_brace w.kind) _ _ e (λ _. d)
+derived_goes ws words s a (no_more_tests {w = w} {ts = ts} e d) last = met w ts (is_right_brace w.kind) _ _ e (λ _. d)
+derived_goes ws words s a (an_operand {f = f} {ws = rest} {w = w} {ts = ts} e d) last =
     unmet w ts (is_left_brace w.kind) _ _ (operand_not_left_brace w.kind w.name e) (test_operand_goes w ts rest s f e d)
-derived_goes ws words s (a_literal {f = f} {ws = rest} {w = w} {ts = ts} e d) last =
+derived_goes ws words s a (a_literal {f = f} {ws = rest} {w = w} {ts = ts} e d) last =
     place_goes w ts rest s f (literal_marks w.keyword e) (test_literal_goes w ts rest s f e d)
-derived_goes ws words s (a_predicate {f = f} {p = p} {ws = rest} {w = w} {ts = ts} e d) last =
+derived_goes ws words s a (a_predicate {f = f} {p = p} {ws = rest} {w = w} {ts = ts} e d) last =
     place_goes w ts rest s f (pred_marks w.keyword p e) (test_predicate_goes w ts rest s f p e d)
-derived_goes ws words s (a_disjunction {f = f} {ws = rest} {w = w} {ts = ts} e d) last =
+derived_goes ws words s a (a_disjunction {f = f} {ws = rest} {w = w} {ts = ts} e d) last =
     place_goes w ts rest s f (opening_marks w.keyword e) (met w ts (opens_choice w.keyword) _ _ e (λ _. d))
-derived_goes ws words s (one_more_operand {f = f} {ws = rest} {w = w} {ts = ts} e d) last =
+derived_goes ws words s a (one_more_operand {f = f} {ws = rest} {w = w} {ts = ts} e d) last =
     unmet w ts (is_right_brace w.kind) _ _ (operand_not_right_brace w.kind w.name e) (test_operand_goes w ts (Tests f ∷ rest) s f e d)
-derived_goes ws words s (one_more_literal {f = f} {ws = rest} {w = w} {ts = ts} e d) last =
+derived_goes ws words s a (one_more_literal {f = f} {ws = rest} {w = w} {ts = ts} e d) last =
     tests_go w ts rest s f (literal_marks w.keyword e) (test_literal_goes w ts (Tests f ∷ rest) s f e d)
-derived_goes ws words s (one_more_predicate {f = f} {p = p} {ws = rest} {w = w} {ts = ts} e d) last =
+derived_goes ws words s a (one_more_predicate {f = f} {p = p} {ws = rest} {w = w} {ts = ts} e d) last =
     tests_go w ts rest s f (pred_marks w.keyword p e) (test_predicate_goes w ts (Tests f ∷ rest) s f p e d)
-derived_goes ws words s (one_more_disjunction {f = f} {ws = rest} {w = w} {ts = ts} e d) last =
+derived_goes ws words s a (one_more_disjunction {f = f} {ws = rest} {w = w} {ts = ts} e d) last =
     tests_go w ts rest s f (opening_marks w.keyword e) (met w ts (opens_choice w.keyword) _ _ e (λ _. d))
-derived_goes ws words s (a_tested_operand {f = f} {p = p} {ws = rest} {w = w} {ts = ts} e d) last = operand_goes w ts rest s f p e d
-derived_goes ws words s (a_tested_literal {w = w} {ts = ts} e d) last = met w ts (is_literal w.keyword) _ _ e (λ _. d)
-derived_goes ws words s (one_more_choice {f = f} {ws = rest} {w = w} {ts = ts} e d) last =
+derived_goes ws words s a (a_tested_operand {f = f} {p = p} {ws = rest} {w = w} {ts = ts} e d) last = operand_goes w ts rest s f p e d
+derived_goes ws words s a (a_tested_literal {w = w} {ts = ts} e d) last = met w ts (is_literal w.keyword) _ _ e (λ _. d)
+derived_goes ws words s a (one_more_choice {f = f} {ws = rest} {w = w} {ts = ts} e d) last =
     let each = and_parts (not (closes_choice w.keyword)) _ e in
     unmet w ts (closes_choice w.keyword) _ _ (not_met _ each.0) (chosen_goes w ts (Choice f ∷ rest) s (atom_of w.kind w.name) each.1 d)
-derived_goes ws words s (no_more_choices {w = w} {ts = ts} e d) last = met w ts (closes_choice w.keyword) _ _ e (λ _. d)
-derived_goes ws words s (an_action {w = w} {ts = ts} e d) last =
+derived_goes ws words s a (no_more_choices {w = w} {ts = ts} e d) last = met w ts (closes_choice w.keyword) _ _ e (λ _. d)
+derived_goes ws words s a (an_action {w = w} {ts = ts} e d) last =
     unmet w ts (is_right w.kind) _ _ (left_not_right w.kind e) (met w ts (is_left w.kind) _ _ e (λ _. d))
-derived_goes ws words s (no_action {w = w} {ts = ts} e d) last = met w ts (is_right w.kind) _ _ e (λ _. d)
-derived_goes ws words s (to_make {ws = rest} {w = w} {ts = ts} e d) last = action_goes w ts rest s keyword.Make e (λ _. d)
-derived_goes ws words s (to_remove {ws = rest} {w = w} {ts = ts} e d) last = action_goes w ts rest s keyword.Remove e (λ _. d)
-derived_goes ws words s (to_write {ws = rest} {w = w} {ts = ts} e d) last = action_goes w ts rest s keyword.Write e (λ _. d)
-derived_goes ws words s (to_halt {ws = rest} {w = w} {ts = ts} e d) last = action_goes w ts rest s keyword.Halt e (λ _. d)
-derived_goes ws words s (a_cell {ws = rest} {w = w} {ts = ts} e d) last = cell_goes w ts rest s w.kind e d
-derived_goes ws words s (one_more_cell {ws = rest} {w = w} {ts = ts} e d) last =
-    unmet w ts (is_right w.kind) _ _ (whole_not_right w.kind e) (cell_goes w ts (Cells ∷ rest) s w.kind e d)
-derived_goes ws words s (no_more_cells {w = w} {ts = ts} e d) last = met w ts (is_right w.kind) _ _ e (λ _. d)
-derived_goes ws words s (an_item {ws = rest} {w = w} {ts = ts} e d) last =
+derived_goes ws words s a (no_action {w = w} {ts = ts} e d) last = met w ts (is_right w.kind) _ _ e (λ _. d)
+derived_goes ws words s a (to_make {ws = rest} {w = w} {ts = ts} e d) last = action_goes w ts rest s keyword.Make e (λ _. d)
+derived_goes ws words s a (to_remove {ws = rest} {w = w} {ts = ts} e d) last = action_goes w ts rest s keyword.Remove e (λ _. d)
+derived_goes ws words s a (to_write {ws = rest} {w = w} {ts = ts} e d) last = action_goes w ts rest s keyword.Write e (λ _. d)
+derived_goes ws words s a (to_halt {ws = rest} {w = w} {ts = ts} e d) last = action_goes w ts rest s keyword.Halt e (λ _. d)
+derived_goes ws words s a (a_cell {ws = rest} {w = w} {ts = ts} e d) last = cell_goes w ts rest s w.kind e d
+derived_goes ws words s a (one_more_cell {ws = rest} {w = w} {ts = ts} e d) last =
+    unmet w ts (is_right w.kind) _ _ (designator_not_right w.kind e) (cell_goes w ts (Cells ∷ rest) s w.kind e d)
+derived_goes ws words s a (no_more_cells {w = w} {ts = ts} e d) last = met w ts (is_right w.kind) _ _ e (λ _. d)
+derived_goes ws words s a (an_item {ws = rest} {w = w} {ts = ts} e d) last =
     let each = and_parts (not (is_literal w.keyword)) _ e in
     unmet w ts (is_right w.kind) _ _ (value_not_right w.kind w.name each.1)
     (unmet w ts (is_left w.kind) _ _ (value_not_left w.kind w.name each.1) (value_goes w ts (Items ∷ rest) s ToItem e d))
-derived_goes ws words s (a_literal_item {w = w} {ts = ts} e d) last =
+derived_goes ws words s a (a_literal_item {w = w} {ts = ts} e d) last =
     cond_both (is_right w.kind) _ _ (Went w ts) (λ right proper. no_mark w is_right refl (literal_marks w.keyword e) right proper)
     (λ _. cond_both (is_left w.kind) _ _ (Went w ts) (λ left proper. no_mark w is_left refl (literal_marks w.keyword e) left proper)
     (λ _. met w ts (is_literal w.keyword) _ _ e (λ _. d)))
-derived_goes ws words s (an_item_form {w = w} {ts = ts} e d) last =
+derived_goes ws words s a (an_item_form {w = w} {ts = ts} e d) last =
     unmet w ts (is_right w.kind) _ _ (left_not_right w.kind e) (met w ts (is_left w.kind) _ _ e (λ _. d))
-derived_goes ws words s (no_item {w = w} {ts = ts} e d) last = met w ts (is_right w.kind) _ _ e (λ _. d)
-derived_goes ws words s (a_crlf {w = w} {ts = ts} e d) last = met w ts (is_crlf w.keyword) _ _ (ap is_crlf e) (λ _. d)
-derived_goes ws words s (a_closing {w = w} {ts = ts} e d) last = met w ts (is_right w.kind) _ _ e (λ _. d)
+derived_goes ws words s a (no_item {w = w} {ts = ts} e d) last = met w ts (is_right w.kind) _ _ e (λ _. d)
+derived_goes ws words s a (a_crlf {w = w} {ts = ts} e d) last = met w ts (is_crlf w.keyword) _ _ (ap is_crlf e) (λ _. d)
+derived_goes ws words s a (a_closing {e = end} {ws = rest} {w = w} {ts = ts} e d) last =
+    met w ts (is_right w.kind) _ _ e (λ _. same_names w ts rest s (ended end s) (ended_vectors end s) d)
 
-module _ (w : Word) (ws : List Wanted) (s : State) (last : forms_last ws ≡ true) where
+module _ (w : Word) (ws : List Wanted) (s : State) (arranged : AreArranged ws s) (last : forms_last ws ≡ true) where
   -- a word that is refused in no form goes on to no derivation
-  pub refused_in_no_form : (f : Fault) → step w ws s ≡ Refuses f → is_no_form f ≡ true → (ts : List Word) → ¬ Derives ws (w ∷ ts)
+  pub refused_in_no_form : (f : Fault) → step w ws s ≡ Refuses f → is_no_form f ≡ true → (ts : List Word) → ¬ Derives s.vectors ws (w ∷ ts)
   refused_in_no_form f e is ts d =
-      let no : is_no_form f ≡ false = subst (Went w ts) e (derived_goes ws (w ∷ ts) s d last) in true≢false (sym is ∙ no)
+      let no : is_no_form f ≡ false = subst (Went w ts) e (derived_goes ws (w ∷ ts) s arranged d last) in true≢false (sym is ∙ no)
 
   -- where a word is taken, a derivation goes on behind it
-  pub derived_behind : (ws' : List Wanted) (s' : State) → step w ws s ≡ Next ws' s' → is_proper w ≡ true → (ts : List Word) → Derives ws (w ∷ ts) → Derives ws' ts
-  derived_behind ws' s' e proper ts d = let go : Went w ts (Next ws' s') = subst (Went w ts) e (derived_goes ws (w ∷ ts) s d last) in go proper
+  pub derived_behind : (ws' : List Wanted) (s' : State) → step w ws s ≡ Next ws' s' → is_proper w ≡ true → (ts : List Word) → Derives s.vectors ws (w ∷ ts) → Derives s'.vectors ws' ts
+  derived_behind ws' s' e proper ts d = let go : Went w ts (Next ws' s') = subst (Went w ts) e (derived_goes ws (w ∷ ts) s arranged d last) in go proper

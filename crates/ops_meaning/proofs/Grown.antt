@@ -1,7 +1,7 @@
 -- What was read stays valid where one more part of it stands at the end.
-use Rattle.std.proofs.Common.{◌≡◌, ℕ, ◌+◌, ◌<◌, ◌≤◌, Bool, true, false, ◌&&◌, ◌||◌, ◌==◌, cond, List, [], ◌∷◌, ◌++◌, length, map, refl, sym, ap, subst, ◌∙◌, arith, Option, Some, nat_lt, nat_le, take, true≢false, length-append}
+use Rattle.std.proofs.Common.{◌≡◌, ℕ, ◌+◌, ◌-◌, ◌<◌, ◌≤◌, Bool, true, false, not, ◌&&◌, ◌||◌, ◌==◌, cond, List, [], ◌∷◌, ◌++◌, length, map, refl, sym, ap, ◌∙◌, arith, Option, Some, nat_lt, nat_le, take, true≢false, length-append}
 use Rattle.std.specs.List.{list_all, list_any}
-use Rattle.std.proofs.lemmas.Bool.{and_parts, and_from, or_left, or_right, eq-eqb, ltb-true, lt-ltb, leb-true, le-leb}
+use Rattle.std.proofs.lemmas.Bool.{and_parts, and_from, or_left, or_right, cond_both, cond-true, eq-eqb, eqb-true, ltb-true, lt-ltb, leb-true, le-leb}
 use Rattle.std.proofs.lemmas.List.{map-append, take-append-le, take_all}
 use Rattle.ops_base.specs.declared.values.Sym.{Sym}
 use Rattle.ops_base.specs.declared.values.Value.{Value}
@@ -16,11 +16,11 @@ use Rattle.ops_base.specs.declared.actions.Term.{Term}
 use Rattle.ops_base.specs.declared.actions.Action.{Action}
 use Rattle.ops_base.specs.declared.rules.Rule.{Rule}
 use Rattle.ops_base.specs.declared.commands.Command.{Command}
-use Rattle.ops_base.specs.Valid.{longest_list, most_fields, most_conditions, fits, is_in, are_distinct, no_class, class_of, class_is_valid, is_attribute, is_vector, Sight, operand_is_valid, test_is_valid, sight_after, tests_are_valid, sight_after_tests, nothing_in_sight, cells_of, specificity, known_of, Known, known_after, term_is_valid, put_is_valid, action_is_valid, fixed_is_valid, command_is_valid}
+use Rattle.ops_base.specs.Valid.{longest_list, most_fields, most_conditions, fits, is_in, are_distinct, no_class, class_of, class_is_valid, is_attribute, is_vector, is_field, Sight, operand_is_valid, tests_are_valid, sight_after_tests, nothing_in_sight, cells_of, specificity, known_of, Known, known_after, term_is_valid, put_is_valid, action_is_valid, fixed_is_valid, command_is_valid}
 use Rattle.ops_meaning.specs.declared.words.Named.{Named}
-use Rattle.ops_meaning.specs.Grammar.{number_of}
-use Rattle.ops_meaning.proofs.Lists.{all_push, all_none, all_weaker, all_at, distinct_push, in_map, cond_alike}
-use Rattle.ops_meaning.proofs.Parts.{tests_push, sight_push, conditions_push, sight_conditions_push, actions_push, known_push, first_push}
+use Rattle.ops_meaning.specs.Grammar.{is_one_of, number_of, arranged, has_vector, with_vector_last}
+use Rattle.ops_meaning.proofs.Lists.{all_push, all_none, all_weaker, all_at, any_some, distinct_push, in_map, cond_alike, length-parted, parted_distinct}
+use Rattle.ops_meaning.proofs.Parts.{tests_push, sight_push, conditions_push, sight_conditions_push, actions_push, known_push, first_push, some_cell, cells_push}
 use Rattle.ops_meaning.proofs.Sound.{IsProgram, IsDeclaring, IsClass, numbers, Variables, seen, all_below, IsHead, known, IsBody}
 
 pub fits_below : {X : Type 0} (xs : List X) (n : ℕ) → length xs ≤ n → n ≤ longest_list → fits xs ≡ true
@@ -38,15 +38,67 @@ pub attribute_added : (classes : List Class) (name : Sym) (attrs : List Sym) (a 
 attribute_added classes name attrs a h e lt =
     record { is_new = h.is_new; few = omega (arith, length-append attrs (a ∷ [])); distinct = named_apart (λ b. b.0) attrs a h.distinct e }
 
-pub class_added : (text : ℕ) (classes : List Class) (rules : List Rule) (commands : List Command) (name : Sym) (attrs : List Sym) → IsDeclaring text classes rules commands → IsClass classes name attrs → IsProgram text (classes ++ record { name = name; attrs = attrs; vector = false } ∷ []) rules commands
-class_added text classes rules commands name attrs d c =
+some_attribute : (b : Bool) (count : ℕ) → (b ≡ true → 0 < count) → (not b || nat_lt 0 count) ≡ true
+some_attribute true count h = lt-ltb 0 count (h refl)
+some_attribute false count h = refl
+
+-- a class whose attributes of some names are put behind the others
+class_arranged : (vectors attrs : List Sym) (name : Sym) (vector : Bool) → length attrs ≤ most_fields → are_distinct (map (λ a. a.0) attrs) ≡ true → (vector ≡ true → 0 < length attrs)
+    → class_is_valid (record { name = name; attrs = arranged vectors attrs; vector = vector }) ≡ true
+class_arranged vectors attrs name vector few distinct some =
+    let same : length (arranged vectors attrs) ≡ length attrs = length-parted (λ a. is_one_of a vectors) attrs in
+    and_from _ _
+    (and_from _ _ (le-leb _ _ (omega (arith, same, few))) (parted_distinct (λ a. a.0) (λ a. is_one_of a vectors) attrs distinct))
+    (some_attribute vector (length (arranged vectors attrs)) (λ v. let lt = some v in omega (arith, same, lt)))
+
+pub class_added : (text : ℕ) (classes : List Class) (rules : List Rule) (commands : List Command) (vectors : List Sym) (name : Sym) (attrs : List Sym) → IsDeclaring text classes rules commands → IsClass classes name attrs
+    → IsProgram text (classes ++ record { name = name; attrs = arranged vectors attrs; vector = has_vector vectors attrs } ∷ []) rules commands
+class_added text classes rules commands vectors name attrs d c =
+    let added : Class = record { name = name; attrs = arranged vectors attrs; vector = has_vector vectors attrs } in
     record {
-      classes_valid = all_push class_is_valid classes (record { name = name; attrs = attrs; vector = false }) d.program.classes_valid
-          (and_from _ _ (and_from _ _ (le-leb (length attrs) most_fields c.few) c.distinct) refl);
+      classes_valid = all_push class_is_valid classes added d.program.classes_valid
+          (class_arranged vectors attrs name (has_vector vectors attrs) c.few c.distinct (any_some (λ a. is_one_of a vectors) attrs));
       rules_valid = all_none _ rules d.no_rules;
       commands_valid = all_none _ commands d.no_commands;
-      class_names = named_apart (λ c. c.name.0) classes (record { name = name; attrs = attrs; vector = false }) d.program.class_names c.is_new;
+      class_names = named_apart (λ c. c.name.0) classes added d.program.class_names c.is_new;
       rule_names = d.program.rule_names;
+    }
+
+-- the attributes of a valid class
+attributes_few : (c : Class) → class_is_valid c ≡ true → (length c.attrs ≤ most_fields) × (are_distinct (map (λ a. a.0) c.attrs) ≡ true)
+attributes_few c h =
+    let parts = and_parts (nat_le (length c.attrs) most_fields) (are_distinct (map (λ a. a.0) c.attrs)) (and_parts (nat_le (length c.attrs) most_fields && are_distinct (map (λ a. a.0) c.attrs)) _ h).0 in
+    (leb-true _ _ parts.0, parts.1)
+
+vector_valid : (name : Sym) (c : Class) → class_is_valid c ≡ true → class_is_valid (with_vector_last name c) ≡ true
+vector_valid name c h =
+    let parts = attributes_few c h in
+    cond_both (is_one_of name c.attrs) _ _ (λ (d : Class). class_is_valid d ≡ true)
+    (λ has. class_arranged (name ∷ []) c.attrs c.name true parts.0 parts.1 (λ _. any_some (λ a. a.0 == name.0) c.attrs has)) (λ _. h)
+
+vectors_valid : (name : Sym) (classes : List Class) → list_all class_is_valid classes ≡ true → list_all class_is_valid (map (with_vector_last name) classes) ≡ true
+vectors_valid name [] h = refl
+vectors_valid name (c ∷ cs) h =
+    let parts = and_parts (class_is_valid c) (list_all class_is_valid cs) h in and_from _ _ (vector_valid name c parts.0) (vectors_valid name cs parts.1)
+
+vectors_names : (name : Sym) (classes : List Class) → map (λ c. c.name.0) (map (with_vector_last name) classes) ≡ map (λ c. c.name.0) classes
+vectors_names name [] = refl
+vectors_names name (c ∷ cs) =
+    let here = cond_both (is_one_of name c.attrs) _ _ (λ (d : Class). d.name.0 ≡ c.name.0) (λ _. refl) (λ _. refl) in
+    ap (λ (k : ℕ). k ∷ map (λ c. c.name.0) (map (with_vector_last name) cs)) here ∙ ap (λ (ks : List ℕ). c.name.0 ∷ ks) (vectors_names name cs)
+
+pub vector_added : (text : ℕ) (classes : List Class) (rules : List Rule) (commands : List Command) (name : Sym) → IsDeclaring text classes rules commands → IsDeclaring text (map (with_vector_last name) classes) rules commands
+vector_added text classes rules commands name d =
+    record {
+      program = record {
+        classes_valid = vectors_valid name classes d.program.classes_valid;
+        rules_valid = all_none _ rules d.no_rules;
+        commands_valid = all_none _ commands d.no_commands;
+        class_names = ap are_distinct (vectors_names name classes) ∙ d.program.class_names;
+        rule_names = d.program.rule_names;
+      };
+      no_rules = d.no_rules;
+      no_commands = d.no_commands;
     }
 
 -- ---- variables
@@ -68,6 +120,9 @@ below_more values name h =
     (all_weaker (λ v. nat_lt v (length values)) p (numbers values) (λ v lt. let below : v < length values = ltb-true v (length values) lt in lt-ltb _ _ (omega arith)) h)
     (lt-ltb _ _ (omega arith))
 
+below_grown : (k m : ℕ) (ns : List ℕ) → k ≤ m → all_below k ns ≡ true → all_below m ns ≡ true
+below_grown k m ns le h = all_weaker (λ n. nat_lt n k) (λ n. nat_lt n m) ns (λ n lt. let below : n < k = ltb-true n k lt in lt-ltb n m (omega (arith, le))) h
+
 pub below_next : (k : ℕ) (ns : List ℕ) → all_below k ns ≡ true → all_below (k + 1) (ns ++ k ∷ []) ≡ true
 below_next k ns h =
     all_push (λ n. nat_lt n (k + 1)) ns k
@@ -85,9 +140,9 @@ abbrev pub behind_condition : Variables → Variables
 behind_condition v = record v { values = cond v.negated (take v.around v.values) v.values; negated = false }
 
 module _ (text : ℕ) (classes : List Class) (rules : List Rule) (commands : List Command) (name : Sym) where
-  pub head_begun : IsProgram text classes rules commands → list_any (λ r. r.name.0 == name.0) rules ≡ false → IsHead text classes rules commands name (record { values = []; given = 0; negated = false; around = 0 }) [] []
+  pub head_begun : IsProgram text classes rules commands → list_any (λ r. r.name.0 == name.0) rules ≡ false → IsHead text classes rules commands name (record { values = []; given = 0; negated = false; around = 0; elements = [] }) [] []
   head_begun p e =
-      record { program = p; is_new = e; few = omega arith; valid = refl; first = λ some. absurd (omega arith); bound = refl; below = refl; room = λ n. omega arith; outside = λ n. refl }
+      record { program = p; is_new = e; few = omega arith; valid = refl; first = λ some. absurd (omega arith); bound = refl; below = refl; room = λ n. omega arith; outside = λ n. refl; elements = refl }
 
   pub test_kept : (v : Variables) (conditions : List Condition) (tests : List Test) (f : ℕ) (p : Pred) (o : Operand) → IsHead text classes rules commands name v conditions tests
       → IsHead text classes rules commands name v conditions (tests ++ record { field = f; pred = p; operand = o; binds = false } ∷ [])
@@ -104,6 +159,7 @@ module _ (text : ℕ) (classes : List Class) (rules : List Rule) (commands : Lis
         below = ap (λ (s : Sight). all_below v.given s.given) same ∙ h.below;
         room = h.room;
         outside = h.outside;
+        elements = h.elements;
       }
 
   pub test_bound : (v : Variables) (conditions : List Condition) (tests : List Test) (f : ℕ) (variable : Sym) → IsHead text classes rules commands name v conditions tests
@@ -122,13 +178,14 @@ module _ (text : ℕ) (classes : List Class) (rules : List Rule) (commands : Lis
         below = ap (λ (s : Sight). all_below (v.given + 1) s.given) same ∙ below_next v.given (sight_after_tests (seen conditions) tests).given h.below;
         room = λ n. let le = h.room n in omega (arith, le, length-append v.values (one ∷ []));
         outside = λ n. h.outside n ∙ ap numbers (sym (take-append-le v.around v.values (one ∷ []) (h.room n)));
+        elements = h.elements;
       }
 
-  pub test_valid : (c : Class) (conditions : List Condition) (tests : List Test) (f : ℕ) (p : Pred) (o : Operand) (binds : Bool) → tests_are_valid c (seen conditions) tests ≡ true → is_attribute c f ≡ true
+  pub test_valid : (c : Class) (conditions : List Condition) (tests : List Test) (f : ℕ) (p : Pred) (o : Operand) (binds : Bool) → tests_are_valid c (seen conditions) tests ≡ true → is_field c f ≡ true
       → operand_is_valid (sight_after_tests (seen conditions) tests) p binds o ≡ true
       → tests_are_valid c (seen conditions) (tests ++ record { field = f; pred = p; operand = o; binds = binds } ∷ []) ≡ true
-  test_valid c conditions tests f p o binds fields attribute valid =
-      tests_push c (seen conditions) tests (record { field = f; pred = p; operand = o; binds = binds }) fields (and_from _ _ (or_left _ _ attribute) valid)
+  test_valid c conditions tests f p o binds fields field valid =
+      tests_push c (seen conditions) tests (record { field = f; pred = p; operand = o; binds = binds }) fields (and_from _ _ field valid)
 
   -- what is in sight behind the condition
   behind_bound : (b : Bool) (v : Variables) (conditions : List Condition) (tests : List Test) → v.negated ≡ b → IsHead text classes rules commands name v conditions tests
@@ -156,6 +213,7 @@ module _ (text : ℕ) (classes : List Class) (rules : List Rule) (commands : Lis
         below = ap (λ (s : Sight). all_below v.given s.given) same ∙ behind_below v.negated v.given (seen conditions) (sight_after_tests (seen conditions) tests) h.below;
         room = λ n. absurd (true≢false (sym n));
         outside = λ n. absurd (true≢false (sym n));
+        elements = below_grown (length (cells_of conditions)) (length (cells_of (conditions ++ c ∷ []))) (numbers v.elements) (cells_push conditions c) h.elements;
       }
 
   -- a negated condition begins
@@ -171,6 +229,27 @@ module _ (text : ℕ) (classes : List Class) (rules : List Rule) (commands : Lis
         below = h.below;
         room = λ n. omega arith;
         outside = λ n. h.bound ∙ ap numbers (sym (take_all (length v.values) v.values (omega arith)));
+        elements = h.elements;
+      }
+
+  -- an element variable more, which names the cell of the last condition
+  pub element_bound : (v : Variables) (conditions : List Condition) (tests : List Test) (variable : Sym) → IsHead text classes rules commands name v conditions tests → 0 < length conditions
+      → IsHead text classes rules commands name (record v { elements = v.elements ++ record { name = variable; number = length (cells_of conditions) - 1 } ∷ [] }) conditions tests
+  element_bound v conditions tests variable h some =
+      let one : Named = record { name = variable; number = length (cells_of conditions) - 1 } in
+      let cells = some_cell conditions (h.first some) in
+      record {
+        program = h.program;
+        is_new = h.is_new;
+        few = h.few;
+        valid = h.valid;
+        first = h.first;
+        bound = h.bound;
+        below = h.below;
+        room = h.room;
+        outside = h.outside;
+        elements = ap (all_below (length (cells_of conditions))) (map-append (λ n. n.number) v.elements (one ∷ []))
+            ∙ all_push (λ n. nat_lt n (length (cells_of conditions))) (numbers v.elements) (length (cells_of conditions) - 1) h.elements (lt-ltb _ _ (omega (arith, cells)));
       }
 
   -- ---- right sides
@@ -207,15 +286,41 @@ pub put_valid : (classes : List Class) (k : Known) (c : Class) (f : ℕ) (t : Te
 put_valid classes k c f t attribute valid =
     and_from _ _ (and_from _ _ attribute (cond_alike (is_vector c f) refl refl)) (and_from _ _ (valid (is_vector c f)) refl)
 
+-- the first place of the vector attribute is an attribute
+pub vector_parts : (c : Class) (f : ℕ) → is_vector c f ≡ true → (c.vector ≡ true) × (f + 1 ≡ length c.attrs)
+vector_parts c f h = let parts = and_parts c.vector (f + 1 == length c.attrs) h in (parts.0, eqb-true (f + 1) (length c.attrs) parts.1)
+
+vector_attribute : (c : Class) (f : ℕ) → is_vector c f ≡ true → is_attribute c f ≡ true
+vector_attribute c f h = let last = (vector_parts c f h).1 in lt-ltb f (length c.attrs) (omega (arith, last))
+
+pub several_valid : (classes : List Class) (k : Known) (c : Class) (f : ℕ) (terms : List Term) → is_vector c f ≡ true → fits terms ≡ true → list_all (term_is_valid classes k true) terms ≡ true
+    → put_is_valid classes k c (record { field = f; terms = terms }) ≡ true
+several_valid classes k c f terms vector short valid =
+    and_from _ _ (and_from _ _ (vector_attribute c f vector) (cond-true (is_vector c f) (fits terms) (length terms == 1) vector ∙ short))
+    (ap (λ (b : Bool). list_all (term_is_valid classes k b) terms) vector ∙ valid)
+
 -- ---- commands
 
 pub command_added : (text : ℕ) (classes : List Class) (rules : List Rule) (commands : List Command) (c : Command) → IsProgram text classes rules commands → command_is_valid classes c ≡ true → IsProgram text classes rules (commands ++ c ∷ [])
 command_added text classes rules commands c h valid =
     record { classes_valid = h.classes_valid; rules_valid = h.rules_valid; commands_valid = all_push (command_is_valid classes) commands c h.commands_valid valid; class_names = h.class_names; rule_names = h.rule_names }
 
+-- the attributes of a declared class
+class_few : (classes : List Class) (class : ℕ) → list_all class_is_valid classes ≡ true → class < length classes → length (class_of classes class).attrs ≤ most_fields
+class_few classes class h within = (attributes_few (class_of classes class) (all_at class_is_valid classes class no_class h within)).0
+
 pub fixed_valid : (classes : List Class) (class f : ℕ) (v : Value) → list_all class_is_valid classes ≡ true → class < length classes → is_attribute (class_of classes class) f ≡ true → fixed_is_valid (class_of classes class) (record { field = f; values = v ∷ [] }) ≡ true
 fixed_valid classes class f v h within attribute =
-    let valid = all_at class_is_valid classes class no_class h within in
-    let few : length (class_of classes class).attrs ≤ most_fields = leb-true _ _ (and_parts (nat_le (length (class_of classes class).attrs) most_fields) _ (and_parts (nat_le (length (class_of classes class).attrs) most_fields && are_distinct (map (λ a. a.0) (class_of classes class).attrs)) _ valid).0).0 in
+    let few = class_few classes class h within in
     let lt : f < length (class_of classes class).attrs = ltb-true _ _ attribute in
-    and_from _ _ attribute (cond_alike (is_vector (class_of classes class) f) (le-leb (f + 1) most_fields (omega arith)) refl)
+    and_from _ _ attribute (cond_alike (is_vector (class_of classes class) f) (le-leb (f + 1) most_fields (omega (arith, few, lt))) refl)
+
+pub vector_within : (classes : List Class) (class f : ℕ) → list_all class_is_valid classes ≡ true → class < length classes → is_vector (class_of classes class) f ≡ true → f + 0 ≤ most_fields
+vector_within classes class f h within vector =
+    let few = class_few classes class h within in
+    let last = (vector_parts (class_of classes class) f vector).1 in
+    omega (arith, few, last)
+
+pub constants_valid : (c : Class) (f : ℕ) (vs : List Value) → is_vector c f ≡ true → f + length vs ≤ most_fields → fixed_is_valid c (record { field = f; values = vs }) ≡ true
+constants_valid c f vs vector le =
+    and_from _ _ (vector_attribute c f vector) (cond-true (is_vector c f) (nat_le (f + length vs) most_fields) (length vs == 1) vector ∙ le-leb (f + length vs) most_fields le)

@@ -25,6 +25,8 @@ pub mod ReadsProgram
 pub mod StandingEnd
 pub mod Reasons
 pub mod Plain
+pub mod PlainClasses
+pub mod Arranged
 pub mod PlainKept
 pub mod PlainSteps
 pub mod PlainRead

@@ -1,11 +1,12 @@
--- The numbers of variables in sight and of those that were given, and the conditions before the first negated one.
-use Rattle.std.proofs.Common.{◌≡◌, ℕ, zero, suc, ◌<◌, ◌≤◌, Bool, true, false, cond, List, [], ◌∷◌, ◌++◌, refl, sym, ap, ◌∙◌, arith, Some, nat_lt, take, slice_get, append-nil, append_assoc, true≢false}
-use Rattle.std.specs.List.{list_all, list_any}
-use Rattle.std.proofs.lemmas.Bool.{or_parts, or_from, lt-ltb, ltb-true}
+-- The numbers of variables in sight and of those that were given, and the cells of conditions.
+use Rattle.std.proofs.Common.{◌≡◌, ℕ, zero, suc, ◌<◌, ◌≤◌, Bool, true, false, ◌||◌, ◌==◌, cond, List, [], ◌∷◌, ◌++◌, refl, sym, ap, ◌∙◌, arith, nat_lt, inl, inr, ◌⊎◌, append-nil, append_assoc}
+use Rattle.std.specs.List.{list_all}
+use Rattle.std.proofs.lemmas.Bool.{or_from, or_left, or_right, lt-ltb, ltb-true, ne_eqb, eq-eqb, cases_eq, cases_order}
+use Rattle.std.proofs.lemmas.List.Folds.{list_any-append}
 use Rattle.ops_base.specs.declared.conditions.Test.{Test}
 use Rattle.ops_base.specs.declared.conditions.Condition.{Condition}
-use Rattle.ops_base.specs.Valid.{is_in}
-use Rattle.ops_meaning.specs.Spelling.{Numbered, after_test, after_tests, after_condition, plainly_positive}
+use Rattle.ops_base.specs.Valid.{is_in, cells_of}
+use Rattle.ops_meaning.specs.Spelling.{Numbered, after_test, after_tests, after_condition}
 use Rattle.ops_meaning.proofs.Lists.{all_push, all_weaker, not_below}
 
 -- ---- numbers
@@ -62,33 +63,37 @@ sight_prefix (t ∷ ts) k =
     let rest = sight_prefix ts (after_test k t) in
     (one.0 ++ rest.0, rest.1 ∙ ap (λ (xs : List ℕ). xs ++ rest.0) one.1 ∙ append_assoc k.sight one.0 rest.0)
 
--- ---- conditions before the first negated one
+-- ---- cells
 
--- a condition that an action can designate
-pub record IsPlainlyAt (cs : List Condition) (n : ℕ) : Type 0 where
-  pub here : Condition
-  pub there : slice_get cs n ≡ Some here
-  pub positive : here.negated ≡ false
-  pub before : list_any (λ c. c.negated) (take n cs) ≡ false
+-- the numbers below this one
+abbrev pub below : ℕ → List ℕ
+below zero = []
+below (suc n) = below n ++ n ∷ []
 
-plainly_by : (c : Condition) (cs : List Condition) (n : ℕ) (b : Bool) → c.negated ≡ b → n < cond b 0 (suc (plainly_positive cs)) → ((i : ℕ) → i < plainly_positive cs → IsPlainlyAt cs i) → IsPlainlyAt (c ∷ cs) n
-plainly_by c cs n true e lt ih = absurd (omega (arith, lt))
-plainly_by c cs zero false e lt ih = record { here = c; there = refl; positive = e; before = refl }
-plainly_by c cs (suc n) false e lt ih =
-    let rest = ih n (omega (arith, lt)) in record { here = rest.here; there = rest.there; positive = rest.positive; before = or_from _ _ e rest.before }
+-- the next cell is none of those before it
+pub below_apart : (n m : ℕ) → n ≤ m → is_in m (below n) ≡ false
+below_apart zero m le = refl
+below_apart (suc n) m le =
+    list_any-append (λ c. c == m) (below n) (n ∷ []) ∙ or_from _ _ (below_apart n m (omega arith)) (or_from _ _ (ne_eqb n m (λ same. absurd (omega arith))) refl)
 
-pub plainly_there : (cs : List Condition) (n : ℕ) → n < plainly_positive cs → IsPlainlyAt cs n
-plainly_there [] n lt = absurd (omega (arith, lt))
-plainly_there (c ∷ cs) n lt = plainly_by c cs n c.negated refl lt (plainly_there cs)
+below_last : (n c : ℕ) → (n ≡ c) ⊎ (n ≡ c → ⊥) → (c < n → is_in c (below n) ≡ true) → c < suc n → (is_in c (below n) || is_in c (n ∷ [])) ≡ true
+below_last n c (inl same) ih lt = or_right _ _ (or_left _ _ (eq-eqb n c same))
+below_last n c (inr other) ih lt = or_left _ _ (ih (by (cases_order c n)))
+  where
+    by : (c ≡ n) ⊎ ((c < n) ⊎ (n < c)) → c < n
+    by (inl same) = absurd (other (sym same))
+    by (inr (inl less)) = less
+    by (inr (inr more)) = absurd (omega (arith, lt, more))
 
-plainly_from : (b : Bool) (n m : ℕ) → b ≡ false → n < suc m → n < cond b 0 (suc m)
-plainly_from false n m e lt = lt
-plainly_from true n m e lt = absurd (true≢false e)
+pub below_there : (n c : ℕ) → c < n → is_in c (below n) ≡ true
+below_there zero c lt = absurd (omega arith)
+below_there (suc n) c lt = list_any-append (λ m. m == c) (below n) (n ∷ []) ∙ below_last n c (cases_eq n c) (below_there n c) lt
 
-pub plainly_below : (cs : List Condition) (n : ℕ) (c : Condition) → slice_get cs n ≡ Some c → c.negated ≡ false → list_any (λ c. c.negated) (take n cs) ≡ false → n < plainly_positive cs
-plainly_below [] n c e positive before = absurd (cc)
-plainly_below (x ∷ cs) zero c e positive before =
-    let same : x ≡ c = cc in plainly_from x.negated 0 (plainly_positive cs) (ap (λ (y : Condition). y.negated) same ∙ positive) (omega arith)
-plainly_below (x ∷ cs) (suc n) c e positive before =
-    let each = or_parts x.negated (list_any (λ c. c.negated) (take n cs)) before in
-    let rest = plainly_below cs n c e positive each.1 in plainly_from x.negated (suc n) (plainly_positive cs) each.0 (omega (arith, rest))
+cell_more : (b : Bool) (c : ℕ) (cells all more : List ℕ) → all ≡ cells ++ more → cond b all (c ∷ all) ≡ cond b cells (c ∷ cells) ++ more
+cell_more true c cells all more e = e
+cell_more false c cells all more e = ap (λ (xs : List ℕ). c ∷ xs) e
+
+-- the cells of conditions behind others
+pub cells-append : (cs ds : List Condition) → cells_of (cs ++ ds) ≡ cells_of cs ++ cells_of ds
+cells-append [] ds = refl
+cells-append (c ∷ cs) ds = cell_more c.negated c.class (cells_of cs) (cells_of (cs ++ ds)) (cells_of ds) (cells-append cs ds)

@@ -1,7 +1,7 @@
 -- What is valid where one more test, condition or action stands at the end.
-use Rattle.std.proofs.Common.{◌≡◌, ℕ, zero, suc, ◌<◌, true, false, not, List, [], ◌∷◌, ◌++◌, length, take, Some, refl, ap, ◌∙◌, slice_get, arith}
+use Rattle.std.proofs.Common.{◌≡◌, ℕ, zero, suc, ◌<◌, ◌≤◌, Bool, true, false, cond, List, [], ◌∷◌, ◌++◌, length, take, Some, refl, ap, ◌∙◌, slice_get, arith}
 use Rattle.std.specs.List.{list_any}
-use Rattle.std.proofs.lemmas.Bool.{and_parts, and_from, or_parts, not_from_false}
+use Rattle.std.proofs.lemmas.Bool.{and_parts, and_from, or_parts, not-true, not_from_false}
 use Rattle.ops_base.specs.declared.elements.Class.{Class}
 use Rattle.ops_base.specs.declared.conditions.Test.{Test}
 use Rattle.ops_base.specs.declared.conditions.Condition.{Condition}
@@ -54,3 +54,17 @@ has_cell (d ∷ cs) (suc k) c at positive plain =
     let parts = or_parts d.negated (list_any (λ d. d.negated) (take k cs)) plain in
     let rest = has_cell cs k c at positive parts.1 in
     rw parts.0 (omega (arith, rest))
+
+-- where the first condition is positive there is a cell
+pub some_cell : (cs : List Condition) → first_is_positive cs ≡ true → 0 < length (cells_of cs)
+some_cell [] e = absurd (cc)
+some_cell (c ∷ cs) e = rw (not-true c.negated e) (omega arith)
+
+cells_by : (b : Bool) (class : ℕ) (xs ys : List ℕ) → length xs ≤ length ys → length (cond b xs (class ∷ xs)) ≤ length (cond b ys (class ∷ ys))
+cells_by true class xs ys le = le
+cells_by false class xs ys le = omega arith
+
+-- one more condition takes no cell away
+pub cells_push : (cs : List Condition) (c : Condition) → length (cells_of cs) ≤ length (cells_of (cs ++ c ∷ []))
+cells_push [] c = omega arith
+cells_push (d ∷ cs) c = cells_by d.negated d.class (cells_of cs) (cells_of (cs ++ c ∷ [])) (cells_push cs c)

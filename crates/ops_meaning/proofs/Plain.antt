@@ -1,7 +1,7 @@
 -- What holds of what was read so far, so that it has a spelling.
-use Rattle.std.proofs.Common.{◌≡◌, ℕ, ◌<◌, ◌≤◌, Bool, true, false, not, ◌||◌, ◌==◌, cond, List, [], ◌∷◌, ◌++◌, length, take, map, refl, sym, ap, ◌∙◌, arith, Option, Some, nat_lt, true≢false}
-use Rattle.std.specs.List.{list_all}
-use Rattle.std.proofs.lemmas.Bool.{and_parts, and_from, or_left, or_right, eq-eqb}
+use Rattle.std.proofs.Common.{◌≡◌, ℕ, ◌+◌, ◌<◌, ◌≤◌, Bool, true, false, not, ◌||◌, ◌==◌, cond, List, [], ◌∷◌, ◌++◌, length, take, map, refl, sym, ap, ◌∙◌, arith, Option, Some, None, nat_lt, true≢false}
+use Rattle.std.specs.List.{list_all, All}
+use Rattle.std.proofs.lemmas.Bool.{and_parts, and_from, or_left, or_right, eq-eqb, ltb-true, lt-ltb, cond_both}
 use Rattle.ops_base.specs.declared.values.Sym.{Sym}
 use Rattle.ops_base.specs.declared.values.Pred.{Pred}
 use Rattle.ops_base.specs.declared.elements.Class.{Class}
@@ -10,15 +10,17 @@ use Rattle.ops_base.specs.declared.conditions.Condition.{Condition}
 use Rattle.ops_base.specs.declared.actions.Action.{Action}
 use Rattle.ops_base.specs.declared.rules.Rule.{Rule}
 use Rattle.ops_base.specs.declared.commands.Command.{Command}
-use Rattle.ops_base.specs.Valid.{most_conditions, is_in, class_of, first_is_positive}
+use Rattle.ops_base.specs.Valid.{most_fields, most_conditions, is_in, class_of, is_attribute, is_vector, is_field, first_is_positive, cells_of, fixed_is_valid}
 use Rattle.ops_meaning.specs.declared.words.Named.{Named}
-use Rattle.ops_meaning.specs.Grammar.{Use, InPattern, InPut, InFixed, Target, ToTest, ToPut, ToFixed, ToItem, EndsRun, EndsHalt, EndsCrlf, Wanted, Forms, Form, ClassDeclared, Attributes, RuleName, FirstPattern, Patterns, NegatedPattern, ClassName, Terms, Attribute, Place, Tests, Tested, Choice, Atom, ValueFor, Actions, ActionWord, Cell, Cells, Items, ItemWord, Closes, State, Step, Next, Refuses, number_of}
-use Rattle.ops_meaning.specs.Spelling.{Numbered, nothing_numbered, plainly_positive, test_is_plain, after_test, tests_are_plain, after_tests, after_condition, condition_is_plain, conditions_are_plain, after_conditions, put_is_plain, item_is_plain, action_is_plain, rule_is_plain, fixed_is_plain, command_is_plain}
-use Rattle.ops_meaning.proofs.Sound.{behind, IsEmpty}
+use Rattle.ops_meaning.specs.Grammar.{Use, InPattern, InPut, InFixed, Target, ToTest, ToPut, ToFixed, ToTerms, ToConstants, ToItem, EndsRun, EndsHalt, EndsCrlf, Wanted, Forms, Form, ClassDeclared, Attributes, VectorName, VectorNames, RuleName, FirstPattern, Patterns, Pattern, Braced, ElementName, ClosesBrace, ClassName, Terms, Attribute, Several, Place, Tests, Tested, Choice, Atom, ValueFor, Actions, ActionWord, Cell, Cells, Items, ItemWord, Closes, State, Step, Next, Refuses, number_of}
+use Rattle.ops_meaning.specs.Spelling.{Numbered, nothing_numbered, test_is_plain, after_test, tests_are_plain, after_tests, after_condition, condition_is_plain, conditions_are_plain, after_conditions, term_is_plain, put_is_plain, item_is_plain, action_is_plain, rule_is_plain, command_is_plain}
+use Rattle.ops_meaning.proofs.Lists.{all_weaker}
+use Rattle.ops_meaning.proofs.Sound.{Braces, behind, behind_pattern, IsEmpty}
+use Rattle.ops_meaning.proofs.PlainClasses.{IsArranged, IsAttributes}
 
 -- the forms that were read
-pub record IsBase (classes : List Class) (rules : List Rule) (commands : List Command) : Type 0 where
-  pub scalar : list_all (λ c. not c.vector) classes ≡ true
+pub record IsBase (vectors : List Sym) (classes : List Class) (rules : List Rule) (commands : List Command) : Type 0 where
+  pub arranged : All (IsArranged vectors) classes
   pub rules_plain : list_all (rule_is_plain classes) rules ≡ true
   pub commands_plain : list_all (command_is_plain classes) commands ≡ true
 
@@ -31,18 +33,19 @@ abbrev pub numbered_in : List Named → ℕ → Numbered
 numbered_in values variables = record { sight = numbers_in values; given = variables }
 
 -- the left side of a rule up to some tests of a condition
-pub record IsLeft (classes : List Class) (values : List Named) (variables : ℕ) (negated : Bool) (around : ℕ) (conditions : List Condition) (tests : List Test) : Type 0 where
+pub record IsLeft (classes : List Class) (values elements : List Named) (variables : ℕ) (negated : Bool) (around : ℕ) (conditions : List Condition) (tests : List Test) : Type 0 where
   pub plain : conditions_are_plain classes nothing_numbered conditions ≡ true
   pub count : after_tests (after_conditions nothing_numbered conditions) tests ≡ numbered_in values variables
   pub within : negated ≡ true → around ≤ length values
   pub sight : negated ≡ true → numbers_in (take around values) ≡ (after_conditions nothing_numbered conditions).sight
+  pub cells : list_all (λ e. nat_lt e.number (length (cells_of conditions))) elements ≡ true
 
 -- a rule up to some actions
-pub record IsRight (classes : List Class) (values : List Named) (variables : ℕ) (conditions : List Condition) (actions : List Action) : Type 0 where
-  pub left : IsLeft classes values variables false 0 conditions []
+pub record IsRight (classes : List Class) (values elements : List Named) (variables : ℕ) (conditions : List Condition) (actions : List Action) : Type 0 where
+  pub left : IsLeft classes values elements variables false 0 conditions []
   pub positive : first_is_positive conditions ≡ true
   pub few : length conditions ≤ most_conditions
-  pub plain : list_all (action_is_plain classes (plainly_positive conditions) (numbers_in values)) actions ≡ true
+  pub plain : list_all (action_is_plain classes (length (cells_of conditions)) (numbers_in values)) actions ≡ true
 
 -- the first condition is positive, where this one stands behind those
 abbrev pub begins_positive : List Condition → Bool → Bool
@@ -50,13 +53,13 @@ begins_positive [] negated = not negated
 begins_positive (c ∷ cs) negated = not c.negated
 
 abbrev pub Base : State → Type 0
-Base s = IsBase s.classes s.rules s.commands
+Base s = IsBase s.vectors s.classes s.rules s.commands
 
 abbrev pub Left : State → Type 0
-Left s = IsLeft s.classes s.values s.variables s.negated s.around s.conditions s.tests
+Left s = IsLeft s.classes s.values s.elements s.variables s.negated s.around s.conditions s.tests
 
 abbrev pub Right : State → Type 0
-Right s = IsRight s.classes s.values s.variables s.conditions s.actions
+Right s = IsRight s.classes s.values s.elements s.variables s.conditions s.actions
 
 abbrev pub Declaring : State → Type 0
 Declaring s = Base s × (length s.rules ≡ 0) × (length s.commands ≡ 0)
@@ -69,7 +72,7 @@ Around InFixed s = Base s
 abbrev pub HasFields : Use → State → Type 0
 HasFields InPattern s = tests_are_plain (class_of s.classes s.class) (after_conditions nothing_numbered s.conditions) s.tests ≡ true
 HasFields InPut s = list_all (put_is_plain (class_of s.classes s.class) (numbers_in s.values)) s.puts ≡ true
-HasFields InFixed s = list_all (fixed_is_plain (class_of s.classes s.class)) s.fixed ≡ true
+HasFields InFixed s = list_all (fixed_is_valid (class_of s.classes s.class)) s.fixed ≡ true
 
 pub record IsElement (u : Use) (s : State) : Type 0 where
   pub around : Around u s
@@ -77,53 +80,104 @@ pub record IsElement (u : Use) (s : State) : Type 0 where
   pub fields : HasFields u s
 
 abbrev pub HasCells : State → Type 0
-HasCells s = Base s × Right s × (list_all (λ c. nat_lt c (plainly_positive s.conditions)) s.cells ≡ true)
+HasCells s = Base s × Right s × (list_all (λ c. nat_lt c (length (cells_of s.conditions))) s.cells ≡ true)
 
 abbrev pub HasItems : State → Type 0
 HasItems s = Base s × Right s × (list_all (item_is_plain (numbers_in s.values)) s.items ≡ true)
 
+-- the conditions of a rule up to the last of them
+abbrev pub Conditions : State → Type 0
+Conditions s =
+    Base s × Left s × (s.tests ≡ []) × (s.actions ≡ []) × (first_is_positive s.conditions ≡ true) × (length s.conditions ≤ most_conditions) × (s.negated ≡ false)
+
 -- an attribute of the element's class
 abbrev pub HasAttribute : State → ℕ → Type 0
-HasAttribute s f = nat_lt f (length (class_of s.classes s.class).attrs) ≡ true
+HasAttribute s f = is_attribute (class_of s.classes s.class) f ≡ true
+
+-- the vector attribute of the element's class
+abbrev pub IsVector : State → ℕ → Bool → Type 0
+IsVector s f b = is_vector (class_of s.classes s.class) f ≡ b
+
+-- a scalar attribute, or a place of the vector attribute
+abbrev pub HasField : State → ℕ → Type 0
+HasField s f = is_field (class_of s.classes s.class) f ≡ true
+
+-- a place more of the vector attribute may come
+abbrev pub HasMore : Option ℕ → State → Type 0
+HasMore None s = Unit {0}
+HasMore (Some f) s = (class_of s.classes s.class).vector ≡ true
+
+-- up to some of the places or values of the vector attribute
+abbrev pub HasSeveral : Use → ℕ → State → Type 0
+HasSeveral InPattern f s = IsElement InPattern s × HasMore (Some f) s
+HasSeveral InPut f s = IsElement InPut s × HasAttribute s f × IsVector s f true × (list_all (term_is_plain (numbers_in s.values)) s.terms ≡ true)
+HasSeveral InFixed f s = IsElement InFixed s × HasAttribute s f × IsVector s f true × (f + length s.constants ≤ most_fields)
+
+-- Where a test or a value stands: in an element in these braces, with this place of the vector attribute behind it, or none, and
+-- in a conjunction or alone; or among the values of the vector attribute, which is this field.
+pub record Spot : Type 0 where
+  pub braces : Braces
+  pub more : Option ℕ
+  pub among : Bool
+  pub vector : ℕ
+
+-- a place of a pattern, with another one behind it or none
+abbrev pub HasPlace : Option ℕ → ℕ → State → Type 0
+HasPlace more f s = IsElement InPattern s × HasField s f × HasMore more s
 
 -- where a constant goes
-abbrev pub HasTarget : Target → State → Type 0
-HasTarget (ToTest f p) s = IsElement InPattern s × HasAttribute s f
-HasTarget (ToPut f) s = IsElement InPut s × HasAttribute s f
-HasTarget (ToFixed f) s = IsElement InFixed s × HasAttribute s f
-HasTarget ToItem s = HasItems s
+abbrev pub HasTarget : Spot → Target → State → Type 0
+HasTarget p (ToTest f q) s = HasPlace p.more f s
+HasTarget p (ToPut f) s = IsElement InPut s × HasAttribute s f
+HasTarget p (ToFixed f) s = IsElement InFixed s × HasAttribute s f × IsVector s f false
+HasTarget p ToTerms s = HasSeveral InPut p.vector s
+HasTarget p ToConstants s = HasSeveral InFixed p.vector s × (p.vector + length s.constants < most_fields)
+HasTarget p ToItem s = HasItems s
 
--- what is wanted after a test: more of the conjunction that it stands in, or another attribute
-abbrev pub behind_test : Bool → ℕ → List Wanted
-behind_test true f = Tests f ∷ Terms InPattern ∷ behind InPattern
-behind_test false f = Terms InPattern ∷ behind InPattern
+-- what is wanted behind a place: another attribute, or another place of the vector attribute
+abbrev pub behind_place : Braces → Option ℕ → List Wanted
+behind_place b None = Terms InPattern ∷ behind b InPattern
+behind_place b (Some f) = Several InPattern f ∷ behind b InPattern
 
--- what is wanted after a constant; of a test, in a conjunction or alone
-abbrev pub behind_target : Bool → Target → List Wanted
-behind_target among (ToTest f p) = behind_test among f
-behind_target among (ToPut f) = Terms InPut ∷ behind InPut
-behind_target among (ToFixed f) = Terms InFixed ∷ behind InFixed
-behind_target among ToItem = Items ∷ Actions ∷ Forms ∷ []
+-- what is wanted behind a test: more of the conjunction that it stands in, or what is wanted behind its place
+abbrev pub behind_test : Braces → Option ℕ → Bool → ℕ → List Wanted
+behind_test b more true f = Tests f ∷ behind_place b more
+behind_test b more false f = behind_place b more
+
+-- what is wanted after a constant
+abbrev pub behind_target : Spot → Target → List Wanted
+behind_target p (ToTest f q) = behind_test p.braces p.more p.among f
+behind_target p (ToPut f) = Terms InPut ∷ behind p.braces InPut
+behind_target p (ToFixed f) = Terms InFixed ∷ behind p.braces InFixed
+behind_target p ToTerms = Several InPut p.vector ∷ behind p.braces InPut
+behind_target p ToConstants = Several InFixed p.vector ∷ behind p.braces InFixed
+behind_target p ToItem = Items ∷ Actions ∷ Forms ∷ []
 
 -- what may be wanted, and what then holds
 pub data IsPlainly (s : State) : List Wanted → Type 0 where
   at_forms : Base s → IsPlainly s (Forms ∷ [])
   at_form : Base s → IsPlainly s (Form ∷ Forms ∷ [])
   at_class_declared : Declaring s → IsPlainly s (ClassDeclared ∷ Attributes ∷ Forms ∷ [])
-  at_attributes : Declaring s → IsPlainly s (Attributes ∷ Forms ∷ [])
+  at_attributes : Declaring s × IsAttributes s.vectors s.attrs → IsPlainly s (Attributes ∷ Forms ∷ [])
+  at_vector_name : Declaring s → IsPlainly s (VectorName ∷ VectorNames ∷ Forms ∷ [])
+  at_vector_names : Declaring s → IsPlainly s (VectorNames ∷ Forms ∷ [])
   at_rule_name : Base s → IsPlainly s (RuleName ∷ FirstPattern ∷ Patterns ∷ Actions ∷ Forms ∷ [])
   at_first_pattern : Base s × Left s × (s.tests ≡ []) × (s.actions ≡ []) × (length s.conditions ≡ 0) × (s.negated ≡ false) → IsPlainly s (FirstPattern ∷ Patterns ∷ Actions ∷ Forms ∷ [])
-  at_patterns : Base s × Left s × (s.tests ≡ []) × (s.actions ≡ []) × (first_is_positive s.conditions ≡ true) × (length s.conditions ≤ most_conditions) × (s.negated ≡ false) → IsPlainly s (Patterns ∷ Actions ∷ Forms ∷ [])
-  at_negated_pattern : Around InPattern s × (s.tests ≡ []) → IsPlainly s (NegatedPattern ∷ Patterns ∷ Actions ∷ Forms ∷ [])
-  at_class_name : (u : Use) → Around u s × IsEmpty u s → IsPlainly s (ClassName ∷ Terms u ∷ behind u)
-  at_terms : (u : Use) → IsElement u s → IsPlainly s (Terms u ∷ behind u)
-  at_attribute : (u : Use) → IsElement u s → IsPlainly s (Attribute u ∷ Terms u ∷ behind u)
-  at_place : (f : ℕ) → IsElement InPattern s × HasAttribute s f → IsPlainly s (Place f ∷ Terms InPattern ∷ behind InPattern)
-  at_tests : (f : ℕ) → IsElement InPattern s × HasAttribute s f → IsPlainly s (Tests f ∷ Terms InPattern ∷ behind InPattern)
-  at_tested : (among : Bool) → (f : ℕ) → (p : Pred) → IsElement InPattern s × HasAttribute s f → IsPlainly s (Tested f p ∷ behind_test among f)
-  at_choice : (among : Bool) → (f : ℕ) → IsElement InPattern s × HasAttribute s f → IsPlainly s (Choice f ∷ behind_test among f)
-  at_atom : (among : Bool) → (t : Target) → HasTarget t s → IsPlainly s (Atom t ∷ behind_target among t)
-  at_value : (among : Bool) → (t : Target) → HasTarget t s → IsPlainly s (ValueFor t ∷ behind_target among t)
+  at_patterns : Conditions s → IsPlainly s (Patterns ∷ Actions ∷ Forms ∷ [])
+  at_pattern : (b : Braces) → Around InPattern s × (s.tests ≡ []) → IsPlainly s (Pattern ∷ behind_pattern b)
+  at_braced : Around InPattern s × (s.tests ≡ []) → IsPlainly s (Braced ∷ Patterns ∷ Actions ∷ Forms ∷ [])
+  at_element_name : Conditions s → IsPlainly s (ElementName ∷ ClosesBrace ∷ Patterns ∷ Actions ∷ Forms ∷ [])
+  at_closes_brace : Conditions s → IsPlainly s (ClosesBrace ∷ Patterns ∷ Actions ∷ Forms ∷ [])
+  at_class_name : (b : Braces) → (u : Use) → Around u s × IsEmpty u s → IsPlainly s (ClassName ∷ Terms u ∷ behind b u)
+  at_terms : (b : Braces) → (u : Use) → IsElement u s → IsPlainly s (Terms u ∷ behind b u)
+  at_attribute : (b : Braces) → (u : Use) → IsElement u s → IsPlainly s (Attribute u ∷ behind b u)
+  at_several : (b : Braces) → (u : Use) → (f : ℕ) → HasSeveral u f s → IsPlainly s (Several u f ∷ behind b u)
+  at_place : (b : Braces) → (more : Option ℕ) → (f : ℕ) → HasPlace more f s → IsPlainly s (Place f ∷ behind_place b more)
+  at_tests : (b : Braces) → (more : Option ℕ) → (f : ℕ) → HasPlace more f s → IsPlainly s (Tests f ∷ behind_place b more)
+  at_tested : (p : Spot) → (f : ℕ) → (q : Pred) → HasPlace p.more f s → IsPlainly s (Tested f q ∷ behind_test p.braces p.more p.among f)
+  at_choice : (p : Spot) → (f : ℕ) → HasPlace p.more f s → IsPlainly s (Choice f ∷ behind_test p.braces p.more p.among f)
+  at_atom : (p : Spot) → (t : Target) → HasTarget p t s → IsPlainly s (Atom t ∷ behind_target p t)
+  at_value : (p : Spot) → (t : Target) → HasTarget p t s → IsPlainly s (ValueFor t ∷ behind_target p t)
   at_actions : Base s × Right s → IsPlainly s (Actions ∷ Forms ∷ [])
   at_action_word : Base s × Right s → IsPlainly s (ActionWord ∷ Actions ∷ Forms ∷ [])
   at_cell : HasCells s → IsPlainly s (Cell ∷ Cells ∷ Actions ∷ Forms ∷ [])
@@ -189,3 +243,35 @@ number_by false m n rest ns e ih = or_right _ _ (ih e)
 pub number_sighted : (name : Sym) (values : List Named) (n : ℕ) → number_of name values ≡ Some n → is_in n (numbers_in values) ≡ true
 number_sighted name [] n e = absurd (cc)
 number_sighted name (v ∷ vs) n e = number_by (v.name.0 == name.0) v.number n (number_of name vs) (numbers_in vs) e (number_sighted name vs n)
+
+-- ---- cells
+
+cells_by : (b : Bool) (c : ℕ) (xs ys : List ℕ) → length xs ≤ length ys → length (cond b xs (c ∷ xs)) ≤ length (cond b ys (c ∷ ys))
+cells_by true c xs ys le = le
+cells_by false c xs ys le = omega (arith, le)
+
+-- a condition more takes no cell away
+pub cells_more : (cs : List Condition) (c : Condition) → length (cells_of cs) ≤ length (cells_of (cs ++ c ∷ []))
+cells_more [] c = omega arith
+cells_more (x ∷ cs) c = cells_by x.negated x.class (cells_of cs) (cells_of (cs ++ c ∷ [])) (cells_more cs c)
+
+-- the first condition has a cell
+pub some_cell : (cs : List Condition) → first_is_positive cs ≡ true → 0 < length (cells_of cs)
+some_cell [] h = absurd (true≢false (sym h))
+some_cell (c ∷ cs) h = cond_both c.negated _ _ (λ (ns : List ℕ). 0 < length ns) (λ is. absurd (true≢false (sym h ∙ ap not is))) (λ _. omega arith)
+
+numbers_below : (b : Bool) (m n k : ℕ) (rest : Option ℕ) → cond b (Some m) rest ≡ Some n → nat_lt m k ≡ true → (rest ≡ Some n → nat_lt n k ≡ true) → nat_lt n k ≡ true
+numbers_below true m n k rest e lt ih = let same : m ≡ n = cc in ap (λ (i : ℕ). nat_lt i k) (sym same) ∙ lt
+numbers_below false m n k rest e lt ih = ih e
+
+-- an element variable names a cell
+pub number_below : (name : Sym) (elements : List Named) (n k : ℕ) → list_all (λ e. nat_lt e.number k) elements ≡ true → number_of name elements ≡ Some n → nat_lt n k ≡ true
+number_below name [] n k h e = absurd (cc)
+number_below name (v ∷ vs) n k h e =
+    let parts = and_parts (nat_lt v.number k) (list_all (λ e. nat_lt e.number k) vs) h in
+    numbers_below (v.name.0 == name.0) v.number n k (number_of name vs) e parts.0 (number_below name vs n k parts.1)
+
+-- and one of a number that is no less
+pub below_more : (elements : List Named) (m n : ℕ) → m ≤ n → list_all (λ e. nat_lt e.number m) elements ≡ true → list_all (λ e. nat_lt e.number n) elements ≡ true
+below_more elements m n le h =
+    all_weaker (λ e. nat_lt e.number m) (λ e. nat_lt e.number n) elements (λ e lt. let below : e.number < m = ltb-true e.number m lt in lt-ltb e.number n (omega (arith, below, le))) h

@@ -1,13 +1,16 @@
 -- Each word leads from what has a spelling to what has one.
-use Rattle.std.proofs.Common.{◌≡◌, ℕ, ◌-◌, ◌<◌, ◌≤◌, Bool, true, false, not, ◌==◌, List, [], ◌∷◌, ◌++◌, length, take, refl, sym, ap, ◌∙◌, arith, Option, Some, None, nat_lt, unwrap_or, slice_get, position, get_or, length-append, true≢false}
+use Rattle.std.proofs.Common.{◌≡◌, ℕ, ◌+◌, ◌-◌, ◌<◌, Bool, true, false, ◌||◌, ◌==◌, List, [], ◌∷◌, ◌++◌, length, take, refl, sym, ap, ◌∙◌, arith, Option, Some, None, nat_lt, unwrap_or, slice_get, position, get_or, length-append, true≢false}
 use Rattle.std.specs.List.{list_all, list_any}
-use Rattle.std.proofs.lemmas.Bool.{cond_both, and_parts, and_from, eqb-true, lt-ltb, ltb-true}
+use Rattle.std.proofs.lemmas.Bool.{cond_both, and_parts, and_from, or_left, or_right, eqb-true, lt-ltb, ltb-true}
+use Rattle.std.proofs.lemmas.List.Elements.{All-push}
 use Rattle.std.proofs.lemmas.List.Quantifiers.{position-Some}
 use Rattle.std.proofs.lemmas.Option.{slice_get-get_or}
+use Rattle.ops_base.specs.declared.values.Sym.{Sym}
 use Rattle.ops_base.specs.declared.values.Value.{Value}
 use Rattle.ops_base.specs.declared.values.Pred.{Pred}
 use Rattle.ops_base.specs.declared.values.Pred.TheVariants as pred
 use Rattle.ops_base.specs.declared.elements.Class.{Class}
+use Rattle.ops_base.specs.declared.conditions.Operand.{Operand}
 use Rattle.ops_base.specs.declared.conditions.Operand.TheVariants as operand
 use Rattle.ops_base.specs.declared.conditions.Condition.{Condition}
 use Rattle.ops_base.specs.declared.actions.Term.TheVariants as term
@@ -15,154 +18,230 @@ use Rattle.ops_base.specs.declared.actions.Item.{Item}
 use Rattle.ops_base.specs.declared.actions.Item.TheVariants as item
 use Rattle.ops_base.specs.declared.actions.Action.TheVariants as action
 use Rattle.ops_base.specs.declared.commands.Command.TheVariants as command
-use Rattle.ops_base.specs.Valid.{most_fields, most_conditions, no_class, class_of, first_is_positive}
+use Rattle.ops_base.specs.Valid.{most_fields, most_conditions, no_class, class_of, is_vector, cells_of, fixed_is_valid}
 use Rattle.ops_tokens.specs.declared.token.TokenKind.{TokenKind}
 use Rattle.ops_tokens.specs.declared.token.TokenKind.TheVariants as kind
 use Rattle.ops_meaning.specs.declared.words.Word.{Word}
 use Rattle.ops_meaning.specs.declared.words.Keyword.{Keyword}
 use Rattle.ops_meaning.specs.declared.words.Keyword.TheVariants as keyword
-use Rattle.ops_meaning.specs.Grammar.{Use, InPattern, InPut, InFixed, Target, ToTest, ToPut, ToFixed, ToItem, Wanted, Forms, Attributes, Terms, Choice, Actions, Cells, Items, State, Next, is_left, is_right, is_left_brace, is_right_brace, is_caret, is_name, is_variable, is_arrow, is_literal, is_minus, opens_choice, closes_choice, pred_of, is_crlf, constant_of, atom_of, value_of, natural_of, is_one_of, number_of, may_declare, is_class, is_rule, form, class_declared, attributes, class_at, attributes_of, behind_attribute, field_at, with_test, with_item, with_constant, with_bound, variable_tested, constant_tested, tested, predicated, test, with_choice, chosen, choice, atom_at, bound_at, constant_at, value_for, with_element, patterns, action_word, designated, cell_of, cell, step}
-use Rattle.ops_meaning.specs.Spelling.{nothing_numbered, plainly_positive, tests_are_plain, after_tests, after_conditions, put_is_plain, item_is_plain, fixed_is_plain}
+use Rattle.ops_meaning.specs.Grammar.{Use, InPattern, InPut, InFixed, Target, ToTest, ToPut, ToFixed, ToTerms, ToConstants, ToItem, Wanted, Forms, Attributes, VectorNames, Patterns, Pattern, ClosesBrace, Terms, Several, Choice, Actions, Cells, Items, is_left, is_right, is_left_brace, is_right_brace, is_caret, is_name, is_variable, is_arrow, is_literal, is_minus, opens_choice, closes_choice, pred_of, is_crlf, constant_of, atom_of, value_of, natural_of, is_one_of, number_of, may_declare, is_class, is_rule, form, class_declared, is_second, attribute_declared, attributes, arranged, has_vector, makes_second, vector_declared, vector_name, class_at, attributes_of, behind_attribute, field_at, with_test, with_item, with_constant, with_bound, variable_tested, constant_tested, tested, predicated, test, with_choice, chosen, choice, atom_at, bound_at, constant_at, value_for, with_element, with_several, terms, within, one_of_several, several, place, one_more, patterns, element_at, element_name, action_word, designated, cell_of, cell_named, cell, State, Step, Next, Refuses, step}
+use Rattle.ops_meaning.specs.Spelling.{nothing_numbered, tests_are_plain, after_tests, after_conditions, put_is_plain, item_is_plain}
 use Rattle.ops_meaning.proofs.Lists.{all_push, all_none}
-use Rattle.ops_meaning.proofs.Sound.{behind, IsEmpty}
-use Rattle.ops_meaning.proofs.Numbering.{plainly_below}
-use Rattle.ops_meaning.proofs.Plain.{numbers_in, Base, Left, Right, Declaring, Around, IsElement, HasCells, HasItems, HasAttribute, HasTarget, behind_test, behind_target, IsPlainly, at_forms, at_form, at_class_declared, at_attributes, at_rule_name, at_first_pattern, at_patterns, at_negated_pattern, at_class_name, at_terms, at_attribute, at_place, at_tests, at_tested, at_choice, at_atom, at_value, at_actions, at_action_word, at_cell, at_cells, at_items, at_item_word, at_crlf, at_halt, at_run, Keeps, after_conditions-push, conditions_push, condition_counted, begun_positive, begins_first, begins_behind, number_sighted}
-use Rattle.ops_meaning.proofs.PlainKept.{command_kept, action_kept, test_kept, test_bound, choosing, put_kept, fixed_kept, right_begun, negated_begun, rule_kept}
+use Rattle.ops_meaning.proofs.Parts.{has_cell}
+use Rattle.ops_meaning.proofs.Sound.{Braces, Bare, NamedBefore, NamedBehind, behind, IsEmpty}
+use Rattle.ops_meaning.proofs.PlainClasses.{IsArranged, IsAttributes, class_arranged, classes_arranged, attributes_begun, attribute_pushed}
+use Rattle.ops_meaning.proofs.Plain.{numbers_in, Base, Right, Declaring, Around, IsElement, Conditions, HasCells, HasItems, HasAttribute, IsVector, HasMore, HasSeveral, Spot, HasPlace, HasTarget, behind_place, behind_test, behind_target, IsPlainly, at_forms, at_form, at_class_declared, at_attributes, at_vector_name, at_vector_names, at_rule_name, at_first_pattern, at_patterns, at_pattern, at_braced, at_element_name, at_closes_brace, at_class_name, at_terms, at_attribute, at_several, at_place, at_tests, at_tested, at_choice, at_atom, at_value, at_actions, at_action_word, at_cell, at_cells, at_items, at_item_word, at_crlf, at_halt, at_run, Keeps, after_conditions-push, conditions_push, condition_counted, begun_positive, begins_first, begins_behind, number_sighted, cells_more, number_below, below_more}
+use Rattle.ops_meaning.proofs.PlainKept.{command_kept, action_kept, test_kept, test_bound, choosing, put_kept, fixed_kept, several_begun, several_kept, term_pushed, constant_pushed, right_begun, negated_begun, rule_kept, element_bound}
 
 module _ (w : Word) where
   -- ---- declarations
 
+  declaring : (s : State) → Base s → may_declare s ≡ true → Declaring s
+  declaring s g e = let parts = and_parts (length s.rules == 0) (length s.commands == 0) e in (g, eqb-true _ _ parts.0, eqb-true _ _ parts.1)
+
   form_keeps : (s : State) → Base s → (k : Keyword) → Keeps (form w k (Forms ∷ []) s)
   form_keeps s g keyword.Literalize =
       cond_both (may_declare s) _ _ Keeps
-      (λ e. let parts = and_parts (length s.rules == 0) (length s.commands == 0) e in at_class_declared (g, eqb-true _ _ parts.0, eqb-true _ _ parts.1)) (λ _. tt)
+      (λ e. at_class_declared (declaring s g e)) (λ _. tt)
+  form_keeps s g keyword.VectorAttribute =
+      cond_both (may_declare s) _ _ Keeps
+      (λ e. at_vector_name (declaring s g e)) (λ _. tt)
   form_keeps s g keyword.Production = cond_both (length s.commands == 0) _ _ Keeps (λ _. at_rule_name g) (λ _. tt)
-  form_keeps s g keyword.Make = at_class_name InFixed (g, refl)
+  form_keeps s g keyword.Make = at_class_name Bare InFixed (g, refl)
   form_keeps s g keyword.Run = at_run g
   form_keeps s g _ = tt
 
   class_declared_keeps : (s : State) → Declaring s → Keeps (class_declared w (Attributes ∷ Forms ∷ []) s)
-  class_declared_keeps s g = cond_both (is_name w.kind) _ _ Keeps (λ _. cond_both (is_class s w.name) _ _ Keeps (λ _. tt) (λ _. at_attributes g)) (λ _. tt)
+  class_declared_keeps s g = cond_both (is_name w.kind) _ _ Keeps (λ _. cond_both (is_class s w.name) _ _ Keeps (λ _. tt) (λ _. at_attributes (g, attributes_begun s.vectors))) (λ _. tt)
 
-  attributes_keep : (s : State) → Declaring s → Keeps (attributes w (Forms ∷ []) s)
+  attribute_declared_keeps : (s : State) → Declaring s × IsAttributes s.vectors s.attrs → Keeps (attribute_declared w (Forms ∷ []) s)
+  attribute_declared_keeps s g =
+      cond_both (is_one_of w.name s.attrs) _ _ Keeps (λ _. tt)
+      (λ apart. cond_both (is_second w.name s) _ _ Keeps (λ _. tt)
+      (λ second. cond_both (nat_lt (length s.attrs) most_fields) _ _ Keeps
+      (λ room. at_attributes (g.0, attribute_pushed s.vectors s.attrs w.name g.1 apart second (ltb-true _ _ room))) (λ _. tt)))
+
+  attributes_keep : (s : State) → Declaring s × IsAttributes s.vectors s.attrs → Keeps (attributes w (Forms ∷ []) s)
   attributes_keep s g =
       cond_both (is_right w.kind) _ _ Keeps
       (λ _. at_forms (record {
-        scalar = all_push (λ c. not c.vector) s.classes (record { name = s.name; attrs = s.attrs; vector = false }) g.0.scalar refl;
-        rules_plain = all_none _ s.rules g.1;
-        commands_plain = all_none _ s.commands g.2;
+        arranged = All-push (IsArranged s.vectors) s.classes (record { name = s.name; attrs = arranged s.vectors s.attrs; vector = has_vector s.vectors s.attrs }) g.0.0.arranged (class_arranged s.vectors s.name s.attrs g.1);
+        rules_plain = all_none _ s.rules g.0.1;
+        commands_plain = all_none _ s.commands g.0.2;
       }))
-      (λ _. cond_both (is_name w.kind) _ _ Keeps
-      (λ _. cond_both (is_one_of w.name s.attrs) _ _ Keeps (λ _. tt) (λ _. cond_both (nat_lt (length s.attrs) most_fields) _ _ Keeps (λ _. at_attributes g) (λ _. tt))) (λ _. tt))
+      (λ _. cond_both (is_name w.kind) _ _ Keeps (λ _. attribute_declared_keeps s g) (λ _. tt))
+
+  vector_declared_keeps : (s : State) → Declaring s → Keeps (vector_declared w (VectorNames ∷ Forms ∷ []) s)
+  vector_declared_keeps s g =
+      cond_both (is_one_of w.name s.vectors) _ _ Keeps (λ _. at_vector_names g)
+      (λ _. cond_both (makes_second w.name s.classes) _ _ Keeps (λ _. tt)
+      (λ second. at_vector_names (
+        record {
+          arranged = classes_arranged s.vectors w.name s.classes g.0.arranged second;
+          rules_plain = all_none _ s.rules g.1;
+          commands_plain = all_none _ s.commands g.2;
+        },
+        g.1,
+        g.2,
+      )))
+
+  vector_name_keeps : (s : State) → Declaring s → Keeps (vector_name w (VectorNames ∷ Forms ∷ []) s)
+  vector_name_keeps s g = cond_both (is_name w.kind) _ _ Keeps (λ _. vector_declared_keeps s g) (λ _. tt)
 
   -- ---- elements
+
+  abbrev spot : Braces → Option ℕ → Bool → ℕ → Spot
+  spot b more among vector = record { braces = b; more = more; among = among; vector = vector }
 
   element_named : (u : Use) (s : State) (c : ℕ) → Around u s × IsEmpty u s → c < length s.classes → IsElement u (record s { class = c })
   element_named InPattern s c h lt = record { around = h.0; class = lt; fields = ap (tests_are_plain (class_of s.classes c) (after_conditions nothing_numbered s.conditions)) h.1 }
   element_named InPut s c h lt = record { around = h.0; class = lt; fields = ap (list_all (put_is_plain (class_of s.classes c) (numbers_in s.values))) h.1 }
-  element_named InFixed s c h lt = record { around = h.0; class = lt; fields = ap (list_all (fixed_is_plain (class_of s.classes c))) h.1 }
+  element_named InFixed s c h lt = record { around = h.0; class = lt; fields = ap (list_all (fixed_is_valid (class_of s.classes c))) h.1 }
 
-  class_at_keeps : (u : Use) (s : State) → Around u s × IsEmpty u s → (o : Option ℕ) → position (λ c. c.name.0 == w.name.0) s.classes ≡ o → Keeps (class_at o (Terms u ∷ behind u) s)
-  class_at_keeps u s g (Some c) e = at_terms u (element_named u s c g (position-Some (λ c. c.name.0 == w.name.0) s.classes c no_class e).0)
-  class_at_keeps u s g None e = tt
+  class_at_keeps : (b : Braces) (u : Use) (s : State) → Around u s × IsEmpty u s → (o : Option ℕ) → position (λ c. c.name.0 == w.name.0) s.classes ≡ o → Keeps (class_at o (Terms u ∷ behind b u) s)
+  class_at_keeps b u s g (Some c) e = at_terms b u (element_named u s c g (position-Some (λ c. c.name.0 == w.name.0) s.classes c no_class e).0)
+  class_at_keeps b u s g None e = tt
 
-  attribute_keeps : (u : Use) (f : ℕ) (s : State) → IsElement u s → HasAttribute s f → Keeps (Next (behind_attribute u f ∷ Terms u ∷ behind u) s)
-  attribute_keeps InPattern f s g a = at_place f (g, a)
-  attribute_keeps InPut f s g a = at_value false (ToPut f) (g, a)
-  attribute_keeps InFixed f s g a = at_value false (ToFixed f) (g, a)
+  attribute_keeps : (b : Braces) (u : Use) (f : ℕ) (s : State) → IsElement u s → HasAttribute s f → IsVector s f false → Keeps (Next (behind_attribute u f ∷ Terms u ∷ behind b u) s)
+  attribute_keeps b InPattern f s g a v = at_place b None f (g, or_left _ _ a, tt)
+  attribute_keeps b InPut f s g a v = at_value (spot b None false f) (ToPut f) (g, a)
+  attribute_keeps b InFixed f s g a v = at_value (spot b None false f) (ToFixed f) (g, a, v)
 
-  field_at_keeps : (u : Use) (s : State) → IsElement u s → (o : Option ℕ) → position (λ a. a.0 == w.name.0) (attributes_of (slice_get s.classes s.class)) ≡ o → Keeps (field_at u o (Terms u ∷ behind u) s)
-  field_at_keeps u s g None e = tt
-  field_at_keeps u s g (Some f) e =
+  field_keeps : (b : Braces) (u : Use) (f : ℕ) (s : State) → IsElement u s → HasAttribute s f → Keeps (field_at u (Some f) (behind b u) s)
+  field_keeps b u f s g a =
+      cond_both (is_vector (class_of s.classes s.class) f) _ _ Keeps (λ v. at_several b u f (several_begun u s f g a v)) (λ v. attribute_keeps b u f s g a v)
+
+  field_at_keeps : (b : Braces) (u : Use) (s : State) → IsElement u s → (o : Option ℕ) → position (λ a. a.0 == w.name.0) (attributes_of (slice_get s.classes s.class)) ≡ o → Keeps (field_at u o (behind b u) s)
+  field_at_keeps b u s g None e = tt
+  field_at_keeps b u s g (Some f) e =
       let c = get_or s.classes s.class no_class in
       let here : slice_get s.classes s.class ≡ Some c = slice_get-get_or s.classes s.class no_class g.class in
       let lt : f < length c.attrs = (position-Some (λ a. a.0 == w.name.0) c.attrs f (record { 0 = 0 }) (rw here at e)).0 in
-      attribute_keeps u f s g (ap (λ (o : Option Class). nat_lt f (length (unwrap_or o no_class).attrs)) here ∙ lt-ltb _ _ lt)
+      field_keeps b u f s g (ap (λ (o : Option Class). nat_lt f (length (unwrap_or o no_class).attrs)) here ∙ lt-ltb _ _ lt)
 
   -- ---- tests
 
-  test_goes_on : (among : Bool) (f : ℕ) (s : State) → IsElement InPattern s → HasAttribute s f → Keeps (Next (behind_test among f) s)
-  test_goes_on true f s g a = at_tests f (g, a)
-  test_goes_on false f s g a = at_terms InPattern g
+  place_ends : (b : Braces) (more : Option ℕ) (s : State) → IsElement InPattern s → HasMore more s → Keeps (Next (behind_place b more) s)
+  place_ends b None s g m = at_terms b InPattern g
+  place_ends b (Some f) s g m = at_several b InPattern f (g, m)
+
+  test_goes_on : (b : Braces) (more : Option ℕ) (among : Bool) (f : ℕ) (s : State) → HasPlace more f s → Keeps (Next (behind_test b more among f) s)
+  test_goes_on b more true f s g = at_tests b more f g
+  test_goes_on b more false f s g = place_ends b more s g.0 g.2
+
+  more_tested : (more : Option ℕ) (s : State) (f : ℕ) (q : Pred) (o : Operand) (binds : Bool) → HasMore more s → HasMore more (with_test s f q o binds)
+  more_tested None s f q o binds m = tt
+  more_tested (Some g) s f q o binds m = m
+
+  more_bound : (more : Option ℕ) (s : State) (f : ℕ) (name : Sym) → HasMore more s → HasMore more (with_bound s f name)
+  more_bound None s f name m = tt
+  more_bound (Some g) s f name m = m
+
+  more_chosen : (more : Option ℕ) (s : State) (f : ℕ) → HasMore more s → HasMore more (with_choice s f)
+  more_chosen None s f m = tt
+  more_chosen (Some g) s f m = m
+
+  place_choosing : (more : Option ℕ) (f : ℕ) (s : State) (vs : List Value) → HasPlace more f s → HasPlace more f (record s { choice = vs })
+  place_choosing None f s vs g = (choosing s vs g.0, g.1, tt)
+  place_choosing (Some n) f s vs g = (choosing s vs g.0, g.1, g.2)
 
   -- ---- values
 
   item_kept : (s : State) (i : Item) → HasItems s → item_is_plain (numbers_in s.values) i ≡ true → Keeps (Next (Items ∷ Actions ∷ Forms ∷ []) (with_item s i))
   item_kept s i g plain = at_items (g.0, g.1, all_push (item_is_plain (numbers_in s.values)) s.items i g.2 plain)
 
-  constant_keeps : (among : Bool) (t : Target) (v : Value) (s : State) → HasTarget t s → Keeps (Next (behind_target among t) (with_constant t s v))
-  constant_keeps among (ToTest f p) v s g = test_goes_on among f (with_test s f p (operand.Constant v) false) (test_kept s f p (operand.Constant v) g.0 g.1 refl) g.1
-  constant_keeps among (ToPut f) v s g = at_terms InPut (put_kept s f (term.Constant v) g.0 g.1 refl)
-  constant_keeps among (ToFixed f) v s g = at_terms InFixed (fixed_kept s f v g.0 g.1)
-  constant_keeps among ToItem v s g = item_kept s (item.Print (term.Constant v)) g refl
+  constant_keeps : (p : Spot) (t : Target) (v : Value) (s : State) → HasTarget p t s → Keeps (Next (behind_target p t) (with_constant t s v))
+  constant_keeps p (ToTest f q) v s g = test_goes_on p.braces p.more p.among f (with_test s f q (operand.Constant v) false) (test_kept s f q (operand.Constant v) g.0 g.1 refl, g.1, more_tested p.more s f q (operand.Constant v) false g.2)
+  constant_keeps p (ToPut f) v s g = at_terms p.braces InPut (put_kept s f (term.Constant v) g.0 g.1 refl)
+  constant_keeps p (ToFixed f) v s g = at_terms p.braces InFixed (fixed_kept s f v g.0 g.1 g.2)
+  constant_keeps p ToTerms v s g = at_several p.braces InPut p.vector (term_pushed s p.vector (term.Constant v) g refl)
+  constant_keeps p ToConstants v s g = at_several p.braces InFixed p.vector (constant_pushed s p.vector v g.0 g.1)
+  constant_keeps p ToItem v s g = item_kept s (item.Print (term.Constant v)) g refl
 
-  bound_keeps : (among : Bool) (t : Target) (s : State) → HasTarget t s → (o : Option ℕ) → number_of w.name s.values ≡ o → Keeps (bound_at t o (behind_target among t) s)
-  bound_keeps among (ToTest f p) s g (Some n) e = tt
-  bound_keeps among (ToPut f) s g (Some n) e = at_terms InPut (put_kept s f (term.Variable n) g.0 g.1 (number_sighted w.name s.values n e))
-  bound_keeps among (ToFixed f) s g (Some n) e = tt
-  bound_keeps among ToItem s g (Some n) e = item_kept s (item.Print (term.Variable n)) g (number_sighted w.name s.values n e)
-  bound_keeps among t s g None e = tt
+  bound_keeps : (p : Spot) (t : Target) (s : State) → HasTarget p t s → (o : Option ℕ) → number_of w.name s.values ≡ o → Keeps (bound_at t o (behind_target p t) s)
+  bound_keeps p (ToTest f q) s g (Some n) e = tt
+  bound_keeps p (ToPut f) s g (Some n) e = at_terms p.braces InPut (put_kept s f (term.Variable n) g.0 g.1 (number_sighted w.name s.values n e))
+  bound_keeps p (ToFixed f) s g (Some n) e = tt
+  bound_keeps p ToTerms s g (Some n) e = at_several p.braces InPut p.vector (term_pushed s p.vector (term.Variable n) g (number_sighted w.name s.values n e))
+  bound_keeps p ToConstants s g (Some n) e = tt
+  bound_keeps p ToItem s g (Some n) e = item_kept s (item.Print (term.Variable n)) g (number_sighted w.name s.values n e)
+  bound_keeps p t s g None e = tt
 
-  constant_at_keeps : (among : Bool) (t : Target) (s : State) → HasTarget t s → (o : Option Value) → Keeps (constant_at t w o (behind_target among t) s)
-  constant_at_keeps among t s g (Some v) = constant_keeps among t v s g
-  constant_at_keeps among t s g None = cond_both (is_variable w.kind) _ _ Keeps (λ _. bound_keeps among t s g (number_of w.name s.values) refl) (λ _. tt)
+  constant_at_keeps : (p : Spot) (t : Target) (s : State) → HasTarget p t s → (o : Option Value) → Keeps (constant_at t w o (behind_target p t) s)
+  constant_at_keeps p t s g (Some v) = constant_keeps p t v s g
+  constant_at_keeps p t s g None = cond_both (is_variable w.kind) _ _ Keeps (λ _. bound_keeps p t s g (number_of w.name s.values) refl) (λ _. tt)
 
-  value_keeps : (among : Bool) (t : Target) (s : State) → HasTarget t s → Keeps (value_for t w (behind_target among t) s)
-  value_keeps among t s g = cond_both (is_literal w.keyword) _ _ Keeps (λ _. at_atom among t g) (λ _. constant_at_keeps among t s g (value_of w.kind w.name))
+  value_keeps : (p : Spot) (t : Target) (s : State) → HasTarget p t s → Keeps (value_for t w (behind_target p t) s)
+  value_keeps p t s g = cond_both (is_literal w.keyword) _ _ Keeps (λ _. at_atom p t g) (λ _. constant_at_keeps p t s g (value_of w.kind w.name))
 
-  atom_keeps : (among : Bool) (t : Target) (s : State) → HasTarget t s → (o : Option Value) → Keeps (atom_at t o (behind_target among t) s)
-  atom_keeps among t s g (Some v) = constant_keeps among t v s g
-  atom_keeps among t s g None = tt
+  atom_keeps : (p : Spot) (t : Target) (s : State) → HasTarget p t s → (o : Option Value) → Keeps (atom_at t o (behind_target p t) s)
+  atom_keeps p t s g (Some v) = constant_keeps p t v s g
+  atom_keeps p t s g None = tt
 
   -- ---- a test, in a conjunction or alone
 
-  variable_keeps : (among : Bool) (f : ℕ) (p : Pred) (s : State) → IsElement InPattern s → HasAttribute s f → (o : Option ℕ) → number_of w.name s.values ≡ o
-      → Keeps (variable_tested f p o w.name (behind_test among f) s)
-  variable_keeps among f p s g a (Some n) e =
-      test_goes_on among f (with_test s f p (operand.Variable n) false) (test_kept s f p (operand.Variable n) g a (number_sighted w.name s.values n e)) a
-  variable_keeps among f pred.Eq s g a None e = test_goes_on among f (with_bound s f w.name) (test_bound s f w.name g a) a
-  variable_keeps among f _ s g a None e = tt
+  -- what is wanted behind it
+  abbrev behind_it : Spot → ℕ → List Wanted
+  behind_it p f = behind_test p.braces p.more p.among f
 
-  operand_keeps : (among : Bool) (f : ℕ) (p : Pred) (s : State) → IsElement InPattern s → HasAttribute s f → (o : Option Value) → Keeps (constant_tested f p w o (behind_test among f) s)
-  operand_keeps among f p s g a (Some v) = constant_keeps among (ToTest f p) v s (g, a)
-  operand_keeps among f p s g a None = cond_both (is_variable w.kind) _ _ Keeps (λ _. variable_keeps among f p s g a (number_of w.name s.values) refl) (λ _. tt)
+  variable_keeps : (p : Spot) (f : ℕ) (q : Pred) (s : State) → HasPlace p.more f s → (o : Option ℕ) → number_of w.name s.values ≡ o
+      → Keeps (variable_tested f q o w.name (behind_it p f) s)
+  variable_keeps p f q s g (Some n) e =
+      test_goes_on p.braces p.more p.among f (with_test s f q (operand.Variable n) false)
+      (test_kept s f q (operand.Variable n) g.0 g.1 (number_sighted w.name s.values n e), g.1, more_tested p.more s f q (operand.Variable n) false g.2)
+  variable_keeps p f pred.Eq s g None e = test_goes_on p.braces p.more p.among f (with_bound s f w.name) (test_bound s f w.name g.0 g.1, g.1, more_bound p.more s f w.name g.2)
+  variable_keeps p f _ s g None e = tt
 
-  tested_keeps : (among : Bool) (f : ℕ) (p : Pred) (s : State) → IsElement InPattern s → HasAttribute s f → Keeps (tested f p w (behind_test among f) s)
-  tested_keeps among f p s g a = cond_both (is_literal w.keyword) _ _ Keeps (λ _. at_atom among (ToTest f p) (g, a)) (λ _. operand_keeps among f p s g a (constant_of w.kind w.name))
+  operand_keeps : (p : Spot) (f : ℕ) (q : Pred) (s : State) → HasPlace p.more f s → (o : Option Value) → Keeps (constant_tested f q w o (behind_it p f) s)
+  operand_keeps p f q s g (Some v) = constant_keeps p (ToTest f q) v s g
+  operand_keeps p f q s g None = cond_both (is_variable w.kind) _ _ Keeps (λ _. variable_keeps p f q s g (number_of w.name s.values) refl) (λ _. tt)
 
-  predicated_keeps : (among : Bool) (f : ℕ) (s : State) → IsElement InPattern s → HasAttribute s f → (o : Option Pred) → Keeps (predicated f w o (behind_test among f) s)
-  predicated_keeps among f s g a (Some p) = at_tested among f p (g, a)
-  predicated_keeps among f s g a None = tested_keeps among f pred.Eq s g a
+  tested_keeps : (p : Spot) (f : ℕ) (q : Pred) (s : State) → HasPlace p.more f s → Keeps (tested f q w (behind_it p f) s)
+  tested_keeps p f q s g = cond_both (is_literal w.keyword) _ _ Keeps (λ _. at_atom p (ToTest f q) g) (λ _. operand_keeps p f q s g (constant_of w.kind w.name))
 
-  test_keeps : (among : Bool) (f : ℕ) (s : State) → IsElement InPattern s → HasAttribute s f → Keeps (test f w (behind_test among f) s)
-  test_keeps among f s g a = cond_both (opens_choice w.keyword) _ _ Keeps (λ _. at_choice among f (choosing s [] g, a)) (λ _. predicated_keeps among f s g a (pred_of w.keyword))
+  predicated_keeps : (p : Spot) (f : ℕ) (s : State) → HasPlace p.more f s → (o : Option Pred) → Keeps (predicated f w o (behind_it p f) s)
+  predicated_keeps p f s g (Some q) = at_tested p f q g
+  predicated_keeps p f s g None = tested_keeps p f pred.Eq s g
 
-  chosen_keeps : (among : Bool) (f : ℕ) (s : State) → IsElement InPattern s → HasAttribute s f → (o : Option Value) → Keeps (chosen o (Choice f ∷ behind_test among f) s)
-  chosen_keeps among f s g a (Some v) = at_choice among f (choosing s (s.choice ++ v ∷ []) g, a)
-  chosen_keeps among f s g a None = tt
+  test_keeps : (p : Spot) (f : ℕ) (s : State) → HasPlace p.more f s → Keeps (test f w (behind_it p f) s)
+  test_keeps p f s g = cond_both (opens_choice w.keyword) _ _ Keeps (λ _. at_choice p f (place_choosing p.more f s [] g)) (λ _. predicated_keeps p f s g (pred_of w.keyword))
 
-  choice_keeps : (among : Bool) (f : ℕ) (s : State) → IsElement InPattern s → HasAttribute s f → Keeps (choice f w (behind_test among f) s)
-  choice_keeps among f s g a =
+  place_keeps : (b : Braces) (more : Option ℕ) (f : ℕ) (s : State) → HasPlace more f s → Keeps (place f w (behind_place b more) s)
+  place_keeps b more f s g = cond_both (is_left_brace w.kind) _ _ Keeps (λ _. at_tests b more f g) (λ _. test_keeps (spot b more false f) f s g)
+
+  chosen_keeps : (p : Spot) (f : ℕ) (s : State) → HasPlace p.more f s → (o : Option Value) → Keeps (chosen o (Choice f ∷ behind_it p f) s)
+  chosen_keeps p f s g (Some v) = at_choice p f (place_choosing p.more f s (s.choice ++ v ∷ []) g)
+  chosen_keeps p f s g None = tt
+
+  choice_keeps : (p : Spot) (f : ℕ) (s : State) → HasPlace p.more f s → Keeps (choice f w (behind_it p f) s)
+  choice_keeps p f s g =
       cond_both (closes_choice w.keyword) _ _ Keeps
-      (λ _. test_goes_on among f (with_choice s f) (choosing (with_test s f pred.Eq (operand.OneOf s.choice) false) [] (test_kept s f pred.Eq (operand.OneOf s.choice) g a refl)) a)
-      (λ _. chosen_keeps among f s g a (atom_of w.kind w.name))
+      (λ _. test_goes_on p.braces p.more p.among f (with_choice s f)
+      (choosing (with_test s f pred.Eq (operand.OneOf s.choice) false) [] (test_kept s f pred.Eq (operand.OneOf s.choice) g.0 g.1 refl), g.1, more_chosen p.more s f g.2))
+      (λ _. chosen_keeps p f s g (atom_of w.kind w.name))
 
   -- ---- the end of an element
 
-  element_keeps : (u : Use) (s : State) → IsElement u s → Keeps (Next (behind u) (with_element u s))
-  element_keeps InPattern s g =
+  conditions_keep : (b : Braces) (s : State) → Conditions s → Keeps (Next (behind b InPattern) s)
+  conditions_keep Bare s g = at_patterns g
+  conditions_keep NamedBefore s g = at_closes_brace g
+  conditions_keep NamedBehind s g = at_element_name g
+
+  element_keeps : (b : Braces) (u : Use) (s : State) → IsElement u s → Keeps (Next (behind b u) (with_element u s))
+  element_keeps b InPattern s g =
       let c : Condition = record { class = s.class; negated = s.negated; tests = s.tests } in
       let k = after_conditions nothing_numbered s.conditions in
       let left = g.around.1 in
       let more = length-append s.conditions (c ∷ []) in
       let room = g.around.2 in
-      at_patterns (
+      conditions_keep b (with_element InPattern s) (
         g.around.0,
         record {
           plain = conditions_push s.classes s.conditions nothing_numbered c left.plain (and_from _ _ (lt-ltb _ _ g.class) g.fields);
           count = after_conditions-push s.conditions nothing_numbered c ∙ condition_counted s.negated s.around k (after_tests k s.tests) s.values s.variables left.count left.sight;
           within = λ is. absurd (true≢false (sym is));
           sight = λ is. absurd (true≢false (sym is));
+          cells = below_more s.elements (length (cells_of s.conditions)) (length (cells_of (s.conditions ++ c ∷ []))) (cells_more s.conditions c) left.cells;
         },
         refl,
         g.around.3,
@@ -170,21 +249,59 @@ module _ (w : Word) where
         omega (arith, more, room),
         refl,
       )
-  element_keeps InPut s g = at_actions (g.around.0, action_kept s (action.Make s.class s.puts) g.around.1 (and_from _ _ (lt-ltb _ _ g.class) g.fields))
-  element_keeps InFixed s g = at_forms (command_kept s (command.Make s.class s.fixed) g.around (and_from _ _ (lt-ltb _ _ g.class) g.fields))
+  element_keeps b InPut s g = at_actions (g.around.0, action_kept s (action.Make s.class s.puts) g.around.1 (and_from _ _ (lt-ltb _ _ g.class) g.fields))
+  element_keeps b InFixed s g = at_forms (command_kept s (command.Make s.class s.fixed) g.around (and_from _ _ (lt-ltb _ _ g.class) g.fields))
+
+  terms_keep : (b : Braces) (u : Use) (s : State) → IsElement u s → Keeps (terms u w (behind b u) s)
+  terms_keep b u s g =
+      cond_both (is_right w.kind) _ _ Keeps (λ _. element_keeps b u s g) (λ _. cond_both (is_caret w.kind) _ _ Keeps (λ _. at_attribute b u g) (λ _. tt))
+
+  -- ---- the vector attribute
+
+  within_keeps : (b : Bool) (r : Step) → (b ≡ true → Keeps r) → Keeps (within b r)
+  within_keeps true r keeps = keeps refl
+  within_keeps false (Next ws s) keeps = tt
+  within_keeps false (Refuses f) keeps = tt
+
+  one_of_several_keeps : (b : Braces) (u : Use) (f : ℕ) (s : State) → HasSeveral u f s → Keeps (one_of_several u f w (behind b u) s)
+  one_of_several_keeps b InPattern f s g =
+      within_keeps (nat_lt f most_fields) (place f w (behind_place b (Some (f + 1))) s)
+      (λ room. place_keeps b (Some (f + 1)) f s (g.0, or_right _ _ (and_from _ _ g.1 room), g.1))
+  one_of_several_keeps b InPut f s g = value_keeps (spot b None false f) ToTerms s g
+  one_of_several_keeps b InFixed f s g =
+      within_keeps (nat_lt (f + length s.constants) most_fields) (value_for ToConstants w (Several InFixed f ∷ behind b InFixed) s)
+      (λ room. value_keeps (spot b None false f) ToConstants s (g, ltb-true _ _ room))
+
+  several_keep : (b : Braces) (u : Use) (f : ℕ) (s : State) → HasSeveral u f s → Keeps (several u f w (behind b u) s)
+  several_keep b u f s g =
+      cond_both (is_right w.kind || is_caret w.kind) _ _ Keeps (λ _. terms_keep b u (with_several u f s) (several_kept u s f g)) (λ _. one_of_several_keeps b u f s g)
 
   -- ---- productions
 
-  patterns_keep : (s : State) → Base s × Left s × (s.tests ≡ []) × (s.actions ≡ []) × (first_is_positive s.conditions ≡ true) × (length s.conditions ≤ most_conditions) × (s.negated ≡ false) → Keeps (patterns w (Actions ∷ Forms ∷ []) s)
+  -- one more condition
+  one_more_keeps : (ws : List Wanted) (s : State) → (length s.conditions < most_conditions → IsPlainly s ws) → Keeps (one_more ws s)
+  one_more_keeps ws s h = cond_both (nat_lt (length s.conditions) most_conditions) _ _ Keeps (λ lt. h (ltb-true _ _ lt)) (λ _. tt)
+
+  patterns_keep : (s : State) → Conditions s → Keeps (patterns w (Actions ∷ Forms ∷ []) s)
   patterns_keep s g =
       cond_both (is_arrow w.keyword) _ _ Keeps (λ _. at_actions (g.0, right_begun s g.1 g.2 g.3 g.4 g.5))
       (λ _. cond_both (is_left w.kind) _ _ Keeps
-      (λ _. cond_both (nat_lt (length s.conditions) most_conditions) _ _ Keeps (λ lt. at_class_name InPattern ((g.0, g.1, ltb-true _ _ lt, g.3, begins_behind s.conditions s.negated g.4), g.2)) (λ _. tt))
+      (λ _. one_more_keeps _ s (λ lt. at_class_name Bare InPattern ((g.0, g.1, lt, g.3, begins_behind s.conditions s.negated g.4), g.2)))
+      (λ _. cond_both (is_left_brace w.kind) _ _ Keeps
+      (λ _. one_more_keeps _ s (λ lt. at_braced ((g.0, g.1, lt, g.3, begins_behind s.conditions s.negated g.4), g.2)))
       (λ _. cond_both (is_minus w.keyword) _ _ Keeps
-      (λ _. cond_both (nat_lt (length s.conditions) most_conditions) _ _ Keeps (λ lt. at_negated_pattern ((g.0, negated_begun s g.1 g.2, ltb-true _ _ lt, g.3, begins_behind s.conditions true g.4), g.2)) (λ _. tt)) (λ _. tt)))
+      (λ _. one_more_keeps _ (record s { negated = true; around = length s.values }) (λ lt. at_pattern Bare ((g.0, negated_begun s g.1 g.2, lt, g.3, begins_behind s.conditions true g.4), g.2))) (λ _. tt))))
+
+  -- an element variable in front of what may follow
+  element_at_keeps : (ws : List Wanted) (s : State) → IsPlainly (record s { element = w.name }) ws → (o : Option ℕ) → Keeps (element_at o w.name ws s)
+  element_at_keeps ws s h (Some c) = tt
+  element_at_keeps ws s h None = h
+
+  element_name_keeps : (ws : List Wanted) (s : State) → IsPlainly (record s { element = w.name }) ws → Keeps (element_name w ws s)
+  element_name_keeps ws s h = cond_both (is_variable w.kind) _ _ Keeps (λ _. element_at_keeps ws s h (number_of w.name s.elements)) (λ _. tt)
 
   action_word_keeps : (s : State) → Base s × Right s → (k : Keyword) → Keeps (action_word k (Actions ∷ Forms ∷ []) s)
-  action_word_keeps s g keyword.Make = at_class_name InPut (g, refl)
+  action_word_keeps s g keyword.Make = at_class_name Bare InPut (g, refl)
   action_word_keeps s g keyword.Remove = at_cell (g.0, g.1, refl)
   action_word_keeps s g keyword.Write = at_items (g.0, g.1, refl)
   action_word_keeps s g keyword.Halt = at_halt g
@@ -197,14 +314,21 @@ module _ (w : Word) where
       let more = length-append s.cells (before ∷ []) in
       cond_both c.negated _ _ Keeps (λ _. tt)
       (λ positive. cond_both (list_any (λ c. c.negated) (take before s.conditions)) _ _ Keeps (λ _. tt)
-      (λ none. at_cells ((g.0, g.1, all_push (λ c. nat_lt c (plainly_positive s.conditions)) s.cells before g.2 (lt-ltb _ _ (plainly_below s.conditions before c e positive none))), omega (arith, more))))
+      (λ none. at_cells ((g.0, g.1, all_push (λ c. nat_lt c (length (cells_of s.conditions))) s.cells before g.2 (lt-ltb _ _ (has_cell s.conditions before c e positive none))), omega (arith, more))))
 
   cell_of_keeps : (s : State) → HasCells s → (o : Option ℕ) → Keeps (cell_of o (Cells ∷ Actions ∷ Forms ∷ []) s)
   cell_of_keeps s g None = tt
   cell_of_keeps s g (Some m) = designated_keeps s g (m - 1) (slice_get s.conditions (m - 1)) refl
 
-  cell_keeps : (s : State) → HasCells s → (k : TokenKind) → Keeps (cell k (Cells ∷ Actions ∷ Forms ∷ []) s)
+  cell_named_keeps : (s : State) → HasCells s → (o : Option ℕ) → number_of w.name s.elements ≡ o → Keeps (cell_named o (Cells ∷ Actions ∷ Forms ∷ []) s)
+  cell_named_keeps s g None e = tt
+  cell_named_keeps s g (Some c) e =
+      let more = length-append s.cells (c ∷ []) in
+      at_cells ((g.0, g.1, all_push (λ c. nat_lt c (length (cells_of s.conditions))) s.cells c g.2 (number_below w.name s.elements c (length (cells_of s.conditions)) g.1.left.cells e)), omega (arith, more))
+
+  cell_keeps : (s : State) → HasCells s → (k : TokenKind) → Keeps (cell k w.name (Cells ∷ Actions ∷ Forms ∷ []) s)
   cell_keeps s g (kind.Whole z) = cell_of_keeps s g (natural_of z)
+  cell_keeps s g kind.Variable = cell_named_keeps s g (number_of w.name s.elements) refl
   cell_keeps s g _ = tt
 
   -- ---- a word
@@ -215,26 +339,34 @@ module _ (w : Word) where
   step_keeps s ws (at_form g) = form_keeps s g w.keyword
   step_keeps s ws (at_class_declared g) = class_declared_keeps s g
   step_keeps s ws (at_attributes g) = attributes_keep s g
+  step_keeps s ws (at_vector_name g) = vector_name_keeps s g
+  step_keeps s ws (at_vector_names g) = cond_both (is_right w.kind) _ _ Keeps (λ _. at_forms g.0) (λ _. vector_name_keeps s g)
   step_keeps s ws (at_rule_name g) =
       cond_both (is_name w.kind) _ _ Keeps
-      (λ _. cond_both (is_rule s w.name) _ _ Keeps (λ _. tt) (λ _. at_first_pattern (g, record { plain = refl; count = refl; within = λ is. absurd (true≢false (sym is)); sight = λ is. absurd (true≢false (sym is)) }, refl, refl, refl, refl))) (λ _. tt)
+      (λ _. cond_both (is_rule s w.name) _ _ Keeps (λ _. tt) (λ _. at_first_pattern (g, record { plain = refl; count = refl; within = λ is. absurd (true≢false (sym is)); sight = λ is. absurd (true≢false (sym is)); cells = refl }, refl, refl, refl, refl))) (λ _. tt)
   step_keeps s ws (at_first_pattern g) =
       let none = g.4 in
-      cond_both (is_left w.kind) _ _ Keeps (λ _. at_class_name InPattern ((g.0, g.1, omega (arith, none), g.3, begins_first s.conditions s.negated g.4 g.5), g.2))
-      (λ _. cond_both (is_minus w.keyword) _ _ Keeps (λ _. tt) (λ _. tt))
+      cond_both (is_left w.kind) _ _ Keeps (λ _. at_class_name Bare InPattern ((g.0, g.1, omega (arith, none), g.3, begins_first s.conditions s.negated g.4 g.5), g.2))
+      (λ _. cond_both (is_left_brace w.kind) _ _ Keeps (λ _. at_braced ((g.0, g.1, omega (arith, none), g.3, begins_first s.conditions s.negated g.4 g.5), g.2))
+      (λ _. cond_both (is_minus w.keyword) _ _ Keeps (λ _. tt) (λ _. tt)))
   step_keeps s ws (at_patterns g) = patterns_keep s g
-  step_keeps s ws (at_negated_pattern g) = cond_both (is_left w.kind) _ _ Keeps (λ _. at_class_name InPattern g) (λ _. tt)
-  step_keeps s ws (at_class_name u g) = cond_both (is_name w.kind) _ _ Keeps (λ _. class_at_keeps u s g (position (λ c. c.name.0 == w.name.0) s.classes) refl) (λ _. tt)
-  step_keeps s ws (at_terms u g) =
-      cond_both (is_right w.kind) _ _ Keeps (λ _. element_keeps u s g) (λ _. cond_both (is_caret w.kind) _ _ Keeps (λ _. at_attribute u g) (λ _. tt))
-  step_keeps s ws (at_attribute u g) =
-      cond_both (is_name w.kind) _ _ Keeps (λ _. field_at_keeps u s g (position (λ a. a.0 == w.name.0) (attributes_of (slice_get s.classes s.class))) refl) (λ _. tt)
-  step_keeps s ws (at_place f g) = cond_both (is_left_brace w.kind) _ _ Keeps (λ _. at_tests f g) (λ _. test_keeps false f s g.0 g.1)
-  step_keeps s ws (at_tests f g) = cond_both (is_right_brace w.kind) _ _ Keeps (λ _. at_terms InPattern g.0) (λ _. test_keeps true f s g.0 g.1)
-  step_keeps s ws (at_tested among f p g) = tested_keeps among f p s g.0 g.1
-  step_keeps s ws (at_choice among f g) = choice_keeps among f s g.0 g.1
-  step_keeps s ws (at_atom among t g) = atom_keeps among t s g (atom_of w.kind w.name)
-  step_keeps s ws (at_value among t g) = value_keeps among t s g
+  step_keeps s ws (at_pattern b g) = cond_both (is_left w.kind) _ _ Keeps (λ _. at_class_name b InPattern g) (λ _. tt)
+  step_keeps s ws (at_braced g) =
+      cond_both (is_left w.kind) _ _ Keeps (λ _. at_class_name NamedBehind InPattern g)
+      (λ _. element_name_keeps (Pattern ∷ ClosesBrace ∷ Patterns ∷ Actions ∷ Forms ∷ []) s (at_pattern NamedBefore g))
+  step_keeps s ws (at_element_name g) = element_name_keeps (ClosesBrace ∷ Patterns ∷ Actions ∷ Forms ∷ []) s (at_closes_brace g)
+  step_keeps s ws (at_closes_brace g) = cond_both (is_right_brace w.kind) _ _ Keeps (λ _. at_patterns (element_bound s g)) (λ _. tt)
+  step_keeps s ws (at_class_name b u g) = cond_both (is_name w.kind) _ _ Keeps (λ _. class_at_keeps b u s g (position (λ c. c.name.0 == w.name.0) s.classes) refl) (λ _. tt)
+  step_keeps s ws (at_terms b u g) = terms_keep b u s g
+  step_keeps s ws (at_attribute b u g) =
+      cond_both (is_name w.kind) _ _ Keeps (λ _. field_at_keeps b u s g (position (λ a. a.0 == w.name.0) (attributes_of (slice_get s.classes s.class))) refl) (λ _. tt)
+  step_keeps s ws (at_several b u f g) = several_keep b u f s g
+  step_keeps s ws (at_place b more f g) = place_keeps b more f s g
+  step_keeps s ws (at_tests b more f g) = cond_both (is_right_brace w.kind) _ _ Keeps (λ _. place_ends b more s g.0 g.2) (λ _. test_keeps (spot b more true f) f s g)
+  step_keeps s ws (at_tested p f q g) = tested_keeps p f q s g
+  step_keeps s ws (at_choice p f g) = choice_keeps p f s g
+  step_keeps s ws (at_atom p t g) = atom_keeps p t s g (atom_of w.kind w.name)
+  step_keeps s ws (at_value p t g) = value_keeps p t s g
   step_keeps s ws (at_actions g) =
       cond_both (is_right w.kind) _ _ Keeps (λ _. at_forms (rule_kept s w.past g.0 g.1)) (λ _. cond_both (is_left w.kind) _ _ Keeps (λ _. at_action_word g) (λ _. tt))
   step_keeps s ws (at_action_word g) = action_word_keeps s g w.keyword
@@ -244,7 +376,7 @@ module _ (w : Word) where
       (λ _. at_actions (g.0.0, action_kept s (action.Remove s.cells) g.0.1 (and_from _ _ (lt-ltb _ _ g.1) g.0.2))) (λ _. cell_keeps s g.0 w.kind)
   step_keeps s ws (at_items g) =
       cond_both (is_right w.kind) _ _ Keeps (λ _. at_actions (g.0, action_kept s (action.Write s.items) g.1 g.2))
-      (λ _. cond_both (is_left w.kind) _ _ Keeps (λ _. at_item_word g) (λ _. value_keeps false ToItem s g))
+      (λ _. cond_both (is_left w.kind) _ _ Keeps (λ _. at_item_word g) (λ _. value_keeps (spot Bare None false 0) ToItem s g))
   step_keeps s ws (at_item_word g) = cond_both (is_crlf w.keyword) _ _ Keeps (λ _. at_crlf g) (λ _. tt)
   step_keeps s ws (at_crlf g) = cond_both (is_right w.kind) _ _ Keeps (λ _. item_kept s item.Crlf g refl) (λ _. tt)
   step_keeps s ws (at_halt g) = cond_both (is_right w.kind) _ _ Keeps (λ _. at_actions (g.0, action_kept s action.Halt g.1 refl)) (λ _. tt)

@@ -60,13 +60,14 @@ not_met false e = refl
 symbol_proper : (s : List ℕ) → may_have kind.Symbol (keyword_of_symbol s) ≡ true
 symbol_proper s =
     either kind.Symbol (bytes_eq s (codes "literalize")) _ _ refl
+    (either kind.Symbol (bytes_eq s (codes "vector-attribute")) _ _ refl
     (either kind.Symbol (bytes_eq s (codes "p")) _ _ refl
     (either kind.Symbol (bytes_eq s (codes "make")) _ _ refl
     (either kind.Symbol (bytes_eq s (codes "remove")) _ _ refl
     (either kind.Symbol (bytes_eq s (codes "run")) _ _ refl
     (either kind.Symbol (bytes_eq s (codes "write")) _ _ refl
     (either kind.Symbol (bytes_eq s (codes "crlf")) _ _ refl
-    (either kind.Symbol (bytes_eq s (codes "halt")) _ _ refl refl)))))))
+    (either kind.Symbol (bytes_eq s (codes "halt")) _ _ refl refl))))))))
 
 -- a plain symbol has no keyword of operators
 pub symbol_unmarked : (s : List ℕ) → is_mark (keyword_of_symbol s) ≡ false

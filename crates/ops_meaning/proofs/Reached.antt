@@ -7,7 +7,8 @@ use Rattle.ops_meaning.specs.declared.words.Word.{Word}
 use Rattle.ops_meaning.specs.Grammar.{Wanted, Forms, State, Step, Next, Refuses, step, ends, after, goes}
 use Rattle.ops_meaning.specs.Derivation.{Derives}
 use Rattle.ops_meaning.specs.Standing.{IsTaken}
-use Rattle.ops_meaning.proofs.Derived.{forms_last, taken_derives, taken_last}
+use Rattle.ops_meaning.proofs.Arranged.{AreArranged}
+use Rattle.ops_meaning.proofs.Derived.{forms_last, taken_derives, taken_last, taken_arranged}
 use Rattle.ops_meaning.proofs.Proper.{is_proper}
 use Rattle.ops_meaning.proofs.Follows.{derived_behind}
 
@@ -35,20 +36,27 @@ module _ (to : List Wanted) (at : State) where
   goes_behind before ws s (by_word {w = w} {words = words} {ws' = ws'} {s' = s'} e r) more =
       ap (after (goes (words ++ more)) w) e ∙ goes_behind words ws' s' r more
 
-  pub derives_before : (before : List Word) (ws : List Wanted) (s : State) → Reached to at before ws s → (ts : List Word) → Derives to ts → Derives ws (before ++ ts)
-  derives_before before ws s at_once ts d = d
-  derives_before before ws s (by_word {w = w} {words = words} {ws' = ws'} {s' = s'} e r) ts d =
-      taken_derives w ws s ws' s' e (words ++ ts) (derives_before words ws' s' r ts d)
+  pub derives_before : (before : List Word) (ws : List Wanted) (s : State) → Reached to at before ws s → AreArranged ws s → (ts : List Word) → Derives at.vectors to ts → Derives s.vectors ws (before ++ ts)
+  derives_before before ws s at_once arranged ts d = d
+  derives_before before ws s (by_word {w = w} {words = words} {ws' = ws'} {s' = s'} e r) arranged ts d =
+      taken_derives w ws s arranged ws' s' e (words ++ ts) (derives_before words ws' s' r (taken_arranged w ws s arranged ws' s' e) ts d)
 
-  pub derives_behind : (before : List Word) (ws : List Wanted) (s : State) → Reached to at before ws s → forms_last ws ≡ true → list_all is_proper before ≡ true → (ts : List Word) → Derives ws (before ++ ts) → Derives to ts
-  derives_behind before ws s at_once last proper ts d = d
-  derives_behind before ws s (by_word {w = w} {words = words} {ws' = ws'} {s' = s'} e r) last proper ts d =
+  pub derives_behind : (before : List Word) (ws : List Wanted) (s : State) → Reached to at before ws s → AreArranged ws s → forms_last ws ≡ true → list_all is_proper before ≡ true → (ts : List Word) → Derives s.vectors ws (before ++ ts) → Derives at.vectors to ts
+  derives_behind before ws s at_once arranged last proper ts d = d
+  derives_behind before ws s (by_word {w = w} {words = words} {ws' = ws'} {s' = s'} e r) arranged last proper ts d =
       let each = and_parts (is_proper w) (list_all is_proper words) proper in
-      derives_behind words ws' s' r (taken_last w ws s ws' s' e last) each.1 ts (derived_behind w ws s last ws' s' e each.0 (words ++ ts) d)
+      derives_behind words ws' s' r (taken_arranged w ws s arranged ws' s' e) (taken_last w ws s arranged ws' s' e last) each.1 ts
+      (derived_behind w ws s arranged last ws' s' e each.0 (words ++ ts) d)
 
-  pub last_behind : (before : List Word) (ws : List Wanted) (s : State) → Reached to at before ws s → forms_last ws ≡ true → forms_last to ≡ true
-  last_behind before ws s at_once last = last
-  last_behind before ws s (by_word {w = w} {words = words} {ws' = ws'} {s' = s'} e r) last = last_behind words ws' s' r (taken_last w ws s ws' s' e last)
+  pub last_behind : (before : List Word) (ws : List Wanted) (s : State) → Reached to at before ws s → AreArranged ws s → forms_last ws ≡ true → forms_last to ≡ true
+  last_behind before ws s at_once arranged last = last
+  last_behind before ws s (by_word {w = w} {words = words} {ws' = ws'} {s' = s'} e r) arranged last =
+      last_behind words ws' s' r (taken_arranged w ws s arranged ws' s' e) (taken_last w ws s arranged ws' s' e last)
+
+  pub arranged_behind : (before : List Word) (ws : List Wanted) (s : State) → Reached to at before ws s → AreArranged ws s → AreArranged to at
+  arranged_behind before ws s at_once arranged = arranged
+  arranged_behind before ws s (by_word {w = w} {words = words} {ws' = ws'} {s' = s'} e r) arranged =
+      arranged_behind words ws' s' r (taken_arranged w ws s arranged ws' s' e)
 
 -- ---- words that are taken
 

@@ -1,27 +1,28 @@
 -- What is spelled of a command is read back.
-use Rattle.std.proofs.Common.{◌≡◌, ℕ, zero, suc, ◌<◌, true, ◌==◌, List, [], ◌∷◌, ◌++◌, length, map, refl, sym, ap, ◌∙◌, arith, Some, None, slice_get, append-nil, append_assoc}
+use Rattle.std.proofs.Common.{◌≡◌, ℕ, zero, suc, ◌+◌, ◌<◌, ◌≤◌, Bool, true, false, ◌||◌, ◌==◌, List, [], ◌∷◌, ◌++◌, length, map, refl, sym, ap, subst, ◌∙◌, arith, Some, None, nat_le, slice_get, append-nil, append_assoc, length-append}
+use Rattle.std.specs.Prelude.{if◌then◌else◌}
 use Rattle.std.specs.List.{list_all}
-use Rattle.std.proofs.lemmas.Bool.{and_parts, ltb-true, eqb-true}
+use Rattle.std.proofs.lemmas.Bool.{and_parts, ltb-true, lt-ltb, leb-true, eqb-true, cond-true, cond-false}
 use Rattle.ops_base.specs.declared.values.Sym.{Sym}
 use Rattle.ops_base.specs.declared.values.Value.{Value}
 use Rattle.ops_base.specs.declared.values.Value.TheVariants as value
 use Rattle.ops_base.specs.declared.elements.Class.{Class}
 use Rattle.ops_base.specs.declared.commands.Fixed.{Fixed}
 use Rattle.ops_base.specs.declared.commands.Command.TheVariants as command
-use Rattle.ops_base.specs.Valid.{are_distinct, no_class, class_of, is_attribute}
+use Rattle.ops_base.specs.Valid.{most_fields, are_distinct, class_is_valid, no_class, class_of, is_attribute, is_vector, fixed_is_valid}
 use Rattle.ops_meaning.specs.declared.words.Word.{Word}
 use Rattle.ops_meaning.specs.declared.words.Keyword.TheVariants as keyword
-use Rattle.ops_meaning.specs.Grammar.{Use, InFixed, Wanted, Forms, ClassName, Terms, Attribute, ValueFor, ToFixed, State, Next, behind_attribute, with_fixed, with_element, step, goes}
-use Rattle.ops_meaning.specs.Spelling.{unnamed, opening, closing, caret, spelled_keyword, spelled_name, spelled_value, spelled_each, attribute_name, spelled_attribute, spelled_fixed, spelled_fact, spelled_run, fixed_is_plain}
+use Rattle.ops_meaning.specs.Grammar.{Use, InFixed, Wanted, Forms, ClassName, Terms, Attribute, Several, ValueFor, ToFixed, State, Next, is_right, is_caret, behind_attribute, field_at, terms, one_of_several, with_fixed, with_several, with_element, step, after, goes}
+use Rattle.ops_meaning.specs.Spelling.{unnamed, opening, closing, caret, spelled_keyword, spelled_name, spelled_value, spelled_each, attribute_name, spelled_attribute, spelled_fixed, spelled_fact, spelled_run}
 use Rattle.ops_meaning.proofs.Places.{place_found}
-use Rattle.ops_meaning.proofs.ReadsBack.{by_word}
+use Rattle.ops_meaning.proofs.ReadsBack.{by_word, class_parts}
 
 -- ---- classes and attributes by their names
 
 -- the classes have names of their own, and their attributes too
 pub record AreNamed (classes : List Class) : Type 0 where
   pub classes_apart : are_distinct (map (λ c. c.name.0) classes) ≡ true
-  pub attributes_apart : (i : ℕ) → are_distinct (map (λ a. a.0) (class_of classes i).attrs) ≡ true
+  pub classes_valid : (i : ℕ) → class_is_valid (class_of classes i) ≡ true
 
 pub class_step : (class : ℕ) (ws : List Wanted) (s : State) → AreNamed s.classes → class < length s.classes → step (spelled_name (class_of s.classes class).name) (ClassName ∷ ws) s ≡ Next ws (record s { class = class })
 unfolding step
@@ -33,25 +34,53 @@ attributes_are [] class lt = absurd (omega arith)
 attributes_are (c ∷ cs) zero lt = refl
 attributes_are (c ∷ cs) (suc i) lt = attributes_are cs i (omega arith)
 
-pub attribute_step : (u : Use) (f : ℕ) (ws : List Wanted) (s : State) → AreNamed s.classes → s.class < length s.classes → is_attribute (class_of s.classes s.class) f ≡ true
-    → step (spelled_name (attribute_name (class_of s.classes s.class) f)) (Attribute u ∷ ws) s ≡ Next (behind_attribute u f ∷ ws) s
+attribute_found : (u : Use) (f : ℕ) (ws : List Wanted) (s : State) → AreNamed s.classes → s.class < length s.classes → is_attribute (class_of s.classes s.class) f ≡ true
+    → step (spelled_name (attribute_name (class_of s.classes s.class) f)) (Attribute u ∷ ws) s ≡ field_at u (Some f) ws s
 unfolding step
-attribute_step u f ws s names lt is =
+attribute_found u f ws s names lt is =
     let c = class_of s.classes s.class in
-    let found = place_found (λ (a : Sym). a.0) unnamed c.attrs f (attribute_name c f).0 refl (names.attributes_apart s.class) (ltb-true _ _ is) in
+    let apart = (class_parts c (names.classes_valid s.class)).1 in
+    let found = place_found (λ (a : Sym). a.0) unnamed c.attrs f (attribute_name c f).0 refl apart (ltb-true _ _ is) in
     rw (attributes_are s.classes s.class lt) (rw found refl)
 
-caret_step : (u : Use) (ws : List Wanted) (s : State) → step caret (Terms u ∷ ws) s ≡ Next (Attribute u ∷ Terms u ∷ ws) s
+caret_step : (u : Use) (ws : List Wanted) (s : State) → step caret (Terms u ∷ ws) s ≡ Next (Attribute u ∷ ws) s
 unfolding step
 caret_step u ws s = refl
 
--- up to what stands behind an attribute
-pub attribute_read : (u : Use) (f : ℕ) (values more : List Word) (ws : List Wanted) (s : State) → AreNamed s.classes → s.class < length s.classes → is_attribute (class_of s.classes s.class) f ≡ true
-    → goes (spelled_attribute (class_of s.classes s.class) f values ++ more) (Terms u ∷ ws) s ≡ goes (values ++ more) (behind_attribute u f ∷ Terms u ∷ ws) s
-attribute_read u f values more ws s names lt is =
-    let name = spelled_name (attribute_name (class_of s.classes s.class) f) in
-    by_word caret (name ∷ values ++ more) (Terms u ∷ ws) (Attribute u ∷ Terms u ∷ ws) s s (caret_step u ws s)
-    ∙ by_word name (values ++ more) (Attribute u ∷ Terms u ∷ ws) (behind_attribute u f ∷ Terms u ∷ ws) s s (attribute_step u f (Terms u ∷ ws) s names lt is)
+-- with no values of a vector attribute
+abbrev pub settled : State → State
+settled s = record s { terms = []; constants = [] }
+
+module _ (u : Use) (f : ℕ) (values more : List Word) (ws : List Wanted) (s : State) (names : AreNamed s.classes) (lt : s.class < length s.classes) (is : is_attribute (class_of s.classes s.class) f ≡ true) where
+  attribute_read : (ws' : List Wanted) (s' : State) → field_at u (Some f) ws s ≡ Next ws' s' → goes (spelled_attribute (class_of s.classes s.class) f values ++ more) (Terms u ∷ ws) s ≡ goes (values ++ more) ws' s'
+  attribute_read ws' s' leads =
+      let name = spelled_name (attribute_name (class_of s.classes s.class) f) in
+      by_word caret (name ∷ values ++ more) (Terms u ∷ ws) (Attribute u ∷ ws) s s (caret_step u ws s)
+      ∙ by_word name (values ++ more) (Attribute u ∷ ws) ws' s s' (attribute_found u f ws s names lt is ∙ leads)
+
+  -- up to what stands behind a scalar attribute
+  pub scalar_read : is_vector (class_of s.classes s.class) f ≡ false → goes (spelled_attribute (class_of s.classes s.class) f values ++ more) (Terms u ∷ ws) s ≡ goes (values ++ more) (behind_attribute u f ∷ Terms u ∷ ws) s
+  scalar_read scalar = attribute_read (behind_attribute u f ∷ Terms u ∷ ws) s (cond-false _ _ _ scalar)
+
+  -- up to what stands behind the vector attribute
+  pub vector_read : is_vector (class_of s.classes s.class) f ≡ true → goes (spelled_attribute (class_of s.classes s.class) f values ++ more) (Terms u ∷ ws) s ≡ goes (values ++ more) (Several u f ∷ ws) (settled s)
+  vector_read vector = attribute_read (Several u f ∷ ws) (settled s) (cond-true _ _ _ vector)
+
+-- ---- what ends the values of a vector attribute
+
+-- words that begin with `)` or `^`
+abbrev pub EndValues : List Word → Type 0
+EndValues [] = ⊥
+EndValues (w ∷ words) = (is_right w.kind || is_caret w.kind) ≡ true
+
+several_step : (u : Use) (f : ℕ) (w : Word) (ws : List Wanted) (s : State) → (is_right w.kind || is_caret w.kind) ≡ true → step w (Several u f ∷ ws) s ≡ step w (Terms u ∷ ws) (with_several u f s)
+unfolding step
+several_step u f w ws s h = cond-true _ (terms u w ws (with_several u f s)) (one_of_several u f w ws s) h
+
+pub several_ended : (u : Use) (f : ℕ) (words : List Word) (ws : List Wanted) (s : State) → EndValues words → goes words (Several u f ∷ ws) s ≡ goes words (Terms u ∷ ws) (with_several u f s)
+unfolding goes
+several_ended u f [] ws s h = absurd h
+several_ended u f (w ∷ words) ws s h = ap (after (goes words) w) (several_step u f w ws s h)
 
 -- ---- commands
 
@@ -66,20 +95,56 @@ fixed_values f [] more ws s e = absurd (omega arith)
 fixed_values f (v ∷ []) more ws s e = by_word (spelled_value v) more (ValueFor (ToFixed f) ∷ ws) ws s (with_fixed s f v) (fixed_step f v ws s)
 fixed_values f (v ∷ w ∷ vs) more ws s e = absurd (omega arith)
 
-fixed_read : (puts : List Fixed) (more : List Word) (ws : List Wanted) (s : State) → AreNamed s.classes → s.class < length s.classes → list_all (fixed_is_plain (class_of s.classes s.class)) puts ≡ true
-    → goes (spelled_each (spelled_fixed (class_of s.classes s.class)) puts ++ more) (Terms InFixed ∷ ws) s ≡ goes more (Terms InFixed ∷ ws) (record s { fixed = s.fixed ++ puts })
-fixed_read [] more ws s names lt plain = ap (λ (xs : List Fixed). goes more (Terms InFixed ∷ ws) (record s { fixed = xs })) (sym (append-nil s.fixed))
-fixed_read (p ∷ ps) more ws s names lt plain =
+fixed_several : (f : ℕ) (v : Value) (ws : List Wanted) (s : State) → f + length s.constants < most_fields → step (spelled_value v) (Several InFixed f ∷ ws) s ≡ Next (Several InFixed f ∷ ws) (record s { constants = s.constants ++ v ∷ [] })
+unfolding step
+fixed_several f (value.Whole n) ws s lt = rw (lt-ltb _ _ lt) refl
+fixed_several f (value.Symbol name) ws s lt = rw (lt-ltb _ _ lt) refl
+
+constants_read : (f : ℕ) (vs : List Value) (more : List Word) (ws : List Wanted) (s : State) → f + length (s.constants ++ vs) ≤ most_fields
+    → goes (map spelled_value vs ++ more) (Several InFixed f ∷ ws) s ≡ goes more (Several InFixed f ∷ ws) (record s { constants = s.constants ++ vs })
+constants_read f [] more ws s few = ap (λ (xs : List Value). goes more (Several InFixed f ∷ ws) (record s { constants = xs })) (sym (append-nil s.constants))
+constants_read f (v ∷ vs) more ws s few =
+    let next : State = record s { constants = s.constants ++ v ∷ [] } in
+    let all : s.constants ++ v ∷ [] ++ vs ≡ s.constants ++ v ∷ vs = append_assoc s.constants (v ∷ []) vs in
+    by_word (spelled_value v) (map spelled_value vs ++ more) (Several InFixed f ∷ ws) (Several InFixed f ∷ ws) s next (fixed_several f v ws s (omega (arith, few, length-append s.constants (v ∷ vs))))
+    ∙ constants_read f vs more ws next (subst (λ (xs : List Value). f + length xs ≤ most_fields) (sym all) few)
+    ∙ ap (λ (xs : List Value). goes more (Several InFixed f ∷ ws) (record s { constants = xs })) all
+
+fixed_end : (c : Class) (puts : List Fixed) (more : List Word) → EndValues more → EndValues (spelled_each (spelled_fixed c) puts ++ more)
+fixed_end c [] more h = h
+fixed_end c (p ∷ ps) more h = refl
+
+module _ (more : List Word) (ws : List Wanted) (s : State) (names : AreNamed s.classes) (lt : s.class < length s.classes) (ends : EndValues more) where
+  one_fixed_read : (v : Bool) (p : Fixed) → is_vector (class_of s.classes s.class) p.field ≡ v → fixed_is_valid (class_of s.classes s.class) p ≡ true
+      → goes (spelled_fixed (class_of s.classes s.class) p ++ more) (Terms InFixed ∷ ws) (settled s) ≡ goes more (Terms InFixed ∷ ws) (settled (record s { fixed = s.fixed ++ p ∷ [] }))
+  one_fixed_read true p is plain =
+      let c = class_of s.classes s.class in
+      let choice : Bool → Bool = λ b. if b then nat_le (p.field + length p.values) most_fields else length p.values == 1 in
+      let parts = and_parts (is_attribute c p.field) (choice (is_vector c p.field)) plain in
+      let few : p.field + length p.values ≤ most_fields = leb-true _ _ (ap choice (sym is) ∙ parts.1) in
+      vector_read InFixed p.field (map spelled_value p.values) more ws (settled s) names lt parts.0 is
+      ∙ constants_read p.field p.values more ws (settled s) few
+      ∙ several_ended InFixed p.field more ws (record s { terms = []; constants = p.values }) ends
+  one_fixed_read false p is plain =
+      let c = class_of s.classes s.class in
+      let choice : Bool → Bool = λ b. if b then nat_le (p.field + length p.values) most_fields else length p.values == 1 in
+      let parts = and_parts (is_attribute c p.field) (choice (is_vector c p.field)) plain in
+      let one : length p.values ≡ 1 = eqb-true _ _ (ap choice (sym is) ∙ parts.1) in
+      scalar_read InFixed p.field (map spelled_value p.values) more ws (settled s) names lt parts.0 is
+      ∙ fixed_values p.field p.values more (Terms InFixed ∷ ws) (settled s) one
+
+fixed_read : (puts : List Fixed) (more : List Word) (ws : List Wanted) (s : State) → AreNamed s.classes → s.class < length s.classes → EndValues more → list_all (fixed_is_valid (class_of s.classes s.class)) puts ≡ true
+    → goes (spelled_each (spelled_fixed (class_of s.classes s.class)) puts ++ more) (Terms InFixed ∷ ws) (settled s) ≡ goes more (Terms InFixed ∷ ws) (settled (record s { fixed = s.fixed ++ puts }))
+fixed_read [] more ws s names lt ends plain = ap (λ (xs : List Fixed). goes more (Terms InFixed ∷ ws) (settled (record s { fixed = xs }))) (sym (append-nil s.fixed))
+fixed_read (p ∷ ps) more ws s names lt ends plain =
     let c = class_of s.classes s.class in
-    let each = and_parts (fixed_is_plain c p) (list_all (fixed_is_plain c) ps) plain in
-    let one = and_parts (is_attribute c p.field) (length p.values == 1) each.0 in
+    let each = and_parts (fixed_is_valid c p) (list_all (fixed_is_valid c) ps) plain in
     let rest = spelled_each (spelled_fixed c) ps in
     let next : State = record s { fixed = s.fixed ++ p ∷ [] } in
-    ap (λ (x : List Word). goes x (Terms InFixed ∷ ws) s) (append_assoc (spelled_fixed c p) rest more)
-    ∙ attribute_read InFixed p.field (map spelled_value p.values) (rest ++ more) ws s names lt one.0
-    ∙ fixed_values p.field p.values (rest ++ more) (Terms InFixed ∷ ws) s (eqb-true _ _ one.1)
-    ∙ fixed_read ps more ws next names lt each.1
-    ∙ ap (λ (xs : List Fixed). goes more (Terms InFixed ∷ ws) (record s { fixed = xs })) (append_assoc s.fixed (p ∷ []) ps)
+    ap (λ (x : List Word). goes x (Terms InFixed ∷ ws) (settled s)) (append_assoc (spelled_fixed c p) rest more)
+    ∙ one_fixed_read (rest ++ more) ws s names lt (fixed_end c ps more ends) (is_vector c p.field) p refl each.0
+    ∙ fixed_read ps more ws next names lt ends each.1
+    ∙ ap (λ (xs : List Fixed). goes more (Terms InFixed ∷ ws) (settled (record s { fixed = xs }))) (append_assoc s.fixed (p ∷ []) ps)
 
 fact_begun : (words : List Word) (ws : List Wanted) (s : State) → goes (opening ∷ spelled_keyword keyword.Make ∷ words) (Forms ∷ ws) s ≡ goes words (ClassName ∷ Terms InFixed ∷ Forms ∷ ws) (record s { first = 0; fixed = [] })
 unfolding goes step
@@ -90,18 +155,19 @@ unfolding goes step
 element_closed u words ws s = refl
 
 -- A command `make` is read back.
-pub fact-read : (class : ℕ) (puts : List Fixed) (more : List Word) (ws : List Wanted) (s : State) → AreNamed s.classes → class < length s.classes → list_all (fixed_is_plain (class_of s.classes class)) puts ≡ true
-    → goes (spelled_fact (class_of s.classes class) puts ++ more) (Forms ∷ ws) s ≡ goes more (Forms ∷ ws) (record s { first = 0; class = class; fixed = []; commands = s.commands ++ command.Make class puts ∷ [] })
+pub fact-read : (class : ℕ) (puts : List Fixed) (more : List Word) (ws : List Wanted) (s : State) → AreNamed s.classes → class < length s.classes → list_all (fixed_is_valid (class_of s.classes class)) puts ≡ true
+    → goes (spelled_fact (class_of s.classes class) puts ++ more) (Forms ∷ ws) (settled s) ≡ goes more (Forms ∷ ws) (settled (record s { first = 0; class = class; fixed = []; commands = s.commands ++ command.Make class puts ∷ [] }))
 fact-read class puts more ws s names lt plain =
     let c = class_of s.classes class in
     let begun : State = record s { first = 0; fixed = [] } in
     let named : State = record s { first = 0; fixed = []; class = class } in
     let body = spelled_each (spelled_fixed c) puts in
-    fact_begun (spelled_name c.name ∷ body ++ closing ∷ [] ++ more) ws s
-    ∙ by_word (spelled_name c.name) (body ++ closing ∷ [] ++ more) (ClassName ∷ Terms InFixed ∷ Forms ∷ ws) (Terms InFixed ∷ Forms ∷ ws) begun named (class_step class (Terms InFixed ∷ Forms ∷ ws) begun names lt)
-    ∙ ap (λ (x : List Word). goes x (Terms InFixed ∷ Forms ∷ ws) named) (append_assoc body (closing ∷ []) more)
-    ∙ fixed_read puts (closing ∷ more) (Forms ∷ ws) named names lt plain
-    ∙ element_closed InFixed more (Forms ∷ ws) (record named { fixed = puts })
+    fact_begun (spelled_name c.name ∷ body ++ closing ∷ [] ++ more) ws (settled s)
+    ∙ by_word (spelled_name c.name) (body ++ closing ∷ [] ++ more) (ClassName ∷ Terms InFixed ∷ Forms ∷ ws) (Terms InFixed ∷ Forms ∷ ws) (settled begun) (settled named)
+    (class_step class (Terms InFixed ∷ Forms ∷ ws) (settled begun) names lt)
+    ∙ ap (λ (x : List Word). goes x (Terms InFixed ∷ Forms ∷ ws) (settled named)) (append_assoc body (closing ∷ []) more)
+    ∙ fixed_read puts (closing ∷ more) (Forms ∷ ws) named names lt refl plain
+    ∙ element_closed InFixed more (Forms ∷ ws) (settled (record named { fixed = puts }))
 
 pub run-read : (more : List Word) (ws : List Wanted) (s : State) → goes (spelled_run ++ more) (Forms ∷ ws) s ≡ goes more (Forms ∷ ws) (record s { first = 0; commands = s.commands ++ command.Run None ∷ [] })
 unfolding goes step

@@ -1,34 +1,35 @@
 -- A program that is spelled is read back.
-use Rattle.std.proofs.Common.{◌≡◌, ℕ, zero, suc, ◌≤◌, Bool, true, false, not, ◌&&◌, ◌||◌, ◌==◌, List, [], ◌∷◌, ◌++◌, length, map, refl, sym, ap, subst, ◌∙◌, None, Ok, nat_lt, nat_le, append-nil, append_assoc, true≢false}
+use Rattle.std.proofs.Common.{◌≡◌, ℕ, zero, suc, ◌≤◌, Bool, true, false, not, ◌||◌, ◌==◌, List, [], ◌∷◌, ◌++◌, length, map, refl, sym, ap, subst, ◌∙◌, None, Ok, nat_lt, nat_le, append-nil, append_assoc, true≢false}
 use Rattle.std.specs.Prelude.{if◌then◌else◌}
-use Rattle.std.specs.List.{list_all}
-use Rattle.std.proofs.lemmas.Bool.{and_parts, ltb-true, leb-true, eqb-true, not-true}
+use Rattle.std.specs.List.{list_all, list_any}
+use Rattle.std.proofs.lemmas.Bool.{and_parts, or_left, or_right, ltb-true, leb-true, eqb-true, eq-eqb, not-true}
+use Rattle.std.proofs.lemmas.List.Folds.{list_any-append}
 use Rattle.ops_base.specs.declared.values.Sym.{Sym}
 use Rattle.ops_base.specs.declared.elements.Class.{Class}
 use Rattle.ops_base.specs.declared.conditions.Condition.{Condition}
 use Rattle.ops_base.specs.declared.rules.Rule.{Rule}
 use Rattle.ops_base.specs.declared.commands.Command.{Command}
 use Rattle.ops_base.specs.declared.commands.Command.TheVariants as command
-use Rattle.ops_base.specs.Valid.{most_fields, most_conditions, are_distinct, class_of, class_is_valid, first_is_positive, cells_of, specificity}
+use Rattle.ops_base.specs.Valid.{most_conditions, are_distinct, class_of, class_is_valid, first_is_positive, cells_of, specificity, fixed_is_valid}
 use Rattle.ops_meaning.specs.declared.words.Word.{Word}
 use Rattle.ops_meaning.specs.declared.words.Keyword.TheVariants as keyword
-use Rattle.ops_meaning.specs.Grammar.{InPattern, Wanted, Forms, FirstPattern, Patterns, ClassName, Terms, Actions, State, Outcome, step, is_rule, with_rule, ends, goes}
+use Rattle.ops_meaning.specs.Grammar.{Wanted, Forms, FirstPattern, Patterns, Actions, State, Outcome, is_one_of, step, is_rule, with_rule, ends, goes}
 use Rattle.ops_meaning.specs.Standing.{outcome_of, AreRead}
-use Rattle.ops_meaning.specs.Spelling.{Numbered, opening, closing, arrow, spelled_keyword, spelled_operator, spelled_name, spelled_each, spelled_class, spelled_action, spelled_pattern, spelled_condition, spelled_rule, spelled_command, spelled_program, action_is_plain, plainly_positive, nothing_numbered, after_condition, condition_is_plain, conditions_are_plain, after_conditions, rule_is_plain, class_is_plain, fixed_is_plain, command_is_plain, is_plain}
+use Rattle.ops_meaning.specs.Spelling.{Numbered, opening, closing, arrow, spelled_keyword, spelled_name, spelled_each, spelled_class, attribute_name, last_field, spelled_vector, spelled_action, spelled_condition, spelled_conditions, spelled_rule, spelled_command, spelled_program, action_is_plain, nothing_numbered, after_condition, condition_is_plain, conditions_are_plain, after_conditions, rule_is_plain, vectors_of, scalars_of, class_is_plain, command_is_plain, is_plain}
+use Rattle.ops_meaning.proofs.Lists.{all_weaker}
 use Rattle.ops_meaning.proofs.Places.{numbered}
-use Rattle.ops_meaning.proofs.Numbering.{after_condition-given}
-use Rattle.ops_meaning.proofs.ReadsBack.{apart_before, class-read}
+use Rattle.ops_meaning.proofs.Numbering.{after_condition-given, below}
+use Rattle.ops_meaning.proofs.ReadsBack.{apart_before, vector-read, IsUnder, class-read}
 use Rattle.ops_meaning.proofs.ReadsFacts.{AreNamed, fact-read, run-read}
-use Rattle.ops_meaning.proofs.ReadsPatterns.{pattern-read}
-use Rattle.ops_meaning.proofs.ReadsRules.{acted, class_after_all, actions-read, matched, class_behind, around_behind, first_begun, conditions-read}
+use Rattle.ops_meaning.proofs.ReadsRules.{acted, class_after_all, actions-read, Left, left_after, left_behind, matched, cells_behind, first-read, conditions-read}
 
 -- what a form leaves behind that no later one looks at
 pub record Rest : Type 0 where
   pub name : Sym
   pub first : ℕ
-  pub class : ℕ
+  pub vectors : List Sym
   pub variables : Numbered
-  pub around : ℕ
+  pub left : Left
 
 -- where no form is open
 abbrev pub idle : Rest → List Class → List Rule → List Command → State
@@ -37,32 +38,43 @@ idle rest classes rules commands =
       classes = classes;
       rules = rules;
       commands = commands;
+      vectors = rest.vectors;
       name = rest.name;
       first = rest.first;
       attrs = [];
-      class = rest.class;
+      class = rest.left.class;
       tests = [];
       choice = [];
+      terms = [];
+      constants = [];
       puts = [];
       fixed = [];
       cells = [];
       items = [];
       values = numbered rest.variables.sight;
+      elements = numbered (below rest.left.cell);
+      element = rest.left.element;
       variables = rest.variables.given;
       negated = false;
-      around = rest.around;
+      around = rest.left.around;
       conditions = [];
       actions = [];
     }
 
 -- ---- a production
 
+-- what the conditions of a rule find
+abbrev at_rule : Rest → Left
+at_rule rest = record { class = rest.left.class; around = 0; element = rest.left.element; cell = 0 }
+
 abbrev after_rule : Rest → Rule → Rest
-after_rule rest r = record { name = r.name; first = r.first; class = class_after_all (class_behind rest.class r.conditions) r.actions; variables = after_conditions nothing_numbered r.conditions; around = around_behind 0 nothing_numbered r.conditions }
+after_rule rest r =
+    let l : Left = left_behind (at_rule rest) nothing_numbered r.conditions in
+    record { name = r.name; first = r.first; vectors = rest.vectors; variables = after_conditions nothing_numbered r.conditions; left = record l { class = class_after_all l.class r.actions } }
 
 rule_begun : (r : Rule) (words : List Word) (ws : List Wanted) (s : State) → (length s.commands == 0) ≡ true → is_rule s r.name ≡ false
     → goes (record opening { first = r.first } ∷ spelled_keyword keyword.Production ∷ spelled_name r.name ∷ words) (Forms ∷ ws) s
-    ≡ goes words (FirstPattern ∷ Patterns ∷ Actions ∷ Forms ∷ ws) (record s { first = r.first; name = r.name; tests = []; values = []; variables = 0; negated = false; around = 0; conditions = []; actions = [] })
+    ≡ goes words (FirstPattern ∷ Patterns ∷ Actions ∷ Forms ∷ ws) (record s { first = r.first; name = r.name; tests = []; values = []; elements = []; variables = 0; negated = false; around = 0; conditions = []; actions = [] })
 unfolding goes step
 rule_begun r words ws s none new = rw none (rw new refl)
 
@@ -77,26 +89,21 @@ rule_closed past words ws s = refl
 module _ (classes : List Class) (rules : List Rule) (more : List Word) (ws : List Wanted) (names : AreNamed classes) where
   -- where the rule's parts are wanted
   abbrev begun : Rest → Rule → State
-  begun rest r = record (idle rest classes rules []) { first = r.first; name = r.name; values = []; variables = 0; around = 0 }
+  begun rest r = record (idle rest classes rules []) { first = r.first; name = r.name; values = []; elements = []; variables = 0; around = 0 }
 
   left_read : (r : Rule) (rest : Rest) (cs : List Condition) (words : List Word) → first_is_positive cs ≡ true → length cs ≤ most_conditions → conditions_are_plain classes nothing_numbered cs ≡ true
-      → goes (spelled_each (spelled_condition classes) cs ++ words) (FirstPattern ∷ Patterns ∷ Actions ∷ Forms ∷ ws) (begun rest r)
-      ≡ goes words (Patterns ∷ Actions ∷ Forms ∷ ws) (matched (begun rest r) (class_behind rest.class cs) (after_conditions nothing_numbered cs) (around_behind 0 nothing_numbered cs) cs)
+      → goes (spelled_conditions classes 0 cs ++ words) (FirstPattern ∷ Patterns ∷ Actions ∷ Forms ∷ ws) (begun rest r)
+      ≡ goes words (Patterns ∷ Actions ∷ Forms ∷ ws) (matched (begun rest r) (left_behind (at_rule rest) nothing_numbered cs) (after_conditions nothing_numbered cs) cs)
   left_read r rest [] words positive few plain = absurd (true≢false (sym positive))
   left_read r rest (c ∷ cs) words positive few plain =
       let each = and_parts (condition_is_plain classes nothing_numbered c) (conditions_are_plain classes (after_condition nothing_numbered c) cs) plain in
-      let is : c.negated ≡ false = not-true _ positive in
-      let body = spelled_pattern (class_of classes c.class) c.tests in
-      let others = spelled_each (spelled_condition classes) cs in
+      let l : Left = at_rule rest in
+      let after : Left = left_after l nothing_numbered c in
+      let others = spelled_conditions classes after.cell cs in
       let wanted : List Wanted = Patterns ∷ Actions ∷ Forms ∷ ws in
-      let after : ℕ → Outcome = λ n. goes words wanted (matched (begun rest r) (class_behind c.class cs) (after_conditions (after_condition nothing_numbered c) cs) (around_behind n (after_condition nothing_numbered c) cs) (c ∷ cs)) in
-      ap (λ (x : List Word). goes x (FirstPattern ∷ wanted) (begun rest r)) (append_assoc (spelled_condition classes c) others words)
-      ∙ ap (λ (b : Bool). goes ((if b then spelled_operator keyword.Minus ∷ [] else []) ++ opening ∷ body ++ (others ++ words)) (FirstPattern ∷ wanted) (begun rest r)) is
-      ∙ first_begun (body ++ (others ++ words)) wanted (begun rest r)
-      ∙ ap (λ (b : Bool). goes (body ++ (others ++ words)) (ClassName ∷ Terms InPattern ∷ wanted) (record (begun rest r) { negated = b })) (sym is)
-      ∙ pattern-read c nothing_numbered (others ++ words) wanted (begun rest r) names refl (λ _. refl) each.0
-      ∙ conditions-read cs words (Actions ∷ Forms ∷ ws) (begun rest r) c.class (after_condition nothing_numbered c) 0 (c ∷ []) names (after_condition-given nothing_numbered c refl) few each.1
-      ∙ ap (λ (b : Bool). after (if b then 0 else 0)) (sym is)
+      ap (λ (x : List Word). goes x (FirstPattern ∷ wanted) (begun rest r)) (append_assoc (spelled_condition classes 0 c) others words)
+      ∙ first-read c.class c.tests (others ++ words) wanted (begun rest r) l nothing_numbered [] names refl c.negated (not-true _ positive) refl each.0
+      ∙ conditions-read cs words (Actions ∷ Forms ∷ ws) (begun rest r) after (after_condition nothing_numbered c) (c ∷ []) names (after_condition-given nothing_numbered c refl) (cells_behind (c ∷ []) l nothing_numbered [] refl) few each.1
 
   abbrev whole : Rule → Rest → ℕ → ℕ → ℕ → Outcome
   whole r rest v p c = goes more (Forms ∷ ws) (idle (after_rule rest r) classes (rules ++ record { name = r.name; conditions = r.conditions; actions = r.actions; specificity = p; variables = v; cells = c; first = r.first; past = r.past } ∷ []) [])
@@ -106,62 +113,119 @@ module _ (classes : List Class) (rules : List Rule) (more : List Word) (ws : Lis
       → goes (spelled_rule classes r ++ more) (Forms ∷ ws) (idle rest classes rules []) ≡ goes more (Forms ∷ ws) (idle (after_rule rest r) classes (rules ++ r ∷ []) [])
   rule-read r rest new plain =
       let k = after_conditions nothing_numbered r.conditions in
-      let around = around_behind 0 nothing_numbered r.conditions in
+      let l : Left = left_behind (at_rule rest) nothing_numbered r.conditions in
       let cells = length (cells_of r.conditions) in
       let p1 = and_parts _ (r.cells == cells) plain in
       let p2 = and_parts _ (r.specificity == specificity r.conditions) p1.0 in
       let p3 = and_parts _ (r.variables == k.given) p2.0 in
-      let p4 = and_parts _ (list_all (action_is_plain classes (plainly_positive r.conditions) k.sight) r.actions) p3.0 in
+      let p4 = and_parts _ (list_all (action_is_plain classes cells k.sight) r.actions) p3.0 in
       let p5 = and_parts _ (conditions_are_plain classes nothing_numbered r.conditions) p4.0 in
       let p6 = and_parts (first_is_positive r.conditions) (nat_le (length r.conditions) most_conditions) p5.0 in
-      let left = spelled_each (spelled_condition classes) r.conditions in
+      let left = spelled_conditions classes 0 r.conditions in
       let right = spelled_each (spelled_action classes) r.actions in
       let end : Word = record closing { past = r.past } in
-      let class = class_behind rest.class r.conditions in
-      let body : State = matched (begun rest r) class k around r.conditions in
+      let body : State = matched (begun rest r) l k r.conditions in
+      let in_cells = ap (λ (n : ℕ). numbered (below n)) (sym (cells_behind r.conditions (at_rule rest) nothing_numbered [] refl)) in
       let head : List Word = record opening { first = r.first } ∷ spelled_keyword keyword.Production ∷ spelled_name r.name ∷ left in
       ap (λ (x : List Word). goes x (Forms ∷ ws) (idle rest classes rules [])) (append_assoc (head ++ arrow ∷ right) (end ∷ []) more ∙ append_assoc head (arrow ∷ right) (end ∷ more))
       ∙ rule_begun r (left ++ (arrow ∷ right ++ (end ∷ more))) ws (idle rest classes rules []) refl new
       ∙ left_read r rest r.conditions (arrow ∷ right ++ (end ∷ more)) p6.0 (leb-true _ _ p6.1) p5.1
       ∙ arrow_read (right ++ (end ∷ more)) (Actions ∷ Forms ∷ ws) body
-      ∙ actions-read r.actions k.sight (end ∷ more) (Forms ∷ ws) body class [] names refl p4.1
-      ∙ rule_closed r.past more (Forms ∷ ws) (acted body (class_after_all class r.actions) r.actions)
+      ∙ actions-read r.actions k.sight cells (end ∷ more) (Forms ∷ ws) body l.class [] names refl in_cells p4.1
+      ∙ rule_closed r.past more (Forms ∷ ws) (acted body (class_after_all l.class r.actions) r.actions)
       ∙ ap (λ (n : ℕ). whole r rest n (specificity r.conditions) cells) (sym (eqb-true r.variables _ p3.1))
       ∙ ap (λ (n : ℕ). whole r rest r.variables n cells) (sym (eqb-true r.specificity _ p2.1))
       ∙ ap (λ (n : ℕ). whole r rest r.variables r.specificity n) (sym (eqb-true r.cells _ p1.1))
 
 -- ---- lists of forms
 
-class_parts : (c : Class) → class_is_plain c ≡ true → (c.vector ≡ false) × (length c.attrs ≤ most_fields) × (are_distinct (map (λ a. a.0) c.attrs) ≡ true)
-class_parts c plain =
-    let p1 = and_parts (not c.vector) (class_is_valid c) plain in
-    let p2 = and_parts (nat_le (length c.attrs) most_fields && are_distinct (map (λ a. a.0) c.attrs)) (not c.vector || nat_lt 0 (length c.attrs)) p1.1 in
-    let p3 = and_parts (nat_le (length c.attrs) most_fields) (are_distinct (map (λ a. a.0) c.attrs)) p2.0 in
-    (not-true _ p1.0, leb-true _ _ p3.0, p3.1)
-
-named_attributes : (classes : List Class) → list_all class_is_plain classes ≡ true → (i : ℕ) → are_distinct (map (λ a. a.0) (class_of classes i).attrs) ≡ true
-named_attributes [] plain i = refl
-named_attributes (c ∷ cs) plain zero = (class_parts c (and_parts (class_is_plain c) (list_all class_is_plain cs) plain).0).2
-named_attributes (c ∷ cs) plain (suc i) = named_attributes cs (and_parts (class_is_plain c) (list_all class_is_plain cs) plain).1 i
+named_classes : (vectors : List Sym) (classes : List Class) → list_all (class_is_plain vectors) classes ≡ true → (i : ℕ) → class_is_valid (class_of classes i) ≡ true
+named_classes vectors [] plain i = refl
+named_classes vectors (c ∷ cs) plain zero =
+    let here = and_parts (class_is_plain vectors c) (list_all (class_is_plain vectors) cs) plain in
+    (and_parts (class_is_valid c) (list_all (λ a. not (is_one_of a vectors)) (scalars_of c)) here.0).0
+named_classes vectors (c ∷ cs) plain (suc i) = named_classes vectors cs (and_parts (class_is_plain vectors c) (list_all (class_is_plain vectors) cs) plain).1 i
 
 abbrev Reads : List Word → Rest → List Class → List Rule → List Command → List Class → List Rule → List Command → Type 0
 Reads words rest classes rules commands classes' rules' commands' =
     (rest' : Rest) × ((more : List Word) → goes (words ++ more) (Forms ∷ []) (idle rest classes rules commands) ≡ goes more (Forms ∷ []) (idle rest' classes' rules' commands'))
 
-classes_read : (cs done : List Class) (rest : Rest) → list_all class_is_plain cs ≡ true → are_distinct (map (λ c. c.name.0) (done ++ cs)) ≡ true
+or_none : (x : Bool) → (x || false) ≡ x
+or_none true = refl
+or_none false = refl
+
+or_behind : (x y z : Bool) → ((x || (y || false)) || z) ≡ (x || (y || z))
+or_behind true y z = refl
+or_behind false true z = refl
+or_behind false false z = refl
+
+module _ (name n : Sym) (vectors names : List Sym) where
+  named_before : (b : Bool) → (name.0 == n.0) ≡ b → is_one_of name vectors ≡ true → (is_one_of n vectors || is_one_of n names) ≡ (is_one_of n vectors || (b || is_one_of n names))
+  named_before true same there =
+      let here : is_one_of n vectors ≡ true = subst (λ (m : ℕ). list_any (λ (v : Sym). v.0 == m) vectors ≡ true) (eqb-true name.0 n.0 same) there in or_left _ _ here ∙ sym (or_left _ _ here)
+  named_before false same there = refl
+
+  -- a name that stood already says nothing new
+  told_more : (b : Bool) → is_one_of name vectors ≡ b → (is_one_of n (if b then vectors else vectors ++ name ∷ []) || is_one_of n names) ≡ (is_one_of n vectors || is_one_of n (name ∷ names))
+  told_more true there = named_before (name.0 == n.0) refl there
+  told_more false new =
+      ap (λ (b : Bool). b || is_one_of n names) (list_any-append (λ (v : Sym). v.0 == n.0) vectors (name ∷ [])) ∙ or_behind (is_one_of n vectors) (name.0 == n.0) (is_one_of n names)
+
+-- A name of a vector attribute is read back, where the class has one.
+one_vector_read : (v : Bool) (name : Sym) (rest : Rest)
+    → (rest' : Rest) × ((more : List Word) → goes ((if v then opening ∷ spelled_keyword keyword.VectorAttribute ∷ spelled_name name ∷ closing ∷ [] else []) ++ more) (Forms ∷ []) (idle rest [] [] []) ≡ goes more (Forms ∷ []) (idle rest' [] [] []))
+    × ((n : Sym) (names : List Sym) → (is_one_of n rest'.vectors || is_one_of n names) ≡ (is_one_of n rest.vectors || is_one_of n (if v then name ∷ names else names)))
+one_vector_read false name rest = (rest, λ more. refl, λ n names. refl)
+one_vector_read true name rest =
+    let b = is_one_of name rest.vectors in (
+      record rest { first = 0; vectors = if b then rest.vectors else rest.vectors ++ name ∷ [] },
+      λ more. vector-read b name more [] (idle rest [] [] []) refl refl,
+      λ n names. told_more name n rest.vectors names b refl,
+    )
+
+-- The names of the vector attributes are read back.
+vectors_read : (cs : List Class) (rest : Rest)
+    → (rest' : Rest) × ((more : List Word) → goes (spelled_each spelled_vector cs ++ more) (Forms ∷ []) (idle rest [] [] []) ≡ goes more (Forms ∷ []) (idle rest' [] [] []))
+    × ((n : Sym) → is_one_of n rest'.vectors ≡ (is_one_of n rest.vectors || is_one_of n (vectors_of cs)))
+vectors_read [] rest = (rest, λ more. refl, λ n. sym (or_none (is_one_of n rest.vectors)))
+vectors_read (c ∷ cs) rest =
+    let first = one_vector_read c.vector (attribute_name c (last_field c)) rest in
+    let behind = vectors_read cs first.0 in
+    let others = spelled_each spelled_vector cs in (
+      behind.0,
+      λ more. ap (λ (x : List Word). goes x (Forms ∷ []) (idle rest [] [] [])) (append_assoc (spelled_vector c) others more) ∙ first.1 (others ++ more) ∙ behind.1 more,
+      λ n. behind.2 n ∙ first.2 n (vectors_of cs),
+    )
+
+vector_there : (v : Bool) (name : Sym) (names : List Sym) → v ≡ true → is_one_of name (if v then name ∷ names else names) ≡ true
+vector_there true name names is = or_left _ _ (eq-eqb name.0 name.0 refl)
+vector_there false name names is = absurd (true≢false (sym is))
+
+vector_behind : (v : Bool) (name n : Sym) (names : List Sym) → is_one_of n names ≡ true → is_one_of n (if v then name ∷ names else names) ≡ true
+vector_behind true name n names there = or_right _ _ there
+vector_behind false name n names there = there
+
+classes_read : (cs done : List Class) (rest : Rest) (vectors : List Sym) → ((n : Sym) → is_one_of n rest.vectors ≡ is_one_of n vectors) → ((n : Sym) → is_one_of n (vectors_of cs) ≡ true → is_one_of n vectors ≡ true)
+    → list_all (class_is_plain vectors) cs ≡ true → are_distinct (map (λ c. c.name.0) (done ++ cs)) ≡ true
     → Reads (spelled_each spelled_class cs) rest done [] [] (done ++ cs) [] []
-classes_read [] done rest plain distinct = (rest, λ more. ap (λ (xs : List Class). goes more (Forms ∷ []) (idle rest xs [] [])) (sym (append-nil done)))
-classes_read (c ∷ cs) done rest plain distinct =
-    let each = and_parts (class_is_plain c) (list_all class_is_plain cs) plain in
-    let parts = class_parts c each.0 in
+classes_read [] done rest vectors told there plain distinct = (rest, λ more. ap (λ (xs : List Class). goes more (Forms ∷ []) (idle rest xs [] [])) (sym (append-nil done)))
+classes_read (c ∷ cs) done rest vectors told there plain distinct =
+    let each = and_parts (class_is_plain vectors c) (list_all (class_is_plain vectors) cs) plain in
+    let parts = and_parts (class_is_valid c) (list_all (λ a. not (is_one_of a vectors)) (scalars_of c)) each.0 in
+    let name : Sym = attribute_name c (last_field c) in
+    let under : IsUnder rest.vectors c = record {
+      scalars = all_weaker (λ a. not (is_one_of a vectors)) (λ a. not (is_one_of a rest.vectors)) (scalars_of c) (λ a h. ap not (told a) ∙ h) parts.1;
+      last = λ is. told name ∙ there name (vector_there c.vector name (vectors_of cs) is);
+    } in
     let all : done ++ c ∷ [] ++ cs ≡ done ++ c ∷ cs = append_assoc done (c ∷ []) cs in
     let others = spelled_each spelled_class cs in
     let next : Rest = record rest { first = 0; name = c.name } in
-    let behind = classes_read cs (done ++ c ∷ []) next each.1 (subst (λ (xs : List Class). are_distinct (map (λ c. c.name.0) xs) ≡ true) (sym all) distinct) in (
+    let behind = classes_read cs (done ++ c ∷ []) next vectors told (λ n h. there n (vector_behind c.vector name n (vectors_of cs) h)) each.1
+    (subst (λ (xs : List Class). are_distinct (map (λ c. c.name.0) xs) ≡ true) (sym all) distinct) in (
       behind.0,
       λ more.
           ap (λ (x : List Word). goes x (Forms ∷ []) (idle rest done [] [])) (append_assoc (spelled_class c) others more)
-          ∙ class-read c (others ++ more) [] (idle rest done [] []) refl (apart_before (λ (c : Class). c.name.0) done c cs distinct) parts.0 parts.2 parts.1
+          ∙ class-read c (others ++ more) [] (idle rest done [] []) refl (apart_before (λ (c : Class). c.name.0) done c cs distinct) parts.0 under
           ∙ behind.1 more
           ∙ ap (λ (xs : List Class). goes more (Forms ∷ []) (idle behind.0 xs [] [])) all,
     )
@@ -185,8 +249,8 @@ rules_read classes (r ∷ rs) done rest names plain distinct =
 command_read : (classes : List Class) (rules : List Rule) (c : Command) (done : List Command) (rest : Rest) → AreNamed classes → command_is_plain classes c ≡ true
     → Reads (spelled_command classes c) rest classes rules done classes rules (done ++ c ∷ [])
 command_read classes rules (command.Make class puts) done rest names plain =
-    let parts = and_parts (nat_lt class (length classes)) (list_all (fixed_is_plain (class_of classes class)) puts) plain in
-    (record rest { first = 0; class = class }, λ more. fact-read class puts more [] (idle rest classes rules done) names (ltb-true _ _ parts.0) parts.1)
+    let parts = and_parts (nat_lt class (length classes)) (list_all (fixed_is_valid (class_of classes class)) puts) plain in
+    (record rest { first = 0; left = record rest.left { class = class } }, λ more. fact-read class puts more [] (idle rest classes rules done) names (ltb-true _ _ parts.0) parts.1)
 command_read classes rules (command.Run None) done rest names plain = (record rest { first = 0 }, λ more. run-read more [] (idle rest classes rules done))
 command_read classes rules _ done rest names plain = absurd (true≢false (sym plain))
 
@@ -213,24 +277,35 @@ at_end : (s : State) → goes [] (Forms ∷ []) s ≡ Ok s
 unfolding goes ends
 at_end s = refl
 
+-- before the first form
+abbrev nothing_left : Rest
+nothing_left = record { name = record { 0 = 0 }; first = 0; vectors = []; variables = nothing_numbered; left = record { class = 0; around = 0; element = record { 0 = 0 }; cell = 0 } }
+
 -- Each program that has a spelling is what its spelling is read as.
 pub program-read : (classes : List Class) (rules : List Rule) (commands : List Command) → is_plain classes rules commands ≡ true → AreRead (spelled_program classes rules commands) classes rules commands
 program-read classes rules commands plain =
     let p1 = and_parts _ (are_distinct (map (λ r. r.name.0) rules)) plain in
     let p2 = and_parts _ (are_distinct (map (λ c. c.name.0) classes)) p1.0 in
     let p3 = and_parts _ (list_all (command_is_plain classes) commands) p2.0 in
-    let p4 = and_parts (list_all class_is_plain classes) (list_all (rule_is_plain classes) rules) p3.0 in
-    let names : AreNamed classes = record { classes_apart = p2.1; attributes_apart = named_attributes classes p4.0 } in
+    let p4 = and_parts (list_all (class_is_plain (vectors_of classes)) classes) (list_all (rule_is_plain classes) rules) p3.0 in
+    let names : AreNamed classes = record { classes_apart = p2.1; classes_valid = named_classes (vectors_of classes) classes p4.0 } in
+    let vector_words = spelled_each spelled_vector classes in
     let first_words = spelled_each spelled_class classes in
     let next_words = spelled_each (spelled_rule classes) rules in
     let last_words = spelled_each (spelled_command classes) commands in
-    let first = classes_read classes [] (record { name = record { 0 = 0 }; first = 0; class = 0; variables = nothing_numbered; around = 0 }) p4.0 p2.1 in
+    let vectors = vectors_read classes nothing_left in
+    let first = classes_read classes [] vectors.0 (vectors_of classes) vectors.2 (λ n h. h) p4.0 p2.1 in
     let next = rules_read classes rules [] first.0 names p4.1 p1.1 in
     let last = commands_read classes rules commands [] next.0 names p3.1 in
     record {
       state = idle last.0 classes rules commands;
-      outcome = ap (λ (x : List Word). outcome_of x) (sym (append-nil (first_words ++ next_words ++ last_words)) ∙ append_assoc (first_words ++ next_words) last_words [] ∙ append_assoc first_words next_words (last_words ++ []))
-          ∙ first.1 (next_words ++ (last_words ++ [])) ∙ next.1 (last_words ++ []) ∙ last.1 [] ∙ at_end (idle last.0 classes rules commands);
+      outcome = ap (λ (x : List Word). outcome_of x) (
+          sym (append-nil (vector_words ++ first_words ++ next_words ++ last_words))
+          ∙ append_assoc (vector_words ++ first_words ++ next_words) last_words []
+          ∙ append_assoc (vector_words ++ first_words) next_words (last_words ++ [])
+          ∙ append_assoc vector_words first_words (next_words ++ (last_words ++ []))
+          )
+          ∙ vectors.1 (first_words ++ (next_words ++ (last_words ++ []))) ∙ first.1 (next_words ++ (last_words ++ [])) ∙ next.1 (last_words ++ []) ∙ last.1 [] ∙ at_end (idle last.0 classes rules commands);
       classes_are = refl;
       rules_are = refl;
       commands_are = refl;

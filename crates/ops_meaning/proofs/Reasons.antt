@@ -1,7 +1,7 @@
 -- Why a word is refused.
-use Rattle.std.proofs.Common.{◌≡◌, ℕ, suc, ◌-◌, ◌<◌, Bool, true, false, not, ◌||◌, ◌==◌, cond, List, [], ◌∷◌, length, take, refl, sym, ap, subst, ◌∙◌, arith, Option, Some, None, nat_lt, is_some, position, slice_get, true≢false}
+use Rattle.std.proofs.Common.{◌≡◌, ℕ, suc, ◌+◌, ◌-◌, ◌<◌, Bool, true, false, not, ◌||◌, ◌==◌, cond, List, [], ◌∷◌, length, take, refl, sym, ap, subst, ◌∙◌, arith, Option, Some, None, nat_lt, is_some, position, slice_get, true≢false}
 use Rattle.std.specs.List.{list_any, position_or_len}
-use Rattle.std.proofs.lemmas.Bool.{cond_both, lt-ltb}
+use Rattle.std.proofs.lemmas.Bool.{cond_both, and_from, lt-ltb}
 use Rattle.ops_base.specs.declared.values.Sym.{Sym}
 use Rattle.ops_base.specs.declared.values.Value.{Value}
 use Rattle.ops_base.specs.declared.values.Pred.{Pred}
@@ -11,15 +11,15 @@ use Rattle.ops_base.specs.declared.actions.Term.{Term}
 use Rattle.ops_base.specs.declared.actions.Term.TheVariants as term
 use Rattle.ops_base.specs.declared.endings.Fault.{Fault}
 use Rattle.ops_base.specs.declared.endings.Fault.TheVariants as fault
-use Rattle.ops_base.specs.Valid.{most_fields, most_conditions}
+use Rattle.ops_base.specs.Valid.{most_fields, most_conditions, class_of, is_vector, is_equality}
 use Rattle.ops_tokens.specs.declared.token.TokenKind.{TokenKind}
 use Rattle.ops_tokens.specs.declared.token.TokenKind.TheVariants as kind
 use Rattle.ops_meaning.specs.declared.words.Word.{Word}
 use Rattle.ops_meaning.specs.declared.words.Keyword.{Keyword}
 use Rattle.ops_meaning.specs.declared.words.Keyword.TheVariants as keyword
-use Rattle.ops_meaning.specs.Grammar.{Use, Target, ToTest, ToPut, ToFixed, ToItem, Wanted, Forms, Form, ClassDeclared, Attributes, RuleName, FirstPattern, Patterns, NegatedPattern, ClassName, Terms, Attribute, Place, Tests, Tested, Choice, Atom, ValueFor, Actions, ActionWord, Cell, Cells, Items, ItemWord, Closes, State, Step, Next, Refuses, is_left, is_right, is_left_brace, is_right_brace, is_caret, is_name, is_variable, is_arrow, is_crlf, is_literal, is_minus, opens_choice, closes_choice, pred_of, constant_of, value_of, atom_of, natural_of, is_one_of, number_of, may_declare, is_class, is_rule, form, class_at, attributes_of, field_at, variable_tested, constant_tested, tested, predicated, test, chosen, atom_at, term_at, bound_at, constant_at, value_for, action_word, designated, cell_of, cell, step}
-use Rattle.ops_meaning.specs.Derivation.{is_whole}
-use Rattle.ops_meaning.specs.Reasons.{no_form_fault, is_bound, is_positive, is_condition, designates, is_unclear, designates_unclearly, Because}
+use Rattle.ops_meaning.specs.Grammar.{Use, InPattern, InPut, InFixed, Target, ToTest, ToPut, ToFixed, ToTerms, ToConstants, ToItem, Wanted, Forms, Form, ClassDeclared, Attributes, VectorName, VectorNames, RuleName, FirstPattern, Patterns, Pattern, Braced, ElementName, ClosesBrace, ClassName, Terms, Attribute, Several, Place, Tests, Tested, Choice, Atom, ValueFor, Actions, ActionWord, Cell, Cells, Items, ItemWord, Closes, State, Step, Next, Refuses, is_left, is_right, is_left_brace, is_right_brace, is_caret, is_name, is_variable, is_arrow, is_crlf, is_literal, is_minus, opens_choice, closes_choice, pred_of, constant_of, value_of, atom_of, natural_of, is_one_of, number_of, may_declare, is_class, is_rule, is_second, makes_second, vector_name, form, class_at, attributes_of, field_at, variable_tested, constant_tested, tested, predicated, test, place, chosen, atom_at, term_at, bound_at, constant_at, value_for, within, one_of_several, several, element_at, element_name, action_word, designated, cell_of, cell_named, cell, step}
+use Rattle.ops_meaning.specs.Derivation.{is_designator}
+use Rattle.ops_meaning.specs.Reasons.{no_form_fault, is_declaration, gives_second, is_full, wants_bound, is_bound, is_positive, is_condition, designates, is_unclear, designates_unclearly, wants_cell, is_bad_designator, Because}
 
 abbrev pub HasReason : List Wanted → Word → State → Step → Type 0
 HasReason ws w s (Next ws' s') = Unit {0}
@@ -52,47 +52,53 @@ module _ (w : Word) (ws : List Wanted) (s : State) where
   At here r = HasReason here w s r
 
   form_reason : (k : Keyword) → w.keyword ≡ k → At (Form ∷ ws) (form w k ws s)
-  form_reason keyword.Literalize e = cond_both (may_declare s) _ _ (At (Form ∷ ws)) (λ _. tt) (λ no. (e, no))
-  form_reason keyword.Production e = cond_both (length s.commands == 0) _ _ (At (Form ∷ ws)) (λ _. tt) (λ no. (e, no))
+  form_reason keyword.Literalize e = cond_both (may_declare s) _ _ (At (Form ∷ ws)) (λ _. tt) (λ late. (refl, ap is_declaration e, late))
+  form_reason keyword.VectorAttribute e = cond_both (may_declare s) _ _ (At (Form ∷ ws)) (λ _. tt) (λ late. (refl, ap is_declaration e, late))
+  form_reason keyword.Production e = cond_both (length s.commands == 0) _ _ (At (Form ∷ ws)) (λ _. tt) (λ late. (refl, e, late))
   form_reason keyword.Make e = tt
   form_reason keyword.Run e = tt
   form_reason _ e = refl
 
   class_at_reason : is_name w.kind ≡ true → (o : Option ℕ) → position (λ c. c.name.0 == w.name.0) s.classes ≡ o → At (ClassName ∷ ws) (class_at o ws s)
   class_at_reason is (Some c) e = tt
-  class_at_reason is None e = (is, position_none (λ c. c.name.0 == w.name.0) s.classes e)
+  class_at_reason is None e = (refl, is, position_none (λ c. c.name.0 == w.name.0) s.classes e)
 
   field_at_reason : (u : Use) → is_name w.kind ≡ true → (o : Option ℕ) → position (λ a. a.0 == w.name.0) (attributes_of (slice_get s.classes s.class)) ≡ o → At (Attribute u ∷ ws) (field_at u o ws s)
-  field_at_reason u is (Some f) e = tt
-  field_at_reason u is None e = (is, position_none (λ (a : Sym). a.0 == w.name.0) (attributes_of (slice_get s.classes s.class)) e)
+  field_at_reason u is (Some f) e = cond_both (is_vector (class_of s.classes s.class) f) _ _ (At (Attribute u ∷ ws)) (λ _. tt) (λ _. tt)
+  field_at_reason u is None e = (refl, is, position_none (λ (a : Sym). a.0 == w.name.0) (attributes_of (slice_get s.classes s.class)) e)
 
   -- where no_form_fault is a bad form, and a variable with no number is not bound
   module _ (here behind : List Wanted) (bad : no_form_fault here ≡ fault.BadForm) (unbound : number_of w.name s.values ≡ None → is_bound here w.name s ≡ false) where
-    variable_tested_reason : (f : ℕ) (p : Pred) → is_variable w.kind ≡ true → (o : Option ℕ) → number_of w.name s.values ≡ o → At here (variable_tested f p o w.name behind s)
-    variable_tested_reason f p is (Some n) e = tt
-    variable_tested_reason f pred.Eq is None e = tt
-    variable_tested_reason f _ is None e = (is, unbound e)
+    -- behind a predicate that is no equality a variable must be bound
+    abbrev WantsBoundBehind : Pred → Type 0
+    WantsBoundBehind p = not (is_equality p) ≡ true → wants_bound here ≡ true
 
-    constant_tested_reason : (f : ℕ) (p : Pred) (o : Option Value) → At here (constant_tested f p w o behind s)
-    constant_tested_reason f p (Some v) = tt
-    constant_tested_reason f p None =
-        cond_both (is_variable w.kind) _ _ (At here) (λ is. variable_tested_reason f p is (number_of w.name s.values) refl) (λ _. bad)
+    variable_tested_reason : (f : ℕ) (p : Pred) → WantsBoundBehind p → is_variable w.kind ≡ true → (o : Option ℕ) → number_of w.name s.values ≡ o → At here (variable_tested f p o w.name behind s)
+    variable_tested_reason f p wants is (Some n) e = tt
+    variable_tested_reason f pred.Eq wants is None e = tt
+    variable_tested_reason f _ wants is None e = (wants refl, is, unbound e)
 
-    tested_reason : (f : ℕ) (p : Pred) → At here (tested f p w behind s)
-    tested_reason f p = cond_both (is_literal w.keyword) _ _ (At here) (λ _. tt) (λ _. constant_tested_reason f p (constant_of w.kind w.name))
+    constant_tested_reason : (f : ℕ) (p : Pred) → WantsBoundBehind p → (o : Option Value) → At here (constant_tested f p w o behind s)
+    constant_tested_reason f p wants (Some v) = tt
+    constant_tested_reason f p wants None =
+        cond_both (is_variable w.kind) _ _ (At here) (λ is. variable_tested_reason f p wants is (number_of w.name s.values) refl) (λ _. bad)
+
+    tested_reason : (f : ℕ) (p : Pred) → WantsBoundBehind p → At here (tested f p w behind s)
+    tested_reason f p wants =
+        cond_both (is_literal w.keyword) _ _ (At here) (λ _. tt) (λ _. constant_tested_reason f p wants (constant_of w.kind w.name))
 
     predicated_reason : (f : ℕ) (o : Option Pred) → At here (predicated f w o behind s)
     predicated_reason f (Some p) = tt
-    predicated_reason f None = tested_reason f pred.Eq
+    predicated_reason f None = tested_reason f pred.Eq (λ e. absurd (true≢false (sym e)))
 
     test_reason : (f : ℕ) → At here (test f w behind s)
     test_reason f = cond_both (opens_choice w.keyword) _ _ (At here) (λ _. tt) (λ _. predicated_reason f (pred_of w.keyword))
 
     -- a value, where a variable with a number is refused for a reason if at all
-    module _ (t : Target) (bound : is_variable w.kind ≡ true → (x : Term) → At here (term_at t x behind s)) where
+    module _ (t : Target) (wants : wants_bound here ≡ true) (bound : is_variable w.kind ≡ true → (x : Term) → At here (term_at t x behind s)) where
       bound_reason : is_variable w.kind ≡ true → (o : Option ℕ) → number_of w.name s.values ≡ o → At here (bound_at t o behind s)
       bound_reason is (Some n) e = bound is (term.Variable n)
-      bound_reason is None e = (is, unbound e)
+      bound_reason is None e = (wants, is, unbound e)
 
       constant_at_reason : (o : Option Value) → At here (constant_at t w o behind s)
       constant_at_reason (Some v) = tt
@@ -102,10 +108,57 @@ module _ (w : Word) (ws : List Wanted) (s : State) where
       value_reason = cond_both (is_literal w.keyword) _ _ (At here) (λ _. tt) (λ _. constant_at_reason (value_of w.kind w.name))
 
   value_for_reason : (t : Target) → At (ValueFor t ∷ ws) (value_for t w ws s)
-  value_for_reason (ToTest f p) = value_reason (ValueFor (ToTest f p) ∷ ws) ws refl (λ _. refl) (ToTest f p) (λ is x. (is, refl))
-  value_for_reason (ToPut f) = value_reason (ValueFor (ToPut f) ∷ ws) ws refl (λ e. ap is_some e) (ToPut f) (λ is x. tt)
-  value_for_reason (ToFixed f) = value_reason (ValueFor (ToFixed f) ∷ ws) ws refl (λ _. refl) (ToFixed f) (λ is x. (is, refl))
-  value_for_reason ToItem = value_reason (ValueFor ToItem ∷ ws) ws refl (λ e. ap is_some e) ToItem (λ is x. tt)
+  value_for_reason (ToTest f p) = value_reason (ValueFor (ToTest f p) ∷ ws) ws refl (λ _. refl) (ToTest f p) refl (λ is x. (refl, is, refl))
+  value_for_reason (ToPut f) = value_reason (ValueFor (ToPut f) ∷ ws) ws refl (λ e. ap is_some e) (ToPut f) refl (λ is x. tt)
+  value_for_reason (ToFixed f) = value_reason (ValueFor (ToFixed f) ∷ ws) ws refl (λ _. refl) (ToFixed f) refl (λ is x. (refl, is, refl))
+  value_for_reason ToTerms = value_reason (ValueFor ToTerms ∷ ws) ws refl (λ e. ap is_some e) ToTerms refl (λ is x. tt)
+  value_for_reason ToConstants = value_reason (ValueFor ToConstants ∷ ws) ws refl (λ _. refl) ToConstants refl (λ is x. (refl, is, refl))
+  value_for_reason ToItem = value_reason (ValueFor ToItem ∷ ws) ws refl (λ e. ap is_some e) ToItem refl (λ is x. tt)
+
+  place_reason : (here behind : List Wanted) → no_form_fault here ≡ fault.BadForm → (number_of w.name s.values ≡ None → is_bound here w.name s ≡ false) → (f : ℕ) → At here (place f w behind s)
+  place_reason here behind bad unbound f = cond_both (is_left_brace w.kind) _ _ (At here) (λ _. tt) (λ _. test_reason here behind bad unbound f)
+
+  -- a place or a value more, where there is room for it
+  within_reason : (here : List Wanted) (b : Bool) → (b ≡ false → is_full here s ≡ true) → (x : Step) → At here x → At here (within b x)
+  within_reason here true full x h = h
+  within_reason here false full (Next ws' s') h = full refl
+  within_reason here false full (Refuses f) h = h
+
+  one_of_several_reason : (u : Use) (f : ℕ) → At (Several u f ∷ ws) (one_of_several u f w ws s)
+  one_of_several_reason InPattern f =
+      within_reason (Several InPattern f ∷ ws) (nat_lt f most_fields) (λ e. ap not e) (place f w (Several InPattern (f + 1) ∷ ws) s)
+      (place_reason (Several InPattern f ∷ ws) (Several InPattern (f + 1) ∷ ws) refl (λ e. ap is_some e) f)
+  one_of_several_reason InPut f =
+      value_reason (Several InPut f ∷ ws) (Several InPut f ∷ ws) refl (λ e. ap is_some e) ToTerms refl (λ is x. tt)
+  one_of_several_reason InFixed f =
+      within_reason (Several InFixed f ∷ ws) (nat_lt (f + length s.constants) most_fields) (λ e. ap not e) (value_for ToConstants w (Several InFixed f ∷ ws) s)
+      (value_reason (Several InFixed f ∷ ws) (Several InFixed f ∷ ws) refl (λ _. refl) ToConstants refl (λ is x. (refl, is, refl)))
+
+  several_reason : (u : Use) (f : ℕ) → At (Several u f ∷ ws) (several u f w ws s)
+  several_reason u f =
+      cond_both (is_right w.kind || is_caret w.kind) _ _ (At (Several u f ∷ ws))
+      (λ _. cond_both (is_right w.kind) _ _ (At (Several u f ∷ ws)) (λ _. tt) (λ _. cond_both (is_caret w.kind) _ _ (At (Several u f ∷ ws)) (λ _. tt) (λ _. refl)))
+      (λ _. one_of_several_reason u f)
+
+  -- the name of a vector attribute
+  vector_name_reason : (here behind : List Wanted) → no_form_fault here ≡ fault.BadForm
+      → (is_one_of w.name s.vectors ≡ false → makes_second w.name s.classes ≡ true → gives_second here w.name s ≡ true) → At here (vector_name w behind s)
+  vector_name_reason here behind bad second =
+      cond_both (is_name w.kind) _ _ (At here)
+      (λ is. cond_both (is_one_of w.name s.vectors) _ _ (At here) (λ _. tt)
+      (λ new. cond_both (makes_second w.name s.classes) _ _ (At here) (λ more. (is, second new more)) (λ _. tt)))
+      (λ _. bad)
+
+  -- an element variable
+  element_at_reason : (here behind : List Wanted) → (is_some (number_of w.name s.elements) ≡ true → is_bad_designator here w s ≡ true)
+      → (o : Option ℕ) → number_of w.name s.elements ≡ o → At here (element_at o w.name behind s)
+  element_at_reason here behind again (Some c) e = again (ap is_some e)
+  element_at_reason here behind again None e = tt
+
+  element_name_reason : (here behind : List Wanted) → no_form_fault here ≡ fault.BadForm
+      → (is_variable w.kind ≡ true → is_some (number_of w.name s.elements) ≡ true → is_bad_designator here w s ≡ true) → At here (element_name w behind s)
+  element_name_reason here behind bad again =
+      cond_both (is_variable w.kind) _ _ (At here) (λ is. element_at_reason here behind (again is) (number_of w.name s.elements) refl) (λ _. bad)
 
   chosen_reason : (f : ℕ) (o : Option Value) → At (Choice f ∷ ws) (chosen o (Choice f ∷ ws) s)
   chosen_reason f (Some v) = tt
@@ -122,21 +175,29 @@ module _ (w : Word) (ws : List Wanted) (s : State) where
   action_word_reason keyword.Halt = tt
   action_word_reason _ = refl
 
-  -- where no_form_fault is a bad form
-  designated_reason : (here behind : List Wanted) → is_whole w.kind ≡ true → (before : ℕ) (o : Option Condition) → designates w.kind s ≡ is_positive o
-      → designates_unclearly w.kind s ≡ list_any (λ c. c.negated) (take before s.conditions) → At here (designated before o behind s)
-  designated_reason here behind is before (Some c) e unclear =
-      cond_both c.negated _ _ (At here) (λ negated. (is, e ∙ ap not negated))
-      (λ positive. cond_both (list_any (λ c. c.negated) (take before s.conditions)) _ _ (At here) (λ among. (e ∙ ap not positive, unclear ∙ among)) (λ _. tt))
-  designated_reason here behind is before None e unclear = (is, e)
+  -- where a cell is wanted
+  module _ (here behind : List Wanted) (wants : wants_cell here ≡ true) (bad : no_form_fault here ≡ fault.BadForm)
+      (none : is_designator w.kind ≡ true → designates w.kind w.name s ≡ false → is_bad_designator here w s ≡ true) where
+    designated_reason : is_designator w.kind ≡ true → (before : ℕ) (o : Option Condition) → designates w.kind w.name s ≡ is_positive o
+        → designates_unclearly w.kind s ≡ list_any (λ c. c.negated) (take before s.conditions) → At here (designated before o behind s)
+    designated_reason is before (Some c) e unclear =
+        cond_both c.negated _ _ (At here) (λ negated. none is (e ∙ ap not negated))
+        (λ positive. cond_both (list_any (λ c. c.negated) (take before s.conditions)) _ _ (At here) (λ among. (wants, e ∙ ap not positive, unclear ∙ among)) (λ _. tt))
+    designated_reason is before None e unclear = none is e
 
-  cell_of_reason : (here behind : List Wanted) → is_whole w.kind ≡ true → (o : Option ℕ) → designates w.kind s ≡ is_condition s o → designates_unclearly w.kind s ≡ is_unclear s o → At here (cell_of o behind s)
-  cell_of_reason here behind is (Some n) e unclear = designated_reason here behind is (n - 1) (slice_get s.conditions (n - 1)) e unclear
-  cell_of_reason here behind is None e unclear = (is, e)
+    cell_of_reason : is_designator w.kind ≡ true → (o : Option ℕ) → designates w.kind w.name s ≡ is_condition s o → designates_unclearly w.kind s ≡ is_unclear s o → At here (cell_of o behind s)
+    cell_of_reason is (Some n) e unclear = designated_reason is (n - 1) (slice_get s.conditions (n - 1)) e unclear
+    cell_of_reason is None e unclear = none is e
 
-  cell_reason : (here behind : List Wanted) → no_form_fault here ≡ fault.BadForm → (k : TokenKind) → w.kind ≡ k → At here (cell k behind s)
-  cell_reason here behind bad (kind.Whole n) e = cell_of_reason here behind (ap is_whole e) (natural_of n) (ap (λ (k : TokenKind). designates k s) e) (ap (λ (k : TokenKind). designates_unclearly k s) e)
-  cell_reason here behind bad _ e = bad
+    cell_named_reason : is_designator w.kind ≡ true → (o : Option ℕ) → designates w.kind w.name s ≡ is_some o → At here (cell_named o behind s)
+    cell_named_reason is (Some c) e = tt
+    cell_named_reason is None e = none is e
+
+    cell_reason : (k : TokenKind) → w.kind ≡ k → At here (cell k w.name behind s)
+    cell_reason (kind.Whole n) e =
+        cell_of_reason (ap is_designator e) (natural_of n) (ap (λ (k : TokenKind). designates k w.name s) e) (ap (λ (k : TokenKind). designates_unclearly k s) e)
+    cell_reason kind.Variable e = cell_named_reason (ap is_designator e) (number_of w.name s.elements) (ap (λ (k : TokenKind). designates k w.name s) e)
+    cell_reason _ e = bad
 
 step_reason : (w : Word) (ws : List Wanted) (s : State) → HasReason ws w s (step w ws s)
 unfolding step
@@ -149,19 +210,33 @@ step_reason w (Attributes ∷ ws) s =
     cond_both (is_right w.kind) _ _ (HasReason (Attributes ∷ ws) w s) (λ _. tt)
     (λ _. cond_both (is_name w.kind) _ _ (HasReason (Attributes ∷ ws) w s)
     (λ is. cond_both (is_one_of w.name s.attrs) _ _ (HasReason (Attributes ∷ ws) w s) (λ e. (is, e))
-    (λ _. cond_both (nat_lt (length s.attrs) most_fields) _ _ (HasReason (Attributes ∷ ws) w s) (λ _. tt) (λ full. full)))
+    (λ _. cond_both (is_second w.name s) _ _ (HasReason (Attributes ∷ ws) w s) (λ e. (is, e))
+    (λ _. cond_both (nat_lt (length s.attrs) most_fields) _ _ (HasReason (Attributes ∷ ws) w s) (λ _. tt) (λ full. ap not full))))
     (λ _. refl))
+step_reason w (VectorName ∷ ws) s = vector_name_reason w ws s (VectorName ∷ ws) ws refl (λ new more. and_from _ _ (ap not new) more)
+step_reason w (VectorNames ∷ ws) s =
+    cond_both (is_right w.kind) _ _ (HasReason (VectorNames ∷ ws) w s) (λ _. tt)
+    (λ _. vector_name_reason w ws s (VectorNames ∷ ws) (VectorNames ∷ ws) refl (λ new more. and_from _ _ (ap not new) more))
 step_reason w (RuleName ∷ ws) s =
     cond_both (is_name w.kind) _ _ (HasReason (RuleName ∷ ws) w s) (λ is. cond_both (is_rule s w.name) _ _ (HasReason (RuleName ∷ ws) w s) (λ e. (is, e)) (λ _. tt)) (λ _. refl)
 step_reason w (FirstPattern ∷ ws) s =
-    cond_both (is_left w.kind) _ _ (HasReason (FirstPattern ∷ ws) w s) (λ _. tt) (λ _. cond_both (is_minus w.keyword) _ _ (HasReason (FirstPattern ∷ ws) w s) (λ e. (e, refl)) (λ _. refl))
+    cond_both (is_left w.kind) _ _ (HasReason (FirstPattern ∷ ws) w s) (λ _. tt)
+    (λ _. cond_both (is_left_brace w.kind) _ _ (HasReason (FirstPattern ∷ ws) w s) (λ _. tt)
+    (λ _. cond_both (is_minus w.keyword) _ _ (HasReason (FirstPattern ∷ ws) w s) (λ e. (e, refl)) (λ _. refl)))
 step_reason w (Patterns ∷ ws) s =
     cond_both (is_arrow w.keyword) _ _ (HasReason (Patterns ∷ ws) w s) (λ _. tt)
     (λ _. cond_both (is_left w.kind) _ _ (HasReason (Patterns ∷ ws) w s)
-    (λ _. cond_both (nat_lt (length s.conditions) most_conditions) _ _ (HasReason (Patterns ∷ ws) w s) (λ _. tt) (λ full. full))
+    (λ _. cond_both (nat_lt (length s.conditions) most_conditions) _ _ (HasReason (Patterns ∷ ws) w s) (λ _. tt) (λ full. (refl, full)))
+    (λ _. cond_both (is_left_brace w.kind) _ _ (HasReason (Patterns ∷ ws) w s)
+    (λ _. cond_both (nat_lt (length s.conditions) most_conditions) _ _ (HasReason (Patterns ∷ ws) w s) (λ _. tt) (λ full. (refl, full)))
     (λ _. cond_both (is_minus w.keyword) _ _ (HasReason (Patterns ∷ ws) w s)
-    (λ _. cond_both (nat_lt (length s.conditions) most_conditions) _ _ (HasReason (Patterns ∷ ws) w s) (λ _. tt) (λ full. full)) (λ _. refl)))
-step_reason w (NegatedPattern ∷ ws) s = cond_both (is_left w.kind) _ _ (HasReason (NegatedPattern ∷ ws) w s) (λ _. tt) (λ _. refl)
+    (λ _. cond_both (nat_lt (length s.conditions) most_conditions) _ _ (HasReason (Patterns ∷ ws) w s) (λ _. tt) (λ full. (refl, full))) (λ _. refl))))
+step_reason w (Pattern ∷ ws) s = cond_both (is_left w.kind) _ _ (HasReason (Pattern ∷ ws) w s) (λ _. tt) (λ _. refl)
+step_reason w (Braced ∷ ws) s =
+    cond_both (is_left w.kind) _ _ (HasReason (Braced ∷ ws) w s) (λ _. tt)
+    (λ _. element_name_reason w ws s (Braced ∷ ws) (Pattern ∷ ClosesBrace ∷ ws) refl (λ is again. and_from _ _ is again))
+step_reason w (ElementName ∷ ws) s = element_name_reason w ws s (ElementName ∷ ws) ws refl (λ is again. and_from _ _ is again)
+step_reason w (ClosesBrace ∷ ws) s = cond_both (is_right_brace w.kind) _ _ (HasReason (ClosesBrace ∷ ws) w s) (λ _. tt) (λ _. refl)
 step_reason w (ClassName ∷ ws) s =
     cond_both (is_name w.kind) _ _ (HasReason (ClassName ∷ ws) w s) (λ is. class_at_reason w ws s is (position (λ c. c.name.0 == w.name.0) s.classes) refl) (λ _. refl)
 step_reason w (Terms u ∷ ws) s =
@@ -169,11 +244,11 @@ step_reason w (Terms u ∷ ws) s =
 step_reason w (Attribute u ∷ ws) s =
     cond_both (is_name w.kind) _ _ (HasReason (Attribute u ∷ ws) w s)
     (λ is. field_at_reason w ws s u is (position (λ a. a.0 == w.name.0) (attributes_of (slice_get s.classes s.class))) refl) (λ _. refl)
-step_reason w (Place f ∷ ws) s =
-    cond_both (is_left_brace w.kind) _ _ (HasReason (Place f ∷ ws) w s) (λ _. tt) (λ _. test_reason w ws s (Place f ∷ ws) ws refl (λ e. ap is_some e) f)
+step_reason w (Several u f ∷ ws) s = several_reason w ws s u f
+step_reason w (Place f ∷ ws) s = place_reason w ws s (Place f ∷ ws) ws refl (λ e. ap is_some e) f
 step_reason w (Tests f ∷ ws) s =
     cond_both (is_right_brace w.kind) _ _ (HasReason (Tests f ∷ ws) w s) (λ _. tt) (λ _. test_reason w ws s (Tests f ∷ ws) (Tests f ∷ ws) refl (λ e. ap is_some e) f)
-step_reason w (Tested f p ∷ ws) s = tested_reason w ws s (Tested f p ∷ ws) ws refl (λ e. ap is_some e) f p
+step_reason w (Tested f p ∷ ws) s = tested_reason w ws s (Tested f p ∷ ws) ws refl (λ e. ap is_some e) f p (λ e. e)
 step_reason w (Choice f ∷ ws) s =
     cond_both (closes_choice w.keyword) _ _ (HasReason (Choice f ∷ ws) w s) (λ _. tt) (λ _. chosen_reason w ws s f (atom_of w.kind w.name))
 step_reason w (Atom t ∷ ws) s = atom_reason w ws s t (atom_of w.kind w.name)
@@ -181,12 +256,12 @@ step_reason w (ValueFor t ∷ ws) s = value_for_reason w ws s t
 step_reason w (Actions ∷ ws) s =
     cond_both (is_right w.kind) _ _ (HasReason (Actions ∷ ws) w s) (λ _. tt) (λ _. cond_both (is_left w.kind) _ _ (HasReason (Actions ∷ ws) w s) (λ _. tt) (λ _. refl))
 step_reason w (ActionWord ∷ ws) s = action_word_reason w ws s w.keyword
-step_reason w (Cell ∷ ws) s = cell_reason w ws s (Cell ∷ ws) ws refl w.kind refl
+step_reason w (Cell ∷ ws) s = cell_reason w ws s (Cell ∷ ws) ws refl refl (λ is e. and_from _ _ is (ap not e)) w.kind refl
 step_reason w (Cells ∷ ws) s =
-    cond_both (is_right w.kind) _ _ (HasReason (Cells ∷ ws) w s) (λ _. tt) (λ _. cell_reason w ws s (Cells ∷ ws) (Cells ∷ ws) refl w.kind refl)
+    cond_both (is_right w.kind) _ _ (HasReason (Cells ∷ ws) w s) (λ _. tt) (λ _. cell_reason w ws s (Cells ∷ ws) (Cells ∷ ws) refl refl (λ is e. and_from _ _ is (ap not e)) w.kind refl)
 step_reason w (Items ∷ ws) s =
     cond_both (is_right w.kind) _ _ (HasReason (Items ∷ ws) w s) (λ _. tt)
-    (λ _. cond_both (is_left w.kind) _ _ (HasReason (Items ∷ ws) w s) (λ _. tt) (λ _. value_reason w ws s (Items ∷ ws) (Items ∷ ws) refl (λ e. ap is_some e) ToItem (λ is x. tt)))
+    (λ _. cond_both (is_left w.kind) _ _ (HasReason (Items ∷ ws) w s) (λ _. tt) (λ _. value_reason w ws s (Items ∷ ws) (Items ∷ ws) refl (λ e. ap is_some e) ToItem refl (λ is x. tt)))
 step_reason w (ItemWord ∷ ws) s = cond_both (is_crlf w.keyword) _ _ (HasReason (ItemWord ∷ ws) w s) (λ _. tt) (λ _. refl)
 step_reason w (Closes e ∷ ws) s = cond_both (is_right w.kind) _ _ (HasReason (Closes e ∷ ws) w s) (λ _. tt) (λ _. refl)
 

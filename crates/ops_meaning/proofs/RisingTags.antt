@@ -21,16 +21,17 @@ use Rattle.ops_base.specs.declared.values.Value.{Value}
 use Rattle.ops_base.specs.WorkingMemory.{tags_of, HasRisingTags, without_tag}
 use Rattle.ops_base.specs.declared.commands.Strategy.TheVariants.{Lex}
 use Rattle.ops_base.specs.ConflictSet.{conflict_set}
+use Rattle.ops_base.specs.Valid.{class_of}
 use Rattle.ops_base.specs.Refraction.{is_among, still_fired, dominant}
 use Rattle.ops_base.proofs.ConflictSetLaws.{conflict_set-is, conflict_set_only}
 use Rattle.ops_io.specs.Output.{column_after}
 use Rattle.ops_meaning.specs.declared.states.Doing.{Doing}
 use Rattle.ops_meaning.specs.declared.states.Fired.{Fired}
 use Rattle.ops_meaning.specs.declared.states.Memory.{Memory}
-use Rattle.ops_meaning.specs.Acting.{Scene, bindings_of, has_tag, removed, cell_tag, made, action_done, actions_done}
+use Rattle.ops_meaning.specs.Acting.{Scene, has_tag, removed, cell_tag, fields_of, made, make_done, action_done, actions_done}
 use Rattle.ops_meaning.specs.Effects.{Effect, writes, led_by, going_on, and_then}
 use Rattle.ops_meaning.specs.Kept.{WellKept, Finder, next_by, marks_by, fired_by, firing_by, run_by, made_by, command_by, commands_by, FindsConflictSets, GoesByConflictSets}
-use Rattle.ops_meaning.specs.Running.{Setting, nothing_yet, conditions_of, actions_of, acted, fired_of, firing, turn, run_on, most_firings, next_to_fire, made_at_top, command_done, commands_done, session_of}
+use Rattle.ops_meaning.specs.Running.{Setting, nothing_yet, actions_of, scene_at, acted, fired_of, firing, turn, run_on, most_firings, next_to_fire, made_at_top, command_done, commands_done, session_of}
 
 -- ---- lists of tags
 
@@ -107,33 +108,34 @@ kept_then : {S T : Type 0} (P : S → Type 0) (Q : T → Type 0) (bytes : List �
 kept_then P Q bytes (Ok s) next p q = q s p
 kept_then P Q bytes (Err e) next p q = tt
 
-pub action_kept : (scene : Scene) (column : ℕ) (a : Action) (d : Doing) → KeptDoing d → IfOk (action_done scene column a d).outcome KeptDoing
-action_kept scene column (action.Make class puts) d p = made_kept d class _ p
-action_kept scene column (action.Remove cells) d p = all_removed_kept scene.tags cells d p
-action_kept scene column (action.Write items) d p = p
-action_kept scene column action.Halt d p = p
-action_kept scene column (action.Modify cell puts) d p = p
-action_kept scene column (action.Bind variable term) d p = p
-action_kept scene column (action.Cbind cell) d p = p
+make_kept : (scene : Scene) (n class : ℕ) (fields : Option (List Value)) (d : Doing) → KeptDoing d → IfOk (make_done scene n class fields d).outcome KeptDoing
+make_kept scene n class (Some fields) d p = made_kept d class fields p
+make_kept scene n class None d p = tt
 
-pub actions_kept : (scene : Scene) (column : ℕ) (actions : List Action) (d : Doing) → KeptDoing d → IfOk (actions_done scene column actions d).outcome KeptDoing
-actions_kept scene column [] d p = p
-actions_kept scene column (a ∷ rest) d p =
-    let e = action_done scene column a d in
-    kept_then KeptDoing KeptDoing e.bytes e.outcome (λ d. actions_done scene (column_after column e.bytes) rest d) (action_kept scene column a d p)
-    (λ d q. actions_kept scene (column_after column e.bytes) rest d q)
+pub action_kept : (scene : Scene) (column n : ℕ) (a : Action) (d : Doing) → KeptDoing d → IfOk (action_done scene column n a d).outcome KeptDoing
+action_kept scene column n (action.Make class puts) d p = make_kept scene n class (fields_of scene.bindings (class_of scene.classes class) puts) d p
+action_kept scene column n (action.Remove cells) d p = all_removed_kept scene.tags cells d p
+action_kept scene column n (action.Write items) d p = p
+action_kept scene column n action.Halt d p = p
+action_kept scene column n (action.Modify cell puts) d p = p
+action_kept scene column n (action.Bind variable term) d p = p
+action_kept scene column n (action.Cbind cell) d p = p
 
-pub acted_kept : (s : Setting) (column : ℕ) (i : Inst) (d : Doing) → KeptDoing d → IfOk (acted s column i d).outcome KeptDoing
-acted_kept s column i d p =
-    actions_kept
-    (record { names = s.names; classes = s.classes; bindings = bindings_of d.wm (conditions_of s.rules i.rule) i.tags []; tags = i.tags })
-    column (actions_of s.rules i.rule) d p
+pub actions_kept : (scene : Scene) (column n : ℕ) (actions : List Action) (d : Doing) → KeptDoing d → IfOk (actions_done scene column n actions d).outcome KeptDoing
+actions_kept scene column n [] d p = p
+actions_kept scene column n (a ∷ rest) d p =
+    let e = action_done scene column n a d in
+    kept_then KeptDoing KeptDoing e.bytes e.outcome (λ d. actions_done scene (column_after column e.bytes) (suc n) rest d) (action_kept scene column n a d p)
+    (λ d q. actions_kept scene (column_after column e.bytes) (suc n) rest d q)
+
+pub acted_kept : (s : Setting) (column n : ℕ) (i : Inst) (d : Doing) → KeptDoing d → IfOk (acted s column n i d).outcome KeptDoing
+acted_kept s column n i d p = actions_kept (scene_at s n i d) column 1 (actions_of s.rules i.rule) d p
 
 pub firing_kept : (s : Setting) (column : ℕ) (i : Inst) (m : Memory) → KeptMemory m → IfOk (firing s column i m).outcome KeptFired
 firing_kept s column i m p =
     let d : Doing = record { wm = m.wm; last = m.last; halted = false } in
-    let e = acted s column i d in
-    kept_then KeptDoing KeptFired e.bytes e.outcome (λ d. writes [] (fired_of s.rules i m d)) (acted_kept s column i d p) (λ d q. q)
+    let e = acted s column (m.firings + 1) i d in
+    kept_then KeptDoing KeptFired e.bytes e.outcome (λ d. writes [] (fired_of s.rules i m d)) (acted_kept s column (m.firings + 1) i d p) (λ d q. q)
 
 turn_kept : (column : ℕ) (halted : Bool) (m : Memory) (next : Option Inst) (go_on : Inst → Effect Memory) → KeptMemory m → ((i : Inst) → IfOk (go_on i).outcome KeptMemory) → IfOk (turn column halted m next go_on).outcome KeptMemory
 turn_kept column true m next go_on p q = p
@@ -208,8 +210,8 @@ module _ (s : Setting) (found : Finder) (finds : FindsConflictSets s.rules found
   firing_is : (column : ℕ) (i : Inst) (m : Memory) → KeptMemory m → firing s column i m ≡ firing_by found s column i m
   firing_is column i m p =
       let d : Doing = record { wm = m.wm; last = m.last; halted = false } in
-      let e = acted s column i d in
-      same_then KeptDoing e.bytes e.outcome (λ d. writes [] (fired_of s.rules i m d)) (λ d. writes [] (fired_by found i m d)) (acted_kept s column i d p)
+      let e = acted s column (m.firings + 1) i d in
+      same_then KeptDoing e.bytes e.outcome (λ d. writes [] (fired_of s.rules i m d)) (λ d. writes [] (fired_by found i m d)) (acted_kept s column (m.firings + 1) i d p)
       (λ d q. ap (writes []) (fired_is i m d q))
 
   run_is : (left column : ℕ) (halted : Bool) (m : Memory) → KeptMemory m → run_on left s column halted m ≡ run_by found left s column halted m

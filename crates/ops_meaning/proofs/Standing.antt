@@ -1,8 +1,9 @@
 -- How a fault stands in a text, and which texts are read.
-use Rattle.std.proofs.Common.{◌≡◌, ℕ, Bool, true, false, cond, List, [], ◌∷◌, ◌++◌, length, refl, sym, ap, subst, ◌∙◌, Option, Some, None, Result, Ok, Err, nat_lt}
+use Rattle.std.proofs.Common.{◌≡◌, ℕ, suc, Bool, true, false, cond, List, [], ◌∷◌, ◌++◌, length, refl, sym, ap, subst, ◌∙◌, Option, Some, None, Result, Ok, Err, nat_lt}
 use Rattle.std.specs.List.{list_all}
 use Rattle.std.proofs.lemmas.Bool.{and_parts}
 use Rattle.std.proofs.lemmas.List.Folds.{list_all-append}
+use Rattle.ops_base.specs.declared.values.Sym.{Sym}
 use Rattle.ops_base.specs.declared.endings.Fault.{Fault}
 use Rattle.ops_base.specs.declared.endings.Fault.TheVariants as fault
 use Rattle.ops_base.specs.Names.{Spellings, only_nil}
@@ -10,16 +11,17 @@ use Rattle.ops_base.specs.Valid.{longest_list}
 use Rattle.ops_tokens.specs.declared.token.LexFault.{LexFault}
 use Rattle.ops_meaning.specs.declared.words.Word.{Word}
 use Rattle.ops_meaning.specs.Words.{lexed, names_from}
-use Rattle.ops_meaning.specs.Grammar.{Wanted, Forms, State, Step, Next, Refuses, Outcome, step, ends, after, goes, nothing_read}
-use Rattle.ops_meaning.specs.Derivation.{Derives, nothing, no_form, IsText}
+use Rattle.ops_meaning.specs.Grammar.{InPattern, InPut, InFixed, ToTerms, ToConstants, Wanted, Forms, Terms, Several, Place, ValueFor, State, Step, Next, Refuses, Outcome, step, ends, after, goes, nothing_read}
+use Rattle.ops_meaning.specs.Derivation.{Derives, nothing, no_form, one_more_place, one_more_term, one_more_constant, no_more_of_several, IsText}
 use Rattle.ops_meaning.specs.Reads.{Read, Placed, verdict, read_lexed, reads}
 use Rattle.ops_meaning.specs.Standing.{words_of, outcome_of, StandsAt, StandsAtWord, IsReadOrInForm}
-use Rattle.ops_meaning.proofs.Derived.{forms_last, taken_derives, taken_last, refused_in_form}
+use Rattle.ops_meaning.proofs.Arranged.{AreArranged, arranged_begun}
+use Rattle.ops_meaning.proofs.Derived.{forms_last, taken_derives, taken_last, taken_arranged, refused_in_form}
 use Rattle.ops_meaning.proofs.Completed.{completed}
 use Rattle.ops_meaning.proofs.Proper.{is_proper, words_proper}
 use Rattle.ops_meaning.proofs.Follows.{Went, derived_goes, refused_in_no_form}
 use Rattle.ops_meaning.proofs.Reasons.{refused-because}
-use Rattle.ops_meaning.proofs.Reached.{Reached, goes_behind, derives_before, derives_behind, last_behind, taken_before, stopped}
+use Rattle.ops_meaning.proofs.Reached.{Reached, goes_behind, derives_before, derives_behind, last_behind, arranged_behind, taken_before, stopped}
 
 -- ---- a word that is refused
 
@@ -30,14 +32,16 @@ refuses w to at f more e = ap (after (goes more) w) e
 module _ (before : List Word) (w : Word) (f : Fault) (to : List Wanted) (at : State) where
   stands_at : Reached to at before (Forms ∷ []) nothing_read → step w to at ≡ Refuses f → list_all is_proper before ≡ true → StandsAt f before w
   stands_at reached refused proper =
-      let last : forms_last to ≡ true = last_behind to at before (Forms ∷ []) nothing_read reached refl in
+      let last : forms_last to ≡ true = last_behind to at before (Forms ∷ []) nothing_read reached arranged_begun refl in
+      let arranged : AreArranged to at = arranged_behind to at before (Forms ∷ []) nothing_read reached arranged_begun in
       record {
         taken = taken_before to at before (Forms ∷ []) nothing_read reached;
         refused = λ more. goes_behind to at before (Forms ∷ []) nothing_read reached (w ∷ more) ∙ refuses w to at f more refused;
         because = (to, at, goes_behind to at before (Forms ∷ []) nothing_read reached, refused-because w to at f refused);
-        goes_on = let c = completed to in (c.0, derives_before to at before (Forms ∷ []) nothing_read reached c.0 c.1);
-        in_a_form = λ no. let c = refused_in_form w to at f refused no in (c.0, derives_before to at before (Forms ∷ []) nothing_read reached (w ∷ c.0) c.1);
-        in_no_form = λ is more d. refused_in_no_form w to at last f refused is more (derives_behind to at before (Forms ∷ []) nothing_read reached refl proper (w ∷ more) d);
+        goes_on = let c = completed at.vectors to in (c.0, derives_before to at before (Forms ∷ []) nothing_read reached arranged_begun c.0 c.1);
+        in_a_form = λ no. let c = refused_in_form w to at arranged f refused no in (c.0, derives_before to at before (Forms ∷ []) nothing_read reached arranged_begun (w ∷ c.0) c.1);
+        in_no_form = λ is more d.
+            refused_in_no_form w to at arranged last f refused is more (derives_behind to at before (Forms ∷ []) nothing_read reached arranged_begun refl proper (w ∷ more) d);
       }
 
 pub stands_at_word : (text : List ℕ) (f : Fault) (w : Word) → outcome_of (words_of text) ≡ Err (f, Some w) → StandsAtWord text (record { fault = f; at = w.first })
@@ -56,28 +60,31 @@ stands_at_word text f w e =
 
 -- ---- the texts that are read
 
-ends_derive : (ws : List Wanted) (s : State) (r : State) → ends ws s ≡ Ok r → Derives ws []
+ends_derive : (ws : List Wanted) (s : State) (r : State) → ends ws s ≡ Ok r → Derives s.vectors ws []
 unfolding ends
 ends_derive [] s r e = nothing
 ends_derive (Forms ∷ ws) s r e = no_form (ends_derive ws s r e)
 ends_derive (w ∷ ws) s r e = absurd (cc)
 
-derived_by : (w : Word) (words : List Word) (ws : List Wanted) (s : State) (r : State) → ((ws' : List Wanted) (s' : State) → goes words ws' s' ≡ Ok r → Derives ws' words)
-    → (x : Step) → step w ws s ≡ x → after (goes words) w x ≡ Ok r → Derives ws (w ∷ words)
-derived_by w words ws s r ih (Next ws' s') is e = taken_derives w ws s ws' s' is words (ih ws' s' e)
-derived_by w words ws s r ih (Refuses f) is e = absurd (cc)
+derived_by : (w : Word) (words : List Word) (ws : List Wanted) (s : State) (r : State) → AreArranged ws s
+    → ((ws' : List Wanted) (s' : State) → AreArranged ws' s' → goes words ws' s' ≡ Ok r → Derives s'.vectors ws' words)
+    → (x : Step) → step w ws s ≡ x → after (goes words) w x ≡ Ok r → Derives s.vectors ws (w ∷ words)
+derived_by w words ws s r arranged ih (Next ws' s') is e =
+    taken_derives w ws s arranged ws' s' is words (ih ws' s' (taken_arranged w ws s arranged ws' s' is) e)
+derived_by w words ws s r arranged ih (Refuses f) is e = absurd (cc)
 
 -- Words that are read derive.
-pub read_derives : (words : List Word) (ws : List Wanted) (s : State) (r : State) → goes words ws s ≡ Ok r → Derives ws words
+pub read_derives : (words : List Word) (ws : List Wanted) (s : State) (r : State) → AreArranged ws s → goes words ws s ≡ Ok r → Derives s.vectors ws words
 unfolding goes
-read_derives [] ws s r e = ends_derive ws s r e
-read_derives (w ∷ words) ws s r e = derived_by w words ws s r (λ ws' s' e'. read_derives words ws' s' r e') (step w ws s) refl e
+read_derives [] ws s r arranged e = ends_derive ws s r e
+read_derives (w ∷ words) ws s r arranged e =
+    derived_by w words ws s r arranged (λ ws' s' arranged' e'. read_derives words ws' s' r arranged' e') (step w ws s) refl e
 
 verdict_derives : (text : List ℕ) (o : Outcome) (names : Spellings) (stop : Option LexFault) (r : Read) → outcome_of (words_of text) ≡ o → verdict (length text) names stop o ≡ Ok r → IsText (words_of text)
 verdict_derives text (Err (f, Some w)) names stop r is e = absurd (cc)
 verdict_derives text (Err (f, None)) names stop r is e = absurd (cc)
 verdict_derives text (Ok s) names (Some f) r is e = absurd (cc)
-verdict_derives text (Ok s) names None r is e = read_derives (words_of text) (Forms ∷ []) nothing_read s is
+verdict_derives text (Ok s) names None r is e = read_derives (words_of text) (Forms ∷ []) nothing_read s arranged_begun is
 
 text_by_length : (text : List ℕ) (r : Read) (long : Bool) → (let x : Result Read Placed = cond long (Err (record { fault = fault.TooLong; at = 0 })) (read_lexed text (lexed text)) in x ≡ Ok r) → IsText (words_of text)
 text_by_length text r true e = absurd (cc)
@@ -101,28 +108,43 @@ unfolding ends
 no_form_ends [] ws s h = h
 no_form_ends (w ∷ words) ws s h = tt
 
-derived_ends : (ws : List Wanted) (words : List Word) (s : State) → Derives ws words → EndsWell words ws s
+-- where a form is open, a word is left
+open_ends : (words : List Word) (ws ws' : List Wanted) (s : State) → ¬ EndsWell [] ws s → EndsWell words ws s → EndsWell words ws' s
+open_ends [] ws ws' s open_yet h = absurd (open_yet h)
+open_ends (w ∷ words) ws ws' s open_yet h = tt
+
+derived_ends : (vs : List Sym) (ws : List Wanted) (words : List Word) (s : State) → Derives vs ws words → EndsWell words ws s
 unfolding ends
-derived_ends ws words s nothing = tt
-derived_ends ws words s (no_form {ws = rest} d) = no_form_ends words rest s (derived_ends rest words s d)
-derived_ends ws words s _ = tt
+derived_ends vs ws words s nothing = tt
+derived_ends vs ws words s (no_form {ws = rest} d) = no_form_ends words rest s (derived_ends vs rest words s d)
+derived_ends vs ws words s (one_more_place {f = f} {ws = rest} d) =
+    open_ends words (Place f ∷ Several InPattern (suc f) ∷ rest) ws s (λ h. h) (derived_ends vs (Place f ∷ Several InPattern (suc f) ∷ rest) words s d)
+derived_ends vs ws words s (one_more_term {f = f} {ws = rest} d) =
+    open_ends words (ValueFor ToTerms ∷ Several InPut f ∷ rest) ws s (λ h. h) (derived_ends vs (ValueFor ToTerms ∷ Several InPut f ∷ rest) words s d)
+derived_ends vs ws words s (one_more_constant {f = f} {ws = rest} d) =
+    open_ends words (ValueFor ToConstants ∷ Several InFixed f ∷ rest) ws s (λ h. h) (derived_ends vs (ValueFor ToConstants ∷ Several InFixed f ∷ rest) words s d)
+derived_ends vs ws words s (no_more_of_several {u = u} {ws = rest} d) =
+    open_ends words (Terms u ∷ rest) ws s (λ h. h) (derived_ends vs (Terms u ∷ rest) words s d)
+derived_ends vs ws words s _ = tt
 
-went_read : (w : Word) (words : List Word) (ws : List Wanted) (s : State) → forms_last ws ≡ true → is_proper w ≡ true
-    → ((ws' : List Wanted) (s' : State) → Derives ws' words → forms_last ws' ≡ true → IsReadOrInForm (goes words ws' s'))
+went_read : (w : Word) (words : List Word) (ws : List Wanted) (s : State) → AreArranged ws s → forms_last ws ≡ true → is_proper w ≡ true
+    → ((ws' : List Wanted) (s' : State) → AreArranged ws' s' → Derives s'.vectors ws' words → forms_last ws' ≡ true → IsReadOrInForm (goes words ws' s'))
     → (x : Step) → step w ws s ≡ x → Went w words x → IsReadOrInForm (after (goes words) w x)
-went_read w words ws s last proper ih (Next ws' s') is go = ih ws' s' (go proper) (taken_last w ws s ws' s' is last)
-went_read w words ws s last proper ih (Refuses f) is go = go
+went_read w words ws s arranged last proper ih (Next ws' s') is go =
+    ih ws' s' (taken_arranged w ws s arranged ws' s' is) (go proper) (taken_last w ws s arranged ws' s' is last)
+went_read w words ws s arranged last proper ih (Refuses f) is go = go
 
-pub derived_goes_on : (words : List Word) (ws : List Wanted) (s : State) → Derives ws words → forms_last ws ≡ true → list_all is_proper words ≡ true → IsReadOrInForm (goes words ws s)
+pub derived_goes_on : (words : List Word) (ws : List Wanted) (s : State) → AreArranged ws s → Derives s.vectors ws words → forms_last ws ≡ true → list_all is_proper words ≡ true → IsReadOrInForm (goes words ws s)
 unfolding goes
-derived_goes_on [] ws s d last proper = derived_ends ws [] s d
-derived_goes_on (w ∷ words) ws s d last proper =
+derived_goes_on [] ws s arranged d last proper = derived_ends s.vectors ws [] s d
+derived_goes_on (w ∷ words) ws s arranged d last proper =
     let each = and_parts (is_proper w) (list_all is_proper words) proper in
-    went_read w words ws s last each.0 (λ ws' s' d' last'. derived_goes_on words ws' s' d' last' each.1) (step w ws s) refl (derived_goes ws (w ∷ words) s d last)
+    went_read w words ws s arranged last each.0 (λ ws' s' arranged' d' last'. derived_goes_on words ws' s' arranged' d' last' each.1) (step w ws s) refl
+    (derived_goes ws (w ∷ words) s arranged d last)
 
 -- Words of the grammar are read, or refused in a form, by what was declared and bound before or by a limit.
 pub derived-read : (words : List Word) → list_all is_proper words ≡ true → IsText words → IsReadOrInForm (outcome_of words)
-derived-read words proper d = derived_goes_on words (Forms ∷ []) nothing_read d refl proper
+derived-read words proper d = derived_goes_on words (Forms ∷ []) nothing_read arranged_begun d refl proper
 
 pub text-read : (text : List ℕ) → IsText (words_of text) → IsReadOrInForm (outcome_of (words_of text))
 text-read text d = derived-read (words_of text) (words_proper text only_nil (lexed text).tokens) d

@@ -11,6 +11,7 @@ use Rattle.ops_meaning.specs.Grammar.{Outcome, Forms, nothing_read}
 use Rattle.ops_meaning.specs.Derivation.{IsText}
 use Rattle.ops_meaning.specs.Reads.{Read, Placed, verdict, read_lexed, reads, cut_off, between_forms}
 use Rattle.ops_meaning.specs.Standing.{words_of, outcome_of, IsTaken, IsReadOrInForm, StandsAtWord, StandsAtEnd, Stands}
+use Rattle.ops_meaning.proofs.Arranged.{arranged_begun}
 use Rattle.ops_meaning.proofs.Completed.{completed}
 use Rattle.ops_meaning.proofs.Reached.{taken_reached, derives_before}
 use Rattle.ops_meaning.proofs.Standing.{stands_at_word, text-read, read_derives}
@@ -31,14 +32,14 @@ verdict_ends text (Err (f, None)) names stop p stops is taken e =
     record { in_a_form = λ no. sym same ∙ ap (cut_off (length text)) (sym stops); between = λ d. absurd (open_no_text text f is d) }
 verdict_ends text (Ok s) names (Some f) p stops is taken e =
     let same : between_forms f ≡ p = cc in
-    record { in_a_form = λ no. absurd (no (read_derives (words_of text) (Forms ∷ []) _ s is)); between = λ d. (f, stops, sym same) }
+    record { in_a_form = λ no. absurd (no (read_derives (words_of text) (Forms ∷ []) nothing_read s arranged_begun is)); between = λ d. (f, stops, sym same) }
 verdict_ends text (Ok s) names None p stops is taken e = absurd (cc)
 
 stands_at_end : (text : List ℕ) (p : Placed) → IsTaken (outcome_of (words_of text)) → EndsWith text p → StandsAtEnd text p
 stands_at_end text p taken e =
     let r = taken_reached (words_of text) (Forms ∷ []) nothing_read taken in
-    let c = completed r.0 in
-    record { all_taken = taken; goes_on = (c.0, derives_before r.0 r.1 (words_of text) (Forms ∷ []) nothing_read r.2 c.0 c.1); in_a_form = e.in_a_form; between = e.between }
+    let c = completed r.1.vectors r.0 in
+    record { all_taken = taken; goes_on = (c.0, derives_before r.0 r.1 (words_of text) (Forms ∷ []) nothing_read r.2 arranged_begun c.0 c.1); in_a_form = e.in_a_form; between = e.between }
 
 -- ---- the law
 

@@ -1,8 +1,9 @@
 -- Each word leads from what is sound to what is sound.
-use Rattle.std.proofs.Common.{◌≡◌, ℕ, ◌-◌, ◌<◌, ◌≤◌, Bool, true, false, ◌==◌, List, [], ◌∷◌, ◌++◌, length, refl, sym, ap, subst, ◌∙◌, arith, Option, Some, None, nat_lt, length-append, unwrap_or, true≢false, slice_get, position, get_or, nat_le, take}
+use Rattle.std.proofs.Common.{◌≡◌, ℕ, ◌+◌, ◌-◌, ◌<◌, ◌≤◌, Bool, true, false, ◌||◌, ◌==◌, List, [], ◌∷◌, ◌++◌, length, refl, sym, ap, subst, ◌∙◌, arith, Option, Some, None, nat_lt, length-append, unwrap_or, true≢false, slice_get, position, get_or, nat_le, take}
 use Rattle.std.specs.List.{list_all, list_any}
-use Rattle.std.proofs.lemmas.Bool.{and_parts, and_from, cond_both, eqb-true, lt-ltb, le-leb, ltb-true, ltb-false, not_from_false}
+use Rattle.std.proofs.lemmas.Bool.{and_parts, and_from, or_left, or_right, cond_both, eqb-true, lt-ltb, le-leb, ltb-true, not_from_false}
 use Rattle.std.proofs.lemmas.List.Quantifiers.{position-Some}
+use Rattle.std.proofs.lemmas.List.{length-map}
 use Rattle.std.proofs.lemmas.Option.{slice_get-get_or}
 use Rattle.ops_base.specs.declared.values.Value.{Value}
 use Rattle.ops_base.specs.declared.values.Pred.{Pred}
@@ -23,17 +24,17 @@ use Rattle.ops_base.specs.declared.rules.Rule.{Rule}
 use Rattle.ops_base.specs.declared.commands.Fixed.{Fixed}
 use Rattle.ops_base.specs.declared.commands.Command.{Command}
 use Rattle.ops_base.specs.declared.commands.Command.TheVariants as command
-use Rattle.ops_base.specs.Valid.{longest_list, most_fields, most_conditions, is_in, no_class, class_of, specificity, term_is_valid, is_attribute, is_cell, first_is_positive, operand_is_valid, tests_are_valid, sight_after_tests, cells_of, sight_after_conditions, nothing_in_sight, put_is_valid, item_is_valid, fixed_is_valid}
+use Rattle.ops_base.specs.Valid.{longest_list, most_fields, most_conditions, is_in, no_class, class_of, specificity, term_is_valid, is_attribute, is_vector, is_cell, first_is_positive, operand_is_valid, tests_are_valid, sight_after_tests, cells_of, sight_after_conditions, nothing_in_sight, put_is_valid, item_is_valid, fixed_is_valid}
 use Rattle.ops_tokens.specs.declared.token.TokenKind.{TokenKind}
 use Rattle.ops_tokens.specs.declared.token.TokenKind.TheVariants as kind
 use Rattle.ops_meaning.specs.declared.words.Word.{Word}
 use Rattle.ops_meaning.specs.declared.words.Keyword.{Keyword}
 use Rattle.ops_meaning.specs.declared.words.Keyword.TheVariants as keyword
-use Rattle.ops_meaning.specs.Grammar.{Use, InPattern, InPut, InFixed, ToTest, ToPut, ToFixed, ToItem, EndsRun, EndsHalt, EndsCrlf, Wanted, Forms, Attributes, FirstPattern, Patterns, NegatedPattern, Terms, Tests, Tested, Choice, Actions, Cells, Items, State, Next, is_left, is_right, is_left_brace, is_right_brace, is_caret, is_name, is_variable, is_arrow, is_crlf, is_literal, is_minus, opens_choice, closes_choice, pred_of, constant_of, value_of, atom_of, natural_of, is_one_of, number_of, may_declare, is_class, is_rule, form, class_declared, attribute_declared, attributes, class_at, class_name, attributes_of, behind_attribute, field_at, attribute, with_test, with_bound, with_constant, variable_tested, constant_tested, tested, predicated, test, place, tests, with_choice, chosen, choice, atom_at, bound_at, constant_at, value_for, with_element, terms, rule_name, first_pattern, one_more, patterns, negated_pattern, actions, action_word, designated, cell_of, cell, cells, items, item_word, closes, forms, step}
-use Rattle.ops_meaning.proofs.Lists.{all_push, not_below}
+use Rattle.ops_meaning.specs.Grammar.{Use, InPattern, InPut, InFixed, ToTest, ToPut, ToFixed, ToTerms, ToConstants, ToItem, EndsRun, EndsHalt, EndsCrlf, Wanted, Forms, Attributes, VectorNames, FirstPattern, Patterns, Pattern, ClosesBrace, Terms, Several, Choice, Actions, Cells, Items, State, Step, Next, Refuses, is_left, is_right, is_left_brace, is_right_brace, is_caret, is_name, is_variable, is_arrow, is_crlf, is_literal, is_minus, opens_choice, closes_choice, pred_of, constant_of, value_of, atom_of, natural_of, is_one_of, number_of, may_declare, is_class, is_rule, form, class_declared, with_vector_last, makes_second, vector_declared, vector_name, vector_names, is_second, attribute_declared, attributes, class_at, class_name, attributes_of, behind_attribute, field_at, attribute, with_test, with_bound, with_constant, variable_tested, constant_tested, tested, predicated, test, place, tests, with_choice, chosen, choice, atom_at, bound_at, constant_at, value_for, with_element, terms, within, one_of_several, with_several, several, rule_name, first_pattern, one_more, patterns, pattern, element_at, element_name, braced, closes_brace, actions, action_word, designated, cell_of, cell_named, cell, cells, items, item_word, closes, forms, step}
+use Rattle.ops_meaning.proofs.Lists.{all_push, all_in, not_below}
 use Rattle.ops_meaning.proofs.Parts.{has_cell}
-use Rattle.ops_meaning.proofs.Sound.{IsShort, IsHead, IsBody, numbers, known, Program, Declaring, IsClass, Head, Body, Around, IsEmpty, IsElement, AtField, behind, behind_test, Variables, variables_of, seen, IsRead, at_forms, at_form, at_class_declared, at_attributes, at_rule_name, at_first_pattern, at_patterns, at_negated_pattern, at_class_name, at_terms, at_attribute, at_place, at_tests, at_tested, at_choice, at_test_atom, at_put_value, at_put_atom, at_fixed_value, at_fixed_atom, at_item_atom, at_actions, at_action_word, at_cell, at_cells, at_items, at_item_word, at_crlf, at_halt, at_run, Leads}
-use Rattle.ops_meaning.proofs.Grown.{fits_below, class_begun, attribute_added, class_added, number_in, head_begun, negated_begun, test_kept, test_bound, test_valid, condition_added, body_begun, action_added, rule_added, put_valid, command_added, fixed_valid}
+use Rattle.ops_meaning.proofs.Sound.{IsShortBy, IsShort, IsHead, IsBody, numbers, known, Program, Declaring, IsClass, Head, Body, Around, IsEmpty, IsElement, Braces, Bare, NamedBefore, NamedBehind, AtField, HasMore, AtPlace, AtSeveral, BeforePattern, AfterPattern, behind, behind_place, behind_test, variables_of, seen, IsRead, at_forms, at_form, at_class_declared, at_attributes, at_vector_name, at_vector_names, at_rule_name, at_first_pattern, at_patterns, at_pattern, at_braced, at_element_name, at_closes_brace, at_class_name, at_terms, at_attribute, at_several, at_place, at_tests, at_tested, at_choice, at_test_atom, at_put_value, at_put_atom, at_fixed_value, at_fixed_atom, at_terms_atom, at_constants_atom, at_item_atom, at_actions, at_action_word, at_cell, at_cells, at_items, at_item_word, at_crlf, at_halt, at_run, Leads}
+use Rattle.ops_meaning.proofs.Grown.{fits_below, class_begun, attribute_added, class_added, vector_added, number_in, head_begun, negated_begun, element_bound, test_kept, test_bound, test_valid, condition_added, body_begun, action_added, rule_added, put_valid, vector_parts, several_valid, command_added, fixed_valid, vector_within, constants_valid}
 
 -- the word stands in a text of this length, from the place on
 pub record IsPlaced (text n : ℕ) (w : Word) : Type 0 where
@@ -58,8 +59,9 @@ module _ (text n : ℕ) (w : Word) (fit : text ≤ longest_list) (placed : IsPla
 
   form_leads : (s : State) → IsShort n s → (Program text s) → (k : Keyword) → Leads text w.past (form w k (Forms ∷ []) s)
   form_leads s short g keyword.Literalize = cond_both (may_declare s) _ _ (Leads text w.past) (λ e. (omega arith, at_class_declared (declaring s g e))) (λ _. tt)
+  form_leads s short g keyword.VectorAttribute = cond_both (may_declare s) _ _ (Leads text w.past) (λ e. (omega arith, at_vector_name (declaring s g e))) (λ _. tt)
   form_leads s short g keyword.Production = cond_both (length s.commands == 0) _ _ (Leads text w.past) (λ _. (omega arith, at_rule_name g)) (λ _. tt)
-  form_leads s short g keyword.Make = (omega arith, at_class_name InFixed ((g, refl)))
+  form_leads s short g keyword.Make = (omega arith, at_class_name Bare InFixed ((g, refl)))
   form_leads s short g keyword.Run = (omega arith, at_run g)
   form_leads s short g _ = tt
 
@@ -72,15 +74,28 @@ module _ (text n : ℕ) (w : Word) (fit : text ≤ longest_list) (placed : IsPla
   attribute_declared_leads : (s : State) → IsShort n s → (Declaring text s × IsClass s.classes s.name s.attrs) → Leads text w.past (attribute_declared w (Forms ∷ []) s)
   attribute_declared_leads s short g =
       cond_both (is_one_of w.name s.attrs) _ _ (Leads text w.past) (λ _. tt)
-      (λ e. cond_both (nat_lt (length s.attrs) most_fields) _ _ (Leads text w.past)
+      (λ e. cond_both (is_second w.name s) _ _ (Leads text w.past) (λ _. tt)
+      (λ _. cond_both (nat_lt (length s.attrs) most_fields) _ _ (Leads text w.past)
       (λ lt. (omega arith, at_attributes ((g.0, attribute_added s.classes s.name s.attrs w.name g.1 e (ltb-true _ _ lt)))))
-      (λ _. tt))
+      (λ _. tt)))
 
   attributes_leads : (s : State) → IsShort n s → (Declaring text s × IsClass s.classes s.name s.attrs) → Leads text w.past (attributes w (Forms ∷ []) s)
   attributes_leads s short g =
       cond_both (is_right w.kind) _ _ (Leads text w.past)
-      (λ _. (omega (arith, length-append {A = Class}), at_forms (class_added text s.classes s.rules s.commands s.name s.attrs g.0 g.1)))
+      (λ _. (omega (arith, length-append {A = Class}), at_forms (class_added text s.classes s.rules s.commands s.vectors s.name s.attrs g.0 g.1)))
       (λ _. cond_both (is_name w.kind) _ _ (Leads text w.past) (λ _. attribute_declared_leads s short g) (λ _. tt))
+
+  vector_declared_leads : (s : State) → IsShort n s → (Declaring text s) → Leads text w.past (vector_declared w (VectorNames ∷ Forms ∷ []) s)
+  vector_declared_leads s short g =
+      cond_both (is_one_of w.name s.vectors) _ _ (Leads text w.past) (λ _. (omega arith, at_vector_names g))
+      (λ _. cond_both (makes_second w.name s.classes) _ _ (Leads text w.past) (λ _. tt)
+      (λ _. (omega (arith, length-map s.classes (with_vector_last w.name)), at_vector_names (vector_added text s.classes s.rules s.commands w.name g))))
+
+  vector_name_leads : (s : State) → IsShort n s → (Declaring text s) → Leads text w.past (vector_name w (VectorNames ∷ Forms ∷ []) s)
+  vector_name_leads s short g = cond_both (is_name w.kind) _ _ (Leads text w.past) (λ _. vector_declared_leads s short g) (λ _. tt)
+
+  vector_names_leads : (s : State) → IsShort n s → (Declaring text s) → Leads text w.past (vector_names w (Forms ∷ []) s)
+  vector_names_leads s short g = cond_both (is_right w.kind) _ _ (Leads text w.past) (λ _. (omega arith, at_forms g.program)) (λ _. vector_name_leads s short g)
 
   -- ---- elements
 
@@ -89,32 +104,39 @@ module _ (text n : ℕ) (w : Word) (fit : text ≤ longest_list) (placed : IsPla
   element_named InPut s c h lt = record { around = h.0; class = lt; fields = ap (list_all (put_is_valid s.classes (known s.conditions s.actions) (class_of s.classes c))) h.1 }
   element_named InFixed s c h lt = record { around = h.0; class = lt; fields = ap (list_all (fixed_is_valid (class_of s.classes c))) h.1 }
 
-  class_at_leads : (u : Use) (s : State) → IsShort n s → (Around u text s × IsEmpty u s) → (o : Option ℕ) → position (λ c. c.name.0 == w.name.0) s.classes ≡ o → Leads text w.past (class_at o (Terms u ∷ behind u) s)
-  class_at_leads u s short g (Some c) e =
-      (omega arith, at_terms u (element_named u s c g (position-Some (λ c. c.name.0 == w.name.0) s.classes c no_class e).0))
-  class_at_leads u s short g None e = tt
+  class_at_leads : (b : Braces) (u : Use) (s : State) → IsShort n s → (Around u text s × IsEmpty u s) → (o : Option ℕ) → position (λ c. c.name.0 == w.name.0) s.classes ≡ o → Leads text w.past (class_at o (Terms u ∷ behind b u) s)
+  class_at_leads b u s short g (Some c) e =
+      (omega arith, at_terms b u (element_named u s c g (position-Some (λ c. c.name.0 == w.name.0) s.classes c no_class e).0))
+  class_at_leads b u s short g None e = tt
 
-  class_name_leads : (u : Use) (s : State) → IsShort n s → (Around u text s × IsEmpty u s) → Leads text w.past (class_name w (Terms u ∷ behind u) s)
-  class_name_leads u s short g =
-      cond_both (is_name w.kind) _ _ (Leads text w.past) (λ _. class_at_leads u s short g (position (λ c. c.name.0 == w.name.0) s.classes) refl) (λ _. tt)
+  class_name_leads : (b : Braces) (u : Use) (s : State) → IsShort n s → (Around u text s × IsEmpty u s) → Leads text w.past (class_name w (Terms u ∷ behind b u) s)
+  class_name_leads b u s short g =
+      cond_both (is_name w.kind) _ _ (Leads text w.past) (λ _. class_at_leads b u s short g (position (λ c. c.name.0 == w.name.0) s.classes) refl) (λ _. tt)
 
-  at_field : {s : State} (u : Use) (f : ℕ) → AtField u text s f → IsRead text s (behind_attribute u f ∷ Terms u ∷ behind u)
-  at_field InPattern f g = at_place f g
-  at_field InPut f g = at_put_value f g
-  at_field InFixed f g = at_fixed_value f g
+  at_field : {s : State} (b : Braces) (u : Use) (f : ℕ) → AtField u text s f → IsRead text s (behind_attribute u f ∷ Terms u ∷ behind b u)
+  at_field b InPattern f g = at_place b None f (g.0, or_left _ _ g.1, tt)
+  at_field b InPut f g = at_put_value f g
+  at_field b InFixed f g = at_fixed_value f g
 
-  field_at_leads : (u : Use) (s : State) → IsShort n s → IsElement u text s → (o : Option ℕ) → position (λ a. a.0 == w.name.0) (attributes_of (slice_get s.classes s.class)) ≡ o → Leads text w.past (field_at u o (Terms u ∷ behind u) s)
-  field_at_leads u s short g None e = tt
-  field_at_leads u s short g (Some f) e =
+  -- the vector attribute begins
+  several_begun : (u : Use) (s : State) (f : ℕ) → IsElement u text s → is_vector (class_of s.classes s.class) f ≡ true → AtSeveral u text (record s { terms = []; constants = [] }) f
+  several_begun InPattern s f g e = (record { around = g.around; class = g.class; fields = g.fields }, (vector_parts (class_of s.classes s.class) f e).0)
+  several_begun InPut s f g e = (record { around = g.around; class = g.class; fields = g.fields }, e, refl)
+  several_begun InFixed s f g e = (record { around = g.around; class = g.class; fields = g.fields }, e, vector_within s.classes s.class f g.around.classes_valid g.class e)
+
+  field_at_leads : (b : Braces) (u : Use) (s : State) → IsShort n s → IsElement u text s → (o : Option ℕ) → position (λ a. a.0 == w.name.0) (attributes_of (slice_get s.classes s.class)) ≡ o → Leads text w.past (field_at u o (behind b u) s)
+  field_at_leads b u s short g None e = tt
+  field_at_leads b u s short g (Some f) e =
       let c = get_or s.classes s.class no_class in
       let here : slice_get s.classes s.class ≡ Some c = slice_get-get_or s.classes s.class no_class g.class in
       let lt : f < length c.attrs = (position-Some (λ a. a.0 == w.name.0) c.attrs f (record { 0 = 0 }) (rw here at e)).0 in
-      (omega arith, at_field u f (g, ap (λ (o : Option Class). nat_lt f (length (unwrap_or o no_class).attrs)) here ∙ lt-ltb _ _ lt))
+      cond_both (is_vector (class_of s.classes s.class) f) _ _ (Leads text w.past) (λ vector. (omega arith, at_several b u f (several_begun u s f g vector)))
+      (λ _. (omega arith, at_field b u f (g, ap (λ (o : Option Class). nat_lt f (length (unwrap_or o no_class).attrs)) here ∙ lt-ltb _ _ lt)))
 
-  attribute_leads : (u : Use) (s : State) → IsShort n s → IsElement u text s → Leads text w.past (attribute u w (Terms u ∷ behind u) s)
-  attribute_leads u s short g =
+  attribute_leads : (b : Braces) (u : Use) (s : State) → IsShort n s → IsElement u text s → Leads text w.past (attribute u w (behind b u) s)
+  attribute_leads b u s short g =
       cond_both (is_name w.kind) _ _ (Leads text w.past)
-      (λ _. field_at_leads u s short g (position (λ a. a.0 == w.name.0) (attributes_of (slice_get s.classes s.class))) refl) (λ _. tt)
+      (λ _. field_at_leads b u s short g (position (λ a. a.0 == w.name.0) (attributes_of (slice_get s.classes s.class))) refl) (λ _. tt)
 
   abbrev HasAttribute : State → ℕ → Type 0
   HasAttribute s f = is_attribute (class_of s.classes s.class) f ≡ true
@@ -138,157 +160,262 @@ module _ (text n : ℕ) (w : Word) (fit : text ≤ longest_list) (placed : IsPla
 
   -- ---- tests
 
-  behind_leads : (f : ℕ) (among : Bool) (s : State) → AtField InPattern text s f → IsRead text s (behind_test f among)
-  behind_leads f true s g = at_tests f g
-  behind_leads f false s g = at_terms InPattern g.0
+  module _ (b : Braces) (more : Option ℕ) where
+    place_ends : (more : Option ℕ) (s : State) → IsElement InPattern text s → HasMore more (class_of s.classes s.class) → IsRead text s (behind_place b more)
+    place_ends None s g h = at_terms b InPattern g
+    place_ends (Some f) s g h = at_several b InPattern f (g, h)
 
-  -- a test that binds nothing
-  test_added : (f : ℕ) (p : Pred) (o : Operand) (s : State) → AtField InPattern text s f → operand_is_valid (sight_after_tests (seen s.conditions) s.tests) p false o ≡ true → AtField InPattern text (with_test s f p o false) f
-  test_added f p o s g valid = (
-    record {
-      around = (test_kept text s.classes s.rules s.commands s.name (variables_of s) s.conditions s.tests f p o g.0.around.0, g.0.around.1, g.0.around.2, g.0.around.3);
-      class = g.0.class;
-      fields = test_valid text s.classes s.rules s.commands s.name (class_of s.classes s.class) s.conditions s.tests f p o false g.0.fields g.1 valid;
-    },
-    g.1,
-  )
+    behind_leads : (f : ℕ) (among : Bool) (s : State) → AtPlace more text s f → IsRead text s (behind_test b more f among)
+    behind_leads f true s g = at_tests b more f g
+    behind_leads f false s g = place_ends more s g.0 g.2
 
-  test_leads : (f : ℕ) (p : Pred) (o : Operand) (among : Bool) (s : State) → IsShort n s → AtField InPattern text s f → operand_is_valid (sight_after_tests (seen s.conditions) s.tests) p false o ≡ true → Leads text w.past (Next (behind_test f among) (with_test s f p o false))
-  test_leads f p o among s short g valid = (omega (arith, length-append {A = Test}), behind_leads f among (with_test s f p o false) (test_added f p o s g valid))
+    -- a test that binds nothing
+    test_added : (f : ℕ) (p : Pred) (o : Operand) (s : State) → AtPlace more text s f → operand_is_valid (sight_after_tests (seen s.conditions) s.tests) p false o ≡ true → AtPlace more text (with_test s f p o false) f
+    test_added f p o s g valid = (
+      record {
+        around = (test_kept text s.classes s.rules s.commands s.name (variables_of s) s.conditions s.tests f p o g.0.around.0, g.0.around.1, g.0.around.2, g.0.around.3);
+        class = g.0.class;
+        fields = test_valid text s.classes s.rules s.commands s.name (class_of s.classes s.class) s.conditions s.tests f p o false g.0.fields g.1 valid;
+      },
+      g.1,
+      g.2,
+    )
 
-  bound_leads : (f : ℕ) (among : Bool) (s : State) → IsShort n s → AtField InPattern text s f → Leads text w.past (Next (behind_test f among) (with_bound s f w.name))
-  bound_leads f among s short g =
-      let head = g.0.around.0 in (
-        omega (arith, length-append {A = Test}),
-        behind_leads f among (with_bound s f w.name) (
-          record {
-            around = (test_bound text s.classes s.rules s.commands s.name (variables_of s) s.conditions s.tests f w.name head, g.0.around.1, g.0.around.2, g.0.around.3);
-            class = g.0.class;
-            fields = test_valid text s.classes s.rules s.commands s.name (class_of s.classes s.class) s.conditions s.tests f pred.Eq (operand.Variable s.variables) true g.0.fields g.1
-                (not_from_false _ (not_below (sight_after_tests (seen s.conditions) s.tests).given s.variables head.below));
-          },
-          g.1,
-        ),
-      )
+    test_leads : (f : ℕ) (p : Pred) (o : Operand) (among : Bool) (s : State) → IsShort n s → AtPlace more text s f → operand_is_valid (sight_after_tests (seen s.conditions) s.tests) p false o ≡ true → Leads text w.past (Next (behind_test b more f among) (with_test s f p o false))
+    test_leads f p o among s short g valid = (omega (arith, length-append {A = Test}), behind_leads f among (with_test s f p o false) (test_added f p o s g valid))
 
-  variable_tested_leads : (f : ℕ) (p : Pred) (among : Bool) (s : State) → IsShort n s → AtField InPattern text s f → (o : Option ℕ) → number_of w.name s.values ≡ o → Leads text w.past (variable_tested f p o w.name (behind_test f among) s)
-  variable_tested_leads f p among s short g (Some m) e = test_leads f p (operand.Variable m) among s short g (ap (is_in m) g.0.around.0.bound ∙ number_in w.name s.values m e)
-  variable_tested_leads f pred.Eq among s short g None e = bound_leads f among s short g
-  variable_tested_leads f _ among s short g None e = tt
+    bound_leads : (f : ℕ) (among : Bool) (s : State) → IsShort n s → AtPlace more text s f → Leads text w.past (Next (behind_test b more f among) (with_bound s f w.name))
+    bound_leads f among s short g =
+        let head = g.0.around.0 in (
+          omega (arith, length-append {A = Test}),
+          behind_leads f among (with_bound s f w.name) (
+            record {
+              around = (test_bound text s.classes s.rules s.commands s.name (variables_of s) s.conditions s.tests f w.name head, g.0.around.1, g.0.around.2, g.0.around.3);
+              class = g.0.class;
+              fields = test_valid text s.classes s.rules s.commands s.name (class_of s.classes s.class) s.conditions s.tests f pred.Eq (operand.Variable s.variables) true g.0.fields g.1
+                  (not_from_false _ (not_below (sight_after_tests (seen s.conditions) s.tests).given s.variables head.below));
+            },
+            g.1,
+            g.2,
+          ),
+        )
 
-  constant_tested_leads : (f : ℕ) (p : Pred) (among : Bool) (s : State) → IsShort n s → AtField InPattern text s f → (o : Option Value) → Leads text w.past (constant_tested f p w o (behind_test f among) s)
-  constant_tested_leads f p among s short g (Some v) = test_leads f p (operand.Constant v) among s short g refl
-  constant_tested_leads f p among s short g None =
-      cond_both (is_variable w.kind) _ _ (Leads text w.past) (λ _. variable_tested_leads f p among s short g (number_of w.name s.values) refl) (λ _. tt)
+    variable_tested_leads : (f : ℕ) (p : Pred) (among : Bool) (s : State) → IsShort n s → AtPlace more text s f → (o : Option ℕ) → number_of w.name s.values ≡ o → Leads text w.past (variable_tested f p o w.name (behind_test b more f among) s)
+    variable_tested_leads f p among s short g (Some m) e = test_leads f p (operand.Variable m) among s short g (ap (is_in m) g.0.around.0.bound ∙ number_in w.name s.values m e)
+    variable_tested_leads f pred.Eq among s short g None e = bound_leads f among s short g
+    variable_tested_leads f _ among s short g None e = tt
 
-  tested_leads : (f : ℕ) (p : Pred) (among : Bool) (s : State) → IsShort n s → AtField InPattern text s f → Leads text w.past (tested f p w (behind_test f among) s)
-  tested_leads f p among s short g =
-      cond_both (is_literal w.keyword) _ _ (Leads text w.past) (λ _. (omega arith, at_test_atom f p among g)) (λ _. constant_tested_leads f p among s short g (constant_of w.kind w.name))
+    constant_tested_leads : (f : ℕ) (p : Pred) (among : Bool) (s : State) → IsShort n s → AtPlace more text s f → (o : Option Value) → Leads text w.past (constant_tested f p w o (behind_test b more f among) s)
+    constant_tested_leads f p among s short g (Some v) = test_leads f p (operand.Constant v) among s short g refl
+    constant_tested_leads f p among s short g None =
+        cond_both (is_variable w.kind) _ _ (Leads text w.past) (λ _. variable_tested_leads f p among s short g (number_of w.name s.values) refl) (λ _. tt)
 
-  predicated_leads : (f : ℕ) (among : Bool) (s : State) → IsShort n s → AtField InPattern text s f → (o : Option Pred) → Leads text w.past (predicated f w o (behind_test f among) s)
-  predicated_leads f among s short g (Some p) = (omega arith, at_tested f p among g)
-  predicated_leads f among s short g None = tested_leads f pred.Eq among s short g
+    tested_leads : (f : ℕ) (p : Pred) (among : Bool) (s : State) → IsShort n s → AtPlace more text s f → Leads text w.past (tested f p w (behind_test b more f among) s)
+    tested_leads f p among s short g =
+        cond_both (is_literal w.keyword) _ _ (Leads text w.past) (λ _. (omega arith, at_test_atom b more f p among g)) (λ _. constant_tested_leads f p among s short g (constant_of w.kind w.name))
 
-  one_test_leads : (f : ℕ) (among : Bool) (s : State) → IsShort n s → AtField InPattern text s f → Leads text w.past (test f w (behind_test f among) s)
-  one_test_leads f among s short g =
-      cond_both (opens_choice w.keyword) _ _ (Leads text w.past) (λ _. (omega arith, at_choice f among (record { around = g.0.around; class = g.0.class; fields = g.0.fields }, g.1)))
-      (λ _. predicated_leads f among s short g (pred_of w.keyword))
+    predicated_leads : (f : ℕ) (among : Bool) (s : State) → IsShort n s → AtPlace more text s f → (o : Option Pred) → Leads text w.past (predicated f w o (behind_test b more f among) s)
+    predicated_leads f among s short g (Some p) = (omega arith, at_tested b more f p among g)
+    predicated_leads f among s short g None = tested_leads f pred.Eq among s short g
 
-  place_leads : (f : ℕ) (s : State) → IsShort n s → AtField InPattern text s f → Leads text w.past (place f w (Terms InPattern ∷ behind InPattern) s)
-  place_leads f s short g = cond_both (is_left_brace w.kind) _ _ (Leads text w.past) (λ _. (omega arith, at_tests f g)) (λ _. one_test_leads f false s short g)
+    one_test_leads : (f : ℕ) (among : Bool) (s : State) → IsShort n s → AtPlace more text s f → Leads text w.past (test f w (behind_test b more f among) s)
+    one_test_leads f among s short g =
+        cond_both (opens_choice w.keyword) _ _ (Leads text w.past) (λ _. (omega arith, at_choice b more f among (record { around = g.0.around; class = g.0.class; fields = g.0.fields }, g.1, g.2)))
+        (λ _. predicated_leads f among s short g (pred_of w.keyword))
 
-  tests_leads : (f : ℕ) (s : State) → IsShort n s → AtField InPattern text s f → Leads text w.past (tests f w (Terms InPattern ∷ behind InPattern) s)
-  tests_leads f s short g = cond_both (is_right_brace w.kind) _ _ (Leads text w.past) (λ _. (omega arith, at_terms InPattern g.0)) (λ _. one_test_leads f true s short g)
+    place_leads : (f : ℕ) (s : State) → IsShort n s → AtPlace more text s f → Leads text w.past (place f w (behind_place b more) s)
+    place_leads f s short g = cond_both (is_left_brace w.kind) _ _ (Leads text w.past) (λ _. (omega arith, at_tests b more f g)) (λ _. one_test_leads f false s short g)
 
-  chosen_leads : (f : ℕ) (among : Bool) (s : State) → IsShort n s → AtField InPattern text s f → (o : Option Value) → Leads text w.past (chosen o (Choice f ∷ behind_test f among) s)
-  chosen_leads f among s short g (Some v) =
-      (omega (arith, length-append {A = Value}), at_choice f among (record { around = g.0.around; class = g.0.class; fields = g.0.fields }, g.1))
-  chosen_leads f among s short g None = tt
+    tests_leads : (f : ℕ) (s : State) → IsShort n s → AtPlace more text s f → Leads text w.past (tests f w (behind_place b more) s)
+    tests_leads f s short g = cond_both (is_right_brace w.kind) _ _ (Leads text w.past) (λ _. (omega arith, place_ends more s g.0 g.2)) (λ _. one_test_leads f true s short g)
 
-  choice_ended : (f : ℕ) (among : Bool) (s : State) → IsShort n s → AtField InPattern text s f → Leads text w.past (Next (behind_test f among) (with_choice s f))
-  choice_ended f among s short g =
-      let fit : nat_le (length s.choice) longest_list ≡ true = le-leb (length s.choice) longest_list (omega arith) in
-      let added = test_added f pred.Eq (operand.OneOf s.choice) s g fit in
-      let u : AtField InPattern text (with_choice s f) f = (record { around = added.0.around; class = added.0.class; fields = added.0.fields }, added.1) in
-      (omega (arith, length-append {A = Test}), behind_leads f among (with_choice s f) u)
+    chosen_leads : (f : ℕ) (among : Bool) (s : State) → IsShort n s → AtPlace more text s f → (o : Option Value) → Leads text w.past (chosen o (Choice f ∷ behind_test b more f among) s)
+    chosen_leads f among s short g (Some v) =
+        (omega (arith, length-append {A = Value}), at_choice b more f among (record { around = g.0.around; class = g.0.class; fields = g.0.fields }, g.1, g.2))
+    chosen_leads f among s short g None = tt
 
-  choice_leads : (f : ℕ) (among : Bool) (s : State) → IsShort n s → AtField InPattern text s f → Leads text w.past (choice f w (behind_test f among) s)
-  choice_leads f among s short g =
-      cond_both (closes_choice w.keyword) _ _ (Leads text w.past) (λ _. choice_ended f among s short g) (λ _. chosen_leads f among s short g (atom_of w.kind w.name))
+    choice_ended : (f : ℕ) (among : Bool) (s : State) → IsShort n s → AtPlace more text s f → Leads text w.past (Next (behind_test b more f among) (with_choice s f))
+    choice_ended f among s short g =
+        let fit : nat_le (length s.choice) longest_list ≡ true = le-leb (length s.choice) longest_list (omega arith) in
+        let added = test_added f pred.Eq (operand.OneOf s.choice) s g fit in
+        let u : AtPlace more text (with_choice s f) f = (record { around = added.0.around; class = added.0.class; fields = added.0.fields }, added.1, added.2) in
+        (omega (arith, length-append {A = Test}), behind_leads f among (with_choice s f) u)
 
-  test_atom_leads : (f : ℕ) (p : Pred) (among : Bool) (s : State) → IsShort n s → AtField InPattern text s f → (o : Option Value) → Leads text w.past (atom_at (ToTest f p) o (behind_test f among) s)
-  test_atom_leads f p among s short g (Some v) = test_leads f p (operand.Constant v) among s short g refl
-  test_atom_leads f p among s short g None = tt
+    choice_leads : (f : ℕ) (among : Bool) (s : State) → IsShort n s → AtPlace more text s f → Leads text w.past (choice f w (behind_test b more f among) s)
+    choice_leads f among s short g =
+        cond_both (closes_choice w.keyword) _ _ (Leads text w.past) (λ _. choice_ended f among s short g) (λ _. chosen_leads f among s short g (atom_of w.kind w.name))
+
+    test_atom_leads : (f : ℕ) (p : Pred) (among : Bool) (s : State) → IsShort n s → AtPlace more text s f → (o : Option Value) → Leads text w.past (atom_at (ToTest f p) o (behind_test b more f among) s)
+    test_atom_leads f p among s short g (Some v) = test_leads f p (operand.Constant v) among s short g refl
+    test_atom_leads f p among s short g None = tt
 
   -- ---- values
 
-  put_constant_leads : (f : ℕ) (v : Value) (s : State) → IsShort n s → AtField InPut text s f → Leads text w.past (Next (Terms InPut ∷ behind InPut) (with_constant (ToPut f) s v))
-  put_constant_leads f v s short g = (omega (arith, length-append {A = Put}), at_terms InPut (put_added s f (term.Constant v) g.0 g.1 (λ b. refl)))
+  put_constant_leads : (f : ℕ) (v : Value) (s : State) → IsShort n s → AtField InPut text s f → Leads text w.past (Next (Terms InPut ∷ behind Bare InPut) (with_constant (ToPut f) s v))
+  put_constant_leads f v s short g = (omega (arith, length-append {A = Put}), at_terms Bare InPut (put_added s f (term.Constant v) g.0 g.1 (λ b. refl)))
 
-  put_atom_leads : (f : ℕ) (s : State) → IsShort n s → AtField InPut text s f → (o : Option Value) → Leads text w.past (atom_at (ToPut f) o (Terms InPut ∷ behind InPut) s)
+  put_atom_leads : (f : ℕ) (s : State) → IsShort n s → AtField InPut text s f → (o : Option Value) → Leads text w.past (atom_at (ToPut f) o (Terms InPut ∷ behind Bare InPut) s)
   put_atom_leads f s short g (Some v) = put_constant_leads f v s short g
   put_atom_leads f s short g None = tt
 
-  put_bound_leads : (f : ℕ) (s : State) → IsShort n s → AtField InPut text s f → (o : Option ℕ) → number_of w.name s.values ≡ o → Leads text w.past (bound_at (ToPut f) o (Terms InPut ∷ behind InPut) s)
+  put_bound_leads : (f : ℕ) (s : State) → IsShort n s → AtField InPut text s f → (o : Option ℕ) → number_of w.name s.values ≡ o → Leads text w.past (bound_at (ToPut f) o (Terms InPut ∷ behind Bare InPut) s)
   put_bound_leads f s short g (Some m) e = (
     omega (arith, length-append {A = Put}),
-    at_terms InPut (put_added s f (term.Variable m) g.0 g.1 (λ b. ap (is_in m) g.0.around.bound ∙ number_in w.name s.values m e)),
+    at_terms Bare InPut (put_added s f (term.Variable m) g.0 g.1 (λ b. ap (is_in m) g.0.around.bound ∙ number_in w.name s.values m e)),
   )
   put_bound_leads f s short g None e = tt
 
-  put_word_leads : (f : ℕ) (s : State) → IsShort n s → AtField InPut text s f → (o : Option Value) → Leads text w.past (constant_at (ToPut f) w o (Terms InPut ∷ behind InPut) s)
+  put_word_leads : (f : ℕ) (s : State) → IsShort n s → AtField InPut text s f → (o : Option Value) → Leads text w.past (constant_at (ToPut f) w o (Terms InPut ∷ behind Bare InPut) s)
   put_word_leads f s short g (Some v) = put_constant_leads f v s short g
   put_word_leads f s short g None = cond_both (is_variable w.kind) _ _ (Leads text w.past) (λ _. put_bound_leads f s short g (number_of w.name s.values) refl) (λ _. tt)
 
-  put_value_leads : (f : ℕ) (s : State) → IsShort n s → AtField InPut text s f → Leads text w.past (value_for (ToPut f) w (Terms InPut ∷ behind InPut) s)
+  put_value_leads : (f : ℕ) (s : State) → IsShort n s → AtField InPut text s f → Leads text w.past (value_for (ToPut f) w (Terms InPut ∷ behind Bare InPut) s)
   put_value_leads f s short g =
       cond_both (is_literal w.keyword) _ _ (Leads text w.past) (λ _. (omega arith, at_put_atom f g)) (λ _. put_word_leads f s short g (value_of w.kind w.name))
 
-  fixed_atom_leads : (f : ℕ) (s : State) → IsShort n s → AtField InFixed text s f → (o : Option Value) → Leads text w.past (atom_at (ToFixed f) o (Terms InFixed ∷ behind InFixed) s)
-  fixed_atom_leads f s short g (Some v) = (omega (arith, length-append {A = Fixed}), at_terms InFixed (fixed_added s f v g))
+  fixed_atom_leads : (f : ℕ) (s : State) → IsShort n s → AtField InFixed text s f → (o : Option Value) → Leads text w.past (atom_at (ToFixed f) o (Terms InFixed ∷ behind Bare InFixed) s)
+  fixed_atom_leads f s short g (Some v) = (omega (arith, length-append {A = Fixed}), at_terms Bare InFixed (fixed_added s f v g))
   fixed_atom_leads f s short g None = tt
 
   -- A variable in a command is bound nowhere.
-  fixed_bound_leads : (f : ℕ) (s : State) (o : Option ℕ) → Leads text w.past (bound_at (ToFixed f) o (Terms InFixed ∷ behind InFixed) s)
+  fixed_bound_leads : (f : ℕ) (s : State) (o : Option ℕ) → Leads text w.past (bound_at (ToFixed f) o (Terms InFixed ∷ behind Bare InFixed) s)
   fixed_bound_leads f s (Some m) = tt
   fixed_bound_leads f s None = tt
 
-  fixed_word_leads : (f : ℕ) (s : State) → IsShort n s → AtField InFixed text s f → (o : Option Value) → Leads text w.past (constant_at (ToFixed f) w o (Terms InFixed ∷ behind InFixed) s)
-  fixed_word_leads f s short g (Some v) = (omega (arith, length-append {A = Fixed}), at_terms InFixed (fixed_added s f v g))
+  fixed_word_leads : (f : ℕ) (s : State) → IsShort n s → AtField InFixed text s f → (o : Option Value) → Leads text w.past (constant_at (ToFixed f) w o (Terms InFixed ∷ behind Bare InFixed) s)
+  fixed_word_leads f s short g (Some v) = (omega (arith, length-append {A = Fixed}), at_terms Bare InFixed (fixed_added s f v g))
   fixed_word_leads f s short g None = cond_both (is_variable w.kind) _ _ (Leads text w.past) (λ _. fixed_bound_leads f s (number_of w.name s.values)) (λ _. tt)
 
-  fixed_value_leads : (f : ℕ) (s : State) → IsShort n s → AtField InFixed text s f → Leads text w.past (value_for (ToFixed f) w (Terms InFixed ∷ behind InFixed) s)
+  fixed_value_leads : (f : ℕ) (s : State) → IsShort n s → AtField InFixed text s f → Leads text w.past (value_for (ToFixed f) w (Terms InFixed ∷ behind Bare InFixed) s)
   fixed_value_leads f s short g =
       cond_both (is_literal w.keyword) _ _ (Leads text w.past) (λ _. (omega arith, at_fixed_atom f g)) (λ _. fixed_word_leads f s short g (value_of w.kind w.name))
+
+  -- a value more of the vector attribute of an action
+  term_more : (f : ℕ) (t : Term) (s : State) → IsShort n s → AtSeveral InPut text s f → term_is_valid s.classes (known s.conditions s.actions) true t ≡ true → Leads text w.past (Next (Several InPut f ∷ behind Bare InPut) (record s { terms = s.terms ++ t ∷ [] }))
+  term_more f t s short g valid = (
+    omega (arith, length-append {A = Term}),
+    at_several Bare InPut f (
+      record { around = g.0.around; class = g.0.class; fields = g.0.fields },
+      g.1,
+      all_push (term_is_valid s.classes (known s.conditions s.actions) true) s.terms t g.2 valid,
+    ),
+  )
+
+  terms_atom_leads : (f : ℕ) (s : State) → IsShort n s → AtSeveral InPut text s f → (o : Option Value) → Leads text w.past (atom_at ToTerms o (Several InPut f ∷ behind Bare InPut) s)
+  terms_atom_leads f s short g (Some v) = term_more f (term.Constant v) s short g refl
+  terms_atom_leads f s short g None = tt
+
+  terms_bound_leads : (f : ℕ) (s : State) → IsShort n s → AtSeveral InPut text s f → (o : Option ℕ) → number_of w.name s.values ≡ o → Leads text w.past (bound_at ToTerms o (Several InPut f ∷ behind Bare InPut) s)
+  terms_bound_leads f s short g (Some m) e = term_more f (term.Variable m) s short g (ap (is_in m) g.0.around.bound ∙ number_in w.name s.values m e)
+  terms_bound_leads f s short g None e = tt
+
+  terms_word_leads : (f : ℕ) (s : State) → IsShort n s → AtSeveral InPut text s f → (o : Option Value) → Leads text w.past (constant_at ToTerms w o (Several InPut f ∷ behind Bare InPut) s)
+  terms_word_leads f s short g (Some v) = term_more f (term.Constant v) s short g refl
+  terms_word_leads f s short g None = cond_both (is_variable w.kind) _ _ (Leads text w.past) (λ _. terms_bound_leads f s short g (number_of w.name s.values) refl) (λ _. tt)
+
+  terms_value_leads : (f : ℕ) (s : State) → IsShort n s → AtSeveral InPut text s f → Leads text w.past (value_for ToTerms w (Several InPut f ∷ behind Bare InPut) s)
+  terms_value_leads f s short g =
+      cond_both (is_literal w.keyword) _ _ (Leads text w.past) (λ _. (omega arith, at_terms_atom f g)) (λ _. terms_word_leads f s short g (value_of w.kind w.name))
+
+  -- a value more of the vector attribute of a command
+  constant_more : (f : ℕ) (v : Value) (s : State) → IsShort n s → AtSeveral InFixed text s f → f + length s.constants < most_fields → Leads text w.past (Next (Several InFixed f ∷ behind Bare InFixed) (record s { constants = s.constants ++ v ∷ [] }))
+  constant_more f v s short g lt = (
+    omega arith,
+    at_several Bare InFixed f (record { around = g.0.around; class = g.0.class; fields = g.0.fields }, g.1, omega (arith, lt, length-append s.constants (v ∷ []))),
+  )
+
+  constants_atom_leads : (f : ℕ) (s : State) → IsShort n s → AtSeveral InFixed text s f → f + length s.constants < most_fields → (o : Option Value) → Leads text w.past (atom_at ToConstants o (Several InFixed f ∷ behind Bare InFixed) s)
+  constants_atom_leads f s short g lt (Some v) = constant_more f v s short g lt
+  constants_atom_leads f s short g lt None = tt
+
+  constants_bound_leads : (f : ℕ) (s : State) (o : Option ℕ) → Leads text w.past (bound_at ToConstants o (Several InFixed f ∷ behind Bare InFixed) s)
+  constants_bound_leads f s (Some m) = tt
+  constants_bound_leads f s None = tt
+
+  constants_word_leads : (f : ℕ) (s : State) → IsShort n s → AtSeveral InFixed text s f → f + length s.constants < most_fields → (o : Option Value) → Leads text w.past (constant_at ToConstants w o (Several InFixed f ∷ behind Bare InFixed) s)
+  constants_word_leads f s short g lt (Some v) = constant_more f v s short g lt
+  constants_word_leads f s short g lt None = cond_both (is_variable w.kind) _ _ (Leads text w.past) (λ _. constants_bound_leads f s (number_of w.name s.values)) (λ _. tt)
+
+  constants_value_leads : (f : ℕ) (s : State) → IsShort n s → AtSeveral InFixed text s f → f + length s.constants < most_fields → Leads text w.past (value_for ToConstants w (Several InFixed f ∷ behind Bare InFixed) s)
+  constants_value_leads f s short g lt =
+      cond_both (is_literal w.keyword) _ _ (Leads text w.past) (λ _. (omega arith, at_constants_atom f g lt)) (λ _. constants_word_leads f s short g lt (value_of w.kind w.name))
 
   place_fits : n ≤ longest_list
   place_fits = omega arith
 
-  element_leads : (u : Use) (s : State) → IsShort n s → (IsElement u text s) → Leads text w.past (Next (behind u) (with_element u s))
-  element_leads InPattern s short g = (
+  behind_fits : n + 1 ≤ longest_list
+  behind_fits = omega arith
+
+  pattern_ends : (b : Braces) (s : State) → AfterPattern text s → IsRead text s (behind b InPattern)
+  pattern_ends Bare s g = at_patterns g
+  pattern_ends NamedBefore s g = at_closes_brace g
+  pattern_ends NamedBehind s g = at_element_name g
+
+  element_leads : (b : Braces) (u : Use) (s : State) → IsShortBy n (n + 1) s → (IsElement u text s) → Leads text w.past (Next (behind b u) (with_element u s))
+  element_leads b InPattern s short g = (
     omega arith,
-    at_patterns ((
+    pattern_ends b (with_element InPattern s) ((
       condition_added text s.classes s.rules s.commands s.name s.class (variables_of s) s.conditions s.tests g.around.0 g.around.1 g.class (fits_below s.tests n short.4 place_fits) g.fields g.around.3,
       refl,
       g.around.2,
       omega (arith, length-append {A = Condition}),
     )),
   )
-  element_leads InPut s short g = (
+  element_leads b InPut s short g = (
     omega (arith, length-append {A = Action}),
     at_actions (action_added text s.classes s.rules s.commands s.name (variables_of s) s.conditions s.actions (action.Make s.class s.puts) g.around
-        (and_from _ _ (lt-ltb _ _ g.class) (and_from _ _ (fits_below s.puts n short.5 place_fits) g.fields)) refl refl refl),
+        (and_from _ _ (lt-ltb _ _ g.class) (and_from _ _ (fits_below s.puts (n + 1) short.5 behind_fits) g.fields)) refl refl refl),
   )
-  element_leads InFixed s short g = (
+  element_leads b InFixed s short g = (
     omega (arith, length-append {A = Command}),
     at_forms (command_added text s.classes s.rules s.commands (command.Make s.class s.fixed) g.around
-        (and_from _ _ (and_from _ _ (lt-ltb _ _ g.class) (fits_below s.fixed n short.6 place_fits)) g.fields)),
+        (and_from _ _ (and_from _ _ (lt-ltb _ _ g.class) (fits_below s.fixed (n + 1) short.6 behind_fits)) g.fields)),
   )
 
-  terms_leads : (u : Use) (s : State) → IsShort n s → (IsElement u text s) → Leads text w.past (terms u w (behind u) s)
-  terms_leads u s short g =
-      cond_both (is_right w.kind) _ _ (Leads text w.past) (λ _. element_leads u s short g)
-      (λ _. cond_both (is_caret w.kind) _ _ (Leads text w.past) (λ _. (omega arith, at_attribute u g)) (λ _. tt))
+  terms_leads : (b : Braces) (u : Use) (s : State) → IsShortBy n (n + 1) s → (IsElement u text s) → Leads text w.past (terms u w (behind b u) s)
+  terms_leads b u s short g =
+      cond_both (is_right w.kind) _ _ (Leads text w.past) (λ _. element_leads b u s short g)
+      (λ _. cond_both (is_caret w.kind) _ _ (Leads text w.past) (λ _. (omega arith, at_attribute b u g)) (λ _. tt))
+
+  -- ---- the vector attribute
+
+  within_leads : (fits : Bool) (step : Step) → (fits ≡ true → Leads text w.past step) → Leads text w.past (within fits step)
+  within_leads true step h = h refl
+  within_leads false (Next ws s) h = tt
+  within_leads false (Refuses f) h = tt
+
+  one_of_several_leads : (b : Braces) (u : Use) (f : ℕ) (s : State) → IsShort n s → AtSeveral u text s f → Leads text w.past (one_of_several u f w (behind b u) s)
+  one_of_several_leads b InPattern f s short g =
+      within_leads (nat_lt f most_fields) _ (λ lt. place_leads b (Some (f + 1)) f s short (g.0, or_right _ _ (and_from _ _ g.1 lt), g.1))
+  one_of_several_leads b InPut f s short g = terms_value_leads f s short g
+  one_of_several_leads b InFixed f s short g =
+      within_leads (nat_lt (f + length s.constants) most_fields) _ (λ lt. constants_value_leads f s short g (ltb-true _ _ lt))
+
+  several_ended : (u : Use) (f : ℕ) (s : State) → IsShort n s → AtSeveral u text s f → IsElement u text (with_several u f s)
+  several_ended InPattern f s short g = g.0
+  several_ended InPut f s short g =
+      record {
+        around = g.0.around;
+        class = g.0.class;
+        fields = all_push (put_is_valid s.classes (known s.conditions s.actions) (class_of s.classes s.class)) s.puts (record { field = f; terms = s.terms }) g.0.fields
+            (several_valid s.classes (known s.conditions s.actions) (class_of s.classes s.class) f s.terms g.1 (fits_below s.terms n short.11 place_fits) g.2);
+      }
+  several_ended InFixed f s short g =
+      record {
+        around = g.0.around;
+        class = g.0.class;
+        fields = all_push (fixed_is_valid (class_of s.classes s.class)) s.fixed (record { field = f; values = s.constants }) g.0.fields (constants_valid (class_of s.classes s.class) f s.constants g.1 g.2);
+      }
+
+  several_short : (u : Use) (f : ℕ) (s : State) → IsShort n s → IsShortBy n (n + 1) (with_several u f s)
+  several_short InPattern f s short = omega arith
+  several_short InPut f s short = omega (arith, length-append {A = Put})
+  several_short InFixed f s short = omega (arith, length-append {A = Fixed})
+
+  several_leads : (b : Braces) (u : Use) (f : ℕ) (s : State) → IsShort n s → AtSeveral u text s f → Leads text w.past (several u f w (behind b u) s)
+  several_leads b u f s short g =
+      cond_both (is_right w.kind || is_caret w.kind) _ _ (Leads text w.past) (λ _. terms_leads b u (with_several u f s) (several_short u f s short) (several_ended u f s short g))
+      (λ _. one_of_several_leads b u f s short g)
 
   -- ---- productions
 
@@ -301,35 +428,68 @@ module _ (text n : ℕ) (w : Word) (fit : text ≤ longest_list) (placed : IsPla
 
   first_pattern_leads : (s : State) → IsShort n s → Head text s × (s.tests ≡ []) × (s.actions ≡ []) × (length s.conditions ≡ 0) × (s.negated ≡ false) → Leads text w.past (first_pattern w (Patterns ∷ Actions ∷ Forms ∷ []) s)
   first_pattern_leads s short g =
-      cond_both (is_left w.kind) _ _ (Leads text w.past) (λ _. (omega arith, at_class_name InPattern ((g.0, omega (arith, g.3), g.2, λ none. g.4), g.1)))
-      (λ _. cond_both (is_minus w.keyword) _ _ (Leads text w.past) (λ _. tt) (λ _. tt))
+      let before : BeforePattern text s = ((g.0, omega (arith, g.3), g.2, λ none. g.4), g.1) in
+      cond_both (is_left w.kind) _ _ (Leads text w.past) (λ _. (omega arith, at_class_name Bare InPattern before))
+      (λ _. cond_both (is_left_brace w.kind) _ _ (Leads text w.past) (λ _. (omega arith, at_braced before))
+      (λ _. cond_both (is_minus w.keyword) _ _ (Leads text w.past) (λ _. tt) (λ _. tt)))
 
-  body_at_arrow : (s : State) → Head text s × (s.tests ≡ []) × (s.actions ≡ []) × (0 < length s.conditions) → Body text s
+  body_at_arrow : (s : State) → AfterPattern text s → Body text s
   body_at_arrow s h =
       let head = subst (λ (ts : List Test). IsHead text s.classes s.rules s.commands s.name (variables_of s) s.conditions ts) h.1 h.0 in
       subst (λ (xs : List Action). IsBody text s.classes s.rules s.commands s.name (variables_of s) s.conditions xs) (sym h.2) (body_begun text s.classes s.rules s.commands s.name (variables_of s) s.conditions head h.3)
 
-  negated_leads : (s : State) → IsShort n s → Head text s × (s.tests ≡ []) × (s.actions ≡ []) × (0 < length s.conditions) → Leads text w.past (one_more (NegatedPattern ∷ Patterns ∷ Actions ∷ Forms ∷ []) (record s { negated = true; around = length s.values }))
+  -- another pattern comes
+  more_before : (s : State) → AfterPattern text s → length s.conditions < most_conditions → BeforePattern text s
+  more_before s g lt = ((g.0, lt, g.2, λ none. absurd (omega (arith, none, g.3))), g.1)
+
+  negated_leads : (s : State) → IsShort n s → AfterPattern text s → Leads text w.past (one_more (Pattern ∷ Patterns ∷ Actions ∷ Forms ∷ []) (record s { negated = true; around = length s.values }))
   negated_leads s short g =
       let begun : State = record s { negated = true; around = length s.values } in
       let head = subst (λ (ts : List Test). IsHead text s.classes s.rules s.commands s.name (variables_of s) s.conditions ts) g.1 g.0 in
       let negated = negated_begun text s.classes s.rules s.commands s.name (variables_of s) s.conditions head in
       let back = subst (λ (ts : List Test). IsHead text s.classes s.rules s.commands s.name (variables_of begun) s.conditions ts) (sym g.1) negated in
-      cond_both (nat_lt (length s.conditions) most_conditions) _ _ (Leads text w.past) (λ lt. (omega arith, at_negated_pattern (back, g.1, g.2, g.3, ltb-true _ _ lt))) (λ _. tt)
+      cond_both (nat_lt (length s.conditions) most_conditions) _ _ (Leads text w.past) (λ lt. (omega arith, at_pattern Bare (more_before begun (back, g.1, g.2, g.3) (ltb-true _ _ lt)))) (λ _. tt)
 
-  patterns_leads : (s : State) → IsShort n s → Head text s × (s.tests ≡ []) × (s.actions ≡ []) × (0 < length s.conditions) → Leads text w.past (patterns w (Actions ∷ Forms ∷ []) s)
+  patterns_leads : (s : State) → IsShort n s → AfterPattern text s → Leads text w.past (patterns w (Actions ∷ Forms ∷ []) s)
   patterns_leads s short g =
       cond_both (is_arrow w.keyword) _ _ (Leads text w.past) (λ _. (omega arith, at_actions (body_at_arrow s g)))
       (λ _. cond_both (is_left w.kind) _ _ (Leads text w.past)
       (λ _. cond_both (nat_lt (length s.conditions) most_conditions) _ _ (Leads text w.past)
-      (λ lt. (omega arith, at_class_name InPattern ((g.0, ltb-true _ _ lt, g.2, λ none. absurd (omega (arith, none, g.3))), g.1)))
-      (λ _. tt))
-      (λ _. cond_both (is_minus w.keyword) _ _ (Leads text w.past) (λ _. negated_leads s short g) (λ _. tt)))
+      (λ lt. (omega arith, at_class_name Bare InPattern (more_before s g (ltb-true _ _ lt)))) (λ _. tt))
+      (λ _. cond_both (is_left_brace w.kind) _ _ (Leads text w.past)
+      (λ _. cond_both (nat_lt (length s.conditions) most_conditions) _ _ (Leads text w.past)
+      (λ lt. (omega arith, at_braced (more_before s g (ltb-true _ _ lt)))) (λ _. tt))
+      (λ _. cond_both (is_minus w.keyword) _ _ (Leads text w.past) (λ _. negated_leads s short g) (λ _. tt))))
 
-  negated_pattern_leads : (s : State) → IsShort n s → Head text s × (s.tests ≡ []) × (s.actions ≡ []) × (0 < length s.conditions) × (length s.conditions < most_conditions) → Leads text w.past (negated_pattern w (Patterns ∷ Actions ∷ Forms ∷ []) s)
-  negated_pattern_leads s short g =
-      cond_both (is_left w.kind) _ _ (Leads text w.past)
-      (λ _. (omega arith, at_class_name InPattern ((g.0, g.4, g.2, λ none. absurd (omega (arith, none, g.3))), g.1))) (λ _. tt)
+  pattern_leads : (b : Braces) (s : State) → IsShort n s → BeforePattern text s → Leads text w.past (pattern w (behind b InPattern) s)
+  pattern_leads b s short g = cond_both (is_left w.kind) _ _ (Leads text w.past) (λ _. (omega arith, at_class_name b InPattern g)) (λ _. tt)
+
+  -- ---- element variables
+
+  -- an element variable before its pattern
+  named_before_leads : (s : State) → IsShort n s → BeforePattern text s → (o : Option ℕ) → Leads text w.past (element_at o w.name (Pattern ∷ ClosesBrace ∷ Patterns ∷ Actions ∷ Forms ∷ []) s)
+  named_before_leads s short g (Some c) = tt
+  named_before_leads s short g None = (omega arith, at_pattern NamedBefore g)
+
+  braced_leads : (s : State) → IsShort n s → BeforePattern text s → Leads text w.past (braced w (Patterns ∷ Actions ∷ Forms ∷ []) s)
+  braced_leads s short g =
+      cond_both (is_left w.kind) _ _ (Leads text w.past) (λ _. (omega arith, at_class_name NamedBehind InPattern g))
+      (λ _. cond_both (is_variable w.kind) _ _ (Leads text w.past) (λ _. named_before_leads s short g (number_of w.name s.elements)) (λ _. tt))
+
+  -- one behind its pattern
+  named_behind_leads : (s : State) → IsShort n s → AfterPattern text s → (o : Option ℕ) → Leads text w.past (element_at o w.name (ClosesBrace ∷ Patterns ∷ Actions ∷ Forms ∷ []) s)
+  named_behind_leads s short g (Some c) = tt
+  named_behind_leads s short g None = (omega arith, at_closes_brace g)
+
+  element_name_leads : (s : State) → IsShort n s → AfterPattern text s → Leads text w.past (element_name w (ClosesBrace ∷ Patterns ∷ Actions ∷ Forms ∷ []) s)
+  element_name_leads s short g = cond_both (is_variable w.kind) _ _ (Leads text w.past) (λ _. named_behind_leads s short g (number_of w.name s.elements)) (λ _. tt)
+
+  closes_brace_leads : (s : State) → IsShort n s → AfterPattern text s → Leads text w.past (closes_brace w (Patterns ∷ Actions ∷ Forms ∷ []) s)
+  closes_brace_leads s short g =
+      cond_both (is_right_brace w.kind) _ _ (Leads text w.past)
+      (λ _. (omega arith, at_patterns (element_bound text s.classes s.rules s.commands s.name (variables_of s) s.conditions s.tests s.element g.0 g.3, g.1, g.2, g.3))) (λ _. tt)
+
+  -- ---- right sides
 
   rule_leads : (s : State) → IsShort n s → Body text s → Program text (record s { rules = s.rules ++ record { name = s.name; conditions = s.conditions; actions = s.actions; specificity = specificity s.conditions; variables = s.variables; cells = length (cells_of s.conditions); first = s.first; past = w.past } ∷ [] })
   rule_leads s short h = rule_added text s.classes s.rules s.commands s.name (variables_of s) s.conditions s.actions s.first w.past h (fits_below s.actions n short.9 place_fits) (omega arith) placed.within
@@ -340,7 +500,7 @@ module _ (text n : ℕ) (w : Word) (fit : text ≤ longest_list) (placed : IsPla
       (λ _. cond_both (is_left w.kind) _ _ (Leads text w.past) (λ _. (omega arith, at_action_word g)) (λ _. tt))
 
   action_word_leads : (s : State) → IsShort n s → (Body text s) → (k : Keyword) → Leads text w.past (action_word k (Actions ∷ Forms ∷ []) s)
-  action_word_leads s short g keyword.Make = (omega arith, at_class_name InPut ((g, refl)))
+  action_word_leads s short g keyword.Make = (omega arith, at_class_name Bare InPut ((g, refl)))
   action_word_leads s short g keyword.Remove = (omega arith, at_cell ((g, refl)))
   action_word_leads s short g keyword.Write = (omega arith, at_items ((g, refl)))
   action_word_leads s short g keyword.Halt = (omega arith, at_halt g)
@@ -365,8 +525,18 @@ module _ (text n : ℕ) (w : Word) (fit : text ≤ longest_list) (placed : IsPla
   cell_of_leads s short g None = tt
   cell_of_leads s short g (Some m) = designated_leads s short g (m - 1) (slice_get s.conditions (m - 1)) refl
 
-  cell_leads : (s : State) → IsShort n s → (HasCells s) → (k : TokenKind) → Leads text w.past (cell k (Cells ∷ Actions ∷ Forms ∷ []) s)
+  -- an element variable names the cell of a condition
+  cell_named_leads : (s : State) → IsShort n s → HasCells s → (o : Option ℕ) → number_of w.name s.elements ≡ o → Leads text w.past (cell_named o (Cells ∷ Actions ∷ Forms ∷ []) s)
+  cell_named_leads s short g None e = tt
+  cell_named_leads s short g (Some c) e =
+      let below = all_in (λ k. nat_lt k (length (cells_of s.conditions))) (numbers s.elements) c g.0.head.elements (number_in w.name s.elements c e) in (
+        omega (arith, length-append {A = ℕ}),
+        at_cells (g.0, all_push (is_cell (known s.conditions s.actions)) s.cells c g.1 (ap (λ (cs : List ℕ). nat_lt c (length cs)) g.0.cells ∙ below)),
+      )
+
+  cell_leads : (s : State) → IsShort n s → (HasCells s) → (k : TokenKind) → Leads text w.past (cell k w.name (Cells ∷ Actions ∷ Forms ∷ []) s)
   cell_leads s short g (kind.Whole z) = cell_of_leads s short g (natural_of z)
+  cell_leads s short g kind.Variable = cell_named_leads s short g (number_of w.name s.elements) refl
   cell_leads s short g _ = tt
 
   cells_leads : (s : State) → IsShort n s → (HasCells s) → Leads text w.past (cells w (Actions ∷ Forms ∷ []) s)
@@ -441,22 +611,30 @@ module _ (text n : ℕ) (w : Word) (fit : text ≤ longest_list) (placed : IsPla
   step_leads s ws short (at_form g) = form_leads s short g w.keyword
   step_leads s ws short (at_class_declared g) = class_declared_leads s short g
   step_leads s ws short (at_attributes g) = attributes_leads s short g
+  step_leads s ws short (at_vector_name g) = vector_name_leads s short g
+  step_leads s ws short (at_vector_names g) = vector_names_leads s short g
   step_leads s ws short (at_rule_name g) = rule_name_leads s short g
   step_leads s ws short (at_first_pattern g) = first_pattern_leads s short g
   step_leads s ws short (at_patterns g) = patterns_leads s short g
-  step_leads s ws short (at_negated_pattern g) = negated_pattern_leads s short g
-  step_leads s ws short (at_class_name u g) = class_name_leads u s short g
-  step_leads s ws short (at_terms u g) = terms_leads u s short g
-  step_leads s ws short (at_attribute u g) = attribute_leads u s short g
-  step_leads s ws short (at_place f g) = place_leads f s short g
-  step_leads s ws short (at_tests f g) = tests_leads f s short g
-  step_leads s ws short (at_tested f p among g) = tested_leads f p among s short g
-  step_leads s ws short (at_choice f among g) = choice_leads f among s short g
-  step_leads s ws short (at_test_atom f p among g) = test_atom_leads f p among s short g (atom_of w.kind w.name)
+  step_leads s ws short (at_pattern b g) = pattern_leads b s short g
+  step_leads s ws short (at_braced g) = braced_leads s short g
+  step_leads s ws short (at_element_name g) = element_name_leads s short g
+  step_leads s ws short (at_closes_brace g) = closes_brace_leads s short g
+  step_leads s ws short (at_class_name b u g) = class_name_leads b u s short g
+  step_leads s ws short (at_terms b u g) = terms_leads b u s (omega arith) g
+  step_leads s ws short (at_attribute b u g) = attribute_leads b u s short g
+  step_leads s ws short (at_several b u f g) = several_leads b u f s short g
+  step_leads s ws short (at_place b more f g) = place_leads b more f s short g
+  step_leads s ws short (at_tests b more f g) = tests_leads b more f s short g
+  step_leads s ws short (at_tested b more f p among g) = tested_leads b more f p among s short g
+  step_leads s ws short (at_choice b more f among g) = choice_leads b more f among s short g
+  step_leads s ws short (at_test_atom b more f p among g) = test_atom_leads b more f p among s short g (atom_of w.kind w.name)
   step_leads s ws short (at_put_value f g) = put_value_leads f s short g
   step_leads s ws short (at_put_atom f g) = put_atom_leads f s short g (atom_of w.kind w.name)
   step_leads s ws short (at_fixed_value f g) = fixed_value_leads f s short g
   step_leads s ws short (at_fixed_atom f g) = fixed_atom_leads f s short g (atom_of w.kind w.name)
+  step_leads s ws short (at_terms_atom f g) = terms_atom_leads f s short g (atom_of w.kind w.name)
+  step_leads s ws short (at_constants_atom f g lt) = constants_atom_leads f s short g lt (atom_of w.kind w.name)
   step_leads s ws short (at_item_atom g) = item_atom_leads s short g (atom_of w.kind w.name)
   step_leads s ws short (at_actions g) = actions_leads s short g
   step_leads s ws short (at_action_word g) = action_word_leads s short g w.keyword

@@ -1,5 +1,5 @@
 -- What holds of a word that is taken, besides the grammar.
-use Rattle.std.proofs.Common.{◌≡◌, ℕ, zero, suc, ◌-◌, ◌<◌, Bool, true, false, not, ◌==◌, List, [], ◌∷◌, length, take, refl, sym, ap, subst, ◌∙◌, arith, Option, Some, None, nat_lt, is_some, position, slice_get, get_or, true≢false}
+use Rattle.std.proofs.Common.{◌≡◌, ℕ, zero, suc, ◌+◌, ◌-◌, ◌<◌, Bool, true, false, not, ◌==◌, ◌&&◌, ◌||◌, List, [], ◌∷◌, length, take, refl, sym, ap, subst, ◌∙◌, arith, Option, Some, None, nat_lt, is_some, position, slice_get, get_or, true≢false}
 use Rattle.std.specs.List.{list_any}
 use Rattle.std.proofs.lemmas.Bool.{cond_both, or_left, or_right}
 use Rattle.std.proofs.lemmas.List.Quantifiers.{position-Some}
@@ -8,20 +8,21 @@ use Rattle.ops_base.specs.declared.values.Value.{Value}
 use Rattle.ops_base.specs.declared.values.Pred.{Pred}
 use Rattle.ops_base.specs.declared.values.Pred.TheVariants as pred
 use Rattle.ops_base.specs.declared.conditions.Condition.{Condition}
-use Rattle.ops_base.specs.Valid.{most_fields, most_conditions, no_class}
+use Rattle.ops_base.specs.Valid.{most_fields, most_conditions, no_class, class_of, is_vector}
 use Rattle.ops_tokens.specs.declared.token.TokenKind.{TokenKind}
 use Rattle.ops_tokens.specs.declared.token.TokenKind.TheVariants as kind
 use Rattle.ops_meaning.specs.declared.words.Word.{Word}
 use Rattle.ops_meaning.specs.declared.words.Keyword.{Keyword}
 use Rattle.ops_meaning.specs.declared.words.Keyword.TheVariants as keyword
-use Rattle.ops_meaning.specs.Grammar.{Use, Target, ToPut, ToItem, Wanted, Form, ClassDeclared, Attributes, RuleName, Patterns, ClassName, Attribute, Tested, ValueFor, Cell, Cells, Items, State, Step, Next, Refuses, is_left, is_right, is_name, is_variable, is_arrow, is_literal, is_minus, constant_of, value_of, natural_of, is_one_of, number_of, may_declare, is_class, is_rule, form, class_at, attributes_of, field_at, variable_tested, constant_tested, tested, bound_at, constant_at, value_for, designated, cell_of, cell, step}
-use Rattle.ops_meaning.specs.Derivation.{is_whole}
-use Rattle.ops_meaning.proofs.Follows.{name_not_right, whole_not_right}
-use Rattle.ops_meaning.specs.Reasons.{is_positive, is_condition, designates, is_unclear, designates_unclearly}
+use Rattle.ops_meaning.specs.Grammar.{Use, InPattern, InPut, InFixed, Target, ToPut, ToTerms, ToConstants, ToItem, Wanted, Form, ClassDeclared, Attributes, VectorName, VectorNames, RuleName, Patterns, Pattern, Braced, ElementName, ClosesBrace, ClassName, Attribute, Several, Tested, ValueFor, Cell, Cells, Items, State, Step, Next, Refuses, is_left, is_right, is_left_brace, is_caret, is_name, is_variable, is_arrow, is_literal, is_minus, constant_of, value_of, natural_of, is_one_of, number_of, may_declare, is_class, is_rule, is_second, makes_second, vector_name, form, class_at, attributes_of, field_at, variable_tested, constant_tested, tested, bound_at, constant_at, value_for, place, terms, within, one_of_several, with_several, several, element_at, element_name, designated, cell_of, cell_named, cell, step}
+use Rattle.ops_meaning.specs.Derivation.{is_designator}
+use Rattle.ops_meaning.proofs.Follows.{name_not_right, designator_not_right, variable_not_left}
+use Rattle.ops_meaning.specs.Reasons.{gives_second, is_full, is_positive, is_condition, designates, is_unclear, designates_unclearly}
 
 -- a declaration comes before all else, and a production before the commands
 abbrev pub FormFits : Keyword → State → Type 0
 FormFits keyword.Literalize s = may_declare s ≡ true
+FormFits keyword.VectorAttribute s = may_declare s ≡ true
 FormFits keyword.Production s = (length s.commands == 0) ≡ true
 FormFits _ s = Unit {0}
 
@@ -37,26 +38,46 @@ OperandFits _ w s = Known w s
 -- an action may not bind one, and a command sees none
 abbrev pub ValueFits : Target → Word → State → Type 0
 ValueFits (ToPut f) w s = Known w s
+ValueFits ToTerms w s = Known w s
 ValueFits ToItem w s = Known w s
 ValueFits _ w s = is_literal w.keyword ≡ false → is_variable w.kind ≡ false
 
--- the number of a positive condition, before which none is negated
-abbrev pub DesignatorFits : TokenKind → State → Type 0
-DesignatorFits k s = (designates k s ≡ true) × (designates_unclearly k s ≡ false)
+-- a value of a vector attribute of an action or of a command
+abbrev pub OneFits : Use → Word → State → Type 0
+OneFits InPattern w s = Unit {0}
+OneFits InPut w s = ValueFits ToTerms w s
+OneFits InFixed w s = ValueFits ToConstants w s
+
+-- one place or value more, and room for it
+abbrev pub SeveralFit : Use → ℕ → Word → State → Type 0
+SeveralFit u f w s = (is_right w.kind || is_caret w.kind) ≡ false → (is_full (Several u f ∷ []) s ≡ false) × OneFits u w s
+
+-- the number of a positive condition, before which none is negated, or an element variable that was bound
+abbrev pub DesignatorFits : TokenKind → Sym → State → Type 0
+DesignatorFits k name s = (designates k name s ≡ true) × (designates_unclearly k s ≡ false)
+
+-- an element variable that was not bound yet
+abbrev pub ElementFits : Word → State → Type 0
+ElementFits w s = is_some (number_of w.name s.elements) ≡ false
 
 -- what a word that is taken meets where this is wanted
 abbrev pub Fits : List Wanted → Word → State → Type 0
 Fits (Form ∷ ws) w s = FormFits w.keyword s
 Fits (ClassDeclared ∷ ws) w s = is_class s w.name ≡ false
-Fits (Attributes ∷ ws) w s = is_name w.kind ≡ true → (is_one_of w.name s.attrs ≡ false) × (nat_lt (length s.attrs) most_fields ≡ true)
+Fits (Attributes ∷ ws) w s = is_name w.kind ≡ true → (is_one_of w.name s.attrs ≡ false) × (is_second w.name s ≡ false) × (nat_lt (length s.attrs) most_fields ≡ true)
+Fits (VectorName ∷ ws) w s = gives_second (VectorName ∷ []) w.name s ≡ false
+Fits (VectorNames ∷ ws) w s = is_name w.kind ≡ true → gives_second (VectorName ∷ []) w.name s ≡ false
 Fits (RuleName ∷ ws) w s = is_rule s w.name ≡ false
 Fits (Patterns ∷ ws) w s = is_arrow w.keyword ≡ false → nat_lt (length s.conditions) most_conditions ≡ true
+Fits (Braced ∷ ws) w s = is_left w.kind ≡ false → ElementFits w s
+Fits (ElementName ∷ ws) w s = ElementFits w s
 Fits (ClassName ∷ ws) w s = is_class s w.name ≡ true
 Fits (Attribute u ∷ ws) w s = is_one_of w.name (attributes_of (slice_get s.classes s.class)) ≡ true
+Fits (Several u f ∷ ws) w s = SeveralFit u f w s
 Fits (Tested f p ∷ ws) w s = OperandFits p w s
 Fits (ValueFor t ∷ ws) w s = ValueFits t w s
-Fits (Cell ∷ ws) w s = DesignatorFits w.kind s
-Fits (Cells ∷ ws) w s = is_whole w.kind ≡ true → DesignatorFits w.kind s
+Fits (Cell ∷ ws) w s = DesignatorFits w.kind w.name s
+Fits (Cells ∷ ws) w s = is_designator w.kind ≡ true → DesignatorFits w.kind w.name s
 Fits (Items ∷ ws) w s = Known w s
 Fits ws w s = Unit {0}
 
@@ -69,10 +90,6 @@ IfTaken P (Refuses f) = Unit {0}
 variable_not_right : (k : TokenKind) → is_variable k ≡ true → is_right k ≡ false
 variable_not_right kind.Right e = absurd (true≢false (sym e))
 variable_not_right _ e = refl
-
-variable_not_left : (k : TokenKind) → is_variable k ≡ true → is_left k ≡ false
-variable_not_left kind.Left e = absurd (true≢false (sym e))
-variable_not_left _ e = refl
 
 constant_not_variable : (k : TokenKind) (name : Sym) (v : Value) → constant_of k name ≡ Some v → is_variable k ≡ false
 constant_not_variable kind.Variable name v e = absurd (cc)
@@ -107,6 +124,7 @@ whatever (Refuses f) = tt
 module _ (w : Word) (ws : List Wanted) (s : State) where
   form_fits : (k : Keyword) → IfTaken (FormFits k s) (form w k ws s)
   form_fits keyword.Literalize = cond_both (may_declare s) _ _ (IfTaken (may_declare s ≡ true)) (λ e. e) (λ _. tt)
+  form_fits keyword.VectorAttribute = cond_both (may_declare s) _ _ (IfTaken (may_declare s ≡ true)) (λ e. e) (λ _. tt)
   form_fits keyword.Production = cond_both (length s.commands == 0) _ _ (IfTaken ((length s.commands == 0) ≡ true)) (λ e. e) (λ _. tt)
   form_fits keyword.Make = tt
   form_fits keyword.Run = tt
@@ -117,7 +135,10 @@ module _ (w : Word) (ws : List Wanted) (s : State) where
   class_fits None e = tt
 
   field_fits : (u : Use) (o : Option ℕ) → position (λ a. a.0 == w.name.0) (attributes_of (slice_get s.classes s.class)) ≡ o → IfTaken (is_one_of w.name (attributes_of (slice_get s.classes s.class)) ≡ true) (field_at u o ws s)
-  field_fits u (Some f) e = found_any (λ (a : Sym). a.0 == w.name.0) (attributes_of (slice_get s.classes s.class)) f (record { 0 = 0 }) e
+  field_fits u (Some f) e =
+      let P : Type 0 = is_one_of w.name (attributes_of (slice_get s.classes s.class)) ≡ true in
+      let found : P = found_any (λ (a : Sym). a.0 == w.name.0) (attributes_of (slice_get s.classes s.class)) f (record { 0 = 0 }) e in
+      cond_both (is_vector (class_of s.classes s.class) f) _ _ (IfTaken P) (λ _. found) (λ _. found)
   field_fits u None e = tt
 
   -- an operand
@@ -143,11 +164,13 @@ module _ (w : Word) (ws : List Wanted) (s : State) where
   -- a value
   value_fits_where : (t : Target) → (is_literal w.keyword ≡ false → is_variable w.kind ≡ false) → ValueFits t w s
   value_fits_where (ToPut f) h = λ l is. clash (is_variable w.kind) is (h l)
+  value_fits_where ToTerms h = λ l is. clash (is_variable w.kind) is (h l)
   value_fits_where ToItem h = λ l is. clash (is_variable w.kind) is (h l)
   value_fits_where _ h = h
 
   bound_fits : (t : Target) (o : Option ℕ) → number_of w.name s.values ≡ o → IfTaken (ValueFits t w s) (bound_at t o ws s)
   bound_fits (ToPut f) (Some n) e = λ _ _. ap is_some e
+  bound_fits ToTerms (Some n) e = λ _ _. ap is_some e
   bound_fits ToItem (Some n) e = λ _ _. ap is_some e
   bound_fits _ (Some n) e = tt
   bound_fits t None e = tt
@@ -172,9 +195,58 @@ module _ (w : Word) (ws : List Wanted) (s : State) where
   cell_of_fits (Some n) = designated_fits (n - 1) (slice_get s.conditions (n - 1))
   cell_of_fits None = tt
 
-  cell_fits : (k : TokenKind) → IfTaken (DesignatorFits k s) (cell k ws s)
+  cell_named_fits : (o : Option ℕ) → IfTaken ((is_some o ≡ true) × (false ≡ false)) (cell_named o ws s)
+  cell_named_fits (Some c) = (refl, refl)
+  cell_named_fits None = tt
+
+  cell_fits : (k : TokenKind) → IfTaken (DesignatorFits k w.name s) (cell k w.name ws s)
   cell_fits (kind.Whole n) = cell_of_fits (natural_of n)
+  cell_fits kind.Variable = cell_named_fits (number_of w.name s.elements)
   cell_fits _ = tt
+
+  -- the name of a vector attribute
+  second_fits : (b c : Bool) → b ≡ true → (not b && c) ≡ false
+  second_fits true c e = refl
+  second_fits false c e = absurd (true≢false (sym e))
+
+  vector_name_fits : IfTaken (gives_second (VectorName ∷ []) w.name s ≡ false) (vector_name w ws s)
+  vector_name_fits =
+      let P : Type 0 = gives_second (VectorName ∷ []) w.name s ≡ false in
+      cond_both (is_name w.kind) _ _ (IfTaken P)
+      (λ _. cond_both (is_one_of w.name s.vectors) _ _ (IfTaken P) (λ old. second_fits (is_one_of w.name s.vectors) (makes_second w.name s.classes) old)
+      (λ new. cond_both (makes_second w.name s.classes) _ _ (IfTaken P) (λ _. tt) (λ one. ap (λ (b : Bool). not b && makes_second w.name s.classes) new ∙ one))) (λ _. tt)
+
+  -- an element variable
+  element_at_fits : (o : Option ℕ) → IfTaken (is_some o ≡ false) (element_at o w.name ws s)
+  element_at_fits (Some c) = tt
+  element_at_fits None = refl
+
+  element_name_fits : IfTaken (ElementFits w s) (element_name w ws s)
+  element_name_fits = cond_both (is_variable w.kind) _ _ (IfTaken (ElementFits w s)) (λ _. element_at_fits (number_of w.name s.elements)) (λ _. tt)
+
+  -- one place or value more
+  within_fits : (b : Bool) (x : Step) (P : Type 0) → IfTaken P x → IfTaken ((not b ≡ false) × P) (within b x)
+  within_fits true (Next ws' s') P h = (refl, h)
+  within_fits true (Refuses f) P h = tt
+  within_fits false (Next ws' s') P h = tt
+  within_fits false (Refuses f) P h = tt
+
+module _ (w : Word) (ws : List Wanted) (s : State) where
+  one_of_several_fits : (u : Use) (f : ℕ) → IfTaken ((is_full (Several u f ∷ []) s ≡ false) × OneFits u w s) (one_of_several u f w ws s)
+  one_of_several_fits InPattern f =
+      within_fits w ws s (nat_lt f most_fields) (place f w (Several InPattern (f + 1) ∷ ws) s) (Unit {0}) (whatever (place f w (Several InPattern (f + 1) ∷ ws) s))
+  one_of_several_fits InPut f =
+      weaker (ValueFits ToTerms w s) ((false ≡ false) × ValueFits ToTerms w s) (λ h. (refl, h)) _ (value_fits w (Several InPut f ∷ ws) s ToTerms)
+  one_of_several_fits InFixed f =
+      within_fits w ws s (nat_lt (f + length s.constants) most_fields) (value_for ToConstants w (Several InFixed f ∷ ws) s) (ValueFits ToConstants w s)
+      (value_fits w (Several InFixed f ∷ ws) s ToConstants)
+
+  several_fit : (u : Use) (f : ℕ) → IfTaken (SeveralFit u f w s) (several u f w ws s)
+  several_fit u f =
+      let P : Type 0 = SeveralFit u f w s in
+      cond_both (is_right w.kind || is_caret w.kind) _ _ (IfTaken P)
+      (λ e. weaker (Unit {0}) P (λ _ no. clash (is_right w.kind || is_caret w.kind) e no) _ (whatever (terms u w ws (with_several u f s))))
+      (λ _. weaker ((is_full (Several u f ∷ []) s ≡ false) × OneFits u w s) P (λ h _. h) _ (one_of_several_fits u f))
 
 step_fits : (w : Word) (ws : List Wanted) (s : State) → IfTaken (Fits ws w s) (step w ws s)
 unfolding step
@@ -185,25 +257,39 @@ step_fits w (Attributes ∷ ws) s =
     let P : Type 0 = Fits (Attributes ∷ ws) w s in
     cond_both (is_right w.kind) _ _ (IfTaken P) (λ right name. clash (is_right w.kind) right (name_not_right w.kind name))
     (λ _. cond_both (is_name w.kind) _ _ (IfTaken P)
-    (λ _. cond_both (is_one_of w.name s.attrs) _ _ (IfTaken P) (λ _. tt) (λ new. cond_both (nat_lt (length s.attrs) most_fields) _ _ (IfTaken P) (λ room _. (new, room)) (λ _. tt))) (λ _. tt))
+    (λ _. cond_both (is_one_of w.name s.attrs) _ _ (IfTaken P) (λ _. tt)
+    (λ new. cond_both (is_second w.name s) _ _ (IfTaken P) (λ _. tt)
+    (λ one. cond_both (nat_lt (length s.attrs) most_fields) _ _ (IfTaken P) (λ room _. (new, one, room)) (λ _. tt)))) (λ _. tt))
+step_fits w (VectorName ∷ ws) s = vector_name_fits w ws s
+step_fits w (VectorNames ∷ ws) s =
+    let P : Type 0 = Fits (VectorNames ∷ ws) w s in
+    cond_both (is_right w.kind) _ _ (IfTaken P) (λ right name. clash (is_right w.kind) right (name_not_right w.kind name))
+    (λ _. weaker (gives_second (VectorName ∷ []) w.name s ≡ false) P (λ h _. h) _ (vector_name_fits w (VectorNames ∷ ws) s))
 step_fits w (RuleName ∷ ws) s =
     cond_both (is_name w.kind) _ _ (IfTaken (is_rule s w.name ≡ false)) (λ _. cond_both (is_rule s w.name) _ _ (IfTaken (is_rule s w.name ≡ false)) (λ _. tt) (λ new. new)) (λ _. tt)
 step_fits w (Patterns ∷ ws) s =
     let P : Type 0 = Fits (Patterns ∷ ws) w s in
     cond_both (is_arrow w.keyword) _ _ (IfTaken P) (λ arrow other. clash (is_arrow w.keyword) arrow other)
     (λ _. cond_both (is_left w.kind) _ _ (IfTaken P) (λ _. cond_both (nat_lt (length s.conditions) most_conditions) _ _ (IfTaken P) (λ room _. room) (λ _. tt))
-    (λ _. cond_both (is_minus w.keyword) _ _ (IfTaken P) (λ _. cond_both (nat_lt (length s.conditions) most_conditions) _ _ (IfTaken P) (λ room _. room) (λ _. tt)) (λ _. tt)))
+    (λ _. cond_both (is_left_brace w.kind) _ _ (IfTaken P) (λ _. cond_both (nat_lt (length s.conditions) most_conditions) _ _ (IfTaken P) (λ room _. room) (λ _. tt))
+    (λ _. cond_both (is_minus w.keyword) _ _ (IfTaken P) (λ _. cond_both (nat_lt (length s.conditions) most_conditions) _ _ (IfTaken P) (λ room _. room) (λ _. tt)) (λ _. tt))))
+step_fits w (Braced ∷ ws) s =
+    let P : Type 0 = Fits (Braced ∷ ws) w s in
+    cond_both (is_left w.kind) _ _ (IfTaken P) (λ left other. clash (is_left w.kind) left other)
+    (λ _. weaker (ElementFits w s) P (λ h _. h) _ (element_name_fits w (Pattern ∷ ClosesBrace ∷ ws) s))
+step_fits w (ElementName ∷ ws) s = element_name_fits w ws s
 step_fits w (ClassName ∷ ws) s =
     cond_both (is_name w.kind) _ _ (IfTaken (is_class s w.name ≡ true)) (λ _. class_fits w ws s (position (λ c. c.name.0 == w.name.0) s.classes) refl) (λ _. tt)
 step_fits w (Attribute u ∷ ws) s =
     cond_both (is_name w.kind) _ _ (IfTaken (Fits (Attribute u ∷ ws) w s)) (λ _. field_fits w ws s u (position (λ a. a.0 == w.name.0) (attributes_of (slice_get s.classes s.class))) refl) (λ _. tt)
+step_fits w (Several u f ∷ ws) s = several_fit w ws s u f
 step_fits w (Tested f p ∷ ws) s = tested_fits w ws s f p
 step_fits w (ValueFor t ∷ ws) s = value_fits w ws s t
 step_fits w (Cell ∷ ws) s = cell_fits w ws s w.kind
 step_fits w (Cells ∷ ws) s =
     let P : Type 0 = Fits (Cells ∷ ws) w s in
-    cond_both (is_right w.kind) _ _ (IfTaken P) (λ right whole. clash (is_right w.kind) right (whole_not_right w.kind whole))
-    (λ _. weaker (DesignatorFits w.kind s) P (λ is _. is) _ (cell_fits w (Cells ∷ ws) s w.kind))
+    cond_both (is_right w.kind) _ _ (IfTaken P) (λ right is. clash (is_right w.kind) right (designator_not_right w.kind is))
+    (λ _. weaker (DesignatorFits w.kind w.name s) P (λ is _. is) _ (cell_fits w (Cells ∷ ws) s w.kind))
 step_fits w (Items ∷ ws) s =
     let P : Type 0 = Fits (Items ∷ ws) w s in
     cond_both (is_right w.kind) _ _ (IfTaken P) (λ right _ is. clash (is_right w.kind) right (variable_not_right w.kind is))

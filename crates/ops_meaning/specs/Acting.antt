@@ -1,5 +1,5 @@
 -- What a firing does.
-use Rattle.std.specs.Prelude.{ℕ, ◌+◌, List, [], ◌∷◌, ◌++◌, length, fold, replicate, Bool, true, ◌==◌, if◌then◌else◌, slice_get, slice_set, unwrap_or, find, Option, Some, None}
+use Rattle.std.specs.Prelude.{ℕ, suc, ◌+◌, ◌-◌, List, [], ◌∷◌, ◌++◌, length, map, fold, take, replicate, Bool, true, ◌==◌, nat_lt, if◌then◌else◌, slice_get, slice_set, unwrap_or, find, Option, Some, None, option_and_then}
 use Rattle.std.specs.List.{list_any}
 use Rattle.ops_base.specs.declared.values.Value.{Value}
 use Rattle.ops_base.specs.declared.elements.Class.{Class}
@@ -15,14 +15,16 @@ use Rattle.ops_base.specs.declared.actions.Item.{Item}
 use Rattle.ops_base.specs.declared.actions.Item.TheVariants as item
 use Rattle.ops_base.specs.declared.actions.Action.{Action}
 use Rattle.ops_base.specs.declared.actions.Action.TheVariants as action
+use Rattle.ops_base.specs.declared.endings.Ending.TheVariants as ending
+use Rattle.ops_base.specs.declared.endings.ActKind.TheVariants as act_fault
 use Rattle.ops_base.specs.Values.{nil}
-use Rattle.ops_base.specs.Valid.{class_of}
+use Rattle.ops_base.specs.Valid.{class_of, is_vector, most_fields}
 use Rattle.ops_base.specs.Names.{Spellings}
 use Rattle.ops_base.specs.WorkingMemory.{change_done}
 use Rattle.ops_base.specs.Matching.{match_of, value_of}
 use Rattle.ops_io.specs.Output.{column_after}
 use Rattle.ops_meaning.specs.declared.states.Doing.{Doing}
-use Rattle.ops_meaning.specs.Effects.{Effect, writes, and_then}
+use Rattle.ops_meaning.specs.Effects.{Effect, writes, ends_with, and_then}
 use Rattle.ops_meaning.specs.Layout.{value_text, gap}
 
 -- the element of a tag
@@ -41,10 +43,12 @@ bindings_of wm (c ∷ cs) [] bindings = bindings
 bindings_of wm (c ∷ cs) (t ∷ ts) bindings =
     if c.negated then bindings_of wm cs (t ∷ ts) bindings else bindings_of wm cs ts (matched_by c (element_of wm t) bindings)
 
--- what stands still during a firing
+-- what stands still during a firing, which has this number and is of this rule
 pub record Scene : Type 0 where
   pub names : Spellings
   pub classes : List Class
+  pub firing : ℕ
+  pub rule : ℕ
   pub bindings : List Binding
   pub tags : List ℕ
 
@@ -88,9 +92,33 @@ abbrev pub first_value : List Binding → List Term → Value
 first_value bindings [] = nil
 first_value bindings (t ∷ ts) = term_value bindings t
 
--- each attribute holds nil until a value is put there, and of two values the later one counts
-abbrev pub fields_of : List Binding → ℕ → List Put → List Value
-fields_of bindings count puts = fold (λ fields p. slice_set fields p.field (first_value bindings p.terms)) (replicate count nil) puts
+-- how many fields of a new element stand before those of its vector attribute
+abbrev pub scalar_count : Class → ℕ
+scalar_count c = if c.vector then length c.attrs - 1 else length c.attrs
+
+-- the fields of an element for which no value was given
+abbrev pub no_fields : Class → List Value
+no_fields c = replicate (scalar_count c) nil
+
+-- a value more of the vector attribute, where an element has room for one
+abbrev pub placed : Option (List Value) → Value → Option (List Value)
+placed None v = None
+placed (Some fields) v = if nat_lt (length fields) most_fields then Some (fields ++ v ∷ []) else None
+
+-- the values of the vector attribute take the place of those that it had
+abbrev pub vector_placed : ℕ → List Value → List Value → Option (List Value)
+vector_placed field fields values = fold placed (Some (take field fields)) values
+
+-- One attribute is given; of two values the later one counts. None is too many fields.
+abbrev pub put_done : List Binding → Class → List Value → Put → Option (List Value)
+put_done bindings c fields p =
+    if is_vector c p.field then vector_placed p.field fields (map (term_value bindings) p.terms)
+    else Some (slice_set fields p.field (first_value bindings p.terms))
+
+-- the fields of a new element, or none where there are too many
+abbrev pub fields_of : List Binding → Class → List Put → Option (List Value)
+fields_of bindings c puts =
+    fold (λ found p. option_and_then (λ fields. put_done bindings c fields p) found) (Some (no_fields c)) puts
 
 -- the element gets the next tag
 abbrev pub made : Doing → ℕ → List Value → Doing
@@ -99,16 +127,22 @@ made d class fields =
 
 -- ---- actions
 
--- what one action does from a column on; the other actions stand in no text yet
-abbrev pub action_done : Scene → ℕ → Action → Doing → Effect Doing
-action_done scene column (action.Make class puts) d =
-    writes [] (made d class (fields_of scene.bindings (length (class_of scene.classes class).attrs) puts))
-action_done scene column (action.Remove cells) d = writes [] (fold (λ d c. removed d (cell_tag scene.tags c)) d cells)
-action_done scene column (action.Write items) d = writes (items_bytes scene column items) d
-action_done scene column action.Halt d = writes [] (record d { halted = true })
-action_done scene column _ d = writes [] d
+-- what the firing's action with this number does that makes an element of these fields, or of too many
+abbrev pub make_done : Scene → ℕ → ℕ → Option (List Value) → Doing → Effect Doing
+make_done scene n class (Some fields) d = writes [] (made d class fields)
+make_done scene n class None d = ends_with (ending.Act scene.firing scene.rule n act_fault.TooManyFields)
 
--- the actions in order
-abbrev pub actions_done : Scene → ℕ → List Action → Doing → Effect Doing
-actions_done scene column [] d = writes [] d
-actions_done scene column (a ∷ rest) d = and_then column (action_done scene column a d) (λ next d. actions_done scene next rest d)
+-- what the action with this number does from a column on; the other actions stand in no text yet
+abbrev pub action_done : Scene → ℕ → ℕ → Action → Doing → Effect Doing
+action_done scene column n (action.Make class puts) d =
+    make_done scene n class (fields_of scene.bindings (class_of scene.classes class) puts) d
+action_done scene column n (action.Remove cells) d = writes [] (fold (λ d c. removed d (cell_tag scene.tags c)) d cells)
+action_done scene column n (action.Write items) d = writes (items_bytes scene column items) d
+action_done scene column n action.Halt d = writes [] (record d { halted = true })
+action_done scene column n _ d = writes [] d
+
+-- the actions in order, the first of which has this number
+abbrev pub actions_done : Scene → ℕ → ℕ → List Action → Doing → Effect Doing
+actions_done scene column n [] d = writes [] d
+actions_done scene column n (a ∷ rest) d =
+    and_then column (action_done scene column n a d) (λ next d. actions_done scene next (suc n) rest d)

@@ -1,5 +1,6 @@
 -- The grammar alone: which words may stand where something is wanted, whatever was declared and bound before them.
-use Rattle.std.specs.Prelude.{◌≡◌, ℕ, List, [], ◌∷◌, Bool, true, false, not, ◌&&◌, ◌||◌, Some, is_some}
+use Rattle.std.specs.Prelude.{◌≡◌, ℕ, suc, List, [], ◌∷◌, ◌++◌, if◌then◌else◌, Bool, true, false, not, ◌&&◌, ◌||◌, Some, is_some}
+use Rattle.ops_base.specs.declared.values.Sym.{Sym}
 use Rattle.ops_base.specs.declared.values.Pred.{Pred}
 use Rattle.ops_base.specs.declared.values.Pred.TheVariants as pred
 use Rattle.ops_base.specs.declared.endings.Fault.{Fault}
@@ -8,12 +9,16 @@ use Rattle.ops_tokens.specs.declared.token.TokenKind.{TokenKind}
 use Rattle.ops_tokens.specs.declared.token.TokenKind.TheVariants as kind
 use Rattle.ops_meaning.specs.declared.words.Word.{Word}
 use Rattle.ops_meaning.specs.declared.words.Keyword.TheVariants as keyword
-use Rattle.ops_meaning.specs.Grammar.{Use, InPattern, InPut, InFixed, Target, ToTest, ToItem, Ends, EndsRun, EndsHalt, EndsCrlf, Wanted, Forms, Form, ClassDeclared, Attributes, RuleName, FirstPattern, Patterns, NegatedPattern, ClassName, Terms, Attribute, Place, Tests, Tested, Choice, Atom, ValueFor, Actions, ActionWord, Cell, Cells, Items, ItemWord, Closes, is_left, is_right, is_left_brace, is_right_brace, is_caret, is_name, is_variable, is_literal, is_minus, opens_choice, closes_choice, pred_of, constant_of, value_of, atom_of, behind_attribute}
+use Rattle.ops_meaning.specs.Grammar.{Use, InPattern, InPut, InFixed, Target, ToTest, ToTerms, ToConstants, ToItem, Ends, EndsRun, EndsHalt, EndsCrlf, Wanted, Forms, Form, ClassDeclared, Attributes, VectorName, VectorNames, RuleName, FirstPattern, Patterns, Pattern, Braced, ElementName, ClosesBrace, ClassName, Terms, Attribute, Several, Place, Tests, Tested, Choice, Atom, ValueFor, Actions, ActionWord, Cell, Cells, Items, ItemWord, Closes, is_left, is_right, is_left_brace, is_right_brace, is_caret, is_name, is_variable, is_literal, is_minus, opens_choice, closes_choice, pred_of, constant_of, value_of, atom_of, is_one_of, behind_attribute}
 
 -- WHOLE
 abbrev pub is_whole : TokenKind → Bool
 is_whole (kind.Whole n) = true
 is_whole _ = false
+
+-- WHOLE | VARIABLE
+abbrev pub is_designator : TokenKind → Bool
+is_designator k = is_whole k || is_variable k
 
 -- WHOLE | NAME | VARIABLE
 abbrev pub is_operand : Word → Bool
@@ -31,77 +36,100 @@ is_atom w = is_some (atom_of w.kind w.name)
 abbrev pub is_choice : Word → Bool
 is_choice w = not (closes_choice w.keyword) && is_atom w
 
--- The words derive from what is wanted, a case for each choice of each line of the grammar.
-pub data Derives : List Wanted → List Word → Type 0 where
-  nothing : Derives [] []
-  -- text = form*
-  no_form : {ws : List Wanted} {ts : List Word} → Derives ws ts → Derives (Forms ∷ ws) ts
-  a_form : {ws : List Wanted} {w : Word} {ts : List Word} → is_left w.kind ≡ true → Derives (Form ∷ Forms ∷ ws) ts → Derives (Forms ∷ ws) (w ∷ ts)
-  -- form = ( literalize NAME NAME* )
-  a_literalize : {ws : List Wanted} {w : Word} {ts : List Word} → w.keyword ≡ keyword.Literalize → Derives (ClassDeclared ∷ Attributes ∷ ws) ts → Derives (Form ∷ ws) (w ∷ ts)
-  a_class : {ws : List Wanted} {w : Word} {ts : List Word} → is_name w.kind ≡ true → Derives ws ts → Derives (ClassDeclared ∷ ws) (w ∷ ts)
-  an_attribute : {ws : List Wanted} {w : Word} {ts : List Word} → is_name w.kind ≡ true → Derives (Attributes ∷ ws) ts → Derives (Attributes ∷ ws) (w ∷ ts)
-  no_attribute : {ws : List Wanted} {w : Word} {ts : List Word} → is_right w.kind ≡ true → Derives ws ts → Derives (Attributes ∷ ws) (w ∷ ts)
-  -- form = ( p NAME first condition* --> action* ); a first that is negated continues the grammar, and is refused as that
-  a_production : {ws : List Wanted} {w : Word} {ts : List Word} → w.keyword ≡ keyword.Production → Derives (RuleName ∷ FirstPattern ∷ Patterns ∷ Actions ∷ ws) ts → Derives (Form ∷ ws) (w ∷ ts)
-  a_rule : {ws : List Wanted} {w : Word} {ts : List Word} → is_name w.kind ≡ true → Derives ws ts → Derives (RuleName ∷ ws) (w ∷ ts)
-  a_first : {ws : List Wanted} {w : Word} {ts : List Word} → is_left w.kind ≡ true → Derives (ClassName ∷ Terms InPattern ∷ ws) ts → Derives (FirstPattern ∷ ws) (w ∷ ts)
-  a_negated_first : {ws : List Wanted} {w : Word} {ts : List Word} → is_minus w.keyword ≡ true → Derives (NegatedPattern ∷ ws) ts → Derives (FirstPattern ∷ ws) (w ∷ ts)
-  a_pattern : {ws : List Wanted} {w : Word} {ts : List Word} → is_left w.kind ≡ true → Derives (ClassName ∷ Terms InPattern ∷ Patterns ∷ ws) ts → Derives (Patterns ∷ ws) (w ∷ ts)
-  a_negated_pattern : {ws : List Wanted} {w : Word} {ts : List Word} → is_minus w.keyword ≡ true → Derives (NegatedPattern ∷ Patterns ∷ ws) ts → Derives (Patterns ∷ ws) (w ∷ ts)
-  behind_a_minus : {ws : List Wanted} {w : Word} {ts : List Word} → is_left w.kind ≡ true → Derives (ClassName ∷ Terms InPattern ∷ ws) ts → Derives (NegatedPattern ∷ ws) (w ∷ ts)
-  an_arrow : {ws : List Wanted} {w : Word} {ts : List Word} → w.keyword ≡ keyword.Arrow → Derives ws ts → Derives (Patterns ∷ ws) (w ∷ ts)
-  -- form = ( make CLASS fixed* ), form = ( run )
-  a_make : {ws : List Wanted} {w : Word} {ts : List Word} → w.keyword ≡ keyword.Make → Derives (ClassName ∷ Terms InFixed ∷ ws) ts → Derives (Form ∷ ws) (w ∷ ts)
-  a_run : {ws : List Wanted} {w : Word} {ts : List Word} → w.keyword ≡ keyword.Run → Derives (Closes EndsRun ∷ ws) ts → Derives (Form ∷ ws) (w ∷ ts)
-  -- CLASS; term = ^ ATTR place; put = ^ ATTR value; fixed = ^ ATTR value
-  a_class_name : {ws : List Wanted} {w : Word} {ts : List Word} → is_name w.kind ≡ true → Derives ws ts → Derives (ClassName ∷ ws) (w ∷ ts)
-  a_term : {u : Use} {ws : List Wanted} {w : Word} {ts : List Word} → is_caret w.kind ≡ true → Derives (Attribute u ∷ Terms u ∷ ws) ts → Derives (Terms u ∷ ws) (w ∷ ts)
-  no_term : {u : Use} {ws : List Wanted} {w : Word} {ts : List Word} → is_right w.kind ≡ true → Derives ws ts → Derives (Terms u ∷ ws) (w ∷ ts)
-  an_attribute_name : {u : Use} (f : ℕ) {ws : List Wanted} {w : Word} {ts : List Word} → is_name w.kind ≡ true → Derives (behind_attribute u f ∷ ws) ts → Derives (Attribute u ∷ ws) (w ∷ ts)
-  a_value : {t : Target} {ws : List Wanted} {w : Word} {ts : List Word} → is_value w ≡ true → Derives ws ts → Derives (ValueFor t ∷ ws) (w ∷ ts)
-  a_literal_value : {t : Target} {ws : List Wanted} {w : Word} {ts : List Word} → is_literal w.keyword ≡ true → Derives (Atom t ∷ ws) ts → Derives (ValueFor t ∷ ws) (w ∷ ts)
-  an_atom : {t : Target} {ws : List Wanted} {w : Word} {ts : List Word} → is_atom w ≡ true → Derives ws ts → Derives (Atom t ∷ ws) (w ∷ ts)
-  -- place = test | { test* }
-  a_conjunction : {f : ℕ} {ws : List Wanted} {w : Word} {ts : List Word} → is_left_brace w.kind ≡ true → Derives (Tests f ∷ ws) ts → Derives (Place f ∷ ws) (w ∷ ts)
-  no_more_tests : {f : ℕ} {ws : List Wanted} {w : Word} {ts : List Word} → is_right_brace w.kind ≡ true → Derives ws ts → Derives (Tests f ∷ ws) (w ∷ ts)
-  -- test = constant | VARIABLE | PRED constant | PRED VARIABLE | << atom* >>, alone and among others
-  an_operand : {f : ℕ} {ws : List Wanted} {w : Word} {ts : List Word} → is_operand w ≡ true → Derives ws ts → Derives (Place f ∷ ws) (w ∷ ts)
-  a_literal : {f : ℕ} {ws : List Wanted} {w : Word} {ts : List Word} → is_literal w.keyword ≡ true → Derives (Atom (ToTest f pred.Eq) ∷ ws) ts → Derives (Place f ∷ ws) (w ∷ ts)
-  a_predicate : {f : ℕ} {p : Pred} {ws : List Wanted} {w : Word} {ts : List Word} → pred_of w.keyword ≡ Some p → Derives (Tested f p ∷ ws) ts → Derives (Place f ∷ ws) (w ∷ ts)
-  a_disjunction : {f : ℕ} {ws : List Wanted} {w : Word} {ts : List Word} → opens_choice w.keyword ≡ true → Derives (Choice f ∷ ws) ts → Derives (Place f ∷ ws) (w ∷ ts)
-  one_more_operand : {f : ℕ} {ws : List Wanted} {w : Word} {ts : List Word} → is_operand w ≡ true → Derives (Tests f ∷ ws) ts → Derives (Tests f ∷ ws) (w ∷ ts)
-  one_more_literal : {f : ℕ} {ws : List Wanted} {w : Word} {ts : List Word} → is_literal w.keyword ≡ true → Derives (Atom (ToTest f pred.Eq) ∷ Tests f ∷ ws) ts → Derives (Tests f ∷ ws) (w ∷ ts)
-  one_more_predicate : {f : ℕ} {p : Pred} {ws : List Wanted} {w : Word} {ts : List Word} → pred_of w.keyword ≡ Some p → Derives (Tested f p ∷ Tests f ∷ ws) ts → Derives (Tests f ∷ ws) (w ∷ ts)
-  one_more_disjunction : {f : ℕ} {ws : List Wanted} {w : Word} {ts : List Word} → opens_choice w.keyword ≡ true → Derives (Choice f ∷ Tests f ∷ ws) ts → Derives (Tests f ∷ ws) (w ∷ ts)
-  -- constant | VARIABLE, behind a predicate
-  a_tested_operand : {f : ℕ} {p : Pred} {ws : List Wanted} {w : Word} {ts : List Word} → is_operand w ≡ true → Derives ws ts → Derives (Tested f p ∷ ws) (w ∷ ts)
-  a_tested_literal : {f : ℕ} {p : Pred} {ws : List Wanted} {w : Word} {ts : List Word} → is_literal w.keyword ≡ true → Derives (Atom (ToTest f p) ∷ ws) ts → Derives (Tested f p ∷ ws) (w ∷ ts)
-  -- atom* >>
-  one_more_choice : {f : ℕ} {ws : List Wanted} {w : Word} {ts : List Word} → is_choice w ≡ true → Derives (Choice f ∷ ws) ts → Derives (Choice f ∷ ws) (w ∷ ts)
-  no_more_choices : {f : ℕ} {ws : List Wanted} {w : Word} {ts : List Word} → closes_choice w.keyword ≡ true → Derives ws ts → Derives (Choice f ∷ ws) (w ∷ ts)
-  -- action = ( make CLASS put* ) | ( remove WHOLE WHOLE* ) | ( write item* ) | ( halt )
-  an_action : {ws : List Wanted} {w : Word} {ts : List Word} → is_left w.kind ≡ true → Derives (ActionWord ∷ Actions ∷ ws) ts → Derives (Actions ∷ ws) (w ∷ ts)
-  no_action : {ws : List Wanted} {w : Word} {ts : List Word} → is_right w.kind ≡ true → Derives ws ts → Derives (Actions ∷ ws) (w ∷ ts)
-  to_make : {ws : List Wanted} {w : Word} {ts : List Word} → w.keyword ≡ keyword.Make → Derives (ClassName ∷ Terms InPut ∷ ws) ts → Derives (ActionWord ∷ ws) (w ∷ ts)
-  to_remove : {ws : List Wanted} {w : Word} {ts : List Word} → w.keyword ≡ keyword.Remove → Derives (Cell ∷ Cells ∷ ws) ts → Derives (ActionWord ∷ ws) (w ∷ ts)
-  to_write : {ws : List Wanted} {w : Word} {ts : List Word} → w.keyword ≡ keyword.Write → Derives (Items ∷ ws) ts → Derives (ActionWord ∷ ws) (w ∷ ts)
-  to_halt : {ws : List Wanted} {w : Word} {ts : List Word} → w.keyword ≡ keyword.Halt → Derives (Closes EndsHalt ∷ ws) ts → Derives (ActionWord ∷ ws) (w ∷ ts)
-  a_cell : {ws : List Wanted} {w : Word} {ts : List Word} → is_whole w.kind ≡ true → Derives ws ts → Derives (Cell ∷ ws) (w ∷ ts)
-  one_more_cell : {ws : List Wanted} {w : Word} {ts : List Word} → is_whole w.kind ≡ true → Derives (Cells ∷ ws) ts → Derives (Cells ∷ ws) (w ∷ ts)
-  no_more_cells : {ws : List Wanted} {w : Word} {ts : List Word} → is_right w.kind ≡ true → Derives ws ts → Derives (Cells ∷ ws) (w ∷ ts)
-  -- item = value | ( crlf )
-  an_item : {ws : List Wanted} {w : Word} {ts : List Word} → is_value w ≡ true → Derives (Items ∷ ws) ts → Derives (Items ∷ ws) (w ∷ ts)
-  a_literal_item : {ws : List Wanted} {w : Word} {ts : List Word} → is_literal w.keyword ≡ true → Derives (Atom ToItem ∷ Items ∷ ws) ts → Derives (Items ∷ ws) (w ∷ ts)
-  an_item_form : {ws : List Wanted} {w : Word} {ts : List Word} → is_left w.kind ≡ true → Derives (ItemWord ∷ Items ∷ ws) ts → Derives (Items ∷ ws) (w ∷ ts)
-  no_item : {ws : List Wanted} {w : Word} {ts : List Word} → is_right w.kind ≡ true → Derives ws ts → Derives (Items ∷ ws) (w ∷ ts)
-  a_crlf : {ws : List Wanted} {w : Word} {ts : List Word} → w.keyword ≡ keyword.Crlf → Derives (Closes EndsCrlf ∷ ws) ts → Derives (ItemWord ∷ ws) (w ∷ ts)
-  -- )
-  a_closing : {e : Ends} {ws : List Wanted} {w : Word} {ts : List Word} → is_right w.kind ≡ true → Derives ws ts → Derives (Closes e ∷ ws) (w ∷ ts)
+-- these names with one more, where it is none of them
+abbrev pub with_name : Sym → List Sym → List Sym
+with_name name names = if is_one_of name names then names else names ++ name ∷ []
 
--- the words are a text of the grammar
+-- The words derive from what is wanted, where these are the names of vector attributes: a case for each choice of each line of the
+-- grammar.
+pub data Derives : List Sym → List Wanted → List Word → Type 0 where
+  nothing : {vs : List Sym} → Derives vs [] []
+  -- text = form*
+  no_form : {vs : List Sym} {ws : List Wanted} {ts : List Word} → Derives vs ws ts → Derives vs (Forms ∷ ws) ts
+  a_form : {vs : List Sym} {ws : List Wanted} {w : Word} {ts : List Word} → is_left w.kind ≡ true → Derives vs (Form ∷ Forms ∷ ws) ts → Derives vs (Forms ∷ ws) (w ∷ ts)
+  -- form = ( literalize NAME NAME* )
+  a_literalize : {vs : List Sym} {ws : List Wanted} {w : Word} {ts : List Word} → w.keyword ≡ keyword.Literalize → Derives vs (ClassDeclared ∷ Attributes ∷ ws) ts → Derives vs (Form ∷ ws) (w ∷ ts)
+  a_class : {vs : List Sym} {ws : List Wanted} {w : Word} {ts : List Word} → is_name w.kind ≡ true → Derives vs ws ts → Derives vs (ClassDeclared ∷ ws) (w ∷ ts)
+  an_attribute : {vs : List Sym} {ws : List Wanted} {w : Word} {ts : List Word} → is_name w.kind ≡ true → Derives vs (Attributes ∷ ws) ts → Derives vs (Attributes ∷ ws) (w ∷ ts)
+  no_attribute : {vs : List Sym} {ws : List Wanted} {w : Word} {ts : List Word} → is_right w.kind ≡ true → Derives vs ws ts → Derives vs (Attributes ∷ ws) (w ∷ ts)
+  -- form = ( vector-attribute NAME NAME* )
+  a_vector_declaration : {vs : List Sym} {ws : List Wanted} {w : Word} {ts : List Word} → w.keyword ≡ keyword.VectorAttribute → Derives vs (VectorName ∷ VectorNames ∷ ws) ts → Derives vs (Form ∷ ws) (w ∷ ts)
+  a_vector : {vs : List Sym} {ws : List Wanted} {w : Word} {ts : List Word} → is_name w.kind ≡ true → Derives (with_name w.name vs) ws ts → Derives vs (VectorName ∷ ws) (w ∷ ts)
+  one_more_vector : {vs : List Sym} {ws : List Wanted} {w : Word} {ts : List Word} → is_name w.kind ≡ true → Derives (with_name w.name vs) (VectorNames ∷ ws) ts → Derives vs (VectorNames ∷ ws) (w ∷ ts)
+  no_more_vectors : {vs : List Sym} {ws : List Wanted} {w : Word} {ts : List Word} → is_right w.kind ≡ true → Derives vs ws ts → Derives vs (VectorNames ∷ ws) (w ∷ ts)
+  -- form = ( p NAME first condition* --> action* ); a first that is negated continues the grammar, and is refused as that
+  a_production : {vs : List Sym} {ws : List Wanted} {w : Word} {ts : List Word} → w.keyword ≡ keyword.Production → Derives vs (RuleName ∷ FirstPattern ∷ Patterns ∷ Actions ∷ ws) ts → Derives vs (Form ∷ ws) (w ∷ ts)
+  a_rule : {vs : List Sym} {ws : List Wanted} {w : Word} {ts : List Word} → is_name w.kind ≡ true → Derives vs ws ts → Derives vs (RuleName ∷ ws) (w ∷ ts)
+  a_first : {vs : List Sym} {ws : List Wanted} {w : Word} {ts : List Word} → is_left w.kind ≡ true → Derives vs (ClassName ∷ Terms InPattern ∷ ws) ts → Derives vs (FirstPattern ∷ ws) (w ∷ ts)
+  a_braced_first : {vs : List Sym} {ws : List Wanted} {w : Word} {ts : List Word} → is_left_brace w.kind ≡ true → Derives vs (Braced ∷ ws) ts → Derives vs (FirstPattern ∷ ws) (w ∷ ts)
+  a_negated_first : {vs : List Sym} {ws : List Wanted} {w : Word} {ts : List Word} → is_minus w.keyword ≡ true → Derives vs (Pattern ∷ ws) ts → Derives vs (FirstPattern ∷ ws) (w ∷ ts)
+  a_pattern : {vs : List Sym} {ws : List Wanted} {w : Word} {ts : List Word} → is_left w.kind ≡ true → Derives vs (ClassName ∷ Terms InPattern ∷ Patterns ∷ ws) ts → Derives vs (Patterns ∷ ws) (w ∷ ts)
+  a_braced_pattern : {vs : List Sym} {ws : List Wanted} {w : Word} {ts : List Word} → is_left_brace w.kind ≡ true → Derives vs (Braced ∷ Patterns ∷ ws) ts → Derives vs (Patterns ∷ ws) (w ∷ ts)
+  a_negated_pattern : {vs : List Sym} {ws : List Wanted} {w : Word} {ts : List Word} → is_minus w.keyword ≡ true → Derives vs (Pattern ∷ Patterns ∷ ws) ts → Derives vs (Patterns ∷ ws) (w ∷ ts)
+  a_whole_pattern : {vs : List Sym} {ws : List Wanted} {w : Word} {ts : List Word} → is_left w.kind ≡ true → Derives vs (ClassName ∷ Terms InPattern ∷ ws) ts → Derives vs (Pattern ∷ ws) (w ∷ ts)
+  -- positive = { VARIABLE pattern } | { pattern VARIABLE }
+  a_name_before : {vs : List Sym} {ws : List Wanted} {w : Word} {ts : List Word} → is_variable w.kind ≡ true → Derives vs (Pattern ∷ ClosesBrace ∷ ws) ts → Derives vs (Braced ∷ ws) (w ∷ ts)
+  a_name_behind : {vs : List Sym} {ws : List Wanted} {w : Word} {ts : List Word} → is_left w.kind ≡ true → Derives vs (ClassName ∷ Terms InPattern ∷ ElementName ∷ ClosesBrace ∷ ws) ts → Derives vs (Braced ∷ ws) (w ∷ ts)
+  an_element_name : {vs : List Sym} {ws : List Wanted} {w : Word} {ts : List Word} → is_variable w.kind ≡ true → Derives vs ws ts → Derives vs (ElementName ∷ ws) (w ∷ ts)
+  a_closed_brace : {vs : List Sym} {ws : List Wanted} {w : Word} {ts : List Word} → is_right_brace w.kind ≡ true → Derives vs ws ts → Derives vs (ClosesBrace ∷ ws) (w ∷ ts)
+  an_arrow : {vs : List Sym} {ws : List Wanted} {w : Word} {ts : List Word} → w.keyword ≡ keyword.Arrow → Derives vs ws ts → Derives vs (Patterns ∷ ws) (w ∷ ts)
+  -- form = ( make CLASS fixed* ), form = ( run )
+  a_make : {vs : List Sym} {ws : List Wanted} {w : Word} {ts : List Word} → w.keyword ≡ keyword.Make → Derives vs (ClassName ∷ Terms InFixed ∷ ws) ts → Derives vs (Form ∷ ws) (w ∷ ts)
+  a_run : {vs : List Sym} {ws : List Wanted} {w : Word} {ts : List Word} → w.keyword ≡ keyword.Run → Derives vs (Closes EndsRun ∷ ws) ts → Derives vs (Form ∷ ws) (w ∷ ts)
+  -- CLASS; term = ^ ATTR place*; put = ^ ATTR value*; fixed = ^ ATTR value*
+  a_class_name : {vs : List Sym} {ws : List Wanted} {w : Word} {ts : List Word} → is_name w.kind ≡ true → Derives vs ws ts → Derives vs (ClassName ∷ ws) (w ∷ ts)
+  a_term : {vs : List Sym} {u : Use} {ws : List Wanted} {w : Word} {ts : List Word} → is_caret w.kind ≡ true → Derives vs (Attribute u ∷ ws) ts → Derives vs (Terms u ∷ ws) (w ∷ ts)
+  no_term : {vs : List Sym} {u : Use} {ws : List Wanted} {w : Word} {ts : List Word} → is_right w.kind ≡ true → Derives vs ws ts → Derives vs (Terms u ∷ ws) (w ∷ ts)
+  -- behind a scalar attribute one place or value, behind a vector attribute as many as come
+  a_scalar_attribute : {vs : List Sym} {u : Use} (f : ℕ) {ws : List Wanted} {w : Word} {ts : List Word} → is_name w.kind ≡ true → is_one_of w.name vs ≡ false → Derives vs (behind_attribute u f ∷ Terms u ∷ ws) ts → Derives vs (Attribute u ∷ ws) (w ∷ ts)
+  a_vector_attribute : {vs : List Sym} {u : Use} (f : ℕ) {ws : List Wanted} {w : Word} {ts : List Word} → is_name w.kind ≡ true → is_one_of w.name vs ≡ true → Derives vs (Several u f ∷ ws) ts → Derives vs (Attribute u ∷ ws) (w ∷ ts)
+  one_more_place : {vs : List Sym} {f : ℕ} {ws : List Wanted} {ts : List Word} → Derives vs (Place f ∷ Several InPattern (suc f) ∷ ws) ts → Derives vs (Several InPattern f ∷ ws) ts
+  one_more_term : {vs : List Sym} {f : ℕ} {ws : List Wanted} {ts : List Word} → Derives vs (ValueFor ToTerms ∷ Several InPut f ∷ ws) ts → Derives vs (Several InPut f ∷ ws) ts
+  one_more_constant : {vs : List Sym} {f : ℕ} {ws : List Wanted} {ts : List Word} → Derives vs (ValueFor ToConstants ∷ Several InFixed f ∷ ws) ts → Derives vs (Several InFixed f ∷ ws) ts
+  no_more_of_several : {vs : List Sym} {u : Use} {f : ℕ} {ws : List Wanted} {ts : List Word} → Derives vs (Terms u ∷ ws) ts → Derives vs (Several u f ∷ ws) ts
+  a_value : {vs : List Sym} {t : Target} {ws : List Wanted} {w : Word} {ts : List Word} → is_value w ≡ true → Derives vs ws ts → Derives vs (ValueFor t ∷ ws) (w ∷ ts)
+  a_literal_value : {vs : List Sym} {t : Target} {ws : List Wanted} {w : Word} {ts : List Word} → is_literal w.keyword ≡ true → Derives vs (Atom t ∷ ws) ts → Derives vs (ValueFor t ∷ ws) (w ∷ ts)
+  an_atom : {vs : List Sym} {t : Target} {ws : List Wanted} {w : Word} {ts : List Word} → is_atom w ≡ true → Derives vs ws ts → Derives vs (Atom t ∷ ws) (w ∷ ts)
+  -- place = test | { test* }
+  a_conjunction : {vs : List Sym} {f : ℕ} {ws : List Wanted} {w : Word} {ts : List Word} → is_left_brace w.kind ≡ true → Derives vs (Tests f ∷ ws) ts → Derives vs (Place f ∷ ws) (w ∷ ts)
+  no_more_tests : {vs : List Sym} {f : ℕ} {ws : List Wanted} {w : Word} {ts : List Word} → is_right_brace w.kind ≡ true → Derives vs ws ts → Derives vs (Tests f ∷ ws) (w ∷ ts)
+  -- test = constant | VARIABLE | PRED constant | PRED VARIABLE | << atom* >>, alone and among others
+  an_operand : {vs : List Sym} {f : ℕ} {ws : List Wanted} {w : Word} {ts : List Word} → is_operand w ≡ true → Derives vs ws ts → Derives vs (Place f ∷ ws) (w ∷ ts)
+  a_literal : {vs : List Sym} {f : ℕ} {ws : List Wanted} {w : Word} {ts : List Word} → is_literal w.keyword ≡ true → Derives vs (Atom (ToTest f pred.Eq) ∷ ws) ts → Derives vs (Place f ∷ ws) (w ∷ ts)
+  a_predicate : {vs : List Sym} {f : ℕ} {p : Pred} {ws : List Wanted} {w : Word} {ts : List Word} → pred_of w.keyword ≡ Some p → Derives vs (Tested f p ∷ ws) ts → Derives vs (Place f ∷ ws) (w ∷ ts)
+  a_disjunction : {vs : List Sym} {f : ℕ} {ws : List Wanted} {w : Word} {ts : List Word} → opens_choice w.keyword ≡ true → Derives vs (Choice f ∷ ws) ts → Derives vs (Place f ∷ ws) (w ∷ ts)
+  one_more_operand : {vs : List Sym} {f : ℕ} {ws : List Wanted} {w : Word} {ts : List Word} → is_operand w ≡ true → Derives vs (Tests f ∷ ws) ts → Derives vs (Tests f ∷ ws) (w ∷ ts)
+  one_more_literal : {vs : List Sym} {f : ℕ} {ws : List Wanted} {w : Word} {ts : List Word} → is_literal w.keyword ≡ true → Derives vs (Atom (ToTest f pred.Eq) ∷ Tests f ∷ ws) ts → Derives vs (Tests f ∷ ws) (w ∷ ts)
+  one_more_predicate : {vs : List Sym} {f : ℕ} {p : Pred} {ws : List Wanted} {w : Word} {ts : List Word} → pred_of w.keyword ≡ Some p → Derives vs (Tested f p ∷ Tests f ∷ ws) ts → Derives vs (Tests f ∷ ws) (w ∷ ts)
+  one_more_disjunction : {vs : List Sym} {f : ℕ} {ws : List Wanted} {w : Word} {ts : List Word} → opens_choice w.keyword ≡ true → Derives vs (Choice f ∷ Tests f ∷ ws) ts → Derives vs (Tests f ∷ ws) (w ∷ ts)
+  -- constant | VARIABLE, behind a predicate
+  a_tested_operand : {vs : List Sym} {f : ℕ} {p : Pred} {ws : List Wanted} {w : Word} {ts : List Word} → is_operand w ≡ true → Derives vs ws ts → Derives vs (Tested f p ∷ ws) (w ∷ ts)
+  a_tested_literal : {vs : List Sym} {f : ℕ} {p : Pred} {ws : List Wanted} {w : Word} {ts : List Word} → is_literal w.keyword ≡ true → Derives vs (Atom (ToTest f p) ∷ ws) ts → Derives vs (Tested f p ∷ ws) (w ∷ ts)
+  -- atom* >>
+  one_more_choice : {vs : List Sym} {f : ℕ} {ws : List Wanted} {w : Word} {ts : List Word} → is_choice w ≡ true → Derives vs (Choice f ∷ ws) ts → Derives vs (Choice f ∷ ws) (w ∷ ts)
+  no_more_choices : {vs : List Sym} {f : ℕ} {ws : List Wanted} {w : Word} {ts : List Word} → closes_choice w.keyword ≡ true → Derives vs ws ts → Derives vs (Choice f ∷ ws) (w ∷ ts)
+  -- action = ( make CLASS put* ) | ( remove DESIGNATOR DESIGNATOR* ) | ( write item* ) | ( halt )
+  an_action : {vs : List Sym} {ws : List Wanted} {w : Word} {ts : List Word} → is_left w.kind ≡ true → Derives vs (ActionWord ∷ Actions ∷ ws) ts → Derives vs (Actions ∷ ws) (w ∷ ts)
+  no_action : {vs : List Sym} {ws : List Wanted} {w : Word} {ts : List Word} → is_right w.kind ≡ true → Derives vs ws ts → Derives vs (Actions ∷ ws) (w ∷ ts)
+  to_make : {vs : List Sym} {ws : List Wanted} {w : Word} {ts : List Word} → w.keyword ≡ keyword.Make → Derives vs (ClassName ∷ Terms InPut ∷ ws) ts → Derives vs (ActionWord ∷ ws) (w ∷ ts)
+  to_remove : {vs : List Sym} {ws : List Wanted} {w : Word} {ts : List Word} → w.keyword ≡ keyword.Remove → Derives vs (Cell ∷ Cells ∷ ws) ts → Derives vs (ActionWord ∷ ws) (w ∷ ts)
+  to_write : {vs : List Sym} {ws : List Wanted} {w : Word} {ts : List Word} → w.keyword ≡ keyword.Write → Derives vs (Items ∷ ws) ts → Derives vs (ActionWord ∷ ws) (w ∷ ts)
+  to_halt : {vs : List Sym} {ws : List Wanted} {w : Word} {ts : List Word} → w.keyword ≡ keyword.Halt → Derives vs (Closes EndsHalt ∷ ws) ts → Derives vs (ActionWord ∷ ws) (w ∷ ts)
+  a_cell : {vs : List Sym} {ws : List Wanted} {w : Word} {ts : List Word} → is_designator w.kind ≡ true → Derives vs ws ts → Derives vs (Cell ∷ ws) (w ∷ ts)
+  one_more_cell : {vs : List Sym} {ws : List Wanted} {w : Word} {ts : List Word} → is_designator w.kind ≡ true → Derives vs (Cells ∷ ws) ts → Derives vs (Cells ∷ ws) (w ∷ ts)
+  no_more_cells : {vs : List Sym} {ws : List Wanted} {w : Word} {ts : List Word} → is_right w.kind ≡ true → Derives vs ws ts → Derives vs (Cells ∷ ws) (w ∷ ts)
+  -- item = value | ( crlf )
+  an_item : {vs : List Sym} {ws : List Wanted} {w : Word} {ts : List Word} → is_value w ≡ true → Derives vs (Items ∷ ws) ts → Derives vs (Items ∷ ws) (w ∷ ts)
+  a_literal_item : {vs : List Sym} {ws : List Wanted} {w : Word} {ts : List Word} → is_literal w.keyword ≡ true → Derives vs (Atom ToItem ∷ Items ∷ ws) ts → Derives vs (Items ∷ ws) (w ∷ ts)
+  an_item_form : {vs : List Sym} {ws : List Wanted} {w : Word} {ts : List Word} → is_left w.kind ≡ true → Derives vs (ItemWord ∷ Items ∷ ws) ts → Derives vs (Items ∷ ws) (w ∷ ts)
+  no_item : {vs : List Sym} {ws : List Wanted} {w : Word} {ts : List Word} → is_right w.kind ≡ true → Derives vs ws ts → Derives vs (Items ∷ ws) (w ∷ ts)
+  a_crlf : {vs : List Sym} {ws : List Wanted} {w : Word} {ts : List Word} → w.keyword ≡ keyword.Crlf → Derives vs (Closes EndsCrlf ∷ ws) ts → Derives vs (ItemWord ∷ ws) (w ∷ ts)
+  -- )
+  a_closing : {vs : List Sym} {e : Ends} {ws : List Wanted} {w : Word} {ts : List Word} → is_right w.kind ≡ true → Derives vs ws ts → Derives vs (Closes e ∷ ws) (w ∷ ts)
+
+-- the words are a text of the grammar, at whose begin no vector attribute was declared
 abbrev pub IsText : List Word → Type 0
-IsText words = Derives (Forms ∷ []) words
+IsText words = Derives [] (Forms ∷ []) words
 
 -- the fault says that a word continues no form of the grammar
 abbrev pub is_no_form : Fault → Bool

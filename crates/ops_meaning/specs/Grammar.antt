@@ -1,5 +1,5 @@
 -- The grammar of program texts, as what a word does where something is wanted.
-use Rattle.std.specs.Prelude.{ℕ, ◌+◌, ◌-◌, List, [], ◌∷◌, ◌++◌, length, take, position, Bool, true, false, ◌==◌, ◌&&◌, nat_lt, if◌then◌else◌, Option, Some, None, Result, Ok, Err, ℤ, pos, negsuc, slice_get}
+use Rattle.std.specs.Prelude.{ℕ, ◌+◌, ◌-◌, List, [], ◌∷◌, ◌++◌, length, take, map, filter, position, Bool, true, false, not, ◌==◌, ◌&&◌, ◌||◌, nat_lt, if◌then◌else◌, Option, Some, None, Result, Ok, Err, ℤ, pos, negsuc, slice_get}
 use Rattle.std.specs.List.{list_any}
 use Rattle.ops_base.specs.declared.values.Sym.{Sym}
 use Rattle.ops_base.specs.declared.values.Value.{Value}
@@ -25,7 +25,7 @@ use Rattle.ops_base.specs.declared.commands.Command.TheVariants as command
 use Rattle.ops_base.specs.declared.endings.Fault.{Fault}
 use Rattle.ops_base.specs.declared.endings.Fault.TheVariants as fault
 use Rattle.ops_base.specs.declared.endings.Limit.TheVariants as limit
-use Rattle.ops_base.specs.Valid.{most_fields, most_conditions, specificity, cells_of}
+use Rattle.ops_base.specs.Valid.{most_fields, most_conditions, class_of, is_vector, specificity, cells_of}
 use Rattle.ops_tokens.specs.declared.token.TokenKind.{TokenKind}
 use Rattle.ops_tokens.specs.declared.token.TokenKind.TheVariants as kind
 use Rattle.ops_meaning.specs.declared.words.Word.{Word}
@@ -39,11 +39,14 @@ pub data Use : Type 0 where
   InPut : Use
   InFixed : Use
 
--- where a constant goes
+-- where a constant goes: into a test, to a scalar attribute of an action or of a command, among the values of the vector attribute
+-- of an action or of a command, or to `write`
 pub data Target : Type 0 where
   ToTest : (field : ℕ) → (p : Pred) → Target
   ToPut : (field : ℕ) → Target
   ToFixed : (field : ℕ) → Target
+  ToTerms : Target
+  ToConstants : Target
   ToItem : Target
 
 -- what a closing bracket ends
@@ -56,26 +59,39 @@ pub data Ends : Type 0 where
 pub data Wanted : Type 0 where
   -- form*
   Forms : Wanted
-  -- literalize NAME NAME* ) | p NAME first condition* --> action* ) | make CLASS fixed* ) | run )
+  -- literalize NAME NAME* ) | vector-attribute NAME NAME* ) | p NAME first condition* --> action* ) | make CLASS fixed* ) | run )
   Form : Wanted
   -- NAME
   ClassDeclared : Wanted
   -- NAME* )
   Attributes : Wanted
   -- NAME
+  VectorName : Wanted
+  -- NAME* )
+  VectorNames : Wanted
+  -- NAME
   RuleName : Wanted
-  -- ( CLASS term* )
+  -- positive
   FirstPattern : Wanted
   -- condition* -->
   Patterns : Wanted
   -- ( CLASS term* )
-  NegatedPattern : Wanted
+  Pattern : Wanted
+  -- VARIABLE pattern } | pattern VARIABLE }
+  Braced : Wanted
+  -- VARIABLE
+  ElementName : Wanted
+  -- }
+  ClosesBrace : Wanted
   -- CLASS
   ClassName : Wanted
   -- term* ), put* ) or fixed* )
   Terms : (use_of : Use) → Wanted
-  -- ATTR place, or ATTR value
+  -- ATTR place* term* ), ATTR value* put* ) or ATTR value* fixed* )
   Attribute : (use_of : Use) → Wanted
+  -- place* term* ) behind the vector attribute, of which the next place is that field; or value* put* ) or value* fixed* ) behind
+  -- that attribute
+  Several : (use_of : Use) → (field : ℕ) → Wanted
   -- test | { test* }
   Place : (field : ℕ) → Wanted
   -- test* }
@@ -90,11 +106,11 @@ pub data Wanted : Type 0 where
   ValueFor : (target : Target) → Wanted
   -- action* )
   Actions : Wanted
-  -- make CLASS put* ) | remove WHOLE WHOLE* ) | write item* ) | halt )
+  -- make CLASS put* ) | remove DESIGNATOR DESIGNATOR* ) | write item* ) | halt )
   ActionWord : Wanted
-  -- WHOLE
+  -- WHOLE | VARIABLE
   Cell : Wanted
-  -- WHOLE* )
+  -- DESIGNATOR* )
   Cells : Wanted
   -- item* )
   Items : Wanted
@@ -108,6 +124,8 @@ pub record State : Type 0 where
   pub classes : List Class
   pub rules : List Rule
   pub commands : List Command
+  -- the names of vector attributes
+  pub vectors : List Sym
   -- of the form that is being read
   pub name : Sym
   pub first : ℕ
@@ -115,11 +133,17 @@ pub record State : Type 0 where
   pub class : ℕ
   pub tests : List Test
   pub choice : List Value
+  -- the values of a vector attribute of an action, and those of one of a command
+  pub terms : List Term
+  pub constants : List Value
   pub puts : List Put
   pub fixed : List Fixed
   pub cells : List ℕ
   pub items : List Item
+  -- the variables in sight with their numbers, the element variables with their cells, and the one of the condition that is read
   pub values : List Named
+  pub elements : List Named
+  pub element : Sym
   -- how many variables were given a number, whether the condition is negated, and how many variables are in sight around it
   pub variables : ℕ
   pub negated : Bool
@@ -253,6 +277,7 @@ is_rule s name = list_any (λ r. r.name.0 == name.0) s.rules
 abbrev pub form : Word → Keyword → List Wanted → State → Step
 form w keyword.Literalize ws s =
     if may_declare s then Next (ClassDeclared ∷ Attributes ∷ ws) s else Refuses fault.LateDeclaration
+form w keyword.VectorAttribute ws s = if may_declare s then Next (VectorName ∷ VectorNames ∷ ws) s else Refuses fault.LateDeclaration
 form w keyword.Production ws s =
     if length s.commands == 0 then Next (RuleName ∷ FirstPattern ∷ Patterns ∷ Actions ∷ ws) s else Refuses fault.LateProduction
 form w keyword.Make ws s = Next (ClassName ∷ Terms InFixed ∷ ws) (record s { fixed = [] })
@@ -264,12 +289,30 @@ class_declared w ws s =
     if is_name w.kind then (if is_class s w.name then Refuses fault.DeclaredTwice else Next ws (record s { name = w.name; attrs = [] }))
     else Refuses fault.BadForm
 
+-- the attributes of a class, those of these names behind the others
+abbrev pub arranged : List Sym → List Sym → List Sym
+arranged vectors attrs = filter (λ a. not (is_one_of a vectors)) attrs ++ filter (λ a. is_one_of a vectors) attrs
+
+-- one of the attributes has one of these names
+abbrev pub has_vector : List Sym → List Sym → Bool
+has_vector vectors attrs = list_any (λ a. is_one_of a vectors) attrs
+
+-- a class ends; its vector attribute stands last
 abbrev pub with_class : State → State
-with_class s = record s { classes = s.classes ++ record { name = s.name; attrs = s.attrs; vector = false } ∷ []; attrs = [] }
+with_class s =
+    record s {
+      classes = s.classes ++ record { name = s.name; attrs = arranged s.vectors s.attrs; vector = has_vector s.vectors s.attrs } ∷ [];
+      attrs = [];
+    }
+
+-- the class that is read would have a second vector attribute by this name
+abbrev pub is_second : Sym → State → Bool
+is_second name s = is_one_of name s.vectors && has_vector s.vectors s.attrs
 
 abbrev pub attribute_declared : Word → List Wanted → State → Step
 attribute_declared w ws s =
     if is_one_of w.name s.attrs then Refuses fault.DeclaredTwice
+    else if is_second w.name s then Refuses fault.TwoVectors
     else if nat_lt (length s.attrs) most_fields then Next (Attributes ∷ ws) (record s { attrs = s.attrs ++ w.name ∷ [] })
     else Refuses (fault.LimitPassed limit.Fields)
 
@@ -278,6 +321,32 @@ attributes w ws s =
     if is_right w.kind then Next ws (with_class s)
     else if is_name w.kind then attribute_declared w ws s
     else Refuses fault.BadForm
+
+-- a class that has an attribute of this name has it as its vector attribute
+abbrev pub with_vector_last : Sym → Class → Class
+with_vector_last name c =
+    if is_one_of name c.attrs then record c { attrs = arranged (name ∷ []) c.attrs; vector = true } else c
+
+-- a name becomes one of a vector attribute
+abbrev pub with_vector : State → Sym → State
+with_vector s name = record s { vectors = s.vectors ++ name ∷ []; classes = map (with_vector_last name) s.classes }
+
+-- a class would get a second vector attribute by this name
+abbrev pub makes_second : Sym → List Class → Bool
+makes_second name classes = list_any (λ c. c.vector && is_one_of name c.attrs) classes
+
+-- A name that is one of a vector attribute already says nothing new, nor does one that no class has.
+abbrev pub vector_declared : Word → List Wanted → State → Step
+vector_declared w ws s =
+    if is_one_of w.name s.vectors then Next ws s
+    else if makes_second w.name s.classes then Refuses fault.TwoVectors
+    else Next ws (with_vector s w.name)
+
+abbrev pub vector_name : Word → List Wanted → State → Step
+vector_name w ws s = if is_name w.kind then vector_declared w ws s else Refuses fault.BadForm
+
+abbrev pub vector_names : Word → List Wanted → State → Step
+vector_names w ws s = if is_right w.kind then Next ws s else vector_name w (VectorNames ∷ ws) s
 
 -- ---- elements: a class with attributes and values
 
@@ -294,14 +363,17 @@ abbrev pub attributes_of : Option Class → List Sym
 attributes_of (Some c) = c.attrs
 attributes_of None = []
 
--- what stands behind the name of an attribute
+-- what stands behind the name of a scalar attribute
 abbrev pub behind_attribute : Use → ℕ → Wanted
 behind_attribute InPattern f = Place f
 behind_attribute InPut f = ValueFor (ToPut f)
 behind_attribute InFixed f = ValueFor (ToFixed f)
 
+-- Behind a scalar attribute stands one place or value, and behind the vector attribute stand as many as come.
 abbrev pub field_at : Use → Option ℕ → List Wanted → State → Step
-field_at u (Some f) ws s = Next (behind_attribute u f ∷ ws) s
+field_at u (Some f) ws s =
+    if is_vector (class_of s.classes s.class) f then Next (Several u f ∷ ws) (record s { terms = []; constants = [] })
+    else Next (behind_attribute u f ∷ Terms u ∷ ws) s
 field_at u None ws s = Refuses fault.UnknownAttribute
 
 abbrev pub attribute : Use → Word → List Wanted → State → Step
@@ -325,6 +397,8 @@ abbrev pub with_constant : Target → State → Value → State
 with_constant (ToTest f p) s v = with_test s f p (operand.Constant v) false
 with_constant (ToPut f) s v = with_put s f (term.Constant v)
 with_constant (ToFixed f) s v = with_fixed s f v
+with_constant ToTerms s v = record s { terms = s.terms ++ term.Constant v ∷ [] }
+with_constant ToConstants s v = record s { constants = s.constants ++ v ∷ [] }
 with_constant ToItem s v = with_item s (item.Print (term.Constant v))
 
 -- ---- tests
@@ -384,6 +458,7 @@ atom_at t None ws s = Refuses fault.BadForm
 -- a variable of a right side, which a condition must bind
 abbrev pub term_at : Target → Term → List Wanted → State → Step
 term_at (ToPut f) t ws s = Next ws (with_put s f t)
+term_at ToTerms t ws s = Next ws (record s { terms = s.terms ++ t ∷ [] })
 term_at ToItem t ws s = Next ws (with_item s (item.Print t))
 term_at _ t ws s = Refuses fault.UnboundVariable
 
@@ -425,8 +500,33 @@ with_element InFixed s = record (with_command s (command.Make s.class s.fixed)) 
 abbrev pub terms : Use → Word → List Wanted → State → Step
 terms u w ws s =
     if is_right w.kind then Next ws (with_element u s)
-    else if is_caret w.kind then Next (Attribute u ∷ Terms u ∷ ws) s
+    else if is_caret w.kind then Next (Attribute u ∷ ws) s
     else Refuses fault.BadForm
+
+-- ---- the vector attribute
+
+-- a value that would take the 128th field of an element, its class counted, passes the limit
+abbrev pub within : Bool → Step → Step
+within true step = step
+within false (Next ws s) = Refuses (fault.LimitPassed limit.Fields)
+within false (Refuses f) = Refuses f
+
+-- one place or value more; the limit of those of an action is looked at when it is done
+abbrev pub one_of_several : Use → ℕ → Word → List Wanted → State → Step
+one_of_several InPattern f w ws s = within (nat_lt f most_fields) (place f w (Several InPattern (f + 1) ∷ ws) s)
+one_of_several InPut f w ws s = value_for ToTerms w (Several InPut f ∷ ws) s
+one_of_several InFixed f w ws s =
+    within (nat_lt (f + length s.constants) most_fields) (value_for ToConstants w (Several InFixed f ∷ ws) s)
+
+-- the values of the vector attribute end
+abbrev pub with_several : Use → ℕ → State → State
+with_several InPattern f s = s
+with_several InPut f s = record s { puts = s.puts ++ record { field = f; terms = s.terms } ∷ []; terms = [] }
+with_several InFixed f s = record s { fixed = s.fixed ++ record { field = f; values = s.constants } ∷ []; constants = [] }
+
+abbrev pub several : Use → ℕ → Word → List Wanted → State → Step
+several u f w ws s =
+    if is_right w.kind || is_caret w.kind then terms u w ws (with_several u f s) else one_of_several u f w ws s
 
 -- ---- productions
 
@@ -434,13 +534,14 @@ abbrev pub rule_name : Word → List Wanted → State → Step
 rule_name w ws s =
     if is_name w.kind
     then (if is_rule s w.name then Refuses fault.DeclaredTwice
-    else Next ws (record s { name = w.name; tests = []; values = []; variables = 0; negated = false; around = 0; conditions = []; actions = [] }))
+    else Next ws (record s { name = w.name; tests = []; values = []; elements = []; variables = 0; negated = false; around = 0; conditions = []; actions = [] }))
     else Refuses fault.BadForm
 
 -- the first condition is positive
 abbrev pub first_pattern : Word → List Wanted → State → Step
 first_pattern w ws s =
     if is_left w.kind then Next (ClassName ∷ Terms InPattern ∷ ws) s
+    else if is_left_brace w.kind then Next (Braced ∷ ws) s
     else if is_minus w.keyword then Refuses fault.FirstNegated
     else Refuses fault.BadForm
 
@@ -448,18 +549,42 @@ first_pattern w ws s =
 abbrev pub one_more : List Wanted → State → Step
 one_more ws s = if nat_lt (length s.conditions) most_conditions then Next ws s else Refuses (fault.LimitPassed limit.Conditions)
 
--- pattern | - pattern
+-- positive | - pattern
 abbrev pub more_patterns : Word → List Wanted → State → Step
 more_patterns w ws s =
     if is_left w.kind then one_more (ClassName ∷ Terms InPattern ∷ ws) s
-    else if is_minus w.keyword then one_more (NegatedPattern ∷ ws) (record s { negated = true; around = length s.values })
+    else if is_left_brace w.kind then one_more (Braced ∷ ws) s
+    else if is_minus w.keyword then one_more (Pattern ∷ ws) (record s { negated = true; around = length s.values })
     else Refuses fault.BadForm
 
 abbrev pub patterns : Word → List Wanted → State → Step
 patterns w ws s = if is_arrow w.keyword then Next ws s else more_patterns w (Patterns ∷ ws) s
 
-abbrev pub negated_pattern : Word → List Wanted → State → Step
-negated_pattern w ws s = if is_left w.kind then Next (ClassName ∷ Terms InPattern ∷ ws) s else Refuses fault.BadForm
+abbrev pub pattern : Word → List Wanted → State → Step
+pattern w ws s = if is_left w.kind then Next (ClassName ∷ Terms InPattern ∷ ws) s else Refuses fault.BadForm
+
+-- An element variable is bound once in a left side.
+abbrev pub element_at : Option ℕ → Sym → List Wanted → State → Step
+element_at (Some c) name ws s = Refuses fault.BadDesignator
+element_at None name ws s = Next ws (record s { element = name })
+
+abbrev pub element_name : Word → List Wanted → State → Step
+element_name w ws s =
+    if is_variable w.kind then element_at (number_of w.name s.elements) w.name ws s else Refuses fault.BadForm
+
+-- VARIABLE pattern } | pattern VARIABLE }
+abbrev pub braced : Word → List Wanted → State → Step
+braced w ws s =
+    if is_left w.kind then Next (ClassName ∷ Terms InPattern ∷ ElementName ∷ ClosesBrace ∷ ws) s
+    else element_name w (Pattern ∷ ClosesBrace ∷ ws) s
+
+-- the element variable names the cell of the condition that was read last
+abbrev pub with_bound_element : State → State
+with_bound_element s =
+    record s { elements = s.elements ++ record { name = s.element; number = length (cells_of s.conditions) - 1 } ∷ [] }
+
+abbrev pub closes_brace : Word → List Wanted → State → Step
+closes_brace w ws s = if is_right_brace w.kind then Next ws (with_bound_element s) else Refuses fault.BadForm
 
 abbrev pub with_rule : State → ℕ → State
 with_rule s past =
@@ -504,16 +629,23 @@ abbrev pub cell_of : Option ℕ → List Wanted → State → Step
 cell_of (Some n) ws s = designated (n - 1) (slice_get s.conditions (n - 1)) ws s
 cell_of None ws s = Refuses fault.BadDesignator
 
-abbrev pub cell : TokenKind → List Wanted → State → Step
-cell (kind.Whole n) ws s = cell_of (natural_of n) ws s
-cell _ ws s = Refuses fault.BadForm
+-- an element variable, which a condition must bind
+abbrev pub cell_named : Option ℕ → List Wanted → State → Step
+cell_named (Some c) ws s = Next ws (record s { cells = s.cells ++ c ∷ [] })
+cell_named None ws s = Refuses fault.BadDesignator
+
+-- WHOLE | VARIABLE
+abbrev pub cell : TokenKind → Sym → List Wanted → State → Step
+cell (kind.Whole n) name ws s = cell_of (natural_of n) ws s
+cell kind.Variable name ws s = cell_named (number_of name s.elements) ws s
+cell _ name ws s = Refuses fault.BadForm
 
 -- an action `remove` ends
 abbrev pub with_remove : State → State
 with_remove s = record (with_action s (action.Remove s.cells)) { cells = [] }
 
 abbrev pub cells : Word → List Wanted → State → Step
-cells w ws s = if is_right w.kind then Next ws (with_remove s) else cell w.kind (Cells ∷ ws) s
+cells w ws s = if is_right w.kind then Next ws (with_remove s) else cell w.kind w.name (Cells ∷ ws) s
 
 -- an action `write` ends
 abbrev pub with_write : State → State
@@ -549,13 +681,19 @@ step w (Forms ∷ ws) s = forms w ws s
 step w (Form ∷ ws) s = form w w.keyword ws s
 step w (ClassDeclared ∷ ws) s = class_declared w ws s
 step w (Attributes ∷ ws) s = attributes w ws s
+step w (VectorName ∷ ws) s = vector_name w ws s
+step w (VectorNames ∷ ws) s = vector_names w ws s
 step w (RuleName ∷ ws) s = rule_name w ws s
 step w (FirstPattern ∷ ws) s = first_pattern w ws s
 step w (Patterns ∷ ws) s = patterns w ws s
-step w (NegatedPattern ∷ ws) s = negated_pattern w ws s
+step w (Pattern ∷ ws) s = pattern w ws s
+step w (Braced ∷ ws) s = braced w ws s
+step w (ElementName ∷ ws) s = element_name w ws s
+step w (ClosesBrace ∷ ws) s = closes_brace w ws s
 step w (ClassName ∷ ws) s = class_name w ws s
 step w (Terms u ∷ ws) s = terms u w ws s
 step w (Attribute u ∷ ws) s = attribute u w ws s
+step w (Several u f ∷ ws) s = several u f w ws s
 step w (Place f ∷ ws) s = place f w ws s
 step w (Tests f ∷ ws) s = tests f w ws s
 step w (Tested f p ∷ ws) s = tested f p w ws s
@@ -564,7 +702,7 @@ step w (Atom t ∷ ws) s = atom_at t (atom_of w.kind w.name) ws s
 step w (ValueFor t ∷ ws) s = value_for t w ws s
 step w (Actions ∷ ws) s = actions w ws s
 step w (ActionWord ∷ ws) s = action_word w.keyword ws s
-step w (Cell ∷ ws) s = cell w.kind ws s
+step w (Cell ∷ ws) s = cell w.kind w.name ws s
 step w (Cells ∷ ws) s = cells w ws s
 step w (Items ∷ ws) s = items w ws s
 step w (ItemWord ∷ ws) s = item_word w ws s
@@ -595,17 +733,22 @@ nothing_read =
       classes = [];
       rules = [];
       commands = [];
+      vectors = [];
       name = record { 0 = 0 };
       first = 0;
       attrs = [];
       class = 0;
       tests = [];
       choice = [];
+      terms = [];
+      constants = [];
       puts = [];
       fixed = [];
       cells = [];
       items = [];
       values = [];
+      elements = [];
+      element = record { 0 = 0 };
       variables = 0;
       negated = false;
       around = 0;

@@ -1,5 +1,5 @@
 -- What a session keeps of working memory, and that its conflict sets are the sets of all instantiations.
-use Rattle.std.specs.Prelude.{◌≡◌, ℕ, zero, suc, ◌+◌, ◌-◌, ◌≤◌, List, [], ◌∷◌, ◌++◌, length, filter, Bool, false, not, Option, None}
+use Rattle.std.specs.Prelude.{◌≡◌, ℕ, zero, suc, ◌+◌, ◌-◌, ◌≤◌, List, [], ◌∷◌, ◌++◌, filter, Bool, false, not, Option, None}
 use Rattle.std.specs.List.{All}
 use Rattle.ops_base.specs.declared.elements.Class.{Class}
 use Rattle.ops_base.specs.declared.elements.Element.{Element}
@@ -46,7 +46,7 @@ fired_by found i m d =
 
 abbrev pub firing_by : Finder → Setting → ℕ → Inst → Memory → Effect Fired
 firing_by found s column i m =
-    and_then column (acted s column i (record { wm = m.wm; last = m.last; halted = false })) (λ next d. writes [] (fired_by found i m d))
+    and_then column (acted s column (m.firings + 1) i (record { wm = m.wm; last = m.last; halted = false })) (λ next d. writes [] (fired_by found i m d))
 
 abbrev pub run_by : Finder → ℕ → Setting → ℕ → Bool → Memory → Effect Memory
 run_by found zero s column halted m = turn column halted m (next_by found s.rules m) (λ i. ends_with (ending.Limit m.firings))
@@ -56,7 +56,7 @@ run_by found (suc left) s column halted m =
 
 abbrev pub made_by : Finder → List Class → ℕ → List Fixed → Memory → Memory
 made_by found classes class puts m =
-    let e : Element = record { tag = m.last + 1; class = class; fields = fixed_fields (length (class_of classes class).attrs) puts } in
+    let e : Element = record { tag = m.last + 1; class = class; fields = fixed_fields (class_of classes class) puts } in
     let wm = change_done m.wm (change.Add e) in
     record { wm = wm; fired = marks_by found wm m.fired; firings = m.firings; last = m.last + 1 }
 

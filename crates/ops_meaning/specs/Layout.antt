@@ -1,11 +1,18 @@
 -- What is printed.
-use Rattle.std.specs.Prelude.{ℕ, List, [], ◌∷◌, ◌++◌, ◌==◌, if◌then◌else◌, codes, decimal}
+use Rattle.std.specs.Prelude.{ℕ, List, [], ◌∷◌, ◌++◌, length, Bool, true, false, ◌==◌, ◌&&◌, if◌then◌else◌, Some, Ok, slice_get, unwrap_or, option_map, codes, decimal}
 use Rattle.std.specs.Fmt.{signed_decimal}
 use Rattle.ops_base.specs.declared.values.Value.{Value}
 use Rattle.ops_base.specs.declared.values.Value.TheVariants.{Symbol, Whole}
+use Rattle.ops_base.specs.declared.values.Sym.{Sym}
+use Rattle.ops_base.specs.declared.rules.Rule.{Rule}
+use Rattle.ops_base.specs.declared.endings.ActKind.{ActKind}
+use Rattle.ops_base.specs.declared.endings.ActKind.TheVariants as act_fault
 use Rattle.ops_base.specs.declared.endings.Ending.{Ending}
 use Rattle.ops_base.specs.declared.endings.Ending.TheVariants as ending
 use Rattle.ops_base.specs.Names.{Spellings, spelling_of}
+use Rattle.ops_tokens.specs.declared.token.TokenKind.{TokenKind}
+use Rattle.ops_tokens.specs.declared.token.TokenKind.TheVariants as kind
+use Rattle.ops_tokens.specs.Tokens.{Next, token_at}
 
 -- a value as `write` prints it: a symbol by its spelling, a number in decimal
 abbrev pub value_text : Spellings → Value → List ℕ
@@ -24,10 +31,51 @@ fresh_line column = if column == 0 then [] else 10 ∷ []
 abbrev pub line_at : ℕ → List ℕ → List ℕ
 line_at column text = fresh_line column ++ (text ++ 10 ∷ [])
 
+-- ---- symbols
+
+abbrev pub is_symbol : TokenKind → Bool
+is_symbol kind.Symbol = true
+is_symbol _ = false
+
+-- one token, a plain symbol, that ends there
+abbrev pub is_plain_symbol_to : ℕ → Next → Bool
+is_plain_symbol_to past (Ok (Some t)) = is_symbol t.kind && (t.first == 0) && (t.past == past)
+is_plain_symbol_to past _ = false
+
+-- the bytes are a plain symbol
+abbrev pub is_plain_symbol : List ℕ → Bool
+is_plain_symbol s = is_plain_symbol_to (length s) (token_at s 0)
+
+abbrev pub barred : List ℕ → List ℕ
+barred s = 124 ∷ s ++ 124 ∷ []
+
+-- A symbol, everywhere but in `write`: plain where its spelling is a plain symbol, and otherwise between bars.
+abbrev pub symbol_text : Spellings → Sym → List ℕ
+symbol_text names sym = if is_plain_symbol (spelling_of names sym) then spelling_of names sym else barred (spelling_of names sym)
+
+-- ---- endings
+
+abbrev pub act_fault_text : ActKind → List ℕ
+act_fault_text act_fault.NotNumber = codes "not a number"
+act_fault_text act_fault.ZeroDivisor = codes "zero divisor"
+act_fault_text act_fault.Overflow = codes "overflow"
+act_fault_text act_fault.TooManyFields = codes "too many fields"
+act_fault_text act_fault.InputTooLong = codes "input too long"
+
+abbrev pub rule_name : List Rule → ℕ → Sym
+rule_name rules n = unwrap_or (option_map (λ r. r.name) (slice_get rules n)) (record { 0 = 0 })
+
+abbrev pub act_fault_line : Spellings → List Rule → ℕ → ℕ → ℕ → ActKind → List ℕ
+act_fault_line names rules firing rule action k =
+    codes "ops: firing " ++ decimal firing ++ codes ": " ++ symbol_text names (rule_name rules rule) ++ codes ": action " ++ decimal action
+    ++ codes ": " ++ act_fault_text k
+
 -- the line that tells an ending
-abbrev pub last_line : ℕ → Ending → List ℕ
-last_line column (ending.Limit firings) = line_at column (codes "ops: limit of " ++ decimal firings ++ codes " firings reached")
-last_line column _ = []
+abbrev pub last_line : Spellings → List Rule → ℕ → Ending → List ℕ
+last_line names rules column (ending.Act firing rule action k) = line_at column (act_fault_line names rules firing rule action k)
+last_line names rules column (ending.Limit firings) =
+    line_at column (codes "ops: limit of " ++ decimal firings ++ codes " firings reached")
+last_line names rules column _ = []
 
 abbrev pub usage_line : List ℕ
 usage_line = codes "usage: ops [--match direct|serial|rounds|free] [--workers N] [--lines L] [--limit N] FILE.. | ops --gen SEED SIZE | ops --net FILE..\n"

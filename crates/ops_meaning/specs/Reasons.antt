@@ -1,18 +1,19 @@
 -- Why a word is refused: what each fault says of the word, of what is wanted there and of what was read before.
-use Rattle.std.specs.Prelude.{◌≡◌, ℕ, ◌-◌, List, [], ◌∷◌, length, take, Bool, true, false, not, ◌==◌, nat_lt, Option, Some, None, is_some, slice_get}
+use Rattle.std.specs.Prelude.{◌≡◌, ℕ, ◌+◌, ◌-◌, List, [], ◌∷◌, length, take, Bool, true, false, not, ◌==◌, ◌&&◌, nat_lt, Option, Some, None, is_some, slice_get}
 use Rattle.std.specs.List.{list_any}
 use Rattle.ops_base.specs.declared.values.Sym.{Sym}
 use Rattle.ops_base.specs.declared.conditions.Condition.{Condition}
 use Rattle.ops_base.specs.declared.endings.Fault.{Fault}
 use Rattle.ops_base.specs.declared.endings.Fault.TheVariants as fault
 use Rattle.ops_base.specs.declared.endings.Limit.TheVariants as limit
-use Rattle.ops_base.specs.Valid.{most_fields, most_conditions}
+use Rattle.ops_base.specs.Valid.{most_fields, most_conditions, is_equality}
 use Rattle.ops_tokens.specs.declared.token.TokenKind.{TokenKind}
 use Rattle.ops_tokens.specs.declared.token.TokenKind.TheVariants as kind
 use Rattle.ops_meaning.specs.declared.words.Word.{Word}
+use Rattle.ops_meaning.specs.declared.words.Keyword.{Keyword}
 use Rattle.ops_meaning.specs.declared.words.Keyword.TheVariants as keyword
-use Rattle.ops_meaning.specs.Grammar.{ToTest, ToFixed, Wanted, Forms, Form, ClassDeclared, Attributes, RuleName, FirstPattern, ValueFor, State, is_name, is_variable, is_minus, natural_of, is_one_of, number_of, may_declare, is_class, is_rule, attributes_of}
-use Rattle.ops_meaning.specs.Derivation.{is_whole}
+use Rattle.ops_meaning.specs.Grammar.{InPattern, InPut, InFixed, ToTest, ToFixed, ToConstants, Wanted, Forms, Form, ClassDeclared, Attributes, VectorName, VectorNames, RuleName, FirstPattern, Patterns, Braced, ElementName, ClassName, Attribute, Several, Tested, ValueFor, Cell, Cells, Items, State, is_name, is_variable, is_minus, natural_of, is_one_of, number_of, may_declare, is_class, is_rule, is_second, makes_second, attributes_of}
+use Rattle.ops_meaning.specs.Derivation.{is_designator}
 
 -- the fault of a word that continues no form
 abbrev pub no_form_fault : List Wanted → Fault
@@ -21,6 +22,25 @@ no_form_fault (Forms ∷ ws) = fault.Stray
 no_form_fault (Form ∷ ws) = fault.UnknownCommand
 no_form_fault (w ∷ ws) = fault.BadForm
 
+-- the word of a form
+abbrev pub wants_form : List Wanted → Bool
+wants_form (Form ∷ ws) = true
+wants_form ws = false
+
+-- a literalize or a vector-attribute
+abbrev pub is_declaration : Keyword → Bool
+is_declaration keyword.Literalize = true
+is_declaration keyword.VectorAttribute = true
+is_declaration _ = false
+
+abbrev pub wants_class : List Wanted → Bool
+wants_class (ClassName ∷ ws) = true
+wants_class ws = false
+
+abbrev pub wants_attribute : List Wanted → Bool
+wants_attribute (Attribute u ∷ ws) = true
+wants_attribute ws = false
+
 -- such a name was declared already
 abbrev pub is_declared : List Wanted → Sym → State → Bool
 is_declared (ClassDeclared ∷ ws) name s = is_class s name
@@ -28,10 +48,45 @@ is_declared (Attributes ∷ ws) name s = is_one_of name s.attrs
 is_declared (RuleName ∷ ws) name s = is_rule s name
 is_declared ws name s = false
 
+-- a class would get its second vector attribute by this name
+abbrev pub gives_second : List Wanted → Sym → State → Bool
+gives_second (Attributes ∷ ws) name s = is_second name s
+gives_second (VectorName ∷ ws) name s = not (is_one_of name s.vectors) && makes_second name s.classes
+gives_second (VectorNames ∷ ws) name s = not (is_one_of name s.vectors) && makes_second name s.classes
+gives_second ws name s = false
+
+-- an attribute or a value more would take the 128th field
+abbrev pub is_full : List Wanted → State → Bool
+is_full (Attributes ∷ ws) s = not (nat_lt (length s.attrs) most_fields)
+is_full (Several InPattern f ∷ ws) s = not (nat_lt f most_fields)
+is_full (Several InFixed f ∷ ws) s = not (nat_lt (f + length s.constants) most_fields)
+is_full ws s = false
+
+-- a further condition
+abbrev pub wants_condition : List Wanted → Bool
+wants_condition (Patterns ∷ ws) = true
+wants_condition ws = false
+
+-- the first condition of a production
+abbrev pub wants_first : List Wanted → Bool
+wants_first (FirstPattern ∷ ws) = true
+wants_first ws = false
+
+-- a variable that stands here must be bound: behind another predicate than an equality, and where a value is wanted
+abbrev pub wants_bound : List Wanted → Bool
+wants_bound (Tested f p ∷ ws) = not (is_equality p)
+wants_bound (ValueFor t ∷ ws) = true
+wants_bound (Several InPut f ∷ ws) = true
+wants_bound (Several InFixed f ∷ ws) = true
+wants_bound (Items ∷ ws) = true
+wants_bound ws = false
+
 -- A command sees no variable. (Nor does a value that is wanted for a test, which no text comes to.)
 abbrev pub is_bound : List Wanted → Sym → State → Bool
 is_bound (ValueFor (ToTest f p) ∷ ws) name s = false
 is_bound (ValueFor (ToFixed f) ∷ ws) name s = false
+is_bound (ValueFor ToConstants ∷ ws) name s = false
+is_bound (Several InFixed f ∷ ws) name s = false
 is_bound ws name s = is_some (number_of name s.values)
 
 abbrev pub is_positive : Option Condition → Bool
@@ -42,10 +97,11 @@ abbrev pub is_condition : State → Option ℕ → Bool
 is_condition s (Some n) = is_positive (slice_get s.conditions (n - 1))
 is_condition s None = false
 
--- the number of a positive condition
-abbrev pub designates : TokenKind → State → Bool
-designates (kind.Whole n) s = is_condition s (natural_of n)
-designates _ s = false
+-- the number of a positive condition, or an element variable
+abbrev pub designates : TokenKind → Sym → State → Bool
+designates (kind.Whole n) name s = is_condition s (natural_of n)
+designates kind.Variable name s = is_some (number_of name s.elements)
+designates _ name s = false
 
 abbrev pub is_unclear : State → Option ℕ → Bool
 is_unclear s (Some n) = list_any (λ c. c.negated) (take (n - 1) s.conditions)
@@ -56,25 +112,35 @@ abbrev pub designates_unclearly : TokenKind → State → Bool
 designates_unclearly (kind.Whole n) s = is_unclear s (natural_of n)
 designates_unclearly _ s = false
 
--- the first condition of a production
-abbrev pub wants_first : List Wanted → Bool
-wants_first (FirstPattern ∷ ws) = true
-wants_first ws = false
+-- a designator
+abbrev pub wants_cell : List Wanted → Bool
+wants_cell (Cell ∷ ws) = true
+wants_cell (Cells ∷ ws) = true
+wants_cell ws = false
+
+-- the word designates no cell, or it binds an element variable once more
+abbrev pub is_bad_designator : List Wanted → Word → State → Bool
+is_bad_designator (Cell ∷ ws) w s = is_designator w.kind && not (designates w.kind w.name s)
+is_bad_designator (Cells ∷ ws) w s = is_designator w.kind && not (designates w.kind w.name s)
+is_bad_designator (Braced ∷ ws) w s = is_variable w.kind && is_some (number_of w.name s.elements)
+is_bad_designator (ElementName ∷ ws) w s = is_variable w.kind && is_some (number_of w.name s.elements)
+is_bad_designator ws w s = false
 
 -- the reason why the word is refused with this fault
 abbrev pub Because : Fault → Word → List Wanted → State → Type 0
-Because fault.UnknownClass w ws s = (is_name w.kind ≡ true) × (is_class s w.name ≡ false)
-Because fault.UnknownAttribute w ws s = (is_name w.kind ≡ true) × (is_one_of w.name (attributes_of (slice_get s.classes s.class)) ≡ false)
+Because fault.UnknownClass w ws s = (wants_class ws ≡ true) × (is_name w.kind ≡ true) × (is_class s w.name ≡ false)
+Because fault.UnknownAttribute w ws s = (wants_attribute ws ≡ true) × (is_name w.kind ≡ true) × (is_one_of w.name (attributes_of (slice_get s.classes s.class)) ≡ false)
 Because fault.DeclaredTwice w ws s = (is_name w.kind ≡ true) × (is_declared ws w.name s ≡ true)
-Because fault.LateDeclaration w ws s = (w.keyword ≡ keyword.Literalize) × (may_declare s ≡ false)
-Because fault.LateProduction w ws s = (w.keyword ≡ keyword.Production) × ((length s.commands == 0) ≡ false)
-Because fault.UnboundVariable w ws s = (is_variable w.kind ≡ true) × (is_bound ws w.name s ≡ false)
-Because fault.BadDesignator w ws s = (is_whole w.kind ≡ true) × (designates w.kind s ≡ false)
-Because (fault.LimitPassed limit.Fields) w ws s = nat_lt (length s.attrs) most_fields ≡ false
-Because (fault.LimitPassed limit.Conditions) w ws s = nat_lt (length s.conditions) most_conditions ≡ false
+Because fault.TwoVectors w ws s = (is_name w.kind ≡ true) × (gives_second ws w.name s ≡ true)
+Because fault.LateDeclaration w ws s = (wants_form ws ≡ true) × (is_declaration w.keyword ≡ true) × (may_declare s ≡ false)
+Because fault.LateProduction w ws s = (wants_form ws ≡ true) × (w.keyword ≡ keyword.Production) × ((length s.commands == 0) ≡ false)
+Because fault.UnboundVariable w ws s = (wants_bound ws ≡ true) × (is_variable w.kind ≡ true) × (is_bound ws w.name s ≡ false)
+Because fault.BadDesignator w ws s = is_bad_designator ws w s ≡ true
+Because (fault.LimitPassed limit.Fields) w ws s = is_full ws s ≡ true
+Because (fault.LimitPassed limit.Conditions) w ws s = (wants_condition ws ≡ true) × (nat_lt (length s.conditions) most_conditions ≡ false)
 Because fault.Stray w ws s = no_form_fault ws ≡ fault.Stray
 Because fault.UnknownCommand w ws s = no_form_fault ws ≡ fault.UnknownCommand
 Because fault.BadForm w ws s = no_form_fault ws ≡ fault.BadForm
 Because fault.FirstNegated w ws s = (is_minus w.keyword ≡ true) × (wants_first ws ≡ true)
-Because fault.AmbiguousDesignator w ws s = (designates w.kind s ≡ true) × (designates_unclearly w.kind s ≡ true)
+Because fault.AmbiguousDesignator w ws s = (wants_cell ws ≡ true) × (designates w.kind w.name s ≡ true) × (designates_unclearly w.kind s ≡ true)
 Because _ w ws s = ⊥

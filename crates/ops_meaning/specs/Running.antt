@@ -1,5 +1,5 @@
 -- The recognise-act cycle and the session.
-use Rattle.std.specs.Prelude.{ℕ, zero, suc, ◌+◌, ◌-◌, List, [], ◌∷◌, ◌++◌, length, fold, replicate, Bool, true, false, Option, Some, None, Result, Ok, Err, slice_get, slice_set, unwrap_or, option_map, codes}
+use Rattle.std.specs.Prelude.{ℕ, zero, suc, ◌+◌, ◌-◌, List, [], ◌∷◌, ◌++◌, length, fold, take, Bool, true, false, if◌then◌else◌, Option, Some, None, Result, Ok, Err, slice_get, slice_set, unwrap_or, option_map, codes}
 use Rattle.ops_base.specs.declared.values.Value.{Value}
 use Rattle.ops_base.specs.declared.elements.Class.{Class}
 use Rattle.ops_base.specs.declared.elements.Element.{Element}
@@ -16,7 +16,7 @@ use Rattle.ops_base.specs.declared.endings.Ending.{Ending}
 use Rattle.ops_base.specs.declared.endings.Ending.TheVariants as ending
 use Rattle.ops_base.specs.Values.{nil}
 use Rattle.ops_base.specs.Names.{Spellings}
-use Rattle.ops_base.specs.Valid.{class_of}
+use Rattle.ops_base.specs.Valid.{class_of, is_vector}
 use Rattle.ops_base.specs.WorkingMemory.{change_done}
 use Rattle.ops_base.specs.Refraction.{unfired, still_fired, dominant}
 use Rattle.ops_meaning.specs.declared.states.Doing.{Doing}
@@ -24,7 +24,7 @@ use Rattle.ops_meaning.specs.declared.states.Memory.{Memory}
 use Rattle.ops_meaning.specs.declared.states.Fired.{Fired}
 use Rattle.ops_meaning.specs.Effects.{Effect, writes, ends_with, and_then}
 use Rattle.ops_meaning.specs.Layout.{line_at}
-use Rattle.ops_meaning.specs.Acting.{bindings_of, actions_done}
+use Rattle.ops_meaning.specs.Acting.{Scene, bindings_of, no_fields, actions_done}
 
 -- what stands still during a session
 pub record Setting : Type 0 where
@@ -47,12 +47,21 @@ actions_of rules n = unwrap_or (option_map (λ r. r.actions) (slice_get rules n)
 
 -- ---- one firing
 
--- what the right side does, from what stands before it
-abbrev pub acted : Setting → ℕ → Inst → Doing → Effect Doing
-acted s column i d =
-    actions_done
-    (record { names = s.names; classes = s.classes; bindings = bindings_of d.wm (conditions_of s.rules i.rule) i.tags []; tags = i.tags })
-    column (actions_of s.rules i.rule) d
+-- what stands still during the firing with this number
+abbrev pub scene_at : Setting → ℕ → Inst → Doing → Scene
+scene_at s n i d =
+    record {
+      names = s.names;
+      classes = s.classes;
+      firing = n;
+      rule = i.rule;
+      bindings = bindings_of d.wm (conditions_of s.rules i.rule) i.tags [];
+      tags = i.tags;
+    }
+
+-- what the right side does in the firing with this number, from what stands before it
+abbrev pub acted : Setting → ℕ → ℕ → Inst → Doing → Effect Doing
+acted s column n i d = actions_done (scene_at s n i d) column 1 (actions_of s.rules i.rule) d
 
 -- one phase, in which this instantiation fired
 abbrev pub after_firing : List Rule → Inst → Memory → Doing → Memory
@@ -65,7 +74,7 @@ fired_of rules i m d = record { memory = after_firing rules i m d; halted = d.ha
 
 abbrev pub firing : Setting → ℕ → Inst → Memory → Effect Fired
 firing s column i m =
-    and_then column (acted s column i (record { wm = m.wm; last = m.last; halted = false })) (λ next d. writes [] (fired_of s.rules i m d))
+    and_then column (acted s column (m.firings + 1) i (record { wm = m.wm; last = m.last; halted = false })) (λ next d. writes [] (fired_of s.rules i m d))
 
 -- ---- a run
 
@@ -92,13 +101,18 @@ abbrev pub first_constant : List Value → Value
 first_constant [] = nil
 first_constant (v ∷ vs) = v
 
-abbrev pub fixed_fields : ℕ → List Fixed → List Value
-fixed_fields count puts = fold (λ fields p. slice_set fields p.field (first_constant p.values)) (replicate count nil) puts
+-- One attribute is given; the values of the vector attribute take the place of those that it had.
+abbrev pub fixed_done : Class → List Value → Fixed → List Value
+fixed_done c fields p =
+    if is_vector c p.field then take p.field fields ++ p.values else slice_set fields p.field (first_constant p.values)
+
+abbrev pub fixed_fields : Class → List Fixed → List Value
+fixed_fields c puts = fold (fixed_done c) (no_fields c) puts
 
 -- A top-level `make` is one phase.
 abbrev pub made_at_top : List Class → List Rule → ℕ → List Fixed → Memory → Memory
 made_at_top classes rules class puts m =
-    let e : Element = record { tag = m.last + 1; class = class; fields = fixed_fields (length (class_of classes class).attrs) puts } in
+    let e : Element = record { tag = m.last + 1; class = class; fields = fixed_fields (class_of classes class) puts } in
     let wm = change_done m.wm (change.Add e) in
     record { wm = wm; fired = still_fired rules wm m.fired; firings = m.firings; last = m.last + 1 }
 

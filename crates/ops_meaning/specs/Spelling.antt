@@ -1,5 +1,5 @@
 -- How what a program declares is spelled.
-use Rattle.std.specs.Prelude.{ℕ, suc, List, [], ◌∷◌, ◌++◌, map, length, unwrap_or, slice_get, Bool, true, false, not, ◌&&◌, ◌==◌, nat_lt, nat_le, if◌then◌else◌, None, pos}
+use Rattle.std.specs.Prelude.{ℕ, zero, suc, ◌-◌, List, [], ◌∷◌, ◌++◌, map, take, length, unwrap_or, slice_get, Bool, true, false, not, ◌&&◌, ◌||◌, ◌==◌, nat_lt, nat_le, if◌then◌else◌, None}
 use Rattle.std.specs.List.{list_all}
 use Rattle.ops_base.specs.declared.values.Sym.{Sym}
 use Rattle.ops_base.specs.declared.values.Value.{Value}
@@ -22,11 +22,12 @@ use Rattle.ops_base.specs.declared.actions.Item.TheVariants as item
 use Rattle.ops_base.specs.declared.actions.Action.{Action}
 use Rattle.ops_base.specs.declared.actions.Action.TheVariants as action
 use Rattle.ops_base.specs.declared.rules.Rule.{Rule}
-use Rattle.ops_base.specs.Valid.{most_conditions, are_distinct, class_is_valid, class_of, is_attribute, is_equality, is_in, first_is_positive, cells_of, specificity}
+use Rattle.ops_base.specs.Valid.{most_conditions, are_distinct, class_is_valid, class_of, is_attribute, is_vector, is_field, is_equality, is_in, first_is_positive, cells_of, specificity, fixed_is_valid}
 use Rattle.ops_tokens.specs.declared.token.TokenKind.TheVariants as kind
 use Rattle.ops_meaning.specs.declared.words.Word.{Word}
 use Rattle.ops_meaning.specs.declared.words.Keyword.{Keyword}
 use Rattle.ops_meaning.specs.declared.words.Keyword.TheVariants as keyword
+use Rattle.ops_meaning.specs.Grammar.{is_one_of}
 
 -- ---- words, where their places do not matter
 
@@ -67,10 +68,19 @@ spelled_each spelled (x ∷ xs) = spelled x ++ spelled_each spelled xs
 abbrev pub spelled_class : Class → List Word
 spelled_class c = opening ∷ spelled_keyword keyword.Literalize ∷ spelled_name c.name ∷ map spelled_name c.attrs ++ closing ∷ []
 
--- ---- attributes with values
-
 abbrev pub attribute_name : Class → ℕ → Sym
 attribute_name c f = unwrap_or (slice_get c.attrs f) unnamed
+
+-- the last attribute
+abbrev pub last_field : Class → ℕ
+last_field c = length c.attrs - 1
+
+-- ( vector-attribute NAME ), where the class has a vector attribute
+abbrev pub spelled_vector : Class → List Word
+spelled_vector c =
+    if c.vector then opening ∷ spelled_keyword keyword.VectorAttribute ∷ spelled_name (attribute_name c (last_field c)) ∷ closing ∷ [] else []
+
+-- ---- attributes with values
 
 -- ^ ATTR value
 abbrev pub spelled_attribute : Class → ℕ → List Word → List Word
@@ -114,17 +124,40 @@ spelled_operand p (operand.Constant v) = spelled_operator (keyword_of_pred p) �
 spelled_operand p (operand.Variable n) = spelled_operator (keyword_of_pred p) ∷ spelled_variable n ∷ []
 spelled_operand p (operand.OneOf vs) = spelled_operator keyword.OpenChoice ∷ map spelled_value vs ++ spelled_operator keyword.CloseChoice ∷ []
 
+abbrev pub opening_brace : Word
+opening_brace = record { kind = kind.LeftBrace; keyword = keyword.Other; name = unnamed; first = 0; past = 0 }
+
+abbrev pub closing_brace : Word
+closing_brace = record { kind = kind.RightBrace; keyword = keyword.Other; name = unnamed; first = 0; past = 0 }
+
+-- so many places of a vector attribute that test nothing: { }
+abbrev pub untested : ℕ → List Word
+untested zero = []
+untested (suc n) = opening_brace ∷ closing_brace ∷ untested n
+
+-- the attribute of a field, which for each place of the vector attribute is that
+abbrev pub attribute_of : Class → ℕ → ℕ
+attribute_of c f = if is_attribute c f then f else last_field c
+
 abbrev pub spelled_test : Class → Test → List Word
-spelled_test c t = spelled_attribute c t.field (spelled_operand t.pred t.operand)
+spelled_test c t =
+    spelled_attribute c (attribute_of c t.field) (untested (t.field - last_field c) ++ spelled_operand t.pred t.operand)
 
 -- ( CLASS term* )
 abbrev pub spelled_pattern : Class → List Test → List Word
 spelled_pattern c tests = spelled_name c.name ∷ spelled_each (spelled_test c) tests ++ closing ∷ []
 
--- pattern | - pattern
-abbrev pub spelled_condition : List Class → Condition → List Word
-spelled_condition classes c =
-    (if c.negated then spelled_operator keyword.Minus ∷ [] else []) ++ opening ∷ spelled_pattern (class_of classes c.class) c.tests
+-- - pattern | { VARIABLE pattern }, where the element variable is named by its cell
+abbrev pub spelled_condition : List Class → ℕ → Condition → List Word
+spelled_condition classes cell c =
+    if c.negated then spelled_operator keyword.Minus ∷ opening ∷ spelled_pattern (class_of classes c.class) c.tests
+    else opening_brace ∷ spelled_variable cell ∷ opening ∷ spelled_pattern (class_of classes c.class) c.tests ++ closing_brace ∷ []
+
+-- conditions, of which the next positive one has that cell
+abbrev pub spelled_conditions : List Class → ℕ → List Condition → List Word
+spelled_conditions classes cell [] = []
+spelled_conditions classes cell (c ∷ cs) =
+    spelled_condition classes cell c ++ spelled_conditions classes (if c.negated then cell else suc cell) cs
 
 -- the numbers of the variables in sight, in the order in which they came, and how many were given
 pub record Numbered : Type 0 where
@@ -139,7 +172,7 @@ operand_is_plain k p binds (operand.Variable n) = if binds then is_equality p &&
 operand_is_plain k p binds (operand.OneOf vs) = not binds && is_equality p
 
 abbrev pub test_is_plain : Class → Numbered → Test → Bool
-test_is_plain c k t = is_attribute c t.field && operand_is_plain k t.pred t.binds t.operand
+test_is_plain c k t = is_field c t.field && operand_is_plain k t.pred t.binds t.operand
 
 -- what is in sight behind it
 abbrev pub after_test : Numbered → Test → Numbered
@@ -181,20 +214,16 @@ spelled_term _ = []
 abbrev pub spelled_put : Class → Put → List Word
 spelled_put c p = spelled_attribute c p.field (spelled_each spelled_term p.terms)
 
--- counted from 1
-abbrev pub spelled_cell : ℕ → Word
-spelled_cell n = record { kind = kind.Whole (pos (suc n)); keyword = keyword.Other; name = unnamed; first = 0; past = 0 }
-
 abbrev pub spelled_item : Item → List Word
 spelled_item (item.Print t) = spelled_term t
 spelled_item item.Crlf = opening ∷ spelled_keyword keyword.Crlf ∷ closing ∷ []
 spelled_item _ = []
 
--- ( make CLASS put* ) | ( remove WHOLE WHOLE* ) | ( write item* ) | ( halt )
+-- ( make CLASS put* ) | ( remove VARIABLE VARIABLE* ) | ( write item* ) | ( halt )
 abbrev pub spelled_action : List Class → Action → List Word
 spelled_action classes (action.Make class puts) =
     opening ∷ spelled_keyword keyword.Make ∷ spelled_name (class_of classes class).name ∷ spelled_each (spelled_put (class_of classes class)) puts ++ closing ∷ []
-spelled_action classes (action.Remove cells) = opening ∷ spelled_keyword keyword.Remove ∷ map spelled_cell cells ++ closing ∷ []
+spelled_action classes (action.Remove cells) = opening ∷ spelled_keyword keyword.Remove ∷ map spelled_variable cells ++ closing ∷ []
 spelled_action classes (action.Write items) = opening ∷ spelled_keyword keyword.Write ∷ spelled_each spelled_item items ++ closing ∷ []
 spelled_action classes action.Halt = opening ∷ spelled_keyword keyword.Halt ∷ closing ∷ []
 spelled_action classes _ = []
@@ -206,19 +235,14 @@ term_is_plain k (term.Variable n) = is_in n k
 term_is_plain k _ = false
 
 abbrev pub put_is_plain : Class → List ℕ → Put → Bool
-put_is_plain c k p = is_attribute c p.field && (length p.terms == 1) && list_all (term_is_plain k) p.terms
+put_is_plain c k p = is_attribute c p.field && (is_vector c p.field || (length p.terms == 1)) && list_all (term_is_plain k) p.terms
 
 abbrev pub item_is_plain : List ℕ → Item → Bool
 item_is_plain k (item.Print t) = term_is_plain k t
 item_is_plain k item.Crlf = true
 item_is_plain k _ = false
 
--- how many conditions stand before the first negated one
-abbrev pub plainly_positive : List Condition → ℕ
-plainly_positive [] = 0
-plainly_positive (c ∷ cs) = if c.negated then 0 else suc (plainly_positive cs)
-
--- behind conditions, so many of which stand before the first negated one, with these variables in sight
+-- behind so many positive conditions, with these variables in sight
 abbrev pub action_is_plain : List Class → ℕ → List ℕ → Action → Bool
 action_is_plain classes n k (action.Make class puts) = nat_lt class (length classes) && list_all (put_is_plain (class_of classes class) k) puts
 action_is_plain classes n k (action.Remove cells) = nat_lt 0 (length cells) && list_all (λ c. nat_lt c n) cells
@@ -234,37 +258,43 @@ arrow = record { kind = kind.Operator; keyword = keyword.Arrow; name = unnamed; 
 -- ( p NAME first condition* --> action* ), at the place of the rule
 abbrev pub spelled_rule : List Class → Rule → List Word
 spelled_rule classes r =
-    record opening { first = r.first } ∷ spelled_keyword keyword.Production ∷ spelled_name r.name ∷ spelled_each (spelled_condition classes) r.conditions
+    record opening { first = r.first } ∷ spelled_keyword keyword.Production ∷ spelled_name r.name ∷ spelled_conditions classes 0 r.conditions
     ++ arrow ∷ spelled_each (spelled_action classes) r.actions
     ++ record closing { past = r.past } ∷ []
 
 abbrev pub rule_is_plain : List Class → Rule → Bool
 rule_is_plain classes r =
     first_is_positive r.conditions && nat_le (length r.conditions) most_conditions && conditions_are_plain classes nothing_numbered r.conditions
-    && list_all (action_is_plain classes (plainly_positive r.conditions) (after_conditions nothing_numbered r.conditions).sight) r.actions
+    && list_all (action_is_plain classes (length (cells_of r.conditions)) (after_conditions nothing_numbered r.conditions).sight) r.actions
     && (r.variables == (after_conditions nothing_numbered r.conditions).given) && (r.specificity == specificity r.conditions)
     && (r.cells == length (cells_of r.conditions))
 
 -- ---- programs
 
-abbrev pub class_is_plain : Class → Bool
-class_is_plain c = not c.vector && class_is_valid c
+-- the names of the classes' vector attributes
+abbrev pub vectors_of : List Class → List Sym
+vectors_of [] = []
+vectors_of (c ∷ cs) = if c.vector then attribute_name c (last_field c) ∷ vectors_of cs else vectors_of cs
 
--- one value for an attribute of the class
-abbrev pub fixed_is_plain : Class → Fixed → Bool
-fixed_is_plain c p = is_attribute c p.field && (length p.values == 1)
+-- the attributes of a class without its vector attribute
+abbrev pub scalars_of : Class → List Sym
+scalars_of c = if c.vector then take (last_field c) c.attrs else c.attrs
+
+-- where these are the names of vector attributes, none of the scalar attributes has one of them
+abbrev pub class_is_plain : List Sym → Class → Bool
+class_is_plain vectors c = class_is_valid c && list_all (λ a. not (is_one_of a vectors)) (scalars_of c)
 
 abbrev pub command_is_plain : List Class → Command → Bool
-command_is_plain classes (command.Make class puts) = nat_lt class (length classes) && list_all (fixed_is_plain (class_of classes class)) puts
+command_is_plain classes (command.Make class puts) = nat_lt class (length classes) && list_all (fixed_is_valid (class_of classes class)) puts
 command_is_plain classes (command.Run None) = true
 command_is_plain classes _ = false
 
 -- the program has a spelling
 abbrev pub is_plain : List Class → List Rule → List Command → Bool
 is_plain classes rules commands =
-    list_all class_is_plain classes && list_all (rule_is_plain classes) rules && list_all (command_is_plain classes) commands
+    list_all (class_is_plain (vectors_of classes)) classes && list_all (rule_is_plain classes) rules && list_all (command_is_plain classes) commands
     && are_distinct (map (λ c. c.name.0) classes) && are_distinct (map (λ r. r.name.0) rules)
 
 abbrev pub spelled_program : List Class → List Rule → List Command → List Word
 spelled_program classes rules commands =
-    spelled_each spelled_class classes ++ spelled_each (spelled_rule classes) rules ++ spelled_each (spelled_command classes) commands
+    spelled_each spelled_vector classes ++ spelled_each spelled_class classes ++ spelled_each (spelled_rule classes) rules ++ spelled_each (spelled_command classes) commands

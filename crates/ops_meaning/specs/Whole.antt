@@ -92,16 +92,19 @@ status_of ending.WriteFault = status.WriteFault
 status_of ending.OutOfMemory = status.OutOfMemory
 
 -- the bytes of a session, and the last line of its ending
-abbrev pub told : Effect Memory → Outcome
-told e =
-    record { bytes = e.bytes ++ last_line (column_after 0 e.bytes) (ending_of e.outcome); status = status_of (ending_of e.outcome) }
+abbrev pub told : Setting → Effect Memory → Outcome
+told s e =
+    record {
+      bytes = e.bytes ++ last_line s.names s.rules (column_after 0 e.bytes) (ending_of e.outcome);
+      status = status_of (ending_of e.outcome);
+    }
 
 abbrev pub setting_of : Read → Setting
 setting_of p = record { names = p.names; classes = p.classes; rules = p.rules }
 
 abbrev pub answer_read : List ℕ → Result Read Placed → Outcome
 answer_read text (Err p) = refused text p
-answer_read text (Ok p) = told (session_of (setting_of p) p.commands)
+answer_read text (Ok p) = told (setting_of p) (session_of (setting_of p) p.commands)
 
 abbrev pub answer_to : List ℕ → Outcome
 answer_to text = answer_read text (reads text)

@@ -14,6 +14,7 @@ use Rattle.ops_meaning.specs.declared.words.Keyword.TheVariants as keyword
 abbrev pub keyword_of_symbol : List ℕ → Keyword
 keyword_of_symbol s =
     if bytes_eq s (codes "literalize") then keyword.Literalize
+    else if bytes_eq s (codes "vector-attribute") then keyword.VectorAttribute
     else if bytes_eq s (codes "p") then keyword.Production
     else if bytes_eq s (codes "make") then keyword.Make
     else if bytes_eq s (codes "remove") then keyword.Remove

@@ -8,6 +8,7 @@ use ops_tokens::TokenKind;
 #[derive(Clone, Copy, Debug, PartialEq, Eq)]
 pub enum Keyword {
     Literalize,
+    VectorAttribute,
     Production,
     Make,
     Remove,

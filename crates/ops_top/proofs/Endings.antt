@@ -1,5 +1,5 @@
 -- The endings that a session can come to of itself: no device is asked in it, and no memory is wanted.
-use Rattle.std.proofs.Common.{ℕ, zero, suc, ◌-◌, List, [], ◌∷◌, Bool, true, false, Option, Some, None, Result, Ok, Err}
+use Rattle.std.proofs.Common.{ℕ, zero, suc, ◌-◌, ◌+◌, List, [], ◌∷◌, Bool, true, false, Option, Some, None, Result, Ok, Err}
 use Rattle.ops_base.specs.declared.endings.Ending.{Ending}
 use Rattle.ops_base.specs.declared.endings.Ending.TheVariants as ending
 use Rattle.ops_base.specs.declared.actions.Action.{Action}
@@ -7,15 +7,17 @@ use Rattle.ops_base.specs.declared.actions.Action.TheVariants as action
 use Rattle.ops_base.specs.declared.commands.Command.{Command}
 use Rattle.ops_base.specs.declared.commands.Command.TheVariants as command
 use Rattle.ops_base.specs.declared.rules.Inst.{Inst}
+use Rattle.ops_base.specs.declared.values.Value.{Value}
+use Rattle.ops_base.specs.Valid.{class_of}
 use Rattle.ops_io.specs.Output.{column_after}
 use Rattle.ops_meaning.specs.declared.states.Memory.{Memory}
 use Rattle.ops_meaning.specs.declared.states.Doing.{Doing}
 use Rattle.ops_meaning.specs.declared.statuses.Status.{Status}
 use Rattle.ops_meaning.specs.declared.statuses.Status.TheVariants as status
 use Rattle.ops_meaning.specs.Effects.{Effect, writes, going_on}
-use Rattle.ops_meaning.specs.Acting.{Scene, bindings_of, action_done, actions_done}
+use Rattle.ops_meaning.specs.Acting.{Scene, fields_of, make_done, action_done, actions_done}
 use Rattle.ops_meaning.specs.Reads.{Read, Placed, reads}
-use Rattle.ops_meaning.specs.Running.{Setting, nothing_yet, conditions_of, actions_of, acted, fired_of, firing, turn, run_on, most_firings, next_to_fire, command_done, commands_done, session_of, ending_of}
+use Rattle.ops_meaning.specs.Running.{Setting, nothing_yet, scene_at, actions_of, acted, fired_of, firing, turn, run_on, most_firings, next_to_fire, command_done, commands_done, session_of, ending_of}
 use Rattle.ops_meaning.specs.Whole.{status_of, answer_read, answer_file, text_of, setting_of}
 
 -- an ending that is none of a device or of memory
@@ -37,32 +39,35 @@ own_then bytes (Err (ending.Done f n t)) next p q = p
 own_then bytes (Err (ending.Act f r n k)) next p q = p
 own_then bytes (Err (ending.Limit f)) next p q = p
 
-own_action : (scene : Scene) (column : ℕ) (a : Action) (d : Doing) → IsOwn (action_done scene column a d).outcome
-own_action scene column (action.Make class puts) d = tt
-own_action scene column (action.Remove cells) d = tt
-own_action scene column (action.Write items) d = tt
-own_action scene column action.Halt d = tt
-own_action scene column (action.Modify cell puts) d = tt
-own_action scene column (action.Bind variable term) d = tt
-own_action scene column (action.Cbind cell) d = tt
+own_make : (scene : Scene) (n class : ℕ) (found : Option (List Value)) (d : Doing) → IsOwn (make_done scene n class found d).outcome
+own_make scene n class (Some fields) d = tt
+own_make scene n class None d = tt
 
-own_actions : (scene : Scene) (column : ℕ) (actions : List Action) (d : Doing) → IsOwn (actions_done scene column actions d).outcome
-own_actions scene column [] d = tt
-own_actions scene column (a ∷ rest) d =
-    let e = action_done scene column a d in
-    own_then e.bytes e.outcome (λ d. actions_done scene (column_after column e.bytes) rest d) (own_action scene column a d) (λ d. own_actions scene (column_after column e.bytes) rest d)
+own_action : (scene : Scene) (column n : ℕ) (a : Action) (d : Doing) → IsOwn (action_done scene column n a d).outcome
+own_action scene column n (action.Make class puts) d =
+    own_make scene n class (fields_of scene.bindings (class_of scene.classes class) puts) d
+own_action scene column n (action.Remove cells) d = tt
+own_action scene column n (action.Write items) d = tt
+own_action scene column n action.Halt d = tt
+own_action scene column n (action.Modify cell puts) d = tt
+own_action scene column n (action.Bind variable term) d = tt
+own_action scene column n (action.Cbind cell) d = tt
 
-own_acted : (s : Setting) (column : ℕ) (i : Inst) (d : Doing) → IsOwn (acted s column i d).outcome
-own_acted s column i d =
-    own_actions
-    (record { names = s.names; classes = s.classes; bindings = bindings_of d.wm (conditions_of s.rules i.rule) i.tags []; tags = i.tags })
-    column (actions_of s.rules i.rule) d
+own_actions : (scene : Scene) (column n : ℕ) (actions : List Action) (d : Doing) → IsOwn (actions_done scene column n actions d).outcome
+own_actions scene column n [] d = tt
+own_actions scene column n (a ∷ rest) d =
+    let e = action_done scene column n a d in
+    own_then e.bytes e.outcome (λ d. actions_done scene (column_after column e.bytes) (suc n) rest d) (own_action scene column n a d)
+    (λ d. own_actions scene (column_after column e.bytes) (suc n) rest d)
+
+own_acted : (s : Setting) (column n : ℕ) (i : Inst) (d : Doing) → IsOwn (acted s column n i d).outcome
+own_acted s column n i d = own_actions (scene_at s n i d) column 1 (actions_of s.rules i.rule) d
 
 own_firing : (s : Setting) (column : ℕ) (i : Inst) (m : Memory) → IsOwn (firing s column i m).outcome
 own_firing s column i m =
     let d : Doing = record { wm = m.wm; last = m.last; halted = false } in
-    let e = acted s column i d in
-    own_then e.bytes e.outcome (λ d. writes [] (fired_of s.rules i m d)) (own_acted s column i d) (λ d. tt)
+    let e = acted s column (m.firings + 1) i d in
+    own_then e.bytes e.outcome (λ d. writes [] (fired_of s.rules i m d)) (own_acted s column (m.firings + 1) i d) (λ d. tt)
 
 own_turn : (column : ℕ) (halted : Bool) (m : Memory) (next : Option Inst) (go_on : Inst → Effect Memory) → ((i : Inst) → IsOwn (go_on i).outcome) → IsOwn (turn column halted m next go_on).outcome
 own_turn column true m next go_on p = tt

@@ -10,7 +10,7 @@ use Rattle.ops_io.proofs.PortLemmas.{put_then, put_short, stopped_then, stopped_
 use Rattle.ops_meaning.specs.declared.states.Memory.{Memory}
 use Rattle.ops_meaning.specs.Effects.{Effect, Fails, Performs}
 use Rattle.ops_meaning.specs.Layout.{last_line}
-use Rattle.ops_meaning.specs.Running.{ending_of}
+use Rattle.ops_meaning.specs.Running.{Setting, ending_of}
 use Rattle.ops_meaning.specs.Whole.{told}
 use Rattle.ops_top.specs.Told.{ended}
 
@@ -37,26 +37,26 @@ ended_as x r a b e is p =
     let P : Result Ending Stop → Type 0 = λ y. Ended y a b e in subst P (sym is) (ended_performs r a b e p)
 
 -- the last line of a session that began at column 0
-pub last_line_at : (a b : Port) (f : Ending) (e : Effect Memory) → a.out.column ≡ 0 → f ≡ ending_of e.outcome → Put a b e.bytes → last_line b.out.column f ≡ last_line (column_after 0 e.bytes) (ending_of e.outcome)
-last_line_at a b f e zero_column is p =
-    ap (λ n. last_line n f) (p.column ∙ ap (λ n. column_after n e.bytes) zero_column) ∙ ap (last_line (column_after 0 e.bytes)) is
+pub last_line_at : (s : Setting) (a b : Port) (f : Ending) (e : Effect Memory) → a.out.column ≡ 0 → f ≡ ending_of e.outcome → Put a b e.bytes → last_line s.names s.rules b.out.column f ≡ last_line s.names s.rules (column_after 0 e.bytes) (ending_of e.outcome)
+last_line_at s a b f e zero_column is p =
+    ap (λ n. last_line s.names s.rules n f) (p.column ∙ ap (λ n. column_after n e.bytes) zero_column) ∙ ap (last_line s.names s.rules (column_after 0 e.bytes)) is
 
 -- the session gave up
-pub tells_stopped : (why : Stop) (a b : Port) (e : Effect Memory) → Stopped why a b e.bytes → Stopped why a b (told e).bytes
-tells_stopped why a b e p = stopped_more why a b e.bytes (last_line (column_after 0 e.bytes) (ending_of e.outcome)) p
+pub tells_stopped : (s : Setting) (why : Stop) (a b : Port) (e : Effect Memory) → Stopped why a b e.bytes → Stopped why a b (told s e).bytes
+tells_stopped s why a b e p = stopped_more why a b e.bytes (last_line s.names s.rules (column_after 0 e.bytes) (ending_of e.outcome)) p
 
 -- memory ran out before the last line
-pub tells_short : (a b : Port) (e : Effect Memory) → Put a b e.bytes → Stopped stop.OutOfMemory a b (told e).bytes
-tells_short a b e p = put_short a b e.bytes (last_line (column_after 0 e.bytes) (ending_of e.outcome)) p
+pub tells_short : (s : Setting) (a b : Port) (e : Effect Memory) → Put a b e.bytes → Stopped stop.OutOfMemory a b (told s e).bytes
+tells_short s a b e p = put_short a b e.bytes (last_line s.names s.rules (column_after 0 e.bytes) (ending_of e.outcome)) p
 
 -- the last line was refused
-pub tells_cut : (why : Stop) (a b c : Port) (f : Ending) (line : List ℕ) (e : Effect Memory) → a.out.column ≡ 0 → f ≡ ending_of e.outcome → Put a b e.bytes → line ≡ last_line b.out.column f → Stopped why b c line → Stopped why a c (told e).bytes
-tells_cut why a b c f line e zero_column is p at q =
+pub tells_cut : (s : Setting) (why : Stop) (a b c : Port) (f : Ending) (line : List ℕ) (e : Effect Memory) → a.out.column ≡ 0 → f ≡ ending_of e.outcome → Put a b e.bytes → line ≡ last_line s.names s.rules b.out.column f → Stopped why b c line → Stopped why a c (told s e).bytes
+tells_cut s why a b c f line e zero_column is p at q =
     let P : List ℕ → Type 0 = λ xs. Stopped why a c (e.bytes ++ xs) in
-    subst P (at ∙ last_line_at a b f e zero_column is p) (stopped_then why a b c e.bytes line p q)
+    subst P (at ∙ last_line_at s a b f e zero_column is p) (stopped_then why a b c e.bytes line p q)
 
 -- the session and its last line were put
-pub tells_all : (a b c : Port) (f : Ending) (line : List ℕ) (e : Effect Memory) → a.out.column ≡ 0 → f ≡ ending_of e.outcome → Put a b e.bytes → line ≡ last_line b.out.column f → Put b c line → Put a c (told e).bytes
-tells_all a b c f line e zero_column is p at q =
+pub tells_all : (s : Setting) (a b c : Port) (f : Ending) (line : List ℕ) (e : Effect Memory) → a.out.column ≡ 0 → f ≡ ending_of e.outcome → Put a b e.bytes → line ≡ last_line s.names s.rules b.out.column f → Put b c line → Put a c (told s e).bytes
+tells_all s a b c f line e zero_column is p at q =
     let P : List ℕ → Type 0 = λ xs. Put a c (e.bytes ++ xs) in
-    subst P (at ∙ last_line_at a b f e zero_column is p) (put_then a b c e.bytes line p q)
+    subst P (at ∙ last_line_at s a b f e zero_column is p) (put_then a b c e.bytes line p q)

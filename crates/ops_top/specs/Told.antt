@@ -11,7 +11,7 @@ use Rattle.ops_meaning.specs.declared.statuses.Status.TheVariants as status
 use Rattle.ops_meaning.specs.declared.states.Memory.{Memory}
 use Rattle.ops_meaning.specs.Effects.{Effect}
 use Rattle.ops_meaning.specs.Whole.{Outcome, told}
-use Rattle.ops_meaning.specs.Running.{ending_of}
+use Rattle.ops_meaning.specs.Running.{Setting, ending_of}
 
 -- All bytes of the outcome went out and its status is answered; or the call gave up, for the reason that the count of
 -- failed writes tells, and a prefix went out.
@@ -33,6 +33,6 @@ ended (Err ending.OutOfMemory) = Err stop.OutOfMemory
 ended (Err f) = Ok f
 
 -- The bytes of a session and its last line were put, and this is its ending; or the call gave up.
-abbrev pub TellsSession : Result Ending Stop → Port → Port → Effect Memory → Type 0
-TellsSession (Ok f) old new e = (f ≡ ending_of e.outcome) × Put old new (told e).bytes
-TellsSession (Err why) old new e = Stopped why old new (told e).bytes
+abbrev pub TellsSession : Result Ending Stop → Port → Port → Setting → Effect Memory → Type 0
+TellsSession (Ok f) old new s e = (f ≡ ending_of e.outcome) × Put old new (told s e).bytes
+TellsSession (Err why) old new s e = Stopped why old new (told s e).bytes

@@ -1,46 +1,36 @@
 //! The right side of a production.
-ghost use Rattle.std.specs.Prelude.{◌≡◌, ◌^◌, ◌<◌, ◌+◌, IsTrue, IfOk, fold, length, true};
+ghost use Rattle.std.specs.Prelude.{◌≡◌, ◌^◌, ◌<◌, IsTrue, IfOk, fold, true, option_map};
 ghost use Rattle.ops_io.specs.Ports.{port};
 ghost use Rattle.ops_meaning.specs.Effects.{Puts, Performs};
-ghost use Rattle.ops_meaning.specs.Acting.{term_value, item_bytes, items_bytes, has_tag, removed, cell_tag, first_value, fields_of, made, action_done, actions_done};
+ghost use Rattle.ops_meaning.specs.Acting.{item_bytes, items_bytes, has_tag, removed, cell_tag, fields_of, made, action_done, actions_done};
 ghost use Rattle.ops_base.specs.WorkingMemory.{without_tag};
 ghost use Rattle.ops_base.specs.Valid.{class_of};
 ghost use Rattle.ops_top.specs.Scenes.{scene_of};
 
+use crate::bindings::term_value;
+use crate::making::{class_of, fields_of, made, no_class};
 use crate::printing::{put, put_gap, put_value};
-use ops_base::actions::{Action, Item, Put, Term};
+use ops_base::actions::{Action, Item, Put};
 use ops_base::elements::{Class, Element};
-use ops_base::endings::Ending;
+use ops_base::endings::{ActKind, Ending};
 use ops_base::list::Listed;
-use ops_base::matching::{Binding, bound_value};
+use ops_base::matching::Binding;
 use ops_base::memory::OutOfMemory;
 use ops_base::symbols::Names;
-use ops_base::values::{NIL, Value};
 use ops_io::out::Out;
 use ops_io::outside::Sink;
 use ops_meaning::Doing;
 use std::alloc::Global;
 
-/// What stands still during a firing.
+/// What stands still during a firing, which is counted from 1.
 #[derive(Clone, Copy)]
 pub struct Scene<'s> {
     pub names: &'s Names,
     pub classes: &'s [Class],
+    pub firing: u64,
+    pub rule: usize,
     pub bindings: &'s [Binding],
     pub tags: &'s [u64],
-}
-
-const NOTHING: Value = Value::Symbol(NIL);
-
-fn term_value(bindings: &[Binding], term: &Term) -> Value
-    ensures { result ≡ term_value bindings.now term.now }
-{
-    match term {
-        Term::Constant(value) => *value,
-        Term::Variable(v) => bound_value(bindings, *v).unwrap_or(NOTHING),
-        Term::Compute(_) | Term::One { .. } | Term::Rest { .. } | Term::Fresh | Term::Accept =>
-            NOTHING,
-    }
 }
 
 // ---- write
@@ -149,73 +139,13 @@ fn cells_removed(
     Ok(doing)
 }
 
-// ---- make
-
-fn first_value(bindings: &[Binding], terms: &[Term]) -> Value
-    ensures { result ≡ first_value bindings.now terms.now }
-{
-    match terms.first() {
-        Some(term) => term_value(bindings, term),
-        None => NOTHING,
-    }
-}
-
-/// The fields of a new element of a class with so many attributes.
-fn fields_of(
-    alloc: Global,
-    bindings: &[Binding],
-    count: usize,
-    puts: &[Put],
-) -> Result<Vec<Value>, OutOfMemory>
-    ensures { IfOk result (λ v. v.items ≡ fields_of bindings.now count puts.now) }
-{
-    let mut fields = vec![in alloc; NOTHING; count]?;
-    for put in puts {
-        let value = first_value(bindings, put.terms.as_slice());
-        if put.field < fields.len() {
-            fields[put.field] = value;
-        }
-    }
-    Ok(fields)
-}
-
-/// How many attributes a class has.
-pub fn attribute_count(classes: &[Class], class: usize) -> usize
-    ensures { result ≡ length (class_of classes.now class).attrs }
-{
-    match classes.get(class) {
-        Some(c) => c.attrs.len(),
-        None => 0,
-    }
-}
-
-/// Makes an element, with the next tag. A session is over long before the tags are.
-pub fn made(doing: Doing, class: usize, fields: Vec<Value>) -> Result<Doing, OutOfMemory>
-    ensures { IfOk result (λ d. d ≡ made doing class fields.items) }
-{
-    let Doing { wm, last, halted } = doing;
-    let Some(tag) = last.checked_add(1) else {
-        return Err(OutOfMemory);
-    };
-    let mut wm = wm.into_vec();
-    wm.push(Element {
-        tag,
-        class,
-        fields: Listed::from_vec(fields),
-    })?;
-    Ok(Doing {
-        wm: Listed::from_vec(wm),
-        last: tag,
-        halted,
-    })
-}
-
 // ---- actions
 
-/// Does one action.
+/// Does one action, which is counted from 1.
 fn act_one<K: Sink>(
     alloc: Global,
     scene: &Scene<'_>,
+    number: usize,
     action: &Action,
     doing: Doing,
     out: &mut Out,
@@ -225,11 +155,17 @@ fn act_one<K: Sink>(
     requires faults { K.faults sink.old < 2 ^ 63 }
     ensures { Performs (λ d. d) result (port (K.taken sink.old) (K.faults sink.old) out.old)
         (port (K.taken sink.new) (K.faults sink.new) out.new)
-        (action_done (scene_of scene.now) out.old.column action.now doing) }
+        (action_done (scene_of scene.now) out.old.column number action.now doing) }
 {
     match action {
         Action::Make { class, puts } => match make(alloc, scene, *class, puts.as_slice(), doing) {
-            Ok(next) => Ok(next),
+            Ok(Some(next)) => Ok(next),
+            Ok(None) => Err(Ending::Act {
+                firing: scene.firing,
+                rule: scene.rule,
+                action: number,
+                kind: ActKind::TooManyFields,
+            }),
             Err(_) => Err(Ending::OutOfMemory),
         },
         Action::Remove { cells } => match cells_removed(
@@ -250,19 +186,22 @@ fn act_one<K: Sink>(
     }
 }
 
-/// Makes the element of an action `make`.
+/// Makes the element of an action `make`. `None` is too many fields.
 fn make(
     alloc: Global,
     scene: &Scene<'_>,
     class: usize,
     puts: &[Put],
     doing: Doing,
-) -> Result<Doing, OutOfMemory>
-    ensures { IfOk result (λ d. d ≡ made doing class (fields_of scene.now.bindings.now (length (class_of scene.now.classes.now class).attrs) puts.now)) }
+) -> Result<Option<Doing>, OutOfMemory>
+    ensures { IfOk result (λ found. found ≡ option_map (made doing class) (fields_of scene.now.bindings.now (class_of scene.now.classes.now class) puts.now)) }
 {
-    let count = attribute_count(scene.classes, class);
-    let fields = fields_of(alloc, scene.bindings, count, puts)?;
-    made(doing, class, fields)
+    let none = no_class(alloc);
+    let shape = class_of(scene.classes, class, &none);
+    let Some(fields) = fields_of(alloc, scene.bindings, shape, puts)? else {
+        return Ok(None);
+    };
+    Ok(Some(made(doing, class, fields)?))
 }
 
 fn halted(doing: Doing) -> Doing
@@ -288,11 +227,11 @@ pub fn act<K: Sink>(
     requires faults { K.faults sink.old < 2 ^ 63 }
     ensures { Performs (λ d. d) result (port (K.taken sink.old) (K.faults sink.old) out.old)
         (port (K.taken sink.new) (K.faults sink.new) out.new)
-        (actions_done (scene_of scene.now) out.old.column actions.now doing) }
+        (actions_done (scene_of scene.now) out.old.column 1 actions.now doing) }
 {
     let mut doing = doing;
-    for action in actions {
-        doing = act_one(alloc, scene, action, doing, out, sink)?;
+    for (before, action) in actions.iter().enumerate() {
+        doing = act_one(alloc, scene, before + 1, action, doing, out, sink)?;
     }
     Ok(doing)
 }

@@ -3,6 +3,7 @@ ghost use Rattle.std.specs.Prelude.{◌≡◌, ◌^◌, ◌<◌, IsTrue};
 ghost use Rattle.ops_io.specs.Ports.{port};
 ghost use Rattle.ops_meaning.specs.Running.{session_of};
 ghost use Rattle.ops_meaning.specs.Whole.{status_of, told, answer_to};
+ghost use Rattle.ops_top.specs.Settings.{setting_of};
 ghost use Rattle.ops_top.specs.Told.{Delivers, ended, TellsSession};
 
 use crate::lines::last_line;
@@ -70,10 +71,11 @@ fn tell_session<K: Sink>(
     requires faults { K.faults sink.old < 2 ^ 63 }
     requires column { out.old.column ≡ 0 }
     ensures { TellsSession result (port (K.taken sink.old) (K.faults sink.old) out.old)
-        (port (K.taken sink.new) (K.faults sink.new) out.new) (session_of (record { names = names.now; classes = program.now.classes; rules = program.now.rules }) program.now.commands) }
+        (port (K.taken sink.new) (K.faults sink.new) out.new)
+        (setting_of names.now program.now) (session_of (setting_of names.now program.now) program.now.commands) }
 {
     let ending = ended(run_session(alloc, program, names, out, sink))?;
-    let line = last_line(alloc, out.column(), ending)?;
+    let line = last_line(alloc, names, program.rules.as_slice(), out.column(), ending)?;
     put_bytes(out, sink, &line)?;
     Ok(ending)
 }
@@ -86,7 +88,7 @@ fn answer_program<K: Sink>(
     sink: &mut K,
 ) -> Result<Status, Stop>
     requires faults { K.faults sink.old < 2 ^ 63 }
-    ensures { Delivers result (told (session_of (record { names = names.now; classes = program.now.classes; rules = program.now.rules }) program.now.commands))
+    ensures { Delivers result (told (setting_of names.now program.now) (session_of (setting_of names.now program.now) program.now.commands))
         (K.taken sink.old) (K.faults sink.old) (K.taken sink.new) (K.faults sink.new) }
 {
     let mut out = Out::new(alloc)?;

@@ -1,13 +1,17 @@
 //! What the variables of an instantiation are bound to.
 ghost use Rattle.std.specs.Prelude.{◌≡◌, IfOk, []};
 ghost use Rattle.std.specs.Option.{option_copied};
-ghost use Rattle.ops_meaning.specs.Acting.{element_of, matched_by, bindings_of};
+ghost use Rattle.ops_meaning.specs.Acting.{element_of, matched_by, bindings_of, term_value};
 
+use ops_base::actions::Term;
 use ops_base::conditions::Condition;
 use ops_base::elements::Element;
-use ops_base::matching::{Binding, matched};
+use ops_base::matching::{Binding, bound_value, matched};
 use ops_base::memory::OutOfMemory;
+use ops_base::values::{NIL, Value};
 use std::alloc::Global;
+
+const NOTHING: Value = Value::Symbol(NIL);
 
 fn element_of(wm: &[Element], tag: u64) -> Option<&Element>
     ensures { option_copied result ≡ element_of wm.now tag }
@@ -54,4 +58,16 @@ pub fn bindings_of(
         }
     }
     Ok(bindings)
+}
+
+/// The value of a term under these bindings.
+pub fn term_value(bindings: &[Binding], term: &Term) -> Value
+    ensures { result ≡ term_value bindings.now term.now }
+{
+    match term {
+        Term::Constant(value) => *value,
+        Term::Variable(v) => bound_value(bindings, *v).unwrap_or(NOTHING),
+        Term::Compute(_) | Term::One { .. } | Term::Rest { .. } | Term::Fresh | Term::Accept =>
+            NOTHING,
+    }
 }

@@ -7,12 +7,14 @@ pub mod bindings;
 pub mod choosing;
 pub mod files;
 pub mod lines;
+pub mod making;
 pub mod printing;
 #[cfg(test)]
 mod rows;
 pub mod running;
 pub mod saying;
 pub mod session;
+pub mod symbols;
 #[cfg(test)]
 mod tests;
 pub mod top;

@@ -1,9 +1,10 @@
 //! The recognise-act cycle: one firing, and a run.
-ghost use Rattle.std.specs.Prelude.{◌≡◌, ◌^◌, ◌<◌, ◌-◌, IsTrue, IfOk, false, map};
+ghost use Rattle.std.specs.Prelude.{◌≡◌, ◌^◌, ◌<◌, ◌-◌, ◌++◌, ◌∷◌, [], IsTrue, IfOk, false, map};
 ghost use Rattle.ops_io.specs.Ports.{port};
 ghost use Rattle.ops_meaning.specs.Effects.{Performs, writes};
 ghost use Rattle.ops_meaning.specs.Layout.{line_at};
-ghost use Rattle.ops_meaning.specs.Running.{conditions_of, actions_of, fired_of, acted, firing, next_to_fire, run_on, most_firings};
+ghost use Rattle.ops_meaning.specs.Running.{conditions_of, actions_of, acted, firing, next_to_fire, run_on, most_firings};
+ghost use Rattle.ops_base.specs.Refraction.{still_fired};
 ghost use Rattle.ops_top.specs.Settings.{setting_of};
 
 use crate::acting::{Scene, act};
@@ -51,7 +52,7 @@ pub struct Turned {
     pub next: Option<Inst>,
 }
 
-/// Ends the phase of a firing whose actions left this.
+/// Ends the phase of a firing whose actions left this. `firings` counts it.
 fn settle(
     alloc: Global,
     program: &Program,
@@ -60,17 +61,21 @@ fn settle(
     firings: u64,
     doing: Doing,
 ) -> Result<Turned, OutOfMemory>
-    ensures fired { IfOk result (λ t. t.fired ≡ fired_of program.now.rules inst
-        (record { wm = doing.wm; fired = fired; firings = firings; last = doing.last }) doing) }
+    ensures fired { IfOk result (λ t. t.fired ≡ record {
+      memory = record {
+        wm = doing.wm;
+        fired = still_fired program.now.rules doing.wm (fired ++ inst ∷ []);
+        firings = firings;
+        last = doing.last;
+      };
+      halted = doing.halted;
+    }) }
     ensures next { IfOk result (λ t. t.next ≡ next_to_fire program.now.rules t.fired.memory) }
 {
     let Doing { wm, last, halted } = doing;
     let mut marks = fired.into_vec();
     marks.push(inst)?;
     let (marks, next) = marks_and_next(alloc, program, wm.as_slice(), marks)?;
-    let Some(firings) = firings.checked_add(1) else {
-        return Err(OutOfMemory);
-    };
     Ok(Turned {
         fired: Fired {
             memory: Memory {
@@ -85,12 +90,19 @@ fn settle(
     })
 }
 
+/// An instantiation that fires, with the number of its firing.
+#[derive(Clone, Copy)]
+struct Firing<'i> {
+    number: u64,
+    inst: &'i Inst,
+}
+
 /// Does the right side of an instantiation.
 fn act_for<K: Sink>(
     alloc: Global,
     program: &Program,
     names: &Names,
-    inst: &Inst,
+    firing: Firing<'_>,
     doing: Doing,
     out: &mut Out,
     sink: &mut K,
@@ -99,8 +111,9 @@ fn act_for<K: Sink>(
     requires faults { K.faults sink.old < 2 ^ 63 }
     ensures { Performs (λ d. d) result (port (K.taken sink.old) (K.faults sink.old) out.old)
         (port (K.taken sink.new) (K.faults sink.new) out.new)
-        (acted (setting_of names.now program.now) out.old.column inst.now doing) }
+        (acted (setting_of names.now program.now) out.old.column firing.entry.number firing.entry.inst.now doing) }
 {
+    let Firing { number, inst } = firing;
     let rules = program.rules.as_slice();
     let conditions = conditions_of(rules, inst.rule);
     let tags = inst.tags.as_slice();
@@ -110,6 +123,8 @@ fn act_for<K: Sink>(
             let scene = Scene {
                 names,
                 classes: program.classes.as_slice(),
+                firing: number,
+                rule: inst.rule,
                 bindings: bindings.as_slice(),
                 tags,
             };
@@ -125,7 +140,7 @@ fn act_for<K: Sink>(
     }
 }
 
-/// One firing, which is one phase.
+/// One firing, which is one phase. A session is over long before firings can't be counted.
 fn fire<K: Sink>(
     alloc: Global,
     program: &Program,
@@ -153,7 +168,14 @@ fn fire<K: Sink>(
         last,
         halted: false,
     };
-    match act_for(alloc, program, names, &inst, start, out, sink) {
+    let Some(firings) = firings.checked_add(1) else {
+        return Err(Ending::OutOfMemory);
+    };
+    let firing = Firing {
+        number: firings,
+        inst: &inst,
+    };
+    match act_for(alloc, program, names, firing, start, out, sink) {
         Err(ending) => Err(ending),
         Ok(doing) => match settle(alloc, program, inst, fired, firings, doing) {
             Err(_) => Err(Ending::OutOfMemory),

@@ -3,11 +3,11 @@ ghost use Rattle.std.specs.Prelude.{◌≡◌, ◌^◌, ◌<◌, IsTrue, IfOk};
 ghost use Rattle.ops_io.specs.Ports.{port};
 ghost use Rattle.ops_meaning.specs.Effects.{Performs};
 ghost use Rattle.ops_meaning.specs.Kept.{WellKept, GoesByConflictSets};
-ghost use Rattle.ops_meaning.specs.Running.{first_constant, fixed_fields, made_at_top, command_done, session_of};
+ghost use Rattle.ops_meaning.specs.Running.{made_at_top, command_done, session_of};
 ghost use Rattle.ops_top.specs.Settings.{setting_of};
 
-use crate::acting::attribute_count;
 use crate::choosing::marks_after;
+use crate::making::{class_of, fixed_fields, no_class};
 use crate::running::run;
 use ops_base::commands::{Command, Fixed};
 use ops_base::elements::Element;
@@ -16,36 +16,10 @@ use ops_base::list::Listed;
 use ops_base::memory::OutOfMemory;
 use ops_base::programs::Program;
 use ops_base::symbols::Names;
-use ops_base::values::{NIL, Value};
 use ops_io::out::Out;
 use ops_io::outside::Sink;
 use ops_meaning::Memory;
 use std::alloc::Global;
-
-const NOTHING: Value = Value::Symbol(NIL);
-
-fn first_constant(values: &[Value]) -> Value
-    ensures { result ≡ first_constant values.now }
-{
-    match values.first() {
-        Some(value) => *value,
-        None => NOTHING,
-    }
-}
-
-/// The fields of an element that a command makes.
-fn fixed_fields(alloc: Global, count: usize, puts: &[Fixed]) -> Result<Vec<Value>, OutOfMemory>
-    ensures { IfOk result (λ v. v.items ≡ fixed_fields count puts.now) }
-{
-    let mut fields = vec![in alloc; NOTHING; count]?;
-    for put in puts {
-        let value = first_constant(put.values.as_slice());
-        if put.field < fields.len() {
-            fields[put.field] = value;
-        }
-    }
-    Ok(fields)
-}
 
 /// A top-level `make`, which is one phase. The conflict set is looked at only where an instantiation is marked.
 fn make_at_top(
@@ -63,8 +37,9 @@ fn make_at_top(
         firings,
         last,
     } = memory;
-    let count = attribute_count(program.classes.as_slice(), class);
-    let fields = fixed_fields(alloc, count, puts)?;
+    let none = no_class(alloc);
+    let shape = class_of(program.classes.as_slice(), class, &none);
+    let fields = fixed_fields(alloc, shape, puts)?;
     let Some(tag) = last.checked_add(1) else {
         return Err(OutOfMemory);
     };

@@ -14,4 +14,4 @@ pub returns-in-Err-clause-reads : goal.returns-in-Err-clause-reads
 returns-in-Err-clause-reads c =
     fails_as _ _
     (λ more ws. cell_first c.args.words.now c.in_ok-word.rest.now more c.in_ok-word.word (Cells ∷ ws) (view c.args.self.now) c.in_ok-word.ensures)
-    c.in-Err.refusal (fails_under (λ more ws. after (goes (c.in_ok-word.rest.now ++ more)) c.in_ok-word.word (cell c.in_ok-word.word.kind ws (view c.args.self.now))) (λ ws. Cells ∷ ws) c.in-Err.refusal c.in-Err.ensures.acts)
+    c.in-Err.refusal (fails_under (λ more ws. after (goes (c.in_ok-word.rest.now ++ more)) c.in_ok-word.word (cell c.in_ok-word.word.kind c.in_ok-word.word.name ws (view c.args.self.now))) (λ ws. Cells ∷ ws) c.in-Err.refusal c.in-Err.ensures.acts)

@@ -8,4 +8,4 @@ pub returns-in-Err-clause-reads : goal.returns-in-Err-clause-reads
 returns-in-Err-clause-reads c =
     fails_as _ _
     (λ more ws. c.cells.invariant.0 more ws ∙ cells_first c.cells.rest.now c.in_ok-word.after.now more c.in_ok-word.word ws (view c.cells.self) c.in_ok-word.ensures (sym c.is_right.ensures ∙ c.if-is_right.false))
-    c.in-Err.refusal (fails_under (λ more ws. after (goes (c.in_ok-word.after.now ++ more)) c.in_ok-word.word (cell c.in_ok-word.word.kind ws (view c.cells.self))) (λ ws. Cells ∷ ws) c.in-Err.refusal c.in-Err.ensures.acts)
+    c.in-Err.refusal (fails_under (λ more ws. after (goes (c.in_ok-word.after.now ++ more)) c.in_ok-word.word (cell c.in_ok-word.word.kind c.in_ok-word.word.name ws (view c.cells.self))) (λ ws. Cells ∷ ws) c.in-Err.refusal c.in-Err.ensures.acts)

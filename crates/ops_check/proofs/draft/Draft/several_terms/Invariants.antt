@@ -1,0 +1,12 @@
+use Rattle.std.proofs.Common.{◌≡◌, List, length, ◌∷◌, ◌++◌, ◌≤◌}
+use Rattle.ops_meaning.specs.declared.words.Word.{Word}
+use Rattle.ops_meaning.specs.Grammar.{Wanted, InPut, Several, goes}
+use Rattle.ops_check.specs.Going.{view}
+use Rattle.ops_check.proofs.draft.Draft.several_terms.Given as goal
+
+abbrev pub invariant-terms : goal.invariant-terms
+invariant-terms l =
+    ((more : List Word) (ws : List Wanted) → goes (l.fn.words ++ more) (Several InPut l.fn.field ∷ ws) (view l.fn.self) ≡ goes (l.rest ++ more) (Several InPut l.fn.field ∷ ws) (view l.self)) × (length l.rest ≤ length l.fn.words)
+
+abbrev pub decreases-terms : goal.decreases-terms
+decreases-terms l = length l.rest
