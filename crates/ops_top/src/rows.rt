@@ -3,11 +3,11 @@ ghost use Rattle.std.specs.Prelude.{◌^◌, ◌<◌};
 
 use crate::tests::{one_file, one_word};
 use crate::top::{ops_run, still_run};
-use ops_base::endings::Fault;
+use ops_base::endings::{ActKind, Fault};
 use ops_io::memory::{MemSink, MemSource};
 use ops_io::outside::OpenGate;
 use ops_meaning::Status;
-use std::alloc::Global;
+use std::alloc::{AllocError, Global};
 use std::test::Fail;
 use std::thread::Threads;
 
@@ -152,6 +152,23 @@ fn predicates_and_quoted_atoms(rt: HostRuntime) -> Result<(), Fail> {
     Ok(())
 }
 
+const NOTED: &[u8] = b"; note
+(literalize |big box| n)
+(p |say it| (|big box| ^n <x>) --> (write |a b| <x> (crlf)) (halt))
+(make |big box| ^n 12.)
+(run)
+";
+
+#[test]
+fn comments_and_quoted_names(rt: HostRuntime) -> Result<(), Fail> {
+    let alloc = rt.alloc();
+    let mut sink = MemSink::new(alloc, 1_000, 1_000, Vec::new(alloc))?;
+    assert_eq!(rt; answer(&rt, alloc, NOTED, &mut sink)?, Some(Status::Done));
+    let expected = b"a b 12\nend -- explicit halt\n".as_slice();
+    assert_eq!(rt; sink.written(), expected);
+    Ok(())
+}
+
 const FREE: &[u8] = b"(literalize a n) (literalize stop n)
 (p free (a ^n <x>) - (stop ^n <x>) - (stop ^n > 8) --> (write <x> (crlf)))
 (make a ^n 1) (make a ^n 2) (make stop ^n 2)
@@ -167,6 +184,58 @@ fn negated_conditions(rt: HostRuntime) -> Result<(), Fail> {
         sink.written(),
         b"1\nend -- no production true\n".as_slice()
     );
+    Ok(())
+}
+
+const VECTORS: &[u8] = b"(literalize v n list) (vector-attribute list) (literalize |a b| x)
+(p first { <w> (v ^n 1 ^list <h> { } <h>) } - (v ^list nil nil) --> (write first <h> (crlf)) (remove <w>))
+(p |second one| { (v ^list { <> c } { } nil) <w> } --> (write second (crlf)) (make v ^list a b ^list c) (remove <w>))
+(p third (v ^n nil ^list c) --> (write third (crlf)) (halt))
+(make v ^list x y)
+(make v ^n 1 ^list a b a ^list 5 6 5 7)
+(run)
+";
+
+/// Places of a vector are tested one after another, a field past the end is `nil`, and a later list replaces an earlier one.
+#[test]
+fn vectors_and_element_variables(rt: HostRuntime) -> Result<(), Fail> {
+    let alloc = rt.alloc();
+    let mut sink = MemSink::new(alloc, 1_000, 1_000, Vec::new(alloc))?;
+    assert_eq!(rt; answer(&rt, alloc, VECTORS, &mut sink)?, Some(Status::Done));
+    let expected = b"first 5\nsecond\nthird\nend -- explicit halt\n".as_slice();
+    assert_eq!(rt; sink.written(), expected);
+    Ok(())
+}
+
+/// A text whose right side gives the vector attribute so many values.
+fn vector_of(alloc: Global, values: usize) -> Result<Vec<u8>, AllocError> {
+    let head =
+        b"(literalize v x) (vector-attribute x)\n(p |r s| (v) --> (write on (crlf)) (make v ^x";
+    let mut text = Vec::from_slice(alloc, head)?;
+    for _value in 0..values {
+        text.extend_from_slice(b" 1")?;
+    }
+    text.extend_from_slice(b") (halt))\n(make v)\n(run)\n")?;
+    Ok(text)
+}
+
+#[test]
+fn too_many_fields(rt: HostRuntime) -> Result<(), Fail> {
+    let alloc = rt.alloc();
+    let mut sink = MemSink::new(alloc, 1_000, 1_000, Vec::new(alloc))?;
+    let fits = vector_of(alloc, 126)?;
+    assert_eq!(rt; answer(&rt, alloc, &fits, &mut sink)?, Some(Status::Done));
+    let fault = Status::ActFault {
+        firing: 1,
+        rule: 0,
+        action: 2,
+        kind: ActKind::TooManyFields,
+    };
+    let mut sink = MemSink::new(alloc, 1_000, 1_000, Vec::new(alloc))?;
+    let passes = vector_of(alloc, 127)?;
+    assert_eq!(rt; answer(&rt, alloc, &passes, &mut sink)?, Some(fault));
+    let expected = b"on\nops: firing 1: |r s|: action 2: too many fields\n".as_slice();
+    assert_eq!(rt; sink.written(), expected);
     Ok(())
 }
 
