@@ -4,7 +4,7 @@
 use ops_io::outside::OpenGate;
 use ops_io::real::{StdShelf, StdSink, StdSource};
 use ops_meaning::Status;
-use ops_top::top::{code, ops_run};
+use ops_top::{code, ops_run};
 use std::alloc::{AllocError, AllocGlobal, Global};
 use std::process::ExitCode;
 use std::rt::Env;

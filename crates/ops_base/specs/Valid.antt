@@ -186,7 +186,7 @@ action_is_valid classes k (action.Make class puts) =
     nat_lt class (length classes) && puts_are_valid classes k (class_of classes class) puts
 action_is_valid classes k (action.Modify cell puts) =
     is_cell k cell && puts_are_valid classes k (class_of_cell classes k cell) puts
-action_is_valid classes k (action.Remove cells) = fits cells && list_all (is_cell k) cells
+action_is_valid classes k (action.Remove cells) = nat_lt 0 (length cells) && fits cells && list_all (is_cell k) cells
 action_is_valid classes k (action.Write items) = fits items && list_all (item_is_valid classes k) items
 action_is_valid classes k (action.Bind variable t) = term_is_valid classes k false t
 action_is_valid classes k (action.Cbind cell) = is_some k.made && (cell == length k.cells)
@@ -242,13 +242,13 @@ is_natural n = nat_le 1 n && nat_lt n (2 ^ 63)
 
 abbrev pub command_is_valid : List Class → Command → Bool
 command_is_valid classes (command.Make class puts) = fixed_are_valid classes class puts
-command_is_valid classes (command.Remove tags) = fits tags && list_all is_natural tags
+command_is_valid classes (command.Remove tags) = nat_lt 0 (length tags) && fits tags && list_all is_natural tags
 command_is_valid classes (command.Run None) = true
 command_is_valid classes (command.Run (Some n)) = is_natural n
 command_is_valid classes (command.Wm tags) = fits tags && list_all is_natural tags
 command_is_valid classes (command.Ppwm None) = true
 command_is_valid classes (command.Ppwm (Some p)) = fixed_are_valid classes p.0 p.1
-command_is_valid classes (command.Pm names) = fits names
+command_is_valid classes (command.Pm names) = nat_lt 0 (length names) && fits names
 command_is_valid classes (command.Watch None) = true
 command_is_valid classes (command.Watch (Some n)) = nat_le n 2
 command_is_valid classes (command.Pbreak names) = fits names

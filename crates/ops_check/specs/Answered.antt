@@ -11,9 +11,9 @@ use Rattle.ops_forms.specs.Forms.{IsForm, none_by}
 use Rattle.ops_forms.specs.declared.form.Form.{Form}
 use Rattle.ops_forms.specs.declared.form.FormEnd.{FormEnd}
 use Rattle.ops_forms.specs.declared.form.FormEnd.TheVariants as end
+use Rattle.ops_forms.specs.declared.refusals.Refusal.{Refusal}
+use Rattle.ops_forms.specs.declared.refusals.Refusal.TheVariants as refused
 use Rattle.ops_check.specs.declared.draft.Draft.{Draft}
-use Rattle.ops_check.specs.declared.refusals.Refusal.{Refusal}
-use Rattle.ops_check.specs.declared.refusals.Refusal.TheVariants as refused
 use Rattle.ops_check.specs.declared.faults.ProgramFault.{ProgramFault}
 use Rattle.ops_check.specs.declared.faults.ProgramFault.TheVariants as refusal
 use Rattle.ops_check.specs.declared.faults.TextFault.{TextFault}

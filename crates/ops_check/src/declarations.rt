@@ -1,16 +1,15 @@
 //! Declarations of classes.
 ghost use Rattle.std.specs.Prelude.{◌≡◌, ◌∷◌, ◌++◌};
 ghost use Rattle.ops_meaning.specs.Grammar.{goes, vector_name, vector_declared, VectorName, VectorNames, attribute_declared, ClassDeclared, Attributes};
-ghost use Rattle.ops_check.specs.Going.{view, Goes, Reads, Acts, IsWithin};
+ghost use Rattle.ops_forms.specs.Going.{Goes, Reads, Acts, IsWithin};
+ghost use Rattle.ops_check.specs.Going.{view};
 
 use crate::draft::Draft;
-use crate::kinds::{is_name, is_right};
-use crate::refusals::{Refusal, first_of, refused};
 use ops_base::endings::{Fault, Limit};
+use ops_forms::fields::MOST_FIELDS;
+use ops_forms::kinds::{is_name, is_right};
+use ops_forms::refusals::{Refusal, first_of, refused};
 use ops_meaning::Word;
-
-/// How many fields an element may have behind its class.
-pub const MOST_FIELDS: usize = 126;
 
 impl Draft {
     // NAME NAME* )

@@ -1,36 +1,36 @@
 //! What was read so far of a program, and how it grows.
-ghost use Rattle.std.specs.Prelude.{◌≡◌, ◌+◌, ◌++◌, ◌∷◌, [], ◌==◌, not, count_by, length, position, SomeIff, ◌<◌, ◌^◌, slice_get};
-ghost use Rattle.ops_base.specs.Valid.{cells_of, class_of, is_vector, specificity};
-ghost use Rattle.ops_meaning.specs.Grammar.{nothing_read, is_class, is_rule, is_one_of, is_second, makes_second, may_declare, with_class, with_vector, with_several, with_bound_element, with_test, with_bound, with_choice, with_put, with_fixed, with_constant, with_element, with_action, with_command, with_rule, with_remove, with_write, with_item, number_of, attributes_of, InPattern, InPut, InFixed};
-ghost use Rattle.ops_check.specs.Going.{view, use_of, target_of, Becomes};
+ghost use Rattle.std.specs.Prelude.{◌≡◌, ◌+◌, ◌++◌, ◌∷◌, [], ◌==◌, not, count_by, position, SomeIff, ◌<◌, ◌^◌, slice_get};
+ghost use Rattle.ops_base.specs.Valid.{class_of, is_vector, specificity};
+ghost use Rattle.ops_meaning.specs.Grammar.{nothing_read, is_class, is_rule, is_one_of, is_second, makes_second, may_declare, with_class, with_vector, with_several, with_put, with_fixed, with_constant, with_element, with_action, with_command, with_rule, with_remove, with_write, with_item, attributes_of, InPut, InFixed};
+ghost use Rattle.ops_forms.specs.Going.{Becomes};
+ghost use Rattle.ops_check.specs.Going.{view, use_of, target_of};
 
-use crate::refusals::Refusal;
-use crate::vectors::{arranged, classes_with, has_attribute, has_vector, is_one_of};
 use ops_base::actions::{Action, Item, Put, Term};
 use ops_base::commands::{Command, Fixed};
-use ops_base::conditions::{Condition, Operand, Test};
+use ops_base::conditions::Condition;
 use ops_base::elements::Class;
 use ops_base::list::Listed;
 use ops_base::rules::Rule;
-use ops_base::values::{NIL, Pred, Sym, Value};
-use ops_forms::Declared;
-use ops_meaning::Named;
+use ops_base::values::{NIL, Sym, Value};
+use ops_forms::fields::{count_cells, field_of, is_vector};
+use ops_forms::refusals::Refusal;
+use ops_forms::vectors::{arranged, has_vector, is_one_of};
+use ops_forms::{Classes, Declared, Named};
+use ops_lhs::LeftSide;
 use std::alloc::Global;
 use std::mem;
 
-/// Where attributes with values stand: in a pattern, in an action `make` or in a command `make`.
+/// Where attributes with values stand: in an action `make` or in a command `make`.
 #[derive(Clone, Copy, Debug, PartialEq, Eq)]
 pub enum Place {
-    Pattern,
     Put,
     Fixed,
 }
 
-/// Where a constant goes: into a test, to a scalar attribute of an action or of a command `make`, among the values of their
-/// vector attribute, or to `write`.
+/// Where a constant goes: to a scalar attribute of an action or of a command `make`, among the values of their vector
+/// attribute, or to `write`.
 #[derive(Clone, Copy, Debug, PartialEq, Eq)]
 pub enum Target {
-    Test { field: usize, pred: Pred },
     Put { field: usize },
     Fixed { field: usize },
     Terms,
@@ -41,7 +41,7 @@ pub enum Target {
 /// The classes, rules and commands that were read, and the parts of the form that is being read.
 #[derive(Drop)]
 pub struct Draft {
-    pub classes: Declared<Class>,
+    pub classes: Classes,
     pub rules: Declared<Rule>,
     pub commands: Vec<Command>,
     pub vectors: Declared<Sym>,
@@ -49,8 +49,6 @@ pub struct Draft {
     pub first: usize,
     pub attrs: Vec<Sym>,
     pub class: usize,
-    pub tests: Vec<Test>,
-    pub choice: Vec<Value>,
     pub terms: Vec<Term>,
     pub constants: Vec<Value>,
     pub puts: Vec<Put>,
@@ -59,10 +57,7 @@ pub struct Draft {
     pub items: Vec<Item>,
     pub values: Declared<Named>,
     pub elements: Declared<Named>,
-    pub element: Sym,
     pub variables: usize,
-    pub negated: bool,
-    pub around: usize,
     pub conditions: Vec<Condition>,
     pub actions: Vec<Action>,
     pub alloc: Global,
@@ -73,7 +68,7 @@ impl Draft {
         ensures { view result ≡ nothing_read }
     {
         Draft {
-            classes: Declared::new(alloc),
+            classes: Classes::new(alloc),
             rules: Declared::new(alloc),
             commands: Vec::new(alloc),
             vectors: Declared::new(alloc),
@@ -81,8 +76,6 @@ impl Draft {
             first: 0,
             attrs: Vec::new(alloc),
             class: 0,
-            tests: Vec::new(alloc),
-            choice: Vec::new(alloc),
             terms: Vec::new(alloc),
             constants: Vec::new(alloc),
             puts: Vec::new(alloc),
@@ -91,10 +84,7 @@ impl Draft {
             items: Vec::new(alloc),
             values: Declared::new(alloc),
             elements: Declared::new(alloc),
-            element: NIL,
             variables: 0,
-            negated: false,
-            around: 0,
             conditions: Vec::new(alloc),
             actions: Vec::new(alloc),
             alloc,
@@ -143,10 +133,7 @@ impl Draft {
     pub fn makes_second(&self, name: Sym) -> bool
         ensures { result ≡ makes_second name (view self.now).classes }
     {
-        self.classes
-            .as_slice()
-            .iter()
-            .any(|class| class.vector && has_attribute(class, name))
+        self.classes.makes_second(name)
     }
 
     pub fn class_of(&self, name: Sym) -> Option<usize>
@@ -171,32 +158,12 @@ impl Draft {
         Ok(())
     }
 
-    // A name becomes one of a vector attribute. Looks through all classes.
+    // A name becomes one of a vector attribute.
     pub fn add_vector(&mut self, name: Sym) -> Result<(), Refusal>
         ensures { Becomes (view self.new) (with_vector (view self.old) name) result }
     {
         self.vectors.push(name)?;
-        let none = Declared::new(self.alloc);
-        let classes = mem::replace(&mut self.classes, none);
-        self.classes = classes_with(self.alloc, name, classes)?;
-        Ok(())
-    }
-
-    pub fn add_test(
-        &mut self,
-        field: usize,
-        pred: Pred,
-        operand: Operand,
-        binds: bool,
-    ) -> Result<(), Refusal>
-        ensures { Becomes (view self.new) (with_test (view self.old) field pred operand binds) result }
-    {
-        self.tests.push(Test {
-            field,
-            pred,
-            operand,
-            binds,
-        })?;
+        self.classes.make_vector(name)?;
         Ok(())
     }
 
@@ -248,39 +215,10 @@ impl Draft {
 }
 
 impl Draft {
-    // the number of a variable in sight
-    pub fn number_of(&self, name: Sym) -> Option<usize>
-        ensures { result ≡ number_of name (view self.now).values }
-    {
-        let place = self.values.place_of(name)?;
-        Some(self.values.get(place)?.number)
-    }
-
-    // the cell of an element variable
-    pub fn element_of(&self, name: Sym) -> Option<usize>
-        ensures { result ≡ number_of name (view self.now).elements }
-    {
-        let place = self.elements.place_of(name)?;
-        Some(self.elements.get(place)?.number)
-    }
-
-    // the first place of a variable binds it
-    pub fn add_bound(&mut self, field: usize, name: Sym) -> Result<(), Refusal>
-        ensures { Becomes (view self.new) (with_bound (view self.old) field name) result }
-    {
-        let number = self.variables;
-        self.values.push(Named { name, number })?;
-        self.variables = number.checked_add(1).ok_or(Refusal::OutOfMemory)?;
-        self.add_test(field, Pred::Eq, Operand::Variable(number), true)
-    }
-
     pub fn add_constant(&mut self, target: Target, value: Value) -> Result<(), Refusal>
         ensures { Becomes (view self.new) (with_constant (target_of target) (view self.old) value) result }
     {
         match target {
-            Target::Test { field, pred } => {
-                self.add_test(field, pred, Operand::Constant(value), false)
-            }
             Target::Put { field } => self.add_put(field, Term::Constant(value)),
             Target::Fixed { field } => self.add_fixed(field, value),
             Target::Terms => self.add_term(Term::Constant(value)),
@@ -292,20 +230,12 @@ impl Draft {
         }
     }
 
-    pub fn end_choice(&mut self, field: usize) -> Result<(), Refusal>
-        ensures { Becomes (view self.new) (with_choice (view self.old) field) result }
-    {
-        let none = Vec::new(self.alloc);
-        let values = Listed::from_vec(mem::replace(&mut self.choice, none));
-        self.add_test(field, Pred::Eq, Operand::OneOf(values), false)
-    }
-
     // the field is the vector attribute of the class that was named
     pub fn is_vector(&self, field: usize) -> bool
         ensures { result ≡ is_vector (class_of (view self.now).classes (view self.now).class) field }
     {
         match self.classes.get(self.class) {
-            Some(class) => class.vector && is_last(field, class.attrs.len()),
+            Some(class) => is_vector(class, field),
             None => false,
         }
     }
@@ -314,12 +244,21 @@ impl Draft {
     pub fn field_of(&self, name: Sym) -> Option<usize>
         ensures { result ≡ position (λ a. a.0 == name.0) (attributes_of (slice_get (view self.now).classes (view self.now).class)) }
     {
-        let class = self.classes.get(self.class)?;
-        place_in(class.attrs.as_slice(), name)
+        field_of(self.classes.get(self.class)?, name)
     }
 }
 
 impl Draft {
+    // a left side ends, and leaves this in sight
+    pub fn end_left(&mut self, left: LeftSide)
+        ensures { view self.new ≡ record (view self.old) { conditions = left.conditions.items; values = left.values; elements = left.elements; variables = left.variables } }
+    {
+        self.conditions = left.conditions;
+        self.values = left.values;
+        self.elements = left.elements;
+        self.variables = left.variables;
+    }
+
     // the values of the vector attribute of an action end
     pub fn end_terms(&mut self, field: usize) -> Result<(), Refusal>
         ensures { Becomes (view self.new) (with_several InPut field (view self.old)) result }
@@ -337,35 +276,6 @@ impl Draft {
         let none = Vec::new(self.alloc);
         let values = Listed::from_vec(mem::replace(&mut self.constants, none));
         self.fixed.push(Fixed { field, values })?;
-        Ok(())
-    }
-
-    // the element variable names the cell of the condition that was read last
-    pub fn bind_element(&mut self) -> Result<(), Refusal>
-        ensures { Becomes (view self.new) (with_bound_element (view self.old)) result }
-    {
-        let cells = cells_of(&self.conditions);
-        self.elements.push(Named {
-            name: self.element,
-            number: cells.saturating_sub(1),
-        })?;
-        Ok(())
-    }
-
-    fn end_pattern(&mut self) -> Result<(), Refusal>
-        ensures { Becomes (view self.new) (with_element InPattern (view self.old)) result }
-    {
-        let none = Vec::new(self.alloc);
-        let tests = Listed::from_vec(mem::replace(&mut self.tests, none));
-        self.conditions.push(Condition {
-            class: self.class,
-            negated: self.negated,
-            tests,
-        })?;
-        if self.negated {
-            self.values.truncate(self.around);
-        }
-        self.negated = false;
         Ok(())
     }
 
@@ -391,7 +301,6 @@ impl Draft {
         ensures { Becomes (view self.new) (with_element (use_of place) (view self.old)) result }
     {
         match place {
-            Place::Pattern => self.end_pattern(),
             Place::Put => self.end_put(),
             Place::Fixed => self.end_fixed(),
         }
@@ -420,7 +329,7 @@ impl Draft {
         let Some(specificity) = specificity(&self.conditions) else {
             return Err(Refusal::OutOfMemory);
         };
-        let (variables, cells) = (self.variables, cells_of(&self.conditions));
+        let (variables, cells) = (self.variables, count_cells(&self.conditions));
         let none = Vec::new(self.alloc);
         let conditions = Listed::from_vec(mem::replace(&mut self.conditions, none));
         let none = Vec::new(self.alloc);
@@ -437,29 +346,6 @@ impl Draft {
         })?;
         Ok(())
     }
-}
-
-fn is_last(field: usize, len: usize) -> bool
-    ensures { result ≡ (field + 1 == len) }
-{
-    len > 0 && field == len - 1
-}
-
-fn place_in(attrs: &[Sym], name: Sym) -> Option<usize>
-    ensures { result ≡ position (λ a. a.0 == name.0) attrs.now }
-{
-    attrs.iter().position(|attr| *attr == name)
-}
-
-// one per positive condition
-#[tactic(auto, using(crate::proofs::Cells::cells_counted))]
-fn cells_of(conditions: &[Condition]) -> usize
-    ensures { result ≡ length (cells_of conditions.now) }
-{
-    conditions
-        .iter()
-        .filter(|condition| !condition.negated)
-        .count()
 }
 
 // one per condition, and one per test that does not bind

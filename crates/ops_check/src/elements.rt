@@ -1,12 +1,13 @@
-//! Elements: a class with attributes and values.
+//! The elements of actions and commands: a class with attributes and values.
 ghost use Rattle.std.specs.Prelude.{◌≡◌, ◌∷◌, ◌++◌};
 ghost use Rattle.ops_meaning.specs.Grammar.{goes, behind_attribute, ClassName, Terms, Attribute};
-ghost use Rattle.ops_check.specs.Going.{view, use_of, Goes, GoesToTerms, Reads, IsWithin};
+ghost use Rattle.ops_forms.specs.Going.{Goes, GoesToTerms, Reads, IsWithin};
+ghost use Rattle.ops_check.specs.Going.{view, use_of};
 
 use crate::draft::{Draft, Place, Target};
-use crate::kinds::{is_caret, is_name, is_right};
-use crate::refusals::{Refusal, first_of, refused};
 use ops_base::endings::Fault;
+use ops_forms::kinds::{is_caret, is_name, is_right};
+use ops_forms::refusals::{Refusal, first_of, refused};
 use ops_meaning::Word;
 
 impl Draft {
@@ -61,10 +62,10 @@ impl Draft {
         }
     }
 
-    // ATTR place*, or ATTR value*
+    // ATTR value*
     #[tactic(auto, unfolding(ops_meaning::specs::Grammar::goes, ops_meaning::specs::Grammar::step, ops_meaning::specs::Grammar::ends))]
     fn attribute<'a>(&mut self, place: Place, words: &'a [Word]) -> Result<&'a [Word], Refusal>
-        ensures reads { GoesToTerms place (λ more ws. goes (words.now ++ more) (Attribute (use_of place) ∷ ws) (view self.old)) (view self.new) result }
+        ensures reads { GoesToTerms (use_of place) (λ more ws. goes (words.now ++ more) (Attribute (use_of place) ∷ ws) (view self.old)) (view self.new) result }
         ensures within { IsWithin words.now result }
     {
         let (word, rest) = first_of(words)?;
@@ -82,7 +83,7 @@ impl Draft {
         self.one(place, field, rest)
     }
 
-    // place, or value
+    // value
     fn one<'a>(
         &mut self,
         place: Place,
@@ -93,7 +94,6 @@ impl Draft {
         ensures within { IsWithin words.now result }
     {
         match place {
-            Place::Pattern => self.place(field, words),
             Place::Put => self.value_of(Target::Put { field }, words),
             Place::Fixed => self.value_of(Target::Fixed { field }, words),
         }

@@ -6,10 +6,10 @@ ghost use Rattle.ops_check.specs.Answered.{stop_of, placed, fault_at};
 ghost use Rattle.ops_check.specs.declared.faults.ProgramFault.TheVariants.{OutOfMemory as WantOfMemory};
 ghost use Rattle.ops_check.specs.declared.faults.TextFault.TheVariants.{OutOfMemory as NoMemory};
 
-use crate::refusals::Refusal;
 use ops_base::endings::{Fault, Limit};
 use ops_base::memory::OutOfMemory;
 use ops_forms::FormEnd;
+use ops_forms::refusals::Refusal;
 use ops_tokens::{BAD_BYTE, FRACTION_NUMBER, LexFault, UNCLOSED};
 use thiserror::Error;
 

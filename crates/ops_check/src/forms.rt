@@ -1,13 +1,14 @@
 //! The forms of a program text.
 ghost use Rattle.std.specs.Prelude.{◌≡◌, MatchOption, [], ◌∷◌};
 ghost use Rattle.ops_meaning.specs.Grammar.{Form, Closes, EndsRun};
-ghost use Rattle.ops_check.specs.Going.{view, Reads, ReadsAll, IsWithin};
+ghost use Rattle.ops_forms.specs.Going.{Reads, IsWithin};
+ghost use Rattle.ops_check.specs.Going.{view, ReadsAll};
 
 use crate::draft::{Draft, Place};
-use crate::kinds::is_left;
-use crate::refusals::{Refusal, closing, first_of, refused};
 use ops_base::commands::Command;
 use ops_base::endings::Fault;
+use ops_forms::kinds::is_left;
+use ops_forms::refusals::{Refusal, closing, first_of, refused};
 use ops_meaning::{Keyword, Word};
 
 impl Draft {

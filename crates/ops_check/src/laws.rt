@@ -13,7 +13,7 @@ pub fn grammar_is_read(text: &[u8])
     ensures { IsText (words_of text.now) → IsReadOrInForm (outcome_of (words_of text.now)) }
 {}
 
-/// Each program of the language has a spelling, and its spelling is read as that program.
+/// Each program of the language has a spelling in words, and its spelling is read as that program.
 pub fn spelling_is_read_back()
     ensures { (classes : List Class) (rules : List Rule) (commands : List Command) → is_plain classes rules commands ≡ true
         → AreRead (spelled_program classes rules commands) classes rules commands }

@@ -7,17 +7,14 @@ mod draft;
 mod elements;
 mod faults;
 mod forms;
-mod kinds;
 pub mod laws;
 mod productions;
 mod program;
-mod refusals;
 mod several;
-mod testing;
 #[cfg(test)]
 mod tests;
 mod values;
-mod vectors;
 
 pub use faults::{ProgramFault, fault_text};
+pub use ops_base::endings::{Fault, Limit};
 pub use program::{LONGEST_TEXT, read_program};

@@ -1,17 +1,16 @@
 //! Productions.
-ghost use Rattle.std.specs.Prelude.{◌≡◌, ◌∷◌, ◌++◌, if◌then◌else◌};
-ghost use Rattle.ops_meaning.specs.Grammar.{goes, more_patterns, value_for, is_left, ToItem, RuleName, FirstPattern, Patterns, Pattern, Actions, ActionWord, Items, ItemWord, Closes, EndsHalt, EndsCrlf, Next};
-ghost use Rattle.ops_check.specs.Going.{view, Goes, Reads, Acts, IsWithin};
+ghost use Rattle.std.specs.Prelude.{◌≡◌, ◌∷◌, ◌++◌, if◌then◌else◌, IfOk};
+ghost use Rattle.ops_meaning.specs.Grammar.{goes, left_begun, value_for, is_left, ToItem, RuleName, FirstPattern, Patterns, Actions, ActionWord, Items, ItemWord, Closes, EndsHalt, EndsCrlf, Next};
+ghost use Rattle.ops_forms.specs.Going.{Goes, Reads, Acts, IsWithin};
+ghost use Rattle.ops_check.specs.Going.{view};
 
 use crate::draft::{Draft, Place, Target};
-use crate::kinds::{is_arrow, is_crlf, is_left, is_left_brace, is_minus, is_name, is_right};
-use crate::refusals::{Refusal, closing, first_of, refused};
 use ops_base::actions::{Action, Item};
-use ops_base::endings::{Fault, Limit};
+use ops_base::endings::Fault;
+use ops_forms::kinds::{is_crlf, is_left, is_name, is_right};
+use ops_forms::refusals::{Refusal, closing, first_of, refused};
+use ops_lhs::left_side;
 use ops_meaning::{Keyword, Word};
-
-/// How many conditions a production may have.
-const MOST_CONDITIONS: usize = 64;
 
 impl Draft {
     // NAME first condition* --> action* )
@@ -25,23 +24,17 @@ impl Draft {
         }
     }
 
+    // first condition* --> action* ), where nothing of another left side is left
     fn sides<'a>(&mut self, words: &'a [Word]) -> Result<&'a [Word], Refusal>
+        requires begun { view self.old ≡ left_begun (view self.old) }
         ensures reads { Goes (λ more ws. goes (words.now ++ more) (FirstPattern ∷ Patterns ∷ Actions ∷ ws) (view self.old)) (view self.new) result }
         ensures within { IsWithin words.now result }
     {
-        match self.left_side(words) {
-            Ok(rest) => return self.actions(rest),
-            Err(refusal) => return Err(refusal),
-        }
-    }
-
-    // first pattern* -->
-    fn left_side<'a>(&mut self, words: &'a [Word]) -> Result<&'a [Word], Refusal>
-        ensures reads { Goes (λ more ws. goes (words.now ++ more) (FirstPattern ∷ Patterns ∷ ws) (view self.old)) (view self.new) result }
-        ensures within { IsWithin words.now result }
-    {
-        match self.first_pattern(words) {
-            Ok(rest) => return self.patterns(rest),
+        match left_side(self.alloc, &self.classes, words) {
+            Ok((left, rest)) => {
+                self.end_left(left);
+                return self.actions(rest);
+            }
             Err(refusal) => return Err(refusal),
         }
     }
@@ -49,6 +42,7 @@ impl Draft {
     #[tactic(auto, unfolding(ops_meaning::specs::Grammar::goes, ops_meaning::specs::Grammar::step, ops_meaning::specs::Grammar::ends))]
     fn rule_name<'a>(&mut self, words: &'a [Word]) -> Result<&'a [Word], Refusal>
         ensures reads { Reads RuleName (view self.old) (view self.new) words.now result }
+        ensures begun { IfOk result (λ rest. view self.new ≡ left_begun (view self.new)) }
         ensures within { IsWithin words.now result }
     {
         let (word, rest) = first_of(words)?;
@@ -59,93 +53,15 @@ impl Draft {
             return refused(Fault::DeclaredTwice, word);
         }
         self.name = word.name;
-        self.tests.clear();
+        self.class = 0;
+        self.terms.clear();
+        self.constants.clear();
         self.values.clear();
         self.elements.clear();
         self.variables = 0;
-        self.negated = false;
-        self.around = 0;
         self.conditions.clear();
         self.actions.clear();
         Ok(rest)
-    }
-
-    // positive
-    #[tactic(auto, unfolding(ops_meaning::specs::Grammar::goes, ops_meaning::specs::Grammar::step, ops_meaning::specs::Grammar::ends))]
-    fn first_pattern<'a>(&mut self, words: &'a [Word]) -> Result<&'a [Word], Refusal>
-        ensures reads { Reads FirstPattern (view self.old) (view self.new) words.now result }
-        ensures within { IsWithin words.now result }
-    {
-        let (word, rest) = first_of(words)?;
-        if is_left(word.kind) {
-            return self.element(Place::Pattern, rest);
-        }
-        if is_left_brace(word.kind) {
-            return self.braced(rest);
-        }
-        if is_minus(word.keyword) {
-            return refused(Fault::FirstNegated, word);
-        }
-        refused(Fault::BadForm, word)
-    }
-
-    // condition* -->
-    #[tactic(auto, unfolding(ops_meaning::specs::Grammar::goes, ops_meaning::specs::Grammar::step, ops_meaning::specs::Grammar::ends))]
-    fn patterns<'a>(&mut self, words: &'a [Word]) -> Result<&'a [Word], Refusal>
-        ensures reads { Reads Patterns (view self.old) (view self.new) words.now result }
-        ensures within { IsWithin words.now result }
-    {
-        let mut rest = words;
-        'patterns: loop {
-            let (word, after) = first_of(rest)?;
-            if is_arrow(word.keyword) {
-                return Ok(after);
-            }
-            match self.condition(word, after) {
-                Ok(next) => rest = next,
-                Err(refusal) => return Err(refusal),
-            }
-        }
-    }
-
-    // positive | - pattern, of which the first word is taken, where there is room for one more
-    fn condition<'a>(&mut self, word: Word, rest: &'a [Word]) -> Result<&'a [Word], Refusal>
-        ensures acts { Acts (λ ws s. more_patterns word ws s) word (view self.old) (view self.new) rest.now result }
-        ensures within { IsWithin rest.now result }
-    {
-        if !is_left(word.kind) && !is_left_brace(word.kind) && !is_minus(word.keyword) {
-            return refused(Fault::BadForm, word);
-        }
-        if self.conditions.len() >= MOST_CONDITIONS {
-            return refused(
-                Fault::LimitPassed {
-                    limit: Limit::Conditions,
-                },
-                word,
-            );
-        }
-        if is_left(word.kind) {
-            return self.element(Place::Pattern, rest);
-        }
-        if is_left_brace(word.kind) {
-            return self.braced(rest);
-        }
-        self.negated = true;
-        self.around = self.values.len();
-        self.pattern(rest)
-    }
-
-    // ( CLASS term* )
-    #[tactic(auto, unfolding(ops_meaning::specs::Grammar::goes, ops_meaning::specs::Grammar::step, ops_meaning::specs::Grammar::ends))]
-    pub fn pattern<'a>(&mut self, words: &'a [Word]) -> Result<&'a [Word], Refusal>
-        ensures reads { Reads Pattern (view self.old) (view self.new) words.now result }
-        ensures within { IsWithin words.now result }
-    {
-        let (word, rest) = first_of(words)?;
-        if !is_left(word.kind) {
-            return refused(Fault::BadForm, word);
-        }
-        self.element(Place::Pattern, rest)
     }
 
     // action* )

@@ -6,6 +6,7 @@ ghost use Rattle.ops_meaning.specs.Derivation.{IsText};
 ghost use Rattle.ops_meaning.specs.Reads.{reads};
 ghost use Rattle.ops_meaning.specs.Spelling.{spelled_program};
 ghost use Rattle.ops_meaning.specs.Standing.{words_of, AreRead};
+ghost use Rattle.ops_meaning.specs.Symbols.{is_held, AreNamesOf};
 ghost use Rattle.ops_forms.specs.Forms.{IsForm};
 ghost use Rattle.ops_check.specs.Answered.{IsRefusal, IsStanding, IsAnswer, Comes, Continues, rest_of};
 ghost use Rattle.ops_check.specs.Going.{view};
@@ -30,6 +31,8 @@ pub fn read_program(alloc: Global, text: Vec<u8>) -> Result<(Program, Names), Pr
     ensures fault { IfErr result (λ e. IsRefusal text.items e) }
     ensures stands { IfErr result (λ e. IsStanding text.items e) }
     ensures derived { IfOk result (λ r. IsText (words_of text.items)) }
+    ensures named { IfOk result (λ r. IsTrue (is_held (length r.1.held) r.0.classes r.0.rules r.0.commands)) }
+    ensures names { IfOk result (λ r. AreNamesOf text.items r.1) }
     ensures again { IfOk result (λ r. AreRead (spelled_program r.0.classes r.0.rules r.0.commands) r.0.classes r.0.rules r.0.commands) }
 {
     match read_text(alloc, text.as_slice()) {

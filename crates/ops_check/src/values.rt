@@ -1,13 +1,15 @@
 //! Constants and variables where a value stands.
 ghost use Rattle.std.specs.Prelude.{◌≡◌};
 ghost use Rattle.ops_meaning.specs.Grammar.{goes, number_of, atom_of, bound_at, value_for, Atom, ValueFor};
-ghost use Rattle.ops_check.specs.Going.{view, target_of, Reads, Acts, IsWithin};
+ghost use Rattle.ops_forms.specs.Going.{Reads, Acts, IsWithin};
+ghost use Rattle.ops_check.specs.Going.{view, target_of};
 
 use crate::draft::{Draft, Target};
-use crate::kinds::{atom_of, is_literal, is_variable, value_of};
-use crate::refusals::{Refusal, first_of, refused};
 use ops_base::actions::{Item, Term};
 use ops_base::endings::Fault;
+use ops_forms::kinds::{atom_of, is_literal, is_variable, value_of};
+use ops_forms::number_of;
+use ops_forms::refusals::{Refusal, first_of, refused};
 use ops_meaning::Word;
 
 impl Draft {
@@ -46,7 +48,7 @@ impl Draft {
 
     // atom
     #[tactic(auto, unfolding(ops_meaning::specs::Grammar::goes, ops_meaning::specs::Grammar::step, ops_meaning::specs::Grammar::ends))]
-    pub fn atom<'a>(&mut self, target: Target, words: &'a [Word]) -> Result<&'a [Word], Refusal>
+    fn atom<'a>(&mut self, target: Target, words: &'a [Word]) -> Result<&'a [Word], Refusal>
         ensures reads { Reads (Atom (target_of target)) (view self.old) (view self.new) words.now result }
         ensures within { IsWithin words.now result }
     {
@@ -68,14 +70,14 @@ impl Draft {
         ensures acts { Acts (λ ws s. bound_at (target_of target) (number_of word.name s.values) ws s) word (view self.old) (view self.new) rest.now result }
         ensures within { IsWithin rest.now result }
     {
-        let Some(number) = self.number_of(word.name) else {
+        let Some(number) = number_of(&self.values, word.name) else {
             return refused(Fault::UnboundVariable, word);
         };
         match target {
             Target::Put { field } => self.add_put(field, Term::Variable(number))?,
             Target::Terms => self.add_term(Term::Variable(number))?,
             Target::Item => self.add_item(Item::Print(Term::Variable(number)))?,
-            Target::Fixed { .. } | Target::Constants | Target::Test { .. } => {
+            Target::Fixed { .. } | Target::Constants => {
                 return refused(Fault::UnboundVariable, word);
             }
         }

@@ -1,2 +1,6 @@
+pub mod Cells
 pub mod Firsts
+pub mod Noted
+pub mod Numbered
 pub mod Reading
+pub mod Ways

@@ -1,2 +1,4 @@
 pub mod Firsts
 pub mod Forms
+pub mod Going
+pub mod Noted

@@ -1,8 +1,9 @@
 //! What was declared, found by its name.
-ghost use Rattle.std.specs.Prelude.{◌≡◌, ◌==◌, ◌++◌, ◌∷◌, ℕ, List, [], length, position, slice_get, take, ◌-◌, IfErr, OnErr, OnOk};
+ghost use Rattle.std.specs.Prelude.{◌≡◌, ◌==◌, ◌++◌, ◌∷◌, ℕ, List, [], length, position, slice_get, slice_index_or, slice_set, take, ◌-◌, ◌<◌, IfErr, OnErr, OnOk};
 ghost use Rattle.std.specs.Option.{option_copied};
 ghost use Rattle.std.specs.BTreeMap.{get};
 ghost use Rattle.std.specs.Ordering.{nat_cmp};
+ghost use Rattle.ops_meaning.specs.Grammar.{number_of};
 ghost use Rattle.ops_forms.specs.Firsts.{or_else, without, AreFirsts};
 
 use ops_base::elements::Class;
@@ -158,6 +159,15 @@ impl<T: Titled + Drop> Declared<T> {
         self.list.get(place)
     }
 
+    /// Replaces the item at a place by one of the same name.
+    pub fn set(&mut self, place: usize, item: T)
+        requires within { place < length self.old }
+        requires name { T.title (slice_index_or self.old place item) ≡ T.title item }
+        ensures { self.new ≡ slice_set self.old place item }
+    {
+        self.list[place] = item;
+    }
+
     pub fn len(&self) -> usize
         ensures { result ≡ length self.now }
     {
@@ -175,4 +185,12 @@ impl<T: Titled + Drop> Declared<T> {
     {
         self.list
     }
+}
+
+/// The number of the first of that name.
+pub fn number_of(named: &Declared<Named>, name: Sym) -> Option<usize>
+    ensures { result ≡ number_of name named.now }
+{
+    let place = named.place_of(name)?;
+    Some(named.get(place)?.number)
 }

@@ -2,17 +2,24 @@
 //! read.
 #![tactic(auto)]
 
+pub mod classes;
 pub mod declared;
+pub mod fields;
 pub mod form;
+pub mod kinds;
 pub mod places;
+pub mod refusals;
 pub mod scope;
 #[cfg(test)]
 mod tests;
+pub mod vectors;
 pub mod words;
 
-pub use declared::{Declared, Titled};
+pub use classes::Classes;
+pub use declared::{Declared, Titled, number_of};
 pub use form::{Form, FormEnd, FormFault, FormReader, read_form};
 pub use ops_meaning::Named;
 pub use places::{Place, place_of};
+pub use refusals::{ReadFault, Refusal};
 pub use scope::Scope;
 pub use words::words_of;

@@ -2,8 +2,8 @@
 ghost use Rattle.std.specs.Prelude.{◌≡◌, [], IfOk};
 ghost use Rattle.ops_base.specs.Names.{only_nil};
 
+use crate::classes::Classes;
 use crate::declared::Declared;
-use ops_base::elements::Class;
 use ops_base::list::Listed;
 use ops_base::memory::OutOfMemory;
 use ops_base::symbols::Names;
@@ -16,7 +16,7 @@ use std::alloc::Global;
 pub struct Scope {
     pub text: Vec<u8>,
     pub names: Names,
-    pub classes: Declared<Class>,
+    pub classes: Classes,
     /// The value variables in sight, with their numbers.
     pub values: Declared<Named>,
     /// The element variables in sight, with their cells.
@@ -44,7 +44,7 @@ impl Scope {
         Ok(Scope {
             text,
             names: Names::new(alloc)?,
-            classes: Declared::new(alloc),
+            classes: Classes::new(alloc),
             values: Declared::new(alloc),
             elements: Declared::new(alloc),
             cells: Listed::new(alloc),

@@ -1,10 +1,17 @@
 //! Texts with the forms, words and places that are read of them.
 
+use crate::classes::Classes;
 use crate::declared::Declared;
 use crate::form::{FormEnd, FormFault, read_form};
 use crate::places::{Place, place_of};
 use crate::scope::Scope;
+use crate::vectors::{
+    add_vectors, arranged, has_attribute, has_vector, is_one_of, scalars_of, with_last,
+    with_vector_last,
+};
 use crate::words::words_of;
+use ops_base::elements::Class;
+use ops_base::list::Listed;
 use ops_base::memory::OutOfMemory;
 use ops_base::symbols::Names;
 use ops_base::values::Sym;
@@ -128,6 +135,18 @@ fn first_of_a_name_is_found(rt: HostRuntime) -> Result<(), OutOfMemory> {
 }
 
 #[test]
+fn item_is_replaced_by_one_of_its_name(rt: HostRuntime) -> Result<(), OutOfMemory> {
+    let name = Sym(4);
+    let mut declared = Declared::new(rt.alloc());
+    declared.push(Named { name, number: 0 })?;
+    declared.set(0, Named { name, number: 8 });
+    assert_eq!(rt; declared.get(0).map(|named| named.number), Some(8));
+    assert_eq!(rt; declared.place_of(name), Some(0));
+    assert_eq!(rt; declared.len(), 1);
+    Ok(())
+}
+
+#[test]
 fn new_scope_has_its_text_alone(rt: HostRuntime) -> Result<(), OutOfMemory> {
     let text = Vec::from_slice(rt.alloc(), b"(run)")?;
     let mut scope = Scope::new(rt.alloc(), text)?;
@@ -146,5 +165,103 @@ fn new_scope_has_its_text_alone(rt: HostRuntime) -> Result<(), OutOfMemory> {
         (scope.cells.len(), scope.conditions.len(), scope.variables),
         (0, 0, 0)
     );
+    Ok(())
+}
+
+// a class of this name with these attributes
+fn class(alloc: Global, name: u64, attrs: &[u64], vector: bool) -> Result<Class, OutOfMemory> {
+    let mut all = Vec::new(alloc);
+    for attr in attrs {
+        all.push(Sym(*attr))?;
+    }
+    Ok(Class {
+        name: Sym(name),
+        attrs: Listed::from_vec(all),
+        vector,
+    })
+}
+
+// the classes 1, 2 and 3; the last attribute of 3 is its vector attribute
+fn three_classes(alloc: Global) -> Result<Classes, OutOfMemory> {
+    let mut classes = Classes::new(alloc);
+    classes.push(class(alloc, 1, &[6, 5], false)?)?;
+    classes.push(class(alloc, 2, &[6, 8], false)?)?;
+    classes.push(class(alloc, 3, &[5, 7], true)?)?;
+    Ok(classes)
+}
+
+#[test]
+fn classes_are_found(rt: HostRuntime) -> Result<(), OutOfMemory> {
+    let classes = three_classes(rt.alloc())?;
+    assert_eq!(rt; classes.len(), 3);
+    assert_eq!(rt; classes.place_of(Sym(2)), Some(1));
+    assert_eq!(rt; classes.place_of(Sym(9)), None);
+    assert_eq!(rt; classes.get(2).map(|class| class.name), Some(Sym(3)));
+    for (name, second) in [(5, true), (6, false), (7, true), (9, false)] {
+        assert_eq!(rt; classes.makes_second(Sym(name)), second);
+    }
+    assert_eq!(rt; classes.as_slice().len(), 3);
+    assert_eq!(rt; classes.into_vec().len(), 3);
+    Ok(())
+}
+
+#[test]
+fn vector_attribute_stands_last(rt: HostRuntime) -> Result<(), OutOfMemory> {
+    let mut classes = three_classes(rt.alloc())?;
+    classes.make_vector(Sym(9))?;
+    assert_eq!(rt; classes.makes_second(Sym(8)), false);
+    classes.make_vector(Sym(6))?;
+    let rows = [
+        ([Sym(5), Sym(6)], true),
+        ([Sym(8), Sym(6)], true),
+        ([Sym(5), Sym(7)], true),
+    ];
+    for (class, (attrs, vector)) in classes.as_slice().iter().zip(rows) {
+        assert_eq!(rt; class.attrs.as_slice(), &attrs[..]);
+        assert_eq!(rt; class.vector, vector);
+    }
+    assert_eq!(rt; classes.makes_second(Sym(8)), true);
+    assert_eq!(rt; classes.place_of(Sym(2)), Some(1));
+    Ok(())
+}
+
+#[test]
+fn vector_attributes_are_told_apart(rt: HostRuntime) -> Result<(), OutOfMemory> {
+    let mut vectors = Declared::new(rt.alloc());
+    vectors.push(Sym(6))?;
+    assert_eq!(rt;
+        (is_one_of(Sym(6), &vectors), is_one_of(Sym(5), &vectors)),
+        (true, false)
+    );
+    let attrs = [Sym(6), Sym(5), Sym(8)];
+    assert_eq!(rt;
+        (
+            has_vector(&vectors, &attrs),
+            has_vector(&vectors, &attrs[1..])
+        ),
+        (true, false)
+    );
+    let scalars = scalars_of(rt.alloc(), &vectors, &attrs)?;
+    assert_eq!(rt; scalars.as_slice(), &attrs[1..]);
+    let mut all = Vec::new(rt.alloc());
+    add_vectors(&mut all, &vectors, &attrs)?;
+    assert_eq!(rt; all.as_slice(), &attrs[..1]);
+    let last = [Sym(5), Sym(8), Sym(6)];
+    assert_eq!(rt;
+        arranged(rt.alloc(), &vectors, &attrs)?.as_slice(),
+        &last[..]
+    );
+    let class = class(rt.alloc(), 1, &[6, 5, 8], false)?;
+    assert_eq!(rt;
+        (has_attribute(&class, Sym(8)), has_attribute(&class, Sym(9))),
+        (true, false)
+    );
+    let by_last = with_last(rt.alloc(), Sym(6), &class)?;
+    assert_eq!(rt;
+        (by_last.attrs.as_slice(), by_last.vector),
+        (&last[..], true)
+    );
+    let other = with_vector_last(rt.alloc(), Sym(9), class)?;
+    assert_eq!(rt; (other.attrs.as_slice(), other.vector), (&attrs[..], false));
     Ok(())
 }

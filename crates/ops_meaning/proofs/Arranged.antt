@@ -21,7 +21,7 @@ use Rattle.ops_tokens.specs.declared.token.TokenKind.TheVariants as kind
 use Rattle.ops_meaning.specs.declared.words.Word.{Word}
 use Rattle.ops_meaning.specs.declared.words.Keyword.{Keyword}
 use Rattle.ops_meaning.specs.declared.words.Keyword.TheVariants as keyword
-use Rattle.ops_meaning.specs.Grammar.{Use, InPattern, InPut, InFixed, Target, ToTest, ToPut, ToFixed, ToTerms, ToConstants, ToItem, Ends, EndsRun, EndsHalt, EndsCrlf, Wanted, Forms, Form, ClassDeclared, Attributes, VectorName, VectorNames, RuleName, FirstPattern, Patterns, Pattern, Braced, ElementName, ClosesBrace, ClassName, Terms, Attribute, Several, Place, Tests, Tested, Choice, Atom, ValueFor, Actions, ActionWord, Cell, Cells, Items, ItemWord, Closes, State, Step, Next, Refuses, is_left, is_right, is_left_brace, is_right_brace, is_caret, is_name, is_variable, is_arrow, is_literal, is_minus, opens_choice, closes_choice, pred_of, is_crlf, constant_of, atom_of, value_of, natural_of, is_one_of, number_of, may_declare, is_class, is_rule, form, class_declared, arranged, has_vector, with_class, is_second, attribute_declared, attributes, with_vector, makes_second, vector_declared, vector_name, class_at, attributes_of, behind_attribute, field_at, with_test, with_put, with_item, with_constant, with_bound, variable_tested, constant_tested, tested, predicated, test, place, tests, with_choice, chosen, choice, atom_at, bound_at, constant_at, value_for, with_element, terms, within, one_of_several, with_several, several, rule_name, first_pattern, one_more, more_patterns, patterns, element_at, element_name, braced, with_bound_element, with_rule, actions, action_word, designated, cell_of, cell_named, cell, with_remove, cells, with_write, items, ended, step, nothing_read}
+use Rattle.ops_meaning.specs.Grammar.{Use, InPattern, InPut, InFixed, Target, ToTest, ToPut, ToFixed, ToTerms, ToConstants, ToItem, Ends, EndsRun, EndsHalt, EndsCrlf, Wanted, Forms, Form, ClassDeclared, Attributes, VectorName, VectorNames, RuleName, FirstPattern, Patterns, Pattern, Braced, ElementName, ClosesBrace, ClassName, Terms, Attribute, Several, Place, Tests, Tested, Choice, Atom, ValueFor, Actions, ActionWord, Cell, Cells, Items, ItemWord, Closes, State, Step, Next, Refuses, is_left, is_right, is_left_brace, is_right_brace, is_caret, is_name, is_variable, is_arrow, is_literal, is_minus, opens_choice, closes_choice, pred_of, is_crlf, constant_of, atom_of, value_of, natural_of, is_one_of, number_of, may_declare, is_class, is_rule, form, class_declared, arranged, has_vector, with_class, is_second, attribute_declared, attributes, with_vector, makes_second, vector_declared, vector_name, class_at, attributes_of, behind_attribute, field_at, with_test, with_put, with_item, with_constant, with_bound, variable_tested, constant_tested, tested, predicated, test, place, tests, with_choice, chosen, choice, atom_at, bound_at, constant_at, value_for, with_element, terms, within, one_of_several, with_several, several, left_begun, left_ended, rule_name, first_pattern, one_more, more_patterns, patterns, element_at, element_name, braced, with_bound_element, with_rule, actions, action_word, designated, cell_of, cell_named, cell, with_remove, cells, with_write, items, ended, step, nothing_read}
 use Rattle.ops_meaning.specs.Spelling.{unnamed, attribute_name, last_field}
 use Rattle.ops_meaning.proofs.PlainClasses.{IsArranged, IsAttributes, class_arranged, classes_arranged, attributes_begun, attribute_pushed}
 
@@ -259,7 +259,7 @@ module _ (w : Word) where
   rule_name_stays ws s h =
       cond_both (is_name w.kind) _ _ StayArranged
       (λ _. cond_both (is_rule s w.name) _ _ StayArranged (λ _. tt)
-      (λ _. rests ws (record s { name = w.name; tests = []; values = []; elements = []; variables = 0; negated = false; around = 0; conditions = []; actions = [] }) h)) (λ _. tt)
+      (λ _. rests ws (record (left_begun s) { name = w.name; actions = [] }) h)) (λ _. tt)
 
   first_pattern_stays : (ws : List Wanted) (s : State) → Rests s → StayArranged (first_pattern w ws s)
   first_pattern_stays ws s h =
@@ -278,7 +278,7 @@ module _ (w : Word) where
       (λ _. one_more_stays (Pattern ∷ ws) (record s { negated = true; around = length s.values }) h) (λ _. tt)))
 
   patterns_stay : (ws : List Wanted) (s : State) → Rests s → StayArranged (patterns w ws s)
-  patterns_stay ws s h = cond_both (is_arrow w.keyword) _ _ StayArranged (λ _. rests ws s h) (λ _. more_patterns_stay (Patterns ∷ ws) s h)
+  patterns_stay ws s h = cond_both (is_arrow w.keyword) _ _ StayArranged (λ _. rests ws (left_ended s) h) (λ _. more_patterns_stay (Patterns ∷ ws) s h)
 
   element_at_stays : (o : Option ℕ) (ws : List Wanted) (s : State) → Rests s → StayArranged (element_at o w.name ws s)
   element_at_stays (Some c) ws s h = tt

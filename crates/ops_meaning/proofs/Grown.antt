@@ -254,8 +254,24 @@ module _ (text : ℕ) (classes : List Class) (rules : List Rule) (commands : Lis
 
   -- ---- right sides
 
-  pub body_begun : (v : Variables) (conditions : List Condition) → IsHead text classes rules commands name v conditions [] → 0 < length conditions → IsBody text classes rules commands name v conditions []
-  body_begun v conditions h some = record { head = h; some = h.first some; valid = refl; bound = h.bound; given = h.below; cells = refl }
+  -- a left side ends, where no condition is negated any more
+  head_ended : (v : Variables) (conditions : List Condition) → IsHead text classes rules commands name v conditions [] → IsHead text classes rules commands name (record v { negated = false; around = 0 }) conditions []
+  head_ended v conditions h =
+      record {
+        program = h.program;
+        is_new = h.is_new;
+        few = h.few;
+        valid = h.valid;
+        first = h.first;
+        bound = h.bound;
+        below = h.below;
+        room = λ n. absurd (true≢false (sym n));
+        outside = λ n. absurd (true≢false (sym n));
+        elements = h.elements;
+      }
+
+  pub body_begun : (v : Variables) (conditions : List Condition) → IsHead text classes rules commands name v conditions [] → 0 < length conditions → IsBody text classes rules commands name (record v { negated = false; around = 0 }) conditions []
+  body_begun v conditions h some = record { head = head_ended v conditions h; some = h.first some; valid = refl; bound = h.bound; given = h.below; cells = refl }
 
   pub action_added : (v : Variables) (conditions : List Condition) (xs : List Action) (a : Action) → IsBody text classes rules commands name v conditions xs → action_is_valid classes (known conditions xs) a ≡ true
       → (known_after (known conditions xs) a).bound ≡ (known conditions xs).bound → (known_after (known conditions xs) a).given ≡ (known conditions xs).given → (known_after (known conditions xs) a).cells ≡ (known conditions xs).cells

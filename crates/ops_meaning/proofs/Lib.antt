@@ -24,6 +24,7 @@ pub mod ReadsRules
 pub mod ReadsProgram
 pub mod StandingEnd
 pub mod Reasons
+pub mod Lowest
 pub mod Plain
 pub mod PlainClasses
 pub mod Arranged
@@ -32,3 +33,5 @@ pub mod PlainSteps
 pub mod PlainRead
 pub mod Alike
 pub mod Taken
+pub mod ReadsHeld
+pub mod NamesOf

@@ -13,7 +13,7 @@ use Rattle.ops_base.specs.declared.commands.Command.TheVariants as command
 use Rattle.ops_base.specs.Valid.{most_conditions, are_distinct, class_of, class_is_valid, first_is_positive, cells_of, specificity, fixed_is_valid}
 use Rattle.ops_meaning.specs.declared.words.Word.{Word}
 use Rattle.ops_meaning.specs.declared.words.Keyword.TheVariants as keyword
-use Rattle.ops_meaning.specs.Grammar.{Wanted, Forms, FirstPattern, Patterns, Actions, State, Outcome, is_one_of, step, is_rule, with_rule, ends, goes}
+use Rattle.ops_meaning.specs.Grammar.{Wanted, Forms, FirstPattern, Patterns, Actions, State, Outcome, is_one_of, left_begun, left_ended, step, is_rule, with_rule, ends, goes}
 use Rattle.ops_meaning.specs.Standing.{outcome_of, AreRead}
 use Rattle.ops_meaning.specs.Spelling.{Numbered, opening, closing, arrow, spelled_keyword, spelled_name, spelled_each, spelled_class, attribute_name, last_field, spelled_vector, spelled_action, spelled_condition, spelled_conditions, spelled_rule, spelled_command, spelled_program, action_is_plain, nothing_numbered, after_condition, condition_is_plain, conditions_are_plain, after_conditions, rule_is_plain, vectors_of, scalars_of, class_is_plain, command_is_plain, is_plain}
 use Rattle.ops_meaning.proofs.Lists.{all_weaker}
@@ -28,8 +28,9 @@ pub record Rest : Type 0 where
   pub name : Sym
   pub first : ℕ
   pub vectors : List Sym
+  pub class : ℕ
   pub variables : Numbered
-  pub left : Left
+  pub cells : ℕ
 
 -- where no form is open
 abbrev pub idle : Rest → List Class → List Rule → List Command → State
@@ -42,7 +43,7 @@ idle rest classes rules commands =
       name = rest.name;
       first = rest.first;
       attrs = [];
-      class = rest.left.class;
+      class = rest.class;
       tests = [];
       choice = [];
       terms = [];
@@ -52,11 +53,11 @@ idle rest classes rules commands =
       cells = [];
       items = [];
       values = numbered rest.variables.sight;
-      elements = numbered (below rest.left.cell);
-      element = rest.left.element;
+      elements = numbered (below rest.cells);
+      element = record { 0 = 0 };
       variables = rest.variables.given;
       negated = false;
-      around = rest.left.around;
+      around = 0;
       conditions = [];
       actions = [];
     }
@@ -64,21 +65,27 @@ idle rest classes rules commands =
 -- ---- a production
 
 -- what the conditions of a rule find
-abbrev at_rule : Rest → Left
-at_rule rest = record { class = rest.left.class; around = 0; element = rest.left.element; cell = 0 }
+abbrev at_rule : Left
+at_rule = record { class = 0; around = 0; element = record { 0 = 0 }; cell = 0 }
 
 abbrev after_rule : Rest → Rule → Rest
 after_rule rest r =
-    let l : Left = left_behind (at_rule rest) nothing_numbered r.conditions in
-    record { name = r.name; first = r.first; vectors = rest.vectors; variables = after_conditions nothing_numbered r.conditions; left = record l { class = class_after_all l.class r.actions } }
+    record {
+      name = r.name;
+      first = r.first;
+      vectors = rest.vectors;
+      class = class_after_all 0 r.actions;
+      variables = after_conditions nothing_numbered r.conditions;
+      cells = (left_behind at_rule nothing_numbered r.conditions).cell;
+    }
 
 rule_begun : (r : Rule) (words : List Word) (ws : List Wanted) (s : State) → (length s.commands == 0) ≡ true → is_rule s r.name ≡ false
     → goes (record opening { first = r.first } ∷ spelled_keyword keyword.Production ∷ spelled_name r.name ∷ words) (Forms ∷ ws) s
-    ≡ goes words (FirstPattern ∷ Patterns ∷ Actions ∷ Forms ∷ ws) (record s { first = r.first; name = r.name; tests = []; values = []; elements = []; variables = 0; negated = false; around = 0; conditions = []; actions = [] })
+    ≡ goes words (FirstPattern ∷ Patterns ∷ Actions ∷ Forms ∷ ws) (record (left_begun s) { first = r.first; name = r.name; actions = [] })
 unfolding goes step
 rule_begun r words ws s none new = rw none (rw new refl)
 
-arrow_read : (words : List Word) (ws : List Wanted) (s : State) → goes (arrow ∷ words) (Patterns ∷ ws) s ≡ goes words ws s
+arrow_read : (words : List Word) (ws : List Wanted) (s : State) → goes (arrow ∷ words) (Patterns ∷ ws) s ≡ goes words ws (left_ended s)
 unfolding goes step
 arrow_read words ws s = refl
 
@@ -89,21 +96,20 @@ rule_closed past words ws s = refl
 module _ (classes : List Class) (rules : List Rule) (more : List Word) (ws : List Wanted) (names : AreNamed classes) where
   -- where the rule's parts are wanted
   abbrev begun : Rest → Rule → State
-  begun rest r = record (idle rest classes rules []) { first = r.first; name = r.name; values = []; elements = []; variables = 0; around = 0 }
+  begun rest r = record (left_begun (idle rest classes rules [])) { first = r.first; name = r.name }
 
   left_read : (r : Rule) (rest : Rest) (cs : List Condition) (words : List Word) → first_is_positive cs ≡ true → length cs ≤ most_conditions → conditions_are_plain classes nothing_numbered cs ≡ true
       → goes (spelled_conditions classes 0 cs ++ words) (FirstPattern ∷ Patterns ∷ Actions ∷ Forms ∷ ws) (begun rest r)
-      ≡ goes words (Patterns ∷ Actions ∷ Forms ∷ ws) (matched (begun rest r) (left_behind (at_rule rest) nothing_numbered cs) (after_conditions nothing_numbered cs) cs)
+      ≡ goes words (Patterns ∷ Actions ∷ Forms ∷ ws) (matched (begun rest r) (left_behind at_rule nothing_numbered cs) (after_conditions nothing_numbered cs) cs)
   left_read r rest [] words positive few plain = absurd (true≢false (sym positive))
   left_read r rest (c ∷ cs) words positive few plain =
       let each = and_parts (condition_is_plain classes nothing_numbered c) (conditions_are_plain classes (after_condition nothing_numbered c) cs) plain in
-      let l : Left = at_rule rest in
-      let after : Left = left_after l nothing_numbered c in
+      let after : Left = left_after at_rule nothing_numbered c in
       let others = spelled_conditions classes after.cell cs in
       let wanted : List Wanted = Patterns ∷ Actions ∷ Forms ∷ ws in
       ap (λ (x : List Word). goes x (FirstPattern ∷ wanted) (begun rest r)) (append_assoc (spelled_condition classes 0 c) others words)
-      ∙ first-read c.class c.tests (others ++ words) wanted (begun rest r) l nothing_numbered [] names refl c.negated (not-true _ positive) refl each.0
-      ∙ conditions-read cs words (Actions ∷ Forms ∷ ws) (begun rest r) after (after_condition nothing_numbered c) (c ∷ []) names (after_condition-given nothing_numbered c refl) (cells_behind (c ∷ []) l nothing_numbered [] refl) few each.1
+      ∙ first-read c.class c.tests (others ++ words) wanted (begun rest r) at_rule nothing_numbered [] names refl c.negated (not-true _ positive) refl each.0
+      ∙ conditions-read cs words (Actions ∷ Forms ∷ ws) (begun rest r) after (after_condition nothing_numbered c) (c ∷ []) names (after_condition-given nothing_numbered c refl) (cells_behind (c ∷ []) at_rule nothing_numbered [] refl) few each.1
 
   abbrev whole : Rule → Rest → ℕ → ℕ → ℕ → Outcome
   whole r rest v p c = goes more (Forms ∷ ws) (idle (after_rule rest r) classes (rules ++ record { name = r.name; conditions = r.conditions; actions = r.actions; specificity = p; variables = v; cells = c; first = r.first; past = r.past } ∷ []) [])
@@ -113,7 +119,7 @@ module _ (classes : List Class) (rules : List Rule) (more : List Word) (ws : Lis
       → goes (spelled_rule classes r ++ more) (Forms ∷ ws) (idle rest classes rules []) ≡ goes more (Forms ∷ ws) (idle (after_rule rest r) classes (rules ++ r ∷ []) [])
   rule-read r rest new plain =
       let k = after_conditions nothing_numbered r.conditions in
-      let l : Left = left_behind (at_rule rest) nothing_numbered r.conditions in
+      let l : Left = left_behind at_rule nothing_numbered r.conditions in
       let cells = length (cells_of r.conditions) in
       let p1 = and_parts _ (r.cells == cells) plain in
       let p2 = and_parts _ (r.specificity == specificity r.conditions) p1.0 in
@@ -125,14 +131,14 @@ module _ (classes : List Class) (rules : List Rule) (more : List Word) (ws : Lis
       let right = spelled_each (spelled_action classes) r.actions in
       let end : Word = record closing { past = r.past } in
       let body : State = matched (begun rest r) l k r.conditions in
-      let in_cells = ap (λ (n : ℕ). numbered (below n)) (sym (cells_behind r.conditions (at_rule rest) nothing_numbered [] refl)) in
+      let in_cells = ap (λ (n : ℕ). numbered (below n)) (sym (cells_behind r.conditions at_rule nothing_numbered [] refl)) in
       let head : List Word = record opening { first = r.first } ∷ spelled_keyword keyword.Production ∷ spelled_name r.name ∷ left in
       ap (λ (x : List Word). goes x (Forms ∷ ws) (idle rest classes rules [])) (append_assoc (head ++ arrow ∷ right) (end ∷ []) more ∙ append_assoc head (arrow ∷ right) (end ∷ more))
       ∙ rule_begun r (left ++ (arrow ∷ right ++ (end ∷ more))) ws (idle rest classes rules []) refl new
       ∙ left_read r rest r.conditions (arrow ∷ right ++ (end ∷ more)) p6.0 (leb-true _ _ p6.1) p5.1
       ∙ arrow_read (right ++ (end ∷ more)) (Actions ∷ Forms ∷ ws) body
-      ∙ actions-read r.actions k.sight cells (end ∷ more) (Forms ∷ ws) body l.class [] names refl in_cells p4.1
-      ∙ rule_closed r.past more (Forms ∷ ws) (acted body (class_after_all l.class r.actions) r.actions)
+      ∙ actions-read r.actions k.sight cells (end ∷ more) (Forms ∷ ws) (left_ended body) 0 [] names refl in_cells p4.1
+      ∙ rule_closed r.past more (Forms ∷ ws) (acted (left_ended body) (class_after_all 0 r.actions) r.actions)
       ∙ ap (λ (n : ℕ). whole r rest n (specificity r.conditions) cells) (sym (eqb-true r.variables _ p3.1))
       ∙ ap (λ (n : ℕ). whole r rest r.variables n cells) (sym (eqb-true r.specificity _ p2.1))
       ∙ ap (λ (n : ℕ). whole r rest r.variables r.specificity n) (sym (eqb-true r.cells _ p1.1))
@@ -250,7 +256,7 @@ command_read : (classes : List Class) (rules : List Rule) (c : Command) (done : 
     → Reads (spelled_command classes c) rest classes rules done classes rules (done ++ c ∷ [])
 command_read classes rules (command.Make class puts) done rest names plain =
     let parts = and_parts (nat_lt class (length classes)) (list_all (fixed_is_valid (class_of classes class)) puts) plain in
-    (record rest { first = 0; left = record rest.left { class = class } }, λ more. fact-read class puts more [] (idle rest classes rules done) names (ltb-true _ _ parts.0) parts.1)
+    (record rest { first = 0; class = class }, λ more. fact-read class puts more [] (idle rest classes rules done) names (ltb-true _ _ parts.0) parts.1)
 command_read classes rules (command.Run None) done rest names plain = (record rest { first = 0 }, λ more. run-read more [] (idle rest classes rules done))
 command_read classes rules _ done rest names plain = absurd (true≢false (sym plain))
 
@@ -279,7 +285,7 @@ at_end s = refl
 
 -- before the first form
 abbrev nothing_left : Rest
-nothing_left = record { name = record { 0 = 0 }; first = 0; vectors = []; variables = nothing_numbered; left = record { class = 0; around = 0; element = record { 0 = 0 }; cell = 0 } }
+nothing_left = record { name = record { 0 = 0 }; first = 0; vectors = []; class = 0; variables = nothing_numbered; cells = 0 }
 
 -- Each program that has a spelling is what its spelling is read as.
 pub program-read : (classes : List Class) (rules : List Rule) (commands : List Command) → is_plain classes rules commands ≡ true → AreRead (spelled_program classes rules commands) classes rules commands

@@ -30,8 +30,12 @@ use Rattle.ops_meaning.specs.declared.states.Fired.{Fired}
 use Rattle.ops_meaning.specs.declared.states.Memory.{Memory}
 use Rattle.ops_meaning.specs.Acting.{Scene, has_tag, removed, cell_tag, fields_of, made, make_done, action_done, actions_done}
 use Rattle.ops_meaning.specs.Effects.{Effect, writes, led_by, going_on, and_then}
-use Rattle.ops_meaning.specs.Kept.{WellKept, Finder, next_by, marks_by, fired_by, firing_by, run_by, made_by, command_by, commands_by, FindsConflictSets, GoesByConflictSets}
-use Rattle.ops_meaning.specs.Running.{Setting, nothing_yet, actions_of, scene_at, acted, fired_of, firing, turn, run_on, most_firings, next_to_fire, made_at_top, command_done, commands_done, session_of}
+use Rattle.ops_meaning.specs.Kept.{WellKept, FindsConflictSets, GoesByConflictSets}
+use Rattle.ops_meaning.specs.Running.{Finder, Setting, nothing_yet, actions_of, scene_at, acted, turn, most_firings, next_by, marks_by, fired_by, firing_by, run_by, made_by, command_by, commands_by, fired_of, firing, run_on, next_to_fire, made_at_top, command_done, commands_done, session_of}
+use Rattle.ops_meaning.specs.declared.statuses.Status.TheVariants as status
+use Rattle.ops_meaning.specs.Layout.{usage_line}
+use Rattle.ops_meaning.specs.Reads.{Read, Placed, reads}
+use Rattle.ops_meaning.specs.Whole.{Reply, Find, answer_read, answer_read_by, whole_file, whole_file_by, told, setting_of, text_of, words_fit, first_word, GoesByConflictSetsAlone}
 
 -- ---- lists of tags
 
@@ -261,3 +265,23 @@ module _ (s : Setting) (found : Finder) (finds : FindsConflictSets s.rules found
 -- a session goes by the conflict sets, however they are found
 pub session_goes : (s : Setting) (commands : List Command) → GoesByConflictSets s commands
 session_goes s commands found finds = commands_are s found finds 0 commands nothing_yet nothing_kept
+
+-- ---- the whole
+
+module _ (find : Find) (finds : (rules : List Rule) → FindsConflictSets rules (find rules)) where
+  answer_is : (text : List ℕ) (r : Result Read Placed) → answer_read text r ≡ answer_read_by find text r
+  answer_is text (Err p) = refl
+  answer_is text (Ok p) = ap (told (setting_of p)) (session_goes (setting_of p) p.commands (find p.rules) (finds p.rules))
+
+  file_is : (name : List ℕ) (content : Option (List ℕ)) (broken : Bool) → whole_file name content broken ≡ whole_file_by find name content broken
+  file_is name content true = refl
+  file_is name None false = refl
+  file_is name (Some bytes) false = answer_is (text_of bytes) (reads (text_of bytes))
+
+  words_are : (words : List (List ℕ)) (content : Option (List ℕ)) (broken : Bool) (fit : Bool) → let usage : Reply = record { bytes = usage_line; status = status.Usage } in cond fit (whole_file (first_word words) content broken) usage ≡ cond fit (whole_file_by find (first_word words) content broken) usage
+  words_are words content broken true = file_is (first_word words) content broken
+  words_are words content broken false = refl
+
+-- the whole goes by the conflict sets alone
+pub whole_goes : (words : List (List ℕ)) → GoesByConflictSetsAlone words
+whole_goes words find finds content broken = words_are find finds words content broken (words_fit words)

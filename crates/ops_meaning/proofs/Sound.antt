@@ -218,7 +218,7 @@ pub data IsRead (text : ℕ) (s : State) : List Wanted → Type 0 where
   at_actions : (Body text s) → IsRead text s (Actions ∷ Forms ∷ [])
   at_action_word : (Body text s) → IsRead text s (ActionWord ∷ Actions ∷ Forms ∷ [])
   at_cell : (Body text s × (list_all (is_cell (known s.conditions s.actions)) s.cells ≡ true)) → IsRead text s (Cell ∷ Cells ∷ Actions ∷ Forms ∷ [])
-  at_cells : (Body text s × (list_all (is_cell (known s.conditions s.actions)) s.cells ≡ true)) → IsRead text s (Cells ∷ Actions ∷ Forms ∷ [])
+  at_cells : (Body text s × (list_all (is_cell (known s.conditions s.actions)) s.cells ≡ true) × (0 < length s.cells)) → IsRead text s (Cells ∷ Actions ∷ Forms ∷ [])
   at_items : (Body text s × (list_all (item_is_valid s.classes (known s.conditions s.actions)) s.items ≡ true)) → IsRead text s (Items ∷ Actions ∷ Forms ∷ [])
   at_item_word : (Body text s × (list_all (item_is_valid s.classes (known s.conditions s.actions)) s.items ≡ true)) → IsRead text s (ItemWord ∷ Items ∷ Actions ∷ Forms ∷ [])
   at_crlf : (Body text s × (list_all (item_is_valid s.classes (known s.conditions s.actions)) s.items ≡ true)) → IsRead text s (Closes EndsCrlf ∷ Items ∷ Actions ∷ Forms ∷ [])

@@ -21,6 +21,7 @@ use Rattle.ops_meaning.proofs.Completed.{completed}
 use Rattle.ops_meaning.proofs.Proper.{is_proper, words_proper}
 use Rattle.ops_meaning.proofs.Follows.{Went, derived_goes, refused_in_no_form}
 use Rattle.ops_meaning.proofs.Reasons.{refused-because}
+use Rattle.ops_meaning.proofs.Lowest.{refused-lowest}
 use Rattle.ops_meaning.proofs.Reached.{Reached, goes_behind, derives_before, derives_behind, last_behind, arranged_behind, taken_before, stopped}
 
 -- ---- a word that is refused
@@ -30,14 +31,14 @@ unfolding goes
 refuses w to at f more e = ap (after (goes more) w) e
 
 module _ (before : List Word) (w : Word) (f : Fault) (to : List Wanted) (at : State) where
-  stands_at : Reached to at before (Forms ∷ []) nothing_read → step w to at ≡ Refuses f → list_all is_proper before ≡ true → StandsAt f before w
-  stands_at reached refused proper =
+  stands_at : Reached to at before (Forms ∷ []) nothing_read → step w to at ≡ Refuses f → list_all is_proper before ≡ true → is_proper w ≡ true → StandsAt f before w
+  stands_at reached refused proper own =
       let last : forms_last to ≡ true = last_behind to at before (Forms ∷ []) nothing_read reached arranged_begun refl in
       let arranged : AreArranged to at = arranged_behind to at before (Forms ∷ []) nothing_read reached arranged_begun in
       record {
         taken = taken_before to at before (Forms ∷ []) nothing_read reached;
         refused = λ more. goes_behind to at before (Forms ∷ []) nothing_read reached (w ∷ more) ∙ refuses w to at f more refused;
-        because = (to, at, goes_behind to at before (Forms ∷ []) nothing_read reached, refused-because w to at f refused);
+        because = (to, at, goes_behind to at before (Forms ∷ []) nothing_read reached, refused-because w to at f refused, refused-lowest w to at f own refused);
         goes_on = let c = completed at.vectors to in (c.0, derives_before to at before (Forms ∷ []) nothing_read reached arranged_begun c.0 c.1);
         in_a_form = λ no. let c = refused_in_form w to at arranged f refused no in (c.0, derives_before to at before (Forms ∷ []) nothing_read reached arranged_begun (w ∷ c.0) c.1);
         in_no_form = λ is more d.
@@ -48,14 +49,14 @@ pub stands_at_word : (text : List ℕ) (f : Fault) (w : Word) → outcome_of (wo
 stands_at_word text f w e =
     let stop = stopped (words_of text) (Forms ∷ []) nothing_read f w e in
     let proper : list_all is_proper (stop.before ++ w ∷ stop.behind) ≡ true = subst (λ (x : List Word). list_all is_proper x ≡ true) stop.words_are (words_proper text only_nil (lexed text).tokens) in
+    let parts = and_parts _ _ (sym (list_all-append is_proper stop.before (w ∷ stop.behind)) ∙ proper) in
     record {
       before = stop.before;
       word = w;
       behind = stop.behind;
       words = stop.words_are;
       place = refl;
-      stands = stands_at stop.before w f stop.to stop.at stop.reached stop.refused
-          (and_parts _ _ (sym (list_all-append is_proper stop.before (w ∷ stop.behind)) ∙ proper)).0;
+      stands = stands_at stop.before w f stop.to stop.at stop.reached stop.refused parts.0 (and_parts (is_proper w) (list_all is_proper stop.behind) parts.1).0;
     }
 
 -- ---- the texts that are read

@@ -30,7 +30,7 @@ use Rattle.ops_tokens.specs.declared.token.TokenKind.TheVariants as kind
 use Rattle.ops_meaning.specs.declared.words.Word.{Word}
 use Rattle.ops_meaning.specs.declared.words.Keyword.{Keyword}
 use Rattle.ops_meaning.specs.declared.words.Keyword.TheVariants as keyword
-use Rattle.ops_meaning.specs.Grammar.{Use, InPattern, InPut, InFixed, ToTest, ToPut, ToFixed, ToTerms, ToConstants, ToItem, EndsRun, EndsHalt, EndsCrlf, Wanted, Forms, Attributes, VectorNames, FirstPattern, Patterns, Pattern, ClosesBrace, Terms, Several, Choice, Actions, Cells, Items, State, Step, Next, Refuses, is_left, is_right, is_left_brace, is_right_brace, is_caret, is_name, is_variable, is_arrow, is_crlf, is_literal, is_minus, opens_choice, closes_choice, pred_of, constant_of, value_of, atom_of, natural_of, is_one_of, number_of, may_declare, is_class, is_rule, form, class_declared, with_vector_last, makes_second, vector_declared, vector_name, vector_names, is_second, attribute_declared, attributes, class_at, class_name, attributes_of, behind_attribute, field_at, attribute, with_test, with_bound, with_constant, variable_tested, constant_tested, tested, predicated, test, place, tests, with_choice, chosen, choice, atom_at, bound_at, constant_at, value_for, with_element, terms, within, one_of_several, with_several, several, rule_name, first_pattern, one_more, patterns, pattern, element_at, element_name, braced, closes_brace, actions, action_word, designated, cell_of, cell_named, cell, cells, items, item_word, closes, forms, step}
+use Rattle.ops_meaning.specs.Grammar.{Use, InPattern, InPut, InFixed, ToTest, ToPut, ToFixed, ToTerms, ToConstants, ToItem, EndsRun, EndsHalt, EndsCrlf, Wanted, Forms, Attributes, VectorNames, FirstPattern, Patterns, Pattern, ClosesBrace, Terms, Several, Choice, Actions, Cells, Items, State, Step, Next, Refuses, is_left, is_right, is_left_brace, is_right_brace, is_caret, is_name, is_variable, is_arrow, is_crlf, is_literal, is_minus, opens_choice, closes_choice, pred_of, constant_of, value_of, atom_of, natural_of, is_one_of, number_of, may_declare, is_class, is_rule, form, class_declared, with_vector_last, makes_second, vector_declared, vector_name, vector_names, is_second, attribute_declared, attributes, class_at, class_name, attributes_of, behind_attribute, field_at, attribute, with_test, with_bound, with_constant, variable_tested, constant_tested, tested, predicated, test, place, tests, with_choice, chosen, choice, atom_at, bound_at, constant_at, value_for, with_element, terms, within, one_of_several, with_several, several, left_ended, rule_name, first_pattern, one_more, patterns, pattern, element_at, element_name, braced, closes_brace, actions, action_word, designated, cell_of, cell_named, cell, cells, items, item_word, closes, forms, step}
 use Rattle.ops_meaning.proofs.Lists.{all_push, all_in, not_below}
 use Rattle.ops_meaning.proofs.Parts.{has_cell}
 use Rattle.ops_meaning.proofs.Sound.{IsShortBy, IsShort, IsHead, IsBody, numbers, known, Program, Declaring, IsClass, Head, Body, Around, IsEmpty, IsElement, Braces, Bare, NamedBefore, NamedBehind, AtField, HasMore, AtPlace, AtSeveral, BeforePattern, AfterPattern, behind, behind_place, behind_test, variables_of, seen, IsRead, at_forms, at_form, at_class_declared, at_attributes, at_vector_name, at_vector_names, at_rule_name, at_first_pattern, at_patterns, at_pattern, at_braced, at_element_name, at_closes_brace, at_class_name, at_terms, at_attribute, at_several, at_place, at_tests, at_tested, at_choice, at_test_atom, at_put_value, at_put_atom, at_fixed_value, at_fixed_atom, at_terms_atom, at_constants_atom, at_item_atom, at_actions, at_action_word, at_cell, at_cells, at_items, at_item_word, at_crlf, at_halt, at_run, Leads}
@@ -433,10 +433,10 @@ module _ (text n : ℕ) (w : Word) (fit : text ≤ longest_list) (placed : IsPla
       (λ _. cond_both (is_left_brace w.kind) _ _ (Leads text w.past) (λ _. (omega arith, at_braced before))
       (λ _. cond_both (is_minus w.keyword) _ _ (Leads text w.past) (λ _. tt) (λ _. tt)))
 
-  body_at_arrow : (s : State) → AfterPattern text s → Body text s
+  body_at_arrow : (s : State) → AfterPattern text s → Body text (left_ended s)
   body_at_arrow s h =
       let head = subst (λ (ts : List Test). IsHead text s.classes s.rules s.commands s.name (variables_of s) s.conditions ts) h.1 h.0 in
-      subst (λ (xs : List Action). IsBody text s.classes s.rules s.commands s.name (variables_of s) s.conditions xs) (sym h.2) (body_begun text s.classes s.rules s.commands s.name (variables_of s) s.conditions head h.3)
+      subst (λ (xs : List Action). IsBody text s.classes s.rules s.commands s.name (variables_of (left_ended s)) s.conditions xs) (sym h.2) (body_begun text s.classes s.rules s.commands s.name (variables_of s) s.conditions head h.3)
 
   -- another pattern comes
   more_before : (s : State) → AfterPattern text s → length s.conditions < most_conditions → BeforePattern text s
@@ -519,7 +519,7 @@ module _ (text n : ℕ) (w : Word) (fit : text ≤ longest_list) (placed : IsPla
   designated_leads s short g k (Some c) at =
       cond_both c.negated _ _ (Leads text w.past) (λ _. tt)
       (λ positive. cond_both (list_any (λ d. d.negated) (take k s.conditions)) _ _ (Leads text w.past) (λ _. tt)
-      (λ plain. (omega (arith, length-append {A = ℕ}), at_cells (g.0, cell_added s k c g at positive plain))))
+      (λ plain. (omega (arith, length-append {A = ℕ}), at_cells (g.0, cell_added s k c g at positive plain, omega (arith, length-append s.cells (k ∷ []))))))
 
   cell_of_leads : (s : State) → IsShort n s → HasCells s → (o : Option ℕ) → Leads text w.past (cell_of o (Cells ∷ Actions ∷ Forms ∷ []) s)
   cell_of_leads s short g None = tt
@@ -531,7 +531,11 @@ module _ (text n : ℕ) (w : Word) (fit : text ≤ longest_list) (placed : IsPla
   cell_named_leads s short g (Some c) e =
       let below = all_in (λ k. nat_lt k (length (cells_of s.conditions))) (numbers s.elements) c g.0.head.elements (number_in w.name s.elements c e) in (
         omega (arith, length-append {A = ℕ}),
-        at_cells (g.0, all_push (is_cell (known s.conditions s.actions)) s.cells c g.1 (ap (λ (cs : List ℕ). nat_lt c (length cs)) g.0.cells ∙ below)),
+        at_cells (
+          g.0,
+          all_push (is_cell (known s.conditions s.actions)) s.cells c g.1 (ap (λ (cs : List ℕ). nat_lt c (length cs)) g.0.cells ∙ below),
+          omega (arith, length-append s.cells (c ∷ [])),
+        ),
       )
 
   cell_leads : (s : State) → IsShort n s → (HasCells s) → (k : TokenKind) → Leads text w.past (cell k w.name (Cells ∷ Actions ∷ Forms ∷ []) s)
@@ -539,15 +543,15 @@ module _ (text n : ℕ) (w : Word) (fit : text ≤ longest_list) (placed : IsPla
   cell_leads s short g kind.Variable = cell_named_leads s short g (number_of w.name s.elements) refl
   cell_leads s short g _ = tt
 
-  cells_leads : (s : State) → IsShort n s → (HasCells s) → Leads text w.past (cells w (Actions ∷ Forms ∷ []) s)
+  cells_leads : (s : State) → IsShort n s → Body text s × (list_all (is_cell (known s.conditions s.actions)) s.cells ≡ true) × (0 < length s.cells) → Leads text w.past (cells w (Actions ∷ Forms ∷ []) s)
   cells_leads s short g =
       cond_both (is_right w.kind) _ _ (Leads text w.past)
       (λ _. (
         omega (arith, length-append {A = Action}),
         at_actions (action_added text s.classes s.rules s.commands s.name (variables_of s) s.conditions s.actions (action.Remove s.cells) g.0
-            (and_from _ _ (fits_below s.cells n short.7 place_fits) g.1) refl refl refl),
+            (and_from _ _ (and_from _ _ (lt-ltb _ _ g.2) (fits_below s.cells n short.7 place_fits)) g.1) refl refl refl),
       ))
-      (λ _. cell_leads s short g w.kind)
+      (λ _. cell_leads s short (g.0, g.1) w.kind)
 
   abbrev HasItems : State → Type 0
   HasItems s = Body text s × (list_all (item_is_valid s.classes (known s.conditions s.actions)) s.items ≡ true)

@@ -1,5 +1,5 @@
 -- What a firing does.
-use Rattle.std.specs.Prelude.{ℕ, suc, ◌+◌, ◌-◌, List, [], ◌∷◌, ◌++◌, length, map, fold, take, replicate, Bool, true, ◌==◌, nat_lt, if◌then◌else◌, slice_get, slice_set, unwrap_or, find, Option, Some, None, option_and_then}
+use Rattle.std.specs.Prelude.{ℕ, suc, ◌+◌, ◌-◌, List, [], ◌∷◌, ◌++◌, length, map, fold, take, replicate, Bool, true, ◌==◌, ◌&&◌, nat_lt, if◌then◌else◌, slice_get, slice_set, unwrap_or, find, Option, Some, None, option_and_then}
 use Rattle.std.specs.List.{list_any}
 use Rattle.ops_base.specs.declared.values.Value.{Value}
 use Rattle.ops_base.specs.declared.elements.Class.{Class}
@@ -56,19 +56,24 @@ pub record Scene : Type 0 where
 abbrev pub changed : Doing → Change → Doing
 changed d c = record d { wm = change_done d.wm c }
 
--- the value of a term; the other terms stand in no text yet
+-- the value of a term; those behind the first two stand in no text yet
 abbrev pub term_value : List Binding → Term → Value
 term_value bindings (term.Constant v) = v
 term_value bindings (term.Variable v) = unwrap_or (value_of bindings v) nil
-term_value bindings _ = nil
+term_value bindings (term.Compute expression) = nil
+term_value bindings (term.One cell field) = nil
+term_value bindings (term.Rest cell) = nil
+term_value bindings term.Fresh = nil
+term_value bindings term.Accept = nil
 
 -- ---- write
 
--- the bytes of one item from a column on; the other items stand in no text yet
+-- the bytes of one item from a column on; those behind the first two stand in no text yet
 abbrev pub item_bytes : Scene → ℕ → Item → List ℕ
 item_bytes scene column (item.Print t) = gap column ++ value_text scene.names (term_value scene.bindings t)
 item_bytes scene column item.Crlf = 10 ∷ []
-item_bytes scene column _ = []
+item_bytes scene column (item.TabTo n) = []
+item_bytes scene column (item.RightIn n) = []
 
 abbrev pub items_bytes : Scene → ℕ → List Item → List ℕ
 items_bytes scene column [] = []
@@ -88,9 +93,9 @@ cell_tag tags cell = unwrap_or (slice_get tags cell) 0
 
 -- ---- make
 
-abbrev pub first_value : List Binding → List Term → Value
-first_value bindings [] = nil
-first_value bindings (t ∷ ts) = term_value bindings t
+abbrev pub first_of : List Value → Value
+first_of [] = nil
+first_of (v ∷ vs) = v
 
 -- how many fields of a new element stand before those of its vector attribute
 abbrev pub scalar_count : Class → ℕ
@@ -100,20 +105,20 @@ scalar_count c = if c.vector then length c.attrs - 1 else length c.attrs
 abbrev pub no_fields : Class → List Value
 no_fields c = replicate (scalar_count c) nil
 
--- a value more of the vector attribute, where an element has room for one
-abbrev pub placed : Option (List Value) → Value → Option (List Value)
-placed None v = None
-placed (Some fields) v = if nat_lt (length fields) most_fields then Some (fields ++ v ∷ []) else None
+-- One attribute is given. Of two values for a scalar one the later counts, and the values of the vector attribute take the place of
+-- those that it had.
+abbrev pub with_values : Class → List Value → ℕ → List Value → List Value
+with_values c fields field values = if is_vector c field then take field fields ++ values else slice_set fields field (first_of values)
 
--- the values of the vector attribute take the place of those that it had
-abbrev pub vector_placed : ℕ → List Value → List Value → Option (List Value)
-vector_placed field fields values = fold placed (Some (take field fields)) values
+-- the values of the vector attribute would pass the last field
+abbrev pub are_too_many : Class → ℕ → List Value → Bool
+are_too_many c field values = is_vector c field && nat_lt (most_fields - field) (length values)
 
--- One attribute is given; of two values the later one counts. None is too many fields.
+-- what an action gives, or none where there are too many
 abbrev pub put_done : List Binding → Class → List Value → Put → Option (List Value)
 put_done bindings c fields p =
-    if is_vector c p.field then vector_placed p.field fields (map (term_value bindings) p.terms)
-    else Some (slice_set fields p.field (first_value bindings p.terms))
+    let values = map (term_value bindings) p.terms in
+    if are_too_many c p.field values then None else Some (with_values c fields p.field values)
 
 -- the fields of a new element, or none where there are too many
 abbrev pub fields_of : List Binding → Class → List Put → Option (List Value)
@@ -132,14 +137,16 @@ abbrev pub make_done : Scene → ℕ → ℕ → Option (List Value) → Doing �
 make_done scene n class (Some fields) d = writes [] (made d class fields)
 make_done scene n class None d = ends_with (ending.Act scene.firing scene.rule n act_fault.TooManyFields)
 
--- what the action with this number does from a column on; the other actions stand in no text yet
+-- what the action with this number does from a column on; those behind `halt` stand in no text yet
 abbrev pub action_done : Scene → ℕ → ℕ → Action → Doing → Effect Doing
 action_done scene column n (action.Make class puts) d =
     make_done scene n class (fields_of scene.bindings (class_of scene.classes class) puts) d
 action_done scene column n (action.Remove cells) d = writes [] (fold (λ d c. removed d (cell_tag scene.tags c)) d cells)
 action_done scene column n (action.Write items) d = writes (items_bytes scene column items) d
 action_done scene column n action.Halt d = writes [] (record d { halted = true })
-action_done scene column n _ d = writes [] d
+action_done scene column n (action.Modify cell puts) d = writes [] d
+action_done scene column n (action.Bind variable t) d = writes [] d
+action_done scene column n (action.Cbind cell) d = writes [] d
 
 -- the actions in order, the first of which has this number
 abbrev pub actions_done : Scene → ℕ → ℕ → List Action → Doing → Effect Doing

@@ -530,11 +530,33 @@ several u f w ws s =
 
 -- ---- productions
 
+-- a left side begins, and nothing is in sight
+abbrev pub left_begun : State → State
+left_begun s =
+    record s {
+      class = 0;
+      tests = [];
+      choice = [];
+      terms = [];
+      constants = [];
+      values = [];
+      elements = [];
+      element = record { 0 = 0 };
+      variables = 0;
+      negated = false;
+      around = 0;
+      conditions = [];
+    }
+
+-- a left side ends: its conditions, and the variables that they bind, are all that it leaves
+abbrev pub left_ended : State → State
+left_ended s =
+    record s { class = 0; tests = []; choice = []; terms = []; constants = []; element = record { 0 = 0 }; negated = false; around = 0 }
+
 abbrev pub rule_name : Word → List Wanted → State → Step
 rule_name w ws s =
     if is_name w.kind
-    then (if is_rule s w.name then Refuses fault.DeclaredTwice
-    else Next ws (record s { name = w.name; tests = []; values = []; elements = []; variables = 0; negated = false; around = 0; conditions = []; actions = [] }))
+    then (if is_rule s w.name then Refuses fault.DeclaredTwice else Next ws (record (left_begun s) { name = w.name; actions = [] }))
     else Refuses fault.BadForm
 
 -- the first condition is positive
@@ -558,7 +580,7 @@ more_patterns w ws s =
     else Refuses fault.BadForm
 
 abbrev pub patterns : Word → List Wanted → State → Step
-patterns w ws s = if is_arrow w.keyword then Next ws s else more_patterns w (Patterns ∷ ws) s
+patterns w ws s = if is_arrow w.keyword then Next ws (left_ended s) else more_patterns w (Patterns ∷ ws) s
 
 abbrev pub pattern : Word → List Wanted → State → Step
 pattern w ws s = if is_left w.kind then Next (ClassName ∷ Terms InPattern ∷ ws) s else Refuses fault.BadForm

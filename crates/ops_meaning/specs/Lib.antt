@@ -5,6 +5,7 @@ pub mod Derivation
 pub mod Reads
 pub mod Reasons
 pub mod Standing
+pub mod Symbols
 pub mod Spelling
 pub mod Effects
 pub mod Layout

@@ -15,6 +15,28 @@ use Rattle.ops_meaning.specs.declared.words.Keyword.TheVariants as keyword
 use Rattle.ops_meaning.specs.Grammar.{InPattern, InPut, InFixed, ToTest, ToFixed, ToConstants, Wanted, Forms, Form, ClassDeclared, Attributes, VectorName, VectorNames, RuleName, FirstPattern, Patterns, Braced, ElementName, ClassName, Attribute, Several, Tested, ValueFor, Cell, Cells, Items, State, is_name, is_variable, is_minus, natural_of, is_one_of, number_of, may_declare, is_class, is_rule, is_second, makes_second, attributes_of}
 use Rattle.ops_meaning.specs.Derivation.{is_designator}
 
+-- the numbers of the faults, by which one of several at a word is chosen
+abbrev pub fault_number : Fault → ℕ
+fault_number fault.BadByte = 1
+fault_number fault.Unclosed = 2
+fault_number fault.Stray = 3
+fault_number fault.FractionNumber = 4
+fault_number fault.NumberRange = 5
+fault_number fault.UnknownCommand = 6
+fault_number fault.BadForm = 7
+fault_number fault.UnknownClass = 8
+fault_number fault.UnknownAttribute = 9
+fault_number fault.DeclaredTwice = 10
+fault_number fault.TwoVectors = 11
+fault_number fault.LateDeclaration = 12
+fault_number fault.LateProduction = 13
+fault_number fault.FirstNegated = 14
+fault_number fault.UnboundVariable = 15
+fault_number fault.BadDesignator = 16
+fault_number fault.AmbiguousDesignator = 17
+fault_number (fault.LimitPassed l) = 18
+fault_number fault.TooLong = 19
+
 -- the fault of a word that continues no form
 abbrev pub no_form_fault : List Wanted → Fault
 no_form_fault [] = fault.Stray

@@ -1,5 +1,5 @@
 -- How a fault stands in a text.
-use Rattle.std.specs.Prelude.{◌≡◌, ℕ, ◌<◌, ◌⊎◌, List, [], ◌∷◌, ◌++◌, length, true, false, Some, None, Ok, Err}
+use Rattle.std.specs.Prelude.{◌≡◌, ℕ, ◌<◌, ◌≤◌, ◌⊎◌, List, [], ◌∷◌, ◌++◌, length, true, false, Some, None, Ok, Err}
 use Rattle.ops_base.specs.declared.endings.Fault.{Fault}
 use Rattle.ops_base.specs.declared.endings.Fault.TheVariants as fault
 use Rattle.ops_base.specs.declared.elements.Class.{Class}
@@ -13,7 +13,7 @@ use Rattle.ops_meaning.specs.Words.{lexed, words_from}
 use Rattle.ops_meaning.specs.Grammar.{Wanted, Forms, State, Outcome, goes, nothing_read}
 use Rattle.ops_meaning.specs.Derivation.{IsText, is_no_form}
 use Rattle.ops_meaning.specs.Reads.{Placed, cut_off, between_forms}
-use Rattle.ops_meaning.specs.Reasons.{Because}
+use Rattle.ops_meaning.specs.Reasons.{fault_number, Because}
 
 abbrev pub words_of : List ℕ → List Word
 words_of text = words_from text only_nil (lexed text).tokens
@@ -32,13 +32,17 @@ IsTaken (Err (f, Some w)) = ⊥
 abbrev pub LeadTo : List Word → List Wanted → State → Type 0
 LeadTo words ws s = (more : List Word) → outcome_of (words ++ more) ≡ goes more ws s
 
+-- no fault with a lower number has its reason here, but those of a word that continues no form
+abbrev pub IsLowest : Fault → Word → List Wanted → State → Type 0
+IsLowest f w ws s = (g : Fault) → is_no_form g ≡ false → Because g w ws s → fault_number f ≤ fault_number g
+
 -- The fault stands at this word behind those: they are taken, and the word is refused with it whatever stands behind it,
--- for the reason that the fault names. Those before it go on to a text of the grammar. With the word they do so too, but
+-- for the reason that the fault names, and it is the lowest that has its reason there. Those before it go on to a text of the grammar. With the word they do so too, but
 -- where the fault says that it continues no form; there they don't.
 pub record StandsAt (f : Fault) (before : List Word) (w : Word) : Type 0 where
   pub taken : IsTaken (outcome_of before)
   pub refused : (more : List Word) → outcome_of (before ++ w ∷ more) ≡ Err (f, Some w)
-  pub because : (ws : List Wanted) × (s : State) × LeadTo before ws s × Because f w ws s
+  pub because : (ws : List Wanted) × (s : State) × LeadTo before ws s × Because f w ws s × IsLowest f w ws s
   pub goes_on : (more : List Word) × IsText (before ++ more)
   pub in_a_form : is_no_form f ≡ false → (more : List Word) × IsText (before ++ w ∷ more)
   pub in_no_form : is_no_form f ≡ true → (more : List Word) → ¬ IsText (before ++ w ∷ more)

@@ -1,5 +1,7 @@
 -- What the program answers to its words and files.
 use Rattle.std.specs.Prelude.{◌≡◌, ℕ, List, [], ◌∷◌, ◌++◌, length, map, Bool, true, false, not, ◌==◌, ◌||◌, if◌then◌else◌, Option, Some, None, Result, Ok, Err, String, string_bytes, slice_index, codes, decimal}
+use Rattle.ops_base.specs.declared.rules.Rule.{Rule}
+use Rattle.ops_base.specs.ConflictSet.{conflict_set}
 use Rattle.ops_base.specs.declared.endings.Ending.{Ending}
 use Rattle.ops_base.specs.declared.endings.Ending.TheVariants as ending
 use Rattle.ops_base.specs.declared.endings.Fault.{Fault}
@@ -15,10 +17,11 @@ use Rattle.ops_meaning.specs.Effects.{Effect}
 use Rattle.ops_meaning.specs.Layout.{usage_line, unread_line, last_line}
 use Rattle.ops_meaning.specs.Places.{line_of, column_of}
 use Rattle.ops_meaning.specs.Reads.{Read, Placed, reads}
-use Rattle.ops_meaning.specs.Running.{Setting, session_of, ending_of}
+use Rattle.ops_meaning.specs.Running.{Finder, Setting, session_by, ending_of}
+use Rattle.ops_meaning.specs.Kept.{FindsConflictSets}
 
 -- the bytes that are written, and the status
-pub record Outcome : Type 0 where
+pub record Reply : Type 0 where
   pub bytes : List ℕ
   pub status : Status
 
@@ -76,11 +79,11 @@ fault_text fault.TooLong = codes "text too long"
 abbrev pub fault_line : Fault → ℕ → ℕ → List ℕ
 fault_line f line column = codes "ops: " ++ decimal line ++ codes ":" ++ decimal column ++ codes ": " ++ fault_text f ++ 10 ∷ []
 
-abbrev pub refused_at : Fault → ℕ → ℕ → Outcome
+abbrev pub refused_at : Fault → ℕ → ℕ → Reply
 refused_at f line column = record { bytes = fault_line f line column; status = status.Refused f line column }
 
 -- a text is refused at the line and column of its fault
-abbrev pub refused : List ℕ → Placed → Outcome
+abbrev pub refused : List ℕ → Placed → Reply
 refused text p = refused_at p.fault (line_of text p.at) (column_of text p.at)
 
 abbrev pub status_of : Ending → Status
@@ -92,7 +95,7 @@ status_of ending.WriteFault = status.WriteFault
 status_of ending.OutOfMemory = status.OutOfMemory
 
 -- the bytes of a session, and the last line of its ending
-abbrev pub told : Setting → Effect Memory → Outcome
+abbrev pub told : Setting → Effect Memory → Reply
 told s e =
     record {
       bytes = e.bytes ++ last_line s.names s.rules (column_after 0 e.bytes) (ending_of e.outcome);
@@ -102,40 +105,67 @@ told s e =
 abbrev pub setting_of : Read → Setting
 setting_of p = record { names = p.names; classes = p.classes; rules = p.rules }
 
-abbrev pub answer_read : List ℕ → Result Read Placed → Outcome
-answer_read text (Err p) = refused text p
-answer_read text (Ok p) = told (setting_of p) (session_of (setting_of p) p.commands)
+-- What finds the instantiations, for any rules.
+abbrev pub Find : Type 0
+Find = List Rule → Finder
 
-abbrev pub answer_to : List ℕ → Outcome
-answer_to text = answer_read text (reads text)
+abbrev pub answer_read_by : Find → List ℕ → Result Read Placed → Reply
+answer_read_by find text (Err p) = refused text p
+answer_read_by find text (Ok p) = told (setting_of p) (session_by (find p.rules) (setting_of p) p.commands)
+
+abbrev pub answer_to_by : Find → List ℕ → Reply
+answer_to_by find text = answer_read_by find text (reads text)
 
 -- ---- the whole
 
 -- A file is answered as its text. One that does not fit is a text that is too long.
-abbrev pub answer_file : List ℕ → Outcome
-answer_file bytes = answer_to (text_of bytes)
+abbrev pub answer_file_by : Find → List ℕ → Reply
+answer_file_by find bytes = answer_to_by find (text_of bytes)
 
-abbrev pub unread : List ℕ → Outcome
+abbrev pub unread : List ℕ → Reply
 unread name = record { bytes = unread_line name; status = status.ReadFault }
 
 -- `broken` tells whether the load failed, and the content is none where there is no such file
-abbrev pub whole_file : List ℕ → Option (List ℕ) → Bool → Outcome
-whole_file name content true = unread name
-whole_file name None false = unread name
-whole_file name (Some bytes) false = answer_file bytes
+abbrev pub whole_file_by : Find → List ℕ → Option (List ℕ) → Bool → Reply
+whole_file_by find name content true = unread name
+whole_file_by find name None false = unread name
+whole_file_by find name (Some bytes) false = answer_file_by find bytes
 
-abbrev pub whole : List (List ℕ) → Option (List ℕ) → Bool → Outcome
-whole words content broken =
-    if words_fit words then whole_file (first_word words) content broken else record { bytes = usage_line; status = status.Usage }
+abbrev pub whole_by : Find → List (List ℕ) → Option (List ℕ) → Bool → Reply
+whole_by find words content broken =
+    if words_fit words then whole_file_by find (first_word words) content broken else record { bytes = usage_line; status = status.Usage }
+
+-- ---- the same, by the conflict sets
+
+abbrev pub answer_read : List ℕ → Result Read Placed → Reply
+answer_read text r = answer_read_by conflict_set text r
+
+abbrev pub answer_to : List ℕ → Reply
+answer_to text = answer_to_by conflict_set text
+
+abbrev pub answer_file : List ℕ → Reply
+answer_file bytes = answer_file_by conflict_set bytes
+
+abbrev pub whole_file : List ℕ → Option (List ℕ) → Bool → Reply
+whole_file name content broken = whole_file_by conflict_set name content broken
+
+abbrev pub whole : List (List ℕ) → Option (List ℕ) → Bool → Reply
+whole words content broken = whole_by conflict_set words content broken
+
+-- The whole is the same whatever finds the instantiations, where it finds the conflict set of each working memory: all instantiations
+-- of the rules, each once.
+abbrev pub GoesByConflictSetsAlone : List (List ℕ) → Type 0
+GoesByConflictSetsAlone words =
+    (find : Find) → ((rules : List Rule) → FindsConflictSets rules (find rules)) → (content : Option (List ℕ)) (broken : Bool) → whole words content broken ≡ whole_by find words content broken
 
 -- ---- what a call leaves
 
 -- All bytes went out, with their status; or the output refused or memory ran out, and a prefix of them went out.
-abbrev pub Answers : Status → Outcome → Option (List ℕ) → Option (List ℕ) → Type 0
+abbrev pub Answers : Status → Reply → Option (List ℕ) → Option (List ℕ) → Type 0
 Answers status.OutOfMemory o old new = GrewByPrefix old new o.bytes
 Answers status.WriteFault o old new = GrewByPrefix old new o.bytes
 Answers s o old new = (s ≡ o.status) × GrewBy old new o.bytes
 
 -- the words as bytes
-abbrev pub words_of : {A : Type 0} → List (String A) → List (List ℕ)
-words_of words = map string_bytes words
+abbrev pub word_bytes : {A : Type 0} → List (String A) → List (List ℕ)
+word_bytes words = map string_bytes words

@@ -11,7 +11,7 @@ use Rattle.ops_meaning.specs.declared.statuses.Status.{Status}
 use Rattle.ops_meaning.specs.declared.statuses.Status.TheVariants as status
 use Rattle.ops_meaning.specs.Reads.{Read, Placed, reads}
 use Rattle.ops_meaning.specs.Running.{session_of, ending_of}
-use Rattle.ops_meaning.specs.Whole.{Outcome, Answers, status_of, answer_read, answer_file, text_of, setting_of, unread, whole_file, whole, words_fit, first_word}
+use Rattle.ops_meaning.specs.Whole.{Reply, Answers, status_of, answer_read, answer_file, text_of, setting_of, unread, whole_file, whole, words_fit, first_word}
 use Rattle.ops_top.specs.Calls.{OfContent, TellsFailedWrite, TellsWords, usage, runs_through, file_runs_through, text_runs_through}
 use Rattle.ops_top.specs.Told.{Delivers, status_after}
 use Rattle.ops_top.proofs.Endings.{IsOfText, answer_file_of_text}
@@ -27,7 +27,7 @@ of_some (Some content) P Q f p = f content p
 grew_prefix : (old new : Option (List ℕ)) (bytes : List ℕ) → GrewBy old new bytes → GrewByPrefix old new bytes
 grew_prefix old new bytes e = (bytes, [], sym (append-nil bytes), e)
 
-all_answers : (s : Status) (o : Outcome) (old new : Option (List ℕ)) → s ≡ o.status → GrewBy old new o.bytes → Answers s o old new
+all_answers : (s : Status) (o : Reply) (old new : Option (List ℕ)) → s ≡ o.status → GrewBy old new o.bytes → Answers s o old new
 all_answers status.Done o old new is e = (is, e)
 all_answers (status.Refused f line column) o old new is e = (is, e)
 all_answers status.Usage o old new is e = (is, e)
@@ -38,7 +38,7 @@ all_answers status.WriteFault o old new is e = grew_prefix old new o.bytes e
 all_answers status.OutOfMemory o old new is e = grew_prefix old new o.bytes e
 
 -- an outcome that is delivered is answered
-pub delivered_answers : (r : Result Status Stop) (o : Outcome) (k n : Option (List ℕ)) (b a : ℕ) → Delivers r o k b n a → Answers (status_after r) o k n
+pub delivered_answers : (r : Result Status Stop) (o : Reply) (k n : Option (List ℕ)) (b a : ℕ) → Delivers r o k b n a → Answers (status_after r) o k n
 delivered_answers (Ok s) o k n b a d = all_answers s o k n d.0 d.1
 delivered_answers (Err stop.Write) o k n b a d = d.0
 delivered_answers (Err stop.OutOfMemory) o k n b a d = d.0
@@ -88,7 +88,7 @@ plain_tells status.ReadFault before now p h = h
 plain_tells status.WriteFault before now p h = absurd p
 plain_tells status.OutOfMemory before now p h = h
 
-tells_write : (r : Result Status Stop) (o : Outcome) (k n : Option (List ℕ)) (b a : ℕ) → IsPlain o.status → Delivers r o k b n a → TellsFailedWrite (status_after r) b a
+tells_write : (r : Result Status Stop) (o : Reply) (k n : Option (List ℕ)) (b a : ℕ) → IsPlain o.status → Delivers r o k b n a → TellsFailedWrite (status_after r) b a
 tells_write (Ok s) o k n b a p d = plain_tells s b a (subst IsPlain (sym d.0) p) d.2
 tells_write (Err stop.Write) o k n b a p d = d.1
 tells_write (Err stop.OutOfMemory) o k n b a p d = d.1
@@ -115,7 +115,7 @@ whole_tells_words ws content broken = by (words_fit ws)
     by true = file_fits (first_word ws) content broken
     by false = refl
 
-tells_words : (r : Result Status Stop) (o : Outcome) (fit : Bool) (k n : Option (List ℕ)) (b a : ℕ) → TellsWords o.status fit → Delivers r o k b n a → TellsWords (status_after r) fit
+tells_words : (r : Result Status Stop) (o : Reply) (fit : Bool) (k n : Option (List ℕ)) (b a : ℕ) → TellsWords o.status fit → Delivers r o k b n a → TellsWords (status_after r) fit
 tells_words (Ok s) o fit k n b a p d = let P : Status → Type 0 = λ s. TellsWords s fit in subst P (sym d.0) p
 tells_words (Err stop.Write) o fit k n b a p d = tt
 tells_words (Err stop.OutOfMemory) o fit k n b a p d = tt
@@ -141,9 +141,9 @@ whole_fits_words r ws told broken k n b a d =
 -- words that don't fit are answered with the usage line
 pub unfit_answers : (r : Result Status Stop) (ws : List (List ℕ)) (told : Option (Option (List ℕ))) (broken : Bool) (k n : Option (List ℕ)) (b a : ℕ) → DeliversWhole r ws told broken k b n a → words_fit ws ≡ false → Answers (status_after r) usage k n
 unfit_answers r ws told broken k n b a d unfit =
-    let P : Outcome → Type 0 = λ o. Answers (status_after r) o k n in
+    let P : Reply → Type 0 = λ o. Answers (status_after r) o k n in
     of_some told _ _
-    (λ content d. let by : Bool → Outcome = λ fit. cond fit (whole_file (first_word ws) content broken) usage in
+    (λ content d. let by : Bool → Reply = λ fit. cond fit (whole_file (first_word ws) content broken) usage in
     subst P (ap by unfit) (delivered_answers r (whole ws content broken) k n b a d)) d
 
 broken_fits : (b : Bool) (ws : List (List ℕ)) (before now : ℕ) → words_fit ws ≡ b → (words_fit ws ≡ false → now ≡ before) → before < now → words_fit ws ≡ true
@@ -155,14 +155,14 @@ is_broken before now h = grind (arith, nat_tests)
 
 whole_unread : (ws : List (List ℕ)) (content : Option (List ℕ)) (broken : Bool) → words_fit ws ≡ true → broken ≡ true → whole ws content broken ≡ unread (first_word ws)
 whole_unread ws content broken fit is =
-    let by : Bool → Outcome = λ fit. cond fit (whole_file (first_word ws) content broken) usage in
-    let file : Bool → Outcome = λ broken. whole_file (first_word ws) content broken in
+    let by : Bool → Reply = λ fit. cond fit (whole_file (first_word ws) content broken) usage in
+    let file : Bool → Reply = λ broken. whole_file (first_word ws) content broken in
     ap by fit ∙ ap file is
 
 -- a load that failed is answered with the line that tells so
 pub unread_answers : (r : Result Status Stop) (ws : List (List ℕ)) (told : Option (Option (List ℕ))) (before now : ℕ) (k n : Option (List ℕ)) (b a : ℕ) → DeliversWhole r ws told (nat_lt before now) k b n a → (words_fit ws ≡ false → now ≡ before) → before < now → Answers (status_after r) (unread (first_word ws)) k n
 unread_answers r ws told before now k n b a d unasked rose =
-    let P : Outcome → Type 0 = λ o. Answers (status_after r) o k n in
+    let P : Reply → Type 0 = λ o. Answers (status_after r) o k n in
     let fit = broken_fits (words_fit ws) ws before now refl unasked rose in
     of_some told _ _
     (λ content d. subst P (whole_unread ws content (nat_lt before now) fit (is_broken before now rose)) (delivered_answers r (whole ws content (nat_lt before now)) k n b a d)) d
@@ -194,7 +194,7 @@ done_whole ws bytes broken h is =
     let file : Bool → Status = λ broken. (whole_file (first_word ws) (Some bytes) broken).status in
     ap by (and_left (words_fit ws) (file_runs_through bytes) h) ∙ ap file is ∙ done_file bytes (and_right (words_fit ws) (file_runs_through bytes) h)
 
-done_or_short : (s : Status) (o : Outcome) (k n : Option (List ℕ)) (b a : ℕ) → o.status ≡ status.Done → Answers s o k n → TellsFailedWrite s b a → a ≡ b → (s ≡ status.Done) ⊎ (s ≡ status.OutOfMemory)
+done_or_short : (s : Status) (o : Reply) (k n : Option (List ℕ)) (b a : ℕ) → o.status ≡ status.Done → Answers s o k n → TellsFailedWrite s b a → a ≡ b → (s ≡ status.Done) ⊎ (s ≡ status.OutOfMemory)
 done_or_short status.Done o k n b a h p w e = inl refl
 done_or_short (status.Refused f line column) o k n b a h p w e = inl (p.0 ∙ h)
 done_or_short status.Usage o k n b a h p w e = inl (p.0 ∙ h)

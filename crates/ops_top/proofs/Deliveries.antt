@@ -7,28 +7,28 @@ use Rattle.ops_io.specs.declared.stop.Stop.TheVariants as stop
 use Rattle.ops_io.proofs.Known.{append_known-nothing}
 use Rattle.ops_io.proofs.PortLemmas.{put_flushed, put_unflushed}
 use Rattle.ops_meaning.specs.declared.statuses.Status.{Status}
-use Rattle.ops_meaning.specs.Whole.{Outcome}
+use Rattle.ops_meaning.specs.Whole.{Reply}
 use Rattle.ops_top.specs.Told.{Delivers}
 
 -- all was put, and then written out
-pub delivered : (s : Status) (o : Outcome) (a b c : Port) → a.out.held ≡ [] → s ≡ o.status → Put a b o.bytes → Flushed b c → Delivers (Ok s) o a.taken a.faults c.taken c.faults
+pub delivered : (s : Status) (o : Reply) (a b c : Port) → a.out.held ≡ [] → s ≡ o.status → Put a b o.bytes → Flushed b c → Delivers (Ok s) o a.taken a.faults c.taken c.faults
 delivered s o a b c e is p f =
     let P : List ℕ → Type 0 = λ held. GrewBy a.taken c.taken (held ++ o.bytes) in
     (is, subst P e (put_flushed a b c o.bytes p f), f.faults ∙ p.faults)
 
 -- all was put, and then the output refused
-pub unflushed : (why : Stop) (o : Outcome) (a b c : Port) → a.out.held ≡ [] → Put a b o.bytes → Stopped why b c [] → Delivers (Err why) o a.taken a.faults c.taken c.faults
+pub unflushed : (why : Stop) (o : Reply) (a b c : Port) → a.out.held ≡ [] → Put a b o.bytes → Stopped why b c [] → Delivers (Err why) o a.taken a.faults c.taken c.faults
 unflushed why o a b c e p q =
     let P : List ℕ → Type 0 = λ held. GrewByPrefix a.taken c.taken (held ++ o.bytes) in
     let C : ℕ → Type 0 = λ n. Cause why n c.faults in
     (subst P e (put_unflushed why a b c o.bytes p q), subst C p.faults q.cause)
 
 -- a put gave up
-pub unput : (why : Stop) (o : Outcome) (a b : Port) → a.out.held ≡ [] → Stopped why a b o.bytes → Delivers (Err why) o a.taken a.faults b.taken b.faults
+pub unput : (why : Stop) (o : Reply) (a b : Port) → a.out.held ≡ [] → Stopped why a b o.bytes → Delivers (Err why) o a.taken a.faults b.taken b.faults
 unput why o a b e q =
     let P : List ℕ → Type 0 = λ held. GrewByPrefix a.taken b.taken (held ++ o.bytes) in
     (subst P e q.prefix, q.cause)
 
 -- memory ran out before anything was put
-pub untold : (o : Outcome) (taken : Option (List ℕ)) (faults : ℕ) → Delivers (Err stop.OutOfMemory) o taken faults taken faults
+pub untold : (o : Reply) (taken : Option (List ℕ)) (faults : ℕ) → Delivers (Err stop.OutOfMemory) o taken faults taken faults
 untold o taken faults = (([], o.bytes, refl, sym (append_known-nothing taken)), refl)

@@ -10,7 +10,7 @@ use Rattle.ops_io.specs.declared.stop.Stop.{Stop}
 use Rattle.ops_io.specs.declared.stop.Stop.TheVariants as stop
 use Rattle.ops_meaning.specs.declared.statuses.Status.{Status}
 use Rattle.ops_meaning.specs.declared.statuses.Status.TheVariants as status
-use Rattle.ops_meaning.specs.Whole.{Outcome, ends_in_line, text_of, answer_file, refused_at, unread, whole_file, whole, words_fit, words_of, first_word}
+use Rattle.ops_meaning.specs.Whole.{Reply, ends_in_line, text_of, answer_file, refused_at, unread, whole_file, whole, words_fit, word_bytes, first_word}
 use Rattle.ops_top.specs.Calls.{OfContent, TellsFailedLoad, usage}
 use Rattle.ops_top.specs.Told.{Delivers, status_after}
 use Rattle.ops_top.proofs.Endings.{IsOfText}
@@ -56,14 +56,14 @@ of_long (Some (Some bytes)) P room old new h f = f bytes h.0
 -- ---- the arms of a load
 
 -- the file was loaded, and its text is answered
-pub loaded_delivers : (D : Outcome → Type 0) (name : List ℕ) (told : Option (Option (List ℕ))) (room before now : ℕ) (old new : List ℕ) → old ≡ [] → (let r : Result Bool LoadError = Ok true in LoadGives told room r old new) → now ≡ before → D (answer_file new) → OfContent told (λ content. D (whole_file name content (nat_lt before now)))
+pub loaded_delivers : (D : Reply → Type 0) (name : List ℕ) (told : Option (Option (List ℕ))) (room before now : ℕ) (old new : List ℕ) → old ≡ [] → (let r : Result Bool LoadError = Ok true in LoadGives told room r old new) → now ≡ before → D (answer_file new) → OfContent told (λ content. D (whole_file name content (nat_lt before now)))
 loaded_delivers D name told room before now old new empty h same d =
     let G : List ℕ → Type 0 = λ xs. (let r : Result Bool LoadError = Ok true in LoadGives told room r xs new) in
     let B : Bool → Type 0 = λ b. D (whole_file name (Some new) b) in
     of_loaded told _ room new (subst G empty h) (subst B (sym (not_broken before now same)) d)
 
 -- the file is longer than any text, and is refused
-pub long_delivers : (D : Outcome → Type 0) (name : List ℕ) (told : Option (Option (List ℕ))) (room before now : ℕ) (old new : List ℕ) → room ≡ longest_list → (let r : Result Bool LoadError = Ok false in LoadGives told room r old new) → now ≡ before → D (refused_at fault.TooLong 1 1) → OfContent told (λ content. D (whole_file name content (nat_lt before now)))
+pub long_delivers : (D : Reply → Type 0) (name : List ℕ) (told : Option (Option (List ℕ))) (room before now : ℕ) (old new : List ℕ) → room ≡ longest_list → (let r : Result Bool LoadError = Ok false in LoadGives told room r old new) → now ≡ before → D (refused_at fault.TooLong 1 1) → OfContent told (λ content. D (whole_file name content (nat_lt before now)))
 long_delivers D name told room before now old new is h same d =
     of_long told _ room old new h
     (λ bytes long. let B : Bool → Type 0 = λ b. D (whole_file name (Some bytes) b) in
@@ -73,7 +73,7 @@ unread_any : (name : List ℕ) (content : Option (List ℕ)) → unread name ≡
 unread_any name content = refl
 
 -- the load failed
-pub failed_delivers : (D : Outcome → Type 0) (name : List ℕ) (told : Option (Option (List ℕ))) (before now : ℕ) → now ≡ before + 1 → D (unread name) → OfContent told (λ content. D (whole_file name content (nat_lt before now)))
+pub failed_delivers : (D : Reply → Type 0) (name : List ℕ) (told : Option (Option (List ℕ))) (before now : ℕ) → now ≡ before + 1 → D (unread name) → OfContent told (λ content. D (whole_file name content (nat_lt before now)))
 failed_delivers D name told before now rose d =
     of_any told _
     (λ content. let B : Bool → Type 0 = λ b. D (whole_file name content b) in
@@ -90,7 +90,7 @@ of_text_tells status.WriteFault before now p h = inl h
 of_text_tells status.OutOfMemory before now p h = inl h
 
 -- an answer to a text does not blame the load
-pub loaded_tells : (r : Result Status Stop) (o : Outcome) (k n : Option (List ℕ)) (b a before now : ℕ) → IsOfText o.status → Delivers r o k b n a → now ≡ before → TellsFailedLoad (status_after r) before now
+pub loaded_tells : (r : Result Status Stop) (o : Reply) (k n : Option (List ℕ)) (b a before now : ℕ) → IsOfText o.status → Delivers r o k b n a → now ≡ before → TellsFailedLoad (status_after r) before now
 loaded_tells (Ok s) o k n b a before now p d h = of_text_tells s before now (subst IsOfText (sym d.0) p) h
 loaded_tells (Err stop.Write) o k n b a before now p d h = inl h
 loaded_tells (Err stop.OutOfMemory) o k n b a before now p d h = inl h
@@ -99,15 +99,15 @@ loaded_tells (Err stop.OutOfMemory) o k n b a before now p d h = inl h
 
 whole_fits : (ws : List (List ℕ)) (content : Option (List ℕ)) (broken : Bool) → words_fit ws ≡ true → whole_file (first_word ws) content broken ≡ whole ws content broken
 whole_fits ws content broken fit =
-    let by : Bool → Outcome = λ b. cond b (whole_file (first_word ws) content broken) usage in ap by (sym fit)
+    let by : Bool → Reply = λ b. cond b (whole_file (first_word ws) content broken) usage in ap by (sym fit)
 
 -- what is answered to the file of the first word is answered to the words
-pub words_deliver : (D : Outcome → Type 0) (ws : List (List ℕ)) (name : List ℕ) (told : List ℕ → Option (Option (List ℕ))) (broken : Bool) → words_fit ws ≡ true → name ≡ first_word ws → OfContent (told name) (λ content. D (whole_file name content broken)) → OfContent (told (first_word ws)) (λ content. D (whole ws content broken))
+pub words_deliver : (D : Reply → Type 0) (ws : List (List ℕ)) (name : List ℕ) (told : List ℕ → Option (Option (List ℕ))) (broken : Bool) → words_fit ws ≡ true → name ≡ first_word ws → OfContent (told name) (λ content. D (whole_file name content broken)) → OfContent (told (first_word ws)) (λ content. D (whole ws content broken))
 words_deliver D ws name told broken fit is p =
     let N : List ℕ → Type 0 = λ w. OfContent (told w) (λ content. D (whole_file w content broken)) in
     of_map (told (first_word ws)) _ _ (λ content d. subst D (whole_fits ws content broken fit) d) (subst N is p)
 
 -- the first word, of words that fit
-pub first_is : {A : Type 0} (words : List (String A)) (w : String A) → words_fit (words_of words) ≡ true → w ≡ get_or words 0 w → string_bytes w ≡ first_word (words_of words)
+pub first_is : {A : Type 0} (words : List (String A)) (w : String A) → words_fit (word_bytes words) ≡ true → w ≡ get_or words 0 w → string_bytes w ≡ first_word (word_bytes words)
 first_is [] w fit is = absurd (cc)
 first_is (v ∷ vs) w fit is = ap string_bytes is

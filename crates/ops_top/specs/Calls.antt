@@ -5,7 +5,7 @@ use Rattle.ops_meaning.specs.declared.statuses.Status.TheVariants as status
 use Rattle.ops_meaning.specs.Layout.{usage_line}
 use Rattle.ops_meaning.specs.Reads.{Read, Placed, reads}
 use Rattle.ops_meaning.specs.Running.{session_of}
-use Rattle.ops_meaning.specs.Whole.{Outcome, words_fit, first_word, text_of, setting_of}
+use Rattle.ops_meaning.specs.Whole.{Reply, words_fit, first_word, text_of, setting_of}
 
 -- It holds for the content that is told of a file, or for some content where none is told.
 abbrev pub OfContent : Option (Option (List ℕ)) → (Option (List ℕ) → Type 0) → Type 0
@@ -42,7 +42,7 @@ abbrev pub AskedForWords : Status → List (List ℕ) → Bool → List (List �
 AskedForWords s words true old new = AskedFor s (first_word words) old new
 AskedForWords s words false old new = new ≡ old
 
-abbrev pub usage : Outcome
+abbrev pub usage : Reply
 usage = record { bytes = usage_line; status = status.Usage }
 
 -- The text is a program whose session comes to its end.

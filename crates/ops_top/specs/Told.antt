@@ -10,12 +10,12 @@ use Rattle.ops_meaning.specs.declared.statuses.Status.{Status}
 use Rattle.ops_meaning.specs.declared.statuses.Status.TheVariants as status
 use Rattle.ops_meaning.specs.declared.states.Memory.{Memory}
 use Rattle.ops_meaning.specs.Effects.{Effect}
-use Rattle.ops_meaning.specs.Whole.{Outcome, told}
+use Rattle.ops_meaning.specs.Whole.{Reply, told}
 use Rattle.ops_meaning.specs.Running.{Setting, ending_of}
 
 -- All bytes of the outcome went out and its status is answered; or the call gave up, for the reason that the count of
 -- failed writes tells, and a prefix went out.
-abbrev pub Delivers : Result Status Stop → Outcome → Option (List ℕ) → ℕ → Option (List ℕ) → ℕ → Type 0
+abbrev pub Delivers : Result Status Stop → Reply → Option (List ℕ) → ℕ → Option (List ℕ) → ℕ → Type 0
 Delivers (Ok s) o old before new now = (s ≡ o.status) × GrewBy old new o.bytes × (now ≡ before)
 Delivers (Err why) o old before new now = GrewByPrefix old new o.bytes × Cause why before now
 

@@ -1,21 +1,25 @@
 //! The top call: from the words of the command line to the bytes that are written and the status.
 #![tactic(auto)]
 
-pub mod acting;
-pub mod answer;
-pub mod bindings;
-pub mod choosing;
-pub mod files;
-pub mod lines;
-pub mod making;
-pub mod printing;
+mod acting;
+mod answer;
+mod bindings;
+mod choosing;
+mod files;
+mod lines;
+mod making;
+mod printing;
 #[cfg(test)]
 mod rows;
-pub mod running;
-pub mod saying;
-pub mod session;
-pub mod symbols;
+mod running;
+mod saying;
+mod session;
+mod symbols;
 #[cfg(test)]
 mod tests;
-pub mod top;
-pub mod words;
+mod top;
+mod words;
+
+pub use ops_base::endings::{ActKind, Fault, Limit};
+pub use ops_meaning::Status;
+pub use top::{code, ops_run, still_run};

@@ -1,7 +1,7 @@
 //! The fields of a new element, and the element.
 ghost use Rattle.std.specs.Prelude.{◌≡◌, IfOk, OnOk, map, option_map, slice_set};
-ghost use Rattle.ops_meaning.specs.Acting.{first_value, scalar_count, no_fields, vector_placed, put_done, fields_of, made, term_value};
-ghost use Rattle.ops_meaning.specs.Running.{first_constant, fixed_done, fixed_fields};
+ghost use Rattle.ops_meaning.specs.Acting.{first_of, scalar_count, no_fields, with_values, are_too_many, put_done, fields_of, made, term_value};
+ghost use Rattle.ops_meaning.specs.Running.{fixed_fields};
 ghost use Rattle.ops_base.specs.Valid.{no_class, class_of, is_vector};
 
 use crate::bindings::term_value;
@@ -80,40 +80,58 @@ fn set_field(fields: &mut Vec<Value>, field: usize, value: Value)
     }
 }
 
-// ---- by an action
+// ---- values for one attribute
 
-fn first_value(bindings: &[Binding], terms: &[Term]) -> Value
-    ensures { result ≡ first_value bindings.now terms.now }
+fn first_of(values: &[Value]) -> Value
+    ensures { result ≡ first_of values.now }
 {
-    match terms.first() {
-        Some(term) => term_value(bindings, term),
+    match values.first() {
+        Some(value) => *value,
         None => NOTHING,
     }
 }
 
-/// Puts these values in the place of those of the vector attribute. `None` is too many fields.
-fn vector_placed(
-    bindings: &[Binding],
+/// Gives one attribute: a scalar one the first of the values, and the vector attribute all, in the place of those that it
+/// had. Takes time for these values alone.
+fn give_values(
+    class: &Class,
+    fields: &mut Vec<Value>,
     field: usize,
-    fields: Vec<Value>,
-    terms: &[Term],
-) -> Result<Option<Vec<Value>>, OutOfMemory>
-    ensures { IfOk result (λ found. option_map (λ v. v.items) found
-        ≡ vector_placed field fields.items (map (term_value bindings.now) terms.now)) }
+    values: &[Value],
+) -> Result<(), OutOfMemory>
+    ensures { OnOk result (fields.new.items ≡ with_values class.now fields.old.items field values.now) }
 {
-    let mut fields = fields;
-    fields.truncate(field);
-    for term in terms {
-        if fields.len() >= MOST_FIELDS {
-            return Ok(None);
-        }
-        fields.push(term_value(bindings, term))?;
+    if is_vector(class, field) {
+        fields.truncate(field);
+        fields.extend_from_slice(values)?;
+        return Ok(());
     }
-    Ok(Some(fields))
+    set_field(fields, field, first_of(values));
+    Ok(())
+}
+
+// ---- by an action
+
+/// Whether the values of the vector attribute would pass the last field.
+fn are_too_many(class: &Class, field: usize, values: &[Value]) -> bool
+    ensures { result ≡ are_too_many class.now field values.now }
+{
+    is_vector(class, field) && values.len() > MOST_FIELDS.saturating_sub(field)
+}
+
+fn values_of(alloc: Global, bindings: &[Binding], terms: &[Term]) -> Result<Vec<Value>, OutOfMemory>
+    ensures { IfOk result (λ v. v.items ≡ map (term_value bindings.now) terms.now) }
+{
+    let mut values = Vec::new(alloc);
+    for term in terms {
+        values.push(term_value(bindings, term))?;
+    }
+    Ok(values)
 }
 
 /// Gives one attribute. `None` is too many fields.
 fn put_done(
+    alloc: Global,
     bindings: &[Binding],
     class: &Class,
     fields: Vec<Value>,
@@ -122,15 +140,12 @@ fn put_done(
     ensures { IfOk result (λ found. option_map (λ v. v.items) found
         ≡ put_done bindings.now class.now fields.items put.now) }
 {
-    if is_vector(class, put.field) {
-        return vector_placed(bindings, put.field, fields, put.terms.as_slice());
+    let values = values_of(alloc, bindings, put.terms.as_slice())?;
+    if are_too_many(class, put.field, &values) {
+        return Ok(None);
     }
     let mut fields = fields;
-    set_field(
-        &mut fields,
-        put.field,
-        first_value(bindings, put.terms.as_slice()),
-    );
+    give_values(class, &mut fields, put.field, &values)?;
     Ok(Some(fields))
 }
 
@@ -145,7 +160,7 @@ pub fn fields_of(
 {
     let mut fields = no_fields(alloc, class)?;
     for put in puts {
-        match put_done(bindings, class, fields, put)? {
+        match put_done(alloc, bindings, class, fields, put)? {
             Some(next) => fields = next,
             None => return Ok(None),
         }
@@ -155,35 +170,13 @@ pub fn fields_of(
 
 // ---- by a command
 
-fn first_constant(values: &[Value]) -> Value
-    ensures { result ≡ first_constant values.now }
-{
-    match values.first() {
-        Some(value) => *value,
-        None => NOTHING,
-    }
-}
-
-/// Gives one attribute.
-fn fixed_done(class: &Class, fields: &mut Vec<Value>, put: &Fixed) -> Result<(), OutOfMemory>
-    ensures { OnOk result (fields.new.items ≡ fixed_done class.now fields.old.items put.now) }
-{
-    if is_vector(class, put.field) {
-        fields.truncate(put.field);
-        fields.extend_from_slice(put.values.as_slice())?;
-        return Ok(());
-    }
-    set_field(fields, put.field, first_constant(put.values.as_slice()));
-    Ok(())
-}
-
 /// The fields of an element of this class that a command makes.
 pub fn fixed_fields(alloc: Global, class: &Class, puts: &[Fixed]) -> Result<Vec<Value>, OutOfMemory>
     ensures { IfOk result (λ v. v.items ≡ fixed_fields class.now puts.now) }
 {
     let mut fields = no_fields(alloc, class)?;
     for put in puts {
-        fixed_done(class, &mut fields, put)?;
+        give_values(class, &mut fields, put.field, put.values.as_slice())?;
     }
     Ok(fields)
 }

@@ -1,6 +1,6 @@
 //! Each public call once, on words and files that need no program.
 ghost use Rattle.std.specs.Prelude.{◌≡◌, ◌∷◌, [], IfOk};
-ghost use Rattle.ops_meaning.specs.Whole.{words_of};
+ghost use Rattle.ops_meaning.specs.Whole.{word_bytes};
 
 use crate::top::{code, ops_run, still_run};
 use ops_base::endings::Fault;
@@ -24,7 +24,7 @@ pub fn one_file(alloc: Global, name: &str, bytes: &[u8]) -> Result<MemShelf, All
 
 /// One word.
 pub fn one_word(alloc: Global, word: &str) -> Result<Vec<String>, AllocError>
-    ensures { IfOk result (λ words. words_of words.items ≡ word.now ∷ []) }
+    ensures { IfOk result (λ words. word_bytes words.items ≡ word.now ∷ []) }
 {
     let mut words = Vec::new(alloc);
     words.push(String::from_str(alloc, word)?)?;

@@ -1,6 +1,6 @@
 //! The top calls.
 ghost use Rattle.std.specs.Prelude.{◌≡◌, ◌^◌, ◌<◌, ◌⊎◌, ℕ, List, length, nat_lt, true, false, IfSome, IsSome};
-ghost use Rattle.ops_meaning.specs.Whole.{whole, unread, Answers, words_of, words_fit, first_word};
+ghost use Rattle.ops_meaning.specs.Whole.{whole, unread, Answers, GoesByConflictSetsAlone, word_bytes, words_fit, first_word};
 ghost use Rattle.ops_top.specs.Calls.{OfContent, TellsFailedWrite, TellsFailedLoad, TellsWords, AskedForWords, usage, runs_through};
 ghost use Rattle.ops_top.specs.Lines.{code_of};
 
@@ -44,20 +44,21 @@ pub fn still_run<R: Threads + Clone + Drop + Send + Sync, H: Shelf, I: Source, K
     requires input { I.faults input.old < 2 ^ 63 }
     requires sink { K.faults sink.old < 2 ^ 63 }
     ensures some { IsSome result }
-    ensures answers { IfSome result (λ status. OfContent (H.told shelf.old (first_word (words_of words.now))) (λ content.
-        Answers status (whole (words_of words.now) content (nat_lt (H.faults shelf.old) (H.faults shelf.new))) (K.taken sink.old) (K.taken sink.new))) }
+    ensures answers { IfSome result (λ status. OfContent (H.told shelf.old (first_word (word_bytes words.now))) (λ content.
+        Answers status (whole (word_bytes words.now) content (nat_lt (H.faults shelf.old) (H.faults shelf.new))) (K.taken sink.old) (K.taken sink.new))) }
+    ensures sets { GoesByConflictSetsAlone (word_bytes words.now) }
     ensures write { IfSome result (λ status. TellsFailedWrite status (K.faults sink.old) (K.faults sink.new)) }
     ensures load { IfSome result (λ status. TellsFailedLoad status (H.faults shelf.old) (H.faults shelf.new)) }
     ensures unread { IfSome result (λ status. H.faults shelf.old < H.faults shelf.new
-        → Answers status (unread (first_word (words_of words.now))) (K.taken sink.old) (K.taken sink.new)) }
-    ensures words { IfSome result (λ status. TellsWords status (words_fit (words_of words.now))) }
-    ensures usage { IfSome result (λ status. words_fit (words_of words.now) ≡ false
+        → Answers status (unread (first_word (word_bytes words.now))) (K.taken sink.old) (K.taken sink.new)) }
+    ensures words { IfSome result (λ status. TellsWords status (words_fit (word_bytes words.now))) }
+    ensures usage { IfSome result (λ status. words_fit (word_bytes words.now) ≡ false
         → Answers status usage (K.taken sink.old) (K.taken sink.new)) }
-    ensures names { IfSome result (λ status. AskedForWords status (words_of words.now) (words_fit (words_of words.now)) (H.names shelf.old) (H.names shelf.new)) }
-    ensures unasked { words_fit (words_of words.now) ≡ false → H.faults shelf.new ≡ H.faults shelf.old }
+    ensures names { IfSome result (λ status. AskedForWords status (word_bytes words.now) (words_fit (word_bytes words.now)) (H.names shelf.old) (H.names shelf.new)) }
+    ensures unasked { words_fit (word_bytes words.now) ≡ false → H.faults shelf.new ≡ H.faults shelf.old }
     ensures told { (n : List ℕ) → H.told shelf.new n ≡ H.told shelf.old n }
     ensures input { input.new ≡ input.old }
-    ensures complete { IfSome result (λ status. runs_through (words_of words.now) (H.told shelf.old (first_word (words_of words.now))) ≡ true
+    ensures complete { IfSome result (λ status. runs_through (word_bytes words.now) (H.told shelf.old (first_word (word_bytes words.now))) ≡ true
         → H.faults shelf.new ≡ H.faults shelf.old → K.faults sink.new ≡ K.faults sink.old
         → (status ≡ Status.Done) ⊎ (status ≡ Status.OutOfMemory)) }
 {
@@ -84,19 +85,20 @@ pub fn ops_run<
     requires loads { length (H.names shelf.old) < 2 ^ 63 }
     requires input { I.faults input.old < 2 ^ 63 }
     requires sink { K.faults sink.old < 2 ^ 63 }
-    ensures answers { OfContent (H.told shelf.old (first_word (words_of words.now))) (λ content.
-        Answers result (whole (words_of words.now) content (nat_lt (H.faults shelf.old) (H.faults shelf.new))) (K.taken sink.old) (K.taken sink.new)) }
+    ensures answers { OfContent (H.told shelf.old (first_word (word_bytes words.now))) (λ content.
+        Answers result (whole (word_bytes words.now) content (nat_lt (H.faults shelf.old) (H.faults shelf.new))) (K.taken sink.old) (K.taken sink.new)) }
+    ensures sets { GoesByConflictSetsAlone (word_bytes words.now) }
     ensures write { TellsFailedWrite result (K.faults sink.old) (K.faults sink.new) }
     ensures load { TellsFailedLoad result (H.faults shelf.old) (H.faults shelf.new) }
     ensures unread { H.faults shelf.old < H.faults shelf.new
-        → Answers result (unread (first_word (words_of words.now))) (K.taken sink.old) (K.taken sink.new) }
-    ensures words { TellsWords result (words_fit (words_of words.now)) }
-    ensures usage { words_fit (words_of words.now) ≡ false → Answers result usage (K.taken sink.old) (K.taken sink.new) }
-    ensures names { AskedForWords result (words_of words.now) (words_fit (words_of words.now)) (H.names shelf.old) (H.names shelf.new) }
-    ensures unasked { words_fit (words_of words.now) ≡ false → H.faults shelf.new ≡ H.faults shelf.old }
+        → Answers result (unread (first_word (word_bytes words.now))) (K.taken sink.old) (K.taken sink.new) }
+    ensures words { TellsWords result (words_fit (word_bytes words.now)) }
+    ensures usage { words_fit (word_bytes words.now) ≡ false → Answers result usage (K.taken sink.old) (K.taken sink.new) }
+    ensures names { AskedForWords result (word_bytes words.now) (words_fit (word_bytes words.now)) (H.names shelf.old) (H.names shelf.new) }
+    ensures unasked { words_fit (word_bytes words.now) ≡ false → H.faults shelf.new ≡ H.faults shelf.old }
     ensures told { (n : List ℕ) → H.told shelf.new n ≡ H.told shelf.old n }
     ensures input { input.new ≡ input.old }
-    ensures complete { runs_through (words_of words.now) (H.told shelf.old (first_word (words_of words.now))) ≡ true
+    ensures complete { runs_through (word_bytes words.now) (H.told shelf.old (first_word (word_bytes words.now))) ≡ true
         → H.faults shelf.new ≡ H.faults shelf.old → K.faults sink.new ≡ K.faults sink.old
         → (result ≡ Status.Done) ⊎ (result ≡ Status.OutOfMemory) }
 {

@@ -1,6 +1,6 @@
 //! The words of the command line.
 ghost use Rattle.std.specs.Prelude.{◌≡◌, ◌^◌, ◌<◌, ℕ, List, length, nat_lt, false};
-ghost use Rattle.ops_meaning.specs.Whole.{whole, words_of, words_fit, first_word};
+ghost use Rattle.ops_meaning.specs.Whole.{whole, word_bytes, words_fit, first_word};
 ghost use Rattle.ops_top.specs.Calls.{OfContent, TellsFailedLoad, AskedForWords};
 ghost use Rattle.ops_top.specs.Told.{Delivers, status_after};
 
@@ -13,7 +13,7 @@ use std::alloc::Global;
 
 /// One word, which is a name: it does not begin with `-`, or is `-` alone.
 fn are_fit(words: &[String]) -> bool
-    ensures { result ≡ words_fit (words_of words.now) }
+    ensures { result ≡ words_fit (word_bytes words.now) }
 {
     if words.len() != 1 {
         return false;
@@ -35,12 +35,12 @@ pub fn run_words<H: Shelf, K: Sink>(
     requires shelf { H.faults shelf.old < 2 ^ 63 }
     requires loads { length (H.names shelf.old) < 2 ^ 63 }
     requires faults { K.faults sink.old < 2 ^ 63 }
-    ensures delivers { OfContent (H.told shelf.old (first_word (words_of words.now))) (λ content.
-        Delivers result (whole (words_of words.now) content (nat_lt (H.faults shelf.old) (H.faults shelf.new)))
+    ensures delivers { OfContent (H.told shelf.old (first_word (word_bytes words.now))) (λ content.
+        Delivers result (whole (word_bytes words.now) content (nat_lt (H.faults shelf.old) (H.faults shelf.new)))
         (K.taken sink.old) (K.faults sink.old) (K.taken sink.new) (K.faults sink.new)) }
     ensures load { TellsFailedLoad (status_after result) (H.faults shelf.old) (H.faults shelf.new) }
-    ensures names { AskedForWords (status_after result) (words_of words.now) (words_fit (words_of words.now)) (H.names shelf.old) (H.names shelf.new) }
-    ensures unasked { words_fit (words_of words.now) ≡ false → H.faults shelf.new ≡ H.faults shelf.old }
+    ensures names { AskedForWords (status_after result) (word_bytes words.now) (words_fit (word_bytes words.now)) (H.names shelf.old) (H.names shelf.new) }
+    ensures unasked { words_fit (word_bytes words.now) ≡ false → H.faults shelf.new ≡ H.faults shelf.old }
     ensures told { (n : List ℕ) → H.told shelf.new n ≡ H.told shelf.old n }
 {
     if !are_fit(words) {

@@ -1,6 +1,8 @@
 use Rattle.std.proofs.Common.{◌≡◌, ◌∙◌, sym, ap, Err}
 use Rattle.ops_meaning.proofs.ReadsValid.{reads-valid}
 use Rattle.ops_meaning.proofs.ReadsWithin.{reads-within}
+use Rattle.ops_meaning.proofs.ReadsHeld.{reads-held}
+use Rattle.ops_meaning.proofs.NamesOf.{reads-names}
 use Rattle.ops_meaning.proofs.Standing.{text-derived}
 use Rattle.ops_meaning.proofs.StandingEnd.{fault-stands}
 use Rattle.ops_meaning.proofs.PlainRead.{reads-again}
@@ -41,3 +43,13 @@ returns-in-Ok-clause-again c =
     let parts = c.program_of.ensures in
     rw (parts.classes, parts.rules, parts.commands)
     (reads-again c.args.text.items (read_of c.in-Ok.draft c.in-Ok.names) (ap reads (sym c.as_slice.ensures.value) ∙ c.in-Ok.ensures))
+
+pub returns-in-Ok-clause-named : goal.returns-in-Ok-clause-named
+returns-in-Ok-clause-named c =
+    let parts = c.program_of.ensures in
+    rw (parts.classes, parts.rules, parts.commands)
+    (reads-held c.args.text.items (read_of c.in-Ok.draft c.in-Ok.names) (ap reads (sym c.as_slice.ensures.value) ∙ c.in-Ok.ensures))
+
+pub returns-in-Ok-clause-names : goal.returns-in-Ok-clause-names
+returns-in-Ok-clause-names c =
+    reads-names c.args.text.items (read_of c.in-Ok.draft c.in-Ok.names) (ap reads (sym c.as_slice.ensures.value) ∙ c.in-Ok.ensures)

@@ -3,7 +3,7 @@ use Rattle.std.proofs.lemmas.Bool.{lt-ltb}
 use Rattle.ops_base.specs.Valid.{most_fields}
 use Rattle.ops_meaning.specs.Grammar.{goes, after, value_for, within, ToConstants}
 use Rattle.ops_check.specs.Going.{view}
-use Rattle.ops_check.proofs.Ways.{goes_as}
+use Rattle.ops_forms.proofs.Ways.{goes_as}
 use Rattle.ops_check.proofs.Rooms.{no_value}
 use Rattle.ops_check.proofs.draft.Draft.constant_within.Goals.{else-begins_value-via-then-begins_value+else-len-room, else-begins_value-via-else-begins_value}
 use Rattle.ops_check.proofs.draft.Draft.constant_within.Goals as goal

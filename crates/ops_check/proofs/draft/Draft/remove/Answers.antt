@@ -1,7 +1,7 @@
 use Rattle.std.proofs.Common.{◌∷◌, ◌++◌, ◌∙◌}
 use Rattle.ops_meaning.specs.Grammar.{Cells, cell, goes, after}
 use Rattle.ops_check.specs.Going.{view}
-use Rattle.ops_check.proofs.Ways.{fails_as, fails_under, goes_as, cell_first}
+use Rattle.ops_forms.proofs.Ways.{fails_as, fails_under, goes_as, cell_first}
 use Rattle.ops_check.proofs.draft.Draft.remove.Goals as goal
 
 pub returns-in-Ok-clause-reads : goal.returns-in-Ok-clause-reads

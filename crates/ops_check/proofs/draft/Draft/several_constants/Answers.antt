@@ -2,7 +2,7 @@ use Rattle.std.proofs.Common.{◌∷◌, ◌++◌, ◌∙◌, sym, ◌+◌, leng
 use Rattle.ops_base.specs.Valid.{most_fields}
 use Rattle.ops_meaning.specs.Grammar.{goes, after, InFixed, Several, within, value_for, ToConstants}
 use Rattle.ops_check.specs.Going.{view}
-use Rattle.ops_check.proofs.Ways.{fails_as, fails_under, several_first}
+use Rattle.ops_forms.proofs.Ways.{fails_as, fails_under, several_first}
 use Rattle.ops_check.proofs.draft.Draft.several_constants.Goals as goal
 
 pub returns-in-Err-clause-reads : goal.returns-in-Err-clause-reads

@@ -1,5 +1,5 @@
 use Rattle.ops_check.specs.Going.{view, target_of}
-use Rattle.ops_check.proofs.Ways.{goes_as, value_first}
+use Rattle.ops_forms.proofs.Ways.{goes_as, value_first}
 use Rattle.ops_check.proofs.draft.Draft.value_of.Goals as goal
 
 pub returns-clause-reads : goal.returns-clause-reads

@@ -1,7 +1,7 @@
 use Rattle.std.proofs.Common.{◌∷◌, ◌++◌, ◌∙◌, sym}
 use Rattle.ops_meaning.specs.Grammar.{goes, vector_name, after, VectorNames}
 use Rattle.ops_check.specs.Going.{view}
-use Rattle.ops_check.proofs.Ways.{fails_as, fails_under, vectors_first}
+use Rattle.ops_forms.proofs.Ways.{fails_as, fails_under, vectors_first}
 use Rattle.ops_check.proofs.draft.Draft.vector_names.Goals as goal
 
 pub returns-in-Err-clause-reads : goal.returns-in-Err-clause-reads

@@ -1,7 +1,7 @@
 use Rattle.std.proofs.Common.{◌∷◌, ◌++◌, ◌∙◌, sym, if◌then◌else◌}
 use Rattle.ops_meaning.specs.Grammar.{goes, value_for, ToItem, is_left, after, Next, Items, ItemWord}
 use Rattle.ops_check.specs.Going.{view}
-use Rattle.ops_check.proofs.Ways.{fails_as, fails_under, items_first}
+use Rattle.ops_forms.proofs.Ways.{fails_as, fails_under, items_first}
 use Rattle.ops_check.proofs.draft.Draft.write_items.Goals as goal
 
 pub returns-in-Err-clause-reads : goal.returns-in-Err-clause-reads

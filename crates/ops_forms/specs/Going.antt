@@ -1,0 +1,69 @@
+-- How a walk over words in code goes along with the definition's.
+use Rattle.std.specs.Prelude.{◌≡◌, ℤ, ◌<◌, ◌≤◌, List, [], ◌∷◌, ◌++◌, length, Option, Some, None, Result, Ok, Err}
+use Rattle.std.specs.Borrow.{Bor}
+use Rattle.ops_base.specs.declared.endings.Fault.TheVariants as fault
+use Rattle.ops_tokens.specs.declared.token.TokenKind.{TokenKind}
+use Rattle.ops_tokens.specs.declared.token.TokenKind.TheVariants as kind
+use Rattle.ops_meaning.specs.declared.words.Word.{Word}
+use Rattle.ops_meaning.specs.Grammar.{Use, Ends, Wanted, Terms, Closes, State, Step, Outcome, after, goes, ended}
+use Rattle.ops_forms.specs.declared.refusals.Refusal.{Refusal}
+use Rattle.ops_forms.specs.declared.refusals.Refusal.TheVariants as refusal
+
+-- the value of a whole number
+abbrev pub whole_of : TokenKind → Option ℤ
+whole_of (kind.Whole n) = Some n
+whole_of _ = None
+
+-- how it goes with more words behind and with more wanted afterwards
+abbrev pub Way : Type 0
+Way = List Word → List Wanted → Outcome
+
+-- A refusal is the one that this ends in: at a word whatever stands behind it, and at none where none does.
+abbrev pub Fails : Way → Refusal → Type 0
+Fails from refusal.OutOfMemory = Unit {0}
+Fails from (refusal.At f None) = (ws : List Wanted) → from [] ws ≡ Err (f, None)
+Fails from (refusal.At f (Some w)) = (more : List Word) (ws : List Wanted) → from more ws ≡ Err (f, Some w)
+
+-- How it goes from here is how the rest goes from the new state, or it is the refusal. Memory may run out.
+abbrev pub Goes : Way → State → Result (Bor (List Word)) Refusal → Type 0
+Goes from new (Ok rest) = (more : List Word) (ws : List Wanted) → from more ws ≡ goes (rest.now ++ more) ws new
+Goes from new (Err e) = Fails from e
+
+-- The same, where more of an element is wanted afterwards.
+abbrev pub GoesToTerms : Use → Way → State → Result (Bor (List Word)) Refusal → Type 0
+GoesToTerms u from new (Ok rest) = (more : List Word) (ws : List Wanted) → from more ws ≡ goes (rest.now ++ more) (Terms u ∷ ws) new
+GoesToTerms u from new (Err e) = Fails from e
+
+-- a call read what was wanted
+abbrev pub Reads : Wanted → State → State → List Word → Result (Bor (List Word)) Refusal → Type 0
+Reads w old new words result = Goes (λ more ws. goes (words ++ more) (w ∷ ws) old) new result
+
+-- a call did this with a word that was taken, and read on in the words after it
+abbrev pub Acts : (List Wanted → State → Step) → Word → State → State → List Word → Result (Bor (List Word)) Refusal → Type 0
+Acts does w old new rest result = Goes (λ more ws. after (goes (rest ++ more)) w (does ws old)) new result
+
+-- a call read a closing bracket, whatever it ends
+abbrev pub ReadsClosing : List Word → Result (Bor (List Word)) Refusal → Type 0
+ReadsClosing words (Ok rest) = (e : Ends) (more : List Word) (ws : List Wanted) (s : State) → goes (words ++ more) (Closes e ∷ ws) s ≡ goes (rest.now ++ more) ws (ended e s)
+ReadsClosing words (Err refusal.OutOfMemory) = ⊥
+ReadsClosing words (Err (refusal.At f None)) = (e : Ends) (ws : List Wanted) (s : State) → goes (words ++ []) (Closes e ∷ ws) s ≡ Err (f, None)
+ReadsClosing words (Err (refusal.At f (Some w))) = (e : Ends) (more : List Word) (ws : List Wanted) (s : State) → goes (words ++ more) (Closes e ∷ ws) s ≡ Err (f, Some w)
+
+-- the new state, unless memory ran out
+abbrev pub Becomes : {X : Type 0} → State → State → Result X Refusal → Type 0
+Becomes new expected (Ok x) = new ≡ expected
+Becomes new expected (Err refusal.OutOfMemory) = Unit {0}
+Becomes new expected (Err (refusal.At f word)) = ⊥
+
+-- the first word, with those after it, or the refusal of a text that ends in a form
+abbrev pub Takes : List Word → Result (Word × Bor (List Word)) Refusal → Type 0
+Takes words (Ok x) = words ≡ x.0 ∷ x.1.now
+Takes words (Err e) = (words ≡ []) × (e ≡ refusal.At fault.Unclosed None)
+
+abbrev pub IsShorter : List Word → Result (Bor (List Word)) Refusal → Type 0
+IsShorter words (Ok rest) = length (rest.now) < length words
+IsShorter words (Err e) = Unit {0}
+
+abbrev pub IsWithin : List Word → Result (Bor (List Word)) Refusal → Type 0
+IsWithin words (Ok rest) = length (rest.now) ≤ length words
+IsWithin words (Err e) = Unit {0}

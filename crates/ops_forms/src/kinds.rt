@@ -1,0 +1,198 @@
+//! What a word may be where something is wanted.
+ghost use Rattle.std.specs.Prelude.{◌≡◌};
+ghost use Rattle.ops_meaning.specs.Grammar.{is_left, is_right, is_left_brace, is_right_brace, is_caret, is_name, is_variable, is_arrow, is_literal, is_minus, opens_choice, closes_choice, pred_of, is_crlf, constant_of, atom_of, value_of, natural_of};
+ghost use Rattle.ops_forms.specs.Going.{whole_of};
+
+use ops_base::values::{Pred, Sym, Value};
+use ops_meaning::Keyword;
+use ops_tokens::TokenKind;
+
+pub fn is_left(kind: TokenKind) -> bool
+    ensures { result ≡ is_left kind }
+{
+    match kind {
+        TokenKind::Left => true,
+        _ => false,
+    }
+}
+
+pub fn is_right(kind: TokenKind) -> bool
+    ensures { result ≡ is_right kind }
+{
+    match kind {
+        TokenKind::Right => true,
+        _ => false,
+    }
+}
+
+pub fn is_left_brace(kind: TokenKind) -> bool
+    ensures { result ≡ is_left_brace kind }
+{
+    match kind {
+        TokenKind::LeftBrace => true,
+        _ => false,
+    }
+}
+
+pub fn is_right_brace(kind: TokenKind) -> bool
+    ensures { result ≡ is_right_brace kind }
+{
+    match kind {
+        TokenKind::RightBrace => true,
+        _ => false,
+    }
+}
+
+pub fn is_caret(kind: TokenKind) -> bool
+    ensures { result ≡ is_caret kind }
+{
+    match kind {
+        TokenKind::Caret => true,
+        _ => false,
+    }
+}
+
+pub fn is_name(kind: TokenKind) -> bool
+    ensures { result ≡ is_name kind }
+{
+    match kind {
+        TokenKind::Symbol | TokenKind::Quoted => true,
+        _ => false,
+    }
+}
+
+pub fn is_variable(kind: TokenKind) -> bool
+    ensures { result ≡ is_variable kind }
+{
+    match kind {
+        TokenKind::Variable => true,
+        _ => false,
+    }
+}
+
+pub fn is_arrow(keyword: Keyword) -> bool
+    ensures { result ≡ is_arrow keyword }
+{
+    match keyword {
+        Keyword::Arrow => true,
+        _ => false,
+    }
+}
+
+// // before an atom
+pub fn is_literal(keyword: Keyword) -> bool
+    ensures { result ≡ is_literal keyword }
+{
+    match keyword {
+        Keyword::Literal => true,
+        _ => false,
+    }
+}
+
+// - before a pattern
+pub fn is_minus(keyword: Keyword) -> bool
+    ensures { result ≡ is_minus keyword }
+{
+    match keyword {
+        Keyword::Minus => true,
+        _ => false,
+    }
+}
+
+// << before constants
+pub fn opens_choice(keyword: Keyword) -> bool
+    ensures { result ≡ opens_choice keyword }
+{
+    match keyword {
+        Keyword::OpenChoice => true,
+        _ => false,
+    }
+}
+
+// >> behind them
+pub fn closes_choice(keyword: Keyword) -> bool
+    ensures { result ≡ closes_choice keyword }
+{
+    match keyword {
+        Keyword::CloseChoice => true,
+        _ => false,
+    }
+}
+
+pub fn pred_of(keyword: Keyword) -> Option<Pred>
+    ensures { result ≡ pred_of keyword }
+{
+    match keyword {
+        Keyword::Equal => Some(Pred::Eq),
+        Keyword::NotEqual => Some(Pred::Ne),
+        Keyword::Less => Some(Pred::Lt),
+        Keyword::AtMost => Some(Pred::Le),
+        Keyword::Greater => Some(Pred::Gt),
+        Keyword::AtLeast => Some(Pred::Ge),
+        Keyword::SameKind => Some(Pred::SameKind),
+        _ => None,
+    }
+}
+
+pub fn is_crlf(keyword: Keyword) -> bool
+    ensures { result ≡ is_crlf keyword }
+{
+    match keyword {
+        Keyword::Crlf => true,
+        _ => false,
+    }
+}
+
+// the constant that a name or a whole number is
+pub fn constant_of(kind: TokenKind, name: Sym) -> Option<Value>
+    ensures { result ≡ constant_of kind name }
+{
+    match kind {
+        TokenKind::Whole(number) => Some(Value::Whole(number)),
+        TokenKind::Symbol | TokenKind::Quoted => Some(Value::Symbol(name)),
+        _ => None,
+    }
+}
+
+// the constant that an atom is, whatever it spells
+pub fn atom_of(kind: TokenKind, name: Sym) -> Option<Value>
+    ensures { result ≡ atom_of kind name }
+{
+    match kind {
+        TokenKind::Whole(number) => Some(Value::Whole(number)),
+        TokenKind::Symbol | TokenKind::Quoted | TokenKind::Operator | TokenKind::Variable => {
+            Some(Value::Symbol(name))
+        }
+        _ => None,
+    }
+}
+
+// the constant that a value is: an atom, but a variable and //
+pub fn value_of(kind: TokenKind, name: Sym) -> Option<Value>
+    ensures { result ≡ value_of kind name }
+{
+    match kind {
+        TokenKind::Whole(number) => Some(Value::Whole(number)),
+        TokenKind::Symbol | TokenKind::Quoted | TokenKind::Operator => Some(Value::Symbol(name)),
+        _ => None,
+    }
+}
+
+// the number that a whole number from 1 on is
+pub fn natural_of(number: i64) -> Option<usize>
+    ensures { result ≡ natural_of number }
+{
+    match usize::try_from(number) {
+        Ok(0) | Err(_) => None,
+        Ok(natural) => Some(natural),
+    }
+}
+
+pub fn whole_of(kind: TokenKind) -> Option<i64>
+    ensures { result ≡ whole_of kind }
+{
+    match kind {
+        TokenKind::Whole(number) => Some(number),
+        _ => None,
+    }
+}

@@ -1,0 +1,92 @@
+//! Why words are not read.
+ghost use Rattle.std.specs.Prelude.{◌≡◌, Err, Some};
+ghost use Rattle.ops_forms.specs.Going.{Takes, ReadsClosing, IsWithin};
+ghost use Rattle.ops_forms.specs.declared.refusals.Refusal.TheVariants.{OutOfMemory as WantOfMemory};
+ghost use Rattle.ops_forms.specs.declared.refusals.ReadFault.TheVariants.{OutOfMemory as NoMemory};
+
+use crate::kinds::is_right;
+use ops_base::endings::Fault;
+use ops_base::memory::OutOfMemory;
+use ops_meaning::Word;
+use std::alloc::{AllocError, AllocFailed};
+
+/// The fault of the grammar and the word that stands where another is wanted, or `None` at the end of the text.
+#[derive(Clone, Copy, Debug, PartialEq, Eq)]
+pub enum Refusal {
+    At { fault: Fault, word: Option<Word> },
+    OutOfMemory,
+}
+
+impl From<OutOfMemory> for Refusal {
+    ghost from_gives = { λ _ e. e ≡ WantOfMemory };
+
+    fn from(_error: OutOfMemory) -> Refusal {
+        Refusal::OutOfMemory
+    }
+}
+
+impl From<AllocError> for Refusal {
+    ghost from_gives = { λ _ e. e ≡ WantOfMemory };
+
+    fn from(_error: AllocError) -> Refusal {
+        Refusal::OutOfMemory
+    }
+}
+
+impl<T: Drop> From<AllocFailed<T>> for Refusal {
+    ghost from_gives = { λ _ e. e ≡ WantOfMemory };
+
+    fn from(_error: AllocFailed<T>) -> Refusal {
+        Refusal::OutOfMemory
+    }
+}
+
+/// Why a side of a production is not read: the fault, and the byte at which it stands.
+#[derive(Clone, Copy, Debug, PartialEq, Eq)]
+pub enum ReadFault {
+    At { fault: Fault, at: usize },
+    OutOfMemory,
+}
+
+impl From<OutOfMemory> for ReadFault {
+    ghost from_gives = { λ _ e. e ≡ NoMemory };
+
+    fn from(_error: OutOfMemory) -> ReadFault {
+        ReadFault::OutOfMemory
+    }
+}
+
+pub fn refused<T>(fault: Fault, word: Word) -> Result<T, Refusal>
+    ensures { result ≡ Err (Refusal.At fault (Some word)) }
+{
+    Err(Refusal::At {
+        fault,
+        word: Some(word),
+    })
+}
+
+// the first word and those after it
+pub fn first_of(words: &[Word]) -> Result<(Word, &[Word]), Refusal>
+    ensures { Takes words.now result }
+{
+    match words {
+        [] => Err(Refusal::At {
+            fault: Fault::Unclosed,
+            word: None,
+        }),
+        [word, rest @ ..] => Ok((*word, rest)),
+    }
+}
+
+// a closing bracket and the words after it
+#[tactic(auto, unfolding(ops_meaning::specs::Grammar::goes, ops_meaning::specs::Grammar::step, ops_meaning::specs::Grammar::ends))]
+pub fn closing(words: &[Word]) -> Result<&[Word], Refusal>
+    ensures reads { ReadsClosing words.now result }
+    ensures within { IsWithin words.now result }
+{
+    let (word, rest) = first_of(words)?;
+    if !is_right(word.kind) {
+        return refused(Fault::BadForm, word);
+    }
+    Ok(rest)
+}

@@ -1,0 +1,100 @@
+//! Vector attributes: each stands last in its class.
+ghost use Rattle.std.specs.Prelude.{◌≡◌, ◌++◌, not, filter, IfOk, OnOk};
+ghost use Rattle.ops_meaning.specs.Grammar.{is_one_of, arranged, has_vector, with_vector_last};
+ghost use Rattle.ops_forms.specs.Noted.{with_last};
+
+use crate::declared::Declared;
+use ops_base::elements::Class;
+use ops_base::list::Listed;
+use ops_base::memory::OutOfMemory;
+use ops_base::values::Sym;
+use std::alloc::Global;
+
+pub fn is_one_of(name: Sym, names: &Declared<Sym>) -> bool
+    ensures { result ≡ is_one_of name names.now }
+{
+    names.place_of(name).is_some()
+}
+
+/// One of the attributes is a vector attribute.
+pub fn has_vector(vectors: &Declared<Sym>, attrs: &[Sym]) -> bool
+    ensures { result ≡ has_vector vectors.now attrs.now }
+{
+    attrs.iter().any(|attr| is_one_of(*attr, vectors))
+}
+
+pub fn has_attribute(class: &Class, name: Sym) -> bool
+    ensures { result ≡ is_one_of name class.now.attrs }
+{
+    class.attrs.as_slice().iter().any(|attr| *attr == name)
+}
+
+/// The attributes in their order, the vector attributes behind the others.
+pub fn arranged(
+    alloc: Global,
+    vectors: &Declared<Sym>,
+    attrs: &[Sym],
+) -> Result<Vec<Sym>, OutOfMemory>
+    ensures { IfOk result (λ v. v.items ≡ arranged vectors.now attrs.now) }
+{
+    let mut all = scalars_of(alloc, vectors, attrs)?;
+    add_vectors(&mut all, vectors, attrs)?;
+    Ok(all)
+}
+
+/// The attributes that are no vector attributes.
+pub fn scalars_of(
+    alloc: Global,
+    vectors: &Declared<Sym>,
+    attrs: &[Sym],
+) -> Result<Vec<Sym>, OutOfMemory>
+    ensures { IfOk result (λ v. v.items ≡ filter (λ a. not (is_one_of a vectors.now)) attrs.now) }
+{
+    let mut scalars = Vec::new(alloc);
+    for attr in attrs {
+        if !is_one_of(*attr, vectors) {
+            scalars.push(*attr)?;
+        }
+    }
+    Ok(scalars)
+}
+
+/// Adds the vector attributes.
+pub fn add_vectors(
+    all: &mut Vec<Sym>,
+    vectors: &Declared<Sym>,
+    attrs: &[Sym],
+) -> Result<(), OutOfMemory>
+    ensures { OnOk result (all.new.items ≡ all.old.items ++ filter (λ a. is_one_of a vectors.now) attrs.now) }
+{
+    for attr in attrs {
+        if is_one_of(*attr, vectors) {
+            all.push(*attr)?;
+        }
+    }
+    Ok(())
+}
+
+/// A class that has the attribute has it as its vector attribute.
+pub fn with_vector_last(alloc: Global, name: Sym, class: Class) -> Result<Class, OutOfMemory>
+    ensures { IfOk result (λ c. c ≡ with_vector_last name class) }
+{
+    if !has_attribute(&class, name) {
+        return Ok(class);
+    }
+    with_last(alloc, name, &class)
+}
+
+/// The class, with this attribute as its vector attribute.
+pub fn with_last(alloc: Global, name: Sym, class: &Class) -> Result<Class, OutOfMemory>
+    ensures { IfOk result (λ c. c ≡ with_last name class.now) }
+{
+    let mut last = Declared::new(alloc);
+    last.push(name)?;
+    let attrs = arranged(alloc, &last, class.attrs.as_slice())?;
+    Ok(Class {
+        name: class.name,
+        attrs: Listed::from_vec(attrs),
+        vector: true,
+    })
+}

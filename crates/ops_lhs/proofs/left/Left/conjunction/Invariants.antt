@@ -1,0 +1,14 @@
+use Rattle.std.proofs.Common.{◌≡◌, List, length, ◌∷◌, ◌++◌, ◌≤◌, ◌-◌, drop}
+use Rattle.ops_meaning.specs.declared.words.Word.{Word}
+use Rattle.ops_meaning.specs.Grammar.{State, Wanted, Tests, goes}
+use Rattle.ops_lhs.specs.Taking.{seen}
+use Rattle.ops_lhs.proofs.left.Left.conjunction.Given as goal
+
+abbrev pub invariant-tests : goal.invariant-tests
+invariant-tests l = record {
+  same : (more : List Word) (ws : List Wanted) (s : State) → goes (drop l.fn.at l.words ++ more) (Tests l.field ∷ ws) (seen s l.fn.self) ≡ goes (drop l.rest l.words ++ more) (Tests l.field ∷ ws) (seen s l.self);
+  from : l.fn.at ≤ l.rest;
+}
+
+abbrev pub decreases-tests : goal.decreases-tests
+decreases-tests l = length l.words - l.rest

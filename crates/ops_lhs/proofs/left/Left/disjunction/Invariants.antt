@@ -1,0 +1,14 @@
+use Rattle.std.proofs.Common.{◌≡◌, List, length, ◌∷◌, ◌++◌, ◌≤◌, ◌-◌, drop}
+use Rattle.ops_meaning.specs.declared.words.Word.{Word}
+use Rattle.ops_meaning.specs.Grammar.{State, Wanted, Choice, goes}
+use Rattle.ops_lhs.specs.Taking.{seen}
+use Rattle.ops_lhs.proofs.left.Left.disjunction.Given as goal
+
+abbrev pub invariant-choices : goal.invariant-choices
+invariant-choices l = record {
+  same : (more : List Word) (ws : List Wanted) (s : State) → goes (drop l.fn.at l.words ++ more) (Choice l.field ∷ ws) (seen s l.fn.self) ≡ goes (drop l.rest l.words ++ more) (Choice l.field ∷ ws) (seen s l.self);
+  from : l.fn.at ≤ l.rest;
+}
+
+abbrev pub decreases-choices : goal.decreases-choices
+decreases-choices l = length l.words - l.rest

@@ -1,0 +1,14 @@
+use Rattle.std.proofs.Common.{◌≡◌, List, length, ◌∷◌, ◌++◌, ◌≤◌, ◌-◌, drop}
+use Rattle.ops_meaning.specs.declared.words.Word.{Word}
+use Rattle.ops_meaning.specs.Grammar.{State, Wanted, Patterns, goes}
+use Rattle.ops_lhs.specs.Taking.{seen}
+use Rattle.ops_lhs.proofs.left.Left.patterns.Given as goal
+
+abbrev pub invariant-patterns : goal.invariant-patterns
+invariant-patterns l = record {
+  same : (more : List Word) (ws : List Wanted) (s : State) → s.classes ≡ l.classes → goes (drop l.fn.at l.words ++ more) (Patterns ∷ ws) (seen s l.fn.self) ≡ goes (drop l.rest l.words ++ more) (Patterns ∷ ws) (seen s l.self);
+  from : l.fn.at ≤ l.rest;
+}
+
+abbrev pub decreases-patterns : goal.decreases-patterns
+decreases-patterns l = length l.words - l.rest

@@ -1,0 +1,14 @@
+use Rattle.std.proofs.Common.{◌≡◌, List, length, ◌∷◌, ◌++◌, ◌≤◌, ◌-◌, drop}
+use Rattle.ops_meaning.specs.declared.words.Word.{Word}
+use Rattle.ops_meaning.specs.Grammar.{State, Wanted, InPattern, Several, goes}
+use Rattle.ops_lhs.specs.Taking.{seen}
+use Rattle.ops_lhs.proofs.left.Left.places.Given as goal
+
+abbrev pub invariant-places : goal.invariant-places
+invariant-places l = record {
+  same : (more : List Word) (ws : List Wanted) (s : State) → goes (drop l.fn.at l.words ++ more) (Several InPattern l.fn.field ∷ ws) (seen s l.fn.self) ≡ goes (drop l.rest l.words ++ more) (Several InPattern l.next ∷ ws) (seen s l.self);
+  from : l.fn.at ≤ l.rest;
+}
+
+abbrev pub decreases-places : goal.decreases-places
+decreases-places l = length l.words - l.rest

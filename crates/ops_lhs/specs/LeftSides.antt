@@ -1,0 +1,85 @@
+-- What a left side is read as.
+use Rattle.std.specs.Prelude.{◌≡◌, ℕ, ◌+◌, ◌-◌, ◌≤◌, List, [], ◌∷◌, ◌++◌, drop, slice_get, true, if◌then◌else◌, Option, Some, None}
+use Rattle.ops_base.specs.declared.elements.Class.{Class}
+use Rattle.ops_base.specs.declared.conditions.Condition.{Condition}
+use Rattle.ops_base.specs.declared.endings.Fault.{Fault}
+use Rattle.ops_base.specs.declared.endings.Fault.TheVariants as fault
+use Rattle.ops_base.specs.Valid.{cells_of}
+use Rattle.ops_tokens.specs.declared.token.Token.{Token}
+use Rattle.ops_tokens.specs.Tokens.{spelling}
+use Rattle.ops_meaning.specs.declared.words.Word.{Word}
+use Rattle.ops_meaning.specs.declared.words.Named.{Named}
+use Rattle.ops_meaning.specs.Words.{keyword_of, words_from, names_from}
+use Rattle.ops_meaning.specs.Grammar.{State, Wanted, FirstPattern, Patterns, goes, is_arrow, left_begun}
+use Rattle.ops_forms.specs.Forms.{past_last}
+use Rattle.ops_forms.specs.Going.{Way, Fails}
+use Rattle.ops_forms.specs.declared.refusals.Refusal.{Refusal}
+use Rattle.ops_forms.specs.declared.refusals.Refusal.TheVariants as refusal
+use Rattle.ops_forms.specs.declared.refusals.ReadFault.{ReadFault}
+use Rattle.ops_forms.specs.declared.refusals.ReadFault.TheVariants as answer
+use Rattle.ops_forms.specs.declared.scope.Scope.{Scope}
+
+-- ---- of words
+
+-- how it goes where a left side begins with these words
+abbrev pub left_way : List Word → State → Way
+left_way words s = λ more ws. goes (words ++ more) (FirstPattern ∷ Patterns ∷ ws) (left_begun s)
+
+-- the state behind a left side: its conditions, the variables and element variables that they bind, how many numbers of
+-- variables they gave, and nothing else of it
+abbrev pub left_read : State → List Condition → List Named → List Named → ℕ → State
+left_read s conditions values elements variables =
+    record (left_begun s) { values = values; elements = elements; variables = variables; conditions = conditions }
+
+-- Where these classes are declared, the words are read as this left side up to its arrow, and these are left behind it,
+-- whatever else was read before and is wanted afterwards.
+abbrev pub ReadsLeft : List Class → List Word → List Word → List Condition → List Named → List Named → ℕ → Type 0
+ReadsLeft classes words rest conditions values elements variables =
+    (s : State) → s.classes ≡ classes → (more : List Word) (ws : List Wanted) → left_way words s more ws ≡ goes (rest ++ more) ws (left_read s conditions values elements variables)
+
+-- where these classes are declared, the words are refused so
+abbrev pub RefusesLeft : List Class → List Word → Refusal → Type 0
+RefusesLeft classes words e = (s : State) → s.classes ≡ classes → Fails (left_way words s) e
+
+-- these words stand behind an arrow in those
+pub record AreBehindArrow (words rest : List Word) : Type 0 where
+  pub before : List Word
+  pub arrow : Word
+  pub split : words ≡ before ++ arrow ∷ rest
+  pub is : is_arrow arrow.keyword ≡ true
+
+-- ---- of tokens
+
+-- the words of the tokens from a place on, in the text and with the names of a scope
+abbrev pub words_of_scope : Scope → List Token → ℕ → List Word
+words_of_scope scope tokens from = words_from scope.text.items scope.names (drop from tokens)
+
+-- the cell of each condition where so many cells stand before: none of a negated one
+abbrev pub cells_from : ℕ → List Condition → List (Option ℕ)
+cells_from n [] = []
+cells_from n (c ∷ cs) = if c.negated then None ∷ cells_from n cs else Some n ∷ cells_from (n + 1) cs
+
+-- an arrow stands at the place
+pub record IsArrowAt (text : List ℕ) (tokens : List Token) (place : ℕ) : Type 0 where
+  pub token : Token
+  pub there : slice_get tokens place ≡ Some token
+  pub is : is_arrow (keyword_of token.kind (spelling text token)) ≡ true
+
+-- The tokens from a place on are read as these conditions up to the arrow at that place, and the scope is what the
+-- conditions leave in sight.
+pub record IsLeftSide (old new : Scope) (tokens : List Token) (from : ℕ) (conditions : List Condition) (place : ℕ) : Type 0 where
+  pub begins : from ≤ place
+  pub arrow : IsArrowAt old.text.items tokens place
+  pub reads : ReadsLeft old.classes (words_of_scope old tokens from) (drop (place + 1 - from) (words_of_scope old tokens from)) conditions new.values new.elements new.variables
+  pub names : new.names ≡ names_from old.text.items old.names (drop from tokens)
+  pub cells : new.cells ≡ cells_of conditions
+  pub conditions_are : new.conditions ≡ cells_from 0 conditions
+
+-- The tokens are refused at the first byte of a word, or where they end before the arrow, at the byte past the last.
+pub data IsRefusedAt (scope : Scope) (tokens : List Token) (from : ℕ) : Fault → ℕ → Type 0 where
+  at_word : (f : Fault) (w : Word) → RefusesLeft scope.classes (words_of_scope scope tokens from) (refusal.At f (Some w)) → IsRefusedAt scope tokens from f w.first
+  at_end : RefusesLeft scope.classes (words_of_scope scope tokens from) (refusal.At fault.Unclosed None) → IsRefusedAt scope tokens from fault.Unclosed (past_last 0 tokens)
+
+abbrev pub IsRefused : Scope → List Token → ℕ → ReadFault → Type 0
+IsRefused scope tokens from answer.OutOfMemory = Unit {0}
+IsRefused scope tokens from (answer.At f at) = IsRefusedAt scope tokens from f at

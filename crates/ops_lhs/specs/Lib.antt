@@ -1,0 +1,2 @@
+pub mod LeftSides
+pub mod Taking

@@ -1,0 +1,109 @@
+//! Conditions up to the arrow.
+ghost use Rattle.std.specs.Prelude.{◌≡◌, ◌∷◌, ◌++◌, drop, IfOk};
+ghost use Rattle.ops_meaning.specs.Grammar.{goes, more_patterns, left_ended, FirstPattern, Patterns};
+ghost use Rattle.ops_lhs.specs.Taking.{seen, GoesAmong, ReadsAmong, ActsAmong, IsFrom, IsBehindArrow};
+
+use crate::left::Left;
+use crate::testing::first_of;
+use ops_base::endings::{Fault, Limit};
+use ops_forms::kinds::{is_arrow, is_left, is_left_brace, is_minus};
+use ops_forms::refusals::refused;
+use ops_forms::{Classes, Refusal};
+use ops_meaning::Word;
+
+/// How many conditions a production may have.
+const MOST_CONDITIONS: usize = 64;
+
+impl Left {
+    // first condition* -->
+    pub fn conditions(
+        &mut self,
+        classes: &Classes,
+        words: &[Word],
+        at: usize,
+    ) -> Result<usize, Refusal>
+        ensures reads { GoesAmong classes.now (λ more ws s. goes (drop at words.now ++ more) (FirstPattern ∷ Patterns ∷ ws) (seen s self.old)) words.now (λ s. left_ended (seen s self.new)) result }
+        ensures behind { IfOk result (λ next. IsBehindArrow words.now next) }
+    {
+        match self.first_pattern(classes, words, at) {
+            Ok(rest) => return self.patterns(classes, words, rest),
+            Err(refusal) => return Err(refusal),
+        }
+    }
+
+    // positive
+    #[tactic(auto, unfolding(ops_meaning::specs::Grammar::goes, ops_meaning::specs::Grammar::step, ops_meaning::specs::Grammar::ends))]
+    fn first_pattern(
+        &mut self,
+        classes: &Classes,
+        words: &[Word],
+        at: usize,
+    ) -> Result<usize, Refusal>
+        ensures reads { ReadsAmong classes.now FirstPattern self.old self.new words.now at result }
+        ensures within { IsFrom at result }
+    {
+        let (word, rest) = first_of(words, at)?;
+        if is_left(word.kind) {
+            return self.element(classes, words, rest);
+        }
+        if is_left_brace(word.kind) {
+            return self.braced(classes, words, rest);
+        }
+        if is_minus(word.keyword) {
+            return refused(Fault::FirstNegated, word);
+        }
+        refused(Fault::BadForm, word)
+    }
+
+    // condition* -->
+    #[tactic(auto, unfolding(ops_meaning::specs::Grammar::goes, ops_meaning::specs::Grammar::step, ops_meaning::specs::Grammar::ends))]
+    fn patterns(&mut self, classes: &Classes, words: &[Word], at: usize) -> Result<usize, Refusal>
+        ensures reads { GoesAmong classes.now (λ more ws s. goes (drop at words.now ++ more) (Patterns ∷ ws) (seen s self.old)) words.now (λ s. left_ended (seen s self.new)) result }
+        ensures behind { IfOk result (λ next. IsBehindArrow words.now next) }
+    {
+        let mut rest = at;
+        'patterns: loop {
+            let (word, after) = first_of(words, rest)?;
+            if is_arrow(word.keyword) {
+                return Ok(after);
+            }
+            match self.condition(classes, word, words, after) {
+                Ok(next) => rest = next,
+                Err(refusal) => return Err(refusal),
+            }
+        }
+    }
+
+    // positive | - pattern, of which the first word is taken, where there is room for one more
+    fn condition(
+        &mut self,
+        classes: &Classes,
+        word: Word,
+        words: &[Word],
+        at: usize,
+    ) -> Result<usize, Refusal>
+        ensures acts { ActsAmong classes.now (λ ws s. more_patterns word ws s) word self.old self.new words.now at result }
+        ensures within { IsFrom at result }
+    {
+        if !is_left(word.kind) && !is_left_brace(word.kind) && !is_minus(word.keyword) {
+            return refused(Fault::BadForm, word);
+        }
+        if self.conditions.len() >= MOST_CONDITIONS {
+            return refused(
+                Fault::LimitPassed {
+                    limit: Limit::Conditions,
+                },
+                word,
+            );
+        }
+        if is_left(word.kind) {
+            return self.element(classes, words, at);
+        }
+        if is_left_brace(word.kind) {
+            return self.braced(classes, words, at);
+        }
+        self.negated = true;
+        self.around = self.values.len();
+        self.pattern(classes, words, at)
+    }
+}

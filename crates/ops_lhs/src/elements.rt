@@ -1,0 +1,118 @@
+//! Element variables.
+ghost use Rattle.std.specs.Prelude.{◌≡◌, ◌∷◌, ◌++◌, drop};
+ghost use Rattle.ops_meaning.specs.Grammar.{goes, element_name, InPattern, Pattern, Braced, ElementName, ClosesBrace, ClassName, Terms};
+ghost use Rattle.ops_lhs.specs.Taking.{seen, GoesOn, Reads, Acts, GoesAmong, ReadsAmong, ActsAmong, IsFrom};
+
+use crate::left::Left;
+use crate::testing::first_of;
+use ops_base::endings::Fault;
+use ops_forms::kinds::{is_left, is_right_brace, is_variable};
+use ops_forms::refusals::refused;
+use ops_forms::{Classes, Refusal, number_of};
+use ops_meaning::Word;
+
+impl Left {
+    // VARIABLE pattern } | pattern VARIABLE }
+    #[tactic(auto, unfolding(ops_meaning::specs::Grammar::goes, ops_meaning::specs::Grammar::step, ops_meaning::specs::Grammar::ends))]
+    pub fn braced(&mut self, classes: &Classes, words: &[Word], at: usize) -> Result<usize, Refusal>
+        ensures reads { ReadsAmong classes.now Braced self.old self.new words.now at result }
+        ensures within { IsFrom at result }
+    {
+        let (word, rest) = first_of(words, at)?;
+        if is_left(word.kind) {
+            return self.pattern_then_name(classes, words, rest);
+        }
+        self.name_then_pattern(classes, word, words, rest)
+    }
+
+    // CLASS term* ) VARIABLE }
+    fn pattern_then_name(
+        &mut self,
+        classes: &Classes,
+        words: &[Word],
+        at: usize,
+    ) -> Result<usize, Refusal>
+        ensures reads { GoesAmong classes.now (λ more ws s. goes (drop at words.now ++ more) (ClassName ∷ Terms InPattern ∷ ElementName ∷ ClosesBrace ∷ ws) (seen s self.old)) words.now (λ s. seen s self.new) result }
+        ensures within { IsFrom at result }
+    {
+        match self.element(classes, words, at) {
+            Ok(rest) => return self.name_and_brace(words, rest),
+            Err(refusal) => return Err(refusal),
+        }
+    }
+
+    // VARIABLE pattern }, of which the first word is taken
+    fn name_then_pattern(
+        &mut self,
+        classes: &Classes,
+        word: Word,
+        words: &[Word],
+        at: usize,
+    ) -> Result<usize, Refusal>
+        ensures acts { ActsAmong classes.now (λ ws s. element_name word (Pattern ∷ ClosesBrace ∷ ws) s) word self.old self.new words.now at result }
+        ensures within { IsFrom at result }
+    {
+        match self.element_name(word, words, at) {
+            Ok(rest) => return self.pattern_and_brace(classes, words, rest),
+            Err(refusal) => return Err(refusal),
+        }
+    }
+
+    // pattern }
+    fn pattern_and_brace(
+        &mut self,
+        classes: &Classes,
+        words: &[Word],
+        at: usize,
+    ) -> Result<usize, Refusal>
+        ensures reads { GoesAmong classes.now (λ more ws s. goes (drop at words.now ++ more) (Pattern ∷ ClosesBrace ∷ ws) (seen s self.old)) words.now (λ s. seen s self.new) result }
+        ensures within { IsFrom at result }
+    {
+        match self.pattern(classes, words, at) {
+            Ok(rest) => return self.closing_brace(words, rest),
+            Err(refusal) => return Err(refusal),
+        }
+    }
+
+    // VARIABLE }
+    #[tactic(auto, unfolding(ops_meaning::specs::Grammar::goes, ops_meaning::specs::Grammar::step, ops_meaning::specs::Grammar::ends))]
+    fn name_and_brace(&mut self, words: &[Word], at: usize) -> Result<usize, Refusal>
+        ensures reads { GoesOn (λ more ws s. goes (drop at words.now ++ more) (ElementName ∷ ClosesBrace ∷ ws) (seen s self.old)) words.now self.new result }
+        ensures within { IsFrom at result }
+    {
+        let (word, rest) = first_of(words, at)?;
+        match self.element_name(word, words, rest) {
+            Ok(rest) => return self.closing_brace(words, rest),
+            Err(refusal) => return Err(refusal),
+        }
+    }
+
+    // VARIABLE, which is the word, and was not bound in this left side
+    fn element_name(&mut self, word: Word, words: &[Word], at: usize) -> Result<usize, Refusal>
+        ensures acts { Acts (λ ws s. element_name word ws s) word self.old self.new words.now at result }
+        ensures within { IsFrom at result }
+    {
+        if !is_variable(word.kind) {
+            return refused(Fault::BadForm, word);
+        }
+        if number_of(&self.elements, word.name).is_some() {
+            return refused(Fault::BadDesignator, word);
+        }
+        self.element = word.name;
+        Ok(at)
+    }
+
+    // }
+    #[tactic(auto, unfolding(ops_meaning::specs::Grammar::goes, ops_meaning::specs::Grammar::step, ops_meaning::specs::Grammar::ends))]
+    fn closing_brace(&mut self, words: &[Word], at: usize) -> Result<usize, Refusal>
+        ensures reads { Reads ClosesBrace self.old self.new words.now at result }
+        ensures within { IsFrom at result }
+    {
+        let (word, rest) = first_of(words, at)?;
+        if !is_right_brace(word.kind) {
+            return refused(Fault::BadForm, word);
+        }
+        self.bind_element()?;
+        Ok(rest)
+    }
+}

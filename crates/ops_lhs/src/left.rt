@@ -1,0 +1,118 @@
+//! What was read so far of a left side, and how it grows.
+ghost use Rattle.std.specs.Prelude.{◌≡◌};
+ghost use Rattle.ops_meaning.specs.Grammar.{nothing_read, left_begun, with_test, with_bound, with_choice, with_condition, with_bound_element};
+ghost use Rattle.ops_lhs.specs.Taking.{view, Becomes};
+
+use ops_base::conditions::{Condition, Operand, Test};
+use ops_base::list::Listed;
+use ops_base::values::{NIL, Pred, Sym, Value};
+use ops_forms::fields::count_cells;
+use ops_forms::{Declared, Named, Refusal};
+use std::alloc::Global;
+use std::mem;
+
+/// What was read so far of a left side.
+#[derive(Drop)]
+pub struct Left {
+    /// The class, the tests and the constants of a disjunction of the condition that is being read.
+    pub class: usize,
+    pub tests: Vec<Test>,
+    pub choice: Vec<Value>,
+    pub values: Declared<Named>,
+    pub elements: Declared<Named>,
+    /// The element variable of the condition that is being read.
+    pub element: Sym,
+    pub variables: usize,
+    pub negated: bool,
+    /// How many variables are in sight around a negated condition.
+    pub around: usize,
+    pub conditions: Vec<Condition>,
+    pub alloc: Global,
+}
+
+impl Left {
+    pub fn new(alloc: Global) -> Left
+        ensures { view result ≡ left_begun nothing_read }
+    {
+        Left {
+            class: 0,
+            tests: Vec::new(alloc),
+            choice: Vec::new(alloc),
+            values: Declared::new(alloc),
+            elements: Declared::new(alloc),
+            element: NIL,
+            variables: 0,
+            negated: false,
+            around: 0,
+            conditions: Vec::new(alloc),
+            alloc,
+        }
+    }
+
+    pub fn add_test(
+        &mut self,
+        field: usize,
+        pred: Pred,
+        operand: Operand,
+        binds: bool,
+    ) -> Result<(), Refusal>
+        ensures { Becomes (view self.new) (with_test (view self.old) field pred operand binds) result }
+    {
+        self.tests.push(Test {
+            field,
+            pred,
+            operand,
+            binds,
+        })?;
+        Ok(())
+    }
+
+    // the first place of a variable binds it
+    pub fn add_bound(&mut self, field: usize, name: Sym) -> Result<(), Refusal>
+        ensures { Becomes (view self.new) (with_bound (view self.old) field name) result }
+    {
+        let number = self.variables;
+        self.values.push(Named { name, number })?;
+        self.variables = number.checked_add(1).ok_or(Refusal::OutOfMemory)?;
+        self.add_test(field, Pred::Eq, Operand::Variable(number), true)
+    }
+
+    // a disjunction ends
+    pub fn end_choice(&mut self, field: usize) -> Result<(), Refusal>
+        ensures { Becomes (view self.new) (with_choice (view self.old) field) result }
+    {
+        let none = Vec::new(self.alloc);
+        let values = Listed::from_vec(mem::replace(&mut self.choice, none));
+        self.add_test(field, Pred::Eq, Operand::OneOf(values), false)
+    }
+
+    // A condition ends. The variables of a negated one are out of sight behind it.
+    pub fn end_condition(&mut self) -> Result<(), Refusal>
+        ensures { Becomes (view self.new) (with_condition (view self.old)) result }
+    {
+        let none = Vec::new(self.alloc);
+        let tests = Listed::from_vec(mem::replace(&mut self.tests, none));
+        self.conditions.push(Condition {
+            class: self.class,
+            negated: self.negated,
+            tests,
+        })?;
+        if self.negated {
+            self.values.truncate(self.around);
+        }
+        self.negated = false;
+        Ok(())
+    }
+
+    // the element variable names the cell of the condition that was read last
+    pub fn bind_element(&mut self) -> Result<(), Refusal>
+        ensures { Becomes (view self.new) (with_bound_element (view self.old)) result }
+    {
+        let cells = count_cells(&self.conditions);
+        self.elements.push(Named {
+            name: self.element,
+            number: cells.saturating_sub(1),
+        })?;
+        Ok(())
+    }
+}

@@ -1,0 +1,111 @@
+//! Patterns: a class with attributes and tests.
+ghost use Rattle.std.specs.Prelude.{◌≡◌, ◌∷◌, ◌++◌, drop};
+ghost use Rattle.ops_meaning.specs.Grammar.{goes, InPattern, ClassName, Terms, Attribute, Pattern};
+ghost use Rattle.ops_lhs.specs.Taking.{seen, GoesAmong, GoesToTermsAmong, ReadsAmong, IsFrom};
+
+use crate::left::Left;
+use crate::testing::first_of;
+use ops_base::endings::Fault;
+use ops_forms::fields::{field_of, is_vector};
+use ops_forms::kinds::{is_caret, is_left, is_name, is_right};
+use ops_forms::refusals::refused;
+use ops_forms::{Classes, Refusal};
+use ops_meaning::Word;
+
+impl Left {
+    // ( CLASS term* )
+    #[tactic(auto, unfolding(ops_meaning::specs::Grammar::goes, ops_meaning::specs::Grammar::step, ops_meaning::specs::Grammar::ends))]
+    pub fn pattern(
+        &mut self,
+        classes: &Classes,
+        words: &[Word],
+        at: usize,
+    ) -> Result<usize, Refusal>
+        ensures reads { ReadsAmong classes.now Pattern self.old self.new words.now at result }
+        ensures within { IsFrom at result }
+    {
+        let (word, rest) = first_of(words, at)?;
+        if !is_left(word.kind) {
+            return refused(Fault::BadForm, word);
+        }
+        self.element(classes, words, rest)
+    }
+
+    // CLASS term* )
+    pub fn element(
+        &mut self,
+        classes: &Classes,
+        words: &[Word],
+        at: usize,
+    ) -> Result<usize, Refusal>
+        ensures reads { GoesAmong classes.now (λ more ws s. goes (drop at words.now ++ more) (ClassName ∷ Terms InPattern ∷ ws) (seen s self.old)) words.now (λ s. seen s self.new) result }
+        ensures within { IsFrom at result }
+    {
+        match self.class_name(classes, words, at) {
+            Ok(rest) => return self.terms(classes, words, rest),
+            Err(refusal) => return Err(refusal),
+        }
+    }
+
+    // CLASS
+    #[tactic(auto, unfolding(ops_meaning::specs::Grammar::goes, ops_meaning::specs::Grammar::step, ops_meaning::specs::Grammar::ends))]
+    fn class_name(&mut self, classes: &Classes, words: &[Word], at: usize) -> Result<usize, Refusal>
+        ensures reads { ReadsAmong classes.now ClassName self.old self.new words.now at result }
+        ensures within { IsFrom at result }
+    {
+        let (word, rest) = first_of(words, at)?;
+        if !is_name(word.kind) {
+            return refused(Fault::BadForm, word);
+        }
+        let Some(class) = classes.place_of(word.name) else {
+            return refused(Fault::UnknownClass, word);
+        };
+        self.class = class;
+        Ok(rest)
+    }
+
+    // term* )
+    #[tactic(auto, unfolding(ops_meaning::specs::Grammar::goes, ops_meaning::specs::Grammar::step, ops_meaning::specs::Grammar::ends))]
+    fn terms(&mut self, classes: &Classes, words: &[Word], at: usize) -> Result<usize, Refusal>
+        ensures reads { ReadsAmong classes.now (Terms InPattern) self.old self.new words.now at result }
+        ensures within { IsFrom at result }
+    {
+        let mut rest = at;
+        'terms: loop {
+            let (word, after) = first_of(words, rest)?;
+            if is_right(word.kind) {
+                self.end_condition()?;
+                return Ok(after);
+            }
+            if !is_caret(word.kind) {
+                return refused(Fault::BadForm, word);
+            }
+            match self.attribute(classes, words, after) {
+                Ok(next) => rest = next,
+                Err(refusal) => return Err(refusal),
+            }
+        }
+    }
+
+    // ATTR place*
+    #[tactic(auto, unfolding(ops_meaning::specs::Grammar::goes, ops_meaning::specs::Grammar::step, ops_meaning::specs::Grammar::ends))]
+    fn attribute(&mut self, classes: &Classes, words: &[Word], at: usize) -> Result<usize, Refusal>
+        ensures reads { GoesToTermsAmong classes.now (λ more ws s. goes (drop at words.now ++ more) (Attribute InPattern ∷ ws) (seen s self.old)) words.now self.new result }
+        ensures within { IsFrom at result }
+    {
+        let (word, rest) = first_of(words, at)?;
+        if !is_name(word.kind) {
+            return refused(Fault::BadForm, word);
+        }
+        let Some(class) = classes.get(self.class) else {
+            return refused(Fault::UnknownAttribute, word);
+        };
+        let Some(field) = field_of(class, word.name) else {
+            return refused(Fault::UnknownAttribute, word);
+        };
+        if is_vector(class, field) {
+            return self.places(field, words, rest);
+        }
+        self.place(field, words, rest)
+    }
+}

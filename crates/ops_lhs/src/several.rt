@@ -1,0 +1,92 @@
+//! The places of a vector attribute.
+ghost use Rattle.std.specs.Prelude.{◌≡◌, ◌∷◌, ◌++◌, ◌||◌, drop, is_some, nat_lt, Err, Some};
+ghost use Rattle.ops_base.specs.Valid.{most_fields};
+ghost use Rattle.ops_meaning.specs.Grammar.{goes, is_right, is_caret, is_literal, is_variable, constant_of, place, within, InPattern, Several};
+ghost use Rattle.ops_lhs.specs.Taking.{seen, GoesToTerms, Acts, IsFrom, begins_place};
+
+use crate::left::Left;
+use crate::testing::first_of;
+use ops_base::endings::{Fault, Limit};
+use ops_forms::Refusal;
+use ops_forms::fields::MOST_FIELDS;
+use ops_forms::kinds::{
+    constant_of, is_caret, is_left_brace, is_literal, is_right, is_variable, opens_choice, pred_of,
+};
+use ops_forms::refusals::refused;
+use ops_meaning::Word;
+
+impl Left {
+    // place*
+    #[tactic(auto, unfolding(ops_meaning::specs::Grammar::goes, ops_meaning::specs::Grammar::step, ops_meaning::specs::Grammar::ends))]
+    pub fn places(&mut self, field: usize, words: &[Word], at: usize) -> Result<usize, Refusal>
+        ensures reads { GoesToTerms (λ more ws s. goes (drop at words.now ++ more) (Several InPattern field ∷ ws) (seen s self.old)) words.now self.new result }
+        ensures within { IsFrom at result }
+    {
+        let mut next = field;
+        let mut rest = at;
+        'places: loop {
+            let (word, after) = first_of(words, rest)?;
+            if ends_places(word) {
+                return Ok(rest);
+            }
+            match self.place_within(next, word, words, after) {
+                Ok(behind) => rest = behind,
+                Err(refusal) => return Err(refusal),
+            }
+            next = next.checked_add(1).ok_or(Refusal::OutOfMemory)?;
+        }
+    }
+
+    // a place of which the first word is taken, where an element has room for its field
+    fn place_within(
+        &mut self,
+        field: usize,
+        word: Word,
+        words: &[Word],
+        at: usize,
+    ) -> Result<usize, Refusal>
+        ensures acts { Acts (λ ws s. within (nat_lt field most_fields) (place field word ws s)) word self.old self.new words.now at result }
+        ensures within { IsFrom at result }
+    {
+        if begins_place(word) && field >= MOST_FIELDS {
+            return passed(word);
+        }
+        self.place_from(field, word, words, at)
+    }
+}
+
+// more attributes come, or the element ends
+fn ends_places(word: Word) -> bool
+    ensures { result ≡ (is_right word.kind || is_caret word.kind) }
+{
+    is_right(word.kind) || is_caret(word.kind)
+}
+
+fn begins_place(word: Word) -> bool
+    ensures { result ≡ begins_place word }
+{
+    is_left_brace(word.kind)
+        || opens_choice(word.keyword)
+        || pred_of(word.keyword).is_some()
+        || begins_operand(word)
+}
+
+fn begins_operand(word: Word) -> bool
+    ensures { result ≡ (is_literal word.keyword || (is_some (constant_of word.kind word.name) || is_variable word.kind)) }
+{
+    is_literal(word.keyword)
+        || constant_of(word.kind, word.name).is_some()
+        || is_variable(word.kind)
+}
+
+// the word would take the 128th field of an element, its class counted
+fn passed<T>(word: Word) -> Result<T, Refusal>
+    ensures { result ≡ Err (Refusal.At (Fault.LimitPassed Limit.Fields) (Some word)) }
+{
+    refused(
+        Fault::LimitPassed {
+            limit: Limit::Fields,
+        },
+        word,
+    )
+}

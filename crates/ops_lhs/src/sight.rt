@@ -1,0 +1,57 @@
+//! What a left side leaves in sight.
+ghost use Rattle.std.specs.Prelude.{◌≡◌, IfOk, OnOk, OnErr};
+ghost use Rattle.ops_base.specs.Valid.{cells_of};
+ghost use Rattle.ops_lhs.specs.LeftSides.{cells_from};
+
+use crate::sides::LeftSide;
+use ops_base::conditions::Condition;
+use ops_base::list::Listed;
+use ops_base::memory::OutOfMemory;
+use ops_forms::Scope;
+use std::alloc::Global;
+
+// Leaves in the scope what the left side leaves in sight, and nothing of an earlier one, and answers the conditions.
+pub fn show(alloc: Global, scope: &mut Scope, side: LeftSide) -> Result<Vec<Condition>, OutOfMemory>
+    ensures conditions { IfOk result (λ conditions. conditions.items ≡ side.conditions.items) }
+    ensures ok { OnOk result (scope.new ≡ record scope.old { values = side.values; elements = side.elements; variables = side.variables; cells = cells_of side.conditions.items; conditions = cells_from 0 side.conditions.items }) }
+    ensures err { OnErr result (scope.new ≡ scope.old) }
+{
+    let cells = cells_of(alloc, &side.conditions)?;
+    let conditions = cells_from(alloc, &side.conditions)?;
+    scope.values = side.values;
+    scope.elements = side.elements;
+    scope.variables = side.variables;
+    scope.cells = cells;
+    scope.conditions = conditions;
+    Ok(side.conditions)
+}
+
+// the class of each cell
+fn cells_of(alloc: Global, conditions: &[Condition]) -> Result<Listed<usize>, OutOfMemory>
+    ensures { IfOk result (λ cells. cells ≡ cells_of conditions.now) }
+{
+    let mut cells = Listed::new(alloc);
+    for condition in conditions {
+        if !condition.negated {
+            cells.push(condition.class)?;
+        }
+    }
+    Ok(cells)
+}
+
+// the cell of each condition
+fn cells_from(alloc: Global, conditions: &[Condition]) -> Result<Listed<Option<usize>>, OutOfMemory>
+    ensures { IfOk result (λ cells. cells ≡ cells_from 0 conditions.now) }
+{
+    let mut cells = Listed::new(alloc);
+    let mut next = 0;
+    for condition in conditions {
+        if condition.negated {
+            cells.push(None)?;
+        } else {
+            cells.push(Some(next))?;
+            next += 1;
+        }
+    }
+    Ok(cells)
+}

@@ -1,0 +1,205 @@
+//! Tests of a condition.
+ghost use Rattle.std.specs.Prelude.{◌≡◌};
+ghost use Rattle.ops_meaning.specs.Grammar.{goes, number_of, place, test, tested, variable_tested, atom_at, Place, Tests, Tested, Choice, Atom, ToTest};
+ghost use Rattle.ops_lhs.specs.Taking.{Reads, Acts, Takes, IsFrom};
+
+use crate::left::Left;
+use ops_base::conditions::Operand;
+use ops_base::endings::Fault;
+use ops_base::values::Pred;
+use ops_forms::kinds::{
+    atom_of, closes_choice, constant_of, is_left_brace, is_literal, is_right_brace, is_variable,
+    opens_choice, pred_of,
+};
+use ops_forms::refusals::refused;
+use ops_forms::{Refusal, number_of};
+use ops_meaning::Word;
+
+/// The word at a place, and the place behind it.
+pub fn first_of(words: &[Word], at: usize) -> Result<(Word, usize), Refusal>
+    ensures { Takes words.now at result }
+{
+    match words.get(at) {
+        Some(word) => Ok((*word, at + 1)),
+        None => Err(Refusal::At {
+            fault: Fault::Unclosed,
+            word: None,
+        }),
+    }
+}
+
+impl Left {
+    // test | { test* }
+    #[tactic(auto, unfolding(ops_meaning::specs::Grammar::goes, ops_meaning::specs::Grammar::step, ops_meaning::specs::Grammar::ends))]
+    pub fn place(&mut self, field: usize, words: &[Word], at: usize) -> Result<usize, Refusal>
+        ensures reads { Reads (Place field) self.old self.new words.now at result }
+        ensures within { IsFrom at result }
+    {
+        let (word, rest) = first_of(words, at)?;
+        self.place_from(field, word, words, rest)
+    }
+
+    // test | { test* }, of which the first word is taken
+    pub fn place_from(
+        &mut self,
+        field: usize,
+        word: Word,
+        words: &[Word],
+        at: usize,
+    ) -> Result<usize, Refusal>
+        ensures acts { Acts (λ ws s. place field word ws s) word self.old self.new words.now at result }
+        ensures within { IsFrom at result }
+    {
+        if is_left_brace(word.kind) {
+            return self.conjunction(field, words, at);
+        }
+        self.test(field, word, words, at)
+    }
+
+    // test* }
+    #[tactic(auto, unfolding(ops_meaning::specs::Grammar::goes, ops_meaning::specs::Grammar::step, ops_meaning::specs::Grammar::ends))]
+    fn conjunction(&mut self, field: usize, words: &[Word], at: usize) -> Result<usize, Refusal>
+        ensures reads { Reads (Tests field) self.old self.new words.now at result }
+        ensures within { IsFrom at result }
+    {
+        let mut rest = at;
+        'tests: loop {
+            let (word, after) = first_of(words, rest)?;
+            if is_right_brace(word.kind) {
+                return Ok(after);
+            }
+            match self.test(field, word, words, after) {
+                Ok(next) => rest = next,
+                Err(refusal) => return Err(refusal),
+            }
+        }
+    }
+
+    // constant | VARIABLE | PRED constant | PRED VARIABLE | << atom* >>, of which the first word is taken
+    fn test(
+        &mut self,
+        field: usize,
+        word: Word,
+        words: &[Word],
+        at: usize,
+    ) -> Result<usize, Refusal>
+        ensures acts { Acts (λ ws s. test field word ws s) word self.old self.new words.now at result }
+        ensures within { IsFrom at result }
+    {
+        if opens_choice(word.keyword) {
+            self.choice.clear();
+            return self.disjunction(field, words, at);
+        }
+        match pred_of(word.keyword) {
+            Some(pred) => self.tested(field, pred, words, at),
+            None => self.operand(field, Pred::Eq, word, words, at),
+        }
+    }
+
+    // constant | VARIABLE
+    #[tactic(auto, unfolding(ops_meaning::specs::Grammar::goes, ops_meaning::specs::Grammar::step, ops_meaning::specs::Grammar::ends))]
+    fn tested(
+        &mut self,
+        field: usize,
+        pred: Pred,
+        words: &[Word],
+        at: usize,
+    ) -> Result<usize, Refusal>
+        ensures reads { Reads (Tested field pred) self.old self.new words.now at result }
+        ensures within { IsFrom at result }
+    {
+        let (word, rest) = first_of(words, at)?;
+        self.operand(field, pred, word, words, rest)
+    }
+
+    // constant | VARIABLE, of which the first word is taken
+    fn operand(
+        &mut self,
+        field: usize,
+        pred: Pred,
+        word: Word,
+        words: &[Word],
+        at: usize,
+    ) -> Result<usize, Refusal>
+        ensures acts { Acts (λ ws s. tested field pred word ws s) word self.old self.new words.now at result }
+        ensures within { IsFrom at result }
+    {
+        if is_literal(word.keyword) {
+            return self.atom(field, pred, words, at);
+        }
+        if let Some(constant) = constant_of(word.kind, word.name) {
+            self.add_test(field, pred, Operand::Constant(constant), false)?;
+            return Ok(at);
+        }
+        if !is_variable(word.kind) {
+            return refused(Fault::BadForm, word);
+        }
+        self.variable(field, pred, word, words, at)
+    }
+
+    // atom
+    #[tactic(auto, unfolding(ops_meaning::specs::Grammar::goes, ops_meaning::specs::Grammar::step, ops_meaning::specs::Grammar::ends))]
+    fn atom(
+        &mut self,
+        field: usize,
+        pred: Pred,
+        words: &[Word],
+        at: usize,
+    ) -> Result<usize, Refusal>
+        ensures reads { Reads (Atom (ToTest field pred)) self.old self.new words.now at result }
+        ensures within { IsFrom at result }
+    {
+        let (word, rest) = first_of(words, at)?;
+        let Some(value) = atom_of(word.kind, word.name) else {
+            return refused(Fault::BadForm, word);
+        };
+        self.add_test(field, pred, Operand::Constant(value), false)?;
+        Ok(rest)
+    }
+
+    // the first place of a variable binds it, by an equality
+    fn variable(
+        &mut self,
+        field: usize,
+        pred: Pred,
+        word: Word,
+        words: &[Word],
+        at: usize,
+    ) -> Result<usize, Refusal>
+        ensures acts { Acts (λ ws s. variable_tested field pred (number_of word.name s.values) word.name ws s) word self.old self.new words.now at result }
+        ensures within { IsFrom at result }
+    {
+        if let Some(number) = number_of(&self.values, word.name) {
+            self.add_test(field, pred, Operand::Variable(number), false)?;
+            return Ok(at);
+        }
+        match pred {
+            Pred::Eq => self.add_bound(field, word.name)?,
+            Pred::Ne | Pred::Lt | Pred::Le | Pred::Gt | Pred::Ge | Pred::SameKind => {
+                return refused(Fault::UnboundVariable, word);
+            }
+        }
+        Ok(at)
+    }
+
+    // atom* >>
+    #[tactic(auto, unfolding(ops_meaning::specs::Grammar::goes, ops_meaning::specs::Grammar::step, ops_meaning::specs::Grammar::ends))]
+    fn disjunction(&mut self, field: usize, words: &[Word], at: usize) -> Result<usize, Refusal>
+        ensures reads { Reads (Choice field) self.old self.new words.now at result }
+        ensures within { IsFrom at result }
+    {
+        let mut rest = at;
+        'choices: loop {
+            let (word, after) = first_of(words, rest)?;
+            if closes_choice(word.keyword) {
+                self.end_choice(field)?;
+                return Ok(after);
+            }
+            let Some(value) = atom_of(word.kind, word.name) else {
+                return refused(Fault::BadForm, word);
+            };
+            self.choice.push(value)?;
+            rest = after;
+        }
+    }
+}
