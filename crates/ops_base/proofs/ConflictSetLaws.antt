@@ -1,5 +1,6 @@
 -- The conflict set as it is computed is the conflict set as it is defined, and no other list is.
-use Rattle.std.proofs.Common.{◌≡◌, ℕ, zero, suc, ◌+◌, ◌<◌, List, [], ◌∷◌, Some, refl, ap, sym, ◌∙◌, subst, inl, inr, arith}
+use Rattle.std.proofs.Common.{◌≡◌, ℕ, zero, suc, ◌+◌, ◌<◌, List, [], ◌∷◌, length, All, Some, refl, ap, sym, ◌∙◌, subst, inl, inr, arith}
+use Rattle.std.proofs.lemmas.List.Elements.{All-nil, All-cons, All-append}
 use Rattle.std.specs.Prelude.{slice_get}
 use Rattle.ops_base.specs.declared.elements.Element.{Element}
 use Rattle.ops_base.specs.declared.direct.Partial.{Partial}
@@ -7,7 +8,7 @@ use Rattle.ops_base.specs.declared.rules.Rule.{Rule}
 use Rattle.ops_base.specs.declared.rules.Inst.{Inst}
 use Rattle.ops_base.specs.WorkingMemory.{HasRisingTags}
 use Rattle.ops_base.specs.ConflictSet.{matches_of, insts_of, insts_from, conflict_set}
-use Rattle.ops_base.specs.Instances.{IsMember, Meets, IsInst, TagsBefore, Before, IsInOrder, IsConflictSet}
+use Rattle.ops_base.specs.Instances.{IsMember, Meets, IsInst, TagsBefore, Before, IsInOrder, IsConflictSet, AreOf}
 use Rattle.ops_base.proofs.Members.{member_left, member_right, member_cases, member-map, map_member}
 use Rattle.ops_base.proofs.WalkFinds.{matches_of-meets, meets-matches_of}
 use Rattle.ops_base.proofs.InOrder.{AllBefore, PartialBefore, all_before-append, all_before-map, matches_in_order}
@@ -174,3 +175,18 @@ computed_is rules wm set h e =
 pub computed_only : (rules : List Rule) (wm : List Element) (set : List Inst) → HasRisingTags wm → set ≡ conflict_set rules wm → (other : List Inst) → IsConflictSet rules wm other → other ≡ set
 computed_only rules wm set h e other is =
     conflict_set_only rules wm (conflict_set rules wm) other (conflict_set-is rules wm h) is ∙ sym e
+
+-- ---- each instantiation is of one of the rules
+
+insts_of-within : (n m : ℕ) → n < m → (ps : List Partial) → All (λ (i : Inst). i.rule < m) (insts_of n ps)
+insts_of-within n m lt [] = All-nil (λ (i : Inst). i.rule < m)
+insts_of-within n m lt (p ∷ ps) = All-cons (λ (i : Inst). i.rule < m) (inst n p.tags) (insts_of n ps) lt (insts_of-within n m lt ps)
+
+insts_from-within : (n m : ℕ) (rules : List Rule) (wm : List Element) → n + length rules ≡ m → All (λ (i : Inst). i.rule < m) (insts_from n rules wm)
+insts_from-within n m [] wm e = All-nil (λ (i : Inst). i.rule < m)
+insts_from-within n m (r ∷ rs) wm e =
+    All-append (λ (i : Inst). i.rule < m) (insts_of n (matches_of wm r.conditions)) (insts_from (n + 1) rs wm)
+    (insts_of-within n m (omega (arith, e)) (matches_of wm r.conditions)) (insts_from-within (n + 1) m rs wm (omega (arith, e)))
+
+pub computed_of : (rules : List Rule) (wm : List Element) (set : List Inst) → set ≡ conflict_set rules wm → AreOf rules set
+computed_of rules wm set is = let P : List Inst → Type 0 = AreOf rules in subst P (sym is) (insts_from-within 0 (length rules) rules wm (omega arith))

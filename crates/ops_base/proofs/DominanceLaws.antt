@@ -1,79 +1,39 @@
 -- Dominance is a strict total order of instantiations, and the dominant one of a list is the one that dominates all others.
-use Rattle.std.proofs.Common.{◌≡◌, ◌≢◌, ℕ, List, [], ◌∷◌, Bool, true, false, cond, not, ◌==◌, Option, Some, None, refl, ap, sym, ◌∙◌, subst, inl, inr, ◌⊎◌, arith, fold}
+use Rattle.std.proofs.Common.{◌≡◌, ◌≢◌, ℕ, List, [], ◌∷◌, Bool, true, false, cond, not, Option, Some, None, refl, ap, sym, ◌∙◌, subst, inl, inr, ◌⊎◌, fold}
 use Rattle.std.specs.Prelude.{IsTrue}
 use Rattle.std.specs.Option.{MatchOption}
 use Rattle.std.specs.Cmp.{IsTotalOrder}
 use Rattle.std.specs.Cmp.Lexicographic.{slice_cmp}
 use Rattle.std.specs.declared.cmp.Ordering.{Ordering}
 use Rattle.std.specs.declared.cmp.Ordering.TheVariants.{Less, Equal, Greater}
-use Rattle.std.specs.Ordering.{nat_cmp, ordering_then, ordering_reverse, on, flip_args, then_cmp, is_gt}
+use Rattle.std.specs.Ordering.{nat_cmp, ordering_then, ordering_reverse, is_gt}
 use Rattle.std.proofs.lemmas.Cmp.{nat_cmp_total, nat_list_cmp_total, on_total, then_total, back_total, tied_itself, upto, ranked}
-use Rattle.std.proofs.lemmas.Bool.Decides.{nat_tests}
+use Rattle.std.proofs.lemmas.Map.Lookups.{exact_bytes}
 use Rattle.std.proofs.lemmas.Bool.{false≢true}
 use Rattle.std.specs.Bool.{Decides}
 use Rattle.ops_base.specs.declared.rules.Rule.{Rule}
 use Rattle.ops_base.specs.declared.rules.Inst.{Inst}
 use Rattle.ops_base.specs.declared.commands.Strategy.{Strategy}
 use Rattle.ops_base.specs.declared.commands.Strategy.TheVariants.{Lex, Mea}
-use Rattle.ops_base.specs.Dominance.{downwards, compare_lists, or_else, specificity_of, first_tag, compare_lex, compare_insts, is_greater, dominates}
+use Rattle.ops_base.specs.Dominance.{downwards, specificity_of, first_tag, compare_lex, compare_insts, is_greater, dominates}
 use Rattle.ops_base.specs.Instances.{IsMember}
 use Rattle.ops_base.specs.Refraction.{IsDominant, better, dominant, is_same_inst}
 use Rattle.ops_base.proofs.InstEquality.{same_fields}
 use Rattle.ops_base.proofs.RefractionLaws.{is_same_inst-Decides}
 
--- the first comparison that tells apart decides, in std's word
-pub or_else-ordering_then : (o p : Ordering) → or_else o p ≡ ordering_then o p
-or_else-ordering_then Less p = refl
-or_else-ordering_then Equal p = refl
-or_else-ordering_then Greater p = refl
-
--- two numbers that differ decide, as std's comparison has it
-first_difference : (x y : ℕ) (o : Ordering) → cond (x == y) o (nat_cmp x y) ≡ ordering_then (nat_cmp x y) o
-first_difference x y o = grind (arith, nat_tests)
-
--- lists are compared as std compares them
-pub compare_lists-slice_cmp : (xs ys : List ℕ) → compare_lists xs ys ≡ slice_cmp nat_cmp xs ys
-compare_lists-slice_cmp [] [] = refl
-compare_lists-slice_cmp [] (y ∷ ys) = refl
-compare_lists-slice_cmp (x ∷ xs) [] = refl
-compare_lists-slice_cmp (x ∷ xs) (y ∷ ys) =
-    ap (λ o. cond (x == y) o (nat_cmp x y)) (compare_lists-slice_cmp xs ys) ∙ first_difference x y (slice_cmp nat_cmp xs ys)
-
--- the order of LEX, put together of std's
-abbrev lex_order : List Rule → Inst → Inst → Ordering
-lex_order rules =
-    then_cmp (on (λ (i : Inst). downwards i.tags) (slice_cmp nat_cmp))
-    (then_cmp (on (λ (i : Inst). specificity_of rules i.rule) nat_cmp)
-    (then_cmp (flip_args (on (λ (i : Inst). i.rule) nat_cmp)) (on (λ (i : Inst). i.tags) (slice_cmp nat_cmp))))
-
-lex_order_total : (rules : List Rule) → IsTotalOrder (lex_order rules)
-lex_order_total rules =
+compare_lex_total : (rules : List Rule) → IsTotalOrder (compare_lex rules)
+compare_lex_total rules =
     then_total (on_total (λ (i : Inst). downwards i.tags) nat_list_cmp_total)
     (then_total (on_total (λ (i : Inst). specificity_of rules i.rule) nat_cmp_total)
     (then_total (back_total (on_total (λ (i : Inst). i.rule) nat_cmp_total)) (on_total (λ (i : Inst). i.tags) nat_list_cmp_total)))
-
-lex_order-compare_lex : (rules : List Rule) (i j : Inst) → lex_order rules i j ≡ compare_lex rules i j
-lex_order-compare_lex rules i j =
-    let tags = compare_lists-slice_cmp i.tags j.tags in
-    let sorted = compare_lists-slice_cmp (downwards i.tags) (downwards j.tags) in
-    let specificity = nat_cmp (specificity_of rules i.rule) (specificity_of rules j.rule) in
-    let rule = nat_cmp j.rule i.rule in
-    sym (
-    or_else-ordering_then (compare_lists (downwards i.tags) (downwards j.tags)) (or_else specificity (or_else rule (compare_lists i.tags j.tags)))
-    ∙ (λ k. ordering_then (sorted k) (or_else-ordering_then specificity (or_else-ordering_then rule (tags k) k) k))
-    )
-
-compare_lex_total : (rules : List Rule) → IsTotalOrder (compare_lex rules)
-compare_lex_total rules = subst IsTotalOrder (λ k i j. lex_order-compare_lex rules i j k) (lex_order_total rules)
 
 -- Either strategy compares instantiations by a total order.
 pub compare_insts_total : (strategy : Strategy) (rules : List Rule) → IsTotalOrder (compare_insts strategy rules)
 compare_insts_total Lex rules = compare_lex_total rules
 compare_insts_total Mea rules =
-    subst IsTotalOrder (λ k i j. sym (or_else-ordering_then (nat_cmp (first_tag i) (first_tag j)) (compare_lex rules i j)) k)
-    (then_total (on_total first_tag nat_cmp_total) (compare_lex_total rules))
+    then_total (on_total first_tag nat_cmp_total) (compare_lex_total rules)
 
-both_equal : (o p : Ordering) → or_else o p ≡ Equal → (o ≡ Equal) × (p ≡ Equal)
+both_equal : (o p : Ordering) → ordering_then o p ≡ Equal → (o ≡ Equal) × (p ≡ Equal)
 both_equal Less p e = cc
 both_equal Equal p e = (refl, e)
 both_equal Greater p e = cc
@@ -82,22 +42,12 @@ both_equal Greater p e = cc
 equal_numbers : (x y : ℕ) → nat_cmp x y ≡ Equal → x ≡ y
 equal_numbers x y e = ranked x y Equal (sym e)
 
--- two lists that compare as equal are
-pub equal_lists : (xs ys : List ℕ) → compare_lists xs ys ≡ Equal → xs ≡ ys
-equal_lists [] [] e = refl
-equal_lists [] (y ∷ ys) e = cc
-equal_lists (x ∷ xs) [] e = cc
-equal_lists (x ∷ xs) (y ∷ ys) e =
-    let b = both_equal (nat_cmp x y) (compare_lists xs ys) (or_else-ordering_then (nat_cmp x y) (compare_lists xs ys) ∙ sym (first_difference x y (compare_lists xs ys)) ∙ e) in
-    let head = equal_numbers x y b.0 in
-    let tail = equal_lists xs ys b.1 in cc
-
 equal_by_lex : (rules : List Rule) (i j : Inst) → compare_lex rules i j ≡ Equal → i ≡ j
 equal_by_lex rules i j e =
-    let a = both_equal (compare_lists (downwards i.tags) (downwards j.tags)) _ e in
+    let a = both_equal (slice_cmp nat_cmp (downwards i.tags) (downwards j.tags)) _ e in
     let b = both_equal (nat_cmp (specificity_of rules i.rule) (specificity_of rules j.rule)) _ a.1 in
-    let c = both_equal (nat_cmp j.rule i.rule) (compare_lists i.tags j.tags) b.1 in
-    same_fields i j (sym (equal_numbers j.rule i.rule c.0)) (equal_lists i.tags j.tags c.1)
+    let c = both_equal (nat_cmp j.rule i.rule) (slice_cmp nat_cmp i.tags j.tags) b.1 in
+    same_fields i j (sym (equal_numbers j.rule i.rule c.0)) (exact_bytes i.tags j.tags c.1)
 
 -- Two instantiations that compare as equal are.
 pub equal_insts : (strategy : Strategy) (rules : List Rule) (i j : Inst) → compare_insts strategy rules i j ≡ Equal → i ≡ j

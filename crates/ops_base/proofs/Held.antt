@@ -1,5 +1,5 @@
 -- Spellings that are held: where one stands, and what one more leaves.
-use Rattle.std.proofs.Common.{◌≡◌, ℕ, zero, suc, ◌+◌, ◌<◌, ◌≤◌, Bool, true, false, cond, not, List, [], ◌∷◌, ◌++◌, map, length, Option, Some, None, refl, sym, ap, ◌∙◌, arith, slice_get, subst, Result, Ok, Err, OnOk, OnErr, inl, inr, ◌⊎◌}
+use Rattle.std.proofs.Common.{◌≡◌, ℕ, zero, suc, ◌+◌, ◌<◌, ◌≤◌, Bool, true, false, cond, not, List, [], ◌∷◌, ◌++◌, map, length, Option, Some, None, refl, sym, ap, ◌∙◌, arith, slice_get, inl, inr, ◌⊎◌}
 use Rattle.std.proofs.lemmas.Bool.{false≢true}
 use Rattle.std.proofs.lemmas.Bool.Decides.{nat_tests}
 use Rattle.std.proofs.lemmas.Slice.Eq.{bytes_eq-Decides}
@@ -120,12 +120,8 @@ pub keys-new : {V : Type 0} (f : V → List ℕ) (test : V → Bool) (keys new :
 keys-new f test keys new copy s e none is =
     ap (map f) (e ∙ ap (λ b. cond b keys (keys ++ copy ∷ [])) none) ∙ map-append f keys (copy ∷ []) ∙ ap (λ t. map f keys ++ t ∷ []) is
 
--- ---- whether or not there was memory to add one
-
-pub with-either : {T E : Type 0} (r : Result T E) (old new : List (List ℕ)) (s : List ℕ) → place_of old s ≡ length old → OnOk r (new ≡ old ++ s ∷ []) → OnOk r (new ≡ with_spelling old s)
-with-either (Ok x) old new s e h = h ∙ sym (with-new old s e)
-with-either (Err x) old new s e h = tt
-
-pub distinct-either : {T E : Type 0} (r : Result T E) (old new : List (List ℕ)) (s : List ℕ) → place_of old s ≡ length old → OnOk r (new ≡ old ++ s ∷ []) → OnErr r (new ≡ old) → AreDistinct old → AreDistinct new
-distinct-either (Ok x) old new s e ok err apart = subst AreDistinct (sym ok) (distinct-push old s apart (absent_from_place old s e))
-distinct-either (Err x) old new s e ok err apart = subst AreDistinct (sym err) apart
+-- a spelling that is held keeps its place where one more comes
+pub kept-push : (held : List (List ℕ)) (s t : List ℕ) (i : ℕ) → slice_get held i ≡ Some t → slice_get (held ++ s ∷ []) i ≡ Some t
+kept-push [] s t i h = absurd (none_some t t h)
+kept-push (x ∷ held) s t zero h = h
+kept-push (x ∷ held) s t (suc i) h = kept-push held s t i h

@@ -1,8 +1,9 @@
 -- Which of two instantiations dominates.
-use Rattle.std.specs.Prelude.{ℕ, List, [], ◌∷◌, Bool, true, false, nat_le, ◌==◌, if◌then◌else◌, unwrap_or, option_map, slice_get}
+use Rattle.std.specs.Prelude.{ℕ, List, [], ◌∷◌, Bool, true, false, nat_le, if◌then◌else◌, unwrap_or, option_map, slice_get}
 use Rattle.std.specs.declared.cmp.Ordering.{Ordering}
 use Rattle.std.specs.declared.cmp.Ordering.TheVariants.{Less, Equal, Greater}
-use Rattle.std.specs.Ordering.{nat_cmp}
+use Rattle.std.specs.Ordering.{nat_cmp, ordering_then}
+use Rattle.std.specs.Cmp.Lexicographic.{slice_cmp}
 use Rattle.ops_base.specs.declared.rules.Rule.{Rule}
 use Rattle.ops_base.specs.declared.rules.Inst.{Inst}
 use Rattle.ops_base.specs.declared.commands.Strategy.{Strategy}
@@ -18,19 +19,6 @@ abbrev pub downwards : List ℕ → List ℕ
 downwards [] = []
 downwards (x ∷ xs) = insert_down x (downwards xs)
 
--- the first difference decides; where one list is the beginning of the other, the longer is greater
-abbrev pub compare_lists : List ℕ → List ℕ → Ordering
-compare_lists [] [] = Equal
-compare_lists [] (y ∷ ys) = Less
-compare_lists (x ∷ xs) [] = Greater
-compare_lists (x ∷ xs) (y ∷ ys) = if x == y then compare_lists xs ys else nat_cmp x y
-
--- the first comparison that tells them apart decides
-abbrev pub or_else : Ordering → Ordering → Ordering
-or_else Equal next = next
-or_else Less next = Less
-or_else Greater next = Greater
-
 abbrev pub specificity_of : List Rule → ℕ → ℕ
 specificity_of rules n = unwrap_or (option_map (λ r. r.specificity) (slice_get rules n)) 0
 
@@ -38,17 +26,18 @@ abbrev pub first_tag : Inst → ℕ
 first_tag i = unwrap_or (slice_get i.tags 0) 0
 
 -- Under LEX the tags sorted downwards decide first, then the specificity, then the earlier production, then the tags in
--- condition order.
+-- condition order. Of two lists of tags the first difference decides; where one is the beginning of the other, the longer
+-- is greater.
 abbrev pub compare_lex : List Rule → Inst → Inst → Ordering
 compare_lex rules i j =
-    or_else (compare_lists (downwards i.tags) (downwards j.tags))
-    (or_else (nat_cmp (specificity_of rules i.rule) (specificity_of rules j.rule))
-    (or_else (nat_cmp j.rule i.rule) (compare_lists i.tags j.tags)))
+    ordering_then (slice_cmp nat_cmp (downwards i.tags) (downwards j.tags))
+    (ordering_then (nat_cmp (specificity_of rules i.rule) (specificity_of rules j.rule))
+    (ordering_then (nat_cmp j.rule i.rule) (slice_cmp nat_cmp i.tags j.tags)))
 
 -- Under MEA the tag of the first condition decides before all else.
 abbrev pub compare_insts : Strategy → List Rule → Inst → Inst → Ordering
 compare_insts Lex rules i j = compare_lex rules i j
-compare_insts Mea rules i j = or_else (nat_cmp (first_tag i) (first_tag j)) (compare_lex rules i j)
+compare_insts Mea rules i j = ordering_then (nat_cmp (first_tag i) (first_tag j)) (compare_lex rules i j)
 
 abbrev pub is_greater : Ordering → Bool
 is_greater Less = false

@@ -1,5 +1,5 @@
 -- What an instantiation is and what the conflict set is, apart from how they are found.
-use Rattle.std.specs.Prelude.{◌≡◌, ℕ, ◌<◌, List, [], ◌∷◌, ◌⊎◌, Some, None, slice_get}
+use Rattle.std.specs.Prelude.{◌≡◌, ℕ, ◌<◌, List, [], ◌∷◌, length, ◌⊎◌, All, Some, None, slice_get}
 use Rattle.std.specs.Bool.{MatchBool}
 use Rattle.ops_base.specs.declared.elements.Element.{Element}
 use Rattle.ops_base.specs.declared.conditions.Condition.{Condition}
@@ -46,3 +46,7 @@ pub record IsConflictSet (rules : List Rule) (wm : List Element) (set : List Ins
   pub sound : (i : Inst) → IsMember i set → IsInst rules wm i
   pub complete : (i : Inst) → IsInst rules wm i → IsMember i set
   pub in_order : IsInOrder set
+
+-- each is of one of these rules
+abbrev pub AreOf : List Rule → List Inst → Type 0
+AreOf rules insts = All (λ i. i.rule < length rules) insts

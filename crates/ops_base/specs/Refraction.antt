@@ -1,5 +1,5 @@
 -- Which instantiation fires, and which stay marked as fired.
-use Rattle.std.specs.Prelude.{◌≢◌, List, filter, fold, Bool, not, ◌==◌, ◌&&◌, bytes_eq, if◌then◌else◌, Option, Some, None, IsTrue}
+use Rattle.std.specs.Prelude.{◌≢◌, ℕ, List, filter, fold, Bool, not, ◌==◌, ◌&&◌, bytes_eq, if◌then◌else◌, Option, Some, None, IsTrue}
 use Rattle.std.specs.List.{list_any}
 use Rattle.ops_base.specs.declared.elements.Element.{Element}
 use Rattle.ops_base.specs.declared.rules.Rule.{Rule}
@@ -9,9 +9,13 @@ use Rattle.ops_base.specs.ConflictSet.{conflict_set}
 use Rattle.ops_base.specs.Dominance.{dominates}
 use Rattle.ops_base.specs.Instances.{IsMember}
 
+-- the same tags in the same order
+abbrev pub same_tags : List ℕ → List ℕ → Bool
+same_tags xs ys = bytes_eq xs ys
+
 -- an instantiation is known by its production and its tags
 abbrev pub is_same_inst : Inst → Inst → Bool
-is_same_inst i j = i.rule == j.rule && bytes_eq i.tags j.tags
+is_same_inst i j = i.rule == j.rule && same_tags i.tags j.tags
 
 abbrev pub is_among : List Inst → Inst → Bool
 is_among insts i = list_any (λ j. is_same_inst i j) insts

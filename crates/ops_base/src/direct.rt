@@ -3,7 +3,7 @@ ghost use Rattle.std.specs.Prelude.{◌≡◌, List, ℕ, ◌++◌, ◌∷◌, [
 ghost use Rattle.std.specs.List.{flat_map};
 ghost use Rattle.ops_base.specs.WorkingMemory.{HasRisingTags};
 ghost use Rattle.ops_base.specs.ConflictSet.{some_meets, extended, at_condition, walk, empty_partial, matches_of, insts_of, conflict_set};
-ghost use Rattle.ops_base.specs.Instances.{IsConflictSet};
+ghost use Rattle.ops_base.specs.Instances.{IsConflictSet, AreOf};
 ghost use Rattle.ops_base.specs.declared.rules.Inst.{Inst};
 
 use crate::conditions::Condition;
@@ -146,6 +146,7 @@ pub fn direct_set(
     wm: &[Element],
 ) -> Result<Listed<Inst>, OutOfMemory>
     ensures computed { IfOk result (λ set. set ≡ conflict_set program.now.rules wm.now) }
+    ensures rules { IfOk result (λ set. AreOf program.now.rules set) }
 
     // Where the tags rise, as those of working memory do, it is the one list that is a conflict set.
     ensures set { IfOk result (λ set. HasRisingTags wm.now → IsConflictSet program.now.rules wm.now set) }

@@ -1,7 +1,9 @@
 //! Classes, the elements of working memory, and the changes that a phase makes to it.
+ghost use Rattle.std.specs.Prelude.{◌≡◌};
+ghost use Rattle.ops_base.specs.WorkingMemory.{field_of};
 
 use crate::list::Listed;
-use crate::values::{Sym, Value};
+use crate::values::{NIL, Sym, Value};
 
 /// A class with its attributes in the order of its fields. Where it has a vector attribute, that is the last one.
 #[derive(Drop)]
@@ -18,6 +20,18 @@ pub struct Element {
     pub tag: u64,
     pub class: usize,
     pub fields: Listed<Value>,
+}
+
+impl Element {
+    /// A field's value, `nil` past the end.
+    pub fn field(&self, field: usize) -> Value
+        ensures { result ≡ field_of self.now field }
+    {
+        match self.fields.as_slice().get(field) {
+            Some(value) => *value,
+            None => Value::Symbol(NIL),
+        }
+    }
 }
 
 /// One change to working memory.

@@ -5,6 +5,7 @@
 pub mod actions;
 pub mod commands;
 pub mod conditions;
+pub mod copies;
 pub mod direct;
 pub mod dominance;
 pub mod elements;

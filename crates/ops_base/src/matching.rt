@@ -1,14 +1,13 @@
 //! One element against one condition.
-ghost use Rattle.std.specs.Prelude.{◌≡◌, List, [], if◌then◌else◌, IfOk, Some, None, option_map, ◌==◌};
+ghost use Rattle.std.specs.Prelude.{◌≡◌, if◌then◌else◌, IfOk, Some, None, option_map};
 ghost use Rattle.std.specs.List.{list_any};
 ghost use Rattle.ops_base.specs.Values.{are_same, holds_of};
-ghost use Rattle.ops_base.specs.WorkingMemory.{field_of};
 ghost use Rattle.ops_base.specs.Matching.{value_of, operand_holds, after_test, match_of};
 
 use crate::conditions::{Condition, Operand, Test};
 use crate::elements::Element;
 use crate::memory::OutOfMemory;
-use crate::values::{NIL, Pred, Value};
+use crate::values::{Pred, Value};
 use std::alloc::Global;
 
 /// What a variable is bound to.
@@ -16,17 +15,6 @@ use std::alloc::Global;
 pub struct Binding {
     pub variable: usize,
     pub value: Value,
-}
-
-/// Whether the two are the same value.
-pub fn same_value(a: Value, b: Value) -> bool
-    ensures { result ≡ are_same a b }
-{
-    match (a, b) {
-        (Value::Symbol(x), Value::Symbol(y)) => x.0 == y.0,
-        (Value::Whole(x), Value::Whole(y)) => x == y,
-        _ => false,
-    }
 }
 
 fn is_below(a: Value, b: Value) -> bool
@@ -52,8 +40,8 @@ pub fn holds(pred: Pred, a: Value, b: Value) -> bool
     ensures { result ≡ holds_of pred a b }
 {
     match pred {
-        Pred::Eq => same_value(a, b),
-        Pred::Ne => !same_value(a, b),
+        Pred::Eq => a == b,
+        Pred::Ne => a != b,
         Pred::Lt => is_below(a, b),
         Pred::Le => is_at_most(a, b),
         Pred::Gt => is_below(b, a),
@@ -66,41 +54,25 @@ pub fn holds(pred: Pred, a: Value, b: Value) -> bool
     }
 }
 
-/// A field's value, `nil` past the end.
-pub fn field(e: &Element, f: usize) -> Value
-    ensures { result ≡ field_of e.now f }
-{
-    match e.fields.as_slice().get(f) {
-        Some(value) => *value,
-        None => Value::Symbol(NIL),
-    }
-}
-
 /// What was put at a variable last.
+#[tactic(auto, using(crate::proofs::Bound::value_of_last))]
 pub fn bound_value(bindings: &[Binding], variable: usize) -> Option<Value>
     ensures { result ≡ value_of bindings.now variable }
 {
-    let mut found = None;
-    for binding in bindings {
-        found = later(found, *binding, variable);
+    let mut left = bindings;
+    while let Some((last, before)) = left.split_last() {
+        if last.variable == variable {
+            return Some(last.value);
+        }
+        left = before;
     }
-    found
-}
-
-fn later(found: Option<Value>, binding: Binding, variable: usize) -> Option<Value>
-    ensures { result ≡ (if binding.variable == variable then Some binding.value else found) }
-{
-    if binding.variable == variable {
-        Some(binding.value)
-    } else {
-        found
-    }
+    None
 }
 
 fn is_one_of(values: &[Value], a: Value) -> bool
     ensures { result ≡ list_any (λ c. are_same a c) values.now }
 {
-    values.iter().any(|value| same_value(a, *value))
+    values.iter().any(|value| a == *value)
 }
 
 fn operand_meets(test: &Test, a: Value, bindings: &[Binding]) -> bool
@@ -120,7 +92,7 @@ fn operand_meets(test: &Test, a: Value, bindings: &[Binding]) -> bool
 fn pass(test: &Test, e: &Element, found: &mut Vec<Binding>) -> Result<bool, OutOfMemory>
     ensures { IfOk result (λ b. after_test test.now e.now found.old.items ≡ (if b then Some found.new.items else None)) }
 {
-    let value = field(e, test.field);
+    let value = e.field(test.field);
     if !test.binds {
         return Ok(operand_meets(test, value, found.as_slice()));
     }
@@ -158,7 +130,7 @@ pub fn matched(
 #[cfg(test)]
 mod tests {
     use super::*;
-    use crate::values::Sym;
+    use crate::values::{NIL, Sym};
 
     #[test]
     fn predicates(rt: HostRuntime) {

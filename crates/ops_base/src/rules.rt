@@ -5,8 +5,7 @@ use crate::conditions::Condition;
 use crate::list::Listed;
 use crate::values::Sym;
 
-/// A production. `variables` and `cells` are how many numbers of variables and of cells it uses. Its text is the bytes
-/// from `first` to before `past` of the program's text.
+/// A production. Its text is the bytes from `first` to before `past` of the program's text.
 #[derive(Drop)]
 pub struct Rule {
     pub name: Sym,
@@ -14,7 +13,9 @@ pub struct Rule {
     pub actions: Listed<Action>,
     /// One per condition, and one per test that does not bind.
     pub specificity: u32,
+    /// A number above the number of every variable in it.
     pub variables: usize,
+    /// How many cells it has.
     pub cells: usize,
     pub first: usize,
     pub past: usize,

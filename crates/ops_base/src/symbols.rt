@@ -1,5 +1,5 @@
 //! Symbols and their spellings.
-ghost use Rattle.std.specs.Prelude.{◌≡◌, ◌<◌, length, IfOk, OnOk, OnErr, slice_get, Some};
+ghost use Rattle.std.specs.Prelude.{◌≡◌, ◌<◌, length, IfOk, OnOk, OnErr, slice_get, Some, List, ℕ, codes};
 ghost use Rattle.std.specs.Prelude.{◌++◌, ◌∷◌, [], bytes_eq, false};
 ghost use Rattle.std.specs.List.{list_any};
 ghost use Rattle.ops_base.specs.Names.{spellings, place_of, with_spelling, spelling_of, only_nil, AreDistinct};
@@ -10,7 +10,7 @@ use indexmap::IndexSet;
 use std::alloc::Global;
 use std::marker::Model;
 
-/// The spellings of all symbols, each once. A spelling is looked up by its hash.
+/// The spellings of all symbols, each once and that of `nil` first. A spelling is looked up by its hash.
 #[derive(Drop)]
 pub struct Names {
     held: IndexSet<Vec<u8>>,
@@ -18,27 +18,32 @@ pub struct Names {
 }
 
 impl Model for Names {
+    ghost use Rattle.std.specs.Prelude.{◌≡◌, slice_get, Some, codes};
     ghost use Rattle.ops_base.specs.Names.{Spellings, spellings, AreDistinct};
 
     ghost Value = { Spellings };
 
     ghost view = { λ n. record { held = spellings n.held.keys; made = n.made } };
 
-    ghost invariant = { λ n. AreDistinct (spellings n.held.keys) };
+    ghost invariant = { λ n. AreDistinct (spellings n.held.keys)
+        × (slice_get (spellings n.held.keys) 0 ≡ Some (codes "nil")) };
 }
 
-/// The place of a spelling, which is added where it is not held. Where that fails the place is where it would stand.
-fn place_in(held: &mut IndexSet<Vec<u8>>, spelling: &[u8]) -> (usize, Result<(), OutOfMemory>)
-    ensures place { result.0 ≡ place_of (spellings held.old.keys) spelling.now }
-    ensures ok { OnOk result.1 (spellings held.new.keys ≡ with_spelling (spellings held.old.keys) spelling.now) }
-    ensures err { OnErr result.1 (spellings held.new.keys ≡ spellings held.old.keys) }
+/// The place of a spelling, which is added at the end where it is not held. Each spelling that was held keeps its place.
+fn place_in(held: &mut IndexSet<Vec<u8>>, spelling: &[u8]) -> Result<usize, OutOfMemory>
+    ensures place { IfOk result (λ place. place ≡ place_of (spellings held.old.keys) spelling.now) }
+    ensures ok { OnOk result (spellings held.new.keys ≡ with_spelling (spellings held.old.keys) spelling.now) }
+    ensures err { OnErr result (spellings held.new.keys ≡ spellings held.old.keys) }
+    ensures kept { (i : ℕ) (s : List ℕ)
+        → slice_get (spellings held.old.keys) i ≡ Some s → slice_get (spellings held.new.keys) i ≡ Some s }
     ensures distinct { AreDistinct (spellings held.old.keys) → AreDistinct (spellings held.new.keys) }
 {
     match held.get_index_of(spelling) {
-        Some(place) => (place, Ok(())),
+        Some(place) => Ok(place),
         None => {
             let place = held.len();
-            (place, add(held, spelling))
+            add(held, spelling)?;
+            Ok(place)
         }
     }
 }
@@ -72,9 +77,7 @@ impl Names {
         ensures names { OnOk result (self.new ≡ record self.old { held = with_spelling self.old.held spelling.now }) }
         ensures err { OnErr result (self.new ≡ self.old) }
     {
-        let (place, added) = place_in(&mut self.held, spelling);
-        added?;
-        Ok(Sym(place as u64))
+        Ok(Sym(place_in(&mut self.held, spelling)? as u64))
     }
 
     /// The spelling of a symbol.
@@ -86,9 +89,10 @@ impl Names {
         self.held[sym.0 as usize].as_slice()
     }
 
-    /// The spelling of a symbol, empty where it is not held.
+    /// The spelling of a symbol, empty where it is not held. That of `NIL` is `nil`.
     pub fn text(&self, sym: Sym) -> &[u8]
-        ensures { result.now ≡ spelling_of self.now sym }
+        ensures text { result.now ≡ spelling_of self.now sym }
+        ensures nil { spelling_of self.now (record { 0 = 0 }) ≡ codes "nil" }
     {
         match self.held.get_index(sym.0 as usize) {
             Some(spelling) => spelling.as_slice(),

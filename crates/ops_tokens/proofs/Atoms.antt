@@ -1,5 +1,5 @@
 -- The kind of an atom follows from its row, and the token from what stands at its place.
-use Rattle.std.proofs.Common.{◌≡◌, ℕ, ◌+◌, ◌-◌, Bool, true, false, cond, List, length, take, drop, Ok, None, refl, sym, ap, ◌∙◌, arith}
+use Rattle.std.proofs.Common.{◌≡◌, ℕ, ◌+◌, ◌-◌, Bool, true, false, cond, List, length, take, drop, Some, Ok, None, refl, sym, ap, ◌∙◌, arith}
 use Rattle.std.specs.Prelude.{slice_index}
 use Rattle.std.specs.List.{prefix_len}
 use Rattle.std.proofs.lemmas.List.{length-take}
@@ -8,20 +8,22 @@ use Rattle.std.proofs.lemmas.Bool.{cond-true, cond-false, eq-eqb, ne_eqb}
 use Rattle.ops_tokens.specs.Bytes.{is_plain}
 use Rattle.ops_tokens.specs.Spellings.{is_operator, is_whole, is_fraction, is_variable, is_atom, row_of}
 use Rattle.ops_tokens.specs.Numbers.{whole_value}
+use Rattle.ops_tokens.specs.Runs.{kind_of}
+use Rattle.ops_tokens.specs.declared.table.AtomKind.TheVariants as kind
 use Rattle.ops_tokens.specs.Tokens.{number, atom, begun, bracket_of, standing, run_at}
 
-second : (a b c d e : Bool) (n : ℕ) → n ≡ 2 → n ≡ cond a 1 (cond b 2 (cond c 3 (cond d 4 (cond e 5 0)))) → (a ≡ false) × (b ≡ true)
-second true b c d e n two h = absurd (omega arith)
-second false true c d e n two h = (refl, refl)
-second false false true d e n two h = absurd (omega arith)
-second false false false true e n two h = absurd (omega arith)
-second false false false false true n two h = absurd (omega arith)
-second false false false false false n two h = absurd (omega arith)
+second : (a b c d e : Bool) → kind_of (cond a 1 (cond b 2 (cond c 3 (cond d 4 (cond e 5 0))))) ≡ Some kind.Whole → (a ≡ false) × (b ≡ true)
+second true b c d e h = absurd cc
+second false true c d e h = (refl, refl)
+second false false true d e h = absurd cc
+second false false false true e h = absurd cc
+second false false false false true h = absurd cc
+second false false false false false h = absurd cc
 
 -- a run of the second row is a whole number
-pub atom-whole : (first past row : ℕ) (s : List ℕ) → past ≡ first + length s → row ≡ 2 → row ≡ row_of s → number (whole_value s) first past ≡ atom first s
-atom-whole first past row s end two row_is =
-    let is = second (is_operator s) (is_whole s) (is_fraction s) (is_variable s) (is_atom s) row two row_is in
+pub atom-whole : (first past : ℕ) (s : List ℕ) → past ≡ first + length s → kind_of (row_of s) ≡ Some kind.Whole → number (whole_value s) first past ≡ atom first s
+atom-whole first past s end kind_is =
+    let is = second (is_operator s) (is_whole s) (is_fraction s) (is_variable s) (is_atom s) kind_is in
     ap (number (whole_value s) first) end ∙ sym (cond-true (is_whole s) (number (whole_value s) first (first + length s)) _ is.1) ∙ sym (cond-false (is_operator s) _ _ is.0)
 
 -- the run, cut out of the text by its places

@@ -1,5 +1,5 @@
 -- What the next token is like.
-use Rattle.std.proofs.Common.{◌≡◌, ◌≢◌, ℕ, ◌+◌, ◌-◌, ◌<◌, ◌≤◌, true, false, List, [], ◌∷◌, length, drop, take, get_or, Option, Some, None, Ok, Err, refl, sym, ap, ◌∙◌, arith, subst, drop-cons, inl, inr}
+use Rattle.std.proofs.Common.{◌≡◌, ◌≢◌, ℕ, ◌+◌, ◌-◌, ◌<◌, ◌≤◌, Bool, true, false, List, [], ◌∷◌, length, drop, take, get_or, Option, Some, None, Ok, Err, refl, sym, ap, ◌∙◌, arith, subst, drop-cons, inl, inr}
 use Rattle.std.specs.Prelude.{◌↔◌, ◌==◌, IfOk, IfErr, IfSome, MatchResult, IsSomeAnd, position, slice_index, slice_range, nat_lt}
 use Rattle.std.specs.List.{AllPass, prefix_len, position_or_len}
 use Rattle.std.proofs.lemmas.Bool.{cond_both, cond-true, cond-false, eqb-true, eqb-false, lt-ltb, both_ways, and_from, not_from_false, cases_lt}
@@ -31,19 +31,19 @@ record IsBegun (text : List ℕ) (at : ℕ) (t : Token) : Type 0 where
 abbrev Begins : List ℕ → ℕ → Next → Type 0
 Begins text first r = MatchResult r (λ found. IsSomeAnd found (IsBegun text first)) (λ fault. (first ≤ fault.at) × (fault.at < length text))
 
-operator-means : (s : List ℕ) → (is_operator s ≡ true → IsOperator s) × (IsOperator s → is_operator s ≡ true)
+pub operator-means : (s : List ℕ) → (is_operator s ≡ true → IsOperator s) × (IsOperator s → is_operator s ≡ true)
 unfolding is_operator IsOperator
 operator-means s = matches-is s operator
 
-whole-means : (s : List ℕ) → (is_whole s ≡ true → IsWhole s) × (IsWhole s → is_whole s ≡ true)
+pub whole-means : (s : List ℕ) → (is_whole s ≡ true → IsWhole s) × (IsWhole s → is_whole s ≡ true)
 unfolding is_whole IsWhole
 whole-means s = matches-is s whole
 
-fraction-means : (s : List ℕ) → (is_fraction s ≡ true → IsFraction s) × (IsFraction s → is_fraction s ≡ true)
+pub fraction-means : (s : List ℕ) → (is_fraction s ≡ true → IsFraction s) × (IsFraction s → is_fraction s ≡ true)
 unfolding is_fraction IsFraction
 fraction-means s = matches-is s fraction
 
-variable-means : (s : List ℕ) → (is_variable s ≡ true → IsVariable s) × (IsVariable s → is_variable s ≡ true)
+pub variable-means : (s : List ℕ) → (is_variable s ≡ true → IsVariable s) × (IsVariable s → is_variable s ≡ true)
 unfolding is_variable IsVariable
 variable-means s = matches-is s variable
 
@@ -68,31 +68,29 @@ bracket-spelled b =
     cond_both (b == 125) _ _ P (λ e. (refl, ap (λ (x : ℕ). x ∷ []) (eqb-true b 125 e))) (λ _.
     cond_both (b == 94) _ _ P (λ e. (refl, ap (λ (x : ℕ). x ∷ []) (eqb-true b 94 e))) (λ _. tt)))))
 
-one_byte : (text : List ℕ) (first : ℕ) → first < length text → slice_range text first (first + 1) ≡ slice_index text first ∷ []
+pub one_byte : (text : List ℕ) (first : ℕ) → first < length text → slice_range text first (first + 1) ≡ slice_index text first ∷ []
 one_byte text first lt =
     let n : first + 1 - first ≡ 1 = omega arith in
     ap (λ (k : ℕ). take k (drop first text)) n ∙ ap (λ (xs : List ℕ). take 1 xs) (drop-cons text first 0 lt)
 
 -- ---- quoted atoms
 
-abbrev rest_of : List ℕ → ℕ → List ℕ
+abbrev pub rest_of : List ℕ → ℕ → List ℕ
 rest_of text first = drop (first + 1) text
 
-none_bad : (xs : List ℕ) → None ≡ position is_bad xs → (k : ℕ) → k < length xs → is_bad (get_or xs k 0) ≡ false
-none_bad xs none k lt =
-    elim (cases_lt (position_or_len is_bad xs) (length xs)) [
-      | inl below ↦ absurd (let e = none ∙ cond-true (nat_lt (position_or_len is_bad xs) (length xs)) (Some (position_or_len is_bad xs)) None (lt-ltb _ _ below) in cc)
-      | inr above ↦ fails_before_first is_bad xs k 0 (omega arith)
+pub none_pass : (test : ℕ → Bool) (xs : List ℕ) → None ≡ position test xs → (k : ℕ) → k < length xs → test (get_or xs k 0) ≡ false
+none_pass test xs none k lt =
+    elim (cases_lt (position_or_len test xs) (length xs)) [
+      | inl below ↦ absurd (let e = none ∙ cond-true (nat_lt (position_or_len test xs) (length xs)) (Some (position_or_len test xs)) None (lt-ltb _ _ below) in cc)
+      | inr above ↦ fails_before_first test xs k 0 (omega arith)
     ]
 
-between_bars : (text : List ℕ) (first n : ℕ) → n < length (rest_of text first) → ((k : ℕ) → k < n → is_bar (get_or (rest_of text first) k 0) ≡ false) → None ≡ position is_bad (take n (rest_of text first)) → AllPass is_quotable (take n (rest_of text first))
-between_bars text first n lt bars none k d h =
-    let below : k < n = omega (arith, length-take n (rest_of text first)) in
-    let item : get_or (take n (rest_of text first)) k d ≡ get_or (take n (rest_of text first)) k 0 = get_or_default (take n (rest_of text first)) k d 0 h in
-    ap is_quotable item
-    ∙ and_from _ _
-    (not_from_false _ (ap is_bar (get_or-take n (rest_of text first) k 0 below) ∙ bars k below))
-    (not_from_false _ (none_bad (take n (rest_of text first)) none k h))
+-- bytes at the front of which none is a bar, and none is bad
+pub quotable_before : (xs : List ℕ) (n : ℕ) → ((k : ℕ) → k < n → is_bar (get_or xs k 0) ≡ false) → ((k : ℕ) → k < n → is_bad (get_or xs k 0) ≡ false) → AllPass is_quotable (take n xs)
+quotable_before xs n bars bad k d h =
+    let below : k < n = omega (arith, length-take n xs) in
+    ap is_quotable (get_or-take n xs k d below ∙ get_or_default xs k d 0 (omega (arith, length-take n xs)))
+    ∙ and_from _ _ (not_from_false _ (bars k below)) (not_from_false _ (bad k below))
 
 closed-begins : (text : List ℕ) (first n : ℕ) → n < length (rest_of text first) → ((k : ℕ) → k < n → is_bar (get_or (rest_of text first) k 0) ≡ false) → (o : Option ℕ) → o ≡ position is_bad (take n (rest_of text first)) → Begins text first (closed first n o)
 closed-begins text first n lt bars None e =
@@ -101,7 +99,7 @@ closed-begins text first n lt bars None e =
       begins = refl;
       some = omega arith;
       lies = record { ordered = omega arith; within = omega (arith, length-drop (first + 1) text); bars = λ _. omega arith };
-      spelled = subst (λ (k : ℕ). AllPass is_quotable (take k (rest_of text first))) (sym size) (between_bars text first n lt bars e);
+      spelled = subst (λ (k : ℕ). AllPass is_quotable (take k (rest_of text first))) (sym size) (quotable_before (rest_of text first) n bars (λ k h. sym (ap is_bad (get_or-take n (rest_of text first) k 0 h)) ∙ none_pass is_bad (take n (rest_of text first)) e k (omega (arith, length-take n (rest_of text first)))));
     }
 closed-begins text first n lt bars (Some bad) e =
     let is = position-Some is_bad (take n (rest_of text first)) bad 0 (sym e) in
@@ -115,13 +113,13 @@ quoted-begins text first lt (Some n) e =
 
 -- ---- plain atoms
 
-run_le : (text : List ℕ) (first : ℕ) → first ≤ length text → first + length (run_at text first) ≤ length text
+pub run_le : (text : List ℕ) (first : ℕ) → first ≤ length text → first + length (run_at text first) ≤ length text
 run_le text first le = omega (arith, length-take (prefix_len is_plain (drop first text)) (drop first text), prefix_len-le-length is_plain (drop first text), length-drop first text)
 
-run_some : (text : List ℕ) (first : ℕ) → first < length text → is_plain (slice_index text first) ≡ true → 0 < length (run_at text first)
+pub run_some : (text : List ℕ) (first : ℕ) → first < length text → is_plain (slice_index text first) ≡ true → 0 < length (run_at text first)
 run_some text first lt plain = omega (arith, length-take (prefix_len is_plain (drop first text)) (drop first text), prefix_len-le-length is_plain (drop first text), prefix_len-drop_yes is_plain text first 0 lt plain)
 
-run_plain : (text : List ℕ) (first : ℕ) → AllPass is_plain (run_at text first)
+pub run_plain : (text : List ℕ) (first : ℕ) → AllPass is_plain (run_at text first)
 run_plain text first k d lt =
     let below : k < prefix_len is_plain (drop first text) = omega (arith, length-take (prefix_len is_plain (drop first text)) (drop first text)) in
     ap is_plain (get_or-take (prefix_len is_plain (drop first text)) (drop first text) k d below) ∙ prefix_len_passes is_plain (drop first text) k d below
@@ -160,7 +158,7 @@ begun-begins text first lt None e =
     cond_both (is_bar (slice_index text first)) _ _ (Begins text first) (λ _. quoted-begins text first lt _ refl) (λ _.
     cond_both (is_plain (slice_index text first)) _ _ (Begins text first) (λ plain. atom-begins text first lt plain) (λ _. (omega arith, lt)))
 
-gap_end-le : (text : List ℕ) (from : ℕ) → from ≤ length text → gap_end text from ≤ length text
+pub gap_end-le : (text : List ℕ) (from : ℕ) → from ≤ length text → gap_end text from ≤ length text
 gap_end-le text from le = omega (arith, gap-le (drop from text) false, length-drop from text)
 
 -- at the end, or something begins

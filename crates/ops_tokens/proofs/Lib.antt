@@ -7,3 +7,5 @@ pub mod Runs
 pub mod Atoms
 pub mod Gaps
 pub mod Clauses
+pub mod Following
+pub mod Settled

@@ -1,16 +1,16 @@
 -- The table of plain atoms is a table, decides their rows, and takes plain bytes alone.
-use Rattle.std.proofs.Common.{◌≡◌, ◌≢◌, ℕ, ◌<◌, Bool, true, false, List, [], ◌∷◌, length, map, fold, refl, ap, arith, Option, Some, None}
+use Rattle.std.proofs.Common.{◌≡◌, ◌≢◌, ℕ, ◌<◌, Bool, true, false, List, [], ◌∷◌, length, map, fold, get_or, refl, ap, ◌∙◌, arith, Option, Some, None}
 use Rattle.std.proofs.lemmas.Bool.{eqb-false, ltb-true, and_parts, not-true}
 use Rattle.std.specs.Prelude.{◌&&◌, ◌||◌, ◌==◌, not, nat_lt, slice_index, slice_index_or, SomeIff}
 use Rattle.std.specs.List.{AllByRecursion}
 use mathlib.Core.Bool.{beq}
 use Rattle.scan_table.specs.Table.{Table, step_of, accepted, AreBelow, IsTable}
-use Rattle.ops_tokens.specs.Regex.{Regex, after}
+use Rattle.ops_tokens.specs.Regex.{Regex, Never, after, nullable}
 use Rattle.ops_tokens.specs.Bytes.{is_plain}
 use Rattle.ops_tokens.specs.Spellings.{operator, whole, fraction, variable, some, plain, is_operator, is_whole, is_fraction, is_variable, is_atom, row_of}
 use Rattle.ops_tokens.specs.Program.{program_table}
 use Rattle.ops_tokens.proofs.Below.{all_below, all_below-at}
-use Rattle.ops_tokens.proofs.Residuals.{states_fit, decides}
+use Rattle.ops_tokens.proofs.Residuals.{states_fit, decides, follows}
 
 abbrev pub are_below : ℕ → List ℕ → Bool
 are_below limit items = all_below (λ k. nat_lt (slice_index items k) limit) (length items)
@@ -44,6 +44,24 @@ table_fits = refl
 pub accepted-row : (s : List ℕ) → AllByRecursion (λ b. b < 256) s → accepted program_table s ≡ row_of s
 unfolding is_operator is_whole is_fraction is_variable is_atom
 accepted-row s bytes = decides program_table 22 meanings rows table_fits (omega arith) refl s bytes
+
+-- of the first four rows, which may hold together: the first and the fourth alone
+abbrev pub are_apart : (o w f v : Bool) → Bool
+are_apart o w f v = not (w && o) && (not (f && o) && (not (f && w) && (not (v && w) && not (v && f))))
+
+abbrev rows_apart : List Regex → Bool
+rows_apart rs = are_apart (nullable (get_or rs 0 Never)) (nullable (get_or rs 1 Never)) (nullable (get_or rs 2 Never)) (nullable (get_or rs 3 Never))
+
+states_apart : all_below (λ q. rows_apart (get_or meanings q [])) 22 ≡ true
+unfolding all_below
+states_apart = refl
+
+-- no state is one in which two others do
+pub atoms_apart : (s : List ℕ) → AllByRecursion (λ b. b < 256) s → are_apart (is_operator s) (is_whole s) (is_fraction s) (is_variable s) ≡ true
+unfolding is_operator is_whole is_fraction is_variable
+atoms_apart s bytes =
+    let along = follows program_table 22 meanings table_fits s 0 (omega arith) bytes in
+    ap rows_apart along.1 ∙ all_below-at (λ q. rows_apart (get_or meanings q [])) 22 (fold (step_of program_table) 0 s) states_apart along.0
 
 steps_stay : all_below (λ q. all_below (λ b. nat_lt (step_of program_table q b) 22 && not (step_of program_table q b == 0)) 256) 22 ≡ true
 unfolding program_table all_below

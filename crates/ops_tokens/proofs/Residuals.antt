@@ -66,7 +66,7 @@ first-map s n [] = refl
 first-map s n (r ∷ rs) = ap (λ (x : ℕ). cond (matches r s) n x) (first-map s (n + 1) rs)
 
 -- what the states mean, followed along a text
-follows : (t : Table) (n : ℕ) (meanings : List (List Regex)) → states_fit t n meanings ≡ true → (s : List ℕ) (q : ℕ) → q < n → AllByRecursion (λ b. b < 256) s
+pub follows : (t : Table) (n : ℕ) (meanings : List (List Regex)) → states_fit t n meanings ≡ true → (s : List ℕ) (q : ℕ) → q < n → AllByRecursion (λ b. b < 256) s
     → (fold (step_of t) q s < n) × (map (λ r. fold after r s) (get_or meanings q []) ≡ get_or meanings (fold (step_of t) q s) [])
 follows t n meanings e [] q lt bytes = (lt, map_same (get_or meanings q []))
 follows t n meanings e (b ∷ s) q lt bytes =

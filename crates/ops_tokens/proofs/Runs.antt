@@ -1,16 +1,17 @@
 -- The longest prefix that the table accepts is the run of plain bytes.
-use Rattle.std.proofs.Common.{◌≡◌, ◌≢◌, ℕ, suc, ◌+◌, ◌-◌, ◌<◌, ◌≤◌, Bool, true, false, List, [], ◌∷◌, length, take, drop, fold, refl, sym, ap, ◌∙◌, get_or, arith, inl, inr, Option, Some, None, subst}
+use Rattle.std.proofs.Common.{◌≡◌, ◌≢◌, ℕ, suc, ◌+◌, ◌-◌, ◌<◌, ◌≤◌, Bool, true, false, cond, List, [], ◌∷◌, length, take, drop, fold, refl, sym, ap, ◌∙◌, get_or, arith, inl, inr, Option, Some, None, subst}
 use Rattle.std.proofs.lemmas.Bool.{eq-eqb, ne_eqb, cases_Bool, cases_lt, false≢true, not-true, not-false}
 use Rattle.std.proofs.lemmas.List.{get_or-drop, get_or-take, get_or_past, length-drop, length-take}
 use Rattle.std.proofs.lemmas.List.Sums.{prefix_len_is, prefix_len_passes}
 use Rattle.std.proofs.lemmas.List.Folds.{list_all_more, list_all_at}
-use Rattle.std.specs.Prelude.{◌&&◌, ◌||◌, ◌==◌, not, slice_range}
+use Rattle.std.specs.Prelude.{◌&&◌, ◌||◌, ◌==◌, not, slice_index, slice_range}
 use Rattle.std.specs.List.{AllByRecursion, list_all, prefix_len}
 use Rattle.scan_table.specs.Table.{step_of, state_after, accepted, IsLongest}
 use Rattle.ops_tokens.specs.Bytes.{is_plain}
-use Rattle.ops_tokens.specs.Spellings.{row_of}
+use Rattle.ops_tokens.specs.Spellings.{row_of, is_operator, is_whole, is_fraction, is_variable, is_atom}
+use Rattle.ops_tokens.specs.Runs.{kind_of, IsRun}
+use Rattle.ops_tokens.specs.declared.table.AtomKind.{AtomKind}
 use Rattle.ops_tokens.specs.Program.{program_table}
-use Rattle.ops_tokens.specs.Runs.{IsRun, FindsRun}
 use Rattle.ops_tokens.specs.Tokens.{run_at}
 use Rattle.ops_tokens.proofs.Program.{accepted-row, step-stays, step-plain, kind-some}
 
@@ -50,7 +51,7 @@ IsBytes bytes = (i : ℕ) → get_or bytes i 0 < 256
 pub IsBytes-drop : (n : ℕ) (bytes : List ℕ) → IsBytes bytes → IsBytes (drop n bytes)
 IsBytes-drop n bytes h i = rw get_or-drop (h (n + i))
 
-IsBytes-take : (n : ℕ) (bytes : List ℕ) → IsBytes bytes → IsBytes (take n bytes)
+pub IsBytes-take : (n : ℕ) (bytes : List ℕ) → IsBytes bytes → IsBytes (take n bytes)
 IsBytes-take n bytes h i =
     elim (cases_lt i n) [
       | inl lt ↦ rw (get_or-take n bytes i 0 lt) (h i)
@@ -82,7 +83,7 @@ plain-next s n lt before after =
     sym (ap (λ (x : Bool). x && is_plain (get_or s n 0)) before) ∙ sym e ∙ after
 
 -- a prefix of what begins at `first`
-IsBytes-prefix : (text : List ℕ) (first n : ℕ) → IsBytes text → IsBytes (take n (drop first text))
+pub IsBytes-prefix : (text : List ℕ) (first n : ℕ) → IsBytes text → IsBytes (take n (drop first text))
 IsBytes-prefix text first n bytes = IsBytes-take n (drop first text) (IsBytes-drop first text bytes)
 
 ends_at : (text : List ℕ) (first n : ℕ) → first + n < length text → IsBytes text → list_all is_plain (take n (drop first text)) ≡ true → accepted program_table (slice_range text first (first + n + 1)) ≡ 0 → is_plain (get_or (drop first text) n 0) ≡ false
@@ -103,26 +104,58 @@ run_ends text first n row some le bytes ne is none =
     (λ k lt. sym (ap is_plain (get_or-take n (drop first text) k 0 lt)) ∙ plain-at (take n (drop first text)) k (omega arith) plain)
     (λ lt. ends_at text first n (omega (arith, length-drop first text)) bytes plain (none (first + n + 1) (omega arith) (omega (arith, length-drop first text))))
 
-head_is : (text : List ℕ) (first : ℕ) → get_or (drop first text) 0 0 ≡ get_or text first 0
+pub head_is : (text : List ℕ) (first : ℕ) → get_or (drop first text) 0 0 ≡ get_or text first 0
 head_is text first = get_or-drop first text 0 0 ∙ ap (λ (k : ℕ). get_or text k 0) (let e : first + 0 ≡ first = omega arith in e)
 
-run_is : (text : List ℕ) (first n row : ℕ) → first < length text → 0 < n → first + n ≤ length text → IsBytes text → accepted program_table (take n (drop first text)) ≡ row → prefix_len is_plain (drop first text) ≡ n → IsRun text first (first + n) row
-run_is text first n row lt some le bytes is size =
+-- the run of plain bytes at `first` ends there and is of that row, which is one of the table
+pub record HasRow (text : List ℕ) (first past row : ℕ) : Type 0 where
+  pub plain : is_plain (slice_index text first) ≡ true
+  pub end : past ≡ first + length (run_at text first)
+  pub row_is : row ≡ row_of (run_at text first)
+  pub some : row ≢ 0
+
+abbrev pub FindsRow : List ℕ → ℕ → Option (ℕ × ℕ) → Type 0
+FindsRow text first None = is_plain (slice_index text first) ≡ false
+FindsRow text first (Some (past, row)) = HasRow text first past row
+
+run_is : (text : List ℕ) (first n row : ℕ) → first < length text → 0 < n → first + n ≤ length text → IsBytes text → row ≢ 0 → accepted program_table (take n (drop first text)) ≡ row → prefix_len is_plain (drop first text) ≡ n → HasRow text first (first + n) row
+run_is text first n row lt some le bytes ne is size =
     let same : run_at text first ≡ take n (drop first text) = ap (λ (k : ℕ). take k (drop first text)) size in
     record {
       plain = sym (ap is_plain (head_is text first)) ∙ prefix_len_passes is_plain (drop first text) 0 0 (omega arith);
       end = sym (ap (λ (s : List ℕ). first + length s) same ∙ (let e : first + length (take n (drop first text)) ≡ first + n = omega (arith, length-take n (drop first text), length-drop first text) in e));
       row_is = sym is ∙ accepted-row (take n (drop first text)) (all_bytes _ (IsBytes-prefix text first n bytes)) ∙ ap row_of (sym same);
+      some = ne;
     }
 
-pub finds_run : (text : List ℕ) (first : ℕ) → first < length text → IsBytes text → (r : Option (ℕ × ℕ)) → IsLongest program_table text first r → FindsRun text first r
-finds_run text first lt bytes None none =
+pub finds_row : (text : List ℕ) (first : ℕ) → first < length text → IsBytes text → (r : Option (ℕ × ℕ)) → IsLongest program_table text first r → FindsRow text first r
+finds_row text first lt bytes None none =
     sym (ap is_plain (head_is text first)) ∙ ends_at text first 0 (omega arith) bytes refl (none (first + 0 + 1) (omega arith) (omega arith))
-finds_run text first lt bytes (Some (past, row)) found =
+finds_row text first lt bytes (Some (past, row)) found =
     let low : first < past = found.0 in
     let high : past ≤ length text = found.1 in
     let some : 0 < past - first = omega arith in
     let end : first + (past - first) ≡ past = omega arith in
     let size : prefix_len is_plain (drop first text) ≡ past - first =
     run_ends text first (past - first) row some (omega arith) bytes found.2 found.3 (λ other above below. found.4 other (omega arith) below) in
-    subst (λ (p : ℕ). IsRun text first p row) end (run_is text first (past - first) row lt some (omega arith) bytes found.3 size)
+    subst (λ (p : ℕ). HasRow text first p row) end (run_is text first (past - first) row lt some (omega arith) bytes found.2 found.3 size)
+
+-- a row of the table is one of a kind
+kind_none : (a b c d e : Bool) (row : ℕ) → row ≡ cond a 1 (cond b 2 (cond c 3 (cond d 4 (cond e 5 0)))) → kind_of row ≡ None → row ≡ 0
+kind_none a b c d e row is none = is ∙ by a b c d e (sym (ap kind_of is) ∙ none)
+  where
+    by : (a b c d e : Bool) → kind_of (cond a 1 (cond b 2 (cond c 3 (cond d 4 (cond e 5 0))))) ≡ None → ◌≡◌ {A = ℕ} (cond a 1 (cond b 2 (cond c 3 (cond d 4 (cond e 5 0))))) 0
+    by true b c d e h = absurd cc
+    by false true c d e h = absurd cc
+    by false false true d e h = absurd cc
+    by false false false true e h = absurd cc
+    by false false false false true h = absurd cc
+    by false false false false false h = refl
+
+pub has_kind : (text : List ℕ) (first past row : ℕ) → HasRow text first past row → kind_of row ≡ None → ⊥
+has_kind text first past row run none =
+    let s : List ℕ = run_at text first in
+    run.some (kind_none (is_operator s) (is_whole s) (is_fraction s) (is_variable s) (is_atom s) row run.row_is none)
+
+pub kind-run : (text : List ℕ) (first past row : ℕ) (k : AtomKind) → HasRow text first past row → kind_of row ≡ Some k → IsRun text first past k
+kind-run text first past row k run is = record { plain = run.plain; end = run.end; kind_is = sym (ap kind_of run.row_is) ∙ is }

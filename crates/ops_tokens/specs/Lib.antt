@@ -7,3 +7,4 @@ pub mod Tokens
 pub mod Meanings
 pub mod Program
 pub mod Runs
+pub mod Following

@@ -90,7 +90,7 @@ is_quoted _ = false
 abbrev pub spelling : List ℕ → Token → List ℕ
 spelling text t = if is_quoted t.kind then slice_range text (t.first + 1) (t.past - 1) else slice_range text t.first t.past
 
--- the token's bytes lie in the text, and a quoted atom has its two bars
+-- the token's bytes lie in the text, and a quoted atom has room for its two bars
 pub record LiesIn (text : List ℕ) (t : Token) : Type 0 where
   pub ordered : t.first ≤ t.past
   pub within : t.past ≤ length text

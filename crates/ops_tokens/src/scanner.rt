@@ -1,6 +1,7 @@
 //! The next token of a text.
 ghost use Rattle.std.specs.Prelude.{◌≡◌, ◌↔◌, ◌+◌, ◌<◌, ◌≤◌, length, drop, position, slice_index, IfOk, IfErr, IfSome};
 ghost use Rattle.ops_tokens.specs.Bytes.{is_bar};
+ghost use Rattle.ops_tokens.specs.Following.{StandsNext, FaultStandsNext};
 ghost use Rattle.ops_tokens.specs.Gaps.{IsGap};
 ghost use Rattle.ops_tokens.specs.Meanings.{IsSpelled};
 ghost use Rattle.ops_tokens.specs.Numbers.{whole_value};
@@ -10,7 +11,7 @@ ghost use Rattle.ops_tokens.specs.Tokens.{bracket_of, quoted, number, atom, run_
 
 use crate::bytes::{bad_in, bar_in, gap_end};
 use crate::number::whole_of;
-use crate::table::{CLASS_OF, CLASSES, FRACTION, KINDS, NEXT, OPERATOR, STATES, VARIABLE, WHOLE};
+use crate::table::{AtomKind, CLASS_OF, CLASSES, KINDS, NEXT, STATES};
 use crate::token::{BAD_BYTE, FRACTION_NUMBER, LexFault, NUMBER_RANGE, Token, TokenKind, UNCLOSED};
 use scan_table::Dfa;
 
@@ -39,7 +40,9 @@ impl Scanner {
         ensures place { IfOk result (λ found. IfSome found (StandsFrom text.now from)) }
         ensures spelled { IfOk result (λ found. IfSome found (λ t. IsSpelled t.kind (spelling text.now t))) }
         ensures end { (result ≡ Ok None) ↔ IsGap (drop from text.now) }
-        ensures fault { IfErr result (λ fault. (from ≤ fault.at) × (fault.at < length text.now)) }
+        ensures next { IfOk result (λ found. IfSome found (StandsNext text.now from)) }
+        ensures fault { IfErr result (λ f. FaultStandsNext text.now from f) }
+        ensures fault_place { IfErr result (λ fault. (from ≤ fault.at) × (fault.at < length text.now)) }
     {
         self.found(text, from)
     }
@@ -71,7 +74,7 @@ impl Scanner {
             return quoted(text, first);
         }
         match self.run(text, first) {
-            Some((past, row)) => atom(text, first, past, row),
+            Some((past, kind)) => atom(text, first, past, kind),
             None => Err(LexFault {
                 number: BAD_BYTE,
                 at: first,
@@ -79,12 +82,13 @@ impl Scanner {
         }
     }
 
-    // where the run of plain bytes at `first` ends, and the row of its kind
-    fn run(&self, text: &[u8], first: usize) -> Option<(usize, u8)>
+    // where the run of plain bytes at `first` ends, and its kind
+    fn run(&self, text: &[u8], first: usize) -> Option<(usize, AtomKind)>
         requires { first < length text.now }
         ensures { FindsRun text.now first result }
     {
-        self.table.longest(text, first)
+        let (past, row) = self.table.longest(text, first)?;
+        Some((past, AtomKind::of_row(row)?))
     }
 }
 
@@ -95,7 +99,9 @@ pub fn next_token(text: &[u8], from: usize) -> Result<Option<Token>, LexFault>
     ensures place { IfOk result (λ found. IfSome found (StandsFrom text.now from)) }
     ensures spelled { IfOk result (λ found. IfSome found (λ t. IsSpelled t.kind (spelling text.now t))) }
     ensures end { (result ≡ Ok None) ↔ IsGap (drop from text.now) }
-    ensures fault { IfErr result (λ fault. (from ≤ fault.at) × (fault.at < length text.now)) }
+    ensures next { IfOk result (λ found. IfSome found (StandsNext text.now from)) }
+    ensures fault { IfErr result (λ f. FaultStandsNext text.now from f) }
+    ensures fault_place { IfErr result (λ fault. (from ≤ fault.at) × (fault.at < length text.now)) }
 {
     Scanner::new().next_token(text, from)
 }
@@ -137,22 +143,22 @@ fn quoted(text: &[u8], first: usize) -> Result<Option<Token>, LexFault>
     }))
 }
 
-fn atom(text: &[u8], first: usize, past: usize, row: u8) -> Result<Option<Token>, LexFault>
+fn atom(text: &[u8], first: usize, past: usize, kind: AtomKind) -> Result<Option<Token>, LexFault>
     requires within { first < length text.now }
-    requires run { IsRun text.now first past row }
+    requires run { IsRun text.now first past kind }
     ensures { result ≡ atom first (run_at text.now first) }
 {
-    let kind = match row {
-        OPERATOR => TokenKind::Operator,
-        WHOLE => return number(&text[first..past], first, past),
-        FRACTION => {
+    let kind = match kind {
+        AtomKind::Operator => TokenKind::Operator,
+        AtomKind::Whole => return number(&text[first..past], first, past),
+        AtomKind::Fraction => {
             return Err(LexFault {
                 number: FRACTION_NUMBER,
                 at: first,
             });
         }
-        VARIABLE => TokenKind::Variable,
-        _ => TokenKind::Symbol,
+        AtomKind::Variable => TokenKind::Variable,
+        AtomKind::Symbol => TokenKind::Symbol,
     };
     Ok(Some(Token { kind, first, past }))
 }

@@ -1,10 +1,14 @@
 //! The table that tells the kinds of plain atoms apart.
+ghost use Rattle.std.specs.Prelude.{◌≡◌};
+ghost use Rattle.ops_tokens.specs.Runs.{kind_of};
 
 pub const STATES: usize = 22;
 
 pub const CLASSES: usize = 11;
 
-// What the table accepts: the rows of the kinds, in the order in which the first that fits counts.
+// What a state accepts: nothing, or the row of a kind; of several rows that fit the first counts.
+const NO_ATOM: u8 = 0;
+
 pub const OPERATOR: u8 = 1;
 
 pub const WHOLE: u8 = 2;
@@ -54,6 +58,54 @@ pub const NEXT: [[u8; CLASSES]; STATES] = [
     [1, 15, 15, 15, 15, 15, 15, 15, 15, 20, 15], // 21: after <=>
 ];
 
+/// What each state accepts.
 pub const KINDS: [u8; STATES] = [
-    0, 0, 5, 5, 1, 5, 5, 2, 1, 1, 1, 5, 3, 2, 5, 5, 1, 1, 5, 3, 4, 1,
+    NO_ATOM, // 0: the start
+    NO_ATOM, // 1: no plain atom
+    SYMBOL, // 2: any other symbol
+    SYMBOL, // 3: after +
+    OPERATOR, // 4: after -
+    SYMBOL, // 5: after .
+    SYMBOL, // 6: after /
+    WHOLE, // 7: after 0
+    OPERATOR, // 8: after <
+    OPERATOR, // 9: after =
+    OPERATOR, // 10: after >
+    SYMBOL, // 11: after --
+    FRACTION, // 12: after .0
+    WHOLE, // 13: after 0.
+    SYMBOL, // 14: after 0E
+    SYMBOL, // 15: after <!
+    OPERATOR, // 16: after <<
+    OPERATOR, // 17: after <=
+    SYMBOL, // 18: after 0E+
+    FRACTION, // 19: after 0E0
+    VARIABLE, // 20: after <!>
+    OPERATOR, // 21: after <=>
 ];
+
+/// The kinds of plain atoms.
+#[derive(Clone, Copy)]
+pub enum AtomKind {
+    Operator,
+    Whole,
+    Fraction,
+    Variable,
+    Symbol,
+}
+
+impl AtomKind {
+    /// The kind of a row, or `None` where no atom is accepted.
+    pub fn of_row(row: u8) -> Option<AtomKind>
+        ensures { result ≡ kind_of row }
+    {
+        match row {
+            OPERATOR => Some(AtomKind::Operator),
+            WHOLE => Some(AtomKind::Whole),
+            FRACTION => Some(AtomKind::Fraction),
+            VARIABLE => Some(AtomKind::Variable),
+            SYMBOL => Some(AtomKind::Symbol),
+            _ => None,
+        }
+    }
+}

@@ -1,7 +1,8 @@
 //! What fires next, and which instantiations stay marked as fired.
-ghost use Rattle.std.specs.Prelude.{◌≡◌, IfOk, filter, not};
+ghost use Rattle.std.specs.Prelude.{◌≡◌, ◌<◌, length, IfOk, filter, not};
 ghost use Rattle.ops_base.specs.declared.commands.Strategy.TheVariants.{Lex};
 ghost use Rattle.ops_base.specs.Dominance.{dominates};
+ghost use Rattle.ops_base.specs.Instances.{AreOf};
 ghost use Rattle.ops_base.specs.Refraction.{is_same_inst, is_among, unfired, still_fired, better, dominant};
 ghost use Rattle.ops_meaning.specs.Running.{next_to_fire};
 ghost use Rattle.std.specs.Option.{ForSome};
@@ -15,8 +16,7 @@ use ops_base::memory::OutOfMemory;
 use ops_base::programs::Program;
 use ops_base::rules::Inst;
 use ops_meaning::Memory;
-use resolution::keys::Key;
-use resolution::{compare, key};
+use resolution::{Key, compare, key};
 use std::alloc::Global;
 
 fn is_same(i: &Inst, j: &Inst) -> bool
@@ -71,6 +71,7 @@ struct Candidate {
 }
 
 fn with_key(alloc: Global, program: &Program, inst: Inst) -> Result<Candidate, OutOfMemory>
+    requires { inst.rule < length program.now.rules }
     ensures inst { IfOk result (λ c. c.inst ≡ inst) }
     ensures key { IfOk result (HasKey program.now.rules) }
 {
@@ -112,6 +113,7 @@ fn dominant_of(
     program: &Program,
     insts: Vec<Inst>,
 ) -> Result<Option<Inst>, OutOfMemory>
+    requires { AreOf program.now.rules insts.items }
     ensures { IfOk result (λ o. o ≡ dominant Lex program.now.rules insts.items) }
 {
     let mut best = None;

@@ -1,2 +1,1 @@
-pub mod TagLists
 pub mod KeyLaws

@@ -1,12 +1,13 @@
 -- Which key an instantiation has, and how keys compare.
 use Rattle.std.specs.Prelude.{◌≡◌, List}
 use Rattle.std.specs.declared.cmp.Ordering.{Ordering}
-use Rattle.std.specs.Ordering.{nat_cmp}
+use Rattle.std.specs.Ordering.{nat_cmp, ordering_then}
+use Rattle.std.specs.Cmp.Lexicographic.{slice_cmp}
 use Rattle.ops_base.specs.declared.commands.Strategy.{Strategy}
 use Rattle.ops_base.specs.declared.commands.Strategy.TheVariants.{Lex, Mea}
 use Rattle.ops_base.specs.declared.rules.Inst.{Inst}
 use Rattle.ops_base.specs.declared.rules.Rule.{Rule}
-use Rattle.ops_base.specs.Dominance.{downwards, compare_lists, or_else, specificity_of, first_tag}
+use Rattle.ops_base.specs.Dominance.{downwards, specificity_of, first_tag}
 use Rattle.resolution.specs.declared.keys.Key.{Key}
 
 -- the key has what decides between the instantiation and others
@@ -19,11 +20,11 @@ pub record IsKey (rules : List Rule) (i : Inst) (k : Key) : Type 0 where
 
 abbrev pub compare_keys_lex : Key → Key → Ordering
 compare_keys_lex a b =
-    or_else (compare_lists a.sorted b.sorted)
-    (or_else (nat_cmp a.specificity b.specificity)
-    (or_else (nat_cmp b.rule a.rule) (compare_lists a.tags b.tags)))
+    ordering_then (slice_cmp nat_cmp a.sorted b.sorted)
+    (ordering_then (nat_cmp a.specificity b.specificity)
+    (ordering_then (nat_cmp b.rule a.rule) (slice_cmp nat_cmp a.tags b.tags)))
 
 -- keys compare as the instantiations that they are of
 abbrev pub compare_keys : Strategy → Key → Key → Ordering
 compare_keys Lex a b = compare_keys_lex a b
-compare_keys Mea a b = or_else (nat_cmp a.first b.first) (compare_keys_lex a b)
+compare_keys Mea a b = ordering_then (nat_cmp a.first b.first) (compare_keys_lex a b)

@@ -7,12 +7,12 @@ ghost use Rattle.std.specs.Cmp.{IsTotalOrder};
 ghost use Rattle.std.specs.Ordering.{MatchOrdering};
 ghost use Rattle.ops_base.specs.declared.rules.Inst.{Inst};
 ghost use Rattle.ops_base.specs.declared.rules.Rule.{Rule};
-ghost use Rattle.ops_base.specs.Dominance.{downwards, compare_lists, compare_insts, dominates, specificity_of};
+ghost use Rattle.ops_base.specs.Dominance.{downwards, compare_insts, dominates};
 ghost use Rattle.resolution.specs.Keys.{IsKey, compare_keys, compare_keys_lex};
 
-pub mod keys;
+mod keys;
 
-use crate::keys::Key;
+pub use crate::keys::Key;
 use ops_base::commands::Strategy;
 use ops_base::list::Listed;
 use ops_base::memory::OutOfMemory;
@@ -57,63 +57,37 @@ fn key_of(alloc: Global, rule: usize, specificity: u32, tags: &[u64]) -> Result<
     })
 }
 
-fn specificity_of(rules: &[Rule], rule: usize) -> u32
-    ensures { result ≡ specificity_of rules.now rule }
-{
-    match rules.get(rule) {
-        Some(r) => r.specificity,
-        None => 0,
-    }
-}
-
 /// The key of an instantiation of one of the program's productions. It copies the tags twice and sorts one copy.
 pub fn key(alloc: Global, program: &Program, inst: &Inst) -> Result<Key, OutOfMemory>
+    requires { inst.now.rule < length program.now.rules }
     ensures { IfOk result (λ key. IsKey program.now.rules inst.now key) }
 {
-    let specificity = specificity_of(program.rules.as_slice(), inst.rule);
-    key_of(alloc, inst.rule, specificity, inst.tags.as_slice())
-}
-
-/// The first difference decides. Where one list is the beginning of the other, the longer is greater.
-fn compare_tags(a: &[u64], b: &[u64]) -> Ordering
-    ensures { result ≡ compare_lists a.now b.now }
-{
-    let both = a.len().min(b.len());
-    for i in 0..both {
-        if a[i] != b[i] {
-            return a[i].cmp(&b[i]);
-        }
-    }
-    a.len().cmp(&b.len())
+    let rule = &program.rules.as_slice()[inst.rule];
+    key_of(alloc, inst.rule, rule.specificity, inst.tags.as_slice())
 }
 
 fn compare_by_lex(a: &Key, b: &Key) -> Ordering
     ensures { result ≡ compare_keys_lex a.now b.now }
 {
-    let sorted = compare_tags(a.sorted.as_slice(), b.sorted.as_slice());
-    if sorted.is_ne() {
-        return sorted;
-    }
-    if a.specificity != b.specificity {
-        return a.specificity.cmp(&b.specificity);
-    }
-    if a.rule != b.rule {
-        return b.rule.cmp(&a.rule);
-    }
-    compare_tags(a.tags.as_slice(), b.tags.as_slice())
+    a.sorted
+        .as_slice()
+        .cmp(b.sorted.as_slice())
+        .then(a.specificity.cmp(&b.specificity))
+        .then(b.rule.cmp(&a.rule))
+        .then_with(|| a.tags.as_slice().cmp(b.tags.as_slice()))
 }
 
 fn compare_by(strategy: Strategy, a: &Key, b: &Key) -> Ordering
     ensures { result ≡ compare_keys strategy a.now b.now }
 {
-    if strategy == Strategy::Mea && a.first != b.first {
-        return a.first.cmp(&b.first);
+    match strategy {
+        Strategy::Lex => compare_by_lex(a, b),
+        Strategy::Mea => a.first.cmp(&b.first).then_with(|| compare_by_lex(a, b)),
     }
-    compare_by_lex(a, b)
 }
 
 /// Compares the instantiations of two keys: greater where the first dominates, less where the second does. It takes no
-/// memory, and is done at the first difference.
+/// memory, and looks at no tag behind the first that differs.
 pub fn compare(strategy: Strategy, a: &Key, b: &Key) -> Ordering
     ensures dominance { (rules : List Rule) (i j : Inst)
         → IsKey rules i a.now → IsKey rules j b.now

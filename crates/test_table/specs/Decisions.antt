@@ -1,17 +1,25 @@
--- What each way of deciding says of two values.
-use Rattle.std.specs.Prelude.{Bool, true, false, not, int_lt, int_le}
-use Rattle.ops_base.specs.declared.values.Value.{Value}
-use Rattle.ops_base.specs.Values.{are_same, are_ordered}
-use Rattle.test_table.specs.declared.decisions.Decides.{Decides}
-use Rattle.test_table.specs.declared.decisions.Decides.TheVariants.{Never, Always, Equality, Inequality, Less, AtMost, Greater, AtLeast}
+-- What each way of deciding says of two values of one kind.
+use Rattle.std.specs.Prelude.{Bool, true, false, not, ◌==◌, ℤ, int_lt, int_le}
+use Rattle.std.specs.Ordering.{int_eq}
+use Rattle.ops_base.specs.declared.values.Sym.{Sym}
+use Rattle.test_table.specs.declared.decisions.OfSymbols.{OfSymbols}
+use Rattle.test_table.specs.declared.decisions.OfSymbols.TheVariants as symbols
+use Rattle.test_table.specs.declared.decisions.OfNumbers.{OfNumbers}
+use Rattle.test_table.specs.declared.decisions.OfNumbers.TheVariants as numbers
 
--- a field's value and an operand's value decide so
-abbrev pub decided_by : Decides → Value → Value → Bool
-decided_by Never a b = false
-decided_by Always a b = true
-decided_by Equality a b = are_same a b
-decided_by Inequality a b = not (are_same a b)
-decided_by Less a b = are_ordered int_lt a b
-decided_by AtMost a b = are_ordered int_le a b
-decided_by Greater a b = are_ordered int_lt b a
-decided_by AtLeast a b = are_ordered int_le b a
+-- the field's symbol and the operand's symbol decide so
+abbrev pub symbols_decide : OfSymbols → Sym → Sym → Bool
+symbols_decide symbols.Never a b = false
+symbols_decide symbols.Always a b = true
+symbols_decide symbols.Equality a b = a.0 == b.0
+symbols_decide symbols.Inequality a b = not (a.0 == b.0)
+
+-- the field's number and the operand's number decide so
+abbrev pub numbers_decide : OfNumbers → ℤ → ℤ → Bool
+numbers_decide numbers.Always x y = true
+numbers_decide numbers.Equality x y = int_eq x y
+numbers_decide numbers.Inequality x y = not (int_eq x y)
+numbers_decide numbers.Less x y = int_lt x y
+numbers_decide numbers.AtMost x y = int_le x y
+numbers_decide numbers.Greater x y = int_lt y x
+numbers_decide numbers.AtLeast x y = int_le y x

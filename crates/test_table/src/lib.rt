@@ -15,8 +15,8 @@ mod table;
 #[cfg(test)]
 mod tests;
 
-use crate::decisions::{of_numbers, of_symbols, of_two_kinds};
-use crate::table::{between_numbers, between_symbols, number_to_symbol, symbol_to_number};
+use crate::decisions::{of_numbers, of_symbols};
+use crate::table::{between_numbers, between_symbols, between_two_kinds};
 use ops_base::conditions::{Operand, Test};
 use ops_base::values::{Pred, Value};
 
@@ -25,8 +25,8 @@ fn compares(pred: Pred, field: Value, operand: Value) -> bool
 {
     match (field, operand) {
         (Value::Symbol(a), Value::Symbol(b)) => of_symbols(between_symbols(pred), a, b),
-        (Value::Symbol(_), Value::Whole(_)) => of_two_kinds(symbol_to_number(pred)),
-        (Value::Whole(_), Value::Symbol(_)) => of_two_kinds(number_to_symbol(pred)),
+        (Value::Symbol(_), Value::Whole(_)) => between_two_kinds(pred),
+        (Value::Whole(_), Value::Symbol(_)) => between_two_kinds(pred),
         (Value::Whole(x), Value::Whole(y)) => of_numbers(between_numbers(pred), x, y),
     }
 }

@@ -3,62 +3,105 @@ ghost use Rattle.std.specs.Prelude.{◌≡◌, ℤ};
 ghost use Rattle.ops_base.specs.declared.values.Sym.{Sym};
 ghost use Rattle.ops_base.specs.declared.values.Value.TheVariants.{Symbol, Whole};
 ghost use Rattle.ops_base.specs.Values.{holds_of};
-ghost use Rattle.test_table.specs.Decisions.{decided_by};
+ghost use Rattle.test_table.specs.Decisions.{symbols_decide, numbers_decide};
 
-use crate::decisions::Decides;
-use crate::decisions::Decides::{
-    Always, AtLeast, AtMost, Equality, Greater, Inequality, Less, Never,
-};
+use crate::decisions::{OfNumbers, OfSymbols};
 use ops_base::values::Pred;
 
-/// A row for each predicate, in the order of `Pred`. The columns: symbol against symbol, symbol against number, number
-/// against symbol, number against number.
-const TABLE: [[Decides; 4]; 7] = [
-    [Equality, Never, Never, Equality], // =
-    [Inequality, Always, Always, Inequality], // <>
-    [Never, Never, Never, Less], // <
-    [Never, Never, Never, AtMost], // <=
-    [Never, Never, Never, Greater], // >
-    [Never, Never, Never, AtLeast], // >=
-    [Always, Never, Never, Always], // <=>
-];
+/// One predicate, with an entry for each pair of kinds of the field's value and the operand's value.
+#[derive(Clone, Copy)]
+struct Row {
+    /// What decides between two symbols.
+    symbols: OfSymbols,
+    /// Whether a symbol and a number pass, whichever of them the field holds. They are never equal and in no order.
+    two_kinds: bool,
+    /// What decides between two numbers.
+    numbers: OfNumbers,
+}
 
-// One arm for each predicate, with its entry in one column. So the four columns have an arm for every case.
+/// A row for each predicate.
+#[derive(Clone, Copy)]
+struct Table {
+    eq: Row,
+    ne: Row,
+    lt: Row,
+    le: Row,
+    gt: Row,
+    ge: Row,
+    same_kind: Row,
+}
+
+const TABLE: Table = Table {
+    eq: Row {
+        symbols: OfSymbols::Equality,
+        two_kinds: false,
+        numbers: OfNumbers::Equality,
+    },
+    ne: Row {
+        symbols: OfSymbols::Inequality,
+        two_kinds: true,
+        numbers: OfNumbers::Inequality,
+    },
+    lt: Row {
+        symbols: OfSymbols::Never,
+        two_kinds: false,
+        numbers: OfNumbers::Less,
+    },
+    le: Row {
+        symbols: OfSymbols::Never,
+        two_kinds: false,
+        numbers: OfNumbers::AtMost,
+    },
+    gt: Row {
+        symbols: OfSymbols::Never,
+        two_kinds: false,
+        numbers: OfNumbers::Greater,
+    },
+    ge: Row {
+        symbols: OfSymbols::Never,
+        two_kinds: false,
+        numbers: OfNumbers::AtLeast,
+    },
+    same_kind: Row {
+        symbols: OfSymbols::Always,
+        two_kinds: false,
+        numbers: OfNumbers::Always,
+    },
+};
+
+// The entry of a predicate in one column, with an arm for every predicate.
 macro_rules! entry {
-    ($pred:expr, $column:expr; $($name:ident)+) => {
+    ($pred:expr, $column:ident) => {
         match $pred {
-            $(Pred::$name => TABLE[Pred::$name as usize][$column],)+
+            Pred::Eq => TABLE.eq.$column,
+            Pred::Ne => TABLE.ne.$column,
+            Pred::Lt => TABLE.lt.$column,
+            Pred::Le => TABLE.le.$column,
+            Pred::Gt => TABLE.gt.$column,
+            Pred::Ge => TABLE.ge.$column,
+            Pred::SameKind => TABLE.same_kind.$column,
         }
-    };
-    ($pred:expr, $column:expr) => {
-        entry!($pred, $column; Eq Ne Lt Le Gt Ge SameKind)
     };
 }
 
 /// What decides between two symbols.
-pub fn between_symbols(pred: Pred) -> Decides
-    ensures { (a b : Sym) → decided_by result (Symbol a) (Symbol b) ≡ holds_of pred (Symbol a) (Symbol b) }
+pub fn between_symbols(pred: Pred) -> OfSymbols
+    ensures { (a b : Sym) → symbols_decide result a b ≡ holds_of pred (Symbol a) (Symbol b) }
 {
-    entry!(pred, 0)
+    entry!(pred, symbols)
 }
 
-/// What decides where the field holds a symbol and the operand is a number.
-pub fn symbol_to_number(pred: Pred) -> Decides
-    ensures { (a : Sym) (y : ℤ) → decided_by result (Symbol a) (Whole y) ≡ holds_of pred (Symbol a) (Whole y) }
+/// Whether the predicate holds between a symbol and a number.
+pub fn between_two_kinds(pred: Pred) -> bool
+    ensures symbol_first { (a : Sym) (y : ℤ) → result ≡ holds_of pred (Symbol a) (Whole y) }
+    ensures number_first { (x : ℤ) (b : Sym) → result ≡ holds_of pred (Whole x) (Symbol b) }
 {
-    entry!(pred, 1)
-}
-
-/// What decides where the field holds a number and the operand is a symbol.
-pub fn number_to_symbol(pred: Pred) -> Decides
-    ensures { (x : ℤ) (b : Sym) → decided_by result (Whole x) (Symbol b) ≡ holds_of pred (Whole x) (Symbol b) }
-{
-    entry!(pred, 2)
+    entry!(pred, two_kinds)
 }
 
 /// What decides between two numbers.
-pub fn between_numbers(pred: Pred) -> Decides
-    ensures { (x y : ℤ) → decided_by result (Whole x) (Whole y) ≡ holds_of pred (Whole x) (Whole y) }
+pub fn between_numbers(pred: Pred) -> OfNumbers
+    ensures { (x y : ℤ) → numbers_decide result x y ≡ holds_of pred (Whole x) (Whole y) }
 {
-    entry!(pred, 3)
+    entry!(pred, numbers)
 }

@@ -8,7 +8,7 @@ use ops_base::values::{Pred, Sym, Value};
 use std::alloc::Global;
 use std::test::Fail;
 
-// what a constant and a variable with this value say
+// What a constant and a variable with this value say.
 fn at(pred: Pred, field: Value, operand: Value) -> (bool, bool) {
     let constant = Test {
         field: 0,
@@ -28,52 +28,59 @@ fn at(pred: Pred, field: Value, operand: Value) -> (bool, bool) {
     )
 }
 
+const A: Value = Value::Symbol(Sym(3));
+
+const B: Value = Value::Symbol(Sym(4));
+
+const THREE: Value = Value::Whole(3);
+
+const FOUR: Value = Value::Whole(4);
+
+const PAIRS: [(Value, Value); 8] = [
+    (A, A),
+    (A, B),
+    (B, A),
+    (A, THREE),
+    (THREE, A),
+    (THREE, FOUR),
+    (THREE, THREE),
+    (FOUR, THREE),
+];
+
+// A row for each predicate, with what it says of each pair.
+const ROWS: [(Pred, [bool; 8]); 7] = [
+    (
+        Pred::Eq,
+        [true, false, false, false, false, false, true, false],
+    ),
+    (Pred::Ne, [false, true, true, true, true, true, false, true]),
+    (
+        Pred::Lt,
+        [false, false, false, false, false, true, false, false],
+    ),
+    (
+        Pred::Le,
+        [false, false, false, false, false, true, true, false],
+    ),
+    (
+        Pred::Gt,
+        [false, false, false, false, false, false, false, true],
+    ),
+    (
+        Pred::Ge,
+        [false, false, false, false, false, false, true, true],
+    ),
+    (
+        Pred::SameKind,
+        [true, true, true, false, false, true, true, true],
+    ),
+];
+
 #[test]
 fn each_predicate_at_each_pair_of_kinds(rt: HostRuntime) {
-    let a = Value::Symbol(Sym(3));
-    let b = Value::Symbol(Sym(4));
-    let three = Value::Whole(3);
-    let four = Value::Whole(4);
-    let pairs = [
-        (a, a),
-        (a, b),
-        (b, a),
-        (a, three),
-        (three, a),
-        (three, four),
-        (three, three),
-        (four, three),
-    ];
-    let rows = [
-        (
-            Pred::Eq,
-            [true, false, false, false, false, false, true, false],
-        ),
-        (Pred::Ne, [false, true, true, true, true, true, false, true]),
-        (
-            Pred::Lt,
-            [false, false, false, false, false, true, false, false],
-        ),
-        (
-            Pred::Le,
-            [false, false, false, false, false, true, true, false],
-        ),
-        (
-            Pred::Gt,
-            [false, false, false, false, false, false, false, true],
-        ),
-        (
-            Pred::Ge,
-            [false, false, false, false, false, false, true, true],
-        ),
-        (
-            Pred::SameKind,
-            [true, true, true, false, false, true, true, true],
-        ),
-    ];
-    for (pred, wants) in rows {
-        for i in 0..pairs.len() {
-            let (field, operand) = pairs[i];
+    for (pred, wants) in ROWS {
+        for i in 0..PAIRS.len() {
+            let (field, operand) = PAIRS[i];
             let want = wants[i];
             assert_eq!(rt;
                 at(pred, field, operand),

@@ -4,8 +4,8 @@ use Rattle.ops_tokens.specs.Tokens.{number}
 use Rattle.ops_tokens.proofs.Atoms.{atom-whole, slice-run}
 use Rattle.ops_tokens.proofs.scanner.atom.Goals as goal
 
-pub returns-in-2 : goal.returns-in-2
-returns-in-2 c =
+pub returns-in-Whole : goal.returns-in-Whole
+returns-in-Whole c =
     c.number.ensures
     ∙ ap (λ (s : List ℕ). number (whole_value s) c.args.first c.args.past) (slice-run c.args.text.now c.args.first c.args.past c.requires.run.end)
-    ∙ atom-whole c.args.first c.args.past c.args.row _ c.requires.run.end c.in-2.is c.requires.run.row_is
+    ∙ atom-whole c.args.first c.args.past _ c.requires.run.end (rw c.in-Whole.is at c.requires.run.kind_is)

@@ -1,0 +1,3 @@
+-- What the contracts of working memory's store cite.
+pub mod Slots
+pub mod Stored

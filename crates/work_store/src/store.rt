@@ -1,0 +1,174 @@
+//! The store: present elements by rising tag, and removed ones until they are forgotten.
+ghost use Rattle.std.specs.Prelude.{◌≡◌, ◌==◌, ◌++◌, ◌∷◌, ◌<◌, ℕ, [], length, slice_get, Some, IsSome, OnOk, OnErr, if◌then◌else◌, false};
+ghost use Rattle.std.specs.Option.{option_copied};
+ghost use Rattle.std.specs.BTreeMap.{get, is_at};
+ghost use Rattle.std.specs.Map.{set_value};
+ghost use Rattle.std.specs.Ordering.{nat_cmp};
+ghost use Rattle.ops_base.specs.WorkingMemory.{without_tag};
+ghost use Rattle.work_store.specs.Stored.{Stored, nothing_stored, of_tag, or_else, IsStored};
+ghost use Rattle.work_store.specs.Slots.{without_all};
+ghost use Rattle.work_store.specs.declared.slot.Slot.{Slot};
+
+use crate::iter::Elements;
+use crate::slot::Slot;
+use ops_base::elements::Element;
+use ops_base::memory::OutOfMemory;
+use std::alloc::Global;
+use std::collections::BTreeMap;
+use std::marker::Model;
+
+/// Working memory. Each element has a slot under its tag, also one that was removed, until it is forgotten.
+#[derive(Drop)]
+pub struct Store {
+    slots: BTreeMap<u64, Slot>,
+    // The tags of the kept elements, with room for a tag of every slot.
+    gone: Vec<u64>,
+    last: u64,
+}
+
+impl Model for Store {
+    ghost use Rattle.std.specs.Prelude.{vec_capacity};
+    ghost use Rattle.work_store.specs.Stored.{Stored};
+
+    ghost Value = { Stored };
+
+    ghost use Rattle.work_store.specs.Slots.{stored_in, AreSlots};
+
+    ghost view = { λ s. stored_in s.slots.entries s.last };
+
+    ghost invariant = { λ s. AreSlots s.slots.entries s.gone.items (vec_capacity s.gone) s.last };
+}
+
+/// Marks the element of that tag as kept.
+fn mark(slots: &mut BTreeMap<u64, Slot>, tag: u64)
+    ensures { (s : Slot) → get nat_cmp slots.old tag ≡ Some s → slots.new.entries ≡ set_value (is_at (nat_cmp tag)) slots.old.entries (record s { present = false }) }
+{
+    if let Some(slot) = slots.get_mut(&tag) {
+        slot.present = false;
+    }
+}
+
+/// Drops the slots of these tags.
+fn drop_all(slots: &mut BTreeMap<u64, Slot>, tags: &[u64])
+    ensures { slots.new.entries ≡ without_all tags.now slots.old.entries }
+{
+    for tag in tags {
+        slots.remove(tag);
+    }
+}
+
+impl Store {
+    /// No elements. Takes no memory.
+    pub fn new(alloc: Global) -> Store
+        ensures { result ≡ nothing_stored }
+    {
+        Store {
+            slots: BTreeMap::new(alloc),
+            gone: Vec::new(alloc),
+            last: 0,
+        }
+    }
+
+    #[tactic(auto, using(crate::proofs::Slots::get_present))]
+    /// The present element of that tag. Takes a time that grows with the logarithm of the number of elements.
+    pub fn get(&self, tag: u64) -> Option<&Element>
+        ensures { option_copied result ≡ of_tag self.now.elements tag }
+    {
+        let slot = self.slots.get(&tag)?;
+        if slot.present {
+            Some(&slot.element)
+        } else {
+            None
+        }
+    }
+
+    #[tactic(auto, using(crate::proofs::Slots::get_any))]
+    /// The element of that tag, present or kept. Takes a time that grows with the logarithm of the number of elements.
+    pub fn kept(&self, tag: u64) -> Option<&Element>
+        ensures { option_copied result ≡ or_else (of_tag self.now.elements tag) (of_tag self.now.kept tag) }
+    {
+        let held = self.slots.get(&tag)?;
+        Some(&held.element)
+    }
+
+    /// How many elements are present. Takes the same time whatever their number.
+    pub fn len(&self) -> usize
+        ensures { result ≡ length self.now.elements }
+    {
+        self.slots.len() - self.gone.len()
+    }
+
+    /// The greatest tag that was ever added, 0 where none was.
+    pub fn last(&self) -> u64
+        ensures last { result ≡ self.now.last }
+        ensures stored { IsStored self.now }
+    {
+        self.last
+    }
+
+    /// The present elements by rising tag. Going over them takes a time in proportion to the number of those that are
+    /// present or kept.
+    pub fn iter(&self) -> Elements<'_>
+        ensures { result ≡ self.now.elements }
+    {
+        Elements {
+            slots: self.slots.iter(),
+        }
+    }
+
+    /// The present element at that place, by rising tag. Walks there from the first: to see all of them take `iter`.
+    pub fn nth(&self, i: usize) -> &Element
+        requires { i < length self.now.elements }
+        ensures { slice_get self.now.elements i ≡ Some result.now }
+    {
+        match self.iter().nth(i) {
+            Some(element) => element,
+            None => unreachable!(),
+        }
+    }
+
+    /// Adds an element with a tag above all others. Where memory runs out nothing has changed. Takes a time that grows
+    /// with the logarithm of the number of elements, but where the room for the tags of kept elements doubles.
+    pub fn add(&mut self, element: Element) -> Result<(), OutOfMemory>
+        requires { self.old.last < element.tag }
+        ensures ok { OnOk result (self.new ≡ record { elements = self.old.elements ++ element ∷ []; kept = self.old.kept; last = element.tag }) }
+        ensures err { OnErr result (self.new ≡ self.old) }
+    {
+        let room = self.slots.len() + 1 - self.gone.len();
+        self.gone.reserve(room)?;
+        let tag = element.tag;
+        self.slots.insert(
+            tag,
+            Slot {
+                element,
+                present: true,
+            },
+        )?;
+        self.last = tag;
+        Ok(())
+    }
+
+    /// Removes a present element, which is kept until `forget`. Takes no memory, and a time that grows with the
+    /// logarithm of the number of elements.
+    pub fn remove(&mut self, tag: u64)
+        requires { IsSome (of_tag self.old.elements tag) }
+        ensures elements { self.new.elements ≡ without_tag tag self.old.elements }
+        ensures kept { (n : ℕ) → of_tag self.new.kept n ≡ (if n == tag then of_tag self.old.elements tag else of_tag self.old.kept n) }
+        ensures last { self.new.last ≡ self.old.last }
+    {
+        mark(&mut self.slots, tag);
+        match self.gone.push(tag) {
+            Ok(()) => {}
+            Err(_) => unreachable!(),
+        }
+    }
+
+    /// Lets the kept elements go. Takes no memory, and a time for each of them that grows with the logarithm of the
+    /// number of elements.
+    pub fn forget(&mut self)
+        ensures { self.new ≡ record self.old { kept = [] } }
+    {
+        drop_all(&mut self.slots, self.gone.as_slice());
+        self.gone.clear();
+    }
+}
