@@ -1,10 +1,8 @@
 //! Runs programs of OPS5.
 #![tactic(auto)]
 
-use ops_io::outside::OpenGate;
-use ops_io::real::{StdShelf, StdSink, StdSource};
-use ops_meaning::Status;
-use ops_top::{code, ops_run};
+use ops_io::{OpenGate, StdShelf, StdSink, StdSource};
+use ops_top::{Status, code, ops_run};
 use std::alloc::{AllocError, AllocGlobal, Global};
 use std::process::ExitCode;
 use std::rt::Env;

@@ -1,17 +1,17 @@
 -- The conflict set as it is computed is the conflict set as it is defined, and no other list is.
 use Rattle.std.proofs.Common.{◌≡◌, ℕ, zero, suc, ◌+◌, ◌<◌, List, [], ◌∷◌, length, All, Some, refl, ap, sym, ◌∙◌, subst, inl, inr, arith}
 use Rattle.std.proofs.lemmas.List.Elements.{All-nil, All-cons, All-append}
-use Rattle.std.specs.Prelude.{slice_get}
+use Rattle.std.specs.Prelude.{slice_get, Contains}
 use Rattle.ops_base.specs.declared.elements.Element.{Element}
 use Rattle.ops_base.specs.declared.direct.Partial.{Partial}
 use Rattle.ops_base.specs.declared.rules.Rule.{Rule}
 use Rattle.ops_base.specs.declared.rules.Inst.{Inst}
 use Rattle.ops_base.specs.WorkingMemory.{HasRisingTags}
 use Rattle.ops_base.specs.ConflictSet.{matches_of, insts_of, insts_from, conflict_set}
-use Rattle.ops_base.specs.Instances.{IsMember, Meets, IsInst, TagsBefore, Before, IsInOrder, IsConflictSet, AreOf}
-use Rattle.ops_base.proofs.Members.{member_left, member_right, member_cases, member-map, map_member}
+use Rattle.ops_base.specs.Instances.{Meets, IsInst, TagsBefore, Before, IsConflictSet, AreOf}
+use Rattle.ops_base.proofs.Members.{IsMember, member_from_contains, contains_from_member, member_left, member_right, member_cases, member-map, map_member}
 use Rattle.ops_base.proofs.WalkFinds.{matches_of-meets, meets-matches_of}
-use Rattle.ops_base.proofs.InOrder.{AllBefore, PartialBefore, all_before-append, all_before-map, matches_in_order}
+use Rattle.ops_base.proofs.InOrder.{AllBefore, PartialBefore, all_before-append, all_before-map, all_pairs_from_before, before_from_all_pairs, matches_in_order}
 
 abbrev inst : ℕ → List ℕ → Inst
 inst n tags = record { rule = n; tags = tags }
@@ -88,25 +88,21 @@ insts_from-in_order n (r ∷ rs) wm h =
     let below : i.rule < j.rule = omega (arith, a.2, b.number) in
     inl below)
 
-all_before-is : (is : List Inst) → AllBefore Before is → IsInOrder is
-all_before-is [] a = tt
-all_before-is (i ∷ is) a = (a.0, all_before-is is a.1)
-
 -- The list that is computed is the conflict set: it has the instantiations and no others, in order, each once.
 pub conflict_set-is : (rules : List Rule) (wm : List Element) → HasRisingTags wm → IsConflictSet rules wm (conflict_set rules wm)
-conflict_set-is rules wm h = record { sound = sound; complete = complete; in_order = all_before-is (conflict_set rules wm) (insts_from-in_order 0 rules wm h) }
+conflict_set-is rules wm h = record { sound = sound; complete = complete; in_order = all_pairs_from_before Before (conflict_set rules wm) (insts_from-in_order 0 rules wm h) }
   where
-    sound : (i : Inst) → IsMember i (conflict_set rules wm) → IsInst rules wm i
+    sound : (i : Inst) → Contains (conflict_set rules wm) i → IsInst rules wm i
     sound i m =
-        let f = insts_from-sound 0 rules wm i m in
+        let f = insts_from-sound 0 rules wm i (member_from_contains i (conflict_set rules wm) m) in
         let e : i.rule ≡ f.place = omega (arith, f.number) in
         (f.rule, ap (slice_get rules) e ∙ f.there, f.meets)
 
-    complete : (i : Inst) → IsInst rules wm i → IsMember i (conflict_set rules wm)
+    complete : (i : Inst) → IsInst rules wm i → Contains (conflict_set rules wm) i
     complete i is =
         let e : 0 + i.rule ≡ i.rule = omega arith in
         let P : ℕ → Type 0 = λ w. IsMember (inst w i.tags) (conflict_set rules wm) in
-        subst P e (insts_from-complete 0 rules wm i.rule i.tags is.0 is.1 is.2)
+        contains_from_member i (conflict_set rules wm) (subst P e (insts_from-complete 0 rules wm i.rule i.tags is.0 is.1 is.2))
 
 -- no list of tags is before itself
 pub tags_before_itself : (xs : List ℕ) → TagsBefore xs xs → ⊥
@@ -137,7 +133,7 @@ before_both i j (inr a) (inl b) = omega (arith, a.0)
 before_both i j (inr a) (inr b) = tags_before_both i.tags j.tags a.1 b.1
 
 -- two lists in order with the same members are equal
-pub same_members : (xs ys : List Inst) → IsInOrder xs → IsInOrder ys → ((i : Inst) → IsMember i xs → IsMember i ys) → ((i : Inst) → IsMember i ys → IsMember i xs) → xs ≡ ys
+pub same_members : (xs ys : List Inst) → AllBefore Before xs → AllBefore Before ys → ((i : Inst) → IsMember i xs → IsMember i ys) → ((i : Inst) → IsMember i ys → IsMember i xs) → xs ≡ ys
 same_members [] [] a b to from = refl
 same_members [] (y ∷ ys) a b to from = absurd (from y (inl refl))
 same_members (x ∷ xs) [] a b to from = absurd (to x (inl refl))
@@ -164,7 +160,9 @@ same_members (x ∷ xs) (y ∷ ys) a b to from =
 -- There is one conflict set at most.
 pub conflict_set_only : (rules : List Rule) (wm : List Element) (one other : List Inst) → IsConflictSet rules wm one → IsConflictSet rules wm other → other ≡ one
 conflict_set_only rules wm one other a b =
-    same_members other one b.in_order a.in_order (λ i m. a.complete i (b.sound i m)) (λ i m. b.complete i (a.sound i m))
+    same_members other one (before_from_all_pairs Before other b.in_order) (before_from_all_pairs Before one a.in_order)
+    (λ i m. member_from_contains i one (a.complete i (b.sound i (contains_from_member i other m))))
+    (λ i m. member_from_contains i other (b.complete i (a.sound i (contains_from_member i one m))))
 
 -- a list that is what is computed is the conflict set
 pub computed_is : (rules : List Rule) (wm : List Element) (set : List Inst) → HasRisingTags wm → set ≡ conflict_set rules wm → IsConflictSet rules wm set

@@ -16,8 +16,8 @@ use Rattle.ops_base.specs.declared.rules.Inst.{Inst}
 use Rattle.ops_base.specs.declared.commands.Strategy.{Strategy}
 use Rattle.ops_base.specs.declared.commands.Strategy.TheVariants.{Lex, Mea}
 use Rattle.ops_base.specs.Dominance.{downwards, specificity_of, first_tag, compare_lex, compare_insts, is_greater, dominates}
-use Rattle.ops_base.specs.Instances.{IsMember}
 use Rattle.ops_base.specs.Refraction.{IsDominant, better, dominant, is_same_inst}
+use Rattle.ops_base.proofs.Members.{IsMember, member_from_contains, contains_from_member}
 use Rattle.ops_base.proofs.InstEquality.{same_fields}
 use Rattle.ops_base.proofs.RefractionLaws.{is_same_inst-Decides}
 
@@ -159,8 +159,8 @@ undominated_found strategy rules best (x ∷ insts) =
 -- one that none of them dominates dominates all others of them
 undominated_is : (strategy : Strategy) (rules : List Rule) (insts : List Inst) (i : Inst) → IsUndominated strategy rules insts i → IsDominant strategy rules insts i
 undominated_is strategy rules insts i u = record {
-  member = u.member;
-  above = λ j m differ. one_dominates strategy rules i j (λ e. differ (sym e)) ∙ ap not (u.none j m);
+  member = contains_from_member i insts u.member;
+  above = λ j m differ. one_dominates strategy rules i j (λ e. differ (sym e)) ∙ ap not (u.none j (member_from_contains j insts m));
 }
 
 -- The dominant one of a list is there exactly where the list is not empty, and dominates all others in it.
@@ -190,5 +190,5 @@ pub dominant_only : (strategy : Strategy) (rules : List Rule) (insts : List Inst
 dominant_only strategy rules insts i a = by_found (dominant strategy rules insts) (dominant_is strategy rules insts)
   where
     by_found : (o : Option Inst) → MatchOption o (insts ≡ []) (λ j. IsDominant strategy rules insts j) → o ≡ Some i
-    by_found None e = let P : List Inst → Type 0 = IsMember i in absurd (subst P e a.member)
+    by_found None e = let P : List Inst → Type 0 = IsMember i in absurd (subst P e (member_from_contains i insts a.member))
     by_found (Some j) b = ap Some (one_dominant strategy rules insts j i b a)

@@ -8,9 +8,8 @@ use Rattle.std.proofs.lemmas.Bool.Decides.{nat_tests, leb_tells}
 use Rattle.std.proofs.lemmas.List.Sorted.{IsPermutation-refl, IsPermutation-sym, IsPermutation-cons, IsPermutation-middle, IsPermutation-trans, IsPermutation-reverse, IsNonDecreasingBy-from_sort, sum_by-IsPermutation}
 use Rattle.std.proofs.lemmas.List.Sums.{sum_by-cons}
 use Rattle.ops_base.specs.Dominance.{insert_down, downwards}
-use Rattle.ops_base.specs.Instances.{IsMember}
 use Rattle.ops_base.proofs.InOrder.{AllBefore, all_before-append, all_pairs_from_before, before_from_all_pairs}
-use Rattle.ops_base.proofs.Members.{member_cases}
+use Rattle.ops_base.proofs.Members.{IsMember, member_cases}
 
 -- the first is not below the second
 abbrev pub AtLeast : ℕ → ℕ → Type 0

@@ -5,7 +5,7 @@ use Rattle.std.proofs.lemmas.Cmp.{ranked}
 use Rattle.std.proofs.lemmas.Map.Keys.{sorted_from_strictly_increasing}
 use Rattle.std.specs.declared.cmp.Ordering.TheVariants.{Less}
 use Rattle.std.specs.Ordering.{nat_cmp}
-use Rattle.std.proofs.lemmas.List.Elements.{All-nil, All-cons, recursion_from_All}
+use Rattle.std.proofs.lemmas.List.Elements.{recursion_from_All}
 use Rattle.std.proofs.lemmas.List.Kept.{AllPairs-cons}
 use Rattle.std.specs.List.{flat_map, All, AllPairs, AllByRecursion}
 use Rattle.std.specs.List.Sorted.{IsStrictlySortedBy}
@@ -16,8 +16,8 @@ use Rattle.ops_base.specs.declared.matching.Binding.{Binding}
 use Rattle.ops_base.specs.Matching.{match_of}
 use Rattle.ops_base.specs.WorkingMemory.{tags_of, HasRisingTags}
 use Rattle.ops_base.specs.ConflictSet.{lengthened, extended, some_meets, at_condition, walk, empty_partial, matches_of}
-use Rattle.ops_base.specs.Instances.{IsMember, TagsBefore}
-use Rattle.ops_base.proofs.Members.{member_cases, flat_map_member, map_member}
+use Rattle.ops_base.specs.Instances.{TagsBefore}
+use Rattle.ops_base.proofs.Members.{IsMember, member_cases, flat_map_member, map_member, all_from_members, members_from_each}
 use Rattle.ops_base.proofs.WalkFinds.{lengthened_is, negated_is}
 
 -- each item is before all that follow it
@@ -51,17 +51,6 @@ all_before-map {X} {Y} S R f (x ∷ xs) h a = (
   λ y m. (let g = map_member f y xs m in let P : Y → Type 0 = R (f x) in subst P (sym g.2) (h x g.0 (a.0 g.0 g.1))),
   all_before-map S R f xs h a.1,
 )
-
--- what holds of each member holds at each index
-all_from_members : {X : Type 0} (P : X → Type 0) (xs : List X) → ((y : X) → IsMember y xs → P y) → All P xs
-all_from_members P [] h = All-nil P
-all_from_members P (x ∷ xs) h = All-cons P x xs (h x (inl refl)) (all_from_members P xs (λ y m. h y (inr m)))
-
--- what holds of each item holds of each member
-members_from_each : {X : Type 0} (P : X → Type 0) (xs : List X) → AllByRecursion P xs → (y : X) → IsMember y xs → P y
-members_from_each P [] h y m = absurd m
-members_from_each P (x ∷ xs) h y (inl e) = subst P (sym e) h.0
-members_from_each P (x ∷ xs) h y (inr m) = members_from_each P xs h.1 y m
 
 -- items in order are in order at each two places
 pub all_pairs_from_before : {X : Type 0} (R : X → X → Type 0) (xs : List X) → AllBefore R xs → AllPairs R xs

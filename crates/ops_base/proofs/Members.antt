@@ -1,7 +1,33 @@
--- Members of joined, mapped and flattened lists.
-use Rattle.std.proofs.Common.{◌≡◌, List, [], ◌∷◌, ◌++◌, map, refl, ap, subst, inl, inr, ◌⊎◌}
-use Rattle.std.specs.List.{flat_map}
-use Rattle.ops_base.specs.Instances.{IsMember}
+-- Members of joined, mapped and flattened lists. A member is what the list contains, told by the list's own form.
+use Rattle.std.proofs.Common.{◌≡◌, List, [], ◌∷◌, ◌++◌, map, refl, ap, sym, subst, inl, inr, ◌⊎◌}
+use Rattle.std.specs.List.{flat_map, All, AllByRecursion, Contains}
+use Rattle.std.proofs.lemmas.List.Elements.{All-nil, All-cons, All-contains, All-contains_itself, recursion_from_All}
+
+-- x is an item of the list
+abbrev pub IsMember : {X : Type 0} → X → List X → Type 0
+IsMember x [] = ⊥
+IsMember x (y ∷ ys) = (x ≡ y) ⊎ IsMember x ys
+
+-- what holds of each member holds at each index
+pub all_from_members : {X : Type 0} (P : X → Type 0) (xs : List X) → ((y : X) → IsMember y xs → P y) → All P xs
+all_from_members P [] h = All-nil P
+all_from_members P (x ∷ xs) h = All-cons P x xs (h x (inl refl)) (all_from_members P xs (λ y m. h y (inr m)))
+
+-- what holds of each item holds of each member
+pub members_from_each : {X : Type 0} (P : X → Type 0) (xs : List X) → AllByRecursion P xs → (y : X) → IsMember y xs → P y
+members_from_each P [] h y m = absurd m
+members_from_each P (x ∷ xs) h y (inl e) = subst P (sym e) h.0
+members_from_each P (x ∷ xs) h y (inr m) = members_from_each P xs h.1 y m
+
+-- what a list contains is a member of it
+pub member_from_contains : {X : Type 0} (x : X) (xs : List X) → Contains xs x → IsMember x xs
+member_from_contains x xs h =
+    All-contains (λ y. IsMember y xs) xs x (all_from_members (λ y. IsMember y xs) xs (λ y m. m)) h
+
+-- a list contains its members
+pub contains_from_member : {X : Type 0} (x : X) (xs : List X) → IsMember x xs → Contains xs x
+contains_from_member x xs m =
+    members_from_each (Contains xs) xs (recursion_from_All (Contains xs) xs (All-contains_itself xs)) x m
 
 -- a member of the first list is in the two joined
 pub member_left : {X : Type 0} (x : X) (xs ys : List X) → IsMember x xs → IsMember x (xs ++ ys)

@@ -1,7 +1,7 @@
 -- What the walk over the conditions finds are the instantiations, and all of them.
 use Rattle.std.proofs.Common.{◌≡◌, ℕ, List, [], ◌∷◌, ◌++◌, Bool, true, false, cond, not, ◌||◌, Option, Some, None, is_some, refl, ap, sym, ◌∙◌, subst, inl, inr, append_assoc}
 use Rattle.std.proofs.lemmas.List.{append-nil}
-use Rattle.std.specs.List.{flat_map}
+use Rattle.std.specs.List.{flat_map, Contains}
 use Rattle.std.specs.Bool.{MatchBool}
 use Rattle.ops_base.specs.declared.elements.Element.{Element}
 use Rattle.ops_base.specs.declared.conditions.Condition.{Condition}
@@ -9,8 +9,8 @@ use Rattle.ops_base.specs.declared.direct.Partial.{Partial}
 use Rattle.ops_base.specs.declared.matching.Binding.{Binding}
 use Rattle.ops_base.specs.Matching.{match_of}
 use Rattle.ops_base.specs.ConflictSet.{lengthened, extended, some_meets, at_condition, walk, empty_partial, matches_of}
-use Rattle.ops_base.specs.Instances.{IsMember, Meets}
-use Rattle.ops_base.proofs.Members.{flat_map_member, member-flat_map}
+use Rattle.ops_base.specs.Instances.{Meets}
+use Rattle.ops_base.proofs.Members.{IsMember, flat_map_member, member-flat_map, member_from_contains, contains_from_member}
 
 -- where the test for some element fails, no element meets the condition
 pub none_meets : (wm : List Element) (c : Condition) (bindings : List Binding) → some_meets wm c bindings ≡ false → (e : Element) → IsMember e wm → match_of c e bindings ≡ None
@@ -59,16 +59,16 @@ step_is wm c cs p q rest m i =
     by_sign : (b : Bool)
         → IsMember q (cond b (cond (not (some_meets wm c p.bindings)) (p ∷ []) []) (flat_map (extended c p) wm))
         → (front : List ℕ) × (q.tags ≡ p.tags ++ front) × MatchBool b
-        (((e : Element) → IsMember e wm → match_of c e p.bindings ≡ None) × Meets wm cs p.bindings (front ++ rest))
-        ((e : Element) × (next : List Binding) × (more : List ℕ) × IsMember e wm × (match_of c e p.bindings ≡ Some next) × (front ++ rest ≡ e.tag ∷ more) × Meets wm cs next more)
+        (((e : Element) → Contains wm e → match_of c e p.bindings ≡ None) × Meets wm cs p.bindings (front ++ rest))
+        ((e : Element) × (next : List Binding) × (more : List ℕ) × Contains wm e × (match_of c e p.bindings ≡ Some next) × (front ++ rest ≡ e.tag ∷ more) × Meets wm cs next more)
     by_sign true m =
         let n = negated_is p q (some_meets wm c p.bindings) m in
         let P : Partial → Type 0 = λ w. Meets wm cs w.bindings rest in
-        ([], ap (λ (w : Partial). w.tags) n.1 ∙ sym (append-nil p.tags), (λ e h. none_meets wm c p.bindings n.0 e h, subst P n.1 i))
+        ([], ap (λ (w : Partial). w.tags) n.1 ∙ sym (append-nil p.tags), (λ e h. none_meets wm c p.bindings n.0 e (member_from_contains e wm h), subst P n.1 i))
     by_sign false m =
         let f = flat_map_member (extended c p) q wm m in
         let l = lengthened_is p q f.0.tag (match_of c f.0 p.bindings) f.2 in
-        (f.0.tag ∷ [], l.1, (f.0, q.bindings, rest, f.1, l.0, refl, i))
+        (f.0.tag ∷ [], l.1, (f.0, q.bindings, rest, contains_from_member f.0 wm f.1, l.0, refl, i))
 
 -- a whole match that the walk gives from these partial matches goes on from one of them by tags that meet the conditions
 pub record Found (wm : List Element) (cs : List Condition) (ps : List Partial) (q : Partial) : Type 0 where
@@ -122,17 +122,17 @@ taken_is wm c cs p tags i =
   where
     by_sign : (b : Bool)
         → MatchBool b
-        (((e : Element) → IsMember e wm → match_of c e p.bindings ≡ None) × Meets wm cs p.bindings tags)
-        ((e : Element) × (next : List Binding) × (more : List ℕ) × IsMember e wm × (match_of c e p.bindings ≡ Some next) × (tags ≡ e.tag ∷ more) × Meets wm cs next more)
+        (((e : Element) → Contains wm e → match_of c e p.bindings ≡ None) × Meets wm cs p.bindings tags)
+        ((e : Element) × (next : List Binding) × (more : List ℕ) × Contains wm e × (match_of c e p.bindings ≡ Some next) × (tags ≡ e.tag ∷ more) × Meets wm cs next more)
         → (next : Partial) × IsMember next (cond b (cond (not (some_meets wm c p.bindings)) (p ∷ []) []) (flat_map (extended c p) wm)) × (rest : List ℕ) × (p.tags ++ tags ≡ next.tags ++ rest) × Meets wm cs next.bindings rest
     by_sign true i =
-        let e : not (some_meets wm c p.bindings) ≡ true = ap not (some_meets-none wm c p.bindings i.0) in
+        let e : not (some_meets wm c p.bindings) ≡ true = ap not (some_meets-none wm c p.bindings (λ x m. i.0 x (contains_from_member x wm m))) in
         let P : Bool → Type 0 = λ b. IsMember p (cond b (p ∷ []) []) in
         (p, subst P (sym e) (inl refl), tags, refl, i.1)
     by_sign false i =
         let q : Partial = record { tags = p.tags ++ i.0.tag ∷ []; bindings = i.1 } in (
           q,
-          member-flat_map (extended c p) q i.0 wm i.3 (some_is p i.0.tag i.1 (match_of c i.0 p.bindings) i.4),
+          member-flat_map (extended c p) q i.0 wm (member_from_contains i.0 wm i.3) (some_is p i.0.tag i.1 (match_of c i.0 p.bindings) i.4),
           i.2,
           ap (λ w. p.tags ++ w) i.5 ∙ sym (append_assoc p.tags (i.0.tag ∷ []) i.2),
           i.6,

@@ -1,5 +1,5 @@
 -- What an instantiation is and what the conflict set is, apart from how they are found.
-use Rattle.std.specs.Prelude.{◌≡◌, ℕ, ◌<◌, List, [], ◌∷◌, length, ◌⊎◌, All, Some, None, slice_get}
+use Rattle.std.specs.Prelude.{◌≡◌, ℕ, ◌<◌, List, [], ◌∷◌, length, ◌⊎◌, All, AllPairs, Contains, Some, None, slice_get}
 use Rattle.std.specs.Bool.{MatchBool}
 use Rattle.ops_base.specs.declared.elements.Element.{Element}
 use Rattle.ops_base.specs.declared.conditions.Condition.{Condition}
@@ -8,19 +8,14 @@ use Rattle.ops_base.specs.declared.rules.Inst.{Inst}
 use Rattle.ops_base.specs.declared.matching.Binding.{Binding}
 use Rattle.ops_base.specs.Matching.{match_of}
 
--- x is an item of the list
-abbrev pub IsMember : {X : Type 0} → X → List X → Type 0
-IsMember x [] = ⊥
-IsMember x (y ∷ ys) = (x ≡ y) ⊎ IsMember x ys
-
 -- Walking the conditions from these bindings, the tags name an element of working memory for each positive condition,
 -- which it meets, and no element of working memory meets a negated one. At the end no tag is left.
 abbrev pub Meets : List Element → List Condition → List Binding → List ℕ → Type 0
 Meets wm [] bindings tags = tags ≡ []
 Meets wm (c ∷ cs) bindings tags =
     MatchBool c.negated
-    (((e : Element) → IsMember e wm → match_of c e bindings ≡ None) × Meets wm cs bindings tags)
-    ((e : Element) × (next : List Binding) × (rest : List ℕ) × IsMember e wm × (match_of c e bindings ≡ Some next) × (tags ≡ e.tag ∷ rest) × Meets wm cs next rest)
+    (((e : Element) → Contains wm e → match_of c e bindings ≡ None) × Meets wm cs bindings tags)
+    ((e : Element) × (next : List Binding) × (rest : List ℕ) × Contains wm e × (match_of c e bindings ≡ Some next) × (tags ≡ e.tag ∷ rest) × Meets wm cs next rest)
 
 -- a rule with tags that meet its conditions
 abbrev pub IsInst : List Rule → List Element → Inst → Type 0
@@ -38,13 +33,12 @@ Before i j = (i.rule < j.rule) ⊎ ((i.rule ≡ j.rule) × TagsBefore i.tags j.t
 
 -- each is before all that follow it, so each is there once
 abbrev pub IsInOrder : List Inst → Type 0
-IsInOrder [] = Unit {0}
-IsInOrder (i ∷ is) = ((j : Inst) → IsMember j is → Before i j) × IsInOrder is
+IsInOrder set = AllPairs Before set
 
 -- The conflict set: all instantiations, in the order of rule and then tags, each once.
 pub record IsConflictSet (rules : List Rule) (wm : List Element) (set : List Inst) : Type 0 where
-  pub sound : (i : Inst) → IsMember i set → IsInst rules wm i
-  pub complete : (i : Inst) → IsInst rules wm i → IsMember i set
+  pub sound : (i : Inst) → Contains set i → IsInst rules wm i
+  pub complete : (i : Inst) → IsInst rules wm i → Contains set i
   pub in_order : IsInOrder set
 
 -- each is of one of these rules

@@ -1,5 +1,6 @@
 -- Working memory: elements whose tags rise strictly, and what a phase does to it.
 use Rattle.std.specs.Prelude.{ℕ, ◌<◌, List, [], ◌∷◌, ◌++◌, map, filter, not, ◌==◌, unwrap_or, slice_get, Contains}
+use Rattle.std.specs.Borrow.{Bor}
 use Rattle.std.specs.List.Sorted.{IsStrictlyIncreasing}
 use Rattle.ops_base.specs.declared.values.Value.{Value}
 use Rattle.ops_base.specs.declared.elements.Element.{Element}
@@ -10,6 +11,10 @@ use Rattle.ops_base.specs.Values.{nil}
 -- a field's value, nil past the end
 abbrev pub field_of : Element → ℕ → Value
 field_of e f = unwrap_or (slice_get e.fields f) nil
+
+-- the elements that these references show
+abbrev pub shown : List (Bor Element) → List Element
+shown wm = map (λ e. e.now) wm
 
 abbrev pub tags_of : List Element → List ℕ
 tags_of wm = map (λ e. e.tag) wm

@@ -1,7 +1,7 @@
 //! The conflict set by looking at every element of working memory for every condition.
 ghost use Rattle.std.specs.Prelude.{◌≡◌, List, ℕ, ◌++◌, ◌∷◌, [], OnOk, IfOk, true, false};
 ghost use Rattle.std.specs.List.{flat_map};
-ghost use Rattle.ops_base.specs.WorkingMemory.{HasRisingTags};
+ghost use Rattle.ops_base.specs.WorkingMemory.{HasRisingTags, shown};
 ghost use Rattle.ops_base.specs.ConflictSet.{some_meets, extended, at_condition, walk, empty_partial, matches_of, insts_of, conflict_set};
 ghost use Rattle.ops_base.specs.Instances.{IsConflictSet, AreOf};
 ghost use Rattle.ops_base.specs.declared.rules.Inst.{Inst};
@@ -24,11 +24,11 @@ pub struct Partial {
 
 fn some_element_meets(
     alloc: Global,
-    wm: &[Element],
+    wm: &[&Element],
     condition: &Condition,
     bindings: &[Binding],
 ) -> Result<bool, OutOfMemory>
-    ensures { IfOk result (λ b. b ≡ some_meets wm.now condition.now bindings.now) }
+    ensures { IfOk result (λ b. b ≡ some_meets (shown wm.now) condition.now bindings.now) }
 {
     for e in wm {
         if matched(alloc, condition, e, bindings)?.is_some() {
@@ -49,12 +49,12 @@ fn with_tag(alloc: Global, tags: &[u64], tag: u64) -> Result<Listed<u64>, OutOfM
 /// Adds the partial matches with one element more.
 fn extend(
     alloc: Global,
-    wm: &[Element],
+    wm: &[&Element],
     condition: &Condition,
     from: &Partial,
     found: &mut Vec<Partial>,
 ) -> Result<(), OutOfMemory>
-    ensures { OnOk result (found.new.items ≡ found.old.items ++ flat_map (extended condition.now from.now) wm.now) }
+    ensures { OnOk result (found.new.items ≡ found.old.items ++ flat_map (extended condition.now from.now) (shown wm.now)) }
 {
     for e in wm {
         if let Some(bindings) = matched(alloc, condition, e, from.bindings.as_slice())? {
@@ -69,12 +69,12 @@ fn extend(
 /// Adds what one partial match gives at one condition.
 fn pass_condition(
     alloc: Global,
-    wm: &[Element],
+    wm: &[&Element],
     condition: &Condition,
     from: Partial,
     found: &mut Vec<Partial>,
 ) -> Result<(), OutOfMemory>
-    ensures { OnOk result (found.new.items ≡ found.old.items ++ at_condition wm.now condition.now from) }
+    ensures { OnOk result (found.new.items ≡ found.old.items ++ at_condition (shown wm.now) condition.now from) }
 {
     if !condition.negated {
         return extend(alloc, wm, condition, &from, found);
@@ -87,11 +87,11 @@ fn pass_condition(
 
 fn pass_all(
     alloc: Global,
-    wm: &[Element],
+    wm: &[&Element],
     condition: &Condition,
     from: Vec<Partial>,
 ) -> Result<Vec<Partial>, OutOfMemory>
-    ensures { IfOk result (λ v. v.items ≡ flat_map (at_condition wm.now condition.now) from.items) }
+    ensures { IfOk result (λ v. v.items ≡ flat_map (at_condition (shown wm.now) condition.now) from.items) }
 {
     let mut found = Vec::new(alloc);
     for p in from {
@@ -102,10 +102,10 @@ fn pass_all(
 
 fn walk_conditions(
     alloc: Global,
-    wm: &[Element],
+    wm: &[&Element],
     conditions: &[Condition],
 ) -> Result<Vec<Partial>, OutOfMemory>
-    ensures { IfOk result (λ v. v.items ≡ matches_of wm.now conditions.now) }
+    ensures { IfOk result (λ v. v.items ≡ matches_of (shown wm.now) conditions.now) }
 {
     let mut found = Vec::new(alloc);
     found.push(Partial {
@@ -128,8 +128,8 @@ fn add_insts(rule: usize, from: Vec<Partial>, found: &mut Vec<Inst>) -> Result<(
 }
 
 /// The instantiations of these rules.
-fn insts(alloc: Global, rules: &[Rule], wm: &[Element]) -> Result<Vec<Inst>, OutOfMemory>
-    ensures { IfOk result (λ v. v.items ≡ conflict_set rules.now wm.now) }
+fn insts(alloc: Global, rules: &[Rule], wm: &[&Element]) -> Result<Vec<Inst>, OutOfMemory>
+    ensures { IfOk result (λ v. v.items ≡ conflict_set rules.now (shown wm.now)) }
 {
     let mut found = Vec::new(alloc);
     for (rule, r) in rules.iter().enumerate() {
@@ -139,7 +139,35 @@ fn insts(alloc: Global, rules: &[Rule], wm: &[Element]) -> Result<Vec<Inst>, Out
     Ok(found)
 }
 
-/// The conflict set, in the order of rule number and then tags, each instantiation once.
+/// The conflict set, in the order of rule number and then tags, each instantiation once. No element is copied. Each
+/// condition looks at every element for each partial match before it, a negated one until an element meets it, and copies
+/// the bindings for each element of its class.
+pub fn direct_set_of(
+    alloc: Global,
+    program: &Program,
+    wm: &[&Element],
+) -> Result<Listed<Inst>, OutOfMemory>
+    ensures computed { IfOk result (λ set. set ≡ conflict_set program.now.rules (shown wm.now)) }
+    ensures rules { IfOk result (λ set. AreOf program.now.rules set) }
+
+    // Where the tags rise, as those of working memory do, it is the one list that is a conflict set.
+    ensures set { IfOk result
+        (λ set. HasRisingTags (shown wm.now) → IsConflictSet program.now.rules (shown wm.now) set) }
+    ensures only { IfOk result
+        (λ set. HasRisingTags (shown wm.now) → (other : List Inst) → IsConflictSet program.now.rules (shown wm.now) other → other ≡ set) }
+{
+    let found = insts(alloc, program.rules.as_slice(), wm)?;
+    Ok(Listed::from_vec(found))
+}
+
+/// References to these elements, in their order.
+fn references<'a>(alloc: Global, wm: &'a [Element]) -> Result<Vec<&'a Element>, OutOfMemory>
+    ensures { IfOk result (λ v. shown v.items ≡ wm.now) }
+{
+    Ok(wm.iter().collect(alloc)?)
+}
+
+/// The same of elements that stand in a slice. It makes a reference to each.
 pub fn direct_set(
     alloc: Global,
     program: &Program,
@@ -153,8 +181,8 @@ pub fn direct_set(
     ensures only { IfOk result
         (λ set. HasRisingTags wm.now → (other : List Inst) → IsConflictSet program.now.rules wm.now other → other ≡ set) }
 {
-    let found = insts(alloc, program.rules.as_slice(), wm)?;
-    Ok(Listed::from_vec(found))
+    let wm = references(alloc, wm)?;
+    direct_set_of(alloc, program, wm.as_slice())
 }
 
 #[cfg(test)]

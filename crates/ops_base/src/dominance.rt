@@ -1,12 +1,9 @@
 //! The laws of dominance and of refraction, proved of their definitions. The functions do nothing when they run.
-ghost use Rattle.std.specs.Prelude.{◌≡◌, ◌≢◌, ◌≤◌, ◌↔◌, List, [], ℕ, Some, false, not, IsTrue, AllPairs, IsPermutation, MatchOption};
+ghost use Rattle.std.specs.Prelude.{◌≡◌, ◌≢◌, ◌≤◌, ◌↔◌, List, [], ℕ, Some, false, not, IsTrue, AllPairs, Contains, IsPermutation, MatchOption};
 ghost use Rattle.ops_base.specs.declared.commands.Strategy.{Strategy};
-ghost use Rattle.ops_base.specs.declared.elements.Element.{Element};
 ghost use Rattle.ops_base.specs.declared.rules.Inst.{Inst};
 ghost use Rattle.ops_base.specs.declared.rules.Rule.{Rule};
-ghost use Rattle.ops_base.specs.ConflictSet.{conflict_set};
 ghost use Rattle.ops_base.specs.Dominance.{downwards, dominates};
-ghost use Rattle.ops_base.specs.Instances.{IsMember};
 ghost use Rattle.ops_base.specs.Refraction.{is_same_inst, is_among, unfired, still_fired, IsDominant, dominant};
 
 /// Dominance is a strict total order: of two different instantiations exactly one dominates.
@@ -38,15 +35,13 @@ pub fn dominant_dominates()
         → IsDominant strategy rules insts i → dominant strategy rules insts ≡ Some i }
 {}
 
-/// What has not fired is the conflict set less what has, and what stays marked is what was marked and is in the conflict
-/// set.
+/// Whatever is found, as the conflict set is: what has not fired is what is found less what has, and what stays marked is
+/// what was marked and is found.
 pub fn refraction_marks()
     ensures same { (i j : Inst) → IsTrue (is_same_inst i j) ↔ (i ≡ j) }
-    ensures among { (insts : List Inst) (i : Inst) → IsTrue (is_among insts i) ↔ IsMember i insts }
-    ensures unmarked { (rules : List Rule) (wm : List Element) (fired : List Inst) (i : Inst)
-        → IsMember i (unfired rules wm fired)
-        ↔ (IsMember i (conflict_set rules wm) × ¬ IsMember i fired) }
-    ensures stays { (rules : List Rule) (wm : List Element) (fired : List Inst) (i : Inst)
-        → IsMember i (still_fired rules wm fired)
-        ↔ (IsMember i fired × IsMember i (conflict_set rules wm)) }
+    ensures among { (insts : List Inst) (i : Inst) → IsTrue (is_among insts i) ↔ Contains insts i }
+    ensures unmarked { (found fired : List Inst) (i : Inst)
+        → Contains (unfired found fired) i ↔ (Contains found i × ¬ Contains fired i) }
+    ensures stays { (found fired : List Inst) (i : Inst)
+        → Contains (still_fired found fired) i ↔ (Contains fired i × Contains found i) }
 {}

@@ -80,7 +80,7 @@ impl Names {
         Ok(Sym(place_in(&mut self.held, spelling)? as u64))
     }
 
-    /// The spelling of a symbol.
+    /// The spelling of a symbol that is held.
     pub fn spelling(&self, sym: Sym) -> &[u8]
         requires { sym.0 < length self.now.held }
         ensures spelling { slice_get self.now.held sym.0 ≡ Some result.now }
@@ -89,14 +89,15 @@ impl Names {
         self.held[sym.0 as usize].as_slice()
     }
 
-    /// The spelling of a symbol, empty where it is not held. That of `NIL` is `nil`.
+    /// The same for any symbol: empty where it is not held. That of `NIL` is `nil`.
     pub fn text(&self, sym: Sym) -> &[u8]
         ensures text { result.now ≡ spelling_of self.now sym }
         ensures nil { spelling_of self.now (record { 0 = 0 }) ≡ codes "nil" }
     {
-        match self.held.get_index(sym.0 as usize) {
-            Some(spelling) => spelling.as_slice(),
-            None => &[],
+        if (sym.0 as usize) < self.held.len() {
+            self.spelling(sym)
+        } else {
+            &[]
         }
     }
 }

@@ -1,13 +1,14 @@
 -- Brackets: the words of a form that is closed do not end too early, and those of a form that is open do not end.
-use Rattle.std.proofs.Common.{◌≡◌, ℕ, ◌+◌, ◌-◌, ◌≤◌, Bool, true, false, cond, not, ◌&&◌, ◌||◌, ◌==◌, List, [], ◌∷◌, length, Option, Some, None, Ok, Err, refl, sym, ap, subst, ◌∙◌, arith, true≢false, position, slice_get, take, nat_lt}
-use Rattle.std.specs.List.{list_any}
+use Rattle.std.proofs.Common.{◌≡◌, ℕ, ◌+◌, ◌-◌, ◌≤◌, Bool, true, false, cond, not, ◌&&◌, ◌||◌, ◌==◌, List, [], ◌∷◌, length, Option, Some, None, Result, Ok, Err, refl, sym, subst, ◌∙◌, arith, true≢false, position, slice_get, nat_lt}
 use Rattle.std.proofs.lemmas.Bool.{and_parts, cond_both, eqb-true, eqb-false, not-true}
 use Rattle.ops_base.specs.Names.{Spellings}
 use Rattle.ops_base.specs.declared.values.Sym.{Sym}
 use Rattle.ops_base.specs.declared.values.Value.{Value}
 use Rattle.ops_base.specs.declared.values.Pred.{Pred}
 use Rattle.ops_base.specs.declared.values.Pred.TheVariants as pred
-use Rattle.ops_base.specs.declared.conditions.Condition.{Condition}
+use Rattle.ops_base.specs.declared.actions.Term.{Term}
+use Rattle.ops_base.specs.declared.actions.Term.TheVariants as term
+use Rattle.ops_base.specs.declared.endings.Fault.{Fault}
 use Rattle.ops_base.specs.Valid.{most_fields, most_conditions, class_of, is_vector}
 use Rattle.ops_tokens.specs.declared.token.Token.{Token}
 use Rattle.ops_tokens.specs.declared.token.TokenKind.{TokenKind}
@@ -17,7 +18,7 @@ use Rattle.ops_meaning.specs.declared.words.Word.{Word}
 use Rattle.ops_meaning.specs.declared.words.Keyword.{Keyword}
 use Rattle.ops_meaning.specs.declared.words.Keyword.TheVariants as keyword
 use Rattle.ops_meaning.specs.Words.{keyword_of, names_with, word_of, words_from}
-use Rattle.ops_meaning.specs.Grammar.{Use, InPattern, InPut, InFixed, Target, ToTest, ToPut, ToFixed, ToTerms, ToConstants, ToItem, Wanted, Forms, Form, ClassDeclared, Attributes, VectorName, VectorNames, RuleName, FirstPattern, Patterns, Pattern, Braced, ElementName, ClosesBrace, ClassName, Terms, Attribute, Several, Place, Tests, Tested, Choice, Atom, ValueFor, Actions, ActionWord, Cell, Cells, Items, ItemWord, Closes, State, Step, Next, Refuses, Outcome, is_left, is_right, is_left_brace, is_right_brace, is_caret, is_name, is_variable, is_arrow, is_crlf, is_literal, is_minus, opens_choice, closes_choice, pred_of, constant_of, value_of, atom_of, natural_of, is_one_of, number_of, may_declare, is_class, is_rule, is_second, makes_second, vector_declared, vector_name, form, class_at, attributes_of, behind_attribute, field_at, terms, within, one_of_several, with_several, place, element_at, element_name, cell_named, variable_tested, constant_tested, tested, predicated, test, chosen, atom_at, bound_at, constant_at, value_for, action_word, designated, cell_of, cell, step, ends, after, goes}
+use Rattle.ops_meaning.specs.Grammar.{Use, InPattern, InPut, InFixed, Target, ToPut, ToTerms, ToConstants, ToItem, ToBind, Column, Wanted, Forms, Form, ClassDeclared, Attributes, VectorName, VectorNames, RuleName, FirstPattern, Patterns, Pattern, Braced, ElementName, ClosesBrace, ClassName, Terms, Attribute, Several, Place, Tests, Tested, Choice, Atom, ValueFor, Function, SourceCell, SourceAttribute, SourceEnd, Actions, ActionWord, Modified, BoundName, CellName, Cell, Cells, Items, ItemWord, Columns, Closes, State, Step, Next, Refuses, Outcome, is_left, is_right, is_left_brace, is_right_brace, is_caret, is_name, is_variable, is_arrow, is_literal, is_minus, opens_choice, closes_choice, pred_of, constant_of, value_of, atom_of, is_one_of, number_of, may_declare, is_class, is_rule, is_second, makes_second, vector_declared, vector_name, form, class_at, attributes_of, behind_attribute, field_at, terms, within, one_of_several, with_several, place, element_at, element_name, cell_bound, variable_tested, constant_tested, tested, predicated, test, chosen, atom_at, term_at, bound_at, constant_at, is_of_action, value_for, function, source_named, source_cell, source_class, source_at, source_attribute, takes_several, is_inf, ends_at_inf, source_end, action_word, cell_of, with_designated, with_modified, small_of, item_word, columns_at, step, ends, after, goes}
 use Rattle.ops_forms.specs.Forms.{open_behind, is_last, closes_last, stays_open, opens}
 
 -- ---- what is owed
@@ -31,6 +32,8 @@ owes (Terms u) = true
 owes (Attribute u) = true
 owes (Several u f) = true
 owes Actions = true
+owes (Function t) = true
+owes (SourceAttribute t) = true
 owes ActionWord = true
 owes Cells = true
 owes Items = true
@@ -70,6 +73,8 @@ in_form_owes (Attribute u ∷ ws) i h = omega arith
 in_form_owes (Several u f ∷ ws) i h = omega arith
 in_form_owes (Actions ∷ ws) i h = omega arith
 in_form_owes (ActionWord ∷ ws) i h = omega arith
+in_form_owes (Function t ∷ ws) i h = omega arith
+in_form_owes (SourceAttribute t ∷ ws) i h = omega arith
 in_form_owes (Cells ∷ ws) i h = omega arith
 in_form_owes (Items ∷ ws) i h = omega arith
 in_form_owes (ItemWord ∷ ws) i h = omega arith
@@ -90,6 +95,12 @@ in_form_owes (Tested f x ∷ ws) i h = let p = and_parts (in_form ws) (stands ws
 in_form_owes (Choice f ∷ ws) i h = let p = and_parts (in_form ws) (stands ws) h in in_form_owes ws p.0 p.1
 in_form_owes (Atom t ∷ ws) i h = let p = and_parts (in_form ws) (stands ws) h in in_form_owes ws p.0 p.1
 in_form_owes (ValueFor t ∷ ws) i h = let p = and_parts (in_form ws) (stands ws) h in in_form_owes ws p.0 p.1
+in_form_owes (Modified ∷ ws) i h = let p = and_parts (in_form ws) (stands ws) h in in_form_owes ws p.0 p.1
+in_form_owes (BoundName ∷ ws) i h = let p = and_parts (in_form ws) (stands ws) h in in_form_owes ws p.0 p.1
+in_form_owes (CellName ∷ ws) i h = let p = and_parts (in_form ws) (stands ws) h in in_form_owes ws p.0 p.1
+in_form_owes (Columns c ∷ ws) i h = let p = and_parts (in_form ws) (stands ws) h in in_form_owes ws p.0 p.1
+in_form_owes (SourceCell ∷ ws) i h = let p = and_parts (in_form ws) (stands ws) h in in_form_owes ws p.0 p.1
+in_form_owes (SourceEnd t name ∷ ws) i h = let p = and_parts (in_form ws) (stands ws) h in in_form_owes ws p.0 p.1
 in_form_owes (Cell ∷ ws) i h = let p = and_parts (in_form ws) (stands ws) h in in_form_owes ws p.0 p.1
 
 -- ---- brackets by kinds
@@ -144,6 +155,15 @@ value_keeps kind.Quoted name v n e = refl
 value_keeps kind.Operator name v n e = refl
 value_keeps _ name v n e = absurd (cc)
 
+designator_keeps : (k : TokenKind) (name : Sym) (s : State) (c n : ℕ) → cell_of k name s ≡ Ok c → open_behind n k ≡ n
+designator_keeps (kind.Whole z) name s c n e = refl
+designator_keeps kind.Variable name s c n e = refl
+designator_keeps _ name s c n e = absurd (cc)
+
+small_keeps : (k : TokenKind) (m n : ℕ) → small_of k ≡ Some m → open_behind n k ≡ n
+small_keeps (kind.Whole z) m n e = refl
+small_keeps _ m n e = absurd (cc)
+
 -- ---- keywords that are there
 
 literal_known : (k : Keyword) → is_literal k ≡ true → k ≡ keyword.Other → ⊥
@@ -161,6 +181,10 @@ closing_known _ e o = absurd (true≢false (sym e))
 minus_known : (k : Keyword) → is_minus k ≡ true → k ≡ keyword.Other → ⊥
 minus_known keyword.Minus e o = absurd (cc)
 minus_known _ e o = absurd (true≢false (sym e))
+
+inf_known : (k : Keyword) → is_inf k ≡ true → k ≡ keyword.Other → ⊥
+inf_known keyword.Inf e o = absurd (cc)
+inf_known _ e o = absurd (true≢false (sym e))
 
 pred_known : (k : Keyword) (p : Pred) → pred_of k ≡ Some p → k ≡ keyword.Other → ⊥
 pred_known keyword.Other p e o = absurd (cc)
@@ -181,6 +205,12 @@ module _ (w : Word) (quiet : (n : ℕ) → (w.keyword ≡ keyword.Other → ⊥)
   abbrev B : List Wanted → Step → Type 0
   B ws r = Balanced (open_behind (owed ws) w.kind) r
 
+  abbrev closed : (ws : List Wanted) → is_right w.kind ≡ true → owed ws ≡ open_behind (1 + owed ws) w.kind
+  closed ws e = let k = right_closes w.kind (1 + owed ws) e in omega (arith, k)
+
+  abbrev opened : (ws : List Wanted) → is_left w.kind ≡ true → 1 + owed ws ≡ open_behind (owed ws) w.kind
+  opened ws e = let k = left_opens w.kind (owed ws) e in omega (arith, k)
+
   form_balanced : (k : Keyword) (ws : List Wanted) (s : State) → w.keyword ≡ k → stands ws ≡ true → B (Form ∷ ws) (form w k ws s)
   form_balanced keyword.Literalize ws s e h = cond_both (may_declare s) _ _ (B (Form ∷ ws)) (λ _. (h, sym (quiet (1 + owed ws) (λ o. absurd (cc))))) (λ _. tt)
   form_balanced keyword.VectorAttribute ws s e h = cond_both (may_declare s) _ _ (B (Form ∷ ws)) (λ _. (h, sym (quiet (1 + owed ws) (λ o. absurd (cc))))) (λ _. tt)
@@ -192,9 +222,23 @@ module _ (w : Word) (quiet : (n : ℕ) → (w.keyword ≡ keyword.Other → ⊥)
   action_word_balanced : (k : Keyword) (ws : List Wanted) (s : State) → w.keyword ≡ k → stands ws ≡ true → B (ActionWord ∷ ws) (action_word k ws s)
   action_word_balanced keyword.Make ws s e h = (h, sym (quiet (1 + owed ws) (λ o. absurd (cc))))
   action_word_balanced keyword.Remove ws s e h = (h, sym (quiet (1 + owed ws) (λ o. absurd (cc))))
+  action_word_balanced keyword.Modify ws s e h = (h, sym (quiet (1 + owed ws) (λ o. absurd (cc))))
   action_word_balanced keyword.Write ws s e h = (h, sym (quiet (1 + owed ws) (λ o. absurd (cc))))
+  action_word_balanced keyword.Bind ws s e h = (h, sym (quiet (1 + owed ws) (λ o. absurd (cc))))
+  action_word_balanced keyword.Cbind ws s e h = (h, sym (quiet (1 + owed ws) (λ o. absurd (cc))))
   action_word_balanced keyword.Halt ws s e h = (h, sym (quiet (1 + owed ws) (λ o. absurd (cc))))
   action_word_balanced _ ws s e h = tt
+
+  item_word_balanced : (k : Keyword) (ws : List Wanted) (s : State) → w.keyword ≡ k → stands ws ≡ true → B (ItemWord ∷ ws) (item_word k ws s)
+  item_word_balanced keyword.Crlf ws s e h = (h, sym (quiet (1 + owed ws) (λ o. absurd (cc))))
+  item_word_balanced keyword.Tabto ws s e h = (h, sym (quiet (1 + owed ws) (λ o. absurd (cc))))
+  item_word_balanced keyword.Rjust ws s e h = (h, sym (quiet (1 + owed ws) (λ o. absurd (cc))))
+  item_word_balanced keyword.Substr ws s e h = (h, sym (quiet (1 + owed ws) (λ o. absurd (cc))))
+  item_word_balanced _ ws s e h = tt
+
+  function_balanced : (t : Target) (k : Keyword) (ws : List Wanted) (s : State) → w.keyword ≡ k → stands ws ≡ true → B (Function t ∷ ws) (function t k ws s)
+  function_balanced t keyword.Substr ws s e h = (h, sym (quiet (1 + owed ws) (λ o. absurd (cc))))
+  function_balanced t _ ws s e h = tt
 
   named : (ws : List Wanted) → is_name w.kind ≡ true → owed ws ≡ open_behind (owed ws) w.kind
   named ws e = sym (name_keeps w.kind (owed ws) e)
@@ -267,13 +311,15 @@ module _ (w : Word) (quiet : (n : ℕ) → (w.keyword ≡ keyword.Other → ⊥)
   atom_balanced t (Some v) ws s e h = (h, sym (atom_keeps w.kind w.name v (owed ws) e))
   atom_balanced t None ws s e h = tt
 
+  term_balanced : (t : Target) (x : Term) (ws : List Wanted) (s : State) → stands ws ≡ true → owed ws ≡ open_behind (owed ws) w.kind → B ws (term_at t x ws s)
+  term_balanced (ToPut f) x ws s h e = (h, e)
+  term_balanced ToTerms x ws s h e = (h, e)
+  term_balanced ToItem x ws s h e = (h, e)
+  term_balanced ToBind x ws s h e = (h, e)
+  term_balanced _ x ws s h e = tt
+
   bound_balanced : (t : Target) (o : Option ℕ) (ws : List Wanted) (s : State) → is_variable w.kind ≡ true → stands ws ≡ true → B ws (bound_at t o ws s)
-  bound_balanced (ToPut f) (Some n) ws s e h = (h, sym (variable_keeps w.kind (owed ws) e))
-  bound_balanced ToItem (Some n) ws s e h = (h, sym (variable_keeps w.kind (owed ws) e))
-  bound_balanced (ToTest f p) (Some n) ws s e h = tt
-  bound_balanced ToTerms (Some n) ws s e h = (h, sym (variable_keeps w.kind (owed ws) e))
-  bound_balanced (ToFixed f) (Some n) ws s e h = tt
-  bound_balanced ToConstants (Some n) ws s e h = tt
+  bound_balanced t (Some n) ws s e h = term_balanced t (term.Variable n) ws s h (sym (variable_keeps w.kind (owed ws) e))
   bound_balanced t None ws s e h = tt
 
   constant_balanced : (t : Target) (o : Option Value) (ws : List Wanted) (s : State) → value_of w.kind w.name ≡ o → stands ws ≡ true → B ws (constant_at t w o ws s)
@@ -283,26 +329,51 @@ module _ (w : Word) (quiet : (n : ℕ) → (w.keyword ≡ keyword.Other → ⊥)
   value_balanced : (t : Target) (ws : List Wanted) (s : State) → (in_form ws && stands ws) ≡ true → B ws (value_for t w ws s)
   value_balanced t ws s h =
       cond_both (is_literal w.keyword) _ _ (B ws) (λ e. (h, sym (quiet (owed ws) (literal_known w.keyword e))))
-      (λ _. constant_balanced t (value_of w.kind w.name) ws s refl (and_parts (in_form ws) (stands ws) h).1)
+      (λ _. cond_both (is_left w.kind && is_of_action t) _ _ (B ws) (λ e. ((and_parts (in_form ws) (stands ws) h).1, opened ws (and_parts (is_left w.kind) (is_of_action t) e).0))
+      (λ _. constant_balanced t (value_of w.kind w.name) ws s refl (and_parts (in_form ws) (stands ws) h).1))
 
-  designated_balanced : (k : ℕ) (o : Option Condition) (ws : List Wanted) (s : State) → owed ws ≡ open_behind (owed ws) w.kind → stands ws ≡ true → B ws (designated k o ws s)
-  designated_balanced k (Some c) ws s e h =
-      cond_both c.negated _ _ (B ws) (λ _. tt)
-      (λ _. cond_both (list_any (λ d. d.negated) (take k s.conditions)) _ _ (B ws) (λ _. tt) (λ _. (h, e)))
-  designated_balanced k None ws s e h = tt
+  -- ---- substr
 
-  cell_of_balanced : (o : Option ℕ) (ws : List Wanted) (s : State) → owed ws ≡ open_behind (owed ws) w.kind → stands ws ≡ true → B ws (cell_of o ws s)
-  cell_of_balanced (Some m) ws s e h = designated_balanced (m - 1) (slice_get s.conditions (m - 1)) ws s e h
-  cell_of_balanced None ws s e h = tt
+  source_named_balanced : (o : Option ℕ) (ws : List Wanted) (s : State) → is_variable w.kind ≡ true → stands ws ≡ true → B ws (source_named o ws s)
+  source_named_balanced (Some c) ws s e h = (h, sym (variable_keeps w.kind (owed ws) e))
+  source_named_balanced None ws s e h = tt
 
-  cell_named_balanced : (o : Option ℕ) (ws : List Wanted) (s : State) → owed ws ≡ open_behind (owed ws) w.kind → stands ws ≡ true → B ws (cell_named o ws s)
-  cell_named_balanced (Some c) ws s e h = (h, e)
-  cell_named_balanced None ws s e h = tt
+  source_cell_balanced : (ws : List Wanted) (s : State) → stands ws ≡ true → B ws (source_cell w ws s)
+  source_cell_balanced ws s h =
+      cond_both (is_variable w.kind) _ _ (B ws) (λ e. source_named_balanced (number_of w.name s.elements) ws s e h) (λ _. tt)
 
-  cell_balanced : (k : TokenKind) (ws : List Wanted) (s : State) → w.kind ≡ k → stands ws ≡ true → B ws (cell k w.name ws s)
-  cell_balanced (kind.Whole z) ws s e h = cell_of_balanced (natural_of z) ws s (ap (open_behind (owed ws)) (sym e)) h
-  cell_balanced kind.Variable ws s e h = cell_named_balanced (number_of w.name s.elements) ws s (ap (open_behind (owed ws)) (sym e)) h
-  cell_balanced _ ws s e h = tt
+  source_at_balanced : (t : Target) (o : Option ℕ) (ws : List Wanted) (s : State) → is_name w.kind ≡ true → stands ws ≡ true → B (SourceAttribute t ∷ ws) (source_at t w.name o ws s)
+  source_at_balanced t (Some f) ws s e h = (h, named (SourceAttribute t ∷ ws) e)
+  source_at_balanced t None ws s e h = tt
+
+  source_attribute_balanced : (t : Target) (ws : List Wanted) (s : State) → stands ws ≡ true → B (SourceAttribute t ∷ ws) (source_attribute t w ws s)
+  source_attribute_balanced t ws s h =
+      cond_both (is_name w.kind) _ _ (B (SourceAttribute t ∷ ws))
+      (λ e. source_at_balanced t (position (λ a. a.0 == w.name.0) (source_class s).attrs) ws s e h) (λ _. tt)
+
+  source_end_balanced : (t : Target) (name : Sym) (ws : List Wanted) (s : State) → stands ws ≡ true → B ws (source_end t name w ws s)
+  source_end_balanced t name ws s h =
+      cond_both (ends_at_inf w s) _ _ (B ws)
+      (λ e. let inf = (and_parts (is_inf w.keyword) (is_vector (source_class s) s.source_field) e).0 in
+      cond_both (takes_several t) _ _ (B ws) (λ _. term_balanced t (term.Rest s.source) ws s h (sym (quiet (owed ws) (inf_known w.keyword inf)))) (λ _. tt))
+      (λ _. cond_both (is_name w.kind && (w.name.0 == name.0)) _ _ (B ws)
+      (λ e. term_balanced t (term.One s.source s.source_field) ws s h (named ws (and_parts (is_name w.kind) (w.name.0 == name.0) e).0)) (λ _. tt))
+
+  designated_balanced : (r : Result ℕ Fault) (ws : List Wanted) (s : State) → cell_of w.kind w.name s ≡ r → stands ws ≡ true → B ws (with_designated r ws s)
+  designated_balanced (Ok c) ws s e h = (h, sym (designator_keeps w.kind w.name s c (owed ws) e))
+  designated_balanced (Err f) ws s e h = tt
+
+  modified_balanced : (r : Result ℕ Fault) (ws : List Wanted) (s : State) → cell_of w.kind w.name s ≡ r → stands ws ≡ true → B ws (with_modified r ws s)
+  modified_balanced (Ok c) ws s e h = (h, sym (designator_keeps w.kind w.name s c (owed ws) e))
+  modified_balanced (Err f) ws s e h = tt
+
+  cell_bound_balanced : (o : Option ℕ) (ws : List Wanted) (s : State) → is_variable w.kind ≡ true → stands ws ≡ true → B ws (cell_bound o w.name ws s)
+  cell_bound_balanced (Some class) ws s e h = (h, sym (variable_keeps w.kind (owed ws) e))
+  cell_bound_balanced None ws s e h = tt
+
+  columns_balanced : (c : Column) (o : Option ℕ) (ws : List Wanted) (s : State) → small_of w.kind ≡ o → stands ws ≡ true → B ws (columns_at c o ws s)
+  columns_balanced c (Some n) ws s e h = (h, sym (small_keeps w.kind n (owed ws) e))
+  columns_balanced c None ws s e h = tt
 
   -- ---- the places and values of a vector attribute
 
@@ -323,12 +394,6 @@ module _ (w : Word) (quiet : (n : ℕ) → (w.keyword ≡ keyword.Other → ⊥)
 
   -- ---- a step
 
-  abbrev closed : (ws : List Wanted) → is_right w.kind ≡ true → owed ws ≡ open_behind (1 + owed ws) w.kind
-  closed ws e = let k = right_closes w.kind (1 + owed ws) e in omega (arith, k)
-
-  abbrev opened : (ws : List Wanted) → is_left w.kind ≡ true → 1 + owed ws ≡ open_behind (owed ws) w.kind
-  opened ws e = let k = left_opens w.kind (owed ws) e in omega (arith, k)
-
   terms_balanced : (u : Use) (ws : List Wanted) (s : State) → stands ws ≡ true → B (Terms u ∷ ws) (terms u w ws s)
   terms_balanced u ws s h =
       cond_both (is_right w.kind) _ _ (B (Terms u ∷ ws)) (λ e. (h, closed ws e))
@@ -337,10 +402,6 @@ module _ (w : Word) (quiet : (n : ℕ) → (w.keyword ≡ keyword.Other → ⊥)
   arrow_known : (k : Keyword) → is_arrow k ≡ true → k ≡ keyword.Other → ⊥
   arrow_known keyword.Arrow e o = absurd (cc)
   arrow_known _ e o = absurd (true≢false (sym e))
-
-  crlf_known : (k : Keyword) → is_crlf k ≡ true → k ≡ keyword.Other → ⊥
-  crlf_known keyword.Crlf e o = absurd (cc)
-  crlf_known _ e o = absurd (true≢false (sym e))
 
   step_balanced : (ws : List Wanted) (s : State) → stands ws ≡ true → B ws (step w ws s)
   unfolding step
@@ -401,18 +462,27 @@ module _ (w : Word) (quiet : (n : ℕ) → (w.keyword ≡ keyword.Other → ⊥)
       (λ _. chosen_balanced f (atom_of w.kind w.name) (Choice f ∷ ws) s refl h)
   step_balanced (Atom t ∷ ws) s h = atom_balanced t (atom_of w.kind w.name) ws s refl (and_parts (in_form ws) (stands ws) h).1
   step_balanced (ValueFor t ∷ ws) s h = value_balanced t ws s h
+  step_balanced (Function t ∷ ws) s h = function_balanced t w.keyword ws s refl h
+  step_balanced (SourceCell ∷ ws) s h = source_cell_balanced ws s (and_parts (in_form ws) (stands ws) h).1
+  step_balanced (SourceAttribute t ∷ ws) s h = source_attribute_balanced t ws s h
+  step_balanced (SourceEnd t name ∷ ws) s h = source_end_balanced t name ws s (and_parts (in_form ws) (stands ws) h).1
   step_balanced (Actions ∷ ws) s h =
       cond_both (is_right w.kind) _ _ (B (Actions ∷ ws)) (λ e. (h, closed ws e))
       (λ _. cond_both (is_left w.kind) _ _ (B (Actions ∷ ws)) (λ e. (h, opened (Actions ∷ ws) e)) (λ _. tt))
   step_balanced (ActionWord ∷ ws) s h = action_word_balanced w.keyword ws s refl h
-  step_balanced (Cell ∷ ws) s h = cell_balanced w.kind ws s refl (and_parts (in_form ws) (stands ws) h).1
+  step_balanced (Modified ∷ ws) s h = modified_balanced (cell_of w.kind w.name s) ws s refl (and_parts (in_form ws) (stands ws) h).1
+  step_balanced (BoundName ∷ ws) s h =
+      cond_both (is_variable w.kind) _ _ (B (BoundName ∷ ws)) (λ e. ((and_parts (in_form ws) (stands ws) h).1, sym (variable_keeps w.kind (owed ws) e))) (λ _. tt)
+  step_balanced (CellName ∷ ws) s h =
+      cond_both (is_variable w.kind) _ _ (B (CellName ∷ ws)) (λ e. cell_bound_balanced s.made ws s e (and_parts (in_form ws) (stands ws) h).1) (λ _. tt)
+  step_balanced (Cell ∷ ws) s h = designated_balanced (cell_of w.kind w.name s) ws s refl (and_parts (in_form ws) (stands ws) h).1
   step_balanced (Cells ∷ ws) s h =
-      cond_both (is_right w.kind) _ _ (B (Cells ∷ ws)) (λ e. (h, closed ws e)) (λ _. cell_balanced w.kind (Cells ∷ ws) s refl h)
+      cond_both (is_right w.kind) _ _ (B (Cells ∷ ws)) (λ e. (h, closed ws e)) (λ _. designated_balanced (cell_of w.kind w.name s) (Cells ∷ ws) s refl h)
   step_balanced (Items ∷ ws) s h =
       cond_both (is_right w.kind) _ _ (B (Items ∷ ws)) (λ e. (h, closed ws e))
       (λ _. cond_both (is_left w.kind) _ _ (B (Items ∷ ws)) (λ e. (h, opened (Items ∷ ws) e)) (λ _. value_balanced ToItem (Items ∷ ws) s h))
-  step_balanced (ItemWord ∷ ws) s h =
-      cond_both (is_crlf w.keyword) _ _ (B (ItemWord ∷ ws)) (λ e. (h, sym (quiet (1 + owed ws) (crlf_known w.keyword e)))) (λ _. tt)
+  step_balanced (ItemWord ∷ ws) s h = item_word_balanced w.keyword ws s refl h
+  step_balanced (Columns c ∷ ws) s h = columns_balanced c (small_of w.kind) ws s refl (and_parts (in_form ws) (stands ws) h).1
   step_balanced (Closes x ∷ ws) s h = cond_both (is_right w.kind) _ _ (B (Closes x ∷ ws)) (λ e. (h, closed ws e)) (λ _. tt)
 
 -- ---- where the words end

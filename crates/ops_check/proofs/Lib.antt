@@ -1,3 +1,4 @@
 pub mod Balance
 pub mod Texts
 pub mod Rooms
+pub mod Sides

@@ -4,7 +4,7 @@ ghost use Rattle.ops_meaning.specs.Grammar.{Form, Closes, EndsRun};
 ghost use Rattle.ops_forms.specs.Going.{Reads, IsWithin};
 ghost use Rattle.ops_check.specs.Going.{view, ReadsAll};
 
-use crate::draft::{Draft, Place};
+use crate::draft::Draft;
 use ops_base::commands::Command;
 use ops_base::endings::Fault;
 use ops_forms::kinds::is_left;
@@ -61,7 +61,7 @@ impl Draft {
             }
             Keyword::Make => {
                 self.fixed.clear();
-                self.element(Place::Fixed, rest)
+                self.element(rest)
             }
             Keyword::Run => self.run(rest),
             _ => refused(Fault::UnknownCommand, word),

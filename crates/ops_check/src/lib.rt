@@ -2,9 +2,9 @@
 #![tactic(auto)]
 
 mod declarations;
-mod designators;
 mod draft;
 mod elements;
+mod ends;
 mod faults;
 mod forms;
 pub mod laws;

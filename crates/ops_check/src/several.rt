@@ -1,11 +1,11 @@
-//! The values of a vector attribute.
+//! The values of the vector attribute of a command.
 ghost use Rattle.std.specs.Prelude.{◌≡◌, ◌+◌, ◌∷◌, ◌++◌, ◌||◌, length, nat_lt, Err, Some};
 ghost use Rattle.ops_base.specs.Valid.{most_fields};
-ghost use Rattle.ops_meaning.specs.Grammar.{goes, is_right, is_caret, value_for, within, ToConstants, InPut, InFixed, Several};
+ghost use Rattle.ops_meaning.specs.Grammar.{goes, is_right, is_caret, value_for, within, ToConstants, InFixed, Several};
 ghost use Rattle.ops_forms.specs.Going.{GoesToTerms, Acts, IsWithin};
-ghost use Rattle.ops_check.specs.Going.{view, use_of, begins_value};
+ghost use Rattle.ops_check.specs.Going.{view, begins_value};
 
-use crate::draft::{Draft, Place, Target};
+use crate::draft::{Draft, Target};
 use ops_base::endings::{Fault, Limit};
 use ops_forms::fields::MOST_FIELDS;
 use ops_forms::kinds::{is_caret, is_literal, is_right, value_of};
@@ -13,45 +13,9 @@ use ops_forms::refusals::{Refusal, first_of, refused};
 use ops_meaning::Word;
 
 impl Draft {
-    // value*, or rconstant*, up to what is no more of them
-    pub fn several<'a>(
-        &mut self,
-        place: Place,
-        field: usize,
-        words: &'a [Word],
-    ) -> Result<&'a [Word], Refusal>
-        ensures reads { GoesToTerms (use_of place) (λ more ws. goes (words.now ++ more) (Several (use_of place) field ∷ ws) (view self.old)) (view self.new) result }
-        ensures within { IsWithin words.now result }
-    {
-        match place {
-            Place::Put => self.several_terms(field, words),
-            Place::Fixed => self.several_constants(field, words),
-        }
-    }
-
-    // value*
+    // rconstant*, up to what is no more of them
     #[tactic(auto, unfolding(ops_meaning::specs::Grammar::goes, ops_meaning::specs::Grammar::step, ops_meaning::specs::Grammar::ends))]
-    fn several_terms<'a>(&mut self, field: usize, words: &'a [Word]) -> Result<&'a [Word], Refusal>
-        ensures reads { GoesToTerms InPut (λ more ws. goes (words.now ++ more) (Several InPut field ∷ ws) (view self.old)) (view self.new) result }
-        ensures within { IsWithin words.now result }
-    {
-        let mut rest = words;
-        'terms: loop {
-            let (word, after) = first_of(rest)?;
-            if ends_several(word) {
-                self.end_terms(field)?;
-                return Ok(rest);
-            }
-            match self.value(Target::Terms, word, after) {
-                Ok(next) => rest = next,
-                Err(refusal) => return Err(refusal),
-            }
-        }
-    }
-
-    // rconstant*
-    #[tactic(auto, unfolding(ops_meaning::specs::Grammar::goes, ops_meaning::specs::Grammar::step, ops_meaning::specs::Grammar::ends))]
-    fn several_constants<'a>(
+    pub fn several_constants<'a>(
         &mut self,
         field: usize,
         words: &'a [Word],

@@ -2,7 +2,7 @@
 
 use crate::faults::ProgramFault;
 use crate::program::read_program;
-use ops_base::actions::Action;
+use ops_base::actions::{Action, Item, Term};
 use ops_base::commands::Command;
 use ops_base::conditions::Operand;
 use ops_base::endings::{Fault, Limit};
@@ -49,7 +49,13 @@ fn program_is_read(rt: HostRuntime) -> Result<(), ProgramFault> {
 }
 
 // texts, each with its fault, line and column
-const FAULTS: [(&[u8], Fault, u64, u64); 50] = [
+const FAULTS: [(&[u8], Fault, u64, u64); 51] = [
+    (
+        b"(literalize a n) (p r (a) -->) (make a ^n (substr <w> n n))",
+        Fault::BadForm,
+        1,
+        43,
+    ),
     (
         b"(literalize a x y) (vector-attribute x y)",
         Fault::TwoVectors,
@@ -271,6 +277,286 @@ const FAULTS: [(&[u8], Fault, u64, u64); 50] = [
     (b"; (\n(run) \x80", Fault::BadByte, 2, 7),
     (b"(run)\r\n\n (run x)", Fault::BadForm, 3, 7),
 ];
+
+// texts of right sides, each with its fault and its column
+const RIGHT_FAULTS: [(&[u8], Fault, u64); 30] = [
+    (
+        b"(literalize a n) (p r (a) - (a ^n 1) (a) --> (modify 3 ^n 1))",
+        Fault::AmbiguousDesignator,
+        54,
+    ),
+    (
+        b"(literalize a n) (p r (a) - (a ^n 1) --> (modify 2 ^n 1))",
+        Fault::BadDesignator,
+        50,
+    ),
+    (
+        b"(literalize a n) (p r (a) --> (modify <w> ^n 1))",
+        Fault::BadDesignator,
+        39,
+    ),
+    (
+        b"(literalize a n) (p r (a) --> (modify a ^n 1))",
+        Fault::BadForm,
+        39,
+    ),
+    (
+        b"(literalize a n) (literalize b m) (p r (a) (b) --> (modify 2 ^n 1))",
+        Fault::UnknownAttribute,
+        63,
+    ),
+    (
+        b"(literalize a n) (literalize b m) (p r (a) --> (make b) (cbind <w>) (modify <w> ^n 1))",
+        Fault::UnknownAttribute,
+        82,
+    ),
+    (
+        b"(literalize a) (p r (a) --> (cbind <w>))",
+        Fault::BadDesignator,
+        36,
+    ),
+    (
+        b"(literalize a) (p q (a) --> (make a)) (p r (a) --> (cbind <w>))",
+        Fault::BadDesignator,
+        59,
+    ),
+    (
+        b"(literalize a) (p q (a) --> (make a) (cbind <w>)) (p r (a) --> (remove <w>))",
+        Fault::BadDesignator,
+        72,
+    ),
+    (
+        b"(literalize a) (p r (a) --> (make a) (cbind w))",
+        Fault::BadForm,
+        45,
+    ),
+    (
+        b"(literalize a) (p r (a) --> (make a) (cbind <w> 1))",
+        Fault::BadForm,
+        49,
+    ),
+    (
+        b"(literalize a) (p r (a) --> (bind x 1))",
+        Fault::BadForm,
+        35,
+    ),
+    (
+        b"(literalize a) (p r (a) --> (bind <x> 1 2))",
+        Fault::BadForm,
+        41,
+    ),
+    (
+        b"(literalize a) (p r (a) --> (bind <x> <x>))",
+        Fault::UnboundVariable,
+        39,
+    ),
+    (
+        b"(literalize a) (p r (a) --> (write <x>) (bind <x> 1))",
+        Fault::UnboundVariable,
+        36,
+    ),
+    (
+        b"(literalize a) (p q (a) --> (bind <x> 1)) (p r (a) --> (write <x>))",
+        Fault::UnboundVariable,
+        63,
+    ),
+    (
+        b"(literalize a) (p r (a) --> (write (tabto 0)))",
+        Fault::BadForm,
+        43,
+    ),
+    (
+        b"(literalize a) (p r (a) --> (write (tabto 1025)))",
+        Fault::BadForm,
+        43,
+    ),
+    (
+        b"(literalize a) (p r (a) --> (write (rjust one)))",
+        Fault::BadForm,
+        43,
+    ),
+    (
+        b"(literalize a) (p r (a) --> (write (tab 1)))",
+        Fault::BadForm,
+        37,
+    ),
+    (
+        b"(literalize a n m) (p r { (a) <w> } --> (write (substr <w> n m)))",
+        Fault::BadForm,
+        62,
+    ),
+    (
+        b"(literalize a v) (vector-attribute v) (p r { (a) <w> } --> (bind <x> (substr <w> v inf)))",
+        Fault::BadForm,
+        84,
+    ),
+    (
+        b"(literalize a n v) (vector-attribute v) (p r { (a) <w> } --> (make a ^n (substr <w> v inf)))",
+        Fault::BadForm,
+        87,
+    ),
+    (
+        b"(literalize a n) (p r { (a) <w> } --> (write (substr <w> n inf)))",
+        Fault::BadForm,
+        60,
+    ),
+    (
+        b"(literalize b inf) (vector-attribute inf) (p r { (b) <w> } --> (bind <x> (substr <w> inf inf)))",
+        Fault::BadForm,
+        90,
+    ),
+    (
+        b"(literalize a n) (literalize b m) (p r { (a) <w> } (b) --> (write (substr <w> m m)))",
+        Fault::UnknownAttribute,
+        79,
+    ),
+    (
+        b"(literalize a n) (p r (a ^n <w>) --> (write (substr <w> n n)))",
+        Fault::BadDesignator,
+        53,
+    ),
+    (
+        b"(literalize a n) (p r { (a) <w> } --> (write (substr 1 n n)))",
+        Fault::BadForm,
+        54,
+    ),
+    (
+        b"(literalize a n) (p r { (a) <w> } --> (write (substr <w> n n n)))",
+        Fault::BadForm,
+        62,
+    ),
+    (
+        b"(literalize a n) (p r { (a) <w> } --> (bind <x> (crlf)))",
+        Fault::BadForm,
+        50,
+    ),
+];
+
+#[test]
+fn faults_of_right_sides_stand_at_their_places(rt: HostRuntime) {
+    let alloc = rt.alloc();
+    for (text, fault, column) in RIGHT_FAULTS {
+        let at = ProgramFault::At {
+            fault,
+            line: 1,
+            column,
+        };
+        assert_eq!(rt; read(alloc, text).err(), Some(at));
+    }
+}
+
+const CELLS: &[u8] = b"(literalize a n) (literalize b list) (vector-attribute list)
+(p r { (a ^n <n>) <w> } (b) --> (modify <w> ^n 1) (modify 2 ^list 1 <n>) (make b) (cbind <v>)
+  (modify <v> ^list <n>) (cbind <w>) (remove <w> 1))";
+
+#[test]
+fn cells_are_designated(rt: HostRuntime) -> Result<(), ProgramFault> {
+    let (program, _names) = read(rt.alloc(), CELLS)?;
+    for rule in program.rules.as_slice() {
+        let [
+            Action::Modify { cell: a, .. },
+            Action::Modify { cell: b, puts },
+            Action::Make { class, .. },
+            Action::Cbind { cell: v },
+            Action::Modify { cell: again, .. },
+            Action::Cbind { cell: w },
+            Action::Remove { cells },
+        ] = rule.actions.as_slice()
+        else {
+            panic!(rt; "seven actions");
+        };
+        assert_eq!(rt; (*a, *b, *v, *again, *w), (0, 1, 2, 2, 3));
+        let values = puts
+            .as_slice()
+            .iter()
+            .map(|put| (put.field, put.terms.len()));
+        assert!(rt; values.eq([(0, 2)]));
+        assert_eq!(rt; *class, 1);
+        assert_eq!(rt; cells.as_slice(), [3, 0].as_slice());
+        assert_eq!(rt; (rule.variables, rule.cells), (1, 4));
+    }
+    Ok(())
+}
+
+const BINDINGS: &[u8] = b"(literalize a n)
+(p r (a ^n <n>) --> (bind <x> 7) (bind <n> <x>) (write <n> (tabto 1) (rjust 1024)))";
+
+#[test]
+fn variables_are_bound(rt: HostRuntime) -> Result<(), ProgramFault> {
+    let (program, _names) = read(rt.alloc(), BINDINGS)?;
+    for rule in program.rules.as_slice() {
+        let [
+            Action::Bind {
+                variable: x,
+                term: Term::Constant(value),
+            },
+            Action::Bind {
+                variable: n,
+                term: Term::Variable(of),
+            },
+            Action::Write { items },
+        ] = rule.actions.as_slice()
+        else {
+            panic!(rt; "three actions");
+        };
+        assert_eq!(rt; (*x, *value, *n, *of), (1, Value::Whole(7), 0, 1));
+        let [
+            Item::Print(Term::Variable(printed)),
+            Item::TabTo(tab),
+            Item::RightIn(right),
+        ] = items.as_slice()
+        else {
+            panic!(rt; "three items");
+        };
+        assert_eq!(rt; (*printed, *tab, *right), (0, 1, 1024));
+        assert_eq!(rt; (rule.variables, rule.cells), (2, 1));
+    }
+    Ok(())
+}
+
+// a scalar attribute, one that is named `inf`, and the vector attribute
+const SUBSTRS: &[u8] = b"(literalize a n inf v) (vector-attribute v)
+(p r (a ^n 1) { (a) <w> } --> (bind <x> (substr <w> inf inf)) (make a ^n (substr <w> v v) ^v 1 (substr <w> v inf))
+  (write (substr <w> n n) (substr <w> v inf)))";
+
+#[test]
+fn substr_is_read(rt: HostRuntime) -> Result<(), ProgramFault> {
+    let (program, _names) = read(rt.alloc(), SUBSTRS)?;
+    for rule in program.rules.as_slice() {
+        let [
+            Action::Bind {
+                term: Term::One { cell, field },
+                ..
+            },
+            Action::Make { puts, .. },
+            Action::Write { items },
+        ] = rule.actions.as_slice()
+        else {
+            panic!(rt; "three actions");
+        };
+        assert_eq!(rt; (*cell, *field), (1, 1));
+        let [one, several] = puts.as_slice() else {
+            panic!(rt; "two puts");
+        };
+        let [Term::One { cell, field }] = one.terms.as_slice() else {
+            panic!(rt; "one value");
+        };
+        assert_eq!(rt; (one.field, *cell, *field), (0, 1, 2));
+        let [Term::Constant(_), Term::Rest { cell }] = several.terms.as_slice() else {
+            panic!(rt; "a constant, and all values");
+        };
+        assert_eq!(rt; (several.field, *cell), (2, 1));
+        let [
+            Item::Print(Term::One { cell, field }),
+            Item::Print(Term::Rest { cell: of }),
+        ] = items.as_slice()
+        else {
+            panic!(rt; "one value, and all");
+        };
+        assert_eq!(rt; (*cell, *field, *of), (1, 0, 1));
+    }
+    Ok(())
+}
 
 #[test]
 fn faults_stand_at_their_places(rt: HostRuntime) {

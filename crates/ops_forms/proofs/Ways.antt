@@ -1,9 +1,12 @@
 -- Steps of the walk over words, with more words behind.
-use Rattle.std.proofs.Common.{◌≡◌, ℕ, true, false, ◌||◌, List, [], ◌∷◌, ◌++◌, None, Some, Result, Ok, Err, refl, ◌∙◌, if◌then◌else◌}
+use Rattle.std.proofs.Common.{◌≡◌, ℕ, ◌==◌, true, false, slice_get, position, ◌||◌, List, [], ◌∷◌, ◌++◌, None, Some, Result, Ok, Err, refl, ◌∙◌, if◌then◌else◌}
 use Rattle.std.specs.Borrow.{Bor}
+use Rattle.ops_base.specs.declared.elements.Class.{Class}
 use Rattle.ops_base.specs.declared.values.Pred.{Pred}
+use Rattle.ops_base.specs.declared.endings.Fault.TheVariants as fault
+use Rattle.ops_base.specs.Valid.{is_vector}
 use Rattle.ops_meaning.specs.declared.words.Word.{Word}
-use Rattle.ops_meaning.specs.Grammar.{Use, Target, Wanted, VectorName, VectorNames, Patterns, Pattern, Braced, ElementName, ClosesBrace, Terms, Several, Cell, Cells, Items, ItemWord, Place, Tests, Tested, ValueFor, ToItem, State, Next, after, step, goes, is_left, is_right, is_right_brace, is_caret, is_arrow, vector_name, more_patterns, element_name, place, test, tested, value_for, one_of_several, with_several, cell}
+use Rattle.ops_meaning.specs.Grammar.{Use, Target, Wanted, VectorName, VectorNames, Patterns, Pattern, Braced, ElementName, ClosesBrace, Terms, ClassName, Attribute, Several, Cell, Cells, Items, ItemWord, Place, Tests, Tested, ValueFor, ToItem, State, Next, after, step, goes, is_left, is_right, is_right_brace, is_caret, is_arrow, is_name, behind_attribute, vector_name, more_patterns, element_name, place, test, tested, value_for, one_of_several, with_several, cell}
 use Rattle.ops_forms.specs.declared.refusals.Refusal.{Refusal}
 use Rattle.ops_forms.specs.declared.refusals.Refusal.TheVariants as refusal
 use Rattle.ops_forms.specs.Going.{Way, Fails, Goes}
@@ -86,3 +89,22 @@ value_first t words rest more w ws s e = rw e refl
 pub patterns_first : (words rest more : List Word) (w : Word) (ws : List Wanted) (s : State) → words ≡ w ∷ rest → is_arrow w.keyword ≡ false → goes (words ++ more) (Patterns ∷ ws) s ≡ after (goes (rest ++ more)) w (more_patterns w (Patterns ∷ ws) s)
 unfolding goes step
 patterns_first words rest more w ws s e other = rw (e, other) refl
+
+-- ---- classes and attributes
+
+pub class_unknown : (words rest more : List Word) (w : Word) (ws : List Wanted) (s : State) → words ≡ w ∷ rest → is_name w.kind ≡ true → position (λ c. c.name.0 == w.name.0) s.classes ≡ None → goes (words ++ more) (ClassName ∷ ws) s ≡ Err (fault.UnknownClass, Some w)
+unfolding goes step
+class_unknown words rest more w ws s e named none = rw (e, named, none) refl
+
+module _ (u : Use) (class : Class) (words rest more : List Word) (w : Word) (ws : List Wanted) (s : State) (e : words ≡ w ∷ rest) (named : is_name w.kind ≡ true) (there : slice_get s.classes s.class ≡ Some class) where
+  pub attribute_unknown : position (λ a. a.0 == w.name.0) class.attrs ≡ None → goes (words ++ more) (Attribute u ∷ ws) s ≡ Err (fault.UnknownAttribute, Some w)
+  unfolding goes step
+  attribute_unknown none = rw (e, named, there, none) refl
+
+  pub attribute_several : (f : ℕ) → position (λ a. a.0 == w.name.0) class.attrs ≡ Some f → is_vector class f ≡ true → goes (words ++ more) (Attribute u ∷ ws) s ≡ goes (rest ++ more) (Several u f ∷ ws) (record s { terms = []; constants = [] })
+  unfolding goes step
+  attribute_several f at vector = rw (e, named, there, at, there, vector) refl
+
+  pub attribute_one : (f : ℕ) → position (λ a. a.0 == w.name.0) class.attrs ≡ Some f → is_vector class f ≡ false → goes (words ++ more) (Attribute u ∷ ws) s ≡ goes (rest ++ more) (behind_attribute u f ∷ Terms u ∷ ws) s
+  unfolding goes step
+  attribute_one f at scalar = rw (e, named, there, at, there, scalar) refl

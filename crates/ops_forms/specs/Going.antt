@@ -1,18 +1,11 @@
 -- How a walk over words in code goes along with the definition's.
-use Rattle.std.specs.Prelude.{◌≡◌, ℤ, ◌<◌, ◌≤◌, List, [], ◌∷◌, ◌++◌, length, Option, Some, None, Result, Ok, Err}
+use Rattle.std.specs.Prelude.{◌≡◌, ◌≤◌, List, [], ◌∷◌, ◌++◌, length, Some, None, Result, Ok, Err}
 use Rattle.std.specs.Borrow.{Bor}
 use Rattle.ops_base.specs.declared.endings.Fault.TheVariants as fault
-use Rattle.ops_tokens.specs.declared.token.TokenKind.{TokenKind}
-use Rattle.ops_tokens.specs.declared.token.TokenKind.TheVariants as kind
 use Rattle.ops_meaning.specs.declared.words.Word.{Word}
 use Rattle.ops_meaning.specs.Grammar.{Use, Ends, Wanted, Terms, Closes, State, Step, Outcome, after, goes, ended}
 use Rattle.ops_forms.specs.declared.refusals.Refusal.{Refusal}
 use Rattle.ops_forms.specs.declared.refusals.Refusal.TheVariants as refusal
-
--- the value of a whole number
-abbrev pub whole_of : TokenKind → Option ℤ
-whole_of (kind.Whole n) = Some n
-whole_of _ = None
 
 -- how it goes with more words behind and with more wanted afterwards
 abbrev pub Way : Type 0
@@ -59,10 +52,6 @@ Becomes new expected (Err (refusal.At f word)) = ⊥
 abbrev pub Takes : List Word → Result (Word × Bor (List Word)) Refusal → Type 0
 Takes words (Ok x) = words ≡ x.0 ∷ x.1.now
 Takes words (Err e) = (words ≡ []) × (e ≡ refusal.At fault.Unclosed None)
-
-abbrev pub IsShorter : List Word → Result (Bor (List Word)) Refusal → Type 0
-IsShorter words (Ok rest) = length (rest.now) < length words
-IsShorter words (Err e) = Unit {0}
 
 abbrev pub IsWithin : List Word → Result (Bor (List Word)) Refusal → Type 0
 IsWithin words (Ok rest) = length (rest.now) ≤ length words

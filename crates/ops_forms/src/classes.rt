@@ -251,7 +251,8 @@ impl Classes {
         }
     }
 
-    /// The attribute of this name becomes the vector attribute of each class that has it. Touches no other class.
+    /// The attribute of this name becomes the vector attribute of each class that has it. Touches no other class. Where
+    /// memory runs out some of these classes have it already.
     pub fn make_vector(&mut self, name: Sym) -> Result<(), OutOfMemory>
         ensures { OnOk result (self.new ≡ map (with_vector_last name) self.old) }
     {

@@ -3,7 +3,7 @@ ghost use Rattle.std.specs.Prelude.{◌≡◌, ◌==◌, ◌++◌, ◌∷◌, �
 ghost use Rattle.std.specs.Option.{option_copied};
 ghost use Rattle.std.specs.BTreeMap.{get};
 ghost use Rattle.std.specs.Ordering.{nat_cmp};
-ghost use Rattle.ops_meaning.specs.Grammar.{number_of};
+ghost use Rattle.ops_meaning.specs.Grammar.{number_of, renumbered};
 ghost use Rattle.ops_forms.specs.Firsts.{or_else, without, AreFirsts};
 
 use ops_base::elements::Class;
@@ -184,6 +184,24 @@ impl<T: Titled + Drop> Declared<T> {
         ensures { result.items ≡ self }
     {
         self.list
+    }
+}
+
+impl Declared<Named> {
+    /// The first of that name has this number from here on; a name that was not there comes last. Where memory runs out nothing
+    /// has changed.
+    pub fn renumber(&mut self, name: Sym, number: usize) -> Result<(), OutOfMemory>
+        ensures ok { OnOk result (self.new ≡ renumbered name number self.old) }
+        ensures err { OnErr result (self.new ≡ self.old) }
+    {
+        let named = Named { name, number };
+        match self.place_of(name) {
+            Some(place) => {
+                self.set(place, named);
+                Ok(())
+            }
+            None => self.push(named),
+        }
     }
 }
 

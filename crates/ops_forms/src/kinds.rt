@@ -1,7 +1,6 @@
 //! What a word may be where something is wanted.
 ghost use Rattle.std.specs.Prelude.{◌≡◌};
-ghost use Rattle.ops_meaning.specs.Grammar.{is_left, is_right, is_left_brace, is_right_brace, is_caret, is_name, is_variable, is_arrow, is_literal, is_minus, opens_choice, closes_choice, pred_of, is_crlf, constant_of, atom_of, value_of, natural_of};
-ghost use Rattle.ops_forms.specs.Going.{whole_of};
+ghost use Rattle.ops_meaning.specs.Grammar.{is_left, is_right, is_left_brace, is_right_brace, is_caret, is_name, is_variable, is_arrow, is_literal, is_minus, opens_choice, closes_choice, is_inf, pred_of, constant_of, atom_of, value_of, natural_of, small_of};
 
 use ops_base::values::{Pred, Sym, Value};
 use ops_meaning::Keyword;
@@ -119,6 +118,16 @@ pub fn closes_choice(keyword: Keyword) -> bool
     }
 }
 
+// inf, behind the vector attribute
+pub fn is_inf(keyword: Keyword) -> bool
+    ensures { result ≡ is_inf keyword }
+{
+    match keyword {
+        Keyword::Inf => true,
+        _ => false,
+    }
+}
+
 pub fn pred_of(keyword: Keyword) -> Option<Pred>
     ensures { result ≡ pred_of keyword }
 {
@@ -131,15 +140,6 @@ pub fn pred_of(keyword: Keyword) -> Option<Pred>
         Keyword::AtLeast => Some(Pred::Ge),
         Keyword::SameKind => Some(Pred::SameKind),
         _ => None,
-    }
-}
-
-pub fn is_crlf(keyword: Keyword) -> bool
-    ensures { result ≡ is_crlf keyword }
-{
-    match keyword {
-        Keyword::Crlf => true,
-        _ => false,
     }
 }
 
@@ -188,11 +188,15 @@ pub fn natural_of(number: i64) -> Option<usize>
     }
 }
 
-pub fn whole_of(kind: TokenKind) -> Option<i64>
-    ensures { result ≡ whole_of kind }
+// the number that a whole number from 1 to 1,024 is
+pub fn small_of(kind: TokenKind) -> Option<u16>
+    ensures { result ≡ small_of kind }
 {
-    match kind {
-        TokenKind::Whole(number) => Some(number),
+    let TokenKind::Whole(number) = kind else {
+        return None;
+    };
+    match u16::try_from(number) {
+        Ok(small) if 1 <= small && small <= 1024 => Some(small),
         _ => None,
     }
 }

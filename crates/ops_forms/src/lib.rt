@@ -13,6 +13,7 @@ pub mod scope;
 #[cfg(test)]
 mod tests;
 pub mod vectors;
+pub mod walking;
 pub mod words;
 
 pub use classes::Classes;

@@ -1,14 +1,12 @@
 //! Texts with the forms, words and places that are read of them.
 
 use crate::classes::Classes;
-use crate::declared::Declared;
+use crate::declared::{Declared, number_of};
 use crate::form::{FormEnd, FormFault, read_form};
+use crate::kinds::small_of;
 use crate::places::{Place, place_of};
 use crate::scope::Scope;
-use crate::vectors::{
-    add_vectors, arranged, has_attribute, has_vector, is_one_of, scalars_of, with_last,
-    with_vector_last,
-};
+use crate::vectors::{add_vectors, arranged, has_vector, is_one_of, scalars_of, with_last};
 use crate::words::words_of;
 use ops_base::elements::Class;
 use ops_base::list::Listed;
@@ -147,6 +145,35 @@ fn item_is_replaced_by_one_of_its_name(rt: HostRuntime) -> Result<(), OutOfMemor
 }
 
 #[test]
+fn name_gets_another_number(rt: HostRuntime) -> Result<(), OutOfMemory> {
+    let mut declared = Declared::new(rt.alloc());
+    for (name, number) in [(4, 0), (7, 1), (4, 2), (9, 3)] {
+        declared.renumber(Sym(name), number)?;
+    }
+    for (name, number) in [(4, Some(2)), (7, Some(1)), (9, Some(3)), (5, None)] {
+        assert_eq!(rt; number_of(&declared, Sym(name)), number);
+    }
+    assert_eq!(rt; declared.len(), 3);
+    Ok(())
+}
+
+#[test]
+fn small_numbers_end_at_1024(rt: HostRuntime) {
+    let rows = [
+        (-1, None),
+        (0, None),
+        (1, Some(1)),
+        (1024, Some(1024)),
+        (1025, None),
+        (65537, None),
+    ];
+    for (number, small) in rows {
+        assert_eq!(rt; small_of(TokenKind::Whole(number)), small);
+    }
+    assert_eq!(rt; small_of(TokenKind::Symbol), None);
+}
+
+#[test]
 fn new_scope_has_its_text_alone(rt: HostRuntime) -> Result<(), OutOfMemory> {
     let text = Vec::from_slice(rt.alloc(), b"(run)")?;
     let mut scope = Scope::new(rt.alloc(), text)?;
@@ -252,16 +279,10 @@ fn vector_attributes_are_told_apart(rt: HostRuntime) -> Result<(), OutOfMemory> 
         &last[..]
     );
     let class = class(rt.alloc(), 1, &[6, 5, 8], false)?;
-    assert_eq!(rt;
-        (has_attribute(&class, Sym(8)), has_attribute(&class, Sym(9))),
-        (true, false)
-    );
     let by_last = with_last(rt.alloc(), Sym(6), &class)?;
     assert_eq!(rt;
         (by_last.attrs.as_slice(), by_last.vector),
         (&last[..], true)
     );
-    let other = with_vector_last(rt.alloc(), Sym(9), class)?;
-    assert_eq!(rt; (other.attrs.as_slice(), other.vector), (&attrs[..], false));
     Ok(())
 }

@@ -1,6 +1,6 @@
 //! Vector attributes: each stands last in its class.
 ghost use Rattle.std.specs.Prelude.{◌≡◌, ◌++◌, not, filter, IfOk, OnOk};
-ghost use Rattle.ops_meaning.specs.Grammar.{is_one_of, arranged, has_vector, with_vector_last};
+ghost use Rattle.ops_meaning.specs.Grammar.{is_one_of, arranged, has_vector};
 ghost use Rattle.ops_forms.specs.Noted.{with_last};
 
 use crate::declared::Declared;
@@ -21,12 +21,6 @@ pub fn has_vector(vectors: &Declared<Sym>, attrs: &[Sym]) -> bool
     ensures { result ≡ has_vector vectors.now attrs.now }
 {
     attrs.iter().any(|attr| is_one_of(*attr, vectors))
-}
-
-pub fn has_attribute(class: &Class, name: Sym) -> bool
-    ensures { result ≡ is_one_of name class.now.attrs }
-{
-    class.attrs.as_slice().iter().any(|attr| *attr == name)
 }
 
 /// The attributes in their order, the vector attributes behind the others.
@@ -73,16 +67,6 @@ pub fn add_vectors(
         }
     }
     Ok(())
-}
-
-/// A class that has the attribute has it as its vector attribute.
-pub fn with_vector_last(alloc: Global, name: Sym, class: Class) -> Result<Class, OutOfMemory>
-    ensures { IfOk result (λ c. c ≡ with_vector_last name class) }
-{
-    if !has_attribute(&class, name) {
-        return Ok(class);
-    }
-    with_last(alloc, name, &class)
 }
 
 /// The class, with this attribute as its vector attribute.

@@ -123,10 +123,24 @@ fn keyword_of_symbol(spelling: &[u8]) -> Keyword
         Keyword::Remove
     } else if is(spelling, b"run") {
         Keyword::Run
+    } else if is(spelling, b"modify") {
+        Keyword::Modify
     } else if is(spelling, b"write") {
         Keyword::Write
+    } else if is(spelling, b"bind") {
+        Keyword::Bind
+    } else if is(spelling, b"cbind") {
+        Keyword::Cbind
     } else if is(spelling, b"crlf") {
         Keyword::Crlf
+    } else if is(spelling, b"tabto") {
+        Keyword::Tabto
+    } else if is(spelling, b"rjust") {
+        Keyword::Rjust
+    } else if is(spelling, b"substr") {
+        Keyword::Substr
+    } else if is(spelling, b"inf") {
+        Keyword::Inf
     } else if is(spelling, b"halt") {
         Keyword::Halt
     } else {

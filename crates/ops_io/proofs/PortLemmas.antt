@@ -1,9 +1,9 @@
 -- How what functions put adds up: the laws that a caller's loop and its last flush stand on.
-use Rattle.std.proofs.Common.{◌≡◌, ℕ, Bool, List, [], ◌++◌, Result, Ok, Err, refl, ap, sym, ◌∙◌, append_assoc, subst, IsTrue}
+use Rattle.std.proofs.Common.{◌≡◌, ℕ, Bool, List, [], ◌++◌, refl, ap, sym, ◌∙◌, append_assoc, subst, IsTrue, Result, Ok, Err, IsErrAnd}
 use Rattle.std.proofs.lemmas.List.{append-nil}
 use Rattle.ops_io.specs.Outside.{GrewBy, GrewByPrefix}
 use Rattle.ops_io.specs.Output.{OutState, column_after}
-use Rattle.ops_io.specs.Ports.{Port, port, Put, Stopped, Underway, Emits, Cause, Flushed}
+use Rattle.ops_io.specs.Ports.{Port, port, Put, Stopped, PutsBytes, Underway, Cause, Flushed}
 use Rattle.ops_io.specs.declared.stop.Stop.{Stop}
 use Rattle.ops_io.specs.declared.stop.Stop.TheVariants as stop
 use Rattle.ops_io.proofs.Known.{puts_twice, prefix_after, prefix_more, append_known-nothing, append_known-twice, column-append}
@@ -34,10 +34,19 @@ stopped_more e a b xs ys p =
     let P : List ℕ → Type 0 = GrewByPrefix a.taken b.taken in
     record { prefix = subst P (append_assoc a.out.held xs ys) (prefix_more a.taken b.taken (a.out.held ++ xs) ys p.prefix); cause = p.cause }
 
--- A put, and then any call.
-pub emits_then : {T : Type 0} (r : Result T Stop) (a b c : Port) (xs ys : List ℕ) → Put a b xs → Emits r b c ys → Emits r a c (xs ++ ys)
-emits_then (Ok x) a b c xs ys p q = put_then a b c xs ys p q
-emits_then (Err e) a b c xs ys p q = stopped_then e a b c xs ys p q
+-- A put, and then a call that puts these bytes.
+pub puts_then : {T E : Type 0} (r : Result T E) (a b c : Port) (xs ys : List ℕ) → Put a b xs → PutsBytes r b c ys → PutsBytes r a c (xs ++ ys)
+puts_then (Ok x) a b c xs ys p q = put_then a b c xs ys p q
+puts_then (Err e) a b c xs ys p q = stopped_then stop.Write a b c xs ys p q
+
+-- A call that was refused with more to come, whose refusal is handed on.
+pub puts_refused : {T E : Type 0} (Q : E → Type 0) (r : Result T E) (a b : Port) (xs ys : List ℕ) → IsErrAnd r Q → Stopped stop.Write a b xs → PutsBytes r a b (xs ++ ys)
+puts_refused Q (Ok x) a b xs ys h p = absurd h
+puts_refused Q (Err e) a b xs ys h p = stopped_more stop.Write a b xs ys p
+
+-- A put, and then a flush that was refused.
+pub put_then_stopped : (e : Stop) (a b c : Port) (xs : List ℕ) → Put a b xs → Stopped e b c [] → Stopped e a c xs
+put_then_stopped e a b c xs p q = let P : List ℕ → Type 0 = Stopped e a c in subst P (append-nil xs) (stopped_then e a b c xs [] p q)
 
 -- A put after which memory ran out.
 pub put_short : (a b : Port) (xs ys : List ℕ) → Put a b xs → Stopped stop.OutOfMemory a b (xs ++ ys)
@@ -69,10 +78,6 @@ put_then_flushed a b c xs p f =
       faults = f.faults ∙ p.faults;
     }
 
--- All is still to come.
-pub underway_start : (a : Port) (all : List ℕ) → IsTrue a.out.whole → Underway a a all all
-underway_start a all w = record { sofar = []; split = refl; put = put_nothing a w }
-
 -- A put of the next bytes.
 pub underway_step : (a b c : Port) (all rest xs more : List ℕ) → Underway a b all rest → rest ≡ xs ++ more → Put b c xs → Underway a c all more
 underway_step a b c all rest xs more u e p = record {
@@ -87,29 +92,10 @@ underway_stop e a b c all rest xs more u h p =
     let P : List ℕ → Type 0 = Stopped e a c in
     subst P (sym (u.split ∙ ap (λ w. u.sofar ++ w) h)) (stopped_then e a b c u.sofar (xs ++ more) u.put (stopped_more e b c xs more p))
 
--- Memory ran out on the way.
-pub underway_short : (a b : Port) (all rest : List ℕ) → Underway a b all rest → Stopped stop.OutOfMemory a b all
-underway_short a b all rest u =
-    let P : List ℕ → Type 0 = Stopped stop.OutOfMemory a b in subst P (sym u.split) (put_short a b u.sofar rest u.put)
-
 -- Nothing is still to come.
 pub underway_done : (a b : Port) (all : List ℕ) → Underway a b all [] → Put a b all
 underway_done a b all u = let P : List ℕ → Type 0 = Put a b in subst P (sym (u.split ∙ append-nil u.sofar)) u.put
 
--- The same at the end of a loop.
-pub underway_flushed : (a b c : Port) (all : List ℕ) → Underway a b all [] → Flushed b c → GrewBy a.taken c.taken (a.out.held ++ all)
-underway_flushed a b c all u f = put_flushed a b c all (underway_done a b all u) f
-
 -- A put and a flush that was refused: the sink has taken a prefix of what was held and these bytes.
 pub put_unflushed : (e : Stop) (a b c : Port) (xs : List ℕ) → Put a b xs → Stopped e b c [] → GrewByPrefix a.taken c.taken (a.out.held ++ xs)
-put_unflushed e a b c xs p q =
-    let P : List ℕ → Type 0 = λ ys. GrewByPrefix a.taken c.taken (a.out.held ++ ys) in
-    subst P (append-nil xs) (stopped_then e a b c xs [] p q).prefix
-
--- A put alone: the sink has taken a prefix of what was held and these bytes.
-pub put_prefix : (a b : Port) (xs : List ℕ) → Put a b xs → GrewByPrefix a.taken b.taken (a.out.held ++ xs)
-put_prefix a b xs p = (p.out.0, b.out.held, p.out.1, p.out.2)
-
--- A call that gave up: the sink has taken a prefix of what was held and its bytes.
-pub stopped_prefix : (e : Stop) (a b : Port) (xs : List ℕ) → Stopped e a b xs → GrewByPrefix a.taken b.taken (a.out.held ++ xs)
-stopped_prefix e a b xs q = q.prefix
+put_unflushed e a b c xs p q = (put_then_stopped e a b c xs p q).prefix

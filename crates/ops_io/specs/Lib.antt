@@ -2,3 +2,4 @@ pub mod Outside
 pub mod Memory
 pub mod Output
 pub mod Ports
+pub mod Input

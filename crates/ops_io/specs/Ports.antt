@@ -32,10 +32,10 @@ pub record Stopped (why : Stop) (old new : Port) (bytes : List ℕ) : Type 0 whe
   pub prefix : GrewByPrefix old.taken new.taken (old.out.held ++ bytes)
   pub cause : Cause why old.faults new.faults
 
--- What a call that puts these bytes leaves: all of them are put, or it gave up and a prefix is written.
-abbrev pub Emits : {T : Type 0} → Result T Stop → Port → Port → List ℕ → Type 0
-Emits (Ok x) old new bytes = Put old new bytes
-Emits (Err why) old new bytes = Stopped why old new bytes
+-- What a call that puts these bytes leaves: all of them are put, or the sink refused a write and has got a prefix.
+abbrev pub PutsBytes : {T E : Type 0} → Result T E → Port → Port → List ℕ → Type 0
+PutsBytes (Ok x) old new bytes = Put old new bytes
+PutsBytes (Err e) old new bytes = Stopped stop.Write old new bytes
 
 -- Of all these bytes the rest is still to come, and what comes before it was put.
 pub record Underway (old now : Port) (all rest : List ℕ) : Type 0 where
@@ -49,7 +49,7 @@ pub record Flushed (old new : Port) : Type 0 where
   pub out : new.out ≡ record old.out { held = [] }
   pub faults : new.faults ≡ old.faults
 
--- What a call that writes all that is held leaves.
-abbrev pub Flushes : {T : Type 0} → Result T Stop → Port → Port → Type 0
-Flushes (Ok x) old new = Flushed old new
-Flushes (Err why) old new = Stopped why old new []
+-- What a call that writes all that is held leaves: all of it is written, or the sink refused a write and has got a prefix.
+abbrev pub FlushesAll : {T E : Type 0} → Result T E → Port → Port → Type 0
+FlushesAll (Ok x) old new = Flushed old new
+FlushesAll (Err e) old new = Stopped stop.Write old new []

@@ -1,11 +1,18 @@
-//! The outside as traits, with objects in memory and adapters over the real thing, and the output buffer.
+//! The outside as traits, with objects in memory and adapters over the real thing, and the output and input buffers.
 #![tactic(auto)]
 
-pub mod memory;
-pub mod out;
-pub mod outside;
-pub mod port;
-pub mod real;
-pub mod stop;
+mod input;
+mod memory;
+mod out;
+mod outside;
+mod real;
+mod stop;
 #[cfg(test)]
 mod tests;
+
+pub use input::Input;
+pub use memory::{MemShelf, MemSink, MemSource};
+pub use out::{Out, WriteFailed};
+pub use outside::{Failed, Gate, LoadError, OpenGate, Shelf, Sink, Source};
+pub use real::{StdShelf, StdSink, StdSource};
+pub use stop::Stop;

@@ -1,7 +1,8 @@
 //! The output buffer, which gathers what is put and knows the column.
 ghost use Rattle.std.specs.Prelude.{◌≡◌, ◌+◌, ◌-◌, ◌^◌, ◌<◌, ◌≤◌, [], ◌++◌, length, IfOk, OnOk, OnErr, IsTrue, true, false};
 ghost use Rattle.ops_io.specs.Outside.{CountsFailure, GrewBy, GrewByPrefix};
-ghost use Rattle.ops_io.specs.Output.{column_after, PutsOut};
+ghost use Rattle.ops_io.specs.Output.{column_after};
+ghost use Rattle.ops_io.specs.Ports.{port, PutsBytes, FlushesAll};
 
 use crate::outside::{Failed, Sink};
 use ops_base::memory::OutOfMemory;
@@ -92,18 +93,17 @@ impl Out {
     pub fn flush<K: Sink>(&mut self, sink: &mut K) -> Result<(), WriteFailed>
         requires whole { IsTrue self.old.whole }
         requires faults { K.faults sink.old < 2 ^ 63 }
-        ensures ok { OnOk result (self.new ≡ record self.old { held = [] }) }
-        ensures written { OnOk result (GrewBy (K.taken sink.old) (K.taken sink.new) self.old.held) }
-        ensures prefix { OnErr result (GrewByPrefix (K.taken sink.old) (K.taken sink.new) self.old.held) }
+        ensures flushes { FlushesAll result (port (K.taken sink.old) (K.faults sink.old) self.old)
+            (port (K.taken sink.new) (K.faults sink.new) self.new) }
         ensures broken { OnErr result (self.new.whole ≡ false) }
-        ensures cause { CountsFailure (K.faults sink.old) (K.faults sink.new) result }
     {
         let outcome = write_all(sink, self.held.as_slice());
         self.held.clear();
-        if outcome.is_err() {
+        if let Err(why) = outcome {
             self.whole = false;
+            return Err(why);
         }
-        outcome
+        Ok(())
     }
 
     /// How many more bytes the buffer can hold.
@@ -129,12 +129,9 @@ impl Out {
     pub fn put<K: Sink>(&mut self, sink: &mut K, bytes: &[u8]) -> Result<(), WriteFailed>
         requires whole { IsTrue self.old.whole }
         requires faults { K.faults sink.old < 2 ^ 63 }
-        ensures ok { OnOk result (PutsOut (K.taken sink.old) (K.taken sink.new) self.old.held self.new.held bytes.now) }
-        ensures column { OnOk result (self.new.column ≡ column_after self.old.column bytes.now) }
-        ensures whole { OnOk result (IsTrue self.new.whole) }
-        ensures prefix { OnErr result (GrewByPrefix (K.taken sink.old) (K.taken sink.new) (self.old.held ++ bytes.now)) }
+        ensures puts { PutsBytes result (port (K.taken sink.old) (K.faults sink.old) self.old)
+            (port (K.taken sink.new) (K.faults sink.new) self.new) bytes.now }
         ensures broken { OnErr result (self.new.whole ≡ false) }
-        ensures cause { CountsFailure (K.faults sink.old) (K.faults sink.new) result }
     {
         let mut rest = bytes;
         while rest.len() > self.room() {

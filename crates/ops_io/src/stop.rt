@@ -1,8 +1,10 @@
-//! Why a call that puts bytes gave up.
+//! Why a call that puts bytes gave up, and how a session ends then.
 ghost use Rattle.std.specs.Prelude.{◌≡◌};
+ghost use Rattle.ops_base.specs.declared.endings.Ending.TheVariants as ending;
 ghost use Rattle.ops_io.specs.declared.stop.Stop.TheVariants as stop;
 
 use crate::out::WriteFailed;
+use ops_base::endings::Ending;
 use ops_base::memory::OutOfMemory;
 
 /// Why a call that puts bytes, and may also take memory, gave up.
@@ -27,5 +29,13 @@ impl From<OutOfMemory> for Stop {
 
     fn from(_error: OutOfMemory) -> Self {
         Stop::OutOfMemory
+    }
+}
+
+impl From<WriteFailed> for Ending {
+    ghost from_gives = { λ _ why. why ≡ ending.WriteFault };
+
+    fn from(_error: WriteFailed) -> Self {
+        Ending::WriteFault
     }
 }

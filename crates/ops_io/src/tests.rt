@@ -1,12 +1,14 @@
 //! Each public call once, with memory enough, and the real files and streams.
-ghost use Rattle.std.specs.Prelude.{◌≡◌, [], IfOk};
+ghost use Rattle.std.specs.Prelude.{◌≡◌, ◌^◌, ◌<◌, [], IfOk};
+ghost use Rattle.ops_io.specs.Outside.{CountsFailure};
 
+use crate::input::Input;
 use crate::memory::{MemShelf, MemSink, MemSource};
 use crate::out::{Out, WriteFailed};
 use crate::outside::{Failed, Gate, LoadError, OpenGate, Shelf, Sink, Source};
-use crate::port::{flush_all, put_bytes};
 use crate::real::{StdShelf, StdSink, StdSource};
 use crate::stop::Stop;
+use ops_base::endings::Ending;
 use ops_base::memory::OutOfMemory;
 use std::alloc::{AllocError, Global};
 use std::fs;
@@ -86,9 +88,9 @@ fn long_output(rt: HostRuntime) -> Result<(), Fail> {
     let alloc = rt.alloc();
     let mut sink = MemSink::new(alloc, 20_000, 3_000, Vec::new(alloc))?;
     let mut out = Out::new(alloc)?;
-    put_bytes(&mut out, &mut sink, &[b'x'; 9_000])?;
+    out.put(&mut sink, &[b'x'; 9_000])?;
     assert_eq!(rt; (out.column(), sink.written().len()), (9_000, 8_192));
-    flush_all(&mut out, &mut sink)?;
+    out.flush(&mut sink)?;
     assert_eq!(rt; (out.column(), sink.written().len()), (9_000, 9_000));
     Ok(())
 }
@@ -99,10 +101,52 @@ fn output_refused(rt: HostRuntime) -> Result<(), Fail> {
     let mut sink = MemSink::new(alloc, 4, 3, Vec::new(alloc))?;
     let mut out = Out::new(alloc)?;
     out.put(&mut sink, b"abcdef")?;
-    assert_eq!(rt; flush_all(&mut out, &mut sink), Err(Stop::Write));
+    assert_eq!(rt; out.flush(&mut sink), Err(WriteFailed));
     assert_eq!(rt; sink.written(), b"abcd".as_slice());
     assert_eq!(rt; Stop::from(WriteFailed), Stop::Write);
     assert_eq!(rt; Stop::from(OutOfMemory), Stop::OutOfMemory);
+    assert_eq!(rt; Ending::from(WriteFailed), Ending::WriteFault);
+    Ok(())
+}
+
+/// The next byte, which is taken.
+fn take_next<I: Source>(input: &mut Input, source: &mut I) -> Result<Option<u8>, Failed>
+    requires { I.faults source.old < 2 ^ 63 }
+    ensures { CountsFailure (I.faults source.old) (I.faults source.new) result }
+{
+    let Some(byte) = input.next(source)? else {
+        return Ok(None);
+    };
+    input.take();
+    Ok(Some(byte))
+}
+
+#[test]
+fn input_in_pieces(rt: HostRuntime) -> Result<(), Fail> {
+    let alloc = rt.alloc();
+    let mut source = MemSource::new(b"abc".to_vec(alloc)?, 2, Vec::new(alloc));
+    let mut input = Input::new(alloc)?;
+    assert_eq!(rt; input.next(&mut source)?, Some(b'a'));
+    assert_eq!(rt; take_next(&mut input, &mut source)?, Some(b'a'));
+    assert_eq!(rt; take_next(&mut input, &mut source)?, Some(b'b'));
+    assert_eq!(rt; take_next(&mut input, &mut source)?, Some(b'c'));
+    assert_eq!(rt; take_next(&mut input, &mut source)?, None);
+    assert_eq!(rt; take_next(&mut input, &mut source)?, None);
+    Ok(())
+}
+
+#[test]
+fn input_refused(rt: HostRuntime) -> Result<(), Fail> {
+    let alloc = rt.alloc();
+    let mut source = MemSource::new(b"ab".to_vec(alloc)?, 1, vec![in alloc; 2, 4]?);
+    let mut input = Input::new(alloc)?;
+    assert_eq!(rt; take_next(&mut input, &mut source)?, Some(b'a'));
+    let second = take_next(&mut input, &mut source).err();
+    assert_eq!(rt; second.ok_or("the second read is listed")?, Failed);
+    assert_eq!(rt; take_next(&mut input, &mut source)?, Some(b'b'));
+    let fourth = take_next(&mut input, &mut source).err();
+    assert_eq!(rt; fourth.ok_or("the fourth read is listed")?, Failed);
+    assert_eq!(rt; take_next(&mut input, &mut source)?, None);
     Ok(())
 }
 

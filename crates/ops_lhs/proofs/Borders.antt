@@ -1,140 +1,41 @@
 -- Where a left side begins and ends among its words and its tokens.
-use Rattle.std.proofs.Common.{◌≡◌, ℕ, zero, suc, ◌+◌, ◌-◌, ◌≤◌, List, [], ◌∷◌, ◌++◌, length, take, drop, slice_get, None, Some, Ok, Err, refl, sym, ap, ◌∙◌, subst, arith}
-use Rattle.std.proofs.lemmas.List.{take-append-drop, take_all, length-drop}
-use Rattle.std.proofs.Math.Seq.{drop-append-add}
-use Rattle.std.proofs.Math.ListN.{length-append}
+use Rattle.std.proofs.Common.{◌≡◌, ℕ, ◌-◌, ◌≤◌, List, ◌++◌, ◌∷◌, [], length, drop, None, Some, refl, sym, ap, ◌∙◌, subst}
 use Rattle.ops_base.specs.declared.conditions.Condition.{Condition}
 use Rattle.ops_base.specs.declared.endings.Fault.TheVariants as fault
-use Rattle.ops_base.specs.Names.{Spellings}
 use Rattle.ops_base.specs.Valid.{cells_of}
 use Rattle.ops_tokens.specs.declared.token.Token.{Token}
-use Rattle.ops_tokens.specs.Tokens.{spelling}
 use Rattle.ops_meaning.specs.declared.words.Word.{Word}
-use Rattle.ops_meaning.specs.declared.words.Keyword.{Keyword}
-use Rattle.ops_meaning.specs.Words.{keyword_of, names_with, words_from, names_from}
-use Rattle.ops_meaning.specs.Grammar.{Wanted, Forms, FirstPattern, Patterns, State, Step, Next, Refuses, Outcome, after, step, ends, goes, is_arrow, left_begun, nothing_read}
+use Rattle.ops_meaning.specs.Words.{names_from}
+use Rattle.ops_meaning.specs.Grammar.{FirstPattern, Patterns, is_arrow, left_begun, nothing_read}
 use Rattle.ops_forms.specs.Forms.{past_last}
+use Rattle.ops_forms.specs.Sights.{cells_from}
+use Rattle.ops_forms.specs.Walking.{words_of_scope, fault_of}
 use Rattle.ops_forms.specs.declared.refusals.Refusal.{Refusal}
 use Rattle.ops_forms.specs.declared.refusals.Refusal.TheVariants as refusal
 use Rattle.ops_forms.specs.declared.scope.Scope.{Scope}
-use Rattle.ops_lhs.specs.LeftSides.{ReadsLeft, RefusesLeft, AreBehindArrow, words_of_scope, cells_from, IsArrowAt, IsLeftSide, IsRefused, at_word, at_end}
-use Rattle.ops_lhs.specs.Taking.{IsBehindArrow, fault_of}
-
--- ---- of words
-
-pub behind_arrow : (words : List Word) (next : ℕ) → IsBehindArrow words next → AreBehindArrow words (take (length words - next) (drop next words))
-behind_arrow words next b =
-    let whole = take_all (length words - next) (drop next words) (omega (arith, length-drop next words)) in
-    record {
-      before = take b.before words;
-      arrow = b.arrow;
-      split = sym (take-append-drop b.before words) ∙ ap (λ (more : List Word). take b.before words ++ more) (b.there ∙ ap (λ (more : List Word). b.arrow ∷ more) (sym whole));
-      is = b.is;
-    }
-
--- where the words end too early, a form is open
-abbrev IsOpen : Outcome → Type 0
-IsOpen (Ok s) = Unit {0}
-IsOpen (Err (f, None)) = f ≡ fault.Unclosed
-IsOpen (Err (f, Some w)) = Unit {0}
-
-ends_open : (ws : List Wanted) (s : State) → IsOpen (ends ws s)
-unfolding ends
-ends_open [] s = tt
-ends_open (Forms ∷ ws) s = ends_open ws s
-ends_open (w ∷ ws) s = refl
-
-step_open : (rest : List Wanted → State → Outcome) (w : Word) → ((ws : List Wanted) (s : State) → IsOpen (rest ws s)) → (r : Step) → IsOpen (after rest w r)
-step_open rest w ih (Next ws s) = ih ws s
-step_open rest w ih (Refuses f) = tt
-
-goes_open : (words : List Word) (ws : List Wanted) (s : State) → IsOpen (goes words ws s)
-unfolding goes
-goes_open [] ws s = ends_open ws s
-goes_open (w ∷ words) ws s = step_open (goes words) w (goes_open words) (step w ws s)
-
--- ---- of tokens
-
-pub past_at_last : (from : ℕ) (ts : List Token) (t : Token) → slice_get ts (length ts - 1) ≡ Some t → past_last from ts ≡ t.past
-past_at_last from [] t e = absurd (cc)
-past_at_last from (u ∷ []) t e = ap (λ (x : Token). x.past) (let same : u ≡ t = cc in same)
-past_at_last from (u ∷ v ∷ ts) t e =
-    let one : length (u ∷ v ∷ ts) - 1 ≡ suc (length (v ∷ ts) - 1) = omega arith in
-    past_at_last u.past (v ∷ ts) t (rw one at e)
-
-words_length : (text : List ℕ) (names : Spellings) (ts : List Token) → length (words_from text names ts) ≡ length ts
-words_length text names [] = refl
-words_length text names (t ∷ ts) = ap suc (words_length text (names_with names t.kind (spelling text t)) ts)
-
--- the tokens from a place on, as a slice has them
-whole_tokens : (tokens : List Token) (from : ℕ) → take (length tokens - from) (drop from tokens) ≡ drop from tokens
-whole_tokens tokens from = take_all (length tokens - from) (drop from tokens) (omega (arith, length-drop from tokens))
-
-module _ (scope : Scope) (tokens : List Token) (from : ℕ) (text : List ℕ) (same : text ≡ scope.text.items) where
-  pub words_made : words_from text scope.names (take (length tokens - from) (drop from tokens)) ≡ words_of_scope scope tokens from
-  words_made = rw (same, whole_tokens tokens from) refl
-
-  pub names_made : names_from text scope.names (take (length tokens - from) (drop from tokens)) ≡ names_from scope.text.items scope.names (drop from tokens)
-  names_made = rw (same, whole_tokens tokens from) refl
-
--- the token of a word
-record IsTokenOf (text : List ℕ) (ts : List Token) (place : ℕ) (keyword : Keyword) : Type 0 where
-  pub token : Token
-  pub there : slice_get ts place ≡ Some token
-  pub is : keyword_of token.kind (spelling text token) ≡ keyword
-
-token_of : (text : List ℕ) (names : Spellings) (ts : List Token) (before rest : List Word) (w : Word) → words_from text names ts ≡ before ++ w ∷ rest → IsTokenOf text ts (length before) w.keyword
-token_of text names [] [] rest w e = absurd (cc)
-token_of text names [] (b ∷ before) rest w e = absurd (cc)
-token_of text names (t ∷ ts) [] rest w e = record { token = t; there = refl; is = cc }
-token_of text names (t ∷ ts) (b ∷ before) rest w e =
-    let found = token_of text (names_with names t.kind (spelling text t)) ts before rest w (cc) in
-    record { token = found.token; there = found.there; is = found.is }
-
-get_behind : (from k : ℕ) (ts : List Token) → from ≤ length ts → slice_get (drop from ts) k ≡ slice_get ts (from + k)
-get_behind zero k ts le =
-    let same : k ≡ 0 + k = omega arith in
-    ap (slice_get ts) same
-get_behind (suc from) k [] le = absurd (omega arith)
-get_behind (suc from) k (t ∷ ts) le =
-    let more : suc from + k ≡ suc (from + k) = omega arith in
-    get_behind from k ts (omega arith) ∙ sym (ap (slice_get (t ∷ ts)) more)
+use Rattle.ops_forms.proofs.Borders.{is_unclosed, begins, rest_is, last_is}
+use Rattle.ops_lhs.specs.LeftSides.{ReadsLeft, RefusesLeft, IsArrow, AreBehindArrow, IsArrowAt, IsLeftSide, IsRefused, at_word, at_end}
 
 module _ (scope : Scope) (tokens : List Token) (from : ℕ) (rest : List Word) (le : from ≤ length tokens) (b : AreBehindArrow (words_of_scope scope tokens from) rest) where
-  -- as many tokens as words
-  pub counted : length tokens ≡ from + (length b.before + (1 + length rest))
-  counted =
-      let words = words_length scope.text.items scope.names (drop from tokens) in
-      let split = ap (λ (ws : List Word). length ws) b.split ∙ length-append b.before (b.arrow ∷ rest) in
-      omega (arith, words, split, length-drop from tokens)
-
-  place_is : length tokens - length rest - 1 ≡ from + length b.before
-  place_is = omega (arith, counted)
-
-  behind_is : drop (from + length b.before + 1 - from) (words_of_scope scope tokens from) ≡ rest
-  behind_is =
-      let next : from + length b.before + 1 - from ≡ length b.before + 1 = omega arith in
-      ap (λ (n : ℕ). drop n (words_of_scope scope tokens from)) next ∙ ap (drop (length b.before + 1)) b.split ∙ drop-append-add b.before (b.arrow ∷ rest) 1
-
-  arrow_is : IsArrowAt scope.text.items tokens (from + length b.before)
+  arrow_is : IsArrowAt scope.text.items tokens (length tokens - length rest - 1)
   arrow_is =
-      let found = token_of scope.text.items scope.names (drop from tokens) b.before rest b.arrow b.split in
+      let found = last_is IsArrow scope tokens from rest le b in
       record {
         token = found.token;
-        there = sym (get_behind from (length b.before) tokens le) ∙ found.there;
-        is = ap is_arrow found.is ∙ b.is;
+        there = found.there;
+        is = ap is_arrow found.keyword ∙ b.is;
       }
 
   pub left_side_is : (new : Scope) (conditions : List Condition) → ReadsLeft scope.classes (words_of_scope scope tokens from) rest conditions new.values new.elements new.variables → new.names ≡ names_from scope.text.items scope.names (drop from tokens) → new.cells ≡ cells_of conditions → new.conditions ≡ cells_from 0 conditions → IsLeftSide scope new tokens from conditions (length tokens - length rest - 1)
   left_side_is new conditions reads names cells are =
-      subst (IsLeftSide scope new tokens from conditions) (sym place_is) (record {
-        begins = omega arith;
+      record {
+        begins = begins IsArrow scope tokens from rest le b;
         arrow = arrow_is;
-        reads = subst (λ (more : List Word). ReadsLeft scope.classes (words_of_scope scope tokens from) more conditions new.values new.elements new.variables) (sym behind_is) reads;
+        reads = subst (λ (more : List Word). ReadsLeft scope.classes (words_of_scope scope tokens from) more conditions new.values new.elements new.variables) (sym (rest_is IsArrow scope tokens from rest le b)) reads;
         names = names;
         cells = cells;
         conditions_are = are;
-      })
+      }
 
 pub refused_is : (scope : Scope) (tokens : List Token) (from : ℕ) (e : Refusal) → RefusesLeft scope.classes (words_of_scope scope tokens from) e → IsRefused scope tokens from (fault_of e (past_last 0 tokens))
 refused_is scope tokens from refusal.OutOfMemory h = tt
@@ -142,5 +43,5 @@ refused_is scope tokens from (refusal.At f (Some w)) h = at_word f w h
 refused_is scope tokens from (refusal.At f None) h =
     let s = record nothing_read { classes = scope.classes } in
     let words = words_of_scope scope tokens from in
-    let is_open : f ≡ fault.Unclosed = subst IsOpen (h s refl []) (goes_open (words ++ []) (FirstPattern ∷ Patterns ∷ []) (left_begun s)) in
-    rw is_open (at_end (rw is_open at h))
+    let open_form : f ≡ fault.Unclosed = is_unclosed (words ++ []) (FirstPattern ∷ Patterns ∷ []) (left_begun s) f (h s refl []) in
+    rw open_form (at_end (rw open_form at h))

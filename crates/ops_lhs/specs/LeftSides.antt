@@ -1,5 +1,5 @@
 -- What a left side is read as.
-use Rattle.std.specs.Prelude.{◌≡◌, ℕ, ◌+◌, ◌-◌, ◌≤◌, List, [], ◌∷◌, ◌++◌, drop, slice_get, true, if◌then◌else◌, Option, Some, None}
+use Rattle.std.specs.Prelude.{◌≡◌, ℕ, ◌+◌, ◌-◌, ◌≤◌, List, ◌∷◌, ◌++◌, drop, slice_get, true, Some, None}
 use Rattle.ops_base.specs.declared.elements.Class.{Class}
 use Rattle.ops_base.specs.declared.conditions.Condition.{Condition}
 use Rattle.ops_base.specs.declared.endings.Fault.{Fault}
@@ -9,10 +9,12 @@ use Rattle.ops_tokens.specs.declared.token.Token.{Token}
 use Rattle.ops_tokens.specs.Tokens.{spelling}
 use Rattle.ops_meaning.specs.declared.words.Word.{Word}
 use Rattle.ops_meaning.specs.declared.words.Named.{Named}
-use Rattle.ops_meaning.specs.Words.{keyword_of, words_from, names_from}
-use Rattle.ops_meaning.specs.Grammar.{State, Wanted, FirstPattern, Patterns, goes, is_arrow, left_begun}
+use Rattle.ops_meaning.specs.Words.{keyword_of, names_from}
+use Rattle.ops_meaning.specs.Grammar.{State, Wanted, FirstPattern, Patterns, goes, is_arrow, left_begun, right_begun}
 use Rattle.ops_forms.specs.Forms.{past_last}
 use Rattle.ops_forms.specs.Going.{Way, Fails}
+use Rattle.ops_forms.specs.Sights.{cells_from}
+use Rattle.ops_forms.specs.Walking.{AreBehind, words_of_scope}
 use Rattle.ops_forms.specs.declared.refusals.Refusal.{Refusal}
 use Rattle.ops_forms.specs.declared.refusals.Refusal.TheVariants as refusal
 use Rattle.ops_forms.specs.declared.refusals.ReadFault.{ReadFault}
@@ -26,10 +28,10 @@ abbrev pub left_way : List Word → State → Way
 left_way words s = λ more ws. goes (words ++ more) (FirstPattern ∷ Patterns ∷ ws) (left_begun s)
 
 -- the state behind a left side: its conditions, the variables and element variables that they bind, how many numbers of
--- variables they gave, and nothing else of it
+-- variables they gave, and nothing else of it, nor of a right side
 abbrev pub left_read : State → List Condition → List Named → List Named → ℕ → State
 left_read s conditions values elements variables =
-    record (left_begun s) { values = values; elements = elements; variables = variables; conditions = conditions }
+    record (right_begun (left_begun s)) { values = values; elements = elements; variables = variables; conditions = conditions }
 
 -- Where these classes are declared, the words are read as this left side up to its arrow, and these are left behind it,
 -- whatever else was read before and is wanted afterwards.
@@ -41,23 +43,14 @@ ReadsLeft classes words rest conditions values elements variables =
 abbrev pub RefusesLeft : List Class → List Word → Refusal → Type 0
 RefusesLeft classes words e = (s : State) → s.classes ≡ classes → Fails (left_way words s) e
 
+abbrev pub IsArrow : Word → Type 0
+IsArrow w = is_arrow w.keyword ≡ true
+
 -- these words stand behind an arrow in those
-pub record AreBehindArrow (words rest : List Word) : Type 0 where
-  pub before : List Word
-  pub arrow : Word
-  pub split : words ≡ before ++ arrow ∷ rest
-  pub is : is_arrow arrow.keyword ≡ true
+abbrev pub AreBehindArrow : List Word → List Word → Type 0
+AreBehindArrow words rest = AreBehind IsArrow words rest
 
 -- ---- of tokens
-
--- the words of the tokens from a place on, in the text and with the names of a scope
-abbrev pub words_of_scope : Scope → List Token → ℕ → List Word
-words_of_scope scope tokens from = words_from scope.text.items scope.names (drop from tokens)
-
--- the cell of each condition where so many cells stand before: none of a negated one
-abbrev pub cells_from : ℕ → List Condition → List (Option ℕ)
-cells_from n [] = []
-cells_from n (c ∷ cs) = if c.negated then None ∷ cells_from n cs else Some n ∷ cells_from (n + 1) cs
 
 -- an arrow stands at the place
 pub record IsArrowAt (text : List ℕ) (tokens : List Token) (place : ℕ) : Type 0 where

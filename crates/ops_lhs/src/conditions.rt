@@ -1,13 +1,15 @@
 //! Conditions up to the arrow.
 ghost use Rattle.std.specs.Prelude.{◌≡◌, ◌∷◌, ◌++◌, drop, IfOk};
-ghost use Rattle.ops_meaning.specs.Grammar.{goes, more_patterns, left_ended, FirstPattern, Patterns};
-ghost use Rattle.ops_lhs.specs.Taking.{seen, GoesAmong, ReadsAmong, ActsAmong, IsFrom, IsBehindArrow};
+ghost use Rattle.ops_meaning.specs.Grammar.{goes, more_patterns, left_ended, right_begun, FirstPattern, Patterns};
+ghost use Rattle.ops_forms.specs.Walking.{GoesAmong, IsFrom, IsBehind};
+ghost use Rattle.ops_lhs.specs.LeftSides.{IsArrow};
+ghost use Rattle.ops_lhs.specs.Taking.{seen, ReadsAmong, ActsAmong, Among};
 
 use crate::left::Left;
-use crate::testing::first_of;
 use ops_base::endings::{Fault, Limit};
 use ops_forms::kinds::{is_arrow, is_left, is_left_brace, is_minus};
 use ops_forms::refusals::refused;
+use ops_forms::walking::first_of;
 use ops_forms::{Classes, Refusal};
 use ops_meaning::Word;
 
@@ -22,8 +24,8 @@ impl Left {
         words: &[Word],
         at: usize,
     ) -> Result<usize, Refusal>
-        ensures reads { GoesAmong classes.now (λ more ws s. goes (drop at words.now ++ more) (FirstPattern ∷ Patterns ∷ ws) (seen s self.old)) words.now (λ s. left_ended (seen s self.new)) result }
-        ensures behind { IfOk result (λ next. IsBehindArrow words.now next) }
+        ensures reads { GoesAmong (Among classes.now) (λ more ws s. goes (drop at words.now ++ more) (FirstPattern ∷ Patterns ∷ ws) (seen s self.old)) words.now (λ s. right_begun (left_ended (seen s self.new))) result }
+        ensures behind { IfOk result (λ next. IsBehind IsArrow words.now next) }
     {
         match self.first_pattern(classes, words, at) {
             Ok(rest) => return self.patterns(classes, words, rest),
@@ -58,8 +60,8 @@ impl Left {
     // condition* -->
     #[tactic(auto, unfolding(ops_meaning::specs::Grammar::goes, ops_meaning::specs::Grammar::step, ops_meaning::specs::Grammar::ends))]
     fn patterns(&mut self, classes: &Classes, words: &[Word], at: usize) -> Result<usize, Refusal>
-        ensures reads { GoesAmong classes.now (λ more ws s. goes (drop at words.now ++ more) (Patterns ∷ ws) (seen s self.old)) words.now (λ s. left_ended (seen s self.new)) result }
-        ensures behind { IfOk result (λ next. IsBehindArrow words.now next) }
+        ensures reads { GoesAmong (Among classes.now) (λ more ws s. goes (drop at words.now ++ more) (Patterns ∷ ws) (seen s self.old)) words.now (λ s. right_begun (left_ended (seen s self.new))) result }
+        ensures behind { IfOk result (λ next. IsBehind IsArrow words.now next) }
     {
         let mut rest = at;
         'patterns: loop {

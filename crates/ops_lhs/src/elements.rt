@@ -1,13 +1,14 @@
 //! Element variables.
 ghost use Rattle.std.specs.Prelude.{◌≡◌, ◌∷◌, ◌++◌, drop};
 ghost use Rattle.ops_meaning.specs.Grammar.{goes, element_name, InPattern, Pattern, Braced, ElementName, ClosesBrace, ClassName, Terms};
-ghost use Rattle.ops_lhs.specs.Taking.{seen, GoesOn, Reads, Acts, GoesAmong, ReadsAmong, ActsAmong, IsFrom};
+ghost use Rattle.ops_forms.specs.Walking.{GoesOn, GoesAmong, IsFrom};
+ghost use Rattle.ops_lhs.specs.Taking.{seen, Reads, Acts, ReadsAmong, ActsAmong, Among};
 
 use crate::left::Left;
-use crate::testing::first_of;
 use ops_base::endings::Fault;
 use ops_forms::kinds::{is_left, is_right_brace, is_variable};
 use ops_forms::refusals::refused;
+use ops_forms::walking::first_of;
 use ops_forms::{Classes, Refusal, number_of};
 use ops_meaning::Word;
 
@@ -32,7 +33,7 @@ impl Left {
         words: &[Word],
         at: usize,
     ) -> Result<usize, Refusal>
-        ensures reads { GoesAmong classes.now (λ more ws s. goes (drop at words.now ++ more) (ClassName ∷ Terms InPattern ∷ ElementName ∷ ClosesBrace ∷ ws) (seen s self.old)) words.now (λ s. seen s self.new) result }
+        ensures reads { GoesAmong (Among classes.now) (λ more ws s. goes (drop at words.now ++ more) (ClassName ∷ Terms InPattern ∷ ElementName ∷ ClosesBrace ∷ ws) (seen s self.old)) words.now (λ s. seen s self.new) result }
         ensures within { IsFrom at result }
     {
         match self.element(classes, words, at) {
@@ -65,7 +66,7 @@ impl Left {
         words: &[Word],
         at: usize,
     ) -> Result<usize, Refusal>
-        ensures reads { GoesAmong classes.now (λ more ws s. goes (drop at words.now ++ more) (Pattern ∷ ClosesBrace ∷ ws) (seen s self.old)) words.now (λ s. seen s self.new) result }
+        ensures reads { GoesAmong (Among classes.now) (λ more ws s. goes (drop at words.now ++ more) (Pattern ∷ ClosesBrace ∷ ws) (seen s self.old)) words.now (λ s. seen s self.new) result }
         ensures within { IsFrom at result }
     {
         match self.pattern(classes, words, at) {
@@ -77,7 +78,7 @@ impl Left {
     // VARIABLE }
     #[tactic(auto, unfolding(ops_meaning::specs::Grammar::goes, ops_meaning::specs::Grammar::step, ops_meaning::specs::Grammar::ends))]
     fn name_and_brace(&mut self, words: &[Word], at: usize) -> Result<usize, Refusal>
-        ensures reads { GoesOn (λ more ws s. goes (drop at words.now ++ more) (ElementName ∷ ClosesBrace ∷ ws) (seen s self.old)) words.now self.new result }
+        ensures reads { GoesOn (λ more ws s. goes (drop at words.now ++ more) (ElementName ∷ ClosesBrace ∷ ws) (seen s self.old)) words.now (λ s. seen s self.new) result }
         ensures within { IsFrom at result }
     {
         let (word, rest) = first_of(words, at)?;

@@ -1,7 +1,8 @@
 //! What was read so far of a left side, and how it grows.
 ghost use Rattle.std.specs.Prelude.{◌≡◌};
 ghost use Rattle.ops_meaning.specs.Grammar.{nothing_read, left_begun, with_test, with_bound, with_choice, with_condition, with_bound_element};
-ghost use Rattle.ops_lhs.specs.Taking.{view, Becomes};
+ghost use Rattle.ops_forms.specs.Going.{Becomes};
+ghost use Rattle.ops_lhs.specs.Taking.{view};
 
 use ops_base::conditions::{Condition, Operand, Test};
 use ops_base::list::Listed;

@@ -15,3 +15,4 @@ mod tests;
 
 pub use reading::{left_side, read_lhs};
 pub use sides::LeftSide;
+pub use sight::{cells_from, cells_of};

@@ -1,14 +1,15 @@
 //! Patterns: a class with attributes and tests.
 ghost use Rattle.std.specs.Prelude.{◌≡◌, ◌∷◌, ◌++◌, drop};
 ghost use Rattle.ops_meaning.specs.Grammar.{goes, InPattern, ClassName, Terms, Attribute, Pattern};
-ghost use Rattle.ops_lhs.specs.Taking.{seen, GoesAmong, GoesToTermsAmong, ReadsAmong, IsFrom};
+ghost use Rattle.ops_forms.specs.Walking.{GoesAmong, IsFrom};
+ghost use Rattle.ops_lhs.specs.Taking.{seen, GoesToTermsAmong, ReadsAmong, Among};
 
 use crate::left::Left;
-use crate::testing::first_of;
 use ops_base::endings::Fault;
 use ops_forms::fields::{field_of, is_vector};
 use ops_forms::kinds::{is_caret, is_left, is_name, is_right};
 use ops_forms::refusals::refused;
+use ops_forms::walking::first_of;
 use ops_forms::{Classes, Refusal};
 use ops_meaning::Word;
 
@@ -38,7 +39,7 @@ impl Left {
         words: &[Word],
         at: usize,
     ) -> Result<usize, Refusal>
-        ensures reads { GoesAmong classes.now (λ more ws s. goes (drop at words.now ++ more) (ClassName ∷ Terms InPattern ∷ ws) (seen s self.old)) words.now (λ s. seen s self.new) result }
+        ensures reads { GoesAmong (Among classes.now) (λ more ws s. goes (drop at words.now ++ more) (ClassName ∷ Terms InPattern ∷ ws) (seen s self.old)) words.now (λ s. seen s self.new) result }
         ensures within { IsFrom at result }
     {
         match self.class_name(classes, words, at) {

@@ -3,12 +3,13 @@ ghost use Rattle.std.specs.Prelude.{◌≡◌, ◌≤◌, length, All, IfOk, IfE
 ghost use Rattle.ops_tokens.specs.Tokens.{LiesIn};
 ghost use Rattle.ops_forms.specs.Forms.{past_last};
 ghost use Rattle.ops_lhs.specs.LeftSides.{ReadsLeft, RefusesLeft, AreBehindArrow, IsLeftSide, IsRefused};
-ghost use Rattle.ops_lhs.specs.Taking.{fault_of};
+ghost use Rattle.ops_forms.specs.Walking.{fault_of};
 
 use crate::left::Left;
 use crate::sides::LeftSide;
 use crate::sight::show;
 use ops_base::conditions::Condition;
+use ops_forms::walking::fault_of;
 use ops_forms::{Classes, ReadFault, Refusal, Scope, words_of};
 use ops_meaning::Word;
 use ops_tokens::Token;
@@ -65,35 +66,5 @@ pub fn read_lhs(
             Ok((conditions, place))
         }
         Err(refusal) => Err(fault_of(refusal, tokens)),
-    }
-}
-
-// A refusal stands at the first byte of its word, and one without a word at the byte past the last token.
-fn fault_of(refusal: Refusal, tokens: &[Token]) -> ReadFault
-    ensures { result ≡ fault_of refusal (past_last 0 tokens.now) }
-{
-    match refusal {
-        Refusal::At {
-            fault,
-            word: Some(word),
-        } => ReadFault::At {
-            fault,
-            at: word.first,
-        },
-        Refusal::At { fault, word: None } => ReadFault::At {
-            fault,
-            at: past_of(tokens),
-        },
-        Refusal::OutOfMemory => ReadFault::OutOfMemory,
-    }
-}
-
-// the byte past the last token
-fn past_of(tokens: &[Token]) -> usize
-    ensures { result ≡ past_last 0 tokens.now }
-{
-    match tokens.last() {
-        Some(token) => token.past,
-        None => 0,
     }
 }

@@ -2,10 +2,10 @@
 ghost use Rattle.std.specs.Prelude.{◌≡◌, ◌∷◌, ◌++◌, ◌||◌, drop, is_some, nat_lt, Err, Some};
 ghost use Rattle.ops_base.specs.Valid.{most_fields};
 ghost use Rattle.ops_meaning.specs.Grammar.{goes, is_right, is_caret, is_literal, is_variable, constant_of, place, within, InPattern, Several};
-ghost use Rattle.ops_lhs.specs.Taking.{seen, GoesToTerms, Acts, IsFrom, begins_place};
+ghost use Rattle.ops_forms.specs.Walking.{IsFrom};
+ghost use Rattle.ops_lhs.specs.Taking.{seen, GoesToTerms, Acts, begins_place};
 
 use crate::left::Left;
-use crate::testing::first_of;
 use ops_base::endings::{Fault, Limit};
 use ops_forms::Refusal;
 use ops_forms::fields::MOST_FIELDS;
@@ -13,6 +13,7 @@ use ops_forms::kinds::{
     constant_of, is_caret, is_left_brace, is_literal, is_right, is_variable, opens_choice, pred_of,
 };
 use ops_forms::refusals::refused;
+use ops_forms::walking::first_of;
 use ops_meaning::Word;
 
 impl Left {

@@ -1,7 +1,7 @@
 //! What a left side leaves in sight.
 ghost use Rattle.std.specs.Prelude.{◌≡◌, IfOk, OnOk, OnErr};
 ghost use Rattle.ops_base.specs.Valid.{cells_of};
-ghost use Rattle.ops_lhs.specs.LeftSides.{cells_from};
+ghost use Rattle.ops_forms.specs.Sights.{cells_from};
 
 use crate::sides::LeftSide;
 use ops_base::conditions::Condition;
@@ -26,8 +26,8 @@ pub fn show(alloc: Global, scope: &mut Scope, side: LeftSide) -> Result<Vec<Cond
     Ok(side.conditions)
 }
 
-// the class of each cell
-fn cells_of(alloc: Global, conditions: &[Condition]) -> Result<Listed<usize>, OutOfMemory>
+/// The class of each cell. Takes time in proportion to the conditions, as `cells_from` does.
+pub fn cells_of(alloc: Global, conditions: &[Condition]) -> Result<Listed<usize>, OutOfMemory>
     ensures { IfOk result (λ cells. cells ≡ cells_of conditions.now) }
 {
     let mut cells = Listed::new(alloc);
@@ -39,8 +39,11 @@ fn cells_of(alloc: Global, conditions: &[Condition]) -> Result<Listed<usize>, Ou
     Ok(cells)
 }
 
-// the cell of each condition
-fn cells_from(alloc: Global, conditions: &[Condition]) -> Result<Listed<Option<usize>>, OutOfMemory>
+/// The cell of each condition, `None` for a negated one.
+pub fn cells_from(
+    alloc: Global,
+    conditions: &[Condition],
+) -> Result<Listed<Option<usize>>, OutOfMemory>
     ensures { IfOk result (λ cells. cells ≡ cells_from 0 conditions.now) }
 {
     let mut cells = Listed::new(alloc);

@@ -1,7 +1,8 @@
 //! Tests of a condition.
 ghost use Rattle.std.specs.Prelude.{◌≡◌};
 ghost use Rattle.ops_meaning.specs.Grammar.{goes, number_of, place, test, tested, variable_tested, atom_at, Place, Tests, Tested, Choice, Atom, ToTest};
-ghost use Rattle.ops_lhs.specs.Taking.{Reads, Acts, Takes, IsFrom};
+ghost use Rattle.ops_forms.specs.Walking.{Takes, IsFrom};
+ghost use Rattle.ops_lhs.specs.Taking.{Reads, Acts};
 
 use crate::left::Left;
 use ops_base::conditions::Operand;
@@ -12,21 +13,9 @@ use ops_forms::kinds::{
     opens_choice, pred_of,
 };
 use ops_forms::refusals::refused;
+use ops_forms::walking::first_of;
 use ops_forms::{Refusal, number_of};
 use ops_meaning::Word;
-
-/// The word at a place, and the place behind it.
-pub fn first_of(words: &[Word], at: usize) -> Result<(Word, usize), Refusal>
-    ensures { Takes words.now at result }
-{
-    match words.get(at) {
-        Some(word) => Ok((*word, at + 1)),
-        None => Err(Refusal::At {
-            fault: Fault::Unclosed,
-            word: None,
-        }),
-    }
-}
 
 impl Left {
     // test | { test* }

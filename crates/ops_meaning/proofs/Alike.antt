@@ -1,18 +1,18 @@
 -- Words that are read alike.
-use Rattle.std.proofs.Common.{◌≡◌, ℕ, ◌+◌, Bool, true, false, ◌||◌, nat_lt, length, List, [], ◌∷◌, refl, sym, ap, ◌∙◌, cond, Option, Some, None, true≢false}
+use Rattle.std.proofs.Common.{◌≡◌, ℕ, ◌+◌, Bool, true, false, ◌&&◌, ◌||◌, nat_lt, length, List, [], ◌∷◌, refl, sym, ap, ◌∙◌, cond, Option, Some, None, true≢false}
 use Rattle.std.specs.Prelude.{if◌then◌else◌}
 use Rattle.ops_base.specs.declared.values.Sym.{Sym}
 use Rattle.ops_base.specs.declared.values.Value.{Value}
 use Rattle.ops_base.specs.declared.values.Value.TheVariants as value
 use Rattle.ops_base.specs.declared.values.Pred.{Pred}
 use Rattle.ops_base.specs.declared.values.Pred.TheVariants as pred
-use Rattle.ops_base.specs.Valid.{most_fields}
+use Rattle.ops_base.specs.Valid.{most_fields, is_vector}
 use Rattle.ops_tokens.specs.declared.token.TokenKind.{TokenKind}
 use Rattle.ops_tokens.specs.declared.token.TokenKind.TheVariants as kind
 use Rattle.ops_meaning.specs.declared.words.Word.{Word}
 use Rattle.ops_meaning.specs.declared.words.Keyword.{Keyword}
 use Rattle.ops_meaning.specs.declared.words.Keyword.TheVariants as keyword
-use Rattle.ops_meaning.specs.Grammar.{Use, InPattern, InPut, InFixed, Target, ToTest, ToTerms, ToConstants, ToItem, Wanted, Forms, Form, ClassDeclared, Attributes, VectorName, VectorNames, RuleName, FirstPattern, Patterns, Pattern, Braced, ElementName, ClosesBrace, ClassName, Terms, Attribute, Several, Place, Tests, Tested, Choice, Atom, ValueFor, Actions, ActionWord, Cell, Cells, Items, ItemWord, Closes, State, Step, Next, is_left, is_right, is_left_brace, is_right_brace, is_caret, is_literal, opens_choice, closes_choice, pred_of, with_write, with_constant, constant_of, value_of, atom_of, form, constant_tested, tested, predicated, test, place, chosen, atom_at, constant_at, value_for, terms, within, one_of_several, with_several, step}
+use Rattle.ops_meaning.specs.Grammar.{Use, InPattern, InPut, InFixed, Target, ToTest, ToTerms, ToConstants, ToItem, Wanted, Forms, Form, ClassDeclared, Attributes, VectorName, VectorNames, RuleName, FirstPattern, Patterns, Pattern, Braced, ElementName, ClosesBrace, ClassName, Terms, Attribute, Several, Place, Tests, Tested, Choice, Atom, ValueFor, Function, SourceCell, SourceAttribute, SourceEnd, Actions, ActionWord, Modified, BoundName, CellName, Cell, Cells, Items, ItemWord, Columns, Closes, State, Step, Next, is_left, is_right, is_left_brace, is_right_brace, is_caret, is_literal, is_inf, opens_choice, closes_choice, pred_of, with_write, with_constant, constant_of, value_of, atom_of, form, constant_tested, tested, predicated, test, place, chosen, atom_at, constant_at, is_of_action, value_for, source_class, terms, within, one_of_several, with_several, step}
 use Rattle.ops_meaning.specs.Spelling.{spelled_name}
 use Rattle.ops_meaning.specs.Words.{keyword_of_symbol, has_name}
 use Rattle.ops_meaning.proofs.Proper.{is_mark, symbol_unmarked}
@@ -33,6 +33,7 @@ wants_name (Tested f p) = true
 wants_name (Choice f) = true
 wants_name (Atom t) = true
 wants_name (ValueFor t) = true
+wants_name (SourceAttribute t) = true
 wants_name Items = true
 wants_name _ = false
 
@@ -99,6 +100,7 @@ symbol-alike k name first past (Tested f p) ws s unmarked e = tested_alike k unm
 symbol-alike k name first past (Choice f) ws s unmarked e = otherwise (closes_choice k) _ _ (unmarked_closing k unmarked)
 symbol-alike k name first past (Atom t) ws s unmarked e = refl
 symbol-alike k name first past (ValueFor t) ws s unmarked e = value_alike k unmarked name first past ws s t
+symbol-alike k name first past (SourceAttribute t) ws s unmarked e = refl
 symbol-alike k name first past Items ws s unmarked e = value_alike k unmarked name first past (Items ∷ ws) s ToItem
 symbol-alike k name first past _ ws s unmarked e = absurd (true≢false (sym e))
 
@@ -106,6 +108,13 @@ symbol-alike k name first past _ ws s unmarked e = absurd (true≢false (sym e))
 pub spelling-alike : (spelling : List ℕ) (name : Sym) (first past : ℕ) (h : Wanted) (ws : List Wanted) (s : State) → wants_name h ≡ true
     → step (record { kind = kind.Symbol; keyword = keyword_of_symbol spelling; name = name; first = first; past = past }) (h ∷ ws) s ≡ step (spelled_name name) (h ∷ ws) s
 spelling-alike spelling name first past h ws s e = symbol-alike (keyword_of_symbol spelling) name first past h ws s (symbol_unmarked spelling) e
+
+-- Behind the first attribute of a `substr` a plain symbol is read as the same name in bars, but for `inf`.
+pub end-alike : (k : Keyword) (name : Sym) (first past : ℕ) (t : Target) (again : Sym) (ws : List Wanted) (s : State) → is_inf k ≡ false
+    → step (record { kind = kind.Symbol; keyword = k; name = name; first = first; past = past }) (SourceEnd t again ∷ ws) s ≡ step (spelled_name name) (SourceEnd t again ∷ ws) s
+unfolding step
+end-alike k name first past t again ws s e =
+    otherwise (is_inf k && is_vector (source_class s) s.source_field) _ _ (ap (λ (b : Bool). b && is_vector (source_class s) s.source_field) e)
 
 -- ---- atoms of every kind
 
@@ -171,7 +180,9 @@ module _ (w : Word) (first past : ℕ) (ws : List Wanted) (s : State) where
   constant_at_moved t None = refl
 
   value_moved : (t : Target) → value_for t moved ws s ≡ value_for t w ws s
-  value_moved t = ap (λ (x : Step). if is_literal w.keyword then Next (Atom t ∷ ws) s else x) (constant_at_moved t (value_of w.kind w.name))
+  value_moved t =
+      ap (λ (x : Step). if is_literal w.keyword then Next (Atom t ∷ ws) s else if is_left w.kind && is_of_action t then Next (Function t ∷ ws) s else x)
+      (constant_at_moved t (value_of w.kind w.name))
 
   place_moved : (f : ℕ) → place f moved ws s ≡ place f w ws s
   place_moved f = ap (λ (x : Step). if is_left_brace w.kind then Next (Tests f ∷ ws) s else x) (test_moved f)
@@ -212,8 +223,16 @@ moved-alike w first past ClosesBrace ws s e = refl
 moved-alike w first past ClassName ws s e = refl
 moved-alike w first past (Terms u) ws s e = refl
 moved-alike w first past (Attribute u) ws s e = refl
+moved-alike w first past (Function t) ws s e = refl
+moved-alike w first past SourceCell ws s e = refl
+moved-alike w first past (SourceAttribute t) ws s e = refl
+moved-alike w first past (SourceEnd t name) ws s e = refl
 moved-alike w first past ActionWord ws s e = refl
+moved-alike w first past Modified ws s e = refl
+moved-alike w first past BoundName ws s e = refl
+moved-alike w first past CellName ws s e = refl
 moved-alike w first past Cell ws s e = refl
 moved-alike w first past Cells ws s e = refl
 moved-alike w first past ItemWord ws s e = refl
+moved-alike w first past (Columns x) ws s e = refl
 moved-alike w first past (Closes x) ws s e = refl

@@ -1,5 +1,5 @@
 -- While a text is read, an attribute of a class is its vector attribute exactly where its name is one of a vector attribute.
-use Rattle.std.proofs.Common.{◌≡◌, ℕ, zero, suc, ◌+◌, ◌-◌, ◌<◌, Bool, true, false, ◌||◌, ◌==◌, cond, List, [], ◌∷◌, ◌++◌, length, take, length-take, refl, sym, ap, subst, ◌∙◌, arith, Option, Some, None, nat_lt, unwrap_or, slice_get, position, get_or, true≢false}
+use Rattle.std.proofs.Common.{◌≡◌, ℕ, zero, suc, ◌+◌, ◌-◌, ◌<◌, Bool, true, false, ◌&&◌, ◌||◌, ◌==◌, cond, List, [], ◌∷◌, ◌++◌, length, take, length-take, refl, sym, ap, subst, ◌∙◌, arith, Option, Some, None, Result, Ok, Err, nat_lt, unwrap_or, slice_get, position, get_or, true≢false}
 use Rattle.std.specs.List.{list_any, All}
 use Rattle.std.proofs.lemmas.Bool.{and_from, and_parts, or_parts, cond_both, eqb-true, eq-eqb, ltb-true}
 use Rattle.std.proofs.lemmas.List.{get_or-take}
@@ -12,24 +12,38 @@ use Rattle.ops_base.specs.declared.values.Pred.{Pred}
 use Rattle.ops_base.specs.declared.values.Pred.TheVariants as pred
 use Rattle.ops_base.specs.declared.elements.Class.{Class}
 use Rattle.ops_base.specs.declared.conditions.Operand.TheVariants as operand
-use Rattle.ops_base.specs.declared.conditions.Condition.{Condition}
+use Rattle.ops_base.specs.declared.actions.Term.{Term}
 use Rattle.ops_base.specs.declared.actions.Term.TheVariants as term
 use Rattle.ops_base.specs.declared.actions.Item.TheVariants as item
+use Rattle.ops_base.specs.declared.endings.Fault.{Fault}
 use Rattle.ops_base.specs.Valid.{most_fields, most_conditions, no_class, class_of, is_vector}
-use Rattle.ops_tokens.specs.declared.token.TokenKind.{TokenKind}
-use Rattle.ops_tokens.specs.declared.token.TokenKind.TheVariants as kind
 use Rattle.ops_meaning.specs.declared.words.Word.{Word}
 use Rattle.ops_meaning.specs.declared.words.Keyword.{Keyword}
 use Rattle.ops_meaning.specs.declared.words.Keyword.TheVariants as keyword
-use Rattle.ops_meaning.specs.Grammar.{Use, InPattern, InPut, InFixed, Target, ToTest, ToPut, ToFixed, ToTerms, ToConstants, ToItem, Ends, EndsRun, EndsHalt, EndsCrlf, Wanted, Forms, Form, ClassDeclared, Attributes, VectorName, VectorNames, RuleName, FirstPattern, Patterns, Pattern, Braced, ElementName, ClosesBrace, ClassName, Terms, Attribute, Several, Place, Tests, Tested, Choice, Atom, ValueFor, Actions, ActionWord, Cell, Cells, Items, ItemWord, Closes, State, Step, Next, Refuses, is_left, is_right, is_left_brace, is_right_brace, is_caret, is_name, is_variable, is_arrow, is_literal, is_minus, opens_choice, closes_choice, pred_of, is_crlf, constant_of, atom_of, value_of, natural_of, is_one_of, number_of, may_declare, is_class, is_rule, form, class_declared, arranged, has_vector, with_class, is_second, attribute_declared, attributes, with_vector, makes_second, vector_declared, vector_name, class_at, attributes_of, behind_attribute, field_at, with_test, with_put, with_item, with_constant, with_bound, variable_tested, constant_tested, tested, predicated, test, place, tests, with_choice, chosen, choice, atom_at, bound_at, constant_at, value_for, with_element, terms, within, one_of_several, with_several, several, left_begun, left_ended, rule_name, first_pattern, one_more, more_patterns, patterns, element_at, element_name, braced, with_bound_element, with_rule, actions, action_word, designated, cell_of, cell_named, cell, with_remove, cells, with_write, items, ended, step, nothing_read}
+use Rattle.ops_meaning.specs.Grammar.{Use, InPattern, InPut, InFixed, Target, ToTest, ToPut, ToFixed, ToTerms, ToConstants, ToItem, ToBind, Ends, EndsRun, EndsHalt, EndsCrlf, EndsWhole, Column, Wanted, Forms, Form, ClassDeclared, Attributes, VectorName, VectorNames, RuleName, FirstPattern, Patterns, Pattern, Braced, ElementName, ClosesBrace, ClassName, Terms, Attribute, Several, Place, Tests, Tested, Choice, Atom, ValueFor, Function, SourceCell, SourceAttribute, SourceEnd, Actions, ActionWord, Modified, BoundName, CellName, Cell, Cells, Items, ItemWord, Columns, Closes, State, Step, Next, Refuses, is_left, is_right, is_left_brace, is_right_brace, is_caret, is_name, is_variable, is_arrow, is_literal, is_minus, opens_choice, closes_choice, pred_of, constant_of, atom_of, value_of, small_of, is_one_of, number_of, may_declare, is_class, is_rule, form, class_declared, arranged, has_vector, with_class, is_second, attribute_declared, attributes, with_vector, makes_second, vector_declared, vector_name, class_at, attributes_of, behind_attribute, field_at, with_test, with_put, with_item, with_bind, with_constant, with_bound, variable_tested, constant_tested, tested, predicated, test, place, tests, with_choice, chosen, choice, atom_at, term_at, bound_at, constant_at, is_of_action, value_for, function, source_named, source_cell, source_class, source_at, source_attribute, takes_several, ends_at_inf, source_end, with_element, terms, within, one_of_several, with_several, several, left_begun, left_ended, right_begun, rule_name, first_pattern, one_more, more_patterns, patterns, element_at, element_name, braced, with_bound_element, with_rule, actions, action_word, with_designated, cell_of, classes_of_cells, with_modified, bound_name, with_cell, cell_bound, cell_name, with_remove, cells, with_write, items, item_word, column_item, columns_at, ended, step, nothing_read}
 use Rattle.ops_meaning.specs.Spelling.{unnamed, attribute_name, last_field}
 use Rattle.ops_meaning.proofs.PlainClasses.{IsArranged, IsAttributes, class_arranged, classes_arranged, attributes_begun, attribute_pushed}
 
--- The classes are arranged by the names of vector attributes, and so are the attributes of the class that is read, of which there
--- are none but where more of them are wanted.
+-- what functions give goes to values of actions, and the second attribute of a `substr` is wanted before all else
+abbrev pub functions_fit : List Wanted → Bool
+functions_fit [] = true
+functions_fit (Function t ∷ ws) = is_of_action t && functions_fit ws
+functions_fit (SourceAttribute t ∷ ws) = is_of_action t && functions_fit ws
+functions_fit (SourceEnd t name ∷ ws) = false
+functions_fit (w ∷ ws) = functions_fit ws
+
+-- the classes are arranged by the names of vector attributes, and no attribute of a class is read
+abbrev pub Rests : List Wanted → State → Type 0
+Rests ws s = All (IsArranged s.vectors) s.classes × (s.attrs ≡ []) × (functions_fit ws ≡ true)
+
+-- So it is whatever is wanted, but for two things: where attributes of a class are wanted, those that were read are arranged too; and
+-- where the second attribute of a `substr` is wanted, the field of the first is the vector attribute exactly where its name is one of
+-- a vector attribute.
 abbrev pub AreArranged : List Wanted → State → Type 0
-AreArranged (Attributes ∷ ws) s = All (IsArranged s.vectors) s.classes × IsAttributes s.vectors s.attrs
-AreArranged ws s = All (IsArranged s.vectors) s.classes × (s.attrs ≡ [])
+AreArranged (Attributes ∷ ws) s = All (IsArranged s.vectors) s.classes × IsAttributes s.vectors s.attrs × (functions_fit ws ≡ true)
+AreArranged (SourceEnd t name ∷ ws) s =
+    Rests ws s × (is_of_action t ≡ true) × (is_vector (source_class s) s.source_field ≡ is_one_of name s.vectors)
+AreArranged ws s = Rests ws s
 
 abbrev pub StayArranged : Step → Type 0
 StayArranged (Next ws s) = AreArranged ws s
@@ -80,8 +94,13 @@ kind_of : (vectors : List Sym) (cs : List Class) (k : ℕ) (name : Sym) (f : ℕ
 kind_of vectors cs k name f h (Some c) at e = class_kind vectors c name f (standing (IsArranged vectors) cs k c h at) e
 kind_of vectors cs k name f h None at e = absurd (cc)
 
+source_kind : (vectors : List Sym) (cs : List Class) (k : ℕ) (name : Sym) (f : ℕ) → All (IsArranged vectors) cs → (o : Option Class) → slice_get cs k ≡ o → position (λ a. a.0 == name.0) (unwrap_or o no_class).attrs ≡ Some f → is_vector (unwrap_or o no_class) f ≡ is_one_of name vectors
+source_kind vectors cs k name f h (Some c) at e = class_kind vectors c name f (standing (IsArranged vectors) cs k c h at) e
+source_kind vectors cs k name f h None at e = absurd (cc)
+
 classes_stay : (ws : List Wanted) (s : State) → AreArranged ws s → All (IsArranged s.vectors) s.classes
 classes_stay (Attributes ∷ ws) s h = h.0
+classes_stay (SourceEnd t name ∷ ws) s h = h.0.0
 classes_stay _ s h = h.0
 
 pub kind_agrees : (ws : List Wanted) (s : State) (name : Sym) (f : ℕ) → AreArranged ws s → position (λ a. a.0 == name.0) (attributes_of (slice_get s.classes s.class)) ≡ Some f → is_vector (class_of s.classes s.class) f ≡ is_one_of name s.vectors
@@ -90,21 +109,18 @@ kind_agrees ws s name f h e = kind_of s.vectors s.classes s.class name f (classe
 -- ---- a word
 
 pub arranged_begun : AreArranged (Forms ∷ []) nothing_read
-arranged_begun = (All-nil _, refl)
-
--- the classes are arranged, and no attribute of a class is read
-abbrev Rests : State → Type 0
-Rests s = All (IsArranged s.vectors) s.classes × (s.attrs ≡ [])
+arranged_begun = (All-nil _, refl, refl)
 
 -- whatever is wanted then
-rests : (ws : List Wanted) (s : State) → Rests s → AreArranged ws s
-rests (Attributes ∷ ws) s h = (h.0, subst (IsAttributes s.vectors) (sym h.1) (attributes_begun s.vectors))
+rests : (ws : List Wanted) (s : State) → Rests ws s → AreArranged ws s
+rests (Attributes ∷ ws) s h = (h.0, subst (IsAttributes s.vectors) (sym h.1) (attributes_begun s.vectors), h.2)
+rests (SourceEnd t name ∷ ws) s h = absurd (true≢false (sym h.2))
 rests _ s h = h
 
 module _ (w : Word) where
   -- ---- declarations
 
-  form_stays : (k : Keyword) (ws : List Wanted) (s : State) → Rests s → StayArranged (form w k ws s)
+  form_stays : (k : Keyword) (ws : List Wanted) (s : State) → Rests ws s → StayArranged (form w k ws s)
   form_stays keyword.Literalize ws s h = cond_both (may_declare s) _ _ StayArranged (λ _. h) (λ _. tt)
   form_stays keyword.VectorAttribute ws s h = cond_both (may_declare s) _ _ StayArranged (λ _. h) (λ _. tt)
   form_stays keyword.Production ws s h = cond_both (length s.commands == 0) _ _ StayArranged (λ _. h) (λ _. tt)
@@ -112,121 +128,163 @@ module _ (w : Word) where
   form_stays keyword.Run ws s h = h
   form_stays _ ws s h = tt
 
-  class_declared_stays : (ws : List Wanted) (s : State) → Rests s → StayArranged (class_declared w ws s)
+  class_declared_stays : (ws : List Wanted) (s : State) → Rests ws s → StayArranged (class_declared w ws s)
   class_declared_stays ws s h =
       cond_both (is_name w.kind) _ _ StayArranged
-      (λ _. cond_both (is_class s w.name) _ _ StayArranged (λ _. tt) (λ _. rests ws (record s { name = w.name; attrs = [] }) (h.0, refl))) (λ _. tt)
+      (λ _. cond_both (is_class s w.name) _ _ StayArranged (λ _. tt) (λ _. rests ws (record s { name = w.name; attrs = [] }) (h.0, refl, h.2))) (λ _. tt)
 
   attribute_declared_stays : (ws : List Wanted) (s : State) → AreArranged (Attributes ∷ ws) s → StayArranged (attribute_declared w ws s)
   attribute_declared_stays ws s h =
       cond_both (is_one_of w.name s.attrs) _ _ StayArranged (λ _. tt)
       (λ apart. cond_both (is_second w.name s) _ _ StayArranged (λ _. tt)
       (λ second. cond_both (nat_lt (length s.attrs) most_fields) _ _ StayArranged
-      (λ room. (h.0, attribute_pushed s.vectors s.attrs w.name h.1 apart second (ltb-true _ _ room))) (λ _. tt)))
+      (λ room. (h.0, attribute_pushed s.vectors s.attrs w.name h.1 apart second (ltb-true _ _ room), h.2)) (λ _. tt)))
 
   attributes_stay : (ws : List Wanted) (s : State) → AreArranged (Attributes ∷ ws) s → StayArranged (attributes w ws s)
   attributes_stay ws s h =
       let c : Class = record { name = s.name; attrs = arranged s.vectors s.attrs; vector = has_vector s.vectors s.attrs } in
       cond_both (is_right w.kind) _ _ StayArranged
-      (λ _. rests ws (with_class s) (All-push (IsArranged s.vectors) s.classes c h.0 (class_arranged s.vectors s.name s.attrs h.1), refl))
+      (λ _. rests ws (with_class s) (All-push (IsArranged s.vectors) s.classes c h.0 (class_arranged s.vectors s.name s.attrs h.1), refl, h.2))
       (λ _. cond_both (is_name w.kind) _ _ StayArranged (λ _. attribute_declared_stays ws s h) (λ _. tt))
 
-  vector_declared_stays : (ws : List Wanted) (s : State) → Rests s → StayArranged (vector_declared w ws s)
+  vector_declared_stays : (ws : List Wanted) (s : State) → Rests ws s → StayArranged (vector_declared w ws s)
   vector_declared_stays ws s h =
       cond_both (is_one_of w.name s.vectors) _ _ StayArranged (λ _. rests ws s h)
       (λ _. cond_both (makes_second w.name s.classes) _ _ StayArranged (λ _. tt)
-      (λ second. rests ws (with_vector s w.name) (classes_arranged s.vectors w.name s.classes h.0 second, h.1)))
+      (λ second. rests ws (with_vector s w.name) (classes_arranged s.vectors w.name s.classes h.0 second, h.1, h.2)))
 
-  vector_name_stays : (ws : List Wanted) (s : State) → Rests s → StayArranged (vector_name w ws s)
+  vector_name_stays : (ws : List Wanted) (s : State) → Rests ws s → StayArranged (vector_name w ws s)
   vector_name_stays ws s h = cond_both (is_name w.kind) _ _ StayArranged (λ _. vector_declared_stays ws s h) (λ _. tt)
 
   -- ---- elements
 
-  class_at_stays : (o : Option ℕ) (ws : List Wanted) (s : State) → Rests s → StayArranged (class_at o ws s)
+  class_at_stays : (o : Option ℕ) (ws : List Wanted) (s : State) → Rests ws s → StayArranged (class_at o ws s)
   class_at_stays (Some c) ws s h = rests ws (record s { class = c }) h
   class_at_stays None ws s h = tt
 
-  behind_stays : (u : Use) (f : ℕ) (ws : List Wanted) (s : State) → Rests s → AreArranged (behind_attribute u f ∷ Terms u ∷ ws) s
+  behind_stays : (u : Use) (f : ℕ) (ws : List Wanted) (s : State) → Rests ws s → AreArranged (behind_attribute u f ∷ Terms u ∷ ws) s
   behind_stays InPattern f ws s h = h
   behind_stays InPut f ws s h = h
   behind_stays InFixed f ws s h = h
 
-  field_at_stays : (u : Use) (o : Option ℕ) (ws : List Wanted) (s : State) → Rests s → StayArranged (field_at u o ws s)
+  field_at_stays : (u : Use) (o : Option ℕ) (ws : List Wanted) (s : State) → Rests ws s → StayArranged (field_at u o ws s)
   field_at_stays u (Some f) ws s h = cond_both (is_vector (class_of s.classes s.class) f) _ _ StayArranged (λ _. h) (λ _. behind_stays u f ws s h)
   field_at_stays u None ws s h = tt
 
   -- ---- tests
 
-  constant_stays : (t : Target) (v : Value) (ws : List Wanted) (s : State) → Rests s → AreArranged ws (with_constant t s v)
+  bind_stays : (o : Option ℕ) (t : Term) (ws : List Wanted) (s : State) → Rests ws s → AreArranged ws (with_bind o s t)
+  bind_stays (Some n) t ws s h = rests ws (with_bind (Some n) s t) h
+  bind_stays None t ws s h = rests ws (with_bind None s t) h
+
+  constant_stays : (t : Target) (v : Value) (ws : List Wanted) (s : State) → Rests ws s → AreArranged ws (with_constant t s v)
   constant_stays (ToTest f p) v ws s h = rests ws (with_constant (ToTest f p) s v) h
   constant_stays (ToPut f) v ws s h = rests ws (with_constant (ToPut f) s v) h
   constant_stays (ToFixed f) v ws s h = rests ws (with_constant (ToFixed f) s v) h
   constant_stays ToTerms v ws s h = rests ws (with_constant ToTerms s v) h
   constant_stays ToConstants v ws s h = rests ws (with_constant ToConstants s v) h
   constant_stays ToItem v ws s h = rests ws (with_constant ToItem s v) h
+  constant_stays ToBind v ws s h = bind_stays (number_of s.variable s.values) (term.Constant v) ws s h
 
-  variable_tested_stays : (f : ℕ) (p : Pred) (o : Option ℕ) (ws : List Wanted) (s : State) → Rests s → StayArranged (variable_tested f p o w.name ws s)
+  variable_tested_stays : (f : ℕ) (p : Pred) (o : Option ℕ) (ws : List Wanted) (s : State) → Rests ws s → StayArranged (variable_tested f p o w.name ws s)
   variable_tested_stays f p (Some n) ws s h = rests ws (with_test s f p (operand.Variable n) false) h
   variable_tested_stays f pred.Eq None ws s h = rests ws (with_bound s f w.name) h
   variable_tested_stays f _ None ws s h = tt
 
-  constant_tested_stays : (f : ℕ) (p : Pred) (o : Option Value) (ws : List Wanted) (s : State) → Rests s → StayArranged (constant_tested f p w o ws s)
+  constant_tested_stays : (f : ℕ) (p : Pred) (o : Option Value) (ws : List Wanted) (s : State) → Rests ws s → StayArranged (constant_tested f p w o ws s)
   constant_tested_stays f p (Some v) ws s h = constant_stays (ToTest f p) v ws s h
   constant_tested_stays f p None ws s h = cond_both (is_variable w.kind) _ _ StayArranged (λ _. variable_tested_stays f p (number_of w.name s.values) ws s h) (λ _. tt)
 
-  tested_stays : (f : ℕ) (p : Pred) (ws : List Wanted) (s : State) → Rests s → StayArranged (tested f p w ws s)
+  tested_stays : (f : ℕ) (p : Pred) (ws : List Wanted) (s : State) → Rests ws s → StayArranged (tested f p w ws s)
   tested_stays f p ws s h = cond_both (is_literal w.keyword) _ _ StayArranged (λ _. h) (λ _. constant_tested_stays f p (constant_of w.kind w.name) ws s h)
 
-  predicated_stays : (f : ℕ) (o : Option Pred) (ws : List Wanted) (s : State) → Rests s → StayArranged (predicated f w o ws s)
+  predicated_stays : (f : ℕ) (o : Option Pred) (ws : List Wanted) (s : State) → Rests ws s → StayArranged (predicated f w o ws s)
   predicated_stays f (Some p) ws s h = h
   predicated_stays f None ws s h = tested_stays f pred.Eq ws s h
 
-  test_stays : (f : ℕ) (ws : List Wanted) (s : State) → Rests s → StayArranged (test f w ws s)
+  test_stays : (f : ℕ) (ws : List Wanted) (s : State) → Rests ws s → StayArranged (test f w ws s)
   test_stays f ws s h = cond_both (opens_choice w.keyword) _ _ StayArranged (λ _. h) (λ _. predicated_stays f (pred_of w.keyword) ws s h)
 
-  place_stays : (f : ℕ) (ws : List Wanted) (s : State) → Rests s → StayArranged (place f w ws s)
+  place_stays : (f : ℕ) (ws : List Wanted) (s : State) → Rests ws s → StayArranged (place f w ws s)
   place_stays f ws s h = cond_both (is_left_brace w.kind) _ _ StayArranged (λ _. h) (λ _. test_stays f ws s h)
 
-  tests_stay : (f : ℕ) (ws : List Wanted) (s : State) → Rests s → StayArranged (tests f w ws s)
+  tests_stay : (f : ℕ) (ws : List Wanted) (s : State) → Rests ws s → StayArranged (tests f w ws s)
   tests_stay f ws s h = cond_both (is_right_brace w.kind) _ _ StayArranged (λ _. rests ws s h) (λ _. test_stays f (Tests f ∷ ws) s h)
 
-  chosen_stays : (f : ℕ) (o : Option Value) (ws : List Wanted) (s : State) → Rests s → StayArranged (chosen o (Choice f ∷ ws) s)
+  chosen_stays : (f : ℕ) (o : Option Value) (ws : List Wanted) (s : State) → Rests ws s → StayArranged (chosen o (Choice f ∷ ws) s)
   chosen_stays f (Some v) ws s h = h
   chosen_stays f None ws s h = tt
 
-  choice_stays : (f : ℕ) (ws : List Wanted) (s : State) → Rests s → StayArranged (choice f w ws s)
+  choice_stays : (f : ℕ) (ws : List Wanted) (s : State) → Rests ws s → StayArranged (choice f w ws s)
   choice_stays f ws s h = cond_both (closes_choice w.keyword) _ _ StayArranged (λ _. rests ws (with_choice s f) h) (λ _. chosen_stays f (atom_of w.kind w.name) ws s h)
 
   -- ---- values
 
-  atom_stays : (t : Target) (o : Option Value) (ws : List Wanted) (s : State) → Rests s → StayArranged (atom_at t o ws s)
+  atom_stays : (t : Target) (o : Option Value) (ws : List Wanted) (s : State) → Rests ws s → StayArranged (atom_at t o ws s)
   atom_stays t (Some v) ws s h = constant_stays t v ws s h
   atom_stays t None ws s h = tt
 
-  bound_stays : (t : Target) (o : Option ℕ) (ws : List Wanted) (s : State) → Rests s → StayArranged (bound_at t o ws s)
-  bound_stays (ToTest f p) (Some n) ws s h = tt
-  bound_stays (ToPut f) (Some n) ws s h = rests ws (with_put s f (term.Variable n)) h
-  bound_stays (ToFixed f) (Some n) ws s h = tt
-  bound_stays ToTerms (Some n) ws s h = rests ws (record s { terms = s.terms ++ term.Variable n ∷ [] }) h
-  bound_stays ToConstants (Some n) ws s h = tt
-  bound_stays ToItem (Some n) ws s h = rests ws (with_item s (item.Print (term.Variable n))) h
+  term_stays : (t : Target) (x : Term) (ws : List Wanted) (s : State) → Rests ws s → StayArranged (term_at t x ws s)
+  term_stays (ToPut f) x ws s h = rests ws (with_put s f x) h
+  term_stays ToTerms x ws s h = rests ws (record s { terms = s.terms ++ x ∷ [] }) h
+  term_stays ToItem x ws s h = rests ws (with_item s (item.Print x)) h
+  term_stays ToBind x ws s h = bind_stays (number_of s.variable s.values) x ws s h
+  term_stays _ x ws s h = tt
+
+  bound_stays : (t : Target) (o : Option ℕ) (ws : List Wanted) (s : State) → Rests ws s → StayArranged (bound_at t o ws s)
+  bound_stays t (Some n) ws s h = term_stays t (term.Variable n) ws s h
   bound_stays t None ws s h = tt
 
-  constant_at_stays : (t : Target) (o : Option Value) (ws : List Wanted) (s : State) → Rests s → StayArranged (constant_at t w o ws s)
+  constant_at_stays : (t : Target) (o : Option Value) (ws : List Wanted) (s : State) → Rests ws s → StayArranged (constant_at t w o ws s)
   constant_at_stays t (Some v) ws s h = constant_stays t v ws s h
   constant_at_stays t None ws s h = cond_both (is_variable w.kind) _ _ StayArranged (λ _. bound_stays t (number_of w.name s.values) ws s h) (λ _. tt)
 
-  value_stays : (t : Target) (ws : List Wanted) (s : State) → Rests s → StayArranged (value_for t w ws s)
-  value_stays t ws s h = cond_both (is_literal w.keyword) _ _ StayArranged (λ _. h) (λ _. constant_at_stays t (value_of w.kind w.name) ws s h)
+  value_stays : (t : Target) (ws : List Wanted) (s : State) → Rests ws s → StayArranged (value_for t w ws s)
+  value_stays t ws s h =
+      cond_both (is_literal w.keyword) _ _ StayArranged (λ _. h)
+      (λ _. cond_both (is_left w.kind && is_of_action t) _ _ StayArranged (λ e. (h.0, h.1, and_from _ _ (and_parts _ _ e).1 h.2))
+      (λ _. constant_at_stays t (value_of w.kind w.name) ws s h))
+
+  -- ---- substr
+
+  function_stays : (t : Target) (k : Keyword) (ws : List Wanted) (s : State) → Rests (Function t ∷ ws) s → StayArranged (function t k ws s)
+  function_stays t keyword.Substr ws s h = h
+  function_stays t _ ws s h = tt
+
+  source_named_stays : (o : Option ℕ) (ws : List Wanted) (s : State) → Rests ws s → StayArranged (source_named o ws s)
+  source_named_stays (Some c) ws s h = rests ws (record s { source = c }) h
+  source_named_stays None ws s h = tt
+
+  source_cell_stays : (ws : List Wanted) (s : State) → Rests ws s → StayArranged (source_cell w ws s)
+  source_cell_stays ws s h = cond_both (is_variable w.kind) _ _ StayArranged (λ _. source_named_stays (number_of w.name s.elements) ws s h) (λ _. tt)
+
+  source_at_stays : (t : Target) (o : Option ℕ) (ws : List Wanted) (s : State) → position (λ a. a.0 == w.name.0) (source_class s).attrs ≡ o → Rests (SourceAttribute t ∷ ws) s → StayArranged (source_at t w.name o ws s)
+  source_at_stays t (Some f) ws s e h =
+      let fits = and_parts (is_of_action t) (functions_fit ws) h.2 in
+      let k : ℕ = unwrap_or (slice_get (classes_of_cells s) s.source) 0 in
+      ((h.0, h.1, fits.1), fits.0, source_kind s.vectors s.classes k w.name f h.0 (slice_get s.classes k) refl e)
+  source_at_stays t None ws s e h = tt
+
+  source_attribute_stays : (t : Target) (ws : List Wanted) (s : State) → Rests (SourceAttribute t ∷ ws) s → StayArranged (source_attribute t w ws s)
+  source_attribute_stays t ws s h =
+      cond_both (is_name w.kind) _ _ StayArranged
+      (λ _. source_at_stays t (position (λ a. a.0 == w.name.0) (source_class s).attrs) ws s refl h) (λ _. tt)
+
+  source_end_stays : (t : Target) (name : Sym) (ws : List Wanted) (s : State) → Rests ws s → StayArranged (source_end t name w ws s)
+  source_end_stays t name ws s h =
+      cond_both (ends_at_inf w s) _ _ StayArranged
+      (λ _. cond_both (takes_several t) _ _ StayArranged (λ _. term_stays t (term.Rest s.source) ws s h) (λ _. tt))
+      (λ _. cond_both (is_name w.kind && (w.name.0 == name.0)) _ _ StayArranged
+      (λ _. term_stays t (term.One s.source s.source_field) ws s h) (λ _. tt))
 
   -- ---- the end of an element
 
-  element_stays : (u : Use) (ws : List Wanted) (s : State) → Rests s → AreArranged ws (with_element u s)
+  element_stays : (u : Use) (ws : List Wanted) (s : State) → Rests ws s → AreArranged ws (with_element u s)
   element_stays InPattern ws s h = rests ws (with_element InPattern s) h
   element_stays InPut ws s h = rests ws (with_element InPut s) h
   element_stays InFixed ws s h = rests ws (with_element InFixed s) h
 
-  terms_stay : (u : Use) (ws : List Wanted) (s : State) → Rests s → StayArranged (terms u w ws s)
+  terms_stay : (u : Use) (ws : List Wanted) (s : State) → Rests ws s → StayArranged (terms u w ws s)
   terms_stay u ws s h =
       cond_both (is_right w.kind) _ _ StayArranged (λ _. element_stays u ws s h) (λ _. cond_both (is_caret w.kind) _ _ StayArranged (λ _. h) (λ _. tt))
 
@@ -237,31 +295,31 @@ module _ (w : Word) where
   within_stays false (Next ws s) h = tt
   within_stays false (Refuses f) h = tt
 
-  one_of_several_stays : (u : Use) (f : ℕ) (ws : List Wanted) (s : State) → Rests s → StayArranged (one_of_several u f w ws s)
+  one_of_several_stays : (u : Use) (f : ℕ) (ws : List Wanted) (s : State) → Rests ws s → StayArranged (one_of_several u f w ws s)
   one_of_several_stays InPattern f ws s h =
       within_stays (nat_lt f most_fields) (place f w (Several InPattern (f + 1) ∷ ws) s) (place_stays f (Several InPattern (f + 1) ∷ ws) s h)
   one_of_several_stays InPut f ws s h = value_stays ToTerms (Several InPut f ∷ ws) s h
   one_of_several_stays InFixed f ws s h =
       within_stays (nat_lt (f + length s.constants) most_fields) (value_for ToConstants w (Several InFixed f ∷ ws) s) (value_stays ToConstants (Several InFixed f ∷ ws) s h)
 
-  several_end : (u : Use) (f : ℕ) (s : State) → Rests s → Rests (with_several u f s)
-  several_end InPattern f s h = h
-  several_end InPut f s h = h
-  several_end InFixed f s h = h
+  several_end : (u : Use) (f : ℕ) (ws : List Wanted) (s : State) → Rests ws s → Rests ws (with_several u f s)
+  several_end InPattern f ws s h = h
+  several_end InPut f ws s h = h
+  several_end InFixed f ws s h = h
 
-  several_stay : (u : Use) (f : ℕ) (ws : List Wanted) (s : State) → Rests s → StayArranged (several u f w ws s)
+  several_stay : (u : Use) (f : ℕ) (ws : List Wanted) (s : State) → Rests ws s → StayArranged (several u f w ws s)
   several_stay u f ws s h =
-      cond_both (is_right w.kind || is_caret w.kind) _ _ StayArranged (λ _. terms_stay u ws (with_several u f s) (several_end u f s h)) (λ _. one_of_several_stays u f ws s h)
+      cond_both (is_right w.kind || is_caret w.kind) _ _ StayArranged (λ _. terms_stay u ws (with_several u f s) (several_end u f ws s h)) (λ _. one_of_several_stays u f ws s h)
 
   -- ---- productions
 
-  rule_name_stays : (ws : List Wanted) (s : State) → Rests s → StayArranged (rule_name w ws s)
+  rule_name_stays : (ws : List Wanted) (s : State) → Rests ws s → StayArranged (rule_name w ws s)
   rule_name_stays ws s h =
       cond_both (is_name w.kind) _ _ StayArranged
       (λ _. cond_both (is_rule s w.name) _ _ StayArranged (λ _. tt)
-      (λ _. rests ws (record (left_begun s) { name = w.name; actions = [] }) h)) (λ _. tt)
+      (λ _. rests ws (record (left_begun s) { name = w.name }) h)) (λ _. tt)
 
-  first_pattern_stays : (ws : List Wanted) (s : State) → Rests s → StayArranged (first_pattern w ws s)
+  first_pattern_stays : (ws : List Wanted) (s : State) → Rests ws s → StayArranged (first_pattern w ws s)
   first_pattern_stays ws s h =
       cond_both (is_left w.kind) _ _ StayArranged (λ _. h)
       (λ _. cond_both (is_left_brace w.kind) _ _ StayArranged (λ _. h)
@@ -270,71 +328,84 @@ module _ (w : Word) where
   one_more_stays : (ws : List Wanted) (s : State) → AreArranged ws s → StayArranged (one_more ws s)
   one_more_stays ws s h = cond_both (nat_lt (length s.conditions) most_conditions) _ _ StayArranged (λ _. h) (λ _. tt)
 
-  more_patterns_stay : (ws : List Wanted) (s : State) → Rests s → StayArranged (more_patterns w ws s)
+  more_patterns_stay : (ws : List Wanted) (s : State) → Rests ws s → StayArranged (more_patterns w ws s)
   more_patterns_stay ws s h =
       cond_both (is_left w.kind) _ _ StayArranged (λ _. one_more_stays (ClassName ∷ Terms InPattern ∷ ws) s h)
       (λ _. cond_both (is_left_brace w.kind) _ _ StayArranged (λ _. one_more_stays (Braced ∷ ws) s h)
       (λ _. cond_both (is_minus w.keyword) _ _ StayArranged
       (λ _. one_more_stays (Pattern ∷ ws) (record s { negated = true; around = length s.values }) h) (λ _. tt)))
 
-  patterns_stay : (ws : List Wanted) (s : State) → Rests s → StayArranged (patterns w ws s)
-  patterns_stay ws s h = cond_both (is_arrow w.keyword) _ _ StayArranged (λ _. rests ws (left_ended s) h) (λ _. more_patterns_stay (Patterns ∷ ws) s h)
+  patterns_stay : (ws : List Wanted) (s : State) → Rests ws s → StayArranged (patterns w ws s)
+  patterns_stay ws s h = cond_both (is_arrow w.keyword) _ _ StayArranged (λ _. rests ws (right_begun (left_ended s)) h) (λ _. more_patterns_stay (Patterns ∷ ws) s h)
 
-  element_at_stays : (o : Option ℕ) (ws : List Wanted) (s : State) → Rests s → StayArranged (element_at o w.name ws s)
+  element_at_stays : (o : Option ℕ) (ws : List Wanted) (s : State) → Rests ws s → StayArranged (element_at o w.name ws s)
   element_at_stays (Some c) ws s h = tt
   element_at_stays None ws s h = rests ws (record s { element = w.name }) h
 
-  element_name_stays : (ws : List Wanted) (s : State) → Rests s → StayArranged (element_name w ws s)
+  element_name_stays : (ws : List Wanted) (s : State) → Rests ws s → StayArranged (element_name w ws s)
   element_name_stays ws s h = cond_both (is_variable w.kind) _ _ StayArranged (λ _. element_at_stays (number_of w.name s.elements) ws s h) (λ _. tt)
 
-  braced_stays : (ws : List Wanted) (s : State) → Rests s → StayArranged (braced w ws s)
+  braced_stays : (ws : List Wanted) (s : State) → Rests ws s → StayArranged (braced w ws s)
   braced_stays ws s h = cond_both (is_left w.kind) _ _ StayArranged (λ _. h) (λ _. element_name_stays (Pattern ∷ ClosesBrace ∷ ws) s h)
 
   -- ---- actions
 
-  actions_stay : (ws : List Wanted) (s : State) → Rests s → StayArranged (actions w ws s)
+  actions_stay : (ws : List Wanted) (s : State) → Rests ws s → StayArranged (actions w ws s)
   actions_stay ws s h =
       cond_both (is_right w.kind) _ _ StayArranged (λ _. rests ws (with_rule s w.past) h) (λ _. cond_both (is_left w.kind) _ _ StayArranged (λ _. h) (λ _. tt))
 
-  action_word_stays : (k : Keyword) (ws : List Wanted) (s : State) → Rests s → StayArranged (action_word k ws s)
+  action_word_stays : (k : Keyword) (ws : List Wanted) (s : State) → Rests ws s → StayArranged (action_word k ws s)
   action_word_stays keyword.Make ws s h = h
+  action_word_stays keyword.Modify ws s h = h
   action_word_stays keyword.Remove ws s h = h
   action_word_stays keyword.Write ws s h = h
+  action_word_stays keyword.Bind ws s h = h
+  action_word_stays keyword.Cbind ws s h = h
   action_word_stays keyword.Halt ws s h = h
   action_word_stays _ ws s h = tt
 
-  designated_stays : (before : ℕ) (o : Option Condition) (ws : List Wanted) (s : State) → Rests s → StayArranged (designated before o ws s)
-  designated_stays before (Some c) ws s h =
-      cond_both c.negated _ _ StayArranged (λ _. tt)
-      (λ _. cond_both (list_any (λ c. c.negated) (take before s.conditions)) _ _ StayArranged (λ _. tt)
-      (λ _. rests ws (record s { cells = s.cells ++ before ∷ [] }) h))
-  designated_stays before None ws s h = tt
+  designated_stays : (r : Result ℕ Fault) (ws : List Wanted) (s : State) → Rests ws s → StayArranged (with_designated r ws s)
+  designated_stays (Ok c) ws s h = rests ws (record s { cells = s.cells ++ c ∷ [] }) h
+  designated_stays (Err f) ws s h = tt
 
-  cell_of_stays : (o : Option ℕ) (ws : List Wanted) (s : State) → Rests s → StayArranged (cell_of o ws s)
-  cell_of_stays (Some n) ws s h = designated_stays (n - 1) (slice_get s.conditions (n - 1)) ws s h
-  cell_of_stays None ws s h = tt
+  modified_stays : (r : Result ℕ Fault) (ws : List Wanted) (s : State) → Rests ws s → StayArranged (with_modified r ws s)
+  modified_stays (Ok c) ws s h = rests ws (record s { modified = Some c; class = unwrap_or (slice_get (classes_of_cells s) c) 0 }) h
+  modified_stays (Err f) ws s h = tt
 
-  cell_named_stays : (o : Option ℕ) (ws : List Wanted) (s : State) → Rests s → StayArranged (cell_named o ws s)
-  cell_named_stays (Some c) ws s h = rests ws (record s { cells = s.cells ++ c ∷ [] }) h
-  cell_named_stays None ws s h = tt
+  bound_name_stays : (ws : List Wanted) (s : State) → Rests ws s → StayArranged (bound_name w ws s)
+  bound_name_stays ws s h = cond_both (is_variable w.kind) _ _ StayArranged (λ _. rests ws (record s { variable = w.name }) h) (λ _. tt)
 
-  cell_stays : (k : TokenKind) (ws : List Wanted) (s : State) → Rests s → StayArranged (cell k w.name ws s)
-  cell_stays (kind.Whole z) ws s h = cell_of_stays (natural_of z) ws s h
-  cell_stays kind.Variable ws s h = cell_named_stays (number_of w.name s.elements) ws s h
-  cell_stays _ ws s h = tt
+  cell_bound_stays : (o : Option ℕ) (ws : List Wanted) (s : State) → Rests ws s → StayArranged (cell_bound o w.name ws s)
+  cell_bound_stays (Some class) ws s h = rests ws (with_cell s class w.name) h
+  cell_bound_stays None ws s h = tt
 
-  cells_stay : (ws : List Wanted) (s : State) → Rests s → StayArranged (cells w ws s)
-  cells_stay ws s h = cond_both (is_right w.kind) _ _ StayArranged (λ _. rests ws (with_remove s) h) (λ _. cell_stays w.kind (Cells ∷ ws) s h)
+  cell_name_stays : (ws : List Wanted) (s : State) → Rests ws s → StayArranged (cell_name w ws s)
+  cell_name_stays ws s h = cond_both (is_variable w.kind) _ _ StayArranged (λ _. cell_bound_stays s.made ws s h) (λ _. tt)
 
-  items_stay : (ws : List Wanted) (s : State) → Rests s → StayArranged (items w ws s)
+  cells_stay : (ws : List Wanted) (s : State) → Rests ws s → StayArranged (cells w ws s)
+  cells_stay ws s h = cond_both (is_right w.kind) _ _ StayArranged (λ _. rests ws (with_remove s) h) (λ _. designated_stays (cell_of w.kind w.name s) (Cells ∷ ws) s h)
+
+  items_stay : (ws : List Wanted) (s : State) → Rests ws s → StayArranged (items w ws s)
   items_stay ws s h =
       cond_both (is_right w.kind) _ _ StayArranged (λ _. rests ws (with_write s) h)
       (λ _. cond_both (is_left w.kind) _ _ StayArranged (λ _. h) (λ _. value_stays ToItem (Items ∷ ws) s h))
 
-  ended_stays : (e : Ends) (ws : List Wanted) (s : State) → Rests s → AreArranged ws (ended e s)
+  item_word_stays : (k : Keyword) (ws : List Wanted) (s : State) → Rests ws s → StayArranged (item_word k ws s)
+  item_word_stays keyword.Crlf ws s h = h
+  item_word_stays keyword.Tabto ws s h = h
+  item_word_stays keyword.Rjust ws s h = h
+  item_word_stays keyword.Substr ws s h = h
+  item_word_stays _ ws s h = tt
+
+  columns_stay : (c : Column) (o : Option ℕ) (ws : List Wanted) (s : State) → Rests ws s → StayArranged (columns_at c o ws s)
+  columns_stay c (Some n) ws s h = rests ws (with_item s (column_item c n)) h
+  columns_stay c None ws s h = tt
+
+  ended_stays : (e : Ends) (ws : List Wanted) (s : State) → Rests ws s → AreArranged ws (ended e s)
   ended_stays EndsRun ws s h = rests ws (ended EndsRun s) h
   ended_stays EndsHalt ws s h = rests ws (ended EndsHalt s) h
   ended_stays EndsCrlf ws s h = rests ws (ended EndsCrlf s) h
+  ended_stays EndsWhole ws s h = rests ws s h
 
 pub stays_arranged : (w : Word) (ws : List Wanted) (s : State) → AreArranged ws s → StayArranged (step w ws s)
 unfolding step
@@ -364,10 +435,18 @@ stays_arranged w (Tested f p ∷ ws) s h = tested_stays w f p ws s h
 stays_arranged w (Choice f ∷ ws) s h = choice_stays w f ws s h
 stays_arranged w (Atom t ∷ ws) s h = atom_stays w t (atom_of w.kind w.name) ws s h
 stays_arranged w (ValueFor t ∷ ws) s h = value_stays w t ws s h
+stays_arranged w (Function t ∷ ws) s h = function_stays w t w.keyword ws s h
+stays_arranged w (SourceCell ∷ ws) s h = source_cell_stays w ws s h
+stays_arranged w (SourceAttribute t ∷ ws) s h = source_attribute_stays w t ws s h
+stays_arranged w (SourceEnd t name ∷ ws) s h = source_end_stays w t name ws s h.0
 stays_arranged w (Actions ∷ ws) s h = actions_stay w ws s h
 stays_arranged w (ActionWord ∷ ws) s h = action_word_stays w w.keyword ws s h
-stays_arranged w (Cell ∷ ws) s h = cell_stays w w.kind ws s h
+stays_arranged w (Modified ∷ ws) s h = modified_stays w (cell_of w.kind w.name s) ws s h
+stays_arranged w (BoundName ∷ ws) s h = bound_name_stays w ws s h
+stays_arranged w (CellName ∷ ws) s h = cell_name_stays w ws s h
+stays_arranged w (Cell ∷ ws) s h = designated_stays w (cell_of w.kind w.name s) ws s h
 stays_arranged w (Cells ∷ ws) s h = cells_stay w ws s h
 stays_arranged w (Items ∷ ws) s h = items_stay w ws s h
-stays_arranged w (ItemWord ∷ ws) s h = cond_both (is_crlf w.keyword) _ _ StayArranged (λ _. h) (λ _. tt)
+stays_arranged w (ItemWord ∷ ws) s h = item_word_stays w w.keyword ws s h
+stays_arranged w (Columns c ∷ ws) s h = columns_stay w c (small_of w.kind) ws s h
 stays_arranged w (Closes e ∷ ws) s h = cond_both (is_right w.kind) _ _ StayArranged (λ _. ended_stays w e ws s h) (λ _. tt)

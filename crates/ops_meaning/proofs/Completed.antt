@@ -1,13 +1,14 @@
 -- What is wanted can be completed.
 use Rattle.std.specs.Prelude.{List, [], ◌∷◌, pos}
 use Rattle.std.proofs.Common.{◌≡◌, Bool, true, false, refl}
+use Rattle.std.proofs.lemmas.Bool.{eq-eqb}
 use Rattle.ops_base.specs.declared.values.Sym.{Sym}
 use Rattle.ops_tokens.specs.declared.token.TokenKind.TheVariants as kind
 use Rattle.ops_meaning.specs.declared.words.Word.{Word}
 use Rattle.ops_meaning.specs.declared.words.Keyword.{Keyword}
 use Rattle.ops_meaning.specs.declared.words.Keyword.TheVariants as keyword
-use Rattle.ops_meaning.specs.Grammar.{Use, InPattern, InPut, InFixed, Wanted, Forms, Form, ClassDeclared, Attributes, VectorName, VectorNames, RuleName, FirstPattern, Patterns, Pattern, Braced, ElementName, ClosesBrace, ClassName, Terms, Attribute, Several, Place, Tests, Tested, Choice, Atom, ValueFor, Actions, ActionWord, Cell, Cells, Items, ItemWord, Closes, is_name, is_one_of, behind_attribute}
-use Rattle.ops_meaning.specs.Derivation.{with_name, Derives, nothing, no_form, a_class, no_attribute, a_vector, no_more_vectors, a_rule, a_first, a_whole_pattern, a_name_before, an_element_name, a_closed_brace, an_arrow, a_run, a_class_name, no_term, a_scalar_attribute, a_vector_attribute, no_more_of_several, a_value, an_atom, no_more_tests, an_operand, a_tested_operand, no_more_choices, no_action, to_halt, a_cell, no_more_cells, no_item, a_crlf, a_closing}
+use Rattle.ops_meaning.specs.Grammar.{Use, InPattern, InPut, InFixed, Wanted, Forms, Form, ClassDeclared, Attributes, VectorName, VectorNames, RuleName, FirstPattern, Patterns, Pattern, Braced, ElementName, ClosesBrace, ClassName, Terms, Attribute, Several, Place, Tests, Tested, Choice, Atom, ValueFor, Function, SourceCell, SourceAttribute, SourceEnd, Actions, ActionWord, Modified, BoundName, CellName, Cell, Cells, Items, ItemWord, Columns, Closes, is_name, is_one_of, behind_attribute}
+use Rattle.ops_meaning.specs.Derivation.{with_name, Derives, nothing, no_form, a_class, no_attribute, a_vector, no_more_vectors, a_rule, a_first, a_whole_pattern, a_name_before, an_element_name, a_closed_brace, an_arrow, a_run, a_class_name, no_term, a_scalar_attribute, a_vector_attribute, no_more_of_several, a_value, a_substr, a_source, a_source_attribute, the_same_again, an_atom, no_more_tests, an_operand, a_tested_operand, no_more_choices, no_action, to_halt, a_modified, a_bound_name, a_cell_name, a_cell, no_more_cells, no_item, a_crlf, some_columns, a_closing}
 
 abbrev closing : Word
 closing = record { kind = kind.Right; keyword = keyword.Other; name = record { 0 = 0 }; first = 0; past = 0 }
@@ -18,6 +19,10 @@ opening = record { kind = kind.Left; keyword = keyword.Other; name = record { 0 
 -- a name, which may be a keyword too
 abbrev named : Keyword → Word
 named k = record { kind = kind.Symbol; keyword = k; name = record { 0 = 0 }; first = 0; past = 0 }
+
+-- a name that is no keyword
+abbrev again : Sym → Word
+again name = record { kind = kind.Symbol; keyword = keyword.Other; name = name; first = 0; past = 0 }
 
 abbrev number : Word
 number = record { kind = kind.Whole (pos 1); keyword = keyword.Other; name = record { 0 = 0 }; first = 0; past = 0 }
@@ -72,12 +77,22 @@ complete vs (Tested f p) ws c = (number ∷ (c vs).0, a_tested_operand refl (c v
 complete vs (Choice f) ws c = (closing_choice ∷ (c vs).0, no_more_choices refl (c vs).1)
 complete vs (Atom t) ws c = (number ∷ (c vs).0, an_atom refl (c vs).1)
 complete vs (ValueFor t) ws c = (number ∷ (c vs).0, a_value refl (c vs).1)
+complete vs (Function t) ws c =
+    (named keyword.Substr ∷ variable ∷ named keyword.Other ∷ named keyword.Other ∷ closing ∷ (c vs).0, a_substr refl (a_source refl (a_source_attribute refl (the_same_again refl refl refl (a_closing refl (c vs).1)))))
+complete vs SourceCell ws c = (variable ∷ (c vs).0, a_source refl (c vs).1)
+complete vs (SourceAttribute t) ws c =
+    (named keyword.Other ∷ named keyword.Other ∷ closing ∷ (c vs).0, a_source_attribute refl (the_same_again refl refl refl (a_closing refl (c vs).1)))
+complete vs (SourceEnd t name) ws c = (again name ∷ (c vs).0, the_same_again refl (eq-eqb name.0 name.0 refl) refl (c vs).1)
 complete vs Actions ws c = (closing ∷ (c vs).0, no_action refl (c vs).1)
 complete vs ActionWord ws c = (named keyword.Halt ∷ closing ∷ (c vs).0, to_halt refl (a_closing refl (c vs).1))
+complete vs Modified ws c = (number ∷ (c vs).0, a_modified refl (c vs).1)
+complete vs BoundName ws c = (variable ∷ (c vs).0, a_bound_name refl (c vs).1)
+complete vs CellName ws c = (variable ∷ (c vs).0, a_cell_name refl (c vs).1)
 complete vs Cell ws c = (number ∷ (c vs).0, a_cell refl (c vs).1)
 complete vs Cells ws c = (closing ∷ (c vs).0, no_more_cells refl (c vs).1)
 complete vs Items ws c = (closing ∷ (c vs).0, no_item refl (c vs).1)
 complete vs ItemWord ws c = (named keyword.Crlf ∷ closing ∷ (c vs).0, a_crlf refl (a_closing refl (c vs).1))
+complete vs (Columns column) ws c = (number ∷ (c vs).0, some_columns refl (c vs).1)
 complete vs (Closes e) ws c = (closing ∷ (c vs).0, a_closing refl (c vs).1)
 
 -- everything that is wanted can be completed, whatever the names of vector attributes are

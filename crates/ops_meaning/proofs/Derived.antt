@@ -1,12 +1,10 @@
 -- What a word does, against the grammar alone.
-use Rattle.std.proofs.Common.{◌≡◌, ℕ, suc, arith, ◌+◌, ◌-◌, Bool, true, false, not, ◌||◌, List, [], ◌∷◌, ◌++◌, ◌∙◌, cond, refl, sym, ap, Option, Some, None, true≢false, subst, ◌==◌, nat_lt, length, take, is_some, position, slice_get}
-use Rattle.std.specs.List.{list_any}
-use Rattle.std.proofs.lemmas.Bool.{cond_both, or_right, and_from}
+use Rattle.std.proofs.Common.{◌≡◌, ℕ, suc, arith, ◌+◌, ◌-◌, Bool, true, false, not, ◌&&◌, ◌||◌, List, [], ◌∷◌, ◌++◌, ◌∙◌, cond, refl, sym, ap, Option, Some, None, Result, Ok, Err, true≢false, subst, ◌==◌, nat_lt, length, is_some, position, slice_get}
+use Rattle.std.proofs.lemmas.Bool.{cond_both, or_right, and_from, and_parts}
 use Rattle.ops_base.specs.declared.values.Sym.{Sym}
 use Rattle.ops_base.specs.declared.values.Value.{Value}
 use Rattle.ops_base.specs.declared.values.Pred.{Pred}
 use Rattle.ops_base.specs.declared.values.Pred.TheVariants as pred
-use Rattle.ops_base.specs.declared.conditions.Condition.{Condition}
 use Rattle.ops_base.specs.declared.actions.Term.{Term}
 use Rattle.ops_base.specs.declared.actions.Term.TheVariants as term
 use Rattle.ops_base.specs.declared.endings.Fault.{Fault}
@@ -16,8 +14,8 @@ use Rattle.ops_tokens.specs.declared.token.TokenKind.TheVariants as kind
 use Rattle.ops_meaning.specs.declared.words.Word.{Word}
 use Rattle.ops_meaning.specs.declared.words.Keyword.{Keyword}
 use Rattle.ops_meaning.specs.declared.words.Keyword.TheVariants as keyword
-use Rattle.ops_meaning.specs.Grammar.{Use, InPattern, InPut, InFixed, Target, ToTest, ToPut, ToFixed, ToTerms, ToConstants, ToItem, Ends, EndsRun, EndsHalt, EndsCrlf, Wanted, Forms, Form, ClassDeclared, Attributes, VectorName, VectorNames, RuleName, FirstPattern, Patterns, Pattern, Braced, ElementName, ClosesBrace, ClassName, Terms, Attribute, Several, Place, Tests, Tested, Choice, Atom, ValueFor, Actions, ActionWord, Cell, Cells, Items, ItemWord, Closes, State, Step, Next, Refuses, is_left, is_right, is_left_brace, is_right_brace, is_caret, is_name, is_variable, is_arrow, is_crlf, is_literal, is_minus, opens_choice, closes_choice, pred_of, constant_of, value_of, atom_of, natural_of, is_one_of, number_of, may_declare, is_class, is_rule, form, class_declared, is_second, attributes, makes_second, vector_declared, vector_name, vector_names, class_at, class_name, attributes_of, behind_attribute, field_at, attribute, with_constant, variable_tested, constant_tested, tested, predicated, test, place, tests, chosen, choice, atom_at, term_at, bound_at, constant_at, value_for, with_element, terms, within, one_of_several, with_several, several, rule_name, first_pattern, one_more, patterns, pattern, element_at, element_name, braced, closes_brace, actions, action_word, designated, cell_of, cell_named, cell, cells, items, item_word, ended, closes, forms, step}
-use Rattle.ops_meaning.specs.Derivation.{is_designator, is_operand, is_value, is_choice, with_name, Derives, a_form, a_literalize, a_class, an_attribute, no_attribute, a_vector_declaration, a_vector, one_more_vector, no_more_vectors, a_production, a_rule, a_first, a_braced_first, a_negated_first, a_pattern, a_braced_pattern, a_negated_pattern, a_whole_pattern, a_name_before, a_name_behind, an_element_name, a_closed_brace, an_arrow, a_make, a_run, a_class_name, a_term, no_term, a_scalar_attribute, a_vector_attribute, one_more_place, one_more_term, one_more_constant, no_more_of_several, a_value, a_literal_value, an_atom, a_conjunction, no_more_tests, an_operand, a_literal, a_predicate, a_disjunction, one_more_operand, one_more_literal, one_more_predicate, one_more_disjunction, a_tested_operand, a_tested_literal, one_more_choice, no_more_choices, an_action, no_action, to_make, to_remove, to_write, to_halt, a_cell, one_more_cell, no_more_cells, an_item, a_literal_item, an_item_form, no_item, a_crlf, a_closing, is_no_form}
+use Rattle.ops_meaning.specs.Grammar.{Use, InPattern, InPut, InFixed, Target, ToTest, ToPut, ToFixed, ToTerms, ToConstants, ToItem, ToBind, Ends, EndsRun, EndsHalt, EndsCrlf, EndsWhole, Column, Wanted, Forms, Form, ClassDeclared, Attributes, VectorName, VectorNames, RuleName, FirstPattern, Patterns, Pattern, Braced, ElementName, ClosesBrace, ClassName, Terms, Attribute, Several, Place, Tests, Tested, Choice, Atom, ValueFor, Function, SourceCell, SourceAttribute, SourceEnd, Actions, ActionWord, Modified, BoundName, CellName, Cell, Cells, Items, ItemWord, Columns, Closes, State, Step, Next, Refuses, is_left, is_right, is_left_brace, is_right_brace, is_caret, is_name, is_variable, is_arrow, is_literal, is_inf, is_minus, opens_choice, closes_choice, pred_of, constant_of, value_of, atom_of, small_of, is_one_of, number_of, may_declare, is_class, is_rule, form, class_declared, is_second, attributes, makes_second, vector_declared, vector_name, vector_names, class_at, class_name, attributes_of, behind_attribute, field_at, attribute, with_bind, with_constant, variable_tested, constant_tested, tested, predicated, test, place, tests, chosen, choice, atom_at, term_at, bound_at, constant_at, is_of_action, value_for, function, source_named, source_cell, source_class, source_at, source_attribute, takes_several, ends_at_inf, source_end, with_element, terms, within, one_of_several, with_several, several, rule_name, first_pattern, one_more, patterns, pattern, element_at, element_name, braced, closes_brace, actions, action_word, cell_of, with_designated, cell, with_modified, modified, bound_name, cell_bound, cell_name, cells, items, item_word, columns_at, ended, closes, forms, step}
+use Rattle.ops_meaning.specs.Derivation.{is_designator, is_operand, is_value, is_choice, with_name, Derives, a_form, a_literalize, a_class, an_attribute, no_attribute, a_vector_declaration, a_vector, one_more_vector, no_more_vectors, a_production, a_rule, a_first, a_braced_first, a_negated_first, a_pattern, a_braced_pattern, a_negated_pattern, a_whole_pattern, a_name_before, a_name_behind, an_element_name, a_closed_brace, an_arrow, a_make, a_run, a_class_name, a_term, no_term, a_scalar_attribute, a_vector_attribute, one_more_place, one_more_term, one_more_constant, no_more_of_several, a_value, a_literal_value, a_function, a_substr, a_source, a_source_attribute, the_same_again, up_to_inf, an_atom, a_conjunction, no_more_tests, an_operand, a_literal, a_predicate, a_disjunction, one_more_operand, one_more_literal, one_more_predicate, one_more_disjunction, a_tested_operand, a_tested_literal, one_more_choice, no_more_choices, an_action, no_action, to_make, to_modify, to_bind, to_cbind, to_remove, to_write, to_halt, a_modified, a_bound_name, a_cell_name, a_cell, one_more_cell, no_more_cells, an_item, a_literal_item, an_item_form, no_item, a_crlf, a_tab, a_right, a_substr_item, some_columns, a_closing, is_no_form}
 use Rattle.ops_meaning.proofs.Completed.{completed, attribute_completed}
 use Rattle.ops_meaning.proofs.Arranged.{AreArranged, StayArranged, stays_arranged, kind_agrees}
 
@@ -40,6 +38,10 @@ Continues vs ws w (Refuses f) = is_no_form f ≡ false → (ts : List Word) × D
 
 -- ---- a word that is no declaration of a vector attribute leaves the names of vector attributes
 
+pub bind_vectors : (o : Option ℕ) (s : State) (t : Term) → (with_bind o s t).vectors ≡ s.vectors
+bind_vectors (Some n) s t = refl
+bind_vectors None s t = refl
+
 pub constant_vectors : (t : Target) (s : State) (v : Value) → (with_constant t s v).vectors ≡ s.vectors
 constant_vectors (ToTest f p) s v = refl
 constant_vectors (ToPut f) s v = refl
@@ -47,6 +49,7 @@ constant_vectors (ToFixed f) s v = refl
 constant_vectors ToTerms s v = refl
 constant_vectors ToConstants s v = refl
 constant_vectors ToItem s v = refl
+constant_vectors ToBind s v = bind_vectors (number_of s.variable s.values) s (term.Constant v)
 
 pub element_vectors : (u : Use) (s : State) → (with_element u s).vectors ≡ s.vectors
 element_vectors InPattern s = refl
@@ -62,6 +65,7 @@ pub ended_vectors : (e : Ends) (s : State) → (ended e s).vectors ≡ s.vectors
 ended_vectors EndsRun s = refl
 ended_vectors EndsHalt s = refl
 ended_vectors EndsCrlf s = refl
+ended_vectors EndsWhole s = refl
 
 -- ---- words
 
@@ -71,10 +75,6 @@ no_fault e = absurd (true≢false e)
 arrow_of : (k : Keyword) → is_arrow k ≡ true → k ≡ keyword.Arrow
 arrow_of keyword.Arrow e = refl
 arrow_of _ e = absurd (true≢false (sym e))
-
-crlf_of : (k : Keyword) → is_crlf k ≡ true → k ≡ keyword.Crlf
-crlf_of keyword.Crlf e = refl
-crlf_of _ e = absurd (true≢false (sym e))
 
 constant_operand : (w : Word) (v : Value) → constant_of w.kind w.name ≡ Some v → is_operand w ≡ true
 constant_operand w v e = ap (λ (o : Option Value). is_some o || is_variable w.kind) e
@@ -270,17 +270,21 @@ module _ (w : Word) (ws : List Wanted) (s : State) where
           cond_both (opens_choice w.keyword) _ _ (Continues s.vectors head w) (λ e. (stay, disjunction e))
           (λ _. predicated_continues (pred_of w.keyword) refl)
 
+    -- a term in front of what is wanted behind it
+    term_at_continues : ((ts : List Word) → Derives s.vectors ws' ts → Derives s.vectors head (w ∷ ts)) → (t : Target) (x : Term) → Continues s.vectors head w (term_at t x ws' s)
+    term_at_continues more (ToPut f) x = (stay, more)
+    term_at_continues more ToTerms x = (stay, more)
+    term_at_continues more ToItem x = (stay, more)
+    term_at_continues more ToBind x =
+        let o : Option ℕ = number_of s.variable s.values in (stay, kept (with_bind o s x) (bind_vectors o s x) head ws' more)
+    term_at_continues more _ x = λ _. behind head ws' more
+
     -- a value in front of what is wanted behind it
     module _ (t : Target) (more : is_value w ≡ true → (ts : List Word) → Derives s.vectors ws' ts → Derives s.vectors head (w ∷ ts))
-        (literal : is_literal w.keyword ≡ true → (ts : List Word) → Derives s.vectors (Atom t ∷ ws') ts → Derives s.vectors head (w ∷ ts)) where
-      term_at_continues : is_value w ≡ true → (u : Target) (x : Term) → Continues s.vectors head w (term_at u x ws' s)
-      term_at_continues e (ToPut f) x = (stay, more e)
-      term_at_continues e ToTerms x = (stay, more e)
-      term_at_continues e ToItem x = (stay, more e)
-      term_at_continues e _ x = λ _. behind head ws' (more e)
-
+        (literal : is_literal w.keyword ≡ true → (ts : List Word) → Derives s.vectors (Atom t ∷ ws') ts → Derives s.vectors head (w ∷ ts))
+        (called : is_left w.kind ≡ true → is_of_action t ≡ true → (ts : List Word) → Derives s.vectors (Function t ∷ ws') ts → Derives s.vectors head (w ∷ ts)) where
       bound_at_continues : is_value w ≡ true → (o : Option ℕ) → Continues s.vectors head w (bound_at t o ws' s)
-      bound_at_continues e (Some n) = term_at_continues e t (term.Variable n)
+      bound_at_continues e (Some n) = term_at_continues (more e) t (term.Variable n)
       bound_at_continues e None = λ _. behind head ws' (more e)
 
       constant_at_continues : is_literal w.keyword ≡ false → (o : Option Value) → value_of w.kind w.name ≡ o → Continues s.vectors head w (constant_at t w o ws' s)
@@ -291,10 +295,48 @@ module _ (w : Word) (ws : List Wanted) (s : State) where
       value_for_continues : Continues s.vectors head w (value_for t w ws' s)
       value_for_continues =
           cond_both (is_literal w.keyword) _ _ (Continues s.vectors head w) (λ e. (stay, literal e))
-          (λ l. constant_at_continues l (value_of w.kind w.name) refl)
+          (λ l. cond_both (is_left w.kind && is_of_action t) _ _ (Continues s.vectors head w)
+          (λ e. let each = and_parts (is_left w.kind) _ e in (stay, called each.0 each.1))
+          (λ _. constant_at_continues l (value_of w.kind w.name) refl))
 
   value_continues : (t : Target) → Continues s.vectors (ValueFor t ∷ ws) w (value_for t w ws s)
-  value_continues t = value_for_continues (ValueFor t ∷ ws) ws (λ h. h) t (λ e ts d. a_value e d) (λ e ts d. a_literal_value e d)
+  value_continues t =
+      value_for_continues (ValueFor t ∷ ws) ws (λ h. h) t (λ e ts d. a_value e d) (λ e ts d. a_literal_value e d) (λ e of_action ts d. a_function e of_action d)
+
+  -- `substr`
+  function_continues : (t : Target) (k : Keyword) → w.keyword ≡ k → Continues s.vectors (Function t ∷ ws) w (function t k ws s)
+  function_continues t keyword.Substr e = (λ h. h, λ ts d. a_substr e d)
+  function_continues t _ e = λ f. no_fault f
+
+  source_named_continues : is_variable w.kind ≡ true → (o : Option ℕ) → Continues s.vectors (SourceCell ∷ ws) w (source_named o ws s)
+  source_named_continues e (Some c) = (λ h. h, λ ts d. a_source e d)
+  source_named_continues e None = λ _. behind (SourceCell ∷ ws) ws (λ ts d. a_source e d)
+
+  source_cell_continues : Continues s.vectors (SourceCell ∷ ws) w (source_cell w ws s)
+  source_cell_continues =
+      cond_both (is_variable w.kind) _ _ (Continues s.vectors (SourceCell ∷ ws) w) (λ e. source_named_continues e (number_of w.name s.elements)) (λ _ f. no_fault f)
+
+  source_at_continues : (t : Target) → is_name w.kind ≡ true → (o : Option ℕ) → Continues s.vectors (SourceAttribute t ∷ ws) w (source_at t w.name o ws s)
+  source_at_continues t e (Some f) = (λ h. h, λ ts d. a_source_attribute e d)
+  source_at_continues t e None = λ _. behind (SourceAttribute t ∷ ws) (SourceEnd t w.name ∷ Closes EndsWhole ∷ ws) (λ ts d. a_source_attribute e d)
+
+  source_attribute_continues : (t : Target) → Continues s.vectors (SourceAttribute t ∷ ws) w (source_attribute t w ws s)
+  source_attribute_continues t =
+      cond_both (is_name w.kind) _ _ (Continues s.vectors (SourceAttribute t ∷ ws) w)
+      (λ e. source_at_continues t e (position (λ a. a.0 == w.name.0) (source_class s).attrs)) (λ _ f. no_fault f)
+
+  source_end_continues : (t : Target) (name : Sym) → is_vector (source_class s) s.source_field ≡ is_one_of name s.vectors → Continues s.vectors (SourceEnd t name ∷ ws) w (source_end t name w ws s)
+  source_end_continues t name agrees =
+      let at_inf : ends_at_inf w s ≡ (is_inf w.keyword && is_one_of name s.vectors) = ap (λ (b : Bool). is_inf w.keyword && b) agrees in
+      cond_both (ends_at_inf w s) _ _ (Continues s.vectors (SourceEnd t name ∷ ws) w)
+      (λ e. let each = and_parts (is_inf w.keyword) _ e in
+      cond_both (takes_several t) _ _ (Continues s.vectors (SourceEnd t name ∷ ws) w)
+      (λ several. term_at_continues (SourceEnd t name ∷ ws) ws (λ h. h) (λ ts d. up_to_inf each.0 (sym agrees ∙ each.1) several d) t (term.Rest s.source))
+      (λ _ f. no_fault f))
+      (λ other. cond_both (is_name w.kind && (w.name.0 == name.0)) _ _ (Continues s.vectors (SourceEnd t name ∷ ws) w)
+      (λ e. let each = and_parts (is_name w.kind) _ e in
+      term_at_continues (SourceEnd t name ∷ ws) ws (λ h. h) (λ ts d. the_same_again each.0 each.1 (sym at_inf ∙ other) d) t (term.One s.source s.source_field))
+      (λ _ f. no_fault f))
 
   place_continues : (f : ℕ) → Continues s.vectors (Place f ∷ ws) w (place f w ws s)
   place_continues f =
@@ -328,44 +370,78 @@ module _ (w : Word) (ws : List Wanted) (s : State) where
 
   action_word_continues : (k : Keyword) → w.keyword ≡ k → Continues s.vectors (ActionWord ∷ ws) w (action_word k ws s)
   action_word_continues keyword.Make e = (λ h. h, λ ts d. to_make e d)
+  action_word_continues keyword.Modify e = (λ h. h, λ ts d. to_modify e d)
+  action_word_continues keyword.Bind e = (λ h. h, λ ts d. to_bind e d)
+  action_word_continues keyword.Cbind e = (λ h. h, λ ts d. to_cbind e d)
   action_word_continues keyword.Remove e = (λ h. h, λ ts d. to_remove e d)
   action_word_continues keyword.Write e = (λ h. h, λ ts d. to_write e d)
   action_word_continues keyword.Halt e = (λ h. h, λ ts d. to_halt e d)
   action_word_continues _ e = λ f. no_fault f
 
+  -- a designator, unless the word is refused as one that continues no form
+  abbrev IsDesignator : Result ℕ Fault → Type 0
+  IsDesignator (Ok c) = is_designator w.kind ≡ true
+  IsDesignator (Err f) = is_no_form f ≡ false → is_designator w.kind ≡ true
+
+  whichever : is_designator w.kind ≡ true → (r : Result ℕ Fault) → IsDesignator r
+  whichever is (Ok c) = is
+  whichever is (Err f) = λ _. is
+
+  cell_of_designates : (k : TokenKind) → w.kind ≡ k → IsDesignator (cell_of k w.name s)
+  cell_of_designates (kind.Whole n) e = whichever (ap is_designator e) (cell_of (kind.Whole n) w.name s)
+  cell_of_designates kind.Variable e = whichever (ap is_designator e) (cell_of kind.Variable w.name s)
+  cell_of_designates _ e = λ f. no_fault f
+
   -- a cell in front of those that may follow it, or of what is wanted behind it
-  designated_continues : (head ws' : List Wanted) → Stays head ws' → ((ts : List Word) → Derives s.vectors ws' ts → Derives s.vectors head (w ∷ ts)) → (before : ℕ) (o : Option Condition) → Continues s.vectors head w (designated before o ws' s)
-  designated_continues head ws' last more before None = λ _. behind head ws' more
-  designated_continues head ws' last more before (Some c) =
-      cond_both c.negated _ _ (Continues s.vectors head w) (λ _ _. behind head ws' more)
-      (λ _. cond_both (list_any (λ c. c.negated) (take before s.conditions)) _ _ (Continues s.vectors head w) (λ _ _. behind head ws' more) (λ _. (last, more)))
+  designated_continues : (head ws' : List Wanted) → Stays head ws' → (is_designator w.kind ≡ true → (ts : List Word) → Derives s.vectors ws' ts → Derives s.vectors head (w ∷ ts)) → (r : Result ℕ Fault) → IsDesignator r → Continues s.vectors head w (with_designated r ws' s)
+  designated_continues head ws' last more (Ok c) is = (last, more is)
+  designated_continues head ws' last more (Err f) is = λ e. behind head ws' (more (is e))
 
-  cell_of_continues : (head ws' : List Wanted) → Stays head ws' → ((ts : List Word) → Derives s.vectors ws' ts → Derives s.vectors head (w ∷ ts)) → (o : Option ℕ) → Continues s.vectors head w (cell_of o ws' s)
-  cell_of_continues head ws' last more None = λ _. behind head ws' more
-  cell_of_continues head ws' last more (Some n) = designated_continues head ws' last more (n - 1) (slice_get s.conditions (n - 1))
+  cell_continues : (head ws' : List Wanted) → Stays head ws' → (is_designator w.kind ≡ true → (ts : List Word) → Derives s.vectors ws' ts → Derives s.vectors head (w ∷ ts)) → Continues s.vectors head w (cell w.kind w.name ws' s)
+  cell_continues head ws' last more = designated_continues head ws' last more (cell_of w.kind w.name s) (cell_of_designates w.kind refl)
 
-  cell_named_continues : (head ws' : List Wanted) → Stays head ws' → ((ts : List Word) → Derives s.vectors ws' ts → Derives s.vectors head (w ∷ ts)) → (o : Option ℕ) → Continues s.vectors head w (cell_named o ws' s)
-  cell_named_continues head ws' last more None = λ _. behind head ws' more
-  cell_named_continues head ws' last more (Some c) = (last, more)
+  with_modified_continues : (r : Result ℕ Fault) → IsDesignator r → Continues s.vectors (Modified ∷ ws) w (with_modified r ws s)
+  with_modified_continues (Ok c) is = (λ h. h, λ ts d. a_modified is d)
+  with_modified_continues (Err f) is = λ e. behind (Modified ∷ ws) ws (λ ts d. a_modified (is e) d)
 
-  cell_continues : (head ws' : List Wanted) → Stays head ws' → (is_designator w.kind ≡ true → (ts : List Word) → Derives s.vectors ws' ts → Derives s.vectors head (w ∷ ts)) → (k : TokenKind) → w.kind ≡ k → Continues s.vectors head w (cell k w.name ws' s)
-  cell_continues head ws' last more (kind.Whole n) e = cell_of_continues head ws' last (more (ap is_designator e)) (natural_of n)
-  cell_continues head ws' last more kind.Variable e = cell_named_continues head ws' last (more (ap is_designator e)) (number_of w.name s.elements)
-  cell_continues head ws' last more _ e = λ f. no_fault f
+  modified_continues : Continues s.vectors (Modified ∷ ws) w (modified w ws s)
+  modified_continues = with_modified_continues (cell_of w.kind w.name s) (cell_of_designates w.kind refl)
+
+  -- the variables of `bind` and of `cbind`
+  bound_name_continues : Continues s.vectors (BoundName ∷ ws) w (bound_name w ws s)
+  bound_name_continues =
+      cond_both (is_variable w.kind) _ _ (Continues s.vectors (BoundName ∷ ws) w) (λ e. (λ h. h, λ ts d. a_bound_name e d)) (λ _ f. no_fault f)
+
+  cell_bound_continues : is_variable w.kind ≡ true → (o : Option ℕ) → Continues s.vectors (CellName ∷ ws) w (cell_bound o w.name ws s)
+  cell_bound_continues e (Some class) = (λ h. h, λ ts d. a_cell_name e d)
+  cell_bound_continues e None = λ _. behind (CellName ∷ ws) ws (λ ts d. a_cell_name e d)
+
+  cell_name_continues : Continues s.vectors (CellName ∷ ws) w (cell_name w ws s)
+  cell_name_continues =
+      cond_both (is_variable w.kind) _ _ (Continues s.vectors (CellName ∷ ws) w) (λ e. cell_bound_continues e s.made) (λ _ f. no_fault f)
 
   cells_continue : Continues s.vectors (Cells ∷ ws) w (cells w ws s)
   cells_continue =
       cond_both (is_right w.kind) _ _ (Continues s.vectors (Cells ∷ ws) w) (λ e. (λ h. h, λ ts d. no_more_cells e d))
-      (λ _. cell_continues (Cells ∷ ws) (Cells ∷ ws) (λ h. h) (λ e ts d. one_more_cell e d) w.kind refl)
+      (λ _. cell_continues (Cells ∷ ws) (Cells ∷ ws) (λ h. h) (λ e ts d. one_more_cell e d))
 
   items_continue : Continues s.vectors (Items ∷ ws) w (items w ws s)
   items_continue =
       cond_both (is_right w.kind) _ _ (Continues s.vectors (Items ∷ ws) w) (λ e. (λ h. h, λ ts d. no_item e d))
       (λ _. cond_both (is_left w.kind) _ _ (Continues s.vectors (Items ∷ ws) w) (λ e. (λ h. h, λ ts d. an_item_form e d))
-      (λ _. value_for_continues (Items ∷ ws) (Items ∷ ws) (λ h. h) ToItem (λ e ts d. an_item e d) (λ e ts d. a_literal_item e d)))
+      (λ no_left. value_for_continues (Items ∷ ws) (Items ∷ ws) (λ h. h) ToItem (λ e ts d. an_item e d) (λ e ts d. a_literal_item e d)
+      (λ left _ ts d. absurd (true≢false (sym left ∙ no_left)))))
 
-  item_word_continues : Continues s.vectors (ItemWord ∷ ws) w (item_word w ws s)
-  item_word_continues = cond_both (is_crlf w.keyword) _ _ (Continues s.vectors (ItemWord ∷ ws) w) (λ e. (λ h. h, λ ts d. a_crlf (crlf_of w.keyword e) d)) (λ _ f. no_fault f)
+  item_word_continues : (k : Keyword) → w.keyword ≡ k → Continues s.vectors (ItemWord ∷ ws) w (item_word k ws s)
+  item_word_continues keyword.Crlf e = (λ h. h, λ ts d. a_crlf e d)
+  item_word_continues keyword.Tabto e = (λ h. h, λ ts d. a_tab e d)
+  item_word_continues keyword.Rjust e = (λ h. h, λ ts d. a_right e d)
+  item_word_continues keyword.Substr e = (λ h. h, λ ts d. a_substr_item e d)
+  item_word_continues _ e = λ f. no_fault f
+
+  columns_continue : (c : Column) (o : Option ℕ) → small_of w.kind ≡ o → Continues s.vectors (Columns c ∷ ws) w (columns_at c o ws s)
+  columns_continue c (Some n) e = (λ h. h, λ ts d. some_columns (ap (λ (o : Option ℕ). is_some o) e) d)
+  columns_continue c None e = λ f. no_fault f
 
   closes_continues : (e : Ends) → Continues s.vectors (Closes e ∷ ws) w (closes e w ws s)
   closes_continues e = cond_both (is_right w.kind) _ _ (Continues s.vectors (Closes e ∷ ws) w) (λ is. (λ h. h, kept (ended e s) (ended_vectors e s) (Closes e ∷ ws) ws (λ ts d. a_closing is d))) (λ _ f. no_fault f)
@@ -430,12 +506,20 @@ step_continues w (Tested f p ∷ ws) s a =
 step_continues w (Choice f ∷ ws) s a = choice_continues w ws s f
 step_continues w (Atom t ∷ ws) s a = atom_continues w ws s t (atom_of w.kind w.name) refl
 step_continues w (ValueFor t ∷ ws) s a = value_continues w ws s t
+step_continues w (Function t ∷ ws) s a = function_continues w ws s t w.keyword refl
+step_continues w (SourceCell ∷ ws) s a = source_cell_continues w ws s
+step_continues w (SourceAttribute t ∷ ws) s a = source_attribute_continues w ws s t
+step_continues w (SourceEnd t name ∷ ws) s a = source_end_continues w ws s t name a.2
 step_continues w (Actions ∷ ws) s a = actions_continue w ws s
 step_continues w (ActionWord ∷ ws) s a = action_word_continues w ws s w.keyword refl
-step_continues w (Cell ∷ ws) s a = cell_continues w ws s (Cell ∷ ws) ws (λ h. h) (λ e ts d. a_cell e d) w.kind refl
+step_continues w (Modified ∷ ws) s a = modified_continues w ws s
+step_continues w (BoundName ∷ ws) s a = bound_name_continues w ws s
+step_continues w (CellName ∷ ws) s a = cell_name_continues w ws s
+step_continues w (Cell ∷ ws) s a = cell_continues w ws s (Cell ∷ ws) ws (λ h. h) (λ e ts d. a_cell e d)
 step_continues w (Cells ∷ ws) s a = cells_continue w ws s
 step_continues w (Items ∷ ws) s a = items_continue w ws s
-step_continues w (ItemWord ∷ ws) s a = item_word_continues w ws s
+step_continues w (ItemWord ∷ ws) s a = item_word_continues w ws s w.keyword refl
+step_continues w (Columns c ∷ ws) s a = columns_continue w ws s c (small_of w.kind) refl
 step_continues w (Closes e ∷ ws) s a = closes_continues w ws s e
 
 module _ (w : Word) (ws : List Wanted) (s : State) (arranged : AreArranged ws s) where

@@ -1,7 +1,7 @@
 -- What the machine does at a word that the grammar derives.
-use Rattle.std.proofs.Common.{◌≡◌, ℕ, suc, arith, ◌+◌, ◌-◌, Bool, true, false, not, ◌||◌, ◌==◌, List, [], ◌∷◌, ◌++◌, length, take, refl, sym, ap, subst, ◌∙◌, cond, Option, Some, None, true≢false, nat_lt, is_some, position, slice_get}
+use Rattle.std.proofs.Common.{◌≡◌, ℕ, suc, arith, ◌+◌, ◌-◌, Bool, true, false, not, ◌&&◌, ◌||◌, ◌==◌, List, [], ◌∷◌, ◌++◌, length, take, refl, sym, ap, subst, ◌∙◌, cond, Option, Some, None, Result, Ok, Err, true≢false, nat_lt, is_some, position, slice_get}
 use Rattle.std.specs.List.{list_any}
-use Rattle.std.proofs.lemmas.Bool.{cond_both, and_parts, or_left, or_right}
+use Rattle.std.proofs.lemmas.Bool.{cond_both, and_parts, and_from, or_left, or_right}
 use Rattle.ops_base.specs.declared.values.Sym.{Sym}
 use Rattle.ops_base.specs.declared.values.Value.{Value}
 use Rattle.ops_base.specs.declared.values.Pred.{Pred}
@@ -16,10 +16,10 @@ use Rattle.ops_tokens.specs.declared.token.TokenKind.TheVariants as kind
 use Rattle.ops_meaning.specs.declared.words.Word.{Word}
 use Rattle.ops_meaning.specs.declared.words.Keyword.{Keyword}
 use Rattle.ops_meaning.specs.declared.words.Keyword.TheVariants as keyword
-use Rattle.ops_meaning.specs.Grammar.{Use, InPattern, InPut, InFixed, Target, ToTest, ToPut, ToTerms, ToConstants, ToItem, Wanted, Forms, Attribute, VectorNames, Patterns, Pattern, Braced, ClosesBrace, ClassName, Terms, Several, Place, Tests, Choice, ValueFor, Atom, Tested, Cells, Items, State, Step, Next, Refuses, is_left, is_right, is_left_brace, is_right_brace, is_caret, is_name, is_variable, is_arrow, is_crlf, is_literal, is_minus, opens_choice, closes_choice, pred_of, constant_of, value_of, atom_of, natural_of, is_one_of, number_of, may_declare, is_class, is_rule, is_second, makes_second, vector_declared, form, class_at, attributes_of, behind_attribute, field_at, with_constant, variable_tested, constant_tested, tested, predicated, test, place, tests, chosen, atom_at, term_at, bound_at, constant_at, value_for, with_element, terms, within, one_of_several, with_several, several, one_more, element_at, action_word, designated, cell_of, cell_named, cell, ended, step}
-use Rattle.ops_meaning.specs.Derivation.{is_designator, is_operand, is_value, with_name, Derives, nothing, no_form, a_form, a_literalize, a_class, an_attribute, no_attribute, a_vector_declaration, a_vector, one_more_vector, no_more_vectors, a_production, a_rule, a_first, a_braced_first, a_negated_first, a_pattern, a_braced_pattern, a_negated_pattern, a_whole_pattern, a_name_before, a_name_behind, an_element_name, a_closed_brace, an_arrow, a_make, a_run, a_class_name, a_term, no_term, a_scalar_attribute, a_vector_attribute, one_more_place, one_more_term, one_more_constant, no_more_of_several, a_value, a_literal_value, an_atom, a_conjunction, no_more_tests, an_operand, a_literal, a_predicate, a_disjunction, one_more_operand, one_more_literal, one_more_predicate, one_more_disjunction, a_tested_operand, a_tested_literal, one_more_choice, no_more_choices, an_action, no_action, to_make, to_remove, to_write, to_halt, a_cell, one_more_cell, no_more_cells, an_item, a_literal_item, an_item_form, no_item, a_crlf, a_closing, is_no_form}
+use Rattle.ops_meaning.specs.Grammar.{Use, InPattern, InPut, InFixed, Target, ToTest, ToPut, ToTerms, ToConstants, ToItem, ToBind, EndsWhole, Column, Wanted, Forms, Attribute, VectorNames, Patterns, Pattern, Braced, ClosesBrace, ClassName, Terms, Several, Place, Tests, Choice, ValueFor, Function, SourceEnd, Atom, Tested, Cells, Items, Closes, State, Step, Next, Refuses, is_left, is_right, is_left_brace, is_right_brace, is_caret, is_name, is_variable, is_arrow, is_literal, is_inf, is_minus, opens_choice, closes_choice, pred_of, constant_of, value_of, atom_of, natural_of, small_of, is_one_of, number_of, may_declare, is_class, is_rule, is_second, makes_second, vector_declared, form, class_at, attributes_of, behind_attribute, field_at, with_bind, with_constant, variable_tested, constant_tested, tested, predicated, test, place, tests, chosen, atom_at, term_at, bound_at, constant_at, is_of_action, value_for, function, source_named, source_class, source_at, takes_several, ends_at_inf, source_end, with_element, terms, within, one_of_several, with_several, several, one_more, element_at, action_word, designated, numbered_cell, named_cell, cell_of, with_designated, with_modified, cell_bound, item_word, columns_at, ended, step}
+use Rattle.ops_meaning.specs.Derivation.{is_designator, is_operand, is_value, with_name, Derives, nothing, no_form, a_form, a_literalize, a_class, an_attribute, no_attribute, a_vector_declaration, a_vector, one_more_vector, no_more_vectors, a_production, a_rule, a_first, a_braced_first, a_negated_first, a_pattern, a_braced_pattern, a_negated_pattern, a_whole_pattern, a_name_before, a_name_behind, an_element_name, a_closed_brace, an_arrow, a_make, a_run, a_class_name, a_term, no_term, a_scalar_attribute, a_vector_attribute, one_more_place, one_more_term, one_more_constant, no_more_of_several, a_value, a_literal_value, a_function, a_substr, a_source, a_source_attribute, the_same_again, up_to_inf, an_atom, a_conjunction, no_more_tests, an_operand, a_literal, a_predicate, a_disjunction, one_more_operand, one_more_literal, one_more_predicate, one_more_disjunction, a_tested_operand, a_tested_literal, one_more_choice, no_more_choices, an_action, no_action, to_make, to_modify, to_bind, to_cbind, to_remove, to_write, to_halt, a_modified, a_bound_name, a_cell_name, a_cell, one_more_cell, no_more_cells, an_item, a_literal_item, an_item_form, no_item, a_crlf, a_tab, a_right, a_substr_item, some_columns, a_closing, is_no_form}
 use Rattle.ops_meaning.proofs.Arranged.{AreArranged, kind_agrees}
-use Rattle.ops_meaning.proofs.Derived.{forms_last, constant_vectors, element_vectors, ended_vectors}
+use Rattle.ops_meaning.proofs.Derived.{forms_last, bind_vectors, constant_vectors, element_vectors, ended_vectors}
 use Rattle.ops_meaning.proofs.Moved.{at_any_place, several_at_any_place}
 use Rattle.ops_meaning.proofs.Proper.{is_mark, is_proper, arrow_marks, literal_marks, minus_marks, opening_marks, pred_marks, literal_no_opening, literal_no_pred, minus_no_arrow, pred_no_opening, not_met, mark_kind, no_mark}
 
@@ -93,6 +93,10 @@ value_goes_on kind.Right name e = absurd (true≢false (sym e))
 value_goes_on kind.Caret name e = absurd (true≢false (sym e))
 value_goes_on _ name e = refl
 
+left_goes_on : (k : TokenKind) → is_left k ≡ true → ends_several k ≡ false
+left_goes_on kind.Left e = refl
+left_goes_on _ e = absurd (true≢false (sym e))
+
 mark_goes_on : (w : Word) → is_mark w.keyword ≡ true → is_proper w ≡ true → ends_several w.kind ≡ false
 mark_goes_on w mark proper = ap ends_several (mark_kind w.kind w.keyword mark proper)
 
@@ -107,6 +111,7 @@ place_begins f vs ws w ts (a_disjunction e d) proper = mark_goes_on w (opening_m
 value_begins : (t : Target) (vs : List Sym) (ws : List Wanted) (w : Word) (ts : List Word) → Derives vs (ValueFor t ∷ ws) (w ∷ ts) → is_proper w ≡ true → ends_several w.kind ≡ false
 value_begins t vs ws w ts (a_value e d) proper = value_goes_on w.kind w.name (and_parts (not (is_literal w.keyword)) _ e).1
 value_begins t vs ws w ts (a_literal_value e d) proper = mark_goes_on w (literal_marks w.keyword e) proper
+value_begins t vs ws w ts (a_function e of_action d) proper = left_goes_on w.kind e
 
 terms_begin : (u : Use) (vs : List Sym) (ws : List Wanted) (w : Word) (ts : List Word) → Derives vs (Terms u ∷ ws) (w ∷ ts) → ends_several w.kind ≡ true
 terms_begin u vs ws w ts (a_term e d) = or_right (is_right w.kind) _ e
@@ -148,6 +153,12 @@ module _ (w : Word) (ts : List Word) where
 
     action_goes : (k : Keyword) → w.keyword ≡ k → Went w ts (action_word k ws s) → Went w ts (action_word w.keyword ws s)
     action_goes k e h = subst (λ (x : Keyword). Went w ts (action_word x ws s)) (sym e) h
+
+    function_goes : (t : Target) (k : Keyword) → w.keyword ≡ k → Went w ts (function t k ws s) → Went w ts (function t w.keyword ws s)
+    function_goes t k e h = subst (λ (x : Keyword). Went w ts (function t x ws s)) (sym e) h
+
+    item_goes : (k : Keyword) → w.keyword ≡ k → Went w ts (item_word k ws s) → Went w ts (item_word w.keyword ws s)
+    item_goes k e h = subst (λ (x : Keyword). Went w ts (item_word x ws s)) (sym e) h
 
     class_goes : (o : Option ℕ) → Derives s.vectors ws ts → Went w ts (class_at o ws s)
     class_goes (Some c) d = λ _. d
@@ -225,6 +236,8 @@ module _ (w : Word) (ts : List Word) where
     term_goes (ToPut f) x d = λ _. d
     term_goes ToTerms x d = λ _. d
     term_goes ToItem x d = λ _. d
+    term_goes ToBind x d =
+        let o : Option ℕ = number_of s.variable s.values in λ _. same_names (with_bind o s x) (bind_vectors o s x) d
     term_goes _ x d = refl
 
     bound_goes : (t : Target) (o : Option ℕ) → Derives s.vectors ws ts → Went w ts (bound_at t o ws s)
@@ -238,7 +251,32 @@ module _ (w : Word) (ts : List Word) where
     value_goes : (t : Target) → is_value w ≡ true → Derives s.vectors ws ts → Went w ts (value_for t w ws s)
     value_goes t e d =
         let each = and_parts (not (is_literal w.keyword)) _ e in
-        unmet (is_literal w.keyword) _ _ (not_met _ each.0) (constant_at_goes t (value_of w.kind w.name) each.1 d)
+        unmet (is_literal w.keyword) _ _ (not_met _ each.0)
+        (unmet (is_left w.kind && is_of_action t) _ _ (ap (λ (b : Bool). b && is_of_action t) (value_not_left w.kind w.name each.1))
+        (constant_at_goes t (value_of w.kind w.name) each.1 d))
+
+    -- `substr`
+    called_goes : (t : Target) → is_left w.kind ≡ true → is_of_action t ≡ true → Derives s.vectors (Function t ∷ ws) ts → Went w ts (value_for t w ws s)
+    called_goes t e of_action d =
+        cond_both (is_literal w.keyword) _ _ (Went w ts) (λ l proper. no_mark w is_left refl (literal_marks w.keyword l) e proper)
+        (λ _. met (is_left w.kind && is_of_action t) _ _ (and_from _ _ e of_action) (λ _. d))
+
+    source_goes : (o : Option ℕ) → Derives s.vectors ws ts → Went w ts (source_named o ws s)
+    source_goes (Some c) d = λ _. d
+    source_goes None d = refl
+
+    source_at_goes : (t : Target) (o : Option ℕ) → Derives s.vectors (SourceEnd t w.name ∷ Closes EndsWhole ∷ ws) ts → Went w ts (source_at t w.name o ws s)
+    source_at_goes t (Some f) d = λ _. d
+    source_at_goes t None d = refl
+
+    same_goes : (t : Target) (name : Sym) → is_name w.kind ≡ true → (w.name.0 == name.0) ≡ true → ends_at_inf w s ≡ false → Derives s.vectors ws ts → Went w ts (source_end t name w ws s)
+    same_goes t name e same other d =
+        unmet (ends_at_inf w s) _ _ other
+        (met (is_name w.kind && (w.name.0 == name.0)) _ _ (and_from _ _ e same) (term_goes t (term.One s.source s.source_field) d))
+
+    inf_goes : (t : Target) (name : Sym) → ends_at_inf w s ≡ true → takes_several t ≡ true → Derives s.vectors ws ts → Went w ts (source_end t name w ws s)
+    inf_goes t name e several d =
+        met (ends_at_inf w s) _ _ e (met (takes_several t) _ _ several (term_goes t (term.Rest s.source) d))
 
     -- what stands behind a vector attribute
     ended_goes : (u : Use) (s' : State) → ends_several w.kind ≡ true → ¬ (is_proper w ≡ true) → Went w ts (terms u w ws s')
@@ -260,23 +298,46 @@ module _ (w : Word) (ts : List Word) where
     one_more_goes : (is_proper w ≡ true → Derives s.vectors ws ts) → Went w ts (one_more ws s)
     one_more_goes h = cond_both (nat_lt (length s.conditions) most_conditions) _ _ (Went w ts) (λ _. h) (λ _. refl)
 
-    designated_goes : (before : ℕ) (o : Option Condition) → Derives s.vectors ws ts → Went w ts (designated before o ws s)
-    designated_goes before (Some c) d =
-        cond_both c.negated _ _ (Went w ts) (λ _. refl) (λ _. cond_both (list_any (λ c. c.negated) (take before s.conditions)) _ _ (Went w ts) (λ _. refl) (λ _ _. d))
-    designated_goes before None d = refl
+    -- a word that designates no cell is refused in a form
+    abbrev InForm : Result ℕ Fault → Type 0
+    InForm (Ok c) = Unit {0}
+    InForm (Err f) = is_no_form f ≡ false
 
-    cell_of_goes : (o : Option ℕ) → Derives s.vectors ws ts → Went w ts (cell_of o ws s)
-    cell_of_goes (Some n) d = designated_goes (n - 1) (slice_get s.conditions (n - 1)) d
-    cell_of_goes None d = refl
+    designated_in_form : (before : ℕ) (o : Option Condition) → InForm (designated before o s)
+    designated_in_form before (Some c) =
+        cond_both c.negated _ _ InForm (λ _. refl) (λ _. cond_both (list_any (λ c. c.negated) (take before s.conditions)) _ _ InForm (λ _. refl) (λ _. tt))
+    designated_in_form before None = refl
 
-    cell_named_goes : (o : Option ℕ) → Derives s.vectors ws ts → Went w ts (cell_named o ws s)
-    cell_named_goes (Some c) d = λ _. d
-    cell_named_goes None d = refl
+    numbered_in_form : (o : Option ℕ) → InForm (numbered_cell o s)
+    numbered_in_form (Some n) = designated_in_form (n - 1) (slice_get s.conditions (n - 1))
+    numbered_in_form None = refl
 
-    cell_goes : (k : TokenKind) → is_designator k ≡ true → Derives s.vectors ws ts → Went w ts (cell k w.name ws s)
-    cell_goes (kind.Whole n) e d = cell_of_goes (natural_of n) d
-    cell_goes kind.Variable e d = cell_named_goes (number_of w.name s.elements) d
-    cell_goes _ e d = absurd (true≢false (sym e))
+    named_in_form : (o : Option ℕ) → InForm (named_cell o)
+    named_in_form (Some c) = tt
+    named_in_form None = refl
+
+    cell_in_form : (k : TokenKind) → is_designator k ≡ true → InForm (cell_of k w.name s)
+    cell_in_form (kind.Whole n) e = numbered_in_form (natural_of n)
+    cell_in_form kind.Variable e = named_in_form (number_of w.name s.elements)
+    cell_in_form _ e = absurd (true≢false (sym e))
+
+    designated_goes : (r : Result ℕ Fault) → InForm r → Derives s.vectors ws ts → Went w ts (with_designated r ws s)
+    designated_goes (Ok c) in_form d = λ _. d
+    designated_goes (Err f) in_form d = in_form
+
+    modified_goes : (r : Result ℕ Fault) → InForm r → Derives s.vectors ws ts → Went w ts (with_modified r ws s)
+    modified_goes (Ok c) in_form d = λ _. d
+    modified_goes (Err f) in_form d = in_form
+
+    -- `cbind`
+    cell_bound_goes : (o : Option ℕ) → Derives s.vectors ws ts → Went w ts (cell_bound o w.name ws s)
+    cell_bound_goes (Some class) d = λ _. d
+    cell_bound_goes None d = refl
+
+    -- a number of columns
+    columns_go : (c : Column) (o : Option ℕ) → is_some o ≡ true → Derives s.vectors ws ts → Went w ts (columns_at c o ws s)
+    columns_go c (Some n) e d = λ _. d
+    columns_go c None e d = absurd (true≢false (sym e))
 
 -- behind a vector attribute
 place_more : (f : ℕ) (ws : List Wanted) (words : List Word) (s : State) → Derives s.vectors (Place f ∷ Several InPattern (suc f) ∷ ws) words
@@ -414,6 +475,16 @@ derived_goes ws words s a (no_more_of_several {u = InFixed} {f = f} {ws = rest} 
     no_more InFixed f rest words s d (derived_goes (Terms InFixed ∷ rest) words (with_several InFixed f s) a d last)
 derived_goes ws words s a (a_value {t = t} {ws = rest} {w = w} {ts = ts} e d) last = value_goes w ts rest s t e d
 derived_goes ws words s a (a_literal_value {w = w} {ts = ts} e d) last = met w ts (is_literal w.keyword) _ _ e (λ _. d)
+derived_goes ws words s a (a_function {t = t} {ws = rest} {w = w} {ts = ts} e of_action d) last = called_goes w ts rest s t e of_action d
+derived_goes ws words s a (a_substr {t = t} {ws = rest} {w = w} {ts = ts} e d) last = function_goes w ts rest s t keyword.Substr e (λ _. d)
+derived_goes ws words s a (a_source {ws = rest} {w = w} {ts = ts} e d) last =
+    met w ts (is_variable w.kind) _ _ e (source_goes w ts rest s (number_of w.name s.elements) d)
+derived_goes ws words s a (a_source_attribute {t = t} {ws = rest} {w = w} {ts = ts} e d) last =
+    met w ts (is_name w.kind) _ _ e (source_at_goes w ts rest s t (position (λ a. a.0 == w.name.0) (source_class s).attrs) d)
+derived_goes ws words s a (the_same_again {t = t} {name = name} {ws = rest} {w = w} {ts = ts} e same other d) last =
+    same_goes w ts rest s t name e same (ap (λ (b : Bool). is_inf w.keyword && b) a.2 ∙ other) d
+derived_goes ws words s a (up_to_inf {t = t} {name = name} {ws = rest} {w = w} {ts = ts} e vector several d) last =
+    inf_goes w ts rest s t name (and_from _ _ e (a.2 ∙ vector)) several d
 derived_goes ws words s a (an_atom {t = t} {ws = rest} {w = w} {ts = ts} e d) last = atom_goes w ts rest s t (atom_of w.kind w.name) e d
 derived_goes ws words s a (a_conjunction {w = w} {ts = ts} e d) last = met w ts (is_left_brace w.kind) _ _ e (λ _. d)
 derived_goes ws words s a (no_more_tests {w = w} {ts = ts} e d) last = met w ts (is_right_brace w.kind) _ _ e (λ _. d)
@@ -443,12 +514,22 @@ derived_goes ws words s a (an_action {w = w} {ts = ts} e d) last =
     unmet w ts (is_right w.kind) _ _ (left_not_right w.kind e) (met w ts (is_left w.kind) _ _ e (λ _. d))
 derived_goes ws words s a (no_action {w = w} {ts = ts} e d) last = met w ts (is_right w.kind) _ _ e (λ _. d)
 derived_goes ws words s a (to_make {ws = rest} {w = w} {ts = ts} e d) last = action_goes w ts rest s keyword.Make e (λ _. d)
+derived_goes ws words s a (to_modify {ws = rest} {w = w} {ts = ts} e d) last = action_goes w ts rest s keyword.Modify e (λ _. d)
+derived_goes ws words s a (to_bind {ws = rest} {w = w} {ts = ts} e d) last = action_goes w ts rest s keyword.Bind e (λ _. d)
+derived_goes ws words s a (to_cbind {ws = rest} {w = w} {ts = ts} e d) last = action_goes w ts rest s keyword.Cbind e (λ _. d)
 derived_goes ws words s a (to_remove {ws = rest} {w = w} {ts = ts} e d) last = action_goes w ts rest s keyword.Remove e (λ _. d)
 derived_goes ws words s a (to_write {ws = rest} {w = w} {ts = ts} e d) last = action_goes w ts rest s keyword.Write e (λ _. d)
 derived_goes ws words s a (to_halt {ws = rest} {w = w} {ts = ts} e d) last = action_goes w ts rest s keyword.Halt e (λ _. d)
-derived_goes ws words s a (a_cell {ws = rest} {w = w} {ts = ts} e d) last = cell_goes w ts rest s w.kind e d
+derived_goes ws words s a (a_modified {ws = rest} {w = w} {ts = ts} e d) last =
+    modified_goes w ts rest s (cell_of w.kind w.name s) (cell_in_form w ts rest s w.kind e) d
+derived_goes ws words s a (a_bound_name {w = w} {ts = ts} e d) last = met w ts (is_variable w.kind) _ _ e (λ _. d)
+derived_goes ws words s a (a_cell_name {ws = rest} {w = w} {ts = ts} e d) last =
+    met w ts (is_variable w.kind) _ _ e (cell_bound_goes w ts rest s s.made d)
+derived_goes ws words s a (a_cell {ws = rest} {w = w} {ts = ts} e d) last =
+    designated_goes w ts rest s (cell_of w.kind w.name s) (cell_in_form w ts rest s w.kind e) d
 derived_goes ws words s a (one_more_cell {ws = rest} {w = w} {ts = ts} e d) last =
-    unmet w ts (is_right w.kind) _ _ (designator_not_right w.kind e) (cell_goes w ts (Cells ∷ rest) s w.kind e d)
+    unmet w ts (is_right w.kind) _ _ (designator_not_right w.kind e)
+    (designated_goes w ts (Cells ∷ rest) s (cell_of w.kind w.name s) (cell_in_form w ts (Cells ∷ rest) s w.kind e) d)
 derived_goes ws words s a (no_more_cells {w = w} {ts = ts} e d) last = met w ts (is_right w.kind) _ _ e (λ _. d)
 derived_goes ws words s a (an_item {ws = rest} {w = w} {ts = ts} e d) last =
     let each = and_parts (not (is_literal w.keyword)) _ e in
@@ -461,7 +542,12 @@ derived_goes ws words s a (a_literal_item {w = w} {ts = ts} e d) last =
 derived_goes ws words s a (an_item_form {w = w} {ts = ts} e d) last =
     unmet w ts (is_right w.kind) _ _ (left_not_right w.kind e) (met w ts (is_left w.kind) _ _ e (λ _. d))
 derived_goes ws words s a (no_item {w = w} {ts = ts} e d) last = met w ts (is_right w.kind) _ _ e (λ _. d)
-derived_goes ws words s a (a_crlf {w = w} {ts = ts} e d) last = met w ts (is_crlf w.keyword) _ _ (ap is_crlf e) (λ _. d)
+derived_goes ws words s a (a_crlf {ws = rest} {w = w} {ts = ts} e d) last = item_goes w ts rest s keyword.Crlf e (λ _. d)
+derived_goes ws words s a (a_tab {ws = rest} {w = w} {ts = ts} e d) last = item_goes w ts rest s keyword.Tabto e (λ _. d)
+derived_goes ws words s a (a_right {ws = rest} {w = w} {ts = ts} e d) last = item_goes w ts rest s keyword.Rjust e (λ _. d)
+derived_goes ws words s a (a_substr_item {ws = rest} {w = w} {ts = ts} e d) last = item_goes w ts rest s keyword.Substr e (λ _. d)
+derived_goes ws words s a (some_columns {c = column} {ws = rest} {w = w} {ts = ts} e d) last =
+    columns_go w ts rest s column (small_of w.kind) e d
 derived_goes ws words s a (a_closing {e = end} {ws = rest} {w = w} {ts = ts} e d) last =
     met w ts (is_right w.kind) _ _ e (λ _. same_names w ts rest s (ended end s) (ended_vectors end s) d)
 

@@ -1,8 +1,10 @@
 -- What was read stays valid where one more part of it stands at the end.
-use Rattle.std.proofs.Common.{◌≡◌, ℕ, ◌+◌, ◌-◌, ◌<◌, ◌≤◌, Bool, true, false, not, ◌&&◌, ◌||◌, ◌==◌, cond, List, [], ◌∷◌, ◌++◌, length, map, refl, sym, ap, ◌∙◌, arith, Option, Some, nat_lt, nat_le, take, true≢false, length-append}
+use Rattle.std.proofs.Common.{◌≡◌, ℕ, ◌+◌, ◌-◌, ◌<◌, ◌≤◌, zero, suc, Bool, true, false, not, ◌&&◌, ◌||◌, ◌==◌, cond, List, [], ◌∷◌, ◌++◌, length, map, refl, sym, ap, subst, ◌∙◌, arith, Option, Some, None, nat_lt, nat_le, take, unwrap_or, true≢false, length-append, append-nil, append_assoc}
 use Rattle.std.specs.List.{list_all, list_any}
 use Rattle.std.proofs.lemmas.Bool.{and_parts, and_from, or_left, or_right, cond_both, cond-true, eq-eqb, eqb-true, ltb-true, lt-ltb, leb-true, le-leb}
 use Rattle.std.proofs.lemmas.List.{map-append, take-append-le, take_all}
+use Rattle.std.proofs.lemmas.List.Folds.{list_any-append}
+use Rattle.std.proofs.lemmas.Option.{slice_get-get_or}
 use Rattle.ops_base.specs.declared.values.Sym.{Sym}
 use Rattle.ops_base.specs.declared.values.Value.{Value}
 use Rattle.ops_base.specs.declared.values.Pred.{Pred}
@@ -13,15 +15,18 @@ use Rattle.ops_base.specs.declared.conditions.Operand.TheVariants as operand
 use Rattle.ops_base.specs.declared.conditions.Test.{Test}
 use Rattle.ops_base.specs.declared.conditions.Condition.{Condition}
 use Rattle.ops_base.specs.declared.actions.Term.{Term}
+use Rattle.ops_base.specs.declared.actions.Term.TheVariants as term
+use Rattle.ops_base.specs.declared.actions.Put.{Put}
 use Rattle.ops_base.specs.declared.actions.Action.{Action}
+use Rattle.ops_base.specs.declared.actions.Action.TheVariants as action
 use Rattle.ops_base.specs.declared.rules.Rule.{Rule}
 use Rattle.ops_base.specs.declared.commands.Command.{Command}
-use Rattle.ops_base.specs.Valid.{longest_list, most_fields, most_conditions, fits, is_in, are_distinct, no_class, class_of, class_is_valid, is_attribute, is_vector, is_field, Sight, operand_is_valid, tests_are_valid, sight_after_tests, nothing_in_sight, cells_of, specificity, known_of, Known, known_after, term_is_valid, put_is_valid, action_is_valid, fixed_is_valid, command_is_valid}
+use Rattle.ops_base.specs.Valid.{longest_list, most_fields, most_conditions, fits, is_in, are_distinct, no_class, class_of, class_is_valid, is_attribute, is_vector, is_field, Sight, operand_is_valid, tests_are_valid, sight_after_tests, nothing_in_sight, cells_of, is_cell, specificity, known_of, Known, known_after, term_is_valid, put_is_valid, action_is_valid, fixed_is_valid, command_is_valid}
 use Rattle.ops_meaning.specs.declared.words.Named.{Named}
-use Rattle.ops_meaning.specs.Grammar.{is_one_of, number_of, arranged, has_vector, with_vector_last}
-use Rattle.ops_meaning.proofs.Lists.{all_push, all_none, all_weaker, all_at, any_some, distinct_push, in_map, cond_alike, length-parted, parted_distinct}
+use Rattle.ops_meaning.specs.Grammar.{is_one_of, number_of, renumbered, arranged, has_vector, with_vector_last, put_action}
+use Rattle.ops_meaning.proofs.Lists.{all_push, all_none, all_weaker, all_at, all_in, any_some, distinct_push, in_map, cond_alike, length-parted, parted_distinct}
 use Rattle.ops_meaning.proofs.Parts.{tests_push, sight_push, conditions_push, sight_conditions_push, actions_push, known_push, first_push, some_cell, cells_push}
-use Rattle.ops_meaning.proofs.Sound.{IsProgram, IsDeclaring, IsClass, numbers, Variables, seen, all_below, IsHead, known, IsBody}
+use Rattle.ops_meaning.proofs.Sound.{IsProgram, IsDeclaring, IsClass, numbers, Variables, seen, all_below, IsHead, known, Side, Knows, IsBody, IsNamed}
 
 pub fits_below : {X : Type 0} (xs : List X) (n : ℕ) → length xs ≤ n → n ≤ longest_list → fits xs ≡ true
 fits_below xs n short le = le-leb (length xs) longest_list (omega arith)
@@ -111,15 +116,6 @@ pub number_in : (name : Sym) (values : List Named) (n : ℕ) → number_of name 
 number_in name [] n e = absurd (cc)
 number_in name (v ∷ vs) n e = number_by (v.name.0 == name.0) v.number n (number_of name vs) (numbers vs) e (number_in name vs n)
 
-pub below_more : (values : List Named) (name : Sym) → list_all (λ v. nat_lt v (length values)) (numbers values) ≡ true → list_all (λ v. nat_lt v (length (values ++ record { name = name; number = length values } ∷ []))) (numbers (values ++ record { name = name; number = length values } ∷ [])) ≡ true
-below_more values name h =
-    let more : length (values ++ record { name = name; number = length values } ∷ []) ≡ length values + 1 = length-append values (record { name = name; number = length values } ∷ []) in
-    let p : ℕ → Bool = λ v. nat_lt v (length (values ++ record { name = name; number = length values } ∷ [])) in
-    ap (list_all p) (map-append (λ n. n.number) values (record { name = name; number = length values } ∷ []))
-    ∙ all_push p (numbers values) (length values)
-    (all_weaker (λ v. nat_lt v (length values)) p (numbers values) (λ v lt. let below : v < length values = ltb-true v (length values) lt in lt-ltb _ _ (omega arith)) h)
-    (lt-ltb _ _ (omega arith))
-
 below_grown : (k m : ℕ) (ns : List ℕ) → k ≤ m → all_below k ns ≡ true → all_below m ns ≡ true
 below_grown k m ns le h = all_weaker (λ n. nat_lt n k) (λ n. nat_lt n m) ns (λ n lt. let below : n < k = ltb-true n k lt in lt-ltb n m (omega (arith, le))) h
 
@@ -128,6 +124,34 @@ below_next k ns h =
     all_push (λ n. nat_lt n (k + 1)) ns k
     (all_weaker (λ n. nat_lt n k) (λ n. nat_lt n (k + 1)) ns (λ n lt. let below : n < k = ltb-true n k lt in lt-ltb n (k + 1) (omega arith)) h)
     (lt-ltb k (k + 1) (omega arith))
+
+-- some of them are below what all are
+first_below : (k n : ℕ) (values : List Named) → all_below k (numbers values) ≡ true → all_below k (numbers (take n values)) ≡ true
+first_below k zero values h = refl
+first_below k (suc n) [] h = refl
+first_below k (suc n) (v ∷ vs) h =
+    let parts = and_parts (nat_lt v.number k) (all_below k (numbers vs)) h in and_from _ _ parts.0 (first_below k n vs parts.1)
+
+renumbered_below : (k m : ℕ) (name : Sym) (ns : List Named) → m < k → all_below k (numbers ns) ≡ true → all_below k (numbers (renumbered name m ns)) ≡ true
+renumbered_below k m name [] lt h = and_from _ _ (lt-ltb m k lt) refl
+renumbered_below k m name (n ∷ ns) lt h =
+    let parts = and_parts (nat_lt n.number k) (all_below k (numbers ns)) h in
+    cond_both (n.name.0 == name.0) _ _ (λ (xs : List Named). all_below k (numbers xs) ≡ true)
+    (λ _. and_from _ _ (lt-ltb m k lt) parts.1) (λ _. and_from _ _ parts.0 (renumbered_below k m name ns lt parts.1))
+
+in_last : (x : ℕ) (xs : List ℕ) → is_in x (xs ++ x ∷ []) ≡ true
+in_last x xs = list_any-append (λ y. y == x) xs (x ∷ []) ∙ or_right _ _ (or_left _ _ (eq-eqb x x refl))
+
+-- what is in a list is in it with one more
+all_within_more : (ns xs : List ℕ) (x : ℕ) → list_all (λ n. is_in n xs) ns ≡ true → list_all (λ n. is_in n (xs ++ x ∷ [])) ns ≡ true
+all_within_more ns xs x h =
+    all_weaker (λ n. is_in n xs) (λ n. is_in n (xs ++ x ∷ [])) ns (λ n e. list_any-append (λ y. y == n) xs (x ∷ []) ∙ or_left _ _ e) h
+
+all_within_itself : (xs : List ℕ) → list_all (λ n. is_in n xs) xs ≡ true
+all_within_itself [] = refl
+all_within_itself (x ∷ xs) =
+    and_from _ _ (or_left _ _ (eq-eqb x x refl))
+    (all_weaker (λ n. is_in n xs) (λ n. is_in n (x ∷ xs)) xs (λ n e. or_right _ _ e) (all_within_itself xs))
 
 -- ---- left sides
 
@@ -142,7 +166,7 @@ behind_condition v = record v { values = cond v.negated (take v.around v.values)
 module _ (text : ℕ) (classes : List Class) (rules : List Rule) (commands : List Command) (name : Sym) where
   pub head_begun : IsProgram text classes rules commands → list_any (λ r. r.name.0 == name.0) rules ≡ false → IsHead text classes rules commands name (record { values = []; given = 0; negated = false; around = 0; elements = [] }) [] []
   head_begun p e =
-      record { program = p; is_new = e; few = omega arith; valid = refl; first = λ some. absurd (omega arith); bound = refl; below = refl; room = λ n. omega arith; outside = λ n. refl; elements = refl }
+      record { program = p; is_new = e; few = omega arith; valid = refl; first = λ some. absurd (omega arith); bound = refl; below = refl; room = λ n. omega arith; outside = λ n. refl; counted = refl; elements = refl }
 
   pub test_kept : (v : Variables) (conditions : List Condition) (tests : List Test) (f : ℕ) (p : Pred) (o : Operand) → IsHead text classes rules commands name v conditions tests
       → IsHead text classes rules commands name v conditions (tests ++ record { field = f; pred = p; operand = o; binds = false } ∷ [])
@@ -159,6 +183,7 @@ module _ (text : ℕ) (classes : List Class) (rules : List Rule) (commands : Lis
         below = ap (λ (s : Sight). all_below v.given s.given) same ∙ h.below;
         room = h.room;
         outside = h.outside;
+        counted = h.counted;
         elements = h.elements;
       }
 
@@ -178,6 +203,7 @@ module _ (text : ℕ) (classes : List Class) (rules : List Rule) (commands : Lis
         below = ap (λ (s : Sight). all_below (v.given + 1) s.given) same ∙ below_next v.given (sight_after_tests (seen conditions) tests).given h.below;
         room = λ n. let le = h.room n in omega (arith, le, length-append v.values (one ∷ []));
         outside = λ n. h.outside n ∙ ap numbers (sym (take-append-le v.around v.values (one ∷ []) (h.room n)));
+        counted = ap (all_below (v.given + 1)) (map-append (λ n. n.number) v.values (one ∷ [])) ∙ below_next v.given (numbers v.values) h.counted;
         elements = h.elements;
       }
 
@@ -197,6 +223,10 @@ module _ (text : ℕ) (classes : List Class) (rules : List Rule) (commands : Lis
   behind_below true k s t h = h
   behind_below false k s t h = h
 
+  behind_counted : (b : Bool) (k n : ℕ) (values : List Named) → all_below k (numbers values) ≡ true → all_below k (numbers (cond b (take n values) values)) ≡ true
+  behind_counted true k n values h = first_below k n values h
+  behind_counted false k n values h = h
+
   pub condition_added : (class : ℕ) (v : Variables) (conditions : List Condition) (tests : List Test) → IsHead text classes rules commands name v conditions tests → length conditions < most_conditions → class < length classes → fits tests ≡ true
       → tests_are_valid (class_of classes class) (seen conditions) tests ≡ true → (length conditions ≡ 0 → v.negated ≡ false)
       → IsHead text classes rules commands name (behind_condition v) (conditions ++ record { class = class; negated = v.negated; tests = tests } ∷ []) []
@@ -213,6 +243,7 @@ module _ (text : ℕ) (classes : List Class) (rules : List Rule) (commands : Lis
         below = ap (λ (s : Sight). all_below v.given s.given) same ∙ behind_below v.negated v.given (seen conditions) (sight_after_tests (seen conditions) tests) h.below;
         room = λ n. absurd (true≢false (sym n));
         outside = λ n. absurd (true≢false (sym n));
+        counted = behind_counted v.negated v.given v.around v.values h.counted;
         elements = below_grown (length (cells_of conditions)) (length (cells_of (conditions ++ c ∷ []))) (numbers v.elements) (cells_push conditions c) h.elements;
       }
 
@@ -229,6 +260,7 @@ module _ (text : ℕ) (classes : List Class) (rules : List Rule) (commands : Lis
         below = h.below;
         room = λ n. omega arith;
         outside = λ n. h.bound ∙ ap numbers (sym (take_all (length v.values) v.values (omega arith)));
+        counted = h.counted;
         elements = h.elements;
       }
 
@@ -248,6 +280,7 @@ module _ (text : ℕ) (classes : List Class) (rules : List Rule) (commands : Lis
         below = h.below;
         room = h.room;
         outside = h.outside;
+        counted = h.counted;
         elements = ap (all_below (length (cells_of conditions))) (map-append (λ n. n.number) v.elements (one ∷ []))
             ∙ all_push (λ n. nat_lt n (length (cells_of conditions))) (numbers v.elements) (length (cells_of conditions) - 1) h.elements (lt-ltb _ _ (omega (arith, cells)));
       }
@@ -255,52 +288,126 @@ module _ (text : ℕ) (classes : List Class) (rules : List Rule) (commands : Lis
   -- ---- right sides
 
   -- a left side ends, where no condition is negated any more
-  head_ended : (v : Variables) (conditions : List Condition) → IsHead text classes rules commands name v conditions [] → IsHead text classes rules commands name (record v { negated = false; around = 0 }) conditions []
-  head_ended v conditions h =
+  pub body_begun : (v : Variables) (conditions : List Condition) → IsHead text classes rules commands name v conditions [] → 0 < length conditions
+      → IsBody text classes rules commands name (record v { negated = false; around = 0 }) conditions (record { made = None; further = [] }) []
+  body_begun v conditions h some =
       record {
         program = h.program;
         is_new = h.is_new;
         few = h.few;
-        valid = h.valid;
-        first = h.first;
-        bound = h.bound;
-        below = h.below;
-        room = λ n. absurd (true≢false (sym n));
-        outside = λ n. absurd (true≢false (sym n));
-        elements = h.elements;
+        left = h.valid;
+        some = h.first some;
+        valid = refl;
+        knows = record {
+          bound = ap (λ (ns : List ℕ). list_all (λ n. is_in n ns) (numbers v.values)) h.bound ∙ all_within_itself (numbers v.values);
+          given = h.below;
+          counted = h.counted;
+          cells = sym (append-nil (cells_of conditions));
+          elements = h.elements;
+          made = refl;
+        };
       }
 
-  pub body_begun : (v : Variables) (conditions : List Condition) → IsHead text classes rules commands name v conditions [] → 0 < length conditions → IsBody text classes rules commands name (record v { negated = false; around = 0 }) conditions []
-  body_begun v conditions h some = record { head = head_ended v conditions h; some = h.first some; valid = refl; bound = h.bound; given = h.below; cells = refl }
-
-  pub action_added : (v : Variables) (conditions : List Condition) (xs : List Action) (a : Action) → IsBody text classes rules commands name v conditions xs → action_is_valid classes (known conditions xs) a ≡ true
-      → (known_after (known conditions xs) a).bound ≡ (known conditions xs).bound → (known_after (known conditions xs) a).given ≡ (known conditions xs).given → (known_after (known conditions xs) a).cells ≡ (known conditions xs).cells
-      → IsBody text classes rules commands name v conditions (xs ++ a ∷ [])
-  action_added v conditions xs a h valid bound given cells =
+  pub action_added : (v v' : Variables) (conditions : List Condition) (r r' : Side) (xs : List Action) (a : Action) → IsBody text classes rules commands name v conditions r xs → action_is_valid classes (known conditions xs) a ≡ true
+      → Knows (known_after (known conditions xs) a) v' conditions r' → IsBody text classes rules commands name v' conditions r' (xs ++ a ∷ [])
+  action_added v v' conditions r r' xs a h valid knows =
       record {
-        head = h.head;
+        program = h.program;
+        is_new = h.is_new;
+        few = h.few;
+        left = h.left;
         some = h.some;
         valid = actions_push classes (known_of conditions) xs a h.valid valid;
-        bound = ap (λ (k : Known). k.bound) (known_push (known_of conditions) xs a) ∙ bound ∙ h.bound;
-        given = ap (λ (k : Known). all_below v.given k.given) (known_push (known_of conditions) xs a) ∙ ap (all_below v.given) given ∙ h.given;
-        cells = ap (λ (k : Known). k.cells) (known_push (known_of conditions) xs a) ∙ cells ∙ h.cells;
+        knows = subst (λ (k : Known). Knows k v' conditions r') (sym (known_push (known_of conditions) xs a)) knows;
       }
 
-  pub rule_added : (v : Variables) (conditions : List Condition) (xs : List Action) (first past : ℕ) → IsBody text classes rules commands name v conditions xs → fits xs ≡ true → first ≤ past → past ≤ text
-      → IsProgram text classes (rules ++ record { name = name; conditions = conditions; actions = xs; specificity = specificity conditions; variables = v.given; cells = length (cells_of conditions); first = first; past = past } ∷ []) commands
-  rule_added v conditions xs first past h short ordered within =
+  pub rule_added : (v : Variables) (conditions : List Condition) (r : Side) (xs : List Action) (first past : ℕ) → IsBody text classes rules commands name v conditions r xs → fits xs ≡ true → first ≤ past → past ≤ text
+      → IsProgram text classes (rules ++ record { name = name; conditions = conditions; actions = xs; specificity = specificity conditions; variables = v.given; cells = length (cells_of conditions ++ r.further); first = first; past = past } ∷ []) commands
+  rule_added v conditions r xs first past h short ordered within =
       record {
-        classes_valid = h.head.program.classes_valid;
-        rules_valid = all_push _ rules _ h.head.program.rules_valid
-            (and_from _ _ (and_from _ _ (and_from _ _ (and_from _ _ (and_from _ _ (and_from _ _ (and_from _ _ (and_from _ _ (and_from _ _ h.some (le-leb _ _ h.head.few)) h.head.valid) short) h.valid) (eq-eqb (specificity conditions) (specificity conditions) refl)) h.given) (eq-eqb _ _ (ap length (sym h.cells)))) (le-leb _ _ ordered)) (le-leb _ _ within));
-        commands_valid = h.head.program.commands_valid;
-        class_names = h.head.program.class_names;
-        rule_names = named_apart (λ r. r.name.0) rules _ h.head.program.rule_names h.head.is_new;
+        classes_valid = h.program.classes_valid;
+        rules_valid = all_push _ rules _ h.program.rules_valid
+            (and_from _ _ (and_from _ _ (and_from _ _ (and_from _ _ (and_from _ _ (and_from _ _ (and_from _ _ (and_from _ _ (and_from _ _ h.some (le-leb _ _ h.few)) h.left) short) h.valid) (eq-eqb (specificity conditions) (specificity conditions) refl)) h.knows.given) (eq-eqb _ _ (ap length (sym h.knows.cells)))) (le-leb _ _ ordered)) (le-leb _ _ within));
+        commands_valid = h.program.commands_valid;
+        class_names = h.program.class_names;
+        rule_names = named_apart (λ r. r.name.0) rules _ h.program.rule_names h.is_new;
       }
 
-pub put_valid : (classes : List Class) (k : Known) (c : Class) (f : ℕ) (t : Term) → is_attribute c f ≡ true → ((b : Bool) → term_is_valid classes k b t ≡ true) → put_is_valid classes k c (record { field = f; terms = t ∷ [] }) ≡ true
+-- ---- right sides
+
+-- a variable that is in sight is known
+pub value_known : {k : Known} {v : Variables} {conditions : List Condition} {r : Side} (name : Sym) (n : ℕ) → Knows k v conditions r → number_of name v.values ≡ Some n → is_in n k.bound ≡ true
+value_known {k = k} {v = v} name n h e = all_in (λ m. is_in m k.bound) (numbers v.values) n h.bound (number_in name v.values n e)
+
+-- an element variable names a cell
+pub element_known : {k : Known} {v : Variables} {conditions : List Condition} {r : Side} (name : Sym) (n : ℕ) → Knows k v conditions r → number_of name v.elements ≡ Some n → is_cell k n ≡ true
+element_known {k = k} {v = v} name n h e = all_in (λ m. nat_lt m (length k.cells)) (numbers v.elements) n h.elements (number_in name v.elements n e)
+
+-- what is known behind an action
+module _ (k : Known) (v : Variables) (conditions : List Condition) (r : Side) (h : Knows k v conditions r) where
+  made_known : (o : Option ℕ) (class : ℕ) → o ≡ Some class → Knows (record k { made = o }) v conditions (record r { made = Some class })
+  made_known o class e = record { bound = h.bound; given = h.given; counted = h.counted; cells = h.cells; elements = h.elements; made = e }
+
+  -- a new element, or a changed one
+  pub put_known : (classes : List Class) (class : ℕ) (puts : List Put) (o : Option ℕ) → IsNamed classes k class o → Knows (known_after k (put_action o class puts)) v conditions (record r { made = Some class })
+  put_known classes class puts None named = made_known (Some class) class refl
+  put_known classes class puts (Some cell) named =
+      let here = slice_get-get_or k.cells cell 0 (ltb-true _ _ named.0) in
+      made_known _ class (here ∙ ap (λ (c : ℕ). Some c) (sym (named.1 ∙ ap (λ (o : Option ℕ). unwrap_or o 0) here)))
+
+  -- a variable in sight is bound again
+  pub bound_again : (n : ℕ) (t : Term) → is_in n (numbers v.values) ≡ true → Knows (known_after k (action.Bind n t)) v conditions r
+  bound_again n t e =
+      record {
+        bound = all_within_more (numbers v.values) k.bound n h.bound;
+        given = all_push (λ m. nat_lt m v.given) k.given n h.given (all_in (λ m. nat_lt m v.given) (numbers v.values) n h.counted e);
+        counted = h.counted;
+        cells = h.cells;
+        elements = h.elements;
+        made = h.made;
+      }
+
+  -- another variable is bound
+  pub bound_first : (name : Sym) (t : Term) → Knows (known_after k (action.Bind v.given t)) (with_one v name) conditions r
+  bound_first name t =
+      let numbered = map-append (λ n. n.number) v.values (record { name = name; number = v.given } ∷ []) in
+      let p : ℕ → Bool = λ n. is_in n (k.bound ++ v.given ∷ []) in
+      record {
+        bound = ap (list_all p) numbered ∙ all_push p (numbers v.values) v.given (all_within_more (numbers v.values) k.bound v.given h.bound) (in_last v.given k.bound);
+        given = below_next v.given k.given h.given;
+        counted = ap (all_below (v.given + 1)) numbered ∙ below_next v.given (numbers v.values) h.counted;
+        cells = h.cells;
+        elements = h.elements;
+        made = h.made;
+      }
+
+  -- an element variable names a further cell
+  pub cell_known : (name : Sym) (class : ℕ) → r.made ≡ Some class
+      → (let cell = length (cells_of conditions ++ r.further) in
+      Knows (known_after k (action.Cbind cell)) (record v { elements = renumbered name cell v.elements }) conditions (record r { further = r.further ++ class ∷ [] }))
+  cell_known name class e =
+      let cell = length (cells_of conditions ++ r.further) in
+      let more = k.cells ++ unwrap_or k.made 0 ∷ [] in
+      let longer = length-append k.cells (unwrap_or k.made 0 ∷ []) in
+      let same = ap length h.cells in
+      record {
+        bound = h.bound;
+        given = h.given;
+        counted = h.counted;
+        cells = ap (λ (o : Option ℕ). k.cells ++ unwrap_or o 0 ∷ []) (h.made ∙ e) ∙ ap (λ (cs : List ℕ). cs ++ class ∷ []) h.cells ∙ append_assoc (cells_of conditions) r.further (class ∷ []);
+        elements = renumbered_below (length more) cell name v.elements (omega (arith, longer, same)) (below_grown (length k.cells) (length more) (numbers v.elements) (omega (arith, longer)) h.elements);
+        made = h.made;
+      }
+
+-- a value that may stand alone may stand among several
+among_several : (classes : List Class) (k : Known) (several : Bool) (t : Term) → term_is_valid classes k false t ≡ true → term_is_valid classes k several t ≡ true
+among_several classes k false t h = h
+among_several classes k true (term.Rest cell) h = absurd (true≢false (sym h))
+among_several classes k true _ h = h
+
+pub put_valid : (classes : List Class) (k : Known) (c : Class) (f : ℕ) (t : Term) → is_attribute c f ≡ true → term_is_valid classes k false t ≡ true → put_is_valid classes k c (record { field = f; terms = t ∷ [] }) ≡ true
 put_valid classes k c f t attribute valid =
-    and_from _ _ (and_from _ _ attribute (cond_alike (is_vector c f) refl refl)) (and_from _ _ (valid (is_vector c f)) refl)
+    and_from _ _ (and_from _ _ attribute (cond_alike (is_vector c f) refl refl)) (and_from _ _ (among_several classes k (is_vector c f) t valid) refl)
 
 -- the first place of the vector attribute is an attribute
 pub vector_parts : (c : Class) (f : ℕ) → is_vector c f ≡ true → (c.vector ≡ true) × (f + 1 ≡ length c.attrs)

@@ -3,9 +3,13 @@ pub mod Lists
 pub mod Parts
 pub mod Sound
 pub mod Grown
+pub mod ValueSteps
+pub mod RightSteps
 pub mod Steps
 pub mod ReadsValid
+pub mod Lawful
 pub mod RisingTags
+pub mod Endings
 pub mod ReadsWithin
 pub mod Completed
 pub mod Derived
@@ -20,6 +24,7 @@ pub mod Numbering
 pub mod ReadsFacts
 pub mod ReadsPatterns
 pub mod ReadsActions
+pub mod ReadsRight
 pub mod ReadsRules
 pub mod ReadsProgram
 pub mod StandingEnd

@@ -1,5 +1,5 @@
 -- The fault with which a word is refused has the lowest number of those that have their reason there.
-use Rattle.std.proofs.Common.{◌≡◌, ℕ, ◌+◌, ◌≤◌, Bool, true, false, ◌||◌, List, ◌∷◌, length, refl, sym, ap, subst, ◌∙◌, arith, inl, inr, Option, Some, None, nat_lt, true≢false}
+use Rattle.std.proofs.Common.{◌≡◌, ℕ, ◌+◌, ◌≤◌, Bool, true, false, ◌&&◌, ◌||◌, List, ◌∷◌, length, refl, sym, ap, subst, ◌∙◌, arith, inl, inr, Option, Some, None, nat_lt, true≢false}
 use Rattle.std.proofs.lemmas.Bool.{cond_both, and_parts, not-true, cases_lt}
 use Rattle.ops_base.specs.declared.values.Sym.{Sym}
 use Rattle.ops_base.specs.declared.values.Value.{Value}
@@ -11,10 +11,11 @@ use Rattle.ops_tokens.specs.declared.token.TokenKind.{TokenKind}
 use Rattle.ops_tokens.specs.declared.token.TokenKind.TheVariants as kind
 use Rattle.ops_meaning.specs.declared.words.Word.{Word}
 use Rattle.ops_meaning.specs.declared.words.Keyword.TheVariants as keyword
-use Rattle.ops_meaning.specs.Grammar.{InPattern, InPut, InFixed, ToConstants, Wanted, Form, ClassDeclared, Attributes, VectorName, VectorNames, RuleName, FirstPattern, Patterns, Braced, ElementName, ClassName, Attribute, Several, Tested, ValueFor, Cell, Cells, Items, State, Step, Next, Refuses, is_right, is_caret, is_name, is_variable, is_literal, value_of, is_one_of, number_of, is_second, attributes, bound_at, constant_at, value_for, within, several, step}
+use Rattle.ops_meaning.specs.Grammar.{InPattern, InPut, InFixed, ToConstants, Wanted, Form, ClassDeclared, Attributes, VectorName, VectorNames, RuleName, FirstPattern, Patterns, Braced, ElementName, ClassName, Attribute, Several, Tested, ValueFor, SourceCell, SourceAttribute, Modified, CellName, Cell, Cells, Items, State, Step, Next, Refuses, is_left, is_right, is_caret, is_name, is_variable, is_literal, value_of, is_one_of, number_of, is_second, attributes, bound_at, constant_at, is_of_action, value_for, within, several, step}
 use Rattle.ops_meaning.specs.Derivation.{is_no_form}
 use Rattle.ops_meaning.specs.Reasons.{fault_number, is_declaration, wants_form, wants_class, wants_attribute, is_declared, gives_second, is_full, wants_condition, wants_first, wants_bound, designates, wants_cell, is_bad_designator, Because}
 use Rattle.ops_meaning.specs.Standing.{IsLowest}
+use Rattle.ops_meaning.proofs.Arranged.{AreArranged}
 use Rattle.ops_meaning.proofs.Proper.{is_proper, literal_marks, mark_kind}
 use Rattle.ops_meaning.proofs.Reasons.{refused-because}
 
@@ -24,6 +25,7 @@ use Rattle.ops_meaning.proofs.Reasons.{refused-because}
 abbrev least_at : List Wanted → ℕ
 least_at (ClassName ∷ ws) = 8
 least_at (Attribute u ∷ ws) = 9
+least_at (SourceAttribute t ∷ ws) = 9
 least_at (ClassDeclared ∷ ws) = 10
 least_at (Attributes ∷ ws) = 10
 least_at (RuleName ∷ ws) = 10
@@ -38,8 +40,11 @@ least_at (Several InFixed f ∷ ws) = 15
 least_at (Items ∷ ws) = 15
 least_at (Braced ∷ ws) = 16
 least_at (ElementName ∷ ws) = 16
+least_at (Modified ∷ ws) = 16
+least_at (CellName ∷ ws) = 16
 least_at (Cell ∷ ws) = 16
 least_at (Cells ∷ ws) = 16
+least_at (SourceCell ∷ ws) = 16
 least_at ws = 18
 
 -- The reasons here exclude each other. Where they don't, an attribute may be declared twice, be a second vector attribute and pass
@@ -55,6 +60,7 @@ class_least _ e = absurd (true≢false (sym e))
 
 attribute_least : (ws : List Wanted) → wants_attribute ws ≡ true → least_at ws ≡ 9
 attribute_least (Attribute u ∷ ws) e = refl
+attribute_least (SourceAttribute t ∷ ws) e = refl
 attribute_least _ e = absurd (true≢false (sym e))
 
 declared_least : (ws : List Wanted) (name : Sym) (s : State) → is_declared ws name s ≡ true → least_at ws ≡ 10
@@ -92,13 +98,17 @@ bound_least (Items ∷ ws) e = refl
 bound_least _ e = absurd (true≢false (sym e))
 
 designator_least : (ws : List Wanted) (w : Word) (s : State) → is_bad_designator ws w s ≡ true → least_at ws ≡ 16
+designator_least (Modified ∷ ws) w s e = refl
+designator_least (CellName ∷ ws) w s e = refl
 designator_least (Cell ∷ ws) w s e = refl
 designator_least (Cells ∷ ws) w s e = refl
+designator_least (SourceCell ∷ ws) w s e = refl
 designator_least (Braced ∷ ws) w s e = refl
 designator_least (ElementName ∷ ws) w s e = refl
 designator_least _ w s e = absurd (true≢false (sym e))
 
 cell_least : (ws : List Wanted) → wants_cell ws ≡ true → least_at ws ≡ 16
+cell_least (Modified ∷ ws) e = refl
 cell_least (Cell ∷ ws) e = refl
 cell_least (Cells ∷ ws) e = refl
 cell_least _ e = absurd (true≢false (sym e))
@@ -121,6 +131,7 @@ full_single _ s single e = absurd (true≢false (sym e))
 
 -- where a cell is wanted, a bad designator designates none
 bad_designates : (ws : List Wanted) (w : Word) (s : State) → wants_cell ws ≡ true → is_bad_designator ws w s ≡ true → designates w.kind w.name s ≡ false
+bad_designates (Modified ∷ ws) w s wants e = not-true _ (and_parts _ _ e).1
 bad_designates (Cell ∷ ws) w s wants e = not-true _ (and_parts _ _ e).1
 bad_designates (Cells ∷ ws) w s wants e = not-true _ (and_parts _ _ e).1
 bad_designates _ w s wants e = absurd (true≢false (sym wants))
@@ -296,7 +307,8 @@ module _ (w : Word) (n : ℕ) (ws : List Wanted) (s : State) where
   value_lowest : is_proper w ≡ true → IsValue (value_for ToConstants w ValueHere s)
   value_lowest proper =
       cond_both (is_literal w.keyword) _ _ IsValue (λ literal. ap is_variable (mark_kind w.kind w.keyword (literal_marks w.keyword literal) proper))
-      (λ _. constant_value (value_of w.kind w.name) refl)
+      (λ _. cond_both (is_left w.kind && is_of_action ToConstants) _ _ IsValue
+      (λ e. absurd (true≢false (sym (and_parts (is_left w.kind) (is_of_action ToConstants) e).1))) (λ _. constant_value (value_of w.kind w.name) refl))
 
   within_lowest : (b : Bool) (x : Step) → IsValue x → HasLowest ValueHere w s (within b x)
   within_lowest true (Next ws' s') v = tt
@@ -312,8 +324,8 @@ module _ (w : Word) (n : ℕ) (ws : List Wanted) (s : State) where
       (λ _. within_lowest (nat_lt (n + length s.constants) most_fields) (value_for ToConstants w ValueHere s) (value_lowest proper))
 
 -- No fault in a form with a lower number has its reason where a word of a text is refused.
-pub refused-lowest : (w : Word) (ws : List Wanted) (s : State) (f : Fault) → is_proper w ≡ true → step w ws s ≡ Refuses f → IsLowest f w ws s
+pub refused-lowest : (w : Word) (ws : List Wanted) (s : State) (f : Fault) → AreArranged ws s → is_proper w ≡ true → step w ws s ≡ Refuses f → IsLowest f w ws s
 unfolding step
-refused-lowest w (Attributes ∷ ws) s f proper e = subst (HasLowest (Attributes ∷ ws) w s) e (attributes_lowest w ws s)
-refused-lowest w (Several InFixed n ∷ ws) s f proper e = subst (HasLowest (Several InFixed n ∷ ws) w s) e (values_lowest w n ws s proper)
-refused-lowest w ws s f proper e = reason_lowest w ws s refl f (refused-because w ws s f e)
+refused-lowest w (Attributes ∷ ws) s f arranged proper e = subst (HasLowest (Attributes ∷ ws) w s) e (attributes_lowest w ws s)
+refused-lowest w (Several InFixed n ∷ ws) s f arranged proper e = subst (HasLowest (Several InFixed n ∷ ws) w s) e (values_lowest w n ws s proper)
+refused-lowest w ws s f arranged proper e = reason_lowest w ws s refl f (refused-because w ws s f arranged e)

@@ -1,9 +1,9 @@
 -- The place of an attribute does not matter for what derives behind it.
-use Rattle.std.proofs.Common.{◌≡◌, ℕ, suc, List, [], ◌∷◌, refl, subst}
+use Rattle.std.proofs.Common.{◌≡◌, ℕ, suc, List, [], ◌∷◌, ◌∙◌, refl, subst}
 use Rattle.ops_base.specs.declared.values.Sym.{Sym}
 use Rattle.ops_meaning.specs.declared.words.Word.{Word}
-use Rattle.ops_meaning.specs.Grammar.{Use, InPattern, InPut, InFixed, Target, ToTest, ToPut, ToFixed, ToTerms, ToConstants, ToItem, Wanted, Terms, Several, Place, Tests, Tested, Choice, Atom, ValueFor, behind_attribute}
-use Rattle.ops_meaning.specs.Derivation.{Derives, nothing, no_form, a_form, a_literalize, a_class, an_attribute, no_attribute, a_vector_declaration, a_vector, one_more_vector, no_more_vectors, a_production, a_rule, a_first, a_braced_first, a_negated_first, a_pattern, a_braced_pattern, a_negated_pattern, a_whole_pattern, a_name_before, a_name_behind, an_element_name, a_closed_brace, an_arrow, a_make, a_run, a_class_name, a_term, no_term, a_scalar_attribute, a_vector_attribute, one_more_place, one_more_term, one_more_constant, no_more_of_several, a_value, a_literal_value, an_atom, a_conjunction, no_more_tests, an_operand, a_literal, a_predicate, a_disjunction, one_more_operand, one_more_literal, one_more_predicate, one_more_disjunction, a_tested_operand, a_tested_literal, one_more_choice, no_more_choices, an_action, no_action, to_make, to_remove, to_write, to_halt, a_cell, one_more_cell, no_more_cells, an_item, a_literal_item, an_item_form, no_item, a_crlf, a_closing}
+use Rattle.ops_meaning.specs.Grammar.{Use, InPattern, InPut, InFixed, Target, ToTest, ToPut, ToFixed, ToTerms, ToConstants, ToItem, ToBind, Wanted, Terms, Several, Place, Tests, Tested, Choice, Atom, ValueFor, Function, SourceAttribute, SourceEnd, is_of_action, takes_several, behind_attribute}
+use Rattle.ops_meaning.specs.Derivation.{Derives, nothing, no_form, a_form, a_literalize, a_class, an_attribute, no_attribute, a_vector_declaration, a_vector, one_more_vector, no_more_vectors, a_production, a_rule, a_first, a_braced_first, a_negated_first, a_pattern, a_braced_pattern, a_negated_pattern, a_whole_pattern, a_name_before, a_name_behind, an_element_name, a_closed_brace, an_arrow, a_make, a_run, a_class_name, a_term, no_term, a_scalar_attribute, a_vector_attribute, one_more_place, one_more_term, one_more_constant, no_more_of_several, a_value, a_literal_value, a_function, a_substr, a_source, a_source_attribute, the_same_again, up_to_inf, an_atom, a_conjunction, no_more_tests, an_operand, a_literal, a_predicate, a_disjunction, one_more_operand, one_more_literal, one_more_predicate, one_more_disjunction, a_tested_operand, a_tested_literal, one_more_choice, no_more_choices, an_action, no_action, to_make, to_modify, to_bind, to_cbind, to_remove, to_write, to_halt, a_modified, a_bound_name, a_cell_name, a_cell, one_more_cell, no_more_cells, an_item, a_literal_item, an_item_form, no_item, a_crlf, a_tab, a_right, a_substr_item, some_columns, a_closing}
 
 abbrev target_at : ℕ → Target → Target
 target_at g (ToTest f p) = ToTest g p
@@ -12,6 +12,7 @@ target_at g (ToFixed f) = ToFixed g
 target_at g ToTerms = ToTerms
 target_at g ToConstants = ToConstants
 target_at g ToItem = ToItem
+target_at g ToBind = ToBind
 
 -- the same at another place
 abbrev at_place : ℕ → Wanted → Wanted
@@ -22,6 +23,9 @@ at_place g (Tested f p) = Tested g p
 at_place g (Choice f) = Choice g
 at_place g (Atom t) = Atom (target_at g t)
 at_place g (ValueFor t) = ValueFor (target_at g t)
+at_place g (Function t) = Function (target_at g t)
+at_place g (SourceAttribute t) = SourceAttribute (target_at g t)
+at_place g (SourceEnd t name) = SourceEnd (target_at g t) name
 at_place g w = w
 
 -- the first that are wanted at these places
@@ -34,6 +38,24 @@ behind_moved : (u : Use) (f g : ℕ) → at_place g (behind_attribute u f) ≡ b
 behind_moved InPattern f g = refl
 behind_moved InPut f g = refl
 behind_moved InFixed f g = refl
+
+action_moved : (g : ℕ) (t : Target) → is_of_action (target_at g t) ≡ is_of_action t
+action_moved g (ToPut f) = refl
+action_moved g ToTerms = refl
+action_moved g ToItem = refl
+action_moved g ToBind = refl
+action_moved g (ToTest f p) = refl
+action_moved g (ToFixed f) = refl
+action_moved g ToConstants = refl
+
+several_moved : (g : ℕ) (t : Target) → takes_several (target_at g t) ≡ takes_several t
+several_moved g ToTerms = refl
+several_moved g ToItem = refl
+several_moved g (ToPut f) = refl
+several_moved g ToBind = refl
+several_moved g (ToTest f p) = refl
+several_moved g (ToFixed f) = refl
+several_moved g ToConstants = refl
 
 -- what derives from them derives from those too
 front_moved : {vs : List Sym} {ws : List Wanted} {ts : List Word} → Derives vs ws ts → (gs : List ℕ) → Derives vs (front gs ws) ts
@@ -77,6 +99,12 @@ front_moved (one_more_constant d) (g ∷ gs) = one_more_constant (front_moved d 
 front_moved (no_more_of_several d) (g ∷ gs) = no_more_of_several (front_moved d (g ∷ gs))
 front_moved (a_value e d) (g ∷ gs) = a_value e (front_moved d gs)
 front_moved (a_literal_value e d) (g ∷ gs) = a_literal_value e (front_moved d (g ∷ gs))
+front_moved (a_function {t = t} e of_action d) (g ∷ gs) = a_function e (action_moved g t ∙ of_action) (front_moved d (g ∷ gs))
+front_moved (a_substr e d) (g ∷ gs) = a_substr e (front_moved d (g ∷ g ∷ gs))
+front_moved (a_source e d) (g ∷ gs) = a_source e (front_moved d gs)
+front_moved (a_source_attribute e d) (g ∷ gs) = a_source_attribute e (front_moved d (g ∷ g ∷ gs))
+front_moved (the_same_again e same other d) (g ∷ gs) = the_same_again e same other (front_moved d gs)
+front_moved (up_to_inf {t = t} e vector several d) (g ∷ gs) = up_to_inf e vector (several_moved g t ∙ several) (front_moved d gs)
 front_moved (an_atom e d) (g ∷ gs) = an_atom e (front_moved d gs)
 front_moved (a_conjunction e d) (g ∷ gs) = a_conjunction e (front_moved d (g ∷ gs))
 front_moved (no_more_tests e d) (g ∷ gs) = no_more_tests e (front_moved d gs)
@@ -95,9 +123,15 @@ front_moved (no_more_choices e d) (g ∷ gs) = no_more_choices e (front_moved d 
 front_moved (an_action e d) (g ∷ gs) = an_action e (front_moved d (g ∷ g ∷ gs))
 front_moved (no_action e d) (g ∷ gs) = no_action e (front_moved d gs)
 front_moved (to_make e d) (g ∷ gs) = to_make e (front_moved d (g ∷ g ∷ gs))
+front_moved (to_modify e d) (g ∷ gs) = to_modify e (front_moved d (g ∷ g ∷ gs))
+front_moved (to_bind e d) (g ∷ gs) = to_bind e (front_moved d (g ∷ g ∷ g ∷ gs))
+front_moved (to_cbind e d) (g ∷ gs) = to_cbind e (front_moved d (g ∷ g ∷ gs))
 front_moved (to_remove e d) (g ∷ gs) = to_remove e (front_moved d (g ∷ g ∷ gs))
 front_moved (to_write e d) (g ∷ gs) = to_write e (front_moved d (g ∷ gs))
 front_moved (to_halt e d) (g ∷ gs) = to_halt e (front_moved d (g ∷ gs))
+front_moved (a_modified e d) (g ∷ gs) = a_modified e (front_moved d gs)
+front_moved (a_bound_name e d) (g ∷ gs) = a_bound_name e (front_moved d gs)
+front_moved (a_cell_name e d) (g ∷ gs) = a_cell_name e (front_moved d gs)
 front_moved (a_cell e d) (g ∷ gs) = a_cell e (front_moved d gs)
 front_moved (one_more_cell e d) (g ∷ gs) = one_more_cell e (front_moved d (g ∷ gs))
 front_moved (no_more_cells e d) (g ∷ gs) = no_more_cells e (front_moved d gs)
@@ -106,6 +140,10 @@ front_moved (a_literal_item e d) (g ∷ gs) = a_literal_item e (front_moved d (g
 front_moved (an_item_form e d) (g ∷ gs) = an_item_form e (front_moved d (g ∷ g ∷ gs))
 front_moved (no_item e d) (g ∷ gs) = no_item e (front_moved d gs)
 front_moved (a_crlf e d) (g ∷ gs) = a_crlf e (front_moved d (g ∷ gs))
+front_moved (a_tab e d) (g ∷ gs) = a_tab e (front_moved d (g ∷ g ∷ gs))
+front_moved (a_right e d) (g ∷ gs) = a_right e (front_moved d (g ∷ g ∷ gs))
+front_moved (a_substr_item e d) (g ∷ gs) = a_substr_item e (front_moved d (g ∷ g ∷ gs))
+front_moved (some_columns e d) (g ∷ gs) = some_columns e (front_moved d gs)
 front_moved (a_closing e d) (g ∷ gs) = a_closing e (front_moved d gs)
 
 pub at_any_place : (vs : List Sym) (u : Use) (f : ℕ) (ws : List Wanted) (ts : List Word) → Derives vs (behind_attribute u f ∷ ws) ts → (g : ℕ) → Derives vs (behind_attribute u g ∷ ws) ts

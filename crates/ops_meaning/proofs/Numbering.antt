@@ -5,8 +5,10 @@ use Rattle.std.proofs.lemmas.Bool.{or_from, or_left, or_right, lt-ltb, ltb-true,
 use Rattle.std.proofs.lemmas.List.Folds.{list_any-append}
 use Rattle.ops_base.specs.declared.conditions.Test.{Test}
 use Rattle.ops_base.specs.declared.conditions.Condition.{Condition}
+use Rattle.ops_base.specs.declared.actions.Action.{Action}
+use Rattle.ops_base.specs.declared.actions.Action.TheVariants as action
 use Rattle.ops_base.specs.Valid.{is_in, cells_of}
-use Rattle.ops_meaning.specs.Spelling.{Numbered, after_test, after_tests, after_condition}
+use Rattle.ops_meaning.specs.Spelling.{Numbered, after_test, after_tests, after_condition, after_conditions, InSight, after_action, after_actions}
 use Rattle.ops_meaning.proofs.Lists.{all_push, all_weaker, not_below}
 
 -- ---- numbers
@@ -50,6 +52,23 @@ closed_given false k after le h e = e
 
 pub after_condition-given : (k : Numbered) (c : Condition) → are_given k ≡ true → are_given (after_condition k c) ≡ true
 after_condition-given k c h = closed_given c.negated k (after_tests k c.tests) (given_up c.tests k) h (after_tests-given c.tests k h)
+
+pub after_conditions-given : (cs : List Condition) (k : Numbered) → are_given k ≡ true → are_given (after_conditions k cs) ≡ true
+after_conditions-given [] k h = h
+after_conditions-given (c ∷ cs) k h = after_conditions-given cs (after_condition k c) (after_condition-given k c h)
+
+bind_given : (b : Bool) (k : InSight) → are_given k.variables ≡ true
+    → (let m : InSight = cond b k (record k { variables = record { sight = k.variables.sight ++ k.variables.given ∷ []; given = suc k.variables.given } }) in are_given m.variables ≡ true)
+bind_given true k h = h
+bind_given false k h = bound_given true k.variables h
+
+after_action-given : (k : InSight) (a : Action) → are_given k.variables ≡ true → are_given (after_action k a).variables ≡ true
+after_action-given k (action.Bind n t) h = bind_given (is_in n k.variables.sight) k h
+after_action-given k _ h = h
+
+pub after_actions-given : (xs : List Action) (k : InSight) → are_given k.variables ≡ true → are_given (after_actions k xs).variables ≡ true
+after_actions-given [] k h = h
+after_actions-given (a ∷ xs) k h = after_actions-given xs (after_action k a) (after_action-given k a h)
 
 bound_prefix : (b : Bool) (k : Numbered) → (more : List ℕ) × ((let n : Numbered = cond b (record { sight = k.sight ++ k.given ∷ []; given = suc k.given }) k in n.sight) ≡ k.sight ++ more)
 bound_prefix true k = (k.given ∷ [], refl)

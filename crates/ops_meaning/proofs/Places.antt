@@ -5,7 +5,7 @@ use Rattle.std.proofs.lemmas.Bool.{and_parts, or_left, or_right, or_parts, eqb-t
 use Rattle.std.proofs.lemmas.List.{map-append}
 use Rattle.ops_base.specs.Valid.{is_in, are_distinct}
 use Rattle.ops_meaning.specs.declared.words.Named.{Named}
-use Rattle.ops_meaning.specs.Grammar.{number_of}
+use Rattle.ops_meaning.specs.Grammar.{number_of, renumbered}
 
 -- ---- the place of a name
 
@@ -50,3 +50,10 @@ number_by false k n there rest e h ih = ih h
 pub number_there : (ks : List ℕ) (n : ℕ) → is_in n ks ≡ true → number_of (record { 0 = n }) (numbered ks) ≡ Some n
 number_there [] n h = absurd (true≢false (sym h))
 number_there (k ∷ ks) n h = number_by (k == n) k n (is_in n ks) (number_of (record { 0 = n }) (numbered ks)) refl h (number_there ks n)
+
+-- a variable that is none of these is put behind them
+pub renumbered-new : (ks : List ℕ) (n m : ℕ) → is_in n ks ≡ false → renumbered (record { 0 = n }) m (numbered ks) ≡ numbered ks ++ record { name = record { 0 = n }; number = m } ∷ []
+renumbered-new [] n m out = refl
+renumbered-new (k ∷ ks) n m out =
+    let each = or_parts (k == n) (is_in n ks) out in
+    rw each.0 (ap (λ (vs : List Named). record { name = record { 0 = k }; number = k } ∷ vs) (renumbered-new ks n m each.1))

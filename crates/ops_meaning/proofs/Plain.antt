@@ -12,10 +12,10 @@ use Rattle.ops_base.specs.declared.rules.Rule.{Rule}
 use Rattle.ops_base.specs.declared.commands.Command.{Command}
 use Rattle.ops_base.specs.Valid.{most_fields, most_conditions, is_in, class_of, is_attribute, is_vector, is_field, first_is_positive, cells_of, fixed_is_valid}
 use Rattle.ops_meaning.specs.declared.words.Named.{Named}
-use Rattle.ops_meaning.specs.Grammar.{Use, InPattern, InPut, InFixed, Target, ToTest, ToPut, ToFixed, ToTerms, ToConstants, ToItem, EndsRun, EndsHalt, EndsCrlf, Wanted, Forms, Form, ClassDeclared, Attributes, VectorName, VectorNames, RuleName, FirstPattern, Patterns, Pattern, Braced, ElementName, ClosesBrace, ClassName, Terms, Attribute, Several, Place, Tests, Tested, Choice, Atom, ValueFor, Actions, ActionWord, Cell, Cells, Items, ItemWord, Closes, State, Step, Next, Refuses, number_of}
-use Rattle.ops_meaning.specs.Spelling.{Numbered, nothing_numbered, test_is_plain, after_test, tests_are_plain, after_tests, after_condition, condition_is_plain, conditions_are_plain, after_conditions, term_is_plain, put_is_plain, item_is_plain, action_is_plain, rule_is_plain, command_is_plain}
+use Rattle.ops_meaning.specs.Grammar.{Use, InPattern, InPut, InFixed, Target, ToTest, ToPut, ToFixed, ToTerms, ToConstants, ToItem, ToBind, EndsRun, EndsHalt, EndsCrlf, EndsWhole, Column, Wanted, Forms, Form, ClassDeclared, Attributes, VectorName, VectorNames, RuleName, FirstPattern, Patterns, Pattern, Braced, ElementName, ClosesBrace, ClassName, Terms, Attribute, Several, Place, Tests, Tested, Choice, Atom, ValueFor, Function, SourceCell, SourceAttribute, SourceEnd, Actions, ActionWord, Modified, BoundName, CellName, Cell, Cells, Items, ItemWord, Columns, Closes, State, Step, Next, Refuses, number_of, renumbered, is_of_action, classes_of_cells, source_class}
+use Rattle.ops_meaning.specs.Spelling.{Numbered, nothing_numbered, test_is_plain, after_test, tests_are_plain, after_tests, after_condition, condition_is_plain, conditions_are_plain, after_conditions, InSight, at_arrow, class_of_cell, after_action, after_actions, term_is_plain, put_is_plain, item_is_plain, action_is_plain, actions_are_plain, rule_is_plain, command_is_plain}
 use Rattle.ops_meaning.proofs.Lists.{all_weaker}
-use Rattle.ops_meaning.proofs.Sound.{Braces, behind, behind_pattern, IsEmpty}
+use Rattle.ops_meaning.proofs.Sound.{Braces, behind, behind_pattern}
 use Rattle.ops_meaning.proofs.PlainClasses.{IsArranged, IsAttributes}
 
 -- the forms that were read
@@ -40,12 +40,21 @@ pub record IsLeft (classes : List Class) (values elements : List Named) (variabl
   pub sight : negated ≡ true → numbers_in (take around values) ≡ (after_conditions nothing_numbered conditions).sight
   pub cells : list_all (λ e. nat_lt e.number (length (cells_of conditions))) elements ≡ true
 
--- a rule up to some actions
-pub record IsRight (classes : List Class) (values elements : List Named) (variables : ℕ) (conditions : List Condition) (actions : List Action) : Type 0 where
-  pub left : IsLeft classes values elements variables false 0 conditions []
+-- the class of an element that was made, where one was
+abbrev pub made_is_class : List Class → Option ℕ → Bool
+made_is_class classes None = true
+made_is_class classes (Some class) = nat_lt class (length classes)
+
+-- a rule up to some actions, behind which so much is in sight
+pub record IsRight (classes : List Class) (conditions : List Condition) (k : InSight) (elements : List Named) (actions : List Action) : Type 0 where
   pub positive : first_is_positive conditions ≡ true
   pub few : length conditions ≤ most_conditions
-  pub plain : list_all (action_is_plain classes (length (cells_of conditions)) (numbers_in values)) actions ≡ true
+  pub left : conditions_are_plain classes nothing_numbered conditions ≡ true
+  pub plain : actions_are_plain classes (at_arrow conditions) actions ≡ true
+  pub sight : after_actions (at_arrow conditions) actions ≡ k
+  pub named : list_all (λ e. nat_lt e.number (length k.cells)) elements ≡ true
+  pub cells : list_all (λ c. nat_lt c (length classes)) k.cells ≡ true
+  pub made : made_is_class classes k.made ≡ true
 
 -- the first condition is positive, where this one stands behind those
 abbrev pub begins_positive : List Condition → Bool → Bool
@@ -58,20 +67,35 @@ Base s = IsBase s.vectors s.classes s.rules s.commands
 abbrev pub Left : State → Type 0
 Left s = IsLeft s.classes s.values s.elements s.variables s.negated s.around s.conditions s.tests
 
+-- what is in sight in a right side
+abbrev pub in_sight : State → InSight
+in_sight s = record { variables = numbered_in s.values s.variables; cells = classes_of_cells s; made = s.made }
+
 abbrev pub Right : State → Type 0
-Right s = IsRight s.classes s.values s.elements s.variables s.conditions s.actions
+Right s = IsRight s.classes s.conditions (in_sight s) s.elements s.actions
 
 abbrev pub Declaring : State → Type 0
 Declaring s = Base s × (length s.rules ≡ 0) × (length s.commands ≡ 0)
 
 abbrev pub Around : Use → State → Type 0
-Around InPattern s = Base s × Left s × (length s.conditions < most_conditions) × (s.actions ≡ []) × (begins_positive s.conditions s.negated ≡ true)
+Around InPattern s = Base s × Left s × (length s.conditions < most_conditions) × (begins_positive s.conditions s.negated ≡ true)
 Around InPut s = Base s × Right s
 Around InFixed s = Base s
 
+-- no attribute of an element was read, and of an action none but a `make`
+abbrev pub IsBegun : Use → State → Type 0
+IsBegun InPattern s = s.tests ≡ []
+IsBegun InPut s = (s.puts ≡ []) × (s.modified ≡ None)
+IsBegun InFixed s = s.fixed ≡ []
+
+-- the class of a `modify` is that of its cell
+abbrev pub IsOfCell : Option ℕ → InSight → ℕ → Type 0
+IsOfCell None k class = Unit {0}
+IsOfCell (Some cell) k class = (cell < length k.cells) × (class ≡ class_of_cell k cell)
+
 abbrev pub HasFields : Use → State → Type 0
 HasFields InPattern s = tests_are_plain (class_of s.classes s.class) (after_conditions nothing_numbered s.conditions) s.tests ≡ true
-HasFields InPut s = list_all (put_is_plain (class_of s.classes s.class) (numbers_in s.values)) s.puts ≡ true
+HasFields InPut s = (list_all (put_is_plain s.classes (in_sight s) (class_of s.classes s.class)) s.puts ≡ true) × IsOfCell s.modified (in_sight s) s.class
 HasFields InFixed s = list_all (fixed_is_valid (class_of s.classes s.class)) s.fixed ≡ true
 
 pub record IsElement (u : Use) (s : State) : Type 0 where
@@ -80,15 +104,15 @@ pub record IsElement (u : Use) (s : State) : Type 0 where
   pub fields : HasFields u s
 
 abbrev pub HasCells : State → Type 0
-HasCells s = Base s × Right s × (list_all (λ c. nat_lt c (length (cells_of s.conditions))) s.cells ≡ true)
+HasCells s = Base s × Right s × (list_all (λ c. nat_lt c (length (classes_of_cells s))) s.cells ≡ true)
 
 abbrev pub HasItems : State → Type 0
-HasItems s = Base s × Right s × (list_all (item_is_plain (numbers_in s.values)) s.items ≡ true)
+HasItems s = Base s × Right s × (list_all (item_is_plain s.classes (in_sight s)) s.items ≡ true)
 
 -- the conditions of a rule up to the last of them
 abbrev pub Conditions : State → Type 0
 Conditions s =
-    Base s × Left s × (s.tests ≡ []) × (s.actions ≡ []) × (first_is_positive s.conditions ≡ true) × (length s.conditions ≤ most_conditions) × (s.negated ≡ false)
+    Base s × Left s × (s.tests ≡ []) × (first_is_positive s.conditions ≡ true) × (length s.conditions ≤ most_conditions) × (s.negated ≡ false)
 
 -- an attribute of the element's class
 abbrev pub HasAttribute : State → ℕ → Type 0
@@ -110,7 +134,7 @@ HasMore (Some f) s = (class_of s.classes s.class).vector ≡ true
 -- up to some of the places or values of the vector attribute
 abbrev pub HasSeveral : Use → ℕ → State → Type 0
 HasSeveral InPattern f s = IsElement InPattern s × HasMore (Some f) s
-HasSeveral InPut f s = IsElement InPut s × HasAttribute s f × IsVector s f true × (list_all (term_is_plain (numbers_in s.values)) s.terms ≡ true)
+HasSeveral InPut f s = IsElement InPut s × HasAttribute s f × IsVector s f true × (list_all (term_is_plain s.classes (in_sight s) true) s.terms ≡ true)
 HasSeveral InFixed f s = IsElement InFixed s × HasAttribute s f × IsVector s f true × (f + length s.constants ≤ most_fields)
 
 -- Where a test or a value stands: in an element in these braces, with this place of the vector attribute behind it, or none, and
@@ -133,6 +157,11 @@ HasTarget p (ToFixed f) s = IsElement InFixed s × HasAttribute s f × IsVector 
 HasTarget p ToTerms s = HasSeveral InPut p.vector s
 HasTarget p ToConstants s = HasSeveral InFixed p.vector s × (p.vector + length s.constants < most_fields)
 HasTarget p ToItem s = HasItems s
+HasTarget p ToBind s = Base s × Right s
+
+-- the cell of a `substr` that is read
+abbrev pub IsSource : State → Type 0
+IsSource s = s.source < length (classes_of_cells s)
 
 -- what is wanted behind a place: another attribute, or another place of the vector attribute
 abbrev pub behind_place : Braces → Option ℕ → List Wanted
@@ -152,6 +181,7 @@ behind_target p (ToFixed f) = Terms InFixed ∷ behind p.braces InFixed
 behind_target p ToTerms = Several InPut p.vector ∷ behind p.braces InPut
 behind_target p ToConstants = Several InFixed p.vector ∷ behind p.braces InFixed
 behind_target p ToItem = Items ∷ Actions ∷ Forms ∷ []
+behind_target p ToBind = Closes EndsWhole ∷ Actions ∷ Forms ∷ []
 
 -- what may be wanted, and what then holds
 pub data IsPlainly (s : State) : List Wanted → Type 0 where
@@ -162,13 +192,13 @@ pub data IsPlainly (s : State) : List Wanted → Type 0 where
   at_vector_name : Declaring s → IsPlainly s (VectorName ∷ VectorNames ∷ Forms ∷ [])
   at_vector_names : Declaring s → IsPlainly s (VectorNames ∷ Forms ∷ [])
   at_rule_name : Base s → IsPlainly s (RuleName ∷ FirstPattern ∷ Patterns ∷ Actions ∷ Forms ∷ [])
-  at_first_pattern : Base s × Left s × (s.tests ≡ []) × (s.actions ≡ []) × (length s.conditions ≡ 0) × (s.negated ≡ false) → IsPlainly s (FirstPattern ∷ Patterns ∷ Actions ∷ Forms ∷ [])
+  at_first_pattern : Base s × Left s × (s.tests ≡ []) × (length s.conditions ≡ 0) × (s.negated ≡ false) → IsPlainly s (FirstPattern ∷ Patterns ∷ Actions ∷ Forms ∷ [])
   at_patterns : Conditions s → IsPlainly s (Patterns ∷ Actions ∷ Forms ∷ [])
   at_pattern : (b : Braces) → Around InPattern s × (s.tests ≡ []) → IsPlainly s (Pattern ∷ behind_pattern b)
   at_braced : Around InPattern s × (s.tests ≡ []) → IsPlainly s (Braced ∷ Patterns ∷ Actions ∷ Forms ∷ [])
   at_element_name : Conditions s → IsPlainly s (ElementName ∷ ClosesBrace ∷ Patterns ∷ Actions ∷ Forms ∷ [])
   at_closes_brace : Conditions s → IsPlainly s (ClosesBrace ∷ Patterns ∷ Actions ∷ Forms ∷ [])
-  at_class_name : (b : Braces) → (u : Use) → Around u s × IsEmpty u s → IsPlainly s (ClassName ∷ Terms u ∷ behind b u)
+  at_class_name : (b : Braces) → (u : Use) → Around u s × IsBegun u s → IsPlainly s (ClassName ∷ Terms u ∷ behind b u)
   at_terms : (b : Braces) → (u : Use) → IsElement u s → IsPlainly s (Terms u ∷ behind b u)
   at_attribute : (b : Braces) → (u : Use) → IsElement u s → IsPlainly s (Attribute u ∷ behind b u)
   at_several : (b : Braces) → (u : Use) → (f : ℕ) → HasSeveral u f s → IsPlainly s (Several u f ∷ behind b u)
@@ -178,12 +208,22 @@ pub data IsPlainly (s : State) : List Wanted → Type 0 where
   at_choice : (p : Spot) → (f : ℕ) → HasPlace p.more f s → IsPlainly s (Choice f ∷ behind_test p.braces p.more p.among f)
   at_atom : (p : Spot) → (t : Target) → HasTarget p t s → IsPlainly s (Atom t ∷ behind_target p t)
   at_value : (p : Spot) → (t : Target) → HasTarget p t s → IsPlainly s (ValueFor t ∷ behind_target p t)
+  at_function : (p : Spot) → (t : Target) → HasTarget p t s → is_of_action t ≡ true → IsPlainly s (Function t ∷ behind_target p t)
+  at_source_cell : (p : Spot) → (t : Target) → HasTarget p t s → is_of_action t ≡ true → IsPlainly s (SourceCell ∷ SourceAttribute t ∷ behind_target p t)
+  at_source_attribute : (p : Spot) → (t : Target) → HasTarget p t s → is_of_action t ≡ true → IsSource s → IsPlainly s (SourceAttribute t ∷ behind_target p t)
+  at_source_end : (p : Spot) → (t : Target) → (name : Sym) → HasTarget p t s → is_of_action t ≡ true → IsSource s → is_attribute (source_class s) s.source_field ≡ true
+      → IsPlainly s (SourceEnd t name ∷ Closes EndsWhole ∷ behind_target p t)
   at_actions : Base s × Right s → IsPlainly s (Actions ∷ Forms ∷ [])
   at_action_word : Base s × Right s → IsPlainly s (ActionWord ∷ Actions ∷ Forms ∷ [])
+  at_modified : Base s × Right s × (s.puts ≡ []) → IsPlainly s (Modified ∷ Terms InPut ∷ Actions ∷ Forms ∷ [])
+  at_bound_name : Base s × Right s → IsPlainly s (BoundName ∷ ValueFor ToBind ∷ Closes EndsWhole ∷ Actions ∷ Forms ∷ [])
+  at_cell_name : Base s × Right s → IsPlainly s (CellName ∷ Closes EndsWhole ∷ Actions ∷ Forms ∷ [])
   at_cell : HasCells s → IsPlainly s (Cell ∷ Cells ∷ Actions ∷ Forms ∷ [])
   at_cells : HasCells s × (0 < length s.cells) → IsPlainly s (Cells ∷ Actions ∷ Forms ∷ [])
   at_items : HasItems s → IsPlainly s (Items ∷ Actions ∷ Forms ∷ [])
   at_item_word : HasItems s → IsPlainly s (ItemWord ∷ Items ∷ Actions ∷ Forms ∷ [])
+  at_columns : (c : Column) → HasItems s → IsPlainly s (Columns c ∷ Closes EndsWhole ∷ Items ∷ Actions ∷ Forms ∷ [])
+  at_whole : (ws : List Wanted) → IsPlainly s ws → IsPlainly s (Closes EndsWhole ∷ ws)
   at_crlf : HasItems s → IsPlainly s (Closes EndsCrlf ∷ Items ∷ Actions ∷ Forms ∷ [])
   at_halt : Base s × Right s → IsPlainly s (Closes EndsHalt ∷ Actions ∷ Forms ∷ [])
   at_run : Base s → IsPlainly s (Closes EndsRun ∷ Forms ∷ [])
@@ -212,6 +252,16 @@ conditions_push classes [] k c h e = and_from _ _ e refl
 conditions_push classes (x ∷ cs) k c h e =
     let each = and_parts (condition_is_plain classes k x) (conditions_are_plain classes (after_condition k x) cs) h in
     and_from _ _ each.0 (conditions_push classes cs (after_condition k x) c each.1 e)
+
+pub after_actions-push : (xs : List Action) (k : InSight) (a : Action) → after_actions k (xs ++ a ∷ []) ≡ after_action (after_actions k xs) a
+after_actions-push [] k a = refl
+after_actions-push (x ∷ xs) k a = after_actions-push xs (after_action k x) a
+
+pub actions_push : (classes : List Class) (xs : List Action) (k : InSight) (a : Action) → actions_are_plain classes k xs ≡ true → action_is_plain classes (after_actions k xs) a ≡ true → actions_are_plain classes k (xs ++ a ∷ []) ≡ true
+actions_push classes [] k a h e = and_from _ _ e refl
+actions_push classes (x ∷ xs) k a h e =
+    let each = and_parts (action_is_plain classes k x) (actions_are_plain classes (after_action k x) xs) h in
+    and_from _ _ each.0 (actions_push classes xs (after_action k x) a each.1 e)
 
 -- what is in sight behind a condition
 pub condition_counted : (b : Bool) (around : ℕ) (k after : Numbered) (values : List Named) (variables : ℕ) → after ≡ numbered_in values variables → (b ≡ true → numbers_in (take around values) ≡ k.sight)
@@ -275,3 +325,27 @@ number_below name (v ∷ vs) n k h e =
 pub below_more : (elements : List Named) (m n : ℕ) → m ≤ n → list_all (λ e. nat_lt e.number m) elements ≡ true → list_all (λ e. nat_lt e.number n) elements ≡ true
 below_more elements m n le h =
     all_weaker (λ e. nat_lt e.number m) (λ e. nat_lt e.number n) elements (λ e lt. let below : e.number < m = ltb-true e.number m lt in lt-ltb e.number n (omega (arith, below, le))) h
+
+renumbered_by : (b : Bool) (v : Named) (vs rest : List Named) (n k : ℕ) → nat_lt v.number k ≡ true → list_all (λ e. nat_lt e.number k) vs ≡ true → list_all (λ e. nat_lt e.number k) rest ≡ true → nat_lt n k ≡ true
+    → list_all (λ e. nat_lt e.number k) (cond b (record v { number = n } ∷ vs) (v ∷ rest)) ≡ true
+renumbered_by true v vs rest n k first h e lt = and_from _ _ lt h
+renumbered_by false v vs rest n k first h e lt = and_from _ _ first e
+
+-- and one that is named anew
+pub renumbered_below : (name : Sym) (n k : ℕ) (elements : List Named) → nat_lt n k ≡ true → list_all (λ e. nat_lt e.number k) elements ≡ true → list_all (λ e. nat_lt e.number k) (renumbered name n elements) ≡ true
+renumbered_below name n k [] lt h = and_from _ _ lt refl
+renumbered_below name n k (v ∷ vs) lt h =
+    let parts = and_parts (nat_lt v.number k) (list_all (λ e. nat_lt e.number k) vs) h in
+    renumbered_by (v.name.0 == name.0) v vs (renumbered name n vs) n k parts.0 parts.1 (renumbered_below name n k vs lt parts.1) lt
+
+-- the cells of conditions have classes
+cells_are_by : (b : Bool) (classes : List Class) (class : ℕ) (xs : List ℕ) → nat_lt class (length classes) ≡ true → list_all (λ c. nat_lt c (length classes)) xs ≡ true → list_all (λ c. nat_lt c (length classes)) (cond b xs (class ∷ xs)) ≡ true
+cells_are_by true classes class xs lt h = h
+cells_are_by false classes class xs lt h = and_from _ _ lt h
+
+pub cells_are : (classes : List Class) (cs : List Condition) (k : Numbered) → conditions_are_plain classes k cs ≡ true → list_all (λ c. nat_lt c (length classes)) (cells_of cs) ≡ true
+cells_are classes [] k h = refl
+cells_are classes (c ∷ cs) k h =
+    let each = and_parts (condition_is_plain classes k c) (conditions_are_plain classes (after_condition k c) cs) h in
+    let here = and_parts (nat_lt c.class (length classes)) (tests_are_plain (class_of classes c.class) k c.tests) each.0 in
+    cells_are_by c.negated classes c.class (cells_of cs) here.0 (cells_are classes cs (after_condition k c) each.1)

@@ -1,5 +1,5 @@
 -- Each word leads from what has a spelling to what has one.
-use Rattle.std.proofs.Common.{◌≡◌, ℕ, ◌+◌, ◌-◌, ◌<◌, Bool, true, false, ◌||◌, ◌==◌, List, [], ◌∷◌, ◌++◌, length, take, refl, sym, ap, ◌∙◌, arith, Option, Some, None, nat_lt, unwrap_or, slice_get, position, get_or, length-append, true≢false}
+use Rattle.std.proofs.Common.{◌≡◌, ℕ, ◌+◌, ◌-◌, ◌<◌, Bool, true, false, ◌&&◌, ◌||◌, ◌==◌, cond, List, [], ◌∷◌, ◌++◌, length, take, refl, sym, ap, ◌∙◌, arith, Option, Some, None, Result, Ok, Err, nat_lt, pos, unwrap_or, slice_get, position, get_or, length-append, subst, true≢false}
 use Rattle.std.specs.List.{list_all, list_any}
 use Rattle.std.proofs.lemmas.Bool.{cond_both, and_parts, and_from, or_left, or_right, eqb-true, lt-ltb, ltb-true}
 use Rattle.std.proofs.lemmas.List.Elements.{All-push}
@@ -13,25 +13,111 @@ use Rattle.ops_base.specs.declared.elements.Class.{Class}
 use Rattle.ops_base.specs.declared.conditions.Operand.{Operand}
 use Rattle.ops_base.specs.declared.conditions.Operand.TheVariants as operand
 use Rattle.ops_base.specs.declared.conditions.Condition.{Condition}
+use Rattle.ops_base.specs.declared.actions.Term.{Term}
 use Rattle.ops_base.specs.declared.actions.Term.TheVariants as term
 use Rattle.ops_base.specs.declared.actions.Item.{Item}
 use Rattle.ops_base.specs.declared.actions.Item.TheVariants as item
 use Rattle.ops_base.specs.declared.actions.Action.TheVariants as action
 use Rattle.ops_base.specs.declared.commands.Command.TheVariants as command
-use Rattle.ops_base.specs.Valid.{most_fields, most_conditions, no_class, class_of, is_vector, cells_of, fixed_is_valid}
+use Rattle.ops_base.specs.declared.endings.Fault.{Fault}
+use Rattle.ops_base.specs.declared.endings.Fault.TheVariants as fault
+use Rattle.ops_base.specs.Valid.{most_fields, most_conditions, no_class, class_of, is_attribute, is_vector, is_column, cells_of, fixed_is_valid}
 use Rattle.ops_tokens.specs.declared.token.TokenKind.{TokenKind}
 use Rattle.ops_tokens.specs.declared.token.TokenKind.TheVariants as kind
 use Rattle.ops_meaning.specs.declared.words.Word.{Word}
 use Rattle.ops_meaning.specs.declared.words.Keyword.{Keyword}
 use Rattle.ops_meaning.specs.declared.words.Keyword.TheVariants as keyword
-use Rattle.ops_meaning.specs.Grammar.{Use, InPattern, InPut, InFixed, Target, ToTest, ToPut, ToFixed, ToTerms, ToConstants, ToItem, Wanted, Forms, Attributes, VectorNames, Patterns, Pattern, ClosesBrace, Terms, Several, Choice, Actions, Cells, Items, is_left, is_right, is_left_brace, is_right_brace, is_caret, is_name, is_variable, is_arrow, is_literal, is_minus, opens_choice, closes_choice, pred_of, is_crlf, constant_of, atom_of, value_of, natural_of, is_one_of, number_of, may_declare, is_class, is_rule, form, class_declared, is_second, attribute_declared, attributes, arranged, has_vector, makes_second, vector_declared, vector_name, class_at, attributes_of, behind_attribute, field_at, with_test, with_item, with_constant, with_bound, variable_tested, constant_tested, tested, predicated, test, with_choice, chosen, choice, atom_at, bound_at, constant_at, value_for, with_element, with_several, terms, within, one_of_several, several, place, one_more, patterns, element_at, element_name, action_word, designated, cell_of, cell_named, cell, State, Step, Next, Refuses, step}
-use Rattle.ops_meaning.specs.Spelling.{nothing_numbered, tests_are_plain, after_tests, after_conditions, put_is_plain, item_is_plain}
-use Rattle.ops_meaning.proofs.Lists.{all_push, all_none}
+use Rattle.ops_meaning.specs.Grammar.{Use, InPattern, InPut, InFixed, Target, ToTest, ToPut, ToFixed, ToTerms, ToConstants, ToItem, ToBind, EndsWhole, Column, ToTab, ToRight, Wanted, Forms, Attributes, VectorNames, Patterns, Pattern, ClosesBrace, Terms, Several, Choice, SourceAttribute, Actions, Cells, Items, Closes, is_left, is_right, is_left_brace, is_right_brace, is_caret, is_name, is_variable, is_arrow, is_literal, is_minus, opens_choice, closes_choice, pred_of, constant_of, atom_of, value_of, natural_of, small_of, is_one_of, number_of, may_declare, is_class, is_rule, form, class_declared, is_second, attribute_declared, attributes, arranged, has_vector, makes_second, vector_declared, vector_name, class_at, attributes_of, behind_attribute, field_at, with_test, with_item, with_constant, with_bound, variable_tested, constant_tested, tested, predicated, test, with_choice, chosen, choice, atom_at, term_at, bound_at, constant_at, is_of_action, value_for, function, source_named, source_class, source_at, takes_several, is_inf, ends_at_inf, source_end, with_element, with_several, terms, within, one_of_several, several, place, one_more, patterns, element_at, element_name, action_word, classes_of_cells, designated, numbered_cell, named_cell, cell_of, with_designated, with_modified, cell_bound, item_word, column_item, columns_at, State, Step, Next, Refuses, step}
+use Rattle.ops_meaning.specs.Spelling.{nothing_numbered, tests_are_plain, after_tests, after_conditions, InSight, cell_is_plain, term_is_plain, put_is_plain, item_is_plain}
+use Rattle.ops_meaning.proofs.Lists.{all_push, all_none, all_at}
 use Rattle.ops_meaning.proofs.Parts.{has_cell}
-use Rattle.ops_meaning.proofs.Sound.{Braces, Bare, NamedBefore, NamedBehind, behind, IsEmpty}
+use Rattle.ops_meaning.proofs.Sound.{Braces, Bare, NamedBefore, NamedBehind, behind}
 use Rattle.ops_meaning.proofs.PlainClasses.{IsArranged, IsAttributes, class_arranged, classes_arranged, attributes_begun, attribute_pushed}
-use Rattle.ops_meaning.proofs.Plain.{numbers_in, Base, Right, Declaring, Around, IsElement, Conditions, HasCells, HasItems, HasAttribute, IsVector, HasMore, HasSeveral, Spot, HasPlace, HasTarget, behind_place, behind_test, behind_target, IsPlainly, at_forms, at_form, at_class_declared, at_attributes, at_vector_name, at_vector_names, at_rule_name, at_first_pattern, at_patterns, at_pattern, at_braced, at_element_name, at_closes_brace, at_class_name, at_terms, at_attribute, at_several, at_place, at_tests, at_tested, at_choice, at_atom, at_value, at_actions, at_action_word, at_cell, at_cells, at_items, at_item_word, at_crlf, at_halt, at_run, Keeps, after_conditions-push, conditions_push, condition_counted, begun_positive, begins_first, begins_behind, number_sighted, cells_more, number_below, below_more}
-use Rattle.ops_meaning.proofs.PlainKept.{command_kept, action_kept, test_kept, test_bound, choosing, put_kept, fixed_kept, several_begun, several_kept, term_pushed, constant_pushed, right_begun, negated_begun, rule_kept, element_bound}
+use Rattle.ops_meaning.proofs.Plain.{in_sight, Base, Right, Declaring, Around, IsBegun, IsOfCell, IsElement, Conditions, HasCells, HasItems, HasAttribute, IsVector, HasMore, HasSeveral, IsSource, Spot, HasPlace, HasTarget, behind_place, behind_test, behind_target, IsPlainly, at_forms, at_form, at_class_declared, at_attributes, at_vector_name, at_vector_names, at_rule_name, at_first_pattern, at_patterns, at_pattern, at_braced, at_element_name, at_closes_brace, at_class_name, at_terms, at_attribute, at_several, at_place, at_tests, at_tested, at_choice, at_atom, at_value, at_function, at_source_cell, at_source_attribute, at_source_end, at_actions, at_action_word, at_modified, at_bound_name, at_cell_name, at_cell, at_cells, at_items, at_item_word, at_columns, at_whole, at_crlf, at_halt, at_run, Keeps, after_conditions-push, conditions_push, condition_counted, begun_positive, begins_first, begins_behind, number_sighted, cells_more, number_below, below_more}
+use Rattle.ops_meaning.proofs.PlainKept.{command_kept, action_kept, element_kept, bind_kept, cell_kept, test_kept, test_bound, choosing, put_kept, fixed_kept, several_begun, several_kept, term_pushed, constant_pushed, right_kept, negated_begun, rule_kept, element_bound}
+
+-- ---- designators
+
+designated_by : (b m : Bool) (before c : ℕ) → (let r : Result ℕ Fault = cond b (Err fault.BadDesignator) (cond m (Err fault.AmbiguousDesignator) (Ok before)) in r ≡ Ok c) → (b ≡ false) × (m ≡ false) × (before ≡ c)
+designated_by true m before c e = absurd (cc)
+designated_by false true before c e = absurd (cc)
+designated_by false false before c e = (refl, refl, cc)
+
+designated_there : (s : State) (before : ℕ) (o : Option Condition) (c : ℕ) → slice_get s.conditions before ≡ o → designated before o s ≡ Ok c → c < length (classes_of_cells s)
+designated_there s before None c e found = absurd (cc)
+designated_there s before (Some d) c e found =
+    let parts = designated_by d.negated (list_any (λ c. c.negated) (take before s.conditions)) before c found in
+    let lt = has_cell s.conditions before d e parts.0 parts.1 in
+    let same = parts.2 in
+    omega (arith, length-append (cells_of s.conditions) s.further, lt, same)
+
+numbered_there : (s : State) (o : Option ℕ) (c : ℕ) → numbered_cell o s ≡ Ok c → c < length (classes_of_cells s)
+numbered_there s (Some m) c found = designated_there s (m - 1) (slice_get s.conditions (m - 1)) c refl found
+numbered_there s None c found = absurd (cc)
+
+named_there : (s : State) (name : Sym) (o : Option ℕ) (c : ℕ) → Right s → number_of name s.elements ≡ o → named_cell o ≡ Ok c → c < length (classes_of_cells s)
+named_there s name (Some n) c g e found =
+    let same : n ≡ c = cc in
+    let lt : n < length (classes_of_cells s) = ltb-true _ _ (number_below name s.elements n (length (classes_of_cells s)) g.named e) in omega (arith, lt, same)
+named_there s name None c g e found = absurd (cc)
+
+-- what a word designates is a cell
+cell_there : (s : State) (k : TokenKind) (name : Sym) (c : ℕ) → Right s → cell_of k name s ≡ Ok c → c < length (classes_of_cells s)
+cell_there s (kind.Whole z) name c g found = numbered_there s (natural_of z) c found
+cell_there s kind.Variable name c g found = named_there s name (number_of name s.elements) c g refl found
+cell_there s _ name c g found = absurd (cc)
+
+-- ---- columns
+
+small_by : (b : Bool) (m n : ℕ) → is_column m ≡ b → (let o : Option ℕ = cond b (Some m) None in o ≡ Some n) → is_column n ≡ true
+small_by true m n is e = let same : m ≡ n = cc in ap is_column (sym same) ∙ is
+small_by false m n is e = absurd (cc)
+
+small_there : (k : TokenKind) (n : ℕ) → small_of k ≡ Some n → is_column n ≡ true
+small_there (kind.Whole (pos m)) n e = small_by (is_column m) m n refl e
+small_there _ n e = absurd (cc)
+
+column_plain : (classes : List Class) (k : InSight) (c : Column) (n : ℕ) → is_column n ≡ true → item_is_plain classes k (column_item c n) ≡ true
+column_plain classes k ToTab n is = is
+column_plain classes k ToRight n is = is
+
+-- ---- values of actions
+
+acting : (p : Spot) (t : Target) (s : State) → is_of_action t ≡ true → HasTarget p t s → Base s × Right s
+acting p (ToPut f) s is g = g.0.around
+acting p ToTerms s is g = g.0.around
+acting p ToItem s is g = (g.0, g.1)
+acting p ToBind s is g = g
+acting p _ s is g = absurd (true≢false (sym is))
+
+-- The cell and the field of a `substr` that is read do not matter.
+sourcing : (p : Spot) (t : Target) (s : State) (cell field : ℕ) → is_of_action t ≡ true → HasTarget p t s → HasTarget p t (record s { source = cell; source_field = field })
+sourcing p (ToPut f) s cell field is g = (record { around = g.0.around; class = g.0.class; fields = g.0.fields }, g.1)
+sourcing p ToTerms s cell field is g = (record { around = g.0.around; class = g.0.class; fields = g.0.fields }, g.1, g.2, g.3)
+sourcing p ToItem s cell field is g = g
+sourcing p ToBind s cell field is g = g
+sourcing p _ s cell field is g = absurd (true≢false (sym is))
+
+item_pushed : (s : State) (i : Item) → HasItems s → item_is_plain s.classes (in_sight s) i ≡ true → HasItems (with_item s i)
+item_pushed s i g plain = (g.0, g.1, all_push (item_is_plain s.classes (in_sight s)) s.items i g.2 plain)
+
+term_keeps : (p : Spot) (t : Target) (x : Term) (s : State) → HasTarget p t s → term_is_plain s.classes (in_sight s) (takes_several t) x ≡ true → Keeps (term_at t x (behind_target p t) s)
+term_keeps p (ToPut f) x s g plain = at_terms p.braces InPut (put_kept s f x g.0 g.1 plain)
+term_keeps p ToTerms x s g plain = at_several p.braces InPut p.vector (term_pushed s p.vector x g plain)
+term_keeps p ToItem x s g plain = at_items (item_pushed s (item.Print x) g plain)
+term_keeps p ToBind x s g plain = at_whole (Actions ∷ Forms ∷ []) (at_actions (bind_kept s x (number_of s.variable s.values) refl g plain))
+term_keeps p _ x s g plain = tt
+
+-- where a bracket is to be closed before
+closing_keeps : (t : Target) (x : Term) (ws : List Wanted) (s : State) → Keeps (term_at t x ws s) → Keeps (term_at t x (Closes EndsWhole ∷ ws) s)
+closing_keeps (ToPut f) x ws s h = at_whole ws h
+closing_keeps ToTerms x ws s h = at_whole ws h
+closing_keeps ToItem x ws s h = at_whole ws h
+closing_keeps ToBind x ws s h = at_whole ws h
+closing_keeps _ x ws s h = tt
+
+source_plain : (s : State) → Right s → IsSource s → cell_is_plain s.classes (in_sight s) s.source ≡ true
+source_plain s g lt = and_from _ _ (lt-ltb _ _ lt) (all_at (λ c. nat_lt c (length s.classes)) (classes_of_cells s) s.source 0 g.cells lt)
 
 module _ (w : Word) where
   -- ---- declarations
@@ -93,12 +179,12 @@ module _ (w : Word) where
   abbrev spot : Braces → Option ℕ → Bool → ℕ → Spot
   spot b more among vector = record { braces = b; more = more; among = among; vector = vector }
 
-  element_named : (u : Use) (s : State) (c : ℕ) → Around u s × IsEmpty u s → c < length s.classes → IsElement u (record s { class = c })
+  element_named : (u : Use) (s : State) (c : ℕ) → Around u s × IsBegun u s → c < length s.classes → IsElement u (record s { class = c })
   element_named InPattern s c h lt = record { around = h.0; class = lt; fields = ap (tests_are_plain (class_of s.classes c) (after_conditions nothing_numbered s.conditions)) h.1 }
-  element_named InPut s c h lt = record { around = h.0; class = lt; fields = ap (list_all (put_is_plain (class_of s.classes c) (numbers_in s.values))) h.1 }
+  element_named InPut s c h lt = record { around = h.0; class = lt; fields = (ap (list_all (put_is_plain s.classes (in_sight s) (class_of s.classes c))) h.1.0, subst (λ (m : Option ℕ). IsOfCell m (in_sight s) c) (sym h.1.1) tt) }
   element_named InFixed s c h lt = record { around = h.0; class = lt; fields = ap (list_all (fixed_is_valid (class_of s.classes c))) h.1 }
 
-  class_at_keeps : (b : Braces) (u : Use) (s : State) → Around u s × IsEmpty u s → (o : Option ℕ) → position (λ c. c.name.0 == w.name.0) s.classes ≡ o → Keeps (class_at o (Terms u ∷ behind b u) s)
+  class_at_keeps : (b : Braces) (u : Use) (s : State) → Around u s × IsBegun u s → (o : Option ℕ) → position (λ c. c.name.0 == w.name.0) s.classes ≡ o → Keeps (class_at o (Terms u ∷ behind b u) s)
   class_at_keeps b u s g (Some c) e = at_terms b u (element_named u s c g (position-Some (λ c. c.name.0 == w.name.0) s.classes c no_class e).0)
   class_at_keeps b u s g None e = tt
 
@@ -147,24 +233,17 @@ module _ (w : Word) where
 
   -- ---- values
 
-  item_kept : (s : State) (i : Item) → HasItems s → item_is_plain (numbers_in s.values) i ≡ true → Keeps (Next (Items ∷ Actions ∷ Forms ∷ []) (with_item s i))
-  item_kept s i g plain = at_items (g.0, g.1, all_push (item_is_plain (numbers_in s.values)) s.items i g.2 plain)
-
   constant_keeps : (p : Spot) (t : Target) (v : Value) (s : State) → HasTarget p t s → Keeps (Next (behind_target p t) (with_constant t s v))
   constant_keeps p (ToTest f q) v s g = test_goes_on p.braces p.more p.among f (with_test s f q (operand.Constant v) false) (test_kept s f q (operand.Constant v) g.0 g.1 refl, g.1, more_tested p.more s f q (operand.Constant v) false g.2)
   constant_keeps p (ToPut f) v s g = at_terms p.braces InPut (put_kept s f (term.Constant v) g.0 g.1 refl)
   constant_keeps p (ToFixed f) v s g = at_terms p.braces InFixed (fixed_kept s f v g.0 g.1 g.2)
   constant_keeps p ToTerms v s g = at_several p.braces InPut p.vector (term_pushed s p.vector (term.Constant v) g refl)
   constant_keeps p ToConstants v s g = at_several p.braces InFixed p.vector (constant_pushed s p.vector v g.0 g.1)
-  constant_keeps p ToItem v s g = item_kept s (item.Print (term.Constant v)) g refl
+  constant_keeps p ToItem v s g = at_items (item_pushed s (item.Print (term.Constant v)) g refl)
+  constant_keeps p ToBind v s g = term_keeps p ToBind (term.Constant v) s g refl
 
   bound_keeps : (p : Spot) (t : Target) (s : State) → HasTarget p t s → (o : Option ℕ) → number_of w.name s.values ≡ o → Keeps (bound_at t o (behind_target p t) s)
-  bound_keeps p (ToTest f q) s g (Some n) e = tt
-  bound_keeps p (ToPut f) s g (Some n) e = at_terms p.braces InPut (put_kept s f (term.Variable n) g.0 g.1 (number_sighted w.name s.values n e))
-  bound_keeps p (ToFixed f) s g (Some n) e = tt
-  bound_keeps p ToTerms s g (Some n) e = at_several p.braces InPut p.vector (term_pushed s p.vector (term.Variable n) g (number_sighted w.name s.values n e))
-  bound_keeps p ToConstants s g (Some n) e = tt
-  bound_keeps p ToItem s g (Some n) e = item_kept s (item.Print (term.Variable n)) g (number_sighted w.name s.values n e)
+  bound_keeps p t s g (Some n) e = term_keeps p t (term.Variable n) s g (number_sighted w.name s.values n e)
   bound_keeps p t s g None e = tt
 
   constant_at_keeps : (p : Spot) (t : Target) (s : State) → HasTarget p t s → (o : Option Value) → Keeps (constant_at t w o (behind_target p t) s)
@@ -172,11 +251,45 @@ module _ (w : Word) where
   constant_at_keeps p t s g None = cond_both (is_variable w.kind) _ _ Keeps (λ _. bound_keeps p t s g (number_of w.name s.values) refl) (λ _. tt)
 
   value_keeps : (p : Spot) (t : Target) (s : State) → HasTarget p t s → Keeps (value_for t w (behind_target p t) s)
-  value_keeps p t s g = cond_both (is_literal w.keyword) _ _ Keeps (λ _. at_atom p t g) (λ _. constant_at_keeps p t s g (value_of w.kind w.name))
+  value_keeps p t s g =
+      cond_both (is_literal w.keyword) _ _ Keeps (λ _. at_atom p t g)
+      (λ _. cond_both (is_left w.kind && is_of_action t) _ _ Keeps (λ left. at_function p t g (and_parts (is_left w.kind) (is_of_action t) left).1)
+      (λ _. constant_at_keeps p t s g (value_of w.kind w.name)))
 
   atom_keeps : (p : Spot) (t : Target) (s : State) → HasTarget p t s → (o : Option Value) → Keeps (atom_at t o (behind_target p t) s)
   atom_keeps p t s g (Some v) = constant_keeps p t v s g
   atom_keeps p t s g None = tt
+
+  -- ---- substr
+
+  function_keeps : (p : Spot) (t : Target) (s : State) → HasTarget p t s → is_of_action t ≡ true → (k : Keyword) → Keeps (function t k (behind_target p t) s)
+  function_keeps p t s g is keyword.Substr = at_source_cell p t g is
+  function_keeps p t s g is _ = tt
+
+  source_named_keeps : (p : Spot) (t : Target) (s : State) → HasTarget p t s → is_of_action t ≡ true → (o : Option ℕ) → number_of w.name s.elements ≡ o → Keeps (source_named o (SourceAttribute t ∷ behind_target p t) s)
+  source_named_keeps p t s g is (Some c) e =
+      let right = (acting p t s is g).1 in
+      at_source_attribute p t (sourcing p t s c s.source_field is g) is (ltb-true _ _ (number_below w.name s.elements c (length (classes_of_cells s)) right.named e))
+  source_named_keeps p t s g is None e = tt
+
+  source_at_keeps : (p : Spot) (t : Target) (s : State) → HasTarget p t s → is_of_action t ≡ true → IsSource s → (o : Option ℕ) → position (λ a. a.0 == w.name.0) (source_class s).attrs ≡ o
+      → Keeps (source_at t w.name o (behind_target p t) s)
+  source_at_keeps p t s g is there (Some f) e =
+      let lt : f < length (source_class s).attrs = (position-Some (λ a. a.0 == w.name.0) (source_class s).attrs f (record { 0 = 0 }) e).0 in
+      at_source_end p t w.name (sourcing p t s s.source f is g) is there (lt-ltb _ _ lt)
+  source_at_keeps p t s g is there None e = tt
+
+  source_end_keeps : (p : Spot) (t : Target) (name : Sym) (s : State) → HasTarget p t s → is_of_action t ≡ true → IsSource s → is_attribute (source_class s) s.source_field ≡ true
+      → Keeps (source_end t name w (Closes EndsWhole ∷ behind_target p t) s)
+  source_end_keeps p t name s g is there has =
+      let plain = source_plain s (acting p t s is g).1 there in
+      let ends : (x : Term) → term_is_plain s.classes (in_sight s) (takes_several t) x ≡ true → Keeps (term_at t x (Closes EndsWhole ∷ behind_target p t) s) = λ x h. closing_keeps t x (behind_target p t) s (term_keeps p t x s g h) in
+      cond_both (ends_at_inf w s) _ _ Keeps
+      (λ inf. cond_both (takes_several t) _ _ Keeps
+      (λ several.
+      let vector = and_parts (is_inf w.keyword) (is_vector (source_class s) s.source_field) inf in
+      ends (term.Rest s.source) (and_from _ _ (and_from _ _ several plain) (and_parts (source_class s).vector _ vector.1).0)) (λ _. tt))
+      (λ _. cond_both (is_name w.kind && (w.name.0 == name.0)) _ _ Keeps (λ _. ends (term.One s.source s.source_field) (and_from _ _ plain has)) (λ _. tt))
 
   -- ---- a test, in a conjunction or alone
 
@@ -244,12 +357,11 @@ module _ (w : Word) where
           cells = below_more s.elements (length (cells_of s.conditions)) (length (cells_of (s.conditions ++ c ∷ []))) (cells_more s.conditions c) left.cells;
         },
         refl,
-        g.around.3,
-        begun_positive s.conditions c g.around.4,
+        begun_positive s.conditions c g.around.3,
         omega (arith, more, room),
         refl,
       )
-  element_keeps b InPut s g = at_actions (g.around.0, action_kept s (action.Make s.class s.puts) g.around.1 (and_from _ _ (lt-ltb _ _ g.class) g.fields))
+  element_keeps b InPut s g = at_actions (g.around.0, element_kept s g)
   element_keeps b InFixed s g = at_forms (command_kept s (command.Make s.class s.fixed) g.around (and_from _ _ (lt-ltb _ _ g.class) g.fields))
 
   terms_keep : (b : Braces) (u : Use) (s : State) → IsElement u s → Keeps (terms u w (behind b u) s)
@@ -284,13 +396,13 @@ module _ (w : Word) where
 
   patterns_keep : (s : State) → Conditions s → Keeps (patterns w (Actions ∷ Forms ∷ []) s)
   patterns_keep s g =
-      cond_both (is_arrow w.keyword) _ _ Keeps (λ _. at_actions (g.0, right_begun s g.1 g.2 g.3 g.4 g.5))
+      cond_both (is_arrow w.keyword) _ _ Keeps (λ _. at_actions (g.0, right_kept s g.1 g.2 g.3 g.4))
       (λ _. cond_both (is_left w.kind) _ _ Keeps
-      (λ _. one_more_keeps _ s (λ lt. at_class_name Bare InPattern ((g.0, g.1, lt, g.3, begins_behind s.conditions s.negated g.4), g.2)))
+      (λ _. one_more_keeps _ s (λ lt. at_class_name Bare InPattern ((g.0, g.1, lt, begins_behind s.conditions s.negated g.3), g.2)))
       (λ _. cond_both (is_left_brace w.kind) _ _ Keeps
-      (λ _. one_more_keeps _ s (λ lt. at_braced ((g.0, g.1, lt, g.3, begins_behind s.conditions s.negated g.4), g.2)))
+      (λ _. one_more_keeps _ s (λ lt. at_braced ((g.0, g.1, lt, begins_behind s.conditions s.negated g.3), g.2)))
       (λ _. cond_both (is_minus w.keyword) _ _ Keeps
-      (λ _. one_more_keeps _ (record s { negated = true; around = length s.values }) (λ lt. at_pattern Bare ((g.0, negated_begun s g.1 g.2, lt, g.3, begins_behind s.conditions true g.4), g.2))) (λ _. tt))))
+      (λ _. one_more_keeps _ (record s { negated = true; around = length s.values }) (λ lt. at_pattern Bare ((g.0, negated_begun s g.1 g.2, lt, begins_behind s.conditions true g.3), g.2))) (λ _. tt))))
 
   -- an element variable in front of what may follow
   element_at_keeps : (ws : List Wanted) (s : State) → IsPlainly (record s { element = w.name }) ws → (o : Option ℕ) → Keeps (element_at o w.name ws s)
@@ -301,35 +413,51 @@ module _ (w : Word) where
   element_name_keeps ws s h = cond_both (is_variable w.kind) _ _ Keeps (λ _. element_at_keeps ws s h (number_of w.name s.elements)) (λ _. tt)
 
   action_word_keeps : (s : State) → Base s × Right s → (k : Keyword) → Keeps (action_word k (Actions ∷ Forms ∷ []) s)
-  action_word_keeps s g keyword.Make = at_class_name Bare InPut (g, refl)
+  action_word_keeps s g keyword.Make = at_class_name Bare InPut (g, (refl, refl))
+  action_word_keeps s g keyword.Modify = at_modified (g.0, g.1, refl)
   action_word_keeps s g keyword.Remove = at_cell (g.0, g.1, refl)
   action_word_keeps s g keyword.Write = at_items (g.0, g.1, refl)
+  action_word_keeps s g keyword.Bind = at_bound_name g
+  action_word_keeps s g keyword.Cbind = at_cell_name g
   action_word_keeps s g keyword.Halt = at_halt g
   action_word_keeps s g _ = tt
 
-  -- a cell in front of what may follow
-  designated_keeps : (s : State) → HasCells s → (before : ℕ) → (o : Option Condition) → slice_get s.conditions before ≡ o → Keeps (designated before o (Cells ∷ Actions ∷ Forms ∷ []) s)
-  designated_keeps s g before None e = tt
-  designated_keeps s g before (Some c) e =
-      let more = length-append s.cells (before ∷ []) in
-      cond_both c.negated _ _ Keeps (λ _. tt)
-      (λ positive. cond_both (list_any (λ c. c.negated) (take before s.conditions)) _ _ Keeps (λ _. tt)
-      (λ none. at_cells ((g.0, g.1, all_push (λ c. nat_lt c (length (cells_of s.conditions))) s.cells before g.2 (lt-ltb _ _ (has_cell s.conditions before c e positive none))), omega (arith, more))))
+  -- ---- designators
 
-  cell_of_keeps : (s : State) → HasCells s → (o : Option ℕ) → Keeps (cell_of o (Cells ∷ Actions ∷ Forms ∷ []) s)
-  cell_of_keeps s g None = tt
-  cell_of_keeps s g (Some m) = designated_keeps s g (m - 1) (slice_get s.conditions (m - 1)) refl
-
-  cell_named_keeps : (s : State) → HasCells s → (o : Option ℕ) → number_of w.name s.elements ≡ o → Keeps (cell_named o (Cells ∷ Actions ∷ Forms ∷ []) s)
-  cell_named_keeps s g None e = tt
-  cell_named_keeps s g (Some c) e =
+  cell_keeps : (s : State) → HasCells s → (r : Result ℕ Fault) → cell_of w.kind w.name s ≡ r → Keeps (with_designated r (Cells ∷ Actions ∷ Forms ∷ []) s)
+  cell_keeps s g (Ok c) e =
       let more = length-append s.cells (c ∷ []) in
-      at_cells ((g.0, g.1, all_push (λ c. nat_lt c (length (cells_of s.conditions))) s.cells c g.2 (number_below w.name s.elements c (length (cells_of s.conditions)) g.1.left.cells e)), omega (arith, more))
+      let there = cell_there s w.kind w.name c g.1 e in
+      at_cells ((g.0, g.1, all_push (λ c. nat_lt c (length (classes_of_cells s))) s.cells c g.2 (lt-ltb _ _ there)), omega (arith, more))
+  cell_keeps s g (Err f) e = tt
 
-  cell_keeps : (s : State) → HasCells s → (k : TokenKind) → Keeps (cell k w.name (Cells ∷ Actions ∷ Forms ∷ []) s)
-  cell_keeps s g (kind.Whole z) = cell_of_keeps s g (natural_of z)
-  cell_keeps s g kind.Variable = cell_named_keeps s g (number_of w.name s.elements) refl
-  cell_keeps s g _ = tt
+  modified_keeps : (s : State) → Base s × Right s × (s.puts ≡ []) → (r : Result ℕ Fault) → cell_of w.kind w.name s ≡ r → Keeps (with_modified r (Terms InPut ∷ Actions ∷ Forms ∷ []) s)
+  modified_keeps s g (Ok c) e =
+      let there = cell_there s w.kind w.name c g.1 e in
+      let class = unwrap_or (slice_get (classes_of_cells s) c) 0 in
+      at_terms Bare InPut (record {
+        around = (g.0, g.1);
+        class = ltb-true _ _ (all_at (λ c. nat_lt c (length s.classes)) (classes_of_cells s) c 0 g.1.cells there);
+        fields = (ap (list_all (put_is_plain s.classes (in_sight s) (class_of s.classes class))) g.2, (there, refl));
+      })
+  modified_keeps s g (Err f) e = tt
+
+  cell_bound_keeps : (s : State) → Base s × Right s → (o : Option ℕ) → s.made ≡ o → Keeps (cell_bound o w.name (Closes EndsWhole ∷ Actions ∷ Forms ∷ []) s)
+  cell_bound_keeps s g (Some class) e = at_whole (Actions ∷ Forms ∷ []) (at_actions (g.0, cell_kept s class w.name e g.1))
+  cell_bound_keeps s g None e = tt
+
+  -- ---- items
+
+  item_word_keeps : (s : State) → HasItems s → (k : Keyword) → Keeps (item_word k (Items ∷ Actions ∷ Forms ∷ []) s)
+  item_word_keeps s g keyword.Crlf = at_crlf g
+  item_word_keeps s g keyword.Tabto = at_columns ToTab g
+  item_word_keeps s g keyword.Rjust = at_columns ToRight g
+  item_word_keeps s g keyword.Substr = at_source_cell (spot Bare None false 0) ToItem g refl
+  item_word_keeps s g _ = tt
+
+  columns_keep : (s : State) → HasItems s → (c : Column) → (o : Option ℕ) → small_of w.kind ≡ o → Keeps (columns_at c o (Closes EndsWhole ∷ Items ∷ Actions ∷ Forms ∷ []) s)
+  columns_keep s g c (Some n) e = at_whole (Items ∷ Actions ∷ Forms ∷ []) (at_items (item_pushed s (column_item c n) g (column_plain s.classes (in_sight s) c n (small_there w.kind n e))))
+  columns_keep s g c None e = tt
 
   -- ---- a word
 
@@ -343,11 +471,11 @@ module _ (w : Word) where
   step_keeps s ws (at_vector_names g) = cond_both (is_right w.kind) _ _ Keeps (λ _. at_forms g.0) (λ _. vector_name_keeps s g)
   step_keeps s ws (at_rule_name g) =
       cond_both (is_name w.kind) _ _ Keeps
-      (λ _. cond_both (is_rule s w.name) _ _ Keeps (λ _. tt) (λ _. at_first_pattern (g, record { plain = refl; count = refl; within = λ is. absurd (true≢false (sym is)); sight = λ is. absurd (true≢false (sym is)); cells = refl }, refl, refl, refl, refl))) (λ _. tt)
+      (λ _. cond_both (is_rule s w.name) _ _ Keeps (λ _. tt) (λ _. at_first_pattern (g, record { plain = refl; count = refl; within = λ is. absurd (true≢false (sym is)); sight = λ is. absurd (true≢false (sym is)); cells = refl }, refl, refl, refl))) (λ _. tt)
   step_keeps s ws (at_first_pattern g) =
-      let none = g.4 in
-      cond_both (is_left w.kind) _ _ Keeps (λ _. at_class_name Bare InPattern ((g.0, g.1, omega (arith, none), g.3, begins_first s.conditions s.negated g.4 g.5), g.2))
-      (λ _. cond_both (is_left_brace w.kind) _ _ Keeps (λ _. at_braced ((g.0, g.1, omega (arith, none), g.3, begins_first s.conditions s.negated g.4 g.5), g.2))
+      let none = g.3 in
+      cond_both (is_left w.kind) _ _ Keeps (λ _. at_class_name Bare InPattern ((g.0, g.1, omega (arith, none), begins_first s.conditions s.negated g.3 g.4), g.2))
+      (λ _. cond_both (is_left_brace w.kind) _ _ Keeps (λ _. at_braced ((g.0, g.1, omega (arith, none), begins_first s.conditions s.negated g.3 g.4), g.2))
       (λ _. cond_both (is_minus w.keyword) _ _ Keeps (λ _. tt) (λ _. tt)))
   step_keeps s ws (at_patterns g) = patterns_keep s g
   step_keeps s ws (at_pattern b g) = cond_both (is_left w.kind) _ _ Keeps (λ _. at_class_name b InPattern g) (λ _. tt)
@@ -367,17 +495,27 @@ module _ (w : Word) where
   step_keeps s ws (at_choice p f g) = choice_keeps p f s g
   step_keeps s ws (at_atom p t g) = atom_keeps p t s g (atom_of w.kind w.name)
   step_keeps s ws (at_value p t g) = value_keeps p t s g
+  step_keeps s ws (at_function p t g is) = function_keeps p t s g is w.keyword
+  step_keeps s ws (at_source_cell p t g is) = cond_both (is_variable w.kind) _ _ Keeps (λ _. source_named_keeps p t s g is (number_of w.name s.elements) refl) (λ _. tt)
+  step_keeps s ws (at_source_attribute p t g is there) =
+      cond_both (is_name w.kind) _ _ Keeps (λ _. source_at_keeps p t s g is there (position (λ a. a.0 == w.name.0) (source_class s).attrs) refl) (λ _. tt)
+  step_keeps s ws (at_source_end p t name g is there has) = source_end_keeps p t name s g is there has
   step_keeps s ws (at_actions g) =
       cond_both (is_right w.kind) _ _ Keeps (λ _. at_forms (rule_kept s w.past g.0 g.1)) (λ _. cond_both (is_left w.kind) _ _ Keeps (λ _. at_action_word g) (λ _. tt))
   step_keeps s ws (at_action_word g) = action_word_keeps s g w.keyword
-  step_keeps s ws (at_cell g) = cell_keeps s g w.kind
+  step_keeps s ws (at_modified g) = modified_keeps s g (cell_of w.kind w.name s) refl
+  step_keeps s ws (at_bound_name g) = cond_both (is_variable w.kind) _ _ Keeps (λ _. at_value (spot Bare None false 0) ToBind g) (λ _. tt)
+  step_keeps s ws (at_cell_name g) = cond_both (is_variable w.kind) _ _ Keeps (λ _. cell_bound_keeps s g s.made refl) (λ _. tt)
+  step_keeps s ws (at_cell g) = cell_keeps s g (cell_of w.kind w.name s) refl
   step_keeps s ws (at_cells g) =
       cond_both (is_right w.kind) _ _ Keeps
-      (λ _. at_actions (g.0.0, action_kept s (action.Remove s.cells) g.0.1 (and_from _ _ (lt-ltb _ _ g.1) g.0.2))) (λ _. cell_keeps s g.0 w.kind)
+      (λ _. at_actions (g.0.0, action_kept s (action.Remove s.cells) g.0.1 (and_from _ _ (lt-ltb _ _ g.1) g.0.2) refl)) (λ _. cell_keeps s g.0 (cell_of w.kind w.name s) refl)
   step_keeps s ws (at_items g) =
-      cond_both (is_right w.kind) _ _ Keeps (λ _. at_actions (g.0, action_kept s (action.Write s.items) g.1 g.2))
+      cond_both (is_right w.kind) _ _ Keeps (λ _. at_actions (g.0, action_kept s (action.Write s.items) g.1 g.2 refl))
       (λ _. cond_both (is_left w.kind) _ _ Keeps (λ _. at_item_word g) (λ _. value_keeps (spot Bare None false 0) ToItem s g))
-  step_keeps s ws (at_item_word g) = cond_both (is_crlf w.keyword) _ _ Keeps (λ _. at_crlf g) (λ _. tt)
-  step_keeps s ws (at_crlf g) = cond_both (is_right w.kind) _ _ Keeps (λ _. item_kept s item.Crlf g refl) (λ _. tt)
-  step_keeps s ws (at_halt g) = cond_both (is_right w.kind) _ _ Keeps (λ _. at_actions (g.0, action_kept s action.Halt g.1 refl)) (λ _. tt)
+  step_keeps s ws (at_item_word g) = item_word_keeps s g w.keyword
+  step_keeps s ws (at_columns c g) = columns_keep s g c (small_of w.kind) refl
+  step_keeps s ws (at_whole behind g) = cond_both (is_right w.kind) _ _ Keeps (λ _. g) (λ _. tt)
+  step_keeps s ws (at_crlf g) = cond_both (is_right w.kind) _ _ Keeps (λ _. at_items (item_pushed s item.Crlf g refl)) (λ _. tt)
+  step_keeps s ws (at_halt g) = cond_both (is_right w.kind) _ _ Keeps (λ _. at_actions (g.0, action_kept s action.Halt g.1 refl refl)) (λ _. tt)
   step_keeps s ws (at_run g) = cond_both (is_right w.kind) _ _ Keeps (λ _. at_forms (command_kept s (command.Run None) g refl)) (λ _. tt)

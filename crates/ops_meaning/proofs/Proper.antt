@@ -65,9 +65,16 @@ symbol_proper s =
     (either kind.Symbol (bytes_eq s (codes "make")) _ _ refl
     (either kind.Symbol (bytes_eq s (codes "remove")) _ _ refl
     (either kind.Symbol (bytes_eq s (codes "run")) _ _ refl
+    (either kind.Symbol (bytes_eq s (codes "modify")) _ _ refl
     (either kind.Symbol (bytes_eq s (codes "write")) _ _ refl
+    (either kind.Symbol (bytes_eq s (codes "bind")) _ _ refl
+    (either kind.Symbol (bytes_eq s (codes "cbind")) _ _ refl
     (either kind.Symbol (bytes_eq s (codes "crlf")) _ _ refl
-    (either kind.Symbol (bytes_eq s (codes "halt")) _ _ refl refl))))))))
+    (either kind.Symbol (bytes_eq s (codes "tabto")) _ _ refl
+    (either kind.Symbol (bytes_eq s (codes "rjust")) _ _ refl
+    (either kind.Symbol (bytes_eq s (codes "substr")) _ _ refl
+    (either kind.Symbol (bytes_eq s (codes "inf")) _ _ refl
+    (either kind.Symbol (bytes_eq s (codes "halt")) _ _ refl refl)))))))))))))))
 
 -- a plain symbol has no keyword of operators
 pub symbol_unmarked : (s : List ℕ) → is_mark (keyword_of_symbol s) ≡ false

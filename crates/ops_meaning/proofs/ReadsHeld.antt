@@ -1,7 +1,7 @@
 -- Each symbol of what is read is the place of a spelling that is held.
-use Rattle.std.proofs.Common.{◌≡◌, ℕ, ◌+◌, ◌-◌, ◌<◌, ◌≤◌, Bool, true, false, not, cond, ◌==◌, ◌||◌, List, [], ◌∷◌, ◌++◌, length, map, refl, sym, ap, ◌∙◌, arith, Option, Some, None, Result, Ok, Err, IfSome, nat_lt, length-append, position, slice_get, take}
+use Rattle.std.proofs.Common.{◌≡◌, ℕ, ◌+◌, ◌-◌, ◌<◌, ◌≤◌, Bool, true, false, not, cond, ◌==◌, ◌&&◌, ◌||◌, List, [], ◌∷◌, ◌++◌, length, map, refl, sym, ap, ◌∙◌, arith, Option, Some, None, Result, Ok, Err, IfSome, nat_lt, length-append, position, slice_get}
 use Rattle.std.specs.Prelude.{filter, bytes_eq}
-use Rattle.std.specs.List.{list_all, list_any}
+use Rattle.std.specs.List.{list_all}
 use Rattle.std.proofs.lemmas.Bool.{and_parts, and_from, cond_both, lt-ltb, ltb-true}
 use Rattle.std.proofs.lemmas.List.Folds.{list_all-append}
 use Rattle.std.proofs.lemmas.List.Sums.{prefix_len-le-length}
@@ -25,9 +25,10 @@ use Rattle.ops_base.specs.declared.rules.Rule.{Rule}
 use Rattle.ops_base.specs.declared.commands.Fixed.{Fixed}
 use Rattle.ops_base.specs.declared.commands.Command.{Command}
 use Rattle.ops_base.specs.declared.commands.Command.TheVariants as command
+use Rattle.ops_base.specs.declared.endings.Fault.{Fault}
 use Rattle.ops_base.specs.declared.endings.Fault.TheVariants as fault
 use Rattle.ops_base.specs.Names.{Spellings, only_nil, place_of, with_spelling}
-use Rattle.ops_base.specs.Valid.{longest_list, most_fields, most_conditions, class_of, is_vector, specificity, cells_of}
+use Rattle.ops_base.specs.Valid.{longest_list, most_fields, most_conditions, class_of, is_vector, specificity}
 use Rattle.ops_tokens.specs.declared.token.TokenKind.{TokenKind}
 use Rattle.ops_tokens.specs.declared.token.TokenKind.TheVariants as kind
 use Rattle.ops_tokens.specs.declared.token.LexFault.{LexFault}
@@ -37,7 +38,7 @@ use Rattle.ops_meaning.specs.declared.words.Word.{Word}
 use Rattle.ops_meaning.specs.declared.words.Keyword.{Keyword}
 use Rattle.ops_meaning.specs.declared.words.Keyword.TheVariants as keyword
 use Rattle.ops_meaning.specs.Words.{lexed, has_name, names_with, word_of, words_from, names_from}
-use Rattle.ops_meaning.specs.Grammar.{Use, Target, Ends, Wanted, State, Step, is_left, is_right, is_left_brace, is_right_brace, is_caret, is_name, is_variable, is_arrow, is_literal, is_minus, opens_choice, closes_choice, pred_of, is_crlf, constant_of, atom_of, value_of, natural_of, is_one_of, number_of, may_declare, is_class, is_rule, form, class_declared, arranged, has_vector, with_class, is_second, attribute_declared, attributes, with_vector_last, with_vector, makes_second, vector_declared, vector_name, vector_names, class_at, class_name, attributes_of, field_at, attribute, with_test, with_put, with_fixed, with_item, with_constant, with_bound, variable_tested, constant_tested, tested, predicated, test, place, tests, with_choice, chosen, choice, atom_at, bound_at, constant_at, value_for, with_action, with_command, with_condition, with_element, terms, within, one_of_several, with_several, several, rule_name, first_pattern, one_more, more_patterns, patterns, pattern, element_at, element_name, braced, closes_brace, with_rule, actions, action_word, designated, cell_of, cell_named, cell, cells, items, item_word, ended, closes, forms, step, Outcome, ends, after, goes, nothing_read, InPattern, InPut, InFixed, ToTest, ToPut, ToFixed, ToTerms, ToConstants, ToItem, EndsRun, EndsHalt, EndsCrlf, Forms, Form, ClassDeclared, Attributes, VectorName, VectorNames, RuleName, FirstPattern, Patterns, Pattern, Braced, ElementName, ClosesBrace, ClassName, Terms, Attribute, Several, Place, Tests, Tested, Choice, Atom, ValueFor, Actions, ActionWord, Cell, Cells, Items, ItemWord, Closes, Next, Refuses}
+use Rattle.ops_meaning.specs.Grammar.{Use, Target, Ends, Column, Wanted, State, Step, is_left, is_right, is_left_brace, is_right_brace, is_caret, is_name, is_variable, is_arrow, is_literal, is_minus, opens_choice, closes_choice, pred_of, constant_of, atom_of, value_of, small_of, is_one_of, number_of, may_declare, is_class, is_rule, form, class_declared, arranged, has_vector, with_class, is_second, attribute_declared, attributes, with_vector_last, with_vector, makes_second, vector_declared, vector_name, vector_names, class_at, class_name, attributes_of, field_at, attribute, with_test, with_put, with_fixed, with_item, with_bind, with_constant, with_bound, variable_tested, constant_tested, tested, predicated, test, place, tests, with_choice, chosen, choice, atom_at, term_at, bound_at, constant_at, is_of_action, value_for, function, source_named, source_cell, source_class, source_at, source_attribute, takes_several, ends_at_inf, source_end, with_action, with_command, with_condition, put_action, with_element, terms, within, one_of_several, with_several, several, rule_name, first_pattern, one_more, more_patterns, patterns, pattern, element_at, element_name, braced, closes_brace, classes_of_cells, with_rule, actions, action_word, cell_of, with_designated, with_modified, bound_name, cell_bound, cell_name, cells, items, item_word, column_item, columns_at, ended, closes, forms, step, Outcome, ends, after, goes, nothing_read, InPattern, InPut, InFixed, ToTest, ToPut, ToFixed, ToTerms, ToConstants, ToItem, ToBind, EndsRun, EndsHalt, EndsCrlf, EndsWhole, ToTab, ToRight, Forms, Form, ClassDeclared, Attributes, VectorName, VectorNames, RuleName, FirstPattern, Patterns, Pattern, Braced, ElementName, ClosesBrace, ClassName, Terms, Attribute, Several, Place, Tests, Tested, Choice, Atom, ValueFor, Function, SourceCell, SourceAttribute, SourceEnd, Actions, ActionWord, Modified, BoundName, CellName, Cell, Cells, Items, ItemWord, Columns, Closes, Next, Refuses}
 use Rattle.ops_meaning.specs.Reads.{Read, Placed, verdict, read_lexed, reads}
 use Rattle.ops_meaning.specs.Symbols.{symbol_held, value_held, class_held, operand_held, condition_held, term_held, put_held, item_held, action_held, rule_held, fixed_held, command_held, is_held}
 use Rattle.ops_meaning.proofs.Lists.{all_push}
@@ -109,6 +110,10 @@ module _ (n : ℕ) where
   command_kept : (s : State) (c : Command) → AreHeld n s → command_held n c ≡ true → AreHeld n (with_command s c)
   command_kept s c h e = assumption (all_push (command_held n) s.commands c h.commands e)
 
+  bind_kept : (o : Option ℕ) (s : State) (t : Term) → AreHeld n s → term_held n t ≡ true → AreHeld n (with_bind o s t)
+  bind_kept (Some m) s t h e = action_kept s (action.Bind m t) h e
+  bind_kept None s t h e = let more = action_kept s (action.Bind s.variables t) h e in assumption more
+
   constant_kept : (t : Target) (s : State) (v : Value) → AreHeld n s → value_held n v ≡ true → AreHeld n (with_constant t s v)
   constant_kept (ToTest f p) s v h e = test_kept s f p (operand.Constant v) false h e
   constant_kept (ToPut f) s v h e = put_kept s f (term.Constant v) h e
@@ -116,6 +121,7 @@ module _ (n : ℕ) where
   constant_kept ToTerms s v h e = term_kept s (term.Constant v) h e
   constant_kept ToConstants s v h e = assumption (all_push (value_held n) s.constants v h.constants e)
   constant_kept ToItem s v h e = item_kept s (item.Print (term.Constant v)) h e
+  constant_kept ToBind s v h e = bind_kept (number_of s.variable s.values) s (term.Constant v) h e
 
   -- ---- classes
 
@@ -146,9 +152,14 @@ module _ (n : ℕ) where
       let one : Condition = record { class = s.class; negated = s.negated; tests = s.tests } in
       assumption (refl, all_push (condition_held n) s.conditions one h.conditions h.tests)
 
+  put_action_held : (o : Option ℕ) (class : ℕ) (puts : List Put) → list_all (put_held n) puts ≡ true → action_held n (put_action o class puts) ≡ true
+  put_action_held None class puts h = h
+  put_action_held (Some cell) class puts h = h
+
   element_kept : (u : Use) (s : State) → AreHeld n s → AreHeld n (with_element u s)
   element_kept InPattern s h = condition_kept s h
-  element_kept InPut s h = let more = action_kept s (action.Make s.class s.puts) h h.puts in assumption (refl, more)
+  element_kept InPut s h =
+      let more = action_kept s (put_action s.modified s.class s.puts) h (put_action_held s.modified s.class s.puts h.puts) in assumption (refl, more)
   element_kept InFixed s h = let more = command_kept s (command.Make s.class s.fixed) h h.fixed in assumption (refl, more)
 
   several_kept : (u : Use) (f : ℕ) (s : State) → AreHeld n s → AreHeld n (with_several u f s)
@@ -163,7 +174,7 @@ module _ (n : ℕ) where
 
   rule_kept : (s : State) (past : ℕ) → AreHeld n s → AreHeld n (with_rule s past)
   rule_kept s past h =
-      let one : Rule = record { name = s.name; conditions = s.conditions; actions = s.actions; specificity = specificity s.conditions; variables = s.variables; cells = length (cells_of s.conditions); first = s.first; past = past } in
+      let one : Rule = record { name = s.name; conditions = s.conditions; actions = s.actions; specificity = specificity s.conditions; variables = s.variables; cells = length (classes_of_cells s); first = s.first; past = past } in
       assumption (refl, all_push (rule_held n) s.rules one h.rules (and_from _ _ (and_from _ _ h.name h.conditions) h.actions))
 
   -- ---- constants
@@ -304,12 +315,16 @@ module _ (n : ℕ) (w : Word) (named : symbol_held n w.name ≡ true) where
 
   -- ---- values
 
+  term_at_keeps : (t : Target) (x : Term) (ws : List Wanted) (s : State) → AreHeld n s → term_held n x ≡ true → Keeps n (term_at t x ws s)
+  term_at_keeps (ToPut f) x ws s h e = put_kept n s f x h e
+  term_at_keeps ToTerms x ws s h e = term_kept n s x h e
+  term_at_keeps ToItem x ws s h e = item_kept n s (item.Print x) h e
+  term_at_keeps ToBind x ws s h e = bind_kept n (number_of s.variable s.values) s x h e
+  term_at_keeps _ x ws s h e = tt
+
   bound_at_keeps : (t : Target) (o : Option ℕ) (ws : List Wanted) (s : State) → AreHeld n s → Keeps n (bound_at t o ws s)
-  bound_at_keeps (ToPut f) (Some m) ws s h = put_kept n s f (term.Variable m) h refl
-  bound_at_keeps ToTerms (Some m) ws s h = term_kept n s (term.Variable m) h refl
-  bound_at_keeps ToItem (Some m) ws s h = item_kept n s (item.Print (term.Variable m)) h refl
-  bound_at_keeps _ (Some m) ws s h = tt
-  bound_at_keeps _ None ws s h = tt
+  bound_at_keeps t (Some m) ws s h = term_at_keeps t (term.Variable m) ws s h refl
+  bound_at_keeps t None ws s h = tt
 
   constant_at_keeps : (t : Target) (o : Option Value) (ws : List Wanted) (s : State) → IfSome o (λ v. value_held n v ≡ true) → AreHeld n s → Keeps n (constant_at t w o ws s)
   constant_at_keeps t (Some v) ws s held h = constant_kept n t s v h held
@@ -319,7 +334,38 @@ module _ (n : ℕ) (w : Word) (named : symbol_held n w.name ≡ true) where
   value_for_keeps : (t : Target) (ws : List Wanted) (s : State) → AreHeld n s → Keeps n (value_for t w ws s)
   value_for_keeps t ws s h =
       cond_both (is_literal w.keyword) _ _ (Keeps n) (λ _. h)
-      (λ _. constant_at_keeps t (value_of w.kind w.name) ws s (value_of_held n w.kind w.name named) h)
+      (λ _. cond_both (is_left w.kind && is_of_action t) _ _ (Keeps n) (λ _. h)
+      (λ _. constant_at_keeps t (value_of w.kind w.name) ws s (value_of_held n w.kind w.name named) h))
+
+  -- ---- substr
+
+  function_keeps : (t : Target) (k : Keyword) (ws : List Wanted) (s : State) → AreHeld n s → Keeps n (function t k ws s)
+  function_keeps t keyword.Substr ws s h = h
+  function_keeps t _ ws s h = tt
+
+  source_named_keeps : (o : Option ℕ) (ws : List Wanted) (s : State) → AreHeld n s → Keeps n (source_named o ws s)
+  source_named_keeps (Some c) ws s h = assumption h
+  source_named_keeps None ws s h = tt
+
+  source_cell_keeps : (ws : List Wanted) (s : State) → AreHeld n s → Keeps n (source_cell w ws s)
+  source_cell_keeps ws s h =
+      cond_both (is_variable w.kind) _ _ (Keeps n) (λ _. source_named_keeps (number_of w.name s.elements) ws s h) (λ _. tt)
+
+  source_at_keeps : (t : Target) (o : Option ℕ) (ws : List Wanted) (s : State) → AreHeld n s → Keeps n (source_at t w.name o ws s)
+  source_at_keeps t (Some f) ws s h = assumption h
+  source_at_keeps t None ws s h = tt
+
+  source_attribute_keeps : (t : Target) (ws : List Wanted) (s : State) → AreHeld n s → Keeps n (source_attribute t w ws s)
+  source_attribute_keeps t ws s h =
+      cond_both (is_name w.kind) _ _ (Keeps n)
+      (λ _. source_at_keeps t (position (λ a. a.0 == w.name.0) (source_class s).attrs) ws s h) (λ _. tt)
+
+  source_end_keeps : (t : Target) (name : Sym) (ws : List Wanted) (s : State) → AreHeld n s → Keeps n (source_end t name w ws s)
+  source_end_keeps t name ws s h =
+      cond_both (ends_at_inf w s) _ _ (Keeps n)
+      (λ _. cond_both (takes_several t) _ _ (Keeps n) (λ _. term_at_keeps t (term.Rest s.source) ws s h refl) (λ _. tt))
+      (λ _. cond_both (is_name w.kind && (w.name.0 == name.0)) _ _ (Keeps n)
+      (λ _. term_at_keeps t (term.One s.source s.source_field) ws s h refl) (λ _. tt))
 
   -- ---- the vector attribute
 
@@ -387,34 +433,37 @@ module _ (n : ℕ) (w : Word) (named : symbol_held n w.name ≡ true) where
 
   action_word_keeps : (k : Keyword) (ws : List Wanted) (s : State) → AreHeld n s → Keeps n (action_word k ws s)
   action_word_keeps keyword.Make ws s h = assumption (refl, h)
+  action_word_keeps keyword.Modify ws s h = assumption (refl, h)
+  action_word_keeps keyword.Bind ws s h = h
+  action_word_keeps keyword.Cbind ws s h = h
   action_word_keeps keyword.Remove ws s h = assumption h
   action_word_keeps keyword.Write ws s h = assumption (refl, h)
   action_word_keeps keyword.Halt ws s h = h
   action_word_keeps _ ws s h = tt
 
-  designated_keeps : (before : ℕ) (o : Option Condition) (ws : List Wanted) (s : State) → AreHeld n s → Keeps n (designated before o ws s)
-  designated_keeps before (Some c) ws s h =
-      cond_both c.negated _ _ (Keeps n) (λ _. tt)
-      (λ _. cond_both (list_any (λ c. c.negated) (take before s.conditions)) _ _ (Keeps n) (λ _. tt) (λ _. assumption h))
-  designated_keeps before None ws s h = tt
+  designated_keeps : (r : Result ℕ Fault) (ws : List Wanted) (s : State) → AreHeld n s → Keeps n (with_designated r ws s)
+  designated_keeps (Ok c) ws s h = assumption h
+  designated_keeps (Err f) ws s h = tt
 
-  cell_of_keeps : (o : Option ℕ) (ws : List Wanted) (s : State) → AreHeld n s → Keeps n (cell_of o ws s)
-  cell_of_keeps (Some m) ws s h = designated_keeps (m - 1) (slice_get s.conditions (m - 1)) ws s h
-  cell_of_keeps None ws s h = tt
+  modified_keeps : (r : Result ℕ Fault) (ws : List Wanted) (s : State) → AreHeld n s → Keeps n (with_modified r ws s)
+  modified_keeps (Ok c) ws s h = assumption h
+  modified_keeps (Err f) ws s h = tt
 
-  cell_named_keeps : (o : Option ℕ) (ws : List Wanted) (s : State) → AreHeld n s → Keeps n (cell_named o ws s)
-  cell_named_keeps (Some c) ws s h = assumption h
-  cell_named_keeps None ws s h = tt
+  bound_name_keeps : (ws : List Wanted) (s : State) → AreHeld n s → Keeps n (bound_name w ws s)
+  bound_name_keeps ws s h = cond_both (is_variable w.kind) _ _ (Keeps n) (λ _. assumption h) (λ _. tt)
 
-  cell_keeps : (k : TokenKind) (ws : List Wanted) (s : State) → AreHeld n s → Keeps n (cell k w.name ws s)
-  cell_keeps (kind.Whole z) ws s h = cell_of_keeps (natural_of z) ws s h
-  cell_keeps kind.Variable ws s h = cell_named_keeps (number_of w.name s.elements) ws s h
-  cell_keeps _ ws s h = tt
+  cell_bound_keeps : (o : Option ℕ) (name : Sym) (ws : List Wanted) (s : State) → AreHeld n s → Keeps n (cell_bound o name ws s)
+  cell_bound_keeps (Some class) name ws s h =
+      let more = action_kept n s (action.Cbind (length (classes_of_cells s))) h refl in assumption more
+  cell_bound_keeps None name ws s h = tt
+
+  cell_name_keeps : (ws : List Wanted) (s : State) → AreHeld n s → Keeps n (cell_name w ws s)
+  cell_name_keeps ws s h = cond_both (is_variable w.kind) _ _ (Keeps n) (λ _. cell_bound_keeps s.made w.name ws s h) (λ _. tt)
 
   cells_keeps : (ws : List Wanted) (s : State) → AreHeld n s → Keeps n (cells w ws s)
   cells_keeps ws s h =
       let more = action_kept n s (action.Remove s.cells) h refl in
-      cond_both (is_right w.kind) _ _ (Keeps n) (λ _. assumption more) (λ _. cell_keeps w.kind (Cells ∷ ws) s h)
+      cond_both (is_right w.kind) _ _ (Keeps n) (λ _. assumption more) (λ _. designated_keeps (cell_of w.kind w.name s) (Cells ∷ ws) s h)
 
   items_keeps : (ws : List Wanted) (s : State) → AreHeld n s → Keeps n (items w ws s)
   items_keeps ws s h =
@@ -422,13 +471,26 @@ module _ (n : ℕ) (w : Word) (named : symbol_held n w.name ≡ true) where
       cond_both (is_right w.kind) _ _ (Keeps n) (λ _. assumption (refl, more))
       (λ _. cond_both (is_left w.kind) _ _ (Keeps n) (λ _. h) (λ _. value_for_keeps ToItem (Items ∷ ws) s h))
 
-  item_word_keeps : (ws : List Wanted) (s : State) → AreHeld n s → Keeps n (item_word w ws s)
-  item_word_keeps ws s h = cond_both (is_crlf w.keyword) _ _ (Keeps n) (λ _. h) (λ _. tt)
+  item_word_keeps : (k : Keyword) (ws : List Wanted) (s : State) → AreHeld n s → Keeps n (item_word k ws s)
+  item_word_keeps keyword.Crlf ws s h = h
+  item_word_keeps keyword.Tabto ws s h = h
+  item_word_keeps keyword.Rjust ws s h = h
+  item_word_keeps keyword.Substr ws s h = h
+  item_word_keeps _ ws s h = tt
+
+  column_held : (c : Column) (m : ℕ) → item_held n (column_item c m) ≡ true
+  column_held ToTab m = refl
+  column_held ToRight m = refl
+
+  columns_keeps : (c : Column) (o : Option ℕ) (ws : List Wanted) (s : State) → AreHeld n s → Keeps n (columns_at c o ws s)
+  columns_keeps c (Some m) ws s h = item_kept n s (column_item c m) h (column_held c m)
+  columns_keeps c None ws s h = tt
 
   ended_kept : (e : Ends) (s : State) → AreHeld n s → AreHeld n (ended e s)
   ended_kept EndsRun s h = command_kept n s (command.Run None) h refl
   ended_kept EndsHalt s h = action_kept n s action.Halt h refl
   ended_kept EndsCrlf s h = item_kept n s item.Crlf h refl
+  ended_kept EndsWhole s h = h
 
   closes_keeps : (e : Ends) (ws : List Wanted) (s : State) → AreHeld n s → Keeps n (closes e w ws s)
   closes_keeps e ws s h = cond_both (is_right w.kind) _ _ (Keeps n) (λ _. ended_kept e s h) (λ _. tt)
@@ -461,12 +523,20 @@ module _ (n : ℕ) (w : Word) (named : symbol_held n w.name ≡ true) where
   step_keeps (Choice f ∷ ws) s h = choice_keeps f ws s h
   step_keeps (Atom t ∷ ws) s h = atom_at_keeps t (atom_of w.kind w.name) ws s (atom_held n w.kind w.name named) h
   step_keeps (ValueFor t ∷ ws) s h = value_for_keeps t ws s h
+  step_keeps (Function t ∷ ws) s h = function_keeps t w.keyword ws s h
+  step_keeps (SourceCell ∷ ws) s h = source_cell_keeps ws s h
+  step_keeps (SourceAttribute t ∷ ws) s h = source_attribute_keeps t ws s h
+  step_keeps (SourceEnd t name ∷ ws) s h = source_end_keeps t name ws s h
   step_keeps (Actions ∷ ws) s h = actions_keeps ws s h
   step_keeps (ActionWord ∷ ws) s h = action_word_keeps w.keyword ws s h
-  step_keeps (Cell ∷ ws) s h = cell_keeps w.kind ws s h
+  step_keeps (Modified ∷ ws) s h = modified_keeps (cell_of w.kind w.name s) ws s h
+  step_keeps (BoundName ∷ ws) s h = bound_name_keeps ws s h
+  step_keeps (CellName ∷ ws) s h = cell_name_keeps ws s h
+  step_keeps (Cell ∷ ws) s h = designated_keeps (cell_of w.kind w.name s) ws s h
   step_keeps (Cells ∷ ws) s h = cells_keeps ws s h
   step_keeps (Items ∷ ws) s h = items_keeps ws s h
-  step_keeps (ItemWord ∷ ws) s h = item_word_keeps ws s h
+  step_keeps (ItemWord ∷ ws) s h = item_word_keeps w.keyword ws s h
+  step_keeps (Columns c ∷ ws) s h = columns_keeps c (small_of w.kind) ws s h
   step_keeps (Closes e ∷ ws) s h = closes_keeps e ws s h
 
 -- ---- names only grow

@@ -12,16 +12,18 @@ use Rattle.ops_base.specs.declared.commands.Command.{Command}
 use Rattle.ops_base.specs.declared.commands.Command.TheVariants as command
 use Rattle.ops_base.specs.Valid.{most_conditions, are_distinct, class_of, class_is_valid, first_is_positive, cells_of, specificity, fixed_is_valid}
 use Rattle.ops_meaning.specs.declared.words.Word.{Word}
+use Rattle.ops_meaning.specs.declared.words.Named.{Named}
 use Rattle.ops_meaning.specs.declared.words.Keyword.TheVariants as keyword
-use Rattle.ops_meaning.specs.Grammar.{Wanted, Forms, FirstPattern, Patterns, Actions, State, Outcome, is_one_of, left_begun, left_ended, step, is_rule, with_rule, ends, goes}
+use Rattle.ops_meaning.specs.Grammar.{Wanted, Forms, FirstPattern, Patterns, Actions, State, Outcome, is_one_of, left_begun, left_ended, right_begun, step, is_rule, with_rule, ends, goes}
 use Rattle.ops_meaning.specs.Standing.{outcome_of, AreRead}
-use Rattle.ops_meaning.specs.Spelling.{Numbered, opening, closing, arrow, spelled_keyword, spelled_name, spelled_each, spelled_class, attribute_name, last_field, spelled_vector, spelled_action, spelled_condition, spelled_conditions, spelled_rule, spelled_command, spelled_program, action_is_plain, nothing_numbered, after_condition, condition_is_plain, conditions_are_plain, after_conditions, rule_is_plain, vectors_of, scalars_of, class_is_plain, command_is_plain, is_plain}
+use Rattle.ops_meaning.specs.Spelling.{opening, closing, arrow, spelled_keyword, spelled_name, spelled_each, spelled_class, attribute_name, last_field, spelled_vector, spelled_actions, spelled_condition, spelled_conditions, spelled_rule, spelled_command, spelled_program, at_arrow, after_actions, actions_are_plain, nothing_numbered, after_condition, condition_is_plain, conditions_are_plain, after_conditions, rule_is_plain, vectors_of, scalars_of, class_is_plain, command_is_plain, is_plain}
 use Rattle.ops_meaning.proofs.Lists.{all_weaker}
 use Rattle.ops_meaning.proofs.Places.{numbered}
 use Rattle.ops_meaning.proofs.Numbering.{after_condition-given, below}
 use Rattle.ops_meaning.proofs.ReadsBack.{apart_before, vector-read, IsUnder, class-read}
 use Rattle.ops_meaning.proofs.ReadsFacts.{AreNamed, fact-read, run-read}
-use Rattle.ops_meaning.proofs.ReadsRules.{acted, class_after_all, actions-read, Left, left_after, left_behind, matched, cells_behind, first-read, conditions-read}
+use Rattle.ops_meaning.proofs.ReadsRight.{Trail, acted, actions-read}
+use Rattle.ops_meaning.proofs.ReadsRules.{Left, left_after, left_behind, matched, cells_behind, first-read, conditions-read}
 
 -- what a form leaves behind that no later one looks at
 pub record Rest : Type 0 where
@@ -29,8 +31,9 @@ pub record Rest : Type 0 where
   pub first : ℕ
   pub vectors : List Sym
   pub class : ℕ
-  pub variables : Numbered
-  pub cells : ℕ
+  pub values : List Named
+  pub elements : List Named
+  pub variables : ℕ
 
 -- where no form is open
 abbrev pub idle : Rest → List Class → List Rule → List Command → State
@@ -52,14 +55,20 @@ idle rest classes rules commands =
       fixed = [];
       cells = [];
       items = [];
-      values = numbered rest.variables.sight;
-      elements = numbered (below rest.cells);
+      values = rest.values;
+      elements = rest.elements;
       element = record { 0 = 0 };
-      variables = rest.variables.given;
+      variables = rest.variables;
       negated = false;
       around = 0;
       conditions = [];
       actions = [];
+      modified = None;
+      made = None;
+      further = [];
+      variable = record { 0 = 0 };
+      source = 0;
+      source_field = 0;
     }
 
 -- ---- a production
@@ -68,24 +77,30 @@ idle rest classes rules commands =
 abbrev at_rule : Left
 at_rule = record { class = 0; around = 0; element = record { 0 = 0 }; cell = 0 }
 
+-- and what its actions find
+abbrev at_actions : Trail
+at_actions = record { class = 0; modified = None; variable = record { 0 = 0 }; further = []; source = 0; source_field = 0 }
+
 abbrev after_rule : Rest → Rule → Rest
 after_rule rest r =
+    let to = after_actions (at_arrow r.conditions) r.actions in
     record {
       name = r.name;
       first = r.first;
       vectors = rest.vectors;
-      class = class_after_all 0 r.actions;
-      variables = after_conditions nothing_numbered r.conditions;
-      cells = (left_behind at_rule nothing_numbered r.conditions).cell;
+      class = 0;
+      values = numbered to.variables.sight;
+      elements = numbered (below (length to.cells));
+      variables = to.variables.given;
     }
 
 rule_begun : (r : Rule) (words : List Word) (ws : List Wanted) (s : State) → (length s.commands == 0) ≡ true → is_rule s r.name ≡ false
     → goes (record opening { first = r.first } ∷ spelled_keyword keyword.Production ∷ spelled_name r.name ∷ words) (Forms ∷ ws) s
-    ≡ goes words (FirstPattern ∷ Patterns ∷ Actions ∷ Forms ∷ ws) (record (left_begun s) { first = r.first; name = r.name; actions = [] })
+    ≡ goes words (FirstPattern ∷ Patterns ∷ Actions ∷ Forms ∷ ws) (record (left_begun s) { first = r.first; name = r.name })
 unfolding goes step
 rule_begun r words ws s none new = rw none (rw new refl)
 
-arrow_read : (words : List Word) (ws : List Wanted) (s : State) → goes (arrow ∷ words) (Patterns ∷ ws) s ≡ goes words ws (left_ended s)
+arrow_read : (words : List Word) (ws : List Wanted) (s : State) → goes (arrow ∷ words) (Patterns ∷ ws) s ≡ goes words ws (right_begun (left_ended s))
 unfolding goes step
 arrow_read words ws s = refl
 
@@ -120,25 +135,30 @@ module _ (classes : List Class) (rules : List Rule) (more : List Word) (ws : Lis
   rule-read r rest new plain =
       let k = after_conditions nothing_numbered r.conditions in
       let l : Left = left_behind at_rule nothing_numbered r.conditions in
-      let cells = length (cells_of r.conditions) in
+      let from = at_arrow r.conditions in
+      let to = after_actions from r.actions in
+      let cells = length to.cells in
       let p1 = and_parts _ (r.cells == cells) plain in
       let p2 = and_parts _ (r.specificity == specificity r.conditions) p1.0 in
-      let p3 = and_parts _ (r.variables == k.given) p2.0 in
-      let p4 = and_parts _ (list_all (action_is_plain classes cells k.sight) r.actions) p3.0 in
+      let p3 = and_parts _ (r.variables == to.variables.given) p2.0 in
+      let p4 = and_parts _ (actions_are_plain classes from r.actions) p3.0 in
       let p5 = and_parts _ (conditions_are_plain classes nothing_numbered r.conditions) p4.0 in
       let p6 = and_parts (first_is_positive r.conditions) (nat_le (length r.conditions) most_conditions) p5.0 in
       let left = spelled_conditions classes 0 r.conditions in
-      let right = spelled_each (spelled_action classes) r.actions in
+      let right = spelled_actions classes from r.actions in
       let end : Word = record closing { past = r.past } in
       let body : State = matched (begun rest r) l k r.conditions in
-      let in_cells = ap (λ (n : ℕ). numbered (below n)) (sym (cells_behind r.conditions at_rule nothing_numbered [] refl)) in
+      let acts = actions-read r.actions at_actions from (end ∷ more) (Forms ∷ ws) (left_ended body) [] names (sym (append-nil (cells_of r.conditions))) p4.1 in
+      let counted : length (cells_of r.conditions ++ acts.0.further) ≡ cells = ap (λ (xs : List ℕ). length xs) (sym acts.1) in
       let head : List Word = record opening { first = r.first } ∷ spelled_keyword keyword.Production ∷ spelled_name r.name ∷ left in
       ap (λ (x : List Word). goes x (Forms ∷ ws) (idle rest classes rules [])) (append_assoc (head ++ arrow ∷ right) (end ∷ []) more ∙ append_assoc head (arrow ∷ right) (end ∷ more))
       ∙ rule_begun r (left ++ (arrow ∷ right ++ (end ∷ more))) ws (idle rest classes rules []) refl new
       ∙ left_read r rest r.conditions (arrow ∷ right ++ (end ∷ more)) p6.0 (leb-true _ _ p6.1) p5.1
       ∙ arrow_read (right ++ (end ∷ more)) (Actions ∷ Forms ∷ ws) body
-      ∙ actions-read r.actions k.sight cells (end ∷ more) (Forms ∷ ws) (left_ended body) 0 [] names refl in_cells p4.1
-      ∙ rule_closed r.past more (Forms ∷ ws) (acted (left_ended body) (class_after_all 0 r.actions) r.actions)
+      ∙ ap (λ (n : ℕ). goes (right ++ (end ∷ more)) (Actions ∷ Forms ∷ ws) (record (right_begun (left_ended body)) { elements = numbered (below n) })) (sym (cells_behind r.conditions at_rule nothing_numbered [] refl))
+      ∙ acts.2
+      ∙ rule_closed r.past more (Forms ∷ ws) (acted (left_ended body) acts.0 to r.actions)
+      ∙ ap (λ (n : ℕ). whole r rest to.variables.given (specificity r.conditions) n) counted
       ∙ ap (λ (n : ℕ). whole r rest n (specificity r.conditions) cells) (sym (eqb-true r.variables _ p3.1))
       ∙ ap (λ (n : ℕ). whole r rest r.variables n cells) (sym (eqb-true r.specificity _ p2.1))
       ∙ ap (λ (n : ℕ). whole r rest r.variables r.specificity n) (sym (eqb-true r.cells _ p1.1))
@@ -285,7 +305,7 @@ at_end s = refl
 
 -- before the first form
 abbrev nothing_left : Rest
-nothing_left = record { name = record { 0 = 0 }; first = 0; vectors = []; class = 0; variables = nothing_numbered; cells = 0 }
+nothing_left = record { name = record { 0 = 0 }; first = 0; vectors = []; class = 0; values = []; elements = []; variables = 0 }
 
 -- Each program that has a spelling is what its spelling is read as.
 pub program-read : (classes : List Class) (rules : List Rule) (commands : List Command) → is_plain classes rules commands ≡ true → AreRead (spelled_program classes rules commands) classes rules commands

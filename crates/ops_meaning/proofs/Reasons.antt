@@ -1,5 +1,5 @@
 -- Why a word is refused.
-use Rattle.std.proofs.Common.{◌≡◌, ℕ, suc, ◌+◌, ◌-◌, ◌<◌, Bool, true, false, not, ◌||◌, ◌==◌, cond, List, [], ◌∷◌, length, take, refl, sym, ap, subst, ◌∙◌, arith, Option, Some, None, nat_lt, is_some, position, slice_get, true≢false}
+use Rattle.std.proofs.Common.{◌≡◌, ℕ, suc, ◌+◌, ◌-◌, ◌<◌, Bool, true, false, not, ◌&&◌, ◌||◌, ◌==◌, cond, List, [], ◌∷◌, length, take, refl, sym, ap, subst, ◌∙◌, arith, Option, Some, None, Result, Ok, Err, nat_lt, is_some, position, slice_get, true≢false}
 use Rattle.std.specs.List.{list_any, position_or_len}
 use Rattle.std.proofs.lemmas.Bool.{cond_both, and_from, lt-ltb}
 use Rattle.ops_base.specs.declared.values.Sym.{Sym}
@@ -17,9 +17,10 @@ use Rattle.ops_tokens.specs.declared.token.TokenKind.TheVariants as kind
 use Rattle.ops_meaning.specs.declared.words.Word.{Word}
 use Rattle.ops_meaning.specs.declared.words.Keyword.{Keyword}
 use Rattle.ops_meaning.specs.declared.words.Keyword.TheVariants as keyword
-use Rattle.ops_meaning.specs.Grammar.{Use, InPattern, InPut, InFixed, Target, ToTest, ToPut, ToFixed, ToTerms, ToConstants, ToItem, Wanted, Forms, Form, ClassDeclared, Attributes, VectorName, VectorNames, RuleName, FirstPattern, Patterns, Pattern, Braced, ElementName, ClosesBrace, ClassName, Terms, Attribute, Several, Place, Tests, Tested, Choice, Atom, ValueFor, Actions, ActionWord, Cell, Cells, Items, ItemWord, Closes, State, Step, Next, Refuses, is_left, is_right, is_left_brace, is_right_brace, is_caret, is_name, is_variable, is_arrow, is_crlf, is_literal, is_minus, opens_choice, closes_choice, pred_of, constant_of, value_of, atom_of, natural_of, is_one_of, number_of, may_declare, is_class, is_rule, is_second, makes_second, vector_name, form, class_at, attributes_of, field_at, variable_tested, constant_tested, tested, predicated, test, place, chosen, atom_at, term_at, bound_at, constant_at, value_for, within, one_of_several, several, element_at, element_name, action_word, designated, cell_of, cell_named, cell, step}
+use Rattle.ops_meaning.specs.Grammar.{Use, InPattern, InPut, InFixed, Target, ToTest, ToPut, ToFixed, ToTerms, ToConstants, ToItem, ToBind, Column, Wanted, Forms, Form, ClassDeclared, Attributes, VectorName, VectorNames, RuleName, FirstPattern, Patterns, Pattern, Braced, ElementName, ClosesBrace, ClassName, Terms, Attribute, Several, Place, Tests, Tested, Choice, Atom, ValueFor, Function, SourceCell, SourceAttribute, SourceEnd, Actions, ActionWord, Modified, BoundName, CellName, Cell, Cells, Items, ItemWord, Columns, Closes, State, Step, Next, Refuses, is_left, is_right, is_left_brace, is_right_brace, is_caret, is_name, is_variable, is_arrow, is_literal, is_minus, opens_choice, closes_choice, pred_of, constant_of, value_of, atom_of, natural_of, small_of, is_one_of, number_of, may_declare, is_class, is_rule, is_second, makes_second, vector_name, form, class_at, attributes_of, field_at, variable_tested, constant_tested, tested, predicated, test, place, chosen, atom_at, term_at, bound_at, constant_at, is_of_action, value_for, function, source_named, source_class, source_at, takes_several, ends_at_inf, source_end, within, one_of_several, several, element_at, element_name, action_word, designated, numbered_cell, named_cell, cell_of, with_designated, with_modified, cell_bound, item_word, columns_at, step}
 use Rattle.ops_meaning.specs.Derivation.{is_designator}
 use Rattle.ops_meaning.specs.Reasons.{no_form_fault, is_declaration, gives_second, is_full, wants_bound, is_bound, is_positive, is_condition, designates, is_unclear, designates_unclearly, wants_cell, is_bad_designator, Because}
+use Rattle.ops_meaning.proofs.Arranged.{AreArranged}
 
 abbrev pub HasReason : List Wanted → Word → State → Step → Type 0
 HasReason ws w s (Next ws' s') = Unit {0}
@@ -105,7 +106,9 @@ module _ (w : Word) (ws : List Wanted) (s : State) where
       constant_at_reason None = cond_both (is_variable w.kind) _ _ (At here) (λ is. bound_reason is (number_of w.name s.values) refl) (λ _. bad)
 
       value_reason : At here (value_for t w behind s)
-      value_reason = cond_both (is_literal w.keyword) _ _ (At here) (λ _. tt) (λ _. constant_at_reason (value_of w.kind w.name))
+      value_reason =
+          cond_both (is_literal w.keyword) _ _ (At here) (λ _. tt)
+          (λ _. cond_both (is_left w.kind && is_of_action t) _ _ (At here) (λ _. tt) (λ _. constant_at_reason (value_of w.kind w.name)))
 
   value_for_reason : (t : Target) → At (ValueFor t ∷ ws) (value_for t w ws s)
   value_for_reason (ToTest f p) = value_reason (ValueFor (ToTest f p) ∷ ws) ws refl (λ _. refl) (ToTest f p) refl (λ is x. (refl, is, refl))
@@ -114,6 +117,35 @@ module _ (w : Word) (ws : List Wanted) (s : State) where
   value_for_reason ToTerms = value_reason (ValueFor ToTerms ∷ ws) ws refl (λ e. ap is_some e) ToTerms refl (λ is x. tt)
   value_for_reason ToConstants = value_reason (ValueFor ToConstants ∷ ws) ws refl (λ _. refl) ToConstants refl (λ is x. (refl, is, refl))
   value_for_reason ToItem = value_reason (ValueFor ToItem ∷ ws) ws refl (λ e. ap is_some e) ToItem refl (λ is x. tt)
+  value_for_reason ToBind = value_reason (ValueFor ToBind ∷ ws) ws refl (λ e. ap is_some e) ToBind refl (λ is x. tt)
+
+  -- `substr`
+  function_reason : (t : Target) (k : Keyword) → At (Function t ∷ ws) (function t k ws s)
+  function_reason t keyword.Substr = tt
+  function_reason t _ = refl
+
+  source_named_reason : is_variable w.kind ≡ true → (o : Option ℕ) → number_of w.name s.elements ≡ o → At (SourceCell ∷ ws) (source_named o ws s)
+  source_named_reason is (Some c) e = tt
+  source_named_reason is None e = and_from _ _ is (ap (λ (o : Option ℕ). not (is_some o)) e)
+
+  source_at_reason : (t : Target) → is_name w.kind ≡ true → (o : Option ℕ) → position (λ a. a.0 == w.name.0) (source_class s).attrs ≡ o → At (SourceAttribute t ∷ ws) (source_at t w.name o ws s)
+  source_at_reason t is (Some f) e = tt
+  source_at_reason t is None e = (refl, is, position_none (λ (a : Sym). a.0 == w.name.0) (source_class s).attrs e)
+
+  -- a term goes to a value of an action
+  term_reason : (here behind : List Wanted) (t : Target) (x : Term) → is_of_action t ≡ true → At here (term_at t x behind s)
+  term_reason here behind (ToPut f) x of_action = tt
+  term_reason here behind ToTerms x of_action = tt
+  term_reason here behind ToItem x of_action = tt
+  term_reason here behind ToBind x of_action = tt
+  term_reason here behind _ x of_action = absurd (true≢false (sym of_action))
+
+  source_end_reason : (t : Target) (name : Sym) → is_of_action t ≡ true → At (SourceEnd t name ∷ ws) (source_end t name w ws s)
+  source_end_reason t name of_action =
+      cond_both (ends_at_inf w s) _ _ (At (SourceEnd t name ∷ ws))
+      (λ _. cond_both (takes_several t) _ _ (At (SourceEnd t name ∷ ws)) (λ _. term_reason (SourceEnd t name ∷ ws) ws t (term.Rest s.source) of_action) (λ _. refl))
+      (λ _. cond_both (is_name w.kind && (w.name.0 == name.0)) _ _ (At (SourceEnd t name ∷ ws))
+      (λ _. term_reason (SourceEnd t name ∷ ws) ws t (term.One s.source s.source_field) of_action) (λ _. refl))
 
   place_reason : (here behind : List Wanted) → no_form_fault here ≡ fault.BadForm → (number_of w.name s.values ≡ None → is_bound here w.name s ≡ false) → (f : ℕ) → At here (place f w behind s)
   place_reason here behind bad unbound f = cond_both (is_left_brace w.kind) _ _ (At here) (λ _. tt) (λ _. test_reason here behind bad unbound f)
@@ -170,60 +202,91 @@ module _ (w : Word) (ws : List Wanted) (s : State) where
 
   action_word_reason : (k : Keyword) → At (ActionWord ∷ ws) (action_word k ws s)
   action_word_reason keyword.Make = tt
+  action_word_reason keyword.Modify = tt
+  action_word_reason keyword.Bind = tt
+  action_word_reason keyword.Cbind = tt
   action_word_reason keyword.Remove = tt
   action_word_reason keyword.Write = tt
   action_word_reason keyword.Halt = tt
   action_word_reason _ = refl
 
+  -- the fault of a word that designates no cell has its reason
+  abbrev Reasoned : List Wanted → Result ℕ Fault → Type 0
+  Reasoned here (Ok c) = Unit {0}
+  Reasoned here (Err f) = Because f w here s
+
   -- where a cell is wanted
-  module _ (here behind : List Wanted) (wants : wants_cell here ≡ true) (bad : no_form_fault here ≡ fault.BadForm)
+  module _ (here : List Wanted) (wants : wants_cell here ≡ true) (bad : no_form_fault here ≡ fault.BadForm)
       (none : is_designator w.kind ≡ true → designates w.kind w.name s ≡ false → is_bad_designator here w s ≡ true) where
     designated_reason : is_designator w.kind ≡ true → (before : ℕ) (o : Option Condition) → designates w.kind w.name s ≡ is_positive o
-        → designates_unclearly w.kind s ≡ list_any (λ c. c.negated) (take before s.conditions) → At here (designated before o behind s)
+        → designates_unclearly w.kind s ≡ list_any (λ c. c.negated) (take before s.conditions) → Reasoned here (designated before o s)
     designated_reason is before (Some c) e unclear =
-        cond_both c.negated _ _ (At here) (λ negated. none is (e ∙ ap not negated))
-        (λ positive. cond_both (list_any (λ c. c.negated) (take before s.conditions)) _ _ (At here) (λ among. (wants, e ∙ ap not positive, unclear ∙ among)) (λ _. tt))
+        cond_both c.negated _ _ (Reasoned here) (λ negated. none is (e ∙ ap not negated))
+        (λ positive. cond_both (list_any (λ c. c.negated) (take before s.conditions)) _ _ (Reasoned here) (λ among. (wants, e ∙ ap not positive, unclear ∙ among)) (λ _. tt))
     designated_reason is before None e unclear = none is e
 
-    cell_of_reason : is_designator w.kind ≡ true → (o : Option ℕ) → designates w.kind w.name s ≡ is_condition s o → designates_unclearly w.kind s ≡ is_unclear s o → At here (cell_of o behind s)
-    cell_of_reason is (Some n) e unclear = designated_reason is (n - 1) (slice_get s.conditions (n - 1)) e unclear
-    cell_of_reason is None e unclear = none is e
+    numbered_reason : is_designator w.kind ≡ true → (o : Option ℕ) → designates w.kind w.name s ≡ is_condition s o → designates_unclearly w.kind s ≡ is_unclear s o → Reasoned here (numbered_cell o s)
+    numbered_reason is (Some n) e unclear = designated_reason is (n - 1) (slice_get s.conditions (n - 1)) e unclear
+    numbered_reason is None e unclear = none is e
 
-    cell_named_reason : is_designator w.kind ≡ true → (o : Option ℕ) → designates w.kind w.name s ≡ is_some o → At here (cell_named o behind s)
-    cell_named_reason is (Some c) e = tt
-    cell_named_reason is None e = none is e
+    named_reason : is_designator w.kind ≡ true → (o : Option ℕ) → designates w.kind w.name s ≡ is_some o → Reasoned here (named_cell o)
+    named_reason is (Some c) e = tt
+    named_reason is None e = none is e
 
-    cell_reason : (k : TokenKind) → w.kind ≡ k → At here (cell k w.name behind s)
-    cell_reason (kind.Whole n) e =
-        cell_of_reason (ap is_designator e) (natural_of n) (ap (λ (k : TokenKind). designates k w.name s) e) (ap (λ (k : TokenKind). designates_unclearly k s) e)
-    cell_reason kind.Variable e = cell_named_reason (ap is_designator e) (number_of w.name s.elements) (ap (λ (k : TokenKind). designates k w.name s) e)
-    cell_reason _ e = bad
+    cell_of_reason : (k : TokenKind) → w.kind ≡ k → Reasoned here (cell_of k w.name s)
+    cell_of_reason (kind.Whole n) e =
+        numbered_reason (ap is_designator e) (natural_of n) (ap (λ (k : TokenKind). designates k w.name s) e) (ap (λ (k : TokenKind). designates_unclearly k s) e)
+    cell_of_reason kind.Variable e = named_reason (ap is_designator e) (number_of w.name s.elements) (ap (λ (k : TokenKind). designates k w.name s) e)
+    cell_of_reason _ e = bad
 
-step_reason : (w : Word) (ws : List Wanted) (s : State) → HasReason ws w s (step w ws s)
+  cell_reason : (here behind : List Wanted) (r : Result ℕ Fault) → Reasoned here r → At here (with_designated r behind s)
+  cell_reason here behind (Ok c) h = tt
+  cell_reason here behind (Err f) h = h
+
+  modified_reason : (r : Result ℕ Fault) → Reasoned (Modified ∷ ws) r → At (Modified ∷ ws) (with_modified r ws s)
+  modified_reason (Ok c) h = tt
+  modified_reason (Err f) h = h
+
+  cell_bound_reason : is_variable w.kind ≡ true → (o : Option ℕ) → s.made ≡ o → At (CellName ∷ ws) (cell_bound o w.name ws s)
+  cell_bound_reason is (Some class) e = tt
+  cell_bound_reason is None e = and_from _ _ is (ap (λ (o : Option ℕ). not (is_some o)) e)
+
+  item_word_reason : (k : Keyword) → At (ItemWord ∷ ws) (item_word k ws s)
+  item_word_reason keyword.Crlf = tt
+  item_word_reason keyword.Tabto = tt
+  item_word_reason keyword.Rjust = tt
+  item_word_reason keyword.Substr = tt
+  item_word_reason _ = refl
+
+  columns_reason : (c : Column) (o : Option ℕ) → At (Columns c ∷ ws) (columns_at c o ws s)
+  columns_reason c (Some n) = tt
+  columns_reason c None = refl
+
+step_reason : (w : Word) (ws : List Wanted) (s : State) → AreArranged ws s → HasReason ws w s (step w ws s)
 unfolding step
-step_reason w [] s = refl
-step_reason w (Forms ∷ ws) s = cond_both (is_left w.kind) _ _ (HasReason (Forms ∷ ws) w s) (λ _. tt) (λ _. refl)
-step_reason w (Form ∷ ws) s = form_reason w ws s w.keyword refl
-step_reason w (ClassDeclared ∷ ws) s =
+step_reason w [] s arranged = refl
+step_reason w (Forms ∷ ws) s arranged = cond_both (is_left w.kind) _ _ (HasReason (Forms ∷ ws) w s) (λ _. tt) (λ _. refl)
+step_reason w (Form ∷ ws) s arranged = form_reason w ws s w.keyword refl
+step_reason w (ClassDeclared ∷ ws) s arranged =
     cond_both (is_name w.kind) _ _ (HasReason (ClassDeclared ∷ ws) w s) (λ is. cond_both (is_class s w.name) _ _ (HasReason (ClassDeclared ∷ ws) w s) (λ e. (is, e)) (λ _. tt)) (λ _. refl)
-step_reason w (Attributes ∷ ws) s =
+step_reason w (Attributes ∷ ws) s arranged =
     cond_both (is_right w.kind) _ _ (HasReason (Attributes ∷ ws) w s) (λ _. tt)
     (λ _. cond_both (is_name w.kind) _ _ (HasReason (Attributes ∷ ws) w s)
     (λ is. cond_both (is_one_of w.name s.attrs) _ _ (HasReason (Attributes ∷ ws) w s) (λ e. (is, e))
     (λ _. cond_both (is_second w.name s) _ _ (HasReason (Attributes ∷ ws) w s) (λ e. (is, e))
     (λ _. cond_both (nat_lt (length s.attrs) most_fields) _ _ (HasReason (Attributes ∷ ws) w s) (λ _. tt) (λ full. ap not full))))
     (λ _. refl))
-step_reason w (VectorName ∷ ws) s = vector_name_reason w ws s (VectorName ∷ ws) ws refl (λ new more. and_from _ _ (ap not new) more)
-step_reason w (VectorNames ∷ ws) s =
+step_reason w (VectorName ∷ ws) s arranged = vector_name_reason w ws s (VectorName ∷ ws) ws refl (λ new more. and_from _ _ (ap not new) more)
+step_reason w (VectorNames ∷ ws) s arranged =
     cond_both (is_right w.kind) _ _ (HasReason (VectorNames ∷ ws) w s) (λ _. tt)
     (λ _. vector_name_reason w ws s (VectorNames ∷ ws) (VectorNames ∷ ws) refl (λ new more. and_from _ _ (ap not new) more))
-step_reason w (RuleName ∷ ws) s =
+step_reason w (RuleName ∷ ws) s arranged =
     cond_both (is_name w.kind) _ _ (HasReason (RuleName ∷ ws) w s) (λ is. cond_both (is_rule s w.name) _ _ (HasReason (RuleName ∷ ws) w s) (λ e. (is, e)) (λ _. tt)) (λ _. refl)
-step_reason w (FirstPattern ∷ ws) s =
+step_reason w (FirstPattern ∷ ws) s arranged =
     cond_both (is_left w.kind) _ _ (HasReason (FirstPattern ∷ ws) w s) (λ _. tt)
     (λ _. cond_both (is_left_brace w.kind) _ _ (HasReason (FirstPattern ∷ ws) w s) (λ _. tt)
     (λ _. cond_both (is_minus w.keyword) _ _ (HasReason (FirstPattern ∷ ws) w s) (λ e. (e, refl)) (λ _. refl)))
-step_reason w (Patterns ∷ ws) s =
+step_reason w (Patterns ∷ ws) s arranged =
     cond_both (is_arrow w.keyword) _ _ (HasReason (Patterns ∷ ws) w s) (λ _. tt)
     (λ _. cond_both (is_left w.kind) _ _ (HasReason (Patterns ∷ ws) w s)
     (λ _. cond_both (nat_lt (length s.conditions) most_conditions) _ _ (HasReason (Patterns ∷ ws) w s) (λ _. tt) (λ full. (refl, full)))
@@ -231,40 +294,53 @@ step_reason w (Patterns ∷ ws) s =
     (λ _. cond_both (nat_lt (length s.conditions) most_conditions) _ _ (HasReason (Patterns ∷ ws) w s) (λ _. tt) (λ full. (refl, full)))
     (λ _. cond_both (is_minus w.keyword) _ _ (HasReason (Patterns ∷ ws) w s)
     (λ _. cond_both (nat_lt (length s.conditions) most_conditions) _ _ (HasReason (Patterns ∷ ws) w s) (λ _. tt) (λ full. (refl, full))) (λ _. refl))))
-step_reason w (Pattern ∷ ws) s = cond_both (is_left w.kind) _ _ (HasReason (Pattern ∷ ws) w s) (λ _. tt) (λ _. refl)
-step_reason w (Braced ∷ ws) s =
+step_reason w (Pattern ∷ ws) s arranged = cond_both (is_left w.kind) _ _ (HasReason (Pattern ∷ ws) w s) (λ _. tt) (λ _. refl)
+step_reason w (Braced ∷ ws) s arranged =
     cond_both (is_left w.kind) _ _ (HasReason (Braced ∷ ws) w s) (λ _. tt)
     (λ _. element_name_reason w ws s (Braced ∷ ws) (Pattern ∷ ClosesBrace ∷ ws) refl (λ is again. and_from _ _ is again))
-step_reason w (ElementName ∷ ws) s = element_name_reason w ws s (ElementName ∷ ws) ws refl (λ is again. and_from _ _ is again)
-step_reason w (ClosesBrace ∷ ws) s = cond_both (is_right_brace w.kind) _ _ (HasReason (ClosesBrace ∷ ws) w s) (λ _. tt) (λ _. refl)
-step_reason w (ClassName ∷ ws) s =
+step_reason w (ElementName ∷ ws) s arranged = element_name_reason w ws s (ElementName ∷ ws) ws refl (λ is again. and_from _ _ is again)
+step_reason w (ClosesBrace ∷ ws) s arranged = cond_both (is_right_brace w.kind) _ _ (HasReason (ClosesBrace ∷ ws) w s) (λ _. tt) (λ _. refl)
+step_reason w (ClassName ∷ ws) s arranged =
     cond_both (is_name w.kind) _ _ (HasReason (ClassName ∷ ws) w s) (λ is. class_at_reason w ws s is (position (λ c. c.name.0 == w.name.0) s.classes) refl) (λ _. refl)
-step_reason w (Terms u ∷ ws) s =
+step_reason w (Terms u ∷ ws) s arranged =
     cond_both (is_right w.kind) _ _ (HasReason (Terms u ∷ ws) w s) (λ _. tt) (λ _. cond_both (is_caret w.kind) _ _ (HasReason (Terms u ∷ ws) w s) (λ _. tt) (λ _. refl))
-step_reason w (Attribute u ∷ ws) s =
+step_reason w (Attribute u ∷ ws) s arranged =
     cond_both (is_name w.kind) _ _ (HasReason (Attribute u ∷ ws) w s)
     (λ is. field_at_reason w ws s u is (position (λ a. a.0 == w.name.0) (attributes_of (slice_get s.classes s.class))) refl) (λ _. refl)
-step_reason w (Several u f ∷ ws) s = several_reason w ws s u f
-step_reason w (Place f ∷ ws) s = place_reason w ws s (Place f ∷ ws) ws refl (λ e. ap is_some e) f
-step_reason w (Tests f ∷ ws) s =
+step_reason w (Several u f ∷ ws) s arranged = several_reason w ws s u f
+step_reason w (Place f ∷ ws) s arranged = place_reason w ws s (Place f ∷ ws) ws refl (λ e. ap is_some e) f
+step_reason w (Tests f ∷ ws) s arranged =
     cond_both (is_right_brace w.kind) _ _ (HasReason (Tests f ∷ ws) w s) (λ _. tt) (λ _. test_reason w ws s (Tests f ∷ ws) (Tests f ∷ ws) refl (λ e. ap is_some e) f)
-step_reason w (Tested f p ∷ ws) s = tested_reason w ws s (Tested f p ∷ ws) ws refl (λ e. ap is_some e) f p (λ e. e)
-step_reason w (Choice f ∷ ws) s =
+step_reason w (Tested f p ∷ ws) s arranged = tested_reason w ws s (Tested f p ∷ ws) ws refl (λ e. ap is_some e) f p (λ e. e)
+step_reason w (Choice f ∷ ws) s arranged =
     cond_both (closes_choice w.keyword) _ _ (HasReason (Choice f ∷ ws) w s) (λ _. tt) (λ _. chosen_reason w ws s f (atom_of w.kind w.name))
-step_reason w (Atom t ∷ ws) s = atom_reason w ws s t (atom_of w.kind w.name)
-step_reason w (ValueFor t ∷ ws) s = value_for_reason w ws s t
-step_reason w (Actions ∷ ws) s =
+step_reason w (Atom t ∷ ws) s arranged = atom_reason w ws s t (atom_of w.kind w.name)
+step_reason w (ValueFor t ∷ ws) s arranged = value_for_reason w ws s t
+step_reason w (Function t ∷ ws) s arranged = function_reason w ws s t w.keyword
+step_reason w (SourceCell ∷ ws) s arranged =
+    cond_both (is_variable w.kind) _ _ (HasReason (SourceCell ∷ ws) w s) (λ is. source_named_reason w ws s is (number_of w.name s.elements) refl) (λ _. refl)
+step_reason w (SourceAttribute t ∷ ws) s arranged =
+    cond_both (is_name w.kind) _ _ (HasReason (SourceAttribute t ∷ ws) w s)
+    (λ is. source_at_reason w ws s t is (position (λ a. a.0 == w.name.0) (source_class s).attrs) refl) (λ _. refl)
+step_reason w (SourceEnd t name ∷ ws) s arranged = source_end_reason w ws s t name arranged.1
+step_reason w (Actions ∷ ws) s arranged =
     cond_both (is_right w.kind) _ _ (HasReason (Actions ∷ ws) w s) (λ _. tt) (λ _. cond_both (is_left w.kind) _ _ (HasReason (Actions ∷ ws) w s) (λ _. tt) (λ _. refl))
-step_reason w (ActionWord ∷ ws) s = action_word_reason w ws s w.keyword
-step_reason w (Cell ∷ ws) s = cell_reason w ws s (Cell ∷ ws) ws refl refl (λ is e. and_from _ _ is (ap not e)) w.kind refl
-step_reason w (Cells ∷ ws) s =
-    cond_both (is_right w.kind) _ _ (HasReason (Cells ∷ ws) w s) (λ _. tt) (λ _. cell_reason w ws s (Cells ∷ ws) (Cells ∷ ws) refl refl (λ is e. and_from _ _ is (ap not e)) w.kind refl)
-step_reason w (Items ∷ ws) s =
+step_reason w (ActionWord ∷ ws) s arranged = action_word_reason w ws s w.keyword
+step_reason w (Modified ∷ ws) s arranged = modified_reason w ws s (cell_of w.kind w.name s) (cell_of_reason w ws s (Modified ∷ ws) refl refl (λ is e. and_from _ _ is (ap not e)) w.kind refl)
+step_reason w (BoundName ∷ ws) s arranged = cond_both (is_variable w.kind) _ _ (HasReason (BoundName ∷ ws) w s) (λ _. tt) (λ _. refl)
+step_reason w (CellName ∷ ws) s arranged = cond_both (is_variable w.kind) _ _ (HasReason (CellName ∷ ws) w s) (λ is. cell_bound_reason w ws s is s.made refl) (λ _. refl)
+step_reason w (Cell ∷ ws) s arranged =
+    cell_reason w ws s (Cell ∷ ws) ws (cell_of w.kind w.name s) (cell_of_reason w ws s (Cell ∷ ws) refl refl (λ is e. and_from _ _ is (ap not e)) w.kind refl)
+step_reason w (Cells ∷ ws) s arranged =
+    cond_both (is_right w.kind) _ _ (HasReason (Cells ∷ ws) w s) (λ _. tt)
+    (λ _. cell_reason w ws s (Cells ∷ ws) (Cells ∷ ws) (cell_of w.kind w.name s) (cell_of_reason w ws s (Cells ∷ ws) refl refl (λ is e. and_from _ _ is (ap not e)) w.kind refl))
+step_reason w (Items ∷ ws) s arranged =
     cond_both (is_right w.kind) _ _ (HasReason (Items ∷ ws) w s) (λ _. tt)
     (λ _. cond_both (is_left w.kind) _ _ (HasReason (Items ∷ ws) w s) (λ _. tt) (λ _. value_reason w ws s (Items ∷ ws) (Items ∷ ws) refl (λ e. ap is_some e) ToItem refl (λ is x. tt)))
-step_reason w (ItemWord ∷ ws) s = cond_both (is_crlf w.keyword) _ _ (HasReason (ItemWord ∷ ws) w s) (λ _. tt) (λ _. refl)
-step_reason w (Closes e ∷ ws) s = cond_both (is_right w.kind) _ _ (HasReason (Closes e ∷ ws) w s) (λ _. tt) (λ _. refl)
+step_reason w (ItemWord ∷ ws) s arranged = item_word_reason w ws s w.keyword
+step_reason w (Columns c ∷ ws) s arranged = columns_reason w ws s c (small_of w.kind)
+step_reason w (Closes e ∷ ws) s arranged = cond_both (is_right w.kind) _ _ (HasReason (Closes e ∷ ws) w s) (λ _. tt) (λ _. refl)
 
 -- A word is refused for the reason that the fault names.
-pub refused-because : (w : Word) (ws : List Wanted) (s : State) (f : Fault) → step w ws s ≡ Refuses f → Because f w ws s
-refused-because w ws s f e = subst (HasReason ws w s) e (step_reason w ws s)
+pub refused-because : (w : Word) (ws : List Wanted) (s : State) (f : Fault) → AreArranged ws s → step w ws s ≡ Refuses f → Because f w ws s
+refused-because w ws s f arranged e = subst (HasReason ws w s) e (step_reason w ws s arranged)

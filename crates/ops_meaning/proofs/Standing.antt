@@ -38,7 +38,7 @@ module _ (before : List Word) (w : Word) (f : Fault) (to : List Wanted) (at : St
       record {
         taken = taken_before to at before (Forms ∷ []) nothing_read reached;
         refused = λ more. goes_behind to at before (Forms ∷ []) nothing_read reached (w ∷ more) ∙ refuses w to at f more refused;
-        because = (to, at, goes_behind to at before (Forms ∷ []) nothing_read reached, refused-because w to at f refused, refused-lowest w to at f own refused);
+        because = (to, at, goes_behind to at before (Forms ∷ []) nothing_read reached, refused-because w to at f arranged refused, refused-lowest w to at f arranged own refused);
         goes_on = let c = completed at.vectors to in (c.0, derives_before to at before (Forms ∷ []) nothing_read reached arranged_begun c.0 c.1);
         in_a_form = λ no. let c = refused_in_form w to at arranged f refused no in (c.0, derives_before to at before (Forms ∷ []) nothing_read reached arranged_begun (w ∷ c.0) c.1);
         in_no_form = λ is more d.

@@ -1,10 +1,9 @@
 -- Each word leads from what is sound to what is sound.
-use Rattle.std.proofs.Common.{◌≡◌, ℕ, ◌+◌, ◌-◌, ◌<◌, ◌≤◌, Bool, true, false, ◌||◌, ◌==◌, List, [], ◌∷◌, ◌++◌, length, refl, sym, ap, subst, ◌∙◌, arith, Option, Some, None, nat_lt, length-append, unwrap_or, true≢false, slice_get, position, get_or, nat_le, take}
-use Rattle.std.specs.List.{list_all, list_any}
+use Rattle.std.proofs.Common.{◌≡◌, ℕ, ◌+◌, ◌<◌, ◌≤◌, Bool, true, false, true≢false, ◌&&◌, ◌||◌, ◌==◌, List, [], ◌∷◌, ◌++◌, length, refl, sym, ap, subst, ◌∙◌, arith, Option, Some, None, nat_lt, length-append, unwrap_or, slice_get, position, nat_le}
+use Rattle.std.specs.List.{list_all}
 use Rattle.std.proofs.lemmas.Bool.{and_parts, and_from, or_left, or_right, cond_both, eqb-true, lt-ltb, le-leb, ltb-true, not_from_false}
 use Rattle.std.proofs.lemmas.List.Quantifiers.{position-Some}
 use Rattle.std.proofs.lemmas.List.{length-map}
-use Rattle.std.proofs.lemmas.Option.{slice_get-get_or}
 use Rattle.ops_base.specs.declared.values.Value.{Value}
 use Rattle.ops_base.specs.declared.values.Pred.{Pred}
 use Rattle.ops_base.specs.declared.values.Pred.TheVariants as pred
@@ -13,38 +12,21 @@ use Rattle.ops_base.specs.declared.elements.Class.{Class}
 use Rattle.ops_base.specs.declared.conditions.Operand.TheVariants as operand
 use Rattle.ops_base.specs.declared.conditions.Test.{Test}
 use Rattle.ops_base.specs.declared.conditions.Condition.{Condition}
-use Rattle.ops_base.specs.declared.actions.Term.{Term}
-use Rattle.ops_base.specs.declared.actions.Term.TheVariants as term
 use Rattle.ops_base.specs.declared.actions.Put.{Put}
-use Rattle.ops_base.specs.declared.actions.Item.{Item}
-use Rattle.ops_base.specs.declared.actions.Item.TheVariants as item
 use Rattle.ops_base.specs.declared.actions.Action.{Action}
-use Rattle.ops_base.specs.declared.actions.Action.TheVariants as action
-use Rattle.ops_base.specs.declared.rules.Rule.{Rule}
 use Rattle.ops_base.specs.declared.commands.Fixed.{Fixed}
 use Rattle.ops_base.specs.declared.commands.Command.{Command}
 use Rattle.ops_base.specs.declared.commands.Command.TheVariants as command
-use Rattle.ops_base.specs.Valid.{longest_list, most_fields, most_conditions, is_in, no_class, class_of, specificity, term_is_valid, is_attribute, is_vector, is_cell, first_is_positive, operand_is_valid, tests_are_valid, sight_after_tests, cells_of, sight_after_conditions, nothing_in_sight, put_is_valid, item_is_valid, fixed_is_valid}
-use Rattle.ops_tokens.specs.declared.token.TokenKind.{TokenKind}
-use Rattle.ops_tokens.specs.declared.token.TokenKind.TheVariants as kind
+use Rattle.ops_base.specs.Valid.{longest_list, most_fields, most_conditions, is_in, no_class, class_of, is_attribute, is_vector, operand_is_valid, tests_are_valid, sight_after_tests, sight_after_conditions, nothing_in_sight, put_is_valid, fixed_is_valid}
 use Rattle.ops_meaning.specs.declared.words.Word.{Word}
 use Rattle.ops_meaning.specs.declared.words.Keyword.{Keyword}
 use Rattle.ops_meaning.specs.declared.words.Keyword.TheVariants as keyword
-use Rattle.ops_meaning.specs.Grammar.{Use, InPattern, InPut, InFixed, ToTest, ToPut, ToFixed, ToTerms, ToConstants, ToItem, EndsRun, EndsHalt, EndsCrlf, Wanted, Forms, Attributes, VectorNames, FirstPattern, Patterns, Pattern, ClosesBrace, Terms, Several, Choice, Actions, Cells, Items, State, Step, Next, Refuses, is_left, is_right, is_left_brace, is_right_brace, is_caret, is_name, is_variable, is_arrow, is_crlf, is_literal, is_minus, opens_choice, closes_choice, pred_of, constant_of, value_of, atom_of, natural_of, is_one_of, number_of, may_declare, is_class, is_rule, form, class_declared, with_vector_last, makes_second, vector_declared, vector_name, vector_names, is_second, attribute_declared, attributes, class_at, class_name, attributes_of, behind_attribute, field_at, attribute, with_test, with_bound, with_constant, variable_tested, constant_tested, tested, predicated, test, place, tests, with_choice, chosen, choice, atom_at, bound_at, constant_at, value_for, with_element, terms, within, one_of_several, with_several, several, left_ended, rule_name, first_pattern, one_more, patterns, pattern, element_at, element_name, braced, closes_brace, actions, action_word, designated, cell_of, cell_named, cell, cells, items, item_word, closes, forms, step}
-use Rattle.ops_meaning.proofs.Lists.{all_push, all_in, not_below}
-use Rattle.ops_meaning.proofs.Parts.{has_cell}
-use Rattle.ops_meaning.proofs.Sound.{IsShortBy, IsShort, IsHead, IsBody, numbers, known, Program, Declaring, IsClass, Head, Body, Around, IsEmpty, IsElement, Braces, Bare, NamedBefore, NamedBehind, AtField, HasMore, AtPlace, AtSeveral, BeforePattern, AfterPattern, behind, behind_place, behind_test, variables_of, seen, IsRead, at_forms, at_form, at_class_declared, at_attributes, at_vector_name, at_vector_names, at_rule_name, at_first_pattern, at_patterns, at_pattern, at_braced, at_element_name, at_closes_brace, at_class_name, at_terms, at_attribute, at_several, at_place, at_tests, at_tested, at_choice, at_test_atom, at_put_value, at_put_atom, at_fixed_value, at_fixed_atom, at_terms_atom, at_constants_atom, at_item_atom, at_actions, at_action_word, at_cell, at_cells, at_items, at_item_word, at_crlf, at_halt, at_run, Leads}
-use Rattle.ops_meaning.proofs.Grown.{fits_below, class_begun, attribute_added, class_added, vector_added, number_in, head_begun, negated_begun, element_bound, test_kept, test_bound, test_valid, condition_added, body_begun, action_added, rule_added, put_valid, vector_parts, several_valid, command_added, fixed_valid, vector_within, constants_valid}
-
--- the word stands in a text of this length, from the place on
-pub record IsPlaced (text n : ℕ) (w : Word) : Type 0 where
-  pub begins : n ≤ w.first
-  pub some : w.first < w.past
-  pub within : w.past ≤ text
-
-some_first : (cs : List Condition) → first_is_positive cs ≡ true → 0 < length cs
-some_first [] e = absurd (true≢false (sym e))
-some_first (c ∷ cs) e = omega arith
+use Rattle.ops_meaning.specs.Grammar.{Use, InPattern, InPut, InFixed, ToTest, ToFixed, ToConstants, EndsRun, Wanted, Forms, Attributes, VectorNames, FirstPattern, Patterns, Pattern, ClosesBrace, Terms, Several, Choice, Actions, State, Step, Next, Refuses, is_left, is_right, is_left_brace, is_right_brace, is_caret, is_name, is_variable, is_arrow, is_literal, is_minus, opens_choice, closes_choice, pred_of, constant_of, value_of, atom_of, small_of, is_one_of, number_of, may_declare, is_class, is_rule, form, class_declared, with_vector_last, makes_second, vector_declared, vector_name, vector_names, is_second, attribute_declared, attributes, class_at, class_name, attributes_of, behind_attribute, field_at, attribute, with_test, with_bound, variable_tested, constant_tested, tested, predicated, test, place, tests, with_choice, chosen, choice, atom_at, bound_at, constant_at, value_for, with_element, terms, within, one_of_several, with_several, several, left_ended, right_begun, rule_name, first_pattern, one_more, patterns, pattern, element_at, element_name, braced, closes_brace, put_action, closes, forms, step}
+use Rattle.ops_meaning.proofs.Lists.{all_push, not_below}
+use Rattle.ops_meaning.proofs.Sound.{IsShortBy, IsShort, IsHead, known_in, IsNamed, IsOfClass, Program, Declaring, IsClass, Head, Body, Around, IsEmpty, IsElement, Braces, Bare, NamedBefore, NamedBehind, AtField, HasMore, AtPlace, AtSeveral, BeforePattern, AfterPattern, behind, behind_place, behind_test, variables_of, side_of, seen, IsRead, at_forms, at_form, at_class_declared, at_attributes, at_vector_name, at_vector_names, at_rule_name, at_first_pattern, at_patterns, at_pattern, at_braced, at_element_name, at_closes_brace, at_class_name, at_terms, at_attribute, at_several, at_place, at_tests, at_tested, at_choice, at_test_atom, at_fixed_value, at_fixed_atom, at_constants_atom, InScalar, InVector, at_value, at_atom, at_function, at_source_cell, at_source_attribute, at_source_end, at_value_end, at_actions, at_action_word, at_modified, at_bound_name, at_cell_name, at_action_end, at_cell, at_cells, at_items, at_item_word, at_columns, at_crlf, at_halt, at_run, Leads}
+use Rattle.ops_meaning.proofs.Grown.{fits_below, class_begun, attribute_added, class_added, vector_added, number_in, head_begun, negated_begun, element_bound, test_kept, test_bound, test_valid, condition_added, body_begun, put_known, vector_parts, several_valid, command_added, fixed_valid, vector_within, constants_valid}
+use Rattle.ops_meaning.proofs.ValueSteps.{IsPlaced, added, atom_leads, value_leads, function_leads, source_cell_leads, source_attribute_leads, source_end_leads, value_end_leads}
+use Rattle.ops_meaning.proofs.RightSteps.{put_action_valid, actions_leads, action_word_leads, cell_leads, modified_leads, bound_name_leads, cell_name_leads, action_end_leads, cells_leads, items_leads, item_word_leads, columns_leads, crlf_leads, halt_leads}
 
 module _ (text n : ℕ) (w : Word) (fit : text ≤ longest_list) (placed : IsPlaced text n w) where
   -- ---- declarations
@@ -61,7 +43,7 @@ module _ (text n : ℕ) (w : Word) (fit : text ≤ longest_list) (placed : IsPla
   form_leads s short g keyword.Literalize = cond_both (may_declare s) _ _ (Leads text w.past) (λ e. (omega arith, at_class_declared (declaring s g e))) (λ _. tt)
   form_leads s short g keyword.VectorAttribute = cond_both (may_declare s) _ _ (Leads text w.past) (λ e. (omega arith, at_vector_name (declaring s g e))) (λ _. tt)
   form_leads s short g keyword.Production = cond_both (length s.commands == 0) _ _ (Leads text w.past) (λ _. (omega arith, at_rule_name g)) (λ _. tt)
-  form_leads s short g keyword.Make = (omega arith, at_class_name Bare InFixed ((g, refl)))
+  form_leads s short g keyword.Make = (omega arith, at_class_name Bare InFixed (g, refl, tt))
   form_leads s short g keyword.Run = (omega arith, at_run g)
   form_leads s short g _ = tt
 
@@ -99,23 +81,28 @@ module _ (text n : ℕ) (w : Word) (fit : text ≤ longest_list) (placed : IsPla
 
   -- ---- elements
 
-  element_named : (u : Use) (s : State) (c : ℕ) → Around u text s × IsEmpty u s → c < length s.classes → IsElement u text (record s { class = c })
+  element_named : (u : Use) (s : State) (c : ℕ) → Around u text s × IsEmpty u s × IsOfClass u s → c < length s.classes → IsElement u text (record s { class = c })
   element_named InPattern s c h lt = record { around = h.0; class = lt; fields = ap (tests_are_valid (class_of s.classes c) (sight_after_conditions nothing_in_sight s.conditions)) h.1 }
-  element_named InPut s c h lt = record { around = h.0; class = lt; fields = ap (list_all (put_is_valid s.classes (known s.conditions s.actions) (class_of s.classes c))) h.1 }
+  element_named InPut s c h lt =
+      record {
+        around = h.0;
+        class = subst (IsNamed s.classes (known_in s) c) (sym h.2) lt;
+        fields = ap (list_all (put_is_valid s.classes (known_in s) (class_of s.classes c))) h.1;
+      }
   element_named InFixed s c h lt = record { around = h.0; class = lt; fields = ap (list_all (fixed_is_valid (class_of s.classes c))) h.1 }
 
-  class_at_leads : (b : Braces) (u : Use) (s : State) → IsShort n s → (Around u text s × IsEmpty u s) → (o : Option ℕ) → position (λ c. c.name.0 == w.name.0) s.classes ≡ o → Leads text w.past (class_at o (Terms u ∷ behind b u) s)
+  class_at_leads : (b : Braces) (u : Use) (s : State) → IsShort n s → (Around u text s × IsEmpty u s × IsOfClass u s) → (o : Option ℕ) → position (λ c. c.name.0 == w.name.0) s.classes ≡ o → Leads text w.past (class_at o (Terms u ∷ behind b u) s)
   class_at_leads b u s short g (Some c) e =
       (omega arith, at_terms b u (element_named u s c g (position-Some (λ c. c.name.0 == w.name.0) s.classes c no_class e).0))
   class_at_leads b u s short g None e = tt
 
-  class_name_leads : (b : Braces) (u : Use) (s : State) → IsShort n s → (Around u text s × IsEmpty u s) → Leads text w.past (class_name w (Terms u ∷ behind b u) s)
+  class_name_leads : (b : Braces) (u : Use) (s : State) → IsShort n s → (Around u text s × IsEmpty u s × IsOfClass u s) → Leads text w.past (class_name w (Terms u ∷ behind b u) s)
   class_name_leads b u s short g =
       cond_both (is_name w.kind) _ _ (Leads text w.past) (λ _. class_at_leads b u s short g (position (λ c. c.name.0 == w.name.0) s.classes) refl) (λ _. tt)
 
   at_field : {s : State} (b : Braces) (u : Use) (f : ℕ) → AtField u text s f → IsRead text s (behind_attribute u f ∷ Terms u ∷ behind b u)
   at_field b InPattern f g = at_place b None f (g.0, or_left _ _ g.1, tt)
-  at_field b InPut f g = at_put_value f g
+  at_field b InPut f g = at_value (InScalar f) g
   at_field b InFixed f g = at_fixed_value f g
 
   -- the vector attribute begins
@@ -124,31 +111,20 @@ module _ (text n : ℕ) (w : Word) (fit : text ≤ longest_list) (placed : IsPla
   several_begun InPut s f g e = (record { around = g.around; class = g.class; fields = g.fields }, e, refl)
   several_begun InFixed s f g e = (record { around = g.around; class = g.class; fields = g.fields }, e, vector_within s.classes s.class f g.around.classes_valid g.class e)
 
+  attribute_here : (o : Option Class) (f : ℕ) → position (λ a. a.0 == w.name.0) (attributes_of o) ≡ Some f → is_attribute (unwrap_or o no_class) f ≡ true
+  attribute_here None f e = absurd (cc)
+  attribute_here (Some c) f e = lt-ltb _ _ (position-Some (λ a. a.0 == w.name.0) c.attrs f (record { 0 = 0 }) e).0
+
   field_at_leads : (b : Braces) (u : Use) (s : State) → IsShort n s → IsElement u text s → (o : Option ℕ) → position (λ a. a.0 == w.name.0) (attributes_of (slice_get s.classes s.class)) ≡ o → Leads text w.past (field_at u o (behind b u) s)
   field_at_leads b u s short g None e = tt
   field_at_leads b u s short g (Some f) e =
-      let c = get_or s.classes s.class no_class in
-      let here : slice_get s.classes s.class ≡ Some c = slice_get-get_or s.classes s.class no_class g.class in
-      let lt : f < length c.attrs = (position-Some (λ a. a.0 == w.name.0) c.attrs f (record { 0 = 0 }) (rw here at e)).0 in
       cond_both (is_vector (class_of s.classes s.class) f) _ _ (Leads text w.past) (λ vector. (omega arith, at_several b u f (several_begun u s f g vector)))
-      (λ _. (omega arith, at_field b u f (g, ap (λ (o : Option Class). nat_lt f (length (unwrap_or o no_class).attrs)) here ∙ lt-ltb _ _ lt)))
+      (λ _. (omega arith, at_field b u f (g, attribute_here (slice_get s.classes s.class) f e)))
 
   attribute_leads : (b : Braces) (u : Use) (s : State) → IsShort n s → IsElement u text s → Leads text w.past (attribute u w (behind b u) s)
   attribute_leads b u s short g =
       cond_both (is_name w.kind) _ _ (Leads text w.past)
       (λ _. field_at_leads b u s short g (position (λ a. a.0 == w.name.0) (attributes_of (slice_get s.classes s.class))) refl) (λ _. tt)
-
-  abbrev HasAttribute : State → ℕ → Type 0
-  HasAttribute s f = is_attribute (class_of s.classes s.class) f ≡ true
-
-  put_added : (s : State) (f : ℕ) (t : Term) → IsElement InPut text s → HasAttribute s f → ((b : Bool) → term_is_valid s.classes (known s.conditions s.actions) b t ≡ true) → IsElement InPut text (record s { puts = s.puts ++ record { field = f; terms = t ∷ [] } ∷ [] })
-  put_added s f t h a valid =
-      record {
-        around = h.around;
-        class = h.class;
-        fields = all_push (put_is_valid s.classes (known s.conditions s.actions) (class_of s.classes s.class)) s.puts (record { field = f; terms = t ∷ [] }) h.fields
-            (put_valid s.classes (known s.conditions s.actions) (class_of s.classes s.class) f t a valid);
-      }
 
   fixed_added : (s : State) (f : ℕ) (v : Value) → AtField InFixed text s f → IsElement InFixed text (record s { fixed = s.fixed ++ record { field = f; values = v ∷ [] } ∷ [] })
   fixed_added s f v g =
@@ -173,7 +149,7 @@ module _ (text n : ℕ) (w : Word) (fit : text ≤ longest_list) (placed : IsPla
     test_added : (f : ℕ) (p : Pred) (o : Operand) (s : State) → AtPlace more text s f → operand_is_valid (sight_after_tests (seen s.conditions) s.tests) p false o ≡ true → AtPlace more text (with_test s f p o false) f
     test_added f p o s g valid = (
       record {
-        around = (test_kept text s.classes s.rules s.commands s.name (variables_of s) s.conditions s.tests f p o g.0.around.0, g.0.around.1, g.0.around.2, g.0.around.3);
+        around = (test_kept text s.classes s.rules s.commands s.name (variables_of s) s.conditions s.tests f p o g.0.around.0, g.0.around.1, g.0.around.2);
         class = g.0.class;
         fields = test_valid text s.classes s.rules s.commands s.name (class_of s.classes s.class) s.conditions s.tests f p o false g.0.fields g.1 valid;
       },
@@ -190,7 +166,7 @@ module _ (text n : ℕ) (w : Word) (fit : text ≤ longest_list) (placed : IsPla
           omega (arith, length-append {A = Test}),
           behind_leads f among (with_bound s f w.name) (
             record {
-              around = (test_bound text s.classes s.rules s.commands s.name (variables_of s) s.conditions s.tests f w.name head, g.0.around.1, g.0.around.2, g.0.around.3);
+              around = (test_bound text s.classes s.rules s.commands s.name (variables_of s) s.conditions s.tests f w.name head, g.0.around.1, g.0.around.2);
               class = g.0.class;
               fields = test_valid text s.classes s.rules s.commands s.name (class_of s.classes s.class) s.conditions s.tests f pred.Eq (operand.Variable s.variables) true g.0.fields g.1
                   (not_from_false _ (not_below (sight_after_tests (seen s.conditions) s.tests).given s.variables head.below));
@@ -249,29 +225,11 @@ module _ (text n : ℕ) (w : Word) (fit : text ≤ longest_list) (placed : IsPla
     test_atom_leads f p among s short g (Some v) = test_leads f p (operand.Constant v) among s short g refl
     test_atom_leads f p among s short g None = tt
 
-  -- ---- values
+  -- ---- values of commands
 
-  put_constant_leads : (f : ℕ) (v : Value) (s : State) → IsShort n s → AtField InPut text s f → Leads text w.past (Next (Terms InPut ∷ behind Bare InPut) (with_constant (ToPut f) s v))
-  put_constant_leads f v s short g = (omega (arith, length-append {A = Put}), at_terms Bare InPut (put_added s f (term.Constant v) g.0 g.1 (λ b. refl)))
-
-  put_atom_leads : (f : ℕ) (s : State) → IsShort n s → AtField InPut text s f → (o : Option Value) → Leads text w.past (atom_at (ToPut f) o (Terms InPut ∷ behind Bare InPut) s)
-  put_atom_leads f s short g (Some v) = put_constant_leads f v s short g
-  put_atom_leads f s short g None = tt
-
-  put_bound_leads : (f : ℕ) (s : State) → IsShort n s → AtField InPut text s f → (o : Option ℕ) → number_of w.name s.values ≡ o → Leads text w.past (bound_at (ToPut f) o (Terms InPut ∷ behind Bare InPut) s)
-  put_bound_leads f s short g (Some m) e = (
-    omega (arith, length-append {A = Put}),
-    at_terms Bare InPut (put_added s f (term.Variable m) g.0 g.1 (λ b. ap (is_in m) g.0.around.bound ∙ number_in w.name s.values m e)),
-  )
-  put_bound_leads f s short g None e = tt
-
-  put_word_leads : (f : ℕ) (s : State) → IsShort n s → AtField InPut text s f → (o : Option Value) → Leads text w.past (constant_at (ToPut f) w o (Terms InPut ∷ behind Bare InPut) s)
-  put_word_leads f s short g (Some v) = put_constant_leads f v s short g
-  put_word_leads f s short g None = cond_both (is_variable w.kind) _ _ (Leads text w.past) (λ _. put_bound_leads f s short g (number_of w.name s.values) refl) (λ _. tt)
-
-  put_value_leads : (f : ℕ) (s : State) → IsShort n s → AtField InPut text s f → Leads text w.past (value_for (ToPut f) w (Terms InPut ∷ behind Bare InPut) s)
-  put_value_leads f s short g =
-      cond_both (is_literal w.keyword) _ _ (Leads text w.past) (λ _. (omega arith, at_put_atom f g)) (λ _. put_word_leads f s short g (value_of w.kind w.name))
+  -- no function stands there
+  no_function : {A : Type 0} (b : Bool) → (b && false) ≡ true → A
+  no_function b e = absurd (true≢false (sym (and_parts b false e).1))
 
   fixed_atom_leads : (f : ℕ) (s : State) → IsShort n s → AtField InFixed text s f → (o : Option Value) → Leads text w.past (atom_at (ToFixed f) o (Terms InFixed ∷ behind Bare InFixed) s)
   fixed_atom_leads f s short g (Some v) = (omega (arith, length-append {A = Fixed}), at_terms Bare InFixed (fixed_added s f v g))
@@ -288,34 +246,8 @@ module _ (text n : ℕ) (w : Word) (fit : text ≤ longest_list) (placed : IsPla
 
   fixed_value_leads : (f : ℕ) (s : State) → IsShort n s → AtField InFixed text s f → Leads text w.past (value_for (ToFixed f) w (Terms InFixed ∷ behind Bare InFixed) s)
   fixed_value_leads f s short g =
-      cond_both (is_literal w.keyword) _ _ (Leads text w.past) (λ _. (omega arith, at_fixed_atom f g)) (λ _. fixed_word_leads f s short g (value_of w.kind w.name))
-
-  -- a value more of the vector attribute of an action
-  term_more : (f : ℕ) (t : Term) (s : State) → IsShort n s → AtSeveral InPut text s f → term_is_valid s.classes (known s.conditions s.actions) true t ≡ true → Leads text w.past (Next (Several InPut f ∷ behind Bare InPut) (record s { terms = s.terms ++ t ∷ [] }))
-  term_more f t s short g valid = (
-    omega (arith, length-append {A = Term}),
-    at_several Bare InPut f (
-      record { around = g.0.around; class = g.0.class; fields = g.0.fields },
-      g.1,
-      all_push (term_is_valid s.classes (known s.conditions s.actions) true) s.terms t g.2 valid,
-    ),
-  )
-
-  terms_atom_leads : (f : ℕ) (s : State) → IsShort n s → AtSeveral InPut text s f → (o : Option Value) → Leads text w.past (atom_at ToTerms o (Several InPut f ∷ behind Bare InPut) s)
-  terms_atom_leads f s short g (Some v) = term_more f (term.Constant v) s short g refl
-  terms_atom_leads f s short g None = tt
-
-  terms_bound_leads : (f : ℕ) (s : State) → IsShort n s → AtSeveral InPut text s f → (o : Option ℕ) → number_of w.name s.values ≡ o → Leads text w.past (bound_at ToTerms o (Several InPut f ∷ behind Bare InPut) s)
-  terms_bound_leads f s short g (Some m) e = term_more f (term.Variable m) s short g (ap (is_in m) g.0.around.bound ∙ number_in w.name s.values m e)
-  terms_bound_leads f s short g None e = tt
-
-  terms_word_leads : (f : ℕ) (s : State) → IsShort n s → AtSeveral InPut text s f → (o : Option Value) → Leads text w.past (constant_at ToTerms w o (Several InPut f ∷ behind Bare InPut) s)
-  terms_word_leads f s short g (Some v) = term_more f (term.Constant v) s short g refl
-  terms_word_leads f s short g None = cond_both (is_variable w.kind) _ _ (Leads text w.past) (λ _. terms_bound_leads f s short g (number_of w.name s.values) refl) (λ _. tt)
-
-  terms_value_leads : (f : ℕ) (s : State) → IsShort n s → AtSeveral InPut text s f → Leads text w.past (value_for ToTerms w (Several InPut f ∷ behind Bare InPut) s)
-  terms_value_leads f s short g =
-      cond_both (is_literal w.keyword) _ _ (Leads text w.past) (λ _. (omega arith, at_terms_atom f g)) (λ _. terms_word_leads f s short g (value_of w.kind w.name))
+      cond_both (is_literal w.keyword) _ _ (Leads text w.past) (λ _. (omega arith, at_fixed_atom f g))
+      (λ _. cond_both (is_left w.kind && false) _ _ (Leads text w.past) (λ e. no_function (is_left w.kind) e) (λ _. fixed_word_leads f s short g (value_of w.kind w.name)))
 
   -- a value more of the vector attribute of a command
   constant_more : (f : ℕ) (v : Value) (s : State) → IsShort n s → AtSeveral InFixed text s f → f + length s.constants < most_fields → Leads text w.past (Next (Several InFixed f ∷ behind Bare InFixed) (record s { constants = s.constants ++ v ∷ [] }))
@@ -338,7 +270,8 @@ module _ (text n : ℕ) (w : Word) (fit : text ≤ longest_list) (placed : IsPla
 
   constants_value_leads : (f : ℕ) (s : State) → IsShort n s → AtSeveral InFixed text s f → f + length s.constants < most_fields → Leads text w.past (value_for ToConstants w (Several InFixed f ∷ behind Bare InFixed) s)
   constants_value_leads f s short g lt =
-      cond_both (is_literal w.keyword) _ _ (Leads text w.past) (λ _. (omega arith, at_constants_atom f g lt)) (λ _. constants_word_leads f s short g lt (value_of w.kind w.name))
+      cond_both (is_literal w.keyword) _ _ (Leads text w.past) (λ _. (omega arith, at_constants_atom f g lt))
+      (λ _. cond_both (is_left w.kind && false) _ _ (Leads text w.past) (λ e. no_function (is_left w.kind) e) (λ _. constants_word_leads f s short g lt (value_of w.kind w.name)))
 
   place_fits : n ≤ longest_list
   place_fits = omega arith
@@ -355,16 +288,16 @@ module _ (text n : ℕ) (w : Word) (fit : text ≤ longest_list) (placed : IsPla
   element_leads b InPattern s short g = (
     omega arith,
     pattern_ends b (with_element InPattern s) ((
-      condition_added text s.classes s.rules s.commands s.name s.class (variables_of s) s.conditions s.tests g.around.0 g.around.1 g.class (fits_below s.tests n short.4 place_fits) g.fields g.around.3,
+      condition_added text s.classes s.rules s.commands s.name s.class (variables_of s) s.conditions s.tests g.around.0 g.around.1 g.class (fits_below s.tests n short.4 place_fits) g.fields g.around.2,
       refl,
-      g.around.2,
       omega (arith, length-append {A = Condition}),
     )),
   )
   element_leads b InPut s short g = (
     omega (arith, length-append {A = Action}),
-    at_actions (action_added text s.classes s.rules s.commands s.name (variables_of s) s.conditions s.actions (action.Make s.class s.puts) g.around
-        (and_from _ _ (lt-ltb _ _ g.class) (and_from _ _ (fits_below s.puts (n + 1) short.5 behind_fits) g.fields)) refl refl refl),
+    at_actions (added text s (put_action s.modified s.class s.puts) (variables_of s) (record { made = Some s.class; further = s.further }) g.around
+        (put_action_valid text s s.modified g.class (fits_below s.puts (n + 1) short.5 behind_fits) g.fields)
+        (put_known (known_in s) (variables_of s) s.conditions (side_of s) g.around.knows s.classes s.class s.puts s.modified g.class)),
   )
   element_leads b InFixed s short g = (
     omega (arith, length-append {A = Command}),
@@ -387,7 +320,7 @@ module _ (text n : ℕ) (w : Word) (fit : text ≤ longest_list) (placed : IsPla
   one_of_several_leads : (b : Braces) (u : Use) (f : ℕ) (s : State) → IsShort n s → AtSeveral u text s f → Leads text w.past (one_of_several u f w (behind b u) s)
   one_of_several_leads b InPattern f s short g =
       within_leads (nat_lt f most_fields) _ (λ lt. place_leads b (Some (f + 1)) f s short (g.0, or_right _ _ (and_from _ _ g.1 lt), g.1))
-  one_of_several_leads b InPut f s short g = terms_value_leads f s short g
+  one_of_several_leads b InPut f s short g = value_leads text n w fit placed (InVector f) s short g
   one_of_several_leads b InFixed f s short g =
       within_leads (nat_lt (f + length s.constants) most_fields) _ (λ lt. constants_value_leads f s short g (ltb-true _ _ lt))
 
@@ -397,8 +330,8 @@ module _ (text n : ℕ) (w : Word) (fit : text ≤ longest_list) (placed : IsPla
       record {
         around = g.0.around;
         class = g.0.class;
-        fields = all_push (put_is_valid s.classes (known s.conditions s.actions) (class_of s.classes s.class)) s.puts (record { field = f; terms = s.terms }) g.0.fields
-            (several_valid s.classes (known s.conditions s.actions) (class_of s.classes s.class) f s.terms g.1 (fits_below s.terms n short.11 place_fits) g.2);
+        fields = all_push (put_is_valid s.classes (known_in s) (class_of s.classes s.class)) s.puts (record { field = f; terms = s.terms }) g.0.fields
+            (several_valid s.classes (known_in s) (class_of s.classes s.class) f s.terms g.1 (fits_below s.terms n short.11 place_fits) g.2);
       }
   several_ended InFixed f s short g =
       record {
@@ -423,24 +356,24 @@ module _ (text n : ℕ) (w : Word) (fit : text ≤ longest_list) (placed : IsPla
   rule_name_leads s short g =
       cond_both (is_name w.kind) _ _ (Leads text w.past)
       (λ _. cond_both (is_rule s w.name) _ _ (Leads text w.past) (λ _. tt)
-      (λ e. (omega arith, at_first_pattern (head_begun text s.classes s.rules s.commands w.name g e, refl, refl, refl, refl))))
+      (λ e. (omega arith, at_first_pattern (head_begun text s.classes s.rules s.commands w.name g e, refl, refl, refl))))
       (λ _. tt)
 
-  first_pattern_leads : (s : State) → IsShort n s → Head text s × (s.tests ≡ []) × (s.actions ≡ []) × (length s.conditions ≡ 0) × (s.negated ≡ false) → Leads text w.past (first_pattern w (Patterns ∷ Actions ∷ Forms ∷ []) s)
+  first_pattern_leads : (s : State) → IsShort n s → Head text s × (s.tests ≡ []) × (length s.conditions ≡ 0) × (s.negated ≡ false) → Leads text w.past (first_pattern w (Patterns ∷ Actions ∷ Forms ∷ []) s)
   first_pattern_leads s short g =
-      let before : BeforePattern text s = ((g.0, omega (arith, g.3), g.2, λ none. g.4), g.1) in
-      cond_both (is_left w.kind) _ _ (Leads text w.past) (λ _. (omega arith, at_class_name Bare InPattern before))
+      let before : BeforePattern text s = ((g.0, omega (arith, g.2), λ none. g.3), g.1) in
+      cond_both (is_left w.kind) _ _ (Leads text w.past) (λ _. (omega arith, at_class_name Bare InPattern (before.0, before.1, tt)))
       (λ _. cond_both (is_left_brace w.kind) _ _ (Leads text w.past) (λ _. (omega arith, at_braced before))
       (λ _. cond_both (is_minus w.keyword) _ _ (Leads text w.past) (λ _. tt) (λ _. tt)))
 
-  body_at_arrow : (s : State) → AfterPattern text s → Body text (left_ended s)
+  body_at_arrow : (s : State) → AfterPattern text s → Body text (right_begun (left_ended s))
   body_at_arrow s h =
       let head = subst (λ (ts : List Test). IsHead text s.classes s.rules s.commands s.name (variables_of s) s.conditions ts) h.1 h.0 in
-      subst (λ (xs : List Action). IsBody text s.classes s.rules s.commands s.name (variables_of (left_ended s)) s.conditions xs) (sym h.2) (body_begun text s.classes s.rules s.commands s.name (variables_of s) s.conditions head h.3)
+      body_begun text s.classes s.rules s.commands s.name (variables_of s) s.conditions head h.2
 
   -- another pattern comes
   more_before : (s : State) → AfterPattern text s → length s.conditions < most_conditions → BeforePattern text s
-  more_before s g lt = ((g.0, lt, g.2, λ none. absurd (omega (arith, none, g.3))), g.1)
+  more_before s g lt = ((g.0, lt, λ none. absurd (omega (arith, none, g.2))), g.1)
 
   negated_leads : (s : State) → IsShort n s → AfterPattern text s → Leads text w.past (one_more (Pattern ∷ Patterns ∷ Actions ∷ Forms ∷ []) (record s { negated = true; around = length s.values }))
   negated_leads s short g =
@@ -448,21 +381,21 @@ module _ (text n : ℕ) (w : Word) (fit : text ≤ longest_list) (placed : IsPla
       let head = subst (λ (ts : List Test). IsHead text s.classes s.rules s.commands s.name (variables_of s) s.conditions ts) g.1 g.0 in
       let negated = negated_begun text s.classes s.rules s.commands s.name (variables_of s) s.conditions head in
       let back = subst (λ (ts : List Test). IsHead text s.classes s.rules s.commands s.name (variables_of begun) s.conditions ts) (sym g.1) negated in
-      cond_both (nat_lt (length s.conditions) most_conditions) _ _ (Leads text w.past) (λ lt. (omega arith, at_pattern Bare (more_before begun (back, g.1, g.2, g.3) (ltb-true _ _ lt)))) (λ _. tt)
+      cond_both (nat_lt (length s.conditions) most_conditions) _ _ (Leads text w.past) (λ lt. (omega arith, at_pattern Bare (more_before begun (back, g.1, g.2) (ltb-true _ _ lt)))) (λ _. tt)
 
   patterns_leads : (s : State) → IsShort n s → AfterPattern text s → Leads text w.past (patterns w (Actions ∷ Forms ∷ []) s)
   patterns_leads s short g =
       cond_both (is_arrow w.keyword) _ _ (Leads text w.past) (λ _. (omega arith, at_actions (body_at_arrow s g)))
       (λ _. cond_both (is_left w.kind) _ _ (Leads text w.past)
       (λ _. cond_both (nat_lt (length s.conditions) most_conditions) _ _ (Leads text w.past)
-      (λ lt. (omega arith, at_class_name Bare InPattern (more_before s g (ltb-true _ _ lt)))) (λ _. tt))
+      (λ lt. let before = more_before s g (ltb-true _ _ lt) in (omega arith, at_class_name Bare InPattern (before.0, before.1, tt))) (λ _. tt))
       (λ _. cond_both (is_left_brace w.kind) _ _ (Leads text w.past)
       (λ _. cond_both (nat_lt (length s.conditions) most_conditions) _ _ (Leads text w.past)
       (λ lt. (omega arith, at_braced (more_before s g (ltb-true _ _ lt)))) (λ _. tt))
       (λ _. cond_both (is_minus w.keyword) _ _ (Leads text w.past) (λ _. negated_leads s short g) (λ _. tt))))
 
   pattern_leads : (b : Braces) (s : State) → IsShort n s → BeforePattern text s → Leads text w.past (pattern w (behind b InPattern) s)
-  pattern_leads b s short g = cond_both (is_left w.kind) _ _ (Leads text w.past) (λ _. (omega arith, at_class_name b InPattern g)) (λ _. tt)
+  pattern_leads b s short g = cond_both (is_left w.kind) _ _ (Leads text w.past) (λ _. (omega arith, at_class_name b InPattern (g.0, g.1, tt))) (λ _. tt)
 
   -- ---- element variables
 
@@ -473,7 +406,7 @@ module _ (text n : ℕ) (w : Word) (fit : text ≤ longest_list) (placed : IsPla
 
   braced_leads : (s : State) → IsShort n s → BeforePattern text s → Leads text w.past (braced w (Patterns ∷ Actions ∷ Forms ∷ []) s)
   braced_leads s short g =
-      cond_both (is_left w.kind) _ _ (Leads text w.past) (λ _. (omega arith, at_class_name NamedBehind InPattern g))
+      cond_both (is_left w.kind) _ _ (Leads text w.past) (λ _. (omega arith, at_class_name NamedBehind InPattern (g.0, g.1, tt)))
       (λ _. cond_both (is_variable w.kind) _ _ (Leads text w.past) (λ _. named_before_leads s short g (number_of w.name s.elements)) (λ _. tt))
 
   -- one behind its pattern
@@ -487,119 +420,9 @@ module _ (text n : ℕ) (w : Word) (fit : text ≤ longest_list) (placed : IsPla
   closes_brace_leads : (s : State) → IsShort n s → AfterPattern text s → Leads text w.past (closes_brace w (Patterns ∷ Actions ∷ Forms ∷ []) s)
   closes_brace_leads s short g =
       cond_both (is_right_brace w.kind) _ _ (Leads text w.past)
-      (λ _. (omega arith, at_patterns (element_bound text s.classes s.rules s.commands s.name (variables_of s) s.conditions s.tests s.element g.0 g.3, g.1, g.2, g.3))) (λ _. tt)
+      (λ _. (omega arith, at_patterns (element_bound text s.classes s.rules s.commands s.name (variables_of s) s.conditions s.tests s.element g.0 g.2, g.1, g.2))) (λ _. tt)
 
-  -- ---- right sides
-
-  rule_leads : (s : State) → IsShort n s → Body text s → Program text (record s { rules = s.rules ++ record { name = s.name; conditions = s.conditions; actions = s.actions; specificity = specificity s.conditions; variables = s.variables; cells = length (cells_of s.conditions); first = s.first; past = w.past } ∷ [] })
-  rule_leads s short h = rule_added text s.classes s.rules s.commands s.name (variables_of s) s.conditions s.actions s.first w.past h (fits_below s.actions n short.9 place_fits) (omega arith) placed.within
-
-  actions_leads : (s : State) → IsShort n s → (Body text s) → Leads text w.past (actions w (Forms ∷ []) s)
-  actions_leads s short g =
-      cond_both (is_right w.kind) _ _ (Leads text w.past) (λ _. (omega (arith, length-append {A = Rule}), at_forms (rule_leads s short g)))
-      (λ _. cond_both (is_left w.kind) _ _ (Leads text w.past) (λ _. (omega arith, at_action_word g)) (λ _. tt))
-
-  action_word_leads : (s : State) → IsShort n s → (Body text s) → (k : Keyword) → Leads text w.past (action_word k (Actions ∷ Forms ∷ []) s)
-  action_word_leads s short g keyword.Make = (omega arith, at_class_name Bare InPut ((g, refl)))
-  action_word_leads s short g keyword.Remove = (omega arith, at_cell ((g, refl)))
-  action_word_leads s short g keyword.Write = (omega arith, at_items ((g, refl)))
-  action_word_leads s short g keyword.Halt = (omega arith, at_halt g)
-  action_word_leads s short g _ = tt
-
-  abbrev HasCells : State → Type 0
-  HasCells s = Body text s × (list_all (is_cell (known s.conditions s.actions)) s.cells ≡ true)
-
-  cell_added : (s : State) (k : ℕ) (c : Condition) → HasCells s → slice_get s.conditions k ≡ Some c → c.negated ≡ false → list_any (λ d. d.negated) (take k s.conditions) ≡ false → list_all (is_cell (known s.conditions s.actions)) (s.cells ++ k ∷ []) ≡ true
-  cell_added s k c h at positive plain =
-      let lt = has_cell s.conditions k c at positive plain in
-      all_push (is_cell (known s.conditions s.actions)) s.cells k h.1 (lt-ltb _ _ (subst (λ (cs : List ℕ). k < length cs) (sym h.0.cells) lt))
-
-  designated_leads : (s : State) → IsShort n s → HasCells s → (k : ℕ) (o : Option Condition) → slice_get s.conditions k ≡ o → Leads text w.past (designated k o (Cells ∷ Actions ∷ Forms ∷ []) s)
-  designated_leads s short g k None at = tt
-  designated_leads s short g k (Some c) at =
-      cond_both c.negated _ _ (Leads text w.past) (λ _. tt)
-      (λ positive. cond_both (list_any (λ d. d.negated) (take k s.conditions)) _ _ (Leads text w.past) (λ _. tt)
-      (λ plain. (omega (arith, length-append {A = ℕ}), at_cells (g.0, cell_added s k c g at positive plain, omega (arith, length-append s.cells (k ∷ []))))))
-
-  cell_of_leads : (s : State) → IsShort n s → HasCells s → (o : Option ℕ) → Leads text w.past (cell_of o (Cells ∷ Actions ∷ Forms ∷ []) s)
-  cell_of_leads s short g None = tt
-  cell_of_leads s short g (Some m) = designated_leads s short g (m - 1) (slice_get s.conditions (m - 1)) refl
-
-  -- an element variable names the cell of a condition
-  cell_named_leads : (s : State) → IsShort n s → HasCells s → (o : Option ℕ) → number_of w.name s.elements ≡ o → Leads text w.past (cell_named o (Cells ∷ Actions ∷ Forms ∷ []) s)
-  cell_named_leads s short g None e = tt
-  cell_named_leads s short g (Some c) e =
-      let below = all_in (λ k. nat_lt k (length (cells_of s.conditions))) (numbers s.elements) c g.0.head.elements (number_in w.name s.elements c e) in (
-        omega (arith, length-append {A = ℕ}),
-        at_cells (
-          g.0,
-          all_push (is_cell (known s.conditions s.actions)) s.cells c g.1 (ap (λ (cs : List ℕ). nat_lt c (length cs)) g.0.cells ∙ below),
-          omega (arith, length-append s.cells (c ∷ [])),
-        ),
-      )
-
-  cell_leads : (s : State) → IsShort n s → (HasCells s) → (k : TokenKind) → Leads text w.past (cell k w.name (Cells ∷ Actions ∷ Forms ∷ []) s)
-  cell_leads s short g (kind.Whole z) = cell_of_leads s short g (natural_of z)
-  cell_leads s short g kind.Variable = cell_named_leads s short g (number_of w.name s.elements) refl
-  cell_leads s short g _ = tt
-
-  cells_leads : (s : State) → IsShort n s → Body text s × (list_all (is_cell (known s.conditions s.actions)) s.cells ≡ true) × (0 < length s.cells) → Leads text w.past (cells w (Actions ∷ Forms ∷ []) s)
-  cells_leads s short g =
-      cond_both (is_right w.kind) _ _ (Leads text w.past)
-      (λ _. (
-        omega (arith, length-append {A = Action}),
-        at_actions (action_added text s.classes s.rules s.commands s.name (variables_of s) s.conditions s.actions (action.Remove s.cells) g.0
-            (and_from _ _ (and_from _ _ (lt-ltb _ _ g.2) (fits_below s.cells n short.7 place_fits)) g.1) refl refl refl),
-      ))
-      (λ _. cell_leads s short (g.0, g.1) w.kind)
-
-  abbrev HasItems : State → Type 0
-  HasItems s = Body text s × (list_all (item_is_valid s.classes (known s.conditions s.actions)) s.items ≡ true)
-
-  item_added : (s : State) (i : Item) → IsShort n s → (HasItems s) → (item_is_valid s.classes (known s.conditions s.actions) i ≡ true) → Leads text w.past (Next (Items ∷ Actions ∷ Forms ∷ []) (record s { items = s.items ++ i ∷ [] }))
-  item_added s i short g valid =
-      (omega (arith, length-append {A = Item}), at_items ((g.0, all_push (item_is_valid s.classes (known s.conditions s.actions)) s.items i g.1 valid)))
-
-  item_constant_leads : (s : State) → IsShort n s → HasItems s → (v : Value) → Leads text w.past (Next (Items ∷ Actions ∷ Forms ∷ []) (with_constant ToItem s v))
-  item_constant_leads s short g v = item_added s (item.Print (term.Constant v)) short g refl
-
-  item_atom_leads : (s : State) → IsShort n s → HasItems s → (o : Option Value) → Leads text w.past (atom_at ToItem o (Items ∷ Actions ∷ Forms ∷ []) s)
-  item_atom_leads s short g (Some v) = item_constant_leads s short g v
-  item_atom_leads s short g None = tt
-
-  item_bound_leads : (s : State) → IsShort n s → HasItems s → (o : Option ℕ) → number_of w.name s.values ≡ o → Leads text w.past (bound_at ToItem o (Items ∷ Actions ∷ Forms ∷ []) s)
-  item_bound_leads s short g (Some m) e = item_added s (item.Print (term.Variable m)) short g (ap (is_in m) g.0.bound ∙ number_in w.name s.values m e)
-  item_bound_leads s short g None e = tt
-
-  item_word_value_leads : (s : State) → IsShort n s → HasItems s → (o : Option Value) → Leads text w.past (constant_at ToItem w o (Items ∷ Actions ∷ Forms ∷ []) s)
-  item_word_value_leads s short g (Some v) = item_constant_leads s short g v
-  item_word_value_leads s short g None = cond_both (is_variable w.kind) _ _ (Leads text w.past) (λ _. item_bound_leads s short g (number_of w.name s.values) refl) (λ _. tt)
-
-  item_value_leads : (s : State) → IsShort n s → HasItems s → Leads text w.past (value_for ToItem w (Items ∷ Actions ∷ Forms ∷ []) s)
-  item_value_leads s short g =
-      cond_both (is_literal w.keyword) _ _ (Leads text w.past) (λ _. (omega arith, at_item_atom g)) (λ _. item_word_value_leads s short g (value_of w.kind w.name))
-
-  items_leads : (s : State) → IsShort n s → (HasItems s) → Leads text w.past (items w (Actions ∷ Forms ∷ []) s)
-  items_leads s short g =
-      cond_both (is_right w.kind) _ _ (Leads text w.past)
-      (λ _. (
-        omega (arith, length-append {A = Action}),
-        at_actions (action_added text s.classes s.rules s.commands s.name (variables_of s) s.conditions s.actions (action.Write s.items) g.0
-            (and_from _ _ (fits_below s.items n short.8 place_fits) g.1) refl refl refl),
-      ))
-      (λ _. cond_both (is_left w.kind) _ _ (Leads text w.past) (λ _. (omega arith, at_item_word g)) (λ _. item_value_leads s short g))
-
-  item_word_leads : (s : State) → IsShort n s → (HasItems s) → Leads text w.past (item_word w (Items ∷ Actions ∷ Forms ∷ []) s)
-  item_word_leads s short g = cond_both (is_crlf w.keyword) _ _ (Leads text w.past) (λ _. (omega arith, at_crlf g)) (λ _. tt)
-
-  crlf_leads : (s : State) → IsShort n s → (HasItems s) → Leads text w.past (closes EndsCrlf w (Items ∷ Actions ∷ Forms ∷ []) s)
-  crlf_leads s short g = cond_both (is_right w.kind) _ _ (Leads text w.past) (λ _. item_added s item.Crlf short g refl) (λ _. tt)
-
-  halt_leads : (s : State) → IsShort n s → (Body text s) → Leads text w.past (closes EndsHalt w (Actions ∷ Forms ∷ []) s)
-  halt_leads s short g =
-      cond_both (is_right w.kind) _ _ (Leads text w.past)
-      (λ _. (omega (arith, length-append {A = Action}), at_actions (action_added text s.classes s.rules s.commands s.name (variables_of s) s.conditions s.actions action.Halt g refl refl refl refl)))
-      (λ _. tt)
+  -- ---- commands
 
   run_leads : (s : State) → IsShort n s → (Program text s) → Leads text w.past (closes EndsRun w (Forms ∷ []) s)
   run_leads s short g =
@@ -633,19 +456,27 @@ module _ (text n : ℕ) (w : Word) (fit : text ≤ longest_list) (placed : IsPla
   step_leads s ws short (at_tested b more f p among g) = tested_leads b more f p among s short g
   step_leads s ws short (at_choice b more f among g) = choice_leads b more f among s short g
   step_leads s ws short (at_test_atom b more f p among g) = test_atom_leads b more f p among s short g (atom_of w.kind w.name)
-  step_leads s ws short (at_put_value f g) = put_value_leads f s short g
-  step_leads s ws short (at_put_atom f g) = put_atom_leads f s short g (atom_of w.kind w.name)
   step_leads s ws short (at_fixed_value f g) = fixed_value_leads f s short g
   step_leads s ws short (at_fixed_atom f g) = fixed_atom_leads f s short g (atom_of w.kind w.name)
-  step_leads s ws short (at_terms_atom f g) = terms_atom_leads f s short g (atom_of w.kind w.name)
   step_leads s ws short (at_constants_atom f g lt) = constants_atom_leads f s short g lt (atom_of w.kind w.name)
-  step_leads s ws short (at_item_atom g) = item_atom_leads s short g (atom_of w.kind w.name)
-  step_leads s ws short (at_actions g) = actions_leads s short g
-  step_leads s ws short (at_action_word g) = action_word_leads s short g w.keyword
-  step_leads s ws short (at_cell g) = cell_leads s short g w.kind
-  step_leads s ws short (at_cells g) = cells_leads s short g
-  step_leads s ws short (at_items g) = items_leads s short g
-  step_leads s ws short (at_item_word g) = item_word_leads s short g
-  step_leads s ws short (at_crlf g) = crlf_leads s short g
-  step_leads s ws short (at_halt g) = halt_leads s short g
+  step_leads s ws short (at_value slot g) = value_leads text n w fit placed slot s short g
+  step_leads s ws short (at_atom slot g) = atom_leads text n w fit placed slot s short g (atom_of w.kind w.name)
+  step_leads s ws short (at_function slot g) = function_leads text n w fit placed slot s short g w.keyword
+  step_leads s ws short (at_source_cell slot g) = source_cell_leads text n w fit placed slot s short g
+  step_leads s ws short (at_source_attribute slot g) = source_attribute_leads text n w fit placed slot s short g
+  step_leads s ws short (at_source_end slot name g) = source_end_leads text n w fit placed slot name s short g
+  step_leads s ws short (at_value_end slot g) = value_end_leads text n w fit placed slot s short g
+  step_leads s ws short (at_actions g) = actions_leads text n w fit placed s short g
+  step_leads s ws short (at_action_word g) = action_word_leads text n w fit placed s short g w.keyword
+  step_leads s ws short (at_modified g) = modified_leads text n w fit placed s short g
+  step_leads s ws short (at_bound_name g) = bound_name_leads text n w fit placed s short g
+  step_leads s ws short (at_cell_name g) = cell_name_leads text n w fit placed s short g
+  step_leads s ws short (at_action_end g) = action_end_leads text n w fit placed s short g
+  step_leads s ws short (at_cell g) = cell_leads text n w fit placed s short g
+  step_leads s ws short (at_cells g) = cells_leads text n w fit placed s short g
+  step_leads s ws short (at_items g) = items_leads text n w fit placed s short g
+  step_leads s ws short (at_item_word g) = item_word_leads text n w fit placed s short g w.keyword
+  step_leads s ws short (at_columns c g) = columns_leads text n w fit placed s short g c (small_of w.kind) refl
+  step_leads s ws short (at_crlf g) = crlf_leads text n w fit placed s short g
+  step_leads s ws short (at_halt g) = halt_leads text n w fit placed s short g
   step_leads s ws short (at_run g) = run_leads s short g

@@ -1,20 +1,22 @@
 -- What holds of a word that is taken, besides the grammar.
-use Rattle.std.proofs.Common.{◌≡◌, ℕ, zero, suc, ◌+◌, ◌-◌, ◌<◌, Bool, true, false, not, ◌==◌, ◌&&◌, ◌||◌, List, [], ◌∷◌, length, take, refl, sym, ap, subst, ◌∙◌, arith, Option, Some, None, nat_lt, is_some, position, slice_get, get_or, true≢false}
+use Rattle.std.proofs.Common.{◌≡◌, ℕ, zero, suc, ◌+◌, ◌-◌, ◌<◌, Bool, true, false, not, ◌==◌, ◌&&◌, ◌||◌, List, [], ◌∷◌, length, take, refl, sym, ap, subst, ◌∙◌, arith, Option, Some, None, Result, Ok, Err, nat_lt, is_some, position, slice_get, get_or, true≢false}
 use Rattle.std.specs.List.{list_any}
-use Rattle.std.proofs.lemmas.Bool.{cond_both, or_left, or_right}
+use Rattle.std.proofs.lemmas.Bool.{cond_both, and_parts, or_left, or_right}
 use Rattle.std.proofs.lemmas.List.Quantifiers.{position-Some}
 use Rattle.ops_base.specs.declared.values.Sym.{Sym}
 use Rattle.ops_base.specs.declared.values.Value.{Value}
 use Rattle.ops_base.specs.declared.values.Pred.{Pred}
 use Rattle.ops_base.specs.declared.values.Pred.TheVariants as pred
 use Rattle.ops_base.specs.declared.conditions.Condition.{Condition}
+use Rattle.ops_base.specs.declared.actions.Term.TheVariants as term
+use Rattle.ops_base.specs.declared.endings.Fault.{Fault}
 use Rattle.ops_base.specs.Valid.{most_fields, most_conditions, no_class, class_of, is_vector}
 use Rattle.ops_tokens.specs.declared.token.TokenKind.{TokenKind}
 use Rattle.ops_tokens.specs.declared.token.TokenKind.TheVariants as kind
 use Rattle.ops_meaning.specs.declared.words.Word.{Word}
 use Rattle.ops_meaning.specs.declared.words.Keyword.{Keyword}
 use Rattle.ops_meaning.specs.declared.words.Keyword.TheVariants as keyword
-use Rattle.ops_meaning.specs.Grammar.{Use, InPattern, InPut, InFixed, Target, ToPut, ToTerms, ToConstants, ToItem, Wanted, Form, ClassDeclared, Attributes, VectorName, VectorNames, RuleName, Patterns, Pattern, Braced, ElementName, ClosesBrace, ClassName, Attribute, Several, Tested, ValueFor, Cell, Cells, Items, State, Step, Next, Refuses, is_left, is_right, is_left_brace, is_caret, is_name, is_variable, is_arrow, is_literal, is_minus, constant_of, value_of, natural_of, is_one_of, number_of, may_declare, is_class, is_rule, is_second, makes_second, vector_name, form, class_at, attributes_of, field_at, variable_tested, constant_tested, tested, bound_at, constant_at, value_for, place, terms, within, one_of_several, with_several, several, element_at, element_name, designated, cell_of, cell_named, cell, step}
+use Rattle.ops_meaning.specs.Grammar.{Use, InPattern, InPut, InFixed, Target, ToPut, ToTerms, ToConstants, ToItem, ToBind, Wanted, Form, ClassDeclared, Attributes, VectorName, VectorNames, RuleName, Patterns, Pattern, Braced, ElementName, ClosesBrace, ClassName, Attribute, Several, Tested, ValueFor, SourceCell, SourceAttribute, SourceEnd, Modified, CellName, Cell, Cells, Items, State, Step, Next, Refuses, is_left, is_right, is_left_brace, is_caret, is_name, is_variable, is_arrow, is_literal, is_minus, constant_of, value_of, natural_of, is_one_of, number_of, may_declare, is_class, is_rule, is_second, makes_second, vector_name, form, class_at, attributes_of, field_at, variable_tested, constant_tested, tested, term_at, bound_at, constant_at, is_of_action, value_for, source_named, source_class, source_at, takes_several, ends_at_inf, place, terms, within, one_of_several, with_several, several, element_at, element_name, designated, numbered_cell, named_cell, cell_of, with_designated, with_modified, cell_bound, step}
 use Rattle.ops_meaning.specs.Derivation.{is_designator}
 use Rattle.ops_meaning.proofs.Follows.{name_not_right, designator_not_right, variable_not_left}
 use Rattle.ops_meaning.specs.Reasons.{gives_second, is_full, is_positive, is_condition, designates, is_unclear, designates_unclearly}
@@ -35,11 +37,12 @@ abbrev pub OperandFits : Pred → Word → State → Type 0
 OperandFits pred.Eq w s = Unit {0}
 OperandFits _ w s = Known w s
 
--- an action may not bind one, and a command sees none
+-- a variable that an action gives as a value was bound before, and a command sees none
 abbrev pub ValueFits : Target → Word → State → Type 0
 ValueFits (ToPut f) w s = Known w s
 ValueFits ToTerms w s = Known w s
 ValueFits ToItem w s = Known w s
+ValueFits ToBind w s = Known w s
 ValueFits _ w s = is_literal w.keyword ≡ false → is_variable w.kind ≡ false
 
 -- a value of a vector attribute of an action or of a command
@@ -76,6 +79,11 @@ Fits (Attribute u ∷ ws) w s = is_one_of w.name (attributes_of (slice_get s.cla
 Fits (Several u f ∷ ws) w s = SeveralFit u f w s
 Fits (Tested f p ∷ ws) w s = OperandFits p w s
 Fits (ValueFor t ∷ ws) w s = ValueFits t w s
+Fits (SourceCell ∷ ws) w s = is_some (number_of w.name s.elements) ≡ true
+Fits (SourceAttribute t ∷ ws) w s = is_one_of w.name (source_class s).attrs ≡ true
+Fits (SourceEnd t name ∷ ws) w s = ends_at_inf w s ≡ true → takes_several t ≡ true
+Fits (Modified ∷ ws) w s = DesignatorFits w.kind w.name s
+Fits (CellName ∷ ws) w s = is_some s.made ≡ true
 Fits (Cell ∷ ws) w s = DesignatorFits w.kind w.name s
 Fits (Cells ∷ ws) w s = is_designator w.kind ≡ true → DesignatorFits w.kind w.name s
 Fits (Items ∷ ws) w s = Known w s
@@ -85,11 +93,20 @@ abbrev IfTaken : Type 0 → Step → Type 0
 IfTaken P (Next ws s) = P
 IfTaken P (Refuses f) = Unit {0}
 
+-- what holds where a cell is designated
+abbrev IfDesignated : Type 0 → Result ℕ Fault → Type 0
+IfDesignated P (Ok c) = P
+IfDesignated P (Err f) = Unit {0}
+
 -- ---- kinds and places
 
 variable_not_right : (k : TokenKind) → is_variable k ≡ true → is_right k ≡ false
 variable_not_right kind.Right e = absurd (true≢false (sym e))
 variable_not_right _ e = refl
+
+left_not_variable : (k : TokenKind) → is_left k ≡ true → is_variable k ≡ false
+left_not_variable kind.Variable e = absurd (true≢false (sym e))
+left_not_variable _ e = refl
 
 constant_not_variable : (k : TokenKind) (name : Sym) (v : Value) → constant_of k name ≡ Some v → is_variable k ≡ false
 constant_not_variable kind.Variable name v e = absurd (cc)
@@ -166,12 +183,14 @@ module _ (w : Word) (ws : List Wanted) (s : State) where
   value_fits_where (ToPut f) h = λ l is. clash (is_variable w.kind) is (h l)
   value_fits_where ToTerms h = λ l is. clash (is_variable w.kind) is (h l)
   value_fits_where ToItem h = λ l is. clash (is_variable w.kind) is (h l)
+  value_fits_where ToBind h = λ l is. clash (is_variable w.kind) is (h l)
   value_fits_where _ h = h
 
   bound_fits : (t : Target) (o : Option ℕ) → number_of w.name s.values ≡ o → IfTaken (ValueFits t w s) (bound_at t o ws s)
   bound_fits (ToPut f) (Some n) e = λ _ _. ap is_some e
   bound_fits ToTerms (Some n) e = λ _ _. ap is_some e
   bound_fits ToItem (Some n) e = λ _ _. ap is_some e
+  bound_fits ToBind (Some n) e = λ _ _. ap is_some e
   bound_fits _ (Some n) e = tt
   bound_fits t None e = tt
 
@@ -182,27 +201,55 @@ module _ (w : Word) (ws : List Wanted) (s : State) where
   value_fits : (t : Target) → IfTaken (ValueFits t w s) (value_for t w ws s)
   value_fits t =
       cond_both (is_literal w.keyword) _ _ (IfTaken (ValueFits t w s)) (λ l. value_fits_where t (λ unlike. clash (is_literal w.keyword) l unlike))
-      (λ _. constant_at_fits t (value_of w.kind w.name) refl)
+      (λ _. cond_both (is_left w.kind && is_of_action t) _ _ (IfTaken (ValueFits t w s))
+      (λ e. value_fits_where t (λ _. left_not_variable w.kind (and_parts (is_left w.kind) _ e).0))
+      (λ _. constant_at_fits t (value_of w.kind w.name) refl))
 
-  designated_fits : (before : ℕ) (o : Option Condition) → IfTaken ((is_positive o ≡ true) × (list_any (λ c. c.negated) (take before s.conditions) ≡ false)) (designated before o ws s)
+  -- `substr`: an element variable that was bound, and an attribute of the cell that it names
+  source_named_fits : (o : Option ℕ) → IfTaken (is_some o ≡ true) (source_named o ws s)
+  source_named_fits (Some c) = refl
+  source_named_fits None = tt
+
+  source_at_fits : (t : Target) (o : Option ℕ) → position (λ a. a.0 == w.name.0) (source_class s).attrs ≡ o → IfTaken (is_one_of w.name (source_class s).attrs ≡ true) (source_at t w.name o ws s)
+  source_at_fits t (Some f) e = found_any (λ (a : Sym). a.0 == w.name.0) (source_class s).attrs f (record { 0 = 0 }) e
+  source_at_fits t None e = tt
+
+  -- a cell
+  designated_fits : (before : ℕ) (o : Option Condition) → IfDesignated ((is_positive o ≡ true) × (list_any (λ c. c.negated) (take before s.conditions) ≡ false)) (designated before o s)
   designated_fits before (Some c) =
       let P : Type 0 = (not c.negated ≡ true) × (list_any (λ c. c.negated) (take before s.conditions) ≡ false) in
-      cond_both c.negated _ _ (IfTaken P) (λ _. tt)
-      (λ positive. cond_both (list_any (λ c. c.negated) (take before s.conditions)) _ _ (IfTaken P) (λ _. tt) (λ clear. (ap not positive, clear)))
+      cond_both c.negated _ _ (IfDesignated P) (λ _. tt)
+      (λ positive. cond_both (list_any (λ c. c.negated) (take before s.conditions)) _ _ (IfDesignated P) (λ _. tt) (λ clear. (ap not positive, clear)))
   designated_fits before None = tt
 
-  cell_of_fits : (o : Option ℕ) → IfTaken ((is_condition s o ≡ true) × (is_unclear s o ≡ false)) (cell_of o ws s)
-  cell_of_fits (Some n) = designated_fits (n - 1) (slice_get s.conditions (n - 1))
-  cell_of_fits None = tt
+  numbered_fits : (o : Option ℕ) → IfDesignated ((is_condition s o ≡ true) × (is_unclear s o ≡ false)) (numbered_cell o s)
+  numbered_fits (Some n) = designated_fits (n - 1) (slice_get s.conditions (n - 1))
+  numbered_fits None = tt
 
-  cell_named_fits : (o : Option ℕ) → IfTaken ((is_some o ≡ true) × (false ≡ false)) (cell_named o ws s)
-  cell_named_fits (Some c) = (refl, refl)
-  cell_named_fits None = tt
+  named_fits : (o : Option ℕ) → IfDesignated ((is_some o ≡ true) × (false ≡ false)) (named_cell o)
+  named_fits (Some c) = (refl, refl)
+  named_fits None = tt
 
-  cell_fits : (k : TokenKind) → IfTaken (DesignatorFits k w.name s) (cell k w.name ws s)
-  cell_fits (kind.Whole n) = cell_of_fits (natural_of n)
-  cell_fits kind.Variable = cell_named_fits (number_of w.name s.elements)
-  cell_fits _ = tt
+  cell_of_fits : (k : TokenKind) → IfDesignated (DesignatorFits k w.name s) (cell_of k w.name s)
+  cell_of_fits (kind.Whole n) = numbered_fits (natural_of n)
+  cell_of_fits kind.Variable = named_fits (number_of w.name s.elements)
+  cell_of_fits _ = tt
+
+  with_designated_fits : (P : Type 0) (r : Result ℕ Fault) → IfDesignated P r → IfTaken P (with_designated r ws s)
+  with_designated_fits P (Ok c) h = h
+  with_designated_fits P (Err f) h = tt
+
+  cell_fits : IfTaken (DesignatorFits w.kind w.name s) (with_designated (cell_of w.kind w.name s) ws s)
+  cell_fits = with_designated_fits (DesignatorFits w.kind w.name s) (cell_of w.kind w.name s) (cell_of_fits w.kind)
+
+  modified_fits : (P : Type 0) (r : Result ℕ Fault) → IfDesignated P r → IfTaken P (with_modified r ws s)
+  modified_fits P (Ok c) h = h
+  modified_fits P (Err f) h = tt
+
+  -- an element was made that `cbind` can name
+  cell_bound_fits : (o : Option ℕ) → IfTaken (is_some o ≡ true) (cell_bound o w.name ws s)
+  cell_bound_fits (Some class) = refl
+  cell_bound_fits None = tt
 
   -- the name of a vector attribute
   second_fits : (b c : Bool) → b ≡ true → (not b && c) ≡ false
@@ -285,11 +332,24 @@ step_fits w (Attribute u ∷ ws) s =
 step_fits w (Several u f ∷ ws) s = several_fit w ws s u f
 step_fits w (Tested f p ∷ ws) s = tested_fits w ws s f p
 step_fits w (ValueFor t ∷ ws) s = value_fits w ws s t
-step_fits w (Cell ∷ ws) s = cell_fits w ws s w.kind
+step_fits w (SourceCell ∷ ws) s =
+    cond_both (is_variable w.kind) _ _ (IfTaken (is_some (number_of w.name s.elements) ≡ true)) (λ _. source_named_fits w ws s (number_of w.name s.elements)) (λ _. tt)
+step_fits w (SourceAttribute t ∷ ws) s =
+    cond_both (is_name w.kind) _ _ (IfTaken (Fits (SourceAttribute t ∷ ws) w s)) (λ _. source_at_fits w ws s t (position (λ a. a.0 == w.name.0) (source_class s).attrs) refl) (λ _. tt)
+step_fits w (SourceEnd t name ∷ ws) s =
+    let P : Type 0 = Fits (SourceEnd t name ∷ ws) w s in
+    cond_both (ends_at_inf w s) _ _ (IfTaken P)
+    (λ _. cond_both (takes_several t) _ _ (IfTaken P) (λ several. weaker (Unit {0}) P (λ _ _. several) _ (whatever (term_at t (term.Rest s.source) ws s))) (λ _. tt))
+    (λ other. cond_both (is_name w.kind && (w.name.0 == name.0)) _ _ (IfTaken P)
+    (λ _. weaker (Unit {0}) P (λ _ at_inf. clash (ends_at_inf w s) at_inf other) _ (whatever (term_at t (term.One s.source s.source_field) ws s))) (λ _. tt))
+step_fits w (Modified ∷ ws) s = modified_fits w ws s (DesignatorFits w.kind w.name s) (cell_of w.kind w.name s) (cell_of_fits w ws s w.kind)
+step_fits w (CellName ∷ ws) s =
+    cond_both (is_variable w.kind) _ _ (IfTaken (is_some s.made ≡ true)) (λ _. cell_bound_fits w ws s s.made) (λ _. tt)
+step_fits w (Cell ∷ ws) s = cell_fits w ws s
 step_fits w (Cells ∷ ws) s =
     let P : Type 0 = Fits (Cells ∷ ws) w s in
     cond_both (is_right w.kind) _ _ (IfTaken P) (λ right is. clash (is_right w.kind) right (designator_not_right w.kind is))
-    (λ _. weaker (DesignatorFits w.kind w.name s) P (λ is _. is) _ (cell_fits w (Cells ∷ ws) s w.kind))
+    (λ _. weaker (DesignatorFits w.kind w.name s) P (λ is _. is) _ (cell_fits w (Cells ∷ ws) s))
 step_fits w (Items ∷ ws) s =
     let P : Type 0 = Fits (Items ∷ ws) w s in
     cond_both (is_right w.kind) _ _ (IfTaken P) (λ right _ is. clash (is_right w.kind) right (variable_not_right w.kind is))

@@ -1,5 +1,5 @@
 -- The grammar alone: which words may stand where something is wanted, whatever was declared and bound before them.
-use Rattle.std.specs.Prelude.{◌≡◌, ℕ, suc, List, [], ◌∷◌, ◌++◌, if◌then◌else◌, Bool, true, false, not, ◌&&◌, ◌||◌, Some, is_some}
+use Rattle.std.specs.Prelude.{◌≡◌, ℕ, suc, List, [], ◌∷◌, ◌++◌, if◌then◌else◌, Bool, true, false, not, ◌&&◌, ◌||◌, ◌==◌, Some, is_some}
 use Rattle.ops_base.specs.declared.values.Sym.{Sym}
 use Rattle.ops_base.specs.declared.values.Pred.{Pred}
 use Rattle.ops_base.specs.declared.values.Pred.TheVariants as pred
@@ -9,7 +9,7 @@ use Rattle.ops_tokens.specs.declared.token.TokenKind.{TokenKind}
 use Rattle.ops_tokens.specs.declared.token.TokenKind.TheVariants as kind
 use Rattle.ops_meaning.specs.declared.words.Word.{Word}
 use Rattle.ops_meaning.specs.declared.words.Keyword.TheVariants as keyword
-use Rattle.ops_meaning.specs.Grammar.{Use, InPattern, InPut, InFixed, Target, ToTest, ToTerms, ToConstants, ToItem, Ends, EndsRun, EndsHalt, EndsCrlf, Wanted, Forms, Form, ClassDeclared, Attributes, VectorName, VectorNames, RuleName, FirstPattern, Patterns, Pattern, Braced, ElementName, ClosesBrace, ClassName, Terms, Attribute, Several, Place, Tests, Tested, Choice, Atom, ValueFor, Actions, ActionWord, Cell, Cells, Items, ItemWord, Closes, is_left, is_right, is_left_brace, is_right_brace, is_caret, is_name, is_variable, is_literal, is_minus, opens_choice, closes_choice, pred_of, constant_of, value_of, atom_of, is_one_of, behind_attribute}
+use Rattle.ops_meaning.specs.Grammar.{Use, InPattern, InPut, InFixed, Target, ToTest, ToTerms, ToConstants, ToItem, ToBind, Ends, EndsRun, EndsHalt, EndsCrlf, EndsWhole, Column, ToTab, ToRight, Wanted, Forms, Form, ClassDeclared, Attributes, VectorName, VectorNames, RuleName, FirstPattern, Patterns, Pattern, Braced, ElementName, ClosesBrace, ClassName, Terms, Attribute, Several, Place, Tests, Tested, Choice, Atom, ValueFor, Function, SourceCell, SourceAttribute, SourceEnd, Actions, ActionWord, Modified, BoundName, CellName, Cell, Cells, Items, ItemWord, Columns, Closes, is_left, is_right, is_left_brace, is_right_brace, is_caret, is_name, is_variable, is_literal, is_inf, is_of_action, takes_several, is_minus, opens_choice, closes_choice, pred_of, constant_of, value_of, atom_of, small_of, is_one_of, behind_attribute}
 
 -- WHOLE
 abbrev pub is_whole : TokenKind → Bool
@@ -89,6 +89,13 @@ pub data Derives : List Sym → List Wanted → List Word → Type 0 where
   no_more_of_several : {vs : List Sym} {u : Use} {f : ℕ} {ws : List Wanted} {ts : List Word} → Derives vs (Terms u ∷ ws) ts → Derives vs (Several u f ∷ ws) ts
   a_value : {vs : List Sym} {t : Target} {ws : List Wanted} {w : Word} {ts : List Word} → is_value w ≡ true → Derives vs ws ts → Derives vs (ValueFor t ∷ ws) (w ∷ ts)
   a_literal_value : {vs : List Sym} {t : Target} {ws : List Wanted} {w : Word} {ts : List Word} → is_literal w.keyword ≡ true → Derives vs (Atom t ∷ ws) ts → Derives vs (ValueFor t ∷ ws) (w ∷ ts)
+  a_function : {vs : List Sym} {t : Target} {ws : List Wanted} {w : Word} {ts : List Word} → is_left w.kind ≡ true → is_of_action t ≡ true → Derives vs (Function t ∷ ws) ts → Derives vs (ValueFor t ∷ ws) (w ∷ ts)
+  -- ( substr VARIABLE ATTR ATTR ) | ( substr VARIABLE ATTR inf ), the latter behind the vector attribute alone
+  a_substr : {vs : List Sym} {t : Target} {ws : List Wanted} {w : Word} {ts : List Word} → w.keyword ≡ keyword.Substr → Derives vs (SourceCell ∷ SourceAttribute t ∷ ws) ts → Derives vs (Function t ∷ ws) (w ∷ ts)
+  a_source : {vs : List Sym} {ws : List Wanted} {w : Word} {ts : List Word} → is_variable w.kind ≡ true → Derives vs ws ts → Derives vs (SourceCell ∷ ws) (w ∷ ts)
+  a_source_attribute : {vs : List Sym} {t : Target} {ws : List Wanted} {w : Word} {ts : List Word} → is_name w.kind ≡ true → Derives vs (SourceEnd t w.name ∷ Closes EndsWhole ∷ ws) ts → Derives vs (SourceAttribute t ∷ ws) (w ∷ ts)
+  the_same_again : {vs : List Sym} {t : Target} {name : Sym} {ws : List Wanted} {w : Word} {ts : List Word} → is_name w.kind ≡ true → (w.name.0 == name.0) ≡ true → (is_inf w.keyword && is_one_of name vs) ≡ false → Derives vs ws ts → Derives vs (SourceEnd t name ∷ ws) (w ∷ ts)
+  up_to_inf : {vs : List Sym} {t : Target} {name : Sym} {ws : List Wanted} {w : Word} {ts : List Word} → is_inf w.keyword ≡ true → is_one_of name vs ≡ true → takes_several t ≡ true → Derives vs ws ts → Derives vs (SourceEnd t name ∷ ws) (w ∷ ts)
   an_atom : {vs : List Sym} {t : Target} {ws : List Wanted} {w : Word} {ts : List Word} → is_atom w ≡ true → Derives vs ws ts → Derives vs (Atom t ∷ ws) (w ∷ ts)
   -- place = test | { test* }
   a_conjunction : {vs : List Sym} {f : ℕ} {ws : List Wanted} {w : Word} {ts : List Word} → is_left_brace w.kind ≡ true → Derives vs (Tests f ∷ ws) ts → Derives vs (Place f ∷ ws) (w ∷ ts)
@@ -108,22 +115,33 @@ pub data Derives : List Sym → List Wanted → List Word → Type 0 where
   -- atom* >>
   one_more_choice : {vs : List Sym} {f : ℕ} {ws : List Wanted} {w : Word} {ts : List Word} → is_choice w ≡ true → Derives vs (Choice f ∷ ws) ts → Derives vs (Choice f ∷ ws) (w ∷ ts)
   no_more_choices : {vs : List Sym} {f : ℕ} {ws : List Wanted} {w : Word} {ts : List Word} → closes_choice w.keyword ≡ true → Derives vs ws ts → Derives vs (Choice f ∷ ws) (w ∷ ts)
-  -- action = ( make CLASS put* ) | ( remove DESIGNATOR DESIGNATOR* ) | ( write item* ) | ( halt )
+  -- action = ( make CLASS put* ) | ( modify DESIGNATOR put* ) | ( remove DESIGNATOR DESIGNATOR* ) | ( write item* )
+  -- | ( bind VARIABLE value ) | ( cbind VARIABLE ) | ( halt )
   an_action : {vs : List Sym} {ws : List Wanted} {w : Word} {ts : List Word} → is_left w.kind ≡ true → Derives vs (ActionWord ∷ Actions ∷ ws) ts → Derives vs (Actions ∷ ws) (w ∷ ts)
   no_action : {vs : List Sym} {ws : List Wanted} {w : Word} {ts : List Word} → is_right w.kind ≡ true → Derives vs ws ts → Derives vs (Actions ∷ ws) (w ∷ ts)
   to_make : {vs : List Sym} {ws : List Wanted} {w : Word} {ts : List Word} → w.keyword ≡ keyword.Make → Derives vs (ClassName ∷ Terms InPut ∷ ws) ts → Derives vs (ActionWord ∷ ws) (w ∷ ts)
+  to_modify : {vs : List Sym} {ws : List Wanted} {w : Word} {ts : List Word} → w.keyword ≡ keyword.Modify → Derives vs (Modified ∷ Terms InPut ∷ ws) ts → Derives vs (ActionWord ∷ ws) (w ∷ ts)
+  to_bind : {vs : List Sym} {ws : List Wanted} {w : Word} {ts : List Word} → w.keyword ≡ keyword.Bind → Derives vs (BoundName ∷ ValueFor ToBind ∷ Closes EndsWhole ∷ ws) ts → Derives vs (ActionWord ∷ ws) (w ∷ ts)
+  to_cbind : {vs : List Sym} {ws : List Wanted} {w : Word} {ts : List Word} → w.keyword ≡ keyword.Cbind → Derives vs (CellName ∷ Closes EndsWhole ∷ ws) ts → Derives vs (ActionWord ∷ ws) (w ∷ ts)
   to_remove : {vs : List Sym} {ws : List Wanted} {w : Word} {ts : List Word} → w.keyword ≡ keyword.Remove → Derives vs (Cell ∷ Cells ∷ ws) ts → Derives vs (ActionWord ∷ ws) (w ∷ ts)
   to_write : {vs : List Sym} {ws : List Wanted} {w : Word} {ts : List Word} → w.keyword ≡ keyword.Write → Derives vs (Items ∷ ws) ts → Derives vs (ActionWord ∷ ws) (w ∷ ts)
   to_halt : {vs : List Sym} {ws : List Wanted} {w : Word} {ts : List Word} → w.keyword ≡ keyword.Halt → Derives vs (Closes EndsHalt ∷ ws) ts → Derives vs (ActionWord ∷ ws) (w ∷ ts)
+  a_modified : {vs : List Sym} {ws : List Wanted} {w : Word} {ts : List Word} → is_designator w.kind ≡ true → Derives vs ws ts → Derives vs (Modified ∷ ws) (w ∷ ts)
+  a_bound_name : {vs : List Sym} {ws : List Wanted} {w : Word} {ts : List Word} → is_variable w.kind ≡ true → Derives vs ws ts → Derives vs (BoundName ∷ ws) (w ∷ ts)
+  a_cell_name : {vs : List Sym} {ws : List Wanted} {w : Word} {ts : List Word} → is_variable w.kind ≡ true → Derives vs ws ts → Derives vs (CellName ∷ ws) (w ∷ ts)
   a_cell : {vs : List Sym} {ws : List Wanted} {w : Word} {ts : List Word} → is_designator w.kind ≡ true → Derives vs ws ts → Derives vs (Cell ∷ ws) (w ∷ ts)
   one_more_cell : {vs : List Sym} {ws : List Wanted} {w : Word} {ts : List Word} → is_designator w.kind ≡ true → Derives vs (Cells ∷ ws) ts → Derives vs (Cells ∷ ws) (w ∷ ts)
   no_more_cells : {vs : List Sym} {ws : List Wanted} {w : Word} {ts : List Word} → is_right w.kind ≡ true → Derives vs ws ts → Derives vs (Cells ∷ ws) (w ∷ ts)
-  -- item = value | ( crlf )
+  -- item = value | ( crlf ) | ( tabto SMALL ) | ( rjust SMALL )
   an_item : {vs : List Sym} {ws : List Wanted} {w : Word} {ts : List Word} → is_value w ≡ true → Derives vs (Items ∷ ws) ts → Derives vs (Items ∷ ws) (w ∷ ts)
   a_literal_item : {vs : List Sym} {ws : List Wanted} {w : Word} {ts : List Word} → is_literal w.keyword ≡ true → Derives vs (Atom ToItem ∷ Items ∷ ws) ts → Derives vs (Items ∷ ws) (w ∷ ts)
   an_item_form : {vs : List Sym} {ws : List Wanted} {w : Word} {ts : List Word} → is_left w.kind ≡ true → Derives vs (ItemWord ∷ Items ∷ ws) ts → Derives vs (Items ∷ ws) (w ∷ ts)
   no_item : {vs : List Sym} {ws : List Wanted} {w : Word} {ts : List Word} → is_right w.kind ≡ true → Derives vs ws ts → Derives vs (Items ∷ ws) (w ∷ ts)
   a_crlf : {vs : List Sym} {ws : List Wanted} {w : Word} {ts : List Word} → w.keyword ≡ keyword.Crlf → Derives vs (Closes EndsCrlf ∷ ws) ts → Derives vs (ItemWord ∷ ws) (w ∷ ts)
+  a_tab : {vs : List Sym} {ws : List Wanted} {w : Word} {ts : List Word} → w.keyword ≡ keyword.Tabto → Derives vs (Columns ToTab ∷ Closes EndsWhole ∷ ws) ts → Derives vs (ItemWord ∷ ws) (w ∷ ts)
+  a_right : {vs : List Sym} {ws : List Wanted} {w : Word} {ts : List Word} → w.keyword ≡ keyword.Rjust → Derives vs (Columns ToRight ∷ Closes EndsWhole ∷ ws) ts → Derives vs (ItemWord ∷ ws) (w ∷ ts)
+  a_substr_item : {vs : List Sym} {ws : List Wanted} {w : Word} {ts : List Word} → w.keyword ≡ keyword.Substr → Derives vs (SourceCell ∷ SourceAttribute ToItem ∷ ws) ts → Derives vs (ItemWord ∷ ws) (w ∷ ts)
+  some_columns : {vs : List Sym} {c : Column} {ws : List Wanted} {w : Word} {ts : List Word} → is_some (small_of w.kind) ≡ true → Derives vs ws ts → Derives vs (Columns c ∷ ws) (w ∷ ts)
   -- )
   a_closing : {vs : List Sym} {e : Ends} {ws : List Wanted} {w : Word} {ts : List Word} → is_right w.kind ≡ true → Derives vs ws ts → Derives vs (Closes e ∷ ws) (w ∷ ts)
 

@@ -4,48 +4,67 @@ use Rattle.ops_base.specs.declared.endings.Ending.{Ending}
 use Rattle.ops_base.specs.declared.endings.Ending.TheVariants as ending
 use Rattle.ops_io.specs.Output.{column_after}
 use Rattle.ops_io.specs.Ports.{Port, Put, Stopped}
+use Rattle.ops_io.specs.declared.stop.Stop.{Stop}
 use Rattle.ops_io.specs.declared.stop.Stop.TheVariants as stop
 
--- the bytes that a part writes, and what it leaves, or the ending that it comes to
-pub record Effect (S : Type 0) : Type 0 where
+-- the bytes that a part writes, and what it leaves, or the end that it comes to before that
+pub record Effect (E S : Type 0) : Type 0 where
   pub bytes : List ℕ
-  pub outcome : Result S Ending
+  pub outcome : Result S E
 
-abbrev pub writes : {S : Type 0} → List ℕ → S → Effect S
+abbrev pub writes : {E S : Type 0} → List ℕ → S → Effect E S
 writes bytes s = record { bytes = bytes; outcome = Ok s }
 
-abbrev pub ends_with : {S : Type 0} → Ending → Effect S
+abbrev pub ends_with : {E S : Type 0} → E → Effect E S
 ends_with e = record { bytes = []; outcome = Err e }
 
-abbrev pub led_by : {S : Type 0} → List ℕ → Effect S → Effect S
+abbrev pub led_by : {E S : Type 0} → List ℕ → Effect E S → Effect E S
 led_by bytes e = record { bytes = bytes ++ e.bytes; outcome = e.outcome }
 
-abbrev pub going_on : {S T : Type 0} → List ℕ → Result S Ending → (S → Effect T) → Effect T
+abbrev pub going_on : {E S T : Type 0} → List ℕ → Result S E → (S → Effect E T) → Effect E T
 going_on bytes (Ok s) next = led_by bytes (next s)
 going_on bytes (Err e) next = record { bytes = bytes; outcome = Err e }
 
--- One part begins at this column, and where it comes to no ending the next follows at the column that it leaves.
-abbrev pub and_then : {S T : Type 0} → ℕ → Effect S → (ℕ → S → Effect T) → Effect T
+-- One part begins at this column, and where it comes to no end the next follows at the column that it leaves.
+abbrev pub and_then : {E S T : Type 0} → ℕ → Effect E S → (ℕ → S → Effect E T) → Effect E T
 and_then column e next = going_on e.bytes e.outcome (next (column_after column e.bytes))
 
--- What a call leaves that came to an ending of its effect, was refused by the sink or lacked memory. All was put before
--- an ending of the effect's own; of the other two the sink has a prefix.
-abbrev pub Fails : {S : Type 0} → Ending → Port → Port → Effect S → Type 0
-Fails ending.WriteFault old new e = Stopped stop.Write old new e.bytes
-Fails ending.OutOfMemory old new e = Stopped stop.OutOfMemory old new e.bytes
-Fails f old new e = (e.outcome ≡ Err f) × Put old new e.bytes
+abbrev pub outcome_as : {E F S T : Type 0} → (S → T) → (E → F) → Result S E → Result T F
+outcome_as left end (Ok s) = Ok (left s)
+outcome_as left end (Err e) = Err (end e)
 
--- What a call that does this leaves.
-abbrev pub Performs : {X S : Type 0} → (X → S) → Result X Ending → Port → Port → Effect S → Type 0
-Performs view (Ok x) old new e = (e.outcome ≡ Ok (view x)) × Put old new e.bytes
-Performs view (Err f) old new e = Fails f old new e
+-- the same bytes, where what is left and the end are told of otherwise
+abbrev pub told_as : {E F S T : Type 0} → (S → T) → (E → F) → Effect E S → Effect F T
+told_as left end e = record { bytes = e.bytes; outcome = outcome_as left end e.outcome }
 
--- What a call that writes these bytes and leaves nothing else to tell leaves.
-abbrev pub Puts : {X : Type 0} → Result X Ending → Port → Port → List ℕ → Type 0
-Puts r old new bytes = let e : Effect (Unit {0}) = writes bytes tt in Performs (λ _. tt) r old new e
+-- Why a call fails that performs an effect: the sink or memory refuses, or the effect comes to an end of its own.
+pub data Failure (E : Type 0) : Type 0 where
+  OfPort : (why : Stop) → Failure E
+  OfEffect : (end : E) → Failure E
+
+-- the same failure, where the end is told of otherwise
+abbrev pub failure_as : {E F : Type 0} → (E → F) → Failure E → Failure F
+failure_as end (OfPort why) = OfPort why
+failure_as end (OfEffect f) = OfEffect (end f)
+
+-- the failure that an ending tells
+abbrev pub of_ending : Ending → Failure Ending
+of_ending ending.WriteFault = OfPort stop.Write
+of_ending ending.OutOfMemory = OfPort stop.OutOfMemory
+of_ending f = OfEffect f
+
+-- What a call leaves that failed so: before an end of the effect's own all was put, and otherwise the sink has a prefix.
+abbrev pub Fails : {E S : Type 0} → Failure E → Port → Port → Effect E S → Type 0
+Fails (OfPort why) old new e = Stopped why old new e.bytes
+Fails (OfEffect f) old new e = (e.outcome ≡ Err f) × Put old new e.bytes
+
+-- What a call that does this leaves, where its answers stand for what the effect leaves and for failures.
+abbrev pub Performs : {X F E S : Type 0} → (X → S) → (F → Failure E) → Result X F → Port → Port → Effect E S → Type 0
+Performs view failure (Ok x) old new e = (e.outcome ≡ Ok (view x)) × Put old new e.bytes
+Performs view failure (Err f) old new e = Fails (failure f) old new e
 
 -- Of the whole this rest is still to come, and what comes before it was put.
-pub record Pending {S : Type 0} (start now : Port) (whole rest : Effect S) : Type 0 where
+pub record Pending {E S : Type 0} (start now : Port) (whole rest : Effect E S) : Type 0 where
   pub sofar : List ℕ
   pub put : Put start now sofar
   pub bytes : whole.bytes ≡ sofar ++ rest.bytes

@@ -1,5 +1,5 @@
 -- The grammar of program texts, as what a word does where something is wanted.
-use Rattle.std.specs.Prelude.{ℕ, ◌+◌, ◌-◌, List, [], ◌∷◌, ◌++◌, length, take, map, filter, position, Bool, true, false, not, ◌==◌, ◌&&◌, ◌||◌, nat_lt, if◌then◌else◌, Option, Some, None, Result, Ok, Err, ℤ, pos, negsuc, slice_get}
+use Rattle.std.specs.Prelude.{ℕ, ◌+◌, ◌-◌, List, [], ◌∷◌, ◌++◌, length, take, map, filter, position, Bool, true, false, not, ◌==◌, ◌&&◌, ◌||◌, nat_lt, if◌then◌else◌, Option, Some, None, Result, Ok, Err, ℤ, pos, negsuc, slice_get, unwrap_or}
 use Rattle.std.specs.List.{list_any}
 use Rattle.ops_base.specs.declared.values.Sym.{Sym}
 use Rattle.ops_base.specs.declared.values.Value.{Value}
@@ -25,7 +25,7 @@ use Rattle.ops_base.specs.declared.commands.Command.TheVariants as command
 use Rattle.ops_base.specs.declared.endings.Fault.{Fault}
 use Rattle.ops_base.specs.declared.endings.Fault.TheVariants as fault
 use Rattle.ops_base.specs.declared.endings.Limit.TheVariants as limit
-use Rattle.ops_base.specs.Valid.{most_fields, most_conditions, class_of, is_vector, specificity, cells_of}
+use Rattle.ops_base.specs.Valid.{most_fields, most_conditions, class_of, is_vector, is_column, specificity, cells_of}
 use Rattle.ops_tokens.specs.declared.token.TokenKind.{TokenKind}
 use Rattle.ops_tokens.specs.declared.token.TokenKind.TheVariants as kind
 use Rattle.ops_meaning.specs.declared.words.Word.{Word}
@@ -39,8 +39,8 @@ pub data Use : Type 0 where
   InPut : Use
   InFixed : Use
 
--- where a constant goes: into a test, to a scalar attribute of an action or of a command, among the values of the vector attribute
--- of an action or of a command, or to `write`
+-- where a value goes: into a test, to a scalar attribute of an action or of a command, among the values of the vector attribute of an
+-- action or of a command, to `write`, or to `bind`
 pub data Target : Type 0 where
   ToTest : (field : ℕ) → (p : Pred) → Target
   ToPut : (field : ℕ) → Target
@@ -48,12 +48,19 @@ pub data Target : Type 0 where
   ToTerms : Target
   ToConstants : Target
   ToItem : Target
+  ToBind : Target
 
--- what a closing bracket ends
+-- what a closing bracket ends: a command, an action or an item that has nothing in it, or one that is done already
 pub data Ends : Type 0 where
   EndsRun : Ends
   EndsHalt : Ends
   EndsCrlf : Ends
+  EndsWhole : Ends
+
+-- what a number of columns is for
+pub data Column : Type 0 where
+  ToTab : Column
+  ToRight : Column
 
 -- what the grammar wants next, one a line of the grammar
 pub data Wanted : Type 0 where
@@ -102,20 +109,37 @@ pub data Wanted : Type 0 where
   Choice : (field : ℕ) → Wanted
   -- atom
   Atom : (target : Target) → Wanted
-  -- rconstant | VARIABLE
+  -- rconstant | VARIABLE | ( substr VARIABLE ATTR ATTR ) | ( substr VARIABLE ATTR inf )
   ValueFor : (target : Target) → Wanted
+  -- substr VARIABLE ATTR ATTR ) | substr VARIABLE ATTR inf )
+  Function : (target : Target) → Wanted
+  -- VARIABLE
+  SourceCell : Wanted
+  -- ATTR ATTR ) | ATTR inf )
+  SourceAttribute : (target : Target) → Wanted
+  -- ATTR | inf, behind this name
+  SourceEnd : (target : Target) → (name : Sym) → Wanted
   -- action* )
   Actions : Wanted
-  -- make CLASS put* ) | remove DESIGNATOR DESIGNATOR* ) | write item* ) | halt )
+  -- make CLASS put* ) | modify DESIGNATOR put* ) | remove DESIGNATOR DESIGNATOR* ) | write item* ) | bind VARIABLE value )
+  -- | cbind VARIABLE ) | halt )
   ActionWord : Wanted
-  -- WHOLE | VARIABLE
+  -- DESIGNATOR, before put*
+  Modified : Wanted
+  -- VARIABLE, before value
+  BoundName : Wanted
+  -- VARIABLE
+  CellName : Wanted
+  -- DESIGNATOR
   Cell : Wanted
   -- DESIGNATOR* )
   Cells : Wanted
   -- item* )
   Items : Wanted
-  -- crlf )
+  -- crlf ) | tabto SMALL ) | rjust SMALL ) | substr VARIABLE ATTR ATTR ) | substr VARIABLE ATTR inf )
   ItemWord : Wanted
+  -- SMALL
+  Columns : (what : Column) → Wanted
   -- )
   Closes : (what : Ends) → Wanted
 
@@ -150,6 +174,14 @@ pub record State : Type 0 where
   pub around : ℕ
   pub conditions : List Condition
   pub actions : List Action
+  -- the cell that a `modify` names, none in a `make`; the class of the element that this right side made last; the classes of the cells
+  -- that its `cbind` named; the variable of a `bind`; and the cell and the field of a `substr`
+  pub modified : Option ℕ
+  pub made : Option ℕ
+  pub further : List ℕ
+  pub variable : Sym
+  pub source : ℕ
+  pub source_field : ℕ
 
 -- what a word does: something else is wanted now, or the word is refused
 pub data Step : Type 0 where
@@ -211,6 +243,11 @@ abbrev pub closes_choice : Keyword → Bool
 closes_choice keyword.CloseChoice = true
 closes_choice _ = false
 
+-- inf, behind the vector attribute
+abbrev pub is_inf : Keyword → Bool
+is_inf keyword.Inf = true
+is_inf _ = false
+
 abbrev pub pred_of : Keyword → Option Pred
 pred_of keyword.Equal = Some pred.Eq
 pred_of keyword.NotEqual = Some pred.Ne
@@ -220,10 +257,6 @@ pred_of keyword.Greater = Some pred.Gt
 pred_of keyword.AtLeast = Some pred.Ge
 pred_of keyword.SameKind = Some pred.SameKind
 pred_of _ = None
-
-abbrev pub is_crlf : Keyword → Bool
-is_crlf keyword.Crlf = true
-is_crlf _ = false
 
 -- the constant that a name or a whole number is
 abbrev pub constant_of : TokenKind → Sym → Option Value
@@ -254,6 +287,11 @@ abbrev pub natural_of : ℤ → Option ℕ
 natural_of (pos n) = if n == 0 then None else Some n
 natural_of (negsuc n) = None
 
+-- the number that a whole number from 1 to 1,024 is
+abbrev pub small_of : TokenKind → Option ℕ
+small_of (kind.Whole (pos n)) = if is_column n then Some n else None
+small_of _ = None
+
 abbrev pub is_one_of : Sym → List Sym → Bool
 is_one_of name names = list_any (λ n. n.0 == name.0) names
 
@@ -261,6 +299,11 @@ is_one_of name names = list_any (λ n. n.0 == name.0) names
 abbrev pub number_of : Sym → List Named → Option ℕ
 number_of name [] = None
 number_of name (n ∷ ns) = if n.name.0 == name.0 then Some n.number else number_of name ns
+
+-- the name has this number from here on
+abbrev pub renumbered : Sym → ℕ → List Named → List Named
+renumbered name number [] = record { name = name; number = number } ∷ []
+renumbered name number (n ∷ ns) = if n.name.0 == name.0 then record n { number = number } ∷ ns else n ∷ renumbered name number ns
 
 -- ---- declarations
 
@@ -393,6 +436,18 @@ with_fixed s f v = record s { fixed = s.fixed ++ record { field = f; values = v 
 abbrev pub with_item : State → Item → State
 with_item s i = record s { items = s.items ++ i ∷ [] }
 
+abbrev pub with_action : State → Action → State
+with_action s a = record s { actions = s.actions ++ a ∷ [] }
+
+-- A variable that is in sight keeps its number when it is bound again; another gets the next one, and is in sight from here on.
+abbrev pub with_bind : Option ℕ → State → Term → State
+with_bind (Some n) s t = with_action s (action.Bind n t)
+with_bind None s t =
+    record (with_action s (action.Bind s.variables t)) {
+      values = s.values ++ record { name = s.variable; number = s.variables } ∷ [];
+      variables = s.variables + 1;
+    }
+
 abbrev pub with_constant : Target → State → Value → State
 with_constant (ToTest f p) s v = with_test s f p (operand.Constant v) false
 with_constant (ToPut f) s v = with_put s f (term.Constant v)
@@ -400,6 +455,7 @@ with_constant (ToFixed f) s v = with_fixed s f v
 with_constant ToTerms s v = record s { terms = s.terms ++ term.Constant v ∷ [] }
 with_constant ToConstants s v = record s { constants = s.constants ++ v ∷ [] }
 with_constant ToItem s v = with_item s (item.Print (term.Constant v))
+with_constant ToBind s v = with_bind (number_of s.variable s.values) s (term.Constant v)
 
 -- ---- tests
 
@@ -455,11 +511,12 @@ atom_at t None ws s = Refuses fault.BadForm
 
 -- ---- values
 
--- a variable of a right side, which a condition must bind
+-- a variable of a right side, which a condition or a `bind` before it must bind
 abbrev pub term_at : Target → Term → List Wanted → State → Step
 term_at (ToPut f) t ws s = Next ws (with_put s f t)
 term_at ToTerms t ws s = Next ws (record s { terms = s.terms ++ t ∷ [] })
 term_at ToItem t ws s = Next ws (with_item s (item.Print t))
+term_at ToBind t ws s = Next ws (with_bind (number_of s.variable s.values) s t)
 term_at _ t ws s = Refuses fault.UnboundVariable
 
 abbrev pub bound_at : Target → Option ℕ → List Wanted → State → Step
@@ -471,12 +528,67 @@ constant_at t w (Some v) ws s = Next ws (with_constant t s v)
 constant_at t w None ws s =
     if is_variable w.kind then bound_at t (number_of w.name s.values) ws s else Refuses fault.BadForm
 
--- A variable in a command is bound nowhere.
-abbrev pub value_for : Target → Word → List Wanted → State → Step
-value_for t w ws s = if is_literal w.keyword then Next (Atom t ∷ ws) s else constant_at t w (value_of w.kind w.name) ws s
+-- a value of an action
+abbrev pub is_of_action : Target → Bool
+is_of_action (ToPut f) = true
+is_of_action ToTerms = true
+is_of_action ToItem = true
+is_of_action ToBind = true
+is_of_action _ = false
 
-abbrev pub with_action : State → Action → State
-with_action s a = record s { actions = s.actions ++ a ∷ [] }
+-- A variable in a command is bound nowhere, and no function stands there.
+abbrev pub value_for : Target → Word → List Wanted → State → Step
+value_for t w ws s =
+    if is_literal w.keyword then Next (Atom t ∷ ws) s
+    else if is_left w.kind && is_of_action t then Next (Function t ∷ ws) s
+    else constant_at t w (value_of w.kind w.name) ws s
+
+-- ---- substr
+
+-- the classes of the cells: those of the positive conditions, and then those that `cbind` named
+abbrev pub classes_of_cells : State → List ℕ
+classes_of_cells s = cells_of s.conditions ++ s.further
+
+abbrev pub function : Target → Keyword → List Wanted → State → Step
+function t keyword.Substr ws s = Next (SourceCell ∷ SourceAttribute t ∷ ws) s
+function t _ ws s = Refuses fault.BadForm
+
+abbrev pub source_named : Option ℕ → List Wanted → State → Step
+source_named (Some c) ws s = Next ws (record s { source = c })
+source_named None ws s = Refuses fault.BadDesignator
+
+-- an element variable
+abbrev pub source_cell : Word → List Wanted → State → Step
+source_cell w ws s = if is_variable w.kind then source_named (number_of w.name s.elements) ws s else Refuses fault.BadForm
+
+-- the class of the cell that `substr` reads
+abbrev pub source_class : State → Class
+source_class s = class_of s.classes (unwrap_or (slice_get (classes_of_cells s) s.source) 0)
+
+abbrev pub source_at : Target → Sym → Option ℕ → List Wanted → State → Step
+source_at t name (Some f) ws s = Next (SourceEnd t name ∷ Closes EndsWhole ∷ ws) (record s { source_field = f })
+source_at t name None ws s = Refuses fault.UnknownAttribute
+
+abbrev pub source_attribute : Target → Word → List Wanted → State → Step
+source_attribute t w ws s =
+    if is_name w.kind then source_at t w.name (position (λ a. a.0 == w.name.0) (source_class s).attrs) ws s else Refuses fault.BadForm
+
+-- several values may stand there: among the values of the vector attribute, and in `write`
+abbrev pub takes_several : Target → Bool
+takes_several ToTerms = true
+takes_several ToItem = true
+takes_several _ = false
+
+-- Behind the vector attribute `inf` stands for all its values, also where the attribute has this name.
+abbrev pub ends_at_inf : Word → State → Bool
+ends_at_inf w s = is_inf w.keyword && is_vector (source_class s) s.source_field
+
+-- the same attribute again, or `inf`
+abbrev pub source_end : Target → Sym → Word → List Wanted → State → Step
+source_end t name w ws s =
+    if ends_at_inf w s then (if takes_several t then term_at t (term.Rest s.source) ws s else Refuses fault.BadForm)
+    else if is_name w.kind && (w.name.0 == name.0) then term_at t (term.One s.source s.source_field) ws s
+    else Refuses fault.BadForm
 
 abbrev pub with_command : State → Command → State
 with_command s c = record s { commands = s.commands ++ c ∷ [] }
@@ -491,10 +603,15 @@ with_condition s =
       negated = false;
     }
 
+-- a `make` of this class, or a `modify` of the cell
+abbrev pub put_action : Option ℕ → ℕ → List Put → Action
+put_action None class puts = action.Make class puts
+put_action (Some cell) class puts = action.Modify cell puts
+
 -- an element form ends
 abbrev pub with_element : Use → State → State
 with_element InPattern s = with_condition s
-with_element InPut s = record (with_action s (action.Make s.class s.puts)) { puts = [] }
+with_element InPut s = record (with_action s (put_action s.modified s.class s.puts)) { puts = []; made = Some s.class }
 with_element InFixed s = record (with_command s (command.Make s.class s.fixed)) { fixed = [] }
 
 abbrev pub terms : Use → Word → List Wanted → State → Step
@@ -553,10 +670,28 @@ abbrev pub left_ended : State → State
 left_ended s =
     record s { class = 0; tests = []; choice = []; terms = []; constants = []; element = record { 0 = 0 }; negated = false; around = 0 }
 
+-- a right side begins, or has ended: nothing of another is left
+abbrev pub right_begun : State → State
+right_begun s =
+    record s {
+      class = 0;
+      terms = [];
+      puts = [];
+      cells = [];
+      items = [];
+      actions = [];
+      modified = None;
+      made = None;
+      further = [];
+      variable = record { 0 = 0 };
+      source = 0;
+      source_field = 0;
+    }
+
 abbrev pub rule_name : Word → List Wanted → State → Step
 rule_name w ws s =
     if is_name w.kind
-    then (if is_rule s w.name then Refuses fault.DeclaredTwice else Next ws (record (left_begun s) { name = w.name; actions = [] }))
+    then (if is_rule s w.name then Refuses fault.DeclaredTwice else Next ws (record (left_begun s) { name = w.name }))
     else Refuses fault.BadForm
 
 -- the first condition is positive
@@ -580,7 +715,7 @@ more_patterns w ws s =
     else Refuses fault.BadForm
 
 abbrev pub patterns : Word → List Wanted → State → Step
-patterns w ws s = if is_arrow w.keyword then Next ws (left_ended s) else more_patterns w (Patterns ∷ ws) s
+patterns w ws s = if is_arrow w.keyword then Next ws (right_begun (left_ended s)) else more_patterns w (Patterns ∷ ws) s
 
 abbrev pub pattern : Word → List Wanted → State → Step
 pattern w ws s = if is_left w.kind then Next (ClassName ∷ Terms InPattern ∷ ws) s else Refuses fault.BadForm
@@ -610,19 +745,18 @@ closes_brace w ws s = if is_right_brace w.kind then Next ws (with_bound_element 
 
 abbrev pub with_rule : State → ℕ → State
 with_rule s past =
-    record s {
+    record (right_begun s) {
       rules = s.rules ++ record {
         name = s.name;
         conditions = s.conditions;
         actions = s.actions;
         specificity = specificity s.conditions;
         variables = s.variables;
-        cells = length (cells_of s.conditions);
+        cells = length (classes_of_cells s);
         first = s.first;
         past = past;
       } ∷ [];
       conditions = [];
-      actions = [];
     }
 
 abbrev pub actions : Word → List Wanted → State → Step
@@ -632,35 +766,75 @@ actions w ws s =
     else Refuses fault.BadForm
 
 abbrev pub action_word : Keyword → List Wanted → State → Step
-action_word keyword.Make ws s = Next (ClassName ∷ Terms InPut ∷ ws) (record s { puts = [] })
+action_word keyword.Make ws s = Next (ClassName ∷ Terms InPut ∷ ws) (record s { puts = []; modified = None })
+action_word keyword.Modify ws s = Next (Modified ∷ Terms InPut ∷ ws) (record s { puts = [] })
 action_word keyword.Remove ws s = Next (Cell ∷ Cells ∷ ws) (record s { cells = [] })
 action_word keyword.Write ws s = Next (Items ∷ ws) (record s { items = [] })
+action_word keyword.Bind ws s = Next (BoundName ∷ ValueFor ToBind ∷ Closes EndsWhole ∷ ws) s
+action_word keyword.Cbind ws s = Next (CellName ∷ Closes EndsWhole ∷ ws) s
 action_word keyword.Halt ws s = Next (Closes EndsHalt ∷ ws) s
 action_word _ ws s = Refuses fault.BadForm
 
+-- ---- designators
+
 -- The condition that is designated is positive, and so is each before it; its cell has the number of conditions before it.
-abbrev pub designated : ℕ → Option Condition → List Wanted → State → Step
-designated before (Some c) ws s =
-    if c.negated then Refuses fault.BadDesignator
-    else if list_any (λ c. c.negated) (take before s.conditions) then Refuses fault.AmbiguousDesignator
-    else Next ws (record s { cells = s.cells ++ before ∷ [] })
-designated before None ws s = Refuses fault.BadDesignator
+abbrev pub designated : ℕ → Option Condition → State → Result ℕ Fault
+designated before (Some c) s =
+    if c.negated then Err fault.BadDesignator
+    else if list_any (λ c. c.negated) (take before s.conditions) then Err fault.AmbiguousDesignator
+    else Ok before
+designated before None s = Err fault.BadDesignator
 
 -- a number of a condition, counted from 1
-abbrev pub cell_of : Option ℕ → List Wanted → State → Step
-cell_of (Some n) ws s = designated (n - 1) (slice_get s.conditions (n - 1)) ws s
-cell_of None ws s = Refuses fault.BadDesignator
+abbrev pub numbered_cell : Option ℕ → State → Result ℕ Fault
+numbered_cell (Some n) s = designated (n - 1) (slice_get s.conditions (n - 1)) s
+numbered_cell None s = Err fault.BadDesignator
 
--- an element variable, which a condition must bind
-abbrev pub cell_named : Option ℕ → List Wanted → State → Step
-cell_named (Some c) ws s = Next ws (record s { cells = s.cells ++ c ∷ [] })
-cell_named None ws s = Refuses fault.BadDesignator
+-- an element variable, which a condition or a `cbind` before it must bind
+abbrev pub named_cell : Option ℕ → Result ℕ Fault
+named_cell (Some c) = Ok c
+named_cell None = Err fault.BadDesignator
 
--- WHOLE | VARIABLE
+-- the cell that a word designates, WHOLE | VARIABLE
+abbrev pub cell_of : TokenKind → Sym → State → Result ℕ Fault
+cell_of (kind.Whole n) name s = numbered_cell (natural_of n) s
+cell_of kind.Variable name s = named_cell (number_of name s.elements)
+cell_of _ name s = Err fault.BadForm
+
+abbrev pub with_designated : Result ℕ Fault → List Wanted → State → Step
+with_designated (Ok c) ws s = Next ws (record s { cells = s.cells ++ c ∷ [] })
+with_designated (Err f) ws s = Refuses f
+
 abbrev pub cell : TokenKind → Sym → List Wanted → State → Step
-cell (kind.Whole n) name ws s = cell_of (natural_of n) ws s
-cell kind.Variable name ws s = cell_named (number_of name s.elements) ws s
-cell _ name ws s = Refuses fault.BadForm
+cell k name ws s = with_designated (cell_of k name s) ws s
+
+-- the attributes of a `modify` are those of the cell's class
+abbrev pub with_modified : Result ℕ Fault → List Wanted → State → Step
+with_modified (Ok c) ws s = Next ws (record s { modified = Some c; class = unwrap_or (slice_get (classes_of_cells s) c) 0 })
+with_modified (Err f) ws s = Refuses f
+
+abbrev pub modified : Word → List Wanted → State → Step
+modified w ws s = with_modified (cell_of w.kind w.name s) ws s
+
+-- ---- bind, cbind
+
+abbrev pub bound_name : Word → List Wanted → State → Step
+bound_name w ws s = if is_variable w.kind then Next ws (record s { variable = w.name }) else Refuses fault.BadForm
+
+-- the element variable names a further cell, with the element that was made last
+abbrev pub with_cell : State → ℕ → Sym → State
+with_cell s class name =
+    let cell = length (classes_of_cells s) in
+    record (with_action s (action.Cbind cell)) { elements = renumbered name cell s.elements; further = s.further ++ class ∷ [] }
+
+abbrev pub cell_bound : Option ℕ → Sym → List Wanted → State → Step
+cell_bound (Some class) name ws s = Next ws (with_cell s class name)
+cell_bound None name ws s = Refuses fault.BadDesignator
+
+abbrev pub cell_name : Word → List Wanted → State → Step
+cell_name w ws s = if is_variable w.kind then cell_bound s.made w.name ws s else Refuses fault.BadForm
+
+-- ---- remove, write
 
 -- an action `remove` ends
 abbrev pub with_remove : State → State
@@ -679,13 +853,26 @@ items w ws s =
     else if is_left w.kind then Next (ItemWord ∷ Items ∷ ws) s
     else value_for ToItem w (Items ∷ ws) s
 
-abbrev pub item_word : Word → List Wanted → State → Step
-item_word w ws s = if is_crlf w.keyword then Next (Closes EndsCrlf ∷ ws) s else Refuses fault.BadForm
+abbrev pub item_word : Keyword → List Wanted → State → Step
+item_word keyword.Crlf ws s = Next (Closes EndsCrlf ∷ ws) s
+item_word keyword.Tabto ws s = Next (Columns ToTab ∷ Closes EndsWhole ∷ ws) s
+item_word keyword.Rjust ws s = Next (Columns ToRight ∷ Closes EndsWhole ∷ ws) s
+item_word keyword.Substr ws s = Next (SourceCell ∷ SourceAttribute ToItem ∷ ws) s
+item_word _ ws s = Refuses fault.BadForm
+
+abbrev pub column_item : Column → ℕ → Item
+column_item ToTab n = item.TabTo n
+column_item ToRight n = item.RightIn n
+
+abbrev pub columns_at : Column → Option ℕ → List Wanted → State → Step
+columns_at c (Some n) ws s = Next ws (with_item s (column_item c n))
+columns_at c None ws s = Refuses fault.BadForm
 
 abbrev pub ended : Ends → State → State
 ended EndsRun s = with_command s (command.Run None)
 ended EndsHalt s = with_action s action.Halt
 ended EndsCrlf s = with_item s item.Crlf
+ended EndsWhole s = s
 
 abbrev pub closes : Ends → Word → List Wanted → State → Step
 closes e w ws s = if is_right w.kind then Next ws (ended e s) else Refuses fault.BadForm
@@ -722,12 +909,20 @@ step w (Tested f p ∷ ws) s = tested f p w ws s
 step w (Choice f ∷ ws) s = choice f w ws s
 step w (Atom t ∷ ws) s = atom_at t (atom_of w.kind w.name) ws s
 step w (ValueFor t ∷ ws) s = value_for t w ws s
+step w (Function t ∷ ws) s = function t w.keyword ws s
+step w (SourceCell ∷ ws) s = source_cell w ws s
+step w (SourceAttribute t ∷ ws) s = source_attribute t w ws s
+step w (SourceEnd t name ∷ ws) s = source_end t name w ws s
 step w (Actions ∷ ws) s = actions w ws s
 step w (ActionWord ∷ ws) s = action_word w.keyword ws s
+step w (Modified ∷ ws) s = modified w ws s
+step w (BoundName ∷ ws) s = bound_name w ws s
+step w (CellName ∷ ws) s = cell_name w ws s
 step w (Cell ∷ ws) s = cell w.kind w.name ws s
 step w (Cells ∷ ws) s = cells w ws s
 step w (Items ∷ ws) s = items w ws s
-step w (ItemWord ∷ ws) s = item_word w ws s
+step w (ItemWord ∷ ws) s = item_word w.keyword ws s
+step w (Columns c ∷ ws) s = columns_at c (small_of w.kind) ws s
 step w (Closes e ∷ ws) s = closes e w ws s
 
 -- the state that was reached, or the fault at the word that goes on to nothing, and at none where the words end too early
@@ -776,4 +971,10 @@ nothing_read =
       around = 0;
       conditions = [];
       actions = [];
+      modified = None;
+      made = None;
+      further = [];
+      variable = record { 0 = 0 };
+      source = 0;
+      source_field = 0;
     }

@@ -1,17 +1,39 @@
--- What a session keeps of working memory, and that its conflict sets are the sets of all instantiations.
-use Rattle.std.specs.Prelude.{◌≡◌, ℕ, ◌≤◌, List}
+-- What a session keeps of working memory, that its right sides act lawfully, and that its conflict sets are the sets of all instantiations.
+use Rattle.std.specs.Prelude.{◌≡◌, ℕ, ◌≤◌, List, [], ◌∷◌, IfOk}
 use Rattle.std.specs.List.{All}
 use Rattle.ops_base.specs.declared.elements.Element.{Element}
+use Rattle.ops_base.specs.declared.elements.Change.{Change}
+use Rattle.ops_base.specs.declared.elements.Change.TheVariants.{Add, Remove}
 use Rattle.ops_base.specs.declared.rules.Rule.{Rule}
+use Rattle.ops_base.specs.declared.rules.Inst.{Inst}
 use Rattle.ops_base.specs.declared.commands.Command.{Command}
-use Rattle.ops_base.specs.WorkingMemory.{tags_of, HasRisingTags}
+use Rattle.ops_base.specs.WorkingMemory.{tags_of, HasRisingTags, done, Lawful}
 use Rattle.ops_base.specs.Instances.{IsConflictSet}
-use Rattle.ops_meaning.specs.Running.{Finder, Setting, session_by, session_of}
+use Rattle.ops_meaning.specs.Acting.{Setting, Acted, acted}
+use Rattle.ops_meaning.specs.Running.{Finder, session_by, session_of}
 
 -- The elements stand in the order of their tags, each tag once, and no tag is above the last that was given: so the next
 -- one is free.
 abbrev pub WellKept : List Element → ℕ → Type 0
 WellKept wm last = HasRisingTags wm × All (λ t. t ≤ last) (tags_of wm)
+
+-- the last tag that was given, after these changes
+abbrev pub last_after : ℕ → List Change → ℕ
+last_after last [] = last
+last_after last (Add e ∷ cs) = last_after e.tag cs
+last_after last (Remove tag ∷ cs) = last_after last cs
+
+-- The changes are lawful over this working memory, they leave it well kept, the last tag that was given is that of the element that was
+-- added last, and it does not fall.
+pub record IsLawfulOver (wm : List Element) (last : ℕ) (a : Acted) : Type 0 where
+  pub changes : Lawful wm last a.changes
+  pub last_tag : last_after last a.changes ≡ a.last
+  pub kept : WellKept (done wm a.changes) a.last
+  pub risen : last ≤ a.last
+
+-- Over working memory that is well kept a right side acts lawfully.
+abbrev pub ActsLawfully : Setting → ℕ → Inst → List Element → ℕ → Type 0
+ActsLawfully s column i wm last = WellKept wm last → IfOk (acted s column i wm last).outcome (IsLawfulOver wm last)
 
 -- it finds the conflict set of each working memory whose tags rise
 abbrev pub FindsConflictSets : List Rule → Finder → Type 0

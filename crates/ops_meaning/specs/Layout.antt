@@ -1,5 +1,5 @@
 -- What is printed.
-use Rattle.std.specs.Prelude.{ℕ, List, [], ◌∷◌, ◌++◌, length, Bool, true, false, ◌==◌, ◌&&◌, if◌then◌else◌, Some, Ok, slice_get, unwrap_or, option_map, codes, decimal}
+use Rattle.std.specs.Prelude.{ℕ, ◌-◌, List, [], ◌∷◌, ◌++◌, length, replicate, Bool, true, false, ◌==◌, ◌&&◌, nat_le, if◌then◌else◌, Some, Ok, slice_get, unwrap_or, option_map, codes, decimal}
 use Rattle.std.specs.Fmt.{signed_decimal}
 use Rattle.ops_base.specs.declared.values.Value.{Value}
 use Rattle.ops_base.specs.declared.values.Value.TheVariants.{Symbol, Whole}
@@ -10,6 +10,7 @@ use Rattle.ops_base.specs.declared.endings.ActKind.TheVariants as act_fault
 use Rattle.ops_base.specs.declared.endings.Ending.{Ending}
 use Rattle.ops_base.specs.declared.endings.Ending.TheVariants as ending
 use Rattle.ops_base.specs.Names.{Spellings, spelling_of}
+use Rattle.ops_io.specs.Output.{column_after}
 use Rattle.ops_tokens.specs.declared.token.TokenKind.{TokenKind}
 use Rattle.ops_tokens.specs.declared.token.TokenKind.TheVariants as kind
 use Rattle.ops_tokens.specs.Tokens.{Next, token_at}
@@ -19,9 +20,38 @@ abbrev pub value_text : Spellings → Value → List ℕ
 value_text names (Symbol s) = spelling_of names s
 value_text names (Whole n) = signed_decimal n
 
--- the space before a value of `write`
-abbrev pub gap : ℕ → List ℕ
-gap column = if column == 0 then [] else 32 ∷ []
+-- ---- write
+
+-- how a value stands behind the item before it: one space apart, but at column 0; close to it, behind a tab; or right-justified, so that
+-- it ends so many bytes further
+pub data Lead : Type 0 where
+  Apart : Lead
+  Close : Lead
+  RightIn : (width : ℕ) → Lead
+
+abbrev pub spaces : ℕ → List ℕ
+spaces n = replicate n 32
+
+-- the spaces before a value of so many bytes
+abbrev pub lead_bytes : Lead → ℕ → ℕ → List ℕ
+lead_bytes Apart column long = if column == 0 then [] else 32 ∷ []
+lead_bytes Close column long = []
+lead_bytes (RightIn width) column long = spaces (width - long)
+
+abbrev pub value_bytes : Spellings → Lead → ℕ → Value → List ℕ
+value_bytes names lead column v = lead_bytes lead column (length (value_text names v)) ++ value_text names v
+
+-- values, of which those behind the first stand apart
+abbrev pub values_bytes : Spellings → Lead → ℕ → List Value → List ℕ
+values_bytes names lead column [] = []
+values_bytes names lead column (v ∷ vs) =
+    value_bytes names lead column v ++ values_bytes names Apart (column_after column (value_bytes names lead column v)) vs
+
+-- To the column before this one, on a line further where that is reached already.
+abbrev pub tab_bytes : ℕ → ℕ → List ℕ
+tab_bytes n column = if nat_le n column then 10 ∷ spaces (n - 1) else spaces (n - 1 - column)
+
+-- ---- lines
 
 -- an LF where the column is not 0
 abbrev pub fresh_line : ℕ → List ℕ

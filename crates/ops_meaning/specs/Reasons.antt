@@ -12,7 +12,7 @@ use Rattle.ops_tokens.specs.declared.token.TokenKind.TheVariants as kind
 use Rattle.ops_meaning.specs.declared.words.Word.{Word}
 use Rattle.ops_meaning.specs.declared.words.Keyword.{Keyword}
 use Rattle.ops_meaning.specs.declared.words.Keyword.TheVariants as keyword
-use Rattle.ops_meaning.specs.Grammar.{InPattern, InPut, InFixed, ToTest, ToFixed, ToConstants, Wanted, Forms, Form, ClassDeclared, Attributes, VectorName, VectorNames, RuleName, FirstPattern, Patterns, Braced, ElementName, ClassName, Attribute, Several, Tested, ValueFor, Cell, Cells, Items, State, is_name, is_variable, is_minus, natural_of, is_one_of, number_of, may_declare, is_class, is_rule, is_second, makes_second, attributes_of}
+use Rattle.ops_meaning.specs.Grammar.{InPattern, InPut, InFixed, ToTest, ToFixed, ToConstants, Wanted, Forms, Form, ClassDeclared, Attributes, VectorName, VectorNames, RuleName, FirstPattern, Patterns, Braced, ElementName, ClassName, Attribute, Several, Tested, ValueFor, SourceCell, SourceAttribute, Modified, CellName, Cell, Cells, Items, State, is_name, is_variable, is_minus, natural_of, is_one_of, number_of, may_declare, is_class, is_rule, is_second, makes_second, attributes_of, source_class}
 use Rattle.ops_meaning.specs.Derivation.{is_designator}
 
 -- the numbers of the faults, by which one of several at a word is chosen
@@ -61,7 +61,13 @@ wants_class ws = false
 
 abbrev pub wants_attribute : List Wanted → Bool
 wants_attribute (Attribute u ∷ ws) = true
+wants_attribute (SourceAttribute t ∷ ws) = true
 wants_attribute ws = false
+
+-- the attributes of which one is wanted: those of the class that was named, or of the cell that a `substr` reads
+abbrev pub attributes_wanted : List Wanted → State → List Sym
+attributes_wanted (SourceAttribute t ∷ ws) s = (source_class s).attrs
+attributes_wanted ws s = attributes_of (slice_get s.classes s.class)
 
 -- such a name was declared already
 abbrev pub is_declared : List Wanted → Sym → State → Bool
@@ -136,14 +142,18 @@ designates_unclearly _ s = false
 
 -- a designator
 abbrev pub wants_cell : List Wanted → Bool
+wants_cell (Modified ∷ ws) = true
 wants_cell (Cell ∷ ws) = true
 wants_cell (Cells ∷ ws) = true
 wants_cell ws = false
 
--- the word designates no cell, or it binds an element variable once more
+-- the word designates no cell, it binds an element variable of a left side once more, or it is to name an element where none was made
 abbrev pub is_bad_designator : List Wanted → Word → State → Bool
+is_bad_designator (Modified ∷ ws) w s = is_designator w.kind && not (designates w.kind w.name s)
+is_bad_designator (CellName ∷ ws) w s = is_variable w.kind && not (is_some s.made)
 is_bad_designator (Cell ∷ ws) w s = is_designator w.kind && not (designates w.kind w.name s)
 is_bad_designator (Cells ∷ ws) w s = is_designator w.kind && not (designates w.kind w.name s)
+is_bad_designator (SourceCell ∷ ws) w s = is_variable w.kind && not (is_some (number_of w.name s.elements))
 is_bad_designator (Braced ∷ ws) w s = is_variable w.kind && is_some (number_of w.name s.elements)
 is_bad_designator (ElementName ∷ ws) w s = is_variable w.kind && is_some (number_of w.name s.elements)
 is_bad_designator ws w s = false
@@ -151,7 +161,7 @@ is_bad_designator ws w s = false
 -- the reason why the word is refused with this fault
 abbrev pub Because : Fault → Word → List Wanted → State → Type 0
 Because fault.UnknownClass w ws s = (wants_class ws ≡ true) × (is_name w.kind ≡ true) × (is_class s w.name ≡ false)
-Because fault.UnknownAttribute w ws s = (wants_attribute ws ≡ true) × (is_name w.kind ≡ true) × (is_one_of w.name (attributes_of (slice_get s.classes s.class)) ≡ false)
+Because fault.UnknownAttribute w ws s = (wants_attribute ws ≡ true) × (is_name w.kind ≡ true) × (is_one_of w.name (attributes_wanted ws s) ≡ false)
 Because fault.DeclaredTwice w ws s = (is_name w.kind ≡ true) × (is_declared ws w.name s ≡ true)
 Because fault.TwoVectors w ws s = (is_name w.kind ≡ true) × (gives_second ws w.name s ≡ true)
 Because fault.LateDeclaration w ws s = (wants_form ws ≡ true) × (is_declaration w.keyword ≡ true) × (may_declare s ≡ false)

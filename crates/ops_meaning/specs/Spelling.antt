@@ -1,5 +1,5 @@
--- How what a program declares is spelled.
-use Rattle.std.specs.Prelude.{ℕ, zero, suc, ◌-◌, List, [], ◌∷◌, ◌++◌, map, take, length, unwrap_or, slice_get, Bool, true, false, not, ◌&&◌, ◌||◌, ◌==◌, nat_lt, nat_le, if◌then◌else◌, None}
+-- How a program is spelled in words, and which programs have a spelling.
+use Rattle.std.specs.Prelude.{ℕ, zero, suc, ◌-◌, List, [], ◌∷◌, ◌++◌, map, take, length, unwrap_or, slice_get, Bool, true, false, not, ◌&&◌, ◌||◌, ◌==◌, nat_lt, nat_le, if◌then◌else◌, Option, Some, None, is_some, pos}
 use Rattle.std.specs.List.{list_all}
 use Rattle.ops_base.specs.declared.values.Sym.{Sym}
 use Rattle.ops_base.specs.declared.values.Value.{Value}
@@ -22,7 +22,7 @@ use Rattle.ops_base.specs.declared.actions.Item.TheVariants as item
 use Rattle.ops_base.specs.declared.actions.Action.{Action}
 use Rattle.ops_base.specs.declared.actions.Action.TheVariants as action
 use Rattle.ops_base.specs.declared.rules.Rule.{Rule}
-use Rattle.ops_base.specs.Valid.{most_conditions, are_distinct, class_is_valid, class_of, is_attribute, is_vector, is_field, is_equality, is_in, first_is_positive, cells_of, specificity, fixed_is_valid}
+use Rattle.ops_base.specs.Valid.{most_conditions, are_distinct, class_is_valid, class_of, is_attribute, is_vector, is_field, is_equality, is_in, is_column, first_is_positive, cells_of, specificity, fixed_is_valid}
 use Rattle.ops_tokens.specs.declared.token.TokenKind.TheVariants as kind
 use Rattle.ops_meaning.specs.declared.words.Word.{Word}
 use Rattle.ops_meaning.specs.declared.words.Keyword.{Keyword}
@@ -206,49 +206,122 @@ nothing_numbered = record { sight = []; given = 0 }
 
 -- ---- right sides
 
-abbrev pub spelled_term : Term → List Word
-spelled_term (term.Constant v) = spelled_value v ∷ []
-spelled_term (term.Variable n) = spelled_variable n ∷ []
-spelled_term _ = []
+-- what is in sight in a right side: the variables, the class of each cell, and that of the element made last
+pub record InSight : Type 0 where
+  pub variables : Numbered
+  pub cells : List ℕ
+  pub made : Option ℕ
 
-abbrev pub spelled_put : Class → Put → List Word
-spelled_put c p = spelled_attribute c p.field (spelled_each spelled_term p.terms)
+-- behind the arrow
+abbrev pub at_arrow : List Condition → InSight
+at_arrow conditions = record { variables = after_conditions nothing_numbered conditions; cells = cells_of conditions; made = None }
 
-abbrev pub spelled_item : Item → List Word
-spelled_item (item.Print t) = spelled_term t
-spelled_item item.Crlf = opening ∷ spelled_keyword keyword.Crlf ∷ closing ∷ []
-spelled_item _ = []
+abbrev pub class_of_cell : InSight → ℕ → ℕ
+class_of_cell k cell = unwrap_or (slice_get k.cells cell) 0
 
--- ( make CLASS put* ) | ( remove VARIABLE VARIABLE* ) | ( write item* ) | ( halt )
-abbrev pub spelled_action : List Class → Action → List Word
-spelled_action classes (action.Make class puts) =
-    opening ∷ spelled_keyword keyword.Make ∷ spelled_name (class_of classes class).name ∷ spelled_each (spelled_put (class_of classes class)) puts ++ closing ∷ []
-spelled_action classes (action.Remove cells) = opening ∷ spelled_keyword keyword.Remove ∷ map spelled_variable cells ++ closing ∷ []
-spelled_action classes (action.Write items) = opening ∷ spelled_keyword keyword.Write ∷ spelled_each spelled_item items ++ closing ∷ []
-spelled_action classes action.Halt = opening ∷ spelled_keyword keyword.Halt ∷ closing ∷ []
-spelled_action classes _ = []
+-- A variable that is bound again keeps its number.
+abbrev pub after_action : InSight → Action → InSight
+after_action k (action.Make class puts) = record k { made = Some class }
+after_action k (action.Modify cell puts) = record k { made = Some (class_of_cell k cell) }
+after_action k (action.Bind variable t) =
+    if is_in variable k.variables.sight then k
+    else record k { variables = record { sight = k.variables.sight ++ k.variables.given ∷ []; given = suc k.variables.given } }
+after_action k (action.Cbind cell) = record k { cells = k.cells ++ unwrap_or k.made 0 ∷ [] }
+after_action k _ = k
 
--- a constant, or a variable in sight
-abbrev pub term_is_plain : List ℕ → Term → Bool
-term_is_plain k (term.Constant v) = true
-term_is_plain k (term.Variable n) = is_in n k
-term_is_plain k _ = false
+abbrev pub after_actions : InSight → List Action → InSight
+after_actions k [] = k
+after_actions k (a ∷ rest) = after_actions (after_action k a) rest
 
-abbrev pub put_is_plain : Class → List ℕ → Put → Bool
-put_is_plain c k p = is_attribute c p.field && (is_vector c p.field || (length p.terms == 1)) && list_all (term_is_plain k) p.terms
+-- ( substr VARIABLE ATTR END ), of a cell and a field
+abbrev pub spelled_substr : Class → ℕ → ℕ → Word → List Word
+spelled_substr c cell field end =
+    opening ∷ spelled_keyword keyword.Substr ∷ spelled_variable cell ∷ spelled_name (attribute_name c field) ∷ end ∷ closing ∷ []
 
-abbrev pub item_is_plain : List ℕ → Item → Bool
-item_is_plain k (item.Print t) = term_is_plain k t
-item_is_plain k item.Crlf = true
-item_is_plain k _ = false
+-- rconstant | VARIABLE | ( substr VARIABLE ATTR ATTR ) | ( substr VARIABLE ATTR inf )
+abbrev pub spelled_term : List Class → InSight → Term → List Word
+spelled_term classes k (term.Constant v) = spelled_value v ∷ []
+spelled_term classes k (term.Variable n) = spelled_variable n ∷ []
+spelled_term classes k (term.One cell field) =
+    let c = class_of classes (class_of_cell k cell) in spelled_substr c cell field (spelled_name (attribute_name c field))
+spelled_term classes k (term.Rest cell) =
+    let c = class_of classes (class_of_cell k cell) in spelled_substr c cell (last_field c) (spelled_keyword keyword.Inf)
+spelled_term classes k _ = []
 
--- behind so many positive conditions, with these variables in sight
-abbrev pub action_is_plain : List Class → ℕ → List ℕ → Action → Bool
-action_is_plain classes n k (action.Make class puts) = nat_lt class (length classes) && list_all (put_is_plain (class_of classes class) k) puts
-action_is_plain classes n k (action.Remove cells) = nat_lt 0 (length cells) && list_all (λ c. nat_lt c n) cells
-action_is_plain classes n k (action.Write items) = list_all (item_is_plain k) items
-action_is_plain classes n k action.Halt = true
-action_is_plain classes n k _ = false
+abbrev pub spelled_put : List Class → InSight → Class → Put → List Word
+spelled_put classes k c p = spelled_attribute c p.field (spelled_each (spelled_term classes k) p.terms)
+
+-- ( KEYWORD SMALL )
+abbrev pub spelled_columns : Keyword → ℕ → List Word
+spelled_columns k n = opening ∷ spelled_keyword k ∷ spelled_value (value.Whole (pos n)) ∷ closing ∷ []
+
+abbrev pub spelled_item : List Class → InSight → Item → List Word
+spelled_item classes k (item.Print t) = spelled_term classes k t
+spelled_item classes k item.Crlf = opening ∷ spelled_keyword keyword.Crlf ∷ closing ∷ []
+spelled_item classes k (item.TabTo n) = spelled_columns keyword.Tabto n
+spelled_item classes k (item.RightIn n) = spelled_columns keyword.Rjust n
+
+-- put*
+abbrev pub spelled_puts : List Class → InSight → Class → List Put → List Word
+spelled_puts classes k c puts = spelled_each (spelled_put classes k c) puts
+
+-- ( make CLASS put* ) | ( modify VARIABLE put* ) | ( remove VARIABLE VARIABLE* ) | ( write item* ) | ( bind VARIABLE value )
+-- | ( cbind VARIABLE ) | ( halt ), where an element variable is named by its cell
+abbrev pub spelled_action : List Class → InSight → Action → List Word
+spelled_action classes k (action.Make class puts) =
+    opening ∷ spelled_keyword keyword.Make ∷ spelled_name (class_of classes class).name ∷ spelled_puts classes k (class_of classes class) puts ++ closing ∷ []
+spelled_action classes k (action.Modify cell puts) =
+    opening ∷ spelled_keyword keyword.Modify ∷ spelled_variable cell ∷ spelled_puts classes k (class_of classes (class_of_cell k cell)) puts ++ closing ∷ []
+spelled_action classes k (action.Remove cells) = opening ∷ spelled_keyword keyword.Remove ∷ map spelled_variable cells ++ closing ∷ []
+spelled_action classes k (action.Write items) = opening ∷ spelled_keyword keyword.Write ∷ spelled_each (spelled_item classes k) items ++ closing ∷ []
+spelled_action classes k (action.Bind variable t) = opening ∷ spelled_keyword keyword.Bind ∷ spelled_variable variable ∷ spelled_term classes k t ++ closing ∷ []
+spelled_action classes k (action.Cbind cell) = opening ∷ spelled_keyword keyword.Cbind ∷ spelled_variable cell ∷ closing ∷ []
+spelled_action classes k action.Halt = opening ∷ spelled_keyword keyword.Halt ∷ closing ∷ []
+
+abbrev pub spelled_actions : List Class → InSight → List Action → List Word
+spelled_actions classes k [] = []
+spelled_actions classes k (a ∷ rest) = spelled_action classes k a ++ spelled_actions classes (after_action k a) rest
+
+-- the cell is there, of a class that is there
+abbrev pub cell_is_plain : List Class → InSight → ℕ → Bool
+cell_is_plain classes k cell = nat_lt cell (length k.cells) && nat_lt (class_of_cell k cell) (length classes)
+
+-- a constant, a variable in sight, or what a cell's element has, where `several` tells that several values may stand there
+abbrev pub term_is_plain : List Class → InSight → Bool → Term → Bool
+term_is_plain classes k several (term.Constant v) = true
+term_is_plain classes k several (term.Variable n) = is_in n k.variables.sight
+term_is_plain classes k several (term.One cell field) = cell_is_plain classes k cell && is_attribute (class_of classes (class_of_cell k cell)) field
+term_is_plain classes k several (term.Rest cell) = several && cell_is_plain classes k cell && (class_of classes (class_of_cell k cell)).vector
+term_is_plain classes k several _ = false
+
+abbrev pub put_is_plain : List Class → InSight → Class → Put → Bool
+put_is_plain classes k c p =
+    is_attribute c p.field && (is_vector c p.field || (length p.terms == 1)) && list_all (term_is_plain classes k (is_vector c p.field)) p.terms
+
+abbrev pub item_is_plain : List Class → InSight → Item → Bool
+item_is_plain classes k (item.Print t) = term_is_plain classes k true t
+item_is_plain classes k item.Crlf = true
+item_is_plain classes k (item.TabTo n) = is_column n
+item_is_plain classes k (item.RightIn n) = is_column n
+
+-- a variable in sight, or the one with the next number
+abbrev pub can_be_bound : Numbered → ℕ → Bool
+can_be_bound k n = is_in n k.sight || (n == k.given)
+
+abbrev pub action_is_plain : List Class → InSight → Action → Bool
+action_is_plain classes k (action.Make class puts) =
+    nat_lt class (length classes) && list_all (put_is_plain classes k (class_of classes class)) puts
+action_is_plain classes k (action.Modify cell puts) =
+    cell_is_plain classes k cell && list_all (put_is_plain classes k (class_of classes (class_of_cell k cell))) puts
+action_is_plain classes k (action.Remove cells) = nat_lt 0 (length cells) && list_all (λ c. nat_lt c (length k.cells)) cells
+action_is_plain classes k (action.Write items) = list_all (item_is_plain classes k) items
+action_is_plain classes k (action.Bind variable t) = can_be_bound k.variables variable && term_is_plain classes k false t
+action_is_plain classes k (action.Cbind cell) = is_some k.made && (cell == length k.cells)
+action_is_plain classes k action.Halt = true
+
+abbrev pub actions_are_plain : List Class → InSight → List Action → Bool
+actions_are_plain classes k [] = true
+actions_are_plain classes k (a ∷ rest) = action_is_plain classes k a && actions_are_plain classes (after_action k a) rest
 
 -- ---- productions
 
@@ -259,15 +332,15 @@ arrow = record { kind = kind.Operator; keyword = keyword.Arrow; name = unnamed; 
 abbrev pub spelled_rule : List Class → Rule → List Word
 spelled_rule classes r =
     record opening { first = r.first } ∷ spelled_keyword keyword.Production ∷ spelled_name r.name ∷ spelled_conditions classes 0 r.conditions
-    ++ arrow ∷ spelled_each (spelled_action classes) r.actions
+    ++ arrow ∷ spelled_actions classes (at_arrow r.conditions) r.actions
     ++ record closing { past = r.past } ∷ []
 
 abbrev pub rule_is_plain : List Class → Rule → Bool
 rule_is_plain classes r =
     first_is_positive r.conditions && nat_le (length r.conditions) most_conditions && conditions_are_plain classes nothing_numbered r.conditions
-    && list_all (action_is_plain classes (length (cells_of r.conditions)) (after_conditions nothing_numbered r.conditions).sight) r.actions
-    && (r.variables == (after_conditions nothing_numbered r.conditions).given) && (r.specificity == specificity r.conditions)
-    && (r.cells == length (cells_of r.conditions))
+    && actions_are_plain classes (at_arrow r.conditions) r.actions
+    && (r.variables == (after_actions (at_arrow r.conditions) r.actions).variables.given) && (r.specificity == specificity r.conditions)
+    && (r.cells == length (after_actions (at_arrow r.conditions) r.actions).cells)
 
 -- ---- programs
 

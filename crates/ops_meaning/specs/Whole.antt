@@ -12,12 +12,12 @@ use Rattle.ops_io.specs.Outside.{GrewBy, GrewByPrefix}
 use Rattle.ops_io.specs.Output.{column_after}
 use Rattle.ops_meaning.specs.declared.statuses.Status.{Status}
 use Rattle.ops_meaning.specs.declared.statuses.Status.TheVariants as status
-use Rattle.ops_meaning.specs.declared.states.Memory.{Memory}
 use Rattle.ops_meaning.specs.Effects.{Effect}
 use Rattle.ops_meaning.specs.Layout.{usage_line, unread_line, last_line}
 use Rattle.ops_meaning.specs.Places.{line_of, column_of}
 use Rattle.ops_meaning.specs.Reads.{Read, Placed, reads}
-use Rattle.ops_meaning.specs.Running.{Finder, Setting, session_by, ending_of}
+use Rattle.ops_meaning.specs.Acting.{Setting}
+use Rattle.ops_meaning.specs.Running.{Finder, Course, session_by, ending_of}
 use Rattle.ops_meaning.specs.Kept.{FindsConflictSets}
 
 -- the bytes that are written, and the status
@@ -95,7 +95,7 @@ status_of ending.WriteFault = status.WriteFault
 status_of ending.OutOfMemory = status.OutOfMemory
 
 -- the bytes of a session, and the last line of its ending
-abbrev pub told : Setting → Effect Memory → Reply
+abbrev pub told : Setting → Effect Ending Course → Reply
 told s e =
     record {
       bytes = e.bytes ++ last_line s.names s.rules (column_after 0 e.bytes) (ending_of e.outcome);

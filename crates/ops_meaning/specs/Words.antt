@@ -19,8 +19,15 @@ keyword_of_symbol s =
     else if bytes_eq s (codes "make") then keyword.Make
     else if bytes_eq s (codes "remove") then keyword.Remove
     else if bytes_eq s (codes "run") then keyword.Run
+    else if bytes_eq s (codes "modify") then keyword.Modify
     else if bytes_eq s (codes "write") then keyword.Write
+    else if bytes_eq s (codes "bind") then keyword.Bind
+    else if bytes_eq s (codes "cbind") then keyword.Cbind
     else if bytes_eq s (codes "crlf") then keyword.Crlf
+    else if bytes_eq s (codes "tabto") then keyword.Tabto
+    else if bytes_eq s (codes "rjust") then keyword.Rjust
+    else if bytes_eq s (codes "substr") then keyword.Substr
+    else if bytes_eq s (codes "inf") then keyword.Inf
     else if bytes_eq s (codes "halt") then keyword.Halt
     else keyword.Other
 

@@ -2,10 +2,8 @@
 //! and the code above share.
 #![tactic(auto)]
 
-pub mod states;
 pub mod statuses;
 pub mod words;
 
-pub use states::{Doing, Fired, Memory};
 pub use statuses::Status;
 pub use words::{Keyword, Named, Word};

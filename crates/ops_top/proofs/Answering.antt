@@ -6,15 +6,14 @@ use Rattle.ops_base.specs.declared.endings.Ending.{Ending}
 use Rattle.ops_io.specs.Outside.{GrewBy, GrewByPrefix}
 use Rattle.ops_io.specs.declared.stop.Stop.{Stop}
 use Rattle.ops_io.specs.declared.stop.Stop.TheVariants as stop
-use Rattle.ops_meaning.specs.declared.states.Memory.{Memory}
 use Rattle.ops_meaning.specs.declared.statuses.Status.{Status}
 use Rattle.ops_meaning.specs.declared.statuses.Status.TheVariants as status
 use Rattle.ops_meaning.specs.Reads.{Read, Placed, reads}
-use Rattle.ops_meaning.specs.Running.{session_of, ending_of}
+use Rattle.ops_meaning.specs.Running.{Course, session_of, ending_of}
 use Rattle.ops_meaning.specs.Whole.{Reply, Answers, status_of, answer_read, answer_file, text_of, setting_of, unread, whole_file, whole, words_fit, first_word}
 use Rattle.ops_top.specs.Calls.{OfContent, TellsFailedWrite, TellsWords, usage, runs_through, file_runs_through, text_runs_through}
 use Rattle.ops_top.specs.Told.{Delivers, status_after}
-use Rattle.ops_top.proofs.Endings.{IsOfText, answer_file_of_text}
+use Rattle.ops_meaning.proofs.Endings.{IsOfText, answer_file_of_text}
 use Rattle.ops_top.proofs.Loads.{of_map}
 
 -- what holds whatever the content is
@@ -177,7 +176,7 @@ and_right : (a b : Bool) → (a && b) ≡ true → b ≡ true
 and_right true b h = h
 and_right false b h = absurd (cc)
 
-done_session : (o : Result Memory Ending) → is_ok o ≡ true → status_of (ending_of o) ≡ status.Done
+done_session : (o : Result Course Ending) → is_ok o ≡ true → status_of (ending_of o) ≡ status.Done
 done_session (Ok m) h = refl
 done_session (Err f) h = absurd (cc)
 

@@ -1,9 +1,9 @@
-pub mod ActionSteps
+pub mod Stores
+pub mod Firings
 pub mod Turns
 pub mod Commands
 pub mod Deliveries
 pub mod Sessions
-pub mod Endings
 pub mod Loads
 pub mod Refusals
 pub mod Answering

@@ -13,7 +13,7 @@ use Rattle.ops_meaning.specs.declared.statuses.Status.TheVariants as status
 use Rattle.ops_meaning.specs.Whole.{Reply, ends_in_line, text_of, answer_file, refused_at, unread, whole_file, whole, words_fit, word_bytes, first_word}
 use Rattle.ops_top.specs.Calls.{OfContent, TellsFailedLoad, usage}
 use Rattle.ops_top.specs.Told.{Delivers, status_after}
-use Rattle.ops_top.proofs.Endings.{IsOfText}
+use Rattle.ops_meaning.proofs.Endings.{IsOfText}
 use Rattle.ops_top.proofs.Refusals.{too_long}
 
 not_broken : (before now : ℕ) → now ≡ before → nat_lt before now ≡ false

@@ -1,6 +1,5 @@
-pub mod Scenes
 pub mod Candidates
-pub mod Settings
-pub mod Lines
+pub mod Courses
+pub mod Codes
 pub mod Told
 pub mod Calls

@@ -8,10 +8,11 @@ use Rattle.ops_io.specs.declared.stop.Stop.{Stop}
 use Rattle.ops_io.specs.declared.stop.Stop.TheVariants as stop
 use Rattle.ops_meaning.specs.declared.statuses.Status.{Status}
 use Rattle.ops_meaning.specs.declared.statuses.Status.TheVariants as status
-use Rattle.ops_meaning.specs.declared.states.Memory.{Memory}
 use Rattle.ops_meaning.specs.Effects.{Effect}
 use Rattle.ops_meaning.specs.Whole.{Reply, told}
-use Rattle.ops_meaning.specs.Running.{Setting, ending_of}
+use Rattle.ops_meaning.specs.Acting.{Setting}
+use Rattle.ops_meaning.specs.Running.{Course as Meant, ending_of}
+use Rattle.ops_top.specs.declared.course.Course.{Course}
 
 -- All bytes of the outcome went out and its status is answered; or the call gave up, for the reason that the count of
 -- failed writes tells, and a prefix went out.
@@ -26,13 +27,13 @@ status_after (Err stop.Write) = status.WriteFault
 status_after (Err stop.OutOfMemory) = status.OutOfMemory
 
 -- the ending of a session that is told, or why none is
-abbrev pub ended : Result Memory Ending → Result Ending Stop
-ended (Ok m) = Ok (ending.Done m.firings (length m.wm) m.last)
+abbrev pub ended : Result Course Ending → Result Ending Stop
+ended (Ok c) = Ok (ending.Done c.firings (length c.store.elements) c.store.last)
 ended (Err ending.WriteFault) = Err stop.Write
 ended (Err ending.OutOfMemory) = Err stop.OutOfMemory
 ended (Err f) = Ok f
 
 -- The bytes of a session and its last line were put, and this is its ending; or the call gave up.
-abbrev pub TellsSession : Result Ending Stop → Port → Port → Setting → Effect Memory → Type 0
+abbrev pub TellsSession : Result Ending Stop → Port → Port → Setting → Effect Ending Meant → Type 0
 TellsSession (Ok f) old new s e = (f ≡ ending_of e.outcome) × Put old new (told s e).bytes
 TellsSession (Err why) old new s e = Stopped why old new (told s e).bytes

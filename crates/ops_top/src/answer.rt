@@ -3,32 +3,30 @@ ghost use Rattle.std.specs.Prelude.{◌≡◌, ◌^◌, ◌<◌, IsTrue};
 ghost use Rattle.ops_io.specs.Ports.{port};
 ghost use Rattle.ops_meaning.specs.Running.{session_of};
 ghost use Rattle.ops_meaning.specs.Whole.{status_of, told, answer_to};
-ghost use Rattle.ops_top.specs.Settings.{setting_of};
+ghost use Rattle.act_phase.specs.Outcomes.{setting_of};
 ghost use Rattle.ops_top.specs.Told.{Delivers, ended, TellsSession};
 
-use crate::lines::last_line;
+use crate::course::Course;
 use crate::saying::refuse;
 use crate::session::run_session;
 use ops_base::endings::Ending;
 use ops_base::programs::Program;
 use ops_base::symbols::Names;
 use ops_check::{ProgramFault, read_program};
-use ops_io::out::Out;
-use ops_io::outside::Sink;
-use ops_io::port::{flush_all, put_bytes};
-use ops_io::stop::Stop;
-use ops_meaning::{Memory, Status};
+use ops_io::{Out, Sink, Stop};
+use ops_meaning::Status;
+use ops_print::put_fault;
 use std::alloc::Global;
 
 /// The ending of a session that is told, or why none is.
-fn ended(outcome: Result<Memory, Ending>) -> Result<Ending, Stop>
+fn ended(outcome: Result<Course, Ending>) -> Result<Ending, Stop>
     ensures { result ≡ ended outcome }
 {
     match outcome {
-        Ok(memory) => Ok(Ending::Done {
-            firings: memory.firings,
-            elements: memory.wm.len() as u64,
-            last_tag: memory.last,
+        Ok(course) => Ok(Ending::Done {
+            firings: course.firings,
+            elements: course.store.len() as u64,
+            last_tag: course.store.last(),
         }),
         Err(Ending::WriteFault) => Err(Stop::Write),
         Err(Ending::OutOfMemory) => Err(Stop::OutOfMemory),
@@ -75,8 +73,7 @@ fn tell_session<K: Sink>(
         (setting_of names.now program.now) (session_of (setting_of names.now program.now) program.now.commands) }
 {
     let ending = ended(run_session(alloc, program, names, out, sink))?;
-    let line = last_line(alloc, names, program.rules.as_slice(), out.column(), ending)?;
-    put_bytes(out, sink, &line)?;
+    put_fault(out, sink, names, program, &ending)?;
     Ok(ending)
 }
 
@@ -93,7 +90,7 @@ fn answer_program<K: Sink>(
 {
     let mut out = Out::new(alloc)?;
     let ending = tell_session(alloc, program, names, &mut out, sink)?;
-    flush_all(&mut out, sink)?;
+    out.flush(sink)?;
     Ok(status_of(ending))
 }
 

@@ -1,23 +1,25 @@
 //! What fires next, and which instantiations stay marked as fired.
-ghost use Rattle.std.specs.Prelude.{◌≡◌, ◌<◌, length, IfOk, filter, not};
+ghost use Rattle.std.specs.Prelude.{◌≡◌, ◌<◌, length, IfOk, OnOk};
+ghost use Rattle.std.specs.Option.{ForSome};
 ghost use Rattle.ops_base.specs.declared.commands.Strategy.TheVariants.{Lex};
+ghost use Rattle.ops_base.specs.ConflictSet.{conflict_set};
 ghost use Rattle.ops_base.specs.Dominance.{dominates};
 ghost use Rattle.ops_base.specs.Instances.{AreOf};
 ghost use Rattle.ops_base.specs.Refraction.{is_same_inst, is_among, unfired, still_fired, better, dominant};
 ghost use Rattle.ops_meaning.specs.Running.{next_to_fire};
-ghost use Rattle.std.specs.Option.{ForSome};
 ghost use Rattle.ops_top.specs.Candidates.{HasKey, inst_of};
+ghost use Rattle.ops_top.specs.Courses.{course_of};
 
+use crate::course::Course;
 use ops_base::commands::Strategy;
-use ops_base::direct::direct_set;
+use ops_base::direct::direct_set_of;
 use ops_base::elements::Element;
-use ops_base::list::Listed;
 use ops_base::memory::OutOfMemory;
 use ops_base::programs::Program;
 use ops_base::rules::Inst;
-use ops_meaning::Memory;
 use resolution::{Key, compare, key};
 use std::alloc::Global;
+use work_store::Store;
 
 fn is_same(i: &Inst, j: &Inst) -> bool
     ensures { result ≡ is_same_inst i.now j.now }
@@ -31,36 +33,18 @@ fn is_among(insts: &[Inst], i: &Inst) -> bool
     insts.iter().any(|j| is_same(i, j))
 }
 
-fn is_new(fired: &[Inst], i: &Inst) -> bool
-    ensures { result ≡ not (is_among fired.now i.now) }
+/// Keeps those that have not fired.
+fn keep_unfired(found: &mut Vec<Inst>, fired: &[Inst])
+    ensures { found.new.items ≡ unfired found.old.items fired.now }
 {
-    !is_among(fired, i)
+    found.retain(|inst| !is_among(fired, inst));
 }
 
-/// Those of these that have not fired.
-fn without_fired(alloc: Global, set: Vec<Inst>, fired: &[Inst]) -> Result<Vec<Inst>, OutOfMemory>
-    ensures { IfOk result (λ v. v.items ≡ filter (λ i. not (is_among fired.now i)) set.items) }
+/// Keeps the marks of those that are found.
+fn keep_marks(fired: &mut Vec<Inst>, found: &[Inst])
+    ensures { fired.new.items ≡ still_fired found.now fired.old.items }
 {
-    let mut kept = Vec::new(alloc);
-    for i in set {
-        if is_new(fired, &i) {
-            kept.push(i)?;
-        }
-    }
-    Ok(kept)
-}
-
-/// The marks of those that are still in the conflict set.
-fn marks_kept(alloc: Global, set: &[Inst], fired: Vec<Inst>) -> Result<Vec<Inst>, OutOfMemory>
-    ensures { IfOk result (λ v. v.items ≡ filter (λ i. is_among set.now i) fired.items) }
-{
-    let mut kept = Vec::new(alloc);
-    for i in fired {
-        if is_among(set, &i) {
-            kept.push(i)?;
-        }
-    }
-    Ok(kept)
+    fired.retain(|inst| is_among(found, inst));
 }
 
 /// The best so far with its key, made once.
@@ -127,48 +111,68 @@ fn dominant_of(
     }
 }
 
-/// The dominant instantiation that has not fired.
-pub fn next_to_fire(
+/// The conflict set of the elements that are present, none of which is copied.
+fn found_in(alloc: Global, program: &Program, store: &Store) -> Result<Vec<Inst>, OutOfMemory>
+    ensures found { IfOk result (λ v. v.items ≡ conflict_set program.now.rules store.now.elements) }
+    ensures rules { IfOk result (λ v. AreOf program.now.rules v.items) }
+{
+    let elements: Vec<&Element> = store.iter().collect(alloc)?;
+    let found = direct_set_of(alloc, program, elements.as_slice())?;
+    Ok(found.into_vec())
+}
+
+/// The dominant one of those found that have not fired.
+fn next_of(
     alloc: Global,
     program: &Program,
-    memory: &Memory,
+    found: Vec<Inst>,
+    fired: &[Inst],
 ) -> Result<Option<Inst>, OutOfMemory>
-    ensures { IfOk result (λ o. o ≡ next_to_fire program.now.rules memory.now) }
+    requires { AreOf program.now.rules found.items }
+    ensures { IfOk result (λ o. o ≡ dominant Lex program.now.rules (unfired found.items fired.now)) }
 {
-    let set = direct_set(alloc, program, memory.wm.as_slice())?;
-    let left = without_fired(alloc, set.into_vec(), memory.fired.as_slice())?;
+    let mut left = found;
+    keep_unfired(&mut left, fired);
     dominant_of(alloc, program, left)
 }
 
-/// The marks that stay after a phase, and what fires next. The conflict set is found once.
+/// What fires next. The conflict set is found once.
+pub fn next_to_fire(
+    alloc: Global,
+    program: &Program,
+    course: &Course,
+) -> Result<Option<Inst>, OutOfMemory>
+    ensures { IfOk result (λ o. o ≡ next_to_fire program.now.rules (course_of course.now)) }
+{
+    let found = found_in(alloc, program, &course.store)?;
+    next_of(alloc, program, found, course.fired.as_slice())
+}
+
+/// Forgets the marks that end with a phase, and finds what fires next. The conflict set is found once.
 pub fn marks_and_next(
     alloc: Global,
     program: &Program,
-    wm: &[Element],
-    fired: Vec<Inst>,
-) -> Result<(Vec<Inst>, Option<Inst>), OutOfMemory>
-    ensures marks { IfOk result (λ r. r.0.items ≡ still_fired program.now.rules wm.now fired.items) }
-    ensures next { IfOk result (λ r. r.1 ≡ dominant Lex program.now.rules (unfired program.now.rules wm.now r.0.items)) }
+    course: &mut Course,
+) -> Result<Option<Inst>, OutOfMemory>
+    ensures marks { OnOk result (course_of course.new ≡ record (course_of course.old) {
+      fired = still_fired (conflict_set program.now.rules course.old.store.elements) course.old.fired.items;
+    }) }
+    ensures next { IfOk result (λ o. o ≡ next_to_fire program.now.rules (course_of course.new)) }
 {
-    let set = direct_set(alloc, program, wm)?;
-    let marks = marks_kept(alloc, set.as_slice(), fired)?;
-    let left = without_fired(alloc, set.into_vec(), &marks)?;
-    let next = dominant_of(alloc, program, left)?;
-    Ok((marks, next))
+    let found = found_in(alloc, program, &course.store)?;
+    keep_marks(&mut course.fired, found.as_slice());
+    next_of(alloc, program, found, course.fired.as_slice())
 }
 
-/// The marks that stay after a phase in which nothing fired.
-pub fn marks_after(
-    alloc: Global,
-    program: &Program,
-    wm: &[Element],
-    fired: Vec<Inst>,
-) -> Result<Vec<Inst>, OutOfMemory>
-    ensures { IfOk result (λ v. v.items ≡ still_fired program.now.rules wm.now fired.items) }
+/// Forgets the marks that end with a phase in which nothing fired. The conflict set is found only where one is marked.
+pub fn marks_after(alloc: Global, program: &Program, course: &mut Course) -> Result<(), OutOfMemory>
+    ensures { OnOk result (course_of course.new ≡ record (course_of course.old) {
+      fired = still_fired (conflict_set program.now.rules course.old.store.elements) course.old.fired.items;
+    }) }
 {
-    if fired.is_empty() {
-        return Ok(fired);
+    if !course.fired.is_empty() {
+        let found = found_in(alloc, program, &course.store)?;
+        keep_marks(&mut course.fired, found.as_slice());
     }
-    let set = direct_set(alloc, program, wm)?;
-    marks_kept(alloc, set.as_slice(), fired)
+    Ok(())
 }

@@ -9,8 +9,7 @@ use crate::saying::{refuse, say_unread};
 use ops_base::endings::Fault;
 use ops_base::memory::OutOfMemory;
 use ops_check::LONGEST_TEXT;
-use ops_io::outside::{LoadError, Shelf, Sink};
-use ops_io::stop::Stop;
+use ops_io::{LoadError, Shelf, Sink, Stop};
 use ops_meaning::Status;
 use std::alloc::Global;
 

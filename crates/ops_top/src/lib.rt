@@ -1,20 +1,17 @@
 //! The top call: from the words of the command line to the bytes that are written and the status.
 #![tactic(auto)]
 
-mod acting;
 mod answer;
-mod bindings;
 mod choosing;
+mod course;
 mod files;
 mod lines;
 mod making;
-mod printing;
 #[cfg(test)]
 mod rows;
 mod running;
 mod saying;
 mod session;
-mod symbols;
 #[cfg(test)]
 mod tests;
 mod top;

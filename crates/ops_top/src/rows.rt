@@ -1,131 +1,33 @@
 //! Whole programs through the top call.
 ghost use Rattle.std.specs.Prelude.{◌^◌, ◌<◌};
 
-use crate::tests::{one_file, one_word};
-use crate::top::{ops_run, still_run};
+use crate::tests::{one_file, words_of};
+use crate::top::ops_run;
 use ops_base::endings::{ActKind, Fault};
-use ops_io::memory::{MemSink, MemSource};
-use ops_io::outside::OpenGate;
+use ops_io::{MemSink, MemSource, OpenGate};
 use ops_meaning::Status;
 use std::alloc::{AllocError, Global};
+use std::sync::Wait;
 use std::test::Fail;
 use std::thread::Threads;
 
-const HELLO: &[u8] =
-    b"(literalize start)\n(p hello (start) --> (write Hello from OPS5 (crlf)) (remove 1))\n(make start)\n(run)\n";
-
 /// What is answered to a file of these bytes.
-fn answer<R: Threads + Clone + Drop + Send + Sync>(
+fn answer<R: Threads + Wait + Clone + Drop + Send + Sync>(
     rt: &R,
     alloc: Global,
     bytes: &[u8],
     sink: &mut MemSink,
-) -> Result<Option<Status>, Fail>
+) -> Result<Status, Fail>
     requires { sink.old.faults < 2 ^ 63 }
 {
     let mut shelf = one_file(alloc, "a.ops", bytes)?;
     let mut input = MemSource::new(Vec::new(alloc), 1, Vec::new(alloc));
-    let words = one_word(alloc, "a.ops")?;
-    Ok(still_run(rt, alloc, &words, &mut shelf, &mut input, sink, &OpenGate))
+    let words = words_of(alloc, &["a.ops"])?;
+    Ok(ops_run(rt, alloc, &words, &mut shelf, &mut input, sink, &OpenGate))
 }
 
-#[test]
-fn hello(rt: HostRuntime) -> Result<(), Fail> {
-    let alloc = rt.alloc();
-    let mut shelf = one_file(alloc, "hello.ops", HELLO)?;
-    let mut input = MemSource::new(Vec::new(alloc), 1, Vec::new(alloc));
-    let mut sink = MemSink::new(alloc, 1_000, 1_000, Vec::new(alloc))?;
-    let words = one_word(alloc, "hello.ops")?;
-    let status = ops_run(
-        &rt, alloc, &words, &mut shelf, &mut input, &mut sink, &OpenGate,
-    );
-    assert_eq!(rt; status, Status::Done);
-    assert_eq!(rt;
-        sink.written(),
-        b"Hello from OPS5\nend -- no production true\n".as_slice()
-    );
-    Ok(())
-}
-
-#[test]
-fn failing_sink(rt: HostRuntime) -> Result<(), Fail> {
-    let alloc = rt.alloc();
-    let mut sink = MemSink::new(alloc, 1_000, 4, vec![in alloc; 3]?)?;
-    assert_eq!(rt;
-        answer(&rt, alloc, HELLO, &mut sink)?,
-        Some(Status::WriteFault)
-    );
-    assert_eq!(rt; sink.written(), b"Hello fr".as_slice());
-    Ok(())
-}
-
-#[test]
-fn empty_file(rt: HostRuntime) -> Result<(), Fail> {
-    let alloc = rt.alloc();
-    let mut sink = MemSink::new(alloc, 1_000, 1_000, Vec::new(alloc))?;
-    assert_eq!(rt; answer(&rt, alloc, b"", &mut sink)?, Some(Status::Done));
-    assert_eq!(rt; sink.written(), b"".as_slice());
-    Ok(())
-}
-
-#[test]
-fn nothing_to_run_and_no_last_lf(rt: HostRuntime) -> Result<(), Fail> {
-    let alloc = rt.alloc();
-    let mut sink = MemSink::new(alloc, 1_000, 1_000, Vec::new(alloc))?;
-    let text = b"(literalize a n) (p r (a ^n 1) --> (halt)) (run)";
-    assert_eq!(rt; answer(&rt, alloc, text, &mut sink)?, Some(Status::Done));
-    assert_eq!(rt; sink.written(), b"end -- no production true\n".as_slice());
-    Ok(())
-}
-
-#[test]
-fn unknown_class(rt: HostRuntime) -> Result<(), Fail> {
-    let alloc = rt.alloc();
-    let mut sink = MemSink::new(alloc, 1_000, 1_000, Vec::new(alloc))?;
-    let refused = Status::Refused {
-        fault: Fault::UnknownClass,
-        line: 1,
-        column: 22,
-    };
-    let status = answer(&rt, alloc, b"(literalize a) (make b)", &mut sink)?;
-    assert_eq!(rt; status, Some(refused));
-    assert_eq!(rt; sink.written(), b"ops: 1:22: unknown class\n".as_slice());
-    Ok(())
-}
-
-#[test]
-fn unbound_variable(rt: HostRuntime) -> Result<(), Fail> {
-    let alloc = rt.alloc();
-    let mut sink = MemSink::new(alloc, 1_000, 1_000, Vec::new(alloc))?;
-    let refused = Status::Refused {
-        fault: Fault::UnboundVariable,
-        line: 1,
-        column: 36,
-    };
-    let status = answer(
-        &rt,
-        alloc,
-        b"(literalize a) (p r (a) --> (write <x>))",
-        &mut sink,
-    )?;
-    assert_eq!(rt; status, Some(refused));
-    assert_eq!(rt; sink.written(), b"ops: 1:36: unbound variable\n".as_slice());
-    Ok(())
-}
-
-#[test]
-fn unknown_command(rt: HostRuntime) -> Result<(), Fail> {
-    let alloc = rt.alloc();
-    let mut sink = MemSink::new(alloc, 1_000, 1_000, Vec::new(alloc))?;
-    let refused = Status::Refused {
-        fault: Fault::UnknownCommand,
-        line: 1,
-        column: 2,
-    };
-    assert_eq!(rt; answer(&rt, alloc, b"(foo)", &mut sink)?, Some(refused));
-    assert_eq!(rt; sink.written(), b"ops: 1:2: unknown command\n".as_slice());
-    Ok(())
-}
+const HELLO: &[u8] =
+    b"(literalize start)\n(p hello (start) --> (write Hello from OPS5 (crlf)) (remove 1))\n(make start)\n(run)\n";
 
 const PREDICATES: &[u8] = b"(literalize a n m)
 (p lt (a ^n < 5) --> (write lt (crlf)))
@@ -137,21 +39,6 @@ const PREDICATES: &[u8] = b"(literalize a n m)
 (run)
 ";
 
-#[test]
-fn predicates_and_quoted_atoms(rt: HostRuntime) -> Result<(), Fail> {
-    let alloc = rt.alloc();
-    let mut sink = MemSink::new(alloc, 1_000, 1_000, Vec::new(alloc))?;
-    assert_eq!(rt;
-        answer(&rt, alloc, PREDICATES, &mut sink)?,
-        Some(Status::Done)
-    );
-    assert_eq!(rt;
-        sink.written(),
-        b"lt\none\none\nlit\nend -- no production true\n".as_slice()
-    );
-    Ok(())
-}
-
 const NOTED: &[u8] = b"; note
 (literalize |big box| n)
 (p |say it| (|big box| ^n <x>) --> (write |a b| <x> (crlf)) (halt))
@@ -159,34 +46,13 @@ const NOTED: &[u8] = b"; note
 (run)
 ";
 
-#[test]
-fn comments_and_quoted_names(rt: HostRuntime) -> Result<(), Fail> {
-    let alloc = rt.alloc();
-    let mut sink = MemSink::new(alloc, 1_000, 1_000, Vec::new(alloc))?;
-    assert_eq!(rt; answer(&rt, alloc, NOTED, &mut sink)?, Some(Status::Done));
-    let expected = b"a b 12\nend -- explicit halt\n".as_slice();
-    assert_eq!(rt; sink.written(), expected);
-    Ok(())
-}
-
 const FREE: &[u8] = b"(literalize a n) (literalize stop n)
 (p free (a ^n <x>) - (stop ^n <x>) - (stop ^n > 8) --> (write <x> (crlf)))
 (make a ^n 1) (make a ^n 2) (make stop ^n 2)
 (run)
 ";
 
-#[test]
-fn negated_conditions(rt: HostRuntime) -> Result<(), Fail> {
-    let alloc = rt.alloc();
-    let mut sink = MemSink::new(alloc, 1_000, 1_000, Vec::new(alloc))?;
-    assert_eq!(rt; answer(&rt, alloc, FREE, &mut sink)?, Some(Status::Done));
-    assert_eq!(rt;
-        sink.written(),
-        b"1\nend -- no production true\n".as_slice()
-    );
-    Ok(())
-}
-
+// Places of a vector are tested one after another, a field past the end is `nil`, and a later list replaces an earlier one.
 const VECTORS: &[u8] = b"(literalize v n list) (vector-attribute list) (literalize |a b| x)
 (p first { <w> (v ^n 1 ^list <h> { } <h>) } - (v ^list nil nil) --> (write first <h> (crlf)) (remove <w>))
 (p |second one| { (v ^list { <> c } { } nil) <w> } --> (write second (crlf)) (make v ^list a b ^list c) (remove <w>))
@@ -196,14 +62,136 @@ const VECTORS: &[u8] = b"(literalize v n list) (vector-attribute list) (literali
 (run)
 ";
 
-/// Places of a vector are tested one after another, a field past the end is `nil`, and a later list replaces an earlier one.
+// The later of two elements fires first, each is matched by both conditions, and what is removed fires no more.
+const PAIR: &[u8] = b"(literalize a n)
+(p pair (a ^n <x>) (a ^n <x>) --> (write pair <x> (crlf)) (remove 1))
+(make a ^n 5)
+(make a ^n 6)
+(run)
+";
+
+// A blocker is made and removed in one right side, and the mark stays.
+const ONCE: &[u8] = b"(literalize a n) (literalize stop)
+(p once (a ^n <x>) - (stop) --> (make stop) (cbind <s>) (remove <s>) (write <x> (crlf)))
+(make a ^n 1)
+(run)
+";
+
+// The second modify goes on from what the first left.
+const TWICE: &[u8] = b"(literalize a n)
+(p up { <w> (a ^n 0) } --> (modify <w> ^n 1) (modify <w> ^n 2))
+(p both (a ^n 2) (a ^n 2) --> (write both (crlf)) (remove 1 2))
+(make a ^n 0)
+(run)
+";
+
+const LAYOUT: &[u8] = b"(literalize a n)
+(p r (a ^n <x>) --> (write <x> (tabto 5) x (rjust 4) 12 (crlf)))
+(make a ^n |b c|)
+(run)
+";
+
+/// Texts, each with the status that answers it and what is written.
+const ROWS: [(&[u8], Status, &[u8]); 11] = [
+    (
+        HELLO,
+        Status::Done,
+        b"Hello from OPS5\nend -- no production true\n",
+    ),
+    (b"", Status::Done, b""),
+    (
+        b"(literalize a n) (p r (a ^n 1) --> (halt)) (run)",
+        Status::Done,
+        b"end -- no production true\n",
+    ),
+    (
+        PREDICATES,
+        Status::Done,
+        b"lt\none\none\nlit\nend -- no production true\n",
+    ),
+    (NOTED, Status::Done, b"a b 12\nend -- explicit halt\n"),
+    (FREE, Status::Done, b"1\nend -- no production true\n"),
+    (
+        VECTORS,
+        Status::Done,
+        b"first 5\nsecond\nthird\nend -- explicit halt\n",
+    ),
+    (
+        PAIR,
+        Status::Done,
+        b"pair 6\npair 5\nend -- no production true\n",
+    ),
+    (ONCE, Status::Done, b"1\nend -- no production true\n"),
+    (TWICE, Status::Done, b"both\nend -- no production true\n"),
+    (
+        LAYOUT,
+        Status::Done,
+        b"b c x  12\nend -- no production true\n",
+    ),
+];
+
+/// Texts that are refused on their first line, each with its fault, the column and the line that is written.
+const REFUSED: [(&[u8], Fault, u64, &[u8]); 5] = [
+    (
+        b"(literalize a) (make b)",
+        Fault::UnknownClass,
+        22,
+        b"ops: 1:22: unknown class\n",
+    ),
+    (
+        b"(literalize a) (p r (a) --> (write <x>))",
+        Fault::UnboundVariable,
+        36,
+        b"ops: 1:36: unbound variable\n",
+    ),
+    (
+        b"(foo)",
+        Fault::UnknownCommand,
+        2,
+        b"ops: 1:2: unknown command\n",
+    ),
+    (b")", Fault::Stray, 1, b"ops: 1:1: stray\n"),
+    (
+        b"(literalize a n) (make a ^n 1.5)",
+        Fault::FractionNumber,
+        29,
+        b"ops: 1:29: fraction\n",
+    ),
+];
+
 #[test]
-fn vectors_and_element_variables(rt: HostRuntime) -> Result<(), Fail> {
+fn rows(rt: HostRuntime) -> Result<(), Fail> {
     let alloc = rt.alloc();
-    let mut sink = MemSink::new(alloc, 1_000, 1_000, Vec::new(alloc))?;
-    assert_eq!(rt; answer(&rt, alloc, VECTORS, &mut sink)?, Some(Status::Done));
-    let expected = b"first 5\nsecond\nthird\nend -- explicit halt\n".as_slice();
-    assert_eq!(rt; sink.written(), expected);
+    for (text, status, written) in ROWS {
+        let mut sink = MemSink::new(alloc, 1_000, 1_000, Vec::new(alloc))?;
+        assert_eq!(rt; answer(&rt, alloc, text, &mut sink)?, status);
+        assert_eq!(rt; sink.written(), written);
+    }
+    Ok(())
+}
+
+#[test]
+fn refusals(rt: HostRuntime) -> Result<(), Fail> {
+    let alloc = rt.alloc();
+    for (text, fault, column, written) in REFUSED {
+        let mut sink = MemSink::new(alloc, 1_000, 1_000, Vec::new(alloc))?;
+        let refused = Status::Refused {
+            fault,
+            line: 1,
+            column,
+        };
+        assert_eq!(rt; answer(&rt, alloc, text, &mut sink)?, refused);
+        assert_eq!(rt; sink.written(), written);
+    }
+    Ok(())
+}
+
+#[test]
+fn failing_sink(rt: HostRuntime) -> Result<(), Fail> {
+    let alloc = rt.alloc();
+    let mut sink = MemSink::new(alloc, 1_000, 4, vec![in alloc; 3]?)?;
+    assert_eq!(rt; answer(&rt, alloc, HELLO, &mut sink)?, Status::WriteFault);
+    assert_eq!(rt; sink.written(), b"Hello fr".as_slice());
     Ok(())
 }
 
@@ -224,7 +212,7 @@ fn too_many_fields(rt: HostRuntime) -> Result<(), Fail> {
     let alloc = rt.alloc();
     let mut sink = MemSink::new(alloc, 1_000, 1_000, Vec::new(alloc))?;
     let fits = vector_of(alloc, 126)?;
-    assert_eq!(rt; answer(&rt, alloc, &fits, &mut sink)?, Some(Status::Done));
+    assert_eq!(rt; answer(&rt, alloc, &fits, &mut sink)?, Status::Done);
     let fault = Status::ActFault {
         firing: 1,
         rule: 0,
@@ -233,26 +221,8 @@ fn too_many_fields(rt: HostRuntime) -> Result<(), Fail> {
     };
     let mut sink = MemSink::new(alloc, 1_000, 1_000, Vec::new(alloc))?;
     let passes = vector_of(alloc, 127)?;
-    assert_eq!(rt; answer(&rt, alloc, &passes, &mut sink)?, Some(fault));
+    assert_eq!(rt; answer(&rt, alloc, &passes, &mut sink)?, fault);
     let expected = b"on\nops: firing 1: |r s|: action 2: too many fields\n".as_slice();
-    assert_eq!(rt; sink.written(), expected);
-    Ok(())
-}
-
-const PAIR: &[u8] = b"(literalize a n)
-(p pair (a ^n <x>) (a ^n <x>) --> (write pair <x> (crlf)) (remove 1))
-(make a ^n 5)
-(make a ^n 6)
-(run)
-";
-
-/// The later of two elements fires first, each is matched by both conditions, and what is removed fires no more.
-#[test]
-fn pair(rt: HostRuntime) -> Result<(), Fail> {
-    let alloc = rt.alloc();
-    let mut sink = MemSink::new(alloc, 1_000, 1_000, Vec::new(alloc))?;
-    assert_eq!(rt; answer(&rt, alloc, PAIR, &mut sink)?, Some(Status::Done));
-    let expected = b"pair 6\npair 5\nend -- no production true\n".as_slice();
     assert_eq!(rt; sink.written(), expected);
     Ok(())
 }
@@ -268,10 +238,7 @@ const COUNTER: &[u8] = b"(literalize n)
 fn limit(rt: HostRuntime) -> Result<(), Fail> {
     let alloc = rt.alloc();
     let mut sink = MemSink::new(alloc, 1_000, 1_000, Vec::new(alloc))?;
-    assert_eq!(rt;
-        answer(&rt, alloc, COUNTER, &mut sink)?,
-        Some(Status::Limit)
-    );
+    assert_eq!(rt; answer(&rt, alloc, COUNTER, &mut sink)?, Status::Limit);
     assert_eq!(rt;
         sink.written(),
         b"ops: limit of 1000000 firings reached\n".as_slice()

@@ -1,143 +1,75 @@
 //! The recognise-act cycle: one firing, and a run.
-ghost use Rattle.std.specs.Prelude.{◌≡◌, ◌^◌, ◌<◌, ◌-◌, ◌++◌, ◌∷◌, [], IsTrue, IfOk, false, map};
+ghost use Rattle.std.specs.Prelude.{◌≡◌, ◌^◌, ◌<◌, ◌-◌, IsTrue, IfOk, OnOk, false};
+ghost use Rattle.ops_base.specs.ConflictSet.{conflict_set};
+ghost use Rattle.ops_base.specs.WorkingMemory.{Lawful};
 ghost use Rattle.ops_io.specs.Ports.{port};
-ghost use Rattle.ops_meaning.specs.Effects.{Performs, writes};
-ghost use Rattle.ops_meaning.specs.Layout.{line_at};
-ghost use Rattle.ops_meaning.specs.Running.{conditions_of, actions_of, acted, firing, next_to_fire, run_on, most_firings};
-ghost use Rattle.ops_base.specs.Refraction.{still_fired};
-ghost use Rattle.ops_top.specs.Settings.{setting_of};
+ghost use Rattle.ops_meaning.specs.Effects.{Performs, failure_as, of_ending};
+ghost use Rattle.ops_meaning.specs.Kept.{last_after};
+ghost use Rattle.ops_meaning.specs.Running.{ended_in, firing, marked, most_firings, next_to_fire, phase_by, run_on};
+ghost use Rattle.act_phase.specs.Outcomes.{failure_of, setting_of};
+ghost use Rattle.ops_top.specs.Courses.{course_of};
 
-use crate::acting::{Scene, act};
-use crate::bindings::bindings_of;
 use crate::choosing::{marks_and_next, next_to_fire};
-use crate::printing::put_line;
-use ops_base::actions::Action;
-use ops_base::conditions::Condition;
+use crate::course::{Course, do_changes};
+use act_phase::{ActFault, Acted, act};
 use ops_base::endings::Ending;
-use ops_base::list::Listed;
 use ops_base::memory::OutOfMemory;
 use ops_base::programs::Program;
-use ops_base::rules::{Inst, Rule};
+use ops_base::rules::Inst;
 use ops_base::symbols::Names;
-use ops_io::out::Out;
-use ops_io::outside::Sink;
-use ops_meaning::{Doing, Fired, Memory};
+use ops_io::{Out, Sink};
+use ops_print::put_line;
 use std::alloc::Global;
 
 /// How many firings a session makes at most.
 const MOST_FIRINGS: u64 = 1_000_000;
 
-fn conditions_of(rules: &[Rule], n: usize) -> &[Condition]
-    ensures { result.now ≡ conditions_of rules.now n }
-{
-    match rules.get(n) {
-        Some(rule) => rule.conditions.as_slice(),
-        None => &[],
-    }
-}
-
-fn actions_of(rules: &[Rule], n: usize) -> &[Action]
-    ensures { result.now ≡ actions_of rules.now n }
-{
-    match rules.get(n) {
-        Some(rule) => rule.actions.as_slice(),
-        None => &[],
-    }
-}
-
-/// What a firing leaves, and what fires next.
+/// Whether `halt` was done in a firing, and what fires next.
 #[derive(Drop)]
-pub struct Turned {
-    pub fired: Fired,
-    pub next: Option<Inst>,
+struct Turned {
+    halted: bool,
+    next: Option<Inst>,
 }
 
-/// Ends the phase of a firing whose actions left this. `firings` counts it.
+/// How a fault of a right side ends the session.
+fn ended_in(firing: u64, rule: usize, fault: ActFault) -> Ending
+    ensures { of_ending result ≡ failure_as (ended_in firing rule) (failure_of fault) }
+{
+    match fault {
+        ActFault::Bad { action, kind } => Ending::Act {
+            firing,
+            rule,
+            action,
+            kind,
+        },
+        ActFault::Write => Ending::WriteFault,
+        ActFault::OutOfMemory => Ending::OutOfMemory,
+    }
+}
+
+/// Ends the phase of a firing whose right side did this. `firings` counts it. The conflict set is found once.
 fn settle(
     alloc: Global,
     program: &Program,
+    course: &mut Course,
     inst: Inst,
-    fired: Listed<Inst>,
     firings: u64,
-    doing: Doing,
+    acted: Acted,
 ) -> Result<Turned, OutOfMemory>
-    ensures fired { IfOk result (λ t. t.fired ≡ record {
-      memory = record {
-        wm = doing.wm;
-        fired = still_fired program.now.rules doing.wm (fired ++ inst ∷ []);
-        firings = firings;
-        last = doing.last;
-      };
-      halted = doing.halted;
-    }) }
-    ensures next { IfOk result (λ t. t.next ≡ next_to_fire program.now.rules t.fired.memory) }
+    requires { Lawful course.old.store.elements course.old.store.last acted.changes }
+    ensures course { OnOk result (course_of course.new ≡ phase_by (conflict_set program.now.rules) acted.changes firings
+        (last_after course.old.store.last acted.changes) (marked inst (course_of course.old))) }
+    ensures halted { IfOk result (λ t. t.halted ≡ acted.halted) }
+    ensures next { IfOk result (λ t. t.next ≡ next_to_fire program.now.rules (course_of course.new)) }
 {
-    let Doing { wm, last, halted } = doing;
-    let mut marks = fired.into_vec();
-    marks.push(inst)?;
-    let (marks, next) = marks_and_next(alloc, program, wm.as_slice(), marks)?;
+    course.fired.push(inst)?;
+    course.firings = firings;
+    do_changes(&mut course.store, acted.changes.into_vec())?;
+    let next = marks_and_next(alloc, program, course)?;
     Ok(Turned {
-        fired: Fired {
-            memory: Memory {
-                wm,
-                fired: Listed::from_vec(marks),
-                firings,
-                last,
-            },
-            halted,
-        },
+        halted: acted.halted,
         next,
     })
-}
-
-/// An instantiation that fires, with the number of its firing.
-#[derive(Clone, Copy)]
-struct Firing<'i> {
-    number: u64,
-    inst: &'i Inst,
-}
-
-/// Does the right side of an instantiation.
-fn act_for<K: Sink>(
-    alloc: Global,
-    program: &Program,
-    names: &Names,
-    firing: Firing<'_>,
-    doing: Doing,
-    out: &mut Out,
-    sink: &mut K,
-) -> Result<Doing, Ending>
-    requires whole { IsTrue out.old.whole }
-    requires faults { K.faults sink.old < 2 ^ 63 }
-    ensures { Performs (λ d. d) result (port (K.taken sink.old) (K.faults sink.old) out.old)
-        (port (K.taken sink.new) (K.faults sink.new) out.new)
-        (acted (setting_of names.now program.now) out.old.column firing.entry.number firing.entry.inst.now doing) }
-{
-    let Firing { number, inst } = firing;
-    let rules = program.rules.as_slice();
-    let conditions = conditions_of(rules, inst.rule);
-    let tags = inst.tags.as_slice();
-    match bindings_of(alloc, doing.wm.as_slice(), conditions, tags) {
-        Err(_) => Err(Ending::OutOfMemory),
-        Ok(bindings) => {
-            let scene = Scene {
-                names,
-                classes: program.classes.as_slice(),
-                firing: number,
-                rule: inst.rule,
-                bindings: bindings.as_slice(),
-                tags,
-            };
-            act(
-                alloc,
-                &scene,
-                actions_of(rules, inst.rule),
-                doing,
-                out,
-                sink,
-            )
-        }
-    }
 }
 
 /// One firing, which is one phase. A session is over long before firings can't be counted.
@@ -145,61 +77,37 @@ fn fire<K: Sink>(
     alloc: Global,
     program: &Program,
     names: &Names,
+    course: &mut Course,
     inst: Inst,
-    memory: Memory,
     out: &mut Out,
     sink: &mut K,
 ) -> Result<Turned, Ending>
     requires whole { IsTrue out.old.whole }
     requires faults { K.faults sink.old < 2 ^ 63 }
-    ensures performs { Performs (λ t. t.fired) result (port (K.taken sink.old) (K.faults sink.old) out.old)
+    ensures performs { Performs (λ t. record { course = course_of course.new; halted = t.halted }) of_ending result
+        (port (K.taken sink.old) (K.faults sink.old) out.old)
         (port (K.taken sink.new) (K.faults sink.new) out.new)
-        (firing (setting_of names.now program.now) out.old.column inst memory) }
-    ensures next { IfOk result (λ t. t.next ≡ next_to_fire program.now.rules t.fired.memory) }
+        (firing (setting_of names.now program.now) out.old.column inst (course_of course.old)) }
+    ensures next { IfOk result (λ t. t.next ≡ next_to_fire program.now.rules (course_of course.new)) }
 {
-    let Memory {
-        wm,
-        fired,
-        firings,
-        last,
-    } = memory;
-    let start = Doing {
-        wm,
-        last,
-        halted: false,
-    };
-    let Some(firings) = firings.checked_add(1) else {
+    let Some(firings) = course.firings.checked_add(1) else {
         return Err(Ending::OutOfMemory);
     };
-    let firing = Firing {
-        number: firings,
-        inst: &inst,
-    };
-    match act_for(alloc, program, names, firing, start, out, sink) {
-        Err(ending) => Err(ending),
-        Ok(doing) => match settle(alloc, program, inst, fired, firings, doing) {
-            Err(_) => Err(Ending::OutOfMemory),
-            Ok(turned) => Ok(turned),
-        },
-    }
-}
-
-/// Ends a run with a line.
-fn end_run<K: Sink>(
-    text: &[u8],
-    memory: Memory,
-    out: &mut Out,
-    sink: &mut K,
-) -> Result<Memory, Ending>
-    requires whole { IsTrue out.old.whole }
-    requires faults { K.faults sink.old < 2 ^ 63 }
-    ensures { Performs (λ m. m) result (port (K.taken sink.old) (K.faults sink.old) out.old)
-        (port (K.taken sink.new) (K.faults sink.new) out.new)
-        (writes (line_at out.old.column text.now) memory) }
-{
-    match put_line(out, sink, text) {
-        Err(ending) => Err(ending),
-        Ok(()) => Ok(memory),
+    let next_tag = course.next_tag()?;
+    let rule = inst.rule;
+    match act(
+        alloc,
+        program,
+        names,
+        &course.store,
+        &inst,
+        next_tag,
+        0,
+        out,
+        sink,
+    ) {
+        Ok(acted) => Ok(settle(alloc, program, course, inst, firings, acted)?),
+        Err(fault) => Err(ended_in(firings, rule, fault)),
     }
 }
 
@@ -208,44 +116,34 @@ pub fn run<K: Sink>(
     alloc: Global,
     program: &Program,
     names: &Names,
-    memory: Memory,
+    course: &mut Course,
     out: &mut Out,
     sink: &mut K,
-) -> Result<Memory, Ending>
+) -> Result<(), Ending>
     requires whole { IsTrue out.old.whole }
     requires faults { K.faults sink.old < 2 ^ 63 }
-    ensures { Performs (λ m. m) result (port (K.taken sink.old) (K.faults sink.old) out.old)
+    ensures { Performs (λ _. course_of course.new) of_ending result (port (K.taken sink.old) (K.faults sink.old) out.old)
         (port (K.taken sink.new) (K.faults sink.new) out.new)
-        (run_on (most_firings - memory.firings) (setting_of names.now program.now) out.old.column false memory) }
+        (run_on (most_firings - course.old.firings) (setting_of names.now program.now) out.old.column false (course_of course.old)) }
 {
-    let mut left = MOST_FIRINGS.saturating_sub(memory.firings);
-    let mut next = match next_to_fire(alloc, program, &memory) {
-        Ok(next) => next,
-        Err(_) => return Err(Ending::OutOfMemory),
-    };
-    let mut memory = memory;
+    let mut left = MOST_FIRINGS.saturating_sub(course.firings);
+    let mut next = next_to_fire(alloc, program, course)?;
     let mut halted = false;
     'turns: loop {
         if halted {
-            return end_run(b"end -- explicit halt", memory, out, sink);
+            return Ok(put_line(out, sink, b"end -- explicit halt")?);
         }
-        let inst = match next {
-            Some(inst) => inst,
-            None => return end_run(b"end -- no production true", memory, out, sink),
+        let Some(inst) = next else {
+            return Ok(put_line(out, sink, b"end -- no production true")?);
         };
         if left == 0 {
             return Err(Ending::Limit {
-                firings: memory.firings,
+                firings: course.firings,
             });
         }
         left -= 1;
-        match fire(alloc, program, names, inst, memory, out, sink) {
-            Err(ending) => return Err(ending),
-            Ok(turned) => {
-                memory = turned.fired.memory;
-                halted = turned.fired.halted;
-                next = turned.next;
-            }
-        }
+        let turned = fire(alloc, program, names, course, inst, out, sink)?;
+        halted = turned.halted;
+        next = turned.next;
     }
 }

@@ -6,10 +6,7 @@ ghost use Rattle.ops_top.specs.Told.{Delivers, status_after};
 
 use crate::lines::{fault_line, unread_line, usage_line};
 use ops_base::endings::Fault;
-use ops_io::out::Out;
-use ops_io::outside::Sink;
-use ops_io::port::{flush_all, put_bytes};
-use ops_io::stop::Stop;
+use ops_io::{Out, Sink, Stop};
 use ops_meaning::Status;
 use std::alloc::Global;
 
@@ -20,8 +17,8 @@ fn say<K: Sink>(alloc: Global, bytes: &[u8], status: Status, sink: &mut K) -> Re
         (K.taken sink.old) (K.faults sink.old) (K.taken sink.new) (K.faults sink.new) }
 {
     let mut out = Out::new(alloc)?;
-    put_bytes(&mut out, sink, bytes)?;
-    flush_all(&mut out, sink)?;
+    out.put(sink, bytes)?;
+    out.flush(sink)?;
     Ok(status)
 }
 

@@ -4,8 +4,7 @@ ghost use Rattle.ops_meaning.specs.Whole.{word_bytes};
 
 use crate::top::{code, ops_run, still_run};
 use ops_base::endings::Fault;
-use ops_io::memory::{MemShelf, MemSink, MemSource};
-use ops_io::outside::OpenGate;
+use ops_io::{MemShelf, MemSink, MemSource, OpenGate};
 use ops_meaning::Status;
 use std::alloc::{AllocError, Global};
 use std::test::Fail;
@@ -22,51 +21,52 @@ pub fn one_file(alloc: Global, name: &str, bytes: &[u8]) -> Result<MemShelf, All
     Ok(MemShelf::new(alloc, files, Vec::new(alloc)))
 }
 
-/// One word.
-pub fn one_word(alloc: Global, word: &str) -> Result<Vec<String>, AllocError>
-    ensures { IfOk result (λ words. word_bytes words.items ≡ word.now ∷ []) }
-{
-    let mut words = Vec::new(alloc);
-    words.push(String::from_str(alloc, word)?)?;
-    Ok(words)
+/// These words.
+pub fn words_of(alloc: Global, words: &[&str]) -> Result<Vec<String>, AllocError> {
+    let mut owned = Vec::new(alloc);
+    for word in words {
+        owned.push(String::from_str(alloc, word)?)?;
+    }
+    Ok(owned)
 }
 
 const USAGE: &[u8] =
     b"usage: ops [--match direct|serial|rounds|free] [--workers N] [--lines L] [--limit N] FILE.. | ops --gen SEED SIZE | ops --net FILE..\n";
 
+/// Words that don't fit.
+const UNFIT: [&[&str]; 5] = [
+    &[],
+    &["-x"],
+    &["a.ops", "a.ops"],
+    &["--gen", "7"],
+    &["--limit", "3", "--limit", "3", "a.ops"],
+];
+
 #[test]
 fn words_that_do_not_fit(rt: HostRuntime) -> Result<(), Fail> {
     let alloc = rt.alloc();
-    let mut shelf = one_file(alloc, "a.ops", b"")?;
-    let mut input = MemSource::new(Vec::new(alloc), 1, Vec::new(alloc));
-    let mut sink = MemSink::new(alloc, 1_000, 1_000, Vec::new(alloc))?;
-    let mut words = Vec::new(alloc);
-    let none = still_run(
-        &rt, alloc, &words, &mut shelf, &mut input, &mut sink, &OpenGate,
-    );
-    assert_eq!(rt; none, Some(Status::Usage));
-    assert_eq!(rt; sink.written(), USAGE);
-
-    words.push(String::from_str(alloc, "-x")?)?;
-    let mut sink = MemSink::new(alloc, 1_000, 1_000, Vec::new(alloc))?;
-    let option = still_run(
-        &rt, alloc, &words, &mut shelf, &mut input, &mut sink, &OpenGate,
-    );
-    assert_eq!(rt; option, Some(Status::Usage));
-    assert_eq!(rt; sink.written(), USAGE);
+    for words in UNFIT {
+        let mut shelf = one_file(alloc, "a.ops", b"")?;
+        let mut input = MemSource::new(Vec::new(alloc), 1, Vec::new(alloc));
+        let mut sink = MemSink::new(alloc, 1_000, 1_000, Vec::new(alloc))?;
+        let words = words_of(alloc, words)?;
+        let status = still_run(
+            &rt, alloc, &words, &mut shelf, &mut input, &mut sink, &OpenGate,
+        );
+        assert_eq!(rt; status, Some(Status::Usage));
+        assert_eq!(rt; sink.written(), USAGE);
+    }
     Ok(())
 }
 
+/// The sink takes 7 bytes a call, and its third call fails.
 #[test]
-fn two_words(rt: HostRuntime) -> Result<(), Fail> {
+fn usage_line_is_cut(rt: HostRuntime) -> Result<(), Fail> {
     let alloc = rt.alloc();
     let mut shelf = one_file(alloc, "a.ops", b"")?;
     let mut input = MemSource::new(Vec::new(alloc), 1, Vec::new(alloc));
-    let mut words = one_word(alloc, "a.ops")?;
-    words.push(String::from_str(alloc, "a.ops")?)?;
-
-    // The sink takes 7 bytes a call, and its third call fails.
     let mut sink = MemSink::new(alloc, 1_000, 7, vec![in alloc; 3]?)?;
+    let words = Vec::new(alloc);
     let status = ops_run(
         &rt, alloc, &words, &mut shelf, &mut input, &mut sink, &OpenGate,
     );
@@ -81,7 +81,7 @@ fn missing_file(rt: HostRuntime) -> Result<(), Fail> {
     let mut shelf = one_file(alloc, "a.ops", b"")?;
     let mut input = MemSource::new(Vec::new(alloc), 1, Vec::new(alloc));
     let mut sink = MemSink::new(alloc, 1_000, 1_000, Vec::new(alloc))?;
-    let words = one_word(alloc, "-")?;
+    let words = words_of(alloc, &["-"])?;
     let status = ops_run(
         &rt, alloc, &words, &mut shelf, &mut input, &mut sink, &OpenGate,
     );
@@ -102,7 +102,7 @@ fn letters<R: Threads + Clone + Drop + Send + Sync>(
     let bytes = vec![in alloc; b'x'; count]?;
     let mut shelf = one_file(alloc, "x", bytes.as_slice())?;
     let mut input = MemSource::new(Vec::new(alloc), 1, Vec::new(alloc));
-    let words = one_word(alloc, "x")?;
+    let words = words_of(alloc, &["x"])?;
     Ok(still_run(rt, alloc, &words, &mut shelf, &mut input, sink, &OpenGate))
 }
 

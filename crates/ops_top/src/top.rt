@@ -2,11 +2,11 @@
 ghost use Rattle.std.specs.Prelude.{◌≡◌, ◌^◌, ◌<◌, ◌⊎◌, ℕ, List, length, nat_lt, true, false, IfSome, IsSome};
 ghost use Rattle.ops_meaning.specs.Whole.{whole, unread, Answers, GoesByConflictSetsAlone, word_bytes, words_fit, first_word};
 ghost use Rattle.ops_top.specs.Calls.{OfContent, TellsFailedWrite, TellsFailedLoad, TellsWords, AskedForWords, usage, runs_through};
-ghost use Rattle.ops_top.specs.Lines.{code_of};
+ghost use Rattle.ops_top.specs.Codes.{code_of};
 
 use crate::saying::status_after;
 use crate::words::run_words;
-use ops_io::outside::{Gate, Shelf, Sink, Source};
+use ops_io::{Gate, Shelf, Sink, Source};
 use ops_meaning::Status;
 use std::alloc::Global;
 use std::sync::Wait;

@@ -6,8 +6,7 @@ ghost use Rattle.ops_top.specs.Told.{Delivers, status_after};
 
 use crate::files::run_file;
 use crate::saying::say_usage;
-use ops_io::outside::{Shelf, Sink};
-use ops_io::stop::Stop;
+use ops_io::{Shelf, Sink, Stop};
 use ops_meaning::Status;
 use std::alloc::Global;
 

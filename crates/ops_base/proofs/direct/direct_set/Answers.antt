@@ -1,20 +1,12 @@
--- What is computed is the conflict set.
-use Rattle.std.proofs.Common.{◌∙◌, ap}
-use Rattle.ops_base.specs.ConflictSet.{conflict_set}
-use Rattle.ops_base.proofs.ConflictSetLaws.{computed_is, computed_only, computed_of}
+-- The references show the elements of the slice, so what is said of those that they show is said of the slice.
+use Rattle.std.proofs.Common.{List, IfOk, ◌∙◌, ap, subst}
+use Rattle.ops_base.specs.declared.elements.Element.{Element}
+use Rattle.ops_base.specs.WorkingMemory.{HasRisingTags, shown}
+use Rattle.ops_base.specs.Instances.{IsConflictSet}
 use Rattle.ops_base.proofs.direct.direct_set.Goals as goal
 
 pub returns-clause-set : goal.returns-clause-set
-returns-clause-set c = λ rising.
-    computed_is c.args.program.now.rules c.args.wm.now c.from_vec.result rising
-    (c.from_vec.ensures ∙ c.in_ok-found.ensures ∙ ap (λ rules. conflict_set rules c.args.wm.now) c.as_slice.ensures)
-
-pub returns-clause-only : goal.returns-clause-only
-returns-clause-only c = λ rising.
-    computed_only c.args.program.now.rules c.args.wm.now c.from_vec.result rising
-    (c.from_vec.ensures ∙ c.in_ok-found.ensures ∙ ap (λ rules. conflict_set rules c.args.wm.now) c.as_slice.ensures)
-
-pub returns-clause-rules : goal.returns-clause-rules
-returns-clause-rules c =
-    computed_of c.args.program.now.rules c.args.wm.now c.from_vec.result
-    (c.from_vec.ensures ∙ c.in_ok-found.ensures ∙ ap (λ rules. conflict_set rules c.args.wm.now) c.as_slice.ensures)
+returns-clause-set c =
+    let P : List Element → Type 0 = λ wm. IfOk c.direct_set_of.result
+    (λ set. HasRisingTags wm → IsConflictSet c.args.program.now.rules wm set) in
+    subst P (ap shown c.as_slice.ensures.value ∙ c.in_ok-wm.ensures) c.direct_set_of.ensures.set

@@ -6,7 +6,7 @@ pub returns-clause-among : goal.returns-clause-among
 returns-clause-among c = λ insts i. is_among-Decides insts i
 
 pub returns-clause-unmarked : goal.returns-clause-unmarked
-returns-clause-unmarked c = λ rules wm fired i. member-unfired rules wm fired i
+returns-clause-unmarked c = λ found fired i. member-unfired found fired i
 
 pub returns-clause-stays : goal.returns-clause-stays
-returns-clause-stays c = λ rules wm fired i. member-still_fired rules wm fired i
+returns-clause-stays c = λ found fired i. member-still_fired found fired i

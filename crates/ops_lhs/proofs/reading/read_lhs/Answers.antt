@@ -2,8 +2,10 @@ use Rattle.std.proofs.Common.{◌-◌, ◌∙◌, sym, subst, refl, length, List
 use Rattle.ops_base.specs.declared.conditions.Condition.{Condition}
 use Rattle.ops_meaning.specs.declared.words.Word.{Word}
 use Rattle.ops_forms.specs.declared.scope.Scope.{Scope}
-use Rattle.ops_lhs.specs.LeftSides.{ReadsLeft, RefusesLeft, AreBehindArrow, IsLeftSide, IsRefused, words_of_scope}
-use Rattle.ops_lhs.proofs.Borders.{words_made, names_made, counted, left_side_is, refused_is}
+use Rattle.ops_forms.specs.Walking.{words_of_scope}
+use Rattle.ops_forms.proofs.Borders.{words_made, names_made, counted}
+use Rattle.ops_lhs.specs.LeftSides.{ReadsLeft, RefusesLeft, IsArrow, AreBehindArrow, IsLeftSide, IsRefused}
+use Rattle.ops_lhs.proofs.Borders.{left_side_is, refused_is}
 use Rattle.ops_lhs.proofs.reading.read_lhs.Goals as goal
 
 pub overflow_sub-place : goal.overflow_sub-place
@@ -11,7 +13,7 @@ overflow_sub-place c =
     let scope = c.args.scope.now in
     let made = c.as_slice-2.ensures.value ∙ c.in_ok-words.ensures.words ∙ words_made scope c.args.tokens.now c.args.from c.as_slice.result.now c.as_slice.ensures.value in
     let behind : AreBehindArrow (words_of_scope scope c.args.tokens.now c.args.from) c.in-Ok.rest.now = subst (λ (ws : List Word). AreBehindArrow ws c.in-Ok.rest.now) made c.in-Ok.ensures.behind in
-    let all = counted scope c.args.tokens.now c.args.from c.in-Ok.rest.now c.requires.within behind in
+    let all = counted IsArrow scope c.args.tokens.now c.args.from c.in-Ok.rest.now c.requires.within behind in
     omega (arith, all)
 
 pub overflow_sub-place-in-Ok : goal.overflow_sub-place-in-Ok
@@ -19,7 +21,7 @@ overflow_sub-place-in-Ok c =
     let scope = c.args.scope.now in
     let made = c.as_slice-2.ensures.value ∙ c.in_ok-words.ensures.words ∙ words_made scope c.args.tokens.now c.args.from c.as_slice.result.now c.as_slice.ensures.value in
     let behind : AreBehindArrow (words_of_scope scope c.args.tokens.now c.args.from) c.in-Ok.rest.now = subst (λ (ws : List Word). AreBehindArrow ws c.in-Ok.rest.now) made c.in-Ok.ensures.behind in
-    let all = counted scope c.args.tokens.now c.args.from c.in-Ok.rest.now c.requires.within behind in
+    let all = counted IsArrow scope c.args.tokens.now c.args.from c.in-Ok.rest.now c.requires.within behind in
     omega (arith, all)
 
 pub returns-in-Ok-clause-ok : goal.returns-in-Ok-clause-ok

@@ -1,5 +1,5 @@
 use Rattle.std.proofs.Common.{◌≡◌, ◌≤◌, ◌++◌, drop}
-use Rattle.ops_lhs.specs.LeftSides.{cells_from}
+use Rattle.ops_forms.specs.Sights.{cells_from}
 use Rattle.ops_lhs.proofs.sight.cells_from.Given as goal
 
 abbrev pub invariant-loop-condition : goal.invariant-loop-condition

@@ -1,7 +1,7 @@
 use Rattle.std.proofs.Common.{ℕ, List, refl, subst}
 use Rattle.ops_meaning.specs.Whole.{Reply, answer_file, unread}
 use Rattle.ops_top.specs.Told.{Delivers}
-use Rattle.ops_top.proofs.Endings.{answer_file_of_text}
+use Rattle.ops_meaning.proofs.Endings.{answer_file_of_text}
 use Rattle.ops_top.proofs.Loads.{loaded_delivers, long_delivers, failed_delivers, loaded_tells}
 use Rattle.ops_top.proofs.files.run_file.Goals as goal
 

@@ -1,7 +1,6 @@
 use Rattle.std.proofs.Common.{◌≡◌, drop, fold}
 use Rattle.ops_base.specs.declared.commands.Fixed.{Fixed}
-use Rattle.ops_meaning.specs.Acting.{with_values}
-use Rattle.ops_meaning.specs.Running.{fixed_fields}
+use Rattle.ops_meaning.specs.Running.{fixed_fields, with_values}
 use Rattle.ops_top.proofs.making.fixed_fields.Given as goal
 
 abbrev pub invariant-loop-put : goal.invariant-loop-put

@@ -1,12 +1,12 @@
 use Rattle.std.proofs.Common.{◌≡◌, List, length, ◌∷◌, ◌++◌, ◌≤◌}
 use Rattle.ops_meaning.specs.declared.words.Word.{Word}
-use Rattle.ops_meaning.specs.Grammar.{Wanted, Terms, goes}
-use Rattle.ops_check.specs.Going.{view, use_of}
+use Rattle.ops_meaning.specs.Grammar.{Wanted, InFixed, Terms, goes}
+use Rattle.ops_check.specs.Going.{view}
 use Rattle.ops_check.proofs.draft.Draft.terms.Given as goal
 
 abbrev pub invariant-terms : goal.invariant-terms
 invariant-terms l =
-    ((more : List Word) (ws : List Wanted) → goes (l.fn.words ++ more) (Terms (use_of l.place) ∷ ws) (view l.fn.self) ≡ goes (l.rest ++ more) (Terms (use_of l.place) ∷ ws) (view l.self)) × (length l.rest ≤ length l.fn.words)
+    ((more : List Word) (ws : List Wanted) → goes (l.fn.words ++ more) (Terms InFixed ∷ ws) (view l.fn.self) ≡ goes (l.rest ++ more) (Terms InFixed ∷ ws) (view l.self)) × (length l.rest ≤ length l.fn.words)
 
 abbrev pub decreases-terms : goal.decreases-terms
 decreases-terms l = length l.rest

@@ -1,9 +1,11 @@
 use Rattle.std.proofs.Common.{◌≡◌, ◌∷◌, ◌++◌, ◌∙◌, sym, ap, true, Some, drop, slice_get, List}
 use Rattle.ops_base.specs.declared.elements.Class.{Class}
 use Rattle.ops_base.specs.declared.endings.Fault.TheVariants as fault
-use Rattle.ops_meaning.specs.Grammar.{goes, is_name, Place}
-use Rattle.ops_lhs.specs.Taking.{seen}
-use Rattle.ops_lhs.proofs.Ways.{terms_refused_among, terms_as_among, place_to_terms, attribute_unknown, attribute_several, attribute_one}
+use Rattle.ops_meaning.specs.Grammar.{goes, is_name, InPattern, Place, Terms}
+use Rattle.ops_lhs.specs.Taking.{seen, Among}
+use Rattle.ops_forms.proofs.Walks.{to_refused_among}
+use Rattle.ops_forms.proofs.Ways.{attribute_unknown, attribute_several, attribute_one}
+use Rattle.ops_lhs.proofs.Ways.{terms_as_among, place_to_terms}
 use Rattle.ops_lhs.proofs.left.Left.attribute.Goals as goal
 
 pub returns-in_default-field_of-clause-reads : goal.returns-in_default-field_of-clause-reads
@@ -11,9 +13,9 @@ returns-in_default-field_of-clause-reads c =
     let w = c.in_ok-word.word in
     let named : is_name w.kind ≡ true = sym c.is_name.ensures ∙ c.if-not-is_name.false in
     let there : slice_get c.args.classes.now c.args.self.now.class ≡ Some c.in-Some.class.now = sym c.in-Some.ensures in
-    terms_refused_among c.args.classes.now _ fault.UnknownAttribute w
-    (λ more ws s i. attribute_unknown c.args.self.now c.in-Some.class.now (drop c.args.at c.args.words.now) (drop c.in_ok-word.rest c.args.words.now) more w ws s c.in_ok-word.ensures.0 named (ap (λ (cs : List Class). slice_get cs c.args.self.now.class) i ∙ there) (sym c.field_of.ensures ∙ c.in_default-field_of.is))
-    c.args.words.now c.args.self.now _ c.refused-in_default-field_of.ensures
+    to_refused_among (Among c.args.classes.now) (Terms InPattern) _ fault.UnknownAttribute w
+    (λ more ws s i. attribute_unknown InPattern c.in-Some.class.now (drop c.args.at c.args.words.now) (drop c.in_ok-word.rest c.args.words.now) more w ws (seen s c.args.self.now) c.in_ok-word.ensures.0 named (ap (λ (cs : List Class). slice_get cs c.args.self.now.class) i ∙ there) (sym c.field_of.ensures ∙ c.in_default-field_of.is))
+    c.args.words.now (λ s. seen s c.args.self.now) _ c.refused-in_default-field_of.ensures
 
 pub returns-then-is_vector-clause-reads : goal.returns-then-is_vector-clause-reads
 returns-then-is_vector-clause-reads c =
@@ -21,7 +23,7 @@ returns-then-is_vector-clause-reads c =
     let named : is_name w.kind ≡ true = sym c.is_name.ensures ∙ c.if-not-is_name.false in
     let there : slice_get c.args.classes.now c.args.self.now.class ≡ Some c.in-Some.class.now = sym c.in-Some.ensures in
     terms_as_among c.args.classes.now _ _
-    (λ more ws s i. attribute_several c.args.self.now c.in-Some.class.now (drop c.args.at c.args.words.now) (drop c.in_ok-word.rest c.args.words.now) more w ws s c.in_ok-word.ensures.0 named (ap (λ (cs : List Class). slice_get cs c.args.self.now.class) i ∙ there) c.in-Some-field_of.field (sym c.in-Some-field_of.ensures) (sym c.is_vector.ensures ∙ c.if-is_vector.true))
+    (λ more ws s i. attribute_several InPattern c.in-Some.class.now (drop c.args.at c.args.words.now) (drop c.in_ok-word.rest c.args.words.now) more w ws (seen s c.args.self.now) c.in_ok-word.ensures.0 named (ap (λ (cs : List Class). slice_get cs c.args.self.now.class) i ∙ there) c.in-Some-field_of.field (sym c.in-Some-field_of.ensures) (sym c.is_vector.ensures ∙ c.if-is_vector.true))
     c.args.words.now c.places.new.self c.places.result c.places.ensures.reads
 
 pub returns-clause-reads : goal.returns-clause-reads
@@ -30,6 +32,6 @@ returns-clause-reads c =
     let named : is_name w.kind ≡ true = sym c.is_name.ensures ∙ c.if-not-is_name.false in
     let there : slice_get c.args.classes.now c.args.self.now.class ≡ Some c.in-Some.class.now = sym c.in-Some.ensures in
     terms_as_among c.args.classes.now _ _
-    (λ more ws s i. attribute_one c.args.self.now c.in-Some.class.now (drop c.args.at c.args.words.now) (drop c.in_ok-word.rest c.args.words.now) more w ws s c.in_ok-word.ensures.0 named (ap (λ (cs : List Class). slice_get cs c.args.self.now.class) i ∙ there) c.in-Some-field_of.field (sym c.in-Some-field_of.ensures) (sym c.is_vector.ensures ∙ c.if-is_vector.false))
+    (λ more ws s i. attribute_one InPattern c.in-Some.class.now (drop c.args.at c.args.words.now) (drop c.in_ok-word.rest c.args.words.now) more w ws (seen s c.args.self.now) c.in_ok-word.ensures.0 named (ap (λ (cs : List Class). slice_get cs c.args.self.now.class) i ∙ there) c.in-Some-field_of.field (sym c.in-Some-field_of.ensures) (sym c.is_vector.ensures ∙ c.if-is_vector.false))
     c.args.words.now c.place.new.self c.place.result
     (place_to_terms (λ more ws s. goes (drop c.in_ok-word.rest c.args.words.now ++ more) (Place c.in-Some-field_of.field ∷ ws) (seen s c.args.self.now)) c.args.words.now c.place.new.self c.place.result c.place.ensures.reads)

@@ -2,7 +2,7 @@ use Rattle.std.proofs.Common.{◌∷◌, ◌++◌, ◌∙◌, sym, drop}
 use Rattle.ops_meaning.specs.Grammar.{goes, test, after, Tests}
 use Rattle.ops_forms.proofs.Ways.{tests_first}
 use Rattle.ops_lhs.specs.Taking.{seen}
-use Rattle.ops_lhs.proofs.Ways.{fails_as, fails_under}
+use Rattle.ops_forms.proofs.Walks.{fails_as, fails_under}
 use Rattle.ops_lhs.proofs.left.Left.conjunction.Goals as goal
 
 pub returns-in-Err-clause-reads : goal.returns-in-Err-clause-reads

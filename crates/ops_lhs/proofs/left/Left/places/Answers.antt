@@ -3,7 +3,7 @@ use Rattle.ops_base.specs.Valid.{most_fields}
 use Rattle.ops_meaning.specs.Grammar.{goes, after, InPattern, Several, within, place}
 use Rattle.ops_forms.proofs.Ways.{several_first}
 use Rattle.ops_lhs.specs.Taking.{seen}
-use Rattle.ops_lhs.proofs.Ways.{fails_as, fails_under}
+use Rattle.ops_forms.proofs.Walks.{fails_as, fails_under}
 use Rattle.ops_lhs.proofs.left.Left.places.Goals as goal
 
 pub returns-in-Err-clause-reads : goal.returns-in-Err-clause-reads

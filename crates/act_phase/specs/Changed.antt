@@ -1,0 +1,45 @@
+-- Working memory as a right side changes it.
+use Rattle.std.specs.Prelude.{◌≡◌, ℕ, ◌<◌, ◌≤◌, List, [], ◌∷◌, ◌++◌, Bool, not, ◌&&◌, ◌||◌, nat_lt, nat_le, if◌then◌else◌, true}
+use Rattle.ops_base.specs.declared.elements.Element.{Element}
+use Rattle.ops_base.specs.declared.elements.Change.{Change}
+use Rattle.ops_base.specs.declared.elements.Change.TheVariants as change
+use Rattle.ops_base.specs.WorkingMemory.{done}
+use Rattle.ops_meaning.specs.Acting.{has_tag}
+
+-- working memory at the start, the changes since then in order, and the last tag that was given
+pub record Changed : Type 0 where
+  pub start : List Element
+  pub changes : List Change
+  pub last : ℕ
+
+-- working memory now
+abbrev pub memory_of : Changed → List Element
+memory_of c = done c.start c.changes
+
+abbrev pub unchanged : List Element → ℕ → Changed
+unchanged start last = record { start = start; changes = []; last = last }
+
+-- one change more
+abbrev pub with_change : Changed → Change → Changed
+with_change c change = record c { changes = c.changes ++ change ∷ [] }
+
+-- the element of this tag is removed where it is present
+abbrev pub with_removed : Changed → ℕ → Changed
+with_removed c tag = if has_tag (memory_of c) tag then with_change c (change.Remove tag) else c
+
+-- an element with the next tag is added
+abbrev pub with_added : Changed → Element → Changed
+with_added c e = with_change (record c { last = e.tag }) (change.Add e)
+
+-- a tag that was given since the first of these
+abbrev pub is_new : ℕ → ℕ → ℕ → Bool
+is_new first next tag = nat_le first tag && nat_lt tag next
+
+-- Which tags are present after the changes: those of the start and the new ones, without those that are gone. A tag that is gone is
+-- below the next one, and a tag of the start is below the first new one.
+pub record AreCounted (start : List Element) (changes : List Change) (gone : ℕ → Bool) (first next : ℕ) : Type 0 where
+  pub present : (t : ℕ) → has_tag (done start changes) t ≡ (not (gone t) && (has_tag start t || is_new first next t))
+  pub positive : 0 < first
+  pub order : first ≤ next
+  pub gone_below : (t : ℕ) → gone t ≡ true → t < next
+  pub start_below : (t : ℕ) → has_tag start t ≡ true → t < first

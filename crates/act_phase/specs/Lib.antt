@@ -1,0 +1,4 @@
+-- What the contracts of right sides cite.
+pub mod Changed
+pub mod Outcomes
+pub mod State

@@ -1,0 +1,16 @@
+//! The right side of an instantiation, done over a store of working memory.
+#![tactic(auto)]
+
+mod acting;
+mod bindings;
+mod doing;
+mod fields;
+mod outcome;
+#[cfg(test)]
+mod tests;
+mod values;
+mod working;
+mod writing;
+
+pub use acting::act;
+pub use outcome::{ActFault, Acted};

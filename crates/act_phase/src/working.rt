@@ -1,0 +1,129 @@
+//! Working memory as a right side changes it.
+ghost use Rattle.std.specs.Prelude.{◌≡◌, ◌+◌, ◌-◌, ◌<◌, OnOk, fold, unwrap_or};
+ghost use Rattle.std.specs.Option.{option_copied};
+ghost use Rattle.ops_meaning.specs.Acting.{has_tag, no_element, made_last};
+ghost use Rattle.act_phase.specs.Changed.{memory_of, unchanged, with_removed, with_added};
+
+use ops_base::elements::{Change, Element};
+use ops_base::list::Listed;
+use ops_base::memory::OutOfMemory;
+use ops_base::values::Value;
+use std::alloc::Global;
+use std::collections::BTreeSet;
+use std::marker::Model;
+use work_store::Store;
+
+/// The changes of a right side so far, seen as those and the working memory that they began with. That is not copied: an
+/// element is present where it is in the store or was added, and was not removed.
+#[derive(Drop)]
+pub(crate) struct Working<'s> {
+    store: &'s Store,
+    changes: Vec<Change>,
+    // The tags that were removed.
+    gone: BTreeSet<u64>,
+    first_tag: u64,
+    next_tag: u64,
+}
+
+impl<'s> Model for Working<'s> {
+    ghost use Rattle.std.specs.Prelude.{◌-◌};
+    ghost use Rattle.std.specs.BTreeSet.{contains};
+    ghost use Rattle.std.specs.Ordering.{nat_cmp};
+    ghost use Rattle.act_phase.specs.Changed.{Changed, AreCounted};
+
+    ghost Value = { Changed };
+
+    ghost view = { λ w. record { start = w.store.now.elements; changes = w.changes.items; last = w.next_tag - 1 } };
+
+    ghost invariant = { λ w. AreCounted w.store.now.elements w.changes.items (contains nat_cmp w.gone) w.first_tag w.next_tag };
+}
+
+impl<'s> Working<'s> {
+    /// Nothing is changed yet. Takes no memory.
+    pub(crate) fn new(alloc: Global, store: &'s Store, next_tag: u64) -> Working<'s>
+        requires { store.now.last < next_tag }
+        ensures { result ≡ unchanged store.now.elements (next_tag - 1) }
+    {
+        let last = store.last();
+        prove!(last < next_tag);
+        Working {
+            store,
+            changes: Vec::new(alloc),
+            gone: BTreeSet::new(alloc),
+            first_tag: next_tag,
+            next_tag,
+        }
+    }
+
+    /// Working memory at the start.
+    pub(crate) fn store(&self) -> &'s Store
+        ensures { result.now.elements ≡ self.now.start }
+    {
+        self.store
+    }
+
+    /// Takes a time that grows with the logarithm of the numbers of elements and of removals.
+    fn is_present(&self, tag: u64) -> bool
+        ensures { result ≡ has_tag (memory_of self.now) tag }
+    {
+        if self.gone.contains(&tag) {
+            return false;
+        }
+        if self.store.get(tag).is_some() {
+            return true;
+        }
+        self.first_tag <= tag && tag < self.next_tag
+    }
+
+    /// Removes the element of a tag, where it is present.
+    pub(crate) fn remove(&mut self, tag: u64) -> Result<(), OutOfMemory>
+        ensures { OnOk result (self.new ≡ with_removed self.old tag) }
+    {
+        if self.is_present(tag) {
+            self.changes.reserve(1)?;
+            self.gone.insert(tag)?;
+            match self.changes.push(Change::Remove(tag)) {
+                Ok(()) => {}
+                Err(_) => unreachable!(),
+            }
+        }
+        Ok(())
+    }
+
+    /// Adds an element with the next tag. A session is over long before the tags are.
+    pub(crate) fn add(&mut self, class: usize, fields: Listed<Value>) -> Result<(), OutOfMemory>
+        ensures { OnOk result (self.new ≡ with_added self.old (record { tag = self.old.last + 1; class = class; fields = fields })) }
+    {
+        let tag = self.next_tag;
+        let Some(next_tag) = tag.checked_add(1) else {
+            return Err(OutOfMemory);
+        };
+        let element = Element { tag, class, fields };
+        self.changes.push(Change::Add(element))?;
+        self.next_tag = next_tag;
+        Ok(())
+    }
+
+    #[tactic(auto, using(crate::proofs::Counts::made_last_push))]
+    /// The element that was added last. Looks at the changes since then.
+    pub(crate) fn made_last(&self) -> Option<&Element>
+        ensures { unwrap_or (option_copied result) no_element ≡ made_last self.now.changes }
+    {
+        let mut left = self.changes.as_slice();
+        while let Some((last, before)) = left.split_last() {
+            if let Change::Add(element) = last {
+                return Some(element);
+            }
+            left = before;
+        }
+        None
+    }
+
+    /// The changes, and the next tag.
+    pub(crate) fn finish(self) -> (Vec<Change>, u64)
+        ensures changes { result.0.items ≡ self.entry.changes }
+        ensures tag { result.1 - 1 ≡ self.entry.last }
+    {
+        (self.changes, self.next_tag)
+    }
+}

@@ -1,0 +1,89 @@
+//! What ends while a text is read: the parts of a form become one of its parts.
+ghost use Rattle.std.specs.Prelude.{◌≡◌, ◌+◌, ◌++◌, List, ℕ, not, count_by, SomeIff, ◌<◌, ◌^◌};
+ghost use Rattle.ops_base.specs.Valid.{cells_of, specificity};
+ghost use Rattle.ops_meaning.specs.Grammar.{with_several, with_element, with_rule, InFixed};
+ghost use Rattle.ops_forms.specs.Going.{Becomes};
+ghost use Rattle.ops_rhs.specs.RightSides.{right_read};
+ghost use Rattle.ops_check.specs.Going.{view};
+
+use crate::draft::Draft;
+use ops_base::commands::{Command, Fixed};
+use ops_base::conditions::Condition;
+use ops_base::list::Listed;
+use ops_base::rules::Rule;
+use ops_forms::refusals::Refusal;
+use ops_rhs::RightSide;
+use std::mem;
+
+impl Draft {
+    // the values of the vector attribute of a command end
+    pub fn end_constants(&mut self, field: usize) -> Result<(), Refusal>
+        ensures { Becomes (view self.new) (with_several InFixed field (view self.old)) result }
+    {
+        let none = Vec::new(self.alloc);
+        let values = Listed::from_vec(mem::replace(&mut self.constants, none));
+        self.fixed.push(Fixed { field, values })?;
+        Ok(())
+    }
+
+    // a `make` ends
+    pub fn end_fixed(&mut self) -> Result<(), Refusal>
+        ensures { Becomes (view self.new) (with_element InFixed (view self.old)) result }
+    {
+        let none = Vec::new(self.alloc);
+        let puts = Listed::from_vec(mem::replace(&mut self.fixed, none));
+        let class = self.class;
+        self.add_command(Command::Make { class, puts })
+    }
+
+    // A production ends, with these conditions and this right side, before the byte `past`.
+    pub fn end_rule(
+        &mut self,
+        conditions: Vec<Condition>,
+        right: RightSide,
+        past: usize,
+    ) -> Result<(), Refusal>
+        ensures { (further : List ℕ) → right.sight.cells ≡ cells_of conditions.items ++ further
+            → Becomes (view self.new) (with_rule (right_read (record (view self.old) { conditions = conditions.items }) right.actions.items right.sight further) past) result }
+    {
+        // The tests of a text of 16,777,216 bytes can't be as many as a u32 doesn't hold.
+        let Some(specificity) = specificity(&conditions) else {
+            return Err(Refusal::OutOfMemory);
+        };
+        let RightSide { actions, sight } = right;
+        self.rules.push(Rule {
+            name: self.name,
+            conditions: Listed::from_vec(conditions),
+            actions: Listed::from_vec(actions),
+            specificity,
+            variables: sight.variables,
+            cells: sight.cells.len(),
+            first: self.first,
+            past,
+        })?;
+        self.class = 0;
+        self.values = sight.values;
+        self.elements = sight.elements;
+        self.variables = sight.variables;
+        Ok(())
+    }
+}
+
+// one per condition, and one per test that does not bind
+fn specificity(conditions: &[Condition]) -> Option<u32>
+    ensures { SomeIff result (specificity conditions.now < 2 ^ 32) (specificity conditions.now) }
+{
+    let mut total: u32 = 0;
+    for condition in conditions {
+        total = total.checked_add(specificity_of(condition)?)?;
+    }
+    Some(total)
+}
+
+fn specificity_of(condition: &Condition) -> Option<u32>
+    ensures { SomeIff result (1 + count_by (λ t. not t.binds) condition.now.tests < 2 ^ 32) (1 + count_by (λ t. not t.binds) condition.now.tests) }
+{
+    let tests = condition.tests.as_slice();
+    let tests = tests.iter().filter(|test| !test.binds).count();
+    u32::try_from(tests).ok()?.checked_add(1)
+}

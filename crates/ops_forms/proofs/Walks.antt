@@ -1,0 +1,62 @@
+-- Steps of a walk by places in words, in every state of a kind.
+use Rattle.std.proofs.Common.{◌≡◌, ℕ, List, [], ◌∷◌, None, Some, Result, Ok, Err, ◌∙◌}
+use Rattle.ops_base.specs.declared.endings.Fault.{Fault}
+use Rattle.ops_meaning.specs.declared.words.Word.{Word}
+use Rattle.ops_meaning.specs.Grammar.{Wanted, State}
+use Rattle.ops_forms.specs.declared.refusals.Refusal.{Refusal}
+use Rattle.ops_forms.specs.declared.refusals.Refusal.TheVariants as refusal
+use Rattle.ops_forms.specs.Walking.{Way, Fails, GoesOn, FailsAmong, GoesAmong, GoesToAmong}
+
+-- what fails on one way fails on a way that is the same
+pub fails_as : (from by : Way) → ((more : List Word) (ws : List Wanted) (s : State) → from more ws s ≡ by more ws s) → (e : Refusal) → Fails by e → Fails from e
+fails_as from by same refusal.OutOfMemory h = tt
+fails_as from by same (refusal.At f None) h = λ ws s. same [] ws s ∙ h ws s
+fails_as from by same (refusal.At f (Some w)) h = λ more ws s. same more ws s ∙ h more ws s
+
+-- what fails whatever is wanted afterwards fails where more is
+pub fails_under : (by : Way) (under : List Wanted → List Wanted) (e : Refusal) → Fails by e → Fails (λ more ws s. by more (under ws) s) e
+fails_under by under refusal.OutOfMemory h = tt
+fails_under by under (refusal.At f None) h = λ ws. h (under ws)
+fails_under by under (refusal.At f (Some w)) h = λ more ws. h more (under ws)
+
+pub goes_as : (from by : Way) → ((more : List Word) (ws : List Wanted) (s : State) → from more ws s ≡ by more ws s) → (words : List Word) (new : State → State) (r : Result ℕ Refusal) → GoesOn by words new r → GoesOn from words new r
+goes_as from by same words new (Ok next) h = λ more ws s. same more ws s ∙ h more ws s
+goes_as from by same words new (Err e) h = fails_as from by same e h
+
+module _ (holds : State → Type 0) where
+  pub fails_as_among : (from by : Way) → ((more : List Word) (ws : List Wanted) (s : State) → holds s → from more ws s ≡ by more ws s) → (e : Refusal) → FailsAmong holds by e → FailsAmong holds from e
+  fails_as_among from by same refusal.OutOfMemory h = tt
+  fails_as_among from by same (refusal.At f None) h = λ ws s i. same [] ws s i ∙ h ws s i
+  fails_as_among from by same (refusal.At f (Some w)) h = λ more ws s i. same more ws s i ∙ h more ws s i
+
+  pub fails_under_among : (by : Way) (under : List Wanted → List Wanted) (e : Refusal) → FailsAmong holds by e → FailsAmong holds (λ more ws s. by more (under ws) s) e
+  fails_under_among by under refusal.OutOfMemory h = tt
+  fails_under_among by under (refusal.At f None) h = λ ws. h (under ws)
+  fails_under_among by under (refusal.At f (Some w)) h = λ more ws. h more (under ws)
+
+  pub goes_as_among : (from by : Way) → ((more : List Word) (ws : List Wanted) (s : State) → holds s → from more ws s ≡ by more ws s) → (words : List Word) (new : State → State) (r : Result ℕ Refusal) → GoesAmong holds by words new r → GoesAmong holds from words new r
+  goes_as_among from by same words new (Ok next) h = λ more ws s i. same more ws s i ∙ h more ws s i
+  goes_as_among from by same words new (Err e) h = fails_as_among from by same e h
+
+  -- what a call fails in that is refused at a word
+  pub refused_among : (from : Way) (f : Fault) (w : Word) → ((more : List Word) (ws : List Wanted) (s : State) → holds s → from more ws s ≡ Err (f, Some w)) → (words : List Word) (new : State → State) (r : Result ℕ Refusal) → r ≡ Err (refusal.At f (Some w)) → GoesAmong holds from words new r
+  refused_among from f w h words new r e = rw e h
+
+  -- the same, up to where that is wanted
+  pub goes_to_as_among : (wanted : Wanted) (from by : Way) → ((more : List Word) (ws : List Wanted) (s : State) → holds s → from more ws s ≡ by more ws s) → (words : List Word) (new : State → State) (r : Result ℕ Refusal) → GoesToAmong holds wanted by words new r → GoesToAmong holds wanted from words new r
+  goes_to_as_among wanted from by same words new (Ok next) h = λ more ws s i. same more ws s i ∙ h more ws s i
+  goes_to_as_among wanted from by same words new (Err e) h = fails_as_among from by same e h
+
+  pub to_refused_among : (wanted : Wanted) (from : Way) (f : Fault) (w : Word) → ((more : List Word) (ws : List Wanted) (s : State) → holds s → from more ws s ≡ Err (f, Some w)) → (words : List Word) (new : State → State) (r : Result ℕ Refusal) → r ≡ Err (refusal.At f (Some w)) → GoesToAmong holds wanted from words new r
+  to_refused_among wanted from f w h words new r e = rw e h
+
+  -- what is read whatever is wanted afterwards is read up to what is
+  pub goes_to_among : (wanted : Wanted) (by : Way) (words : List Word) (new : State → State) (r : Result ℕ Refusal) → GoesAmong holds by words new r → GoesToAmong holds wanted (λ more ws s. by more (wanted ∷ ws) s) words new r
+  goes_to_among wanted by words new (Ok next) h = λ more ws. h more (wanted ∷ ws)
+  goes_to_among wanted by words new (Err e) h = fails_under_among by (λ ws. wanted ∷ ws) e h
+
+  -- a refusal in every state
+  pub fails_anywhere : (from by : Way) → ((more : List Word) (ws : List Wanted) (s : State) → holds s → from more ws s ≡ by more ws s) → (e : Refusal) → Fails by e → FailsAmong holds from e
+  fails_anywhere from by same refusal.OutOfMemory h = tt
+  fails_anywhere from by same (refusal.At f None) h = λ ws s i. same [] ws s i ∙ h ws s
+  fails_anywhere from by same (refusal.At f (Some w)) h = λ more ws s i. same more ws s i ∙ h more ws s

@@ -1,0 +1,96 @@
+-- How a walk by places in words goes along with the definition's, in every state of a kind.
+use Rattle.std.specs.Prelude.{◌≡◌, ℕ, ◌+◌, ◌≤◌, List, [], ◌∷◌, ◌++◌, drop, length, Some, None, Result, Ok, Err}
+use Rattle.ops_base.specs.declared.endings.Fault.TheVariants as fault
+use Rattle.ops_tokens.specs.declared.token.Token.{Token}
+use Rattle.ops_meaning.specs.declared.words.Word.{Word}
+use Rattle.ops_meaning.specs.Words.{words_from}
+use Rattle.ops_meaning.specs.Grammar.{Ends, Wanted, Closes, State, Outcome, goes, ended}
+use Rattle.ops_forms.specs.declared.refusals.Refusal.{Refusal}
+use Rattle.ops_forms.specs.declared.refusals.Refusal.TheVariants as refusal
+use Rattle.ops_forms.specs.declared.refusals.ReadFault.{ReadFault}
+use Rattle.ops_forms.specs.declared.refusals.ReadFault.TheVariants as answer
+use Rattle.ops_forms.specs.declared.scope.Scope.{Scope}
+
+-- how it goes with more words behind, with more wanted afterwards, and with that state around
+abbrev pub Way : Type 0
+Way = List Word → List Wanted → State → Outcome
+
+-- A refusal is the one that this ends in: at a word whatever stands behind it, and at none where none does.
+abbrev pub Fails : Way → Refusal → Type 0
+Fails from refusal.OutOfMemory = Unit {0}
+Fails from (refusal.At f None) = (ws : List Wanted) (s : State) → from [] ws s ≡ Err (f, None)
+Fails from (refusal.At f (Some w)) = (more : List Word) (ws : List Wanted) (s : State) → from more ws s ≡ Err (f, Some w)
+
+-- How it goes from here is how it goes in the words from the next place on from the new state, or it is the refusal. Memory may
+-- run out.
+abbrev pub GoesOn : Way → List Word → (State → State) → Result ℕ Refusal → Type 0
+GoesOn from words new (Ok next) = (more : List Word) (ws : List Wanted) (s : State) → from more ws s ≡ goes (drop next words ++ more) ws (new s)
+GoesOn from words new (Err e) = Fails from e
+
+-- ---- in each state of which something holds
+
+abbrev pub FailsAmong : (State → Type 0) → Way → Refusal → Type 0
+FailsAmong holds from refusal.OutOfMemory = Unit {0}
+FailsAmong holds from (refusal.At f None) = (ws : List Wanted) (s : State) → holds s → from [] ws s ≡ Err (f, None)
+FailsAmong holds from (refusal.At f (Some w)) = (more : List Word) (ws : List Wanted) (s : State) → holds s → from more ws s ≡ Err (f, Some w)
+
+abbrev pub GoesAmong : (State → Type 0) → Way → List Word → (State → State) → Result ℕ Refusal → Type 0
+GoesAmong holds from words new (Ok next) = (more : List Word) (ws : List Wanted) (s : State) → holds s → from more ws s ≡ goes (drop next words ++ more) ws (new s)
+GoesAmong holds from words new (Err e) = FailsAmong holds from e
+
+-- the same, where that is wanted afterwards
+abbrev pub GoesToAmong : (State → Type 0) → Wanted → Way → List Word → (State → State) → Result ℕ Refusal → Type 0
+GoesToAmong holds w from words new (Ok next) = (more : List Word) (ws : List Wanted) (s : State) → holds s → from more ws s ≡ goes (drop next words ++ more) (w ∷ ws) (new s)
+GoesToAmong holds w from words new (Err e) = FailsAmong holds from e
+
+-- ---- words
+
+-- the word at a place, with the place behind it, or the refusal of a text that ends in a form
+abbrev pub Takes : List Word → ℕ → Result (Word × ℕ) Refusal → Type 0
+Takes words at (Ok x) = (drop at words ≡ x.0 ∷ drop x.1 words) × (x.1 ≡ at + 1) × (x.1 ≤ length words)
+Takes words at (Err e) = (drop at words ≡ []) × (e ≡ refusal.At fault.Unclosed None)
+
+-- a call read a closing bracket, whatever it ends
+abbrev pub ReadsClosing : List Word → ℕ → Result ℕ Refusal → Type 0
+ReadsClosing words at (Ok next) = (e : Ends) (more : List Word) (ws : List Wanted) (s : State) → goes (drop at words ++ more) (Closes e ∷ ws) s ≡ goes (drop next words ++ more) ws (ended e s)
+ReadsClosing words at (Err refusal.OutOfMemory) = ⊥
+ReadsClosing words at (Err (refusal.At f None)) = (e : Ends) (ws : List Wanted) (s : State) → goes (drop at words ++ []) (Closes e ∷ ws) s ≡ Err (f, None)
+ReadsClosing words at (Err (refusal.At f (Some w))) = (e : Ends) (more : List Word) (ws : List Wanted) (s : State) → goes (drop at words ++ more) (Closes e ∷ ws) s ≡ Err (f, Some w)
+
+-- a refusal without a word is that of an open form
+abbrev pub IsPlaced : Refusal → Type 0
+IsPlaced refusal.OutOfMemory = Unit {0}
+IsPlaced (refusal.At f None) = f ≡ fault.Unclosed
+IsPlaced (refusal.At f (Some w)) = Unit {0}
+
+-- the next place is not before that one, or it is such a refusal
+abbrev pub IsFrom : ℕ → Result ℕ Refusal → Type 0
+IsFrom at (Ok next) = at ≤ next
+IsFrom at (Err e) = IsPlaced e
+
+-- these words stand behind a word of that kind in those
+pub record AreBehind (is_it : Word → Type 0) (words rest : List Word) : Type 0 where
+  pub before : List Word
+  pub last : Word
+  pub split : words ≡ before ++ last ∷ rest
+  pub is : is_it last
+
+-- a word of that kind stands right before the next place
+pub record IsBehind (is_it : Word → Type 0) (words : List Word) (next : ℕ) : Type 0 where
+  pub before : ℕ
+  pub last : Word
+  pub there : drop before words ≡ last ∷ drop next words
+  pub is : is_it last
+  pub within : next ≤ length words
+
+-- ---- of tokens
+
+-- the words of the tokens from a place on, in the text and with the names of a scope
+abbrev pub words_of_scope : Scope → List Token → ℕ → List Word
+words_of_scope scope tokens from = words_from scope.text.items scope.names (drop from tokens)
+
+-- the fault of a refusal, where the tokens end at that byte
+abbrev pub fault_of : Refusal → ℕ → ReadFault
+fault_of refusal.OutOfMemory past = answer.OutOfMemory
+fault_of (refusal.At f (Some w)) past = answer.At f w.first
+fault_of (refusal.At f None) past = answer.At f past

@@ -1,0 +1,66 @@
+//! Steps of a walk by places in words.
+ghost use Rattle.std.specs.Prelude.{◌≡◌};
+ghost use Rattle.ops_forms.specs.Forms.{past_last};
+ghost use Rattle.ops_forms.specs.Walking.{Takes, ReadsClosing, IsFrom, fault_of};
+
+use crate::kinds::is_right;
+use crate::refusals::{ReadFault, Refusal, refused};
+use ops_base::endings::Fault;
+use ops_meaning::Word;
+use ops_tokens::Token;
+
+/// The word at a place, and the place behind it.
+pub fn first_of(words: &[Word], at: usize) -> Result<(Word, usize), Refusal>
+    ensures { Takes words.now at result }
+{
+    match words.get(at) {
+        Some(word) => Ok((*word, at + 1)),
+        None => Err(Refusal::At {
+            fault: Fault::Unclosed,
+            word: None,
+        }),
+    }
+}
+
+/// A closing bracket at a place, and the place behind it.
+#[tactic(auto, unfolding(ops_meaning::specs::Grammar::goes, ops_meaning::specs::Grammar::step, ops_meaning::specs::Grammar::ends))]
+pub fn closing(words: &[Word], at: usize) -> Result<usize, Refusal>
+    ensures reads { ReadsClosing words.now at result }
+    ensures within { IsFrom at result }
+{
+    let (word, rest) = first_of(words, at)?;
+    if !is_right(word.kind) {
+        return refused(Fault::BadForm, word);
+    }
+    Ok(rest)
+}
+
+/// A refusal stands at the first byte of its word, and one without a word at the byte past the last token.
+pub fn fault_of(refusal: Refusal, tokens: &[Token]) -> ReadFault
+    ensures { result ≡ fault_of refusal (past_last 0 tokens.now) }
+{
+    match refusal {
+        Refusal::At {
+            fault,
+            word: Some(word),
+        } => ReadFault::At {
+            fault,
+            at: word.first,
+        },
+        Refusal::At { fault, word: None } => ReadFault::At {
+            fault,
+            at: past_of(tokens),
+        },
+        Refusal::OutOfMemory => ReadFault::OutOfMemory,
+    }
+}
+
+// the byte past the last token
+fn past_of(tokens: &[Token]) -> usize
+    ensures { result ≡ past_last 0 tokens.now }
+{
+    match tokens.last() {
+        Some(token) => token.past,
+        None => 0,
+    }
+}

@@ -1,0 +1,10 @@
+-- How a value stands behind what was printed before it.
+use Rattle.ops_meaning.specs.Layout as layout
+use Rattle.ops_print.specs.declared.values.Lead.{Lead}
+use Rattle.ops_print.specs.declared.values.Lead.TheVariants.{Apart, Close, RightIn}
+
+-- the definition's word for it
+abbrev pub lead_of : Lead → layout.Lead
+lead_of Apart = layout.Apart
+lead_of Close = layout.Close
+lead_of (RightIn width) = layout.RightIn width

@@ -1,0 +1,104 @@
+//! The line that tells how a run ended.
+ghost use Rattle.std.specs.Prelude.{◌≡◌, ◌^◌, ◌<◌, [], ◌∷◌, ◌++◌, IsTrue, OnErr, false, codes, decimal};
+ghost use Rattle.ops_io.specs.Ports.{port, PutsBytes};
+ghost use Rattle.ops_meaning.specs.Layout.{act_fault_text, last_line, line_at, rule_name, symbol_text};
+
+use crate::lines::fresh_line;
+use crate::pieces::put_numbered;
+use crate::symbols::put_symbol;
+use ops_base::endings::{ActKind, Ending};
+use ops_base::programs::Program;
+use ops_base::rules::Rule;
+use ops_base::symbols::Names;
+use ops_base::values::Sym;
+use ops_io::{Out, Sink, WriteFailed};
+
+/// What a firing could not do, and the end of the line.
+fn act_fault_end(kind: ActKind) -> &'static [u8]
+    ensures { result.now ≡ act_fault_text kind ++ 10 ∷ [] }
+{
+    match kind {
+        ActKind::NotNumber => b"not a number\n",
+        ActKind::ZeroDivisor => b"zero divisor\n",
+        ActKind::Overflow => b"overflow\n",
+        ActKind::TooManyFields => b"too many fields\n",
+        ActKind::InputTooLong => b"input too long\n",
+    }
+}
+
+fn rule_name(rules: &[Rule], rule: usize) -> Sym
+    ensures { result ≡ rule_name rules.now rule }
+{
+    match rules.get(rule) {
+        Some(found) => found.name,
+        None => Sym(0),
+    }
+}
+
+/// Puts the line that tells what an action of the rule of this name could not do.
+fn put_act_fault<K: Sink>(
+    out: &mut Out,
+    sink: &mut K,
+    names: &Names,
+    rule: Sym,
+    firing: u64,
+    action: usize,
+    kind: ActKind,
+) -> Result<(), WriteFailed>
+    requires whole { IsTrue out.old.whole }
+    requires faults { K.faults sink.old < 2 ^ 63 }
+    ensures puts { PutsBytes result (port (K.taken sink.old) (K.faults sink.old) out.old)
+        (port (K.taken sink.new) (K.faults sink.new) out.new)
+        (line_at out.old.column (codes "ops: firing " ++ decimal firing ++ codes ": " ++ symbol_text names.now rule
+        ++ codes ": action " ++ decimal action ++ codes ": " ++ act_fault_text kind)) }
+    ensures broken { OnErr result (out.new.whole ≡ false) }
+{
+    fresh_line(out, sink)?;
+    put_numbered(out, sink, b"ops: firing ", firing, b": ")?;
+    put_symbol(out, sink, names, &rule)?;
+    put_numbered(out, sink, b": action ", action as u64, b": ")?;
+    out.put(sink, act_fault_end(kind))
+}
+
+/// Puts the line that tells that so many firings were reached.
+fn put_limit<K: Sink>(out: &mut Out, sink: &mut K, firings: u64) -> Result<(), WriteFailed>
+    requires whole { IsTrue out.old.whole }
+    requires faults { K.faults sink.old < 2 ^ 63 }
+    ensures puts { PutsBytes result (port (K.taken sink.old) (K.faults sink.old) out.old)
+        (port (K.taken sink.new) (K.faults sink.new) out.new)
+        (line_at out.old.column (codes "ops: limit of " ++ decimal firings ++ codes " firings reached")) }
+    ensures broken { OnErr result (out.new.whole ≡ false) }
+{
+    fresh_line(out, sink)?;
+    put_numbered(out, sink, b"ops: limit of ", firings, b" firings reached\n")
+}
+
+/// Puts the line that tells an ending, from its fresh line to its LF, and nothing for an ending that has none.
+pub fn put_fault<K: Sink>(
+    out: &mut Out,
+    sink: &mut K,
+    names: &Names,
+    program: &Program,
+    item: &Ending,
+) -> Result<(), WriteFailed>
+    requires whole { IsTrue out.old.whole }
+    requires faults { K.faults sink.old < 2 ^ 63 }
+    ensures puts { PutsBytes result (port (K.taken sink.old) (K.faults sink.old) out.old)
+        (port (K.taken sink.new) (K.faults sink.new) out.new)
+        (last_line names.now program.now.rules out.old.column item.now) }
+    ensures broken { OnErr result (out.new.whole ≡ false) }
+{
+    match *item {
+        Ending::Act {
+            firing,
+            rule,
+            action,
+            kind,
+        } => {
+            let name = rule_name(program.rules.as_slice(), rule);
+            put_act_fault(out, sink, names, name, firing, action, kind)
+        }
+        Ending::Limit { firings } => put_limit(out, sink, firings),
+        _ => Ok(()),
+    }
+}

@@ -1,0 +1,92 @@
+-- Where a right side begins and ends among its words and its tokens.
+use Rattle.std.proofs.Common.{◌≡◌, ℕ, ◌+◌, ◌-◌, ◌≤◌, List, [], ◌∷◌, ◌++◌, length, take, drop, true, None, Some, refl, sym, ap, ◌∙◌, subst, arith}
+use Rattle.std.proofs.lemmas.List.{take_all, length-drop}
+use Rattle.ops_base.specs.declared.elements.Class.{Class}
+use Rattle.ops_base.specs.declared.actions.Action.{Action}
+use Rattle.ops_tokens.specs.declared.token.Token.{Token}
+use Rattle.ops_meaning.specs.declared.words.Word.{Word}
+use Rattle.ops_meaning.specs.Words.{names_from}
+use Rattle.ops_meaning.specs.Grammar.{State, Wanted, Actions, goes, step, is_right, right_begun, nothing_read, with_rule}
+use Rattle.ops_forms.specs.Forms.{past_last}
+use Rattle.ops_forms.specs.Walking.{IsBehind, IsPlaced, words_of_scope, fault_of}
+use Rattle.ops_forms.specs.declared.refusals.Refusal.{Refusal}
+use Rattle.ops_forms.specs.declared.refusals.Refusal.TheVariants as refusal
+use Rattle.ops_forms.specs.declared.scope.Scope.{Scope}
+use Rattle.ops_forms.proofs.Borders.{behind_is, begins, rest_is, last_is}
+use Rattle.ops_rhs.specs.declared.right.Around.{Around}
+use Rattle.ops_rhs.specs.declared.right.Right.{Right}
+use Rattle.ops_rhs.specs.declared.sides.Sight.{Sight}
+use Rattle.ops_rhs.specs.RightSides.{Sees, IsBracket, ReadsRight, RefusesRight, IsBracketAt, IsRightSide, IsRefused, at_word, at_end, right_read, sight_of}
+use Rattle.ops_rhs.specs.Taking.{seen, view, IsAround, IsClosing}
+
+-- ---- of words
+
+-- what is read of a right side, in that state, as it is in this one
+abbrev as_in : State → State → State
+as_in s x =
+    record s {
+      class = x.class;
+      terms = x.terms;
+      constants = x.constants;
+      puts = x.puts;
+      cells = x.cells;
+      items = x.items;
+      values = x.values;
+      elements = x.elements;
+      variables = x.variables;
+      actions = x.actions;
+      modified = x.modified;
+      made = x.made;
+      further = x.further;
+      variable = x.variable;
+      source = x.source;
+      source_field = x.source_field;
+    }
+
+-- the state in which a right side begins
+abbrev begun_with : Sight → State
+begun_with sight = record (right_begun nothing_read) { values = sight.values; elements = sight.elements; variables = sight.variables }
+
+begun_is : (classes : List Class) (sight : Sight) (begun : Right) → view begun ≡ begun_with sight → (s : State) → Sees classes sight s → right_begun s ≡ seen s begun
+begun_is classes sight begun started s v =
+    let here : right_begun s ≡ as_in s (begun_with sight) = rw (v.constants_are, v.values_are, v.elements_are, v.variables_are) refl in
+    here ∙ ap (as_in s) (sym started)
+
+closed : (words rest more : List Word) (w : Word) (ws : List Wanted) (s : State) → words ≡ w ∷ rest → is_right w.kind ≡ true → goes (words ++ more) (Actions ∷ ws) s ≡ goes (rest ++ more) ws (with_rule s w.past)
+unfolding goes step
+closed words rest more w ws s e is = rw (e, is) refl
+
+module _ (classes : List Class) (sight : Sight) (words : List Word) (around : Around) (begun new : Right) (place : ℕ) where
+  pub right_side_is : (cells : List ℕ) → view begun ≡ begun_with sight → around.classes.now ≡ classes → around.cells.now ≡ sight.cells → around.conditions.now ≡ sight.conditions → ((more : List Word) (ws : List Wanted) (s : State) → IsAround around s → goes (words ++ more) (Actions ∷ ws) (seen s begun) ≡ goes (drop place words ++ more) (Actions ∷ ws) (seen s new)) → IsClosing words place → cells ≡ sight.cells ++ new.further.items → ReadsRight classes sight words (take (length words - (place + 1)) (drop (place + 1) words)) new.actions.items (record { values = new.values; elements = new.elements; cells = cells; conditions = sight.conditions; variables = new.variables })
+  right_side_is cells started declared filled placed reads closing grown =
+      let behind : IsBehind IsBracket words (place + 1) = record { before = place; last = closing.bracket; there = closing.there; is = closing.is; within = closing.within } in
+      let whole : take (length words - (place + 1)) (drop (place + 1) words) ≡ drop (place + 1) words = take_all (length words - (place + 1)) (drop (place + 1) words) (omega (arith, length-drop (place + 1) words)) in
+      record {
+        behind = behind_is IsBracket words (place + 1) behind;
+        further = new.further.items;
+        cells = grown;
+        conditions = refl;
+        reads = λ s v more ws.
+            ap (goes (words ++ more) (Actions ∷ ws)) (begun_is classes sight begun started s v)
+            ∙ reads more ws s (record { classes = v.classes_are ∙ sym declared; cells = v.cells_are ∙ sym filled; conditions = v.conditions_are ∙ sym placed })
+            ∙ closed (drop place words) (drop (place + 1) words) more closing.bracket ws (seen s new) closing.there closing.is
+            ∙ ap (λ (rest : List Word). goes (rest ++ more) ws (with_rule (seen s new) closing.bracket.past)) (sym whole)
+            ∙ ap (λ xs. goes (take (length words - (place + 1)) (drop (place + 1) words) ++ more) ws (with_rule (record (seen s new) { constants = xs }) closing.bracket.past)) (sym v.constants_are);
+      }
+
+-- ---- of tokens
+
+pub right_side_at : (scope new : Scope) (tokens : List Token) (from : ℕ) (rest : List Word) (actions : List Action) → from ≤ length tokens → ReadsRight scope.classes (sight_of scope) (words_of_scope scope tokens from) rest actions (sight_of new) → new.names ≡ names_from scope.text.items scope.names (drop from tokens) → IsRightSide scope new tokens from actions (length tokens - length rest - 1)
+right_side_at scope new tokens from rest actions le r names =
+    let found = last_is IsBracket scope tokens from rest le r.behind in
+    record {
+      begins = begins IsBracket scope tokens from rest le r.behind;
+      bracket = record { token = found.token; there = found.there; is = ap is_right found.kind ∙ r.behind.is };
+      reads = subst (λ (more : List Word). ReadsRight scope.classes (sight_of scope) (words_of_scope scope tokens from) more actions (sight_of new)) (sym (rest_is IsBracket scope tokens from rest le r.behind)) r;
+      names = names;
+    }
+
+pub refused_is : (scope : Scope) (tokens : List Token) (from : ℕ) (e : Refusal) → IsPlaced e → RefusesRight scope.classes (sight_of scope) (words_of_scope scope tokens from) e → IsRefused scope tokens from (fault_of e (past_last 0 tokens))
+refused_is scope tokens from refusal.OutOfMemory placed h = tt
+refused_is scope tokens from (refusal.At f (Some w)) placed h = at_word f w h
+refused_is scope tokens from (refusal.At f None) placed h = rw placed (at_end (rw placed at h))

@@ -1,0 +1,42 @@
+use Rattle.std.proofs.Common.{◌≡◌, ◌∷◌, ◌++◌, ◌∙◌, sym, ap, true, Some, [], drop, slice_get, List}
+use Rattle.ops_base.specs.declared.actions.Term.{Term}
+use Rattle.ops_base.specs.declared.elements.Class.{Class}
+use Rattle.ops_base.specs.declared.endings.Fault.TheVariants as fault
+use Rattle.ops_meaning.specs.Grammar.{goes, is_name, InPut, ToPut, Terms, Several, ValueFor}
+use Rattle.ops_forms.proofs.Walks.{goes_to_as_among, to_refused_among, goes_to_among}
+use Rattle.ops_forms.proofs.Ways.{attribute_unknown, attribute_several, attribute_one}
+use Rattle.ops_rhs.specs.Taking.{seen, IsAround}
+use Rattle.ops_rhs.proofs.right.Right.attribute.Goals as goal
+
+pub returns-in_default-field_of-clause-reads : goal.returns-in_default-field_of-clause-reads
+returns-in_default-field_of-clause-reads c =
+    let w = c.in_ok-word.word in
+    let r = c.args.self.now in
+    let named : is_name w.kind ≡ true = sym c.is_name.ensures ∙ c.if-not-is_name.false in
+    let there : slice_get c.args.around.now.classes.now r.class ≡ Some c.in-Some.class.now = sym c.in-Some.ensures in
+    to_refused_among (IsAround c.args.around.now) (Terms InPut) _ fault.UnknownAttribute w
+    (λ more ws s i. attribute_unknown InPut c.in-Some.class.now (drop c.args.at c.args.words.now) (drop c.in_ok-word.rest c.args.words.now) more w ws (seen s r) c.in_ok-word.ensures.0 named (ap (λ (cs : List Class). slice_get cs r.class) i.classes ∙ there) (sym c.field_of.ensures ∙ c.in_default-field_of.is))
+    c.args.words.now (λ s. seen s r) _ c.refused-in_default-field_of.ensures
+
+pub returns-then-is_vector-clause-reads : goal.returns-then-is_vector-clause-reads
+returns-then-is_vector-clause-reads c =
+    let w = c.in_ok-word.word in
+    let r = c.args.self.now in
+    let named : is_name w.kind ≡ true = sym c.is_name.ensures ∙ c.if-not-is_name.false in
+    let there : slice_get c.args.around.now.classes.now r.class ≡ Some c.in-Some.class.now = sym c.in-Some.ensures in
+    goes_to_as_among (IsAround c.args.around.now) (Terms InPut) _ _
+    (λ more ws s i. attribute_several InPut c.in-Some.class.now (drop c.args.at c.args.words.now) (drop c.in_ok-word.rest c.args.words.now) more w ws (seen s r) c.in_ok-word.ensures.0 named (ap (λ (cs : List Class). slice_get cs r.class) i.classes ∙ there) c.in-Some-field_of.field (sym c.in-Some-field_of.ensures) (sym c.is_vector.ensures ∙ c.if-is_vector.true)
+    ∙ ap (λ (ts : List Term). goes (drop c.in_ok-word.rest c.args.words.now ++ more) (Several InPut c.in-Some-field_of.field ∷ ws) (record (seen s r) { terms = ts; constants = [] })) (sym c.clear.ensures.items))
+    c.args.words.now (λ s. seen s c.several.new.self) c.several.result c.several.ensures.reads
+
+pub returns-clause-reads : goal.returns-clause-reads
+returns-clause-reads c =
+    let w = c.in_ok-word.word in
+    let r = c.args.self.now in
+    let f = c.in-Some-field_of.field in
+    let named : is_name w.kind ≡ true = sym c.is_name.ensures ∙ c.if-not-is_name.false in
+    let there : slice_get c.args.around.now.classes.now r.class ≡ Some c.in-Some.class.now = sym c.in-Some.ensures in
+    goes_to_as_among (IsAround c.args.around.now) (Terms InPut) _ _
+    (λ more ws s i. attribute_one InPut c.in-Some.class.now (drop c.args.at c.args.words.now) (drop c.in_ok-word.rest c.args.words.now) more w ws (seen s r) c.in_ok-word.ensures.0 named (ap (λ (cs : List Class). slice_get cs r.class) i.classes ∙ there) f (sym c.in-Some-field_of.ensures) (sym c.is_vector.ensures ∙ c.if-is_vector.false))
+    c.args.words.now (λ s. seen s c.value_of.new.self) c.value_of.result
+    (goes_to_among (IsAround c.args.around.now) (Terms InPut) (λ more ws s. goes (drop c.in_ok-word.rest c.args.words.now ++ more) (ValueFor (ToPut f) ∷ ws) (seen s r)) c.args.words.now (λ s. seen s c.value_of.new.self) c.value_of.result c.value_of.ensures.reads)

@@ -1,0 +1,14 @@
+use Rattle.std.proofs.Common.{◌≡◌, List, length, ◌∷◌, ◌++◌, ◌≤◌, ◌-◌, drop}
+use Rattle.ops_meaning.specs.declared.words.Word.{Word}
+use Rattle.ops_meaning.specs.Grammar.{State, Wanted, Items, goes}
+use Rattle.ops_rhs.specs.Taking.{seen, IsAround}
+use Rattle.ops_rhs.proofs.right.Right.write.Given as goal
+
+abbrev pub invariant-items : goal.invariant-items
+invariant-items l = record {
+  same : (more : List Word) (ws : List Wanted) (s : State) → IsAround l.around s → goes (drop l.fn.at l.words ++ more) (Items ∷ ws) (seen s l.fn.self) ≡ goes (drop l.rest l.words ++ more) (Items ∷ ws) (seen s l.self);
+  from : l.fn.at ≤ l.rest;
+}
+
+abbrev pub decreases-items : goal.decreases-items
+decreases-items l = length l.words - l.rest

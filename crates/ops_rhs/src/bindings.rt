@@ -1,0 +1,81 @@
+//! The actions that bind a variable to a value or to a cell.
+ghost use Rattle.std.specs.Prelude.{◌≡◌, ◌∷◌, ◌++◌, drop};
+ghost use Rattle.ops_meaning.specs.Grammar.{goes, ToBind, BoundName, CellName, ValueFor, Closes, EndsWhole};
+ghost use Rattle.ops_forms.specs.Walking.{GoesAmong, IsFrom};
+ghost use Rattle.ops_rhs.specs.Taking.{seen, IsAround, Reads, ReadsAnywhere};
+
+use crate::right::{Around, Right, Target};
+use ops_base::endings::Fault;
+use ops_forms::Refusal;
+use ops_forms::kinds::is_variable;
+use ops_forms::refusals::refused;
+use ops_forms::walking::{closing, first_of};
+use ops_meaning::Word;
+
+impl Right {
+    // VARIABLE value )
+    pub fn bind(&mut self, around: &Around, words: &[Word], at: usize) -> Result<usize, Refusal>
+        ensures reads { GoesAmong (IsAround around.now) (λ more ws s. goes (drop at words.now ++ more) (BoundName ∷ ValueFor ToBind ∷ Closes EndsWhole ∷ ws) (seen s self.old)) words.now (λ s. seen s self.new) result }
+        ensures within { IsFrom at result }
+    {
+        match self.bound_name(words, at) {
+            Ok(rest) => return self.bound_value(around, words, rest),
+            Err(refusal) => return Err(refusal),
+        }
+    }
+
+    // VARIABLE
+    #[tactic(auto, unfolding(ops_meaning::specs::Grammar::goes, ops_meaning::specs::Grammar::step, ops_meaning::specs::Grammar::ends))]
+    fn bound_name(&mut self, words: &[Word], at: usize) -> Result<usize, Refusal>
+        ensures reads { ReadsAnywhere BoundName self.old self.new words.now at result }
+        ensures within { IsFrom at result }
+    {
+        let (word, rest) = first_of(words, at)?;
+        if !is_variable(word.kind) {
+            return refused(Fault::BadForm, word);
+        }
+        self.variable = word.name;
+        Ok(rest)
+    }
+
+    // value )
+    fn bound_value(&mut self, around: &Around, words: &[Word], at: usize) -> Result<usize, Refusal>
+        ensures reads { GoesAmong (IsAround around.now) (λ more ws s. goes (drop at words.now ++ more) (ValueFor ToBind ∷ Closes EndsWhole ∷ ws) (seen s self.old)) words.now (λ s. seen s self.new) result }
+        ensures within { IsFrom at result }
+    {
+        match self.value_of(around, Target::Bind, words, at) {
+            Ok(rest) => return closing(words, rest),
+            Err(refusal) => return Err(refusal),
+        }
+    }
+}
+
+impl Right {
+    // VARIABLE )
+    pub fn cbind(&mut self, around: &Around, words: &[Word], at: usize) -> Result<usize, Refusal>
+        ensures reads { GoesAmong (IsAround around.now) (λ more ws s. goes (drop at words.now ++ more) (CellName ∷ Closes EndsWhole ∷ ws) (seen s self.old)) words.now (λ s. seen s self.new) result }
+        ensures within { IsFrom at result }
+    {
+        match self.cell_name(around, words, at) {
+            Ok(rest) => return closing(words, rest),
+            Err(refusal) => return Err(refusal),
+        }
+    }
+
+    // VARIABLE, for the element that was made last
+    #[tactic(auto, unfolding(ops_meaning::specs::Grammar::goes, ops_meaning::specs::Grammar::step, ops_meaning::specs::Grammar::ends))]
+    fn cell_name(&mut self, around: &Around, words: &[Word], at: usize) -> Result<usize, Refusal>
+        ensures reads { Reads around.now CellName self.old self.new words.now at result }
+        ensures within { IsFrom at result }
+    {
+        let (word, rest) = first_of(words, at)?;
+        if !is_variable(word.kind) {
+            return refused(Fault::BadForm, word);
+        }
+        let Some(class) = self.made else {
+            return refused(Fault::BadDesignator, word);
+        };
+        self.add_cell(around, class, word.name)?;
+        Ok(rest)
+    }
+}

@@ -1,0 +1,146 @@
+//! The designators of the elements that a right side speaks of.
+ghost use Rattle.std.specs.Prelude.{◌≡◌, ◌∷◌, ◌++◌, drop, slice_get};
+ghost use Rattle.ops_meaning.specs.Grammar.{State, goes, cell, cell_of, named_cell, natural_of, number_of, InPut, Cell, Cells, Modified, Terms};
+ghost use Rattle.ops_forms.specs.Walking.{GoesAmong, IsFrom};
+ghost use Rattle.ops_rhs.specs.Taking.{seen, numbered_by, cell_by, IsAround, Reads, Acts};
+
+use crate::right::{Around, Right};
+use ops_base::endings::Fault;
+use ops_base::values::Sym;
+use ops_forms::kinds::{is_right, natural_of};
+use ops_forms::refusals::refused;
+use ops_forms::walking::first_of;
+use ops_forms::{Refusal, number_of};
+use ops_meaning::Word;
+use ops_tokens::TokenKind;
+
+impl Right {
+    // DESIGNATOR DESIGNATOR* )
+    #[tactic(auto, unfolding(ops_meaning::specs::Grammar::goes, ops_meaning::specs::Grammar::step, ops_meaning::specs::Grammar::ends))]
+    pub fn remove(&mut self, around: &Around, words: &[Word], at: usize) -> Result<usize, Refusal>
+        ensures reads { GoesAmong (IsAround around.now) (λ more ws s. goes (drop at words.now ++ more) (Cell ∷ Cells ∷ ws) (seen s self.old)) words.now (λ s. seen s self.new) result }
+        ensures within { IsFrom at result }
+    {
+        let (word, rest) = first_of(words, at)?;
+        match self.cell(around, word, words, rest) {
+            Ok(rest) => return self.remove_cells(around, words, rest),
+            Err(refusal) => return Err(refusal),
+        }
+    }
+
+    // DESIGNATOR* )
+    #[tactic(auto, unfolding(ops_meaning::specs::Grammar::goes, ops_meaning::specs::Grammar::step, ops_meaning::specs::Grammar::ends))]
+    fn remove_cells(&mut self, around: &Around, words: &[Word], at: usize) -> Result<usize, Refusal>
+        ensures reads { Reads around.now Cells self.old self.new words.now at result }
+        ensures within { IsFrom at result }
+    {
+        let mut rest = at;
+        'cells: loop {
+            let (word, after) = first_of(words, rest)?;
+            if is_right(word.kind) {
+                self.end_remove()?;
+                return Ok(after);
+            }
+            match self.cell(around, word, words, after) {
+                Ok(next) => rest = next,
+                Err(refusal) => return Err(refusal),
+            }
+        }
+    }
+
+    // DESIGNATOR, which is the word
+    fn cell(
+        &mut self,
+        around: &Around,
+        word: Word,
+        words: &[Word],
+        at: usize,
+    ) -> Result<usize, Refusal>
+        ensures acts { Acts around.now (λ ws s. cell word.kind word.name ws s) word self.old self.new words.now at result }
+        ensures within { IsFrom at result }
+    {
+        match self.cell_of(around, word) {
+            Ok(cell) => {
+                self.cells.push(cell)?;
+                Ok(at)
+            }
+            Err(fault) => refused(fault, word),
+        }
+    }
+}
+
+impl Right {
+    // DESIGNATOR put* )
+    pub fn modify(&mut self, around: &Around, words: &[Word], at: usize) -> Result<usize, Refusal>
+        ensures reads { GoesAmong (IsAround around.now) (λ more ws s. goes (drop at words.now ++ more) (Modified ∷ Terms InPut ∷ ws) (seen s self.old)) words.now (λ s. seen s self.new) result }
+        ensures within { IsFrom at result }
+    {
+        match self.modified_cell(around, words, at) {
+            Ok(rest) => return self.terms(around, words, rest),
+            Err(refusal) => return Err(refusal),
+        }
+    }
+
+    // DESIGNATOR
+    #[tactic(auto, unfolding(ops_meaning::specs::Grammar::goes, ops_meaning::specs::Grammar::step, ops_meaning::specs::Grammar::ends))]
+    fn modified_cell(
+        &mut self,
+        around: &Around,
+        words: &[Word],
+        at: usize,
+    ) -> Result<usize, Refusal>
+        ensures reads { Reads around.now Modified self.old self.new words.now at result }
+        ensures within { IsFrom at result }
+    {
+        let (word, rest) = first_of(words, at)?;
+        match self.cell_of(around, word) {
+            Ok(cell) => {
+                self.modified = Some(cell);
+                self.class = self.class_of_cell(around, cell);
+                Ok(rest)
+            }
+            Err(fault) => refused(fault, word),
+        }
+    }
+}
+
+impl Right {
+    // the cell that a word designates: by the number of a condition, or by an element variable
+    fn cell_of(&self, around: &Around, word: Word) -> Result<usize, Fault>
+        ensures { (s : State) → IsAround around.now s → result ≡ cell_of word.kind word.name (seen s self.now) }
+    {
+        match word.kind {
+            TokenKind::Whole(number) => numbered_cell(around, number),
+            TokenKind::Variable => self.named_cell(word.name),
+            _ => Err(Fault::BadForm),
+        }
+    }
+
+    // an element variable, which a condition or a `cbind` before it must bind
+    fn named_cell(&self, name: Sym) -> Result<usize, Fault>
+        ensures { result ≡ named_cell (number_of name self.now.elements) }
+    {
+        number_of(&self.elements, name).ok_or(Fault::BadDesignator)
+    }
+}
+
+// The number of a condition is counted from 1.
+fn numbered_cell(around: &Around, number: i64) -> Result<usize, Fault>
+    ensures { result ≡ numbered_by (natural_of number) around.now.conditions.now }
+{
+    match natural_of(number) {
+        Some(natural) => designated(around, natural - 1),
+        None => Err(Fault::BadDesignator),
+    }
+}
+
+// The condition behind so many is positive. Where each before it is too, as many cells stand before its cell.
+fn designated(around: &Around, before: usize) -> Result<usize, Fault>
+    ensures { result ≡ cell_by before (slice_get around.now.conditions.now before) }
+{
+    match around.conditions.get(before) {
+        Some(Some(cell)) if *cell == before => Ok(before),
+        Some(Some(_)) => Err(Fault::AmbiguousDesignator),
+        _ => Err(Fault::BadDesignator),
+    }
+}

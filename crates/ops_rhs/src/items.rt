@@ -1,0 +1,113 @@
+//! What `write` prints.
+ghost use Rattle.std.specs.Prelude.{◌≡◌, ◌∷◌, ◌++◌, drop, if◌then◌else◌};
+ghost use Rattle.ops_meaning.specs.Grammar.{goes, value_for, is_left, column_item, ToItem, Items, ItemWord, Columns, Closes, EndsCrlf, EndsWhole, Next};
+ghost use Rattle.ops_forms.specs.Walking.{GoesOn, IsFrom};
+ghost use Rattle.ops_rhs.specs.Taking.{seen, column_of, Reads, Acts, ReadsAnywhere};
+
+use crate::right::{Around, Column, Right, Target};
+use ops_base::actions::Item;
+use ops_base::endings::Fault;
+use ops_forms::Refusal;
+use ops_forms::kinds::{is_left, is_right, small_of};
+use ops_forms::refusals::refused;
+use ops_forms::walking::{closing, first_of};
+use ops_meaning::{Keyword, Word};
+
+impl Right {
+    // item* )
+    #[tactic(auto, unfolding(ops_meaning::specs::Grammar::goes, ops_meaning::specs::Grammar::step, ops_meaning::specs::Grammar::ends))]
+    pub fn write(&mut self, around: &Around, words: &[Word], at: usize) -> Result<usize, Refusal>
+        ensures reads { Reads around.now Items self.old self.new words.now at result }
+        ensures within { IsFrom at result }
+    {
+        let mut rest = at;
+        'items: loop {
+            let (word, after) = first_of(words, rest)?;
+            if is_right(word.kind) {
+                self.end_write()?;
+                return Ok(after);
+            }
+            match self.item(around, word, words, after) {
+                Ok(next) => rest = next,
+                Err(refusal) => return Err(refusal),
+            }
+        }
+    }
+
+    // ( item in brackets | value, of which the first word is taken
+    fn item(
+        &mut self,
+        around: &Around,
+        word: Word,
+        words: &[Word],
+        at: usize,
+    ) -> Result<usize, Refusal>
+        ensures acts { Acts around.now (λ ws s. if is_left word.kind then Next (ItemWord ∷ ws) s else value_for ToItem word ws s) word self.old self.new words.now at result }
+        ensures within { IsFrom at result }
+    {
+        if is_left(word.kind) {
+            return self.item_word(around, words, at);
+        }
+        self.value(around, Target::Item, word, words, at)
+    }
+
+    // crlf ) | tabto SMALL ) | rjust SMALL ) | substr VARIABLE ATTR ATTR ) | substr VARIABLE ATTR inf )
+    #[tactic(auto, unfolding(ops_meaning::specs::Grammar::goes, ops_meaning::specs::Grammar::step, ops_meaning::specs::Grammar::ends))]
+    fn item_word(&mut self, around: &Around, words: &[Word], at: usize) -> Result<usize, Refusal>
+        ensures reads { Reads around.now ItemWord self.old self.new words.now at result }
+        ensures within { IsFrom at result }
+    {
+        let (word, rest) = first_of(words, at)?;
+        match word.keyword {
+            Keyword::Crlf => self.crlf(words, rest),
+            Keyword::Tabto => self.columns(Column::Tab, words, rest),
+            Keyword::Rjust => self.columns(Column::Right, words, rest),
+            Keyword::Substr => self.substr(around, Target::Item, words, rest),
+            _ => refused(Fault::BadForm, word),
+        }
+    }
+
+    // )
+    fn crlf(&mut self, words: &[Word], at: usize) -> Result<usize, Refusal>
+        ensures reads { ReadsAnywhere (Closes EndsCrlf) self.old self.new words.now at result }
+        ensures within { IsFrom at result }
+    {
+        let rest = closing(words, at)?;
+        self.add_item(Item::Crlf)?;
+        Ok(rest)
+    }
+
+    // SMALL )
+    fn columns(&mut self, column: Column, words: &[Word], at: usize) -> Result<usize, Refusal>
+        ensures reads { GoesOn (λ more ws s. goes (drop at words.now ++ more) (Columns (column_of column) ∷ Closes EndsWhole ∷ ws) (seen s self.old)) words.now (λ s. seen s self.new) result }
+        ensures within { IsFrom at result }
+    {
+        match self.small(column, words, at) {
+            Ok(rest) => return closing(words, rest),
+            Err(refusal) => return Err(refusal),
+        }
+    }
+
+    // SMALL
+    #[tactic(auto, unfolding(ops_meaning::specs::Grammar::goes, ops_meaning::specs::Grammar::step, ops_meaning::specs::Grammar::ends))]
+    fn small(&mut self, column: Column, words: &[Word], at: usize) -> Result<usize, Refusal>
+        ensures reads { ReadsAnywhere (Columns (column_of column)) self.old self.new words.now at result }
+        ensures within { IsFrom at result }
+    {
+        let (word, rest) = first_of(words, at)?;
+        let Some(columns) = small_of(word.kind) else {
+            return refused(Fault::BadForm, word);
+        };
+        self.add_item(column_item(column, columns))?;
+        Ok(rest)
+    }
+}
+
+fn column_item(column: Column, columns: u16) -> Item
+    ensures { result ≡ column_item (column_of column) columns }
+{
+    match column {
+        Column::Tab => Item::TabTo(columns),
+        Column::Right => Item::RightIn(columns),
+    }
+}

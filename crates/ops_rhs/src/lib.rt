@@ -1,0 +1,19 @@
+//! Reading the right side of a production: its actions, and what they leave in sight.
+#![tactic(auto)]
+
+mod actions;
+mod bindings;
+mod cells;
+mod designators;
+mod items;
+mod puts;
+mod reading;
+mod right;
+pub mod sides;
+mod substr;
+#[cfg(test)]
+mod tests;
+mod values;
+
+pub use reading::{read_rhs, right_side};
+pub use sides::{RightSide, Sight};

@@ -1,0 +1,208 @@
+//! What was read so far of a right side, and how it grows.
+ghost use Rattle.std.specs.Prelude.{◌≡◌, ◌++◌, ◌∷◌, None};
+ghost use Rattle.ops_meaning.specs.Grammar.{nothing_read, right_begun, number_of, with_action, with_item, with_put, with_bind, with_several, with_element, with_remove, with_write, put_action, InPut};
+ghost use Rattle.ops_forms.specs.Going.{Becomes};
+ghost use Rattle.ops_rhs.specs.Taking.{view, with_term};
+
+use ops_base::actions::{Action, Item, Put, Term};
+use ops_base::list::Listed;
+use ops_base::values::{NIL, Sym};
+use ops_forms::{Classes, Declared, Named, Refusal, number_of};
+use std::alloc::Global;
+use std::mem;
+
+/// What stands around a right side: the declared classes, the class of the cell of each positive condition, and the cell of each
+/// condition, `None` for a negated one.
+#[derive(Clone, Copy)]
+pub struct Around<'a> {
+    pub classes: &'a Classes,
+    pub cells: &'a [usize],
+    pub conditions: &'a [Option<usize>],
+}
+
+/// Where a value goes: to a scalar attribute, among the values of the vector attribute, to `write`, or to `bind`.
+#[derive(Clone, Copy, Debug, PartialEq, Eq)]
+pub enum Target {
+    Put { field: usize },
+    Terms,
+    Item,
+    Bind,
+}
+
+/// What a number of columns is for.
+#[derive(Clone, Copy, Debug, PartialEq, Eq)]
+pub enum Column {
+    Tab,
+    Right,
+}
+
+/// What was read so far of a right side.
+#[derive(Drop)]
+pub struct Right {
+    pub class: usize,
+    pub terms: Vec<Term>,
+    pub puts: Vec<Put>,
+    pub cells: Vec<usize>,
+    pub items: Vec<Item>,
+    pub values: Declared<Named>,
+    pub elements: Declared<Named>,
+    pub variables: usize,
+    pub actions: Vec<Action>,
+    /// The cell that a `modify` names, none in a `make`.
+    pub modified: Option<usize>,
+    /// The class of the element that was made last.
+    pub made: Option<usize>,
+    /// The classes of the cells that `cbind` named.
+    pub further: Vec<usize>,
+    /// The variable of a `bind`.
+    pub variable: Sym,
+    /// The cell and the field of a `substr`.
+    pub source: usize,
+    pub source_field: usize,
+    pub alloc: Global,
+}
+
+impl Right {
+    pub fn new(
+        alloc: Global,
+        values: Declared<Named>,
+        elements: Declared<Named>,
+        variables: usize,
+    ) -> Right
+        ensures { view result ≡ record (right_begun nothing_read) { values = values; elements = elements; variables = variables } }
+    {
+        Right {
+            class: 0,
+            terms: Vec::new(alloc),
+            puts: Vec::new(alloc),
+            cells: Vec::new(alloc),
+            items: Vec::new(alloc),
+            values,
+            elements,
+            variables,
+            actions: Vec::new(alloc),
+            modified: None,
+            made: None,
+            further: Vec::new(alloc),
+            variable: NIL,
+            source: 0,
+            source_field: 0,
+            alloc,
+        }
+    }
+
+    pub fn add_action(&mut self, action: Action) -> Result<(), Refusal>
+        ensures { Becomes (view self.new) (with_action (view self.old) action) result }
+    {
+        self.actions.push(action)?;
+        Ok(())
+    }
+
+    pub fn add_item(&mut self, item: Item) -> Result<(), Refusal>
+        ensures { Becomes (view self.new) (with_item (view self.old) item) result }
+    {
+        self.items.push(item)?;
+        Ok(())
+    }
+}
+
+impl Right {
+    // a value goes where it belongs
+    pub fn add(&mut self, target: Target, term: Term) -> Result<(), Refusal>
+        ensures { Becomes (view self.new) (with_term target (view self.old) term) result }
+    {
+        match target {
+            Target::Put { field } => self.add_put(field, term),
+            Target::Terms => {
+                self.terms.push(term)?;
+                Ok(())
+            }
+            Target::Item => self.add_item(Item::Print(term)),
+            Target::Bind => self.add_bind(term),
+        }
+    }
+
+    fn add_put(&mut self, field: usize, term: Term) -> Result<(), Refusal>
+        ensures { Becomes (view self.new) (with_put (view self.old) field term) result }
+    {
+        let mut terms = Listed::new(self.alloc);
+        terms.push(term)?;
+        self.puts.push(Put { field, terms })?;
+        Ok(())
+    }
+
+    // A variable that is in sight keeps its number when it is bound again.
+    fn add_bind(&mut self, term: Term) -> Result<(), Refusal>
+        ensures { Becomes (view self.new) (with_bind (number_of (view self.old).variable (view self.old).values) (view self.old) term) result }
+    {
+        match number_of(&self.values, self.variable) {
+            Some(variable) => self.add_action(Action::Bind { variable, term }),
+            None => self.add_first_bind(term),
+        }
+    }
+
+    // A variable that is not in sight gets the next number.
+    fn add_first_bind(&mut self, term: Term) -> Result<(), Refusal>
+        ensures { Becomes (view self.new) (with_bind None (view self.old) term) result }
+    {
+        let number = self.variables;
+        self.values.push(Named {
+            name: self.variable,
+            number,
+        })?;
+        self.variables = number.checked_add(1).ok_or(Refusal::OutOfMemory)?;
+        self.add_action(Action::Bind {
+            variable: number,
+            term,
+        })
+    }
+}
+
+impl Right {
+    // the values of the vector attribute end
+    pub fn end_terms(&mut self, field: usize) -> Result<(), Refusal>
+        ensures { Becomes (view self.new) (with_several InPut field (view self.old)) result }
+    {
+        let none = Vec::new(self.alloc);
+        let terms = Listed::from_vec(mem::replace(&mut self.terms, none));
+        self.puts.push(Put { field, terms })?;
+        Ok(())
+    }
+
+    // a `make` or a `modify` ends
+    pub fn end_puts(&mut self) -> Result<(), Refusal>
+        ensures { Becomes (view self.new) (with_element InPut (view self.old)) result }
+    {
+        let none = Vec::new(self.alloc);
+        let puts = Listed::from_vec(mem::replace(&mut self.puts, none));
+        let class = self.class;
+        self.made = Some(class);
+        self.add_action(put_action(self.modified, class, puts))
+    }
+
+    pub fn end_remove(&mut self) -> Result<(), Refusal>
+        ensures { Becomes (view self.new) (with_remove (view self.old)) result }
+    {
+        let none = Vec::new(self.alloc);
+        let cells = Listed::from_vec(mem::replace(&mut self.cells, none));
+        self.add_action(Action::Remove { cells })
+    }
+
+    pub fn end_write(&mut self) -> Result<(), Refusal>
+        ensures { Becomes (view self.new) (with_write (view self.old)) result }
+    {
+        let none = Vec::new(self.alloc);
+        let items = Listed::from_vec(mem::replace(&mut self.items, none));
+        self.add_action(Action::Write { items })
+    }
+}
+
+// a `make` of this class, or a `modify` of the cell
+fn put_action(modified: Option<usize>, class: usize, puts: Listed<Put>) -> Action
+    ensures { result ≡ put_action modified class puts }
+{
+    match modified {
+        None => Action::Make { class, puts },
+        Some(cell) => Action::Modify { cell, puts },
+    }
+}

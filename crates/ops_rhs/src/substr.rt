@@ -1,0 +1,172 @@
+//! The function `substr`, which reads the values of a cell's element.
+ghost use Rattle.std.specs.Prelude.{◌≡◌, ◌∷◌, ◌++◌, ◌==◌, drop, position};
+ghost use Rattle.ops_base.specs.Valid.{class_of, is_vector};
+ghost use Rattle.ops_meaning.specs.Grammar.{goes, takes_several, Function, SourceCell, SourceAttribute, SourceEnd, Closes, EndsWhole};
+ghost use Rattle.ops_forms.specs.Walking.{GoesAmong, IsFrom};
+ghost use Rattle.ops_rhs.specs.Taking.{seen, target_of, source_class, IsAround, Reads, ReadsAnywhere};
+
+use crate::right::{Around, Right, Target};
+use ops_base::actions::Term;
+use ops_base::endings::Fault;
+use ops_base::values::Sym;
+use ops_forms::fields::{field_of, is_vector};
+use ops_forms::kinds::{is_inf, is_name, is_variable};
+use ops_forms::refusals::refused;
+use ops_forms::walking::{closing, first_of};
+use ops_forms::{Refusal, number_of};
+use ops_meaning::{Keyword, Word};
+
+impl Right {
+    // substr VARIABLE ATTR ATTR ) | substr VARIABLE ATTR inf )
+    #[tactic(auto, unfolding(ops_meaning::specs::Grammar::goes, ops_meaning::specs::Grammar::step, ops_meaning::specs::Grammar::ends))]
+    pub fn function(
+        &mut self,
+        around: &Around,
+        target: Target,
+        words: &[Word],
+        at: usize,
+    ) -> Result<usize, Refusal>
+        ensures reads { Reads around.now (Function (target_of target)) self.old self.new words.now at result }
+        ensures within { IsFrom at result }
+    {
+        let (word, rest) = first_of(words, at)?;
+        match word.keyword {
+            Keyword::Substr => self.substr(around, target, words, rest),
+            _ => refused(Fault::BadForm, word),
+        }
+    }
+
+    // VARIABLE ATTR ATTR ) | VARIABLE ATTR inf )
+    pub fn substr(
+        &mut self,
+        around: &Around,
+        target: Target,
+        words: &[Word],
+        at: usize,
+    ) -> Result<usize, Refusal>
+        ensures reads { GoesAmong (IsAround around.now) (λ more ws s. goes (drop at words.now ++ more) (SourceCell ∷ SourceAttribute (target_of target) ∷ ws) (seen s self.old)) words.now (λ s. seen s self.new) result }
+        ensures within { IsFrom at result }
+    {
+        match self.source_cell(words, at) {
+            Ok(rest) => return self.source_attribute(around, target, words, rest),
+            Err(refusal) => return Err(refusal),
+        }
+    }
+
+    // VARIABLE
+    #[tactic(auto, unfolding(ops_meaning::specs::Grammar::goes, ops_meaning::specs::Grammar::step, ops_meaning::specs::Grammar::ends))]
+    fn source_cell(&mut self, words: &[Word], at: usize) -> Result<usize, Refusal>
+        ensures reads { ReadsAnywhere SourceCell self.old self.new words.now at result }
+        ensures within { IsFrom at result }
+    {
+        let (word, rest) = first_of(words, at)?;
+        if !is_variable(word.kind) {
+            return refused(Fault::BadForm, word);
+        }
+        let Some(cell) = number_of(&self.elements, word.name) else {
+            return refused(Fault::BadDesignator, word);
+        };
+        self.source = cell;
+        Ok(rest)
+    }
+
+    // ATTR ATTR ) | ATTR inf )
+    #[tactic(auto, unfolding(ops_meaning::specs::Grammar::goes, ops_meaning::specs::Grammar::step, ops_meaning::specs::Grammar::ends))]
+    fn source_attribute(
+        &mut self,
+        around: &Around,
+        target: Target,
+        words: &[Word],
+        at: usize,
+    ) -> Result<usize, Refusal>
+        ensures reads { Reads around.now (SourceAttribute (target_of target)) self.old self.new words.now at result }
+        ensures within { IsFrom at result }
+    {
+        let (word, rest) = first_of(words, at)?;
+        if !is_name(word.kind) {
+            return refused(Fault::BadForm, word);
+        }
+        let Some(field) = self.field_of_source(around, word.name) else {
+            return refused(Fault::UnknownAttribute, word);
+        };
+        self.source_field = field;
+        self.source_ends(around, target, word.name, words, rest)
+    }
+
+    // ATTR ) | inf ), behind this name
+    fn source_ends(
+        &mut self,
+        around: &Around,
+        target: Target,
+        name: Sym,
+        words: &[Word],
+        at: usize,
+    ) -> Result<usize, Refusal>
+        ensures reads { GoesAmong (IsAround around.now) (λ more ws s. goes (drop at words.now ++ more) (SourceEnd (target_of target) name ∷ Closes EndsWhole ∷ ws) (seen s self.old)) words.now (λ s. seen s self.new) result }
+        ensures within { IsFrom at result }
+    {
+        match self.source_end(around, target, name, words, at) {
+            Ok(rest) => return closing(words, rest),
+            Err(refusal) => return Err(refusal),
+        }
+    }
+
+    // ATTR | inf, behind this name
+    #[tactic(auto, unfolding(ops_meaning::specs::Grammar::goes, ops_meaning::specs::Grammar::step, ops_meaning::specs::Grammar::ends))]
+    fn source_end(
+        &mut self,
+        around: &Around,
+        target: Target,
+        name: Sym,
+        words: &[Word],
+        at: usize,
+    ) -> Result<usize, Refusal>
+        ensures reads { Reads around.now (SourceEnd (target_of target) name) self.old self.new words.now at result }
+        ensures within { IsFrom at result }
+    {
+        let (word, rest) = first_of(words, at)?;
+        let (cell, field) = (self.source, self.source_field);
+        if is_inf(word.keyword) && self.is_source_vector(around) {
+            if !takes_several(target) {
+                return refused(Fault::BadForm, word);
+            }
+            self.add(target, Term::Rest { cell })?;
+            return Ok(rest);
+        }
+        if !is_name(word.kind) || word.name != name {
+            return refused(Fault::BadForm, word);
+        }
+        self.add(target, Term::One { cell, field })?;
+        Ok(rest)
+    }
+}
+
+impl Right {
+    // the field of an attribute of the class of the cell that `substr` reads
+    fn field_of_source(&self, around: &Around, name: Sym) -> Option<usize>
+        ensures { result ≡ position (λ a. a.0 == name.0) (source_class around.now self.now).attrs }
+    {
+        let class = around.classes.get(self.class_of_cell(around, self.source))?;
+        field_of(class, name)
+    }
+
+    // the field that `substr` reads is the vector attribute of that class
+    fn is_source_vector(&self, around: &Around) -> bool
+        ensures { result ≡ is_vector (source_class around.now self.now) self.now.source_field }
+    {
+        match around.classes.get(self.class_of_cell(around, self.source)) {
+            Some(class) => is_vector(class, self.source_field),
+            None => false,
+        }
+    }
+}
+
+// several values may stand there
+fn takes_several(target: Target) -> bool
+    ensures { result ≡ takes_several (target_of target) }
+{
+    match target {
+        Target::Terms | Target::Item => true,
+        Target::Put { .. } | Target::Bind => false,
+    }
+}
