@@ -1,6 +1,10 @@
+pub mod Atoms
+pub mod Computed
 pub mod Counts
+pub mod Deeds
+pub mod Evaluating
+pub mod Items
+pub mod Onward
 pub mod Placing
-pub mod Performing
 pub mod States
 pub mod Steps
-pub mod Items

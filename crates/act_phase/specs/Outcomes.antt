@@ -1,32 +1,55 @@
--- What the answers of a right side stand for.
-use Rattle.std.specs.Prelude.{◌≡◌, ℕ, ◌-◌, List, Option, Some, None, Result, Ok, Err, option_map}
-use Rattle.ops_base.specs.declared.endings.ActKind.TheVariants as act_fault
-use Rattle.ops_base.specs.declared.values.Value.{Value}
+-- What the answers of a right side and of its actions stand for.
+use Rattle.std.specs.Prelude.{◌-◌, Bool, true, false, Result, Ok, Err}
 use Rattle.ops_base.specs.Names.{Spellings}
 use Rattle.ops_base.specs.declared.programs.Program.{Program}
+use Rattle.ops_io.specs.Coming.{Coming}
 use Rattle.ops_io.specs.declared.stop.Stop.TheVariants as stop
-use Rattle.ops_meaning.specs.Acting.{Setting, Doing, Misdeed, Acted as Meant}
+use Rattle.ops_meaning.specs.Acting.{Setting, Acted as Meant, Misdeed, Bad, NoInput, Mishap as Missed, Fault, Unread}
 use Rattle.ops_meaning.specs.Effects.{Failure, OfPort, OfEffect}
 use Rattle.act_phase.specs.declared.outcome.ActFault.{ActFault}
 use Rattle.act_phase.specs.declared.outcome.ActFault.TheVariants as fault
 use Rattle.act_phase.specs.declared.outcome.Acted.{Acted}
+use Rattle.act_phase.specs.declared.outcome.Mishap.{Mishap}
+use Rattle.act_phase.specs.declared.outcome.Mishap.TheVariants as mishap
 
 -- what a right side of a program stands in
-abbrev pub setting_of : Spellings → Program → Setting
-setting_of names p = record { names = names; classes = p.classes; rules = p.rules }
+abbrev pub setting_of : Program → Setting
+setting_of p = record { classes = p.classes; rules = p.rules }
 
-abbrev pub acted_of : Acted → Meant
-acted_of a = record { changes = a.changes; last = a.next_tag - 1; halted = a.halted }
+abbrev pub acted_of : Acted → Spellings → Coming → Meant
+acted_of a names coming = record { changes = a.changes; last = a.next_tag - 1; halted = a.halted; names = names; coming = coming }
 
 abbrev pub failure_of : ActFault → Failure Misdeed
-failure_of (fault.Bad action kind) = OfEffect (record { action = action; kind = kind })
+failure_of (fault.Bad action kind) = OfEffect (Bad action kind)
+failure_of fault.Read = OfEffect NoInput
 failure_of fault.Write = OfPort stop.Write
 failure_of fault.OutOfMemory = OfPort stop.OutOfMemory
 
--- What an action leaves that makes an element of these fields, where there are not too many of them: what follows from the fields,
--- or a fault of the action with this number.
-abbrev pub Makes : {X : Type 0} → Result X ActFault → ℕ → Option (List Value) → (List Value → Doing) → Doing → Type 0
-Makes (Ok x) number fields next now = option_map next fields ≡ Some now
-Makes (Err (fault.Bad action kind)) number fields next now = (fields ≡ None) × (action ≡ number) × (kind ≡ act_fault.TooManyFields)
-Makes (Err fault.Write) number fields next now = ⊥
-Makes (Err fault.OutOfMemory) number fields next now = Unit {0}
+-- the same of one action
+abbrev pub mishap_of : Mishap → Failure Missed
+mishap_of (mishap.Fault kind) = OfEffect (Fault kind)
+mishap_of mishap.Read = OfEffect Unread
+mishap_of mishap.Write = OfPort stop.Write
+mishap_of mishap.OutOfMemory = OfPort stop.OutOfMemory
+
+-- ---- whether a read has failed
+
+abbrev pub is_read : ActFault → Bool
+is_read (fault.Bad action kind) = false
+is_read fault.Read = true
+is_read fault.Write = false
+is_read fault.OutOfMemory = false
+
+abbrev pub is_read_mishap : Mishap → Bool
+is_read_mishap (mishap.Fault kind) = false
+is_read_mishap mishap.Read = true
+is_read_mishap mishap.Write = false
+is_read_mishap mishap.OutOfMemory = false
+
+-- it failed, and for a reason that passes the test
+abbrev pub fails_by : {X F : Type 0} → (F → Bool) → Result X F → Bool
+fails_by test (Ok x) = false
+fails_by test (Err f) = test f
+
+abbrev pub is_unread : {X : Type 0} → Result X ActFault → Bool
+is_unread r = fails_by is_read r

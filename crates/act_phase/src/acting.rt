@@ -1,79 +1,119 @@
 //! The actions of a right side, in order.
-ghost use Rattle.std.specs.Prelude.{◌≡◌, ◌^◌, ◌<◌, ◌-◌, ◌≤◌, IsTrue, IfOk, OnOk, fold, true};
+ghost use Rattle.std.specs.Prelude.{◌≡◌, ◌^◌, ◌<◌, ◌-◌, ◌≤◌, ℕ, List, IsTrue, IfOk, OnOk, fold, slice_get, Some};
+ghost use Rattle.ops_base.specs.Names.{Spellings};
 ghost use Rattle.ops_base.specs.Valid.{class_of};
 ghost use Rattle.ops_base.specs.WorkingMemory.{Lawful};
+ghost use Rattle.ops_io.specs.Coming.{Coming, inlet};
 ghost use Rattle.ops_io.specs.Ports.{port};
-ghost use Rattle.ops_meaning.specs.Acting.{cell_of, made_fields, modified_fields, added, modified, removed, action_done, actions_done, acted, actions_of, conditions_of};
-ghost use Rattle.ops_meaning.specs.Effects.{Performs};
-ghost use Rattle.act_phase.specs.Outcomes.{setting_of, acted_of, failure_of, Makes};
+ghost use Rattle.ops_meaning.specs.Acting.{cell_of, removed, added, modified, bound, first_of, evaluated, made_fields, modified_fields, action_done, actions_done, in_action, acted, actions_of, conditions_of};
+ghost use Rattle.ops_meaning.specs.Effects.{PerformsOn, CountsReads, told_as, silent, followed_by};
+ghost use Rattle.act_phase.specs.Deeds.{Acts, Does, scene};
+ghost use Rattle.act_phase.specs.Outcomes.{setting_of, acted_of, failure_of, is_read, is_unread};
 ghost use Rattle.act_phase.specs.State.{doing_of};
 
 use crate::doing::Doing;
 use crate::fields::{made_fields, modified_fields};
-use crate::outcome::{ActFault, Acted};
-use crate::values::term_value;
+use crate::outcome::{ActFault, Acted, Mishap};
+use crate::values::evaluate;
 use crate::writing::put_items;
-use ops_base::actions::{Action, Put};
+use ops_base::actions::{Action, Put, Term};
 use ops_base::conditions::Condition;
 use ops_base::elements::Class;
-use ops_base::endings::ActKind;
 use ops_base::memory::OutOfMemory;
 use ops_base::programs::Program;
 use ops_base::rules::Inst;
 use ops_base::symbols::Names;
-use ops_io::{Out, Sink};
+use ops_io::{Input, Out, Sink, Source};
 use std::alloc::Global;
 use work_store::Store;
 
-/// A fault of the action with this number.
-fn too_many_fields(number: usize) -> ActFault
-    ensures { result ≡ ActFault.Bad number ActKind.TooManyFields }
-{
-    ActFault::Bad {
-        action: number,
-        kind: ActKind::TooManyFields,
-    }
-}
-
-/// Makes an element. Where it has too many fields nothing is done.
-fn make(
+/// Makes an element, once all its values are placed.
+fn make<I: Source, K: Sink>(
     alloc: Global,
     classes: &[Class],
+    names: &mut Names,
     doing: &mut Doing<'_>,
-    number: usize,
     class: usize,
     puts: &[Put],
-) -> Result<(), ActFault>
-    ensures { Makes result number (made_fields classes.now (doing_of doing.old) (class_of classes.now class) puts.now)
-        (added (doing_of doing.old) class) (doing_of doing.new) }
+    input: &mut Input,
+    source: &mut I,
+    out: &mut Out,
+    sink: &mut K,
+) -> Result<(), Mishap>
+    requires whole { IsTrue out.old.whole }
+    requires writes { K.faults sink.old < 2 ^ 63 }
+    requires reads { I.faults source.old < 2 ^ 63 }
+    ensures { Acts (λ _ c. doing_of doing.new names.new c) result
+        (scene names.old input.old (I.left source.old) (I.faults source.old) (K.taken sink.old) (K.faults sink.old) out.old)
+        (scene names.new input.new (I.left source.new) (I.faults source.new) (K.taken sink.new) (K.faults sink.new) out.new)
+        (λ c. silent (followed_by (made_fields classes.now (class_of classes.now class) puts.now (doing_of doing.old names.old c))
+        (λ f. Ok (added f.doing class f.fields)))) }
 {
-    match made_fields(alloc, classes, doing, class, puts)? {
-        Some(fields) => Ok(doing.make(class, fields)?),
-        None => Err(too_many_fields(number)),
-    }
+    let fields = made_fields(
+        alloc, classes, names, doing, class, puts, input, source, out, sink,
+    )?;
+    Ok(doing.make(class, fields)?)
 }
 
-/// Puts a copy with other fields in the place of a cell's element. Where it has too many fields nothing is done.
-fn modify(
+/// Puts a copy with other fields in the place of a cell's element, once all its values are placed.
+fn modify<I: Source, K: Sink>(
     alloc: Global,
     classes: &[Class],
+    names: &mut Names,
     doing: &mut Doing<'_>,
-    number: usize,
     cell: usize,
     puts: &[Put],
-) -> Result<(), ActFault>
-    ensures { Makes result number (modified_fields classes.now (doing_of doing.old) puts.now (cell_of (doing_of doing.old) cell).fields)
-        (modified (doing_of doing.old) cell) (doing_of doing.new) }
+    input: &mut Input,
+    source: &mut I,
+    out: &mut Out,
+    sink: &mut K,
+) -> Result<(), Mishap>
+    requires whole { IsTrue out.old.whole }
+    requires writes { K.faults sink.old < 2 ^ 63 }
+    requires reads { I.faults source.old < 2 ^ 63 }
+    ensures { Acts (λ _ c. doing_of doing.new names.new c) result
+        (scene names.old input.old (I.left source.old) (I.faults source.old) (K.taken sink.old) (K.faults sink.old) out.old)
+        (scene names.new input.new (I.left source.new) (I.faults source.new) (K.taken sink.new) (K.faults sink.new) out.new)
+        (λ c. silent (followed_by (modified_fields classes.now puts.now cell (doing_of doing.old names.old c))
+        (λ f. Ok (modified f.doing cell f.fields)))) }
 {
-    match modified_fields(alloc, classes, doing, cell, puts)? {
-        Some(fields) => Ok(doing.modify(alloc, cell, fields)?),
-        None => Err(too_many_fields(number)),
-    }
+    let fields = modified_fields(
+        alloc, classes, names, doing, cell, puts, input, source, out, sink,
+    )?;
+    Ok(doing.modify(alloc, cell, fields)?)
+}
+
+/// Binds a variable to the first value of a term, `nil` where it has none.
+fn bind<I: Source, K: Sink>(
+    alloc: Global,
+    classes: &[Class],
+    names: &mut Names,
+    doing: &mut Doing<'_>,
+    variable: usize,
+    term: &Term,
+    input: &mut Input,
+    source: &mut I,
+    out: &mut Out,
+    sink: &mut K,
+) -> Result<(), Mishap>
+    requires whole { IsTrue out.old.whole }
+    requires writes { K.faults sink.old < 2 ^ 63 }
+    requires reads { I.faults source.old < 2 ^ 63 }
+    ensures { Acts (λ _ c. doing_of doing.new names.new c) result
+        (scene names.old input.old (I.left source.old) (I.faults source.old) (K.taken sink.old) (K.faults sink.old) out.old)
+        (scene names.new input.new (I.left source.new) (I.faults source.new) (K.taken sink.new) (K.faults sink.new) out.new)
+        (λ c. silent (followed_by (evaluated classes.now term.now (doing_of doing.old names.old c))
+        (λ v. Ok (bound v.doing variable (first_of v.values))))) }
+{
+    let values = evaluate(alloc, classes, names, doing, term, input, source, out, sink)?;
+    let value = values.first();
+    Ok(doing.bind(variable, value)?)
 }
 
 /// Removes the elements of these cells.
 fn remove(doing: &mut Doing<'_>, cells: &[usize]) -> Result<(), OutOfMemory>
-    ensures { OnOk result (doing_of doing.new ≡ fold (λ d c. removed d (cell_of d c).tag) (doing_of doing.old) cells.now) }
+    ensures { OnOk result ((names : Spellings) (coming : Coming)
+        → doing_of doing.new names coming ≡ fold (λ d c. removed d (cell_of d c).tag) (doing_of doing.old names coming) cells.now) }
 {
     for cell in cells {
         doing.remove(*cell)?;
@@ -81,45 +121,83 @@ fn remove(doing: &mut Doing<'_>, cells: &[usize]) -> Result<(), OutOfMemory>
     Ok(())
 }
 
-/// Does the action with this number.
-#[tactic(auto, using(crate::proofs::Performing::performs_made, crate::proofs::Performing::performs_short, crate::proofs::Performing::performs_refused))]
-fn act_one<K: Sink>(
+/// Does an action.
+fn act_one<I: Source, K: Sink>(
     alloc: Global,
-    program: &Program,
-    names: &Names,
+    classes: &[Class],
+    names: &mut Names,
     doing: &mut Doing<'_>,
-    number: usize,
     action: &Action,
+    input: &mut Input,
+    source: &mut I,
     out: &mut Out,
     sink: &mut K,
-) -> Result<(), ActFault>
+) -> Result<(), Mishap>
     requires whole { IsTrue out.old.whole }
-    requires faults { K.faults sink.old < 2 ^ 63 }
-    ensures { Performs (λ _. doing_of doing.new) failure_of result (port (K.taken sink.old) (K.faults sink.old) out.old)
-        (port (K.taken sink.new) (K.faults sink.new) out.new)
-        (action_done (setting_of names.now program.now) out.old.column number action.now (doing_of doing.old)) }
+    requires writes { K.faults sink.old < 2 ^ 63 }
+    requires reads { I.faults source.old < 2 ^ 63 }
+    ensures { Acts (λ _ c. doing_of doing.new names.new c) result
+        (scene names.old input.old (I.left source.old) (I.faults source.old) (K.taken sink.old) (K.faults sink.old) out.old)
+        (scene names.new input.new (I.left source.new) (I.faults source.new) (K.taken sink.new) (K.faults sink.new) out.new)
+        (λ c. action_done classes.now out.old.column action.now (doing_of doing.old names.old c)) }
 {
-    let classes = program.classes.as_slice();
     match action {
         Action::Make { class, puts } => {
-            make(alloc, classes, doing, number, *class, puts.as_slice())
+            let puts = puts.as_slice();
+            make(
+                alloc, classes, names, doing, *class, puts, input, source, out, sink,
+            )
         }
         Action::Modify { cell, puts } => {
-            modify(alloc, classes, doing, number, *cell, puts.as_slice())
+            let puts = puts.as_slice();
+            modify(
+                alloc, classes, names, doing, *cell, puts, input, source, out, sink,
+            )
         }
         Action::Remove { cells } => Ok(remove(doing, cells.as_slice())?),
         Action::Write { items } => {
-            Ok(put_items(out, sink, names, program, doing, items.as_slice())?)
+            let items = items.as_slice();
+            put_items(
+                alloc, classes, names, doing, items, input, source, out, sink,
+            )
         }
-        Action::Bind { variable, term } => {
-            let value = term_value(classes, doing, term);
-            Ok(doing.bind(*variable, value)?)
-        }
+        Action::Bind { variable, term } => bind(
+            alloc, classes, names, doing, *variable, term, input, source, out, sink,
+        ),
         Action::Cbind { .. } => Ok(doing.bind_cell(alloc)?),
         Action::Halt => {
             doing.halted = true;
             Ok(())
         }
+    }
+}
+
+/// Does the action with this number.
+fn act_at<I: Source, K: Sink>(
+    alloc: Global,
+    classes: &[Class],
+    names: &mut Names,
+    doing: &mut Doing<'_>,
+    number: usize,
+    action: &Action,
+    input: &mut Input,
+    source: &mut I,
+    out: &mut Out,
+    sink: &mut K,
+) -> Result<(), ActFault>
+    requires whole { IsTrue out.old.whole }
+    requires writes { K.faults sink.old < 2 ^ 63 }
+    requires reads { I.faults source.old < 2 ^ 63 }
+    ensures { Does (λ _ c. doing_of doing.new names.new c) failure_of is_read result
+        (scene names.old input.old (I.left source.old) (I.faults source.old) (K.taken sink.old) (K.faults sink.old) out.old)
+        (scene names.new input.new (I.left source.new) (I.faults source.new) (K.taken sink.new) (K.faults sink.new) out.new)
+        (λ c. told_as (λ d. d) (in_action number) (action_done classes.now out.old.column action.now (doing_of doing.old names.old c))) }
+{
+    match act_one(
+        alloc, classes, names, doing, action, input, source, out, sink,
+    ) {
+        Ok(()) => Ok(()),
+        Err(mishap) => Err(mishap.in_action(number)),
     }
 }
 
@@ -142,57 +220,77 @@ fn actions_of(program: &Program, rule: usize) -> &[Action]
 }
 
 /// Does actions in order.
-fn act_all<K: Sink>(
+fn act_all<I: Source, K: Sink>(
     alloc: Global,
-    program: &Program,
-    names: &Names,
+    classes: &[Class],
+    names: &mut Names,
     doing: &mut Doing<'_>,
     actions: &[Action],
+    input: &mut Input,
+    source: &mut I,
     out: &mut Out,
     sink: &mut K,
 ) -> Result<(), ActFault>
     requires whole { IsTrue out.old.whole }
-    requires faults { K.faults sink.old < 2 ^ 63 }
-    ensures { Performs (λ _. doing_of doing.new) failure_of result (port (K.taken sink.old) (K.faults sink.old) out.old)
-        (port (K.taken sink.new) (K.faults sink.new) out.new)
-        (actions_done (setting_of names.now program.now) out.old.column 1 actions.now (doing_of doing.old)) }
+    requires writes { K.faults sink.old < 2 ^ 63 }
+    requires reads { I.faults source.old < 2 ^ 63 }
+    ensures { Does (λ _ c. doing_of doing.new names.new c) failure_of is_read result
+        (scene names.old input.old (I.left source.old) (I.faults source.old) (K.taken sink.old) (K.faults sink.old) out.old)
+        (scene names.new input.new (I.left source.new) (I.faults source.new) (K.taken sink.new) (K.faults sink.new) out.new)
+        (λ c. actions_done classes.now out.old.column 1 actions.now (doing_of doing.old names.old c)) }
 {
     for (before, action) in actions.iter().enumerate() {
-        act_one(alloc, program, names, doing, before + 1, action, out, sink)?;
+        let number = before + 1;
+        act_at(
+            alloc, classes, names, doing, number, action, input, source, out, sink,
+        )?;
     }
     Ok(())
 }
 
 /// Does the right side of an instantiation, whose first new element gets the tag `next_tag`. The store is only read: an
-/// element of the left side is looked up there, and an element is copied only where it is modified or named. A session is
-/// over long before the tags are, so that one beyond 64 bits is answered as want of memory.
-pub fn act<K: Sink>(
+/// element of the left side is looked up there, and an element is copied only where it is modified or named. Before an
+/// `accept` all that was put is written. A session is over long before the tags are, so that one beyond 64 bits is answered
+/// as want of memory.
+pub fn act<I: Source, K: Sink>(
     alloc: Global,
     program: &Program,
-    names: &Names,
+    names: &mut Names,
     store: &Store,
     inst: &Inst,
     next_tag: u64,
     watch: u8,
+    input: &mut Input,
+    source: &mut I,
     out: &mut Out,
     sink: &mut K,
 ) -> Result<Acted, ActFault>
     requires whole { IsTrue out.old.whole }
     requires faults { K.faults sink.old < 2 ^ 63 }
+    requires reads { I.faults source.old < 2 ^ 63 }
     requires tags { store.now.last < next_tag }
     requires room { next_tag ≤ 2 ^ 63 }
     requires silent { watch ≡ 0 }
-    ensures acts { Performs acted_of failure_of result (port (K.taken sink.old) (K.faults sink.old) out.old)
-        (port (K.taken sink.new) (K.faults sink.new) out.new)
-        (acted (setting_of names.now program.now) out.old.column inst.now store.now.elements (next_tag - 1)) }
+    ensures acts { PerformsOn (λ a c. acted_of a names.new c) failure_of result
+        (inlet input.old (I.left source.old) (I.faults source.old)) (inlet input.new (I.left source.new) (I.faults source.new))
+        (port (K.taken sink.old) (K.faults sink.old) out.old) (port (K.taken sink.new) (K.faults sink.new) out.new)
+        (λ c. acted (setting_of program.now) out.old.column inst.now
+        (record { wm = store.now.elements; last = next_tag - 1; names = names.old; coming = c })) }
     ensures lawful { IfOk result (λ a. Lawful store.now.elements (next_tag - 1) a.changes) }
+    ensures reads { CountsReads (is_unread result) (I.faults source.old) (I.faults source.new) }
+
+    // Each symbol keeps its spelling, also after a fault.
+    ensures names { (i : ℕ) (s : List ℕ) → slice_get names.old.held i ≡ Some s → slice_get names.new.held i ≡ Some s }
 {
     let last = store.last();
     prove!(last < next_tag && watch == 0);
     let conditions = conditions_of(program, inst.rule);
     let tags = inst.tags.as_slice();
     let mut doing = Doing::new(alloc, store, conditions, tags, next_tag)?;
+    let classes = program.classes.as_slice();
     let actions = actions_of(program, inst.rule);
-    act_all(alloc, program, names, &mut doing, actions, out, sink)?;
+    act_all(
+        alloc, classes, names, &mut doing, actions, input, source, out, sink,
+    )?;
     Ok(doing.finish())
 }

@@ -1,9 +1,11 @@
 //! What a right side has done so far.
 ghost use Rattle.std.specs.Prelude.{◌≡◌, ◌+◌, ◌-◌, ◌<◌, IfOk, OnOk, [], ◌∷◌, map, true, false, unwrap_or};
 ghost use Rattle.std.specs.Option.{option_copied};
-ghost use Rattle.ops_meaning.specs.Acting.{elements_of, bindings_of, no_element, cell_of, made_last, added, removed, modified, cell_bound, bound, left_by};
+ghost use Rattle.ops_base.specs.Names.{Spellings};
+ghost use Rattle.ops_io.specs.Coming.{Coming};
+ghost use Rattle.ops_meaning.specs.Acting.{elements_of, bindings_of, no_element, made_last, added, removed, modified, cell_bound, bound, left_by};
 ghost use Rattle.act_phase.specs.Outcomes.{acted_of};
-ghost use Rattle.act_phase.specs.State.{held_by, doing_of};
+ghost use Rattle.act_phase.specs.State.{held_by, held_in, doing_of};
 
 use crate::bindings::bindings_of;
 use crate::outcome::Acted;
@@ -53,13 +55,15 @@ impl<'s> Doing<'s> {
         next_tag: u64,
     ) -> Result<Doing<'s>, OutOfMemory>
         requires { store.now.last < next_tag }
-        ensures { IfOk result (λ d. doing_of d ≡ record {
+        ensures { IfOk result (λ d. (names : Spellings) (coming : Coming) → doing_of d names coming ≡ record {
           wm = store.now.elements;
           changes = [];
           last = next_tag - 1;
           bindings = bindings_of store.now.elements conditions.now tags.now [];
           cells = elements_of store.now.elements tags.now;
           halted = false;
+          names = names;
+          coming = coming;
         }) }
     {
         Ok(Doing {
@@ -72,7 +76,7 @@ impl<'s> Doing<'s> {
 
     /// The element of a cell, also where it was removed. One of the left side is looked up by its tag.
     pub(crate) fn element(&self, cell: usize) -> Option<&Element>
-        ensures { unwrap_or (option_copied result) no_element ≡ cell_of (doing_of self.now) cell }
+        ensures { unwrap_or (option_copied result) no_element ≡ held_in self.now cell }
     {
         match self.cells.get(cell)? {
             Cell::Matched(tag) => self.working.store().get(*tag),
@@ -81,7 +85,7 @@ impl<'s> Doing<'s> {
     }
 
     fn tag(&self, cell: usize) -> u64
-        ensures { result ≡ (cell_of (doing_of self.now) cell).tag }
+        ensures { result ≡ (held_in self.now cell).tag }
     {
         match self.element(cell) {
             Some(element) => element.tag,
@@ -90,7 +94,7 @@ impl<'s> Doing<'s> {
     }
 
     fn class(&self, cell: usize) -> usize
-        ensures { result ≡ (cell_of (doing_of self.now) cell).class }
+        ensures { result ≡ (held_in self.now cell).class }
     {
         match self.element(cell) {
             Some(element) => element.class,
@@ -100,7 +104,7 @@ impl<'s> Doing<'s> {
 
     /// Adds an element.
     pub(crate) fn make(&mut self, class: usize, fields: Vec<Value>) -> Result<(), OutOfMemory>
-        ensures { OnOk result (doing_of self.new ≡ added (doing_of self.old) class fields.items) }
+        ensures { OnOk result ((names : Spellings) (coming : Coming) → doing_of self.new names coming ≡ added (doing_of self.old names coming) class fields.items) }
     {
         self.working.add(class, Listed::from_vec(fields))?;
         Ok(())
@@ -108,7 +112,7 @@ impl<'s> Doing<'s> {
 
     /// Removes the element of a cell, where it is present.
     pub(crate) fn remove(&mut self, cell: usize) -> Result<(), OutOfMemory>
-        ensures { OnOk result (doing_of self.new ≡ removed (doing_of self.old) (cell_of (doing_of self.old) cell).tag) }
+        ensures { OnOk result ((names : Spellings) (coming : Coming) → doing_of self.new names coming ≡ removed (doing_of self.old names coming) (held_in self.old cell).tag) }
     {
         let tag = self.tag(cell);
         self.working.remove(tag)?;
@@ -117,7 +121,7 @@ impl<'s> Doing<'s> {
 
     /// A copy of the element that was made last.
     fn copy_made(&self, alloc: Global) -> Result<Element, OutOfMemory>
-        ensures { IfOk result (λ e. e ≡ made_last (doing_of self.now).changes) }
+        ensures { IfOk result (λ e. e ≡ made_last self.now.working.changes) }
     {
         match self.working.made_last() {
             Some(element) => element.copy(alloc),
@@ -136,7 +140,7 @@ impl<'s> Doing<'s> {
         cell: usize,
         fields: Vec<Value>,
     ) -> Result<(), OutOfMemory>
-        ensures { OnOk result (doing_of self.new ≡ modified (doing_of self.old) cell fields.items) }
+        ensures { OnOk result ((names : Spellings) (coming : Coming) → doing_of self.new names coming ≡ modified (doing_of self.old names coming) cell fields.items) }
     {
         let class = self.class(cell);
         self.remove(cell)?;
@@ -150,7 +154,7 @@ impl<'s> Doing<'s> {
 
     /// A new cell holds the element that was made last.
     pub(crate) fn bind_cell(&mut self, alloc: Global) -> Result<(), OutOfMemory>
-        ensures { OnOk result (doing_of self.new ≡ cell_bound (doing_of self.old)) }
+        ensures { OnOk result ((names : Spellings) (coming : Coming) → doing_of self.new names coming ≡ cell_bound (doing_of self.old names coming)) }
     {
         let made = self.copy_made(alloc)?;
         self.cells.push(Cell::Made(made))?;
@@ -159,14 +163,14 @@ impl<'s> Doing<'s> {
 
     /// Binds a variable, also one that was bound before.
     pub(crate) fn bind(&mut self, variable: usize, value: Value) -> Result<(), OutOfMemory>
-        ensures { OnOk result (doing_of self.new ≡ bound (doing_of self.old) variable value) }
+        ensures { OnOk result ((names : Spellings) (coming : Coming) → doing_of self.new names coming ≡ bound (doing_of self.old names coming) variable value) }
     {
         self.bindings.push(Binding { variable, value })?;
         Ok(())
     }
 
     pub(crate) fn finish(self) -> Acted
-        ensures { acted_of result ≡ left_by (doing_of self.entry) }
+        ensures { (names : Spellings) (coming : Coming) → acted_of result names coming ≡ left_by (doing_of self.entry names coming) }
     {
         let (changes, next_tag) = self.working.finish();
         Acted {

@@ -1,15 +1,21 @@
 //! The fields of the elements that a right side makes.
-ghost use Rattle.std.specs.Prelude.{◌≡◌, ◌+◌, ◌<◌, IfOk, OnOk, Some, None, option_map, if◌then◌else◌};
+ghost use Rattle.std.specs.Prelude.{◌≡◌, ◌^◌, ◌<◌, IfOk, OnOk, Some, IsTrue};
 ghost use Rattle.ops_base.specs.Valid.{class_of, is_vector};
-ghost use Rattle.ops_meaning.specs.Acting.{no_fields, value_placed, values_placed, emptied, put_placed, cell_of, made_fields, modified_fields};
-ghost use Rattle.act_phase.specs.State.{doing_of};
+ghost use Rattle.ops_meaning.specs.Acting.{no_fields, value_placed, values_placed, emptied, terms_placed, made_fields, modified_fields};
+ghost use Rattle.ops_meaning.specs.Effects.{silent};
+ghost use Rattle.act_phase.specs.Deeds.{Acts, Gives, scene, fields_found};
+ghost use Rattle.act_phase.specs.State.{doing_of, held_in, filled_of};
 
 use crate::doing::Doing;
-use crate::values::{NOTHING, scalar_count, term_values};
+use crate::outcome::Mishap;
+use crate::values::{NOTHING, evaluate, scalar_count};
 use ops_base::actions::Put;
 use ops_base::elements::Class;
+use ops_base::endings::ActKind;
 use ops_base::memory::OutOfMemory;
+use ops_base::symbols::Names;
 use ops_base::values::Value;
+use ops_io::{Input, Out, Sink, Source};
 use std::alloc::Global;
 
 /// How many fields an element has at most, its class not counted.
@@ -55,81 +61,137 @@ fn place_value(fields: &mut Vec<Value>, at: usize, value: Value) -> Result<(), O
     Ok(())
 }
 
-/// Places values from a field on. False is too many of them.
-fn place_values(fields: &mut Vec<Value>, from: usize, values: &[Value]) -> Result<bool, OutOfMemory>
-    ensures { IfOk result (λ b. values_placed from values.now fields.old.items ≡ (if b then Some fields.new.items else None)) }
+/// Places values from a field on.
+fn place_values(fields: &mut Vec<Value>, from: usize, values: &[Value]) -> Result<(), Mishap>
+    ensures { Gives (λ _. fields.new.items) result (fields_found (values_placed from values.now fields.old.items)) }
 {
     let mut at = from;
     for value in values {
         if at >= MOST_FIELDS {
-            return Ok(false);
+            return Err(Mishap::Fault(ActKind::TooManyFields));
         }
         place_value(fields, at, *value)?;
         at += 1;
     }
-    Ok(true)
+    Ok(())
 }
 
-/// Gives one attribute the values of its terms. False is too many of them.
-fn place_put(
+/// Gives one attribute the values of its terms. Those of each term are placed before the next one is evaluated.
+fn place_put<I: Source, K: Sink>(
+    alloc: Global,
     classes: &[Class],
+    names: &mut Names,
     doing: &Doing<'_>,
     put: &Put,
     fields: &mut Vec<Value>,
-) -> Result<bool, OutOfMemory>
-    ensures { IfOk result (λ b. put_placed classes.now (doing_of doing.now) put.now fields.old.items ≡ (if b then Some fields.new.items else None)) }
+    input: &mut Input,
+    source: &mut I,
+    out: &mut Out,
+    sink: &mut K,
+) -> Result<(), Mishap>
+    requires whole { IsTrue out.old.whole }
+    requires writes { K.faults sink.old < 2 ^ 63 }
+    requires reads { I.faults source.old < 2 ^ 63 }
+    ensures { Acts (λ _ c. filled_of fields.new.items (doing_of doing.now names.new c)) result
+        (scene names.old input.old (I.left source.old) (I.faults source.old) (K.taken sink.old) (K.faults sink.old) out.old)
+        (scene names.new input.new (I.left source.new) (I.faults source.new) (K.taken sink.new) (K.faults sink.new) out.new)
+        (λ c. silent (terms_placed classes.now put.now.field put.now.terms (filled_of fields.old.items (doing_of doing.now names.old c)))) }
 {
     let mut at = put.field;
     for term in put.terms.as_slice() {
-        let values = term_values(classes, doing, term);
-        if !place_values(fields, at, values.as_slice())? {
-            return Ok(false);
-        }
+        let values = evaluate(alloc, classes, names, doing, term, input, source, out, sink)?;
+        place_values(fields, at, values.as_slice())?;
         at += values.as_slice().len();
     }
-    Ok(true)
+    Ok(())
 }
 
-/// The fields of a new element. None is too many of them.
-pub(crate) fn made_fields(
+/// The fields of a new element.
+pub(crate) fn made_fields<I: Source, K: Sink>(
     alloc: Global,
     classes: &[Class],
+    names: &mut Names,
     doing: &Doing<'_>,
     class: usize,
     puts: &[Put],
-) -> Result<Option<Vec<Value>>, OutOfMemory>
-    ensures { IfOk result (λ found. option_map (λ v. v.items) found
-        ≡ made_fields classes.now (doing_of doing.now) (class_of classes.now class) puts.now) }
+    input: &mut Input,
+    source: &mut I,
+    out: &mut Out,
+    sink: &mut K,
+) -> Result<Vec<Value>, Mishap>
+    requires whole { IsTrue out.old.whole }
+    requires writes { K.faults sink.old < 2 ^ 63 }
+    requires reads { I.faults source.old < 2 ^ 63 }
+    ensures { Acts (λ v c. filled_of v.items (doing_of doing.now names.new c)) result
+        (scene names.old input.old (I.left source.old) (I.faults source.old) (K.taken sink.old) (K.faults sink.old) out.old)
+        (scene names.new input.new (I.left source.new) (I.faults source.new) (K.taken sink.new) (K.faults sink.new) out.new)
+        (λ c. silent (made_fields classes.now (class_of classes.now class) puts.now (doing_of doing.now names.old c))) }
 {
     let mut fields = no_fields(alloc, classes, class)?;
     for put in puts {
         empty_vector(classes, class, put.field, &mut fields);
-        if !place_put(classes, doing, put, &mut fields)? {
-            return Ok(None);
-        }
+        place_put(
+            alloc,
+            classes,
+            names,
+            doing,
+            put,
+            &mut fields,
+            input,
+            source,
+            out,
+            sink,
+        )?;
     }
-    Ok(Some(fields))
+    Ok(fields)
 }
 
-/// The fields of a cell's element with those that are given in their place. None is too many of them.
-pub(crate) fn modified_fields(
-    alloc: Global,
-    classes: &[Class],
-    doing: &Doing<'_>,
-    cell: usize,
-    puts: &[Put],
-) -> Result<Option<Vec<Value>>, OutOfMemory>
-    ensures { IfOk result (λ found. option_map (λ v. v.items) found
-        ≡ modified_fields classes.now (doing_of doing.now) puts.now (cell_of (doing_of doing.now) cell).fields) }
+/// A copy of the fields of a cell's element.
+fn fields_of(alloc: Global, doing: &Doing<'_>, cell: usize) -> Result<Vec<Value>, OutOfMemory>
+    ensures { IfOk result (λ v. v.items ≡ (held_in doing.now cell).fields) }
 {
     let mut fields = Vec::new(alloc);
     if let Some(element) = doing.element(cell) {
         fields.extend_from_slice(element.fields.as_slice())?;
     }
+    Ok(fields)
+}
+
+/// The fields of a cell's element with those that are given in their place.
+pub(crate) fn modified_fields<I: Source, K: Sink>(
+    alloc: Global,
+    classes: &[Class],
+    names: &mut Names,
+    doing: &Doing<'_>,
+    cell: usize,
+    puts: &[Put],
+    input: &mut Input,
+    source: &mut I,
+    out: &mut Out,
+    sink: &mut K,
+) -> Result<Vec<Value>, Mishap>
+    requires whole { IsTrue out.old.whole }
+    requires writes { K.faults sink.old < 2 ^ 63 }
+    requires reads { I.faults source.old < 2 ^ 63 }
+    ensures { Acts (λ v c. filled_of v.items (doing_of doing.now names.new c)) result
+        (scene names.old input.old (I.left source.old) (I.faults source.old) (K.taken sink.old) (K.faults sink.old) out.old)
+        (scene names.new input.new (I.left source.new) (I.faults source.new) (K.taken sink.new) (K.faults sink.new) out.new)
+        (λ c. silent (modified_fields classes.now puts.now cell (doing_of doing.now names.old c))) }
+{
+    let mut fields = fields_of(alloc, doing, cell)?;
     for put in puts {
-        if !place_put(classes, doing, put, &mut fields)? {
-            return Ok(None);
-        }
+        place_put(
+            alloc,
+            classes,
+            names,
+            doing,
+            put,
+            &mut fields,
+            input,
+            source,
+            out,
+            sink,
+        )?;
     }
-    Ok(Some(fields))
+    Ok(fields)
 }

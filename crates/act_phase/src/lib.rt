@@ -1,8 +1,10 @@
 //! The right side of an instantiation, done over a store of working memory.
 #![tactic(auto)]
 
+mod accepting;
 mod acting;
 mod bindings;
+mod computing;
 mod doing;
 mod fields;
 mod outcome;

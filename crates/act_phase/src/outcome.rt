@@ -1,6 +1,9 @@
 //! What a right side answers.
 ghost use Rattle.std.specs.Prelude.{◌≡◌};
+ghost use Rattle.ops_meaning.specs.Acting.{in_action};
+ghost use Rattle.ops_meaning.specs.Effects.{failure_as};
 ghost use Rattle.act_phase.specs.declared.outcome.ActFault.TheVariants as fault;
+ghost use Rattle.act_phase.specs.declared.outcome.Mishap.TheVariants as mishap;
 
 use ops_base::elements::Change;
 use ops_base::endings::ActKind;
@@ -21,18 +24,25 @@ pub struct Acted {
 pub enum ActFault {
     /// The action with this number, counted from 1, can't be done.
     Bad { action: usize, kind: ActKind },
+    /// The source failed.
+    Read,
     /// The sink refused a write.
     Write,
     /// Memory ran out.
     OutOfMemory,
 }
 
-impl From<WriteFailed> for ActFault {
-    ghost from_gives = { λ _ why. why ≡ fault.Write };
-
-    fn from(_error: WriteFailed) -> Self {
-        ActFault::Write
-    }
+/// Why an action was not done to its end.
+#[derive(Clone, Copy, Debug, PartialEq, Eq)]
+pub(crate) enum Mishap {
+    /// It can't be done.
+    Fault(ActKind),
+    /// The source failed.
+    Read,
+    /// The sink refused a write.
+    Write,
+    /// Memory ran out.
+    OutOfMemory,
 }
 
 impl From<OutOfMemory> for ActFault {
@@ -40,5 +50,41 @@ impl From<OutOfMemory> for ActFault {
 
     fn from(_error: OutOfMemory) -> Self {
         ActFault::OutOfMemory
+    }
+}
+
+impl From<OutOfMemory> for Mishap {
+    ghost from_gives = { λ _ why. why ≡ mishap.OutOfMemory };
+
+    fn from(_error: OutOfMemory) -> Self {
+        Mishap::OutOfMemory
+    }
+}
+
+impl From<WriteFailed> for Mishap {
+    ghost from_gives = { λ _ why. why ≡ mishap.Write };
+
+    fn from(_error: WriteFailed) -> Self {
+        Mishap::Write
+    }
+}
+
+impl Mishap {
+    ghost use Rattle.act_phase.specs.Outcomes.{failure_of, mishap_of, is_read, is_read_mishap};
+
+    /// The same, of the action with this number.
+    pub(crate) fn in_action(self, number: usize) -> ActFault
+        ensures failure { failure_of result ≡ failure_as (in_action number) (mishap_of self) }
+        ensures read { is_read result ≡ is_read_mishap self }
+    {
+        match self {
+            Mishap::Fault(kind) => ActFault::Bad {
+                action: number,
+                kind,
+            },
+            Mishap::Read => ActFault::Read,
+            Mishap::Write => ActFault::Write,
+            Mishap::OutOfMemory => ActFault::OutOfMemory,
+        }
     }
 }

@@ -1,16 +1,28 @@
 //! What the terms of a right side give.
-ghost use Rattle.std.specs.Prelude.{◌≡◌, drop, unwrap_or};
+ghost use Rattle.std.specs.Prelude.{◌≡◌, ◌^◌, ◌<◌, IsTrue, drop, unwrap_or};
 ghost use Rattle.std.specs.Option.{option_copied};
+ghost use Rattle.ops_base.specs.Matching.{value_of};
 ghost use Rattle.ops_base.specs.Valid.{class_of};
+ghost use Rattle.ops_base.specs.Values.{nil};
 ghost use Rattle.ops_base.specs.WorkingMemory.{field_of};
-ghost use Rattle.ops_meaning.specs.Acting.{no_element, scalar_count, first_of, term_values};
-ghost use Rattle.act_phase.specs.State.{doing_of, values_in};
+ghost use Rattle.ops_meaning.specs.Acting.{no_element, scalar_count, first_of, evaluated};
+ghost use Rattle.ops_meaning.specs.Computing.{computed};
+ghost use Rattle.ops_meaning.specs.Effects.{silent};
+ghost use Rattle.act_phase.specs.Deeds.{Acts, Gives, scene, value_found};
+ghost use Rattle.act_phase.specs.State.{doing_of, held_in, values_in, valued_of};
 
+use crate::accepting::accept;
+use crate::computing::computed;
 use crate::doing::Doing;
+use crate::outcome::Mishap;
 use ops_base::actions::Term;
 use ops_base::elements::{Class, Element};
+use ops_base::expression::Expr;
 use ops_base::matching::bound_value;
+use ops_base::symbols::Names;
 use ops_base::values::{NIL, Value};
+use ops_io::{Input, Out, Sink, Source};
+use std::alloc::Global;
 use std::slice;
 
 pub(crate) const NOTHING: Value = Value::Symbol(NIL);
@@ -33,7 +45,7 @@ impl Values<'_> {
     }
 
     /// `nil` where there is none.
-    fn first(&self) -> Value
+    pub(crate) fn first(&self) -> Value
         ensures { result ≡ first_of (values_in self.now) }
     {
         match self.as_slice().first() {
@@ -82,28 +94,58 @@ fn class(element: Option<&Element>) -> usize
     }
 }
 
-/// The values of a term. A variable is looked for among the bindings, and an element of the left side is looked up by its
-/// tag.
-pub(crate) fn term_values<'d>(classes: &[Class], doing: &'d Doing<'_>, term: &Term) -> Values<'d>
-    ensures { values_in result ≡ term_values classes.now (doing_of doing.now) term.now }
+/// The value of a variable, which is looked for among the bindings.
+fn value_in(doing: &Doing<'_>, variable: usize) -> Value
+    ensures { result ≡ unwrap_or (value_of doing.now.bindings.items variable) nil }
 {
-    match term {
-        Term::Constant(value) => Values::One(*value),
-        Term::Variable(variable) => {
-            Values::One(bound_value(doing.bindings.as_slice(), *variable).unwrap_or(NOTHING))
-        }
-        Term::One { cell, field: at } => Values::One(field(doing.element(*cell), *at)),
-        Term::Rest { cell } => {
-            let element = doing.element(*cell);
-            Values::Row(rest(element, scalar_count(classes, class(element))))
-        }
-        Term::Compute(_) | Term::Fresh | Term::Accept => Values::One(NOTHING),
+    bound_value(doing.bindings.as_slice(), variable).unwrap_or(NOTHING)
+}
+
+/// The values of the vector attribute of a cell's element.
+fn row<'d>(classes: &[Class], doing: &'d Doing<'_>, cell: usize) -> &'d [Value]
+    ensures { let e = held_in doing.now cell in result.now ≡ drop (scalar_count (class_of classes.now e.class)) e.fields }
+{
+    let element = doing.element(cell);
+    rest(element, scalar_count(classes, class(element)))
+}
+
+/// The value of an expression.
+fn compute(alloc: Global, doing: &Doing<'_>, expr: &Expr) -> Result<Value, Mishap>
+    ensures { Gives (λ v. v) result (value_found (computed (λ v. unwrap_or (value_of doing.now.bindings.items v) nil) expr.now)) }
+{
+    match computed(alloc, doing.bindings.as_slice(), expr)? {
+        Ok(value) => Ok(value),
+        Err(kind) => Err(Mishap::Fault(kind)),
     }
 }
 
-/// The first value of a term, `nil` where there is none.
-pub(crate) fn term_value(classes: &[Class], doing: &Doing<'_>, term: &Term) -> Value
-    ensures { result ≡ first_of (term_values classes.now (doing_of doing.now) term.now) }
+/// The values of a term. An element of the left side is looked up by its tag.
+pub(crate) fn evaluate<'d, I: Source, K: Sink>(
+    alloc: Global,
+    classes: &[Class],
+    names: &mut Names,
+    doing: &'d Doing<'_>,
+    term: &Term,
+    input: &mut Input,
+    source: &mut I,
+    out: &mut Out,
+    sink: &mut K,
+) -> Result<Values<'d>, Mishap>
+    requires whole { IsTrue out.old.whole }
+    requires writes { K.faults sink.old < 2 ^ 63 }
+    requires reads { I.faults source.old < 2 ^ 63 }
+    ensures { Acts (λ v c. valued_of v (doing_of doing.now names.new c)) result
+        (scene names.old input.old (I.left source.old) (I.faults source.old) (K.taken sink.old) (K.faults sink.old) out.old)
+        (scene names.new input.new (I.left source.new) (I.faults source.new) (K.taken sink.new) (K.faults sink.new) out.new)
+        (λ c. silent (evaluated classes.now term.now (doing_of doing.now names.old c))) }
 {
-    term_values(classes, doing, term).first()
+    match term {
+        Term::Constant(value) => Ok(Values::One(*value)),
+        Term::Variable(variable) => Ok(Values::One(value_in(doing, *variable))),
+        Term::One { cell, field: at } => Ok(Values::One(field(doing.element(*cell), *at))),
+        Term::Rest { cell } => Ok(Values::Row(row(classes, doing, *cell))),
+        Term::Compute(expr) => Ok(Values::One(compute(alloc, doing, expr)?)),
+        Term::Fresh => Ok(Values::One(Value::Symbol(names.fresh()?))),
+        Term::Accept => Ok(Values::One(accept(names, input, source, out, sink)?)),
+    }
 }

@@ -1,20 +1,23 @@
 //! What `write` puts.
 ghost use Rattle.std.specs.Prelude.{◌≡◌, ◌^◌, ◌<◌, ℕ, IsTrue, OnErr, false, length};
 ghost use Rattle.ops_io.specs.Ports.{port, PutsBytes};
-ghost use Rattle.ops_meaning.specs.Acting.{item_bytes, items_bytes, lead_after};
+ghost use Rattle.ops_base.specs.declared.actions.Item.TheVariants as item;
+ghost use Rattle.ops_meaning.specs.Acting.{lead_after, item_done, items_done};
 ghost use Rattle.ops_meaning.specs.Layout.{value_text, value_bytes, values_bytes, lead_bytes, Apart};
 ghost use Rattle.ops_print.specs.Leads.{lead_of};
-ghost use Rattle.act_phase.specs.Outcomes.{setting_of};
+ghost use Rattle.act_phase.specs.Deeds.{Acts, scene};
 ghost use Rattle.act_phase.specs.State.{doing_of};
 
 use crate::doing::Doing;
-use crate::values::term_values;
-use ops_base::actions::Item;
-use ops_base::programs::Program;
+use crate::outcome::Mishap;
+use crate::values::evaluate;
+use ops_base::actions::{Item, Term};
+use ops_base::elements::Class;
 use ops_base::symbols::Names;
 use ops_base::values::Value;
-use ops_io::{Out, Sink, WriteFailed};
+use ops_io::{Input, Out, Sink, Source, WriteFailed};
 use ops_print::{Lead, put_lead, put_tab, put_value, value_length};
+use std::alloc::Global;
 
 /// The length of a value, where its lead asks for that.
 fn length_for(names: &Names, lead: Lead, value: &Value) -> usize
@@ -78,53 +81,87 @@ fn lead_after(item: &Item) -> Lead
     }
 }
 
-/// Puts one item.
-fn put_item<K: Sink>(
+/// Puts the values of a term. They are evaluated before the first one is put.
+fn print<I: Source, K: Sink>(
+    alloc: Global,
+    classes: &[Class],
+    names: &mut Names,
+    doing: &Doing<'_>,
+    lead: Lead,
+    term: &Term,
+    input: &mut Input,
+    source: &mut I,
     out: &mut Out,
     sink: &mut K,
-    names: &Names,
-    program: &Program,
+) -> Result<(), Mishap>
+    requires whole { IsTrue out.old.whole }
+    requires writes { K.faults sink.old < 2 ^ 63 }
+    requires reads { I.faults source.old < 2 ^ 63 }
+    ensures { Acts (λ _ c. doing_of doing.now names.new c) result
+        (scene names.old input.old (I.left source.old) (I.faults source.old) (K.taken sink.old) (K.faults sink.old) out.old)
+        (scene names.new input.new (I.left source.new) (I.faults source.new) (K.taken sink.new) (K.faults sink.new) out.new)
+        (λ c. item_done classes.now (lead_of lead) out.old.column (item.Print term.now) (doing_of doing.now names.old c)) }
+{
+    let values = evaluate(alloc, classes, names, doing, term, input, source, out, sink)?;
+    Ok(put_values(out, sink, names, lead, values.as_slice())?)
+}
+
+/// Puts one item.
+fn put_item<I: Source, K: Sink>(
+    alloc: Global,
+    classes: &[Class],
+    names: &mut Names,
     doing: &Doing<'_>,
     lead: Lead,
     item: &Item,
-) -> Result<(), WriteFailed>
+    input: &mut Input,
+    source: &mut I,
+    out: &mut Out,
+    sink: &mut K,
+) -> Result<(), Mishap>
     requires whole { IsTrue out.old.whole }
-    requires faults { K.faults sink.old < 2 ^ 63 }
-    ensures puts { PutsBytes result (port (K.taken sink.old) (K.faults sink.old) out.old)
-        (port (K.taken sink.new) (K.faults sink.new) out.new)
-        (item_bytes (setting_of names.now program.now) (doing_of doing.now) (lead_of lead) out.old.column item.now) }
-    ensures broken { OnErr result (out.new.whole ≡ false) }
+    requires writes { K.faults sink.old < 2 ^ 63 }
+    requires reads { I.faults source.old < 2 ^ 63 }
+    ensures { Acts (λ _ c. doing_of doing.now names.new c) result
+        (scene names.old input.old (I.left source.old) (I.faults source.old) (K.taken sink.old) (K.faults sink.old) out.old)
+        (scene names.new input.new (I.left source.new) (I.faults source.new) (K.taken sink.new) (K.faults sink.new) out.new)
+        (λ c. item_done classes.now (lead_of lead) out.old.column item.now (doing_of doing.now names.old c)) }
 {
     match item {
-        Item::Print(term) => {
-            let values = term_values(program.classes.as_slice(), doing, term);
-            put_values(out, sink, names, lead, values.as_slice())
-        }
-        Item::Crlf => out.put(sink, b"\n"),
-        Item::TabTo(column) => put_tab(out, sink, usize::from(*column)),
+        Item::Print(term) => print(
+            alloc, classes, names, doing, lead, term, input, source, out, sink,
+        ),
+        Item::Crlf => Ok(out.put(sink, b"\n")?),
+        Item::TabTo(column) => Ok(put_tab(out, sink, usize::from(*column))?),
         Item::RightIn(_) => Ok(()),
     }
 }
 
-/// Puts the items of a `write`. Takes no memory.
-pub(crate) fn put_items<K: Sink>(
-    out: &mut Out,
-    sink: &mut K,
-    names: &Names,
-    program: &Program,
+/// Puts the items of a `write`.
+pub(crate) fn put_items<I: Source, K: Sink>(
+    alloc: Global,
+    classes: &[Class],
+    names: &mut Names,
     doing: &Doing<'_>,
     items: &[Item],
-) -> Result<(), WriteFailed>
+    input: &mut Input,
+    source: &mut I,
+    out: &mut Out,
+    sink: &mut K,
+) -> Result<(), Mishap>
     requires whole { IsTrue out.old.whole }
-    requires faults { K.faults sink.old < 2 ^ 63 }
-    ensures puts { PutsBytes result (port (K.taken sink.old) (K.faults sink.old) out.old)
-        (port (K.taken sink.new) (K.faults sink.new) out.new)
-        (items_bytes (setting_of names.now program.now) (doing_of doing.now) Apart out.old.column items.now) }
-    ensures broken { OnErr result (out.new.whole ≡ false) }
+    requires writes { K.faults sink.old < 2 ^ 63 }
+    requires reads { I.faults source.old < 2 ^ 63 }
+    ensures { Acts (λ _ c. doing_of doing.now names.new c) result
+        (scene names.old input.old (I.left source.old) (I.faults source.old) (K.taken sink.old) (K.faults sink.old) out.old)
+        (scene names.new input.new (I.left source.new) (I.faults source.new) (K.taken sink.new) (K.faults sink.new) out.new)
+        (λ c. items_done classes.now Apart out.old.column items.now (doing_of doing.now names.old c)) }
 {
     let mut lead = Lead::Apart;
     for item in items {
-        put_item(out, sink, names, program, doing, lead, item)?;
+        put_item(
+            alloc, classes, names, doing, lead, item, input, source, out, sink,
+        )?;
         lead = lead_after(item);
     }
     Ok(())

@@ -3,10 +3,12 @@ ghost use Rattle.std.specs.Prelude.{◌≡◌, ◌<◌, length, IfOk, OnOk, OnEr
 ghost use Rattle.std.specs.Prelude.{◌++◌, ◌∷◌, [], bytes_eq, false};
 ghost use Rattle.std.specs.List.{list_any};
 ghost use Rattle.ops_base.specs.Names.{spellings, place_of, with_spelling, spelling_of, only_nil, AreDistinct};
+ghost use Rattle.ops_base.specs.Names.{fresh_spelling, is_held, next_fresh, with_fresh, IsNextFresh};
 
 use crate::memory::OutOfMemory;
 use crate::values::Sym;
 use indexmap::IndexSet;
+use itoa::Buffer;
 use std::alloc::Global;
 use std::marker::Model;
 
@@ -59,6 +61,45 @@ fn add(held: &mut IndexSet<Vec<u8>>, spelling: &[u8]) -> Result<(), OutOfMemory>
     Ok(())
 }
 
+fn is_held(held: &IndexSet<Vec<u8>>, spelling: &[u8]) -> bool
+    ensures { result ≡ is_held (spellings held.now.keys) spelling.now }
+{
+    held.contains(spelling)
+}
+
+/// Puts `g` and this number in place of what was there.
+fn write_fresh(spelling: &mut Vec<u8>, number: u64) -> Result<(), OutOfMemory>
+    ensures { OnOk result (spelling.new.items ≡ fresh_spelling number) }
+{
+    let mut buffer = Buffer::new();
+    spelling.clear();
+    spelling.push(b'g')?;
+    spelling.extend_from_slice(buffer.format(number).as_bytes())?;
+    Ok(())
+}
+
+/// The number of the next fresh atom, with its spelling in `spelling`. A counter past 64 bits is answered as want of
+/// memory.
+fn find_free(
+    held: &IndexSet<Vec<u8>>,
+    made: u64,
+    spelling: &mut Vec<u8>,
+) -> Result<u64, OutOfMemory>
+    ensures number { IfOk result (λ n. n ≡ next_fresh (record { held = spellings held.now.keys; made = made })) }
+    ensures spelling { IfOk result (λ n. spelling.new.items ≡ fresh_spelling n) }
+    ensures free { IfOk result (λ n. is_held (spellings held.now.keys) (fresh_spelling n) ≡ false) }
+{
+    let mut number = made;
+    while number < u64::MAX {
+        number += 1;
+        write_fresh(spelling, number)?;
+        if !is_held(held, spelling.as_slice()) {
+            return Ok(number);
+        }
+    }
+    Err(OutOfMemory)
+}
+
 impl Names {
     /// Holds `nil` alone, which is the symbol 0.
     pub fn new(alloc: Global) -> Result<Names, OutOfMemory>
@@ -78,6 +119,24 @@ impl Names {
         ensures err { OnErr result (self.new ≡ self.old) }
     {
         Ok(Sym(place_in(&mut self.held, spelling)? as u64))
+    }
+
+    /// The next fresh atom: `g` and the next number of a counter that starts at 1, without the numbers whose spelling is
+    /// held. It costs a look-up for each number that is tried, so one more than there are held spellings of that form
+    /// in a row. A counter past 64 bits is answered as want of memory. Where memory runs out nothing has changed, the
+    /// counter neither.
+    pub fn fresh(&mut self) -> Result<Sym, OutOfMemory>
+        ensures symbol { IfOk result (λ sym. sym.0 ≡ length self.old.held) }
+        ensures names { OnOk result (self.new ≡ with_fresh self.old) }
+        ensures next { OnOk result (IsNextFresh self.old self.new.made) }
+        ensures err { OnErr result (self.new ≡ self.old) }
+    {
+        let mut spelling = Vec::new(*self.held.allocator());
+        let number = find_free(&self.held, self.made, &mut spelling)?;
+        let place = self.held.len();
+        add(&mut self.held, spelling.as_slice())?;
+        self.made = number;
+        Ok(Sym(place as u64))
     }
 
     /// The spelling of a symbol that is held.
@@ -118,6 +177,20 @@ mod tests {
         assert_eq!(rt; symbols.as_slice(), [1, 0, 2, 1, 3].as_slice());
         assert_eq!(rt; names.text(Sym(2)), b"item".as_slice());
         assert_eq!(rt; names.text(Sym(9)), b"".as_slice());
+        Ok(())
+    }
+
+    #[test]
+    fn fresh_atoms_pass_over_held_spellings(rt: HostRuntime) -> Result<(), Fail> {
+        let mut names = Names::new(rt.alloc())?;
+        assert_eq!(rt; names.intern(b"g2")?, Sym(1));
+        let first = names.fresh()?;
+        assert_eq!(rt; first, Sym(2));
+        assert_eq!(rt; names.text(first), b"g1".as_slice());
+        let second = names.fresh()?;
+        assert_eq!(rt; second, Sym(3));
+        assert_eq!(rt; names.text(second), b"g3".as_slice());
+        assert_eq!(rt; names.intern(b"g3")?, second);
         Ok(())
     }
 }

@@ -1,14 +1,16 @@
 -- Brackets: the words of a form that is closed do not end too early, and those of a form that is open do not end.
-use Rattle.std.proofs.Common.{◌≡◌, ℕ, ◌+◌, ◌-◌, ◌≤◌, Bool, true, false, cond, not, ◌&&◌, ◌||◌, ◌==◌, List, [], ◌∷◌, length, Option, Some, None, Result, Ok, Err, refl, sym, subst, ◌∙◌, arith, true≢false, position, slice_get, nat_lt}
+use Rattle.std.proofs.Common.{◌≡◌, ℕ, ◌+◌, ◌-◌, ◌≤◌, Bool, true, false, cond, not, ◌&&◌, ◌||◌, ◌==◌, List, [], ◌∷◌, length, Option, Some, None, Result, Ok, Err, refl, sym, ap, subst, ◌∙◌, arith, true≢false, position, slice_get, nat_lt}
 use Rattle.std.proofs.lemmas.Bool.{and_parts, cond_both, eqb-true, eqb-false, not-true}
 use Rattle.ops_base.specs.Names.{Spellings}
 use Rattle.ops_base.specs.declared.values.Sym.{Sym}
 use Rattle.ops_base.specs.declared.values.Value.{Value}
 use Rattle.ops_base.specs.declared.values.Pred.{Pred}
 use Rattle.ops_base.specs.declared.values.Pred.TheVariants as pred
+use Rattle.ops_base.specs.declared.expression.Op.{Op}
 use Rattle.ops_base.specs.declared.actions.Term.{Term}
 use Rattle.ops_base.specs.declared.actions.Term.TheVariants as term
 use Rattle.ops_base.specs.declared.endings.Fault.{Fault}
+use Rattle.ops_base.specs.Expression.{Formula}
 use Rattle.ops_base.specs.Valid.{most_fields, most_conditions, class_of, is_vector}
 use Rattle.ops_tokens.specs.declared.token.Token.{Token}
 use Rattle.ops_tokens.specs.declared.token.TokenKind.{TokenKind}
@@ -18,7 +20,7 @@ use Rattle.ops_meaning.specs.declared.words.Word.{Word}
 use Rattle.ops_meaning.specs.declared.words.Keyword.{Keyword}
 use Rattle.ops_meaning.specs.declared.words.Keyword.TheVariants as keyword
 use Rattle.ops_meaning.specs.Words.{keyword_of, names_with, word_of, words_from}
-use Rattle.ops_meaning.specs.Grammar.{Use, InPattern, InPut, InFixed, Target, ToPut, ToTerms, ToConstants, ToItem, ToBind, Column, Wanted, Forms, Form, ClassDeclared, Attributes, VectorName, VectorNames, RuleName, FirstPattern, Patterns, Pattern, Braced, ElementName, ClosesBrace, ClassName, Terms, Attribute, Several, Place, Tests, Tested, Choice, Atom, ValueFor, Function, SourceCell, SourceAttribute, SourceEnd, Actions, ActionWord, Modified, BoundName, CellName, Cell, Cells, Items, ItemWord, Columns, Closes, State, Step, Next, Refuses, Outcome, is_left, is_right, is_left_brace, is_right_brace, is_caret, is_name, is_variable, is_arrow, is_literal, is_minus, opens_choice, closes_choice, pred_of, constant_of, value_of, atom_of, is_one_of, number_of, may_declare, is_class, is_rule, is_second, makes_second, vector_declared, vector_name, form, class_at, attributes_of, behind_attribute, field_at, terms, within, one_of_several, with_several, place, element_at, element_name, cell_bound, variable_tested, constant_tested, tested, predicated, test, chosen, atom_at, term_at, bound_at, constant_at, is_of_action, value_for, function, source_named, source_cell, source_class, source_at, source_attribute, takes_several, is_inf, ends_at_inf, source_end, action_word, cell_of, with_designated, with_modified, small_of, item_word, columns_at, step, ends, after, goes}
+use Rattle.ops_meaning.specs.Grammar.{Use, InPattern, InPut, InFixed, Target, ToPut, ToTerms, ToConstants, ToItem, ToBind, Column, Wanted, Forms, Form, ClassDeclared, Attributes, VectorName, VectorNames, RuleName, FirstPattern, Patterns, Pattern, Braced, ElementName, ClosesBrace, ClassName, Terms, Attribute, Several, Place, Tests, Tested, Choice, Atom, ValueFor, Function, ExpressionUnit, ExpressionRest, Bracketed, SourceCell, SourceAttribute, SourceEnd, Actions, ActionWord, Modified, BoundName, BoundValue, CellName, Cell, Cells, Items, ItemWord, Columns, Closes, State, Step, Next, Refuses, Outcome, is_left, is_right, is_left_brace, is_right_brace, is_caret, is_name, is_variable, is_arrow, is_literal, is_minus, opens_choice, closes_choice, pred_of, constant_of, value_of, atom_of, is_one_of, number_of, bound_value, EndsWhole, may_declare, is_class, is_rule, is_second, makes_second, vector_declared, vector_name, form, class_at, attributes_of, behind_attribute, field_at, terms, within, one_of_several, with_several, place, element_at, element_name, cell_bound, variable_tested, constant_tested, tested, predicated, test, chosen, atom_at, term_at, bound_at, constant_at, is_of_action, value_for, Waiting, most_brackets, is_compute, operation_of, unit_bound, unit_at, bracket_at, expression_unit, bracketed, operation_at, expression_ended, with_formula, no_formula, expression_rest, completed, function, source_named, source_cell, source_class, source_at, source_attribute, takes_several, is_inf, ends_at_inf, source_end, action_word, cell_of, with_designated, with_modified, small_of, item_word, columns_at, step, ends, after, goes}
 use Rattle.ops_forms.specs.Forms.{open_behind, is_last, closes_last, stays_open, opens}
 
 -- ---- what is owed
@@ -33,8 +35,11 @@ owes (Attribute u) = true
 owes (Several u f) = true
 owes Actions = true
 owes (Function t) = true
+owes (ExpressionRest d waiting into) = true
+owes (Bracketed d) = true
 owes (SourceAttribute t) = true
 owes ActionWord = true
+owes BoundValue = true
 owes Cells = true
 owes Items = true
 owes ItemWord = true
@@ -73,7 +78,10 @@ in_form_owes (Attribute u ∷ ws) i h = omega arith
 in_form_owes (Several u f ∷ ws) i h = omega arith
 in_form_owes (Actions ∷ ws) i h = omega arith
 in_form_owes (ActionWord ∷ ws) i h = omega arith
+in_form_owes (BoundValue ∷ ws) i h = omega arith
 in_form_owes (Function t ∷ ws) i h = omega arith
+in_form_owes (ExpressionRest d waiting into ∷ ws) i h = omega arith
+in_form_owes (Bracketed d ∷ ws) i h = omega arith
 in_form_owes (SourceAttribute t ∷ ws) i h = omega arith
 in_form_owes (Cells ∷ ws) i h = omega arith
 in_form_owes (Items ∷ ws) i h = omega arith
@@ -95,6 +103,7 @@ in_form_owes (Tested f x ∷ ws) i h = let p = and_parts (in_form ws) (stands ws
 in_form_owes (Choice f ∷ ws) i h = let p = and_parts (in_form ws) (stands ws) h in in_form_owes ws p.0 p.1
 in_form_owes (Atom t ∷ ws) i h = let p = and_parts (in_form ws) (stands ws) h in in_form_owes ws p.0 p.1
 in_form_owes (ValueFor t ∷ ws) i h = let p = and_parts (in_form ws) (stands ws) h in in_form_owes ws p.0 p.1
+in_form_owes (ExpressionUnit d ∷ ws) i h = let p = and_parts (in_form ws) (stands ws) h in in_form_owes ws p.0 p.1
 in_form_owes (Modified ∷ ws) i h = let p = and_parts (in_form ws) (stands ws) h in in_form_owes ws p.0 p.1
 in_form_owes (BoundName ∷ ws) i h = let p = and_parts (in_form ws) (stands ws) h in in_form_owes ws p.0 p.1
 in_form_owes (CellName ∷ ws) i h = let p = and_parts (in_form ws) (stands ws) h in in_form_owes ws p.0 p.1
@@ -186,6 +195,14 @@ inf_known : (k : Keyword) → is_inf k ≡ true → k ≡ keyword.Other → ⊥
 inf_known keyword.Inf e o = absurd (cc)
 inf_known _ e o = absurd (true≢false (sym e))
 
+compute_known : (k : Keyword) → is_compute k ≡ true → k ≡ keyword.Other → ⊥
+compute_known keyword.Compute e o = absurd (cc)
+compute_known _ e o = absurd (true≢false (sym e))
+
+operation_known : (k : Keyword) (o : Op) → operation_of k ≡ Some o → k ≡ keyword.Other → ⊥
+operation_known keyword.Other p e o = absurd (cc)
+operation_known _ p e o = absurd (cc)
+
 pred_known : (k : Keyword) (p : Pred) → pred_of k ≡ Some p → k ≡ keyword.Other → ⊥
 pred_known keyword.Other p e o = absurd (cc)
 pred_known _ p e o = absurd (cc)
@@ -228,17 +245,6 @@ module _ (w : Word) (quiet : (n : ℕ) → (w.keyword ≡ keyword.Other → ⊥)
   action_word_balanced keyword.Cbind ws s e h = (h, sym (quiet (1 + owed ws) (λ o. absurd (cc))))
   action_word_balanced keyword.Halt ws s e h = (h, sym (quiet (1 + owed ws) (λ o. absurd (cc))))
   action_word_balanced _ ws s e h = tt
-
-  item_word_balanced : (k : Keyword) (ws : List Wanted) (s : State) → w.keyword ≡ k → stands ws ≡ true → B (ItemWord ∷ ws) (item_word k ws s)
-  item_word_balanced keyword.Crlf ws s e h = (h, sym (quiet (1 + owed ws) (λ o. absurd (cc))))
-  item_word_balanced keyword.Tabto ws s e h = (h, sym (quiet (1 + owed ws) (λ o. absurd (cc))))
-  item_word_balanced keyword.Rjust ws s e h = (h, sym (quiet (1 + owed ws) (λ o. absurd (cc))))
-  item_word_balanced keyword.Substr ws s e h = (h, sym (quiet (1 + owed ws) (λ o. absurd (cc))))
-  item_word_balanced _ ws s e h = tt
-
-  function_balanced : (t : Target) (k : Keyword) (ws : List Wanted) (s : State) → w.keyword ≡ k → stands ws ≡ true → B (Function t ∷ ws) (function t k ws s)
-  function_balanced t keyword.Substr ws s e h = (h, sym (quiet (1 + owed ws) (λ o. absurd (cc))))
-  function_balanced t _ ws s e h = tt
 
   named : (ws : List Wanted) → is_name w.kind ≡ true → owed ws ≡ open_behind (owed ws) w.kind
   named ws e = sym (name_keeps w.kind (owed ws) e)
@@ -311,15 +317,15 @@ module _ (w : Word) (quiet : (n : ℕ) → (w.keyword ≡ keyword.Other → ⊥)
   atom_balanced t (Some v) ws s e h = (h, sym (atom_keeps w.kind w.name v (owed ws) e))
   atom_balanced t None ws s e h = tt
 
-  term_balanced : (t : Target) (x : Term) (ws : List Wanted) (s : State) → stands ws ≡ true → owed ws ≡ open_behind (owed ws) w.kind → B ws (term_at t x ws s)
-  term_balanced (ToPut f) x ws s h e = (h, e)
-  term_balanced ToTerms x ws s h e = (h, e)
-  term_balanced ToItem x ws s h e = (h, e)
-  term_balanced ToBind x ws s h e = (h, e)
-  term_balanced _ x ws s h e = tt
+  term_balanced : (t : Target) (x : Term) (n : ℕ) (ws : List Wanted) (s : State) → stands ws ≡ true → owed ws ≡ n → Balanced n (term_at t x ws s)
+  term_balanced (ToPut f) x n ws s h e = (h, e)
+  term_balanced ToTerms x n ws s h e = (h, e)
+  term_balanced ToItem x n ws s h e = (h, e)
+  term_balanced ToBind x n ws s h e = (h, e)
+  term_balanced _ x n ws s h e = tt
 
   bound_balanced : (t : Target) (o : Option ℕ) (ws : List Wanted) (s : State) → is_variable w.kind ≡ true → stands ws ≡ true → B ws (bound_at t o ws s)
-  bound_balanced t (Some n) ws s e h = term_balanced t (term.Variable n) ws s h (sym (variable_keeps w.kind (owed ws) e))
+  bound_balanced t (Some n) ws s e h = term_balanced t (term.Variable n) _ ws s h (sym (variable_keeps w.kind (owed ws) e))
   bound_balanced t None ws s e h = tt
 
   constant_balanced : (t : Target) (o : Option Value) (ws : List Wanted) (s : State) → value_of w.kind w.name ≡ o → stands ws ≡ true → B ws (constant_at t w o ws s)
@@ -331,6 +337,63 @@ module _ (w : Word) (quiet : (n : ℕ) → (w.keyword ≡ keyword.Other → ⊥)
       cond_both (is_literal w.keyword) _ _ (B ws) (λ e. (h, sym (quiet (owed ws) (literal_known w.keyword e))))
       (λ _. cond_both (is_left w.kind && is_of_action t) _ _ (B ws) (λ e. ((and_parts (in_form ws) (stands ws) h).1, opened ws (and_parts (is_left w.kind) (is_of_action t) e).0))
       (λ _. constant_balanced t (value_of w.kind w.name) ws s refl (and_parts (in_form ws) (stands ws) h).1))
+
+  -- ---- functions
+
+  unit_bound_balanced : (o : Option ℕ) (ws : List Wanted) (s : State) → is_variable w.kind ≡ true → stands ws ≡ true → B ws (unit_bound o ws s)
+  unit_bound_balanced (Some n) ws s e h = (h, sym (variable_keeps w.kind (owed ws) e))
+  unit_bound_balanced None ws s e h = tt
+
+  unit_at_balanced : (k : TokenKind) (ws : List Wanted) (s : State) → w.kind ≡ k → stands ws ≡ true → B ws (unit_at k w.name ws s)
+  unit_at_balanced (kind.Whole n) ws s e h = (h, sym (ap (open_behind (owed ws)) e))
+  unit_at_balanced kind.Variable ws s e h = unit_bound_balanced (number_of w.name s.values) ws s (ap is_variable e) h
+  unit_at_balanced _ ws s e h = tt
+
+  bracket_balanced : (d : ℕ) (ws : List Wanted) (s : State) → is_left w.kind ≡ true → stands ws ≡ true → B ws (bracket_at d ws s)
+  bracket_balanced d ws s e h = cond_both (nat_lt d most_brackets) _ _ (B ws) (λ _. (h, opened ws e)) (λ _. tt)
+
+  unit_balanced : (d : ℕ) (ws : List Wanted) (s : State) → stands ws ≡ true → B ws (expression_unit d w ws s)
+  unit_balanced d ws s h =
+      cond_both (is_left w.kind) _ _ (B ws) (λ e. bracket_balanced d ws s e h) (λ _. unit_at_balanced w.kind ws s refl h)
+
+  bracketed_balanced : (d : ℕ) (ws : List Wanted) (s : State) → stands ws ≡ true → B (Bracketed d ∷ ws) (bracketed d w ws s)
+  bracketed_balanced d ws s h =
+      cond_both (is_compute w.keyword) _ _ (B (Bracketed d ∷ ws)) (λ e. (h, sym (quiet (1 + owed ws) (compute_known w.keyword e))))
+      (λ _. unit_balanced d (ExpressionRest d [] None ∷ ws) s h)
+
+  ended_balanced : (into : Option Target) (x : Formula) (ws : List Wanted) (s : State) → is_right w.kind ≡ true → stands ws ≡ true → Balanced (open_behind (1 + owed ws) w.kind) (expression_ended into x ws s)
+  ended_balanced (Some t) x ws s e h = term_balanced t (term.Compute x) _ ws (with_formula s no_formula) h (closed ws e)
+  ended_balanced None x ws s e h = (h, closed ws e)
+
+  operation_balanced : (d : ℕ) (waiting : List Waiting) (into : Option Target) (o : Option Op) (ws : List Wanted) (s : State) → operation_of w.keyword ≡ o → stands ws ≡ true → B (ExpressionRest d waiting into ∷ ws) (operation_at d waiting into o ws s)
+  operation_balanced d waiting into (Some x) ws s e h = (h, sym (quiet (1 + owed ws) (operation_known w.keyword x e)))
+  operation_balanced d waiting into None ws s e h = tt
+
+  rest_balanced : (d : ℕ) (waiting : List Waiting) (into : Option Target) (ws : List Wanted) (s : State) → stands ws ≡ true → B (ExpressionRest d waiting into ∷ ws) (expression_rest d waiting into w ws s)
+  rest_balanced d waiting into ws s h =
+      cond_both (is_right w.kind) _ _ (B (ExpressionRest d waiting into ∷ ws)) (λ e. ended_balanced into (completed s.formula waiting) ws s e h)
+      (λ _. operation_balanced d waiting into (operation_of w.keyword) ws s refl h)
+
+  function_balanced : (t : Target) (k : Keyword) (ws : List Wanted) (s : State) → w.keyword ≡ k → stands ws ≡ true → B (Function t ∷ ws) (function t k ws s)
+  function_balanced t keyword.Substr ws s e h = (h, sym (quiet (1 + owed ws) (λ o. absurd (cc))))
+  function_balanced t keyword.Compute ws s e h = (h, sym (quiet (1 + owed ws) (λ o. absurd (cc))))
+  function_balanced t keyword.Genatom ws s e h = term_balanced t term.Fresh _ (Closes EndsWhole ∷ ws) s h (sym (quiet (1 + owed ws) (λ o. absurd (cc))))
+  function_balanced t keyword.Accept ws s e h = term_balanced t term.Accept _ (Closes EndsWhole ∷ ws) s h (sym (quiet (1 + owed ws) (λ o. absurd (cc))))
+  function_balanced t _ ws s e h = tt
+
+  item_word_balanced : (k : Keyword) (ws : List Wanted) (s : State) → w.keyword ≡ k → stands ws ≡ true → B (ItemWord ∷ ws) (item_word k ws s)
+  item_word_balanced keyword.Crlf ws s e h = (h, sym (quiet (1 + owed ws) (λ o. absurd (cc))))
+  item_word_balanced keyword.Tabto ws s e h = (h, sym (quiet (1 + owed ws) (λ o. absurd (cc))))
+  item_word_balanced keyword.Rjust ws s e h = (h, sym (quiet (1 + owed ws) (λ o. absurd (cc))))
+  item_word_balanced keyword.Substr ws s e h = function_balanced ToItem keyword.Substr ws s e h
+  item_word_balanced keyword.Compute ws s e h = function_balanced ToItem keyword.Compute ws s e h
+  item_word_balanced keyword.Genatom ws s e h = function_balanced ToItem keyword.Genatom ws s e h
+  item_word_balanced keyword.Accept ws s e h = function_balanced ToItem keyword.Accept ws s e h
+  item_word_balanced _ ws s e h = tt
+
+  bound_value_balanced : (ws : List Wanted) (s : State) → stands ws ≡ true → B (BoundValue ∷ ws) (bound_value w ws s)
+  bound_value_balanced ws s h =
+      cond_both (is_right w.kind) _ _ (B (BoundValue ∷ ws)) (λ e. (h, closed ws e)) (λ _. value_balanced ToBind (Closes EndsWhole ∷ ws) s h)
 
   -- ---- substr
 
@@ -355,9 +418,9 @@ module _ (w : Word) (quiet : (n : ℕ) → (w.keyword ≡ keyword.Other → ⊥)
   source_end_balanced t name ws s h =
       cond_both (ends_at_inf w s) _ _ (B ws)
       (λ e. let inf = (and_parts (is_inf w.keyword) (is_vector (source_class s) s.source_field) e).0 in
-      cond_both (takes_several t) _ _ (B ws) (λ _. term_balanced t (term.Rest s.source) ws s h (sym (quiet (owed ws) (inf_known w.keyword inf)))) (λ _. tt))
+      cond_both (takes_several t) _ _ (B ws) (λ _. term_balanced t (term.Rest s.source) _ ws s h (sym (quiet (owed ws) (inf_known w.keyword inf)))) (λ _. tt))
       (λ _. cond_both (is_name w.kind && (w.name.0 == name.0)) _ _ (B ws)
-      (λ e. term_balanced t (term.One s.source s.source_field) ws s h (named ws (and_parts (is_name w.kind) (w.name.0 == name.0) e).0)) (λ _. tt))
+      (λ e. term_balanced t (term.One s.source s.source_field) _ ws s h (named ws (and_parts (is_name w.kind) (w.name.0 == name.0) e).0)) (λ _. tt))
 
   designated_balanced : (r : Result ℕ Fault) (ws : List Wanted) (s : State) → cell_of w.kind w.name s ≡ r → stands ws ≡ true → B ws (with_designated r ws s)
   designated_balanced (Ok c) ws s e h = (h, sym (designator_keeps w.kind w.name s c (owed ws) e))
@@ -463,6 +526,9 @@ module _ (w : Word) (quiet : (n : ℕ) → (w.keyword ≡ keyword.Other → ⊥)
   step_balanced (Atom t ∷ ws) s h = atom_balanced t (atom_of w.kind w.name) ws s refl (and_parts (in_form ws) (stands ws) h).1
   step_balanced (ValueFor t ∷ ws) s h = value_balanced t ws s h
   step_balanced (Function t ∷ ws) s h = function_balanced t w.keyword ws s refl h
+  step_balanced (ExpressionUnit d ∷ ws) s h = unit_balanced d ws s (and_parts (in_form ws) (stands ws) h).1
+  step_balanced (ExpressionRest d waiting into ∷ ws) s h = rest_balanced d waiting into ws s h
+  step_balanced (Bracketed d ∷ ws) s h = bracketed_balanced d ws s h
   step_balanced (SourceCell ∷ ws) s h = source_cell_balanced ws s (and_parts (in_form ws) (stands ws) h).1
   step_balanced (SourceAttribute t ∷ ws) s h = source_attribute_balanced t ws s h
   step_balanced (SourceEnd t name ∷ ws) s h = source_end_balanced t name ws s (and_parts (in_form ws) (stands ws) h).1
@@ -473,6 +539,7 @@ module _ (w : Word) (quiet : (n : ℕ) → (w.keyword ≡ keyword.Other → ⊥)
   step_balanced (Modified ∷ ws) s h = modified_balanced (cell_of w.kind w.name s) ws s refl (and_parts (in_form ws) (stands ws) h).1
   step_balanced (BoundName ∷ ws) s h =
       cond_both (is_variable w.kind) _ _ (B (BoundName ∷ ws)) (λ e. ((and_parts (in_form ws) (stands ws) h).1, sym (variable_keeps w.kind (owed ws) e))) (λ _. tt)
+  step_balanced (BoundValue ∷ ws) s h = bound_value_balanced ws s h
   step_balanced (CellName ∷ ws) s h =
       cond_both (is_variable w.kind) _ _ (B (CellName ∷ ws)) (λ e. cell_bound_balanced s.made ws s e (and_parts (in_form ws) (stands ws) h).1) (λ _. tt)
   step_balanced (Cell ∷ ws) s h = designated_balanced (cell_of w.kind w.name s) ws s refl (and_parts (in_form ws) (stands ws) h).1

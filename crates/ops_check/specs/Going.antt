@@ -1,7 +1,7 @@
 -- How the code's walk over the words goes along with the definition's.
 use Rattle.std.specs.Prelude.{◌≡◌, Bool, false, ◌||◌, is_some, List, [], ◌∷◌, ◌++◌, Some, None, Result, Ok, Err}
 use Rattle.ops_meaning.specs.declared.words.Word.{Word}
-use Rattle.ops_meaning.specs.Grammar.{Target as Goal, ToFixed, ToConstants, Forms, State, is_literal, value_of, goes}
+use Rattle.ops_meaning.specs.Grammar.{Target as Goal, ToFixed, ToConstants, Forms, State, is_literal, value_of, no_formula, goes}
 use Rattle.ops_forms.specs.declared.refusals.Refusal.{Refusal}
 use Rattle.ops_forms.specs.declared.refusals.Refusal.TheVariants as refusal
 use Rattle.ops_check.specs.declared.draft.Draft.{Draft}
@@ -42,6 +42,7 @@ view d =
       variable = record { 0 = 0 };
       source = 0;
       source_field = 0;
+      formula = no_formula;
     }
 
 abbrev pub target_of : Target → Goal

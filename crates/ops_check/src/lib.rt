@@ -7,6 +7,8 @@ mod elements;
 mod ends;
 mod faults;
 mod forms;
+#[cfg(test)]
+mod function_tests;
 pub mod laws;
 mod productions;
 mod program;

@@ -6,7 +6,7 @@ use Rattle.ops_base.specs.declared.values.Pred.{Pred}
 use Rattle.ops_base.specs.declared.endings.Fault.TheVariants as fault
 use Rattle.ops_base.specs.Valid.{is_vector}
 use Rattle.ops_meaning.specs.declared.words.Word.{Word}
-use Rattle.ops_meaning.specs.Grammar.{Use, Target, Wanted, VectorName, VectorNames, Patterns, Pattern, Braced, ElementName, ClosesBrace, Terms, ClassName, Attribute, Several, Cell, Cells, Items, ItemWord, Place, Tests, Tested, ValueFor, ToItem, State, Next, after, step, goes, is_left, is_right, is_right_brace, is_caret, is_arrow, is_name, behind_attribute, vector_name, more_patterns, element_name, place, test, tested, value_for, one_of_several, with_several, cell}
+use Rattle.ops_meaning.specs.Grammar.{Use, Target, Wanted, VectorName, VectorNames, Patterns, Pattern, Braced, ElementName, ClosesBrace, Terms, ClassName, Attribute, Several, Cell, Cells, Items, ItemWord, Place, Tests, Tested, ValueFor, ToItem, State, Next, after, step, goes, is_left, is_right, is_right_brace, is_caret, is_arrow, is_name, behind_attribute, vector_name, more_patterns, element_name, place, test, tested, value_for, one_of_several, cell}
 use Rattle.ops_forms.specs.declared.refusals.Refusal.{Refusal}
 use Rattle.ops_forms.specs.declared.refusals.Refusal.TheVariants as refusal
 use Rattle.ops_forms.specs.Going.{Way, Fails, Goes}
@@ -26,10 +26,6 @@ fails_under by under (refusal.At f (Some w)) h = λ more ws. h more (under ws)
 pub goes_as : (from by : Way) → ((more : List Word) (ws : List Wanted) → from more ws ≡ by more ws) → (new : State) (r : Result (Bor (List Word)) Refusal) → Goes by new r → Goes from new r
 goes_as from by same new (Ok rest) h = λ more ws. same more ws ∙ h more ws
 goes_as from by same new (Err e) h = fails_as from by same e h
-
-pub goes_first : (words rest more : List Word) (w : Word) (ws : List Wanted) (s : State) → words ≡ w ∷ rest → goes (words ++ more) ws s ≡ after (goes (rest ++ more)) w (step w ws s)
-unfolding goes
-goes_first words rest more w ws s e = rw e refl
 
 pub cell_first : (words rest more : List Word) (w : Word) (ws : List Wanted) (s : State) → words ≡ w ∷ rest → goes (words ++ more) (Cell ∷ ws) s ≡ after (goes (rest ++ more)) w (cell w.kind w.name ws s)
 unfolding goes step
@@ -72,11 +68,6 @@ braced_named words rest more w ws s e other = rw (e, other) refl
 pub several_first : (u : Use) (f : ℕ) (words rest more : List Word) (w : Word) (ws : List Wanted) (s : State) → words ≡ w ∷ rest → (is_right w.kind || is_caret w.kind) ≡ false → goes (words ++ more) (Several u f ∷ ws) s ≡ after (goes (rest ++ more)) w (one_of_several u f w ws s)
 unfolding goes step
 several_first u f words rest more w ws s e other = rw (e, other) refl
-
--- no more of them: the rest of the element
-pub several_last : (u : Use) (f : ℕ) (words rest more : List Word) (w : Word) (ws : List Wanted) (s : State) → words ≡ w ∷ rest → (is_right w.kind || is_caret w.kind) ≡ true → goes (words ++ more) (Several u f ∷ ws) s ≡ goes (words ++ more) (Terms u ∷ ws) (with_several u f s)
-unfolding goes step
-several_last u f words rest more w ws s e over = rw (e, over) refl
 
 pub tested_first : (f : ℕ) (p : Pred) (words rest more : List Word) (w : Word) (ws : List Wanted) (s : State) → words ≡ w ∷ rest → goes (words ++ more) (Tested f p ∷ ws) s ≡ after (goes (rest ++ more)) w (tested f p w ws s)
 unfolding goes step

@@ -1,7 +1,8 @@
 //! What a word may be where something is wanted.
 ghost use Rattle.std.specs.Prelude.{◌≡◌};
-ghost use Rattle.ops_meaning.specs.Grammar.{is_left, is_right, is_left_brace, is_right_brace, is_caret, is_name, is_variable, is_arrow, is_literal, is_minus, opens_choice, closes_choice, is_inf, pred_of, constant_of, atom_of, value_of, natural_of, small_of};
+ghost use Rattle.ops_meaning.specs.Grammar.{is_left, is_right, is_left_brace, is_right_brace, is_caret, is_name, is_variable, is_arrow, is_literal, is_minus, opens_choice, closes_choice, is_inf, is_compute, operation_of, pred_of, constant_of, atom_of, value_of, natural_of, small_of};
 
+use ops_base::expression::Op;
 use ops_base::values::{Pred, Sym, Value};
 use ops_meaning::Keyword;
 use ops_tokens::TokenKind;
@@ -125,6 +126,29 @@ pub fn is_inf(keyword: Keyword) -> bool
     match keyword {
         Keyword::Inf => true,
         _ => false,
+    }
+}
+
+// compute, behind a bracket
+pub fn is_compute(keyword: Keyword) -> bool
+    ensures { result ≡ is_compute keyword }
+{
+    match keyword {
+        Keyword::Compute => true,
+        _ => false,
+    }
+}
+
+pub fn operation_of(keyword: Keyword) -> Option<Op>
+    ensures { result ≡ operation_of keyword }
+{
+    match keyword {
+        Keyword::Plus => Some(Op::Add),
+        Keyword::Minus => Some(Op::Sub),
+        Keyword::Times => Some(Op::Mul),
+        Keyword::Literal => Some(Op::Div),
+        Keyword::Remainder => Some(Op::Rem),
+        _ => None,
     }
 }
 

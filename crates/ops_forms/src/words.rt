@@ -1,7 +1,7 @@
 //! The words of a text.
 ghost use Rattle.std.specs.Prelude.{◌≡◌, bytes_eq, codes, All, IfOk, OnOk};
 ghost use Rattle.ops_tokens.specs.Tokens.{spelling, LiesIn};
-ghost use Rattle.ops_meaning.specs.Words.{keyword_of, keyword_of_symbol, keyword_of_operator, has_name, names_with, name_in, word_of, words_from, names_from};
+ghost use Rattle.ops_meaning.specs.Words.{keyword_of, keyword_of_symbol, keyword_of_function, keyword_of_operator, has_name, names_with, name_in, word_of, words_from, names_from};
 
 use ops_base::memory::OutOfMemory;
 use ops_base::symbols::Names;
@@ -143,6 +143,28 @@ fn keyword_of_symbol(spelling: &[u8]) -> Keyword
         Keyword::Inf
     } else if is(spelling, b"halt") {
         Keyword::Halt
+    } else {
+        keyword_of_function(spelling)
+    }
+}
+
+fn keyword_of_function(spelling: &[u8]) -> Keyword
+    ensures { result ≡ keyword_of_function spelling.now }
+{
+    if is(spelling, b"compute") {
+        Keyword::Compute
+    } else if is(spelling, b"genatom") {
+        Keyword::Genatom
+    } else if is(spelling, b"accept") {
+        Keyword::Accept
+    } else if is(spelling, b"+") {
+        Keyword::Plus
+    } else if is(spelling, b"*") {
+        Keyword::Times
+    } else if is(spelling, b"\\\\") {
+        Keyword::Remainder
+    } else if is(spelling, b"\\") {
+        Keyword::Remainder
     } else {
         Keyword::Other
     }

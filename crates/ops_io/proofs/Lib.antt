@@ -1,3 +1,4 @@
 pub mod Known
 pub mod MemoryLemmas
 pub mod PortLemmas
+pub mod ComingLemmas

@@ -99,3 +99,7 @@ underway_done a b all u = let P : List ℕ → Type 0 = Put a b in subst P (sym 
 -- A put and a flush that was refused: the sink has taken a prefix of what was held and these bytes.
 pub put_unflushed : (e : Stop) (a b c : Port) (xs : List ℕ) → Put a b xs → Stopped e b c [] → GrewByPrefix a.taken c.taken (a.out.held ++ xs)
 put_unflushed e a b c xs p q = (put_then_stopped e a b c xs p q).prefix
+
+-- A flush puts nothing.
+pub flushed_put : (a b : Port) → IsTrue a.out.whole → Flushed a b → Put a b []
+flushed_put a b w f = put_then_flushed a a b [] (put_nothing a w) f

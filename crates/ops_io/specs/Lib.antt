@@ -3,3 +3,4 @@ pub mod Memory
 pub mod Output
 pub mod Ports
 pub mod Input
+pub mod Coming

@@ -1,18 +1,22 @@
 -- Words that are read alike.
-use Rattle.std.proofs.Common.{◌≡◌, ℕ, ◌+◌, Bool, true, false, ◌&&◌, ◌||◌, nat_lt, length, List, [], ◌∷◌, refl, sym, ap, ◌∙◌, cond, Option, Some, None, true≢false}
+use Rattle.std.proofs.Common.{◌≡◌, ℕ, ◌+◌, Bool, true, false, not, ◌&&◌, ◌||◌, nat_lt, length, List, [], ◌∷◌, refl, sym, ap, ◌∙◌, cond, Option, Some, None, true≢false}
 use Rattle.std.specs.Prelude.{if◌then◌else◌}
+use Rattle.std.proofs.lemmas.Bool.{cond_both}
 use Rattle.ops_base.specs.declared.values.Sym.{Sym}
 use Rattle.ops_base.specs.declared.values.Value.{Value}
 use Rattle.ops_base.specs.declared.values.Value.TheVariants as value
 use Rattle.ops_base.specs.declared.values.Pred.{Pred}
 use Rattle.ops_base.specs.declared.values.Pred.TheVariants as pred
+use Rattle.ops_base.specs.declared.actions.Term.TheVariants as term
+use Rattle.ops_base.specs.declared.expression.Op.{Op}
 use Rattle.ops_base.specs.Valid.{most_fields, is_vector}
 use Rattle.ops_tokens.specs.declared.token.TokenKind.{TokenKind}
 use Rattle.ops_tokens.specs.declared.token.TokenKind.TheVariants as kind
 use Rattle.ops_meaning.specs.declared.words.Word.{Word}
 use Rattle.ops_meaning.specs.declared.words.Keyword.{Keyword}
 use Rattle.ops_meaning.specs.declared.words.Keyword.TheVariants as keyword
-use Rattle.ops_meaning.specs.Grammar.{Use, InPattern, InPut, InFixed, Target, ToTest, ToTerms, ToConstants, ToItem, Wanted, Forms, Form, ClassDeclared, Attributes, VectorName, VectorNames, RuleName, FirstPattern, Patterns, Pattern, Braced, ElementName, ClosesBrace, ClassName, Terms, Attribute, Several, Place, Tests, Tested, Choice, Atom, ValueFor, Function, SourceCell, SourceAttribute, SourceEnd, Actions, ActionWord, Modified, BoundName, CellName, Cell, Cells, Items, ItemWord, Columns, Closes, State, Step, Next, is_left, is_right, is_left_brace, is_right_brace, is_caret, is_literal, is_inf, opens_choice, closes_choice, pred_of, with_write, with_constant, constant_of, value_of, atom_of, form, constant_tested, tested, predicated, test, place, chosen, atom_at, constant_at, is_of_action, value_for, source_class, terms, within, one_of_several, with_several, step}
+use Rattle.ops_meaning.specs.Grammar.{Use, InPattern, InPut, InFixed, Target, ToTest, ToTerms, ToConstants, ToItem, ToBind, EndsWhole, Wanted, Forms, Form, ClassDeclared, Attributes, VectorName, VectorNames, RuleName, FirstPattern, Patterns, Pattern, Braced, ElementName, ClosesBrace, ClassName, Terms, Attribute, Several, Place, Tests, Tested, Choice, Atom, ValueFor, Function, Waiting, ExpressionUnit, ExpressionRest, Bracketed, SourceCell, SourceAttribute, SourceEnd, Actions, ActionWord, Modified, BoundName, BoundValue, CellName, Cell, Cells, Items, ItemWord, Columns, Closes, State, Step, Next, Refuses, is_left, is_right, is_left_brace, is_right_brace, is_caret, is_literal, is_inf, opens_choice, closes_choice, pred_of, with_write, with_constant, constant_of, value_of, atom_of, form, constant_tested, tested, predicated, test, place, chosen, atom_at, constant_at, is_of_action, value_for, number_of, with_bind, most_brackets, completed, unit_bound, unit_at, bracket_at, expression_unit, is_compute, operation_of, operation_at, expression_ended, source_class, terms, within, one_of_several, with_several, step}
+use Rattle.ops_meaning.specs.Derivation.{is_no_form}
 use Rattle.ops_meaning.specs.Spelling.{spelled_name}
 use Rattle.ops_meaning.specs.Words.{keyword_of_symbol, has_name}
 use Rattle.ops_meaning.proofs.Proper.{is_mark, symbol_unmarked}
@@ -34,6 +38,7 @@ wants_name (Choice f) = true
 wants_name (Atom t) = true
 wants_name (ValueFor t) = true
 wants_name (SourceAttribute t) = true
+wants_name BoundValue = true
 wants_name Items = true
 wants_name _ = false
 
@@ -101,6 +106,7 @@ symbol-alike k name first past (Choice f) ws s unmarked e = otherwise (closes_ch
 symbol-alike k name first past (Atom t) ws s unmarked e = refl
 symbol-alike k name first past (ValueFor t) ws s unmarked e = value_alike k unmarked name first past ws s t
 symbol-alike k name first past (SourceAttribute t) ws s unmarked e = refl
+symbol-alike k name first past BoundValue ws s unmarked e = value_alike k unmarked name first past (Closes EndsWhole ∷ ws) s ToBind
 symbol-alike k name first past Items ws s unmarked e = value_alike k unmarked name first past (Items ∷ ws) s ToItem
 symbol-alike k name first past _ ws s unmarked e = absurd (true≢false (sym e))
 
@@ -224,6 +230,11 @@ moved-alike w first past ClassName ws s e = refl
 moved-alike w first past (Terms u) ws s e = refl
 moved-alike w first past (Attribute u) ws s e = refl
 moved-alike w first past (Function t) ws s e = refl
+moved-alike w first past (ExpressionUnit d) ws s e = refl
+moved-alike w first past (ExpressionRest d waiting into) ws s e = refl
+moved-alike w first past (Bracketed d) ws s e = refl
+moved-alike w first past BoundValue ws s e =
+    ap (λ (x : Step). if is_right w.kind then Next ws (with_bind (number_of s.variable s.values) s term.Fresh) else x) (value_moved w first past (Closes EndsWhole ∷ ws) s ToBind)
 moved-alike w first past SourceCell ws s e = refl
 moved-alike w first past (SourceAttribute t) ws s e = refl
 moved-alike w first past (SourceEnd t name) ws s e = refl
@@ -236,3 +247,55 @@ moved-alike w first past Cells ws s e = refl
 moved-alike w first past ItemWord ws s e = refl
 moved-alike w first past (Columns x) ws s e = refl
 moved-alike w first past (Closes x) ws s e = refl
+
+-- ---- how many brackets are open
+
+-- the same where so many are open
+abbrev pub with_depth : ℕ → Wanted → Wanted
+with_depth d (ExpressionUnit e) = ExpressionUnit d
+with_depth d (ExpressionRest e waiting into) = ExpressionRest d waiting into
+with_depth d (Bracketed e) = Bracketed d
+with_depth d h = h
+
+-- the word continues the grammar: it is taken, or refused in a form
+abbrev pub continues : Step → Bool
+continues (Next ws s) = true
+continues (Refuses f) = not (is_no_form f)
+
+bracket_continues : (d : ℕ) (ws : List Wanted) (s : State) → continues (bracket_at d ws s) ≡ true
+bracket_continues d ws s = cond_both (nat_lt d most_brackets) _ _ (λ r. continues r ≡ true) (λ _. refl) (λ _. refl)
+
+unit_bound_alike : (o : Option ℕ) (ws ws' : List Wanted) (s : State) → continues (unit_bound o ws s) ≡ continues (unit_bound o ws' s)
+unit_bound_alike (Some n) ws ws' s = refl
+unit_bound_alike None ws ws' s = refl
+
+unit_at_alike : (k : TokenKind) (name : Sym) (ws ws' : List Wanted) (s : State) → continues (unit_at k name ws s) ≡ continues (unit_at k name ws' s)
+unit_at_alike (kind.Whole n) name ws ws' s = refl
+unit_at_alike kind.Variable name ws ws' s = unit_bound_alike (number_of name s.values) ws ws' s
+unit_at_alike _ name ws ws' s = refl
+
+unit_alike : (d e : ℕ) (w : Word) (ws ws' : List Wanted) (s : State) → (b : Bool) → continues (cond b (bracket_at d ws s) (unit_at w.kind w.name ws s)) ≡ continues (cond b (bracket_at e ws' s) (unit_at w.kind w.name ws' s))
+unit_alike d e w ws ws' s true = bracket_continues d ws s ∙ sym (bracket_continues e ws' s)
+unit_alike d e w ws ws' s false = unit_at_alike w.kind w.name ws ws' s
+
+operation_alike : (d e : ℕ) (waiting : List Waiting) (into : Option Target) (o : Option Op) (ws : List Wanted) (s : State) → continues (operation_at d waiting into o ws s) ≡ continues (operation_at e waiting into o ws s)
+operation_alike d e waiting into (Some o) ws s = refl
+operation_alike d e waiting into None ws s = refl
+
+rest_alike : (d e : ℕ) (waiting : List Waiting) (into : Option Target) (o : Option Op) (ws : List Wanted) (s : State) (ended : Step) (b : Bool) → continues (cond b ended (operation_at d waiting into o ws s)) ≡ continues (cond b ended (operation_at e waiting into o ws s))
+rest_alike d e waiting into o ws s ended true = refl
+rest_alike d e waiting into o ws s ended false = operation_alike d e waiting into o ws s
+
+bracketed_alike : (d e : ℕ) (w : Word) (ws : List Wanted) (s : State) (b : Bool) → continues (cond b (Next (ExpressionUnit d ∷ ExpressionRest d [] None ∷ ws) s) (expression_unit d w (ExpressionRest d [] None ∷ ws) s))
+    ≡ continues (cond b (Next (ExpressionUnit e ∷ ExpressionRest e [] None ∷ ws) s) (expression_unit e w (ExpressionRest e [] None ∷ ws) s))
+bracketed_alike d e w ws s true = refl
+bracketed_alike d e w ws s false = unit_alike d e w (ExpressionRest d [] None ∷ ws) (ExpressionRest e [] None ∷ ws) s (is_left w.kind)
+
+-- Whether a word continues the grammar does not depend on how many brackets are open.
+pub depth-alike : (d : ℕ) (w : Word) (h : Wanted) (ws : List Wanted) (s : State) → continues (step w (with_depth d h ∷ ws) s) ≡ continues (step w (h ∷ ws) s)
+unfolding step
+depth-alike d w (ExpressionUnit e) ws s = unit_alike d e w ws ws s (is_left w.kind)
+depth-alike d w (ExpressionRest e waiting into) ws s =
+    rest_alike d e waiting into (operation_of w.keyword) ws s (expression_ended into (completed s.formula waiting) ws s) (is_right w.kind)
+depth-alike d w (Bracketed e) ws s = bracketed_alike d e w ws s (is_compute w.keyword)
+depth-alike d w _ ws s = refl

@@ -12,15 +12,20 @@ use Rattle.ops_base.specs.declared.values.Pred.{Pred}
 use Rattle.ops_base.specs.declared.values.Pred.TheVariants as pred
 use Rattle.ops_base.specs.declared.elements.Class.{Class}
 use Rattle.ops_base.specs.declared.conditions.Operand.TheVariants as operand
+use Rattle.ops_base.specs.declared.expression.Op.{Op}
+use Rattle.ops_base.specs.Expression.{Formula}
+use Rattle.ops_base.specs.Expression as formula
 use Rattle.ops_base.specs.declared.actions.Term.{Term}
 use Rattle.ops_base.specs.declared.actions.Term.TheVariants as term
 use Rattle.ops_base.specs.declared.actions.Item.TheVariants as item
 use Rattle.ops_base.specs.declared.endings.Fault.{Fault}
 use Rattle.ops_base.specs.Valid.{most_fields, most_conditions, no_class, class_of, is_vector}
+use Rattle.ops_tokens.specs.declared.token.TokenKind.{TokenKind}
+use Rattle.ops_tokens.specs.declared.token.TokenKind.TheVariants as kind
 use Rattle.ops_meaning.specs.declared.words.Word.{Word}
 use Rattle.ops_meaning.specs.declared.words.Keyword.{Keyword}
 use Rattle.ops_meaning.specs.declared.words.Keyword.TheVariants as keyword
-use Rattle.ops_meaning.specs.Grammar.{Use, InPattern, InPut, InFixed, Target, ToTest, ToPut, ToFixed, ToTerms, ToConstants, ToItem, ToBind, Ends, EndsRun, EndsHalt, EndsCrlf, EndsWhole, Column, Wanted, Forms, Form, ClassDeclared, Attributes, VectorName, VectorNames, RuleName, FirstPattern, Patterns, Pattern, Braced, ElementName, ClosesBrace, ClassName, Terms, Attribute, Several, Place, Tests, Tested, Choice, Atom, ValueFor, Function, SourceCell, SourceAttribute, SourceEnd, Actions, ActionWord, Modified, BoundName, CellName, Cell, Cells, Items, ItemWord, Columns, Closes, State, Step, Next, Refuses, is_left, is_right, is_left_brace, is_right_brace, is_caret, is_name, is_variable, is_arrow, is_literal, is_minus, opens_choice, closes_choice, pred_of, constant_of, atom_of, value_of, small_of, is_one_of, number_of, may_declare, is_class, is_rule, form, class_declared, arranged, has_vector, with_class, is_second, attribute_declared, attributes, with_vector, makes_second, vector_declared, vector_name, class_at, attributes_of, behind_attribute, field_at, with_test, with_put, with_item, with_bind, with_constant, with_bound, variable_tested, constant_tested, tested, predicated, test, place, tests, with_choice, chosen, choice, atom_at, term_at, bound_at, constant_at, is_of_action, value_for, function, source_named, source_cell, source_class, source_at, source_attribute, takes_several, ends_at_inf, source_end, with_element, terms, within, one_of_several, with_several, several, left_begun, left_ended, right_begun, rule_name, first_pattern, one_more, more_patterns, patterns, element_at, element_name, braced, with_bound_element, with_rule, actions, action_word, with_designated, cell_of, classes_of_cells, with_modified, bound_name, with_cell, cell_bound, cell_name, with_remove, cells, with_write, items, item_word, column_item, columns_at, ended, step, nothing_read}
+use Rattle.ops_meaning.specs.Grammar.{Use, InPattern, InPut, InFixed, Target, ToTest, ToPut, ToFixed, ToTerms, ToConstants, ToItem, ToBind, Ends, EndsRun, EndsHalt, EndsCrlf, EndsWhole, Column, Wanted, Forms, Form, ClassDeclared, Attributes, VectorName, VectorNames, RuleName, FirstPattern, Patterns, Pattern, Braced, ElementName, ClosesBrace, ClassName, Terms, Attribute, Several, Place, Tests, Tested, Choice, Atom, ValueFor, Function, ExpressionUnit, ExpressionRest, Bracketed, SourceCell, SourceAttribute, SourceEnd, Actions, ActionWord, Modified, BoundName, BoundValue, CellName, Cell, Cells, Items, ItemWord, Columns, Closes, State, Step, Next, Refuses, is_left, is_right, is_left_brace, is_right_brace, is_caret, is_name, is_variable, is_arrow, is_literal, is_minus, opens_choice, closes_choice, pred_of, constant_of, atom_of, value_of, small_of, is_one_of, number_of, may_declare, is_class, is_rule, form, class_declared, arranged, has_vector, with_class, is_second, attribute_declared, attributes, with_vector, makes_second, vector_declared, vector_name, class_at, attributes_of, behind_attribute, field_at, with_test, with_put, with_item, with_bind, with_constant, with_bound, variable_tested, constant_tested, tested, predicated, test, place, tests, with_choice, chosen, choice, atom_at, term_at, bound_at, constant_at, is_of_action, value_for, function, no_formula, with_formula, most_brackets, completed, is_compute, operation_of, unit_bound, unit_at, expression_unit, bracketed, operation_at, expression_ended, expression_rest, Waiting, source_named, source_cell, source_class, source_at, source_attribute, takes_several, ends_at_inf, source_end, with_element, terms, within, one_of_several, with_several, several, left_begun, left_ended, right_begun, rule_name, first_pattern, one_more, more_patterns, patterns, element_at, element_name, braced, with_bound_element, with_rule, actions, action_word, with_designated, cell_of, classes_of_cells, with_modified, bound_name, bound_value, with_cell, cell_bound, cell_name, with_remove, cells, with_write, items, item_word, column_item, columns_at, ended, step, nothing_read}
 use Rattle.ops_meaning.specs.Spelling.{unnamed, attribute_name, last_field}
 use Rattle.ops_meaning.proofs.PlainClasses.{IsArranged, IsAttributes, class_arranged, classes_arranged, attributes_begun, attribute_pushed}
 
@@ -28,6 +33,7 @@ use Rattle.ops_meaning.proofs.PlainClasses.{IsArranged, IsAttributes, class_arra
 abbrev pub functions_fit : List Wanted → Bool
 functions_fit [] = true
 functions_fit (Function t ∷ ws) = is_of_action t && functions_fit ws
+functions_fit (ExpressionRest d waiting (Some t) ∷ ws) = is_of_action t && functions_fit ws
 functions_fit (SourceAttribute t ∷ ws) = is_of_action t && functions_fit ws
 functions_fit (SourceEnd t name ∷ ws) = false
 functions_fit (w ∷ ws) = functions_fit ws
@@ -245,11 +251,52 @@ module _ (w : Word) where
       (λ _. cond_both (is_left w.kind && is_of_action t) _ _ StayArranged (λ e. (h.0, h.1, and_from _ _ (and_parts _ _ e).1 h.2))
       (λ _. constant_at_stays t (value_of w.kind w.name) ws s h))
 
-  -- ---- substr
+  -- ---- functions
+
+  -- what a function gives, before its closing bracket
+  called_stays : (t : Target) (x : Term) (ws : List Wanted) (s : State) → Rests (Function t ∷ ws) s → StayArranged (term_at t x (Closes EndsWhole ∷ ws) s)
+  called_stays t x ws s h = term_stays t x (Closes EndsWhole ∷ ws) s (h.0, h.1, (and_parts (is_of_action t) (functions_fit ws) h.2).1)
 
   function_stays : (t : Target) (k : Keyword) (ws : List Wanted) (s : State) → Rests (Function t ∷ ws) s → StayArranged (function t k ws s)
   function_stays t keyword.Substr ws s h = h
+  function_stays t keyword.Compute ws s h = h
+  function_stays t keyword.Genatom ws s h = called_stays t term.Fresh ws s h
+  function_stays t keyword.Accept ws s h = called_stays t term.Accept ws s h
   function_stays t _ ws s h = tt
+
+  -- ---- compute
+
+  unit_bound_stays : (o : Option ℕ) (ws : List Wanted) (s : State) → Rests ws s → StayArranged (unit_bound o ws s)
+  unit_bound_stays (Some n) ws s h = rests ws (with_formula s (formula.variable n)) h
+  unit_bound_stays None ws s h = tt
+
+  unit_stays : (k : TokenKind) (name : Sym) (ws : List Wanted) (s : State) → Rests ws s → StayArranged (unit_at k name ws s)
+  unit_stays (kind.Whole n) name ws s h = rests ws (with_formula s (formula.number n)) h
+  unit_stays kind.Variable name ws s h = unit_bound_stays (number_of name s.values) ws s h
+  unit_stays _ name ws s h = tt
+
+  expression_unit_stays : (d : ℕ) (ws : List Wanted) (s : State) → Rests ws s → StayArranged (expression_unit d w ws s)
+  expression_unit_stays d ws s h =
+      cond_both (is_left w.kind) _ _ StayArranged (λ _. cond_both (nat_lt d most_brackets) _ _ StayArranged (λ _. h) (λ _. tt)) (λ _. unit_stays w.kind w.name ws s h)
+
+  bracketed_stays : (d : ℕ) (ws : List Wanted) (s : State) → Rests ws s → StayArranged (bracketed d w ws s)
+  bracketed_stays d ws s h = cond_both (is_compute w.keyword) _ _ StayArranged (λ _. h) (λ _. expression_unit_stays d (ExpressionRest d [] None ∷ ws) s h)
+
+  operation_stays : (d : ℕ) (waiting : List Waiting) (into : Option Target) (o : Option Op) (ws : List Wanted) (s : State) → Rests (ExpressionRest d waiting into ∷ ws) s → StayArranged (operation_at d waiting into o ws s)
+  operation_stays d waiting (Some t) (Some o) ws s h = h
+  operation_stays d waiting None (Some o) ws s h = h
+  operation_stays d waiting into None ws s h = tt
+
+  expression_ended_stays : (d : ℕ) (waiting : List Waiting) (into : Option Target) (f : Formula) (ws : List Wanted) (s : State) → Rests (ExpressionRest d waiting into ∷ ws) s → StayArranged (expression_ended into f ws s)
+  expression_ended_stays d waiting (Some t) f ws s h = term_stays t (term.Compute f) ws (with_formula s no_formula) (h.0, h.1, (and_parts (is_of_action t) (functions_fit ws) h.2).1)
+  expression_ended_stays d waiting None f ws s h = rests ws (with_formula s f) h
+
+  expression_rest_stays : (d : ℕ) (waiting : List Waiting) (into : Option Target) (ws : List Wanted) (s : State) → Rests (ExpressionRest d waiting into ∷ ws) s → StayArranged (expression_rest d waiting into w ws s)
+  expression_rest_stays d waiting into ws s h =
+      cond_both (is_right w.kind) _ _ StayArranged (λ _. expression_ended_stays d waiting into (completed s.formula waiting) ws s h)
+      (λ _. operation_stays d waiting into (operation_of w.keyword) ws s h)
+
+  -- ---- substr
 
   source_named_stays : (o : Option ℕ) (ws : List Wanted) (s : State) → Rests ws s → StayArranged (source_named o ws s)
   source_named_stays (Some c) ws s h = rests ws (record s { source = c }) h
@@ -375,6 +422,10 @@ module _ (w : Word) where
   bound_name_stays : (ws : List Wanted) (s : State) → Rests ws s → StayArranged (bound_name w ws s)
   bound_name_stays ws s h = cond_both (is_variable w.kind) _ _ StayArranged (λ _. rests ws (record s { variable = w.name }) h) (λ _. tt)
 
+  bound_value_stays : (ws : List Wanted) (s : State) → Rests ws s → StayArranged (bound_value w ws s)
+  bound_value_stays ws s h =
+      cond_both (is_right w.kind) _ _ StayArranged (λ _. bind_stays (number_of s.variable s.values) term.Fresh ws s h) (λ _. value_stays ToBind (Closes EndsWhole ∷ ws) s h)
+
   cell_bound_stays : (o : Option ℕ) (ws : List Wanted) (s : State) → Rests ws s → StayArranged (cell_bound o w.name ws s)
   cell_bound_stays (Some class) ws s h = rests ws (with_cell s class w.name) h
   cell_bound_stays None ws s h = tt
@@ -395,6 +446,9 @@ module _ (w : Word) where
   item_word_stays keyword.Tabto ws s h = h
   item_word_stays keyword.Rjust ws s h = h
   item_word_stays keyword.Substr ws s h = h
+  item_word_stays keyword.Compute ws s h = h
+  item_word_stays keyword.Genatom ws s h = term_stays ToItem term.Fresh (Closes EndsWhole ∷ ws) s h
+  item_word_stays keyword.Accept ws s h = term_stays ToItem term.Accept (Closes EndsWhole ∷ ws) s h
   item_word_stays _ ws s h = tt
 
   columns_stay : (c : Column) (o : Option ℕ) (ws : List Wanted) (s : State) → Rests ws s → StayArranged (columns_at c o ws s)
@@ -436,6 +490,9 @@ stays_arranged w (Choice f ∷ ws) s h = choice_stays w f ws s h
 stays_arranged w (Atom t ∷ ws) s h = atom_stays w t (atom_of w.kind w.name) ws s h
 stays_arranged w (ValueFor t ∷ ws) s h = value_stays w t ws s h
 stays_arranged w (Function t ∷ ws) s h = function_stays w t w.keyword ws s h
+stays_arranged w (ExpressionUnit d ∷ ws) s h = expression_unit_stays w d ws s h
+stays_arranged w (ExpressionRest d waiting into ∷ ws) s h = expression_rest_stays w d waiting into ws s h
+stays_arranged w (Bracketed d ∷ ws) s h = bracketed_stays w d ws s h
 stays_arranged w (SourceCell ∷ ws) s h = source_cell_stays w ws s h
 stays_arranged w (SourceAttribute t ∷ ws) s h = source_attribute_stays w t ws s h
 stays_arranged w (SourceEnd t name ∷ ws) s h = source_end_stays w t name ws s h.0
@@ -443,6 +500,7 @@ stays_arranged w (Actions ∷ ws) s h = actions_stay w ws s h
 stays_arranged w (ActionWord ∷ ws) s h = action_word_stays w w.keyword ws s h
 stays_arranged w (Modified ∷ ws) s h = modified_stays w (cell_of w.kind w.name s) ws s h
 stays_arranged w (BoundName ∷ ws) s h = bound_name_stays w ws s h
+stays_arranged w (BoundValue ∷ ws) s h = bound_value_stays w ws s h
 stays_arranged w (CellName ∷ ws) s h = cell_name_stays w ws s h
 stays_arranged w (Cell ∷ ws) s h = designated_stays w (cell_of w.kind w.name s) ws s h
 stays_arranged w (Cells ∷ ws) s h = cells_stay w ws s h

@@ -7,8 +7,8 @@ use Rattle.ops_tokens.specs.declared.token.TokenKind.TheVariants as kind
 use Rattle.ops_meaning.specs.declared.words.Word.{Word}
 use Rattle.ops_meaning.specs.declared.words.Keyword.{Keyword}
 use Rattle.ops_meaning.specs.declared.words.Keyword.TheVariants as keyword
-use Rattle.ops_meaning.specs.Grammar.{Use, InPattern, InPut, InFixed, Wanted, Forms, Form, ClassDeclared, Attributes, VectorName, VectorNames, RuleName, FirstPattern, Patterns, Pattern, Braced, ElementName, ClosesBrace, ClassName, Terms, Attribute, Several, Place, Tests, Tested, Choice, Atom, ValueFor, Function, SourceCell, SourceAttribute, SourceEnd, Actions, ActionWord, Modified, BoundName, CellName, Cell, Cells, Items, ItemWord, Columns, Closes, is_name, is_one_of, behind_attribute}
-use Rattle.ops_meaning.specs.Derivation.{with_name, Derives, nothing, no_form, a_class, no_attribute, a_vector, no_more_vectors, a_rule, a_first, a_whole_pattern, a_name_before, an_element_name, a_closed_brace, an_arrow, a_run, a_class_name, no_term, a_scalar_attribute, a_vector_attribute, no_more_of_several, a_value, a_substr, a_source, a_source_attribute, the_same_again, an_atom, no_more_tests, an_operand, a_tested_operand, no_more_choices, no_action, to_halt, a_modified, a_bound_name, a_cell_name, a_cell, no_more_cells, no_item, a_crlf, some_columns, a_closing}
+use Rattle.ops_meaning.specs.Grammar.{Use, InPattern, InPut, InFixed, Wanted, Forms, Form, ClassDeclared, Attributes, VectorName, VectorNames, RuleName, FirstPattern, Patterns, Pattern, Braced, ElementName, ClosesBrace, ClassName, Terms, Attribute, Several, Place, Tests, Tested, Choice, Atom, ValueFor, Function, ExpressionUnit, ExpressionRest, Bracketed, SourceCell, SourceAttribute, SourceEnd, Actions, ActionWord, Modified, BoundName, BoundValue, CellName, Cell, Cells, Items, ItemWord, Columns, Closes, is_name, is_one_of, behind_attribute}
+use Rattle.ops_meaning.specs.Derivation.{with_name, Derives, nothing, no_form, a_class, no_attribute, a_vector, no_more_vectors, a_rule, a_first, a_whole_pattern, a_name_before, an_element_name, a_closed_brace, an_arrow, a_run, a_class_name, no_term, a_scalar_attribute, a_vector_attribute, no_more_of_several, a_value, a_unit, a_bracketed_expression, no_operation, a_substr, a_source, a_source_attribute, the_same_again, an_atom, no_more_tests, an_operand, a_tested_operand, no_more_choices, no_action, to_halt, a_modified, a_bound_name, no_bound_value, a_cell_name, a_cell, no_more_cells, no_item, a_crlf, some_columns, a_closing}
 
 abbrev closing : Word
 closing = record { kind = kind.Right; keyword = keyword.Other; name = record { 0 = 0 }; first = 0; past = 0 }
@@ -79,6 +79,9 @@ complete vs (Atom t) ws c = (number ∷ (c vs).0, an_atom refl (c vs).1)
 complete vs (ValueFor t) ws c = (number ∷ (c vs).0, a_value refl (c vs).1)
 complete vs (Function t) ws c =
     (named keyword.Substr ∷ variable ∷ named keyword.Other ∷ named keyword.Other ∷ closing ∷ (c vs).0, a_substr refl (a_source refl (a_source_attribute refl (the_same_again refl refl refl (a_closing refl (c vs).1)))))
+complete vs (ExpressionUnit d) ws c = (number ∷ (c vs).0, a_unit refl (c vs).1)
+complete vs (ExpressionRest d waiting into) ws c = (closing ∷ (c vs).0, no_operation refl (c vs).1)
+complete vs (Bracketed d) ws c = (number ∷ closing ∷ (c vs).0, a_bracketed_expression (a_unit refl (no_operation refl (c vs).1)))
 complete vs SourceCell ws c = (variable ∷ (c vs).0, a_source refl (c vs).1)
 complete vs (SourceAttribute t) ws c =
     (named keyword.Other ∷ named keyword.Other ∷ closing ∷ (c vs).0, a_source_attribute refl (the_same_again refl refl refl (a_closing refl (c vs).1)))
@@ -87,6 +90,7 @@ complete vs Actions ws c = (closing ∷ (c vs).0, no_action refl (c vs).1)
 complete vs ActionWord ws c = (named keyword.Halt ∷ closing ∷ (c vs).0, to_halt refl (a_closing refl (c vs).1))
 complete vs Modified ws c = (number ∷ (c vs).0, a_modified refl (c vs).1)
 complete vs BoundName ws c = (variable ∷ (c vs).0, a_bound_name refl (c vs).1)
+complete vs BoundValue ws c = (closing ∷ (c vs).0, no_bound_value refl (c vs).1)
 complete vs CellName ws c = (variable ∷ (c vs).0, a_cell_name refl (c vs).1)
 complete vs Cell ws c = (number ∷ (c vs).0, a_cell refl (c vs).1)
 complete vs Cells ws c = (closing ∷ (c vs).0, no_more_cells refl (c vs).1)

@@ -1,5 +1,5 @@
 -- What a word does, against the grammar alone.
-use Rattle.std.proofs.Common.{◌≡◌, ℕ, suc, arith, ◌+◌, ◌-◌, Bool, true, false, not, ◌&&◌, ◌||◌, List, [], ◌∷◌, ◌++◌, ◌∙◌, cond, refl, sym, ap, Option, Some, None, Result, Ok, Err, true≢false, subst, ◌==◌, nat_lt, length, is_some, position, slice_get}
+use Rattle.std.proofs.Common.{◌≡◌, ℕ, suc, arith, ◌+◌, Bool, true, false, not, ◌&&◌, ◌||◌, List, [], ◌∷◌, ◌++◌, ◌∙◌, cond, refl, sym, ap, Option, Some, None, Result, Ok, Err, true≢false, subst, ◌==◌, nat_lt, length, is_some, position, slice_get}
 use Rattle.std.proofs.lemmas.Bool.{cond_both, or_right, and_from, and_parts}
 use Rattle.ops_base.specs.declared.values.Sym.{Sym}
 use Rattle.ops_base.specs.declared.values.Value.{Value}
@@ -7,15 +7,17 @@ use Rattle.ops_base.specs.declared.values.Pred.{Pred}
 use Rattle.ops_base.specs.declared.values.Pred.TheVariants as pred
 use Rattle.ops_base.specs.declared.actions.Term.{Term}
 use Rattle.ops_base.specs.declared.actions.Term.TheVariants as term
+use Rattle.ops_base.specs.declared.expression.Op.{Op}
 use Rattle.ops_base.specs.declared.endings.Fault.{Fault}
+use Rattle.ops_base.specs.Expression.{Formula}
 use Rattle.ops_base.specs.Valid.{most_fields, most_conditions, class_of, is_vector}
 use Rattle.ops_tokens.specs.declared.token.TokenKind.{TokenKind}
 use Rattle.ops_tokens.specs.declared.token.TokenKind.TheVariants as kind
 use Rattle.ops_meaning.specs.declared.words.Word.{Word}
 use Rattle.ops_meaning.specs.declared.words.Keyword.{Keyword}
 use Rattle.ops_meaning.specs.declared.words.Keyword.TheVariants as keyword
-use Rattle.ops_meaning.specs.Grammar.{Use, InPattern, InPut, InFixed, Target, ToTest, ToPut, ToFixed, ToTerms, ToConstants, ToItem, ToBind, Ends, EndsRun, EndsHalt, EndsCrlf, EndsWhole, Column, Wanted, Forms, Form, ClassDeclared, Attributes, VectorName, VectorNames, RuleName, FirstPattern, Patterns, Pattern, Braced, ElementName, ClosesBrace, ClassName, Terms, Attribute, Several, Place, Tests, Tested, Choice, Atom, ValueFor, Function, SourceCell, SourceAttribute, SourceEnd, Actions, ActionWord, Modified, BoundName, CellName, Cell, Cells, Items, ItemWord, Columns, Closes, State, Step, Next, Refuses, is_left, is_right, is_left_brace, is_right_brace, is_caret, is_name, is_variable, is_arrow, is_literal, is_inf, is_minus, opens_choice, closes_choice, pred_of, constant_of, value_of, atom_of, small_of, is_one_of, number_of, may_declare, is_class, is_rule, form, class_declared, is_second, attributes, makes_second, vector_declared, vector_name, vector_names, class_at, class_name, attributes_of, behind_attribute, field_at, attribute, with_bind, with_constant, variable_tested, constant_tested, tested, predicated, test, place, tests, chosen, choice, atom_at, term_at, bound_at, constant_at, is_of_action, value_for, function, source_named, source_cell, source_class, source_at, source_attribute, takes_several, ends_at_inf, source_end, with_element, terms, within, one_of_several, with_several, several, rule_name, first_pattern, one_more, patterns, pattern, element_at, element_name, braced, closes_brace, actions, action_word, cell_of, with_designated, cell, with_modified, modified, bound_name, cell_bound, cell_name, cells, items, item_word, columns_at, ended, closes, forms, step}
-use Rattle.ops_meaning.specs.Derivation.{is_designator, is_operand, is_value, is_choice, with_name, Derives, a_form, a_literalize, a_class, an_attribute, no_attribute, a_vector_declaration, a_vector, one_more_vector, no_more_vectors, a_production, a_rule, a_first, a_braced_first, a_negated_first, a_pattern, a_braced_pattern, a_negated_pattern, a_whole_pattern, a_name_before, a_name_behind, an_element_name, a_closed_brace, an_arrow, a_make, a_run, a_class_name, a_term, no_term, a_scalar_attribute, a_vector_attribute, one_more_place, one_more_term, one_more_constant, no_more_of_several, a_value, a_literal_value, a_function, a_substr, a_source, a_source_attribute, the_same_again, up_to_inf, an_atom, a_conjunction, no_more_tests, an_operand, a_literal, a_predicate, a_disjunction, one_more_operand, one_more_literal, one_more_predicate, one_more_disjunction, a_tested_operand, a_tested_literal, one_more_choice, no_more_choices, an_action, no_action, to_make, to_modify, to_bind, to_cbind, to_remove, to_write, to_halt, a_modified, a_bound_name, a_cell_name, a_cell, one_more_cell, no_more_cells, an_item, a_literal_item, an_item_form, no_item, a_crlf, a_tab, a_right, a_substr_item, some_columns, a_closing, is_no_form}
+use Rattle.ops_meaning.specs.Grammar.{Use, InPattern, InPut, InFixed, Target, ToTest, ToPut, ToFixed, ToTerms, ToConstants, ToItem, ToBind, Ends, EndsRun, EndsHalt, EndsCrlf, EndsWhole, Column, Wanted, Forms, Form, ClassDeclared, Attributes, VectorName, VectorNames, RuleName, FirstPattern, Patterns, Pattern, Braced, ElementName, ClosesBrace, ClassName, Terms, Attribute, Several, Place, Tests, Tested, Choice, Atom, ValueFor, Function, Waiting, ExpressionUnit, ExpressionRest, Bracketed, SourceCell, SourceAttribute, SourceEnd, Actions, ActionWord, Modified, BoundName, BoundValue, CellName, Cell, Cells, Items, ItemWord, Columns, Closes, State, Step, Next, Refuses, is_left, is_right, is_left_brace, is_right_brace, is_caret, is_name, is_variable, is_arrow, is_literal, is_inf, is_minus, opens_choice, closes_choice, pred_of, constant_of, value_of, atom_of, small_of, is_one_of, number_of, may_declare, is_class, is_rule, form, class_declared, is_second, attributes, makes_second, vector_declared, vector_name, vector_names, class_at, class_name, attributes_of, behind_attribute, field_at, attribute, with_bind, with_constant, variable_tested, constant_tested, tested, predicated, test, place, tests, chosen, choice, atom_at, term_at, bound_at, constant_at, is_of_action, value_for, most_brackets, no_formula, with_formula, unit_bound, unit_at, expression_unit, bracketed, is_compute, operation_of, operation_at, expression_ended, expression_rest, function, source_named, source_cell, source_class, source_at, source_attribute, takes_several, ends_at_inf, source_end, with_element, terms, within, one_of_several, with_several, several, rule_name, first_pattern, one_more, patterns, pattern, element_at, element_name, braced, closes_brace, actions, action_word, cell_of, with_designated, cell, with_modified, modified, bound_name, bound_value, cell_bound, cell_name, cells, items, item_word, columns_at, ended, closes, forms, step}
+use Rattle.ops_meaning.specs.Derivation.{is_whole, is_designator, is_operand, is_value, is_choice, with_name, Derives, a_form, a_literalize, a_class, an_attribute, no_attribute, a_vector_declaration, a_vector, one_more_vector, no_more_vectors, a_production, a_rule, a_first, a_braced_first, a_negated_first, a_pattern, a_braced_pattern, a_negated_pattern, a_whole_pattern, a_name_before, a_name_behind, an_element_name, a_closed_brace, an_arrow, a_make, a_run, a_class_name, a_term, no_term, a_scalar_attribute, a_vector_attribute, one_more_place, one_more_term, one_more_constant, no_more_of_several, a_value, a_literal_value, a_function, a_compute, a_genatom, an_accept, a_unit, a_bracketed_unit, a_bracketed_compute, a_bracketed_expression, an_operation, no_operation, a_substr, a_source, a_source_attribute, the_same_again, up_to_inf, an_atom, a_conjunction, no_more_tests, an_operand, a_literal, a_predicate, a_disjunction, one_more_operand, one_more_literal, one_more_predicate, one_more_disjunction, a_tested_operand, a_tested_literal, one_more_choice, no_more_choices, an_action, no_action, to_make, to_modify, to_bind, to_cbind, to_remove, to_write, to_halt, a_modified, a_bound_name, a_bound_value, no_bound_value, a_cell_name, a_cell, one_more_cell, no_more_cells, an_item, a_literal_item, an_item_form, no_item, a_crlf, a_tab, a_right, a_function_item, some_columns, a_closing, is_no_form}
 use Rattle.ops_meaning.proofs.Completed.{completed, attribute_completed}
 use Rattle.ops_meaning.proofs.Arranged.{AreArranged, StayArranged, stays_arranged, kind_agrees}
 
@@ -75,6 +77,10 @@ no_fault e = absurd (true≢false e)
 arrow_of : (k : Keyword) → is_arrow k ≡ true → k ≡ keyword.Arrow
 arrow_of keyword.Arrow e = refl
 arrow_of _ e = absurd (true≢false (sym e))
+
+compute_of : (k : Keyword) → is_compute k ≡ true → k ≡ keyword.Compute
+compute_of keyword.Compute e = refl
+compute_of _ e = absurd (true≢false (sym e))
 
 constant_operand : (w : Word) (v : Value) → constant_of w.kind w.name ≡ Some v → is_operand w ≡ true
 constant_operand w v e = ap (λ (o : Option Value). is_some o || is_variable w.kind) e
@@ -303,10 +309,42 @@ module _ (w : Word) (ws : List Wanted) (s : State) where
   value_continues t =
       value_for_continues (ValueFor t ∷ ws) ws (λ h. h) t (λ e ts d. a_value e d) (λ e ts d. a_literal_value e d) (λ e of_action ts d. a_function e of_action d)
 
-  -- `substr`
+  -- `compute`, `genatom`, `accept` and `substr`
   function_continues : (t : Target) (k : Keyword) → w.keyword ≡ k → Continues s.vectors (Function t ∷ ws) w (function t k ws s)
   function_continues t keyword.Substr e = (λ h. h, λ ts d. a_substr e d)
+  function_continues t keyword.Compute e = (λ h. h, λ ts d. a_compute e d)
+  function_continues t keyword.Genatom e = term_at_continues (Function t ∷ ws) (Closes EndsWhole ∷ ws) (λ h. h) (λ ts d. a_genatom e d) t term.Fresh
+  function_continues t keyword.Accept e = term_at_continues (Function t ∷ ws) (Closes EndsWhole ∷ ws) (λ h. h) (λ ts d. an_accept e d) t term.Accept
   function_continues t _ e = λ f. no_fault f
+
+  -- a unit in front of what is wanted behind it
+  module _ (head ws' : List Wanted) (stay : Stays head ws') (unit : is_designator w.kind ≡ true → (ts : List Word) → Derives s.vectors ws' ts → Derives s.vectors head (w ∷ ts)) where
+    unit_bound_continues : is_variable w.kind ≡ true → (o : Option ℕ) → Continues s.vectors head w (unit_bound o ws' s)
+    unit_bound_continues e (Some n) = (stay, unit (or_right (is_whole w.kind) _ e))
+    unit_bound_continues e None = λ _. behind head ws' (unit (or_right (is_whole w.kind) _ e))
+
+    unit_at_continues : (k : TokenKind) → w.kind ≡ k → Continues s.vectors head w (unit_at k w.name ws' s)
+    unit_at_continues (kind.Whole n) e = (stay, unit (ap is_designator e))
+    unit_at_continues kind.Variable e = unit_bound_continues (ap is_variable e) (number_of w.name s.values)
+    unit_at_continues _ e = λ f. no_fault f
+
+    -- A bracket past the limit is refused, and continues the grammar too.
+    expression_unit_continues : (d : ℕ) → (is_left w.kind ≡ true → (ts : List Word) → Derives s.vectors (Bracketed (suc d) ∷ ws') ts → Derives s.vectors head (w ∷ ts)) → Continues s.vectors head w (expression_unit d w ws' s)
+    expression_unit_continues d bracket =
+        cond_both (is_left w.kind) _ _ (Continues s.vectors head w)
+        (λ left. cond_both (nat_lt d most_brackets) _ _ (Continues s.vectors head w) (λ _. (stay, bracket left)) (λ _ _. behind head (Bracketed (suc d) ∷ ws') (bracket left)))
+        (λ _. unit_at_continues w.kind refl)
+
+  bracketed_continues : (d : ℕ) → Continues s.vectors (Bracketed d ∷ ws) w (bracketed d w ws s)
+  bracketed_continues d =
+      cond_both (is_compute w.keyword) _ _ (Continues s.vectors (Bracketed d ∷ ws) w) (λ e. (λ h. h, λ ts d. a_bracketed_compute (compute_of w.keyword e) d))
+      (λ _. expression_unit_continues (Bracketed d ∷ ws) (ExpressionRest d [] None ∷ ws) (λ h. h) (λ e ts d. a_bracketed_expression (a_unit e d)) d
+      (λ e ts d. a_bracketed_expression (a_bracketed_unit e d)))
+
+  operation_continues : (d : ℕ) (waiting : List Waiting) (into : Option Target) (o : Option Op) → operation_of w.keyword ≡ o → Continues s.vectors (ExpressionRest d waiting into ∷ ws) w (operation_at d waiting into o ws s)
+  operation_continues d waiting into (Some o) e =
+      (λ h. h, λ ts d. an_operation (record { left = s.formula; op = o } ∷ waiting) (ap (λ (o : Option Op). is_some o) e) d)
+  operation_continues d waiting into None e = λ f. no_fault f
 
   source_named_continues : is_variable w.kind ≡ true → (o : Option ℕ) → Continues s.vectors (SourceCell ∷ ws) w (source_named o ws s)
   source_named_continues e (Some c) = (λ h. h, λ ts d. a_source e d)
@@ -412,6 +450,14 @@ module _ (w : Word) (ws : List Wanted) (s : State) where
   bound_name_continues =
       cond_both (is_variable w.kind) _ _ (Continues s.vectors (BoundName ∷ ws) w) (λ e. (λ h. h, λ ts d. a_bound_name e d)) (λ _ f. no_fault f)
 
+  bound_value_continues : Continues s.vectors (BoundValue ∷ ws) w (bound_value w ws s)
+  bound_value_continues =
+      let o : Option ℕ = number_of s.variable s.values in
+      cond_both (is_right w.kind) _ _ (Continues s.vectors (BoundValue ∷ ws) w)
+      (λ e. (λ h. h, kept (with_bind o s term.Fresh) (bind_vectors o s term.Fresh) (BoundValue ∷ ws) ws (λ ts d. no_bound_value e d)))
+      (λ _. value_for_continues (BoundValue ∷ ws) (Closes EndsWhole ∷ ws) (λ h. h) ToBind (λ e ts d. a_bound_value (a_value e d)) (λ e ts d. a_bound_value (a_literal_value e d))
+      (λ e of_action ts d. a_bound_value (a_function e of_action d)))
+
   cell_bound_continues : is_variable w.kind ≡ true → (o : Option ℕ) → Continues s.vectors (CellName ∷ ws) w (cell_bound o w.name ws s)
   cell_bound_continues e (Some class) = (λ h. h, λ ts d. a_cell_name e d)
   cell_bound_continues e None = λ _. behind (CellName ∷ ws) ws (λ ts d. a_cell_name e d)
@@ -436,7 +482,10 @@ module _ (w : Word) (ws : List Wanted) (s : State) where
   item_word_continues keyword.Crlf e = (λ h. h, λ ts d. a_crlf e d)
   item_word_continues keyword.Tabto e = (λ h. h, λ ts d. a_tab e d)
   item_word_continues keyword.Rjust e = (λ h. h, λ ts d. a_right e d)
-  item_word_continues keyword.Substr e = (λ h. h, λ ts d. a_substr_item e d)
+  item_word_continues keyword.Substr e = (λ h. h, λ ts d. a_function_item (a_substr e d))
+  item_word_continues keyword.Compute e = (λ h. h, λ ts d. a_function_item (a_compute e d))
+  item_word_continues keyword.Genatom e = (λ h. h, λ ts d. a_function_item (a_genatom e d))
+  item_word_continues keyword.Accept e = (λ h. h, λ ts d. a_function_item (an_accept e d))
   item_word_continues _ e = λ f. no_fault f
 
   columns_continue : (c : Column) (o : Option ℕ) → small_of w.kind ≡ o → Continues s.vectors (Columns c ∷ ws) w (columns_at c o ws s)
@@ -479,6 +528,17 @@ module _ (w : Word) where
       (subst (λ (vs : List Sym). Continues vs (Terms u ∷ ws) w (terms u w ws (with_several u f s))) (several_vectors u f s) (terms_continue w ws (with_several u f s) u)))
       (λ _. one_of_several_continues ws s u f)
 
+-- an expression ends: it is a unit of another, or the value of a function
+expression_ended_continues : (w : Word) (head ws : List Wanted) (s : State) → Stays head ws → ((ts : List Word) → Derives s.vectors ws ts → Derives s.vectors head (w ∷ ts)) → (into : Option Target) (f : Formula) → Continues s.vectors head w (expression_ended into f ws s)
+expression_ended_continues w head ws s stay more (Some t) f = term_at_continues w ws (with_formula s no_formula) head ws stay more t (term.Compute f)
+expression_ended_continues w head ws s stay more None f = (stay, more)
+
+expression_rest_continues : (w : Word) (ws : List Wanted) (s : State) (d : ℕ) (waiting : List Waiting) (into : Option Target) → Continues s.vectors (ExpressionRest d waiting into ∷ ws) w (expression_rest d waiting into w ws s)
+expression_rest_continues w ws s d waiting into =
+    cond_both (is_right w.kind) _ _ (Continues s.vectors (ExpressionRest d waiting into ∷ ws) w)
+    (λ e. expression_ended_continues w (ExpressionRest d waiting into ∷ ws) ws s (λ h. h) (λ ts d. no_operation e d) into _)
+    (λ _. operation_continues w ws s d waiting into (operation_of w.keyword) refl)
+
 step_continues : (w : Word) (ws : List Wanted) (s : State) → AreArranged ws s → Continues s.vectors ws w (step w ws s)
 unfolding step
 step_continues w [] s a = λ f. no_fault f
@@ -507,6 +567,10 @@ step_continues w (Choice f ∷ ws) s a = choice_continues w ws s f
 step_continues w (Atom t ∷ ws) s a = atom_continues w ws s t (atom_of w.kind w.name) refl
 step_continues w (ValueFor t ∷ ws) s a = value_continues w ws s t
 step_continues w (Function t ∷ ws) s a = function_continues w ws s t w.keyword refl
+step_continues w (ExpressionUnit d ∷ ws) s a =
+    expression_unit_continues w ws s (ExpressionUnit d ∷ ws) ws (λ h. h) (λ e ts d. a_unit e d) d (λ e ts d. a_bracketed_unit e d)
+step_continues w (ExpressionRest d waiting into ∷ ws) s a = expression_rest_continues w ws s d waiting into
+step_continues w (Bracketed d ∷ ws) s a = bracketed_continues w ws s d
 step_continues w (SourceCell ∷ ws) s a = source_cell_continues w ws s
 step_continues w (SourceAttribute t ∷ ws) s a = source_attribute_continues w ws s t
 step_continues w (SourceEnd t name ∷ ws) s a = source_end_continues w ws s t name a.2
@@ -514,6 +578,7 @@ step_continues w (Actions ∷ ws) s a = actions_continue w ws s
 step_continues w (ActionWord ∷ ws) s a = action_word_continues w ws s w.keyword refl
 step_continues w (Modified ∷ ws) s a = modified_continues w ws s
 step_continues w (BoundName ∷ ws) s a = bound_name_continues w ws s
+step_continues w (BoundValue ∷ ws) s a = bound_value_continues w ws s
 step_continues w (CellName ∷ ws) s a = cell_name_continues w ws s
 step_continues w (Cell ∷ ws) s a = cell_continues w ws s (Cell ∷ ws) ws (λ h. h) (λ e ts d. a_cell e d)
 step_continues w (Cells ∷ ws) s a = cells_continue w ws s

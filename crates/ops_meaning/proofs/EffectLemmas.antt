@@ -6,13 +6,14 @@ use Rattle.ops_io.specs.Ports.{Port, Put, Stopped, PutsBytes}
 use Rattle.ops_io.specs.declared.stop.Stop.{Stop}
 use Rattle.ops_io.specs.declared.stop.Stop.TheVariants as stop
 use Rattle.ops_io.proofs.PortLemmas.{put_nothing, put_then, stopped_then, stopped_more, put_short}
-use Rattle.ops_meaning.specs.Effects.{Effect, writes, led_by, going_on, and_then, told_as, outcome_as, Failure, OfPort, OfEffect, failure_as, Fails, Performs, Pending}
+use Rattle.ops_meaning.specs.Effects.{Effect, writes, led_by, going_on, and_then, told_as, outcome_as, followed_by, silent, Failure, OfPort, OfEffect, failure_as, Fails, Performs, Pending}
 
 -- All was put, and this is left: what a call leaves that performs an effect and answers so.
 abbrev pub Leaves : {E S : Type 0} → S → Port → Port → Effect E S → Type 0
 Leaves s a b e = (e.outcome ≡ Ok s) × Put a b e.bytes
 
-fails_led : {E S : Type 0} (f : Failure E) (a b c : Port) (xs : List ℕ) (e : Effect E S) → Put a b xs → Fails f b c e → Fails f a c (led_by xs e)
+-- after a put, an effect fails that is led by the bytes that were put
+pub fails_led : {E S : Type 0} (f : Failure E) (a b c : Port) (xs : List ℕ) (e : Effect E S) → Put a b xs → Fails f b c e → Fails f a c (led_by xs e)
 fails_led (OfPort why) a b c xs e p q = stopped_then why a b c xs e.bytes p q
 fails_led (OfEffect f) a b c xs e p q = (q.0, put_then a b c xs e.bytes p q.1)
 
@@ -60,6 +61,10 @@ performs_nothing s a w = (refl, put_nothing a w)
 pub fails_short : {E S : Type 0} (a : Port) (e : Effect E S) → IsTrue a.out.whole → Fails (OfPort stop.OutOfMemory) a a e
 fails_short a e w = put_short a a [] e.bytes (put_nothing a w)
 
+-- memory ran out after all was written
+pub fails_behind : {E S : Type 0} (a b : Port) (e : Effect E S) → Put a b e.bytes → Fails (OfPort stop.OutOfMemory) a b e
+fails_behind a b e p = let P : List ℕ → Type 0 = Stopped stop.OutOfMemory a b in subst P (append-nil e.bytes) (put_short a b e.bytes [] p)
+
 -- a call that gave up, where its failure stands for that
 pub fails_stopped : {E S : Type 0} (why : Stop) (f : Failure E) (a b : Port) (e : Effect E S) → f ≡ OfPort why → Stopped why a b e.bytes → Fails f a b e
 fails_stopped {E} why f a b e is p = let P : Failure E → Type 0 = λ g. Fails g a b e in subst P (sym is) p
@@ -86,6 +91,13 @@ told_fails left end (OfEffect f) a b e p = (ap (outcome_as left end) p.0, p.1)
 pub told_performs : {X G E F S T : Type 0} (left : S → T) (end : E → F) (view : X → S) (failure : G → Failure E) (r : Result X G) (a b : Port) (e : Effect E S) → Performs view failure r a b e → Performs (λ x. left (view x)) (λ f. failure_as end (failure f)) r a b (told_as left end e)
 told_performs left end view failure (Ok x) a b e p = told_leaves left end (view x) a b e p
 told_performs left end view failure (Err f) a b e p = told_fails left end (failure f) a b e p
+
+-- ---- effects that write nothing
+
+-- what follows what went well is the next part, where nothing is written
+pub silent_then : {E S T : Type 0} (column : ℕ) (r : Result S E) (next : S → Result T E) → silent (followed_by r next) ≡ and_then column (silent r) (λ _ s. silent (next s))
+silent_then column (Ok s) next = refl
+silent_then column (Err f) next = refl
 
 -- ---- loops
 

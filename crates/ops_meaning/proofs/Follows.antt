@@ -1,5 +1,5 @@
 -- What the machine does at a word that the grammar derives.
-use Rattle.std.proofs.Common.{◌≡◌, ℕ, suc, arith, ◌+◌, ◌-◌, Bool, true, false, not, ◌&&◌, ◌||◌, ◌==◌, List, [], ◌∷◌, ◌++◌, length, take, refl, sym, ap, subst, ◌∙◌, cond, Option, Some, None, Result, Ok, Err, true≢false, nat_lt, is_some, position, slice_get}
+use Rattle.std.proofs.Common.{◌≡◌, ℕ, suc, arith, ◌+◌, ◌-◌, Bool, true, false, not, ◌&&◌, ◌||◌, ◌==◌, List, [], ◌∷◌, ◌++◌, length, take, refl, sym, ap, subst, ◌∙◌, cond, ◌⊎◌, inl, inr, Option, Some, None, Result, Ok, Err, true≢false, nat_lt, is_some, position, slice_get}
 use Rattle.std.specs.List.{list_any}
 use Rattle.std.proofs.lemmas.Bool.{cond_both, and_parts, and_from, or_left, or_right}
 use Rattle.ops_base.specs.declared.values.Sym.{Sym}
@@ -9,19 +9,21 @@ use Rattle.ops_base.specs.declared.values.Pred.TheVariants as pred
 use Rattle.ops_base.specs.declared.conditions.Condition.{Condition}
 use Rattle.ops_base.specs.declared.actions.Term.{Term}
 use Rattle.ops_base.specs.declared.actions.Term.TheVariants as term
+use Rattle.ops_base.specs.declared.expression.Op.{Op}
 use Rattle.ops_base.specs.declared.endings.Fault.{Fault}
+use Rattle.ops_base.specs.Expression.{Formula}
 use Rattle.ops_base.specs.Valid.{most_fields, most_conditions, class_of, is_vector}
 use Rattle.ops_tokens.specs.declared.token.TokenKind.{TokenKind}
 use Rattle.ops_tokens.specs.declared.token.TokenKind.TheVariants as kind
 use Rattle.ops_meaning.specs.declared.words.Word.{Word}
 use Rattle.ops_meaning.specs.declared.words.Keyword.{Keyword}
 use Rattle.ops_meaning.specs.declared.words.Keyword.TheVariants as keyword
-use Rattle.ops_meaning.specs.Grammar.{Use, InPattern, InPut, InFixed, Target, ToTest, ToPut, ToTerms, ToConstants, ToItem, ToBind, EndsWhole, Column, Wanted, Forms, Attribute, VectorNames, Patterns, Pattern, Braced, ClosesBrace, ClassName, Terms, Several, Place, Tests, Choice, ValueFor, Function, SourceEnd, Atom, Tested, Cells, Items, Closes, State, Step, Next, Refuses, is_left, is_right, is_left_brace, is_right_brace, is_caret, is_name, is_variable, is_arrow, is_literal, is_inf, is_minus, opens_choice, closes_choice, pred_of, constant_of, value_of, atom_of, natural_of, small_of, is_one_of, number_of, may_declare, is_class, is_rule, is_second, makes_second, vector_declared, form, class_at, attributes_of, behind_attribute, field_at, with_bind, with_constant, variable_tested, constant_tested, tested, predicated, test, place, tests, chosen, atom_at, term_at, bound_at, constant_at, is_of_action, value_for, function, source_named, source_class, source_at, takes_several, ends_at_inf, source_end, with_element, terms, within, one_of_several, with_several, several, one_more, element_at, action_word, designated, numbered_cell, named_cell, cell_of, with_designated, with_modified, cell_bound, item_word, columns_at, ended, step}
-use Rattle.ops_meaning.specs.Derivation.{is_designator, is_operand, is_value, with_name, Derives, nothing, no_form, a_form, a_literalize, a_class, an_attribute, no_attribute, a_vector_declaration, a_vector, one_more_vector, no_more_vectors, a_production, a_rule, a_first, a_braced_first, a_negated_first, a_pattern, a_braced_pattern, a_negated_pattern, a_whole_pattern, a_name_before, a_name_behind, an_element_name, a_closed_brace, an_arrow, a_make, a_run, a_class_name, a_term, no_term, a_scalar_attribute, a_vector_attribute, one_more_place, one_more_term, one_more_constant, no_more_of_several, a_value, a_literal_value, a_function, a_substr, a_source, a_source_attribute, the_same_again, up_to_inf, an_atom, a_conjunction, no_more_tests, an_operand, a_literal, a_predicate, a_disjunction, one_more_operand, one_more_literal, one_more_predicate, one_more_disjunction, a_tested_operand, a_tested_literal, one_more_choice, no_more_choices, an_action, no_action, to_make, to_modify, to_bind, to_cbind, to_remove, to_write, to_halt, a_modified, a_bound_name, a_cell_name, a_cell, one_more_cell, no_more_cells, an_item, a_literal_item, an_item_form, no_item, a_crlf, a_tab, a_right, a_substr_item, some_columns, a_closing, is_no_form}
+use Rattle.ops_meaning.specs.Grammar.{Use, InPattern, InPut, InFixed, Target, ToTest, ToPut, ToTerms, ToConstants, ToItem, ToBind, EndsWhole, Column, Wanted, Forms, Attribute, VectorNames, Patterns, Pattern, Braced, ClosesBrace, ClassName, Terms, Several, Place, Tests, Choice, ValueFor, Function, Waiting, ExpressionUnit, ExpressionRest, Bracketed, SourceEnd, Atom, Tested, BoundValue, Cells, Items, ItemWord, Closes, State, Step, Next, Refuses, is_left, is_right, is_left_brace, is_right_brace, is_caret, is_name, is_variable, is_arrow, is_literal, is_inf, is_minus, opens_choice, closes_choice, pred_of, constant_of, value_of, atom_of, natural_of, small_of, is_one_of, number_of, may_declare, is_class, is_rule, is_second, makes_second, vector_declared, form, class_at, attributes_of, behind_attribute, field_at, with_bind, with_constant, variable_tested, constant_tested, tested, predicated, test, place, tests, chosen, atom_at, term_at, bound_at, constant_at, is_of_action, value_for, most_brackets, no_formula, with_formula, unit_bound, unit_at, expression_unit, is_compute, operation_of, operation_at, expression_ended, function, source_named, source_class, source_at, takes_several, ends_at_inf, source_end, with_element, terms, within, one_of_several, with_several, several, one_more, element_at, action_word, designated, numbered_cell, named_cell, cell_of, with_designated, with_modified, cell_bound, item_word, columns_at, ended, step}
+use Rattle.ops_meaning.specs.Derivation.{is_designator, is_operand, is_value, with_name, Derives, nothing, no_form, a_form, a_literalize, a_class, an_attribute, no_attribute, a_vector_declaration, a_vector, one_more_vector, no_more_vectors, a_production, a_rule, a_first, a_braced_first, a_negated_first, a_pattern, a_braced_pattern, a_negated_pattern, a_whole_pattern, a_name_before, a_name_behind, an_element_name, a_closed_brace, an_arrow, a_make, a_run, a_class_name, a_term, no_term, a_scalar_attribute, a_vector_attribute, one_more_place, one_more_term, one_more_constant, no_more_of_several, a_value, a_literal_value, a_function, a_compute, a_genatom, an_accept, a_unit, a_bracketed_unit, a_bracketed_compute, a_bracketed_expression, an_operation, no_operation, a_substr, a_source, a_source_attribute, the_same_again, up_to_inf, an_atom, a_conjunction, no_more_tests, an_operand, a_literal, a_predicate, a_disjunction, one_more_operand, one_more_literal, one_more_predicate, one_more_disjunction, a_tested_operand, a_tested_literal, one_more_choice, no_more_choices, an_action, no_action, to_make, to_modify, to_bind, to_cbind, to_remove, to_write, to_halt, a_modified, a_bound_name, a_bound_value, no_bound_value, a_cell_name, a_cell, one_more_cell, no_more_cells, an_item, a_literal_item, an_item_form, no_item, a_crlf, a_tab, a_right, a_function_item, some_columns, a_closing, is_no_form}
 use Rattle.ops_meaning.proofs.Arranged.{AreArranged, kind_agrees}
 use Rattle.ops_meaning.proofs.Derived.{forms_last, bind_vectors, constant_vectors, element_vectors, ended_vectors}
-use Rattle.ops_meaning.proofs.Moved.{at_any_place, several_at_any_place}
-use Rattle.ops_meaning.proofs.Proper.{is_mark, is_proper, arrow_marks, literal_marks, minus_marks, opening_marks, pred_marks, literal_no_opening, literal_no_pred, minus_no_arrow, pred_no_opening, not_met, mark_kind, no_mark}
+use Rattle.ops_meaning.proofs.Moved.{at_any_place, several_at_any_place, whatever_waits}
+use Rattle.ops_meaning.proofs.Proper.{is_other, is_mark, may_have, is_proper, arrow_marks, literal_marks, minus_marks, opening_marks, pred_marks, literal_no_opening, literal_no_pred, minus_no_arrow, pred_no_opening, not_met, mark_kind, no_mark}
 
 -- What derives goes on where the word is taken, and the word is refused in a form at most.
 abbrev pub Went : Word → List Word → Step → Type 0
@@ -58,6 +60,10 @@ left_brace_not_left _ e = refl
 pub variable_not_left : (k : TokenKind) → is_variable k ≡ true → is_left k ≡ false
 variable_not_left kind.Left e = absurd (true≢false (sym e))
 variable_not_left _ e = refl
+
+designator_not_left : (k : TokenKind) → is_designator k ≡ true → is_left k ≡ false
+designator_not_left kind.Left e = absurd (true≢false (sym e))
+designator_not_left _ e = refl
 
 value_not_right : (k : TokenKind) (name : Sym) → (is_some (value_of k name) || is_variable k) ≡ true → is_right k ≡ false
 value_not_right kind.Right name e = absurd (true≢false (sym e))
@@ -120,6 +126,32 @@ terms_begin u vs ws w ts (no_term e d) = or_left _ _ e
 -- An operand is no operator.
 operand_unmarked : {A : Type 0} (w : Word) → is_operand w ≡ true → is_mark w.keyword ≡ true → is_proper w ≡ true → A
 operand_unmarked w e mark proper = no_mark w (λ k. is_some (constant_of k w.name) || is_variable k) refl mark e proper
+
+-- a word with a keyword is a symbol or an operator
+keyword_kind : (k : TokenKind) (w : Keyword) → is_other w ≡ false → may_have k w ≡ true → (k ≡ kind.Operator) ⊎ (k ≡ kind.Symbol)
+keyword_kind kind.Operator w named p = inl refl
+keyword_kind kind.Symbol w named p = inr refl
+keyword_kind _ w named p = absurd (true≢false (sym p ∙ named))
+
+no_keyword : {A : Type 0} (w : Word) (is : TokenKind → Bool) → is kind.Operator ≡ false → is kind.Symbol ≡ false → is_other w.keyword ≡ false → is w.kind ≡ true → is_proper w ≡ true → A
+no_keyword w is operator symbol named e proper =
+    elim (keyword_kind w.kind w.keyword named proper) [
+      | inl same ↦ absurd (true≢false (sym e ∙ ap is same ∙ operator))
+      | inr same ↦ absurd (true≢false (sym e ∙ ap is same ∙ symbol))
+    ]
+
+operation_named : (k : Keyword) → is_some (operation_of k) ≡ true → is_other k ≡ false
+operation_named keyword.Other e = absurd (true≢false (sym e))
+operation_named _ e = refl
+
+compute_named : (k : Keyword) → is_compute k ≡ true → is_other k ≡ false
+compute_named keyword.Other e = absurd (true≢false (sym e))
+compute_named _ e = refl
+
+-- a unit does not begin with `compute`
+unit_begins : {A : Type 0} (d : ℕ) (vs : List Sym) (ws : List Wanted) (w : Word) (ts : List Word) → Derives vs (ExpressionUnit d ∷ ws) (w ∷ ts) → is_compute w.keyword ≡ true → is_proper w ≡ true → A
+unit_begins d vs ws w ts (a_unit e derives) compute proper = no_keyword w is_designator refl refl (compute_named w.keyword compute) e proper
+unit_begins d vs ws w ts (a_bracketed_unit e derives) compute proper = no_keyword w is_left refl refl (compute_named w.keyword compute) e proper
 
 -- from nothing only nothing derives
 abbrev IsNothing : List Wanted → List Word → Type 0
@@ -255,7 +287,36 @@ module _ (w : Word) (ts : List Word) where
         (unmet (is_left w.kind && is_of_action t) _ _ (ap (λ (b : Bool). b && is_of_action t) (value_not_left w.kind w.name each.1))
         (constant_at_goes t (value_of w.kind w.name) each.1 d))
 
-    -- `substr`
+    -- an expression
+    unit_bound_goes : (o : Option ℕ) → Derives s.vectors ws ts → Went w ts (unit_bound o ws s)
+    unit_bound_goes (Some n) d = λ _. d
+    unit_bound_goes None d = refl
+
+    unit_at_goes : (k : TokenKind) → is_designator k ≡ true → Derives s.vectors ws ts → Went w ts (unit_at k w.name ws s)
+    unit_at_goes (kind.Whole n) e d = λ _. d
+    unit_at_goes kind.Variable e d = unit_bound_goes (number_of w.name s.values) d
+    unit_at_goes _ e d = absurd (true≢false (sym e))
+
+    unit_goes : (depth : ℕ) → is_designator w.kind ≡ true → Derives s.vectors ws ts → Went w ts (expression_unit depth w ws s)
+    unit_goes depth e d = unmet (is_left w.kind) _ _ (designator_not_left w.kind e) (unit_at_goes w.kind e d)
+
+    -- A bracket past the limit is refused in a form.
+    bracket_goes : (depth : ℕ) → is_left w.kind ≡ true → Derives s.vectors (Bracketed (suc depth) ∷ ws) ts → Went w ts (expression_unit depth w ws s)
+    bracket_goes depth e d = met (is_left w.kind) _ _ e (cond_both (nat_lt depth most_brackets) _ _ (Went w ts) (λ _ _. d) (λ _. refl))
+
+    operation_goes : (depth : ℕ) (waiting more : List Waiting) (into : Option Target) (o : Option Op) → is_some o ≡ true
+        → Derives s.vectors (ExpressionUnit depth ∷ ExpressionRest depth more into ∷ ws) ts → Went w ts (operation_at depth waiting into o ws s)
+    operation_goes depth waiting more into (Some o) e d = λ _. whatever_waits s.vectors depth more into ws ts d (record { left = s.formula; op = o } ∷ waiting)
+    operation_goes depth waiting more into None e d = absurd (true≢false (sym e))
+
+    term_improper : (t : Target) (x : Term) → ¬ (is_proper w ≡ true) → Went w ts (term_at t x ws s)
+    term_improper (ToPut f) x improper = λ proper. absurd (improper proper)
+    term_improper ToTerms x improper = λ proper. absurd (improper proper)
+    term_improper ToItem x improper = λ proper. absurd (improper proper)
+    term_improper ToBind x improper = λ proper. absurd (improper proper)
+    term_improper _ x improper = refl
+
+    -- functions
     called_goes : (t : Target) → is_left w.kind ≡ true → is_of_action t ≡ true → Derives s.vectors (Function t ∷ ws) ts → Went w ts (value_for t w ws s)
     called_goes t e of_action d =
         cond_both (is_literal w.keyword) _ _ (Went w ts) (λ l proper. no_mark w is_left refl (literal_marks w.keyword l) e proper)
@@ -338,6 +399,43 @@ module _ (w : Word) (ts : List Word) where
     columns_go : (c : Column) (o : Option ℕ) → is_some o ≡ true → Derives s.vectors ws ts → Went w ts (columns_at c o ws s)
     columns_go c (Some n) e d = λ _. d
     columns_go c None e d = absurd (true≢false (sym e))
+
+-- the end of an expression
+ended_goes_on : (w : Word) (ts : List Word) (ws : List Wanted) (s : State) (into : Option Target) (f : Formula) → Derives s.vectors ws ts → Went w ts (expression_ended into f ws s)
+ended_goes_on w ts ws s (Some t) f d = term_goes w ts ws (with_formula s no_formula) t (term.Compute f) d
+ended_goes_on w ts ws s None f d = λ _. d
+
+ended_improper : (w : Word) (ts : List Word) (ws : List Wanted) (s : State) (into : Option Target) (f : Formula) → ¬ (is_proper w ≡ true) → Went w ts (expression_ended into f ws s)
+ended_improper w ts ws s (Some t) f improper = term_improper w ts ws (with_formula s no_formula) t (term.Compute f) improper
+ended_improper w ts ws s None f improper = λ proper. absurd (improper proper)
+
+-- an expression in brackets, the value of `bind` and a function in `write`
+bracketed_more : (depth : ℕ) (ws : List Wanted) (words : List Word) (s : State) → Derives s.vectors (ExpressionUnit depth ∷ ExpressionRest depth [] None ∷ ws) words
+    → Goes words (ExpressionUnit depth ∷ ExpressionRest depth [] None ∷ ws) s → Goes words (Bracketed depth ∷ ws) s
+unfolding step
+bracketed_more depth ws [] s d go = tt
+bracketed_more depth ws (w ∷ ts) s d go =
+    cond_both (is_compute w.keyword) _ _ (Went w ts) (λ compute proper. unit_begins depth s.vectors (ExpressionRest depth [] None ∷ ws) w ts d compute proper) (λ _. go)
+
+bound_more : (ws : List Wanted) (words : List Word) (s : State) → Derives s.vectors (ValueFor ToBind ∷ Closes EndsWhole ∷ ws) words
+    → Goes words (ValueFor ToBind ∷ Closes EndsWhole ∷ ws) s → Goes words (BoundValue ∷ ws) s
+unfolding step
+bound_more ws [] s d go = tt
+bound_more ws (w ∷ ts) s d go =
+    cond_both (is_right w.kind) _ _ (Went w ts)
+    (λ right proper. absurd (true≢false (sym (or_left _ _ right) ∙ value_begins ToBind s.vectors (Closes EndsWhole ∷ ws) w ts d proper))) (λ _. go)
+
+function_item_by : (w : Word) (ts : List Word) (ws : List Wanted) (s : State) (k : Keyword) → Went w ts (function ToItem k ws s) → Went w ts (item_word k ws s)
+function_item_by w ts ws s keyword.Substr go = go
+function_item_by w ts ws s keyword.Compute go = go
+function_item_by w ts ws s keyword.Genatom go = go
+function_item_by w ts ws s keyword.Accept go = go
+function_item_by w ts ws s _ go = absurd (true≢false go)
+
+function_item_more : (ws : List Wanted) (words : List Word) (s : State) → Goes words (Function ToItem ∷ ws) s → Goes words (ItemWord ∷ ws) s
+unfolding step
+function_item_more ws [] s go = tt
+function_item_more ws (w ∷ ts) s go = function_item_by w ts ws s w.keyword go
 
 -- behind a vector attribute
 place_more : (f : ℕ) (ws : List Wanted) (words : List Word) (s : State) → Derives s.vectors (Place f ∷ Several InPattern (suc f) ∷ ws) words
@@ -477,6 +575,22 @@ derived_goes ws words s a (a_value {t = t} {ws = rest} {w = w} {ts = ts} e d) la
 derived_goes ws words s a (a_literal_value {w = w} {ts = ts} e d) last = met w ts (is_literal w.keyword) _ _ e (λ _. d)
 derived_goes ws words s a (a_function {t = t} {ws = rest} {w = w} {ts = ts} e of_action d) last = called_goes w ts rest s t e of_action d
 derived_goes ws words s a (a_substr {t = t} {ws = rest} {w = w} {ts = ts} e d) last = function_goes w ts rest s t keyword.Substr e (λ _. d)
+derived_goes ws words s a (a_compute {t = t} {ws = rest} {w = w} {ts = ts} e d) last = function_goes w ts rest s t keyword.Compute e (λ _. d)
+derived_goes ws words s a (a_genatom {t = t} {ws = rest} {w = w} {ts = ts} e d) last =
+    function_goes w ts rest s t keyword.Genatom e (term_goes w ts (Closes EndsWhole ∷ rest) s t term.Fresh d)
+derived_goes ws words s a (an_accept {t = t} {ws = rest} {w = w} {ts = ts} e d) last =
+    function_goes w ts rest s t keyword.Accept e (term_goes w ts (Closes EndsWhole ∷ rest) s t term.Accept d)
+derived_goes ws words s a (a_unit {d = depth} {ws = rest} {w = w} {ts = ts} e d) last = unit_goes w ts rest s depth e d
+derived_goes ws words s a (a_bracketed_unit {d = depth} {ws = rest} {w = w} {ts = ts} e d) last = bracket_goes w ts rest s depth e d
+derived_goes ws words s a (a_bracketed_compute {w = w} {ts = ts} e d) last = met w ts (is_compute w.keyword) _ _ (ap is_compute e) (λ _. d)
+derived_goes ws words s a (a_bracketed_expression {d = depth} {ws = rest} d) last =
+    bracketed_more depth rest words s d (derived_goes (ExpressionUnit depth ∷ ExpressionRest depth [] None ∷ rest) words s a d last)
+derived_goes ws words s a (an_operation {d = depth} {waiting = waiting} more {into = into} {ws = rest} {w = w} {ts = ts} e d) last =
+    cond_both (is_right w.kind) _ _ (Went w ts)
+    (λ right. ended_improper w ts rest s into _ (λ proper. no_keyword w is_right refl refl (operation_named w.keyword e) right proper))
+    (λ _. operation_goes w ts rest s depth waiting more into (operation_of w.keyword) e d)
+derived_goes ws words s a (no_operation {into = into} {ws = rest} {w = w} {ts = ts} e d) last =
+    met w ts (is_right w.kind) _ _ e (ended_goes_on w ts rest s into _ d)
 derived_goes ws words s a (a_source {ws = rest} {w = w} {ts = ts} e d) last =
     met w ts (is_variable w.kind) _ _ e (source_goes w ts rest s (number_of w.name s.elements) d)
 derived_goes ws words s a (a_source_attribute {t = t} {ws = rest} {w = w} {ts = ts} e d) last =
@@ -523,6 +637,11 @@ derived_goes ws words s a (to_halt {ws = rest} {w = w} {ts = ts} e d) last = act
 derived_goes ws words s a (a_modified {ws = rest} {w = w} {ts = ts} e d) last =
     modified_goes w ts rest s (cell_of w.kind w.name s) (cell_in_form w ts rest s w.kind e) d
 derived_goes ws words s a (a_bound_name {w = w} {ts = ts} e d) last = met w ts (is_variable w.kind) _ _ e (λ _. d)
+derived_goes ws words s a (a_bound_value {ws = rest} d) last =
+    bound_more rest words s d (derived_goes (ValueFor ToBind ∷ Closes EndsWhole ∷ rest) words s a d last)
+derived_goes ws words s a (no_bound_value {ws = rest} {w = w} {ts = ts} e d) last =
+    let o : Option ℕ = number_of s.variable s.values in
+    met w ts (is_right w.kind) _ _ e (λ _. same_names w ts rest s (with_bind o s term.Fresh) (bind_vectors o s term.Fresh) d)
 derived_goes ws words s a (a_cell_name {ws = rest} {w = w} {ts = ts} e d) last =
     met w ts (is_variable w.kind) _ _ e (cell_bound_goes w ts rest s s.made d)
 derived_goes ws words s a (a_cell {ws = rest} {w = w} {ts = ts} e d) last =
@@ -545,7 +664,8 @@ derived_goes ws words s a (no_item {w = w} {ts = ts} e d) last = met w ts (is_ri
 derived_goes ws words s a (a_crlf {ws = rest} {w = w} {ts = ts} e d) last = item_goes w ts rest s keyword.Crlf e (λ _. d)
 derived_goes ws words s a (a_tab {ws = rest} {w = w} {ts = ts} e d) last = item_goes w ts rest s keyword.Tabto e (λ _. d)
 derived_goes ws words s a (a_right {ws = rest} {w = w} {ts = ts} e d) last = item_goes w ts rest s keyword.Rjust e (λ _. d)
-derived_goes ws words s a (a_substr_item {ws = rest} {w = w} {ts = ts} e d) last = item_goes w ts rest s keyword.Substr e (λ _. d)
+derived_goes ws words s a (a_function_item {ws = rest} d) last =
+    function_item_more rest words s (derived_goes (Function ToItem ∷ rest) words s a d last)
 derived_goes ws words s a (some_columns {c = column} {ws = rest} {w = w} {ts = ts} e d) last =
     columns_go w ts rest s column (small_of w.kind) e d
 derived_goes ws words s a (a_closing {e = end} {ws = rest} {w = w} {ts = ts} e d) last =

@@ -8,7 +8,10 @@ pub mod RightSteps
 pub mod Steps
 pub mod ReadsValid
 pub mod Lawful
+pub mod NamesKept
+pub mod Doings
 pub mod RisingTags
+pub mod InletLemmas
 pub mod Endings
 pub mod ReadsWithin
 pub mod Completed
@@ -23,6 +26,7 @@ pub mod Places
 pub mod Numbering
 pub mod ReadsFacts
 pub mod ReadsPatterns
+pub mod ReadsFormulas
 pub mod ReadsActions
 pub mod ReadsRight
 pub mod ReadsRules
@@ -30,6 +34,7 @@ pub mod ReadsProgram
 pub mod StandingEnd
 pub mod Reasons
 pub mod Lowest
+pub mod PlainFormulas
 pub mod Plain
 pub mod PlainClasses
 pub mod Arranged

@@ -11,12 +11,13 @@ use Rattle.ops_tokens.specs.declared.token.TokenKind.{TokenKind}
 use Rattle.ops_tokens.specs.declared.token.TokenKind.TheVariants as kind
 use Rattle.ops_meaning.specs.declared.words.Word.{Word}
 use Rattle.ops_meaning.specs.declared.words.Keyword.TheVariants as keyword
-use Rattle.ops_meaning.specs.Grammar.{InPattern, InPut, InFixed, ToConstants, Wanted, Form, ClassDeclared, Attributes, VectorName, VectorNames, RuleName, FirstPattern, Patterns, Braced, ElementName, ClassName, Attribute, Several, Tested, ValueFor, SourceCell, SourceAttribute, Modified, CellName, Cell, Cells, Items, State, Step, Next, Refuses, is_left, is_right, is_caret, is_name, is_variable, is_literal, value_of, is_one_of, number_of, is_second, attributes, bound_at, constant_at, is_of_action, value_for, within, several, step}
+use Rattle.ops_meaning.specs.Grammar.{InPattern, InPut, InFixed, ToConstants, Wanted, Form, ClassDeclared, Attributes, VectorName, VectorNames, RuleName, FirstPattern, Patterns, Braced, ElementName, ClassName, Attribute, Several, Tested, ValueFor, ExpressionUnit, Bracketed, SourceCell, SourceAttribute, Modified, BoundValue, CellName, Cell, Cells, Items, State, Step, Next, Refuses, is_left, is_right, is_caret, is_name, is_variable, is_literal, value_of, is_one_of, number_of, is_second, attributes, bound_at, constant_at, is_of_action, value_for, within, several, step}
 use Rattle.ops_meaning.specs.Derivation.{is_no_form}
-use Rattle.ops_meaning.specs.Reasons.{fault_number, is_declaration, wants_form, wants_class, wants_attribute, is_declared, gives_second, is_full, wants_condition, wants_first, wants_bound, designates, wants_cell, is_bad_designator, Because}
+use Rattle.ops_meaning.specs.Reasons.{fault_number, is_declaration, wants_form, wants_class, wants_attribute, is_declared, gives_second, is_full, nests_deepest, wants_condition, wants_first, wants_bound, designates, wants_cell, is_bad_designator, Because}
 use Rattle.ops_meaning.specs.Standing.{IsLowest}
 use Rattle.ops_meaning.proofs.Arranged.{AreArranged}
 use Rattle.ops_meaning.proofs.Proper.{is_proper, literal_marks, mark_kind}
+use Rattle.ops_meaning.proofs.Follows.{variable_not_left}
 use Rattle.ops_meaning.proofs.Reasons.{refused-because}
 
 -- ---- where a reason may be one
@@ -38,6 +39,9 @@ least_at (ValueFor t ∷ ws) = 15
 least_at (Several InPut f ∷ ws) = 15
 least_at (Several InFixed f ∷ ws) = 15
 least_at (Items ∷ ws) = 15
+least_at (ExpressionUnit d ∷ ws) = 15
+least_at (Bracketed d ∷ ws) = 15
+least_at (BoundValue ∷ ws) = 15
 least_at (Braced ∷ ws) = 16
 least_at (ElementName ∷ ws) = 16
 least_at (Modified ∷ ws) = 16
@@ -92,6 +96,9 @@ first_least _ e = absurd (true≢false (sym e))
 bound_least : (ws : List Wanted) → wants_bound ws ≡ true → least_at ws ≡ 15
 bound_least (Tested f p ∷ ws) e = refl
 bound_least (ValueFor t ∷ ws) e = refl
+bound_least (ExpressionUnit d ∷ ws) e = refl
+bound_least (Bracketed d ∷ ws) e = refl
+bound_least (BoundValue ∷ ws) e = refl
 bound_least (Several InPut f ∷ ws) e = refl
 bound_least (Several InFixed f ∷ ws) e = refl
 bound_least (Items ∷ ws) e = refl
@@ -129,6 +136,11 @@ full_single (Several InPattern f ∷ ws) s single e = refl
 full_single (Several InFixed f ∷ ws) s single e = absurd (true≢false (sym single))
 full_single _ s single e = absurd (true≢false (sym e))
 
+deepest_least : (ws : List Wanted) → nests_deepest ws ≡ true → least_at ws ≡ 15
+deepest_least (ExpressionUnit d ∷ ws) e = refl
+deepest_least (Bracketed d ∷ ws) e = refl
+deepest_least _ e = absurd (true≢false (sym e))
+
 -- where a cell is wanted, a bad designator designates none
 bad_designates : (ws : List Wanted) (w : Word) (s : State) → wants_cell ws ≡ true → is_bad_designator ws w s ≡ true → designates w.kind w.name s ≡ false
 bad_designates (Modified ∷ ws) w s wants e = not-true _ (and_parts _ _ e).1
@@ -165,6 +177,7 @@ module _ (w : Word) (ws : List Wanted) (s : State) where
   reason_least fault.AmbiguousDesignator in_form r = let at = cell_least ws r.0 in omega (arith, at)
   reason_least (fault.LimitPassed limit.Fields) in_form r = full_least ws s r
   reason_least (fault.LimitPassed limit.Conditions) in_form r = let at = condition_least ws r.0 in omega (arith, at)
+  reason_least (fault.LimitPassed limit.Nesting) in_form r = let at = deepest_least ws r.1 in omega (arith, at)
   reason_least fault.Stray in_form r = absurd (true≢false in_form)
   reason_least fault.UnknownCommand in_form r = absurd (true≢false in_form)
   reason_least fault.BadForm in_form r = absurd (true≢false in_form)
@@ -203,6 +216,33 @@ module _ (w : Word) (ws : List Wanted) (s : State) where
       let least = reason_least g in_form r in
       next_number 16 (fault_number g) (omega (arith, at, least)) (λ e. true≢false (sym is ∙ bad_designates ws w s wants (designator_number g e r)))
 
+  -- of a bracket past the limit, which is no variable
+  nesting_lowest : is_left w.kind ≡ true → nests_deepest ws ≡ true → IsLowest (fault.LimitPassed limit.Nesting) w ws s
+  nesting_lowest left deepest fault.UnboundVariable in_form r = absurd (true≢false (sym left ∙ variable_not_left w.kind r.1))
+  nesting_lowest left deepest fault.DeclaredTwice in_form r =
+      let at = declared_least ws w.name s r.1 in let here = deepest_least ws deepest in absurd (omega (arith, at, here))
+  nesting_lowest left deepest fault.TwoVectors in_form r =
+      let at = second_least ws w.name s r.1 in let here = deepest_least ws deepest in absurd (omega (arith, at, here))
+  nesting_lowest left deepest fault.UnknownClass in_form r =
+      let at = class_least ws r.0 in let here = deepest_least ws deepest in absurd (omega (arith, at, here))
+  nesting_lowest left deepest fault.UnknownAttribute in_form r =
+      let at = attribute_least ws r.0 in let here = deepest_least ws deepest in absurd (omega (arith, at, here))
+  nesting_lowest left deepest fault.LateDeclaration in_form r =
+      let at = form_least ws r.0 in let here = deepest_least ws deepest in absurd (omega (arith, at, here))
+  nesting_lowest left deepest fault.LateProduction in_form r =
+      let at = form_least ws r.0 in let here = deepest_least ws deepest in absurd (omega (arith, at, here))
+  nesting_lowest left deepest fault.FirstNegated in_form r =
+      let at = first_least ws r.1 in let here = deepest_least ws deepest in absurd (omega (arith, at, here))
+  nesting_lowest left deepest fault.BadDesignator in_form r =
+      let at = designator_least ws w s r in let here = deepest_least ws deepest in absurd (omega (arith, at, here))
+  nesting_lowest left deepest fault.AmbiguousDesignator in_form r =
+      let at = cell_least ws r.0 in let here = deepest_least ws deepest in absurd (omega (arith, at, here))
+  nesting_lowest left deepest (fault.LimitPassed l) in_form r = omega arith
+  nesting_lowest left deepest fault.Stray in_form r = absurd (true≢false in_form)
+  nesting_lowest left deepest fault.UnknownCommand in_form r = absurd (true≢false in_form)
+  nesting_lowest left deepest fault.BadForm in_form r = absurd (true≢false in_form)
+  nesting_lowest left deepest _ in_form r = absurd r
+
   reason_lowest : is_single ws ≡ true → (f : Fault) → Because f w ws s → IsLowest f w ws s
   reason_lowest single fault.UnknownClass r = low fault.UnknownClass (omega arith)
   reason_lowest single fault.UnknownAttribute r = let at = attribute_least ws r.0 in lowest_at fault.UnknownAttribute (omega (arith, at))
@@ -218,6 +258,7 @@ module _ (w : Word) (ws : List Wanted) (s : State) where
       let at = full_single ws s single r in lowest_at (fault.LimitPassed limit.Fields) (omega (arith, at))
   reason_lowest single (fault.LimitPassed limit.Conditions) r =
       let at = condition_least ws r.0 in lowest_at (fault.LimitPassed limit.Conditions) (omega (arith, at))
+  reason_lowest single (fault.LimitPassed limit.Nesting) r = nesting_lowest r.0 r.1
   reason_lowest single fault.Stray r = low fault.Stray (omega arith)
   reason_lowest single fault.UnknownCommand r = low fault.UnknownCommand (omega arith)
   reason_lowest single fault.BadForm r = low fault.BadForm (omega arith)

@@ -1,5 +1,5 @@
 -- What holds of what was read so far, so that it has a spelling.
-use Rattle.std.proofs.Common.{◌≡◌, ℕ, ◌+◌, ◌<◌, ◌≤◌, Bool, true, false, not, ◌||◌, ◌==◌, cond, List, [], ◌∷◌, ◌++◌, length, take, map, refl, sym, ap, ◌∙◌, arith, Option, Some, None, nat_lt, true≢false}
+use Rattle.std.proofs.Common.{◌≡◌, ℕ, suc, ◌+◌, ◌<◌, ◌≤◌, Bool, true, false, not, ◌||◌, ◌==◌, cond, List, [], ◌∷◌, ◌++◌, length, take, map, refl, sym, ap, ◌∙◌, arith, Option, Some, None, nat_lt, true≢false}
 use Rattle.std.specs.List.{list_all, All}
 use Rattle.std.proofs.lemmas.Bool.{and_parts, and_from, or_left, or_right, eq-eqb, ltb-true, lt-ltb, cond_both}
 use Rattle.ops_base.specs.declared.values.Sym.{Sym}
@@ -12,11 +12,12 @@ use Rattle.ops_base.specs.declared.rules.Rule.{Rule}
 use Rattle.ops_base.specs.declared.commands.Command.{Command}
 use Rattle.ops_base.specs.Valid.{most_fields, most_conditions, is_in, class_of, is_attribute, is_vector, is_field, first_is_positive, cells_of, fixed_is_valid}
 use Rattle.ops_meaning.specs.declared.words.Named.{Named}
-use Rattle.ops_meaning.specs.Grammar.{Use, InPattern, InPut, InFixed, Target, ToTest, ToPut, ToFixed, ToTerms, ToConstants, ToItem, ToBind, EndsRun, EndsHalt, EndsCrlf, EndsWhole, Column, Wanted, Forms, Form, ClassDeclared, Attributes, VectorName, VectorNames, RuleName, FirstPattern, Patterns, Pattern, Braced, ElementName, ClosesBrace, ClassName, Terms, Attribute, Several, Place, Tests, Tested, Choice, Atom, ValueFor, Function, SourceCell, SourceAttribute, SourceEnd, Actions, ActionWord, Modified, BoundName, CellName, Cell, Cells, Items, ItemWord, Columns, Closes, State, Step, Next, Refuses, number_of, renumbered, is_of_action, classes_of_cells, source_class}
+use Rattle.ops_meaning.specs.Grammar.{Use, InPattern, InPut, InFixed, Target, ToTest, ToPut, ToFixed, ToTerms, ToConstants, ToItem, ToBind, EndsRun, EndsHalt, EndsCrlf, EndsWhole, Column, Wanted, Forms, Form, ClassDeclared, Attributes, VectorName, VectorNames, RuleName, FirstPattern, Patterns, Pattern, Braced, ElementName, ClosesBrace, ClassName, Terms, Attribute, Several, Place, Tests, Tested, Choice, Atom, ValueFor, Function, Waiting, ExpressionUnit, ExpressionRest, Bracketed, SourceCell, SourceAttribute, SourceEnd, Actions, ActionWord, Modified, BoundName, BoundValue, CellName, Cell, Cells, Items, ItemWord, Columns, Closes, State, Step, Next, Refuses, number_of, renumbered, is_of_action, most_brackets, function_depth, classes_of_cells, source_class}
 use Rattle.ops_meaning.specs.Spelling.{Numbered, nothing_numbered, test_is_plain, after_test, tests_are_plain, after_tests, after_condition, condition_is_plain, conditions_are_plain, after_conditions, InSight, at_arrow, class_of_cell, after_action, after_actions, term_is_plain, put_is_plain, item_is_plain, action_is_plain, actions_are_plain, rule_is_plain, command_is_plain}
 use Rattle.ops_meaning.proofs.Lists.{all_weaker}
 use Rattle.ops_meaning.proofs.Sound.{Braces, behind, behind_pattern}
 use Rattle.ops_meaning.proofs.PlainClasses.{IsArranged, IsAttributes}
+use Rattle.ops_meaning.proofs.PlainFormulas.{IsOperand, AreOperands, AreOpen}
 
 -- the forms that were read
 pub record IsBase (vectors : List Sym) (classes : List Class) (rules : List Rule) (commands : List Command) : Type 0 where
@@ -209,6 +210,13 @@ pub data IsPlainly (s : State) : List Wanted → Type 0 where
   at_atom : (p : Spot) → (t : Target) → HasTarget p t s → IsPlainly s (Atom t ∷ behind_target p t)
   at_value : (p : Spot) → (t : Target) → HasTarget p t s → IsPlainly s (ValueFor t ∷ behind_target p t)
   at_function : (p : Spot) → (t : Target) → HasTarget p t s → is_of_action t ≡ true → IsPlainly s (Function t ∷ behind_target p t)
+  at_expression_unit : (p : Spot) → (t : Target) → (d : ℕ) → (ws : List Wanted) → HasTarget p t s → is_of_action t ≡ true → AreOpen (numbers_in s.values) t (behind_target p t) d ws → IsPlainly s (ExpressionUnit d ∷ ws)
+  at_last_rest : (p : Spot) → (t : Target) → (waiting : List Waiting) → HasTarget p t s → is_of_action t ≡ true → IsOperand (numbers_in s.values) function_depth true s.formula → AreOperands (numbers_in s.values) function_depth waiting
+      → IsPlainly s (ExpressionRest function_depth waiting (Some t) ∷ behind_target p t)
+  at_bracketed_rest : (p : Spot) → (t : Target) → (d : ℕ) → (waiting : List Waiting) → (ws : List Wanted) → HasTarget p t s → is_of_action t ≡ true → IsOperand (numbers_in s.values) (suc d) true s.formula → nat_lt d most_brackets ≡ true
+      → AreOperands (numbers_in s.values) (suc d) waiting → AreOpen (numbers_in s.values) t (behind_target p t) d ws → IsPlainly s (ExpressionRest (suc d) waiting None ∷ ws)
+  at_bracketed : (p : Spot) → (t : Target) → (d : ℕ) → (ws : List Wanted) → HasTarget p t s → is_of_action t ≡ true → nat_lt d most_brackets ≡ true → AreOpen (numbers_in s.values) t (behind_target p t) d ws
+      → IsPlainly s (Bracketed (suc d) ∷ ws)
   at_source_cell : (p : Spot) → (t : Target) → HasTarget p t s → is_of_action t ≡ true → IsPlainly s (SourceCell ∷ SourceAttribute t ∷ behind_target p t)
   at_source_attribute : (p : Spot) → (t : Target) → HasTarget p t s → is_of_action t ≡ true → IsSource s → IsPlainly s (SourceAttribute t ∷ behind_target p t)
   at_source_end : (p : Spot) → (t : Target) → (name : Sym) → HasTarget p t s → is_of_action t ≡ true → IsSource s → is_attribute (source_class s) s.source_field ≡ true
@@ -216,7 +224,8 @@ pub data IsPlainly (s : State) : List Wanted → Type 0 where
   at_actions : Base s × Right s → IsPlainly s (Actions ∷ Forms ∷ [])
   at_action_word : Base s × Right s → IsPlainly s (ActionWord ∷ Actions ∷ Forms ∷ [])
   at_modified : Base s × Right s × (s.puts ≡ []) → IsPlainly s (Modified ∷ Terms InPut ∷ Actions ∷ Forms ∷ [])
-  at_bound_name : Base s × Right s → IsPlainly s (BoundName ∷ ValueFor ToBind ∷ Closes EndsWhole ∷ Actions ∷ Forms ∷ [])
+  at_bound_name : Base s × Right s → IsPlainly s (BoundName ∷ BoundValue ∷ Actions ∷ Forms ∷ [])
+  at_bound_value : Base s × Right s → IsPlainly s (BoundValue ∷ Actions ∷ Forms ∷ [])
   at_cell_name : Base s × Right s → IsPlainly s (CellName ∷ Closes EndsWhole ∷ Actions ∷ Forms ∷ [])
   at_cell : HasCells s → IsPlainly s (Cell ∷ Cells ∷ Actions ∷ Forms ∷ [])
   at_cells : HasCells s × (0 < length s.cells) → IsPlainly s (Cells ∷ Actions ∷ Forms ∷ [])

@@ -95,7 +95,10 @@ alone : (classes : List Class) (k : InSight) (several : Bool) (x : Term) → ter
 alone classes k several (term.Constant v) plain = refl
 alone classes k several (term.Variable n) plain = plain
 alone classes k several (term.One cell field) plain = plain
-alone classes k several _ plain = absurd (true≢false (sym plain))
+alone classes k several (term.Rest cell) plain = absurd (true≢false (sym plain))
+alone classes k several (term.Compute f) plain = plain
+alone classes k several term.Fresh plain = refl
+alone classes k several term.Accept plain = refl
 
 pub put_kept : (s : State) (f : ℕ) (t : Term) → IsElement InPut s → HasAttribute s f → term_is_plain s.classes (in_sight s) false t ≡ true → IsElement InPut (with_put s f t)
 put_kept s f t g a plain =

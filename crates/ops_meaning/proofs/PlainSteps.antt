@@ -1,5 +1,5 @@
 -- Each word leads from what has a spelling to what has one.
-use Rattle.std.proofs.Common.{◌≡◌, ℕ, ◌+◌, ◌-◌, ◌<◌, Bool, true, false, ◌&&◌, ◌||◌, ◌==◌, cond, List, [], ◌∷◌, ◌++◌, length, take, refl, sym, ap, ◌∙◌, arith, Option, Some, None, Result, Ok, Err, nat_lt, pos, unwrap_or, slice_get, position, get_or, length-append, subst, true≢false}
+use Rattle.std.proofs.Common.{◌≡◌, ℕ, suc, ◌+◌, ◌-◌, ◌<◌, Bool, true, false, ◌&&◌, ◌||◌, ◌==◌, cond, List, [], ◌∷◌, ◌++◌, length, take, refl, sym, ap, ◌∙◌, arith, Option, Some, None, Result, Ok, Err, nat_lt, pos, unwrap_or, slice_get, position, get_or, length-append, subst, true≢false}
 use Rattle.std.specs.List.{list_all, list_any}
 use Rattle.std.proofs.lemmas.Bool.{cond_both, and_parts, and_from, or_left, or_right, eqb-true, lt-ltb, ltb-true}
 use Rattle.std.proofs.lemmas.List.Elements.{All-push}
@@ -13,6 +13,9 @@ use Rattle.ops_base.specs.declared.elements.Class.{Class}
 use Rattle.ops_base.specs.declared.conditions.Operand.{Operand}
 use Rattle.ops_base.specs.declared.conditions.Operand.TheVariants as operand
 use Rattle.ops_base.specs.declared.conditions.Condition.{Condition}
+use Rattle.ops_base.specs.declared.expression.Op.{Op}
+use Rattle.ops_base.specs.Expression.{Formula}
+use Rattle.ops_base.specs.Expression as formula
 use Rattle.ops_base.specs.declared.actions.Term.{Term}
 use Rattle.ops_base.specs.declared.actions.Term.TheVariants as term
 use Rattle.ops_base.specs.declared.actions.Item.{Item}
@@ -27,13 +30,14 @@ use Rattle.ops_tokens.specs.declared.token.TokenKind.TheVariants as kind
 use Rattle.ops_meaning.specs.declared.words.Word.{Word}
 use Rattle.ops_meaning.specs.declared.words.Keyword.{Keyword}
 use Rattle.ops_meaning.specs.declared.words.Keyword.TheVariants as keyword
-use Rattle.ops_meaning.specs.Grammar.{Use, InPattern, InPut, InFixed, Target, ToTest, ToPut, ToFixed, ToTerms, ToConstants, ToItem, ToBind, EndsWhole, Column, ToTab, ToRight, Wanted, Forms, Attributes, VectorNames, Patterns, Pattern, ClosesBrace, Terms, Several, Choice, SourceAttribute, Actions, Cells, Items, Closes, is_left, is_right, is_left_brace, is_right_brace, is_caret, is_name, is_variable, is_arrow, is_literal, is_minus, opens_choice, closes_choice, pred_of, constant_of, atom_of, value_of, natural_of, small_of, is_one_of, number_of, may_declare, is_class, is_rule, form, class_declared, is_second, attribute_declared, attributes, arranged, has_vector, makes_second, vector_declared, vector_name, class_at, attributes_of, behind_attribute, field_at, with_test, with_item, with_constant, with_bound, variable_tested, constant_tested, tested, predicated, test, with_choice, chosen, choice, atom_at, term_at, bound_at, constant_at, is_of_action, value_for, function, source_named, source_class, source_at, takes_several, is_inf, ends_at_inf, source_end, with_element, with_several, terms, within, one_of_several, several, place, one_more, patterns, element_at, element_name, action_word, classes_of_cells, designated, numbered_cell, named_cell, cell_of, with_designated, with_modified, cell_bound, item_word, column_item, columns_at, State, Step, Next, Refuses, step}
+use Rattle.ops_meaning.specs.Grammar.{Use, InPattern, InPut, InFixed, Target, ToTest, ToPut, ToFixed, ToTerms, ToConstants, ToItem, ToBind, EndsWhole, Column, ToTab, ToRight, Wanted, Forms, Attributes, VectorNames, Patterns, Pattern, ClosesBrace, Terms, Several, Choice, ExpressionRest, SourceAttribute, Actions, Cells, Items, Closes, is_left, is_right, is_left_brace, is_right_brace, is_caret, is_name, is_variable, is_arrow, is_literal, is_minus, opens_choice, closes_choice, pred_of, constant_of, atom_of, value_of, natural_of, small_of, is_one_of, number_of, may_declare, is_class, is_rule, form, class_declared, is_second, attribute_declared, attributes, arranged, has_vector, makes_second, vector_declared, vector_name, class_at, attributes_of, behind_attribute, field_at, with_test, with_item, with_constant, with_bound, variable_tested, constant_tested, tested, predicated, test, with_choice, chosen, choice, atom_at, term_at, bound_at, constant_at, is_of_action, value_for, function, function_depth, most_brackets, no_formula, with_formula, Waiting, completed, is_compute, operation_of, unit_bound, unit_at, expression_unit, bracketed, operation_at, expression_rest, source_named, source_class, source_at, takes_several, is_inf, ends_at_inf, source_end, with_element, with_several, terms, within, one_of_several, several, place, one_more, patterns, element_at, element_name, action_word, classes_of_cells, designated, numbered_cell, named_cell, cell_of, with_designated, with_modified, bound_value, cell_bound, item_word, column_item, columns_at, State, Step, Next, Refuses, step}
 use Rattle.ops_meaning.specs.Spelling.{nothing_numbered, tests_are_plain, after_tests, after_conditions, InSight, cell_is_plain, term_is_plain, put_is_plain, item_is_plain}
 use Rattle.ops_meaning.proofs.Lists.{all_push, all_none, all_at}
 use Rattle.ops_meaning.proofs.Parts.{has_cell}
 use Rattle.ops_meaning.proofs.Sound.{Braces, Bare, NamedBefore, NamedBehind, behind}
 use Rattle.ops_meaning.proofs.PlainClasses.{IsArranged, IsAttributes, class_arranged, classes_arranged, attributes_begun, attribute_pushed}
-use Rattle.ops_meaning.proofs.Plain.{in_sight, Base, Right, Declaring, Around, IsBegun, IsOfCell, IsElement, Conditions, HasCells, HasItems, HasAttribute, IsVector, HasMore, HasSeveral, IsSource, Spot, HasPlace, HasTarget, behind_place, behind_test, behind_target, IsPlainly, at_forms, at_form, at_class_declared, at_attributes, at_vector_name, at_vector_names, at_rule_name, at_first_pattern, at_patterns, at_pattern, at_braced, at_element_name, at_closes_brace, at_class_name, at_terms, at_attribute, at_several, at_place, at_tests, at_tested, at_choice, at_atom, at_value, at_function, at_source_cell, at_source_attribute, at_source_end, at_actions, at_action_word, at_modified, at_bound_name, at_cell_name, at_cell, at_cells, at_items, at_item_word, at_columns, at_whole, at_crlf, at_halt, at_run, Keeps, after_conditions-push, conditions_push, condition_counted, begun_positive, begins_first, begins_behind, number_sighted, cells_more, number_below, below_more}
+use Rattle.ops_meaning.proofs.PlainFormulas.{IsOperand, AreOperands, AreOpen, outermost, bracket, operand_completed, operand_bracketed}
+use Rattle.ops_meaning.proofs.Plain.{numbers_in, in_sight, Base, Right, Declaring, Around, IsBegun, IsOfCell, IsElement, Conditions, HasCells, HasItems, HasAttribute, IsVector, HasMore, HasSeveral, IsSource, Spot, HasPlace, HasTarget, behind_place, behind_test, behind_target, IsPlainly, at_forms, at_form, at_class_declared, at_attributes, at_vector_name, at_vector_names, at_rule_name, at_first_pattern, at_patterns, at_pattern, at_braced, at_element_name, at_closes_brace, at_class_name, at_terms, at_attribute, at_several, at_place, at_tests, at_tested, at_choice, at_atom, at_value, at_function, at_expression_unit, at_last_rest, at_bracketed_rest, at_bracketed, at_source_cell, at_source_attribute, at_source_end, at_actions, at_action_word, at_modified, at_bound_name, at_bound_value, at_cell_name, at_cell, at_cells, at_items, at_item_word, at_columns, at_whole, at_crlf, at_halt, at_run, Keeps, after_conditions-push, conditions_push, condition_counted, begun_positive, begins_first, begins_behind, number_sighted, cells_more, number_below, below_more}
 use Rattle.ops_meaning.proofs.PlainKept.{command_kept, action_kept, element_kept, bind_kept, cell_kept, test_kept, test_bound, choosing, put_kept, fixed_kept, several_begun, several_kept, term_pushed, constant_pushed, right_kept, negated_begun, rule_kept, element_bound}
 
 -- ---- designators
@@ -97,6 +101,14 @@ sourcing p ToTerms s cell field is g = (record { around = g.0.around; class = g.
 sourcing p ToItem s cell field is g = g
 sourcing p ToBind s cell field is g = g
 sourcing p _ s cell field is g = absurd (true≢false (sym is))
+
+-- Nor does the operand that was read last.
+forming : (p : Spot) (t : Target) (s : State) (f : Formula) → is_of_action t ≡ true → HasTarget p t s → HasTarget p t (with_formula s f)
+forming p (ToPut f) s x is g = (record { around = g.0.around; class = g.0.class; fields = g.0.fields }, g.1)
+forming p ToTerms s x is g = (record { around = g.0.around; class = g.0.class; fields = g.0.fields }, g.1, g.2, g.3)
+forming p ToItem s x is g = g
+forming p ToBind s x is g = g
+forming p _ s x is g = absurd (true≢false (sym is))
 
 item_pushed : (s : State) (i : Item) → HasItems s → item_is_plain s.classes (in_sight s) i ≡ true → HasItems (with_item s i)
 item_pushed s i g plain = (g.0, g.1, all_push (item_is_plain s.classes (in_sight s)) s.items i g.2 plain)
@@ -260,11 +272,74 @@ module _ (w : Word) where
   atom_keeps p t s g (Some v) = constant_keeps p t v s g
   atom_keeps p t s g None = tt
 
-  -- ---- substr
+  -- ---- functions
 
   function_keeps : (p : Spot) (t : Target) (s : State) → HasTarget p t s → is_of_action t ≡ true → (k : Keyword) → Keeps (function t k (behind_target p t) s)
   function_keeps p t s g is keyword.Substr = at_source_cell p t g is
+  function_keeps p t s g is keyword.Compute = at_expression_unit p t function_depth (ExpressionRest function_depth [] (Some t) ∷ behind_target p t) g is (outermost [] tt)
+  function_keeps p t s g is keyword.Genatom = closing_keeps t term.Fresh (behind_target p t) s (term_keeps p t term.Fresh s g refl)
+  function_keeps p t s g is keyword.Accept = closing_keeps t term.Accept (behind_target p t) s (term_keeps p t term.Accept s g refl)
   function_keeps p t s g is _ = tt
+
+  -- ---- compute
+
+  -- what is wanted behind a unit, where it is an operand
+  open_leads : (p : Spot) (t : Target) (s : State) (d : ℕ) (ws : List Wanted) → HasTarget p t s → is_of_action t ≡ true → IsOperand (numbers_in s.values) d true s.formula → AreOpen (numbers_in s.values) t (behind_target p t) d ws → IsPlainly s ws
+  open_leads p t s d ws g is f (outermost waiting waits) = at_last_rest p t waiting g is f waits
+  open_leads p t s d ws g is f (bracket outside waiting further lt waits brackets) = at_bracketed_rest p t outside waiting further g is f lt waits brackets
+
+  unit_bound_keeps : (p : Spot) (t : Target) (s : State) (d : ℕ) (ws : List Wanted) → HasTarget p t s → is_of_action t ≡ true → AreOpen (numbers_in s.values) t (behind_target p t) d ws → (name : Sym) (o : Option ℕ) → number_of name s.values ≡ o → Keeps (unit_bound o ws s)
+  unit_bound_keeps p t s d ws g is brackets name (Some n) e = open_leads p t (with_formula s (formula.variable n)) d ws (forming p t s (formula.variable n) is g) is (refl, number_sighted name s.values n e) brackets
+  unit_bound_keeps p t s d ws g is brackets name None e = tt
+
+  unit_keeps : (p : Spot) (t : Target) (s : State) (d : ℕ) (ws : List Wanted) → HasTarget p t s → is_of_action t ≡ true → AreOpen (numbers_in s.values) t (behind_target p t) d ws → (k : TokenKind) (name : Sym) → Keeps (unit_at k name ws s)
+  unit_keeps p t s d ws g is brackets (kind.Whole n) name = open_leads p t (with_formula s (formula.number n)) d ws (forming p t s (formula.number n) is g) is (refl, refl) brackets
+  unit_keeps p t s d ws g is brackets kind.Variable name = unit_bound_keeps p t s d ws g is brackets name (number_of name s.values) refl
+  unit_keeps p t s d ws g is brackets _ name = tt
+
+  expression_unit_keeps : (p : Spot) (t : Target) (s : State) (d : ℕ) (ws : List Wanted) → HasTarget p t s → is_of_action t ≡ true → AreOpen (numbers_in s.values) t (behind_target p t) d ws → Keeps (expression_unit d w ws s)
+  expression_unit_keeps p t s d ws g is brackets =
+      cond_both (is_left w.kind) _ _ Keeps (λ _. cond_both (nat_lt d most_brackets) _ _ Keeps (λ lt. at_bracketed p t d ws g is lt brackets) (λ _. tt))
+      (λ _. unit_keeps p t s d ws g is brackets w.kind w.name)
+
+  bracketed_keeps : (p : Spot) (t : Target) (s : State) (d : ℕ) (ws : List Wanted) → HasTarget p t s → is_of_action t ≡ true → nat_lt d most_brackets ≡ true → AreOpen (numbers_in s.values) t (behind_target p t) d ws → Keeps (bracketed (suc d) w ws s)
+  bracketed_keeps p t s d ws g is lt brackets =
+      let inside = ExpressionRest (suc d) [] None ∷ ws in
+      cond_both (is_compute w.keyword) _ _ Keeps (λ _. at_expression_unit p t (suc d) inside g is (bracket d [] ws lt tt brackets)) (λ _. expression_unit_keeps p t s (suc d) inside g is (bracket d [] ws lt tt brackets))
+
+  -- an operation, or the end of the expression of a function
+  last_operation_keeps : (p : Spot) (t : Target) (s : State) (waiting : List Waiting) → HasTarget p t s → is_of_action t ≡ true → IsOperand (numbers_in s.values) function_depth true s.formula → AreOperands (numbers_in s.values) function_depth waiting
+      → (o : Option Op) → Keeps (operation_at function_depth waiting (Some t) o (behind_target p t) s)
+  last_operation_keeps p t s waiting g is f waits (Some o) =
+      let more : List Waiting = record { left = s.formula; op = o } ∷ waiting in
+      at_expression_unit p t function_depth (ExpressionRest function_depth more (Some t) ∷ behind_target p t) g is (outermost more (f, waits))
+  last_operation_keeps p t s waiting g is f waits None = tt
+
+  last_rest_keeps : (p : Spot) (t : Target) (s : State) (waiting : List Waiting) → HasTarget p t s → is_of_action t ≡ true → IsOperand (numbers_in s.values) function_depth true s.formula → AreOperands (numbers_in s.values) function_depth waiting
+      → Keeps (expression_rest function_depth waiting (Some t) w (behind_target p t) s)
+  last_rest_keeps p t s waiting g is f waits =
+      let whole = operand_completed (numbers_in s.values) function_depth waiting s.formula f waits in
+      cond_both (is_right w.kind) _ _ Keeps
+      (λ _. term_keeps p t (term.Compute (completed s.formula waiting)) (with_formula s no_formula) (forming p t s no_formula is g) (and_from _ _ whole.0 whole.1))
+      (λ _. last_operation_keeps p t s waiting g is f waits (operation_of w.keyword))
+
+  -- an operation, or the end of an expression in brackets
+  module _ (p : Spot) (t : Target) (s : State) (d : ℕ) (waiting : List Waiting) (ws : List Wanted) (g : HasTarget p t s) (is : is_of_action t ≡ true) (f : IsOperand (numbers_in s.values) (suc d) true s.formula) (lt : nat_lt d most_brackets ≡ true)
+      (waits : AreOperands (numbers_in s.values) (suc d) waiting) (brackets : AreOpen (numbers_in s.values) t (behind_target p t) d ws) where
+    bracketed_operation_keeps : (o : Option Op) → Keeps (operation_at (suc d) waiting None o ws s)
+    bracketed_operation_keeps (Some o) =
+        let more : List Waiting = record { left = s.formula; op = o } ∷ waiting in
+        at_expression_unit p t (suc d) (ExpressionRest (suc d) more None ∷ ws) g is (bracket d more ws lt (f, waits) brackets)
+    bracketed_operation_keeps None = tt
+
+    bracketed_rest_keeps : Keeps (expression_rest (suc d) waiting None w ws s)
+    bracketed_rest_keeps =
+        let x = completed s.formula waiting in
+        let whole = operand_completed (numbers_in s.values) (suc d) waiting s.formula f waits in
+        cond_both (is_right w.kind) _ _ Keeps
+        (λ _. open_leads p t (with_formula s x) d ws (forming p t s x is g) is (operand_bracketed (numbers_in s.values) d x lt whole) brackets) (λ _. bracketed_operation_keeps (operation_of w.keyword))
+
+  -- ---- substr
 
   source_named_keeps : (p : Spot) (t : Target) (s : State) → HasTarget p t s → is_of_action t ≡ true → (o : Option ℕ) → number_of w.name s.elements ≡ o → Keeps (source_named o (SourceAttribute t ∷ behind_target p t) s)
   source_named_keeps p t s g is (Some c) e =
@@ -446,13 +521,20 @@ module _ (w : Word) where
   cell_bound_keeps s g (Some class) e = at_whole (Actions ∷ Forms ∷ []) (at_actions (g.0, cell_kept s class w.name e g.1))
   cell_bound_keeps s g None e = tt
 
+  bound_value_keeps : (s : State) → Base s × Right s → Keeps (bound_value w (Actions ∷ Forms ∷ []) s)
+  bound_value_keeps s g =
+      cond_both (is_right w.kind) _ _ Keeps (λ _. at_actions (bind_kept s term.Fresh (number_of s.variable s.values) refl g refl)) (λ _. value_keeps (spot Bare None false 0) ToBind s g)
+
   -- ---- items
 
   item_word_keeps : (s : State) → HasItems s → (k : Keyword) → Keeps (item_word k (Items ∷ Actions ∷ Forms ∷ []) s)
   item_word_keeps s g keyword.Crlf = at_crlf g
   item_word_keeps s g keyword.Tabto = at_columns ToTab g
   item_word_keeps s g keyword.Rjust = at_columns ToRight g
-  item_word_keeps s g keyword.Substr = at_source_cell (spot Bare None false 0) ToItem g refl
+  item_word_keeps s g keyword.Substr = function_keeps (spot Bare None false 0) ToItem s g refl keyword.Substr
+  item_word_keeps s g keyword.Compute = function_keeps (spot Bare None false 0) ToItem s g refl keyword.Compute
+  item_word_keeps s g keyword.Genatom = function_keeps (spot Bare None false 0) ToItem s g refl keyword.Genatom
+  item_word_keeps s g keyword.Accept = function_keeps (spot Bare None false 0) ToItem s g refl keyword.Accept
   item_word_keeps s g _ = tt
 
   columns_keep : (s : State) → HasItems s → (c : Column) → (o : Option ℕ) → small_of w.kind ≡ o → Keeps (columns_at c o (Closes EndsWhole ∷ Items ∷ Actions ∷ Forms ∷ []) s)
@@ -496,6 +578,10 @@ module _ (w : Word) where
   step_keeps s ws (at_atom p t g) = atom_keeps p t s g (atom_of w.kind w.name)
   step_keeps s ws (at_value p t g) = value_keeps p t s g
   step_keeps s ws (at_function p t g is) = function_keeps p t s g is w.keyword
+  step_keeps s ws (at_expression_unit p t d further g is brackets) = expression_unit_keeps p t s d further g is brackets
+  step_keeps s ws (at_last_rest p t waiting g is f waits) = last_rest_keeps p t s waiting g is f waits
+  step_keeps s ws (at_bracketed_rest p t d waiting further g is f lt waits brackets) = bracketed_rest_keeps p t s d waiting further g is f lt waits brackets
+  step_keeps s ws (at_bracketed p t d further g is lt brackets) = bracketed_keeps p t s d further g is lt brackets
   step_keeps s ws (at_source_cell p t g is) = cond_both (is_variable w.kind) _ _ Keeps (λ _. source_named_keeps p t s g is (number_of w.name s.elements) refl) (λ _. tt)
   step_keeps s ws (at_source_attribute p t g is there) =
       cond_both (is_name w.kind) _ _ Keeps (λ _. source_at_keeps p t s g is there (position (λ a. a.0 == w.name.0) (source_class s).attrs) refl) (λ _. tt)
@@ -504,7 +590,8 @@ module _ (w : Word) where
       cond_both (is_right w.kind) _ _ Keeps (λ _. at_forms (rule_kept s w.past g.0 g.1)) (λ _. cond_both (is_left w.kind) _ _ Keeps (λ _. at_action_word g) (λ _. tt))
   step_keeps s ws (at_action_word g) = action_word_keeps s g w.keyword
   step_keeps s ws (at_modified g) = modified_keeps s g (cell_of w.kind w.name s) refl
-  step_keeps s ws (at_bound_name g) = cond_both (is_variable w.kind) _ _ Keeps (λ _. at_value (spot Bare None false 0) ToBind g) (λ _. tt)
+  step_keeps s ws (at_bound_name g) = cond_both (is_variable w.kind) _ _ Keeps (λ _. at_bound_value g) (λ _. tt)
+  step_keeps s ws (at_bound_value g) = bound_value_keeps s g
   step_keeps s ws (at_cell_name g) = cond_both (is_variable w.kind) _ _ Keeps (λ _. cell_bound_keeps s g s.made refl) (λ _. tt)
   step_keeps s ws (at_cell g) = cell_keeps s g (cell_of w.kind w.name s) refl
   step_keeps s ws (at_cells g) =

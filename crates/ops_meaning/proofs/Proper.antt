@@ -74,7 +74,14 @@ symbol_proper s =
     (either kind.Symbol (bytes_eq s (codes "rjust")) _ _ refl
     (either kind.Symbol (bytes_eq s (codes "substr")) _ _ refl
     (either kind.Symbol (bytes_eq s (codes "inf")) _ _ refl
-    (either kind.Symbol (bytes_eq s (codes "halt")) _ _ refl refl)))))))))))))))
+    (either kind.Symbol (bytes_eq s (codes "halt")) _ _ refl
+    (either kind.Symbol (bytes_eq s (codes "compute")) _ _ refl
+    (either kind.Symbol (bytes_eq s (codes "genatom")) _ _ refl
+    (either kind.Symbol (bytes_eq s (codes "accept")) _ _ refl
+    (either kind.Symbol (bytes_eq s (codes "+")) _ _ refl
+    (either kind.Symbol (bytes_eq s (codes "*")) _ _ refl
+    (either kind.Symbol (bytes_eq s (codes "\\\\")) _ _ refl
+    (either kind.Symbol (bytes_eq s (codes "\\")) _ _ refl refl))))))))))))))))))))))
 
 -- a plain symbol has no keyword of operators
 pub symbol_unmarked : (s : List ℕ) → is_mark (keyword_of_symbol s) ≡ false

@@ -11,15 +11,18 @@ use Rattle.ops_base.specs.declared.actions.Term.TheVariants as term
 use Rattle.ops_base.specs.declared.actions.Put.{Put}
 use Rattle.ops_base.specs.declared.actions.Item.{Item}
 use Rattle.ops_base.specs.declared.actions.Item.TheVariants as item
+use Rattle.ops_base.specs.Expression.{Formula}
 use Rattle.ops_base.specs.Valid.{class_is_valid, class_of, is_attribute, is_vector, is_in, is_column}
 use Rattle.ops_meaning.specs.declared.words.Word.{Word}
 use Rattle.ops_meaning.specs.declared.words.Named.{Named}
+use Rattle.ops_meaning.specs.declared.words.Keyword.{Keyword}
 use Rattle.ops_meaning.specs.declared.words.Keyword.TheVariants as keyword
-use Rattle.ops_meaning.specs.Grammar.{InPut, Target, ToPut, ToTerms, ToItem, ToBind, EndsWhole, Wanted, Terms, Several, ValueFor, SourceCell, SourceAttribute, SourceEnd, Cell, Cells, Items, Closes, State, Next, number_of, bound_at, term_at, takes_several, classes_of_cells, source_named, source_class, source_at, named_cell, with_designated, with_put, with_item, with_bind, step, goes}
-use Rattle.ops_meaning.specs.Spelling.{unnamed, opening, closing, spelled_keyword, spelled_name, spelled_value, spelled_variable, spelled_each, attribute_name, last_field, InSight, class_of_cell, spelled_term, spelled_put, spelled_puts, spelled_item, cell_is_plain, term_is_plain, put_is_plain, item_is_plain}
+use Rattle.ops_meaning.specs.Grammar.{InPut, Target, ToPut, ToTerms, ToItem, ToBind, EndsWhole, Wanted, Terms, Several, ValueFor, ExpressionUnit, ExpressionRest, SourceCell, SourceAttribute, SourceEnd, BoundValue, Cell, Cells, Items, Closes, State, Next, number_of, bound_at, term_at, function, function_depth, no_formula, with_formula, takes_several, classes_of_cells, source_named, source_class, source_at, named_cell, with_designated, with_put, with_item, with_bind, step, after, goes}
+use Rattle.ops_meaning.specs.Spelling.{unnamed, opening, closing, spelled_keyword, spelled_name, spelled_value, spelled_variable, spelled_each, attribute_name, last_field, InSight, class_of_cell, spelled_formula, spelled_term, spelled_put, spelled_puts, spelled_item, cell_is_plain, nests_within, term_is_plain, put_is_plain, item_is_plain}
 use Rattle.ops_meaning.proofs.Places.{place_found, numbered, number_there}
 use Rattle.ops_meaning.proofs.Numbering.{below, below_there}
 use Rattle.ops_meaning.proofs.ReadsBack.{by_word, class_parts}
+use Rattle.ops_meaning.proofs.ReadsFormulas.{are_seen, formula-read}
 use Rattle.ops_meaning.proofs.ReadsFacts.{AreNamed, settled, scalar_read, vector_read, EndValues, several_ended}
 
 bound : (k : List ℕ) (n : ℕ) (vs : List Named) → vs ≡ numbered k → is_in n k ≡ true → number_of (record { 0 = n }) vs ≡ Some n
@@ -29,15 +32,16 @@ bound k n vs e there = ap (number_of (record { 0 = n })) e ∙ number_there k n 
 pub cell_found : (n c : ℕ) (s : State) → s.elements ≡ numbered (below n) → nat_lt c n ≡ true → number_of (record { 0 = c }) s.elements ≡ Some c
 cell_found n c s e lt = bound (below n) c s.elements e (below_there n c (ltb-true _ _ lt))
 
--- So much is in sight by these variables and element variables, and of these cells.
-pub record IsSighted (k : InSight) (classes : List Class) (values elements : List Named) (cells : List ℕ) : Type 0 where
+-- So much is in sight by these variables and element variables, and of these cells, and no operand is read.
+pub record IsSighted (k : InSight) (classes : List Class) (values elements : List Named) (cells : List ℕ) (operand : Formula) : Type 0 where
   pub names : AreNamed classes
   pub values_are : values ≡ numbered k.variables.sight
   pub elements_are : elements ≡ numbered (below (length k.cells))
   pub cells_are : k.cells ≡ cells
+  pub none_read : operand ≡ no_formula
 
 abbrev pub Sighted : InSight → State → Type 0
-Sighted k s = IsSighted k s.classes s.values s.elements (classes_of_cells s)
+Sighted k s = IsSighted k s.classes s.values s.elements (classes_of_cells s) s.formula
 
 -- where the last `substr` had this cell and this field
 abbrev pub sourced : State → ℕ × ℕ → State
@@ -99,11 +103,19 @@ module _ (t : Target) (k : InSight) (ws : List Wanted) (s : State) (seen : Sight
 
 -- ---- values
 
+-- what gives a value behind a bracket
+abbrev gives : Keyword → Bool
+gives keyword.Substr = true
+gives keyword.Compute = true
+gives keyword.Genatom = true
+gives keyword.Accept = true
+gives _ = false
+
 -- where a value may stand, and what it leaves
 record Takes (t : Target) (front ws : List Wanted) (put : State → Term → State) : Type 0 where
   pub constant : (v : Value) (s : State) → step (spelled_value v) front s ≡ Next ws (put s (term.Constant v))
   pub variable : (n : ℕ) (s : State) → step (spelled_variable n) front s ≡ bound_at t (number_of (record { 0 = n }) s.values) ws s
-  pub function : (words : List Word) (s : State) → goes (opening ∷ spelled_keyword keyword.Substr ∷ words) front s ≡ goes words (SourceCell ∷ SourceAttribute t ∷ ws) s
+  pub calls : (k : Keyword) (words : List Word) (s : State) → gives k ≡ true → goes (opening ∷ spelled_keyword k ∷ words) front s ≡ after (goes words) (spelled_keyword k) (function t k ws s)
   pub ends : (x : Term) (behind : List Wanted) (s : State) → term_at t x behind s ≡ Next behind (put s x)
 
 -- the cell and the field that the value has where it is a `substr`, and those that were there otherwise
@@ -113,6 +125,28 @@ source_in classes k x (term.Rest cell) = (cell, last_field (class_of classes (cl
 source_in classes k x _ = x
 
 module _ (t : Target) (front ws : List Wanted) (put : State → Term → State) (takes : Takes t front ws put) (k : InSight) (more : List Word) (s : State) (seen : Sighted k s) where
+  -- a value that is an expression
+  computed_read : (f : Formula) → term_is_plain s.classes k (takes_several t) (term.Compute f) ≡ true → goes (spelled_term s.classes k (term.Compute f) ++ more) front s ≡ goes more ws (put s (term.Compute f))
+  computed_read f plain =
+      let parts = and_parts (nests_within function_depth false f) (are_seen k.variables.sight f) plain in
+      let words = spelled_formula false f in
+      let x : Term = term.Compute f in
+      let wanted : List Wanted = ExpressionUnit function_depth ∷ ExpressionRest function_depth [] (Some t) ∷ ws in
+      takes.calls keyword.Compute ((words ++ closing ∷ []) ++ more) s refl
+      ∙ ap (λ (y : List Word). goes y wanted s) (append_assoc words (closing ∷ []) more)
+      ∙ formula-read k.variables.sight f function_depth [] (Some t) more ws s seen.values_are parts.0 parts.1
+      ∙ ap (after (goes more) closing) (takes.ends x ws (with_formula s no_formula))
+      ∙ ap (λ (g : Formula). goes more ws (put (with_formula s g) x)) (sym seen.none_read)
+
+  -- ( genatom ) or ( accept )
+  called_read : (word : Keyword) (x : Term) → gives word ≡ true → ((behind : List Wanted) → function t word behind s ≡ term_at t x (Closes EndsWhole ∷ behind) s)
+      → goes (opening ∷ spelled_keyword word ∷ closing ∷ more) front s ≡ goes more ws (put s x)
+  called_read word x is same =
+      let behind : List Wanted = Closes EndsWhole ∷ ws in
+      takes.calls word (closing ∷ more) s is
+      ∙ ap (after (goes (closing ∷ more)) (spelled_keyword word)) (same ws ∙ takes.ends x behind s)
+      ∙ whole_closed more ws (put s x)
+
   -- A value is read back.
   term_read : (x : Term) → term_is_plain s.classes k (takes_several t) x ≡ true → goes (spelled_term s.classes k x ++ more) front s ≡ goes more ws (put (sourced s (source_in s.classes k (s.source, s.source_field) x)) x)
   term_read (term.Constant v) plain = by_word (spelled_value v) more front ws s (put s (term.Constant v)) (takes.constant v s)
@@ -124,7 +158,7 @@ module _ (t : Target) (front ws : List Wanted) (put : State → Term → State) 
       let name : Sym = attribute_name (class_of s.classes (class_of_cell k cell)) field in
       let from : State = sourced s (cell, field) in
       let behind : List Wanted = Closes EndsWhole ∷ ws in
-      takes.function (spelled_variable cell ∷ spelled_name name ∷ spelled_name name ∷ closing ∷ more) s
+      takes.calls keyword.Substr (spelled_variable cell ∷ spelled_name name ∷ spelled_name name ∷ closing ∷ more) s refl
       ∙ source_read t k ws s seen cell field (spelled_name name ∷ closing ∷ more) parts.0 parts.1
       ∙ by_word (spelled_name name) (closing ∷ more) (SourceEnd t name ∷ behind) behind from (put from (term.One cell field)) (one_step t behind from name ∙ takes.ends (term.One cell field) behind from)
       ∙ whole_closed more ws (put from (term.One cell field))
@@ -138,11 +172,13 @@ module _ (t : Target) (front ws : List Wanted) (put : State → Term → State) 
       let from : State = sourced s (cell, field) in
       let behind : List Wanted = Closes EndsWhole ∷ ws in
       let vector : is_vector (source_class from) field ≡ true = ap (λ (d : Class). is_vector d field) (sym (class_is k s cell seen)) ∙ last.1 in
-      takes.function (spelled_variable cell ∷ spelled_name name ∷ spelled_keyword keyword.Inf ∷ closing ∷ more) s
+      takes.calls keyword.Substr (spelled_variable cell ∷ spelled_name name ∷ spelled_keyword keyword.Inf ∷ closing ∷ more) s refl
       ∙ source_read t k ws s seen cell field (spelled_keyword keyword.Inf ∷ closing ∷ more) first.1 last.0
       ∙ by_word (spelled_keyword keyword.Inf) (closing ∷ more) (SourceEnd t name ∷ behind) behind from (put from (term.Rest cell)) (rest_step t behind from name vector first.0 ∙ takes.ends (term.Rest cell) behind from)
       ∙ whole_closed more ws (put from (term.Rest cell))
-  term_read _ plain = absurd (true≢false (sym plain))
+  term_read (term.Compute f) plain = computed_read f plain
+  term_read term.Fresh plain = called_read keyword.Genatom term.Fresh refl (λ behind. refl)
+  term_read term.Accept plain = called_read keyword.Accept term.Accept refl (λ behind. refl)
 
 -- ---- make, modify
 
@@ -156,12 +192,12 @@ module _ (f : ℕ) (ws : List Wanted) where
   unfolding step
   put_variable n s = refl
 
-  put_function : (words : List Word) (s : State) → goes (opening ∷ spelled_keyword keyword.Substr ∷ words) (ValueFor (ToPut f) ∷ ws) s ≡ goes words (SourceCell ∷ SourceAttribute (ToPut f) ∷ ws) s
+  put_calls : (k : Keyword) (words : List Word) (s : State) → gives k ≡ true → goes (opening ∷ spelled_keyword k ∷ words) (ValueFor (ToPut f) ∷ ws) s ≡ after (goes words) (spelled_keyword k) (function (ToPut f) k ws s)
   unfolding goes step
-  put_function words s = refl
+  put_calls k words s is = refl
 
   put_takes : Takes (ToPut f) (ValueFor (ToPut f) ∷ ws) ws (λ s x. with_put s f x)
-  put_takes = record { constant = put_constant; variable = put_variable; function = put_function; ends = λ x behind s. refl }
+  put_takes = record { constant = put_constant; variable = put_variable; calls = put_calls; ends = λ x behind s. refl }
 
   several_constant : (v : Value) (s : State) → step (spelled_value v) (Several InPut f ∷ ws) s ≡ Next (Several InPut f ∷ ws) (record s { terms = s.terms ++ term.Constant v ∷ [] })
   unfolding step
@@ -172,12 +208,12 @@ module _ (f : ℕ) (ws : List Wanted) where
   unfolding step
   several_variable n s = refl
 
-  several_function : (words : List Word) (s : State) → goes (opening ∷ spelled_keyword keyword.Substr ∷ words) (Several InPut f ∷ ws) s ≡ goes words (SourceCell ∷ SourceAttribute ToTerms ∷ Several InPut f ∷ ws) s
+  several_calls : (k : Keyword) (words : List Word) (s : State) → gives k ≡ true → goes (opening ∷ spelled_keyword k ∷ words) (Several InPut f ∷ ws) s ≡ after (goes words) (spelled_keyword k) (function ToTerms k (Several InPut f ∷ ws) s)
   unfolding goes step
-  several_function words s = refl
+  several_calls k words s is = refl
 
   several_takes : Takes ToTerms (Several InPut f ∷ ws) (Several InPut f ∷ ws) (λ s x. record s { terms = s.terms ++ x ∷ [] })
-  several_takes = record { constant = several_constant; variable = several_variable; function = several_function; ends = λ x behind s. refl }
+  several_takes = record { constant = several_constant; variable = several_variable; calls = several_calls; ends = λ x behind s. refl }
 
 -- the value of a scalar attribute
 scalar_value : (f : ℕ) (k : InSight) (terms : List Term) (more : List Word) (ws : List Wanted) (s : State) → Sighted k s → length terms ≡ 1 → list_all (term_is_plain s.classes k false) terms ≡ true
@@ -295,12 +331,16 @@ module _ (ws : List Wanted) where
   unfolding step
   item_variable n s = refl
 
-  item_function : (words : List Word) (s : State) → goes (opening ∷ spelled_keyword keyword.Substr ∷ words) (Items ∷ ws) s ≡ goes words (SourceCell ∷ SourceAttribute ToItem ∷ Items ∷ ws) s
+  item_calls : (k : Keyword) (words : List Word) (s : State) → gives k ≡ true → goes (opening ∷ spelled_keyword k ∷ words) (Items ∷ ws) s ≡ after (goes words) (spelled_keyword k) (function ToItem k (Items ∷ ws) s)
   unfolding goes step
-  item_function words s = refl
+  item_calls keyword.Substr words s is = refl
+  item_calls keyword.Compute words s is = refl
+  item_calls keyword.Genatom words s is = refl
+  item_calls keyword.Accept words s is = refl
+  item_calls _ words s is = absurd (true≢false (sym is))
 
   item_takes : Takes ToItem (Items ∷ ws) (Items ∷ ws) (λ s x. with_item s (item.Print x))
-  item_takes = record { constant = item_constant; variable = item_variable; function = item_function; ends = λ x behind s. refl }
+  item_takes = record { constant = item_constant; variable = item_variable; calls = item_calls; ends = λ x behind s. refl }
 
 crlf_read : (k : InSight) (more : List Word) (ws : List Wanted) (s : State) → goes (spelled_item s.classes k item.Crlf ++ more) (Items ∷ ws) s ≡ goes more (Items ∷ ws) (with_item s item.Crlf)
 unfolding goes step
@@ -339,24 +379,24 @@ items_read (i ∷ is) k more ws s seen plain =
 -- ---- bind
 
 module _ (ws : List Wanted) where
-  bind_constant : (v : Value) (s : State) → step (spelled_value v) (ValueFor ToBind ∷ ws) s ≡ Next ws (with_bind (number_of s.variable s.values) s (term.Constant v))
+  bind_constant : (v : Value) (s : State) → step (spelled_value v) (BoundValue ∷ ws) s ≡ Next (Closes EndsWhole ∷ ws) (with_bind (number_of s.variable s.values) s (term.Constant v))
   unfolding step
   bind_constant (value.Whole n) s = refl
   bind_constant (value.Symbol name) s = refl
 
-  bind_variable : (n : ℕ) (s : State) → step (spelled_variable n) (ValueFor ToBind ∷ ws) s ≡ bound_at ToBind (number_of (record { 0 = n }) s.values) ws s
+  bind_variable : (n : ℕ) (s : State) → step (spelled_variable n) (BoundValue ∷ ws) s ≡ bound_at ToBind (number_of (record { 0 = n }) s.values) (Closes EndsWhole ∷ ws) s
   unfolding step
   bind_variable n s = refl
 
-  bind_function : (words : List Word) (s : State) → goes (opening ∷ spelled_keyword keyword.Substr ∷ words) (ValueFor ToBind ∷ ws) s ≡ goes words (SourceCell ∷ SourceAttribute ToBind ∷ ws) s
+  bind_calls : (k : Keyword) (words : List Word) (s : State) → gives k ≡ true → goes (opening ∷ spelled_keyword k ∷ words) (BoundValue ∷ ws) s ≡ after (goes words) (spelled_keyword k) (function ToBind k (Closes EndsWhole ∷ ws) s)
   unfolding goes step
-  bind_function words s = refl
+  bind_calls k words s is = refl
 
-  bind_takes : Takes ToBind (ValueFor ToBind ∷ ws) ws (λ s x. with_bind (number_of s.variable s.values) s x)
-  bind_takes = record { constant = bind_constant; variable = bind_variable; function = bind_function; ends = λ x behind s. refl }
+  bind_takes : Takes ToBind (BoundValue ∷ ws) (Closes EndsWhole ∷ ws) (λ s x. with_bind (number_of s.variable s.values) s x)
+  bind_takes = record { constant = bind_constant; variable = bind_variable; calls = bind_calls; ends = λ x behind s. refl }
 
 -- the value of a `bind`
 pub bind_read : (x : Term) (k : InSight) (more : List Word) (ws : List Wanted) (s : State) → Sighted k s → term_is_plain s.classes k false x ≡ true
-    → (y : ℕ × ℕ) × (goes (spelled_term s.classes k x ++ more) (ValueFor ToBind ∷ ws) s ≡ goes more ws (with_bind (number_of s.variable s.values) (sourced s y) x))
+    → (y : ℕ × ℕ) × (goes (spelled_term s.classes k x ++ more) (BoundValue ∷ ws) s ≡ goes more (Closes EndsWhole ∷ ws) (with_bind (number_of s.variable s.values) (sourced s y) x))
 bind_read x k more ws s seen plain =
-    (source_in s.classes k (s.source, s.source_field) x, term_read ToBind (ValueFor ToBind ∷ ws) ws (λ s x. with_bind (number_of s.variable s.values) s x) (bind_takes ws) k more s seen x plain)
+    (source_in s.classes k (s.source, s.source_field) x, term_read ToBind (BoundValue ∷ ws) (Closes EndsWhole ∷ ws) (λ s x. with_bind (number_of s.variable s.values) s x) (bind_takes ws) k more s seen x plain)

@@ -1,5 +1,5 @@
 -- Each symbol of what is read is the place of a spelling that is held.
-use Rattle.std.proofs.Common.{◌≡◌, ℕ, ◌+◌, ◌-◌, ◌<◌, ◌≤◌, Bool, true, false, not, cond, ◌==◌, ◌&&◌, ◌||◌, List, [], ◌∷◌, ◌++◌, length, map, refl, sym, ap, ◌∙◌, arith, Option, Some, None, Result, Ok, Err, IfSome, nat_lt, length-append, position, slice_get}
+use Rattle.std.proofs.Common.{◌≡◌, ℕ, ◌+◌, ◌<◌, ◌≤◌, Bool, true, false, not, cond, ◌==◌, ◌&&◌, ◌||◌, List, [], ◌∷◌, ◌++◌, length, map, refl, sym, ap, ◌∙◌, arith, Option, Some, None, Result, Ok, Err, IfSome, nat_lt, length-append, position, slice_get}
 use Rattle.std.specs.Prelude.{filter, bytes_eq}
 use Rattle.std.specs.List.{list_all}
 use Rattle.std.proofs.lemmas.Bool.{and_parts, and_from, cond_both, lt-ltb, ltb-true}
@@ -21,6 +21,8 @@ use Rattle.ops_base.specs.declared.actions.Item.{Item}
 use Rattle.ops_base.specs.declared.actions.Item.TheVariants as item
 use Rattle.ops_base.specs.declared.actions.Action.{Action}
 use Rattle.ops_base.specs.declared.actions.Action.TheVariants as action
+use Rattle.ops_base.specs.declared.expression.Op.{Op}
+use Rattle.ops_base.specs.Expression.{Formula}
 use Rattle.ops_base.specs.declared.rules.Rule.{Rule}
 use Rattle.ops_base.specs.declared.commands.Fixed.{Fixed}
 use Rattle.ops_base.specs.declared.commands.Command.{Command}
@@ -38,7 +40,7 @@ use Rattle.ops_meaning.specs.declared.words.Word.{Word}
 use Rattle.ops_meaning.specs.declared.words.Keyword.{Keyword}
 use Rattle.ops_meaning.specs.declared.words.Keyword.TheVariants as keyword
 use Rattle.ops_meaning.specs.Words.{lexed, has_name, names_with, word_of, words_from, names_from}
-use Rattle.ops_meaning.specs.Grammar.{Use, Target, Ends, Column, Wanted, State, Step, is_left, is_right, is_left_brace, is_right_brace, is_caret, is_name, is_variable, is_arrow, is_literal, is_minus, opens_choice, closes_choice, pred_of, constant_of, atom_of, value_of, small_of, is_one_of, number_of, may_declare, is_class, is_rule, form, class_declared, arranged, has_vector, with_class, is_second, attribute_declared, attributes, with_vector_last, with_vector, makes_second, vector_declared, vector_name, vector_names, class_at, class_name, attributes_of, field_at, attribute, with_test, with_put, with_fixed, with_item, with_bind, with_constant, with_bound, variable_tested, constant_tested, tested, predicated, test, place, tests, with_choice, chosen, choice, atom_at, term_at, bound_at, constant_at, is_of_action, value_for, function, source_named, source_cell, source_class, source_at, source_attribute, takes_several, ends_at_inf, source_end, with_action, with_command, with_condition, put_action, with_element, terms, within, one_of_several, with_several, several, rule_name, first_pattern, one_more, more_patterns, patterns, pattern, element_at, element_name, braced, closes_brace, classes_of_cells, with_rule, actions, action_word, cell_of, with_designated, with_modified, bound_name, cell_bound, cell_name, cells, items, item_word, column_item, columns_at, ended, closes, forms, step, Outcome, ends, after, goes, nothing_read, InPattern, InPut, InFixed, ToTest, ToPut, ToFixed, ToTerms, ToConstants, ToItem, ToBind, EndsRun, EndsHalt, EndsCrlf, EndsWhole, ToTab, ToRight, Forms, Form, ClassDeclared, Attributes, VectorName, VectorNames, RuleName, FirstPattern, Patterns, Pattern, Braced, ElementName, ClosesBrace, ClassName, Terms, Attribute, Several, Place, Tests, Tested, Choice, Atom, ValueFor, Function, SourceCell, SourceAttribute, SourceEnd, Actions, ActionWord, Modified, BoundName, CellName, Cell, Cells, Items, ItemWord, Columns, Closes, Next, Refuses}
+use Rattle.ops_meaning.specs.Grammar.{Use, Target, Ends, Column, Waiting, Wanted, State, Step, is_left, is_right, is_left_brace, is_right_brace, is_caret, is_name, is_variable, is_arrow, is_literal, is_minus, opens_choice, closes_choice, pred_of, constant_of, atom_of, value_of, small_of, is_one_of, number_of, may_declare, is_class, is_rule, form, class_declared, arranged, has_vector, with_class, is_second, attribute_declared, attributes, with_vector_last, with_vector, makes_second, vector_declared, vector_name, vector_names, class_at, class_name, attributes_of, field_at, attribute, with_test, with_put, with_fixed, with_item, with_bind, with_constant, with_bound, variable_tested, constant_tested, tested, predicated, test, place, tests, with_choice, chosen, choice, atom_at, term_at, bound_at, constant_at, is_of_action, value_for, most_brackets, no_formula, with_formula, completed, unit_bound, unit_at, expression_unit, bracketed, is_compute, operation_of, operation_at, expression_ended, expression_rest, function, source_named, source_cell, source_class, source_at, source_attribute, takes_several, ends_at_inf, source_end, with_action, with_command, with_condition, put_action, with_element, terms, within, one_of_several, with_several, several, rule_name, first_pattern, one_more, more_patterns, patterns, pattern, element_at, element_name, braced, closes_brace, classes_of_cells, with_rule, actions, action_word, cell_of, with_designated, with_modified, bound_name, bound_value, cell_bound, cell_name, cells, items, item_word, column_item, columns_at, ended, closes, forms, step, Outcome, ends, after, goes, nothing_read, InPattern, InPut, InFixed, ToTest, ToPut, ToFixed, ToTerms, ToConstants, ToItem, ToBind, EndsRun, EndsHalt, EndsCrlf, EndsWhole, ToTab, ToRight, Forms, Form, ClassDeclared, Attributes, VectorName, VectorNames, RuleName, FirstPattern, Patterns, Pattern, Braced, ElementName, ClosesBrace, ClassName, Terms, Attribute, Several, Place, Tests, Tested, Choice, Atom, ValueFor, Function, ExpressionUnit, ExpressionRest, Bracketed, SourceCell, SourceAttribute, SourceEnd, Actions, ActionWord, Modified, BoundName, BoundValue, CellName, Cell, Cells, Items, ItemWord, Columns, Closes, Next, Refuses}
 use Rattle.ops_meaning.specs.Reads.{Read, Placed, verdict, read_lexed, reads}
 use Rattle.ops_meaning.specs.Symbols.{symbol_held, value_held, class_held, operand_held, condition_held, term_held, put_held, item_held, action_held, rule_held, fixed_held, command_held, is_held}
 use Rattle.ops_meaning.proofs.Lists.{all_push}
@@ -337,10 +339,44 @@ module _ (n : ℕ) (w : Word) (named : symbol_held n w.name ≡ true) where
       (λ _. cond_both (is_left w.kind && is_of_action t) _ _ (Keeps n) (λ _. h)
       (λ _. constant_at_keeps t (value_of w.kind w.name) ws s (value_of_held n w.kind w.name named) h))
 
-  -- ---- substr
+  -- ---- compute
+
+  unit_bound_keeps : (o : Option ℕ) (ws : List Wanted) (s : State) → AreHeld n s → Keeps n (unit_bound o ws s)
+  unit_bound_keeps (Some m) ws s h = assumption h
+  unit_bound_keeps None ws s h = tt
+
+  unit_at_keeps : (k : TokenKind) (ws : List Wanted) (s : State) → AreHeld n s → Keeps n (unit_at k w.name ws s)
+  unit_at_keeps (kind.Whole m) ws s h = assumption h
+  unit_at_keeps kind.Variable ws s h = unit_bound_keeps (number_of w.name s.values) ws s h
+  unit_at_keeps _ ws s h = tt
+
+  unit_keeps : (d : ℕ) (ws : List Wanted) (s : State) → AreHeld n s → Keeps n (expression_unit d w ws s)
+  unit_keeps d ws s h =
+      cond_both (is_left w.kind) _ _ (Keeps n) (λ _. cond_both (nat_lt d most_brackets) _ _ (Keeps n) (λ _. h) (λ _. tt)) (λ _. unit_at_keeps w.kind ws s h)
+
+  bracketed_keeps : (d : ℕ) (ws : List Wanted) (s : State) → AreHeld n s → Keeps n (bracketed d w ws s)
+  bracketed_keeps d ws s h = cond_both (is_compute w.keyword) _ _ (Keeps n) (λ _. h) (λ _. unit_keeps d (ExpressionRest d [] None ∷ ws) s h)
+
+  operation_keeps : (d : ℕ) (waiting : List Waiting) (into : Option Target) (o : Option Op) (ws : List Wanted) (s : State) → AreHeld n s → Keeps n (operation_at d waiting into o ws s)
+  operation_keeps d waiting into (Some o) ws s h = h
+  operation_keeps d waiting into None ws s h = tt
+
+  expression_ended_keeps : (into : Option Target) (f : Formula) (ws : List Wanted) (s : State) → AreHeld n s → Keeps n (expression_ended into f ws s)
+  expression_ended_keeps (Some t) f ws s h = term_at_keeps t (term.Compute f) ws (with_formula s no_formula) (assumption h) refl
+  expression_ended_keeps None f ws s h = assumption h
+
+  expression_rest_keeps : (d : ℕ) (waiting : List Waiting) (into : Option Target) (ws : List Wanted) (s : State) → AreHeld n s → Keeps n (expression_rest d waiting into w ws s)
+  expression_rest_keeps d waiting into ws s h =
+      cond_both (is_right w.kind) _ _ (Keeps n) (λ _. expression_ended_keeps into (completed s.formula waiting) ws s h)
+      (λ _. operation_keeps d waiting into (operation_of w.keyword) ws s h)
+
+  -- ---- functions
 
   function_keeps : (t : Target) (k : Keyword) (ws : List Wanted) (s : State) → AreHeld n s → Keeps n (function t k ws s)
   function_keeps t keyword.Substr ws s h = h
+  function_keeps t keyword.Compute ws s h = h
+  function_keeps t keyword.Genatom ws s h = term_at_keeps t term.Fresh (Closes EndsWhole ∷ ws) s h refl
+  function_keeps t keyword.Accept ws s h = term_at_keeps t term.Accept (Closes EndsWhole ∷ ws) s h refl
   function_keeps t _ ws s h = tt
 
   source_named_keeps : (o : Option ℕ) (ws : List Wanted) (s : State) → AreHeld n s → Keeps n (source_named o ws s)
@@ -452,6 +488,11 @@ module _ (n : ℕ) (w : Word) (named : symbol_held n w.name ≡ true) where
   bound_name_keeps : (ws : List Wanted) (s : State) → AreHeld n s → Keeps n (bound_name w ws s)
   bound_name_keeps ws s h = cond_both (is_variable w.kind) _ _ (Keeps n) (λ _. assumption h) (λ _. tt)
 
+  bound_value_keeps : (ws : List Wanted) (s : State) → AreHeld n s → Keeps n (bound_value w ws s)
+  bound_value_keeps ws s h =
+      cond_both (is_right w.kind) _ _ (Keeps n) (λ _. bind_kept n (number_of s.variable s.values) s term.Fresh h refl)
+      (λ _. value_for_keeps ToBind (Closes EndsWhole ∷ ws) s h)
+
   cell_bound_keeps : (o : Option ℕ) (name : Sym) (ws : List Wanted) (s : State) → AreHeld n s → Keeps n (cell_bound o name ws s)
   cell_bound_keeps (Some class) name ws s h =
       let more = action_kept n s (action.Cbind (length (classes_of_cells s))) h refl in assumption more
@@ -475,7 +516,10 @@ module _ (n : ℕ) (w : Word) (named : symbol_held n w.name ≡ true) where
   item_word_keeps keyword.Crlf ws s h = h
   item_word_keeps keyword.Tabto ws s h = h
   item_word_keeps keyword.Rjust ws s h = h
-  item_word_keeps keyword.Substr ws s h = h
+  item_word_keeps keyword.Substr ws s h = function_keeps ToItem keyword.Substr ws s h
+  item_word_keeps keyword.Compute ws s h = function_keeps ToItem keyword.Compute ws s h
+  item_word_keeps keyword.Genatom ws s h = function_keeps ToItem keyword.Genatom ws s h
+  item_word_keeps keyword.Accept ws s h = function_keeps ToItem keyword.Accept ws s h
   item_word_keeps _ ws s h = tt
 
   column_held : (c : Column) (m : ℕ) → item_held n (column_item c m) ≡ true
@@ -524,6 +568,9 @@ module _ (n : ℕ) (w : Word) (named : symbol_held n w.name ≡ true) where
   step_keeps (Atom t ∷ ws) s h = atom_at_keeps t (atom_of w.kind w.name) ws s (atom_held n w.kind w.name named) h
   step_keeps (ValueFor t ∷ ws) s h = value_for_keeps t ws s h
   step_keeps (Function t ∷ ws) s h = function_keeps t w.keyword ws s h
+  step_keeps (ExpressionUnit d ∷ ws) s h = unit_keeps d ws s h
+  step_keeps (ExpressionRest d waiting into ∷ ws) s h = expression_rest_keeps d waiting into ws s h
+  step_keeps (Bracketed d ∷ ws) s h = bracketed_keeps d ws s h
   step_keeps (SourceCell ∷ ws) s h = source_cell_keeps ws s h
   step_keeps (SourceAttribute t ∷ ws) s h = source_attribute_keeps t ws s h
   step_keeps (SourceEnd t name ∷ ws) s h = source_end_keeps t name ws s h
@@ -531,6 +578,7 @@ module _ (n : ℕ) (w : Word) (named : symbol_held n w.name ≡ true) where
   step_keeps (ActionWord ∷ ws) s h = action_word_keeps w.keyword ws s h
   step_keeps (Modified ∷ ws) s h = modified_keeps (cell_of w.kind w.name s) ws s h
   step_keeps (BoundName ∷ ws) s h = bound_name_keeps ws s h
+  step_keeps (BoundValue ∷ ws) s h = bound_value_keeps ws s h
   step_keeps (CellName ∷ ws) s h = cell_name_keeps ws s h
   step_keeps (Cell ∷ ws) s h = designated_keeps (cell_of w.kind w.name s) ws s h
   step_keeps (Cells ∷ ws) s h = cells_keeps ws s h

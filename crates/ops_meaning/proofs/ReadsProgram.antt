@@ -14,7 +14,7 @@ use Rattle.ops_base.specs.Valid.{most_conditions, are_distinct, class_of, class_
 use Rattle.ops_meaning.specs.declared.words.Word.{Word}
 use Rattle.ops_meaning.specs.declared.words.Named.{Named}
 use Rattle.ops_meaning.specs.declared.words.Keyword.TheVariants as keyword
-use Rattle.ops_meaning.specs.Grammar.{Wanted, Forms, FirstPattern, Patterns, Actions, State, Outcome, is_one_of, left_begun, left_ended, right_begun, step, is_rule, with_rule, ends, goes}
+use Rattle.ops_meaning.specs.Grammar.{Wanted, Forms, FirstPattern, Patterns, Actions, State, Outcome, is_one_of, no_formula, left_begun, left_ended, right_begun, step, is_rule, with_rule, ends, goes}
 use Rattle.ops_meaning.specs.Standing.{outcome_of, AreRead}
 use Rattle.ops_meaning.specs.Spelling.{opening, closing, arrow, spelled_keyword, spelled_name, spelled_each, spelled_class, attribute_name, last_field, spelled_vector, spelled_actions, spelled_condition, spelled_conditions, spelled_rule, spelled_command, spelled_program, at_arrow, after_actions, actions_are_plain, nothing_numbered, after_condition, condition_is_plain, conditions_are_plain, after_conditions, rule_is_plain, vectors_of, scalars_of, class_is_plain, command_is_plain, is_plain}
 use Rattle.ops_meaning.proofs.Lists.{all_weaker}
@@ -69,6 +69,7 @@ idle rest classes rules commands =
       variable = record { 0 = 0 };
       source = 0;
       source_field = 0;
+      formula = no_formula;
     }
 
 -- ---- a production

@@ -12,7 +12,7 @@ use Rattle.ops_base.specs.Valid.{is_in, class_of, cells_of}
 use Rattle.ops_meaning.specs.declared.words.Word.{Word}
 use Rattle.ops_meaning.specs.declared.words.Named.{Named}
 use Rattle.ops_meaning.specs.declared.words.Keyword.TheVariants as keyword
-use Rattle.ops_meaning.specs.Grammar.{InPut, ToBind, EndsWhole, Wanted, ClassName, Terms, ValueFor, Actions, Cell, Cells, Items, Closes, State, number_of, renumbered, with_bind, with_action, put_action, named_cell, with_modified, with_cell, with_remove, with_write, step, after, goes}
+use Rattle.ops_meaning.specs.Grammar.{InPut, Wanted, ClassName, Terms, BoundValue, Actions, Cell, Cells, Items, State, number_of, renumbered, no_formula, with_bind, with_action, put_action, named_cell, with_modified, with_cell, with_remove, with_write, step, after, goes}
 use Rattle.ops_meaning.specs.Spelling.{Numbered, InSight, opening, closing, spelled_keyword, spelled_variable, spelled_name, spelled_each, spelled_term, spelled_puts, spelled_item, spelled_action, spelled_actions, class_of_cell, after_action, after_actions, cell_is_plain, term_is_plain, put_is_plain, action_is_plain, actions_are_plain}
 use Rattle.ops_meaning.proofs.Places.{numbered, numbered-push, number_out, number_there, renumbered-new}
 use Rattle.ops_meaning.proofs.Numbering.{below, below_apart}
@@ -49,6 +49,7 @@ acted s t k done =
       items = [];
       terms = [];
       constants = [];
+      formula = no_formula;
       actions = done;
     }
 
@@ -93,7 +94,7 @@ module _ (ws : List Wanted) (s : State) where
   write_closed words = refl
 
   bind_begun : (n : ℕ) (words : List Word)
-      → goes (opening ∷ spelled_keyword keyword.Bind ∷ spelled_variable n ∷ words) (Actions ∷ ws) s ≡ goes words (ValueFor ToBind ∷ Closes EndsWhole ∷ Actions ∷ ws) (record s { variable = record { 0 = n } })
+      → goes (opening ∷ spelled_keyword keyword.Bind ∷ spelled_variable n ∷ words) (Actions ∷ ws) s ≡ goes words (BoundValue ∷ Actions ∷ ws) (record s { variable = record { 0 = n } })
   unfolding goes step
   bind_begun n words = refl
 
@@ -140,8 +141,8 @@ celled_state s t k done class e =
 
 module _ (t : Trail) (k : InSight) (more : List Word) (ws : List Wanted) (s : State) (done : List Action) (names : AreNamed s.classes) (in_cells : AreCells s t k) where
   -- what is in sight is so where more is noted, but for the cells of each `cbind`
-  sighted : IsSighted k s.classes (numbered k.variables.sight) (numbered (below (length k.cells))) (cells_of s.conditions ++ t.further)
-  sighted = record { names = names; values_are = refl; elements_are = refl; cells_are = in_cells }
+  sighted : IsSighted k s.classes (numbered k.variables.sight) (numbered (below (length k.cells))) (cells_of s.conditions ++ t.further) no_formula
+  sighted = record { names = names; values_are = refl; elements_are = refl; cells_are = in_cells; none_read = refl }
 
   -- the values of an action `make` or `modify`
   puts_of : (class : ℕ) (modified : Option ℕ) (puts : List Put) → class < length s.classes → list_all (put_is_plain s.classes k (class_of s.classes class)) puts ≡ true
@@ -195,12 +196,12 @@ module _ (t : Trail) (k : InSight) (more : List Word) (ws : List Wanted) (s : St
       let parts = and_parts (is_in n k.variables.sight || (n == k.variables.given)) (term_is_plain s.classes k false value) plain in
       let words = spelled_term s.classes k value in
       let from : State = acted s (record t { variable = record { 0 = n } }) k done in
-      let read = bind_read value k (closing ∷ more) (Closes EndsWhole ∷ Actions ∷ ws) from sighted parts.1 in
+      let read = bind_read value k (closing ∷ more) (Actions ∷ ws) from sighted parts.1 in
       let sourced_trail : Trail = record t { source = read.0.0; source_field = read.0.1 } in (
         record sourced_trail { variable = record { 0 = n } },
         bind_cells (is_in n k.variables.sight) k (record { sight = k.variables.sight ++ k.variables.given ∷ []; given = suc k.variables.given }) ∙ in_cells,
         bind_begun ws (acted s t k done) n (words ++ closing ∷ [] ++ more)
-            ∙ ap (λ (x : List Word). goes x (ValueFor ToBind ∷ Closes EndsWhole ∷ Actions ∷ ws) from) (append_assoc words (closing ∷ []) more)
+            ∙ ap (λ (x : List Word). goes x (BoundValue ∷ Actions ∷ ws) from) (append_assoc words (closing ∷ []) more)
             ∙ read.1
             ∙ whole_closed more (Actions ∷ ws) (with_bind (number_of (record { 0 = n }) (numbered k.variables.sight)) (sourced from read.0) value)
             ∙ ap (λ (x : State). goes more (Actions ∷ ws) x) (bound_state (is_in n k.variables.sight) s sourced_trail k done n value refl parts.0),

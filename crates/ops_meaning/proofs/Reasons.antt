@@ -1,7 +1,7 @@
 -- Why a word is refused.
 use Rattle.std.proofs.Common.{◌≡◌, ℕ, suc, ◌+◌, ◌-◌, ◌<◌, Bool, true, false, not, ◌&&◌, ◌||◌, ◌==◌, cond, List, [], ◌∷◌, length, take, refl, sym, ap, subst, ◌∙◌, arith, Option, Some, None, Result, Ok, Err, nat_lt, is_some, position, slice_get, true≢false}
 use Rattle.std.specs.List.{list_any, position_or_len}
-use Rattle.std.proofs.lemmas.Bool.{cond_both, and_from, lt-ltb}
+use Rattle.std.proofs.lemmas.Bool.{cond_both, and_from, and_parts, lt-ltb}
 use Rattle.ops_base.specs.declared.values.Sym.{Sym}
 use Rattle.ops_base.specs.declared.values.Value.{Value}
 use Rattle.ops_base.specs.declared.values.Pred.{Pred}
@@ -9,7 +9,9 @@ use Rattle.ops_base.specs.declared.values.Pred.TheVariants as pred
 use Rattle.ops_base.specs.declared.conditions.Condition.{Condition}
 use Rattle.ops_base.specs.declared.actions.Term.{Term}
 use Rattle.ops_base.specs.declared.actions.Term.TheVariants as term
+use Rattle.ops_base.specs.declared.expression.Op.{Op}
 use Rattle.ops_base.specs.declared.endings.Fault.{Fault}
+use Rattle.ops_base.specs.Expression.{Formula}
 use Rattle.ops_base.specs.declared.endings.Fault.TheVariants as fault
 use Rattle.ops_base.specs.Valid.{most_fields, most_conditions, class_of, is_vector, is_equality}
 use Rattle.ops_tokens.specs.declared.token.TokenKind.{TokenKind}
@@ -17,10 +19,10 @@ use Rattle.ops_tokens.specs.declared.token.TokenKind.TheVariants as kind
 use Rattle.ops_meaning.specs.declared.words.Word.{Word}
 use Rattle.ops_meaning.specs.declared.words.Keyword.{Keyword}
 use Rattle.ops_meaning.specs.declared.words.Keyword.TheVariants as keyword
-use Rattle.ops_meaning.specs.Grammar.{Use, InPattern, InPut, InFixed, Target, ToTest, ToPut, ToFixed, ToTerms, ToConstants, ToItem, ToBind, Column, Wanted, Forms, Form, ClassDeclared, Attributes, VectorName, VectorNames, RuleName, FirstPattern, Patterns, Pattern, Braced, ElementName, ClosesBrace, ClassName, Terms, Attribute, Several, Place, Tests, Tested, Choice, Atom, ValueFor, Function, SourceCell, SourceAttribute, SourceEnd, Actions, ActionWord, Modified, BoundName, CellName, Cell, Cells, Items, ItemWord, Columns, Closes, State, Step, Next, Refuses, is_left, is_right, is_left_brace, is_right_brace, is_caret, is_name, is_variable, is_arrow, is_literal, is_minus, opens_choice, closes_choice, pred_of, constant_of, value_of, atom_of, natural_of, small_of, is_one_of, number_of, may_declare, is_class, is_rule, is_second, makes_second, vector_name, form, class_at, attributes_of, field_at, variable_tested, constant_tested, tested, predicated, test, place, chosen, atom_at, term_at, bound_at, constant_at, is_of_action, value_for, function, source_named, source_class, source_at, takes_several, ends_at_inf, source_end, within, one_of_several, several, element_at, element_name, action_word, designated, numbered_cell, named_cell, cell_of, with_designated, with_modified, cell_bound, item_word, columns_at, step}
+use Rattle.ops_meaning.specs.Grammar.{Use, InPattern, InPut, InFixed, Target, ToTest, ToPut, ToFixed, ToTerms, ToConstants, ToItem, ToBind, EndsWhole, Column, Wanted, Forms, Form, ClassDeclared, Attributes, VectorName, VectorNames, RuleName, FirstPattern, Patterns, Pattern, Braced, ElementName, ClosesBrace, ClassName, Terms, Attribute, Several, Place, Tests, Tested, Choice, Atom, ValueFor, Function, Waiting, ExpressionUnit, ExpressionRest, Bracketed, SourceCell, SourceAttribute, SourceEnd, Actions, ActionWord, Modified, BoundName, BoundValue, CellName, Cell, Cells, Items, ItemWord, Columns, Closes, State, Step, Next, Refuses, is_left, is_right, is_left_brace, is_right_brace, is_caret, is_name, is_variable, is_arrow, is_literal, is_minus, opens_choice, closes_choice, pred_of, constant_of, value_of, atom_of, natural_of, small_of, is_one_of, number_of, may_declare, is_class, is_rule, is_second, makes_second, vector_name, form, class_at, attributes_of, field_at, variable_tested, constant_tested, tested, predicated, test, place, chosen, atom_at, term_at, bound_at, constant_at, is_of_action, value_for, most_brackets, no_formula, with_formula, unit_bound, unit_at, expression_unit, bracketed, completed, is_compute, operation_of, operation_at, expression_ended, expression_rest, function, source_named, source_class, source_at, takes_several, ends_at_inf, source_end, within, one_of_several, several, element_at, element_name, action_word, designated, numbered_cell, named_cell, cell_of, with_designated, with_modified, cell_bound, item_word, columns_at, step}
 use Rattle.ops_meaning.specs.Derivation.{is_designator}
-use Rattle.ops_meaning.specs.Reasons.{no_form_fault, is_declaration, gives_second, is_full, wants_bound, is_bound, is_positive, is_condition, designates, is_unclear, designates_unclearly, wants_cell, is_bad_designator, Because}
-use Rattle.ops_meaning.proofs.Arranged.{AreArranged}
+use Rattle.ops_meaning.specs.Reasons.{no_form_fault, is_declaration, gives_second, is_full, nests_deepest, wants_bound, is_bound, is_positive, is_condition, designates, is_unclear, designates_unclearly, wants_cell, is_bad_designator, Because}
+use Rattle.ops_meaning.proofs.Arranged.{AreArranged, functions_fit}
 
 abbrev pub HasReason : List Wanted → Word → State → Step → Type 0
 HasReason ws w s (Next ws' s') = Unit {0}
@@ -119,10 +121,57 @@ module _ (w : Word) (ws : List Wanted) (s : State) where
   value_for_reason ToItem = value_reason (ValueFor ToItem ∷ ws) ws refl (λ e. ap is_some e) ToItem refl (λ is x. tt)
   value_for_reason ToBind = value_reason (ValueFor ToBind ∷ ws) ws refl (λ e. ap is_some e) ToBind refl (λ is x. tt)
 
-  -- `substr`
-  function_reason : (t : Target) (k : Keyword) → At (Function t ∷ ws) (function t k ws s)
-  function_reason t keyword.Substr = tt
-  function_reason t _ = refl
+  -- a term goes to a value of an action
+  term_reason : (here behind : List Wanted) (s' : State) (t : Target) (x : Term) → is_of_action t ≡ true → At here (term_at t x behind s')
+  term_reason here behind s' (ToPut f) x of_action = tt
+  term_reason here behind s' ToTerms x of_action = tt
+  term_reason here behind s' ToItem x of_action = tt
+  term_reason here behind s' ToBind x of_action = tt
+  term_reason here behind s' _ x of_action = absurd (true≢false (sym of_action))
+
+  -- a unit, where a variable must be bound and one more bracket may be too many
+  module _ (here behind : List Wanted) (bad : no_form_fault here ≡ fault.BadForm) (wants : wants_bound here ≡ true) (unbound : number_of w.name s.values ≡ None → is_bound here w.name s ≡ false) where
+    unit_bound_reason : is_variable w.kind ≡ true → (o : Option ℕ) → number_of w.name s.values ≡ o → At here (unit_bound o behind s)
+    unit_bound_reason is (Some n) e = tt
+    unit_bound_reason is None e = (wants, is, unbound e)
+
+    unit_at_reason : (k : TokenKind) → w.kind ≡ k → At here (unit_at k w.name behind s)
+    unit_at_reason (kind.Whole n) e = tt
+    unit_at_reason kind.Variable e = unit_bound_reason (ap is_variable e) (number_of w.name s.values) refl
+    unit_at_reason _ e = bad
+
+    unit_reason : (d : ℕ) → (nat_lt d most_brackets ≡ false → nests_deepest here ≡ true) → At here (expression_unit d w behind s)
+    unit_reason d deepest =
+        cond_both (is_left w.kind) _ _ (At here) (λ left. cond_both (nat_lt d most_brackets) _ _ (At here) (λ _. tt) (λ full. (left, deepest full)))
+        (λ _. unit_at_reason w.kind refl)
+
+  bracketed_reason : (d : ℕ) → At (Bracketed d ∷ ws) (bracketed d w ws s)
+  bracketed_reason d =
+      cond_both (is_compute w.keyword) _ _ (At (Bracketed d ∷ ws)) (λ _. tt)
+      (λ _. unit_reason (Bracketed d ∷ ws) (ExpressionRest d [] None ∷ ws) refl refl (λ e. ap is_some e) d (λ full. ap not full))
+
+  -- the rest of an expression
+  module _ (d : ℕ) (waiting : List Waiting) (into : Option Target) where
+    expression_ended_reason : (o : Option Target) (f : Formula) → functions_fit (ExpressionRest d waiting o ∷ ws) ≡ true → At (ExpressionRest d waiting into ∷ ws) (expression_ended o f ws s)
+    expression_ended_reason (Some t) f fits = term_reason (ExpressionRest d waiting into ∷ ws) ws (with_formula s no_formula) t (term.Compute f) (and_parts (is_of_action t) (functions_fit ws) fits).0
+    expression_ended_reason None f fits = tt
+
+    operation_reason : (o : Option Op) → At (ExpressionRest d waiting into ∷ ws) (operation_at d waiting into o ws s)
+    operation_reason (Some o) = tt
+    operation_reason None = refl
+
+    expression_rest_reason : functions_fit (ExpressionRest d waiting into ∷ ws) ≡ true → At (ExpressionRest d waiting into ∷ ws) (expression_rest d waiting into w ws s)
+    expression_rest_reason fits =
+        cond_both (is_right w.kind) _ _ (At (ExpressionRest d waiting into ∷ ws)) (λ _. expression_ended_reason into (completed s.formula waiting) fits)
+        (λ _. operation_reason (operation_of w.keyword))
+
+  -- `compute`, `genatom`, `accept` and `substr`
+  function_reason : (t : Target) (k : Keyword) → is_of_action t ≡ true → At (Function t ∷ ws) (function t k ws s)
+  function_reason t keyword.Substr of_action = tt
+  function_reason t keyword.Compute of_action = tt
+  function_reason t keyword.Genatom of_action = term_reason (Function t ∷ ws) (Closes EndsWhole ∷ ws) s t term.Fresh of_action
+  function_reason t keyword.Accept of_action = term_reason (Function t ∷ ws) (Closes EndsWhole ∷ ws) s t term.Accept of_action
+  function_reason t _ of_action = refl
 
   source_named_reason : is_variable w.kind ≡ true → (o : Option ℕ) → number_of w.name s.elements ≡ o → At (SourceCell ∷ ws) (source_named o ws s)
   source_named_reason is (Some c) e = tt
@@ -132,20 +181,12 @@ module _ (w : Word) (ws : List Wanted) (s : State) where
   source_at_reason t is (Some f) e = tt
   source_at_reason t is None e = (refl, is, position_none (λ (a : Sym). a.0 == w.name.0) (source_class s).attrs e)
 
-  -- a term goes to a value of an action
-  term_reason : (here behind : List Wanted) (t : Target) (x : Term) → is_of_action t ≡ true → At here (term_at t x behind s)
-  term_reason here behind (ToPut f) x of_action = tt
-  term_reason here behind ToTerms x of_action = tt
-  term_reason here behind ToItem x of_action = tt
-  term_reason here behind ToBind x of_action = tt
-  term_reason here behind _ x of_action = absurd (true≢false (sym of_action))
-
   source_end_reason : (t : Target) (name : Sym) → is_of_action t ≡ true → At (SourceEnd t name ∷ ws) (source_end t name w ws s)
   source_end_reason t name of_action =
       cond_both (ends_at_inf w s) _ _ (At (SourceEnd t name ∷ ws))
-      (λ _. cond_both (takes_several t) _ _ (At (SourceEnd t name ∷ ws)) (λ _. term_reason (SourceEnd t name ∷ ws) ws t (term.Rest s.source) of_action) (λ _. refl))
+      (λ _. cond_both (takes_several t) _ _ (At (SourceEnd t name ∷ ws)) (λ _. term_reason (SourceEnd t name ∷ ws) ws s t (term.Rest s.source) of_action) (λ _. refl))
       (λ _. cond_both (is_name w.kind && (w.name.0 == name.0)) _ _ (At (SourceEnd t name ∷ ws))
-      (λ _. term_reason (SourceEnd t name ∷ ws) ws t (term.One s.source s.source_field) of_action) (λ _. refl))
+      (λ _. term_reason (SourceEnd t name ∷ ws) ws s t (term.One s.source s.source_field) of_action) (λ _. refl))
 
   place_reason : (here behind : List Wanted) → no_form_fault here ≡ fault.BadForm → (number_of w.name s.values ≡ None → is_bound here w.name s ≡ false) → (f : ℕ) → At here (place f w behind s)
   place_reason here behind bad unbound f = cond_both (is_left_brace w.kind) _ _ (At here) (λ _. tt) (λ _. test_reason here behind bad unbound f)
@@ -256,6 +297,9 @@ module _ (w : Word) (ws : List Wanted) (s : State) where
   item_word_reason keyword.Tabto = tt
   item_word_reason keyword.Rjust = tt
   item_word_reason keyword.Substr = tt
+  item_word_reason keyword.Compute = tt
+  item_word_reason keyword.Genatom = tt
+  item_word_reason keyword.Accept = tt
   item_word_reason _ = refl
 
   columns_reason : (c : Column) (o : Option ℕ) → At (Columns c ∷ ws) (columns_at c o ws s)
@@ -316,7 +360,10 @@ step_reason w (Choice f ∷ ws) s arranged =
     cond_both (closes_choice w.keyword) _ _ (HasReason (Choice f ∷ ws) w s) (λ _. tt) (λ _. chosen_reason w ws s f (atom_of w.kind w.name))
 step_reason w (Atom t ∷ ws) s arranged = atom_reason w ws s t (atom_of w.kind w.name)
 step_reason w (ValueFor t ∷ ws) s arranged = value_for_reason w ws s t
-step_reason w (Function t ∷ ws) s arranged = function_reason w ws s t w.keyword
+step_reason w (Function t ∷ ws) s arranged = function_reason w ws s t w.keyword (and_parts (is_of_action t) (functions_fit ws) arranged.2).0
+step_reason w (ExpressionUnit d ∷ ws) s arranged = unit_reason w ws s (ExpressionUnit d ∷ ws) ws refl refl (λ e. ap is_some e) d (λ full. ap not full)
+step_reason w (ExpressionRest d waiting into ∷ ws) s arranged = expression_rest_reason w ws s d waiting into arranged.2
+step_reason w (Bracketed d ∷ ws) s arranged = bracketed_reason w ws s d
 step_reason w (SourceCell ∷ ws) s arranged =
     cond_both (is_variable w.kind) _ _ (HasReason (SourceCell ∷ ws) w s) (λ is. source_named_reason w ws s is (number_of w.name s.elements) refl) (λ _. refl)
 step_reason w (SourceAttribute t ∷ ws) s arranged =
@@ -328,6 +375,9 @@ step_reason w (Actions ∷ ws) s arranged =
 step_reason w (ActionWord ∷ ws) s arranged = action_word_reason w ws s w.keyword
 step_reason w (Modified ∷ ws) s arranged = modified_reason w ws s (cell_of w.kind w.name s) (cell_of_reason w ws s (Modified ∷ ws) refl refl (λ is e. and_from _ _ is (ap not e)) w.kind refl)
 step_reason w (BoundName ∷ ws) s arranged = cond_both (is_variable w.kind) _ _ (HasReason (BoundName ∷ ws) w s) (λ _. tt) (λ _. refl)
+step_reason w (BoundValue ∷ ws) s arranged =
+    cond_both (is_right w.kind) _ _ (HasReason (BoundValue ∷ ws) w s) (λ _. tt)
+    (λ _. value_reason w ws s (BoundValue ∷ ws) (Closes EndsWhole ∷ ws) refl (λ e. ap is_some e) ToBind refl (λ is x. tt))
 step_reason w (CellName ∷ ws) s arranged = cond_both (is_variable w.kind) _ _ (HasReason (CellName ∷ ws) w s) (λ is. cell_bound_reason w ws s is s.made refl) (λ _. refl)
 step_reason w (Cell ∷ ws) s arranged =
     cell_reason w ws s (Cell ∷ ws) ws (cell_of w.kind w.name s) (cell_of_reason w ws s (Cell ∷ ws) refl refl (λ is e. and_from _ _ is (ap not e)) w.kind refl)

@@ -15,12 +15,12 @@ use Rattle.ops_tokens.specs.declared.token.TokenKind.TheVariants as kind
 use Rattle.ops_meaning.specs.declared.words.Word.{Word}
 use Rattle.ops_meaning.specs.declared.words.Keyword.{Keyword}
 use Rattle.ops_meaning.specs.declared.words.Keyword.TheVariants as keyword
-use Rattle.ops_meaning.specs.Grammar.{InPut, ToBind, EndsHalt, EndsCrlf, EndsWhole, Column, ToTab, ToRight, Forms, Terms, ValueFor, Actions, Cells, Items, Closes, State, Next, is_left, is_right, is_variable, natural_of, small_of, number_of, classes_of_cells, put_action, renumbered, actions, action_word, designated, numbered_cell, named_cell, cell_of, with_designated, cell, with_modified, modified, bound_name, cell_bound, cell_name, cells, items, item_word, column_item, columns_at, closes}
+use Rattle.ops_meaning.specs.Grammar.{InPut, EndsHalt, EndsCrlf, EndsWhole, Column, ToTab, ToRight, Forms, Terms, Actions, BoundValue, Cells, Items, Closes, State, Next, is_left, is_right, is_variable, natural_of, small_of, number_of, classes_of_cells, put_action, renumbered, actions, action_word, designated, numbered_cell, named_cell, cell_of, with_designated, cell, with_modified, modified, bound_name, cell_bound, cell_name, cells, items, item_word, column_item, columns_at, closes}
 use Rattle.ops_meaning.proofs.Lists.{all_push}
 use Rattle.ops_meaning.proofs.Parts.{has_cell}
-use Rattle.ops_meaning.proofs.Sound.{IsShort, IsBody, known_in, Knows, IsNamed, HasCells, HasItems, Program, Body, Bare, variables_of, side_of, at_forms, at_class_name, at_terms, InWrite, InBind, at_value, at_source_cell, at_value_end, at_actions, at_action_word, at_modified, at_bound_name, at_cell_name, at_action_end, at_cell, at_cells, at_items, at_item_word, at_columns, at_crlf, at_halt, Leads}
+use Rattle.ops_meaning.proofs.Sound.{IsShort, IsBody, known_in, Knows, IsNamed, HasCells, HasItems, Program, Body, Bare, variables_of, side_of, at_forms, at_class_name, at_terms, InWrite, at_value_end, at_actions, at_action_word, at_modified, at_bound_name, at_bound_value, at_cell_name, at_action_end, at_cell, at_cells, at_items, at_item_word, at_columns, at_crlf, at_halt, Leads}
 use Rattle.ops_meaning.proofs.Grown.{fits_below, rule_added, element_known, cell_known}
-use Rattle.ops_meaning.proofs.ValueSteps.{IsPlaced, added, value_leads}
+use Rattle.ops_meaning.proofs.ValueSteps.{IsPlaced, added, value_leads, function_leads}
 
 module _ (text : ℕ) where
   pub put_action_valid : (s : State) (o : Option ℕ) → IsNamed s.classes (known_in s) s.class o → fits s.puts ≡ true
@@ -111,8 +111,8 @@ module _ (text n : ℕ) (w : Word) (fit : text ≤ longest_list) (placed : IsPla
 
   -- ---- bind, cbind
 
-  pub bound_name_leads : (s : State) → IsShort n s → Body text s → Leads text w.past (bound_name w (ValueFor ToBind ∷ Closes EndsWhole ∷ Actions ∷ Forms ∷ []) s)
-  bound_name_leads s short g = cond_both (is_variable w.kind) _ _ (Leads text w.past) (λ _. (omega arith, at_value InBind g)) (λ _. tt)
+  pub bound_name_leads : (s : State) → IsShort n s → Body text s → Leads text w.past (bound_name w (BoundValue ∷ Actions ∷ Forms ∷ []) s)
+  bound_name_leads s short g = cond_both (is_variable w.kind) _ _ (Leads text w.past) (λ _. (omega arith, at_bound_value g)) (λ _. tt)
 
   cell_bound_leads : (s : State) → IsShort n s → Body text s → (o : Option ℕ) → s.made ≡ o → Leads text w.past (cell_bound o w.name (Closes EndsWhole ∷ Actions ∷ Forms ∷ []) s)
   cell_bound_leads s short g None e = tt
@@ -163,7 +163,10 @@ module _ (text n : ℕ) (w : Word) (fit : text ≤ longest_list) (placed : IsPla
   item_word_leads s short g keyword.Crlf = (omega arith, at_crlf g)
   item_word_leads s short g keyword.Tabto = (omega arith, at_columns ToTab g)
   item_word_leads s short g keyword.Rjust = (omega arith, at_columns ToRight g)
-  item_word_leads s short g keyword.Substr = (omega arith, at_source_cell InWrite g)
+  item_word_leads s short g keyword.Substr = function_leads text n w fit placed InWrite s short g keyword.Substr
+  item_word_leads s short g keyword.Compute = function_leads text n w fit placed InWrite s short g keyword.Compute
+  item_word_leads s short g keyword.Genatom = function_leads text n w fit placed InWrite s short g keyword.Genatom
+  item_word_leads s short g keyword.Accept = function_leads text n w fit placed InWrite s short g keyword.Accept
   item_word_leads s short g _ = tt
 
   small_by : (b : Bool) (m k : ℕ) → is_column m ≡ b → cond b (Some m) None ≡ Some k → is_column k ≡ true

@@ -9,9 +9,10 @@ use Rattle.ops_base.specs.declared.conditions.Condition.{Condition}
 use Rattle.ops_base.specs.declared.actions.Action.{Action}
 use Rattle.ops_base.specs.declared.rules.Rule.{Rule}
 use Rattle.ops_base.specs.declared.commands.Command.{Command}
+use Rattle.ops_base.specs.Expression.{Formula, all_variables}
 use Rattle.ops_base.specs.Valid.{most_fields, most_conditions, are_distinct, class_of, class_is_valid, is_attribute, is_vector, is_field, is_in, Sight, tests_are_valid, sight_after_tests, conditions_are_valid, sight_after_conditions, nothing_in_sight, first_is_positive, cells_of, known_of, is_cell, class_of_cell, Known, known_after_actions, term_is_valid, put_is_valid, item_is_valid, actions_are_valid, rule_is_valid, fixed_is_valid, command_is_valid}
 use Rattle.ops_meaning.specs.declared.words.Named.{Named}
-use Rattle.ops_meaning.specs.Grammar.{Use, InPattern, InPut, InFixed, Target, ToTest, ToPut, ToFixed, ToTerms, ToConstants, ToItem, ToBind, EndsRun, EndsHalt, EndsCrlf, EndsWhole, Column, Wanted, Forms, Form, ClassDeclared, Attributes, VectorName, VectorNames, RuleName, FirstPattern, Patterns, Pattern, Braced, ElementName, ClosesBrace, ClassName, Terms, Attribute, Several, Place, Tests, Tested, Choice, Atom, ValueFor, Function, SourceCell, SourceAttribute, SourceEnd, Actions, ActionWord, Modified, BoundName, CellName, Cell, Cells, Items, ItemWord, Columns, Closes, State, Step, Next, Refuses}
+use Rattle.ops_meaning.specs.Grammar.{Use, InPattern, InPut, InFixed, Target, ToTest, ToPut, ToFixed, ToTerms, ToConstants, ToItem, ToBind, EndsRun, EndsHalt, EndsCrlf, EndsWhole, Column, Wanted, Forms, Form, ClassDeclared, Attributes, VectorName, VectorNames, RuleName, FirstPattern, Patterns, Pattern, Braced, ElementName, ClosesBrace, ClassName, Terms, Attribute, Several, Place, Tests, Tested, Choice, Atom, ValueFor, Function, Waiting, ExpressionUnit, ExpressionRest, Bracketed, SourceCell, SourceAttribute, SourceEnd, Actions, ActionWord, Modified, BoundName, BoundValue, CellName, Cell, Cells, Items, ItemWord, Columns, Closes, State, Step, Next, Refuses}
 
 -- the form that is read began before the first place, and no list is longer than that place, but those of attributes with values
 -- are not longer than the second
@@ -257,6 +258,37 @@ AtValue (InVector f) text s = AtSeveral InPut text s f
 AtValue InWrite text s = HasItems text s
 AtValue InBind text s = Body text s
 
+-- the variables of a formula are known
+abbrev pub formula_is_known : Known → Formula → Bool
+formula_is_known k f = all_variables (λ v. is_in v k.bound) f
+
+-- an expression that is open: the number of brackets that are open in it, and what waits there
+pub record Opened : Type 0 where
+  pub depth : ℕ
+  pub waiting : List Waiting
+
+-- the variables of all that waits in it are known
+abbrev pub opened_is_known : Known → Opened → Bool
+opened_is_known k o = list_all (λ w. formula_is_known k w.left) o.waiting
+
+-- where the value of an expression goes, inside of those that are open: into the innermost of them, or to where the function stands
+abbrev pub into_opened : Slot → List Opened → Option Target
+into_opened slot [] = Some (target_of slot)
+into_opened slot (o ∷ os) = None
+
+-- what is wanted behind an operand of expressions that are open, the innermost first
+abbrev pub behind_operand : Slot → List Opened → List Wanted
+behind_operand slot [] = behind_value slot
+behind_operand slot (o ∷ os) = ExpressionRest o.depth o.waiting (into_opened slot os) ∷ behind_operand slot os
+
+-- a `compute` up to an operand, where all that waits is known
+abbrev pub AtOperand : Slot → List Opened → ℕ → State → Type 0
+AtOperand slot os text s = AtValue slot text s × (list_all (opened_is_known (known_in s)) os ≡ true)
+
+-- one behind an operand, which is known too
+abbrev pub HasOperand : Slot → List Opened → ℕ → State → Type 0
+HasOperand slot os text s = AtOperand slot os text s × (formula_is_known (known_in s) s.formula ≡ true)
+
 -- a `substr` up to its first attribute, and up to what ends it
 abbrev pub HasSource : Slot → ℕ → State → Type 0
 HasSource slot text s = AtValue slot text s × (is_cell (known_in s) s.source ≡ true)
@@ -294,6 +326,9 @@ pub data IsRead (text : ℕ) (s : State) : List Wanted → Type 0 where
   at_value : (slot : Slot) → AtValue slot text s → IsRead text s (ValueFor (target_of slot) ∷ behind_value slot)
   at_atom : (slot : Slot) → AtValue slot text s → IsRead text s (Atom (target_of slot) ∷ behind_value slot)
   at_function : (slot : Slot) → AtValue slot text s → IsRead text s (Function (target_of slot) ∷ behind_value slot)
+  at_expression_unit : (slot : Slot) → (depth : ℕ) → (o : Opened) → (os : List Opened) → AtOperand slot (o ∷ os) text s → IsRead text s (ExpressionUnit depth ∷ behind_operand slot (o ∷ os))
+  at_bracketed : (slot : Slot) → (depth : ℕ) → (o : Opened) → (os : List Opened) → AtOperand slot (o ∷ os) text s → IsRead text s (Bracketed depth ∷ behind_operand slot (o ∷ os))
+  at_expression_rest : (slot : Slot) → (o : Opened) → (os : List Opened) → HasOperand slot (o ∷ os) text s → IsRead text s (behind_operand slot (o ∷ os))
   at_source_cell : (slot : Slot) → AtValue slot text s → IsRead text s (SourceCell ∷ SourceAttribute (target_of slot) ∷ behind_value slot)
   at_source_attribute : (slot : Slot) → HasSource slot text s → IsRead text s (SourceAttribute (target_of slot) ∷ behind_value slot)
   at_source_end : (slot : Slot) → (name : Sym) → HasSourceField slot text s → IsRead text s (SourceEnd (target_of slot) name ∷ Closes EndsWhole ∷ behind_value slot)
@@ -301,7 +336,8 @@ pub data IsRead (text : ℕ) (s : State) : List Wanted → Type 0 where
   at_actions : (Body text s) → IsRead text s (Actions ∷ Forms ∷ [])
   at_action_word : (Body text s) → IsRead text s (ActionWord ∷ Actions ∷ Forms ∷ [])
   at_modified : (Body text s × (s.puts ≡ [])) → IsRead text s (Modified ∷ Terms InPut ∷ Actions ∷ Forms ∷ [])
-  at_bound_name : (Body text s) → IsRead text s (BoundName ∷ ValueFor ToBind ∷ Closes EndsWhole ∷ Actions ∷ Forms ∷ [])
+  at_bound_name : (Body text s) → IsRead text s (BoundName ∷ BoundValue ∷ Actions ∷ Forms ∷ [])
+  at_bound_value : (Body text s) → IsRead text s (BoundValue ∷ Actions ∷ Forms ∷ [])
   at_cell_name : (Body text s) → IsRead text s (CellName ∷ Closes EndsWhole ∷ Actions ∷ Forms ∷ [])
   at_action_end : (Body text s) → IsRead text s (Closes EndsWhole ∷ Actions ∷ Forms ∷ [])
   at_cell : (HasCells text s) → IsRead text s (Cell ∷ Cells ∷ Actions ∷ Forms ∷ [])

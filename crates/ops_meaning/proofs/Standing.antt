@@ -11,8 +11,8 @@ use Rattle.ops_base.specs.Valid.{longest_list}
 use Rattle.ops_tokens.specs.declared.token.LexFault.{LexFault}
 use Rattle.ops_meaning.specs.declared.words.Word.{Word}
 use Rattle.ops_meaning.specs.Words.{lexed, names_from}
-use Rattle.ops_meaning.specs.Grammar.{InPattern, InPut, InFixed, ToTerms, ToConstants, Wanted, Forms, Terms, Several, Place, ValueFor, State, Step, Next, Refuses, Outcome, step, ends, after, goes, nothing_read}
-use Rattle.ops_meaning.specs.Derivation.{Derives, nothing, no_form, one_more_place, one_more_term, one_more_constant, no_more_of_several, IsText}
+use Rattle.ops_meaning.specs.Grammar.{InPattern, InPut, InFixed, ToTerms, ToConstants, ToItem, ToBind, EndsWhole, Wanted, Forms, Terms, Several, Place, ValueFor, Function, ExpressionUnit, ExpressionRest, Closes, State, Step, Next, Refuses, Outcome, step, ends, after, goes, nothing_read}
+use Rattle.ops_meaning.specs.Derivation.{Derives, nothing, no_form, one_more_place, one_more_term, one_more_constant, no_more_of_several, a_bracketed_expression, a_bound_value, a_function_item, IsText}
 use Rattle.ops_meaning.specs.Reads.{Read, Placed, verdict, read_lexed, reads}
 use Rattle.ops_meaning.specs.Standing.{words_of, outcome_of, StandsAt, StandsAtWord, IsReadOrInForm}
 use Rattle.ops_meaning.proofs.Arranged.{AreArranged, arranged_begun}
@@ -126,6 +126,12 @@ derived_ends vs ws words s (one_more_constant {f = f} {ws = rest} d) =
     open_ends words (ValueFor ToConstants ∷ Several InFixed f ∷ rest) ws s (λ h. h) (derived_ends vs (ValueFor ToConstants ∷ Several InFixed f ∷ rest) words s d)
 derived_ends vs ws words s (no_more_of_several {u = u} {ws = rest} d) =
     open_ends words (Terms u ∷ rest) ws s (λ h. h) (derived_ends vs (Terms u ∷ rest) words s d)
+derived_ends vs ws words s (a_bracketed_expression {d = depth} {ws = rest} d) =
+    open_ends words (ExpressionUnit depth ∷ ExpressionRest depth [] None ∷ rest) ws s (λ h. h) (derived_ends vs (ExpressionUnit depth ∷ ExpressionRest depth [] None ∷ rest) words s d)
+derived_ends vs ws words s (a_bound_value {ws = rest} d) =
+    open_ends words (ValueFor ToBind ∷ Closes EndsWhole ∷ rest) ws s (λ h. h) (derived_ends vs (ValueFor ToBind ∷ Closes EndsWhole ∷ rest) words s d)
+derived_ends vs ws words s (a_function_item {ws = rest} d) =
+    open_ends words (Function ToItem ∷ rest) ws s (λ h. h) (derived_ends vs (Function ToItem ∷ rest) words s d)
 derived_ends vs ws words s _ = tt
 
 went_read : (w : Word) (words : List Word) (ws : List Wanted) (s : State) → AreArranged ws s → forms_last ws ≡ true → is_proper w ≡ true

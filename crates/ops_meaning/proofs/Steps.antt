@@ -23,9 +23,9 @@ use Rattle.ops_meaning.specs.declared.words.Keyword.{Keyword}
 use Rattle.ops_meaning.specs.declared.words.Keyword.TheVariants as keyword
 use Rattle.ops_meaning.specs.Grammar.{Use, InPattern, InPut, InFixed, ToTest, ToFixed, ToConstants, EndsRun, Wanted, Forms, Attributes, VectorNames, FirstPattern, Patterns, Pattern, ClosesBrace, Terms, Several, Choice, Actions, State, Step, Next, Refuses, is_left, is_right, is_left_brace, is_right_brace, is_caret, is_name, is_variable, is_arrow, is_literal, is_minus, opens_choice, closes_choice, pred_of, constant_of, value_of, atom_of, small_of, is_one_of, number_of, may_declare, is_class, is_rule, form, class_declared, with_vector_last, makes_second, vector_declared, vector_name, vector_names, is_second, attribute_declared, attributes, class_at, class_name, attributes_of, behind_attribute, field_at, attribute, with_test, with_bound, variable_tested, constant_tested, tested, predicated, test, place, tests, with_choice, chosen, choice, atom_at, bound_at, constant_at, value_for, with_element, terms, within, one_of_several, with_several, several, left_ended, right_begun, rule_name, first_pattern, one_more, patterns, pattern, element_at, element_name, braced, closes_brace, put_action, closes, forms, step}
 use Rattle.ops_meaning.proofs.Lists.{all_push, not_below}
-use Rattle.ops_meaning.proofs.Sound.{IsShortBy, IsShort, IsHead, known_in, IsNamed, IsOfClass, Program, Declaring, IsClass, Head, Body, Around, IsEmpty, IsElement, Braces, Bare, NamedBefore, NamedBehind, AtField, HasMore, AtPlace, AtSeveral, BeforePattern, AfterPattern, behind, behind_place, behind_test, variables_of, side_of, seen, IsRead, at_forms, at_form, at_class_declared, at_attributes, at_vector_name, at_vector_names, at_rule_name, at_first_pattern, at_patterns, at_pattern, at_braced, at_element_name, at_closes_brace, at_class_name, at_terms, at_attribute, at_several, at_place, at_tests, at_tested, at_choice, at_test_atom, at_fixed_value, at_fixed_atom, at_constants_atom, InScalar, InVector, at_value, at_atom, at_function, at_source_cell, at_source_attribute, at_source_end, at_value_end, at_actions, at_action_word, at_modified, at_bound_name, at_cell_name, at_action_end, at_cell, at_cells, at_items, at_item_word, at_columns, at_crlf, at_halt, at_run, Leads}
+use Rattle.ops_meaning.proofs.Sound.{IsShortBy, IsShort, IsHead, known_in, IsNamed, IsOfClass, Program, Declaring, IsClass, Head, Body, Around, IsEmpty, IsElement, Braces, Bare, NamedBefore, NamedBehind, AtField, HasMore, AtPlace, AtSeveral, BeforePattern, AfterPattern, behind, behind_place, behind_test, variables_of, side_of, seen, IsRead, at_forms, at_form, at_class_declared, at_attributes, at_vector_name, at_vector_names, at_rule_name, at_first_pattern, at_patterns, at_pattern, at_braced, at_element_name, at_closes_brace, at_class_name, at_terms, at_attribute, at_several, at_place, at_tests, at_tested, at_choice, at_test_atom, at_fixed_value, at_fixed_atom, at_constants_atom, InScalar, InVector, at_value, at_atom, at_function, at_expression_unit, at_bracketed, at_expression_rest, at_source_cell, at_source_attribute, at_source_end, at_value_end, at_actions, at_action_word, at_modified, at_bound_name, at_bound_value, at_cell_name, at_action_end, at_cell, at_cells, at_items, at_item_word, at_columns, at_crlf, at_halt, at_run, Leads}
 use Rattle.ops_meaning.proofs.Grown.{fits_below, class_begun, attribute_added, class_added, vector_added, number_in, head_begun, negated_begun, element_bound, test_kept, test_bound, test_valid, condition_added, body_begun, put_known, vector_parts, several_valid, command_added, fixed_valid, vector_within, constants_valid}
-use Rattle.ops_meaning.proofs.ValueSteps.{IsPlaced, added, atom_leads, value_leads, function_leads, source_cell_leads, source_attribute_leads, source_end_leads, value_end_leads}
+use Rattle.ops_meaning.proofs.ValueSteps.{IsPlaced, added, atom_leads, value_leads, bound_value_leads, function_leads, expression_unit_leads, bracketed_leads, expression_rest_leads, source_cell_leads, source_attribute_leads, source_end_leads, value_end_leads}
 use Rattle.ops_meaning.proofs.RightSteps.{put_action_valid, actions_leads, action_word_leads, cell_leads, modified_leads, bound_name_leads, cell_name_leads, action_end_leads, cells_leads, items_leads, item_word_leads, columns_leads, crlf_leads, halt_leads}
 
 module _ (text n : ℕ) (w : Word) (fit : text ≤ longest_list) (placed : IsPlaced text n w) where
@@ -462,6 +462,9 @@ module _ (text n : ℕ) (w : Word) (fit : text ≤ longest_list) (placed : IsPla
   step_leads s ws short (at_value slot g) = value_leads text n w fit placed slot s short g
   step_leads s ws short (at_atom slot g) = atom_leads text n w fit placed slot s short g (atom_of w.kind w.name)
   step_leads s ws short (at_function slot g) = function_leads text n w fit placed slot s short g w.keyword
+  step_leads s ws short (at_expression_unit slot depth o os g) = expression_unit_leads text n w fit placed slot depth o os s short g
+  step_leads s ws short (at_bracketed slot depth o os g) = bracketed_leads text n w fit placed slot depth o os s short g
+  step_leads s ws short (at_expression_rest slot o os g) = expression_rest_leads text n w fit placed slot o os s short g
   step_leads s ws short (at_source_cell slot g) = source_cell_leads text n w fit placed slot s short g
   step_leads s ws short (at_source_attribute slot g) = source_attribute_leads text n w fit placed slot s short g
   step_leads s ws short (at_source_end slot name g) = source_end_leads text n w fit placed slot name s short g
@@ -470,6 +473,7 @@ module _ (text n : ℕ) (w : Word) (fit : text ≤ longest_list) (placed : IsPla
   step_leads s ws short (at_action_word g) = action_word_leads text n w fit placed s short g w.keyword
   step_leads s ws short (at_modified g) = modified_leads text n w fit placed s short g
   step_leads s ws short (at_bound_name g) = bound_name_leads text n w fit placed s short g
+  step_leads s ws short (at_bound_value g) = bound_value_leads text n w fit placed s short g
   step_leads s ws short (at_cell_name g) = cell_name_leads text n w fit placed s short g
   step_leads s ws short (at_action_end g) = action_end_leads text n w fit placed s short g
   step_leads s ws short (at_cell g) = cell_leads text n w fit placed s short g

@@ -16,7 +16,7 @@ use Rattle.ops_tokens.specs.declared.token.TokenKind.TheVariants as kind
 use Rattle.ops_meaning.specs.declared.words.Word.{Word}
 use Rattle.ops_meaning.specs.declared.words.Keyword.{Keyword}
 use Rattle.ops_meaning.specs.declared.words.Keyword.TheVariants as keyword
-use Rattle.ops_meaning.specs.Grammar.{Use, InPattern, InPut, InFixed, Target, ToPut, ToTerms, ToConstants, ToItem, ToBind, Wanted, Form, ClassDeclared, Attributes, VectorName, VectorNames, RuleName, Patterns, Pattern, Braced, ElementName, ClosesBrace, ClassName, Attribute, Several, Tested, ValueFor, SourceCell, SourceAttribute, SourceEnd, Modified, CellName, Cell, Cells, Items, State, Step, Next, Refuses, is_left, is_right, is_left_brace, is_caret, is_name, is_variable, is_arrow, is_literal, is_minus, constant_of, value_of, natural_of, is_one_of, number_of, may_declare, is_class, is_rule, is_second, makes_second, vector_name, form, class_at, attributes_of, field_at, variable_tested, constant_tested, tested, term_at, bound_at, constant_at, is_of_action, value_for, source_named, source_class, source_at, takes_several, ends_at_inf, place, terms, within, one_of_several, with_several, several, element_at, element_name, designated, numbered_cell, named_cell, cell_of, with_designated, with_modified, cell_bound, step}
+use Rattle.ops_meaning.specs.Grammar.{Use, InPattern, InPut, InFixed, Target, ToPut, ToTerms, ToConstants, ToItem, ToBind, Wanted, Form, ClassDeclared, Attributes, VectorName, VectorNames, RuleName, Patterns, Pattern, Braced, ElementName, ClosesBrace, ClassName, Attribute, Several, Tested, ValueFor, ExpressionUnit, ExpressionRest, Bracketed, EndsWhole, SourceCell, SourceAttribute, SourceEnd, Modified, BoundValue, CellName, Cell, Cells, Items, Closes, State, Step, Next, Refuses, is_left, is_right, is_left_brace, is_caret, is_name, is_variable, is_arrow, is_literal, is_minus, constant_of, value_of, natural_of, is_one_of, number_of, may_declare, is_class, is_rule, is_second, makes_second, vector_name, form, class_at, attributes_of, field_at, variable_tested, constant_tested, tested, term_at, bound_at, constant_at, is_of_action, value_for, most_brackets, unit_bound, unit_at, expression_unit, is_compute, source_named, source_class, source_at, takes_several, ends_at_inf, place, terms, within, one_of_several, with_several, several, element_at, element_name, designated, numbered_cell, named_cell, cell_of, with_designated, with_modified, cell_bound, step}
 use Rattle.ops_meaning.specs.Derivation.{is_designator}
 use Rattle.ops_meaning.proofs.Follows.{name_not_right, designator_not_right, variable_not_left}
 use Rattle.ops_meaning.specs.Reasons.{gives_second, is_full, is_positive, is_condition, designates, is_unclear, designates_unclearly}
@@ -63,6 +63,10 @@ DesignatorFits k name s = (designates k name s ≡ true) × (designates_unclearl
 abbrev pub ElementFits : Word → State → Type 0
 ElementFits w s = is_some (number_of w.name s.elements) ≡ false
 
+-- a variable of an expression was bound before, and a bracket opens within the limit
+abbrev pub UnitFits : ℕ → Word → State → Type 0
+UnitFits d w s = (is_variable w.kind ≡ true → is_some (number_of w.name s.values) ≡ true) × (is_left w.kind ≡ true → nat_lt d most_brackets ≡ true)
+
 -- what a word that is taken meets where this is wanted
 abbrev pub Fits : List Wanted → Word → State → Type 0
 Fits (Form ∷ ws) w s = FormFits w.keyword s
@@ -79,6 +83,9 @@ Fits (Attribute u ∷ ws) w s = is_one_of w.name (attributes_of (slice_get s.cla
 Fits (Several u f ∷ ws) w s = SeveralFit u f w s
 Fits (Tested f p ∷ ws) w s = OperandFits p w s
 Fits (ValueFor t ∷ ws) w s = ValueFits t w s
+Fits (ExpressionUnit d ∷ ws) w s = UnitFits d w s
+Fits (Bracketed d ∷ ws) w s = is_compute w.keyword ≡ false → UnitFits d w s
+Fits (BoundValue ∷ ws) w s = Known w s
 Fits (SourceCell ∷ ws) w s = is_some (number_of w.name s.elements) ≡ true
 Fits (SourceAttribute t ∷ ws) w s = is_one_of w.name (source_class s).attrs ≡ true
 Fits (SourceEnd t name ∷ ws) w s = ends_at_inf w s ≡ true → takes_several t ≡ true
@@ -204,6 +211,23 @@ module _ (w : Word) (ws : List Wanted) (s : State) where
       (λ _. cond_both (is_left w.kind && is_of_action t) _ _ (IfTaken (ValueFits t w s))
       (λ e. value_fits_where t (λ _. left_not_variable w.kind (and_parts (is_left w.kind) _ e).0))
       (λ _. constant_at_fits t (value_of w.kind w.name) refl))
+
+  -- an expression
+  unit_bound_fits : (d : ℕ) → is_left w.kind ≡ false → (o : Option ℕ) → number_of w.name s.values ≡ o → IfTaken (UnitFits d w s) (unit_bound o ws s)
+  unit_bound_fits d unlike (Some n) e = (λ _. ap is_some e, λ left. clash (is_left w.kind) left unlike)
+  unit_bound_fits d unlike None e = tt
+
+  unit_at_fits : (d : ℕ) → is_left w.kind ≡ false → (k : TokenKind) → w.kind ≡ k → IfTaken (UnitFits d w s) (unit_at k w.name ws s)
+  unit_at_fits d unlike (kind.Whole n) e = (λ is. clash (is_variable w.kind) is (ap is_variable e), λ left. clash (is_left w.kind) left unlike)
+  unit_at_fits d unlike kind.Variable e = unit_bound_fits d unlike (number_of w.name s.values) refl
+  unit_at_fits d unlike _ e = tt
+
+  unit_fits : (d : ℕ) → IfTaken (UnitFits d w s) (expression_unit d w ws s)
+  unit_fits d =
+      cond_both (is_left w.kind) _ _ (IfTaken (UnitFits d w s))
+      (λ left. cond_both (nat_lt d most_brackets) _ _ (IfTaken (UnitFits d w s))
+      (λ room. (λ is. clash (is_variable w.kind) is (left_not_variable w.kind left), λ _. room)) (λ _. tt))
+      (λ unlike. unit_at_fits d unlike w.kind refl)
 
   -- `substr`: an element variable that was bound, and an attribute of the cell that it names
   source_named_fits : (o : Option ℕ) → IfTaken (is_some o ≡ true) (source_named o ws s)
@@ -332,6 +356,14 @@ step_fits w (Attribute u ∷ ws) s =
 step_fits w (Several u f ∷ ws) s = several_fit w ws s u f
 step_fits w (Tested f p ∷ ws) s = tested_fits w ws s f p
 step_fits w (ValueFor t ∷ ws) s = value_fits w ws s t
+step_fits w (ExpressionUnit d ∷ ws) s = unit_fits w ws s d
+step_fits w (Bracketed d ∷ ws) s =
+    let P : Type 0 = Fits (Bracketed d ∷ ws) w s in
+    cond_both (is_compute w.keyword) _ _ (IfTaken P) (λ compute other. clash (is_compute w.keyword) compute other)
+    (λ _. weaker (UnitFits d w s) P (λ h _. h) _ (unit_fits w (ExpressionRest d [] None ∷ ws) s d))
+step_fits w (BoundValue ∷ ws) s =
+    cond_both (is_right w.kind) _ _ (IfTaken (Known w s)) (λ right _ is. clash (is_right w.kind) right (variable_not_right w.kind is))
+    (λ _. value_fits w (Closes EndsWhole ∷ ws) s ToBind)
 step_fits w (SourceCell ∷ ws) s =
     cond_both (is_variable w.kind) _ _ (IfTaken (is_some (number_of w.name s.elements) ≡ true)) (λ _. source_named_fits w ws s (number_of w.name s.elements)) (λ _. tt)
 step_fits w (SourceAttribute t ∷ ws) s =

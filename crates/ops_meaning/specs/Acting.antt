@@ -1,7 +1,8 @@
 -- What a right side does.
-use Rattle.std.specs.Prelude.{ℕ, suc, ◌+◌, ◌-◌, List, [], ◌∷◌, ◌++◌, length, map, fold, take, drop, replicate, Bool, true, false, ◌==◌, nat_lt, if◌then◌else◌, slice_get, slice_set, unwrap_or, option_map, find, Option, Some, None, option_and_then}
-use Rattle.std.specs.List.{list_any, flat_map}
+use Rattle.std.specs.Prelude.{ℕ, suc, ◌+◌, ◌-◌, List, [], ◌∷◌, ◌++◌, length, map, fold, take, drop, replicate, Bool, true, false, ◌==◌, nat_lt, if◌then◌else◌, slice_get, slice_set, unwrap_or, option_map, find, Option, Some, None, option_and_then, Result, Ok, Err}
+use Rattle.std.specs.List.{list_any}
 use Rattle.ops_base.specs.declared.values.Value.{Value}
+use Rattle.ops_base.specs.declared.values.Value.TheVariants as value
 use Rattle.ops_base.specs.declared.elements.Class.{Class}
 use Rattle.ops_base.specs.declared.elements.Element.{Element}
 use Rattle.ops_base.specs.declared.elements.Change.{Change}
@@ -21,16 +22,19 @@ use Rattle.ops_base.specs.declared.endings.ActKind.{ActKind}
 use Rattle.ops_base.specs.declared.endings.ActKind.TheVariants as act_fault
 use Rattle.ops_base.specs.Values.{nil}
 use Rattle.ops_base.specs.Valid.{class_of, is_vector, most_fields}
-use Rattle.ops_base.specs.Names.{Spellings}
+use Rattle.ops_base.specs.Names.{Spellings, with_fresh}
 use Rattle.ops_base.specs.WorkingMemory.{change_done, field_of}
 use Rattle.ops_base.specs.Matching.{match_of, value_of}
-use Rattle.ops_io.specs.Output.{column_after}
-use Rattle.ops_meaning.specs.Effects.{Effect, writes, ends_with, and_then, told_as}
+use Rattle.ops_io.specs.Coming.{Coming}
+use Rattle.ops_tokens.specs.Accepting.{Accepted, accepted}
+use Rattle.ops_tokens.specs.declared.accept.AcceptFault.{AcceptFault}
+use Rattle.ops_tokens.specs.declared.accept.AcceptFault.TheVariants as accept_fault
+use Rattle.ops_meaning.specs.Effects.{Effect, writes, ends_with, and_then, told_as, followed_by, silent}
+use Rattle.ops_meaning.specs.Computing.{Computed, computed}
 use Rattle.ops_meaning.specs.Layout.{Lead, Apart, Close, RightIn, values_bytes, tab_bytes}
 
 -- what stands still during a session
 pub record Setting : Type 0 where
-  pub names : Spellings
   pub classes : List Class
   pub rules : List Rule
 
@@ -69,7 +73,8 @@ actions_of rules n = unwrap_or (option_map (λ r. r.actions) (slice_get rules n)
 -- ---- what a right side has done so far
 
 -- working memory now and the changes that led to it, the last tag that was given, what the variables are bound to, the elements that
--- the cells hold, and whether `halt` was done
+-- the cells hold, whether `halt` was done, the spellings in use with the number of the last fresh atom, and the input that is still to
+-- come
 pub record Doing : Type 0 where
   pub wm : List Element
   pub changes : List Change
@@ -77,11 +82,22 @@ pub record Doing : Type 0 where
   pub bindings : List Binding
   pub cells : List Element
   pub halted : Bool
+  pub names : Spellings
+  pub coming : Coming
 
--- a fault of the action with this number, counted from 1
-pub record Misdeed : Type 0 where
-  pub action : ℕ
-  pub kind : ActKind
+-- why an action ends before its end: it has a fault, or the input fails
+pub data Mishap : Type 0 where
+  Fault : (kind : ActKind) → Mishap
+  Unread : Mishap
+
+-- why a right side ends before its end: the action with this number, counted from 1, has a fault, or the input fails
+pub data Misdeed : Type 0 where
+  Bad : (action : ℕ) → (kind : ActKind) → Misdeed
+  NoInput : Misdeed
+
+abbrev pub in_action : ℕ → Mishap → Misdeed
+in_action n (Fault kind) = Bad n kind
+in_action n Unread = NoInput
 
 -- One change is done.
 abbrev pub changed : Doing → Change → Doing
@@ -96,15 +112,40 @@ cell_of d cell = unwrap_or (slice_get d.cells cell) no_element
 abbrev pub scalar_count : Class → ℕ
 scalar_count c = if c.vector then length c.attrs - 1 else length c.attrs
 
--- The values of a term. `substr` reads the element that the cell holds, also where that was removed. The last three stand in no text yet.
-abbrev pub term_values : List Class → Doing → Term → List Value
-term_values classes d (term.Constant v) = v ∷ []
-term_values classes d (term.Variable v) = unwrap_or (value_of d.bindings v) nil ∷ []
-term_values classes d (term.One cell field) = field_of (cell_of d cell) field ∷ []
-term_values classes d (term.Rest cell) = let e = cell_of d cell in drop (scalar_count (class_of classes e.class)) e.fields
-term_values classes d (term.Compute expression) = nil ∷ []
-term_values classes d term.Fresh = nil ∷ []
-term_values classes d term.Accept = nil ∷ []
+-- the values of a term, and what evaluating it leaves
+pub record Valued : Type 0 where
+  pub values : List Value
+  pub doing : Doing
+
+abbrev pub valued : Doing → List Value → Result Valued Mishap
+valued d values = Ok (record { values = values; doing = d })
+
+abbrev pub value_in : Doing → ℕ → Value
+value_in d variable = unwrap_or (value_of d.bindings variable) nil
+
+abbrev pub computed_as : Doing → Computed → Result Valued Mishap
+computed_as d (Ok v) = valued d (v ∷ [])
+computed_as d (Err kind) = Err (Fault kind)
+
+abbrev pub accepted_as : Doing → Result Accepted AcceptFault → Result Valued Mishap
+accepted_as d (Ok a) = valued (record d { names = a.names; coming = a.coming }) (a.value ∷ [])
+accepted_as d (Err accept_fault.TooLong) = Err (Fault act_fault.InputTooLong)
+accepted_as d (Err accept_fault.Read) = Err Unread
+accepted_as d (Err accept_fault.OutOfMemory) = Err Unread
+
+-- the next fresh atom
+abbrev pub fresh_value : Spellings → Value
+fresh_value names = value.Symbol (record { 0 = length names.held })
+
+-- The values of a term. `substr` reads the element that the cell holds, also where that was removed.
+abbrev pub evaluated : List Class → Term → Doing → Result Valued Mishap
+evaluated classes (term.Constant v) d = valued d (v ∷ [])
+evaluated classes (term.Variable v) d = valued d (value_in d v ∷ [])
+evaluated classes (term.One cell field) d = valued d (field_of (cell_of d cell) field ∷ [])
+evaluated classes (term.Rest cell) d = let e = cell_of d cell in valued d (drop (scalar_count (class_of classes e.class)) e.fields)
+evaluated classes (term.Compute formula) d = computed_as d (computed (value_in d) formula)
+evaluated classes term.Fresh d = valued (record d { names = with_fresh d.names }) (fresh_value d.names ∷ [])
+evaluated classes term.Accept d = accepted_as d (accepted d.names d.coming)
 
 abbrev pub first_of : List Value → Value
 first_of [] = nil
@@ -126,9 +167,22 @@ abbrev pub values_placed : ℕ → List Value → List Value → Option (List Va
 values_placed at [] fields = Some fields
 values_placed at (v ∷ vs) fields = option_and_then (λ next. values_placed (suc at) vs next) (value_placed at v fields)
 
--- the fields once one attribute was given, or none where there are too many
-abbrev pub put_placed : List Class → Doing → Put → List Value → Option (List Value)
-put_placed classes d p fields = values_placed p.field (flat_map (term_values classes d) p.terms) fields
+-- the fields so far, and what evaluating their values has left
+pub record Filled : Type 0 where
+  pub fields : List Value
+  pub doing : Doing
+
+-- the values are placed, or there are too many of them
+abbrev pub placed : Doing → Option (List Value) → Result Filled Mishap
+placed d (Some fields) = Ok (record { fields = fields; doing = d })
+placed d None = Err (Fault act_fault.TooManyFields)
+
+-- The values of each term are placed before the next one is evaluated.
+abbrev pub terms_placed : List Class → ℕ → List Term → Filled → Result Filled Mishap
+terms_placed classes at [] f = Ok f
+terms_placed classes at (t ∷ ts) f =
+    followed_by (evaluated classes t f.doing)
+    (λ v. followed_by (placed v.doing (values_placed at v.values f.fields)) (terms_placed classes (at + length v.values) ts))
 
 -- the fields without the values of the vector attribute, where that is the attribute of this field
 abbrev pub emptied : Class → ℕ → List Value → List Value
@@ -136,13 +190,21 @@ emptied c field fields = if is_vector c field then take field fields else fields
 
 -- `make` gives one attribute after another. Of two values for a scalar one the later counts, and the values of the vector attribute take
 -- the place of those that it had.
-abbrev pub made_fields : List Class → Doing → Class → List Put → Option (List Value)
-made_fields classes d c puts =
-    fold (λ found p. option_and_then (λ fields. put_placed classes d p (emptied c p.field fields)) found) (Some (no_fields c)) puts
+abbrev pub puts_made : List Class → Class → List Put → Filled → Result Filled Mishap
+puts_made classes c [] f = Ok f
+puts_made classes c (p ∷ ps) f =
+    followed_by (terms_placed classes p.field p.terms (record f { fields = emptied c p.field f.fields })) (puts_made classes c ps)
+
+abbrev pub made_fields : List Class → Class → List Put → Doing → Result Filled Mishap
+made_fields classes c puts d = puts_made classes c puts (record { fields = no_fields c; doing = d })
 
 -- `modify` gives them to the fields that the element has. Values of the vector attribute go over those that it had, from the first on.
-abbrev pub modified_fields : List Class → Doing → List Put → List Value → Option (List Value)
-modified_fields classes d puts fields = fold (λ found p. option_and_then (λ fields. put_placed classes d p fields) found) (Some fields) puts
+abbrev pub puts_over : List Class → List Put → Filled → Result Filled Mishap
+puts_over classes [] f = Ok f
+puts_over classes (p ∷ ps) f = followed_by (terms_placed classes p.field p.terms f) (puts_over classes ps)
+
+abbrev pub modified_fields : List Class → List Put → ℕ → Doing → Result Filled Mishap
+modified_fields classes puts cell d = puts_over classes puts (record { fields = (cell_of d cell).fields; doing = d })
 
 -- ---- make, modify, remove, cbind, bind
 
@@ -189,64 +251,79 @@ lead_after item.Crlf = Apart
 lead_after (item.TabTo n) = Close
 lead_after (item.RightIn n) = RightIn n
 
--- the bytes of one item from a column on
-abbrev pub item_bytes : Setting → Doing → Lead → ℕ → Item → List ℕ
-item_bytes s d lead column (item.Print t) = values_bytes s.names lead column (term_values s.classes d t)
-item_bytes s d lead column item.Crlf = 10 ∷ []
-item_bytes s d lead column (item.TabTo n) = tab_bytes n column
-item_bytes s d lead column (item.RightIn n) = []
+-- a value is printed once it is evaluated
+abbrev pub printed : Lead → ℕ → Result Valued Mishap → Effect Mishap Doing
+printed lead column (Ok v) = writes (values_bytes v.doing.names lead column v.values) v.doing
+printed lead column (Err m) = ends_with m
 
-abbrev pub items_bytes : Setting → Doing → Lead → ℕ → List Item → List ℕ
-items_bytes s d lead column [] = []
-items_bytes s d lead column (i ∷ is) =
-    item_bytes s d lead column i ++ items_bytes s d (lead_after i) (column_after column (item_bytes s d lead column i)) is
+-- one item from a column on
+abbrev pub item_done : List Class → Lead → ℕ → Item → Doing → Effect Mishap Doing
+item_done classes lead column (item.Print t) d = printed lead column (evaluated classes t d)
+item_done classes lead column item.Crlf d = writes (10 ∷ []) d
+item_done classes lead column (item.TabTo n) d = writes (tab_bytes n column) d
+item_done classes lead column (item.RightIn n) d = writes [] d
+
+abbrev pub items_done : List Class → Lead → ℕ → List Item → Doing → Effect Mishap Doing
+items_done classes lead column [] d = writes [] d
+items_done classes lead column (i ∷ is) d =
+    and_then column (item_done classes lead column i d) (λ next d. items_done classes (lead_after i) next is d)
 
 -- ---- actions
 
--- where there are too many fields the action with this number has a fault, and nothing of it is done
-abbrev pub done_with : ℕ → Option (List Value) → (List Value → Doing) → Effect Misdeed Doing
-done_with n (Some fields) next = writes [] (next fields)
-done_with n None next = ends_with (record { action = n; kind = act_fault.TooManyFields })
-
--- what the action with this number does from a column on
-abbrev pub action_done : Setting → ℕ → ℕ → Action → Doing → Effect Misdeed Doing
-action_done s column n (action.Make class puts) d = done_with n (made_fields s.classes d (class_of s.classes class) puts) (added d class)
-action_done s column n (action.Modify cell puts) d = done_with n (modified_fields s.classes d puts (cell_of d cell).fields) (modified d cell)
-action_done s column n (action.Remove cells) d = writes [] (fold (λ d c. removed d (cell_of d c).tag) d cells)
-action_done s column n (action.Write items) d = writes (items_bytes s d Apart column items) d
-action_done s column n (action.Bind variable t) d = writes [] (bound d variable (first_of (term_values s.classes d t)))
-action_done s column n (action.Cbind cell) d = writes [] (cell_bound d)
-action_done s column n action.Halt d = writes [] (record d { halted = true })
+-- What an action does from a column on. All values of an element are placed before it is removed or made.
+abbrev pub action_done : List Class → ℕ → Action → Doing → Effect Mishap Doing
+action_done classes column (action.Make class puts) d =
+    silent (followed_by (made_fields classes (class_of classes class) puts d) (λ f. Ok (added f.doing class f.fields)))
+action_done classes column (action.Modify cell puts) d =
+    silent (followed_by (modified_fields classes puts cell d) (λ f. Ok (modified f.doing cell f.fields)))
+action_done classes column (action.Remove cells) d = writes [] (fold (λ d c. removed d (cell_of d c).tag) d cells)
+action_done classes column (action.Write items) d = items_done classes Apart column items d
+action_done classes column (action.Bind variable t) d =
+    silent (followed_by (evaluated classes t d) (λ v. Ok (bound v.doing variable (first_of v.values))))
+action_done classes column (action.Cbind cell) d = writes [] (cell_bound d)
+action_done classes column action.Halt d = writes [] (record d { halted = true })
 
 -- the actions in order, the first of which has this number
-abbrev pub actions_done : Setting → ℕ → ℕ → List Action → Doing → Effect Misdeed Doing
-actions_done s column n [] d = writes [] d
-actions_done s column n (a ∷ rest) d =
-    and_then column (action_done s column n a d) (λ next d. actions_done s next (suc n) rest d)
+abbrev pub actions_done : List Class → ℕ → ℕ → List Action → Doing → Effect Misdeed Doing
+actions_done classes column n [] d = writes [] d
+actions_done classes column n (a ∷ rest) d =
+    and_then column (told_as (λ d. d) (in_action n) (action_done classes column a d)) (λ next d. actions_done classes next (suc n) rest d)
 
 -- ---- a whole right side
 
--- the changes to working memory, in order, the last tag that was given, and whether `halt` was done
+-- what it begins with: working memory, the last tag that was given, the spellings in use, and the input that is still to come
+pub record Given : Type 0 where
+  pub wm : List Element
+  pub last : ℕ
+  pub names : Spellings
+  pub coming : Coming
+
+-- the changes to working memory, in order, the last tag that was given, whether `halt` was done, the spellings in use, and the input that
+-- is still to come
 pub record Acted : Type 0 where
   pub changes : List Change
   pub last : ℕ
   pub halted : Bool
+  pub names : Spellings
+  pub coming : Coming
 
 -- before the first action
-abbrev pub begun : Setting → Inst → List Element → ℕ → Doing
-begun s i wm last =
+abbrev pub begun : Setting → Inst → Given → Doing
+begun s i g =
     record {
-      wm = wm;
+      wm = g.wm;
       changes = [];
-      last = last;
-      bindings = bindings_of wm (conditions_of s.rules i.rule) i.tags [];
-      cells = elements_of wm i.tags;
+      last = g.last;
+      bindings = bindings_of g.wm (conditions_of s.rules i.rule) i.tags [];
+      cells = elements_of g.wm i.tags;
       halted = false;
+      names = g.names;
+      coming = g.coming;
     }
 
 abbrev pub left_by : Doing → Acted
-left_by d = record { changes = d.changes; last = d.last; halted = d.halted }
+left_by d = record { changes = d.changes; last = d.last; halted = d.halted; names = d.names; coming = d.coming }
 
--- what the right side of an instantiation does from a column on, over working memory, where this was the last tag
-abbrev pub acted : Setting → ℕ → Inst → List Element → ℕ → Effect Misdeed Acted
-acted s column i wm last = told_as left_by (λ f. f) (actions_done s column 1 (actions_of s.rules i.rule) (begun s i wm last))
+-- what the right side of an instantiation does from a column on
+abbrev pub acted : Setting → ℕ → Inst → Given → Effect Misdeed Acted
+acted s column i g = told_as left_by (λ f. f) (actions_done s.classes column 1 (actions_of s.rules i.rule) (begun s i g))

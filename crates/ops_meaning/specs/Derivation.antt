@@ -1,5 +1,5 @@
 -- The grammar alone: which words may stand where something is wanted, whatever was declared and bound before them.
-use Rattle.std.specs.Prelude.{◌≡◌, ℕ, suc, List, [], ◌∷◌, ◌++◌, if◌then◌else◌, Bool, true, false, not, ◌&&◌, ◌||◌, ◌==◌, Some, is_some}
+use Rattle.std.specs.Prelude.{◌≡◌, ℕ, suc, List, [], ◌∷◌, ◌++◌, if◌then◌else◌, Bool, true, false, not, ◌&&◌, ◌||◌, ◌==◌, Option, Some, None, is_some}
 use Rattle.ops_base.specs.declared.values.Sym.{Sym}
 use Rattle.ops_base.specs.declared.values.Pred.{Pred}
 use Rattle.ops_base.specs.declared.values.Pred.TheVariants as pred
@@ -9,7 +9,7 @@ use Rattle.ops_tokens.specs.declared.token.TokenKind.{TokenKind}
 use Rattle.ops_tokens.specs.declared.token.TokenKind.TheVariants as kind
 use Rattle.ops_meaning.specs.declared.words.Word.{Word}
 use Rattle.ops_meaning.specs.declared.words.Keyword.TheVariants as keyword
-use Rattle.ops_meaning.specs.Grammar.{Use, InPattern, InPut, InFixed, Target, ToTest, ToTerms, ToConstants, ToItem, ToBind, Ends, EndsRun, EndsHalt, EndsCrlf, EndsWhole, Column, ToTab, ToRight, Wanted, Forms, Form, ClassDeclared, Attributes, VectorName, VectorNames, RuleName, FirstPattern, Patterns, Pattern, Braced, ElementName, ClosesBrace, ClassName, Terms, Attribute, Several, Place, Tests, Tested, Choice, Atom, ValueFor, Function, SourceCell, SourceAttribute, SourceEnd, Actions, ActionWord, Modified, BoundName, CellName, Cell, Cells, Items, ItemWord, Columns, Closes, is_left, is_right, is_left_brace, is_right_brace, is_caret, is_name, is_variable, is_literal, is_inf, is_of_action, takes_several, is_minus, opens_choice, closes_choice, pred_of, constant_of, value_of, atom_of, small_of, is_one_of, behind_attribute}
+use Rattle.ops_meaning.specs.Grammar.{Use, InPattern, InPut, InFixed, Target, ToTest, ToTerms, ToConstants, ToItem, ToBind, Ends, EndsRun, EndsHalt, EndsCrlf, EndsWhole, Column, ToTab, ToRight, Wanted, Forms, Form, ClassDeclared, Attributes, VectorName, VectorNames, RuleName, FirstPattern, Patterns, Pattern, Braced, ElementName, ClosesBrace, ClassName, Terms, Attribute, Several, Place, Tests, Tested, Choice, Atom, ValueFor, Function, Waiting, ExpressionUnit, ExpressionRest, Bracketed, SourceCell, SourceAttribute, SourceEnd, Actions, ActionWord, Modified, BoundName, BoundValue, CellName, Cell, Cells, Items, ItemWord, Columns, Closes, is_left, is_right, is_left_brace, is_right_brace, is_caret, is_name, is_variable, is_literal, is_inf, operation_of, function_depth, is_of_action, takes_several, is_minus, opens_choice, closes_choice, pred_of, constant_of, value_of, atom_of, small_of, is_one_of, behind_attribute}
 
 -- WHOLE
 abbrev pub is_whole : TokenKind → Bool
@@ -90,6 +90,17 @@ pub data Derives : List Sym → List Wanted → List Word → Type 0 where
   a_value : {vs : List Sym} {t : Target} {ws : List Wanted} {w : Word} {ts : List Word} → is_value w ≡ true → Derives vs ws ts → Derives vs (ValueFor t ∷ ws) (w ∷ ts)
   a_literal_value : {vs : List Sym} {t : Target} {ws : List Wanted} {w : Word} {ts : List Word} → is_literal w.keyword ≡ true → Derives vs (Atom t ∷ ws) ts → Derives vs (ValueFor t ∷ ws) (w ∷ ts)
   a_function : {vs : List Sym} {t : Target} {ws : List Wanted} {w : Word} {ts : List Word} → is_left w.kind ≡ true → is_of_action t ≡ true → Derives vs (Function t ∷ ws) ts → Derives vs (ValueFor t ∷ ws) (w ∷ ts)
+  -- ( compute expr ) | ( genatom ) | ( accept )
+  a_compute : {vs : List Sym} {t : Target} {ws : List Wanted} {w : Word} {ts : List Word} → w.keyword ≡ keyword.Compute → Derives vs (ExpressionUnit function_depth ∷ ExpressionRest function_depth [] (Some t) ∷ ws) ts → Derives vs (Function t ∷ ws) (w ∷ ts)
+  a_genatom : {vs : List Sym} {t : Target} {ws : List Wanted} {w : Word} {ts : List Word} → w.keyword ≡ keyword.Genatom → Derives vs (Closes EndsWhole ∷ ws) ts → Derives vs (Function t ∷ ws) (w ∷ ts)
+  an_accept : {vs : List Sym} {t : Target} {ws : List Wanted} {w : Word} {ts : List Word} → w.keyword ≡ keyword.Accept → Derives vs (Closes EndsWhole ∷ ws) ts → Derives vs (Function t ∷ ws) (w ∷ ts)
+  -- expr = unit | unit OP expr
+  a_unit : {vs : List Sym} {d : ℕ} {ws : List Wanted} {w : Word} {ts : List Word} → is_designator w.kind ≡ true → Derives vs ws ts → Derives vs (ExpressionUnit d ∷ ws) (w ∷ ts)
+  a_bracketed_unit : {vs : List Sym} {d : ℕ} {ws : List Wanted} {w : Word} {ts : List Word} → is_left w.kind ≡ true → Derives vs (Bracketed (suc d) ∷ ws) ts → Derives vs (ExpressionUnit d ∷ ws) (w ∷ ts)
+  a_bracketed_compute : {vs : List Sym} {d : ℕ} {ws : List Wanted} {w : Word} {ts : List Word} → w.keyword ≡ keyword.Compute → Derives vs (ExpressionUnit d ∷ ExpressionRest d [] None ∷ ws) ts → Derives vs (Bracketed d ∷ ws) (w ∷ ts)
+  a_bracketed_expression : {vs : List Sym} {d : ℕ} {ws : List Wanted} {ts : List Word} → Derives vs (ExpressionUnit d ∷ ExpressionRest d [] None ∷ ws) ts → Derives vs (Bracketed d ∷ ws) ts
+  an_operation : {vs : List Sym} {d : ℕ} {waiting : List Waiting} (more : List Waiting) {into : Option Target} {ws : List Wanted} {w : Word} {ts : List Word} → is_some (operation_of w.keyword) ≡ true → Derives vs (ExpressionUnit d ∷ ExpressionRest d more into ∷ ws) ts → Derives vs (ExpressionRest d waiting into ∷ ws) (w ∷ ts)
+  no_operation : {vs : List Sym} {d : ℕ} {waiting : List Waiting} {into : Option Target} {ws : List Wanted} {w : Word} {ts : List Word} → is_right w.kind ≡ true → Derives vs ws ts → Derives vs (ExpressionRest d waiting into ∷ ws) (w ∷ ts)
   -- ( substr VARIABLE ATTR ATTR ) | ( substr VARIABLE ATTR inf ), the latter behind the vector attribute alone
   a_substr : {vs : List Sym} {t : Target} {ws : List Wanted} {w : Word} {ts : List Word} → w.keyword ≡ keyword.Substr → Derives vs (SourceCell ∷ SourceAttribute t ∷ ws) ts → Derives vs (Function t ∷ ws) (w ∷ ts)
   a_source : {vs : List Sym} {ws : List Wanted} {w : Word} {ts : List Word} → is_variable w.kind ≡ true → Derives vs ws ts → Derives vs (SourceCell ∷ ws) (w ∷ ts)
@@ -116,18 +127,20 @@ pub data Derives : List Sym → List Wanted → List Word → Type 0 where
   one_more_choice : {vs : List Sym} {f : ℕ} {ws : List Wanted} {w : Word} {ts : List Word} → is_choice w ≡ true → Derives vs (Choice f ∷ ws) ts → Derives vs (Choice f ∷ ws) (w ∷ ts)
   no_more_choices : {vs : List Sym} {f : ℕ} {ws : List Wanted} {w : Word} {ts : List Word} → closes_choice w.keyword ≡ true → Derives vs ws ts → Derives vs (Choice f ∷ ws) (w ∷ ts)
   -- action = ( make CLASS put* ) | ( modify DESIGNATOR put* ) | ( remove DESIGNATOR DESIGNATOR* ) | ( write item* )
-  -- | ( bind VARIABLE value ) | ( cbind VARIABLE ) | ( halt )
+  -- | ( bind VARIABLE [value] ) | ( cbind VARIABLE ) | ( halt )
   an_action : {vs : List Sym} {ws : List Wanted} {w : Word} {ts : List Word} → is_left w.kind ≡ true → Derives vs (ActionWord ∷ Actions ∷ ws) ts → Derives vs (Actions ∷ ws) (w ∷ ts)
   no_action : {vs : List Sym} {ws : List Wanted} {w : Word} {ts : List Word} → is_right w.kind ≡ true → Derives vs ws ts → Derives vs (Actions ∷ ws) (w ∷ ts)
   to_make : {vs : List Sym} {ws : List Wanted} {w : Word} {ts : List Word} → w.keyword ≡ keyword.Make → Derives vs (ClassName ∷ Terms InPut ∷ ws) ts → Derives vs (ActionWord ∷ ws) (w ∷ ts)
   to_modify : {vs : List Sym} {ws : List Wanted} {w : Word} {ts : List Word} → w.keyword ≡ keyword.Modify → Derives vs (Modified ∷ Terms InPut ∷ ws) ts → Derives vs (ActionWord ∷ ws) (w ∷ ts)
-  to_bind : {vs : List Sym} {ws : List Wanted} {w : Word} {ts : List Word} → w.keyword ≡ keyword.Bind → Derives vs (BoundName ∷ ValueFor ToBind ∷ Closes EndsWhole ∷ ws) ts → Derives vs (ActionWord ∷ ws) (w ∷ ts)
+  to_bind : {vs : List Sym} {ws : List Wanted} {w : Word} {ts : List Word} → w.keyword ≡ keyword.Bind → Derives vs (BoundName ∷ BoundValue ∷ ws) ts → Derives vs (ActionWord ∷ ws) (w ∷ ts)
   to_cbind : {vs : List Sym} {ws : List Wanted} {w : Word} {ts : List Word} → w.keyword ≡ keyword.Cbind → Derives vs (CellName ∷ Closes EndsWhole ∷ ws) ts → Derives vs (ActionWord ∷ ws) (w ∷ ts)
   to_remove : {vs : List Sym} {ws : List Wanted} {w : Word} {ts : List Word} → w.keyword ≡ keyword.Remove → Derives vs (Cell ∷ Cells ∷ ws) ts → Derives vs (ActionWord ∷ ws) (w ∷ ts)
   to_write : {vs : List Sym} {ws : List Wanted} {w : Word} {ts : List Word} → w.keyword ≡ keyword.Write → Derives vs (Items ∷ ws) ts → Derives vs (ActionWord ∷ ws) (w ∷ ts)
   to_halt : {vs : List Sym} {ws : List Wanted} {w : Word} {ts : List Word} → w.keyword ≡ keyword.Halt → Derives vs (Closes EndsHalt ∷ ws) ts → Derives vs (ActionWord ∷ ws) (w ∷ ts)
   a_modified : {vs : List Sym} {ws : List Wanted} {w : Word} {ts : List Word} → is_designator w.kind ≡ true → Derives vs ws ts → Derives vs (Modified ∷ ws) (w ∷ ts)
   a_bound_name : {vs : List Sym} {ws : List Wanted} {w : Word} {ts : List Word} → is_variable w.kind ≡ true → Derives vs ws ts → Derives vs (BoundName ∷ ws) (w ∷ ts)
+  a_bound_value : {vs : List Sym} {ws : List Wanted} {ts : List Word} → Derives vs (ValueFor ToBind ∷ Closes EndsWhole ∷ ws) ts → Derives vs (BoundValue ∷ ws) ts
+  no_bound_value : {vs : List Sym} {ws : List Wanted} {w : Word} {ts : List Word} → is_right w.kind ≡ true → Derives vs ws ts → Derives vs (BoundValue ∷ ws) (w ∷ ts)
   a_cell_name : {vs : List Sym} {ws : List Wanted} {w : Word} {ts : List Word} → is_variable w.kind ≡ true → Derives vs ws ts → Derives vs (CellName ∷ ws) (w ∷ ts)
   a_cell : {vs : List Sym} {ws : List Wanted} {w : Word} {ts : List Word} → is_designator w.kind ≡ true → Derives vs ws ts → Derives vs (Cell ∷ ws) (w ∷ ts)
   one_more_cell : {vs : List Sym} {ws : List Wanted} {w : Word} {ts : List Word} → is_designator w.kind ≡ true → Derives vs (Cells ∷ ws) ts → Derives vs (Cells ∷ ws) (w ∷ ts)
@@ -140,7 +153,7 @@ pub data Derives : List Sym → List Wanted → List Word → Type 0 where
   a_crlf : {vs : List Sym} {ws : List Wanted} {w : Word} {ts : List Word} → w.keyword ≡ keyword.Crlf → Derives vs (Closes EndsCrlf ∷ ws) ts → Derives vs (ItemWord ∷ ws) (w ∷ ts)
   a_tab : {vs : List Sym} {ws : List Wanted} {w : Word} {ts : List Word} → w.keyword ≡ keyword.Tabto → Derives vs (Columns ToTab ∷ Closes EndsWhole ∷ ws) ts → Derives vs (ItemWord ∷ ws) (w ∷ ts)
   a_right : {vs : List Sym} {ws : List Wanted} {w : Word} {ts : List Word} → w.keyword ≡ keyword.Rjust → Derives vs (Columns ToRight ∷ Closes EndsWhole ∷ ws) ts → Derives vs (ItemWord ∷ ws) (w ∷ ts)
-  a_substr_item : {vs : List Sym} {ws : List Wanted} {w : Word} {ts : List Word} → w.keyword ≡ keyword.Substr → Derives vs (SourceCell ∷ SourceAttribute ToItem ∷ ws) ts → Derives vs (ItemWord ∷ ws) (w ∷ ts)
+  a_function_item : {vs : List Sym} {ws : List Wanted} {ts : List Word} → Derives vs (Function ToItem ∷ ws) ts → Derives vs (ItemWord ∷ ws) ts
   some_columns : {vs : List Sym} {c : Column} {ws : List Wanted} {w : Word} {ts : List Word} → is_some (small_of w.kind) ≡ true → Derives vs ws ts → Derives vs (Columns c ∷ ws) (w ∷ ts)
   -- )
   a_closing : {vs : List Sym} {e : Ends} {ws : List Wanted} {w : Word} {ts : List Word} → is_right w.kind ≡ true → Derives vs ws ts → Derives vs (Closes e ∷ ws) (w ∷ ts)

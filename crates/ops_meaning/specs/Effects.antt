@@ -1,9 +1,10 @@
 -- What the parts of a session write, one after another.
-use Rattle.std.specs.Prelude.{◌≡◌, ℕ, List, [], ◌++◌, Result, Ok, Err}
+use Rattle.std.specs.Prelude.{◌≡◌, ℕ, ◌+◌, List, [], ◌++◌, Bool, true, false, Result, Ok, Err}
 use Rattle.ops_base.specs.declared.endings.Ending.{Ending}
 use Rattle.ops_base.specs.declared.endings.Ending.TheVariants as ending
 use Rattle.ops_io.specs.Output.{column_after}
 use Rattle.ops_io.specs.Ports.{Port, Put, Stopped}
+use Rattle.ops_io.specs.Coming.{Coming, Inlet, preceded_by, Took, MayCome, ComesAfter}
 use Rattle.ops_io.specs.declared.stop.Stop.{Stop}
 use Rattle.ops_io.specs.declared.stop.Stop.TheVariants as stop
 
@@ -37,6 +38,15 @@ outcome_as left end (Err e) = Err (end e)
 abbrev pub told_as : {E F S T : Type 0} → (S → T) → (E → F) → Effect E S → Effect F T
 told_as left end e = record { bytes = e.bytes; outcome = outcome_as left end e.outcome }
 
+-- the next follows what went well
+abbrev pub followed_by : {E S T : Type 0} → Result S E → (S → Result T E) → Result T E
+followed_by (Ok s) next = next s
+followed_by (Err e) next = Err e
+
+-- nothing is written
+abbrev pub silent : {E S : Type 0} → Result S E → Effect E S
+silent outcome = record { bytes = []; outcome = outcome }
+
 -- Why a call fails that performs an effect: the sink or memory refuses, or the effect comes to an end of its own.
 pub data Failure (E : Type 0) : Type 0 where
   OfPort : (why : Stop) → Failure E
@@ -69,3 +79,24 @@ pub record Pending {E S : Type 0} (start now : Port) (whole rest : Effect E S) :
   pub put : Put start now sofar
   pub bytes : whole.bytes ≡ sofar ++ rest.bytes
   pub outcome : whole.outcome ≡ rest.outcome
+
+-- ---- with an input
+
+-- What a call leaves that does this with what is still to come: it took bytes, and whatever may come behind them, it performs the effect on
+-- those and on that.
+pub record PerformsOn {X F E S : Type 0} (view : X → Coming → S) (failure : F → Failure E) (r : Result X F) (before now : Inlet) (old new : Port) (e : Coming → Effect E S) : Type 0 where
+  pub taken : List ℕ
+  pub took : Took before now taken
+  pub performs : (c : Coming) → ComesAfter before now c → Performs (λ x. view x c) failure r old new (e (preceded_by taken c))
+
+-- Of the whole this rest is still to come, whatever may come behind the bytes that were taken; no read has failed.
+pub record PendingOn {E S : Type 0} (before now : Inlet) (start at : Port) (whole rest : Coming → Effect E S) : Type 0 where
+  pub taken : List ℕ
+  pub took : Took before now taken
+  pub steady : now.faults ≡ before.faults
+  pub pending : (c : Coming) → MayCome now c → Pending start at (whole (preceded_by taken c)) (rest c)
+
+-- a read of the input has failed exactly where the call answers so
+abbrev pub CountsReads : Bool → ℕ → ℕ → Type 0
+CountsReads true before now = now ≡ before + 1
+CountsReads false before now = now ≡ before

@@ -1,5 +1,5 @@
 -- The grammar of program texts, as what a word does where something is wanted.
-use Rattle.std.specs.Prelude.{ℕ, ◌+◌, ◌-◌, List, [], ◌∷◌, ◌++◌, length, take, map, filter, position, Bool, true, false, not, ◌==◌, ◌&&◌, ◌||◌, nat_lt, if◌then◌else◌, Option, Some, None, Result, Ok, Err, ℤ, pos, negsuc, slice_get, unwrap_or}
+use Rattle.std.specs.Prelude.{ℕ, suc, ◌+◌, ◌-◌, List, [], ◌∷◌, ◌++◌, length, take, map, filter, position, Bool, true, false, not, ◌==◌, ◌&&◌, ◌||◌, nat_lt, if◌then◌else◌, Option, Some, None, Result, Ok, Err, ℤ, pos, negsuc, slice_get, unwrap_or}
 use Rattle.std.specs.List.{list_any}
 use Rattle.ops_base.specs.declared.values.Sym.{Sym}
 use Rattle.ops_base.specs.declared.values.Value.{Value}
@@ -11,6 +11,8 @@ use Rattle.ops_base.specs.declared.conditions.Operand.{Operand}
 use Rattle.ops_base.specs.declared.conditions.Operand.TheVariants as operand
 use Rattle.ops_base.specs.declared.conditions.Test.{Test}
 use Rattle.ops_base.specs.declared.conditions.Condition.{Condition}
+use Rattle.ops_base.specs.declared.expression.Op.{Op}
+use Rattle.ops_base.specs.declared.expression.Op.TheVariants as op
 use Rattle.ops_base.specs.declared.actions.Term.{Term}
 use Rattle.ops_base.specs.declared.actions.Term.TheVariants as term
 use Rattle.ops_base.specs.declared.actions.Put.{Put}
@@ -25,6 +27,8 @@ use Rattle.ops_base.specs.declared.commands.Command.TheVariants as command
 use Rattle.ops_base.specs.declared.endings.Fault.{Fault}
 use Rattle.ops_base.specs.declared.endings.Fault.TheVariants as fault
 use Rattle.ops_base.specs.declared.endings.Limit.TheVariants as limit
+use Rattle.ops_base.specs.Expression.{Formula}
+use Rattle.ops_base.specs.Expression as formula
 use Rattle.ops_base.specs.Valid.{most_fields, most_conditions, class_of, is_vector, is_column, specificity, cells_of}
 use Rattle.ops_tokens.specs.declared.token.TokenKind.{TokenKind}
 use Rattle.ops_tokens.specs.declared.token.TokenKind.TheVariants as kind
@@ -61,6 +65,11 @@ pub data Ends : Type 0 where
 pub data Column : Type 0 where
   ToTab : Column
   ToRight : Column
+
+-- an operand of `compute` and the operation behind it, which wait for what stands behind them
+pub record Waiting : Type 0 where
+  pub left : Formula
+  pub op : Op
 
 -- what the grammar wants next, one a line of the grammar
 pub data Wanted : Type 0 where
@@ -109,10 +118,16 @@ pub data Wanted : Type 0 where
   Choice : (field : ℕ) → Wanted
   -- atom
   Atom : (target : Target) → Wanted
-  -- rconstant | VARIABLE | ( substr VARIABLE ATTR ATTR ) | ( substr VARIABLE ATTR inf )
+  -- rconstant | VARIABLE | ( compute expr ) | ( genatom ) | ( accept ) | ( substr VARIABLE ATTR ATTR ) | ( substr VARIABLE ATTR inf )
   ValueFor : (target : Target) → Wanted
-  -- substr VARIABLE ATTR ATTR ) | substr VARIABLE ATTR inf )
+  -- compute expr ) | genatom ) | accept ) | substr VARIABLE ATTR ATTR ) | substr VARIABLE ATTR inf )
   Function : (target : Target) → Wanted
+  -- unit, where so many brackets are open
+  ExpressionUnit : (depth : ℕ) → Wanted
+  -- OP expr ) | ), behind a unit and what waits for the rest; the value of a `compute` goes to its target
+  ExpressionRest : (depth : ℕ) → (waiting : List Waiting) → (into : Option Target) → Wanted
+  -- expr ) | compute expr )
+  Bracketed : (depth : ℕ) → Wanted
   -- VARIABLE
   SourceCell : Wanted
   -- ATTR ATTR ) | ATTR inf )
@@ -121,13 +136,15 @@ pub data Wanted : Type 0 where
   SourceEnd : (target : Target) → (name : Sym) → Wanted
   -- action* )
   Actions : Wanted
-  -- make CLASS put* ) | modify DESIGNATOR put* ) | remove DESIGNATOR DESIGNATOR* ) | write item* ) | bind VARIABLE value )
+  -- make CLASS put* ) | modify DESIGNATOR put* ) | remove DESIGNATOR DESIGNATOR* ) | write item* ) | bind VARIABLE [value] )
   -- | cbind VARIABLE ) | halt )
   ActionWord : Wanted
   -- DESIGNATOR, before put*
   Modified : Wanted
-  -- VARIABLE, before value
+  -- VARIABLE, before a value or none
   BoundName : Wanted
+  -- value ) | )
+  BoundValue : Wanted
   -- VARIABLE
   CellName : Wanted
   -- DESIGNATOR
@@ -136,7 +153,8 @@ pub data Wanted : Type 0 where
   Cells : Wanted
   -- item* )
   Items : Wanted
-  -- crlf ) | tabto SMALL ) | rjust SMALL ) | substr VARIABLE ATTR ATTR ) | substr VARIABLE ATTR inf )
+  -- crlf ) | tabto SMALL ) | rjust SMALL ) | compute expr ) | genatom ) | accept ) | substr VARIABLE ATTR ATTR )
+  -- | substr VARIABLE ATTR inf )
   ItemWord : Wanted
   -- SMALL
   Columns : (what : Column) → Wanted
@@ -175,13 +193,15 @@ pub record State : Type 0 where
   pub conditions : List Condition
   pub actions : List Action
   -- the cell that a `modify` names, none in a `make`; the class of the element that this right side made last; the classes of the cells
-  -- that its `cbind` named; the variable of a `bind`; and the cell and the field of a `substr`
+  -- that its `cbind` named; the variable of a `bind`; the cell and the field of a `substr`; and the operand of a `compute` that was read
+  -- last
   pub modified : Option ℕ
   pub made : Option ℕ
   pub further : List ℕ
   pub variable : Sym
   pub source : ℕ
   pub source_field : ℕ
+  pub formula : Formula
 
 -- what a word does: something else is wanted now, or the word is refused
 pub data Step : Type 0 where
@@ -247,6 +267,19 @@ closes_choice _ = false
 abbrev pub is_inf : Keyword → Bool
 is_inf keyword.Inf = true
 is_inf _ = false
+
+-- compute, behind a bracket
+abbrev pub is_compute : Keyword → Bool
+is_compute keyword.Compute = true
+is_compute _ = false
+
+abbrev pub operation_of : Keyword → Option Op
+operation_of keyword.Plus = Some op.Add
+operation_of keyword.Minus = Some op.Sub
+operation_of keyword.Times = Some op.Mul
+operation_of keyword.Literal = Some op.Div
+operation_of keyword.Remainder = Some op.Rem
+operation_of _ = None
 
 abbrev pub pred_of : Keyword → Option Pred
 pred_of keyword.Equal = Some pred.Eq
@@ -543,6 +576,67 @@ value_for t w ws s =
     else if is_left w.kind && is_of_action t then Next (Function t ∷ ws) s
     else constant_at t w (value_of w.kind w.name) ws s
 
+-- ---- compute
+
+-- how many brackets may be open at once
+abbrev pub most_brackets : ℕ
+most_brackets = 32
+
+-- how many are open in a function: those of the production, of the action and its own
+abbrev pub function_depth : ℕ
+function_depth = 3
+
+-- the operand where none is read
+abbrev pub no_formula : Formula
+no_formula = formula.number (pos 0)
+
+abbrev pub with_formula : State → Formula → State
+with_formula s f = record s { formula = f }
+
+-- What waits gets its right operand, the last one first: there is no precedence.
+abbrev pub completed : Formula → List Waiting → Formula
+completed f [] = f
+completed f (w ∷ waiting) = completed (formula.apply w.op w.left f) waiting
+
+abbrev pub unit_bound : Option ℕ → List Wanted → State → Step
+unit_bound (Some n) ws s = Next ws (with_formula s (formula.variable n))
+unit_bound None ws s = Refuses fault.UnboundVariable
+
+-- WHOLE | VARIABLE
+abbrev pub unit_at : TokenKind → Sym → List Wanted → State → Step
+unit_at (kind.Whole n) name ws s = Next ws (with_formula s (formula.number n))
+unit_at kind.Variable name ws s = unit_bound (number_of name s.values) ws s
+unit_at _ name ws s = Refuses fault.BadForm
+
+abbrev pub bracket_at : ℕ → List Wanted → State → Step
+bracket_at depth ws s =
+    if nat_lt depth most_brackets then Next (Bracketed (suc depth) ∷ ws) s else Refuses (fault.LimitPassed limit.Nesting)
+
+abbrev pub expression_unit : ℕ → Word → List Wanted → State → Step
+expression_unit depth w ws s = if is_left w.kind then bracket_at depth ws s else unit_at w.kind w.name ws s
+
+-- expr ) | compute expr )
+abbrev pub bracketed : ℕ → Word → List Wanted → State → Step
+bracketed depth w ws s =
+    if is_compute w.keyword then Next (ExpressionUnit depth ∷ ExpressionRest depth [] None ∷ ws) s
+    else expression_unit depth w (ExpressionRest depth [] None ∷ ws) s
+
+-- the operation waits, with the unit before it
+abbrev pub operation_at : ℕ → List Waiting → Option Target → Option Op → List Wanted → State → Step
+operation_at depth waiting into (Some o) ws s =
+    Next (ExpressionUnit depth ∷ ExpressionRest depth (record { left = s.formula; op = o } ∷ waiting) into ∷ ws) s
+operation_at depth waiting into None ws s = Refuses fault.BadForm
+
+-- An expression ends, which is a unit of another, or the value of a function, of which nothing else is left.
+abbrev pub expression_ended : Option Target → Formula → List Wanted → State → Step
+expression_ended (Some t) f ws s = term_at t (term.Compute f) ws (with_formula s no_formula)
+expression_ended None f ws s = Next ws (with_formula s f)
+
+abbrev pub expression_rest : ℕ → List Waiting → Option Target → Word → List Wanted → State → Step
+expression_rest depth waiting into w ws s =
+    if is_right w.kind then expression_ended into (completed s.formula waiting) ws s
+    else operation_at depth waiting into (operation_of w.keyword) ws s
+
 -- ---- substr
 
 -- the classes of the cells: those of the positive conditions, and then those that `cbind` named
@@ -551,6 +645,9 @@ classes_of_cells s = cells_of s.conditions ++ s.further
 
 abbrev pub function : Target → Keyword → List Wanted → State → Step
 function t keyword.Substr ws s = Next (SourceCell ∷ SourceAttribute t ∷ ws) s
+function t keyword.Compute ws s = Next (ExpressionUnit function_depth ∷ ExpressionRest function_depth [] (Some t) ∷ ws) s
+function t keyword.Genatom ws s = term_at t term.Fresh (Closes EndsWhole ∷ ws) s
+function t keyword.Accept ws s = term_at t term.Accept (Closes EndsWhole ∷ ws) s
 function t _ ws s = Refuses fault.BadForm
 
 abbrev pub source_named : Option ℕ → List Wanted → State → Step
@@ -686,6 +783,7 @@ right_begun s =
       variable = record { 0 = 0 };
       source = 0;
       source_field = 0;
+      formula = no_formula;
     }
 
 abbrev pub rule_name : Word → List Wanted → State → Step
@@ -770,7 +868,7 @@ action_word keyword.Make ws s = Next (ClassName ∷ Terms InPut ∷ ws) (record 
 action_word keyword.Modify ws s = Next (Modified ∷ Terms InPut ∷ ws) (record s { puts = [] })
 action_word keyword.Remove ws s = Next (Cell ∷ Cells ∷ ws) (record s { cells = [] })
 action_word keyword.Write ws s = Next (Items ∷ ws) (record s { items = [] })
-action_word keyword.Bind ws s = Next (BoundName ∷ ValueFor ToBind ∷ Closes EndsWhole ∷ ws) s
+action_word keyword.Bind ws s = Next (BoundName ∷ BoundValue ∷ ws) s
 action_word keyword.Cbind ws s = Next (CellName ∷ Closes EndsWhole ∷ ws) s
 action_word keyword.Halt ws s = Next (Closes EndsHalt ∷ ws) s
 action_word _ ws s = Refuses fault.BadForm
@@ -821,6 +919,11 @@ modified w ws s = with_modified (cell_of w.kind w.name s) ws s
 abbrev pub bound_name : Word → List Wanted → State → Step
 bound_name w ws s = if is_variable w.kind then Next ws (record s { variable = w.name }) else Refuses fault.BadForm
 
+-- Without a value it is a fresh atom.
+abbrev pub bound_value : Word → List Wanted → State → Step
+bound_value w ws s =
+    if is_right w.kind then Next ws (with_bind (number_of s.variable s.values) s term.Fresh) else value_for ToBind w (Closes EndsWhole ∷ ws) s
+
 -- the element variable names a further cell, with the element that was made last
 abbrev pub with_cell : State → ℕ → Sym → State
 with_cell s class name =
@@ -857,7 +960,10 @@ abbrev pub item_word : Keyword → List Wanted → State → Step
 item_word keyword.Crlf ws s = Next (Closes EndsCrlf ∷ ws) s
 item_word keyword.Tabto ws s = Next (Columns ToTab ∷ Closes EndsWhole ∷ ws) s
 item_word keyword.Rjust ws s = Next (Columns ToRight ∷ Closes EndsWhole ∷ ws) s
-item_word keyword.Substr ws s = Next (SourceCell ∷ SourceAttribute ToItem ∷ ws) s
+item_word keyword.Substr ws s = function ToItem keyword.Substr ws s
+item_word keyword.Compute ws s = function ToItem keyword.Compute ws s
+item_word keyword.Genatom ws s = function ToItem keyword.Genatom ws s
+item_word keyword.Accept ws s = function ToItem keyword.Accept ws s
 item_word _ ws s = Refuses fault.BadForm
 
 abbrev pub column_item : Column → ℕ → Item
@@ -910,6 +1016,9 @@ step w (Choice f ∷ ws) s = choice f w ws s
 step w (Atom t ∷ ws) s = atom_at t (atom_of w.kind w.name) ws s
 step w (ValueFor t ∷ ws) s = value_for t w ws s
 step w (Function t ∷ ws) s = function t w.keyword ws s
+step w (ExpressionUnit d ∷ ws) s = expression_unit d w ws s
+step w (ExpressionRest d waiting into ∷ ws) s = expression_rest d waiting into w ws s
+step w (Bracketed d ∷ ws) s = bracketed d w ws s
 step w (SourceCell ∷ ws) s = source_cell w ws s
 step w (SourceAttribute t ∷ ws) s = source_attribute t w ws s
 step w (SourceEnd t name ∷ ws) s = source_end t name w ws s
@@ -917,6 +1026,7 @@ step w (Actions ∷ ws) s = actions w ws s
 step w (ActionWord ∷ ws) s = action_word w.keyword ws s
 step w (Modified ∷ ws) s = modified w ws s
 step w (BoundName ∷ ws) s = bound_name w ws s
+step w (BoundValue ∷ ws) s = bound_value w ws s
 step w (CellName ∷ ws) s = cell_name w ws s
 step w (Cell ∷ ws) s = cell w.kind w.name ws s
 step w (Cells ∷ ws) s = cells w ws s
@@ -977,4 +1087,5 @@ nothing_read =
       variable = record { 0 = 0 };
       source = 0;
       source_field = 0;
+      formula = no_formula;
     }

@@ -1,5 +1,6 @@
--- What a session keeps of working memory, that its right sides act lawfully, and that its conflict sets are the sets of all instantiations.
-use Rattle.std.specs.Prelude.{◌≡◌, ℕ, ◌≤◌, List, [], ◌∷◌, IfOk}
+-- What a session keeps of working memory and of the names, that its right sides act lawfully, and that its conflict sets are the sets of all
+-- instantiations.
+use Rattle.std.specs.Prelude.{◌≡◌, ℕ, ◌≤◌, List, [], ◌∷◌, IfOk, Some, slice_get}
 use Rattle.std.specs.List.{All}
 use Rattle.ops_base.specs.declared.elements.Element.{Element}
 use Rattle.ops_base.specs.declared.elements.Change.{Change}
@@ -9,7 +10,9 @@ use Rattle.ops_base.specs.declared.rules.Inst.{Inst}
 use Rattle.ops_base.specs.declared.commands.Command.{Command}
 use Rattle.ops_base.specs.WorkingMemory.{tags_of, HasRisingTags, done, Lawful}
 use Rattle.ops_base.specs.Instances.{IsConflictSet}
-use Rattle.ops_meaning.specs.Acting.{Setting, Acted, acted}
+use Rattle.ops_base.specs.Names.{Spellings}
+use Rattle.ops_io.specs.Coming.{Coming}
+use Rattle.ops_meaning.specs.Acting.{Setting, Given, Acted, acted}
 use Rattle.ops_meaning.specs.Running.{Finder, session_by, session_of}
 
 -- The elements stand in the order of their tags, each tag once, and no tag is above the last that was given: so the next
@@ -32,8 +35,12 @@ pub record IsLawfulOver (wm : List Element) (last : ℕ) (a : Acted) : Type 0 wh
   pub risen : last ≤ a.last
 
 -- Over working memory that is well kept a right side acts lawfully.
-abbrev pub ActsLawfully : Setting → ℕ → Inst → List Element → ℕ → Type 0
-ActsLawfully s column i wm last = WellKept wm last → IfOk (acted s column i wm last).outcome (IsLawfulOver wm last)
+abbrev pub ActsLawfully : Setting → ℕ → Inst → Given → Type 0
+ActsLawfully s column i g = WellKept g.wm g.last → IfOk (acted s column i g).outcome (IsLawfulOver g.wm g.last)
+
+-- Each symbol keeps its spelling.
+abbrev pub KeepsNames : Spellings → Spellings → Type 0
+KeepsNames old new = (i : ℕ) (s : List ℕ) → slice_get old.held i ≡ Some s → slice_get new.held i ≡ Some s
 
 -- it finds the conflict set of each working memory whose tags rise
 abbrev pub FindsConflictSets : List Rule → Finder → Type 0
@@ -41,5 +48,6 @@ FindsConflictSets rules found = (wm : List Element) → HasRisingTags wm → IsC
 
 -- Wherever a session looks for instantiations it looks at the conflict set: whatever finds conflict sets leads it to the
 -- same bytes and the same outcome.
-abbrev pub GoesByConflictSets : Setting → List Command → Type 0
-GoesByConflictSets s commands = (found : Finder) → FindsConflictSets s.rules found → session_of s commands ≡ session_by found s commands
+abbrev pub GoesByConflictSets : Setting → List Command → Spellings → Type 0
+GoesByConflictSets s commands names =
+    (found : Finder) → FindsConflictSets s.rules found → (coming : Coming) → session_of s commands names coming ≡ session_by found s commands names coming

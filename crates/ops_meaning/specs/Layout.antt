@@ -105,6 +105,7 @@ abbrev pub last_line : Spellings → List Rule → ℕ → Ending → List ℕ
 last_line names rules column (ending.Act firing rule action k) = line_at column (act_fault_line names rules firing rule action k)
 last_line names rules column (ending.Limit firings) =
     line_at column (codes "ops: limit of " ++ decimal firings ++ codes " firings reached")
+last_line names rules column ending.ReadFault = line_at column (codes "ops: cannot read the input")
 last_line names rules column _ = []
 
 abbrev pub usage_line : List ℕ

@@ -9,6 +9,7 @@ pub mod Symbols
 pub mod Spelling
 pub mod Effects
 pub mod Layout
+pub mod Computing
 pub mod Acting
 pub mod Running
 pub mod Kept

@@ -12,7 +12,7 @@ use Rattle.ops_tokens.specs.declared.token.TokenKind.TheVariants as kind
 use Rattle.ops_meaning.specs.declared.words.Word.{Word}
 use Rattle.ops_meaning.specs.declared.words.Keyword.{Keyword}
 use Rattle.ops_meaning.specs.declared.words.Keyword.TheVariants as keyword
-use Rattle.ops_meaning.specs.Grammar.{InPattern, InPut, InFixed, ToTest, ToFixed, ToConstants, Wanted, Forms, Form, ClassDeclared, Attributes, VectorName, VectorNames, RuleName, FirstPattern, Patterns, Braced, ElementName, ClassName, Attribute, Several, Tested, ValueFor, SourceCell, SourceAttribute, Modified, CellName, Cell, Cells, Items, State, is_name, is_variable, is_minus, natural_of, is_one_of, number_of, may_declare, is_class, is_rule, is_second, makes_second, attributes_of, source_class}
+use Rattle.ops_meaning.specs.Grammar.{InPattern, InPut, InFixed, ToTest, ToFixed, ToConstants, Wanted, Forms, Form, ClassDeclared, Attributes, VectorName, VectorNames, RuleName, FirstPattern, Patterns, Braced, ElementName, ClassName, Attribute, Several, Tested, ValueFor, ExpressionUnit, Bracketed, SourceCell, SourceAttribute, Modified, BoundValue, CellName, Cell, Cells, Items, State, most_brackets, is_left, is_name, is_variable, is_minus, natural_of, is_one_of, number_of, may_declare, is_class, is_rule, is_second, makes_second, attributes_of, source_class}
 use Rattle.ops_meaning.specs.Derivation.{is_designator}
 
 -- the numbers of the faults, by which one of several at a word is chosen
@@ -90,6 +90,12 @@ is_full (Several InPattern f ∷ ws) s = not (nat_lt f most_fields)
 is_full (Several InFixed f ∷ ws) s = not (nat_lt (f + length s.constants) most_fields)
 is_full ws s = false
 
+-- one more open bracket would be too many
+abbrev pub nests_deepest : List Wanted → Bool
+nests_deepest (ExpressionUnit d ∷ ws) = not (nat_lt d most_brackets)
+nests_deepest (Bracketed d ∷ ws) = not (nat_lt d most_brackets)
+nests_deepest ws = false
+
 -- a further condition
 abbrev pub wants_condition : List Wanted → Bool
 wants_condition (Patterns ∷ ws) = true
@@ -104,6 +110,9 @@ wants_first ws = false
 abbrev pub wants_bound : List Wanted → Bool
 wants_bound (Tested f p ∷ ws) = not (is_equality p)
 wants_bound (ValueFor t ∷ ws) = true
+wants_bound (ExpressionUnit d ∷ ws) = true
+wants_bound (Bracketed d ∷ ws) = true
+wants_bound (BoundValue ∷ ws) = true
 wants_bound (Several InPut f ∷ ws) = true
 wants_bound (Several InFixed f ∷ ws) = true
 wants_bound (Items ∷ ws) = true
@@ -170,6 +179,7 @@ Because fault.UnboundVariable w ws s = (wants_bound ws ≡ true) × (is_variable
 Because fault.BadDesignator w ws s = is_bad_designator ws w s ≡ true
 Because (fault.LimitPassed limit.Fields) w ws s = is_full ws s ≡ true
 Because (fault.LimitPassed limit.Conditions) w ws s = (wants_condition ws ≡ true) × (nat_lt (length s.conditions) most_conditions ≡ false)
+Because (fault.LimitPassed limit.Nesting) w ws s = (is_left w.kind ≡ true) × (nests_deepest ws ≡ true)
 Because fault.Stray w ws s = no_form_fault ws ≡ fault.Stray
 Because fault.UnknownCommand w ws s = no_form_fault ws ≡ fault.UnknownCommand
 Because fault.BadForm w ws s = no_form_fault ws ≡ fault.BadForm

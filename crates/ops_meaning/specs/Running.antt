@@ -19,23 +19,28 @@ use Rattle.ops_base.specs.ConflictSet.{conflict_set}
 use Rattle.ops_base.specs.Refraction.{unfired, still_fired, dominant}
 use Rattle.ops_meaning.specs.Effects.{Effect, writes, ends_with, and_then, told_as}
 use Rattle.ops_meaning.specs.Layout.{line_at}
-use Rattle.ops_meaning.specs.Acting.{Setting, Misdeed, Acted, acted, no_fields, emptied, first_of}
+use Rattle.ops_base.specs.Names.{Spellings}
+use Rattle.ops_io.specs.Coming.{Coming}
+use Rattle.ops_meaning.specs.Acting.{Setting, Misdeed, Bad, NoInput, Given, Acted, acted, no_fields, emptied, first_of}
 
--- what a session has come to: working memory, the instantiations that are marked as fired, how many firings were made, and the last tag
--- that was given
+-- what a session has come to: working memory, the instantiations that are marked as fired, how many firings were made, the last tag that
+-- was given, the spellings in use with the number of the last fresh atom, and the input that is still to come
 pub record Course : Type 0 where
   pub wm : List Element
   pub fired : List Inst
   pub firings : ℕ
   pub last : ℕ
+  pub names : Spellings
+  pub coming : Coming
 
 -- what a firing leaves, and whether `halt` was done in it
 pub record Turned : Type 0 where
   pub course : Course
   pub halted : Bool
 
-abbrev pub nothing_yet : Course
-nothing_yet = record { wm = []; fired = []; firings = 0; last = 0 }
+-- nothing was done yet, with these names in use, and this input to come
+abbrev pub nothing_yet : Spellings → Coming → Course
+nothing_yet names coming = record { wm = []; fired = []; firings = 0; last = 0; names = names; coming = coming }
 
 -- how many firings a session makes at most
 abbrev pub most_firings : ℕ
@@ -55,7 +60,7 @@ next_by found rules m = dominant Lex rules (unfired (found m.wm) m.fired)
 -- working memory that they leave.
 abbrev pub phase_by : Finder → List Change → ℕ → ℕ → Course → Course
 phase_by found changes firings last m =
-    let wm = done m.wm changes in record { wm = wm; fired = still_fired (found wm) m.fired; firings = firings; last = last }
+    let wm = done m.wm changes in record m { wm = wm; fired = still_fired (found wm) m.fired; firings = firings; last = last }
 
 -- ---- one firing
 
@@ -65,15 +70,24 @@ marked i m = record m { fired = m.fired ++ i ∷ [] }
 
 -- what a firing leaves whose right side did this
 abbrev pub turned_by : Finder → Inst → Course → Acted → Turned
-turned_by found i m a = record { course = phase_by found a.changes (m.firings + 1) a.last (marked i m); halted = a.halted }
+turned_by found i m a =
+    record {
+      course = record (phase_by found a.changes (m.firings + 1) a.last (marked i m)) { names = a.names; coming = a.coming };
+      halted = a.halted;
+    }
 
--- a fault of a right side ends the session
+-- a fault of a right side ends the session, and so does an input that fails
 abbrev pub ended_in : ℕ → ℕ → Misdeed → Ending
-ended_in firing rule f = ending.Act firing rule f.action f.kind
+ended_in firing rule (Bad action kind) = ending.Act firing rule action kind
+ended_in firing rule NoInput = ending.ReadFault
+
+-- what a right side begins with
+abbrev pub given_by : Course → Given
+given_by m = record { wm = m.wm; last = m.last; names = m.names; coming = m.coming }
 
 -- A firing does its right side, and is then one phase.
 abbrev pub firing_by : Finder → Setting → ℕ → Inst → Course → Effect Ending Turned
-firing_by found s column i m = told_as (turned_by found i m) (ended_in (m.firings + 1) i.rule) (acted s column i m.wm m.last)
+firing_by found s column i m = told_as (turned_by found i m) (ended_in (m.firings + 1) i.rule) (acted s column i (given_by m))
 
 -- ---- a run
 
@@ -133,9 +147,9 @@ abbrev pub ending_of : Result Course Ending → Ending
 ending_of (Ok m) = ending.Done m.firings (length m.wm) m.last
 ending_of (Err e) = e
 
--- the whole session, from column 0 and nothing
-abbrev pub session_by : Finder → Setting → List Command → Effect Ending Course
-session_by found s commands = commands_by found s 0 commands nothing_yet
+-- the whole session, from column 0 and nothing, where these names are in use and this input is to come
+abbrev pub session_by : Finder → Setting → List Command → Spellings → Coming → Effect Ending Course
+session_by found s commands names coming = commands_by found s 0 commands (nothing_yet names coming)
 
 -- ---- the same, by the conflict set of the rules
 
@@ -160,5 +174,5 @@ command_done s column c m = command_by (conflict_set s.rules) s column c m
 abbrev pub commands_done : Setting → ℕ → List Command → Course → Effect Ending Course
 commands_done s column commands m = commands_by (conflict_set s.rules) s column commands m
 
-abbrev pub session_of : Setting → List Command → Effect Ending Course
-session_of s commands = session_by (conflict_set s.rules) s commands
+abbrev pub session_of : Setting → List Command → Spellings → Coming → Effect Ending Course
+session_of s commands names coming = session_by (conflict_set s.rules) s commands names coming

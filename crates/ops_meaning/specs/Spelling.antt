@@ -14,6 +14,10 @@ use Rattle.ops_base.specs.declared.conditions.Operand.{Operand}
 use Rattle.ops_base.specs.declared.conditions.Operand.TheVariants as operand
 use Rattle.ops_base.specs.declared.conditions.Test.{Test}
 use Rattle.ops_base.specs.declared.conditions.Condition.{Condition}
+use Rattle.ops_base.specs.declared.expression.Op.{Op}
+use Rattle.ops_base.specs.declared.expression.Op.TheVariants as op
+use Rattle.ops_base.specs.Expression.{Formula, all_variables}
+use Rattle.ops_base.specs.Expression as formula
 use Rattle.ops_base.specs.declared.actions.Term.{Term}
 use Rattle.ops_base.specs.declared.actions.Term.TheVariants as term
 use Rattle.ops_base.specs.declared.actions.Put.{Put}
@@ -27,7 +31,7 @@ use Rattle.ops_tokens.specs.declared.token.TokenKind.TheVariants as kind
 use Rattle.ops_meaning.specs.declared.words.Word.{Word}
 use Rattle.ops_meaning.specs.declared.words.Keyword.{Keyword}
 use Rattle.ops_meaning.specs.declared.words.Keyword.TheVariants as keyword
-use Rattle.ops_meaning.specs.Grammar.{is_one_of}
+use Rattle.ops_meaning.specs.Grammar.{is_one_of, most_brackets, function_depth}
 
 -- ---- words, where their places do not matter
 
@@ -238,7 +242,29 @@ abbrev pub spelled_substr : Class → ℕ → ℕ → Word → List Word
 spelled_substr c cell field end =
     opening ∷ spelled_keyword keyword.Substr ∷ spelled_variable cell ∷ spelled_name (attribute_name c field) ∷ end ∷ closing ∷ []
 
--- rconstant | VARIABLE | ( substr VARIABLE ATTR ATTR ) | ( substr VARIABLE ATTR inf )
+abbrev pub spelled_operation : Op → Word
+spelled_operation op.Add = spelled_keyword keyword.Plus
+spelled_operation op.Sub = spelled_operator keyword.Minus
+spelled_operation op.Mul = spelled_keyword keyword.Times
+spelled_operation op.Div = spelled_operator keyword.Literal
+spelled_operation op.Rem = spelled_keyword keyword.Remainder
+
+-- in brackets, where it is the left operand of another
+abbrev pub bracketed : Bool → List Word → List Word
+bracketed true words = opening ∷ words ++ closing ∷ []
+bracketed false words = words
+
+-- unit | unit OP expr
+abbrev pub spelled_formula : Bool → Formula → List Word
+spelled_formula is_left (formula.number n) = spelled_value (value.Whole n) ∷ []
+spelled_formula is_left (formula.variable n) = spelled_variable n ∷ []
+spelled_formula is_left (formula.apply o left right) = bracketed is_left (spelled_formula true left ++ spelled_operation o ∷ spelled_formula false right)
+
+-- ( KEYWORD )
+abbrev pub spelled_call : Keyword → List Word
+spelled_call k = opening ∷ spelled_keyword k ∷ closing ∷ []
+
+-- rconstant | VARIABLE | ( compute expr ) | ( genatom ) | ( accept ) | ( substr VARIABLE ATTR ATTR ) | ( substr VARIABLE ATTR inf )
 abbrev pub spelled_term : List Class → InSight → Term → List Word
 spelled_term classes k (term.Constant v) = spelled_value v ∷ []
 spelled_term classes k (term.Variable n) = spelled_variable n ∷ []
@@ -246,7 +272,9 @@ spelled_term classes k (term.One cell field) =
     let c = class_of classes (class_of_cell k cell) in spelled_substr c cell field (spelled_name (attribute_name c field))
 spelled_term classes k (term.Rest cell) =
     let c = class_of classes (class_of_cell k cell) in spelled_substr c cell (last_field c) (spelled_keyword keyword.Inf)
-spelled_term classes k _ = []
+spelled_term classes k (term.Compute f) = opening ∷ spelled_keyword keyword.Compute ∷ spelled_formula false f ++ closing ∷ []
+spelled_term classes k term.Fresh = spelled_call keyword.Genatom
+spelled_term classes k term.Accept = spelled_call keyword.Accept
 
 abbrev pub spelled_put : List Class → InSight → Class → Put → List Word
 spelled_put classes k c p = spelled_attribute c p.field (spelled_each (spelled_term classes k) p.terms)
@@ -286,13 +314,22 @@ spelled_actions classes k (a ∷ rest) = spelled_action classes k a ++ spelled_a
 abbrev pub cell_is_plain : List Class → InSight → ℕ → Bool
 cell_is_plain classes k cell = nat_lt cell (length k.cells) && nat_lt (class_of_cell k cell) (length classes)
 
--- a constant, a variable in sight, or what a cell's element has, where `several` tells that several values may stand there
+-- The brackets that are written round left operands are not too many, where so many are open.
+abbrev pub nests_within : ℕ → Bool → Formula → Bool
+nests_within depth is_left (formula.number n) = true
+nests_within depth is_left (formula.variable n) = true
+nests_within depth true (formula.apply o left right) = nat_lt depth most_brackets && nests_within (suc depth) true left && nests_within (suc depth) false right
+nests_within depth false (formula.apply o left right) = nests_within depth true left && nests_within depth false right
+
+-- a constant, a variable in sight, an expression of such, a fresh or an accepted atom, or what a cell's element has, where `several` tells that several values may stand there
 abbrev pub term_is_plain : List Class → InSight → Bool → Term → Bool
 term_is_plain classes k several (term.Constant v) = true
 term_is_plain classes k several (term.Variable n) = is_in n k.variables.sight
 term_is_plain classes k several (term.One cell field) = cell_is_plain classes k cell && is_attribute (class_of classes (class_of_cell k cell)) field
 term_is_plain classes k several (term.Rest cell) = several && cell_is_plain classes k cell && (class_of classes (class_of_cell k cell)).vector
-term_is_plain classes k several _ = false
+term_is_plain classes k several (term.Compute f) = nests_within function_depth false f && all_variables (λ n. is_in n k.variables.sight) f
+term_is_plain classes k several term.Fresh = true
+term_is_plain classes k several term.Accept = true
 
 abbrev pub put_is_plain : List Class → InSight → Class → Put → Bool
 put_is_plain classes k c p =

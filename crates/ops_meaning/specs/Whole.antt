@@ -8,6 +8,8 @@ use Rattle.ops_base.specs.declared.endings.Fault.{Fault}
 use Rattle.ops_base.specs.declared.endings.Fault.TheVariants as fault
 use Rattle.ops_base.specs.declared.endings.Limit.{Limit}
 use Rattle.ops_base.specs.declared.endings.Limit.TheVariants as limit
+use Rattle.ops_base.specs.Names.{Spellings}
+use Rattle.ops_io.specs.Coming.{Coming}
 use Rattle.ops_io.specs.Outside.{GrewBy, GrewByPrefix}
 use Rattle.ops_io.specs.Output.{column_after}
 use Rattle.ops_meaning.specs.declared.statuses.Status.{Status}
@@ -94,69 +96,69 @@ status_of ending.ReadFault = status.ReadFault
 status_of ending.WriteFault = status.WriteFault
 status_of ending.OutOfMemory = status.OutOfMemory
 
--- the bytes of a session, and the last line of its ending
-abbrev pub told : Setting → Effect Ending Course → Reply
-told s e =
+-- the bytes of a session, and the last line of its ending, with the names of the program
+abbrev pub told : Spellings → List Rule → Effect Ending Course → Reply
+told names rules e =
     record {
-      bytes = e.bytes ++ last_line s.names s.rules (column_after 0 e.bytes) (ending_of e.outcome);
+      bytes = e.bytes ++ last_line names rules (column_after 0 e.bytes) (ending_of e.outcome);
       status = status_of (ending_of e.outcome);
     }
 
 abbrev pub setting_of : Read → Setting
-setting_of p = record { names = p.names; classes = p.classes; rules = p.rules }
+setting_of p = record { classes = p.classes; rules = p.rules }
 
 -- What finds the instantiations, for any rules.
 abbrev pub Find : Type 0
 Find = List Rule → Finder
 
-abbrev pub answer_read_by : Find → List ℕ → Result Read Placed → Reply
-answer_read_by find text (Err p) = refused text p
-answer_read_by find text (Ok p) = told (setting_of p) (session_by (find p.rules) (setting_of p) p.commands)
+abbrev pub answer_read_by : Find → Coming → List ℕ → Result Read Placed → Reply
+answer_read_by find coming text (Err p) = refused text p
+answer_read_by find coming text (Ok p) = told p.names p.rules (session_by (find p.rules) (setting_of p) p.commands p.names coming)
 
-abbrev pub answer_to_by : Find → List ℕ → Reply
-answer_to_by find text = answer_read_by find text (reads text)
+abbrev pub answer_to_by : Find → Coming → List ℕ → Reply
+answer_to_by find coming text = answer_read_by find coming text (reads text)
 
 -- ---- the whole
 
 -- A file is answered as its text. One that does not fit is a text that is too long.
-abbrev pub answer_file_by : Find → List ℕ → Reply
-answer_file_by find bytes = answer_to_by find (text_of bytes)
+abbrev pub answer_file_by : Find → Coming → List ℕ → Reply
+answer_file_by find coming bytes = answer_to_by find coming (text_of bytes)
 
 abbrev pub unread : List ℕ → Reply
 unread name = record { bytes = unread_line name; status = status.ReadFault }
 
 -- `broken` tells whether the load failed, and the content is none where there is no such file
-abbrev pub whole_file_by : Find → List ℕ → Option (List ℕ) → Bool → Reply
-whole_file_by find name content true = unread name
-whole_file_by find name None false = unread name
-whole_file_by find name (Some bytes) false = answer_file_by find bytes
+abbrev pub whole_file_by : Find → List ℕ → Option (List ℕ) → Bool → Coming → Reply
+whole_file_by find name content true coming = unread name
+whole_file_by find name None false coming = unread name
+whole_file_by find name (Some bytes) false coming = answer_file_by find coming bytes
 
-abbrev pub whole_by : Find → List (List ℕ) → Option (List ℕ) → Bool → Reply
-whole_by find words content broken =
-    if words_fit words then whole_file_by find (first_word words) content broken else record { bytes = usage_line; status = status.Usage }
+abbrev pub whole_by : Find → List (List ℕ) → Option (List ℕ) → Bool → Coming → Reply
+whole_by find words content broken coming =
+    if words_fit words then whole_file_by find (first_word words) content broken coming else record { bytes = usage_line; status = status.Usage }
 
 -- ---- the same, by the conflict sets
 
-abbrev pub answer_read : List ℕ → Result Read Placed → Reply
-answer_read text r = answer_read_by conflict_set text r
+abbrev pub answer_read : Coming → List ℕ → Result Read Placed → Reply
+answer_read coming text r = answer_read_by conflict_set coming text r
 
-abbrev pub answer_to : List ℕ → Reply
-answer_to text = answer_to_by conflict_set text
+abbrev pub answer_to : Coming → List ℕ → Reply
+answer_to coming text = answer_to_by conflict_set coming text
 
-abbrev pub answer_file : List ℕ → Reply
-answer_file bytes = answer_file_by conflict_set bytes
+abbrev pub answer_file : Coming → List ℕ → Reply
+answer_file coming bytes = answer_file_by conflict_set coming bytes
 
-abbrev pub whole_file : List ℕ → Option (List ℕ) → Bool → Reply
-whole_file name content broken = whole_file_by conflict_set name content broken
+abbrev pub whole_file : List ℕ → Option (List ℕ) → Bool → Coming → Reply
+whole_file name content broken coming = whole_file_by conflict_set name content broken coming
 
-abbrev pub whole : List (List ℕ) → Option (List ℕ) → Bool → Reply
-whole words content broken = whole_by conflict_set words content broken
+abbrev pub whole : List (List ℕ) → Option (List ℕ) → Bool → Coming → Reply
+whole words content broken coming = whole_by conflict_set words content broken coming
 
 -- The whole is the same whatever finds the instantiations, where it finds the conflict set of each working memory: all instantiations
 -- of the rules, each once.
 abbrev pub GoesByConflictSetsAlone : List (List ℕ) → Type 0
 GoesByConflictSetsAlone words =
-    (find : Find) → ((rules : List Rule) → FindsConflictSets rules (find rules)) → (content : Option (List ℕ)) (broken : Bool) → whole words content broken ≡ whole_by find words content broken
+    (find : Find) → ((rules : List Rule) → FindsConflictSets rules (find rules)) → (content : Option (List ℕ)) (broken : Bool) (coming : Coming) → whole words content broken coming ≡ whole_by find words content broken coming
 
 -- ---- what a call leaves
 

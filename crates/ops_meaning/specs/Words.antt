@@ -10,6 +10,18 @@ use Rattle.ops_meaning.specs.declared.words.Word.{Word}
 use Rattle.ops_meaning.specs.declared.words.Keyword.{Keyword}
 use Rattle.ops_meaning.specs.declared.words.Keyword.TheVariants as keyword
 
+-- the keyword of a plain symbol that names a function or an operation
+abbrev pub keyword_of_function : List ℕ → Keyword
+keyword_of_function s =
+    if bytes_eq s (codes "compute") then keyword.Compute
+    else if bytes_eq s (codes "genatom") then keyword.Genatom
+    else if bytes_eq s (codes "accept") then keyword.Accept
+    else if bytes_eq s (codes "+") then keyword.Plus
+    else if bytes_eq s (codes "*") then keyword.Times
+    else if bytes_eq s (codes "\\\\") then keyword.Remainder
+    else if bytes_eq s (codes "\\") then keyword.Remainder
+    else keyword.Other
+
 -- the keyword of a plain symbol
 abbrev pub keyword_of_symbol : List ℕ → Keyword
 keyword_of_symbol s =
@@ -29,7 +41,7 @@ keyword_of_symbol s =
     else if bytes_eq s (codes "substr") then keyword.Substr
     else if bytes_eq s (codes "inf") then keyword.Inf
     else if bytes_eq s (codes "halt") then keyword.Halt
-    else keyword.Other
+    else keyword_of_function s
 
 -- the keyword of an operator
 abbrev pub keyword_of_operator : List ℕ → Keyword

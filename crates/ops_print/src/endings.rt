@@ -3,7 +3,7 @@ ghost use Rattle.std.specs.Prelude.{◌≡◌, ◌^◌, ◌<◌, [], ◌∷◌, 
 ghost use Rattle.ops_io.specs.Ports.{port, PutsBytes};
 ghost use Rattle.ops_meaning.specs.Layout.{act_fault_text, last_line, line_at, rule_name, symbol_text};
 
-use crate::lines::fresh_line;
+use crate::lines::{fresh_line, put_line};
 use crate::pieces::put_numbered;
 use crate::symbols::put_symbol;
 use ops_base::endings::{ActKind, Ending};
@@ -73,6 +73,17 @@ fn put_limit<K: Sink>(out: &mut Out, sink: &mut K, firings: u64) -> Result<(), W
     put_numbered(out, sink, b"ops: limit of ", firings, b" firings reached\n")
 }
 
+/// Puts the line that tells that the input failed.
+fn put_unread<K: Sink>(out: &mut Out, sink: &mut K) -> Result<(), WriteFailed>
+    requires whole { IsTrue out.old.whole }
+    requires faults { K.faults sink.old < 2 ^ 63 }
+    ensures puts { PutsBytes result (port (K.taken sink.old) (K.faults sink.old) out.old)
+        (port (K.taken sink.new) (K.faults sink.new) out.new) (line_at out.old.column (codes "ops: cannot read the input")) }
+    ensures broken { OnErr result (out.new.whole ≡ false) }
+{
+    put_line(out, sink, b"ops: cannot read the input")
+}
+
 /// Puts the line that tells an ending, from its fresh line to its LF, and nothing for an ending that has none.
 pub fn put_fault<K: Sink>(
     out: &mut Out,
@@ -99,6 +110,7 @@ pub fn put_fault<K: Sink>(
             put_act_fault(out, sink, names, name, firing, action, kind)
         }
         Ending::Limit { firings } => put_limit(out, sink, firings),
+        Ending::ReadFault => put_unread(out, sink),
         _ => Ok(()),
     }
 }

@@ -136,14 +136,15 @@ fn lines_of_endings(rt: HostRuntime) -> Result<(), Fail> {
     };
     let mut sink = sink(alloc)?;
     let mut out = Out::new(alloc)?;
-    put_fault(&mut out, &mut sink, &names, &program, &Ending::ReadFault)?;
+    put_fault(&mut out, &mut sink, &names, &program, &Ending::WriteFault)?;
     put_fault(&mut out, &mut sink, &names, &program, &act)?;
     out.put(&mut sink, b"x")?;
     let limit = Ending::Limit { firings: 7 };
     put_fault(&mut out, &mut sink, &names, &program, &limit)?;
+    put_fault(&mut out, &mut sink, &names, &program, &Ending::ReadFault)?;
     out.flush(&mut sink)?;
     let lines =
-        b"ops: firing 3: r: action 2: too many fields\nx\nops: limit of 7 firings reached\n";
+        b"ops: firing 3: r: action 2: too many fields\nx\nops: limit of 7 firings reached\nops: cannot read the input\n";
     assert_eq!(rt; sink.written(), lines.as_slice());
     Ok(())
 }

@@ -1,5 +1,5 @@
 -- Where a right side begins and ends among its words and its tokens.
-use Rattle.std.proofs.Common.{◌≡◌, ℕ, ◌+◌, ◌-◌, ◌≤◌, List, [], ◌∷◌, ◌++◌, length, take, drop, true, None, Some, refl, sym, ap, ◌∙◌, subst, arith}
+use Rattle.std.proofs.Common.{◌≡◌, ℕ, ◌+◌, ◌-◌, ◌≤◌, List, ◌∷◌, ◌++◌, length, take, drop, true, None, Some, refl, sym, ap, ◌∙◌, subst, arith}
 use Rattle.std.proofs.lemmas.List.{take_all, length-drop}
 use Rattle.ops_base.specs.declared.elements.Class.{Class}
 use Rattle.ops_base.specs.declared.actions.Action.{Action}
@@ -16,32 +16,11 @@ use Rattle.ops_forms.proofs.Borders.{behind_is, begins, rest_is, last_is}
 use Rattle.ops_rhs.specs.declared.right.Around.{Around}
 use Rattle.ops_rhs.specs.declared.right.Right.{Right}
 use Rattle.ops_rhs.specs.declared.sides.Sight.{Sight}
-use Rattle.ops_rhs.specs.RightSides.{Sees, IsBracket, ReadsRight, RefusesRight, IsBracketAt, IsRightSide, IsRefused, at_word, at_end, right_read, sight_of}
+use Rattle.ops_rhs.specs.RightSides.{Sees, IsBracket, ReadsRight, RefusesRight, IsRightSide, IsRefused, at_word, at_end, sight_of}
 use Rattle.ops_rhs.specs.Taking.{seen, view, IsAround, IsClosing}
+use Rattle.ops_rhs.proofs.Operands.{as_in}
 
 -- ---- of words
-
--- what is read of a right side, in that state, as it is in this one
-abbrev as_in : State → State → State
-as_in s x =
-    record s {
-      class = x.class;
-      terms = x.terms;
-      constants = x.constants;
-      puts = x.puts;
-      cells = x.cells;
-      items = x.items;
-      values = x.values;
-      elements = x.elements;
-      variables = x.variables;
-      actions = x.actions;
-      modified = x.modified;
-      made = x.made;
-      further = x.further;
-      variable = x.variable;
-      source = x.source;
-      source_field = x.source_field;
-    }
 
 -- the state in which a right side begins
 abbrev begun_with : Sight → State

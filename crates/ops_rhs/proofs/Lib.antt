@@ -1,3 +1,4 @@
 pub mod Ways
 pub mod Designated
 pub mod Borders
+pub mod Operands

@@ -1,8 +1,10 @@
 -- Steps of the walk over a right side, in every state around it.
-use Rattle.std.proofs.Common.{◌≡◌, ℕ, ◌==◌, true, List, ◌∷◌, ◌++◌, position, None, Some, Err, refl}
+use Rattle.std.proofs.Common.{◌≡◌, ℕ, ◌==◌, true, false, List, ◌∷◌, ◌++◌, position, None, Some, Err, refl}
 use Rattle.ops_base.specs.declared.endings.Fault.TheVariants as fault
 use Rattle.ops_meaning.specs.declared.words.Word.{Word}
-use Rattle.ops_meaning.specs.Grammar.{Target, Wanted, SourceAttribute, SourceEnd, Closes, EndsWhole, State, goes, step, is_name, source_class as class_read}
+use Rattle.ops_meaning.specs.declared.words.Keyword.{Keyword}
+use Rattle.ops_meaning.specs.declared.words.Keyword.TheVariants as keyword
+use Rattle.ops_meaning.specs.Grammar.{Target, Wanted, SourceAttribute, SourceEnd, Function, ItemWord, BoundValue, Closes, EndsWhole, ToItem, ToBind, State, after, goes, step, is_name, is_right, function, item_word, value_for, source_class as class_read}
 use Rattle.ops_rhs.specs.declared.right.Around.{Around}
 use Rattle.ops_rhs.specs.declared.right.Right.{Right}
 use Rattle.ops_rhs.specs.Taking.{seen, IsAround, source_class}
@@ -20,3 +22,24 @@ module _ (t : Target) (words rest more : List Word) (w : Word) (ws : List Wanted
   pub source_found : (f : ℕ) → position (λ a. a.0 == w.name.0) (class_read s).attrs ≡ Some f → goes (words ++ more) (SourceAttribute t ∷ ws) s ≡ goes (rest ++ more) (SourceEnd t w.name ∷ Closes EndsWhole ∷ ws) (record s { source_field = f })
   unfolding goes step
   source_found f at = rw (e, named, at) refl
+
+-- ---- functions, items and values of `bind`
+
+pub function_first : (t : Target) (words rest more : List Word) (w : Word) (ws : List Wanted) (s : State) → words ≡ w ∷ rest → goes (words ++ more) (Function t ∷ ws) s ≡ after (goes (rest ++ more)) w (function t w.keyword ws s)
+unfolding goes step
+function_first t words rest more w ws s e = rw e refl
+
+pub item_first : (words rest more : List Word) (w : Word) (ws : List Wanted) (s : State) → words ≡ w ∷ rest → goes (words ++ more) (ItemWord ∷ ws) s ≡ after (goes (rest ++ more)) w (item_word w.keyword ws s)
+unfolding goes step
+item_first words rest more w ws s e = rw e refl
+
+-- what is no item of `write` alone is a function, or nothing
+pub item_otherwise : (k : Keyword) (ws : List Wanted) (s : State) → (k ≡ keyword.Crlf → ⊥) → (k ≡ keyword.Tabto → ⊥) → (k ≡ keyword.Rjust → ⊥) → item_word k ws s ≡ function ToItem k ws s
+item_otherwise keyword.Crlf ws s crlf tabto rjust = absurd (crlf refl)
+item_otherwise keyword.Tabto ws s crlf tabto rjust = absurd (tabto refl)
+item_otherwise keyword.Rjust ws s crlf tabto rjust = absurd (rjust refl)
+item_otherwise _ ws s crlf tabto rjust = refl
+
+pub bound_first : (words rest more : List Word) (w : Word) (ws : List Wanted) (s : State) → words ≡ w ∷ rest → is_right w.kind ≡ false → goes (words ++ more) (BoundValue ∷ ws) s ≡ after (goes (rest ++ more)) w (value_for ToBind w (Closes EndsWhole ∷ ws) s)
+unfolding goes step
+bound_first words rest more w ws s e other = rw (e, other) refl

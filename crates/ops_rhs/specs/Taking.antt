@@ -2,16 +2,19 @@
 use Rattle.std.specs.Prelude.{◌≡◌, ℕ, ◌+◌, ◌-◌, ◌≤◌, ◌==◌, true, if◌then◌else◌, Option, Some, None, List, [], ◌∷◌, ◌++◌, drop, length, slice_get, unwrap_or, Result, Ok, Err}
 use Rattle.ops_base.specs.declared.elements.Class.{Class}
 use Rattle.ops_base.specs.declared.actions.Term.{Term}
+use Rattle.ops_base.specs.declared.actions.Term.TheVariants as term
 use Rattle.ops_base.specs.declared.actions.Item.TheVariants as item
 use Rattle.ops_base.specs.declared.endings.Fault.{Fault}
 use Rattle.ops_base.specs.declared.endings.Fault.TheVariants as fault
+use Rattle.ops_base.specs.Expression.{Formula}
 use Rattle.ops_base.specs.Valid.{class_of, cells_of}
 use Rattle.ops_meaning.specs.declared.words.Word.{Word}
-use Rattle.ops_meaning.specs.Grammar.{Target as Goal, ToPut, ToTerms, ToItem, ToBind, Column as Way_of, ToTab, ToRight, Wanted, State, Step, after, goes, nothing_read, is_right, number_of, with_put, with_item, with_bind}
+use Rattle.ops_meaning.specs.Grammar.{Target as Goal, ToPut, ToTerms, ToItem, ToBind, Column as Purpose, ToTab, ToRight, Wanted, State, Step, Waiting as Waits, Bracketed, ExpressionUnit, ExpressionRest, Next, Refuses, after, goes, nothing_read, no_formula, is_right, number_of, with_put, with_item, with_bind, with_formula}
 use Rattle.ops_forms.specs.Sights.{cells_from}
-use Rattle.ops_forms.specs.Walking.{Way, GoesOn, GoesAmong, GoesToAmong}
+use Rattle.ops_forms.specs.Walking.{Way, Fails, IsPlaced, GoesOn, GoesAmong, GoesToAmong}
 use Rattle.ops_forms.specs.declared.refusals.Refusal.{Refusal}
 use Rattle.ops_forms.specs.declared.refusals.Refusal.TheVariants as refusal
+use Rattle.ops_rhs.specs.declared.expressions.Waiting.{Waiting}
 use Rattle.ops_rhs.specs.declared.right.Around.{Around}
 use Rattle.ops_rhs.specs.declared.right.Right.{Right}
 use Rattle.ops_rhs.specs.declared.right.Target.{Target}
@@ -39,6 +42,7 @@ seen s r =
       variable = r.variable;
       source = r.source;
       source_field = r.source_field;
+      formula = no_formula;
     }
 
 -- what is read so far, where nothing else was read
@@ -76,7 +80,7 @@ ActsAnywhere does w old new words at result = GoesOn (λ more ws s. after (goes 
 abbrev pub GoesTo : Around → Wanted → Way → List Word → Right → Result ℕ Refusal → Type 0
 GoesTo a w from words new result = GoesToAmong (IsAround a) w from words (λ s. seen s new) result
 
--- ---- what is read
+-- ---- where values go
 
 -- where a value goes
 abbrev pub target_of : Target → Goal
@@ -92,11 +96,65 @@ with_term target.Terms s t = record s { terms = s.terms ++ t ∷ [] }
 with_term target.Item s t = with_item s (item.Print t)
 with_term target.Bind s t = with_bind (number_of s.variable s.values) s t
 
+-- ---- expressions
+
+-- How it goes, whichever operand was read before, is how it goes in the words from the next place on with this operand, or it is the
+-- refusal. Memory may run out.
+abbrev pub GoesToOperand : (Formula → Way) → Right → List Word → Result (Formula × ℕ) Refusal → Type 0
+GoesToOperand from r words (Ok x) = (f : Formula) (more : List Word) (ws : List Wanted) (s : State) → from f more ws s ≡ goes (drop x.1 words ++ more) ws (with_formula (seen s r) x.0)
+GoesToOperand from r words (Err e) = (f : Formula) → Fails (from f) e
+
+-- a call read an operand where that was wanted
+abbrev pub ReadsOperand : Wanted → Right → List Word → ℕ → Result (Formula × ℕ) Refusal → Type 0
+ReadsOperand w r words at result = GoesToOperand (λ f more ws s. goes (drop at words ++ more) (w ∷ ws) (with_formula (seen s r) f)) r words result
+
+-- a call did this with a word that was taken, and read on to the end of an operand
+abbrev pub ActsOperand : (List Wanted → State → Step) → Word → Right → List Word → ℕ → Result (Formula × ℕ) Refusal → Type 0
+ActsOperand does w r words at result = GoesToOperand (λ f more ws s. after (goes (drop at words ++ more)) w (does ws (with_formula (seen s r) f))) r words result
+
+-- what is done with the word makes it an operand, or refuses it
+abbrev pub IsOperand : (List Wanted → State → Step) → Word → Right → Result Formula Refusal → Type 0
+IsOperand does w r (Ok x) = (f : Formula) (ws : List Wanted) (s : State) → does ws (with_formula (seen s r) f) ≡ Next ws (with_formula (seen s r) x)
+IsOperand does w r (Err refusal.OutOfMemory) = Unit {0}
+IsOperand does w r (Err (refusal.At fault word)) = (word ≡ Some w) × ((f : Formula) (ws : List Wanted) (s : State) → does ws (with_formula (seen s r) f) ≡ Refuses fault)
+
+-- where the value of an expression goes, unless it is an operand of another
+abbrev pub into : Option Target → Option Goal
+into (Some t) = Some (target_of t)
+into None = None
+
+-- an expression ends
+abbrev pub ended_as : Option Target → State → Formula → State
+ended_as (Some t) s f = with_term t s (term.Compute f)
+ended_as None s f = with_formula s f
+
+-- a call read an expression and the closing bracket behind it, wherever its value goes
+abbrev pub ReadsExpression : ℕ → Right → List Word → ℕ → Result (Formula × ℕ) Refusal → Type 0
+ReadsExpression depth r words at (Ok x) = (t : Option Target) (f : Formula) (more : List Word) (ws : List Wanted) (s : State) → goes (drop at words ++ more) (ExpressionUnit depth ∷ ExpressionRest depth [] (into t) ∷ ws) (with_formula (seen s r) f) ≡ goes (drop x.1 words ++ more) ws (ended_as t (seen s r) x.0)
+ReadsExpression depth r words at (Err e) = (t : Option Target) (f : Formula) → Fails (λ more ws s. goes (drop at words ++ more) (ExpressionUnit depth ∷ ExpressionRest depth [] (into t) ∷ ws) (with_formula (seen s r) f)) e
+
+-- an expression in brackets begins at the next place
+abbrev pub OpensExpression : List Word → ℕ → Result ℕ Refusal → Type 0
+OpensExpression words at (Ok next) = (depth : ℕ) (more : List Word) (ws : List Wanted) (s : State) → goes (drop at words ++ more) (Bracketed depth ∷ ws) s ≡ goes (drop next words ++ more) (ExpressionUnit depth ∷ ExpressionRest depth [] None ∷ ws) s
+OpensExpression words at (Err e) = (depth : ℕ) → Fails (λ more ws s. goes (drop at words ++ more) (Bracketed depth ∷ ws) s) e
+
+-- the place behind an operand is not before that one, or it is such a refusal
+abbrev pub IsFromOperand : ℕ → Result (Formula × ℕ) Refusal → Type 0
+IsFromOperand at (Ok x) = at ≤ x.1
+IsFromOperand at (Err e) = IsPlaced e
+
+-- what waits, from the one on that was read last
+abbrev pub newest_first : List Waiting → List Waits
+newest_first [] = []
+newest_first (w ∷ waiting) = newest_first waiting ++ record { left = w.left; op = w.op } ∷ []
+
+-- ---- what is read
+
 -- the class of the cell that `substr` reads
 abbrev pub source_class : Around → Right → Class
 source_class a r = class_of a.classes.now (unwrap_or (slice_get (a.cells.now ++ r.further.items) r.source) 0)
 
-abbrev pub column_of : Column → Way_of
+abbrev pub column_of : Column → Purpose
 column_of column.Tab = ToTab
 column_of column.Right = ToRight
 

@@ -37,7 +37,7 @@ impl Right {
         }
     }
 
-    // make CLASS put* ) | modify DESIGNATOR put* ) | remove DESIGNATOR DESIGNATOR* ) | write item* ) | bind VARIABLE value )
+    // make CLASS put* ) | modify DESIGNATOR put* ) | remove DESIGNATOR DESIGNATOR* ) | write item* ) | bind VARIABLE [value] )
     // | cbind VARIABLE ) | halt )
     #[tactic(auto, unfolding(ops_meaning::specs::Grammar::goes, ops_meaning::specs::Grammar::step, ops_meaning::specs::Grammar::ends))]
     fn action(&mut self, around: &Around, words: &[Word], at: usize) -> Result<usize, Refusal>

@@ -1,21 +1,22 @@
 //! The actions that bind a variable to a value or to a cell.
 ghost use Rattle.std.specs.Prelude.{◌≡◌, ◌∷◌, ◌++◌, drop};
-ghost use Rattle.ops_meaning.specs.Grammar.{goes, ToBind, BoundName, CellName, ValueFor, Closes, EndsWhole};
+ghost use Rattle.ops_meaning.specs.Grammar.{goes, value_for, ToBind, BoundName, BoundValue, CellName, Closes, EndsWhole};
 ghost use Rattle.ops_forms.specs.Walking.{GoesAmong, IsFrom};
-ghost use Rattle.ops_rhs.specs.Taking.{seen, IsAround, Reads, ReadsAnywhere};
+ghost use Rattle.ops_rhs.specs.Taking.{seen, IsAround, Reads, Acts, ReadsAnywhere};
 
 use crate::right::{Around, Right, Target};
+use ops_base::actions::Term;
 use ops_base::endings::Fault;
 use ops_forms::Refusal;
-use ops_forms::kinds::is_variable;
+use ops_forms::kinds::{is_right, is_variable};
 use ops_forms::refusals::refused;
 use ops_forms::walking::{closing, first_of};
 use ops_meaning::Word;
 
 impl Right {
-    // VARIABLE value )
+    // VARIABLE value ) | VARIABLE )
     pub fn bind(&mut self, around: &Around, words: &[Word], at: usize) -> Result<usize, Refusal>
-        ensures reads { GoesAmong (IsAround around.now) (λ more ws s. goes (drop at words.now ++ more) (BoundName ∷ ValueFor ToBind ∷ Closes EndsWhole ∷ ws) (seen s self.old)) words.now (λ s. seen s self.new) result }
+        ensures reads { GoesAmong (IsAround around.now) (λ more ws s. goes (drop at words.now ++ more) (BoundName ∷ BoundValue ∷ ws) (seen s self.old)) words.now (λ s. seen s self.new) result }
         ensures within { IsFrom at result }
     {
         match self.bound_name(words, at) {
@@ -38,12 +39,32 @@ impl Right {
         Ok(rest)
     }
 
-    // value )
+    // value ) | ), of which the value is a fresh atom
+    #[tactic(auto, unfolding(ops_meaning::specs::Grammar::goes, ops_meaning::specs::Grammar::step, ops_meaning::specs::Grammar::ends))]
     fn bound_value(&mut self, around: &Around, words: &[Word], at: usize) -> Result<usize, Refusal>
-        ensures reads { GoesAmong (IsAround around.now) (λ more ws s. goes (drop at words.now ++ more) (ValueFor ToBind ∷ Closes EndsWhole ∷ ws) (seen s self.old)) words.now (λ s. seen s self.new) result }
+        ensures reads { Reads around.now BoundValue self.old self.new words.now at result }
         ensures within { IsFrom at result }
     {
-        match self.value_of(around, Target::Bind, words, at) {
+        let (word, rest) = first_of(words, at)?;
+        if is_right(word.kind) {
+            self.add(Target::Bind, Term::Fresh)?;
+            return Ok(rest);
+        }
+        self.written_value(around, word, words, rest)
+    }
+
+    // value ), of which the first word is taken
+    fn written_value(
+        &mut self,
+        around: &Around,
+        word: Word,
+        words: &[Word],
+        at: usize,
+    ) -> Result<usize, Refusal>
+        ensures acts { Acts around.now (λ ws s. value_for ToBind word (Closes EndsWhole ∷ ws) s) word self.old self.new words.now at result }
+        ensures within { IsFrom at result }
+    {
+        match self.value(around, Target::Bind, word, words, at) {
             Ok(rest) => return closing(words, rest),
             Err(refusal) => return Err(refusal),
         }

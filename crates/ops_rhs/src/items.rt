@@ -51,7 +51,7 @@ impl Right {
         self.value(around, Target::Item, word, words, at)
     }
 
-    // crlf ) | tabto SMALL ) | rjust SMALL ) | substr VARIABLE ATTR ATTR ) | substr VARIABLE ATTR inf )
+    // crlf ) | tabto SMALL ) | rjust SMALL ) | function
     #[tactic(auto, unfolding(ops_meaning::specs::Grammar::goes, ops_meaning::specs::Grammar::step, ops_meaning::specs::Grammar::ends))]
     fn item_word(&mut self, around: &Around, words: &[Word], at: usize) -> Result<usize, Refusal>
         ensures reads { Reads around.now ItemWord self.old self.new words.now at result }
@@ -62,8 +62,7 @@ impl Right {
             Keyword::Crlf => self.crlf(words, rest),
             Keyword::Tabto => self.columns(Column::Tab, words, rest),
             Keyword::Rjust => self.columns(Column::Right, words, rest),
-            Keyword::Substr => self.substr(around, Target::Item, words, rest),
-            _ => refused(Fault::BadForm, word),
+            _ => self.function_of(around, Target::Item, word, words, rest),
         }
     }
 

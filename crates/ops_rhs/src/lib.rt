@@ -5,6 +5,8 @@ mod actions;
 mod bindings;
 mod cells;
 mod designators;
+mod expressions;
+mod functions;
 mod items;
 mod puts;
 mod reading;

@@ -1,7 +1,7 @@
 //! The function `substr`, which reads the values of a cell's element.
 ghost use Rattle.std.specs.Prelude.{◌≡◌, ◌∷◌, ◌++◌, ◌==◌, drop, position};
 ghost use Rattle.ops_base.specs.Valid.{class_of, is_vector};
-ghost use Rattle.ops_meaning.specs.Grammar.{goes, takes_several, Function, SourceCell, SourceAttribute, SourceEnd, Closes, EndsWhole};
+ghost use Rattle.ops_meaning.specs.Grammar.{goes, takes_several, SourceCell, SourceAttribute, SourceEnd, Closes, EndsWhole};
 ghost use Rattle.ops_forms.specs.Walking.{GoesAmong, IsFrom};
 ghost use Rattle.ops_rhs.specs.Taking.{seen, target_of, source_class, IsAround, Reads, ReadsAnywhere};
 
@@ -14,28 +14,9 @@ use ops_forms::kinds::{is_inf, is_name, is_variable};
 use ops_forms::refusals::refused;
 use ops_forms::walking::{closing, first_of};
 use ops_forms::{Refusal, number_of};
-use ops_meaning::{Keyword, Word};
+use ops_meaning::Word;
 
 impl Right {
-    // substr VARIABLE ATTR ATTR ) | substr VARIABLE ATTR inf )
-    #[tactic(auto, unfolding(ops_meaning::specs::Grammar::goes, ops_meaning::specs::Grammar::step, ops_meaning::specs::Grammar::ends))]
-    pub fn function(
-        &mut self,
-        around: &Around,
-        target: Target,
-        words: &[Word],
-        at: usize,
-    ) -> Result<usize, Refusal>
-        ensures reads { Reads around.now (Function (target_of target)) self.old self.new words.now at result }
-        ensures within { IsFrom at result }
-    {
-        let (word, rest) = first_of(words, at)?;
-        match word.keyword {
-            Keyword::Substr => self.substr(around, target, words, rest),
-            _ => refused(Fault::BadForm, word),
-        }
-    }
-
     // VARIABLE ATTR ATTR ) | VARIABLE ATTR inf )
     pub fn substr(
         &mut self,

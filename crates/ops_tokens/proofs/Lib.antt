@@ -3,9 +3,13 @@ pub mod Below
 pub mod Residuals
 pub mod Meaning
 pub mod Program
+pub mod Whole
 pub mod Runs
 pub mod Atoms
 pub mod Gaps
 pub mod Clauses
 pub mod Following
 pub mod Settled
+pub mod Taking
+pub mod Accepting
+pub mod Accepts

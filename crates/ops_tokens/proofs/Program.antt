@@ -15,7 +15,7 @@ use Rattle.ops_tokens.proofs.Residuals.{states_fit, decides, follows}
 abbrev pub are_below : ℕ → List ℕ → Bool
 are_below limit items = all_below (λ k. nat_lt (slice_index items k) limit) (length items)
 
-are_below-at : (limit : ℕ) (items : List ℕ) → are_below limit items ≡ true → AreBelow limit items
+pub are_below-at : (limit : ℕ) (items : List ℕ) → are_below limit items ≡ true → AreBelow limit items
 are_below-at limit items e k lt = ltb-true _ _ (all_below-at (λ i. nat_lt (slice_index items i) limit) (length items) k e lt)
 
 pub is_table : IsTable 22 11 program_table

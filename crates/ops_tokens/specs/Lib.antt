@@ -8,3 +8,6 @@ pub mod Meanings
 pub mod Program
 pub mod Runs
 pub mod Following
+pub mod Whole
+pub mod Accepting
+pub mod Taking

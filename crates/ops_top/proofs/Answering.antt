@@ -3,6 +3,7 @@ use Rattle.std.proofs.Common.{◌≡◌, ℕ, ◌<◌, List, [], Bool, true, fal
 use Rattle.std.proofs.lemmas.Bool.Decides.{nat_tests}
 use Rattle.std.proofs.lemmas.List.{append-nil}
 use Rattle.ops_base.specs.declared.endings.Ending.{Ending}
+use Rattle.ops_io.specs.Coming.{Coming}
 use Rattle.ops_io.specs.Outside.{GrewBy, GrewByPrefix}
 use Rattle.ops_io.specs.declared.stop.Stop.{Stop}
 use Rattle.ops_io.specs.declared.stop.Stop.TheVariants as stop
@@ -11,9 +12,10 @@ use Rattle.ops_meaning.specs.declared.statuses.Status.TheVariants as status
 use Rattle.ops_meaning.specs.Reads.{Read, Placed, reads}
 use Rattle.ops_meaning.specs.Running.{Course, session_of, ending_of}
 use Rattle.ops_meaning.specs.Whole.{Reply, Answers, status_of, answer_read, answer_file, text_of, setting_of, unread, whole_file, whole, words_fit, first_word}
-use Rattle.ops_top.specs.Calls.{OfContent, TellsFailedWrite, TellsWords, usage, runs_through, file_runs_through, text_runs_through}
+use Rattle.ops_top.specs.Calls.{OfContent, OfInput, TellsFailedWrite, TellsWords, usage, RunsThrough, file_runs_through, text_runs_through}
 use Rattle.ops_top.specs.Told.{Delivers, status_after}
 use Rattle.ops_meaning.proofs.Endings.{IsOfText, answer_file_of_text}
+use Rattle.ops_top.proofs.Inputs.{input_map, input_some}
 use Rattle.ops_top.proofs.Loads.{of_map}
 
 -- what holds whatever the content is
@@ -55,26 +57,26 @@ IsPlain status.ReadFault = Unit {0}
 IsPlain status.WriteFault = ⊥
 IsPlain status.OutOfMemory = ⊥
 
-text_is_plain : (s : Status) → IsOfText s → IsPlain s
-text_is_plain status.Done p = tt
-text_is_plain (status.Refused f line column) p = tt
-text_is_plain status.Usage p = tt
-text_is_plain (status.ActFault f r n k) p = tt
-text_is_plain status.Limit p = tt
-text_is_plain status.ReadFault p = tt
-text_is_plain status.WriteFault p = p
-text_is_plain status.OutOfMemory p = p
+text_is_plain : (fails : Bool) (s : Status) → IsOfText fails s → IsPlain s
+text_is_plain fails status.Done p = tt
+text_is_plain fails (status.Refused f line column) p = tt
+text_is_plain fails status.Usage p = tt
+text_is_plain fails (status.ActFault f r n k) p = tt
+text_is_plain fails status.Limit p = tt
+text_is_plain fails status.ReadFault p = tt
+text_is_plain fails status.WriteFault p = p
+text_is_plain fails status.OutOfMemory p = p
 
-file_is_plain : (name : List ℕ) (content : Option (List ℕ)) (broken : Bool) → IsPlain (whole_file name content broken).status
-file_is_plain name content true = tt
-file_is_plain name None false = tt
-file_is_plain name (Some bytes) false = text_is_plain (answer_file bytes).status (answer_file_of_text bytes)
+file_is_plain : (name : List ℕ) (content : Option (List ℕ)) (broken : Bool) (z : Coming) → IsPlain (whole_file name content broken z).status
+file_is_plain name content true z = tt
+file_is_plain name None false z = tt
+file_is_plain name (Some bytes) false z = text_is_plain z.fails (answer_file z bytes).status (answer_file_of_text z bytes)
 
-whole_is_plain : (ws : List (List ℕ)) (content : Option (List ℕ)) (broken : Bool) → IsPlain (whole ws content broken).status
-whole_is_plain ws content broken = by (words_fit ws)
+whole_is_plain : (ws : List (List ℕ)) (content : Option (List ℕ)) (broken : Bool) (z : Coming) → IsPlain (whole ws content broken z).status
+whole_is_plain ws content broken z = by (words_fit ws)
   where
-    by : (fit : Bool) → IsPlain (cond fit (whole_file (first_word ws) content broken) usage).status
-    by true = file_is_plain (first_word ws) content broken
+    by : (fit : Bool) → IsPlain (cond fit (whole_file (first_word ws) content broken z) usage).status
+    by true = file_is_plain (first_word ws) content broken z
     by false = tt
 
 plain_tells : (s : Status) (before now : ℕ) → IsPlain s → now ≡ before → TellsFailedWrite s before now
@@ -92,26 +94,26 @@ tells_write (Ok s) o k n b a p d = plain_tells s b a (subst IsPlain (sym d.0) p)
 tells_write (Err stop.Write) o k n b a p d = d.1
 tells_write (Err stop.OutOfMemory) o k n b a p d = d.1
 
-text_fits : (s : Status) → IsOfText s → TellsWords s true
-text_fits status.Done p = refl
-text_fits (status.Refused f line column) p = refl
-text_fits status.Usage p = absurd p
-text_fits (status.ActFault f r n k) p = refl
-text_fits status.Limit p = refl
-text_fits status.ReadFault p = refl
-text_fits status.WriteFault p = tt
-text_fits status.OutOfMemory p = tt
+text_fits : (fails : Bool) (s : Status) → IsOfText fails s → TellsWords s true
+text_fits fails status.Done p = refl
+text_fits fails (status.Refused f line column) p = refl
+text_fits fails status.Usage p = absurd p
+text_fits fails (status.ActFault f r n k) p = refl
+text_fits fails status.Limit p = refl
+text_fits fails status.ReadFault p = refl
+text_fits fails status.WriteFault p = tt
+text_fits fails status.OutOfMemory p = tt
 
-file_fits : (name : List ℕ) (content : Option (List ℕ)) (broken : Bool) → TellsWords (whole_file name content broken).status true
-file_fits name content true = refl
-file_fits name None false = refl
-file_fits name (Some bytes) false = text_fits (answer_file bytes).status (answer_file_of_text bytes)
+file_fits : (name : List ℕ) (content : Option (List ℕ)) (broken : Bool) (z : Coming) → TellsWords (whole_file name content broken z).status true
+file_fits name content true z = refl
+file_fits name None false z = refl
+file_fits name (Some bytes) false z = text_fits z.fails (answer_file z bytes).status (answer_file_of_text z bytes)
 
-whole_tells_words : (ws : List (List ℕ)) (content : Option (List ℕ)) (broken : Bool) → TellsWords (whole ws content broken).status (words_fit ws)
-whole_tells_words ws content broken = by (words_fit ws)
+whole_tells_words : (ws : List (List ℕ)) (content : Option (List ℕ)) (broken : Bool) (z : Coming) → TellsWords (whole ws content broken z).status (words_fit ws)
+whole_tells_words ws content broken z = by (words_fit ws)
   where
-    by : (fit : Bool) → TellsWords (cond fit (whole_file (first_word ws) content broken) usage).status fit
-    by true = file_fits (first_word ws) content broken
+    by : (fit : Bool) → TellsWords (cond fit (whole_file (first_word ws) content broken z) usage).status fit
+    by true = file_fits (first_word ws) content broken z
     by false = refl
 
 tells_words : (r : Result Status Stop) (o : Reply) (fit : Bool) (k n : Option (List ℕ)) (b a : ℕ) → TellsWords o.status fit → Delivers r o k b n a → TellsWords (status_after r) fit
@@ -121,29 +123,37 @@ tells_words (Err stop.OutOfMemory) o fit k n b a p d = tt
 
 -- ---- the clauses of a call, of words whose whole is delivered
 
--- the content and the counts that the clauses speak of
-abbrev pub DeliversWhole : Result Status Stop → List (List ℕ) → Option (Option (List ℕ)) → Bool → Option (List ℕ) → ℕ → Option (List ℕ) → ℕ → Type 0
-DeliversWhole r ws told broken k b n a = OfContent told (λ content. Delivers r (whole ws content broken) k b n a)
+module _ (r : Result Status Stop) (ws : List (List ℕ)) (told : Option (Option (List ℕ))) (broken : Bool) (old new : Option (List ℕ)) (failed : Bool) (k n : Option (List ℕ)) (b a : ℕ) where
+  -- the content, the input and the counts that the clauses speak of
+  abbrev pub DeliversWhole : Type 0
+  DeliversWhole = OfContent told (λ content. OfInput old new failed (λ z. Delivers r (whole ws content broken z) k b n a))
 
-pub whole_answers : (r : Result Status Stop) (ws : List (List ℕ)) (told : Option (Option (List ℕ))) (broken : Bool) (k n : Option (List ℕ)) (b a : ℕ) → DeliversWhole r ws told broken k b n a → OfContent told (λ content. Answers (status_after r) (whole ws content broken) k n)
-whole_answers r ws told broken k n b a d =
-    of_map told _ _ (λ content d. delivered_answers r (whole ws content broken) k n b a d) d
+  -- what holds whatever the content and the input are
+  of_whole : (Q : Type 0) → ((content : Option (List ℕ)) (z : Coming) → Delivers r (whole ws content broken z) k b n a → Q) → DeliversWhole → Q
+  of_whole Q f d =
+      of_some told _ Q (λ content d. input_some old new failed (λ z. Delivers r (whole ws content broken z) k b n a) Q (f content) d) d
 
-pub whole_tells_write : (r : Result Status Stop) (ws : List (List ℕ)) (told : Option (Option (List ℕ))) (broken : Bool) (k n : Option (List ℕ)) (b a : ℕ) → DeliversWhole r ws told broken k b n a → TellsFailedWrite (status_after r) b a
-whole_tells_write r ws told broken k n b a d =
-    of_some told _ _ (λ content d. tells_write r (whole ws content broken) k n b a (whole_is_plain ws content broken) d) d
+  pub whole_answers : DeliversWhole → OfContent told (λ content. OfInput old new failed (λ z. Answers (status_after r) (whole ws content broken z) k n))
+  whole_answers d =
+      of_map told _ _
+      (λ content d. input_map old new failed (λ z. Delivers r (whole ws content broken z) k b n a) (λ z. Answers (status_after r) (whole ws content broken z) k n)
+      (λ z d. delivered_answers r (whole ws content broken z) k n b a d) d) d
 
-pub whole_fits_words : (r : Result Status Stop) (ws : List (List ℕ)) (told : Option (Option (List ℕ))) (broken : Bool) (k n : Option (List ℕ)) (b a : ℕ) → DeliversWhole r ws told broken k b n a → TellsWords (status_after r) (words_fit ws)
-whole_fits_words r ws told broken k n b a d =
-    of_some told _ _ (λ content d. tells_words r (whole ws content broken) (words_fit ws) k n b a (whole_tells_words ws content broken) d) d
+  pub whole_tells_write : DeliversWhole → TellsFailedWrite (status_after r) b a
+  whole_tells_write d =
+      of_whole (TellsFailedWrite (status_after r) b a) (λ content z d. tells_write r (whole ws content broken z) k n b a (whole_is_plain ws content broken z) d) d
 
--- words that don't fit are answered with the usage line
-pub unfit_answers : (r : Result Status Stop) (ws : List (List ℕ)) (told : Option (Option (List ℕ))) (broken : Bool) (k n : Option (List ℕ)) (b a : ℕ) → DeliversWhole r ws told broken k b n a → words_fit ws ≡ false → Answers (status_after r) usage k n
-unfit_answers r ws told broken k n b a d unfit =
-    let P : Reply → Type 0 = λ o. Answers (status_after r) o k n in
-    of_some told _ _
-    (λ content d. let by : Bool → Reply = λ fit. cond fit (whole_file (first_word ws) content broken) usage in
-    subst P (ap by unfit) (delivered_answers r (whole ws content broken) k n b a d)) d
+  pub whole_fits_words : DeliversWhole → TellsWords (status_after r) (words_fit ws)
+  whole_fits_words d =
+      of_whole (TellsWords (status_after r) (words_fit ws)) (λ content z d. tells_words r (whole ws content broken z) (words_fit ws) k n b a (whole_tells_words ws content broken z) d) d
+
+  -- words that don't fit are answered with the usage line
+  pub unfit_answers : DeliversWhole → words_fit ws ≡ false → Answers (status_after r) usage k n
+  unfit_answers d unfit =
+      let P : Reply → Type 0 = λ o. Answers (status_after r) o k n in
+      of_whole (Answers (status_after r) usage k n)
+      (λ content z d. let by : Bool → Reply = λ fit. cond fit (whole_file (first_word ws) content broken z) usage in
+      subst P (ap by unfit) (delivered_answers r (whole ws content broken z) k n b a d)) d
 
 broken_fits : (b : Bool) (ws : List (List ℕ)) (before now : ℕ) → words_fit ws ≡ b → (words_fit ws ≡ false → now ≡ before) → before < now → words_fit ws ≡ true
 broken_fits true ws before now is unasked rose = is
@@ -152,19 +162,20 @@ broken_fits false ws before now is unasked rose = let same = unasked is in absur
 is_broken : (before now : ℕ) → before < now → nat_lt before now ≡ true
 is_broken before now h = grind (arith, nat_tests)
 
-whole_unread : (ws : List (List ℕ)) (content : Option (List ℕ)) (broken : Bool) → words_fit ws ≡ true → broken ≡ true → whole ws content broken ≡ unread (first_word ws)
-whole_unread ws content broken fit is =
-    let by : Bool → Reply = λ fit. cond fit (whole_file (first_word ws) content broken) usage in
-    let file : Bool → Reply = λ broken. whole_file (first_word ws) content broken in
+whole_unread : (ws : List (List ℕ)) (content : Option (List ℕ)) (broken : Bool) (z : Coming) → words_fit ws ≡ true → broken ≡ true → whole ws content broken z ≡ unread (first_word ws)
+whole_unread ws content broken z fit is =
+    let by : Bool → Reply = λ fit. cond fit (whole_file (first_word ws) content broken z) usage in
+    let file : Bool → Reply = λ broken. whole_file (first_word ws) content broken z in
     ap by fit ∙ ap file is
 
 -- a load that failed is answered with the line that tells so
-pub unread_answers : (r : Result Status Stop) (ws : List (List ℕ)) (told : Option (Option (List ℕ))) (before now : ℕ) (k n : Option (List ℕ)) (b a : ℕ) → DeliversWhole r ws told (nat_lt before now) k b n a → (words_fit ws ≡ false → now ≡ before) → before < now → Answers (status_after r) (unread (first_word ws)) k n
-unread_answers r ws told before now k n b a d unasked rose =
+pub unread_answers : (r : Result Status Stop) (ws : List (List ℕ)) (told : Option (Option (List ℕ))) (before now : ℕ) (old new : Option (List ℕ)) (failed : Bool) (k n : Option (List ℕ)) (b a : ℕ) → DeliversWhole r ws told (nat_lt before now) old new failed k n b a
+    → (words_fit ws ≡ false → now ≡ before) → before < now → Answers (status_after r) (unread (first_word ws)) k n
+unread_answers r ws told before now old new failed k n b a d unasked rose =
     let P : Reply → Type 0 = λ o. Answers (status_after r) o k n in
     let fit = broken_fits (words_fit ws) ws before now refl unasked rose in
-    of_some told _ _
-    (λ content d. subst P (whole_unread ws content (nat_lt before now) fit (is_broken before now rose)) (delivered_answers r (whole ws content (nat_lt before now)) k n b a d)) d
+    of_whole r ws told (nat_lt before now) old new failed k n b a (Answers (status_after r) (unread (first_word ws)) k n)
+    (λ content z d. subst P (whole_unread ws content (nat_lt before now) z fit (is_broken before now rose)) (delivered_answers r (whole ws content (nat_lt before now) z) k n b a d)) d
 
 -- ---- completeness
 
@@ -180,18 +191,18 @@ done_session : (o : Result Course Ending) → is_ok o ≡ true → status_of (en
 done_session (Ok m) h = refl
 done_session (Err f) h = absurd (cc)
 
-done_text : (text : List ℕ) (r : Result Read Placed) → text_runs_through r ≡ true → (answer_read text r).status ≡ status.Done
-done_text text (Err p) h = absurd (cc)
-done_text text (Ok p) h = done_session (session_of (setting_of p) p.commands).outcome h
+done_text : (z : Coming) (text : List ℕ) (r : Result Read Placed) → text_runs_through z r ≡ true → (answer_read z text r).status ≡ status.Done
+done_text z text (Err p) h = absurd (cc)
+done_text z text (Ok p) h = done_session (session_of (setting_of p) p.commands p.names z).outcome h
 
-done_file : (bytes : List ℕ) → file_runs_through bytes ≡ true → (answer_file bytes).status ≡ status.Done
-done_file bytes h = done_text (text_of bytes) (reads (text_of bytes)) h
+done_file : (z : Coming) (bytes : List ℕ) → file_runs_through z bytes ≡ true → (answer_file z bytes).status ≡ status.Done
+done_file z bytes h = done_text z (text_of bytes) (reads (text_of bytes)) h
 
-done_whole : (ws : List (List ℕ)) (bytes : List ℕ) (broken : Bool) → (words_fit ws && file_runs_through bytes) ≡ true → broken ≡ false → (whole ws (Some bytes) broken).status ≡ status.Done
-done_whole ws bytes broken h is =
-    let by : Bool → Status = λ fit. (cond fit (whole_file (first_word ws) (Some bytes) broken) usage).status in
-    let file : Bool → Status = λ broken. (whole_file (first_word ws) (Some bytes) broken).status in
-    ap by (and_left (words_fit ws) (file_runs_through bytes) h) ∙ ap file is ∙ done_file bytes (and_right (words_fit ws) (file_runs_through bytes) h)
+done_whole : (z : Coming) (ws : List (List ℕ)) (bytes : List ℕ) (broken : Bool) → (words_fit ws && file_runs_through z bytes) ≡ true → broken ≡ false → (whole ws (Some bytes) broken z).status ≡ status.Done
+done_whole z ws bytes broken h is =
+    let by : Bool → Status = λ fit. (cond fit (whole_file (first_word ws) (Some bytes) broken z) usage).status in
+    let file : Bool → Status = λ broken. (whole_file (first_word ws) (Some bytes) broken z).status in
+    ap by (and_left (words_fit ws) (file_runs_through z bytes) h) ∙ ap file is ∙ done_file z bytes (and_right (words_fit ws) (file_runs_through z bytes) h)
 
 done_or_short : (s : Status) (o : Reply) (k n : Option (List ℕ)) (b a : ℕ) → o.status ≡ status.Done → Answers s o k n → TellsFailedWrite s b a → a ≡ b → (s ≡ status.Done) ⊎ (s ≡ status.OutOfMemory)
 done_or_short status.Done o k n b a h p w e = inl refl
@@ -207,9 +218,17 @@ unbroken : (before now : ℕ) → now ≡ before → nat_lt before now ≡ false
 unbroken before now h = grind (arith, nat_tests)
 
 -- a program that runs through is done, where no device failed
-pub runs_to_end : (s : Status) (ws : List (List ℕ)) (told : Option (Option (List ℕ))) (before now : ℕ) (k n : Option (List ℕ)) (b a : ℕ) → OfContent told (λ content. Answers s (whole ws content (nat_lt before now)) k n) → TellsFailedWrite s b a → runs_through ws told ≡ true → now ≡ before → a ≡ b → (s ≡ status.Done) ⊎ (s ≡ status.OutOfMemory)
-runs_to_end s ws None before now k n b a p w h same e = absurd (cc)
-runs_to_end s ws (Some None) before now k n b a p w h same e = absurd (cc)
-runs_to_end s ws (Some (Some bytes)) before now k n b a p w h same e =
+pub runs_to_end : (s : Status) (ws : List (List ℕ)) (told : Option (Option (List ℕ))) (old new : Option (List ℕ)) (before now before2 now2 : ℕ) (k n : Option (List ℕ)) (b a : ℕ)
+    → OfContent told (λ content. OfInput old new (nat_lt before2 now2) (λ z. Answers s (whole ws content (nat_lt before now) z) k n)) → TellsFailedWrite s b a → RunsThrough ws told old → now ≡ before → now2 ≡ before2 → a ≡ b → (s ≡ status.Done) ⊎ (s ≡ status.OutOfMemory)
+runs_to_end s ws None old new before now before2 now2 k n b a p w h same steady e = absurd h
+runs_to_end s ws (Some None) old new before now before2 now2 k n b a p w h same steady e = absurd h
+runs_to_end s ws (Some (Some bytes)) None new before now before2 now2 k n b a p w h same steady e =
+    let z : Coming = p.0 in
+    let R : Bool → Type 0 = λ fails. (words_fit ws && file_runs_through (record { bytes = z.bytes; fails = fails }) bytes) ≡ true in
+    let runs : (words_fit ws && file_runs_through z bytes) ≡ true = subst R (sym (p.1 ∙ unbroken before2 now2 steady)) (h z.bytes) in
+    done_or_short s (whole ws (Some bytes) (nat_lt before now) z) k n b a (done_whole z ws bytes (nat_lt before now) runs (unbroken before now same)) p.2 w e
+runs_to_end s ws (Some (Some bytes)) (Some left) new before now before2 now2 k n b a p w h same steady e =
+    let z : Coming = record { bytes = left; fails = false } in
     let is : nat_lt before now ≡ false = unbroken before now same in
-    done_or_short s (whole ws (Some bytes) (nat_lt before now)) k n b a (done_whole ws bytes (nat_lt before now) h is) p w e
+    let I : Bool → Type 0 = λ failed. OfInput (Some left) new failed (λ z. Answers s (whole ws (Some bytes) (nat_lt before now) z) k n) in
+    done_or_short s (whole ws (Some bytes) (nat_lt before now) z) k n b a (done_whole z ws bytes (nat_lt before now) h is) (subst I (unbroken before2 now2 steady) p) w e

@@ -1,5 +1,9 @@
 -- What was put and written out is delivered.
-use Rattle.std.proofs.Common.{◌≡◌, ℕ, List, [], ◌++◌, Option, Ok, Err, refl, sym, ◌∙◌, subst}
+use Rattle.std.proofs.Common.{◌≡◌, ℕ, List, [], ◌++◌, Option, Ok, Err, false, refl, sym, ap, ◌∙◌, subst, nat_lt}
+use Rattle.ops_base.specs.Names.{Spellings}
+use Rattle.ops_base.specs.declared.endings.Ending.{Ending}
+use Rattle.ops_base.specs.declared.rules.Rule.{Rule}
+use Rattle.ops_io.specs.Coming.{Coming, Inlet, preceded_by}
 use Rattle.ops_io.specs.Outside.{GrewBy, GrewByPrefix}
 use Rattle.ops_io.specs.Ports.{Port, Put, Stopped, Flushed, Cause}
 use Rattle.ops_io.specs.declared.stop.Stop.{Stop}
@@ -7,8 +11,13 @@ use Rattle.ops_io.specs.declared.stop.Stop.TheVariants as stop
 use Rattle.ops_io.proofs.Known.{append_known-nothing}
 use Rattle.ops_io.proofs.PortLemmas.{put_flushed, put_unflushed}
 use Rattle.ops_meaning.specs.declared.statuses.Status.{Status}
-use Rattle.ops_meaning.specs.Whole.{Reply}
-use Rattle.ops_top.specs.Told.{Delivers}
+use Rattle.ops_meaning.specs.Effects.{Effect}
+use Rattle.ops_meaning.specs.Running.{Course as Meant}
+use Rattle.ops_meaning.specs.Whole.{Reply, status_of, told}
+use Rattle.ops_top.specs.Calls.{OfInput}
+use Rattle.ops_top.specs.Told.{Delivers, TellsOn}
+use Rattle.ops_top.proofs.Comings.{some_after}
+use Rattle.ops_top.proofs.Inputs.{over_input}
 
 -- all was put, and then written out
 pub delivered : (s : Status) (o : Reply) (a b c : Port) → a.out.held ≡ [] → s ≡ o.status → Put a b o.bytes → Flushed b c → Delivers (Ok s) o a.taken a.faults c.taken c.faults
@@ -32,3 +41,30 @@ unput why o a b e q =
 -- memory ran out before anything was put
 pub untold : (o : Reply) (taken : Option (List ℕ)) (faults : ℕ) → Delivers (Err stop.OutOfMemory) o taken faults taken faults
 untold o taken faults = (([], o.bytes, refl, sym (append_known-nothing taken)), refl)
+
+-- ---- a session that is told over an input
+
+module _ {before now : Inlet} {a b : Port} {names : Spellings} {rules : List Rule} {e : Coming → Effect Ending Meant} where
+  -- what is told was put
+  pub put_told : (f : Ending) → TellsOn (Ok f) before now a b names rules e → (xs : List ℕ) × Put a b xs
+  put_told f p =
+      let z = some_after before now in ((told names rules (e (preceded_by p.taken z.0))).bytes, (p.tells z.0 z.1).1)
+
+  module _ (empty : before.buffer ≡ record { held = []; ended = false }) (held : a.out.held ≡ []) where
+    -- the session was cut
+    pub program_cut : (why : Stop) → TellsOn (Err why) before now a b names rules e → OfInput before.left now.left (nat_lt before.faults now.faults) (λ z. Delivers (Err why) (told names rules (e z)) a.taken a.faults b.taken b.faults)
+    program_cut why p =
+        over_input before now p.taken p.took empty (λ z. Delivers (Err why) (told names rules (e z)) a.taken a.faults b.taken b.faults)
+        (λ z h. unput why (told names rules (e (preceded_by p.taken z))) a b held (p.tells z h))
+
+    module _ {c : Port} (f : Ending) (p : TellsOn (Ok f) before now a b names rules e) where
+      -- what is told was not written out
+      pub program_unflushed : (why : Stop) → Stopped why b c [] → OfInput before.left now.left (nat_lt before.faults now.faults) (λ z. Delivers (Err why) (told names rules (e z)) a.taken a.faults c.taken c.faults)
+      program_unflushed why q =
+          over_input before now p.taken p.took empty (λ z. Delivers (Err why) (told names rules (e z)) a.taken a.faults c.taken c.faults)
+          (λ z h. unflushed why (told names rules (e (preceded_by p.taken z))) a b c held (p.tells z h).1 q)
+
+      pub program_delivered : (s : Status) → s ≡ status_of f → Flushed b c → OfInput before.left now.left (nat_lt before.faults now.faults) (λ z. Delivers (Ok s) (told names rules (e z)) a.taken a.faults c.taken c.faults)
+      program_delivered s is q =
+          over_input before now p.taken p.took empty (λ z. Delivers (Ok s) (told names rules (e z)) a.taken a.faults c.taken c.faults)
+          (λ z h. delivered s (told names rules (e (preceded_by p.taken z))) a b c held (is ∙ ap status_of (p.tells z h).0) (p.tells z h).1 q)

@@ -1,3 +1,5 @@
+pub mod Comings
+pub mod Inputs
 pub mod Stores
 pub mod Firings
 pub mod Turns

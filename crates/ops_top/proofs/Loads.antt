@@ -1,19 +1,15 @@
 -- What a load decides of the answer.
-use Rattle.std.proofs.Common.{◌≡◌, ℕ, zero, suc, ◌+◌, ◌<◌, ◌≤◌, List, [], ◌∷◌, ◌++◌, Bool, true, false, Option, Some, None, Result, Ok, Err, refl, ap, sym, subst, nat_lt, length, cond, String, string_bytes, get_or, arith, inl}
+use Rattle.std.proofs.Common.{◌≡◌, ℕ, zero, suc, ◌+◌, ◌<◌, ◌≤◌, List, [], ◌∷◌, ◌++◌, Bool, true, false, Option, Some, None, Result, Ok, refl, ap, sym, subst, nat_lt, length, cond, String, string_bytes, get_or, arith}
 use Rattle.std.proofs.lemmas.Bool.Decides.{nat_tests}
 use Rattle.std.proofs.lemmas.Grind.{common_steps}
 use Rattle.ops_base.specs.Valid.{longest_list}
 use Rattle.ops_base.specs.declared.endings.Fault.TheVariants as fault
+use Rattle.ops_io.specs.Coming.{Coming}
 use Rattle.ops_io.specs.Outside.{LoadGives}
 use Rattle.ops_io.specs.declared.outside.LoadError.{LoadError}
-use Rattle.ops_io.specs.declared.stop.Stop.{Stop}
-use Rattle.ops_io.specs.declared.stop.Stop.TheVariants as stop
-use Rattle.ops_meaning.specs.declared.statuses.Status.{Status}
-use Rattle.ops_meaning.specs.declared.statuses.Status.TheVariants as status
 use Rattle.ops_meaning.specs.Whole.{Reply, ends_in_line, text_of, answer_file, refused_at, unread, whole_file, whole, words_fit, word_bytes, first_word}
-use Rattle.ops_top.specs.Calls.{OfContent, TellsFailedLoad, usage}
-use Rattle.ops_top.specs.Told.{Delivers, status_after}
-use Rattle.ops_meaning.proofs.Endings.{IsOfText}
+use Rattle.ops_top.specs.Calls.{OfContent, OfInput, usage}
+use Rattle.ops_top.proofs.Inputs.{input_map, input_untouched}
 use Rattle.ops_top.proofs.Refusals.{too_long}
 
 not_broken : (before now : ℕ) → now ≡ before → nat_lt before now ≡ false
@@ -56,56 +52,60 @@ of_long (Some (Some bytes)) P room old new h f = f bytes h.0
 -- ---- the arms of a load
 
 -- the file was loaded, and its text is answered
-pub loaded_delivers : (D : Reply → Type 0) (name : List ℕ) (told : Option (Option (List ℕ))) (room before now : ℕ) (old new : List ℕ) → old ≡ [] → (let r : Result Bool LoadError = Ok true in LoadGives told room r old new) → now ≡ before → D (answer_file new) → OfContent told (λ content. D (whole_file name content (nat_lt before now)))
-loaded_delivers D name told room before now old new empty h same d =
+pub loaded_delivers : (I : (Coming → Type 0) → Type 0) (D : Reply → Type 0) (name : List ℕ) (told : Option (Option (List ℕ))) (room before now : ℕ) (old new : List ℕ) → old ≡ [] → (let r : Result Bool LoadError = Ok true in LoadGives told room r old new) → now ≡ before
+    → I (λ z. D (answer_file z new)) → OfContent told (λ content. I (λ z. D (whole_file name content (nat_lt before now) z)))
+loaded_delivers I D name told room before now old new empty h same d =
     let G : List ℕ → Type 0 = λ xs. (let r : Result Bool LoadError = Ok true in LoadGives told room r xs new) in
-    let B : Bool → Type 0 = λ b. D (whole_file name (Some new) b) in
+    let B : Bool → Type 0 = λ b. I (λ z. D (whole_file name (Some new) b z)) in
     of_loaded told _ room new (subst G empty h) (subst B (sym (not_broken before now same)) d)
 
 -- the file is longer than any text, and is refused
-pub long_delivers : (D : Reply → Type 0) (name : List ℕ) (told : Option (Option (List ℕ))) (room before now : ℕ) (old new : List ℕ) → room ≡ longest_list → (let r : Result Bool LoadError = Ok false in LoadGives told room r old new) → now ≡ before → D (refused_at fault.TooLong 1 1) → OfContent told (λ content. D (whole_file name content (nat_lt before now)))
-long_delivers D name told room before now old new is h same d =
+pub long_delivers : (left : Option (List ℕ)) (failed : Bool) (D : Reply → Type 0) (name : List ℕ) (told : Option (Option (List ℕ))) (room before now : ℕ) (old new : List ℕ) → room ≡ longest_list → (let r : Result Bool LoadError = Ok false in LoadGives told room r old new) → now ≡ before
+    → D (refused_at fault.TooLong 1 1) → OfContent told (λ content. OfInput left left failed (λ z. D (whole_file name content (nat_lt before now) z)))
+long_delivers left failed D name told room before now old new is h same d =
     of_long told _ room old new h
-    (λ bytes long. let B : Bool → Type 0 = λ b. D (whole_file name (Some bytes) b) in
-    subst B (sym (not_broken before now same)) (subst D (too_long (text_of bytes) (omega (arith, text_as_long bytes))) d))
+    (λ bytes long. let B : Bool → Type 0 = λ b. OfInput left left failed (λ z. D (whole_file name (Some bytes) b z)) in
+    subst B (sym (not_broken before now same))
+    (input_untouched left failed (λ z. D (answer_file z bytes)) (λ z. subst D (too_long (text_of bytes) z (omega (arith, text_as_long bytes))) d)))
 
-unread_any : (name : List ℕ) (content : Option (List ℕ)) → unread name ≡ whole_file name content true
-unread_any name content = refl
+unread_any : (name : List ℕ) (content : Option (List ℕ)) (z : Coming) → unread name ≡ whole_file name content true z
+unread_any name content z = refl
 
 -- the load failed
-pub failed_delivers : (D : Reply → Type 0) (name : List ℕ) (told : Option (Option (List ℕ))) (before now : ℕ) → now ≡ before + 1 → D (unread name) → OfContent told (λ content. D (whole_file name content (nat_lt before now)))
-failed_delivers D name told before now rose d =
+pub failed_delivers : (left : Option (List ℕ)) (failed : Bool) (D : Reply → Type 0) (name : List ℕ) (told : Option (Option (List ℕ))) (before now : ℕ) → now ≡ before + 1
+    → D (unread name) → OfContent told (λ content. OfInput left left failed (λ z. D (whole_file name content (nat_lt before now) z)))
+failed_delivers left failed D name told before now rose d =
     of_any told _
-    (λ content. let B : Bool → Type 0 = λ b. D (whole_file name content b) in
-    subst B (sym (is_broken before now rose)) (subst D (unread_any name content) d))
+    (λ content. let B : Bool → Type 0 = λ b. OfInput left left failed (λ z. D (whole_file name content b z)) in
+    subst B (sym (is_broken before now rose)) (input_untouched left failed (λ z. D (whole_file name content true z)) (λ z. subst D (unread_any name content z) d)))
 
-of_text_tells : (s : Status) (before now : ℕ) → IsOfText s → now ≡ before → TellsFailedLoad s before now
-of_text_tells status.Done before now p h = h
-of_text_tells (status.Refused f line column) before now p h = h
-of_text_tells status.Usage before now p h = h
-of_text_tells (status.ActFault f r n k) before now p h = h
-of_text_tells status.Limit before now p h = h
-of_text_tells status.ReadFault before now p h = absurd p
-of_text_tells status.WriteFault before now p h = inl h
-of_text_tells status.OutOfMemory before now p h = inl h
-
--- an answer to a text does not blame the load
-pub loaded_tells : (r : Result Status Stop) (o : Reply) (k n : Option (List ℕ)) (b a before now : ℕ) → IsOfText o.status → Delivers r o k b n a → now ≡ before → TellsFailedLoad (status_after r) before now
-loaded_tells (Ok s) o k n b a before now p d h = of_text_tells s before now (subst IsOfText (sym d.0) p) h
-loaded_tells (Err stop.Write) o k n b a before now p d h = inl h
-loaded_tells (Err stop.OutOfMemory) o k n b a before now p d h = inl h
+-- memory ran out
+pub short_delivers : (left : Option (List ℕ)) (failed : Bool) (D : Reply → Type 0) (name : List ℕ) (told : Option (Option (List ℕ))) (before now : ℕ) → ((o : Reply) → D o)
+    → OfContent told (λ content. OfInput left left failed (λ z. D (whole_file name content (nat_lt before now) z)))
+short_delivers left failed D name told before now d =
+    of_any told _ (λ content. input_untouched left failed (λ z. D (whole_file name content (nat_lt before now) z)) (λ z. d (whole_file name content (nat_lt before now) z)))
 
 -- ---- words
 
-whole_fits : (ws : List (List ℕ)) (content : Option (List ℕ)) (broken : Bool) → words_fit ws ≡ true → whole_file (first_word ws) content broken ≡ whole ws content broken
-whole_fits ws content broken fit =
-    let by : Bool → Reply = λ b. cond b (whole_file (first_word ws) content broken) usage in ap by (sym fit)
+whole_fits : (ws : List (List ℕ)) (content : Option (List ℕ)) (broken : Bool) (z : Coming) → words_fit ws ≡ true → whole_file (first_word ws) content broken z ≡ whole ws content broken z
+whole_fits ws content broken z fit =
+    let by : Bool → Reply = λ b. cond b (whole_file (first_word ws) content broken z) usage in ap by (sym fit)
 
 -- what is answered to the file of the first word is answered to the words
-pub words_deliver : (D : Reply → Type 0) (ws : List (List ℕ)) (name : List ℕ) (told : List ℕ → Option (Option (List ℕ))) (broken : Bool) → words_fit ws ≡ true → name ≡ first_word ws → OfContent (told name) (λ content. D (whole_file name content broken)) → OfContent (told (first_word ws)) (λ content. D (whole ws content broken))
-words_deliver D ws name told broken fit is p =
-    let N : List ℕ → Type 0 = λ w. OfContent (told w) (λ content. D (whole_file w content broken)) in
-    of_map (told (first_word ws)) _ _ (λ content d. subst D (whole_fits ws content broken fit) d) (subst N is p)
+pub words_deliver : (old new : Option (List ℕ)) (failed : Bool) (D : Reply → Type 0) (ws : List (List ℕ)) (name : List ℕ) (told : List ℕ → Option (Option (List ℕ))) (broken : Bool) → words_fit ws ≡ true → name ≡ first_word ws
+    → OfContent (told name) (λ content. OfInput old new failed (λ z. D (whole_file name content broken z))) → OfContent (told (first_word ws)) (λ content. OfInput old new failed (λ z. D (whole ws content broken z)))
+words_deliver old new failed D ws name told broken fit is p =
+    let N : List ℕ → Type 0 = λ w. OfContent (told w) (λ content. OfInput old new failed (λ z. D (whole_file w content broken z))) in
+    of_map (told (first_word ws)) _ _
+    (λ content d. input_map old new failed (λ z. D (whole_file (first_word ws) content broken z)) (λ z. D (whole ws content broken z)) (λ z d. subst D (whole_fits ws content broken z fit) d) d) (subst N is p)
+
+-- words that don't fit are answered whatever the input is
+pub unfit_deliver : (left : Option (List ℕ)) (failed : Bool) (D : Reply → Type 0) (ws : List (List ℕ)) (told : Option (Option (List ℕ))) (broken : Bool) → words_fit ws ≡ false
+    → D usage → OfContent told (λ content. OfInput left left failed (λ z. D (whole ws content broken z)))
+unfit_deliver left failed D ws told broken unfit d =
+    of_any told _
+    (λ content. let by : Coming → Bool → Reply = λ z b. cond b (whole_file (first_word ws) content broken z) usage in
+    input_untouched left failed (λ z. D (whole ws content broken z)) (λ z. subst D (ap (by z) (sym unfit)) d))
 
 -- the first word, of words that fit
 pub first_is : {A : Type 0} (words : List (String A)) (w : String A) → words_fit (word_bytes words) ≡ true → w ≡ get_or words 0 w → string_bytes w ≡ first_word (word_bytes words)

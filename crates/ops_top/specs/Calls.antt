@@ -1,5 +1,7 @@
 -- What a call of the program leaves, beside the bytes: what each answer tells of the words and of the outside.
 use Rattle.std.specs.Prelude.{◌≡◌, ℕ, ◌+◌, List, [], ◌∷◌, ◌++◌, Bool, true, false, ◌&&◌, Option, Some, None, Result, Ok, Err, is_ok, ◌⊎◌}
+use Rattle.std.specs.Io.KnownBytes.{prepend_known}
+use Rattle.ops_io.specs.Coming.{Coming}
 use Rattle.ops_meaning.specs.declared.statuses.Status.{Status}
 use Rattle.ops_meaning.specs.declared.statuses.Status.TheVariants as status
 use Rattle.ops_meaning.specs.Layout.{usage_line}
@@ -12,18 +14,40 @@ abbrev pub OfContent : Option (Option (List ℕ)) → (Option (List ℕ) → Typ
 OfContent (Some content) P = P content
 OfContent None P = (content : Option (List ℕ)) × P content
 
+-- It holds for the input of a call: all that the source had left; or, where a read failed, the bytes that were taken from it, behind which it
+-- fails. Where the source does not tell its bytes it holds for some input, which fails where a read did.
+abbrev pub OfInput : Option (List ℕ) → Option (List ℕ) → Bool → (Coming → Type 0) → Type 0
+OfInput None now failed P = (coming : Coming) × (coming.fails ≡ failed) × P coming
+OfInput (Some left) now false P = P (record { bytes = left; fails = false })
+OfInput (Some left) now true P = (taken : List ℕ) × (Some left ≡ prepend_known taken now) × P (record { bytes = taken; fails = true })
+
 -- A write fault is answered exactly where a write failed, which is the last one of the call.
 abbrev pub TellsFailedWrite : Status → ℕ → ℕ → Type 0
 TellsFailedWrite status.WriteFault before now = now ≡ before + 1
 TellsFailedWrite s before now = now ≡ before
 
--- A read fault is answered only where the load failed, and where it failed no other answer comes but those of a write and
--- of memory.
-abbrev pub TellsFailedLoad : Status → ℕ → ℕ → Type 0
-TellsFailedLoad status.ReadFault before now = now ≡ before + 1
-TellsFailedLoad status.WriteFault before now = (now ≡ before) ⊎ (now ≡ before + 1)
-TellsFailedLoad status.OutOfMemory before now = (now ≡ before) ⊎ (now ≡ before + 1)
-TellsFailedLoad s before now = now ≡ before
+-- A read fault is answered to a text only where a read of the input failed, and where one failed no other answer comes but those of a
+-- write and of memory.
+abbrev pub TellsFailedInput : Status → ℕ → ℕ → Type 0
+TellsFailedInput status.ReadFault before now = now ≡ before + 1
+TellsFailedInput status.WriteFault before now = (now ≡ before) ⊎ (now ≡ before + 1)
+TellsFailedInput status.OutOfMemory before now = (now ≡ before) ⊎ (now ≡ before + 1)
+TellsFailedInput s before now = now ≡ before
+
+-- none of two counts is another than before, or one of them is one more
+abbrev pub BothStay : (before now before2 now2 : ℕ) → Type 0
+BothStay before now before2 now2 = (now ≡ before) × (now2 ≡ before2)
+
+abbrev pub OneRises : (before now before2 now2 : ℕ) → Type 0
+OneRises before now before2 now2 = ((now ≡ before + 1) × (now2 ≡ before2)) ⊎ ((now ≡ before) × (now2 ≡ before2 + 1))
+
+-- A read fault is answered only where the load or a read of the input failed, and where one failed no other answer comes but those of a
+-- write and of memory. The counts are those of the shelf and of the input.
+abbrev pub TellsFailedRead : Status → (loads now reads now2 : ℕ) → Type 0
+TellsFailedRead status.ReadFault loads now reads now2 = OneRises loads now reads now2
+TellsFailedRead status.WriteFault loads now reads now2 = BothStay loads now reads now2 ⊎ OneRises loads now reads now2
+TellsFailedRead status.OutOfMemory loads now reads now2 = BothStay loads now reads now2 ⊎ OneRises loads now reads now2
+TellsFailedRead s loads now reads now2 = BothStay loads now reads now2
 
 -- Usage is answered only where the words don't fit, and no other answer comes there but those of a write and of memory.
 abbrev pub TellsWords : Status → Bool → Type 0
@@ -45,16 +69,22 @@ AskedForWords s words false old new = new ≡ old
 abbrev pub usage : Reply
 usage = record { bytes = usage_line; status = status.Usage }
 
--- The text is a program whose session comes to its end.
-abbrev pub text_runs_through : Result Read Placed → Bool
-text_runs_through (Err p) = false
-text_runs_through (Ok p) = is_ok (session_of (setting_of p) p.commands).outcome
+-- The text is a program whose session comes to its end over this input.
+abbrev pub text_runs_through : Coming → Result Read Placed → Bool
+text_runs_through coming (Err p) = false
+text_runs_through coming (Ok p) = is_ok (session_of (setting_of p) p.commands p.names coming).outcome
 
-abbrev pub file_runs_through : List ℕ → Bool
-file_runs_through bytes = text_runs_through (reads (text_of bytes))
+abbrev pub file_runs_through : Coming → List ℕ → Bool
+file_runs_through coming bytes = text_runs_through coming (reads (text_of bytes))
 
--- The words fit, the file is there, and its text is a program whose session comes to its end.
-abbrev pub runs_through : List (List ℕ) → Option (Option (List ℕ)) → Bool
-runs_through words (Some (Some bytes)) = words_fit words && file_runs_through bytes
-runs_through words (Some None) = false
-runs_through words None = false
+-- The words fit, and this file's text is a program whose session comes to its end over an input of these bytes.
+abbrev pub runs_over : List (List ℕ) → List ℕ → List ℕ → Bool
+runs_over words bytes left = words_fit words && file_runs_through (record { bytes = left; fails = false }) bytes
+
+-- The words fit, the file is there, and its text is a program whose session comes to its end over the input that is left; where the
+-- source does not tell that, over every input that ends.
+abbrev pub RunsThrough : List (List ℕ) → Option (Option (List ℕ)) → Option (List ℕ) → Type 0
+RunsThrough words (Some (Some bytes)) (Some left) = runs_over words bytes left ≡ true
+RunsThrough words (Some (Some bytes)) None = (left : List ℕ) → runs_over words bytes left ≡ true
+RunsThrough words (Some None) left = ⊥
+RunsThrough words None left = ⊥

@@ -1,5 +1,5 @@
 -- How a part of a run tells its outcome, or gives up.
-use Rattle.std.specs.Prelude.{◌≡◌, ℕ, List, length, Option, Result, Ok, Err}
+use Rattle.std.specs.Prelude.{◌≡◌, ℕ, ◌+◌, List, length, Option, Result, Ok, Err, ◌⊎◌}
 use Rattle.ops_base.specs.declared.endings.Ending.{Ending}
 use Rattle.ops_base.specs.declared.endings.Ending.TheVariants as ending
 use Rattle.ops_io.specs.Outside.{GrewBy, GrewByPrefix}
@@ -10,7 +10,9 @@ use Rattle.ops_meaning.specs.declared.statuses.Status.{Status}
 use Rattle.ops_meaning.specs.declared.statuses.Status.TheVariants as status
 use Rattle.ops_meaning.specs.Effects.{Effect}
 use Rattle.ops_meaning.specs.Whole.{Reply, told}
-use Rattle.ops_meaning.specs.Acting.{Setting}
+use Rattle.ops_base.specs.declared.rules.Rule.{Rule}
+use Rattle.ops_base.specs.Names.{Spellings}
+use Rattle.ops_io.specs.Coming.{Coming, Inlet, preceded_by, Took, ComesAfter}
 use Rattle.ops_meaning.specs.Running.{Course as Meant, ending_of}
 use Rattle.ops_top.specs.declared.course.Course.{Course}
 
@@ -33,7 +35,19 @@ ended (Err ending.WriteFault) = Err stop.Write
 ended (Err ending.OutOfMemory) = Err stop.OutOfMemory
 ended (Err f) = Ok f
 
+-- A read of the input failed exactly where that is the ending; where the call gave up one may have failed.
+abbrev pub CountsUnread : Result Ending Stop → ℕ → ℕ → Type 0
+CountsUnread (Ok ending.ReadFault) before now = now ≡ before + 1
+CountsUnread (Err why) before now = (now ≡ before) ⊎ (now ≡ before + 1)
+CountsUnread (Ok f) before now = now ≡ before
+
 -- The bytes of a session and its last line were put, and this is its ending; or the call gave up.
-abbrev pub TellsSession : Result Ending Stop → Port → Port → Setting → Effect Ending Meant → Type 0
-TellsSession (Ok f) old new s e = (f ≡ ending_of e.outcome) × Put old new (told s e).bytes
-TellsSession (Err why) old new s e = Stopped why old new (told s e).bytes
+abbrev pub TellsSession : Result Ending Stop → Port → Port → Spellings → List Rule → Effect Ending Meant → Type 0
+TellsSession (Ok f) old new names rules e = (f ≡ ending_of e.outcome) × Put old new (told names rules e).bytes
+TellsSession (Err why) old new names rules e = Stopped why old new (told names rules e).bytes
+
+-- It took bytes of the input, and whatever may come behind them, it tells the session over those and that.
+pub record TellsOn (r : Result Ending Stop) (before now : Inlet) (old new : Port) (names : Spellings) (rules : List Rule) (e : Coming → Effect Ending Meant) : Type 0 where
+  pub taken : List ℕ
+  pub took : Took before now taken
+  pub tells : (c : Coming) → ComesAfter before now c → TellsSession r old new names rules (e (preceded_by taken c))

@@ -1,10 +1,14 @@
 //! The answer to a text.
-ghost use Rattle.std.specs.Prelude.{◌≡◌, ◌^◌, ◌<◌, IsTrue};
+ghost use Rattle.std.specs.Prelude.{◌≡◌, ◌^◌, ◌<◌, ℕ, List, length, nat_lt, IsTrue};
+ghost use Rattle.std.specs.Io.KnownBytes.{prepend_known};
+ghost use Rattle.ops_io.specs.Coming.{inlet};
 ghost use Rattle.ops_io.specs.Ports.{port};
 ghost use Rattle.ops_meaning.specs.Running.{session_of};
+ghost use Rattle.ops_meaning.specs.Symbols.{is_held};
 ghost use Rattle.ops_meaning.specs.Whole.{status_of, told, answer_to};
 ghost use Rattle.act_phase.specs.Outcomes.{setting_of};
-ghost use Rattle.ops_top.specs.Told.{Delivers, ended, TellsSession};
+ghost use Rattle.ops_top.specs.Calls.{OfInput, TellsFailedInput};
+ghost use Rattle.ops_top.specs.Told.{Delivers, ended, status_after, CountsUnread, TellsOn};
 
 use crate::course::Course;
 use crate::saying::refuse;
@@ -13,7 +17,7 @@ use ops_base::endings::Ending;
 use ops_base::programs::Program;
 use ops_base::symbols::Names;
 use ops_check::{ProgramFault, read_program};
-use ops_io::{Out, Sink, Stop};
+use ops_io::{Input, Out, Sink, Source, Stop};
 use ops_meaning::Status;
 use ops_print::put_fault;
 use std::alloc::Global;
@@ -57,50 +61,78 @@ fn status_of(ending: Ending) -> Status
     }
 }
 
-/// Runs the session of a program and puts its last line.
-fn tell_session<K: Sink>(
+/// Runs the session of a program and puts its last line. The symbols of the program keep their spellings in it, so that
+/// the line is told with the names as they were.
+fn tell_session<I: Source, K: Sink>(
     alloc: Global,
     program: &Program,
-    names: &Names,
+    names: &mut Names,
+    input: &mut Input,
+    source: &mut I,
     out: &mut Out,
     sink: &mut K,
 ) -> Result<Ending, Stop>
     requires whole { IsTrue out.old.whole }
     requires faults { K.faults sink.old < 2 ^ 63 }
+    requires reads { I.faults source.old < 2 ^ 63 }
     requires column { out.old.column ≡ 0 }
-    ensures { TellsSession result (port (K.taken sink.old) (K.faults sink.old) out.old)
+    requires some { 0 < length names.old.held }
+    requires held { IsTrue (is_held (length names.old.held) program.now.classes program.now.rules program.now.commands) }
+    ensures tells { TellsOn result (inlet input.old (I.left source.old) (I.faults source.old))
+        (inlet input.new (I.left source.new) (I.faults source.new))
+        (port (K.taken sink.old) (K.faults sink.old) out.old)
         (port (K.taken sink.new) (K.faults sink.new) out.new)
-        (setting_of names.now program.now) (session_of (setting_of names.now program.now) program.now.commands) }
+        names.old program.now.rules (λ c. session_of (setting_of program.now) program.now.commands names.old c) }
+    ensures reads { CountsUnread result (I.faults source.old) (I.faults source.new) }
 {
-    let ending = ended(run_session(alloc, program, names, out, sink))?;
+    let ending = ended(run_session(alloc, program, names, input, source, out, sink))?;
     put_fault(out, sink, names, program, &ending)?;
     Ok(ending)
 }
 
-/// The answer to a program.
-fn answer_program<K: Sink>(
+/// The answer to a program, whose session reads from this source.
+fn answer_program<I: Source, K: Sink>(
     alloc: Global,
     program: &Program,
-    names: &Names,
+    names: &mut Names,
+    source: &mut I,
     sink: &mut K,
 ) -> Result<Status, Stop>
     requires faults { K.faults sink.old < 2 ^ 63 }
-    ensures { Delivers result (told (setting_of names.now program.now) (session_of (setting_of names.now program.now) program.now.commands))
-        (K.taken sink.old) (K.faults sink.old) (K.taken sink.new) (K.faults sink.new) }
+    requires reads { I.faults source.old < 2 ^ 63 }
+    requires some { 0 < length names.old.held }
+    requires held { IsTrue (is_held (length names.old.held) program.now.classes program.now.rules program.now.commands) }
+    ensures delivers { OfInput (I.left source.old) (I.left source.new) (nat_lt (I.faults source.old) (I.faults source.new))
+        (λ coming. Delivers result (told names.old program.now.rules
+        (session_of (setting_of program.now) program.now.commands names.old coming))
+        (K.taken sink.old) (K.faults sink.old) (K.taken sink.new) (K.faults sink.new)) }
+    ensures reads { TellsFailedInput (status_after result) (I.faults source.old) (I.faults source.new) }
+    ensures input { (got : List ℕ) × (I.left source.old ≡ prepend_known got (I.left source.new)) }
 {
+    let mut input = Input::new(alloc)?;
     let mut out = Out::new(alloc)?;
-    let ending = tell_session(alloc, program, names, &mut out, sink)?;
+    let ending = tell_session(alloc, program, names, &mut input, source, &mut out, sink)?;
     out.flush(sink)?;
     Ok(status_of(ending))
 }
 
 /// The answer to a text: its fault, or what its session writes.
-pub fn answer_text<K: Sink>(alloc: Global, text: Vec<u8>, sink: &mut K) -> Result<Status, Stop>
+pub fn answer_text<I: Source, K: Sink>(
+    alloc: Global,
+    text: Vec<u8>,
+    input: &mut I,
+    sink: &mut K,
+) -> Result<Status, Stop>
     requires faults { K.faults sink.old < 2 ^ 63 }
-    ensures { Delivers result (answer_to text.items) (K.taken sink.old) (K.faults sink.old) (K.taken sink.new) (K.faults sink.new) }
+    requires reads { I.faults input.old < 2 ^ 63 }
+    ensures delivers { OfInput (I.left input.old) (I.left input.new) (nat_lt (I.faults input.old) (I.faults input.new))
+        (λ coming. Delivers result (answer_to coming text.items)
+        (K.taken sink.old) (K.faults sink.old) (K.taken sink.new) (K.faults sink.new)) }
+    ensures reads { TellsFailedInput (status_after result) (I.faults input.old) (I.faults input.new) }
+    ensures input { (got : List ℕ) × (I.left input.old ≡ prepend_known got (I.left input.new)) }
 {
     match read_program(alloc, text) {
-        Ok((program, names)) => answer_program(alloc, &program, &names, sink),
+        Ok((program, mut names)) => answer_program(alloc, &program, &mut names, input, sink),
         Err(
             ProgramFault::At {
                 fault,

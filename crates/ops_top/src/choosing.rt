@@ -8,7 +8,7 @@ ghost use Rattle.ops_base.specs.Instances.{AreOf};
 ghost use Rattle.ops_base.specs.Refraction.{is_same_inst, is_among, unfired, still_fired, better, dominant};
 ghost use Rattle.ops_meaning.specs.Running.{next_to_fire};
 ghost use Rattle.ops_top.specs.Candidates.{HasKey, inst_of};
-ghost use Rattle.ops_top.specs.Courses.{course_of};
+ghost use Rattle.ops_top.specs.Courses.{alone};
 
 use crate::course::Course;
 use ops_base::commands::Strategy;
@@ -142,7 +142,7 @@ pub fn next_to_fire(
     program: &Program,
     course: &Course,
 ) -> Result<Option<Inst>, OutOfMemory>
-    ensures { IfOk result (λ o. o ≡ next_to_fire program.now.rules (course_of course.now)) }
+    ensures { IfOk result (λ o. o ≡ next_to_fire program.now.rules (alone course.now)) }
 {
     let found = found_in(alloc, program, &course.store)?;
     next_of(alloc, program, found, course.fired.as_slice())
@@ -154,10 +154,10 @@ pub fn marks_and_next(
     program: &Program,
     course: &mut Course,
 ) -> Result<Option<Inst>, OutOfMemory>
-    ensures marks { OnOk result (course_of course.new ≡ record (course_of course.old) {
+    ensures marks { OnOk result (alone course.new ≡ record (alone course.old) {
       fired = still_fired (conflict_set program.now.rules course.old.store.elements) course.old.fired.items;
     }) }
-    ensures next { IfOk result (λ o. o ≡ next_to_fire program.now.rules (course_of course.new)) }
+    ensures next { IfOk result (λ o. o ≡ next_to_fire program.now.rules (alone course.new)) }
 {
     let found = found_in(alloc, program, &course.store)?;
     keep_marks(&mut course.fired, found.as_slice());
@@ -166,7 +166,7 @@ pub fn marks_and_next(
 
 /// Forgets the marks that end with a phase in which nothing fired. The conflict set is found only where one is marked.
 pub fn marks_after(alloc: Global, program: &Program, course: &mut Course) -> Result<(), OutOfMemory>
-    ensures { OnOk result (course_of course.new ≡ record (course_of course.old) {
+    ensures { OnOk result (alone course.new ≡ record (alone course.old) {
       fired = still_fired (conflict_set program.now.rules course.old.store.elements) course.old.fired.items;
     }) }
 {

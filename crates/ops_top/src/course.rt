@@ -3,7 +3,7 @@ ghost use Rattle.std.specs.Prelude.{◌≡◌, ◌+◌, ◌^◌, ◌≤◌, [], 
 ghost use Rattle.ops_base.specs.WorkingMemory.{change_done, done, Lawful};
 ghost use Rattle.ops_meaning.specs.Kept.{WellKept, last_after};
 ghost use Rattle.ops_meaning.specs.Running.{nothing_yet};
-ghost use Rattle.ops_top.specs.Courses.{course_of};
+ghost use Rattle.ops_top.specs.Courses.{alone, no_names, no_input};
 
 use ops_base::elements::Change;
 use ops_base::memory::OutOfMemory;
@@ -26,7 +26,7 @@ const LAST_TAG: u64 = 1 << 63;
 impl Course {
     /// Takes no memory.
     pub fn new(alloc: Global) -> Course
-        ensures { course_of result ≡ nothing_yet }
+        ensures { alone result ≡ nothing_yet no_names no_input }
     {
         Course {
             store: Store::new(alloc),

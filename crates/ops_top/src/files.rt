@@ -1,7 +1,8 @@
 //! The answer to a file.
 ghost use Rattle.std.specs.Prelude.{◌≡◌, ◌^◌, ◌<◌, ℕ, List, length, nat_lt, IfOk};
+ghost use Rattle.std.specs.Io.KnownBytes.{prepend_known};
 ghost use Rattle.ops_meaning.specs.Whole.{ends_in_line, text_of, answer_file, whole_file};
-ghost use Rattle.ops_top.specs.Calls.{OfContent, TellsFailedLoad, AskedFor};
+ghost use Rattle.ops_top.specs.Calls.{OfContent, OfInput, TellsFailedInput, TellsFailedRead, AskedFor};
 ghost use Rattle.ops_top.specs.Told.{Delivers, status_after};
 
 use crate::answer::answer_text;
@@ -9,7 +10,7 @@ use crate::saying::{refuse, say_unread};
 use ops_base::endings::Fault;
 use ops_base::memory::OutOfMemory;
 use ops_check::LONGEST_TEXT;
-use ops_io::{LoadError, Shelf, Sink, Stop};
+use ops_io::{LoadError, Shelf, Sink, Source, Stop};
 use ops_meaning::Status;
 use std::alloc::Global;
 
@@ -34,34 +35,48 @@ fn text_of(bytes: Vec<u8>) -> Result<Vec<u8>, OutOfMemory>
 }
 
 /// The answer to a file of these bytes.
-fn answer_file<K: Sink>(alloc: Global, bytes: Vec<u8>, sink: &mut K) -> Result<Status, Stop>
+fn answer_file<I: Source, K: Sink>(
+    alloc: Global,
+    bytes: Vec<u8>,
+    input: &mut I,
+    sink: &mut K,
+) -> Result<Status, Stop>
     requires faults { K.faults sink.old < 2 ^ 63 }
-    ensures { Delivers result (answer_file bytes.items) (K.taken sink.old) (K.faults sink.old) (K.taken sink.new) (K.faults sink.new) }
+    requires reads { I.faults input.old < 2 ^ 63 }
+    ensures delivers { OfInput (I.left input.old) (I.left input.new) (nat_lt (I.faults input.old) (I.faults input.new))
+        (λ coming. Delivers result (answer_file coming bytes.items)
+        (K.taken sink.old) (K.faults sink.old) (K.taken sink.new) (K.faults sink.new)) }
+    ensures reads { TellsFailedInput (status_after result) (I.faults input.old) (I.faults input.new) }
+    ensures input { (got : List ℕ) × (I.left input.old ≡ prepend_known got (I.left input.new)) }
 {
     let text = text_of(bytes)?;
-    answer_text(alloc, text, sink)
+    answer_text(alloc, text, input, sink)
 }
 
 /// Loads the file of this name and answers it. It asks the shelf once.
-pub fn run_file<H: Shelf, K: Sink>(
+pub fn run_file<H: Shelf, I: Source, K: Sink>(
     alloc: Global,
     name: &str,
     shelf: &mut H,
+    input: &mut I,
     sink: &mut K,
 ) -> Result<Status, Stop>
     requires shelf { H.faults shelf.old < 2 ^ 63 }
     requires loads { length (H.names shelf.old) < 2 ^ 63 }
+    requires reads { I.faults input.old < 2 ^ 63 }
     requires faults { K.faults sink.old < 2 ^ 63 }
     ensures delivers { OfContent (H.told shelf.old name.now) (λ content.
-        Delivers result (whole_file name.now content (nat_lt (H.faults shelf.old) (H.faults shelf.new)))
-        (K.taken sink.old) (K.faults sink.old) (K.taken sink.new) (K.faults sink.new)) }
-    ensures load { TellsFailedLoad (status_after result) (H.faults shelf.old) (H.faults shelf.new) }
+        OfInput (I.left input.old) (I.left input.new) (nat_lt (I.faults input.old) (I.faults input.new)) (λ coming.
+        Delivers result (whole_file name.now content (nat_lt (H.faults shelf.old) (H.faults shelf.new)) coming)
+        (K.taken sink.old) (K.faults sink.old) (K.taken sink.new) (K.faults sink.new))) }
+    ensures reads { TellsFailedRead (status_after result) (H.faults shelf.old) (H.faults shelf.new) (I.faults input.old) (I.faults input.new) }
+    ensures input { (got : List ℕ) × (I.left input.old ≡ prepend_known got (I.left input.new)) }
     ensures names { AskedFor (status_after result) name.now (H.names shelf.old) (H.names shelf.new) }
     ensures told { (n : List ℕ) → H.told shelf.new n ≡ H.told shelf.old n }
 {
     let mut bytes = Vec::new(alloc);
     match shelf.load(name, LONGEST_TEXT, &mut bytes) {
-        Ok(true) => answer_file(alloc, bytes, sink),
+        Ok(true) => answer_file(alloc, bytes, input, sink),
         Ok(false) => refuse(alloc, Fault::TooLong, 1, 1, sink),
         Err(LoadError::Failed) => say_unread(alloc, name.as_bytes(), sink),
         Err(LoadError::OutOfMemory) => Err(Stop::OutOfMemory),

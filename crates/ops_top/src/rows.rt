@@ -11,7 +11,23 @@ use std::sync::Wait;
 use std::test::Fail;
 use std::thread::Threads;
 
-/// What is answered to a file of these bytes.
+/// What is answered to a file of these bytes over an input.
+fn answer_over<R: Threads + Wait + Clone + Drop + Send + Sync>(
+    rt: &R,
+    alloc: Global,
+    bytes: &[u8],
+    input: &mut MemSource,
+    sink: &mut MemSink,
+) -> Result<Status, Fail>
+    requires input { input.old.faults < 2 ^ 63 }
+    requires sink { sink.old.faults < 2 ^ 63 }
+{
+    let mut shelf = one_file(alloc, "a.ops", bytes)?;
+    let words = words_of(alloc, &["a.ops"])?;
+    Ok(ops_run(rt, alloc, &words, &mut shelf, input, sink, &OpenGate))
+}
+
+/// What is answered to a file of these bytes where the input is empty.
 fn answer<R: Threads + Wait + Clone + Drop + Send + Sync>(
     rt: &R,
     alloc: Global,
@@ -20,10 +36,8 @@ fn answer<R: Threads + Wait + Clone + Drop + Send + Sync>(
 ) -> Result<Status, Fail>
     requires { sink.old.faults < 2 ^ 63 }
 {
-    let mut shelf = one_file(alloc, "a.ops", bytes)?;
     let mut input = MemSource::new(Vec::new(alloc), 1, Vec::new(alloc));
-    let words = words_of(alloc, &["a.ops"])?;
-    Ok(ops_run(rt, alloc, &words, &mut shelf, &mut input, sink, &OpenGate))
+    answer_over(rt, alloc, bytes, &mut input, sink)
 }
 
 const HELLO: &[u8] =
@@ -223,6 +237,50 @@ fn too_many_fields(rt: HostRuntime) -> Result<(), Fail> {
     let passes = vector_of(alloc, 127)?;
     assert_eq!(rt; answer(&rt, alloc, &passes, &mut sink)?, fault);
     let expected = b"on\nops: firing 1: |r s|: action 2: too many fields\n".as_slice();
+    assert_eq!(rt; sink.written(), expected);
+    Ok(())
+}
+
+const ASK: &[u8] = b"(literalize s)
+(p ask (s) --> (write |name?|) (bind <n> (accept)) (write <n> (crlf)) (remove 1))
+(make s)
+(run)
+";
+
+/// The input comes a byte at a time.
+#[test]
+fn accept_a_name(rt: HostRuntime) -> Result<(), Fail> {
+    let alloc = rt.alloc();
+    let bytes = Vec::from_slice(alloc, b"  Ann Bob")?;
+    let mut input = MemSource::new(bytes, 1, Vec::new(alloc));
+    let mut sink = MemSink::new(alloc, 1_000, 1_000, Vec::new(alloc))?;
+    let status = answer_over(&rt, alloc, ASK, &mut input, &mut sink)?;
+    assert_eq!(rt; status, Status::Done);
+    let expected = b"name? Ann\nend -- no production true\n".as_slice();
+    assert_eq!(rt; sink.written(), expected);
+    Ok(())
+}
+
+#[test]
+fn accept_at_the_end_of_the_input(rt: HostRuntime) -> Result<(), Fail> {
+    let alloc = rt.alloc();
+    let mut sink = MemSink::new(alloc, 1_000, 1_000, Vec::new(alloc))?;
+    assert_eq!(rt; answer(&rt, alloc, ASK, &mut sink)?, Status::Done);
+    let expected = b"name? end-of-file\nend -- no production true\n".as_slice();
+    assert_eq!(rt; sink.written(), expected);
+    Ok(())
+}
+
+/// The first read fails.
+#[test]
+fn failing_input(rt: HostRuntime) -> Result<(), Fail> {
+    let alloc = rt.alloc();
+    let bytes = Vec::from_slice(alloc, b"Ann")?;
+    let mut input = MemSource::new(bytes, 1, vec![in alloc; 1]?);
+    let mut sink = MemSink::new(alloc, 1_000, 1_000, Vec::new(alloc))?;
+    let status = answer_over(&rt, alloc, ASK, &mut input, &mut sink)?;
+    assert_eq!(rt; status, Status::ReadFault);
+    let expected = b"name?\nops: cannot read the input\n".as_slice();
     assert_eq!(rt; sink.written(), expected);
     Ok(())
 }

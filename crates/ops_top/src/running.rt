@@ -2,12 +2,13 @@
 ghost use Rattle.std.specs.Prelude.{◌≡◌, ◌^◌, ◌<◌, ◌-◌, IsTrue, IfOk, OnOk, false};
 ghost use Rattle.ops_base.specs.ConflictSet.{conflict_set};
 ghost use Rattle.ops_base.specs.WorkingMemory.{Lawful};
+ghost use Rattle.ops_io.specs.Coming.{inlet};
 ghost use Rattle.ops_io.specs.Ports.{port};
-ghost use Rattle.ops_meaning.specs.Effects.{Performs, failure_as, of_ending};
-ghost use Rattle.ops_meaning.specs.Kept.{last_after};
+ghost use Rattle.ops_meaning.specs.Effects.{PerformsOn, CountsReads, failure_as, of_ending};
+ghost use Rattle.ops_meaning.specs.Kept.{KeepsNames, last_after};
 ghost use Rattle.ops_meaning.specs.Running.{ended_in, firing, marked, most_firings, next_to_fire, phase_by, run_on};
 ghost use Rattle.act_phase.specs.Outcomes.{failure_of, setting_of};
-ghost use Rattle.ops_top.specs.Courses.{course_of};
+ghost use Rattle.ops_top.specs.Courses.{alone, course_of, ends_unread};
 
 use crate::choosing::{marks_and_next, next_to_fire};
 use crate::course::{Course, do_changes};
@@ -17,7 +18,7 @@ use ops_base::memory::OutOfMemory;
 use ops_base::programs::Program;
 use ops_base::rules::Inst;
 use ops_base::symbols::Names;
-use ops_io::{Out, Sink};
+use ops_io::{Input, Out, Sink, Source};
 use ops_print::put_line;
 use std::alloc::Global;
 
@@ -42,6 +43,7 @@ fn ended_in(firing: u64, rule: usize, fault: ActFault) -> Ending
             action,
             kind,
         },
+        ActFault::Read => Ending::ReadFault,
         ActFault::Write => Ending::WriteFault,
         ActFault::OutOfMemory => Ending::OutOfMemory,
     }
@@ -57,10 +59,10 @@ fn settle(
     acted: Acted,
 ) -> Result<Turned, OutOfMemory>
     requires { Lawful course.old.store.elements course.old.store.last acted.changes }
-    ensures course { OnOk result (course_of course.new ≡ phase_by (conflict_set program.now.rules) acted.changes firings
-        (last_after course.old.store.last acted.changes) (marked inst (course_of course.old))) }
+    ensures course { OnOk result (alone course.new ≡ phase_by (conflict_set program.now.rules) acted.changes firings
+        (last_after course.old.store.last acted.changes) (marked inst (alone course.old))) }
     ensures halted { IfOk result (λ t. t.halted ≡ acted.halted) }
-    ensures next { IfOk result (λ t. t.next ≡ next_to_fire program.now.rules (course_of course.new)) }
+    ensures next { IfOk result (λ t. t.next ≡ next_to_fire program.now.rules (alone course.new)) }
 {
     course.fired.push(inst)?;
     course.firings = firings;
@@ -73,22 +75,29 @@ fn settle(
 }
 
 /// One firing, which is one phase. A session is over long before firings can't be counted.
-fn fire<K: Sink>(
+fn fire<I: Source, K: Sink>(
     alloc: Global,
     program: &Program,
-    names: &Names,
+    names: &mut Names,
     course: &mut Course,
     inst: Inst,
+    input: &mut Input,
+    source: &mut I,
     out: &mut Out,
     sink: &mut K,
 ) -> Result<Turned, Ending>
     requires whole { IsTrue out.old.whole }
     requires faults { K.faults sink.old < 2 ^ 63 }
-    ensures performs { Performs (λ t. record { course = course_of course.new; halted = t.halted }) of_ending result
+    requires reads { I.faults source.old < 2 ^ 63 }
+    ensures performs { PerformsOn (λ t c. record { course = course_of course.new names.new c; halted = t.halted }) of_ending result
+        (inlet input.old (I.left source.old) (I.faults source.old))
+        (inlet input.new (I.left source.new) (I.faults source.new))
         (port (K.taken sink.old) (K.faults sink.old) out.old)
         (port (K.taken sink.new) (K.faults sink.new) out.new)
-        (firing (setting_of names.now program.now) out.old.column inst (course_of course.old)) }
-    ensures next { IfOk result (λ t. t.next ≡ next_to_fire program.now.rules (course_of course.new)) }
+        (λ c. firing (setting_of program.now) out.old.column inst (course_of course.old names.old c)) }
+    ensures reads { CountsReads (ends_unread result) (I.faults source.old) (I.faults source.new) }
+    ensures names { KeepsNames names.old names.new }
+    ensures next { IfOk result (λ t. t.next ≡ next_to_fire program.now.rules (alone course.new)) }
 {
     let Some(firings) = course.firings.checked_add(1) else {
         return Err(Ending::OutOfMemory);
@@ -103,6 +112,8 @@ fn fire<K: Sink>(
         &inst,
         next_tag,
         0,
+        input,
+        source,
         out,
         sink,
     ) {
@@ -112,19 +123,27 @@ fn fire<K: Sink>(
 }
 
 /// A run, until it ends or the session has made its last firing. The conflict set is found once a firing.
-pub fn run<K: Sink>(
+pub fn run<I: Source, K: Sink>(
     alloc: Global,
     program: &Program,
-    names: &Names,
+    names: &mut Names,
     course: &mut Course,
+    input: &mut Input,
+    source: &mut I,
     out: &mut Out,
     sink: &mut K,
 ) -> Result<(), Ending>
     requires whole { IsTrue out.old.whole }
     requires faults { K.faults sink.old < 2 ^ 63 }
-    ensures { Performs (λ _. course_of course.new) of_ending result (port (K.taken sink.old) (K.faults sink.old) out.old)
+    requires reads { I.faults source.old < 2 ^ 63 }
+    ensures performs { PerformsOn (λ _ c. course_of course.new names.new c) of_ending result
+        (inlet input.old (I.left source.old) (I.faults source.old))
+        (inlet input.new (I.left source.new) (I.faults source.new))
+        (port (K.taken sink.old) (K.faults sink.old) out.old)
         (port (K.taken sink.new) (K.faults sink.new) out.new)
-        (run_on (most_firings - course.old.firings) (setting_of names.now program.now) out.old.column false (course_of course.old)) }
+        (λ c. run_on (most_firings - course.old.firings) (setting_of program.now) out.old.column false (course_of course.old names.old c)) }
+    ensures reads { CountsReads (ends_unread result) (I.faults source.old) (I.faults source.new) }
+    ensures names { KeepsNames names.old names.new }
 {
     let mut left = MOST_FIRINGS.saturating_sub(course.firings);
     let mut next = next_to_fire(alloc, program, course)?;
@@ -142,7 +161,9 @@ pub fn run<K: Sink>(
             });
         }
         left -= 1;
-        let turned = fire(alloc, program, names, course, inst, out, sink)?;
+        let turned = fire(
+            alloc, program, names, course, inst, input, source, out, sink,
+        )?;
         halted = turned.halted;
         next = turned.next;
     }

@@ -1,7 +1,8 @@
 //! The top calls.
 ghost use Rattle.std.specs.Prelude.{◌≡◌, ◌^◌, ◌<◌, ◌⊎◌, ℕ, List, length, nat_lt, true, false, IfSome, IsSome};
+ghost use Rattle.std.specs.Io.KnownBytes.{prepend_known};
 ghost use Rattle.ops_meaning.specs.Whole.{whole, unread, Answers, GoesByConflictSetsAlone, word_bytes, words_fit, first_word};
-ghost use Rattle.ops_top.specs.Calls.{OfContent, TellsFailedWrite, TellsFailedLoad, TellsWords, AskedForWords, usage, runs_through};
+ghost use Rattle.ops_top.specs.Calls.{OfContent, OfInput, TellsFailedWrite, TellsFailedRead, TellsWords, AskedForWords, usage, RunsThrough};
 ghost use Rattle.ops_top.specs.Codes.{code_of};
 
 use crate::saying::status_after;
@@ -29,7 +30,7 @@ pub fn code(status: &Status) -> u8
 }
 
 /// Runs the program on the words of its command line, without waiting for another thread. It answers a status for all
-/// words. The input is not read yet, and `rt` and `gate` are not used yet.
+/// words. The input is read where the program asks for an atom, and `rt` and `gate` are not used yet.
 pub fn still_run<R: Threads + Clone + Drop + Send + Sync, H: Shelf, I: Source, K: Sink, G: Gate>(
     rt: &R,
     alloc: Global,
@@ -45,10 +46,13 @@ pub fn still_run<R: Threads + Clone + Drop + Send + Sync, H: Shelf, I: Source, K
     requires sink { K.faults sink.old < 2 ^ 63 }
     ensures some { IsSome result }
     ensures answers { IfSome result (λ status. OfContent (H.told shelf.old (first_word (word_bytes words.now))) (λ content.
-        Answers status (whole (word_bytes words.now) content (nat_lt (H.faults shelf.old) (H.faults shelf.new))) (K.taken sink.old) (K.taken sink.new))) }
+        OfInput (I.left input.old) (I.left input.new) (nat_lt (I.faults input.old) (I.faults input.new)) (λ coming.
+        Answers status (whole (word_bytes words.now) content (nat_lt (H.faults shelf.old) (H.faults shelf.new)) coming)
+        (K.taken sink.old) (K.taken sink.new)))) }
     ensures sets { GoesByConflictSetsAlone (word_bytes words.now) }
     ensures write { IfSome result (λ status. TellsFailedWrite status (K.faults sink.old) (K.faults sink.new)) }
-    ensures load { IfSome result (λ status. TellsFailedLoad status (H.faults shelf.old) (H.faults shelf.new)) }
+    ensures reads { IfSome result (λ status.
+        TellsFailedRead status (H.faults shelf.old) (H.faults shelf.new) (I.faults input.old) (I.faults input.new)) }
     ensures unread { IfSome result (λ status. H.faults shelf.old < H.faults shelf.new
         → Answers status (unread (first_word (word_bytes words.now))) (K.taken sink.old) (K.taken sink.new)) }
     ensures words { IfSome result (λ status. TellsWords status (words_fit (word_bytes words.now))) }
@@ -57,15 +61,17 @@ pub fn still_run<R: Threads + Clone + Drop + Send + Sync, H: Shelf, I: Source, K
     ensures names { IfSome result (λ status. AskedForWords status (word_bytes words.now) (words_fit (word_bytes words.now)) (H.names shelf.old) (H.names shelf.new)) }
     ensures unasked { words_fit (word_bytes words.now) ≡ false → H.faults shelf.new ≡ H.faults shelf.old }
     ensures told { (n : List ℕ) → H.told shelf.new n ≡ H.told shelf.old n }
-    ensures input { input.new ≡ input.old }
-    ensures complete { IfSome result (λ status. runs_through (word_bytes words.now) (H.told shelf.old (first_word (word_bytes words.now))) ≡ true
-        → H.faults shelf.new ≡ H.faults shelf.old → K.faults sink.new ≡ K.faults sink.old
+    ensures input { (got : List ℕ) × (I.left input.old ≡ prepend_known got (I.left input.new)) }
+    ensures untouched { words_fit (word_bytes words.now) ≡ false → input.new ≡ input.old }
+    ensures complete { IfSome result (λ status.
+        RunsThrough (word_bytes words.now) (H.told shelf.old (first_word (word_bytes words.now))) (I.left input.old)
+        → H.faults shelf.new ≡ H.faults shelf.old → I.faults input.new ≡ I.faults input.old → K.faults sink.new ≡ K.faults sink.old
         → (status ≡ Status.Done) ⊎ (status ≡ Status.OutOfMemory)) }
 {
-    Some(status_after(run_words(alloc, words, shelf, sink)))
+    Some(status_after(run_words(alloc, words, shelf, input, sink)))
 }
 
-/// Runs the program on the words of its command line. The input is not read yet.
+/// Runs the program on the words of its command line. The input is read where the program asks for an atom.
 pub fn ops_run<
     R: Threads + Wait + Clone + Drop + Send + Sync,
     H: Shelf,
@@ -86,10 +92,12 @@ pub fn ops_run<
     requires input { I.faults input.old < 2 ^ 63 }
     requires sink { K.faults sink.old < 2 ^ 63 }
     ensures answers { OfContent (H.told shelf.old (first_word (word_bytes words.now))) (λ content.
-        Answers result (whole (word_bytes words.now) content (nat_lt (H.faults shelf.old) (H.faults shelf.new))) (K.taken sink.old) (K.taken sink.new)) }
+        OfInput (I.left input.old) (I.left input.new) (nat_lt (I.faults input.old) (I.faults input.new)) (λ coming.
+        Answers result (whole (word_bytes words.now) content (nat_lt (H.faults shelf.old) (H.faults shelf.new)) coming)
+        (K.taken sink.old) (K.taken sink.new))) }
     ensures sets { GoesByConflictSetsAlone (word_bytes words.now) }
     ensures write { TellsFailedWrite result (K.faults sink.old) (K.faults sink.new) }
-    ensures load { TellsFailedLoad result (H.faults shelf.old) (H.faults shelf.new) }
+    ensures reads { TellsFailedRead result (H.faults shelf.old) (H.faults shelf.new) (I.faults input.old) (I.faults input.new) }
     ensures unread { H.faults shelf.old < H.faults shelf.new
         → Answers result (unread (first_word (word_bytes words.now))) (K.taken sink.old) (K.taken sink.new) }
     ensures words { TellsWords result (words_fit (word_bytes words.now)) }
@@ -97,9 +105,10 @@ pub fn ops_run<
     ensures names { AskedForWords result (word_bytes words.now) (words_fit (word_bytes words.now)) (H.names shelf.old) (H.names shelf.new) }
     ensures unasked { words_fit (word_bytes words.now) ≡ false → H.faults shelf.new ≡ H.faults shelf.old }
     ensures told { (n : List ℕ) → H.told shelf.new n ≡ H.told shelf.old n }
-    ensures input { input.new ≡ input.old }
-    ensures complete { runs_through (word_bytes words.now) (H.told shelf.old (first_word (word_bytes words.now))) ≡ true
-        → H.faults shelf.new ≡ H.faults shelf.old → K.faults sink.new ≡ K.faults sink.old
+    ensures input { (got : List ℕ) × (I.left input.old ≡ prepend_known got (I.left input.new)) }
+    ensures untouched { words_fit (word_bytes words.now) ≡ false → input.new ≡ input.old }
+    ensures complete { RunsThrough (word_bytes words.now) (H.told shelf.old (first_word (word_bytes words.now))) (I.left input.old)
+        → H.faults shelf.new ≡ H.faults shelf.old → I.faults input.new ≡ I.faults input.old → K.faults sink.new ≡ K.faults sink.old
         → (result ≡ Status.Done) ⊎ (result ≡ Status.OutOfMemory) }
 {
     match still_run(rt, alloc, words, shelf, input, sink, gate) {

@@ -1,18 +1,18 @@
-use Rattle.act_phase.specs.Outcomes.{setting_of, failure_of}
-use Rattle.act_phase.specs.State.{doing_of}
-use Rattle.act_phase.proofs.Performing.{performs_failed}
-use Rattle.act_phase.proofs.Steps.{one_action, last_action}
+use Rattle.act_phase.proofs.Deeds.{still_all}
+use Rattle.act_phase.proofs.Steps.{action_ok, action_err}
 use Rattle.act_phase.proofs.acting.act_all.Goals as goal
 
-pub returns-in_err-act_one : goal.returns-in_err-act_one
-returns-in_err-act_one g c =
+pub loop-before-init : goal.loop-before-init
+loop-before-init g c = still_all _ _ c.requires.whole
+
+pub returns-in_err-act_at : goal.returns-in_err-act_at
+returns-in_err-act_at g c =
     let l = c.loop-before in
-    performs_failed _ _ c.in_err-act_one.field-0.0 _ _ _ c.from_residual.ensures.1
-    (last_action (failure_of c.in_err-act_one.field-0.0) (setting_of c.args.names.now c.args.program.now) _ _ _ _ c.args.actions.now l.before c.index-actions-before.result (doing_of l.doing)
-    l.invariant c.loop-before-test.true c.index-actions-before.is c.in_err-act_one.ensures)
+    action_err c.args.classes.now c.args.actions.now l.before c.index-actions-before.result c.loop-before-test.true c.index-actions-before.is l.doing c.act_at.new.doing l.invariant
+    _ _ c.from_residual.ensures.1 c.in_err-act_at.ensures
 
 pub loop-before-preserved : goal.loop-before-preserved
 loop-before-preserved g c =
     let l = c.loop-before in
-    one_action (setting_of c.args.names.now c.args.program.now) _ _ _ _ c.args.actions.now l.before c.index-actions-before.result (doing_of l.doing) (doing_of c.act_one.new.doing)
-    l.invariant c.loop-before-test.true c.index-actions-before.is c.in_ok-act_one.ensures
+    action_ok c.args.classes.now c.args.actions.now l.before c.index-actions-before.result c.loop-before-test.true c.index-actions-before.is l.doing c.act_at.new.doing l.invariant
+    c.in_ok-act_at.ensures

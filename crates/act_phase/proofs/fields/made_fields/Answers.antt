@@ -1,25 +1,40 @@
-use Rattle.std.proofs.Common.{◌∙◌, ap, sym, cond, Some, None}
-use Rattle.ops_base.specs.Valid.{class_of}
-use Rattle.ops_meaning.specs.Acting.{put_placed, emptied}
-use Rattle.act_phase.specs.State.{doing_of}
-use Rattle.act_phase.proofs.Placing.{all_fail, one_more}
+use Rattle.std.proofs.Common.{ap, sym, refl}
 use Rattle.ops_base.specs.declared.actions.Put.{Put}
+use Rattle.ops_base.specs.Valid.{class_of}
+use Rattle.ops_meaning.specs.Acting.{Filled, puts_made, terms_placed, emptied}
+use Rattle.ops_meaning.specs.Effects.{silent}
+use Rattle.act_phase.specs.State.{doing_of, filled_of}
+use Rattle.act_phase.specs.declared.outcome.Mishap.TheVariants as mishap
+use Rattle.act_phase.proofs.Deeds.{still_all, still_same, still_short}
+use Rattle.act_phase.proofs.Placing.{put_ok, put_err}
 use Rattle.act_phase.proofs.fields.made_fields.Goals as goal
 
-pub returns-then-not-branch : goal.returns-then-not-branch
-returns-then-not-branch c =
+pub returns-in_err-fields : goal.returns-in_err-fields
+returns-in_err-fields g c = still_short _ mishap.OutOfMemory c.from_residual.ensures.1 refl refl (still_all _ _ c.requires.whole)
+
+pub loop-put-init : goal.loop-put-init
+loop-put-init g c =
+    let classes = c.args.classes.now in
+    let class = class_of classes c.args.class in
+    still_same _ (still_all _ _ c.requires.whole)
+    (λ d. ap (λ fields. silent (puts_made classes class c.args.puts.now (filled_of fields (doing_of c.args.doing.now c.args.names.now d)))) (sym c.in_ok-fields.ensures))
+
+pub returns-in_err-place_put : goal.returns-in_err-place_put
+returns-in_err-place_put g c =
     let l = c.loop-put in
-    let class = class_of c.args.classes.now c.args.class in
-    let d = doing_of c.args.doing.now in
-    let place = put_placed c.args.classes.now d c.put-item.result in
-    let placed = ap place (sym c.empty_vector.ensures) ∙ c.in_ok-place_put.ensures ∙ ap (λ b. cond b (Some c.place_put.new.fields.items) None) c.if-not-branch.true in
-    sym (all_fail (λ (p : Put) fields. put_placed c.args.classes.now d p (emptied class p.field fields)) l.fields.items c.args.puts.now l.put-index c.put-item.result c.loop-put-test.true c.put-item.is placed) ∙ l.invariant
+    let classes = c.args.classes.now in
+    let class = class_of classes c.args.class in
+    put_err (puts_made classes class) (λ (p : Put) (f : Filled). terms_placed classes p.field p.terms (record f { fields = emptied class p.field f.fields })) (λ p ps f. refl)
+    c.args.doing.now c.args.puts.now l.put-index c.put-item.result l.fields.items c.loop-put-test.true c.put-item.is l.invariant
+    (λ d. ap (λ fields. terms_placed classes c.put-item.result.field c.put-item.result.terms (filled_of fields (doing_of c.args.doing.now l.names d))) (sym c.empty_vector.ensures))
+    _ _ c.in_err-place_put.field-0.0 c.from_residual-in_err-place_put.ensures.1 c.in_err-place_put.ensures
 
 pub loop-put-preserved : goal.loop-put-preserved
-loop-put-preserved c =
+loop-put-preserved g c =
     let l = c.loop-put in
-    let class = class_of c.args.classes.now c.args.class in
-    let d = doing_of c.args.doing.now in
-    let place = put_placed c.args.classes.now d c.put-item.result in
-    let placed = ap place (sym c.empty_vector.ensures) ∙ c.in_ok-place_put.ensures ∙ ap (λ b. cond b (Some c.place_put.new.fields.items) None) c.if-not-branch.false in
-    sym (one_more (λ (p : Put) fields. put_placed c.args.classes.now d p (emptied class p.field fields)) l.fields.items c.place_put.new.fields.items c.args.puts.now l.put-index c.put-item.result c.loop-put-test.true c.put-item.is placed) ∙ l.invariant
+    let classes = c.args.classes.now in
+    let class = class_of classes c.args.class in
+    put_ok (puts_made classes class) (λ (p : Put) (f : Filled). terms_placed classes p.field p.terms (record f { fields = emptied class p.field f.fields })) (λ p ps f. refl)
+    c.args.doing.now c.args.puts.now l.put-index c.put-item.result l.fields.items c.loop-put-test.true c.put-item.is l.invariant
+    (λ d. ap (λ fields. terms_placed classes c.put-item.result.field c.put-item.result.terms (filled_of fields (doing_of c.args.doing.now l.names d))) (sym c.empty_vector.ensures))
+    c.place_put.new.fields.items c.in_ok-place_put.ensures

@@ -1,10 +1,16 @@
-use Rattle.std.proofs.Common.{◌≡◌, drop, fold, Some, option_and_then}
+use Rattle.std.proofs.Common.{drop}
 use Rattle.ops_base.specs.Valid.{class_of}
-use Rattle.ops_meaning.specs.Acting.{put_placed, emptied, made_fields}
-use Rattle.act_phase.specs.State.{doing_of}
+use Rattle.ops_meaning.specs.Acting.{made_fields, puts_made}
+use Rattle.ops_meaning.specs.Effects.{silent}
+use Rattle.act_phase.specs.Deeds.{StillDoes, scene}
+use Rattle.act_phase.specs.State.{doing_of, filled_of}
 use Rattle.act_phase.proofs.fields.made_fields.Given as goal
 
 abbrev pub invariant-loop-put : goal.invariant-loop-put
-invariant-loop-put l =
-    fold (λ found p. option_and_then (λ fields. put_placed l.classes (doing_of l.doing) p (emptied (class_of l.classes l.class) p.field fields)) found) (Some l.fields.items) (drop l.put-index l.puts)
-    ≡ made_fields l.classes (doing_of l.doing) (class_of l.classes l.class) l.puts
+invariant-loop-put g l =
+    let class = class_of l.classes l.class in
+    StillDoes
+    (scene l.fn.names l.fn.input (g.I.Source.left l.fn.source) (g.I.Source.faults l.fn.source) (g.K.Sink.taken l.fn.sink) (g.K.Sink.faults l.fn.sink) l.fn.out)
+    (scene l.names l.input (g.I.Source.left l.source) (g.I.Source.faults l.source) (g.K.Sink.taken l.sink) (g.K.Sink.faults l.sink) l.out)
+    (λ c. silent (made_fields l.classes class l.puts (doing_of l.doing l.fn.names c)))
+    (λ c. silent (puts_made l.classes class (drop l.put-index l.puts) (filled_of l.fields.items (doing_of l.doing l.names c))))

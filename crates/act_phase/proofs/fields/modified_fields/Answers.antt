@@ -1,13 +1,31 @@
-use Rattle.std.proofs.Common.{◌∙◌, ap, sym, cond, Some, None}
+use Rattle.std.proofs.Common.{ap, sym, refl}
 use Rattle.ops_base.specs.declared.actions.Put.{Put}
-use Rattle.ops_meaning.specs.Acting.{put_placed}
-use Rattle.act_phase.specs.State.{doing_of}
-use Rattle.act_phase.proofs.Placing.{all_fail}
+use Rattle.ops_meaning.specs.Acting.{Filled, puts_over, terms_placed}
+use Rattle.ops_meaning.specs.Effects.{silent}
+use Rattle.act_phase.specs.State.{doing_of, filled_of}
+use Rattle.act_phase.specs.declared.outcome.Mishap.TheVariants as mishap
+use Rattle.act_phase.proofs.Deeds.{still_all, still_same, still_short}
+use Rattle.act_phase.proofs.Placing.{put_ok, put_err}
 use Rattle.act_phase.proofs.fields.modified_fields.Goals as goal
 
-pub returns-then-not-branch : goal.returns-then-not-branch
-returns-then-not-branch c =
+pub returns-in_err-fields : goal.returns-in_err-fields
+returns-in_err-fields g c = still_short _ mishap.OutOfMemory c.from_residual.ensures.1 refl refl (still_all _ _ c.requires.whole)
+
+pub loop-put-init : goal.loop-put-init
+loop-put-init g c =
+    still_same _ (still_all _ _ c.requires.whole)
+    (λ d. ap (λ fields. silent (puts_over c.args.classes.now c.args.puts.now (filled_of fields (doing_of c.args.doing.now c.args.names.now d)))) (sym c.in_ok-fields.ensures))
+
+pub returns-in_err-place_put : goal.returns-in_err-place_put
+returns-in_err-place_put g c =
     let l = c.loop-put in
-    let d = doing_of c.args.doing.now in
-    let placed = c.in_ok-place_put.ensures ∙ ap (λ b. cond b (Some c.place_put.new.fields.items) None) c.if-not-branch.true in
-    sym (all_fail (λ (p : Put) fields. put_placed c.args.classes.now d p fields) l.fields.items c.args.puts.now l.put-index c.put-item.result c.loop-put-test.true c.put-item.is placed) ∙ l.invariant
+    put_err (puts_over c.args.classes.now) (λ (p : Put) (f : Filled). terms_placed c.args.classes.now p.field p.terms f) (λ p ps f. refl)
+    c.args.doing.now c.args.puts.now l.put-index c.put-item.result l.fields.items c.loop-put-test.true c.put-item.is l.invariant (λ d. refl)
+    _ _ c.in_err-place_put.field-0.0 c.from_residual-in_err-place_put.ensures.1 c.in_err-place_put.ensures
+
+pub loop-put-preserved : goal.loop-put-preserved
+loop-put-preserved g c =
+    let l = c.loop-put in
+    put_ok (puts_over c.args.classes.now) (λ (p : Put) (f : Filled). terms_placed c.args.classes.now p.field p.terms f) (λ p ps f. refl)
+    c.args.doing.now c.args.puts.now l.put-index c.put-item.result l.fields.items c.loop-put-test.true c.put-item.is l.invariant (λ d. refl)
+    c.place_put.new.fields.items c.in_ok-place_put.ensures

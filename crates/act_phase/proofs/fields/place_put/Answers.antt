@@ -1,32 +1,39 @@
-use Rattle.std.proofs.Common.{◌∙◌, ap, sym, cond, length, Some, None, arith}
-use Rattle.ops_meaning.specs.Acting.{values_placed, term_values}
-use Rattle.act_phase.specs.State.{doing_of}
-use Rattle.act_phase.proofs.Placing.{placed_within, one_more_placed, too_many_placed}
+use Rattle.std.proofs.Common.{◌+◌, ap, sym, length, drop, ◌∙◌, arith}
+use Rattle.act_phase.proofs.Deeds.{still_all}
+use Rattle.act_phase.proofs.Placing.{placed_fits, term_ok, term_err, placed_ok, placed_err}
 use Rattle.act_phase.proofs.fields.place_put.Goals as goal
 
-pub returns-then-not-branch : goal.returns-then-not-branch
-returns-then-not-branch c =
+pub loop-term-init : goal.loop-term-init
+loop-term-init g c = still_all _ _ c.requires.whole
+
+pub returns-in_err-values : goal.returns-in_err-values
+returns-in_err-values g c =
     let l = c.loop-term in
     let items = c.as_slice-term-items.ensures in
-    let values = sym (c.as_slice.ensures ∙ c.term_values-values.ensures) in
-    let placed = ap (λ vs. values_placed l.at vs l.fields.items) values ∙ c.in_ok-place_values.ensures ∙ ap (λ b. cond b (Some c.place_values.new.fields.items) None) c.if-not-branch.true in
-    sym l.invariant
-    ∙ too_many_placed (term_values c.args.classes.now (doing_of c.args.doing.now)) l.at l.term-index c.args.put.now.terms c.term-item.result l.fields.items (rw items at c.loop-term-test.true) (rw items at c.term-item.is) placed
+    term_err c.args.classes.now c.args.doing.now c.args.put.now.terms l.at l.term-index c.term-item.result l.fields.items (rw items at c.loop-term-test.true) (rw items at c.term-item.is) l.invariant
+    _ _ c.in_err-values.field-0.0 c.from_residual.ensures.1 c.in_err-values.ensures
+
+pub returns-in_err-place_values : goal.returns-in_err-place_values
+returns-in_err-place_values g c =
+    let l = c.loop-term in
+    let items = c.as_slice-term-items.ensures in
+    let evaluated = term_ok c.args.classes.now c.args.doing.now c.args.put.now.terms l.at l.term-index c.term-item.result l.fields.items (rw items at c.loop-term-test.true) (rw items at c.term-item.is) l.invariant
+    c.in_ok-values.values c.in_ok-values.ensures in
+    placed_err c.args.classes.now c.args.doing.now (drop (l.term-index + 1) c.args.put.now.terms) l.at l.fields.items c.in_ok-values.values c.as_slice.result.now c.as_slice.ensures evaluated
+    (λ (x : Unit {0}). c.place_values.new.fields.items) _ _ c.in_err-place_values.field-0.0 c.from_residual-in_err-place_values.ensures.1 c.in_err-place_values.ensures
 
 pub overflow_add-at : goal.overflow_add-at
-overflow_add-at c =
+overflow_add-at g c =
     let l = c.loop-term in
-    let placed = c.in_ok-place_values.ensures ∙ ap (λ b. cond b (Some c.place_values.new.fields.items) None) c.if-not-branch.false in
-    let within = placed_within l.at c.as_slice.result.now l.fields.items c.place_values.new.fields.items placed in
+    let within = placed_fits c.as_slice.result.now l.fields.items c.place_values.new.fields.items l.at c.in_ok-place_values.ensures in
     let same = ap length (c.as_slice-in-loop-term.ensures ∙ sym c.as_slice.ensures) in
     omega (arith, within, same, l.auto.at-fits)
 
 pub loop-term-preserved : goal.loop-term-preserved
-loop-term-preserved c =
+loop-term-preserved g c =
     let l = c.loop-term in
     let items = c.as_slice-term-items.ensures in
-    let values = sym (c.as_slice.ensures ∙ c.term_values-values.ensures) in
-    let placed = ap (λ vs. values_placed l.at vs l.fields.items) values ∙ c.in_ok-place_values.ensures ∙ ap (λ b. cond b (Some c.place_values.new.fields.items) None) c.if-not-branch.false in
-    rw (c.as_slice-in-loop-term.ensures, c.term_values-values.ensures)
-    (sym (one_more_placed (term_values c.args.classes.now (doing_of c.args.doing.now)) l.at l.term-index c.args.put.now.terms c.term-item.result l.fields.items c.place_values.new.fields.items (rw items at c.loop-term-test.true) (rw items at c.term-item.is) placed)
-    ∙ l.invariant)
+    let evaluated = term_ok c.args.classes.now c.args.doing.now c.args.put.now.terms l.at l.term-index c.term-item.result l.fields.items (rw items at c.loop-term-test.true) (rw items at c.term-item.is) l.invariant
+    c.in_ok-values.values c.in_ok-values.ensures in
+    placed_ok c.args.classes.now c.args.doing.now (drop (l.term-index + 1) c.args.put.now.terms) l.at l.fields.items c.in_ok-values.values c.as_slice.result.now c.as_slice.ensures evaluated
+    c.place_values.new.fields.items c.as_slice-in-loop-term.result.now c.in_ok-place_values.ensures c.as_slice-in-loop-term.ensures

@@ -1,10 +1,14 @@
-use Rattle.std.proofs.Common.{◌≡◌, drop}
-use Rattle.std.specs.List.{flat_map}
-use Rattle.ops_meaning.specs.Acting.{values_placed, term_values}
-use Rattle.act_phase.specs.State.{doing_of}
+use Rattle.std.proofs.Common.{drop}
+use Rattle.ops_meaning.specs.Acting.{terms_placed}
+use Rattle.ops_meaning.specs.Effects.{silent}
+use Rattle.act_phase.specs.Deeds.{StillDoes, scene}
+use Rattle.act_phase.specs.State.{doing_of, filled_of}
 use Rattle.act_phase.proofs.fields.place_put.Given as goal
 
 abbrev pub invariant-loop-term : goal.invariant-loop-term
-invariant-loop-term l =
-    values_placed l.at (flat_map (term_values l.classes (doing_of l.doing)) (drop l.term-index l.put.terms)) l.fields.items
-    ≡ values_placed l.put.field (flat_map (term_values l.classes (doing_of l.doing)) l.put.terms) l.fn.fields.items
+invariant-loop-term g l =
+    StillDoes
+    (scene l.fn.names l.fn.input (g.I.Source.left l.fn.source) (g.I.Source.faults l.fn.source) (g.K.Sink.taken l.fn.sink) (g.K.Sink.faults l.fn.sink) l.fn.out)
+    (scene l.names l.input (g.I.Source.left l.source) (g.I.Source.faults l.source) (g.K.Sink.taken l.sink) (g.K.Sink.faults l.sink) l.out)
+    (λ c. silent (terms_placed l.classes l.put.field l.put.terms (filled_of l.fn.fields.items (doing_of l.doing l.fn.names c))))
+    (λ c. silent (terms_placed l.classes l.at (drop l.term-index l.put.terms) (filled_of l.fields.items (doing_of l.doing l.names c))))

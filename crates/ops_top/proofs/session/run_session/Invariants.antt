@@ -1,14 +1,22 @@
-use Rattle.std.proofs.Common.{drop}
+use Rattle.std.proofs.Common.{◌≡◌, drop, IsTrue}
+use Rattle.ops_io.specs.Coming.{inlet}
 use Rattle.ops_io.specs.Ports.{port}
-use Rattle.ops_meaning.specs.Effects.{Pending}
+use Rattle.ops_meaning.specs.Effects.{PendingOn}
+use Rattle.ops_meaning.specs.Kept.{KeepsNames}
 use Rattle.ops_meaning.specs.Running.{session_of, commands_done}
 use Rattle.act_phase.specs.Outcomes.{setting_of}
 use Rattle.ops_top.specs.Courses.{course_of}
 use Rattle.ops_top.proofs.session.run_session.Given as goal
 
 abbrev pub invariant-loop-command : goal.invariant-loop-command
-invariant-loop-command g l =
-    Pending (port (g.K.Sink.taken l.fn.sink) (g.K.Sink.faults l.fn.sink) l.fn.out)
-    (port (g.K.Sink.taken l.sink) (g.K.Sink.faults l.sink) l.out)
-    (session_of (setting_of l.names l.program) l.program.commands)
-    (commands_done (setting_of l.names l.program) l.out.column (drop l.command-index l.command-items) (course_of l.course))
+invariant-loop-command g l = record {
+  out : PendingOn (inlet l.fn.input (g.I.Source.left l.fn.source) (g.I.Source.faults l.fn.source))
+      (inlet l.input (g.I.Source.left l.source) (g.I.Source.faults l.source))
+      (port (g.K.Sink.taken l.fn.sink) (g.K.Sink.faults l.fn.sink) l.fn.out)
+      (port (g.K.Sink.taken l.sink) (g.K.Sink.faults l.sink) l.out)
+      (λ z. session_of (setting_of l.program) l.program.commands l.fn.names z)
+      (λ z. commands_done (setting_of l.program) l.out.column (drop l.command-index l.command-items) (course_of l.course l.names z));
+  whole : IsTrue l.out.whole;
+  faults : g.K.Sink.faults l.sink ≡ g.K.Sink.faults l.fn.sink;
+  names : KeepsNames l.fn.names l.names;
+}

@@ -5,30 +5,30 @@ use Rattle.ops_top.proofs.top.still_run.Goals as goal
 
 pub returns-clause-write : goal.returns-clause-write
 returns-clause-write g c =
-    rw c.status_after.ensures (whole_tells_write c.run_words.result (word_bytes c.args.words.now) _ _ _ _ _ _ c.run_words.ensures.delivers)
+    rw c.status_after.ensures (whole_tells_write c.run_words.result (word_bytes c.args.words.now) _ _ _ _ _ _ _ _ _ c.run_words.ensures.delivers)
 
 pub returns-clause-unread : goal.returns-clause-unread
 returns-clause-unread g c =
-    rw c.status_after.ensures (unread_answers c.run_words.result (word_bytes c.args.words.now) _ _ _ _ _ _ _ c.run_words.ensures.delivers c.run_words.ensures.unasked)
+    rw c.status_after.ensures (unread_answers c.run_words.result (word_bytes c.args.words.now) _ _ _ _ _ _ _ _ _ _ c.run_words.ensures.delivers c.run_words.ensures.unasked)
 
 pub returns-clause-answers : goal.returns-clause-answers
 returns-clause-answers g c =
-    rw c.status_after.ensures (whole_answers c.run_words.result (word_bytes c.args.words.now) _ _ _ _ _ _ c.run_words.ensures.delivers)
+    rw c.status_after.ensures (whole_answers c.run_words.result (word_bytes c.args.words.now) _ _ _ _ _ _ _ _ _ c.run_words.ensures.delivers)
 
 pub returns-clause-words : goal.returns-clause-words
 returns-clause-words g c =
-    rw c.status_after.ensures (whole_fits_words c.run_words.result (word_bytes c.args.words.now) _ _ _ _ _ _ c.run_words.ensures.delivers)
+    rw c.status_after.ensures (whole_fits_words c.run_words.result (word_bytes c.args.words.now) _ _ _ _ _ _ _ _ _ c.run_words.ensures.delivers)
 
 pub returns-clause-usage : goal.returns-clause-usage
 returns-clause-usage g c =
-    rw c.status_after.ensures (unfit_answers c.run_words.result (word_bytes c.args.words.now) _ _ _ _ _ _ c.run_words.ensures.delivers)
+    rw c.status_after.ensures (unfit_answers c.run_words.result (word_bytes c.args.words.now) _ _ _ _ _ _ _ _ _ c.run_words.ensures.delivers)
 
 pub returns-clause-complete : goal.returns-clause-complete
 returns-clause-complete g c =
     rw c.status_after.ensures
-    (λ through same sinks. runs_to_end _ (word_bytes c.args.words.now) _ _ _ _ _ _ _
-    (whole_answers c.run_words.result (word_bytes c.args.words.now) _ _ _ _ _ _ c.run_words.ensures.delivers)
-    (whole_tells_write c.run_words.result (word_bytes c.args.words.now) _ _ _ _ _ _ c.run_words.ensures.delivers) through same sinks)
+    (λ through same inputs sinks. runs_to_end _ (word_bytes c.args.words.now) _ _ _ _ _ _ _ _ _ _ _
+    (whole_answers c.run_words.result (word_bytes c.args.words.now) _ _ _ _ _ _ _ _ _ c.run_words.ensures.delivers)
+    (whole_tells_write c.run_words.result (word_bytes c.args.words.now) _ _ _ _ _ _ _ _ _ c.run_words.ensures.delivers) through same inputs sinks)
 
 pub returns-clause-sets : goal.returns-clause-sets
 returns-clause-sets g c = whole_goes (word_bytes c.args.words.now)

@@ -2,4 +2,4 @@ use Rattle.act_phase.proofs.States.{doing_removed}
 use Rattle.act_phase.proofs.doing.Doing.remove.Goals as goal
 
 pub returns : goal.returns
-returns c = doing_removed c.args.self.now c.remove.new.self c.tag-tag.result _ c.in_ok-remove.ensures c.tag-tag.ensures
+returns c = λ names coming. doing_removed names coming c.args.self.now c.remove.new.self c.tag-tag.result _ c.in_ok-remove.ensures c.tag-tag.ensures

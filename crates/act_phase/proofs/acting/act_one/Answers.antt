@@ -1,0 +1,24 @@
+use Rattle.std.proofs.Common.{[], refl, ap, sym, true}
+use Rattle.ops_base.specs.declared.actions.Action.TheVariants as action
+use Rattle.ops_meaning.specs.Effects.{writes}
+use Rattle.act_phase.specs.declared.outcome.Mishap.TheVariants as mishap
+use Rattle.act_phase.proofs.Deeds.{still_all, still_short}
+use Rattle.act_phase.proofs.Steps.{action_quiet}
+use Rattle.act_phase.proofs.acting.act_one.Goals as goal
+
+pub returns-in_ok-remove-in-Remove : goal.returns-in_ok-remove-in-Remove
+returns-in_ok-remove-in-Remove g c =
+    action_quiet _ c.args.classes.now c.args.action.now (action.Remove c.in-Remove.cells) c.args.doing.now c.remove.new.doing _ c.requires.whole c.in-Remove.is
+    (λ names d. ap (λ s. writes [] s) (sym (rw c.as_slice.ensures at (c.in_ok-remove-in-Remove.ensures names d))))
+
+pub returns-in_err-bind_cell-in-Cbind : goal.returns-in_err-bind_cell-in-Cbind
+returns-in_err-bind_cell-in-Cbind g c = still_short _ mishap.OutOfMemory c.from_residual-in_err-bind_cell-in-Cbind.ensures.1 refl refl (still_all _ _ c.requires.whole)
+
+pub returns-in_ok-bind_cell-in-Cbind : goal.returns-in_ok-bind_cell-in-Cbind
+returns-in_ok-bind_cell-in-Cbind g c =
+    action_quiet _ c.args.classes.now c.args.action.now (action.Cbind c.in-Cbind.cell) c.args.doing.now c.bind_cell.new.self _ c.requires.whole c.in-Cbind.is
+    (λ names d. ap (λ s. writes [] s) (sym (c.in_ok-bind_cell-in-Cbind.ensures names d)))
+
+pub returns-in-Halt : goal.returns-in-Halt
+returns-in-Halt g c =
+    action_quiet _ c.args.classes.now c.args.action.now action.Halt c.args.doing.now (record c.args.doing.now { halted = true }) _ c.requires.whole c.in-Halt.is (λ names d. refl)

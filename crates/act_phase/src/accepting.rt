@@ -1,0 +1,37 @@
+//! What `accept` gives.
+ghost use Rattle.std.specs.Prelude.{◌^◌, ◌<◌, IsTrue};
+ghost use Rattle.ops_meaning.specs.Effects.{silent};
+ghost use Rattle.ops_tokens.specs.Accepting.{accepted};
+ghost use Rattle.act_phase.specs.Deeds.{Acts, scene, atom_found};
+
+use crate::outcome::Mishap;
+use ops_base::endings::ActKind;
+use ops_base::symbols::Names;
+use ops_base::values::Value;
+use ops_io::{Input, Out, Sink, Source};
+use ops_tokens::{AcceptFault, accept_atom};
+
+/// Reads one atom. Before that all that was put is written: a person sees the question before the answer is waited for.
+pub(crate) fn accept<I: Source, K: Sink>(
+    names: &mut Names,
+    input: &mut Input,
+    source: &mut I,
+    out: &mut Out,
+    sink: &mut K,
+) -> Result<Value, Mishap>
+    requires whole { IsTrue out.old.whole }
+    requires writes { K.faults sink.old < 2 ^ 63 }
+    requires reads { I.faults source.old < 2 ^ 63 }
+    ensures { Acts (λ v c. record { value = v; names = names.new; coming = c }) result
+        (scene names.old input.old (I.left source.old) (I.faults source.old) (K.taken sink.old) (K.faults sink.old) out.old)
+        (scene names.new input.new (I.left source.new) (I.faults source.new) (K.taken sink.new) (K.faults sink.new) out.new)
+        (λ c. silent (atom_found (accepted names.old c))) }
+{
+    out.flush(sink)?;
+    match accept_atom(names, input, source) {
+        Ok(value) => Ok(value),
+        Err(AcceptFault::TooLong) => Err(Mishap::Fault(ActKind::InputTooLong)),
+        Err(AcceptFault::Read) => Err(Mishap::Read),
+        Err(AcceptFault::OutOfMemory) => Err(Mishap::OutOfMemory),
+    }
+}

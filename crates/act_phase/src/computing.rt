@@ -1,0 +1,246 @@
+//! What `compute` gives: a loop over the steps of an expression, with its operands on a stack.
+ghost use Rattle.std.specs.Prelude.{◌≡◌, ◌+ℤ◌, ◌-ℤ◌, ◌*ℤ◌, int_div, IfOk, OnOk, Ok, [], ◌∷◌, ◌++◌, reverse, unwrap_or};
+ghost use Rattle.ops_base.specs.Matching.{value_of};
+ghost use Rattle.ops_base.specs.Values.{nil};
+ghost use Rattle.ops_base.specs.Expression.{after_step, operate};
+ghost use Rattle.ops_meaning.specs.Computing.{in_range, is_zero, operated, applied, computed};
+
+use ops_base::endings::ActKind;
+use ops_base::expression::{Expr, Op, Step};
+use ops_base::matching::{Binding, bound_value};
+use ops_base::memory::OutOfMemory;
+use ops_base::values::{NIL, Value};
+use smallvec::SmallVec;
+use std::alloc::Global;
+use std::marker::Model;
+
+/// How many operands the stack holds before it takes memory. A text nests no deeper.
+const OPERANDS: usize = 32;
+
+/// A number, or the fault of an operation.
+type Computed = Result<Value, ActKind>;
+
+fn sum(a: i64, b: i64) -> Computed
+    ensures { result ≡ in_range (a +ℤ b) }
+{
+    match a.checked_add(b) {
+        Some(exact) => Ok(Value::Whole(exact)),
+        None => Err(ActKind::Overflow),
+    }
+}
+
+fn difference(a: i64, b: i64) -> Computed
+    ensures { result ≡ in_range (a -ℤ b) }
+{
+    match a.checked_sub(b) {
+        Some(exact) => Ok(Value::Whole(exact)),
+        None => Err(ActKind::Overflow),
+    }
+}
+
+fn product(a: i64, b: i64) -> Computed
+    ensures { result ≡ in_range (a *ℤ b) }
+{
+    match a.checked_mul(b) {
+        Some(exact) => Ok(Value::Whole(exact)),
+        None => Err(ActKind::Overflow),
+    }
+}
+
+/// Truncated towards zero.
+fn quotient(a: i64, b: i64) -> Computed
+    ensures { result ≡ operated Op.Div a b }
+{
+    if b == 0 {
+        return Err(ActKind::ZeroDivisor);
+    }
+    match a.checked_div(b) {
+        Some(exact) => Ok(Value::Whole(exact)),
+        None => Err(ActKind::Overflow),
+    }
+}
+
+/// With the sign of the dividend. One by -1 is 0, also of the least number.
+fn remainder(a: i64, b: i64) -> Computed
+    ensures { result ≡ operated Op.Rem a b }
+{
+    match b {
+        0 => Err(ActKind::ZeroDivisor),
+        -1 => Ok(Value::Whole(0)),
+        _ => Ok(Value::Whole(a % b)),
+    }
+}
+
+fn operated(op: Op, a: i64, b: i64) -> Computed
+    ensures { result ≡ operated op a b }
+{
+    match op {
+        Op::Add => sum(a, b),
+        Op::Sub => difference(a, b),
+        Op::Mul => product(a, b),
+        Op::Div => quotient(a, b),
+        Op::Rem => remainder(a, b),
+    }
+}
+
+/// An operation on what its operands gave, of which the right one was computed first.
+fn applied(op: Op, left: Computed, right: Computed) -> Computed
+    ensures { result ≡ applied op left right }
+{
+    match (left, right) {
+        (_, Err(kind)) | (Err(kind), Ok(_)) => Err(kind),
+        (Ok(Value::Whole(a)), Ok(Value::Whole(b))) => operated(op, a, b),
+        (Ok(_), Ok(_)) => Err(ActKind::NotNumber),
+    }
+}
+
+/// What one operand gave. It is seen as that.
+#[derive(Drop)]
+struct Operand {
+    given: Computed,
+}
+
+impl Model for Operand {
+    ghost use Rattle.ops_meaning.specs.Computing.{Computed};
+
+    ghost Value = { Computed };
+
+    ghost view = { λ o. o.given };
+}
+
+impl Default for Operand {
+    fn default() -> Operand {
+        Operand {
+            given: Ok(Value::Whole(0)),
+        }
+    }
+}
+
+/// The operands so far, the last one at the end. It takes no memory for an expression that a text can have.
+type Operands = SmallVec<Operand, OPERANDS>;
+
+fn put(stack: &mut Operands, given: Computed) -> Result<(), OutOfMemory>
+    ensures { OnOk result (stack.new.items ≡ stack.old.items ++ given ∷ []) }
+{
+    stack.push(Operand { given })?;
+    Ok(())
+}
+
+/// Does an operation on the two operands that were put last, the left one behind the right one.
+fn operate(stack: &mut Operands, op: Op) -> Result<(), OutOfMemory>
+    ensures { OnOk result (reverse stack.new.items ≡ operate (applied op) (reverse stack.old.items)) }
+{
+    if stack.len() < 2 {
+        return Ok(());
+    }
+    if let Some(left) = stack.pop() {
+        if let Some(right) = stack.pop() {
+            put(stack, applied(op, left.given, right.given))?;
+        }
+    }
+    Ok(())
+}
+
+/// One step on the stack.
+fn step(stack: &mut Operands, bindings: &[Binding], step: Step) -> Result<(), OutOfMemory>
+    ensures { OnOk result (reverse stack.new.items
+        ≡ after_step (λ n. Ok (Value.Whole n)) (λ v. Ok (unwrap_or (value_of bindings.now v) nil)) applied step (reverse stack.old.items)) }
+{
+    match step {
+        Step::Number(n) => put(stack, Ok(Value::Whole(n))),
+        Step::Variable(variable) => {
+            let value = bound_value(bindings, variable).unwrap_or(Value::Symbol(NIL));
+            put(stack, Ok(value))
+        }
+        Step::Apply(op) => operate(stack, op),
+    }
+}
+
+/// What an expression gives. Takes time in proportion to its operations, and to the bindings for each variable.
+#[tactic(auto, using(crate::proofs::Computed::comes_first, crate::proofs::Computed::comes_last))]
+pub(crate) fn computed(
+    alloc: Global,
+    bindings: &[Binding],
+    expr: &Expr,
+) -> Result<Computed, OutOfMemory>
+    ensures { IfOk result (λ r. r ≡ computed (λ v. unwrap_or (value_of bindings.now v) nil) expr.now) }
+{
+    let mut stack: Operands = SmallVec::new(alloc);
+    for each in expr.steps() {
+        step(&mut stack, bindings, *each)?;
+    }
+    match stack.pop() {
+        Some(operand) => Ok(operand.given),
+        None => unreachable!(),
+    }
+}
+
+#[cfg(test)]
+mod tests {
+    use super::*;
+    use ops_base::values::Sym;
+    use std::test::Fail;
+
+    /// One operation, its operands, and what it gives.
+    const ONE_OPERATION: [(Op, i64, i64, Computed); 13] = [
+        (Op::Add, 3, 4, Ok(Value::Whole(7))),
+        (Op::Add, i64::MAX, 1, Err(ActKind::Overflow)),
+        (Op::Sub, 3, 4, Ok(Value::Whole(-1))),
+        (Op::Sub, i64::MIN, 1, Err(ActKind::Overflow)),
+        (Op::Mul, -3, 4, Ok(Value::Whole(-12))),
+        (
+            Op::Mul,
+            4_294_967_296,
+            2_147_483_648,
+            Err(ActKind::Overflow),
+        ),
+        (Op::Div, -7, 2, Ok(Value::Whole(-3))),
+        (Op::Div, 1, 0, Err(ActKind::ZeroDivisor)),
+        (Op::Div, i64::MIN, -1, Err(ActKind::Overflow)),
+        (Op::Rem, -7, 2, Ok(Value::Whole(-1))),
+        (Op::Rem, 7, -2, Ok(Value::Whole(1))),
+        (Op::Rem, 1, 0, Err(ActKind::ZeroDivisor)),
+        (Op::Rem, i64::MIN, -1, Ok(Value::Whole(0))),
+    ];
+
+    #[test]
+    fn one_operation(rt: HostRuntime) -> Result<(), Fail> {
+        let alloc = rt.alloc();
+        for (op, a, b, wanted) in ONE_OPERATION {
+            let expr = Expr::apply(op, Expr::number(alloc, a)?, Expr::number(alloc, b)?)?;
+            assert_eq!(rt; computed(alloc, &[], &expr)?, wanted);
+        }
+        Ok(())
+    }
+
+    #[test]
+    fn variables_and_order(rt: HostRuntime) -> Result<(), Fail> {
+        let alloc = rt.alloc();
+        let mut bindings = Vec::new(alloc);
+        bindings.push(Binding {
+            variable: 1,
+            value: Value::Whole(4),
+        })?;
+        bindings.push(Binding {
+            variable: 2,
+            value: Value::Symbol(Sym(9)),
+        })?;
+
+        // 2 * 3 + <1>
+        let four = Expr::variable(alloc, 1)?;
+        let seven = Expr::apply(Op::Add, Expr::number(alloc, 3)?, four)?;
+        let chain = Expr::apply(Op::Mul, Expr::number(alloc, 2)?, seven)?;
+        let found = computed(alloc, &bindings, &chain)?;
+        assert_eq!(rt; found, Ok(Value::Whole(14)));
+
+        // <2> alone, and <2> + 1 // 0
+        let symbol = Expr::variable(alloc, 2)?;
+        let found = computed(alloc, &bindings, &symbol)?;
+        assert_eq!(rt; found, Ok(Value::Symbol(Sym(9))));
+        let none = Expr::apply(Op::Div, Expr::number(alloc, 1)?, Expr::number(alloc, 0)?)?;
+        let sum = Expr::apply(Op::Add, symbol, none)?;
+        let found = computed(alloc, &bindings, &sum)?;
+        assert_eq!(rt; found, Err(ActKind::ZeroDivisor));
+        Ok(())
+    }
+}

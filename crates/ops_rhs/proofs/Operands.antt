@@ -1,0 +1,112 @@
+-- Steps of the walk over expressions, and where their values go.
+use Rattle.std.proofs.Common.{◌≡◌, ℕ, suc, true, false, nat_lt, List, [], ◌∷◌, ◌++◌, drop, Option, Some, None, Result, Ok, Err, refl, ap, ◌∙◌}
+use Rattle.ops_base.specs.Expression.{Formula, apply}
+use Rattle.ops_base.specs.declared.expression.Op.{Op}
+use Rattle.ops_base.specs.declared.actions.Term.{Term}
+use Rattle.ops_meaning.specs.declared.words.Word.{Word}
+use Rattle.ops_meaning.specs.Grammar.{Target as Goal, Waiting as Waits, Wanted, State, Next, Bracketed, ExpressionUnit, ExpressionRest, after, goes, step, bracket_at, completed, is_left, is_right, most_brackets, number_of, operation_of, term_at, with_bind, with_formula}
+use Rattle.ops_forms.specs.Walking.{Way, Fails, GoesOn, GoesAmong}
+use Rattle.ops_forms.specs.declared.refusals.Refusal.{Refusal}
+use Rattle.ops_forms.specs.declared.refusals.Refusal.TheVariants as refusal
+use Rattle.ops_forms.proofs.Walks.{fails_as, fails_anywhere}
+use Rattle.ops_rhs.specs.declared.expressions.Waiting.{Waiting}
+use Rattle.ops_rhs.specs.declared.right.Right.{Right}
+use Rattle.ops_rhs.specs.declared.right.Target.{Target}
+use Rattle.ops_rhs.specs.declared.right.Target.TheVariants as target
+use Rattle.ops_rhs.specs.Taking.{seen, view, target_of, with_term, newest_first, GoesToOperand, ActsOperand, ReadsExpression, OpensExpression}
+
+-- ---- what waits
+
+newest_push : (ws : List Waiting) (w : Waiting) → newest_first (ws ++ w ∷ []) ≡ record { left = w.left; op = w.op } ∷ newest_first ws
+newest_push [] w = refl
+newest_push (x ∷ ws) w = ap (λ (more : List Waits). more ++ record { left = x.left; op = x.op } ∷ []) (newest_push ws w)
+
+pub newest_grown : (all ws : List Waiting) (w : Waiting) → all ≡ ws ++ w ∷ [] → newest_first all ≡ record { left = w.left; op = w.op } ∷ newest_first ws
+newest_grown all ws w e = rw (e, newest_push ws w) refl
+
+-- the one that was read last gets its right operand
+pub completed_once : (all ws : List Waiting) (w : Waiting) (value : Formula) → all ≡ ws ++ w ∷ [] → completed (apply w.op w.left value) (newest_first ws) ≡ completed value (newest_first all)
+completed_once all ws w value e = rw (e, newest_push ws w) refl
+
+-- ---- refusals
+
+-- what fails in every state fails in each of these
+fails_in : (by : Way) (state : State → State) (e : Refusal) → Fails by e → Fails (λ more ws s. by more ws (state s)) e
+fails_in by state refusal.OutOfMemory h = tt
+fails_in by state (refusal.At f None) h = λ ws s. h ws (state s)
+fails_in by state (refusal.At f (Some w)) h = λ more ws s. h more ws (state s)
+
+-- what goes on in every state does in each state of a kind
+pub goes_anywhere : (holds : State → Type 0) (from by : Way) → ((more : List Word) (ws : List Wanted) (s : State) → from more ws s ≡ by more ws s) → (words : List Word) (new : State → State) (r : Result ℕ Refusal) → GoesOn by words new r → GoesAmong holds from words new r
+goes_anywhere holds from by same words new (Ok next) h = λ more ws s _. same more ws s ∙ h more ws s
+goes_anywhere holds from by same words new (Err e) h = fails_anywhere holds from by (λ more ws s _. same more ws s) e h
+
+-- ---- operands
+
+pub operand_as : (from by : Formula → Way) → ((f : Formula) (more : List Word) (ws : List Wanted) (s : State) → from f more ws s ≡ by f more ws s) → (r : Right) (words : List Word) (result : Result (Formula × ℕ) Refusal) → GoesToOperand by r words result → GoesToOperand from r words result
+operand_as from by same r words (Ok x) h = λ f more ws s. same f more ws s ∙ h f more ws s
+operand_as from by same r words (Err e) h = λ f. fails_as (from f) (by f) (same f) e (h f)
+
+pub unit_opens : (depth : ℕ) (words rest more : List Word) (w : Word) (ws : List Wanted) (s : State) → words ≡ w ∷ rest → is_left w.kind ≡ true → goes (words ++ more) (ExpressionUnit depth ∷ ws) s ≡ after (goes (rest ++ more)) w (bracket_at depth ws s)
+unfolding goes step
+unit_opens depth words rest more w ws s e left = rw (e, left) refl
+
+module _ (depth deeper at : ℕ) (w : Word) (r : Right) (words : List Word) (fits : nat_lt depth most_brackets ≡ true) where
+  pub bracket_read : (rest : ℕ) (result : Result (Formula × ℕ) Refusal) → deeper ≡ suc depth → OpensExpression words at (Ok rest) → ReadsExpression deeper r words rest result → ActsOperand (λ ws s. bracket_at depth ws s) w r words at result
+  bracket_read rest (Ok x) e opens reads = λ f more ws s. rw (fits, ← e) (opens deeper more ws (with_formula (seen s r) f) ∙ reads None f more ws s)
+  bracket_read rest (Err x) e opens reads =
+      λ f. rw (fits, ← e) (fails_as (λ more ws s. goes (drop at words ++ more) (Bracketed deeper ∷ ws) (with_formula (seen s r) f)) (λ more ws s. goes (drop rest words ++ more) (ExpressionUnit deeper ∷ ExpressionRest deeper [] None ∷ ws) (with_formula (seen s r) f)) (λ more ws s. opens deeper more ws (with_formula (seen s r) f)) x (reads None f))
+
+  pub bracket_fails : (e : Refusal) → OpensExpression words at (Err e) → (f : Formula) → Fails (λ more ws s. after (goes (drop at words ++ more)) w (bracket_at depth ws (with_formula (seen s r) f))) e
+  bracket_fails e opens f = rw fits (fails_in (λ more ws s. goes (drop at words ++ more) (Bracketed (suc depth) ∷ ws) s) (λ s. with_formula (seen s r) f) e (opens (suc depth)))
+
+-- ---- operations
+
+pub rest_operation : (depth : ℕ) (waiting : List Waits) (t : Option Goal) (words rest more : List Word) (w : Word) (op : Op) (ws : List Wanted) (s : State) → words ≡ w ∷ rest → is_right w.kind ≡ false → operation_of w.keyword ≡ Some op → goes (words ++ more) (ExpressionRest depth waiting t ∷ ws) s ≡ goes (rest ++ more) (ExpressionUnit depth ∷ ExpressionRest depth (record { left = s.formula; op = op } ∷ waiting) t ∷ ws) s
+unfolding goes step
+rest_operation depth waiting t words rest more w op ws s e other is = rw (e, other, is) refl
+
+-- ---- where values go
+
+pub term_goes : (t : Target) (x : Term) (ws : List Wanted) (s : State) → term_at (target_of t) x ws s ≡ Next ws (with_term t s x)
+term_goes (target.Put f) x ws s = refl
+term_goes target.Terms x ws s = refl
+term_goes target.Item x ws s = refl
+term_goes target.Bind x ws s = refl
+
+-- what is read of a right side, in that state, as it is in this one
+abbrev pub as_in : State → State → State
+as_in s x =
+    record s {
+      class = x.class;
+      terms = x.terms;
+      constants = x.constants;
+      puts = x.puts;
+      cells = x.cells;
+      items = x.items;
+      values = x.values;
+      elements = x.elements;
+      variables = x.variables;
+      actions = x.actions;
+      modified = x.modified;
+      made = x.made;
+      further = x.further;
+      variable = x.variable;
+      source = x.source;
+      source_field = x.source_field;
+      formula = x.formula;
+    }
+
+bound_in : (o : Option ℕ) (old : Right) (x : Term) (s : State) → as_in s (with_bind o (view old) x) ≡ with_bind o (seen s old) x
+bound_in (Some n) old x s = refl
+bound_in None old x s = refl
+
+term_in : (t : Target) (old : Right) (x : Term) (s : State) → as_in s (with_term t (view old) x) ≡ with_term t (seen s old) x
+term_in (target.Put f) old x s = refl
+term_in target.Terms old x s = refl
+term_in target.Item old x s = refl
+term_in target.Bind old x s = bound_in (number_of old.variable old.values) old x s
+
+-- a value goes there in every state
+pub added : (t : Target) (old new : Right) (x : Term) → view new ≡ with_term t (view old) x → (s : State) → seen s new ≡ with_term t (seen s old) x
+added t old new x e s = ap (as_in s) e ∙ term_in t old x s

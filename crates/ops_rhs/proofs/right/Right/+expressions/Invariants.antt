@@ -1,0 +1,25 @@
+use Rattle.std.proofs.Common.{◌≡◌, List, [], ◌∷◌, ◌++◌, length, drop, Option, ◌+◌, ◌-◌, ◌*◌, ◌≤◌}
+use Rattle.ops_base.specs.Expression.{Formula}
+use Rattle.ops_meaning.specs.declared.words.Word.{Word}
+use Rattle.ops_meaning.specs.Grammar.{State, Wanted, ExpressionUnit, ExpressionRest, goes, with_formula}
+use Rattle.ops_rhs.specs.declared.right.Target.{Target}
+use Rattle.ops_rhs.specs.Taking.{seen, into, newest_first}
+use Rattle.ops_rhs.proofs.right.Right.+expressions.Given as goal
+
+abbrev pub decreases-expression : goal.decreases-expression
+decreases-expression l = 3 * (33 - l.depth) + 2
+
+abbrev pub decreases-unit : goal.decreases-unit
+decreases-unit l = 3 * (33 - l.depth) + 1
+
+abbrev pub decreases-bracket : goal.decreases-bracket
+decreases-bracket l = 3 * (33 - l.depth)
+
+abbrev pub invariant-expression-operations : goal.invariant-expression-operations
+invariant-expression-operations l = record {
+  same : (t : Option Target) (f : Formula) (more : List Word) (ws : List Wanted) (s : State) → goes (drop l.fn.at l.words ++ more) (ExpressionUnit l.depth ∷ ExpressionRest l.depth [] (into t) ∷ ws) (with_formula (seen s l.self) f) ≡ goes (drop l.rest l.words ++ more) (ExpressionRest l.depth (newest_first l.waiting.items) (into t) ∷ ws) (with_formula (seen s l.self) l.operand);
+  from : l.fn.at ≤ l.rest;
+}
+
+abbrev pub decreases-expression-operations : goal.decreases-expression-operations
+decreases-expression-operations l = length l.words - l.rest

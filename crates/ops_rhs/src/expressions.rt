@@ -1,0 +1,161 @@
+//! The expressions of `compute`.
+ghost use Rattle.std.specs.Prelude.{◌≡◌, IfOk};
+ghost use Rattle.ops_meaning.specs.Grammar.{completed, bracket_at, unit_at, unit_bound, number_of, ExpressionUnit};
+ghost use Rattle.ops_forms.specs.Walking.{IsFrom};
+ghost use Rattle.ops_rhs.specs.Taking.{newest_first, ReadsOperand, ActsOperand, ReadsExpression, OpensExpression, IsOperand, IsFromOperand};
+
+use crate::right::Right;
+use ops_base::endings::{Fault, Limit};
+use ops_base::expression::{Expr, Op};
+use ops_base::memory::OutOfMemory;
+use ops_forms::kinds::{is_compute, is_left, is_right, operation_of};
+use ops_forms::refusals::refused;
+use ops_forms::walking::first_of;
+use ops_forms::{Refusal, number_of};
+use ops_meaning::Word;
+use ops_tokens::TokenKind;
+
+// how many brackets may be open at once
+const MOST_BRACKETS: usize = 32;
+
+// how many are open in a function: those of the production, of the action and its own
+pub const FUNCTION_DEPTH: usize = 3;
+
+// an operand and the operation behind it, which wait for what stands behind them
+#[derive(Drop)]
+pub struct Waiting {
+    pub left: Expr,
+    pub op: Op,
+}
+
+impl Right {
+    // unit, or unit OP expr, and the closing bracket, where so many brackets are open
+    #[cycle(expressions)]
+    #[tactic(auto, unfolding(ops_meaning::specs::Grammar::goes, ops_meaning::specs::Grammar::step, ops_meaning::specs::Grammar::ends))]
+    pub fn expression(
+        &self,
+        depth: usize,
+        words: &[Word],
+        at: usize,
+    ) -> Result<(Expr, usize), Refusal>
+        ensures reads { ReadsExpression depth self.now words.now at result }
+        ensures within { IsFromOperand at result }
+    {
+        let mut waiting = Vec::new(self.alloc);
+        let (mut operand, mut rest) = match self.unit(depth, words, at) {
+            Ok(first) => first,
+            Err(refusal) => return Err(refusal),
+        };
+        'operations: loop {
+            let (word, after) = first_of(words, rest)?;
+            if is_right(word.kind) {
+                return Ok((completed(waiting, operand)?, after));
+            }
+            let Some(op) = operation_of(word.keyword) else {
+                return refused(Fault::BadForm, word);
+            };
+            waiting.push(Waiting { left: operand, op })?;
+            match self.unit(depth, words, after) {
+                Ok((next, behind)) => {
+                    operand = next;
+                    rest = behind;
+                }
+                Err(refusal) => return Err(refusal),
+            }
+        }
+    }
+
+    // WHOLE | VARIABLE | ( expr ) | ( compute expr )
+    #[cycle(expressions)]
+    #[tactic(auto, unfolding(ops_meaning::specs::Grammar::goes, ops_meaning::specs::Grammar::step, ops_meaning::specs::Grammar::ends))]
+    fn unit(&self, depth: usize, words: &[Word], at: usize) -> Result<(Expr, usize), Refusal>
+        ensures reads { ReadsOperand (ExpressionUnit depth) self.now words.now at result }
+        ensures within { IsFromOperand at result }
+    {
+        let (word, rest) = first_of(words, at)?;
+        if is_left(word.kind) {
+            return self.bracket(depth, word, words, rest);
+        }
+        match self.operand(word) {
+            Ok(operand) => Ok((operand, rest)),
+            Err(refusal) => Err(refusal),
+        }
+    }
+
+    // expr ) | compute expr ), behind a bracket
+    #[cycle(expressions)]
+    fn bracket(
+        &self,
+        depth: usize,
+        word: Word,
+        words: &[Word],
+        at: usize,
+    ) -> Result<(Expr, usize), Refusal>
+        ensures acts { ActsOperand (λ ws s. bracket_at depth ws s) word self.now words.now at result }
+        ensures within { IsFromOperand at result }
+    {
+        if depth >= MOST_BRACKETS {
+            return refused(
+                Fault::LimitPassed {
+                    limit: Limit::Nesting,
+                },
+                word,
+            );
+        }
+        match behind_compute(words, at) {
+            Ok(rest) => self.expression(depth + 1, words, rest),
+            Err(refusal) => Err(refusal),
+        }
+    }
+}
+
+impl Right {
+    // WHOLE | VARIABLE, which is the word
+    fn operand(&self, word: Word) -> Result<Expr, Refusal>
+        ensures { IsOperand (λ ws s. unit_at word.kind word.name ws s) word self.now result }
+    {
+        match word.kind {
+            TokenKind::Whole(number) => Ok(Expr::number(self.alloc, number)?),
+            TokenKind::Variable => self.bound_operand(word),
+            _ => refused(Fault::BadForm, word),
+        }
+    }
+
+    // a variable, which a condition or a `bind` before it must bind
+    fn bound_operand(&self, word: Word) -> Result<Expr, Refusal>
+        ensures { IsOperand (λ ws s. unit_bound (number_of word.name s.values) ws s) word self.now result }
+    {
+        let Some(number) = number_of(&self.values, word.name) else {
+            return refused(Fault::UnboundVariable, word);
+        };
+        Ok(Expr::variable(self.alloc, number)?)
+    }
+}
+
+// the place behind `compute`, where that stands there
+#[tactic(auto, unfolding(ops_meaning::specs::Grammar::goes, ops_meaning::specs::Grammar::step, ops_meaning::specs::Grammar::ends))]
+fn behind_compute(words: &[Word], at: usize) -> Result<usize, Refusal>
+    ensures reads { OpensExpression words.now at result }
+    ensures within { IsFrom at result }
+{
+    let (word, rest) = first_of(words, at)?;
+    if is_compute(word.keyword) {
+        Ok(rest)
+    } else {
+        Ok(at)
+    }
+}
+
+// What waits gets its right operand, the last one first, so that each operand is copied once.
+fn completed(mut waiting: Vec<Waiting>, last: Expr) -> Result<Expr, OutOfMemory>
+    ensures { IfOk result (λ e. e ≡ completed last (newest_first waiting.items)) }
+{
+    let mut value = last;
+    'waiting: while let Some(Waiting { left, op }) = waiting.pop() {
+        match Expr::apply(op, left, value) {
+            Ok(whole) => value = whole,
+            Err(error) => return Err(error),
+        }
+    }
+    Ok(value)
+}

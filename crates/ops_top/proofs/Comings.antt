@@ -1,0 +1,41 @@
+-- Something may always come, and so what was put is known whatever comes.
+use Rattle.std.proofs.Common.{◌≡◌, ℕ, Bool, true, false, List, [], ◌++◌, Option, Some, None, refl, ◌∙◌, nat_lt}
+use Rattle.ops_io.specs.Coming.{Coming, Inlet, IsBehind, MayCome, ComesBehind, ComesAfter}
+use Rattle.ops_io.specs.Ports.{Port, Put}
+use Rattle.ops_meaning.specs.Effects.{Effect, PendingOn, CountsReads}
+
+some_behind : (ended : Bool) (left : Option (List ℕ)) → (more : List ℕ) × IsBehind ended false left more
+some_behind true left = ([], (refl, refl))
+some_behind false None = ([], tt)
+some_behind false (Some bytes) = (bytes, refl)
+
+pub some_may : (i : Inlet) → (c : Coming) × MayCome i c
+some_may i =
+    let behind = some_behind i.buffer.ended i.left in
+    (record { bytes = i.buffer.held ++ behind.0; fails = false }, record { more = behind.0; bytes = refl; behind = behind.1 })
+
+-- something may come behind a call, which fails where a read did
+pub some_failing : (old new : Inlet) → (z : Coming) × ComesAfter old new z × (z.fails ≡ nat_lt old.faults new.faults)
+unfolding some_may
+some_failing old new = by (nat_lt old.faults new.faults)
+  where
+    by : (failed : Bool) → (z : Coming) × ComesBehind failed new z × (z.fails ≡ failed)
+    by true = (record { bytes = new.buffer.held; fails = true }, refl, refl)
+    by false = let z = some_may new in (z.0, z.1, refl)
+
+-- something may come behind a call
+pub some_after : (old new : Inlet) → (c : Coming) × ComesAfter old new c
+some_after old new = by (nat_lt old.faults new.faults)
+  where
+    by : (failed : Bool) → (c : Coming) × ComesBehind failed new c
+    by true = (record { bytes = new.buffer.held; fails = true }, refl)
+    by false = some_may new
+
+-- some bytes were put
+pub pending_put : {E S : Type 0} (i j : Inlet) (a b : Port) (whole rest : Coming → Effect E S) → PendingOn i j a b whole rest → (xs : List ℕ) × Put a b xs
+pending_put i j a b whole rest p = let z = some_may j in let q = p.pending z.0 z.1 in (q.sofar, q.put)
+
+-- what a call counts, behind calls in which no read failed
+pub counts_behind : (failed : Bool) (before now new : ℕ) → now ≡ before → CountsReads failed now new → CountsReads failed before new
+counts_behind true before now new same p = cc
+counts_behind false before now new same p = p ∙ same
