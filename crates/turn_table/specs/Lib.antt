@@ -1,0 +1,7 @@
+-- What the contracts of cells, passes and turns say.
+pub mod Log
+pub mod Views
+pub mod Rule
+pub mod Steps
+pub mod Ends
+pub mod Turns
