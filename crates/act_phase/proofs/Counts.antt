@@ -16,7 +16,8 @@ use Rattle.ops_base.specs.declared.elements.Change.{Change}
 use Rattle.ops_base.specs.declared.elements.Change.TheVariants as change
 use Rattle.ops_base.specs.WorkingMemory.{tags_of, without_tag, done}
 use Rattle.ops_meaning.specs.Acting.{has_tag, element_of, made_by, made_last, no_element}
-use Rattle.ops_meaning.proofs.Lawful.{has_tag-Contains, done_push}
+use Rattle.ops_base.proofs.Changes.{done_push}
+use Rattle.ops_meaning.proofs.Lawful.{has_tag-Contains}
 use Rattle.work_store.proofs.Lists.{or_false, at_is, tag_is}
 use Rattle.act_phase.specs.Changed.{is_new, AreCounted}
 

@@ -10,7 +10,7 @@ use Rattle.ops_base.specs.declared.elements.Change.TheVariants as change
 use Rattle.ops_base.specs.declared.values.Value.{Value}
 use Rattle.ops_io.specs.Coming.{Coming}
 use Rattle.ops_meaning.specs.Acting.{Doing as Meant, has_tag, cell_of, next_element, added, removed, modified, changed, made_last}
-use Rattle.ops_meaning.proofs.Lawful.{done_push}
+use Rattle.ops_base.proofs.Changes.{done_push}
 use Rattle.act_phase.specs.Changed.{Changed, memory_of, with_change, with_removed, with_added}
 use Rattle.act_phase.specs.State.{held_by, doing_of}
 use Rattle.act_phase.specs.declared.doing.Cell.TheVariants as cell

@@ -10,9 +10,11 @@ use ops_base::symbols::Names;
 use ops_base::values::Value;
 use ops_io::{Input, Out, Sink, Source};
 use ops_tokens::{AcceptFault, accept_atom};
+use std::alloc::Global;
 
 /// Reads one atom. Before that all that was put is written: a person sees the question before the answer is waited for.
 pub(crate) fn accept<I: Source, K: Sink>(
+    alloc: Global,
     names: &mut Names,
     input: &mut Input,
     source: &mut I,
@@ -28,7 +30,7 @@ pub(crate) fn accept<I: Source, K: Sink>(
         (λ c. silent (atom_found (accepted names.old c))) }
 {
     out.flush(sink)?;
-    match accept_atom(names, input, source) {
+    match accept_atom(alloc, names, input, source) {
         Ok(value) => Ok(value),
         Err(AcceptFault::TooLong) => Err(Mishap::Fault(ActKind::InputTooLong)),
         Err(AcceptFault::Read) => Err(Mishap::Read),

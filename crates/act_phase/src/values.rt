@@ -146,6 +146,6 @@ pub(crate) fn evaluate<'d, I: Source, K: Sink>(
         Term::Rest { cell } => Ok(Values::Row(row(classes, doing, *cell))),
         Term::Compute(expr) => Ok(Values::One(compute(alloc, doing, expr)?)),
         Term::Fresh => Ok(Values::One(Value::Symbol(names.fresh()?))),
-        Term::Accept => Ok(Values::One(accept(names, input, source, out, sink)?)),
+        Term::Accept => Ok(Values::One(accept(alloc, names, input, source, out, sink)?)),
     }
 }

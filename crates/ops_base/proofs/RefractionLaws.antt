@@ -62,6 +62,6 @@ member-unfired found fired i =
     Contains-filter (λ j. not (is_among fired j)) (λ j. ¬ Contains fired j) (λ j. Decides-not (is_among fired j) (is_among-Decides fired j)) i found
 
 -- What stays marked is what was marked and is found.
-pub member-still_fired : (found fired : List Inst) (i : Inst) → Contains (still_fired found fired) i ↔ (Contains fired i × Contains found i)
+pub member-still_fired : (found fired : List Inst) (i : Inst) → Contains (still_fired found fired) i ↔ (Contains found i × Contains fired i)
 member-still_fired found fired i =
-    Contains-filter (λ j. is_among found j) (Contains found) (λ j. is_among-Decides found j) i fired
+    Contains-filter (λ j. is_among fired j) (Contains fired) (λ j. is_among-Decides fired j) i found

@@ -21,9 +21,9 @@ is_among insts i = list_any (λ j. is_same_inst i j) insts
 abbrev pub unfired : List Inst → List Inst → List Inst
 unfired found fired = filter (λ i. not (is_among fired i)) found
 
--- A mark is forgotten where its instantiation is not found at the end of a phase.
+-- A mark is forgotten where its instantiation is not found at the end of a phase. The marks stand in the order of what is found.
 abbrev pub still_fired : List Inst → List Inst → List Inst
-still_fired found fired = filter (λ i. is_among found i) fired
+still_fired found fired = filter (λ i. is_among fired i) found
 
 -- i is one of them and dominates all others
 pub record IsDominant (strategy : Strategy) (rules : List Rule) (insts : List Inst) (i : Inst) : Type 0 where

@@ -41,3 +41,9 @@ abbrev pub Lawful : List Element → ℕ → List Change → Type 0
 Lawful wm last [] = Unit {0}
 Lawful wm last (Add e ∷ cs) = (last < e.tag) × Lawful (wm ++ e ∷ []) e.tag cs
 Lawful wm last (Remove tag ∷ cs) = Contains (tags_of wm) tag × Lawful (without_tag tag wm) last cs
+
+-- the last tag that was given, after these changes
+abbrev pub last_after : ℕ → List Change → ℕ
+last_after last [] = last
+last_after last (Add e ∷ cs) = last_after e.tag cs
+last_after last (Remove tag ∷ cs) = last_after last cs

@@ -43,5 +43,5 @@ pub fn refraction_marks()
     ensures unmarked { (found fired : List Inst) (i : Inst)
         → Contains (unfired found fired) i ↔ (Contains found i × ¬ Contains fired i) }
     ensures stays { (found fired : List Inst) (i : Inst)
-        → Contains (still_fired found fired) i ↔ (Contains fired i × Contains found i) }
+        → Contains (still_fired found fired) i ↔ (Contains found i × Contains fired i) }
 {}

@@ -6,6 +6,7 @@ use Rattle.ops_base.specs.declared.values.Sym.{Sym}
 use Rattle.ops_base.specs.declared.values.Value.{Value}
 use Rattle.ops_base.specs.declared.values.Pred.{Pred}
 use Rattle.ops_base.specs.declared.values.Pred.TheVariants as pred
+use Rattle.ops_base.specs.declared.commands.Strategy.{Strategy}
 use Rattle.ops_base.specs.declared.expression.Op.{Op}
 use Rattle.ops_base.specs.declared.actions.Term.{Term}
 use Rattle.ops_base.specs.declared.actions.Term.TheVariants as term
@@ -20,7 +21,7 @@ use Rattle.ops_meaning.specs.declared.words.Word.{Word}
 use Rattle.ops_meaning.specs.declared.words.Keyword.{Keyword}
 use Rattle.ops_meaning.specs.declared.words.Keyword.TheVariants as keyword
 use Rattle.ops_meaning.specs.Words.{keyword_of, names_with, word_of, words_from}
-use Rattle.ops_meaning.specs.Grammar.{Use, InPattern, InPut, InFixed, Target, ToPut, ToTerms, ToConstants, ToItem, ToBind, Column, Wanted, Forms, Form, ClassDeclared, Attributes, VectorName, VectorNames, RuleName, FirstPattern, Patterns, Pattern, Braced, ElementName, ClosesBrace, ClassName, Terms, Attribute, Several, Place, Tests, Tested, Choice, Atom, ValueFor, Function, ExpressionUnit, ExpressionRest, Bracketed, SourceCell, SourceAttribute, SourceEnd, Actions, ActionWord, Modified, BoundName, BoundValue, CellName, Cell, Cells, Items, ItemWord, Columns, Closes, State, Step, Next, Refuses, Outcome, is_left, is_right, is_left_brace, is_right_brace, is_caret, is_name, is_variable, is_arrow, is_literal, is_minus, opens_choice, closes_choice, pred_of, constant_of, value_of, atom_of, is_one_of, number_of, bound_value, EndsWhole, may_declare, is_class, is_rule, is_second, makes_second, vector_declared, vector_name, form, class_at, attributes_of, behind_attribute, field_at, terms, within, one_of_several, with_several, place, element_at, element_name, cell_bound, variable_tested, constant_tested, tested, predicated, test, chosen, atom_at, term_at, bound_at, constant_at, is_of_action, value_for, Waiting, most_brackets, is_compute, operation_of, unit_bound, unit_at, bracket_at, expression_unit, bracketed, operation_at, expression_ended, with_formula, no_formula, expression_rest, completed, function, source_named, source_cell, source_class, source_at, source_attribute, takes_several, is_inf, ends_at_inf, source_end, action_word, cell_of, with_designated, with_modified, small_of, item_word, columns_at, step, ends, after, goes}
+use Rattle.ops_meaning.specs.Grammar.{Use, InPattern, InPut, InFixed, Target, ToPut, ToTerms, ToConstants, ToItem, ToBind, Column, Wanted, Forms, Form, ClassDeclared, Attributes, VectorName, VectorNames, RuleName, FirstPattern, Patterns, Pattern, Braced, ElementName, ClosesBrace, ClassName, Terms, Attribute, Several, Place, Tests, Tested, Choice, Atom, ValueFor, Function, ExpressionUnit, ExpressionRest, Bracketed, SourceCell, SourceAttribute, SourceEnd, Actions, ActionWord, Modified, BoundName, BoundValue, CellName, Cell, Cells, Items, ItemWord, Columns, Count, StrategyName, Closes, State, Step, Next, Refuses, Outcome, is_left, is_right, is_left_brace, is_right_brace, is_caret, is_name, is_variable, is_arrow, is_literal, is_minus, opens_choice, closes_choice, pred_of, constant_of, value_of, atom_of, is_one_of, number_of, bound_value, EndsWhole, may_declare, may_produce, is_class, is_rule, is_second, makes_second, vector_declared, vector_name, form, class_at, attributes_of, behind_attribute, field_at, terms, within, one_of_several, with_several, place, element_at, element_name, cell_bound, variable_tested, constant_tested, tested, predicated, test, chosen, atom_at, term_at, bound_at, constant_at, is_of_action, value_for, Waiting, most_brackets, is_compute, operation_of, unit_bound, unit_at, bracket_at, expression_unit, bracketed, operation_at, expression_ended, with_formula, no_formula, expression_rest, completed, function, source_named, source_cell, source_class, source_at, source_attribute, takes_several, is_inf, ends_at_inf, source_end, action_word, cell_of, with_designated, with_modified, small_of, item_word, columns_at, count_of, counted, count, strategy_of, strategy_set, strategy_name, step, ends, after, goes}
 use Rattle.ops_forms.specs.Forms.{open_behind, is_last, closes_last, stays_open, opens}
 
 -- ---- what is owed
@@ -43,6 +44,8 @@ owes BoundValue = true
 owes Cells = true
 owes Items = true
 owes ItemWord = true
+owes Count = true
+owes StrategyName = true
 owes (Closes e) = true
 owes _ = false
 
@@ -86,6 +89,8 @@ in_form_owes (SourceAttribute t ∷ ws) i h = omega arith
 in_form_owes (Cells ∷ ws) i h = omega arith
 in_form_owes (Items ∷ ws) i h = omega arith
 in_form_owes (ItemWord ∷ ws) i h = omega arith
+in_form_owes (Count ∷ ws) i h = omega arith
+in_form_owes (StrategyName ∷ ws) i h = omega arith
 in_form_owes (Closes e ∷ ws) i h = omega arith
 in_form_owes (ClassDeclared ∷ ws) i h = let p = and_parts (in_form ws) (stands ws) h in in_form_owes ws p.0 p.1
 in_form_owes (VectorName ∷ ws) i h = let p = and_parts (in_form ws) (stands ws) h in in_form_owes ws p.0 p.1
@@ -173,6 +178,10 @@ small_keeps : (k : TokenKind) (m n : ℕ) → small_of k ≡ Some m → open_beh
 small_keeps (kind.Whole z) m n e = refl
 small_keeps _ m n e = absurd (cc)
 
+count_keeps : (k : TokenKind) (m n : ℕ) → count_of k ≡ Some m → open_behind n k ≡ n
+count_keeps (kind.Whole z) m n e = refl
+count_keeps _ m n e = absurd (cc)
+
 -- ---- keywords that are there
 
 literal_known : (k : Keyword) → is_literal k ≡ true → k ≡ keyword.Other → ⊥
@@ -207,6 +216,10 @@ pred_known : (k : Keyword) (p : Pred) → pred_of k ≡ Some p → k ≡ keyword
 pred_known keyword.Other p e o = absurd (cc)
 pred_known _ p e o = absurd (cc)
 
+strategy_known : (k : Keyword) (g : Strategy) → strategy_of k ≡ Some g → k ≡ keyword.Other → ⊥
+strategy_known keyword.Other g e o = absurd (cc)
+strategy_known _ g e o = absurd (cc)
+
 keyword_keeps : (k : TokenKind) (s : List ℕ) (n : ℕ) → (keyword_of k s ≡ keyword.Other → ⊥) → open_behind n k ≡ n
 keyword_keeps kind.Symbol s n e = refl
 keyword_keeps kind.Operator s n e = refl
@@ -231,9 +244,10 @@ module _ (w : Word) (quiet : (n : ℕ) → (w.keyword ≡ keyword.Other → ⊥)
   form_balanced : (k : Keyword) (ws : List Wanted) (s : State) → w.keyword ≡ k → stands ws ≡ true → B (Form ∷ ws) (form w k ws s)
   form_balanced keyword.Literalize ws s e h = cond_both (may_declare s) _ _ (B (Form ∷ ws)) (λ _. (h, sym (quiet (1 + owed ws) (λ o. absurd (cc))))) (λ _. tt)
   form_balanced keyword.VectorAttribute ws s e h = cond_both (may_declare s) _ _ (B (Form ∷ ws)) (λ _. (h, sym (quiet (1 + owed ws) (λ o. absurd (cc))))) (λ _. tt)
-  form_balanced keyword.Production ws s e h = cond_both (length s.commands == 0) _ _ (B (Form ∷ ws)) (λ _. (h, sym (quiet (1 + owed ws) (λ o. absurd (cc))))) (λ _. tt)
+  form_balanced keyword.Production ws s e h = cond_both (may_produce s) _ _ (B (Form ∷ ws)) (λ _. (h, sym (quiet (1 + owed ws) (λ o. absurd (cc))))) (λ _. tt)
   form_balanced keyword.Make ws s e h = (h, sym (quiet (1 + owed ws) (λ o. absurd (cc))))
   form_balanced keyword.Run ws s e h = (h, sym (quiet (1 + owed ws) (λ o. absurd (cc))))
+  form_balanced keyword.Strategy ws s e h = (h, sym (quiet (1 + owed ws) (λ o. absurd (cc))))
   form_balanced _ ws s e h = tt
 
   action_word_balanced : (k : Keyword) (ws : List Wanted) (s : State) → w.keyword ≡ k → stands ws ≡ true → B (ActionWord ∷ ws) (action_word k ws s)
@@ -438,6 +452,24 @@ module _ (w : Word) (quiet : (n : ℕ) → (w.keyword ≡ keyword.Other → ⊥)
   columns_balanced c (Some n) ws s e h = (h, sym (small_keeps w.kind n (owed ws) e))
   columns_balanced c None ws s e h = tt
 
+  -- ---- commands
+
+  counted_balanced : (o : Option ℕ) (ws : List Wanted) (s : State) → count_of w.kind ≡ o → stands ws ≡ true → B (Count ∷ ws) (counted o ws s)
+  counted_balanced (Some n) ws s e h = (h, sym (count_keeps w.kind n (1 + owed ws) e))
+  counted_balanced None ws s e h = tt
+
+  count_balanced : (ws : List Wanted) (s : State) → stands ws ≡ true → B (Count ∷ ws) (count w ws s)
+  count_balanced ws s h =
+      cond_both (is_right w.kind) _ _ (B (Count ∷ ws)) (λ e. (h, closed ws e)) (λ _. counted_balanced (count_of w.kind) ws s refl h)
+
+  strategy_set_balanced : (o : Option Strategy) (ws : List Wanted) (s : State) → strategy_of w.keyword ≡ o → stands ws ≡ true → B (StrategyName ∷ ws) (strategy_set o ws s)
+  strategy_set_balanced (Some g) ws s e h = (h, sym (quiet (1 + owed ws) (strategy_known w.keyword g e)))
+  strategy_set_balanced None ws s e h = tt
+
+  strategy_name_balanced : (ws : List Wanted) (s : State) → stands ws ≡ true → B (StrategyName ∷ ws) (strategy_name w ws s)
+  strategy_name_balanced ws s h =
+      cond_both (is_right w.kind) _ _ (B (StrategyName ∷ ws)) (λ e. (h, closed ws e)) (λ _. strategy_set_balanced (strategy_of w.keyword) ws s refl h)
+
   -- ---- the places and values of a vector attribute
 
   place_balanced : (f : ℕ) (ws : List Wanted) (s : State) → (in_form ws && stands ws) ≡ true → B ws (place f w ws s)
@@ -550,6 +582,8 @@ module _ (w : Word) (quiet : (n : ℕ) → (w.keyword ≡ keyword.Other → ⊥)
       (λ _. cond_both (is_left w.kind) _ _ (B (Items ∷ ws)) (λ e. (h, opened (Items ∷ ws) e)) (λ _. value_balanced ToItem (Items ∷ ws) s h))
   step_balanced (ItemWord ∷ ws) s h = item_word_balanced w.keyword ws s refl h
   step_balanced (Columns c ∷ ws) s h = columns_balanced c (small_of w.kind) ws s refl (and_parts (in_form ws) (stands ws) h).1
+  step_balanced (Count ∷ ws) s h = count_balanced ws s h
+  step_balanced (StrategyName ∷ ws) s h = strategy_name_balanced ws s h
   step_balanced (Closes x ∷ ws) s h = cond_both (is_right w.kind) _ _ (B (Closes x ∷ ws)) (λ e. (h, closed ws e)) (λ _. tt)
 
 -- ---- where the words end

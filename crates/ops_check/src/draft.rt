@@ -1,7 +1,8 @@
 //! What was read so far of a program, and how it grows.
 ghost use Rattle.std.specs.Prelude.{◌≡◌, ◌++◌, ◌∷◌, [], ◌==◌, position, slice_get};
+ghost use Rattle.std.specs.List.{list_all};
 ghost use Rattle.ops_base.specs.Valid.{class_of, is_vector};
-ghost use Rattle.ops_meaning.specs.Grammar.{nothing_read, is_class, is_rule, is_one_of, is_second, makes_second, may_declare, with_class, with_vector, with_fixed, with_constant, with_command, attributes_of};
+ghost use Rattle.ops_meaning.specs.Grammar.{nothing_read, is_class, is_rule, is_one_of, is_second, makes_second, may_declare, may_produce, precedes_classes, precedes_rules, with_class, with_vector, with_fixed, with_constant, with_command, attributes_of};
 ghost use Rattle.ops_forms.specs.Going.{Becomes};
 ghost use Rattle.ops_check.specs.Going.{view, target_of};
 
@@ -66,11 +67,18 @@ impl Draft {
         }
     }
 
-    // nothing but declarations was read
+    // no production was read, and no command behind which a declaration is late
     pub fn may_declare(&self) -> bool
         ensures { result ≡ may_declare (view self.now) }
     {
-        self.rules.len() == 0 && self.commands.is_empty()
+        self.rules.len() == 0 && all_precede_classes(&self.commands)
+    }
+
+    // no command was read behind which a production is late. The first such command ends the look.
+    pub fn may_produce(&self) -> bool
+        ensures { result ≡ may_produce (view self.now) }
+    {
+        self.commands.iter().all(precedes_rules)
     }
 
     pub fn is_class(&self, name: Sym) -> bool
@@ -187,5 +195,32 @@ impl Draft {
         ensures { result ≡ position (λ a. a.0 == name.0) (attributes_of (slice_get (view self.now).classes (view self.now).class)) }
     {
         field_of(self.classes.get(self.class)?, name)
+    }
+}
+
+// a class may be declared behind each of the commands. The first one behind which it may not ends the look.
+fn all_precede_classes(commands: &[Command]) -> bool
+    ensures { result ≡ list_all precedes_classes commands.now }
+{
+    commands.iter().all(precedes_classes)
+}
+
+// a class may be declared behind this command
+fn precedes_classes(command: &Command) -> bool
+    ensures { result ≡ precedes_classes command.now }
+{
+    match command {
+        Command::Make { .. } | Command::Run { .. } | Command::Ppwm { .. } => false,
+        _ => true,
+    }
+}
+
+// a production may stand behind this command
+fn precedes_rules(command: &Command) -> bool
+    ensures { result ≡ precedes_rules command.now }
+{
+    match command {
+        Command::Make { .. } | Command::Run { .. } => false,
+        _ => true,
     }
 }

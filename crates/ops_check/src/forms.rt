@@ -1,14 +1,13 @@
 //! The forms of a program text.
 ghost use Rattle.std.specs.Prelude.{◌≡◌, MatchOption, [], ◌∷◌};
-ghost use Rattle.ops_meaning.specs.Grammar.{Form, Closes, EndsRun};
+ghost use Rattle.ops_meaning.specs.Grammar.{Form};
 ghost use Rattle.ops_forms.specs.Going.{Reads, IsWithin};
 ghost use Rattle.ops_check.specs.Going.{view, ReadsAll};
 
 use crate::draft::Draft;
-use ops_base::commands::Command;
 use ops_base::endings::Fault;
 use ops_forms::kinds::is_left;
-use ops_forms::refusals::{Refusal, closing, first_of, refused};
+use ops_forms::refusals::{Refusal, first_of, refused};
 use ops_meaning::{Keyword, Word};
 
 impl Draft {
@@ -33,7 +32,8 @@ impl Draft {
         }
     }
 
-    // literalize NAME NAME* ) | vector-attribute NAME NAME* ) | p NAME first condition* --> action* ) | make CLASS fixed* ) | run )
+    // literalize NAME NAME* ) | vector-attribute NAME NAME* ) | p NAME first condition* --> action* ) | make CLASS fixed* ) | run [NAT] )
+    // | strategy ) | strategy lex ) | strategy mea )
     #[tactic(auto, unfolding(ops_meaning::specs::Grammar::goes, ops_meaning::specs::Grammar::step, ops_meaning::specs::Grammar::ends))]
     fn form<'a>(&mut self, words: &'a [Word]) -> Result<&'a [Word], Refusal>
         ensures reads { Reads Form (view self.old) (view self.new) words.now result }
@@ -54,7 +54,7 @@ impl Draft {
                 self.vector_declaration(rest)
             }
             Keyword::Production => {
-                if !self.commands.is_empty() {
+                if !self.may_produce() {
                     return refused(Fault::LateProduction, word);
                 }
                 self.production(rest)
@@ -64,18 +64,9 @@ impl Draft {
                 self.element(rest)
             }
             Keyword::Run => self.run(rest),
+            Keyword::Strategy => self.strategy(rest),
             _ => refused(Fault::UnknownCommand, word),
         }
-    }
-
-    // )
-    fn run<'a>(&mut self, words: &'a [Word]) -> Result<&'a [Word], Refusal>
-        ensures reads { Reads (Closes EndsRun) (view self.old) (view self.new) words.now result }
-        ensures within { IsWithin words.now result }
-    {
-        let rest = closing(words)?;
-        self.add_command(Command::Run { count: None })?;
-        Ok(rest)
     }
 }
 

@@ -1,6 +1,9 @@
 //! Reading a program text: what the grammar makes of its words, form by form.
 #![tactic(auto)]
 
+#[cfg(test)]
+mod command_tests;
+mod commands;
 mod declarations;
 mod draft;
 mod elements;

@@ -1,7 +1,8 @@
 //! What a word may be where something is wanted.
 ghost use Rattle.std.specs.Prelude.{◌≡◌};
-ghost use Rattle.ops_meaning.specs.Grammar.{is_left, is_right, is_left_brace, is_right_brace, is_caret, is_name, is_variable, is_arrow, is_literal, is_minus, opens_choice, closes_choice, is_inf, is_compute, operation_of, pred_of, constant_of, atom_of, value_of, natural_of, small_of};
+ghost use Rattle.ops_meaning.specs.Grammar.{is_left, is_right, is_left_brace, is_right_brace, is_caret, is_name, is_variable, is_arrow, is_literal, is_minus, opens_choice, closes_choice, is_inf, is_compute, operation_of, pred_of, constant_of, atom_of, value_of, natural_of, small_of, count_of, strategy_of};
 
+use ops_base::commands::Strategy;
 use ops_base::expression::Op;
 use ops_base::values::{Pred, Sym, Value};
 use ops_meaning::Keyword;
@@ -221,6 +222,29 @@ pub fn small_of(kind: TokenKind) -> Option<u16>
     };
     match u16::try_from(number) {
         Ok(small) if 1 <= small && small <= 1024 => Some(small),
+        _ => None,
+    }
+}
+
+// the number that a whole number from 1 on is, where it counts firings
+pub fn count_of(kind: TokenKind) -> Option<u64>
+    ensures { result ≡ count_of kind }
+{
+    let TokenKind::Whole(number) = kind else {
+        return None;
+    };
+    match u64::try_from(number) {
+        Ok(count) if 1 <= count => Some(count),
+        _ => None,
+    }
+}
+
+pub fn strategy_of(keyword: Keyword) -> Option<Strategy>
+    ensures { result ≡ strategy_of keyword }
+{
+    match keyword {
+        Keyword::Lex => Some(Strategy::Lex),
+        Keyword::Mea => Some(Strategy::Mea),
         _ => None,
     }
 }

@@ -3,7 +3,7 @@
 use crate::classes::Classes;
 use crate::declared::{Declared, number_of};
 use crate::form::{FormEnd, FormFault, read_form};
-use crate::kinds::small_of;
+use crate::kinds::{count_of, small_of};
 use crate::places::{Place, place_of};
 use crate::scope::Scope;
 use crate::vectors::{add_vectors, arranged, has_vector, is_one_of, scalars_of, with_last};
@@ -171,6 +171,42 @@ fn small_numbers_end_at_1024(rt: HostRuntime) {
         assert_eq!(rt; small_of(TokenKind::Whole(number)), small);
     }
     assert_eq!(rt; small_of(TokenKind::Symbol), None);
+}
+
+#[test]
+fn counts_begin_at_1(rt: HostRuntime) {
+    let rows = [
+        (-1, None),
+        (0, None),
+        (1, Some(1)),
+        (9223372036854775807, Some(9223372036854775807)),
+    ];
+    for (number, count) in rows {
+        assert_eq!(rt; count_of(TokenKind::Whole(number)), count);
+    }
+    assert_eq!(rt; count_of(TokenKind::Symbol), None);
+}
+
+#[test]
+fn commands_have_keywords(rt: HostRuntime) -> Result<(), FormFault> {
+    let text = b"(run strategy lex mea |lex| lexx)";
+    let mut names = Names::new(rt.alloc())?;
+    if let Some(form) = read_form(rt.alloc(), text, 0)? {
+        let words = words_of(rt.alloc(), &mut names, text, form.tokens.as_slice())?;
+        let keywords = words.as_slice().iter().map(|word| word.keyword);
+        let expected = [
+            Keyword::Other,
+            Keyword::Run,
+            Keyword::Strategy,
+            Keyword::Lex,
+            Keyword::Mea,
+            Keyword::Other,
+            Keyword::Other,
+            Keyword::Other,
+        ];
+        assert!(rt; keywords.eq(expected));
+    }
+    Ok(())
 }
 
 #[test]

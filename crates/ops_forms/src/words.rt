@@ -1,7 +1,7 @@
 //! The words of a text.
 ghost use Rattle.std.specs.Prelude.{◌≡◌, bytes_eq, codes, All, IfOk, OnOk};
 ghost use Rattle.ops_tokens.specs.Tokens.{spelling, LiesIn};
-ghost use Rattle.ops_meaning.specs.Words.{keyword_of, keyword_of_symbol, keyword_of_function, keyword_of_operator, has_name, names_with, name_in, word_of, words_from, names_from};
+ghost use Rattle.ops_meaning.specs.Words.{keyword_of, keyword_of_symbol, keyword_of_function, keyword_of_command, keyword_of_operator, has_name, names_with, name_in, word_of, words_from, names_from};
 
 use ops_base::memory::OutOfMemory;
 use ops_base::symbols::Names;
@@ -121,8 +121,6 @@ fn keyword_of_symbol(spelling: &[u8]) -> Keyword
         Keyword::Make
     } else if is(spelling, b"remove") {
         Keyword::Remove
-    } else if is(spelling, b"run") {
-        Keyword::Run
     } else if is(spelling, b"modify") {
         Keyword::Modify
     } else if is(spelling, b"write") {
@@ -165,6 +163,22 @@ fn keyword_of_function(spelling: &[u8]) -> Keyword
         Keyword::Remainder
     } else if is(spelling, b"\\") {
         Keyword::Remainder
+    } else {
+        keyword_of_command(spelling)
+    }
+}
+
+fn keyword_of_command(spelling: &[u8]) -> Keyword
+    ensures { result ≡ keyword_of_command spelling.now }
+{
+    if is(spelling, b"run") {
+        Keyword::Run
+    } else if is(spelling, b"strategy") {
+        Keyword::Strategy
+    } else if is(spelling, b"lex") {
+        Keyword::Lex
+    } else if is(spelling, b"mea") {
+        Keyword::Mea
     } else {
         Keyword::Other
     }

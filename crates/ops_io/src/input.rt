@@ -46,11 +46,6 @@ impl Input {
         })
     }
 
-    /// Where its memory is from.
-    pub fn allocator(&self) -> Global {
-        *self.buffer.allocator()
-    }
-
     /// Shows the next byte without taking it; None is the end of the input. It reads only where no byte is held and the
     /// end was not seen, a piece at a time. Takes no memory.
     pub fn next<I: Source>(&mut self, source: &mut I) -> Result<Option<u8>, Failed>

@@ -18,6 +18,8 @@ use Rattle.ops_base.specs.Expression as formula
 use Rattle.ops_base.specs.declared.actions.Term.{Term}
 use Rattle.ops_base.specs.declared.actions.Term.TheVariants as term
 use Rattle.ops_base.specs.declared.actions.Item.TheVariants as item
+use Rattle.ops_base.specs.declared.commands.Command.TheVariants as command
+use Rattle.ops_base.specs.declared.commands.Strategy.{Strategy}
 use Rattle.ops_base.specs.declared.endings.Fault.{Fault}
 use Rattle.ops_base.specs.Valid.{most_fields, most_conditions, no_class, class_of, is_vector}
 use Rattle.ops_tokens.specs.declared.token.TokenKind.{TokenKind}
@@ -25,7 +27,7 @@ use Rattle.ops_tokens.specs.declared.token.TokenKind.TheVariants as kind
 use Rattle.ops_meaning.specs.declared.words.Word.{Word}
 use Rattle.ops_meaning.specs.declared.words.Keyword.{Keyword}
 use Rattle.ops_meaning.specs.declared.words.Keyword.TheVariants as keyword
-use Rattle.ops_meaning.specs.Grammar.{Use, InPattern, InPut, InFixed, Target, ToTest, ToPut, ToFixed, ToTerms, ToConstants, ToItem, ToBind, Ends, EndsRun, EndsHalt, EndsCrlf, EndsWhole, Column, Wanted, Forms, Form, ClassDeclared, Attributes, VectorName, VectorNames, RuleName, FirstPattern, Patterns, Pattern, Braced, ElementName, ClosesBrace, ClassName, Terms, Attribute, Several, Place, Tests, Tested, Choice, Atom, ValueFor, Function, ExpressionUnit, ExpressionRest, Bracketed, SourceCell, SourceAttribute, SourceEnd, Actions, ActionWord, Modified, BoundName, BoundValue, CellName, Cell, Cells, Items, ItemWord, Columns, Closes, State, Step, Next, Refuses, is_left, is_right, is_left_brace, is_right_brace, is_caret, is_name, is_variable, is_arrow, is_literal, is_minus, opens_choice, closes_choice, pred_of, constant_of, atom_of, value_of, small_of, is_one_of, number_of, may_declare, is_class, is_rule, form, class_declared, arranged, has_vector, with_class, is_second, attribute_declared, attributes, with_vector, makes_second, vector_declared, vector_name, class_at, attributes_of, behind_attribute, field_at, with_test, with_put, with_item, with_bind, with_constant, with_bound, variable_tested, constant_tested, tested, predicated, test, place, tests, with_choice, chosen, choice, atom_at, term_at, bound_at, constant_at, is_of_action, value_for, function, no_formula, with_formula, most_brackets, completed, is_compute, operation_of, unit_bound, unit_at, expression_unit, bracketed, operation_at, expression_ended, expression_rest, Waiting, source_named, source_cell, source_class, source_at, source_attribute, takes_several, ends_at_inf, source_end, with_element, terms, within, one_of_several, with_several, several, left_begun, left_ended, right_begun, rule_name, first_pattern, one_more, more_patterns, patterns, element_at, element_name, braced, with_bound_element, with_rule, actions, action_word, with_designated, cell_of, classes_of_cells, with_modified, bound_name, bound_value, with_cell, cell_bound, cell_name, with_remove, cells, with_write, items, item_word, column_item, columns_at, ended, step, nothing_read}
+use Rattle.ops_meaning.specs.Grammar.{Use, InPattern, InPut, InFixed, Target, ToTest, ToPut, ToFixed, ToTerms, ToConstants, ToItem, ToBind, Ends, EndsHalt, EndsCrlf, EndsWhole, Column, Wanted, Forms, Form, ClassDeclared, Attributes, VectorName, VectorNames, RuleName, FirstPattern, Patterns, Pattern, Braced, ElementName, ClosesBrace, ClassName, Terms, Attribute, Several, Place, Tests, Tested, Choice, Atom, ValueFor, Function, ExpressionUnit, ExpressionRest, Bracketed, SourceCell, SourceAttribute, SourceEnd, Actions, ActionWord, Modified, BoundName, BoundValue, CellName, Cell, Cells, Items, ItemWord, Columns, Count, StrategyName, Closes, State, Step, Next, Refuses, is_left, is_right, is_left_brace, is_right_brace, is_caret, is_name, is_variable, is_arrow, is_literal, is_minus, opens_choice, closes_choice, pred_of, constant_of, atom_of, value_of, small_of, is_one_of, number_of, may_declare, may_produce, is_class, is_rule, form, class_declared, arranged, has_vector, with_class, is_second, attribute_declared, attributes, with_vector, makes_second, vector_declared, vector_name, class_at, attributes_of, behind_attribute, field_at, with_test, with_put, with_item, with_bind, with_constant, with_bound, variable_tested, constant_tested, tested, predicated, test, place, tests, with_choice, chosen, choice, atom_at, term_at, bound_at, constant_at, is_of_action, value_for, function, no_formula, with_formula, most_brackets, completed, is_compute, operation_of, unit_bound, unit_at, expression_unit, bracketed, operation_at, expression_ended, expression_rest, Waiting, source_named, source_cell, source_class, source_at, source_attribute, takes_several, ends_at_inf, source_end, with_element, terms, within, one_of_several, with_several, several, left_begun, left_ended, right_begun, rule_name, first_pattern, one_more, more_patterns, patterns, element_at, element_name, braced, with_bound_element, with_rule, actions, action_word, with_designated, cell_of, classes_of_cells, with_modified, bound_name, bound_value, with_cell, cell_bound, cell_name, with_remove, cells, with_write, items, item_word, column_item, columns_at, ended, with_command, count_of, counted, count, strategy_of, strategy_set, strategy_name, step, nothing_read}
 use Rattle.ops_meaning.specs.Spelling.{unnamed, attribute_name, last_field}
 use Rattle.ops_meaning.proofs.PlainClasses.{IsArranged, IsAttributes, class_arranged, classes_arranged, attributes_begun, attribute_pushed}
 
@@ -129,9 +131,10 @@ module _ (w : Word) where
   form_stays : (k : Keyword) (ws : List Wanted) (s : State) → Rests ws s → StayArranged (form w k ws s)
   form_stays keyword.Literalize ws s h = cond_both (may_declare s) _ _ StayArranged (λ _. h) (λ _. tt)
   form_stays keyword.VectorAttribute ws s h = cond_both (may_declare s) _ _ StayArranged (λ _. h) (λ _. tt)
-  form_stays keyword.Production ws s h = cond_both (length s.commands == 0) _ _ StayArranged (λ _. h) (λ _. tt)
+  form_stays keyword.Production ws s h = cond_both (may_produce s) _ _ StayArranged (λ _. h) (λ _. tt)
   form_stays keyword.Make ws s h = h
   form_stays keyword.Run ws s h = h
+  form_stays keyword.Strategy ws s h = h
   form_stays _ ws s h = tt
 
   class_declared_stays : (ws : List Wanted) (s : State) → Rests ws s → StayArranged (class_declared w ws s)
@@ -456,10 +459,28 @@ module _ (w : Word) where
   columns_stay c None ws s h = tt
 
   ended_stays : (e : Ends) (ws : List Wanted) (s : State) → Rests ws s → AreArranged ws (ended e s)
-  ended_stays EndsRun ws s h = rests ws (ended EndsRun s) h
   ended_stays EndsHalt ws s h = rests ws (ended EndsHalt s) h
   ended_stays EndsCrlf ws s h = rests ws (ended EndsCrlf s) h
   ended_stays EndsWhole ws s h = rests ws s h
+
+  -- ---- commands
+
+  counted_stays : (o : Option ℕ) (ws : List Wanted) (s : State) → Rests ws s → StayArranged (counted o ws s)
+  counted_stays (Some n) ws s h = h
+  counted_stays None ws s h = tt
+
+  count_stays : (ws : List Wanted) (s : State) → Rests ws s → StayArranged (count w ws s)
+  count_stays ws s h =
+      cond_both (is_right w.kind) _ _ StayArranged (λ _. rests ws (with_command s (command.Run None)) h) (λ _. counted_stays (count_of w.kind) ws s h)
+
+  strategy_set_stays : (o : Option Strategy) (ws : List Wanted) (s : State) → Rests ws s → StayArranged (strategy_set o ws s)
+  strategy_set_stays (Some g) ws s h = h
+  strategy_set_stays None ws s h = tt
+
+  strategy_name_stays : (ws : List Wanted) (s : State) → Rests ws s → StayArranged (strategy_name w ws s)
+  strategy_name_stays ws s h =
+      cond_both (is_right w.kind) _ _ StayArranged (λ _. rests ws (with_command s (command.Strategy None)) h)
+      (λ _. strategy_set_stays (strategy_of w.keyword) ws s h)
 
 pub stays_arranged : (w : Word) (ws : List Wanted) (s : State) → AreArranged ws s → StayArranged (step w ws s)
 unfolding step
@@ -507,4 +528,6 @@ stays_arranged w (Cells ∷ ws) s h = cells_stay w ws s h
 stays_arranged w (Items ∷ ws) s h = items_stay w ws s h
 stays_arranged w (ItemWord ∷ ws) s h = item_word_stays w w.keyword ws s h
 stays_arranged w (Columns c ∷ ws) s h = columns_stay w c (small_of w.kind) ws s h
+stays_arranged w (Count ∷ ws) s h = count_stays w ws s h
+stays_arranged w (StrategyName ∷ ws) s h = strategy_name_stays w ws s h
 stays_arranged w (Closes e ∷ ws) s h = cond_both (is_right w.kind) _ _ StayArranged (λ _. ended_stays w e ws s h) (λ _. tt)

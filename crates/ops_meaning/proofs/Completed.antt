@@ -7,8 +7,8 @@ use Rattle.ops_tokens.specs.declared.token.TokenKind.TheVariants as kind
 use Rattle.ops_meaning.specs.declared.words.Word.{Word}
 use Rattle.ops_meaning.specs.declared.words.Keyword.{Keyword}
 use Rattle.ops_meaning.specs.declared.words.Keyword.TheVariants as keyword
-use Rattle.ops_meaning.specs.Grammar.{Use, InPattern, InPut, InFixed, Wanted, Forms, Form, ClassDeclared, Attributes, VectorName, VectorNames, RuleName, FirstPattern, Patterns, Pattern, Braced, ElementName, ClosesBrace, ClassName, Terms, Attribute, Several, Place, Tests, Tested, Choice, Atom, ValueFor, Function, ExpressionUnit, ExpressionRest, Bracketed, SourceCell, SourceAttribute, SourceEnd, Actions, ActionWord, Modified, BoundName, BoundValue, CellName, Cell, Cells, Items, ItemWord, Columns, Closes, is_name, is_one_of, behind_attribute}
-use Rattle.ops_meaning.specs.Derivation.{with_name, Derives, nothing, no_form, a_class, no_attribute, a_vector, no_more_vectors, a_rule, a_first, a_whole_pattern, a_name_before, an_element_name, a_closed_brace, an_arrow, a_run, a_class_name, no_term, a_scalar_attribute, a_vector_attribute, no_more_of_several, a_value, a_unit, a_bracketed_expression, no_operation, a_substr, a_source, a_source_attribute, the_same_again, an_atom, no_more_tests, an_operand, a_tested_operand, no_more_choices, no_action, to_halt, a_modified, a_bound_name, no_bound_value, a_cell_name, a_cell, no_more_cells, no_item, a_crlf, some_columns, a_closing}
+use Rattle.ops_meaning.specs.Grammar.{Use, InPattern, InPut, InFixed, Wanted, Forms, Form, ClassDeclared, Attributes, VectorName, VectorNames, RuleName, FirstPattern, Patterns, Pattern, Braced, ElementName, ClosesBrace, ClassName, Terms, Attribute, Several, Place, Tests, Tested, Choice, Atom, ValueFor, Function, ExpressionUnit, ExpressionRest, Bracketed, SourceCell, SourceAttribute, SourceEnd, Actions, ActionWord, Modified, BoundName, BoundValue, CellName, Cell, Cells, Items, ItemWord, Columns, Count, StrategyName, Closes, is_name, is_one_of, behind_attribute}
+use Rattle.ops_meaning.specs.Derivation.{with_name, Derives, nothing, no_form, a_class, no_attribute, a_vector, no_more_vectors, a_rule, a_first, a_whole_pattern, a_name_before, an_element_name, a_closed_brace, an_arrow, a_run, no_count, no_strategy_name, a_class_name, no_term, a_scalar_attribute, a_vector_attribute, no_more_of_several, a_value, a_unit, a_bracketed_expression, no_operation, a_substr, a_source, a_source_attribute, the_same_again, an_atom, no_more_tests, an_operand, a_tested_operand, no_more_choices, no_action, to_halt, a_modified, a_bound_name, no_bound_value, a_cell_name, a_cell, no_more_cells, no_item, a_crlf, some_columns, a_closing}
 
 abbrev closing : Word
 closing = record { kind = kind.Right; keyword = keyword.Other; name = record { 0 = 0 }; first = 0; past = 0 }
@@ -53,7 +53,7 @@ attribute_completed vs u ws w false is e c = let k = scalar_completed vs u ws c 
 -- `( C )`, `( )` and the like behind a head
 complete : (vs : List Sym) (w : Wanted) (ws : List Wanted) → ((vs : List Sym) → Completed vs ws) → Completed vs (w ∷ ws)
 complete vs Forms ws c = ((c vs).0, no_form (c vs).1)
-complete vs Form ws c = (named keyword.Run ∷ closing ∷ (c vs).0, a_run refl (a_closing refl (c vs).1))
+complete vs Form ws c = (named keyword.Run ∷ closing ∷ (c vs).0, a_run refl (no_count refl (c vs).1))
 complete vs ClassDeclared ws c = (named keyword.Other ∷ (c vs).0, a_class refl (c vs).1)
 complete vs Attributes ws c = (closing ∷ (c vs).0, no_attribute refl (c vs).1)
 complete vs VectorName ws c = let k = c (with_name (record { 0 = 0 }) vs) in (named keyword.Other ∷ k.0, a_vector refl k.1)
@@ -97,6 +97,8 @@ complete vs Cells ws c = (closing ∷ (c vs).0, no_more_cells refl (c vs).1)
 complete vs Items ws c = (closing ∷ (c vs).0, no_item refl (c vs).1)
 complete vs ItemWord ws c = (named keyword.Crlf ∷ closing ∷ (c vs).0, a_crlf refl (a_closing refl (c vs).1))
 complete vs (Columns column) ws c = (number ∷ (c vs).0, some_columns refl (c vs).1)
+complete vs Count ws c = (closing ∷ (c vs).0, no_count refl (c vs).1)
+complete vs StrategyName ws c = (closing ∷ (c vs).0, no_strategy_name refl (c vs).1)
 complete vs (Closes e) ws c = (closing ∷ (c vs).0, a_closing refl (c vs).1)
 
 -- everything that is wanted can be completed, whatever the names of vector attributes are

@@ -16,7 +16,7 @@ use Rattle.ops_base.specs.declared.rules.Inst.{Inst}
 use Rattle.ops_base.specs.declared.values.Value.{Value}
 use Rattle.ops_base.specs.Names.{Spellings}
 use Rattle.ops_base.specs.Valid.{class_of}
-use Rattle.ops_base.specs.WorkingMemory.{done, Lawful}
+use Rattle.ops_base.specs.WorkingMemory.{done, Lawful, last_after}
 use Rattle.ops_io.specs.Coming.{Coming}
 use Rattle.ops_io.specs.Output.{column_after}
 use Rattle.ops_tokens.specs.Accepting.{Accepted, accepted}
@@ -25,9 +25,10 @@ use Rattle.ops_tokens.specs.declared.accept.AcceptFault.TheVariants as accept_fa
 use Rattle.ops_meaning.specs.Acting.{Setting, Doing, Mishap, Fault, Unread, Misdeed, Bad, NoInput, in_action, Given, Acted, Valued, Filled, evaluated, value_in, computed_as, accepted_as, values_placed, placed, terms_placed, puts_made, puts_over, made_fields, modified_fields, emptied, has_tag, cell_of, changed, next_element, added, removed, modified, bound, first_of, printed, lead_after, item_done, items_done, action_done, actions_done, actions_of, begun, left_by, acted}
 use Rattle.ops_meaning.specs.Computing.{Computed, computed}
 use Rattle.ops_meaning.specs.Effects.{Effect, going_on, followed_by, outcome_as}
-use Rattle.ops_meaning.specs.Kept.{WellKept, KeepsNames, last_after, IsLawfulOver}
+use Rattle.ops_meaning.specs.Kept.{WellKept, KeepsNames, IsLawfulOver}
 use Rattle.ops_meaning.specs.Layout.{Lead, Apart}
-use Rattle.ops_meaning.proofs.Lawful.{has_tag-Contains, lawful_kept, lawful_risen, done_push, last_after_push, lawful_push}
+use Rattle.ops_base.proofs.Changes.{done_push, last_after_push}
+use Rattle.ops_meaning.proofs.Lawful.{has_tag-Contains, lawful_kept, lawful_risen, lawful_push}
 use Rattle.ops_meaning.proofs.NamesKept.{names_stay, names_then, fresh_keeps, AcceptsWell, accepts_well}
 
 -- ---- parts that leave this, or end so

@@ -30,11 +30,11 @@ ended_of_text kept fails (Err ending.ReadFault) p = p
 ended_of_text kept fails (Err ending.WriteFault) p = absurd p
 ended_of_text kept fails (Err ending.OutOfMemory) p = absurd p
 
-answer_read_of_text : (coming : Coming) (text : List ℕ) (r : Result Read Placed) → IsOfText coming.fails (answer_read coming text r).status
-answer_read_of_text coming text (Err p) = tt
-answer_read_of_text coming text (Ok p) =
-    ended_of_text (KeptCourse p.names coming.fails) coming.fails (session_of (setting_of p) p.commands p.names coming).outcome (session_goes_on (setting_of p) p.commands p.names coming)
+answer_read_of_text : (limit : ℕ) (coming : Coming) (text : List ℕ) (r : Result Read Placed) → IsOfText coming.fails (answer_read limit coming text r).status
+answer_read_of_text limit coming text (Err p) = tt
+answer_read_of_text limit coming text (Ok p) =
+    ended_of_text (KeptCourse p.names coming.fails) coming.fails (session_of (setting_of p) limit p.commands p.names coming).outcome (session_goes_on (setting_of p) limit p.commands p.names coming)
 
 -- the status of a file that was loaded is one of a text
-pub answer_file_of_text : (coming : Coming) (bytes : List ℕ) → IsOfText coming.fails (answer_file coming bytes).status
-answer_file_of_text coming bytes = answer_read_of_text coming (text_of bytes) (reads (text_of bytes))
+pub answer_file_of_text : (limit : ℕ) (coming : Coming) (bytes : List ℕ) → IsOfText coming.fails (answer_file limit coming bytes).status
+answer_file_of_text limit coming bytes = answer_read_of_text limit coming (text_of bytes) (reads (text_of bytes))

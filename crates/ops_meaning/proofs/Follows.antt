@@ -10,6 +10,7 @@ use Rattle.ops_base.specs.declared.conditions.Condition.{Condition}
 use Rattle.ops_base.specs.declared.actions.Term.{Term}
 use Rattle.ops_base.specs.declared.actions.Term.TheVariants as term
 use Rattle.ops_base.specs.declared.expression.Op.{Op}
+use Rattle.ops_base.specs.declared.commands.Strategy.{Strategy}
 use Rattle.ops_base.specs.declared.endings.Fault.{Fault}
 use Rattle.ops_base.specs.Expression.{Formula}
 use Rattle.ops_base.specs.Valid.{most_fields, most_conditions, class_of, is_vector}
@@ -18,8 +19,8 @@ use Rattle.ops_tokens.specs.declared.token.TokenKind.TheVariants as kind
 use Rattle.ops_meaning.specs.declared.words.Word.{Word}
 use Rattle.ops_meaning.specs.declared.words.Keyword.{Keyword}
 use Rattle.ops_meaning.specs.declared.words.Keyword.TheVariants as keyword
-use Rattle.ops_meaning.specs.Grammar.{Use, InPattern, InPut, InFixed, Target, ToTest, ToPut, ToTerms, ToConstants, ToItem, ToBind, EndsWhole, Column, Wanted, Forms, Attribute, VectorNames, Patterns, Pattern, Braced, ClosesBrace, ClassName, Terms, Several, Place, Tests, Choice, ValueFor, Function, Waiting, ExpressionUnit, ExpressionRest, Bracketed, SourceEnd, Atom, Tested, BoundValue, Cells, Items, ItemWord, Closes, State, Step, Next, Refuses, is_left, is_right, is_left_brace, is_right_brace, is_caret, is_name, is_variable, is_arrow, is_literal, is_inf, is_minus, opens_choice, closes_choice, pred_of, constant_of, value_of, atom_of, natural_of, small_of, is_one_of, number_of, may_declare, is_class, is_rule, is_second, makes_second, vector_declared, form, class_at, attributes_of, behind_attribute, field_at, with_bind, with_constant, variable_tested, constant_tested, tested, predicated, test, place, tests, chosen, atom_at, term_at, bound_at, constant_at, is_of_action, value_for, most_brackets, no_formula, with_formula, unit_bound, unit_at, expression_unit, is_compute, operation_of, operation_at, expression_ended, function, source_named, source_class, source_at, takes_several, ends_at_inf, source_end, with_element, terms, within, one_of_several, with_several, several, one_more, element_at, action_word, designated, numbered_cell, named_cell, cell_of, with_designated, with_modified, cell_bound, item_word, columns_at, ended, step}
-use Rattle.ops_meaning.specs.Derivation.{is_designator, is_operand, is_value, with_name, Derives, nothing, no_form, a_form, a_literalize, a_class, an_attribute, no_attribute, a_vector_declaration, a_vector, one_more_vector, no_more_vectors, a_production, a_rule, a_first, a_braced_first, a_negated_first, a_pattern, a_braced_pattern, a_negated_pattern, a_whole_pattern, a_name_before, a_name_behind, an_element_name, a_closed_brace, an_arrow, a_make, a_run, a_class_name, a_term, no_term, a_scalar_attribute, a_vector_attribute, one_more_place, one_more_term, one_more_constant, no_more_of_several, a_value, a_literal_value, a_function, a_compute, a_genatom, an_accept, a_unit, a_bracketed_unit, a_bracketed_compute, a_bracketed_expression, an_operation, no_operation, a_substr, a_source, a_source_attribute, the_same_again, up_to_inf, an_atom, a_conjunction, no_more_tests, an_operand, a_literal, a_predicate, a_disjunction, one_more_operand, one_more_literal, one_more_predicate, one_more_disjunction, a_tested_operand, a_tested_literal, one_more_choice, no_more_choices, an_action, no_action, to_make, to_modify, to_bind, to_cbind, to_remove, to_write, to_halt, a_modified, a_bound_name, a_bound_value, no_bound_value, a_cell_name, a_cell, one_more_cell, no_more_cells, an_item, a_literal_item, an_item_form, no_item, a_crlf, a_tab, a_right, a_function_item, some_columns, a_closing, is_no_form}
+use Rattle.ops_meaning.specs.Grammar.{Use, InPattern, InPut, InFixed, Target, ToTest, ToPut, ToTerms, ToConstants, ToItem, ToBind, EndsWhole, Column, Wanted, Forms, Attribute, VectorNames, Patterns, Pattern, Braced, ClosesBrace, ClassName, Terms, Several, Place, Tests, Choice, ValueFor, Function, Waiting, ExpressionUnit, ExpressionRest, Bracketed, SourceEnd, Atom, Tested, BoundValue, Cells, Items, ItemWord, Closes, State, Step, Next, Refuses, is_left, is_right, is_left_brace, is_right_brace, is_caret, is_name, is_variable, is_arrow, is_literal, is_inf, is_minus, opens_choice, closes_choice, pred_of, constant_of, value_of, atom_of, natural_of, small_of, is_one_of, number_of, may_declare, may_produce, is_class, is_rule, is_second, makes_second, vector_declared, form, class_at, attributes_of, behind_attribute, field_at, with_bind, with_constant, variable_tested, constant_tested, tested, predicated, test, place, tests, chosen, atom_at, term_at, bound_at, constant_at, is_of_action, value_for, most_brackets, no_formula, with_formula, unit_bound, unit_at, expression_unit, is_compute, operation_of, operation_at, expression_ended, function, source_named, source_class, source_at, takes_several, ends_at_inf, source_end, with_element, terms, within, one_of_several, with_several, several, one_more, element_at, action_word, designated, numbered_cell, named_cell, cell_of, with_designated, with_modified, cell_bound, item_word, columns_at, counted, count_of, strategy_set, strategy_of, ended, step}
+use Rattle.ops_meaning.specs.Derivation.{is_designator, is_operand, is_value, with_name, Derives, nothing, no_form, a_form, a_literalize, a_class, an_attribute, no_attribute, a_vector_declaration, a_vector, one_more_vector, no_more_vectors, a_production, a_rule, a_first, a_braced_first, a_negated_first, a_pattern, a_braced_pattern, a_negated_pattern, a_whole_pattern, a_name_before, a_name_behind, an_element_name, a_closed_brace, an_arrow, a_make, a_run, a_count, no_count, a_strategy, a_strategy_name, no_strategy_name, a_class_name, a_term, no_term, a_scalar_attribute, a_vector_attribute, one_more_place, one_more_term, one_more_constant, no_more_of_several, a_value, a_literal_value, a_function, a_compute, a_genatom, an_accept, a_unit, a_bracketed_unit, a_bracketed_compute, a_bracketed_expression, an_operation, no_operation, a_substr, a_source, a_source_attribute, the_same_again, up_to_inf, an_atom, a_conjunction, no_more_tests, an_operand, a_literal, a_predicate, a_disjunction, one_more_operand, one_more_literal, one_more_predicate, one_more_disjunction, a_tested_operand, a_tested_literal, one_more_choice, no_more_choices, an_action, no_action, to_make, to_modify, to_bind, to_cbind, to_remove, to_write, to_halt, a_modified, a_bound_name, a_bound_value, no_bound_value, a_cell_name, a_cell, one_more_cell, no_more_cells, an_item, a_literal_item, an_item_form, no_item, a_crlf, a_tab, a_right, a_function_item, some_columns, a_closing, is_no_form}
 use Rattle.ops_meaning.proofs.Arranged.{AreArranged, kind_agrees}
 use Rattle.ops_meaning.proofs.Derived.{forms_last, bind_vectors, constant_vectors, element_vectors, ended_vectors}
 use Rattle.ops_meaning.proofs.Moved.{at_any_place, several_at_any_place, whatever_waits}
@@ -56,6 +57,10 @@ designator_not_right _ e = refl
 left_brace_not_left : (k : TokenKind) → is_left_brace k ≡ true → is_left k ≡ false
 left_brace_not_left kind.Left e = absurd (true≢false (sym e))
 left_brace_not_left _ e = refl
+
+count_not_right : (k : TokenKind) → is_some (count_of k) ≡ true → is_right k ≡ false
+count_not_right kind.Right e = absurd (true≢false (sym e))
+count_not_right _ e = refl
 
 pub variable_not_left : (k : TokenKind) → is_variable k ≡ true → is_left k ≡ false
 variable_not_left kind.Left e = absurd (true≢false (sym e))
@@ -147,6 +152,10 @@ operation_named _ e = refl
 compute_named : (k : Keyword) → is_compute k ≡ true → is_other k ≡ false
 compute_named keyword.Other e = absurd (true≢false (sym e))
 compute_named _ e = refl
+
+strategy_named : (k : Keyword) → is_some (strategy_of k) ≡ true → is_other k ≡ false
+strategy_named keyword.Other e = absurd (true≢false (sym e))
+strategy_named _ e = refl
 
 -- a unit does not begin with `compute`
 unit_begins : {A : Type 0} (d : ℕ) (vs : List Sym) (ws : List Wanted) (w : Word) (ts : List Word) → Derives vs (ExpressionUnit d ∷ ws) (w ∷ ts) → is_compute w.keyword ≡ true → is_proper w ≡ true → A
@@ -400,6 +409,15 @@ module _ (w : Word) (ts : List Word) where
     columns_go c (Some n) e d = λ _. d
     columns_go c None e d = absurd (true≢false (sym e))
 
+    -- the number of a run, and the name of a strategy
+    counted_goes : (o : Option ℕ) → is_some o ≡ true → Derives s.vectors (Closes EndsWhole ∷ ws) ts → Went w ts (counted o ws s)
+    counted_goes (Some n) e d = λ _. d
+    counted_goes None e d = absurd (true≢false (sym e))
+
+    strategy_goes : (o : Option Strategy) → is_some o ≡ true → Derives s.vectors (Closes EndsWhole ∷ ws) ts → Went w ts (strategy_set o ws s)
+    strategy_goes (Some g) e d = λ _. d
+    strategy_goes None e d = absurd (true≢false (sym e))
+
 -- the end of an expression
 ended_goes_on : (w : Word) (ts : List Word) (ws : List Wanted) (s : State) (into : Option Target) (f : Formula) → Derives s.vectors ws ts → Went w ts (expression_ended into f ws s)
 ended_goes_on w ts ws s (Some t) f d = term_goes w ts ws (with_formula s no_formula) t (term.Compute f) d
@@ -512,7 +530,7 @@ derived_goes ws words s a (one_more_vector {ws = rest} {w = w} {ts = ts} e d) la
     unmet w ts (is_right w.kind) _ _ (name_not_right w.kind e) (met w ts (is_name w.kind) _ _ e (vector_declared_goes w ts (VectorNames ∷ rest) s d))
 derived_goes ws words s a (no_more_vectors {w = w} {ts = ts} e d) last = met w ts (is_right w.kind) _ _ e (λ _. d)
 derived_goes ws words s a (a_production {ws = rest} {w = w} {ts = ts} e d) last =
-    form_goes w ts rest s keyword.Production e (cond_both (length s.commands == 0) _ _ (Went w ts) (λ _ _. d) (λ _. refl))
+    form_goes w ts rest s keyword.Production e (cond_both (may_produce s) _ _ (Went w ts) (λ _ _. d) (λ _. refl))
 derived_goes ws words s a (a_rule {w = w} {ts = ts} e d) last =
     met w ts (is_name w.kind) _ _ e (cond_both (is_rule s w.name) _ _ (Went w ts) (λ _. refl) (λ _ _. d))
 derived_goes ws words s a (a_first {w = w} {ts = ts} e d) last = met w ts (is_left w.kind) _ _ e (λ _. d)
@@ -547,6 +565,14 @@ derived_goes ws words s a (a_closed_brace {w = w} {ts = ts} e d) last = met w ts
 derived_goes ws words s a (an_arrow {w = w} {ts = ts} e d) last = met w ts (is_arrow w.keyword) _ _ (ap is_arrow e) (λ _. d)
 derived_goes ws words s a (a_make {ws = rest} {w = w} {ts = ts} e d) last = form_goes w ts rest s keyword.Make e (λ _. d)
 derived_goes ws words s a (a_run {ws = rest} {w = w} {ts = ts} e d) last = form_goes w ts rest s keyword.Run e (λ _. d)
+derived_goes ws words s a (a_count {ws = rest} {w = w} {ts = ts} e d) last =
+    unmet w ts (is_right w.kind) _ _ (count_not_right w.kind e) (counted_goes w ts rest s (count_of w.kind) e d)
+derived_goes ws words s a (no_count {w = w} {ts = ts} e d) last = met w ts (is_right w.kind) _ _ e (λ _. d)
+derived_goes ws words s a (a_strategy {ws = rest} {w = w} {ts = ts} e d) last = form_goes w ts rest s keyword.Strategy e (λ _. d)
+derived_goes ws words s a (a_strategy_name {ws = rest} {w = w} {ts = ts} e d) last =
+    cond_both (is_right w.kind) _ _ (Went w ts) (λ right proper. no_keyword w is_right refl refl (strategy_named w.keyword e) right proper)
+    (λ _. strategy_goes w ts rest s (strategy_of w.keyword) e d)
+derived_goes ws words s a (no_strategy_name {w = w} {ts = ts} e d) last = met w ts (is_right w.kind) _ _ e (λ _. d)
 derived_goes ws words s a (a_class_name {ws = rest} {w = w} {ts = ts} e d) last =
     met w ts (is_name w.kind) _ _ e (class_goes w ts rest s (position (λ c. c.name.0 == w.name.0) s.classes) d)
 derived_goes ws words s a (a_term {w = w} {ts = ts} e d) last =

@@ -21,9 +21,10 @@ use Rattle.ops_base.specs.declared.actions.Action.{Action}
 use Rattle.ops_base.specs.declared.actions.Action.TheVariants as action
 use Rattle.ops_base.specs.declared.rules.Rule.{Rule}
 use Rattle.ops_base.specs.declared.commands.Command.{Command}
+use Rattle.ops_base.specs.declared.commands.Command.TheVariants as command
 use Rattle.ops_base.specs.Valid.{longest_list, most_fields, most_conditions, fits, is_in, are_distinct, no_class, class_of, class_is_valid, is_attribute, is_vector, is_field, Sight, operand_is_valid, tests_are_valid, sight_after_tests, nothing_in_sight, cells_of, is_cell, specificity, known_of, Known, known_after, term_is_valid, put_is_valid, action_is_valid, fixed_is_valid, command_is_valid}
 use Rattle.ops_meaning.specs.declared.words.Named.{Named}
-use Rattle.ops_meaning.specs.Grammar.{is_one_of, number_of, renumbered, arranged, has_vector, with_vector_last, put_action}
+use Rattle.ops_meaning.specs.Grammar.{is_one_of, number_of, renumbered, precedes_classes, arranged, has_vector, with_vector_last, put_action}
 use Rattle.ops_meaning.proofs.Lists.{all_push, all_none, all_weaker, all_at, all_in, any_some, distinct_push, in_map, cond_alike, length-parted, parted_distinct}
 use Rattle.ops_meaning.proofs.Parts.{tests_push, sight_push, conditions_push, sight_conditions_push, actions_push, known_push, first_push, some_cell, cells_push}
 use Rattle.ops_meaning.proofs.Sound.{IsProgram, IsDeclaring, IsClass, numbers, Variables, seen, all_below, IsHead, known, Side, Knows, IsBody, IsNamed}
@@ -56,6 +57,28 @@ class_arranged vectors attrs name vector few distinct some =
     (and_from _ _ (le-leb _ _ (omega (arith, same, few))) (parted_distinct (λ a. a.0) (λ a. is_one_of a vectors) attrs distinct))
     (some_attribute vector (length (arranged vectors attrs)) (λ v. let lt = some v in omega (arith, same, lt)))
 
+-- a command behind which a class may be declared is valid whatever classes there are
+valid_anywhere : (classes others : List Class) (c : Command) → precedes_classes c ≡ true → command_is_valid classes c ≡ true
+    → command_is_valid others c ≡ true
+valid_anywhere classes others (command.Make class puts) before h = absurd (true≢false (sym before))
+valid_anywhere classes others (command.Run count) before h = absurd (true≢false (sym before))
+valid_anywhere classes others (command.Ppwm pattern) before h = absurd (true≢false (sym before))
+valid_anywhere classes others (command.Remove tags) before h = h
+valid_anywhere classes others (command.Wm tags) before h = h
+valid_anywhere classes others (command.Pm names) before h = h
+valid_anywhere classes others (command.Watch None) before h = h
+valid_anywhere classes others (command.Watch (Some n)) before h = h
+valid_anywhere classes others (command.Pbreak names) before h = h
+valid_anywhere classes others _ before h = refl
+
+commands_valid_anywhere : (classes others : List Class) (commands : List Command) → list_all precedes_classes commands ≡ true
+    → list_all (command_is_valid classes) commands ≡ true → list_all (command_is_valid others) commands ≡ true
+commands_valid_anywhere classes others [] before h = refl
+commands_valid_anywhere classes others (c ∷ cs) before h =
+    let first = and_parts (precedes_classes c) (list_all precedes_classes cs) before in
+    let valid = and_parts (command_is_valid classes c) (list_all (command_is_valid classes) cs) h in
+    and_from _ _ (valid_anywhere classes others c first.0 valid.0) (commands_valid_anywhere classes others cs first.1 valid.1)
+
 pub class_added : (text : ℕ) (classes : List Class) (rules : List Rule) (commands : List Command) (vectors : List Sym) (name : Sym) (attrs : List Sym) → IsDeclaring text classes rules commands → IsClass classes name attrs
     → IsProgram text (classes ++ record { name = name; attrs = arranged vectors attrs; vector = has_vector vectors attrs } ∷ []) rules commands
 class_added text classes rules commands vectors name attrs d c =
@@ -64,7 +87,7 @@ class_added text classes rules commands vectors name attrs d c =
       classes_valid = all_push class_is_valid classes added d.program.classes_valid
           (class_arranged vectors attrs name (has_vector vectors attrs) c.few c.distinct (any_some (λ a. is_one_of a vectors) attrs));
       rules_valid = all_none _ rules d.no_rules;
-      commands_valid = all_none _ commands d.no_commands;
+      commands_valid = commands_valid_anywhere classes (classes ++ added ∷ []) commands d.commands_precede d.program.commands_valid;
       class_names = named_apart (λ c. c.name.0) classes added d.program.class_names c.is_new;
       rule_names = d.program.rule_names;
     }
@@ -98,12 +121,12 @@ vector_added text classes rules commands name d =
       program = record {
         classes_valid = vectors_valid name classes d.program.classes_valid;
         rules_valid = all_none _ rules d.no_rules;
-        commands_valid = all_none _ commands d.no_commands;
+        commands_valid = commands_valid_anywhere classes (map (with_vector_last name) classes) commands d.commands_precede d.program.commands_valid;
         class_names = ap are_distinct (vectors_names name classes) ∙ d.program.class_names;
         rule_names = d.program.rule_names;
       };
       no_rules = d.no_rules;
-      no_commands = d.no_commands;
+      commands_precede = d.commands_precede;
     }
 
 -- ---- variables

@@ -11,9 +11,9 @@ use Rattle.std.proofs.lemmas.Map.Views.{Contains-from_any}
 use Rattle.ops_base.specs.declared.elements.Element.{Element}
 use Rattle.ops_base.specs.declared.elements.Change.{Change}
 use Rattle.ops_base.specs.declared.elements.Change.TheVariants.{Add, Remove}
-use Rattle.ops_base.specs.WorkingMemory.{tags_of, without_tag, change_done, done, Lawful}
+use Rattle.ops_base.specs.WorkingMemory.{tags_of, without_tag, done, last_after, Lawful}
 use Rattle.ops_meaning.specs.Acting.{has_tag}
-use Rattle.ops_meaning.specs.Kept.{WellKept, last_after}
+use Rattle.ops_meaning.specs.Kept.{WellKept}
 
 -- ---- lists of tags
 
@@ -85,15 +85,6 @@ lawful_risen wm last (Add e ∷ cs) q = let le = lawful_risen (wm ++ e ∷ []) e
 lawful_risen wm last (Remove tag ∷ cs) q = lawful_risen (without_tag tag wm) last cs q.1
 
 -- ---- one change more
-
-pub done_push : (wm : List Element) (cs : List Change) (c : Change) → done wm (cs ++ c ∷ []) ≡ change_done (done wm cs) c
-done_push wm [] c = refl
-done_push wm (d ∷ cs) c = done_push (change_done wm d) cs c
-
-pub last_after_push : (last : ℕ) (cs : List Change) (c : Change) → last_after last (cs ++ c ∷ []) ≡ last_after (last_after last cs) (c ∷ [])
-last_after_push last [] c = refl
-last_after_push last (Add e ∷ cs) c = last_after_push e.tag cs c
-last_after_push last (Remove tag ∷ cs) c = last_after_push last cs c
 
 pub lawful_push : (wm : List Element) (last : ℕ) (cs : List Change) (c : Change) → Lawful wm last cs → Lawful (done wm cs) (last_after last cs) (c ∷ []) → Lawful wm last (cs ++ c ∷ [])
 lawful_push wm last [] c p q = q

@@ -45,3 +45,4 @@ pub mod Alike
 pub mod Taken
 pub mod ReadsHeld
 pub mod NamesOf
+pub mod Limits

@@ -12,7 +12,7 @@ use Rattle.ops_base.specs.declared.rules.Rule.{Rule}
 use Rattle.ops_base.specs.declared.commands.Command.{Command}
 use Rattle.ops_base.specs.Valid.{most_fields, most_conditions, is_in, class_of, is_attribute, is_vector, is_field, first_is_positive, cells_of, fixed_is_valid}
 use Rattle.ops_meaning.specs.declared.words.Named.{Named}
-use Rattle.ops_meaning.specs.Grammar.{Use, InPattern, InPut, InFixed, Target, ToTest, ToPut, ToFixed, ToTerms, ToConstants, ToItem, ToBind, EndsRun, EndsHalt, EndsCrlf, EndsWhole, Column, Wanted, Forms, Form, ClassDeclared, Attributes, VectorName, VectorNames, RuleName, FirstPattern, Patterns, Pattern, Braced, ElementName, ClosesBrace, ClassName, Terms, Attribute, Several, Place, Tests, Tested, Choice, Atom, ValueFor, Function, Waiting, ExpressionUnit, ExpressionRest, Bracketed, SourceCell, SourceAttribute, SourceEnd, Actions, ActionWord, Modified, BoundName, BoundValue, CellName, Cell, Cells, Items, ItemWord, Columns, Closes, State, Step, Next, Refuses, number_of, renumbered, is_of_action, most_brackets, function_depth, classes_of_cells, source_class}
+use Rattle.ops_meaning.specs.Grammar.{Use, InPattern, InPut, InFixed, Target, ToTest, ToPut, ToFixed, ToTerms, ToConstants, ToItem, ToBind, EndsHalt, EndsCrlf, EndsWhole, Column, Wanted, Forms, Form, ClassDeclared, Attributes, VectorName, VectorNames, RuleName, FirstPattern, Patterns, Pattern, Braced, ElementName, ClosesBrace, ClassName, Terms, Attribute, Several, Place, Tests, Tested, Choice, Atom, ValueFor, Function, Waiting, ExpressionUnit, ExpressionRest, Bracketed, SourceCell, SourceAttribute, SourceEnd, Actions, ActionWord, Modified, BoundName, BoundValue, CellName, Cell, Cells, Items, ItemWord, Columns, Count, StrategyName, Closes, State, Step, Next, Refuses, number_of, renumbered, precedes_classes, is_of_action, most_brackets, function_depth, classes_of_cells, source_class}
 use Rattle.ops_meaning.specs.Spelling.{Numbered, nothing_numbered, test_is_plain, after_test, tests_are_plain, after_tests, after_condition, condition_is_plain, conditions_are_plain, after_conditions, InSight, at_arrow, class_of_cell, after_action, after_actions, term_is_plain, put_is_plain, item_is_plain, action_is_plain, actions_are_plain, rule_is_plain, command_is_plain}
 use Rattle.ops_meaning.proofs.Lists.{all_weaker}
 use Rattle.ops_meaning.proofs.Sound.{Braces, behind, behind_pattern}
@@ -75,8 +75,9 @@ in_sight s = record { variables = numbered_in s.values s.variables; cells = clas
 abbrev pub Right : State → Type 0
 Right s = IsRight s.classes s.conditions (in_sight s) s.elements s.actions
 
+-- nothing was read that looks at the classes
 abbrev pub Declaring : State → Type 0
-Declaring s = Base s × (length s.rules ≡ 0) × (length s.commands ≡ 0)
+Declaring s = Base s × (length s.rules ≡ 0) × (list_all precedes_classes s.commands ≡ true)
 
 abbrev pub Around : Use → State → Type 0
 Around InPattern s = Base s × Left s × (length s.conditions < most_conditions) × (begins_positive s.conditions s.negated ≡ true)
@@ -235,7 +236,8 @@ pub data IsPlainly (s : State) : List Wanted → Type 0 where
   at_whole : (ws : List Wanted) → IsPlainly s ws → IsPlainly s (Closes EndsWhole ∷ ws)
   at_crlf : HasItems s → IsPlainly s (Closes EndsCrlf ∷ Items ∷ Actions ∷ Forms ∷ [])
   at_halt : Base s × Right s → IsPlainly s (Closes EndsHalt ∷ Actions ∷ Forms ∷ [])
-  at_run : Base s → IsPlainly s (Closes EndsRun ∷ Forms ∷ [])
+  at_count : Base s → IsPlainly s (Count ∷ Forms ∷ [])
+  at_strategy_name : Base s → IsPlainly s (StrategyName ∷ Forms ∷ [])
 
 abbrev pub Keeps : Step → Type 0
 Keeps (Next ws s) = IsPlainly s ws

@@ -20,9 +20,10 @@ use Rattle.ops_base.specs.declared.conditions.Condition.{Condition}
 use Rattle.ops_base.specs.declared.actions.Action.{Action}
 use Rattle.ops_base.specs.declared.actions.Action.TheVariants as action
 use Rattle.ops_base.specs.declared.commands.Command.{Command}
+use Rattle.ops_base.specs.declared.commands.Command.TheVariants as command
 use Rattle.ops_base.specs.Valid.{most_fields, most_conditions, no_class, class_of, is_vector, is_in, first_is_positive, cells_of, specificity, fixed_is_valid}
 use Rattle.ops_meaning.specs.declared.words.Named.{Named}
-use Rattle.ops_meaning.specs.Grammar.{InPattern, InPut, InFixed, Use, State, number_of, with_test, with_put, with_fixed, with_bound, with_bind, with_several, with_bound_element, classes_of_cells, put_action, with_element, with_cell, with_rule, left_ended, right_begun}
+use Rattle.ops_meaning.specs.Grammar.{InPattern, InPut, InFixed, Use, State, number_of, precedes_classes, with_test, with_put, with_fixed, with_bound, with_bind, with_several, with_bound_element, classes_of_cells, put_action, with_element, with_cell, with_rule, left_ended, right_begun}
 use Rattle.ops_meaning.specs.Spelling.{Numbered, nothing_numbered, operand_is_plain, after_test, after_tests, after_conditions, InSight, at_arrow, after_action, term_is_plain, put_is_plain, action_is_plain, rule_is_plain, command_is_plain}
 use Rattle.ops_meaning.proofs.Lists.{all_push}
 use Rattle.ops_meaning.proofs.Numbering.{are_given, next_apart, after_conditions-given, after_actions-given}
@@ -31,6 +32,20 @@ use Rattle.ops_meaning.proofs.Plain.{numbers_in, numbered_in, made_is_class, in_
 
 pub command_kept : (s : State) (c : Command) → Base s → command_is_plain s.classes c ≡ true → IsBase s.vectors s.classes s.rules (s.commands ++ c ∷ [])
 command_kept s c g plain = record { arranged = g.arranged; rules_plain = g.rules_plain; commands_plain = all_push (command_is_plain s.classes) s.commands c g.commands_plain plain }
+
+-- A command before declarations looks at no class.
+command_still : (classes more : List Class) (c : Command) → precedes_classes c ≡ true → command_is_plain classes c ≡ true → command_is_plain more c ≡ true
+command_still classes more (command.Strategy set) before plain = refl
+command_still classes more (command.Make class puts) before plain = absurd (true≢false (sym before))
+command_still classes more (command.Run count) before plain = absurd (true≢false (sym before))
+command_still classes more _ before plain = absurd (true≢false (sym plain))
+
+pub commands_still : (classes more : List Class) (cs : List Command) → list_all precedes_classes cs ≡ true → list_all (command_is_plain classes) cs ≡ true → list_all (command_is_plain more) cs ≡ true
+commands_still classes more [] before plain = refl
+commands_still classes more (c ∷ cs) before plain =
+    let b = and_parts (precedes_classes c) (list_all precedes_classes cs) before in
+    let p = and_parts (command_is_plain classes c) (list_all (command_is_plain classes) cs) plain in
+    and_from _ _ (command_still classes more c b.0 p.0) (commands_still classes more cs b.1 p.1)
 
 -- ---- left sides
 

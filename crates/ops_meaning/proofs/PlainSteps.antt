@@ -22,23 +22,24 @@ use Rattle.ops_base.specs.declared.actions.Item.{Item}
 use Rattle.ops_base.specs.declared.actions.Item.TheVariants as item
 use Rattle.ops_base.specs.declared.actions.Action.TheVariants as action
 use Rattle.ops_base.specs.declared.commands.Command.TheVariants as command
+use Rattle.ops_base.specs.declared.commands.Strategy.{Strategy}
 use Rattle.ops_base.specs.declared.endings.Fault.{Fault}
 use Rattle.ops_base.specs.declared.endings.Fault.TheVariants as fault
-use Rattle.ops_base.specs.Valid.{most_fields, most_conditions, no_class, class_of, is_attribute, is_vector, is_column, cells_of, fixed_is_valid}
+use Rattle.ops_base.specs.Valid.{most_fields, most_conditions, no_class, class_of, is_attribute, is_vector, is_column, is_natural, cells_of, fixed_is_valid}
 use Rattle.ops_tokens.specs.declared.token.TokenKind.{TokenKind}
 use Rattle.ops_tokens.specs.declared.token.TokenKind.TheVariants as kind
 use Rattle.ops_meaning.specs.declared.words.Word.{Word}
 use Rattle.ops_meaning.specs.declared.words.Keyword.{Keyword}
 use Rattle.ops_meaning.specs.declared.words.Keyword.TheVariants as keyword
-use Rattle.ops_meaning.specs.Grammar.{Use, InPattern, InPut, InFixed, Target, ToTest, ToPut, ToFixed, ToTerms, ToConstants, ToItem, ToBind, EndsWhole, Column, ToTab, ToRight, Wanted, Forms, Attributes, VectorNames, Patterns, Pattern, ClosesBrace, Terms, Several, Choice, ExpressionRest, SourceAttribute, Actions, Cells, Items, Closes, is_left, is_right, is_left_brace, is_right_brace, is_caret, is_name, is_variable, is_arrow, is_literal, is_minus, opens_choice, closes_choice, pred_of, constant_of, atom_of, value_of, natural_of, small_of, is_one_of, number_of, may_declare, is_class, is_rule, form, class_declared, is_second, attribute_declared, attributes, arranged, has_vector, makes_second, vector_declared, vector_name, class_at, attributes_of, behind_attribute, field_at, with_test, with_item, with_constant, with_bound, variable_tested, constant_tested, tested, predicated, test, with_choice, chosen, choice, atom_at, term_at, bound_at, constant_at, is_of_action, value_for, function, function_depth, most_brackets, no_formula, with_formula, Waiting, completed, is_compute, operation_of, unit_bound, unit_at, expression_unit, bracketed, operation_at, expression_rest, source_named, source_class, source_at, takes_several, is_inf, ends_at_inf, source_end, with_element, with_several, terms, within, one_of_several, several, place, one_more, patterns, element_at, element_name, action_word, classes_of_cells, designated, numbered_cell, named_cell, cell_of, with_designated, with_modified, bound_value, cell_bound, item_word, column_item, columns_at, State, Step, Next, Refuses, step}
+use Rattle.ops_meaning.specs.Grammar.{Use, InPattern, InPut, InFixed, Target, ToTest, ToPut, ToFixed, ToTerms, ToConstants, ToItem, ToBind, EndsWhole, Column, ToTab, ToRight, Wanted, Forms, Attributes, VectorNames, Patterns, Pattern, ClosesBrace, Terms, Several, Choice, ExpressionRest, SourceAttribute, Actions, Cells, Items, Closes, is_left, is_right, is_left_brace, is_right_brace, is_caret, is_name, is_variable, is_arrow, is_literal, is_minus, opens_choice, closes_choice, pred_of, constant_of, atom_of, value_of, natural_of, small_of, is_one_of, number_of, precedes_classes, may_declare, may_produce, is_class, is_rule, form, class_declared, is_second, attribute_declared, attributes, arranged, has_vector, makes_second, vector_declared, vector_name, class_at, attributes_of, behind_attribute, field_at, with_test, with_item, with_constant, with_bound, variable_tested, constant_tested, tested, predicated, test, with_choice, chosen, choice, atom_at, term_at, bound_at, constant_at, is_of_action, value_for, function, function_depth, most_brackets, no_formula, with_formula, Waiting, completed, is_compute, operation_of, unit_bound, unit_at, expression_unit, bracketed, operation_at, expression_rest, source_named, source_class, source_at, takes_several, is_inf, ends_at_inf, source_end, with_element, with_several, terms, within, one_of_several, several, place, one_more, patterns, element_at, element_name, action_word, classes_of_cells, designated, numbered_cell, named_cell, cell_of, with_designated, with_modified, bound_value, cell_bound, item_word, column_item, columns_at, count_of, counted, count, strategy_of, strategy_set, strategy_name, State, Step, Next, Refuses, step}
 use Rattle.ops_meaning.specs.Spelling.{nothing_numbered, tests_are_plain, after_tests, after_conditions, InSight, cell_is_plain, term_is_plain, put_is_plain, item_is_plain}
 use Rattle.ops_meaning.proofs.Lists.{all_push, all_none, all_at}
 use Rattle.ops_meaning.proofs.Parts.{has_cell}
 use Rattle.ops_meaning.proofs.Sound.{Braces, Bare, NamedBefore, NamedBehind, behind}
 use Rattle.ops_meaning.proofs.PlainClasses.{IsArranged, IsAttributes, class_arranged, classes_arranged, attributes_begun, attribute_pushed}
 use Rattle.ops_meaning.proofs.PlainFormulas.{IsOperand, AreOperands, AreOpen, outermost, bracket, operand_completed, operand_bracketed}
-use Rattle.ops_meaning.proofs.Plain.{numbers_in, in_sight, Base, Right, Declaring, Around, IsBegun, IsOfCell, IsElement, Conditions, HasCells, HasItems, HasAttribute, IsVector, HasMore, HasSeveral, IsSource, Spot, HasPlace, HasTarget, behind_place, behind_test, behind_target, IsPlainly, at_forms, at_form, at_class_declared, at_attributes, at_vector_name, at_vector_names, at_rule_name, at_first_pattern, at_patterns, at_pattern, at_braced, at_element_name, at_closes_brace, at_class_name, at_terms, at_attribute, at_several, at_place, at_tests, at_tested, at_choice, at_atom, at_value, at_function, at_expression_unit, at_last_rest, at_bracketed_rest, at_bracketed, at_source_cell, at_source_attribute, at_source_end, at_actions, at_action_word, at_modified, at_bound_name, at_bound_value, at_cell_name, at_cell, at_cells, at_items, at_item_word, at_columns, at_whole, at_crlf, at_halt, at_run, Keeps, after_conditions-push, conditions_push, condition_counted, begun_positive, begins_first, begins_behind, number_sighted, cells_more, number_below, below_more}
-use Rattle.ops_meaning.proofs.PlainKept.{command_kept, action_kept, element_kept, bind_kept, cell_kept, test_kept, test_bound, choosing, put_kept, fixed_kept, several_begun, several_kept, term_pushed, constant_pushed, right_kept, negated_begun, rule_kept, element_bound}
+use Rattle.ops_meaning.proofs.Plain.{numbers_in, in_sight, Base, Right, Declaring, Around, IsBegun, IsOfCell, IsElement, Conditions, HasCells, HasItems, HasAttribute, IsVector, HasMore, HasSeveral, IsSource, Spot, HasPlace, HasTarget, behind_place, behind_test, behind_target, IsPlainly, at_forms, at_form, at_class_declared, at_attributes, at_vector_name, at_vector_names, at_rule_name, at_first_pattern, at_patterns, at_pattern, at_braced, at_element_name, at_closes_brace, at_class_name, at_terms, at_attribute, at_several, at_place, at_tests, at_tested, at_choice, at_atom, at_value, at_function, at_expression_unit, at_last_rest, at_bracketed_rest, at_bracketed, at_source_cell, at_source_attribute, at_source_end, at_actions, at_action_word, at_modified, at_bound_name, at_bound_value, at_cell_name, at_cell, at_cells, at_items, at_item_word, at_columns, at_whole, at_crlf, at_halt, at_count, at_strategy_name, Keeps, after_conditions-push, conditions_push, condition_counted, begun_positive, begins_first, begins_behind, number_sighted, cells_more, number_below, below_more}
+use Rattle.ops_meaning.proofs.PlainKept.{command_kept, commands_still, action_kept, element_kept, bind_kept, cell_kept, test_kept, test_bound, choosing, put_kept, fixed_kept, several_begun, several_kept, term_pushed, constant_pushed, right_kept, negated_begun, rule_kept, element_bound}
 
 -- ---- designators
 
@@ -71,15 +72,20 @@ cell_there s (kind.Whole z) name c g found = numbered_there s (natural_of z) c f
 cell_there s kind.Variable name c g found = named_there s name (number_of name s.elements) c g refl found
 cell_there s _ name c g found = absurd (cc)
 
--- ---- columns
+-- ---- columns and counts
 
-small_by : (b : Bool) (m n : ℕ) → is_column m ≡ b → (let o : Option ℕ = cond b (Some m) None in o ≡ Some n) → is_column n ≡ true
-small_by true m n is e = let same : m ≡ n = cc in ap is_column (sym same) ∙ is
-small_by false m n is e = absurd (cc)
+-- a number that is taken where it passes does so
+passed_by : (f : ℕ → Bool) (b : Bool) (m n : ℕ) → f m ≡ b → (let o : Option ℕ = cond b (Some m) None in o ≡ Some n) → f n ≡ true
+passed_by f true m n is e = let same : m ≡ n = cc in ap f (sym same) ∙ is
+passed_by f false m n is e = absurd (cc)
 
 small_there : (k : TokenKind) (n : ℕ) → small_of k ≡ Some n → is_column n ≡ true
-small_there (kind.Whole (pos m)) n e = small_by (is_column m) m n refl e
+small_there (kind.Whole (pos m)) n e = passed_by is_column (is_column m) m n refl e
 small_there _ n e = absurd (cc)
+
+count_there : (k : TokenKind) (n : ℕ) → count_of k ≡ Some n → is_natural n ≡ true
+count_there (kind.Whole (pos m)) n e = passed_by is_natural (is_natural m) m n refl e
+count_there _ n e = absurd (cc)
 
 column_plain : (classes : List Class) (k : InSight) (c : Column) (n : ℕ) → is_column n ≡ true → item_is_plain classes k (column_item c n) ≡ true
 column_plain classes k ToTab n is = is
@@ -135,7 +141,7 @@ module _ (w : Word) where
   -- ---- declarations
 
   declaring : (s : State) → Base s → may_declare s ≡ true → Declaring s
-  declaring s g e = let parts = and_parts (length s.rules == 0) (length s.commands == 0) e in (g, eqb-true _ _ parts.0, eqb-true _ _ parts.1)
+  declaring s g e = let parts = and_parts (length s.rules == 0) (list_all precedes_classes s.commands) e in (g, eqb-true _ _ parts.0, parts.1)
 
   form_keeps : (s : State) → Base s → (k : Keyword) → Keeps (form w k (Forms ∷ []) s)
   form_keeps s g keyword.Literalize =
@@ -144,9 +150,10 @@ module _ (w : Word) where
   form_keeps s g keyword.VectorAttribute =
       cond_both (may_declare s) _ _ Keeps
       (λ e. at_vector_name (declaring s g e)) (λ _. tt)
-  form_keeps s g keyword.Production = cond_both (length s.commands == 0) _ _ Keeps (λ _. at_rule_name g) (λ _. tt)
+  form_keeps s g keyword.Production = cond_both (may_produce s) _ _ Keeps (λ _. at_rule_name g) (λ _. tt)
   form_keeps s g keyword.Make = at_class_name Bare InFixed (g, refl)
-  form_keeps s g keyword.Run = at_run g
+  form_keeps s g keyword.Run = at_count g
+  form_keeps s g keyword.Strategy = at_strategy_name g
   form_keeps s g _ = tt
 
   class_declared_keeps : (s : State) → Declaring s → Keeps (class_declared w (Attributes ∷ Forms ∷ []) s)
@@ -165,7 +172,7 @@ module _ (w : Word) where
       (λ _. at_forms (record {
         arranged = All-push (IsArranged s.vectors) s.classes (record { name = s.name; attrs = arranged s.vectors s.attrs; vector = has_vector s.vectors s.attrs }) g.0.0.arranged (class_arranged s.vectors s.name s.attrs g.1);
         rules_plain = all_none _ s.rules g.0.1;
-        commands_plain = all_none _ s.commands g.0.2;
+        commands_plain = commands_still s.classes _ s.commands g.0.2 g.0.0.commands_plain;
       }))
       (λ _. cond_both (is_name w.kind) _ _ Keeps (λ _. attribute_declared_keeps s g) (λ _. tt))
 
@@ -177,7 +184,7 @@ module _ (w : Word) where
         record {
           arranged = classes_arranged s.vectors w.name s.classes g.0.arranged second;
           rules_plain = all_none _ s.rules g.1;
-          commands_plain = all_none _ s.commands g.2;
+          commands_plain = commands_still s.classes _ s.commands g.2 g.0.commands_plain;
         },
         g.1,
         g.2,
@@ -541,6 +548,23 @@ module _ (w : Word) where
   columns_keep s g c (Some n) e = at_whole (Items ∷ Actions ∷ Forms ∷ []) (at_items (item_pushed s (column_item c n) g (column_plain s.classes (in_sight s) c n (small_there w.kind n e))))
   columns_keep s g c None e = tt
 
+  -- ---- commands
+
+  counted_keeps : (s : State) → Base s → (o : Option ℕ) → count_of w.kind ≡ o → Keeps (counted o (Forms ∷ []) s)
+  counted_keeps s g (Some n) e = at_whole (Forms ∷ []) (at_forms (command_kept s (command.Run (Some n)) g (count_there w.kind n e)))
+  counted_keeps s g None e = tt
+
+  count_keeps : (s : State) → Base s → Keeps (count w (Forms ∷ []) s)
+  count_keeps s g = cond_both (is_right w.kind) _ _ Keeps (λ _. at_forms (command_kept s (command.Run None) g refl)) (λ _. counted_keeps s g (count_of w.kind) refl)
+
+  strategy_set_keeps : (s : State) → Base s → (o : Option Strategy) → Keeps (strategy_set o (Forms ∷ []) s)
+  strategy_set_keeps s g (Some set) = at_whole (Forms ∷ []) (at_forms (command_kept s (command.Strategy (Some set)) g refl))
+  strategy_set_keeps s g None = tt
+
+  strategy_name_keeps : (s : State) → Base s → Keeps (strategy_name w (Forms ∷ []) s)
+  strategy_name_keeps s g =
+      cond_both (is_right w.kind) _ _ Keeps (λ _. at_forms (command_kept s (command.Strategy None) g refl)) (λ _. strategy_set_keeps s g (strategy_of w.keyword))
+
   -- ---- a word
 
   pub step_keeps : (s : State) (ws : List Wanted) → IsPlainly s ws → Keeps (step w ws s)
@@ -605,4 +629,5 @@ module _ (w : Word) where
   step_keeps s ws (at_whole behind g) = cond_both (is_right w.kind) _ _ Keeps (λ _. g) (λ _. tt)
   step_keeps s ws (at_crlf g) = cond_both (is_right w.kind) _ _ Keeps (λ _. at_items (item_pushed s item.Crlf g refl)) (λ _. tt)
   step_keeps s ws (at_halt g) = cond_both (is_right w.kind) _ _ Keeps (λ _. at_actions (g.0, action_kept s action.Halt g.1 refl refl)) (λ _. tt)
-  step_keeps s ws (at_run g) = cond_both (is_right w.kind) _ _ Keeps (λ _. at_forms (command_kept s (command.Run None) g refl)) (λ _. tt)
+  step_keeps s ws (at_count g) = count_keeps s g
+  step_keeps s ws (at_strategy_name g) = strategy_name_keeps s g

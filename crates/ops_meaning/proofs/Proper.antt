@@ -64,7 +64,6 @@ symbol_proper s =
     (either kind.Symbol (bytes_eq s (codes "p")) _ _ refl
     (either kind.Symbol (bytes_eq s (codes "make")) _ _ refl
     (either kind.Symbol (bytes_eq s (codes "remove")) _ _ refl
-    (either kind.Symbol (bytes_eq s (codes "run")) _ _ refl
     (either kind.Symbol (bytes_eq s (codes "modify")) _ _ refl
     (either kind.Symbol (bytes_eq s (codes "write")) _ _ refl
     (either kind.Symbol (bytes_eq s (codes "bind")) _ _ refl
@@ -81,7 +80,11 @@ symbol_proper s =
     (either kind.Symbol (bytes_eq s (codes "+")) _ _ refl
     (either kind.Symbol (bytes_eq s (codes "*")) _ _ refl
     (either kind.Symbol (bytes_eq s (codes "\\\\")) _ _ refl
-    (either kind.Symbol (bytes_eq s (codes "\\")) _ _ refl refl))))))))))))))))))))))
+    (either kind.Symbol (bytes_eq s (codes "\\")) _ _ refl
+    (either kind.Symbol (bytes_eq s (codes "run")) _ _ refl
+    (either kind.Symbol (bytes_eq s (codes "strategy")) _ _ refl
+    (either kind.Symbol (bytes_eq s (codes "lex")) _ _ refl
+    (either kind.Symbol (bytes_eq s (codes "mea")) _ _ refl refl)))))))))))))))))))))))))
 
 -- a plain symbol has no keyword of operators
 pub symbol_unmarked : (s : List ℕ) → is_mark (keyword_of_symbol s) ≡ false

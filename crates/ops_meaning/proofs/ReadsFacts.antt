@@ -1,5 +1,5 @@
 -- What is spelled of a command is read back.
-use Rattle.std.proofs.Common.{◌≡◌, ℕ, zero, suc, ◌+◌, ◌<◌, ◌≤◌, Bool, true, false, ◌||◌, ◌==◌, List, [], ◌∷◌, ◌++◌, length, map, refl, sym, ap, subst, ◌∙◌, arith, Some, None, nat_le, slice_get, append-nil, append_assoc, length-append}
+use Rattle.std.proofs.Common.{◌≡◌, ℕ, zero, suc, ◌+◌, ◌<◌, ◌≤◌, Bool, true, false, ◌||◌, ◌==◌, List, [], ◌∷◌, ◌++◌, length, map, refl, sym, ap, subst, ◌∙◌, arith, Option, Some, None, nat_le, slice_get, append-nil, append_assoc, length-append}
 use Rattle.std.specs.Prelude.{if◌then◌else◌}
 use Rattle.std.specs.List.{list_all}
 use Rattle.std.proofs.lemmas.Bool.{and_parts, ltb-true, lt-ltb, leb-true, eqb-true, cond-true, cond-false}
@@ -9,11 +9,13 @@ use Rattle.ops_base.specs.declared.values.Value.TheVariants as value
 use Rattle.ops_base.specs.declared.elements.Class.{Class}
 use Rattle.ops_base.specs.declared.commands.Fixed.{Fixed}
 use Rattle.ops_base.specs.declared.commands.Command.TheVariants as command
-use Rattle.ops_base.specs.Valid.{most_fields, are_distinct, class_is_valid, no_class, class_of, is_attribute, is_vector, fixed_is_valid}
+use Rattle.ops_base.specs.declared.commands.Strategy.{Strategy}
+use Rattle.ops_base.specs.declared.commands.Strategy.TheVariants.{Lex, Mea}
+use Rattle.ops_base.specs.Valid.{most_fields, are_distinct, class_is_valid, no_class, class_of, is_attribute, is_vector, is_natural, fixed_is_valid}
 use Rattle.ops_meaning.specs.declared.words.Word.{Word}
 use Rattle.ops_meaning.specs.declared.words.Keyword.TheVariants as keyword
 use Rattle.ops_meaning.specs.Grammar.{Use, InFixed, Wanted, Forms, ClassName, Terms, Attribute, Several, ValueFor, ToFixed, State, Next, is_right, is_caret, behind_attribute, field_at, terms, one_of_several, with_fixed, with_several, with_element, step, after, goes}
-use Rattle.ops_meaning.specs.Spelling.{unnamed, opening, closing, caret, spelled_keyword, spelled_name, spelled_value, spelled_each, attribute_name, spelled_attribute, spelled_fixed, spelled_fact, spelled_run}
+use Rattle.ops_meaning.specs.Spelling.{unnamed, opening, closing, caret, spelled_keyword, spelled_name, spelled_value, spelled_each, attribute_name, spelled_attribute, spelled_fixed, spelled_fact, spelled_short, spelled_count, spelled_strategy}
 use Rattle.ops_meaning.proofs.Places.{place_found}
 use Rattle.ops_meaning.proofs.ReadsBack.{by_word, class_parts}
 
@@ -169,6 +171,20 @@ fact-read class puts more ws s names lt plain =
     ∙ fixed_read puts (closing ∷ more) (Forms ∷ ws) named names lt refl plain
     ∙ element_closed InFixed more (Forms ∷ ws) (settled (record named { fixed = puts }))
 
-pub run-read : (more : List Word) (ws : List Wanted) (s : State) → goes (spelled_run ++ more) (Forms ∷ ws) s ≡ goes more (Forms ∷ ws) (record s { first = 0; commands = s.commands ++ command.Run None ∷ [] })
+-- ---- commands of one word, with an argument or none
+
+pub run-read : (more : List Word) (ws : List Wanted) (s : State) → goes (spelled_short keyword.Run (spelled_count None) ++ more) (Forms ∷ ws) s ≡ goes more (Forms ∷ ws) (record s { first = 0; commands = s.commands ++ command.Run None ∷ [] })
 unfolding goes step
 run-read more ws s = refl
+
+pub run_so_often-read : (n : ℕ) (more : List Word) (ws : List Wanted) (s : State) → is_natural n ≡ true
+    → goes (spelled_short keyword.Run (spelled_count (Some n)) ++ more) (Forms ∷ ws) s ≡ goes more (Forms ∷ ws) (record s { first = 0; commands = s.commands ++ command.Run (Some n) ∷ [] })
+unfolding goes step
+run_so_often-read n more ws s is = rw is refl
+
+pub strategy-read : (set : Option Strategy) (more : List Word) (ws : List Wanted) (s : State)
+    → goes (spelled_short keyword.Strategy (spelled_strategy set) ++ more) (Forms ∷ ws) s ≡ goes more (Forms ∷ ws) (record s { first = 0; commands = s.commands ++ command.Strategy set ∷ [] })
+unfolding goes step
+strategy-read None more ws s = refl
+strategy-read (Some Lex) more ws s = refl
+strategy-read (Some Mea) more ws s = refl

@@ -27,6 +27,7 @@ use Rattle.ops_base.specs.declared.rules.Rule.{Rule}
 use Rattle.ops_base.specs.declared.commands.Fixed.{Fixed}
 use Rattle.ops_base.specs.declared.commands.Command.{Command}
 use Rattle.ops_base.specs.declared.commands.Command.TheVariants as command
+use Rattle.ops_base.specs.declared.commands.Strategy.{Strategy}
 use Rattle.ops_base.specs.declared.endings.Fault.{Fault}
 use Rattle.ops_base.specs.declared.endings.Fault.TheVariants as fault
 use Rattle.ops_base.specs.Names.{Spellings, only_nil, place_of, with_spelling}
@@ -40,7 +41,7 @@ use Rattle.ops_meaning.specs.declared.words.Word.{Word}
 use Rattle.ops_meaning.specs.declared.words.Keyword.{Keyword}
 use Rattle.ops_meaning.specs.declared.words.Keyword.TheVariants as keyword
 use Rattle.ops_meaning.specs.Words.{lexed, has_name, names_with, word_of, words_from, names_from}
-use Rattle.ops_meaning.specs.Grammar.{Use, Target, Ends, Column, Waiting, Wanted, State, Step, is_left, is_right, is_left_brace, is_right_brace, is_caret, is_name, is_variable, is_arrow, is_literal, is_minus, opens_choice, closes_choice, pred_of, constant_of, atom_of, value_of, small_of, is_one_of, number_of, may_declare, is_class, is_rule, form, class_declared, arranged, has_vector, with_class, is_second, attribute_declared, attributes, with_vector_last, with_vector, makes_second, vector_declared, vector_name, vector_names, class_at, class_name, attributes_of, field_at, attribute, with_test, with_put, with_fixed, with_item, with_bind, with_constant, with_bound, variable_tested, constant_tested, tested, predicated, test, place, tests, with_choice, chosen, choice, atom_at, term_at, bound_at, constant_at, is_of_action, value_for, most_brackets, no_formula, with_formula, completed, unit_bound, unit_at, expression_unit, bracketed, is_compute, operation_of, operation_at, expression_ended, expression_rest, function, source_named, source_cell, source_class, source_at, source_attribute, takes_several, ends_at_inf, source_end, with_action, with_command, with_condition, put_action, with_element, terms, within, one_of_several, with_several, several, rule_name, first_pattern, one_more, more_patterns, patterns, pattern, element_at, element_name, braced, closes_brace, classes_of_cells, with_rule, actions, action_word, cell_of, with_designated, with_modified, bound_name, bound_value, cell_bound, cell_name, cells, items, item_word, column_item, columns_at, ended, closes, forms, step, Outcome, ends, after, goes, nothing_read, InPattern, InPut, InFixed, ToTest, ToPut, ToFixed, ToTerms, ToConstants, ToItem, ToBind, EndsRun, EndsHalt, EndsCrlf, EndsWhole, ToTab, ToRight, Forms, Form, ClassDeclared, Attributes, VectorName, VectorNames, RuleName, FirstPattern, Patterns, Pattern, Braced, ElementName, ClosesBrace, ClassName, Terms, Attribute, Several, Place, Tests, Tested, Choice, Atom, ValueFor, Function, ExpressionUnit, ExpressionRest, Bracketed, SourceCell, SourceAttribute, SourceEnd, Actions, ActionWord, Modified, BoundName, BoundValue, CellName, Cell, Cells, Items, ItemWord, Columns, Closes, Next, Refuses}
+use Rattle.ops_meaning.specs.Grammar.{Use, Target, Ends, Column, Waiting, Wanted, State, Step, is_left, is_right, is_left_brace, is_right_brace, is_caret, is_name, is_variable, is_arrow, is_literal, is_minus, opens_choice, closes_choice, pred_of, constant_of, atom_of, value_of, small_of, is_one_of, number_of, may_declare, may_produce, is_class, is_rule, form, class_declared, arranged, has_vector, with_class, is_second, attribute_declared, attributes, with_vector_last, with_vector, makes_second, vector_declared, vector_name, vector_names, class_at, class_name, attributes_of, field_at, attribute, with_test, with_put, with_fixed, with_item, with_bind, with_constant, with_bound, variable_tested, constant_tested, tested, predicated, test, place, tests, with_choice, chosen, choice, atom_at, term_at, bound_at, constant_at, is_of_action, value_for, most_brackets, no_formula, with_formula, completed, unit_bound, unit_at, expression_unit, bracketed, is_compute, operation_of, operation_at, expression_ended, expression_rest, function, source_named, source_cell, source_class, source_at, source_attribute, takes_several, ends_at_inf, source_end, with_action, with_command, with_condition, put_action, with_element, terms, within, one_of_several, with_several, several, rule_name, first_pattern, one_more, more_patterns, patterns, pattern, element_at, element_name, braced, closes_brace, classes_of_cells, with_rule, actions, action_word, cell_of, with_designated, with_modified, bound_name, bound_value, cell_bound, cell_name, cells, items, item_word, column_item, columns_at, ended, closes, count_of, counted, count, strategy_of, strategy_set, strategy_name, forms, step, Outcome, ends, after, goes, nothing_read, InPattern, InPut, InFixed, ToTest, ToPut, ToFixed, ToTerms, ToConstants, ToItem, ToBind, EndsHalt, EndsCrlf, EndsWhole, ToTab, ToRight, Forms, Form, ClassDeclared, Attributes, VectorName, VectorNames, RuleName, FirstPattern, Patterns, Pattern, Braced, ElementName, ClosesBrace, ClassName, Terms, Attribute, Several, Place, Tests, Tested, Choice, Atom, ValueFor, Function, ExpressionUnit, ExpressionRest, Bracketed, SourceCell, SourceAttribute, SourceEnd, Actions, ActionWord, Modified, BoundName, BoundValue, CellName, Cell, Cells, Items, ItemWord, Columns, Count, StrategyName, Closes, Next, Refuses}
 use Rattle.ops_meaning.specs.Reads.{Read, Placed, verdict, read_lexed, reads}
 use Rattle.ops_meaning.specs.Symbols.{symbol_held, value_held, class_held, operand_held, condition_held, term_held, put_held, item_held, action_held, rule_held, fixed_held, command_held, is_held}
 use Rattle.ops_meaning.proofs.Lists.{all_push}
@@ -211,9 +212,10 @@ module _ (n : ℕ) (w : Word) (named : symbol_held n w.name ≡ true) where
   form_keeps : (k : Keyword) (ws : List Wanted) (s : State) → AreHeld n s → Keeps n (form w k ws s)
   form_keeps keyword.Literalize ws s h = cond_both (may_declare s) _ _ (Keeps n) (λ _. h) (λ _. tt)
   form_keeps keyword.VectorAttribute ws s h = cond_both (may_declare s) _ _ (Keeps n) (λ _. h) (λ _. tt)
-  form_keeps keyword.Production ws s h = cond_both (length s.commands == 0) _ _ (Keeps n) (λ _. h) (λ _. tt)
+  form_keeps keyword.Production ws s h = cond_both (may_produce s) _ _ (Keeps n) (λ _. h) (λ _. tt)
   form_keeps keyword.Make ws s h = assumption (refl, h)
   form_keeps keyword.Run ws s h = h
+  form_keeps keyword.Strategy ws s h = h
   form_keeps _ ws s h = tt
 
   class_declared_keeps : (ws : List Wanted) (s : State) → AreHeld n s → Keeps n (class_declared w ws s)
@@ -531,13 +533,31 @@ module _ (n : ℕ) (w : Word) (named : symbol_held n w.name ≡ true) where
   columns_keeps c None ws s h = tt
 
   ended_kept : (e : Ends) (s : State) → AreHeld n s → AreHeld n (ended e s)
-  ended_kept EndsRun s h = command_kept n s (command.Run None) h refl
   ended_kept EndsHalt s h = action_kept n s action.Halt h refl
   ended_kept EndsCrlf s h = item_kept n s item.Crlf h refl
   ended_kept EndsWhole s h = h
 
   closes_keeps : (e : Ends) (ws : List Wanted) (s : State) → AreHeld n s → Keeps n (closes e w ws s)
   closes_keeps e ws s h = cond_both (is_right w.kind) _ _ (Keeps n) (λ _. ended_kept e s h) (λ _. tt)
+
+  -- ---- commands
+
+  counted_keeps : (o : Option ℕ) (ws : List Wanted) (s : State) → AreHeld n s → Keeps n (counted o ws s)
+  counted_keeps (Some m) ws s h = command_kept n s (command.Run (Some m)) h refl
+  counted_keeps None ws s h = tt
+
+  count_keeps : (ws : List Wanted) (s : State) → AreHeld n s → Keeps n (count w ws s)
+  count_keeps ws s h =
+      cond_both (is_right w.kind) _ _ (Keeps n) (λ _. command_kept n s (command.Run None) h refl) (λ _. counted_keeps (count_of w.kind) ws s h)
+
+  strategy_set_keeps : (o : Option Strategy) (ws : List Wanted) (s : State) → AreHeld n s → Keeps n (strategy_set o ws s)
+  strategy_set_keeps (Some g) ws s h = command_kept n s (command.Strategy (Some g)) h refl
+  strategy_set_keeps None ws s h = tt
+
+  strategy_name_keeps : (ws : List Wanted) (s : State) → AreHeld n s → Keeps n (strategy_name w ws s)
+  strategy_name_keeps ws s h =
+      cond_both (is_right w.kind) _ _ (Keeps n) (λ _. command_kept n s (command.Strategy None) h refl)
+      (λ _. strategy_set_keeps (strategy_of w.keyword) ws s h)
 
   -- ---- a word
 
@@ -585,6 +605,8 @@ module _ (n : ℕ) (w : Word) (named : symbol_held n w.name ≡ true) where
   step_keeps (Items ∷ ws) s h = items_keeps ws s h
   step_keeps (ItemWord ∷ ws) s h = item_word_keeps w.keyword ws s h
   step_keeps (Columns c ∷ ws) s h = columns_keeps c (small_of w.kind) ws s h
+  step_keeps (Count ∷ ws) s h = count_keeps ws s h
+  step_keeps (StrategyName ∷ ws) s h = strategy_name_keeps ws s h
   step_keeps (Closes e ∷ ws) s h = closes_keeps e ws s h
 
 -- ---- names only grow

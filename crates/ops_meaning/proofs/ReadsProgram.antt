@@ -1,5 +1,5 @@
 -- A program that is spelled is read back.
-use Rattle.std.proofs.Common.{◌≡◌, ℕ, zero, suc, ◌≤◌, Bool, true, false, not, ◌||◌, ◌==◌, List, [], ◌∷◌, ◌++◌, length, map, refl, sym, ap, subst, ◌∙◌, None, Ok, nat_lt, nat_le, append-nil, append_assoc, true≢false}
+use Rattle.std.proofs.Common.{◌≡◌, ℕ, zero, suc, ◌≤◌, Bool, true, false, not, ◌||◌, ◌==◌, List, [], ◌∷◌, ◌++◌, length, map, refl, sym, ap, subst, ◌∙◌, Some, None, Ok, nat_lt, nat_le, append-nil, append_assoc, true≢false}
 use Rattle.std.specs.Prelude.{if◌then◌else◌}
 use Rattle.std.specs.List.{list_all, list_any}
 use Rattle.std.proofs.lemmas.Bool.{and_parts, or_left, or_right, ltb-true, leb-true, eqb-true, eq-eqb, not-true}
@@ -14,14 +14,14 @@ use Rattle.ops_base.specs.Valid.{most_conditions, are_distinct, class_of, class_
 use Rattle.ops_meaning.specs.declared.words.Word.{Word}
 use Rattle.ops_meaning.specs.declared.words.Named.{Named}
 use Rattle.ops_meaning.specs.declared.words.Keyword.TheVariants as keyword
-use Rattle.ops_meaning.specs.Grammar.{Wanted, Forms, FirstPattern, Patterns, Actions, State, Outcome, is_one_of, no_formula, left_begun, left_ended, right_begun, step, is_rule, with_rule, ends, goes}
+use Rattle.ops_meaning.specs.Grammar.{Wanted, Forms, FirstPattern, Patterns, Actions, State, Outcome, is_one_of, no_formula, left_begun, left_ended, right_begun, step, may_produce, is_rule, with_rule, ends, goes}
 use Rattle.ops_meaning.specs.Standing.{outcome_of, AreRead}
 use Rattle.ops_meaning.specs.Spelling.{opening, closing, arrow, spelled_keyword, spelled_name, spelled_each, spelled_class, attribute_name, last_field, spelled_vector, spelled_actions, spelled_condition, spelled_conditions, spelled_rule, spelled_command, spelled_program, at_arrow, after_actions, actions_are_plain, nothing_numbered, after_condition, condition_is_plain, conditions_are_plain, after_conditions, rule_is_plain, vectors_of, scalars_of, class_is_plain, command_is_plain, is_plain}
 use Rattle.ops_meaning.proofs.Lists.{all_weaker}
 use Rattle.ops_meaning.proofs.Places.{numbered}
 use Rattle.ops_meaning.proofs.Numbering.{after_condition-given, below}
 use Rattle.ops_meaning.proofs.ReadsBack.{apart_before, vector-read, IsUnder, class-read}
-use Rattle.ops_meaning.proofs.ReadsFacts.{AreNamed, fact-read, run-read}
+use Rattle.ops_meaning.proofs.ReadsFacts.{AreNamed, fact-read, run-read, run_so_often-read, strategy-read}
 use Rattle.ops_meaning.proofs.ReadsRight.{Trail, acted, actions-read}
 use Rattle.ops_meaning.proofs.ReadsRules.{Left, left_after, left_behind, matched, cells_behind, first-read, conditions-read}
 
@@ -95,7 +95,7 @@ after_rule rest r =
       variables = to.variables.given;
     }
 
-rule_begun : (r : Rule) (words : List Word) (ws : List Wanted) (s : State) → (length s.commands == 0) ≡ true → is_rule s r.name ≡ false
+rule_begun : (r : Rule) (words : List Word) (ws : List Wanted) (s : State) → may_produce s ≡ true → is_rule s r.name ≡ false
     → goes (record opening { first = r.first } ∷ spelled_keyword keyword.Production ∷ spelled_name r.name ∷ words) (Forms ∷ ws) s
     ≡ goes words (FirstPattern ∷ Patterns ∷ Actions ∷ Forms ∷ ws) (record (left_begun s) { first = r.first; name = r.name })
 unfolding goes step
@@ -279,6 +279,8 @@ command_read classes rules (command.Make class puts) done rest names plain =
     let parts = and_parts (nat_lt class (length classes)) (list_all (fixed_is_valid (class_of classes class)) puts) plain in
     (record rest { first = 0; class = class }, λ more. fact-read class puts more [] (idle rest classes rules done) names (ltb-true _ _ parts.0) parts.1)
 command_read classes rules (command.Run None) done rest names plain = (record rest { first = 0 }, λ more. run-read more [] (idle rest classes rules done))
+command_read classes rules (command.Run (Some n)) done rest names plain = (record rest { first = 0 }, λ more. run_so_often-read n more [] (idle rest classes rules done) plain)
+command_read classes rules (command.Strategy set) done rest names plain = (record rest { first = 0 }, λ more. strategy-read set more [] (idle rest classes rules done))
 command_read classes rules _ done rest names plain = absurd (true≢false (sym plain))
 
 commands_read : (classes : List Class) (rules : List Rule) (cs done : List Command) (rest : Rest) → AreNamed classes → list_all (command_is_plain classes) cs ≡ true

@@ -10,6 +10,7 @@ use Rattle.ops_base.specs.declared.conditions.Condition.{Condition}
 use Rattle.ops_base.specs.declared.actions.Term.{Term}
 use Rattle.ops_base.specs.declared.actions.Term.TheVariants as term
 use Rattle.ops_base.specs.declared.expression.Op.{Op}
+use Rattle.ops_base.specs.declared.commands.Strategy.{Strategy}
 use Rattle.ops_base.specs.declared.endings.Fault.{Fault}
 use Rattle.ops_base.specs.Expression.{Formula}
 use Rattle.ops_base.specs.declared.endings.Fault.TheVariants as fault
@@ -19,7 +20,7 @@ use Rattle.ops_tokens.specs.declared.token.TokenKind.TheVariants as kind
 use Rattle.ops_meaning.specs.declared.words.Word.{Word}
 use Rattle.ops_meaning.specs.declared.words.Keyword.{Keyword}
 use Rattle.ops_meaning.specs.declared.words.Keyword.TheVariants as keyword
-use Rattle.ops_meaning.specs.Grammar.{Use, InPattern, InPut, InFixed, Target, ToTest, ToPut, ToFixed, ToTerms, ToConstants, ToItem, ToBind, EndsWhole, Column, Wanted, Forms, Form, ClassDeclared, Attributes, VectorName, VectorNames, RuleName, FirstPattern, Patterns, Pattern, Braced, ElementName, ClosesBrace, ClassName, Terms, Attribute, Several, Place, Tests, Tested, Choice, Atom, ValueFor, Function, Waiting, ExpressionUnit, ExpressionRest, Bracketed, SourceCell, SourceAttribute, SourceEnd, Actions, ActionWord, Modified, BoundName, BoundValue, CellName, Cell, Cells, Items, ItemWord, Columns, Closes, State, Step, Next, Refuses, is_left, is_right, is_left_brace, is_right_brace, is_caret, is_name, is_variable, is_arrow, is_literal, is_minus, opens_choice, closes_choice, pred_of, constant_of, value_of, atom_of, natural_of, small_of, is_one_of, number_of, may_declare, is_class, is_rule, is_second, makes_second, vector_name, form, class_at, attributes_of, field_at, variable_tested, constant_tested, tested, predicated, test, place, chosen, atom_at, term_at, bound_at, constant_at, is_of_action, value_for, most_brackets, no_formula, with_formula, unit_bound, unit_at, expression_unit, bracketed, completed, is_compute, operation_of, operation_at, expression_ended, expression_rest, function, source_named, source_class, source_at, takes_several, ends_at_inf, source_end, within, one_of_several, several, element_at, element_name, action_word, designated, numbered_cell, named_cell, cell_of, with_designated, with_modified, cell_bound, item_word, columns_at, step}
+use Rattle.ops_meaning.specs.Grammar.{Use, InPattern, InPut, InFixed, Target, ToTest, ToPut, ToFixed, ToTerms, ToConstants, ToItem, ToBind, EndsWhole, Column, Wanted, Forms, Form, ClassDeclared, Attributes, VectorName, VectorNames, RuleName, FirstPattern, Patterns, Pattern, Braced, ElementName, ClosesBrace, ClassName, Terms, Attribute, Several, Place, Tests, Tested, Choice, Atom, ValueFor, Function, Waiting, ExpressionUnit, ExpressionRest, Bracketed, SourceCell, SourceAttribute, SourceEnd, Actions, ActionWord, Modified, BoundName, BoundValue, CellName, Cell, Cells, Items, ItemWord, Columns, Count, StrategyName, Closes, State, Step, Next, Refuses, is_left, is_right, is_left_brace, is_right_brace, is_caret, is_name, is_variable, is_arrow, is_literal, is_minus, opens_choice, closes_choice, pred_of, constant_of, value_of, atom_of, natural_of, small_of, is_one_of, number_of, may_declare, may_produce, is_class, is_rule, is_second, makes_second, vector_name, form, class_at, attributes_of, field_at, variable_tested, constant_tested, tested, predicated, test, place, chosen, atom_at, term_at, bound_at, constant_at, is_of_action, value_for, most_brackets, no_formula, with_formula, unit_bound, unit_at, expression_unit, bracketed, completed, is_compute, operation_of, operation_at, expression_ended, expression_rest, function, source_named, source_class, source_at, takes_several, ends_at_inf, source_end, within, one_of_several, several, element_at, element_name, action_word, designated, numbered_cell, named_cell, cell_of, with_designated, with_modified, cell_bound, item_word, columns_at, counted, count_of, count, strategy_set, strategy_of, strategy_name, step}
 use Rattle.ops_meaning.specs.Derivation.{is_designator}
 use Rattle.ops_meaning.specs.Reasons.{no_form_fault, is_declaration, gives_second, is_full, nests_deepest, wants_bound, is_bound, is_positive, is_condition, designates, is_unclear, designates_unclearly, wants_cell, is_bad_designator, Because}
 use Rattle.ops_meaning.proofs.Arranged.{AreArranged, functions_fit}
@@ -57,9 +58,10 @@ module _ (w : Word) (ws : List Wanted) (s : State) where
   form_reason : (k : Keyword) → w.keyword ≡ k → At (Form ∷ ws) (form w k ws s)
   form_reason keyword.Literalize e = cond_both (may_declare s) _ _ (At (Form ∷ ws)) (λ _. tt) (λ late. (refl, ap is_declaration e, late))
   form_reason keyword.VectorAttribute e = cond_both (may_declare s) _ _ (At (Form ∷ ws)) (λ _. tt) (λ late. (refl, ap is_declaration e, late))
-  form_reason keyword.Production e = cond_both (length s.commands == 0) _ _ (At (Form ∷ ws)) (λ _. tt) (λ late. (refl, e, late))
+  form_reason keyword.Production e = cond_both (may_produce s) _ _ (At (Form ∷ ws)) (λ _. tt) (λ late. (refl, e, late))
   form_reason keyword.Make e = tt
   form_reason keyword.Run e = tt
+  form_reason keyword.Strategy e = tt
   form_reason _ e = refl
 
   class_at_reason : is_name w.kind ≡ true → (o : Option ℕ) → position (λ c. c.name.0 == w.name.0) s.classes ≡ o → At (ClassName ∷ ws) (class_at o ws s)
@@ -306,6 +308,20 @@ module _ (w : Word) (ws : List Wanted) (s : State) where
   columns_reason c (Some n) = tt
   columns_reason c None = refl
 
+  counted_reason : (o : Option ℕ) → At (Count ∷ ws) (counted o ws s)
+  counted_reason (Some n) = tt
+  counted_reason None = refl
+
+  count_reason : At (Count ∷ ws) (count w ws s)
+  count_reason = cond_both (is_right w.kind) _ _ (At (Count ∷ ws)) (λ _. tt) (λ _. counted_reason (count_of w.kind))
+
+  strategy_reason : (o : Option Strategy) → At (StrategyName ∷ ws) (strategy_set o ws s)
+  strategy_reason (Some g) = tt
+  strategy_reason None = refl
+
+  strategy_name_reason : At (StrategyName ∷ ws) (strategy_name w ws s)
+  strategy_name_reason = cond_both (is_right w.kind) _ _ (At (StrategyName ∷ ws)) (λ _. tt) (λ _. strategy_reason (strategy_of w.keyword))
+
 step_reason : (w : Word) (ws : List Wanted) (s : State) → AreArranged ws s → HasReason ws w s (step w ws s)
 unfolding step
 step_reason w [] s arranged = refl
@@ -389,6 +405,8 @@ step_reason w (Items ∷ ws) s arranged =
     (λ _. cond_both (is_left w.kind) _ _ (HasReason (Items ∷ ws) w s) (λ _. tt) (λ _. value_reason w ws s (Items ∷ ws) (Items ∷ ws) refl (λ e. ap is_some e) ToItem refl (λ is x. tt)))
 step_reason w (ItemWord ∷ ws) s arranged = item_word_reason w ws s w.keyword
 step_reason w (Columns c ∷ ws) s arranged = columns_reason w ws s c (small_of w.kind)
+step_reason w (Count ∷ ws) s arranged = count_reason w ws s
+step_reason w (StrategyName ∷ ws) s arranged = strategy_name_reason w ws s
 step_reason w (Closes e ∷ ws) s arranged = cond_both (is_right w.kind) _ _ (HasReason (Closes e ∷ ws) w s) (λ _. tt) (λ _. refl)
 
 -- A word is refused for the reason that the fault names.

@@ -12,7 +12,7 @@ use Rattle.ops_base.specs.declared.commands.Command.{Command}
 use Rattle.ops_base.specs.Expression.{Formula, all_variables}
 use Rattle.ops_base.specs.Valid.{most_fields, most_conditions, are_distinct, class_of, class_is_valid, is_attribute, is_vector, is_field, is_in, Sight, tests_are_valid, sight_after_tests, conditions_are_valid, sight_after_conditions, nothing_in_sight, first_is_positive, cells_of, known_of, is_cell, class_of_cell, Known, known_after_actions, term_is_valid, put_is_valid, item_is_valid, actions_are_valid, rule_is_valid, fixed_is_valid, command_is_valid}
 use Rattle.ops_meaning.specs.declared.words.Named.{Named}
-use Rattle.ops_meaning.specs.Grammar.{Use, InPattern, InPut, InFixed, Target, ToTest, ToPut, ToFixed, ToTerms, ToConstants, ToItem, ToBind, EndsRun, EndsHalt, EndsCrlf, EndsWhole, Column, Wanted, Forms, Form, ClassDeclared, Attributes, VectorName, VectorNames, RuleName, FirstPattern, Patterns, Pattern, Braced, ElementName, ClosesBrace, ClassName, Terms, Attribute, Several, Place, Tests, Tested, Choice, Atom, ValueFor, Function, Waiting, ExpressionUnit, ExpressionRest, Bracketed, SourceCell, SourceAttribute, SourceEnd, Actions, ActionWord, Modified, BoundName, BoundValue, CellName, Cell, Cells, Items, ItemWord, Columns, Closes, State, Step, Next, Refuses}
+use Rattle.ops_meaning.specs.Grammar.{Use, InPattern, InPut, InFixed, Target, ToTest, ToPut, ToFixed, ToTerms, ToConstants, ToItem, ToBind, EndsHalt, EndsCrlf, EndsWhole, Column, Wanted, Forms, Form, ClassDeclared, Attributes, VectorName, VectorNames, RuleName, FirstPattern, Patterns, Pattern, Braced, ElementName, ClosesBrace, ClassName, Terms, Attribute, Several, Place, Tests, Tested, Choice, Atom, ValueFor, Function, Waiting, ExpressionUnit, ExpressionRest, Bracketed, SourceCell, SourceAttribute, SourceEnd, Actions, ActionWord, Modified, BoundName, BoundValue, CellName, Cell, Cells, Items, ItemWord, Columns, Count, StrategyName, Closes, precedes_classes, State, Step, Next, Refuses}
 
 -- the form that is read began before the first place, and no list is longer than that place, but those of attributes with values
 -- are not longer than the second
@@ -38,7 +38,7 @@ pub record IsProgram (text : ℕ) (classes : List Class) (rules : List Rule) (co
 pub record IsDeclaring (text : ℕ) (classes : List Class) (rules : List Rule) (commands : List Command) : Type 0 where
   pub program : IsProgram text classes rules commands
   pub no_rules : length rules ≡ 0
-  pub no_commands : length commands ≡ 0
+  pub commands_precede : list_all precedes_classes commands ≡ true
 
 -- a class of that name may have these attributes
 pub record IsClass (classes : List Class) (name : Sym) (attrs : List Sym) : Type 0 where
@@ -347,7 +347,9 @@ pub data IsRead (text : ℕ) (s : State) : List Wanted → Type 0 where
   at_columns : (c : Column) → (HasItems text s) → IsRead text s (Columns c ∷ Closes EndsWhole ∷ Items ∷ Actions ∷ Forms ∷ [])
   at_crlf : (HasItems text s) → IsRead text s (Closes EndsCrlf ∷ Items ∷ Actions ∷ Forms ∷ [])
   at_halt : (Body text s) → IsRead text s (Closes EndsHalt ∷ Actions ∷ Forms ∷ [])
-  at_run : (Program text s) → IsRead text s (Closes EndsRun ∷ Forms ∷ [])
+  at_count : (Program text s) → IsRead text s (Count ∷ Forms ∷ [])
+  at_strategy_name : (Program text s) → IsRead text s (StrategyName ∷ Forms ∷ [])
+  at_command_end : (Program text s) → IsRead text s (Closes EndsWhole ∷ Forms ∷ [])
 
 -- where a step leads, up to a place
 abbrev pub Leads : ℕ → ℕ → Step → Type 0

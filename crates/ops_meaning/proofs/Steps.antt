@@ -1,5 +1,5 @@
 -- Each word leads from what is sound to what is sound.
-use Rattle.std.proofs.Common.{◌≡◌, ℕ, ◌+◌, ◌<◌, ◌≤◌, Bool, true, false, true≢false, ◌&&◌, ◌||◌, ◌==◌, List, [], ◌∷◌, ◌++◌, length, refl, sym, ap, subst, ◌∙◌, arith, Option, Some, None, nat_lt, length-append, unwrap_or, slice_get, position, nat_le}
+use Rattle.std.proofs.Common.{◌≡◌, ℕ, ◌+◌, ◌<◌, ◌≤◌, Bool, true, false, true≢false, ◌&&◌, ◌||◌, ◌==◌, cond, List, [], ◌∷◌, ◌++◌, length, refl, sym, ap, subst, ◌∙◌, arith, Option, Some, None, nat_lt, length-append, unwrap_or, slice_get, position, pos, nat_le}
 use Rattle.std.specs.List.{list_all}
 use Rattle.std.proofs.lemmas.Bool.{and_parts, and_from, or_left, or_right, cond_both, eqb-true, lt-ltb, le-leb, ltb-true, not_from_false}
 use Rattle.std.proofs.lemmas.List.Quantifiers.{position-Some}
@@ -17,16 +17,29 @@ use Rattle.ops_base.specs.declared.actions.Action.{Action}
 use Rattle.ops_base.specs.declared.commands.Fixed.{Fixed}
 use Rattle.ops_base.specs.declared.commands.Command.{Command}
 use Rattle.ops_base.specs.declared.commands.Command.TheVariants as command
-use Rattle.ops_base.specs.Valid.{longest_list, most_fields, most_conditions, is_in, no_class, class_of, is_attribute, is_vector, operand_is_valid, tests_are_valid, sight_after_tests, sight_after_conditions, nothing_in_sight, put_is_valid, fixed_is_valid}
+use Rattle.ops_base.specs.declared.commands.Strategy.{Strategy}
+use Rattle.ops_base.specs.Valid.{longest_list, most_fields, most_conditions, is_in, is_natural, no_class, class_of, is_attribute, is_vector, operand_is_valid, tests_are_valid, sight_after_tests, sight_after_conditions, nothing_in_sight, put_is_valid, fixed_is_valid}
+use Rattle.ops_tokens.specs.declared.token.TokenKind.{TokenKind}
+use Rattle.ops_tokens.specs.declared.token.TokenKind.TheVariants as kind
 use Rattle.ops_meaning.specs.declared.words.Word.{Word}
 use Rattle.ops_meaning.specs.declared.words.Keyword.{Keyword}
 use Rattle.ops_meaning.specs.declared.words.Keyword.TheVariants as keyword
-use Rattle.ops_meaning.specs.Grammar.{Use, InPattern, InPut, InFixed, ToTest, ToFixed, ToConstants, EndsRun, Wanted, Forms, Attributes, VectorNames, FirstPattern, Patterns, Pattern, ClosesBrace, Terms, Several, Choice, Actions, State, Step, Next, Refuses, is_left, is_right, is_left_brace, is_right_brace, is_caret, is_name, is_variable, is_arrow, is_literal, is_minus, opens_choice, closes_choice, pred_of, constant_of, value_of, atom_of, small_of, is_one_of, number_of, may_declare, is_class, is_rule, form, class_declared, with_vector_last, makes_second, vector_declared, vector_name, vector_names, is_second, attribute_declared, attributes, class_at, class_name, attributes_of, behind_attribute, field_at, attribute, with_test, with_bound, variable_tested, constant_tested, tested, predicated, test, place, tests, with_choice, chosen, choice, atom_at, bound_at, constant_at, value_for, with_element, terms, within, one_of_several, with_several, several, left_ended, right_begun, rule_name, first_pattern, one_more, patterns, pattern, element_at, element_name, braced, closes_brace, put_action, closes, forms, step}
+use Rattle.ops_meaning.specs.Grammar.{Use, InPattern, InPut, InFixed, ToTest, ToFixed, ToConstants, EndsWhole, Wanted, Forms, Attributes, VectorNames, FirstPattern, Patterns, Pattern, ClosesBrace, Terms, Several, Choice, Actions, State, Step, Next, Refuses, is_left, is_right, is_left_brace, is_right_brace, is_caret, is_name, is_variable, is_arrow, is_literal, is_minus, opens_choice, closes_choice, pred_of, constant_of, value_of, atom_of, small_of, count_of, precedes_classes, is_one_of, number_of, may_declare, may_produce, is_class, is_rule, form, class_declared, with_vector_last, makes_second, vector_declared, vector_name, vector_names, is_second, attribute_declared, attributes, class_at, class_name, attributes_of, behind_attribute, field_at, attribute, with_test, with_bound, variable_tested, constant_tested, tested, predicated, test, place, tests, with_choice, chosen, choice, atom_at, bound_at, constant_at, value_for, with_element, terms, within, one_of_several, with_several, several, left_ended, right_begun, rule_name, first_pattern, one_more, patterns, pattern, element_at, element_name, braced, closes_brace, put_action, closes, forms, step, counted, count, strategy_of, strategy_set, strategy_name}
 use Rattle.ops_meaning.proofs.Lists.{all_push, not_below}
-use Rattle.ops_meaning.proofs.Sound.{IsShortBy, IsShort, IsHead, known_in, IsNamed, IsOfClass, Program, Declaring, IsClass, Head, Body, Around, IsEmpty, IsElement, Braces, Bare, NamedBefore, NamedBehind, AtField, HasMore, AtPlace, AtSeveral, BeforePattern, AfterPattern, behind, behind_place, behind_test, variables_of, side_of, seen, IsRead, at_forms, at_form, at_class_declared, at_attributes, at_vector_name, at_vector_names, at_rule_name, at_first_pattern, at_patterns, at_pattern, at_braced, at_element_name, at_closes_brace, at_class_name, at_terms, at_attribute, at_several, at_place, at_tests, at_tested, at_choice, at_test_atom, at_fixed_value, at_fixed_atom, at_constants_atom, InScalar, InVector, at_value, at_atom, at_function, at_expression_unit, at_bracketed, at_expression_rest, at_source_cell, at_source_attribute, at_source_end, at_value_end, at_actions, at_action_word, at_modified, at_bound_name, at_bound_value, at_cell_name, at_action_end, at_cell, at_cells, at_items, at_item_word, at_columns, at_crlf, at_halt, at_run, Leads}
+use Rattle.ops_meaning.proofs.Sound.{IsShortBy, IsShort, IsHead, known_in, IsNamed, IsOfClass, Program, Declaring, IsClass, Head, Body, Around, IsEmpty, IsElement, Braces, Bare, NamedBefore, NamedBehind, AtField, HasMore, AtPlace, AtSeveral, BeforePattern, AfterPattern, behind, behind_place, behind_test, variables_of, side_of, seen, IsRead, at_forms, at_form, at_class_declared, at_attributes, at_vector_name, at_vector_names, at_rule_name, at_first_pattern, at_patterns, at_pattern, at_braced, at_element_name, at_closes_brace, at_class_name, at_terms, at_attribute, at_several, at_place, at_tests, at_tested, at_choice, at_test_atom, at_fixed_value, at_fixed_atom, at_constants_atom, InScalar, InVector, at_value, at_atom, at_function, at_expression_unit, at_bracketed, at_expression_rest, at_source_cell, at_source_attribute, at_source_end, at_value_end, at_actions, at_action_word, at_modified, at_bound_name, at_bound_value, at_cell_name, at_action_end, at_cell, at_cells, at_items, at_item_word, at_columns, at_crlf, at_halt, at_command_end, at_strategy_name, at_count, Leads}
 use Rattle.ops_meaning.proofs.Grown.{fits_below, class_begun, attribute_added, class_added, vector_added, number_in, head_begun, negated_begun, element_bound, test_kept, test_bound, test_valid, condition_added, body_begun, put_known, vector_parts, several_valid, command_added, fixed_valid, vector_within, constants_valid}
 use Rattle.ops_meaning.proofs.ValueSteps.{IsPlaced, added, atom_leads, value_leads, bound_value_leads, function_leads, expression_unit_leads, bracketed_leads, expression_rest_leads, source_cell_leads, source_attribute_leads, source_end_leads, value_end_leads}
 use Rattle.ops_meaning.proofs.RightSteps.{put_action_valid, actions_leads, action_word_leads, cell_leads, modified_leads, bound_name_leads, cell_name_leads, action_end_leads, cells_leads, items_leads, item_word_leads, columns_leads, crlf_leads, halt_leads}
+
+-- ---- counts
+
+natural_by : (b : Bool) (m k : ℕ) → is_natural m ≡ b → cond b (Some m) None ≡ Some k → is_natural k ≡ true
+natural_by true m k is e = let same : m ≡ k = cc in ap is_natural (sym same) ∙ is
+natural_by false m k is e = absurd (cc)
+
+count_natural : (t : TokenKind) (k : ℕ) → count_of t ≡ Some k → is_natural k ≡ true
+count_natural (kind.Whole (pos m)) k e = natural_by (is_natural m) m k refl e
+count_natural _ k e = absurd (cc)
 
 module _ (text n : ℕ) (w : Word) (fit : text ≤ longest_list) (placed : IsPlaced text n w) where
   -- ---- declarations
@@ -36,15 +49,16 @@ module _ (text n : ℕ) (w : Word) (fit : text ≤ longest_list) (placed : IsPla
 
   declaring : (s : State) → Program text s → may_declare s ≡ true → Declaring text s
   declaring s p e =
-      let parts = and_parts (length s.rules == 0) (length s.commands == 0) e in
-      record { program = p; no_rules = eqb-true _ _ parts.0; no_commands = eqb-true _ _ parts.1 }
+      let parts = and_parts (length s.rules == 0) (list_all precedes_classes s.commands) e in
+      record { program = p; no_rules = eqb-true _ _ parts.0; commands_precede = parts.1 }
 
   form_leads : (s : State) → IsShort n s → (Program text s) → (k : Keyword) → Leads text w.past (form w k (Forms ∷ []) s)
   form_leads s short g keyword.Literalize = cond_both (may_declare s) _ _ (Leads text w.past) (λ e. (omega arith, at_class_declared (declaring s g e))) (λ _. tt)
   form_leads s short g keyword.VectorAttribute = cond_both (may_declare s) _ _ (Leads text w.past) (λ e. (omega arith, at_vector_name (declaring s g e))) (λ _. tt)
-  form_leads s short g keyword.Production = cond_both (length s.commands == 0) _ _ (Leads text w.past) (λ _. (omega arith, at_rule_name g)) (λ _. tt)
+  form_leads s short g keyword.Production = cond_both (may_produce s) _ _ (Leads text w.past) (λ _. (omega arith, at_rule_name g)) (λ _. tt)
   form_leads s short g keyword.Make = (omega arith, at_class_name Bare InFixed (g, refl, tt))
-  form_leads s short g keyword.Run = (omega arith, at_run g)
+  form_leads s short g keyword.Run = (omega arith, at_count g)
+  form_leads s short g keyword.Strategy = (omega arith, at_strategy_name g)
   form_leads s short g _ = tt
 
   class_declared_leads : (s : State) → IsShort n s → (Declaring text s) → Leads text w.past (class_declared w (Attributes ∷ Forms ∷ []) s)
@@ -424,11 +438,32 @@ module _ (text n : ℕ) (w : Word) (fit : text ≤ longest_list) (placed : IsPla
 
   -- ---- commands
 
-  run_leads : (s : State) → IsShort n s → (Program text s) → Leads text w.past (closes EndsRun w (Forms ∷ []) s)
-  run_leads s short g =
+  counted_leads : (s : State) → IsShort n s → Program text s → (o : Option ℕ) → count_of w.kind ≡ o → Leads text w.past (counted o (Forms ∷ []) s)
+  counted_leads s short g (Some k) e = (
+    omega (arith, length-append {A = Command}),
+    at_command_end (command_added text s.classes s.rules s.commands (command.Run (Some k)) g (count_natural w.kind k e)),
+  )
+  counted_leads s short g None e = tt
+
+  count_leads : (s : State) → IsShort n s → Program text s → Leads text w.past (count w (Forms ∷ []) s)
+  count_leads s short g =
       cond_both (is_right w.kind) _ _ (Leads text w.past)
       (λ _. (omega (arith, length-append {A = Command}), at_forms (command_added text s.classes s.rules s.commands (command.Run None) g refl)))
-      (λ _. tt)
+      (λ _. counted_leads s short g (count_of w.kind) refl)
+
+  strategy_set_leads : (s : State) → IsShort n s → Program text s → (o : Option Strategy) → Leads text w.past (strategy_set o (Forms ∷ []) s)
+  strategy_set_leads s short g (Some set) =
+      (omega (arith, length-append {A = Command}), at_command_end (command_added text s.classes s.rules s.commands (command.Strategy (Some set)) g refl))
+  strategy_set_leads s short g None = tt
+
+  strategy_name_leads : (s : State) → IsShort n s → Program text s → Leads text w.past (strategy_name w (Forms ∷ []) s)
+  strategy_name_leads s short g =
+      cond_both (is_right w.kind) _ _ (Leads text w.past)
+      (λ _. (omega (arith, length-append {A = Command}), at_forms (command_added text s.classes s.rules s.commands (command.Strategy None) g refl)))
+      (λ _. strategy_set_leads s short g (strategy_of w.keyword))
+
+  command_end_leads : (s : State) → IsShort n s → Program text s → Leads text w.past (closes EndsWhole w (Forms ∷ []) s)
+  command_end_leads s short g = cond_both (is_right w.kind) _ _ (Leads text w.past) (λ _. (omega arith, at_forms g)) (λ _. tt)
 
   -- ---- a word
 
@@ -483,4 +518,6 @@ module _ (text n : ℕ) (w : Word) (fit : text ≤ longest_list) (placed : IsPla
   step_leads s ws short (at_columns c g) = columns_leads text n w fit placed s short g c (small_of w.kind) refl
   step_leads s ws short (at_crlf g) = crlf_leads text n w fit placed s short g
   step_leads s ws short (at_halt g) = halt_leads text n w fit placed s short g
-  step_leads s ws short (at_run g) = run_leads s short g
+  step_leads s ws short (at_count g) = count_leads s short g
+  step_leads s ws short (at_strategy_name g) = strategy_name_leads s short g
+  step_leads s ws short (at_command_end g) = command_end_leads s short g

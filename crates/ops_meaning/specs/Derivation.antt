@@ -9,7 +9,7 @@ use Rattle.ops_tokens.specs.declared.token.TokenKind.{TokenKind}
 use Rattle.ops_tokens.specs.declared.token.TokenKind.TheVariants as kind
 use Rattle.ops_meaning.specs.declared.words.Word.{Word}
 use Rattle.ops_meaning.specs.declared.words.Keyword.TheVariants as keyword
-use Rattle.ops_meaning.specs.Grammar.{Use, InPattern, InPut, InFixed, Target, ToTest, ToTerms, ToConstants, ToItem, ToBind, Ends, EndsRun, EndsHalt, EndsCrlf, EndsWhole, Column, ToTab, ToRight, Wanted, Forms, Form, ClassDeclared, Attributes, VectorName, VectorNames, RuleName, FirstPattern, Patterns, Pattern, Braced, ElementName, ClosesBrace, ClassName, Terms, Attribute, Several, Place, Tests, Tested, Choice, Atom, ValueFor, Function, Waiting, ExpressionUnit, ExpressionRest, Bracketed, SourceCell, SourceAttribute, SourceEnd, Actions, ActionWord, Modified, BoundName, BoundValue, CellName, Cell, Cells, Items, ItemWord, Columns, Closes, is_left, is_right, is_left_brace, is_right_brace, is_caret, is_name, is_variable, is_literal, is_inf, operation_of, function_depth, is_of_action, takes_several, is_minus, opens_choice, closes_choice, pred_of, constant_of, value_of, atom_of, small_of, is_one_of, behind_attribute}
+use Rattle.ops_meaning.specs.Grammar.{Use, InPattern, InPut, InFixed, Target, ToTest, ToTerms, ToConstants, ToItem, ToBind, Ends, EndsHalt, EndsCrlf, EndsWhole, Column, ToTab, ToRight, Wanted, Forms, Form, ClassDeclared, Attributes, VectorName, VectorNames, RuleName, FirstPattern, Patterns, Pattern, Braced, ElementName, ClosesBrace, ClassName, Terms, Attribute, Several, Place, Tests, Tested, Choice, Atom, ValueFor, Function, Waiting, ExpressionUnit, ExpressionRest, Bracketed, SourceCell, SourceAttribute, SourceEnd, Actions, ActionWord, Modified, BoundName, BoundValue, CellName, Cell, Cells, Items, ItemWord, Columns, Count, StrategyName, Closes, is_left, is_right, is_left_brace, is_right_brace, is_caret, is_name, is_variable, is_literal, is_inf, operation_of, function_depth, is_of_action, takes_several, is_minus, opens_choice, closes_choice, pred_of, constant_of, value_of, atom_of, small_of, count_of, strategy_of, is_one_of, behind_attribute}
 
 -- WHOLE
 abbrev pub is_whole : TokenKind → Bool
@@ -73,9 +73,14 @@ pub data Derives : List Sym → List Wanted → List Word → Type 0 where
   an_element_name : {vs : List Sym} {ws : List Wanted} {w : Word} {ts : List Word} → is_variable w.kind ≡ true → Derives vs ws ts → Derives vs (ElementName ∷ ws) (w ∷ ts)
   a_closed_brace : {vs : List Sym} {ws : List Wanted} {w : Word} {ts : List Word} → is_right_brace w.kind ≡ true → Derives vs ws ts → Derives vs (ClosesBrace ∷ ws) (w ∷ ts)
   an_arrow : {vs : List Sym} {ws : List Wanted} {w : Word} {ts : List Word} → w.keyword ≡ keyword.Arrow → Derives vs ws ts → Derives vs (Patterns ∷ ws) (w ∷ ts)
-  -- form = ( make CLASS fixed* ), form = ( run )
+  -- form = ( make CLASS fixed* ), form = ( run [NAT] ), form = ( strategy ) | ( strategy lex ) | ( strategy mea )
   a_make : {vs : List Sym} {ws : List Wanted} {w : Word} {ts : List Word} → w.keyword ≡ keyword.Make → Derives vs (ClassName ∷ Terms InFixed ∷ ws) ts → Derives vs (Form ∷ ws) (w ∷ ts)
-  a_run : {vs : List Sym} {ws : List Wanted} {w : Word} {ts : List Word} → w.keyword ≡ keyword.Run → Derives vs (Closes EndsRun ∷ ws) ts → Derives vs (Form ∷ ws) (w ∷ ts)
+  a_run : {vs : List Sym} {ws : List Wanted} {w : Word} {ts : List Word} → w.keyword ≡ keyword.Run → Derives vs (Count ∷ ws) ts → Derives vs (Form ∷ ws) (w ∷ ts)
+  a_count : {vs : List Sym} {ws : List Wanted} {w : Word} {ts : List Word} → is_some (count_of w.kind) ≡ true → Derives vs (Closes EndsWhole ∷ ws) ts → Derives vs (Count ∷ ws) (w ∷ ts)
+  no_count : {vs : List Sym} {ws : List Wanted} {w : Word} {ts : List Word} → is_right w.kind ≡ true → Derives vs ws ts → Derives vs (Count ∷ ws) (w ∷ ts)
+  a_strategy : {vs : List Sym} {ws : List Wanted} {w : Word} {ts : List Word} → w.keyword ≡ keyword.Strategy → Derives vs (StrategyName ∷ ws) ts → Derives vs (Form ∷ ws) (w ∷ ts)
+  a_strategy_name : {vs : List Sym} {ws : List Wanted} {w : Word} {ts : List Word} → is_some (strategy_of w.keyword) ≡ true → Derives vs (Closes EndsWhole ∷ ws) ts → Derives vs (StrategyName ∷ ws) (w ∷ ts)
+  no_strategy_name : {vs : List Sym} {ws : List Wanted} {w : Word} {ts : List Word} → is_right w.kind ≡ true → Derives vs ws ts → Derives vs (StrategyName ∷ ws) (w ∷ ts)
   -- CLASS; term = ^ ATTR place*; put = ^ ATTR value*; fixed = ^ ATTR value*
   a_class_name : {vs : List Sym} {ws : List Wanted} {w : Word} {ts : List Word} → is_name w.kind ≡ true → Derives vs ws ts → Derives vs (ClassName ∷ ws) (w ∷ ts)
   a_term : {vs : List Sym} {u : Use} {ws : List Wanted} {w : Word} {ts : List Word} → is_caret w.kind ≡ true → Derives vs (Attribute u ∷ ws) ts → Derives vs (Terms u ∷ ws) (w ∷ ts)

@@ -1,6 +1,6 @@
 -- The grammar of program texts, as what a word does where something is wanted.
 use Rattle.std.specs.Prelude.{ℕ, suc, ◌+◌, ◌-◌, List, [], ◌∷◌, ◌++◌, length, take, map, filter, position, Bool, true, false, not, ◌==◌, ◌&&◌, ◌||◌, nat_lt, if◌then◌else◌, Option, Some, None, Result, Ok, Err, ℤ, pos, negsuc, slice_get, unwrap_or}
-use Rattle.std.specs.List.{list_any}
+use Rattle.std.specs.List.{list_any, list_all}
 use Rattle.ops_base.specs.declared.values.Sym.{Sym}
 use Rattle.ops_base.specs.declared.values.Value.{Value}
 use Rattle.ops_base.specs.declared.values.Value.TheVariants as value
@@ -24,12 +24,14 @@ use Rattle.ops_base.specs.declared.rules.Rule.{Rule}
 use Rattle.ops_base.specs.declared.commands.Fixed.{Fixed}
 use Rattle.ops_base.specs.declared.commands.Command.{Command}
 use Rattle.ops_base.specs.declared.commands.Command.TheVariants as command
+use Rattle.ops_base.specs.declared.commands.Strategy.{Strategy}
+use Rattle.ops_base.specs.declared.commands.Strategy.TheVariants.{Lex, Mea}
 use Rattle.ops_base.specs.declared.endings.Fault.{Fault}
 use Rattle.ops_base.specs.declared.endings.Fault.TheVariants as fault
 use Rattle.ops_base.specs.declared.endings.Limit.TheVariants as limit
 use Rattle.ops_base.specs.Expression.{Formula}
 use Rattle.ops_base.specs.Expression as formula
-use Rattle.ops_base.specs.Valid.{most_fields, most_conditions, class_of, is_vector, is_column, specificity, cells_of}
+use Rattle.ops_base.specs.Valid.{most_fields, most_conditions, class_of, is_vector, is_column, is_natural, specificity, cells_of}
 use Rattle.ops_tokens.specs.declared.token.TokenKind.{TokenKind}
 use Rattle.ops_tokens.specs.declared.token.TokenKind.TheVariants as kind
 use Rattle.ops_meaning.specs.declared.words.Word.{Word}
@@ -54,9 +56,8 @@ pub data Target : Type 0 where
   ToItem : Target
   ToBind : Target
 
--- what a closing bracket ends: a command, an action or an item that has nothing in it, or one that is done already
+-- what a closing bracket ends: an action or an item that has nothing in it, or something that is done already
 pub data Ends : Type 0 where
-  EndsRun : Ends
   EndsHalt : Ends
   EndsCrlf : Ends
   EndsWhole : Ends
@@ -75,7 +76,8 @@ pub record Waiting : Type 0 where
 pub data Wanted : Type 0 where
   -- form*
   Forms : Wanted
-  -- literalize NAME NAME* ) | vector-attribute NAME NAME* ) | p NAME first condition* --> action* ) | make CLASS fixed* ) | run )
+  -- literalize NAME NAME* ) | vector-attribute NAME NAME* ) | p NAME first condition* --> action* ) | make CLASS fixed* ) | run [NAT] )
+  -- | strategy ) | strategy lex ) | strategy mea )
   Form : Wanted
   -- NAME
   ClassDeclared : Wanted
@@ -158,6 +160,10 @@ pub data Wanted : Type 0 where
   ItemWord : Wanted
   -- SMALL
   Columns : (what : Column) → Wanted
+  -- NAT ) | )
+  Count : Wanted
+  -- lex ) | mea ) | )
+  StrategyName : Wanted
   -- )
   Closes : (what : Ends) → Wanted
 
@@ -340,9 +346,26 @@ renumbered name number (n ∷ ns) = if n.name.0 == name.0 then record n { number
 
 -- ---- declarations
 
--- nothing but declarations was read
+-- a class may be declared behind this command
+abbrev pub precedes_classes : Command → Bool
+precedes_classes (command.Make class puts) = false
+precedes_classes (command.Run count) = false
+precedes_classes (command.Ppwm pattern) = false
+precedes_classes _ = true
+
+-- a production may stand behind this command
+abbrev pub precedes_rules : Command → Bool
+precedes_rules (command.Make class puts) = false
+precedes_rules (command.Run count) = false
+precedes_rules _ = true
+
+-- no production was read, and no command behind which a declaration is late
 abbrev pub may_declare : State → Bool
-may_declare s = (length s.rules == 0) && (length s.commands == 0)
+may_declare s = (length s.rules == 0) && list_all precedes_classes s.commands
+
+-- no command was read behind which a production is late
+abbrev pub may_produce : State → Bool
+may_produce s = list_all precedes_rules s.commands
 
 abbrev pub is_class : State → Sym → Bool
 is_class s name = list_any (λ c. c.name.0 == name.0) s.classes
@@ -355,9 +378,10 @@ form w keyword.Literalize ws s =
     if may_declare s then Next (ClassDeclared ∷ Attributes ∷ ws) s else Refuses fault.LateDeclaration
 form w keyword.VectorAttribute ws s = if may_declare s then Next (VectorName ∷ VectorNames ∷ ws) s else Refuses fault.LateDeclaration
 form w keyword.Production ws s =
-    if length s.commands == 0 then Next (RuleName ∷ FirstPattern ∷ Patterns ∷ Actions ∷ ws) s else Refuses fault.LateProduction
+    if may_produce s then Next (RuleName ∷ FirstPattern ∷ Patterns ∷ Actions ∷ ws) s else Refuses fault.LateProduction
 form w keyword.Make ws s = Next (ClassName ∷ Terms InFixed ∷ ws) (record s { fixed = [] })
-form w keyword.Run ws s = Next (Closes EndsRun ∷ ws) s
+form w keyword.Run ws s = Next (Count ∷ ws) s
+form w keyword.Strategy ws s = Next (StrategyName ∷ ws) s
 form w _ ws s = Refuses fault.UnknownCommand
 
 abbrev pub class_declared : Word → List Wanted → State → Step
@@ -975,13 +999,42 @@ columns_at c (Some n) ws s = Next ws (with_item s (column_item c n))
 columns_at c None ws s = Refuses fault.BadForm
 
 abbrev pub ended : Ends → State → State
-ended EndsRun s = with_command s (command.Run None)
 ended EndsHalt s = with_action s action.Halt
 ended EndsCrlf s = with_item s item.Crlf
 ended EndsWhole s = s
 
 abbrev pub closes : Ends → Word → List Wanted → State → Step
 closes e w ws s = if is_right w.kind then Next ws (ended e s) else Refuses fault.BadForm
+
+-- ---- commands
+
+-- NAT
+abbrev pub count_of : TokenKind → Option ℕ
+count_of (kind.Whole (pos n)) = if is_natural n then Some n else None
+count_of _ = None
+
+abbrev pub counted : Option ℕ → List Wanted → State → Step
+counted (Some n) ws s = Next (Closes EndsWhole ∷ ws) (with_command s (command.Run (Some n)))
+counted None ws s = Refuses fault.BadForm
+
+-- NAT ) | )
+abbrev pub count : Word → List Wanted → State → Step
+count w ws s = if is_right w.kind then Next ws (with_command s (command.Run None)) else counted (count_of w.kind) ws s
+
+-- lex | mea
+abbrev pub strategy_of : Keyword → Option Strategy
+strategy_of keyword.Lex = Some Lex
+strategy_of keyword.Mea = Some Mea
+strategy_of _ = None
+
+abbrev pub strategy_set : Option Strategy → List Wanted → State → Step
+strategy_set (Some g) ws s = Next (Closes EndsWhole ∷ ws) (with_command s (command.Strategy (Some g)))
+strategy_set None ws s = Refuses fault.BadForm
+
+-- lex ) | mea ) | )
+abbrev pub strategy_name : Word → List Wanted → State → Step
+strategy_name w ws s =
+    if is_right w.kind then Next ws (with_command s (command.Strategy None)) else strategy_set (strategy_of w.keyword) ws s
 
 -- ---- the walk over the words
 
@@ -1033,6 +1086,8 @@ step w (Cells ∷ ws) s = cells w ws s
 step w (Items ∷ ws) s = items w ws s
 step w (ItemWord ∷ ws) s = item_word w.keyword ws s
 step w (Columns c ∷ ws) s = columns_at c (small_of w.kind) ws s
+step w (Count ∷ ws) s = count w ws s
+step w (StrategyName ∷ ws) s = strategy_name w ws s
 step w (Closes e ∷ ws) s = closes e w ws s
 
 -- the state that was reached, or the fault at the word that goes on to nothing, and at none where the words end too early

@@ -1,30 +1,24 @@
 -- What a session keeps of working memory and of the names, that its right sides act lawfully, and that its conflict sets are the sets of all
 -- instantiations.
-use Rattle.std.specs.Prelude.{◌≡◌, ℕ, ◌≤◌, List, [], ◌∷◌, IfOk, Some, slice_get}
+use Rattle.std.specs.Prelude.{◌≡◌, ℕ, ◌≤◌, ◌+◌, List, false, Result, IfOk, MatchResult, Some, slice_get}
 use Rattle.std.specs.List.{All}
 use Rattle.ops_base.specs.declared.elements.Element.{Element}
-use Rattle.ops_base.specs.declared.elements.Change.{Change}
-use Rattle.ops_base.specs.declared.elements.Change.TheVariants.{Add, Remove}
 use Rattle.ops_base.specs.declared.rules.Rule.{Rule}
 use Rattle.ops_base.specs.declared.rules.Inst.{Inst}
 use Rattle.ops_base.specs.declared.commands.Command.{Command}
-use Rattle.ops_base.specs.WorkingMemory.{tags_of, HasRisingTags, done, Lawful}
+use Rattle.ops_base.specs.declared.endings.Ending.{Ending}
+use Rattle.ops_base.specs.declared.endings.Ending.TheVariants as ending
+use Rattle.ops_base.specs.WorkingMemory.{tags_of, HasRisingTags, done, last_after, Lawful}
 use Rattle.ops_base.specs.Instances.{IsConflictSet}
 use Rattle.ops_base.specs.Names.{Spellings}
 use Rattle.ops_io.specs.Coming.{Coming}
 use Rattle.ops_meaning.specs.Acting.{Setting, Given, Acted, acted}
-use Rattle.ops_meaning.specs.Running.{Finder, session_by, session_of}
+use Rattle.ops_meaning.specs.Running.{Finder, Course, run_on, session_by, session_of}
 
 -- The elements stand in the order of their tags, each tag once, and no tag is above the last that was given: so the next
 -- one is free.
 abbrev pub WellKept : List Element → ℕ → Type 0
 WellKept wm last = HasRisingTags wm × All (λ t. t ≤ last) (tags_of wm)
-
--- the last tag that was given, after these changes
-abbrev pub last_after : ℕ → List Change → ℕ
-last_after last [] = last
-last_after last (Add e ∷ cs) = last_after e.tag cs
-last_after last (Remove tag ∷ cs) = last_after last cs
 
 -- The changes are lawful over this working memory, they leave it well kept, the last tag that was given is that of the element that was
 -- added last, and it does not fall.
@@ -48,6 +42,27 @@ FindsConflictSets rules found = (wm : List Element) → HasRisingTags wm → IsC
 
 -- Wherever a session looks for instantiations it looks at the conflict set: whatever finds conflict sets leads it to the
 -- same bytes and the same outcome.
-abbrev pub GoesByConflictSets : Setting → List Command → Spellings → Type 0
-GoesByConflictSets s commands names =
-    (found : Finder) → FindsConflictSets s.rules found → (coming : Coming) → session_of s commands names coming ≡ session_by found s commands names coming
+abbrev pub GoesByConflictSets : Setting → ℕ → List Command → Spellings → Type 0
+GoesByConflictSets s limit commands names =
+    (found : Finder) → FindsConflictSets s.rules found → (coming : Coming) → session_of s limit commands names coming ≡ session_by found s limit commands names coming
+
+-- the limit that an ending tells is this one
+abbrev pub TellsLimit : ℕ → Ending → Type 0
+TellsLimit limit (ending.Done firings elements last) = Unit {0}
+TellsLimit limit (ending.Act firing rule action kind) = Unit {0}
+TellsLimit limit (ending.Limit firings) = firings ≡ limit
+TellsLimit limit ending.ReadFault = Unit {0}
+TellsLimit limit ending.WriteFault = Unit {0}
+TellsLimit limit ending.OutOfMemory = Unit {0}
+
+-- At most so many firings were made, or the limit that was told is this one.
+abbrev pub KeepsLimit : ℕ → Result Course Ending → Type 0
+KeepsLimit limit r = MatchResult r (λ m. m.firings ≤ limit) (TellsLimit limit)
+
+-- A session keeps to its limit, whatever input comes.
+abbrev pub IsLimited : Setting → ℕ → List Command → Spellings → Type 0
+IsLimited s limit commands names = (coming : Coming) → KeepsLimit limit (session_of s limit commands names coming).outcome
+
+-- A run with a number makes at most so many firings.
+abbrev pub IsCounted : ℕ → Setting → Course → Type 0
+IsCounted left s m = (column n : ℕ) → IfOk (run_on left s column false (Some n) m).outcome (λ k. k.firings ≤ m.firings + n)

@@ -1,5 +1,5 @@
 -- Why a word is refused: what each fault says of the word, of what is wanted there and of what was read before.
-use Rattle.std.specs.Prelude.{◌≡◌, ℕ, ◌+◌, ◌-◌, List, [], ◌∷◌, length, take, Bool, true, false, not, ◌==◌, ◌&&◌, nat_lt, Option, Some, None, is_some, slice_get}
+use Rattle.std.specs.Prelude.{◌≡◌, ℕ, ◌+◌, ◌-◌, List, [], ◌∷◌, length, take, Bool, true, false, not, ◌&&◌, nat_lt, Option, Some, None, is_some, slice_get}
 use Rattle.std.specs.List.{list_any}
 use Rattle.ops_base.specs.declared.values.Sym.{Sym}
 use Rattle.ops_base.specs.declared.conditions.Condition.{Condition}
@@ -12,7 +12,7 @@ use Rattle.ops_tokens.specs.declared.token.TokenKind.TheVariants as kind
 use Rattle.ops_meaning.specs.declared.words.Word.{Word}
 use Rattle.ops_meaning.specs.declared.words.Keyword.{Keyword}
 use Rattle.ops_meaning.specs.declared.words.Keyword.TheVariants as keyword
-use Rattle.ops_meaning.specs.Grammar.{InPattern, InPut, InFixed, ToTest, ToFixed, ToConstants, Wanted, Forms, Form, ClassDeclared, Attributes, VectorName, VectorNames, RuleName, FirstPattern, Patterns, Braced, ElementName, ClassName, Attribute, Several, Tested, ValueFor, ExpressionUnit, Bracketed, SourceCell, SourceAttribute, Modified, BoundValue, CellName, Cell, Cells, Items, State, most_brackets, is_left, is_name, is_variable, is_minus, natural_of, is_one_of, number_of, may_declare, is_class, is_rule, is_second, makes_second, attributes_of, source_class}
+use Rattle.ops_meaning.specs.Grammar.{InPattern, InPut, InFixed, ToTest, ToFixed, ToConstants, Wanted, Forms, Form, ClassDeclared, Attributes, VectorName, VectorNames, RuleName, FirstPattern, Patterns, Braced, ElementName, ClassName, Attribute, Several, Tested, ValueFor, ExpressionUnit, Bracketed, SourceCell, SourceAttribute, Modified, BoundValue, CellName, Cell, Cells, Items, State, most_brackets, is_left, is_name, is_variable, is_minus, natural_of, is_one_of, number_of, may_declare, may_produce, is_class, is_rule, is_second, makes_second, attributes_of, source_class}
 use Rattle.ops_meaning.specs.Derivation.{is_designator}
 
 -- the numbers of the faults, by which one of several at a word is chosen
@@ -174,7 +174,7 @@ Because fault.UnknownAttribute w ws s = (wants_attribute ws ≡ true) × (is_nam
 Because fault.DeclaredTwice w ws s = (is_name w.kind ≡ true) × (is_declared ws w.name s ≡ true)
 Because fault.TwoVectors w ws s = (is_name w.kind ≡ true) × (gives_second ws w.name s ≡ true)
 Because fault.LateDeclaration w ws s = (wants_form ws ≡ true) × (is_declaration w.keyword ≡ true) × (may_declare s ≡ false)
-Because fault.LateProduction w ws s = (wants_form ws ≡ true) × (w.keyword ≡ keyword.Production) × ((length s.commands == 0) ≡ false)
+Because fault.LateProduction w ws s = (wants_form ws ≡ true) × (w.keyword ≡ keyword.Production) × (may_produce s ≡ false)
 Because fault.UnboundVariable w ws s = (wants_bound ws ≡ true) × (is_variable w.kind ≡ true) × (is_bound ws w.name s ≡ false)
 Because fault.BadDesignator w ws s = is_bad_designator ws w s ≡ true
 Because (fault.LimitPassed limit.Fields) w ws s = is_full ws s ≡ true

@@ -10,6 +10,8 @@ use Rattle.ops_base.specs.declared.elements.Class.{Class}
 use Rattle.ops_base.specs.declared.commands.Fixed.{Fixed}
 use Rattle.ops_base.specs.declared.commands.Command.{Command}
 use Rattle.ops_base.specs.declared.commands.Command.TheVariants as command
+use Rattle.ops_base.specs.declared.commands.Strategy.{Strategy}
+use Rattle.ops_base.specs.declared.commands.Strategy.TheVariants.{Lex, Mea}
 use Rattle.ops_base.specs.declared.conditions.Operand.{Operand}
 use Rattle.ops_base.specs.declared.conditions.Operand.TheVariants as operand
 use Rattle.ops_base.specs.declared.conditions.Test.{Test}
@@ -26,7 +28,7 @@ use Rattle.ops_base.specs.declared.actions.Item.TheVariants as item
 use Rattle.ops_base.specs.declared.actions.Action.{Action}
 use Rattle.ops_base.specs.declared.actions.Action.TheVariants as action
 use Rattle.ops_base.specs.declared.rules.Rule.{Rule}
-use Rattle.ops_base.specs.Valid.{most_conditions, are_distinct, class_is_valid, class_of, is_attribute, is_vector, is_field, is_equality, is_in, is_column, first_is_positive, cells_of, specificity, fixed_is_valid}
+use Rattle.ops_base.specs.Valid.{most_conditions, are_distinct, class_is_valid, class_of, is_attribute, is_vector, is_field, is_equality, is_in, is_column, is_natural, first_is_positive, cells_of, specificity, fixed_is_valid}
 use Rattle.ops_tokens.specs.declared.token.TokenKind.TheVariants as kind
 use Rattle.ops_meaning.specs.declared.words.Word.{Word}
 use Rattle.ops_meaning.specs.declared.words.Keyword.{Keyword}
@@ -99,13 +101,28 @@ spelled_fixed c p = spelled_attribute c p.field (map spelled_value p.values)
 abbrev pub spelled_fact : Class → List Fixed → List Word
 spelled_fact c puts = opening ∷ spelled_keyword keyword.Make ∷ spelled_name c.name ∷ spelled_each (spelled_fixed c) puts ++ closing ∷ []
 
--- ( run )
-abbrev pub spelled_run : List Word
-spelled_run = opening ∷ spelled_keyword keyword.Run ∷ closing ∷ []
+-- a command of one word and an argument, if it has one
+abbrev pub spelled_short : Keyword → List Word → List Word
+spelled_short k argument = opening ∷ spelled_keyword k ∷ argument ++ closing ∷ []
+
+-- ( run [NAT] )
+abbrev pub spelled_count : Option ℕ → List Word
+spelled_count None = []
+spelled_count (Some n) = spelled_value (value.Whole (pos n)) ∷ []
+
+abbrev pub keyword_of_strategy : Strategy → Keyword
+keyword_of_strategy Lex = keyword.Lex
+keyword_of_strategy Mea = keyword.Mea
+
+-- ( strategy ) | ( strategy lex ) | ( strategy mea )
+abbrev pub spelled_strategy : Option Strategy → List Word
+spelled_strategy None = []
+spelled_strategy (Some g) = spelled_keyword (keyword_of_strategy g) ∷ []
 
 abbrev pub spelled_command : List Class → Command → List Word
 spelled_command classes (command.Make class puts) = spelled_fact (class_of classes class) puts
-spelled_command classes (command.Run None) = spelled_run
+spelled_command classes (command.Run count) = spelled_short keyword.Run (spelled_count count)
+spelled_command classes (command.Strategy set) = spelled_short keyword.Strategy (spelled_strategy set)
 spelled_command classes _ = []
 
 -- ---- left sides
@@ -397,6 +414,8 @@ class_is_plain vectors c = class_is_valid c && list_all (λ a. not (is_one_of a 
 abbrev pub command_is_plain : List Class → Command → Bool
 command_is_plain classes (command.Make class puts) = nat_lt class (length classes) && list_all (fixed_is_valid (class_of classes class)) puts
 command_is_plain classes (command.Run None) = true
+command_is_plain classes (command.Run (Some n)) = is_natural n
+command_is_plain classes (command.Strategy set) = true
 command_is_plain classes _ = false
 
 -- the program has a spelling

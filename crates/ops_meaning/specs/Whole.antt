@@ -1,5 +1,8 @@
 -- What the program answers to its words and files.
-use Rattle.std.specs.Prelude.{◌≡◌, ℕ, List, [], ◌∷◌, ◌++◌, length, map, Bool, true, false, not, ◌==◌, ◌||◌, if◌then◌else◌, Option, Some, None, Result, Ok, Err, String, string_bytes, slice_index, codes, decimal}
+use Rattle.std.specs.Prelude.{◌≡◌, ℕ, List, [], ◌∷◌, ◌++◌, length, map, Bool, true, false, not, ◌==◌, ◌||◌, ◌&&◌, nat_le, bytes_eq, if◌then◌else◌, Option, Some, None, is_some, option_map, unwrap_or, Result, Ok, Err, String, string_bytes, slice_index, codes, decimal}
+use Rattle.std.specs.List.{list_all}
+use Rattle.ops_tokens.specs.Bytes.{is_digit}
+use Rattle.ops_tokens.specs.Numbers.{decimal as spelled_number}
 use Rattle.ops_base.specs.declared.rules.Rule.{Rule}
 use Rattle.ops_base.specs.ConflictSet.{conflict_set}
 use Rattle.ops_base.specs.declared.endings.Ending.{Ending}
@@ -29,15 +32,39 @@ pub record Reply : Type 0 where
 
 -- ---- words and files
 
--- one word, which is a name: it does not begin with - or is - alone
-abbrev pub words_fit : List (List ℕ) → Bool
-words_fit [] = false
-words_fit (w ∷ []) = not (slice_index w 0 == 45) || (length w == 1)
-words_fit (w ∷ v ∷ ws) = false
+-- it does not begin with - or is - alone
+abbrev pub is_file : List ℕ → Bool
+is_file w = not (slice_index w 0 == 45) || (length w == 1)
 
-abbrev pub first_word : List (List ℕ) → List ℕ
-first_word [] = []
-first_word (w ∷ ws) = w
+-- one to ten decimal digits that spell a number from 1 to 1,000,000,000
+abbrev pub is_limit : List ℕ → Bool
+is_limit w = list_all is_digit w && nat_le (length w) 10 && nat_le 1 (spelled_number w) && nat_le (spelled_number w) 1000000000
+
+-- what the words ask for: the file, and how many firings its session makes at most
+pub record Job : Type 0 where
+  pub file : List ℕ
+  pub limit : ℕ
+
+-- where no other limit is given
+abbrev pub most_firings : ℕ
+most_firings = 1000000
+
+-- FILE | --limit N FILE
+abbrev pub job_of : List (List ℕ) → Option Job
+job_of (w ∷ []) = if is_file w then Some (record { file = w; limit = most_firings }) else None
+job_of (o ∷ n ∷ w ∷ []) =
+    if bytes_eq o (codes "--limit") && is_limit n && is_file w then Some (record { file = w; limit = spelled_number n }) else None
+job_of _ = None
+
+abbrev pub words_fit : List (List ℕ) → Bool
+words_fit words = is_some (job_of words)
+
+-- the file that is asked for, and the limit, where the words fit
+abbrev pub file_of : List (List ℕ) → List ℕ
+file_of words = unwrap_or (option_map (λ j. j.file) (job_of words)) []
+
+abbrev pub limit_of : List (List ℕ) → ℕ
+limit_of words = unwrap_or (option_map (λ j. j.limit) (job_of words)) most_firings
 
 -- it ends in LF
 abbrev pub ends_in_line : List ℕ → Bool
@@ -111,45 +138,51 @@ setting_of p = record { classes = p.classes; rules = p.rules }
 abbrev pub Find : Type 0
 Find = List Rule → Finder
 
-abbrev pub answer_read_by : Find → Coming → List ℕ → Result Read Placed → Reply
-answer_read_by find coming text (Err p) = refused text p
-answer_read_by find coming text (Ok p) = told p.names p.rules (session_by (find p.rules) (setting_of p) p.commands p.names coming)
+abbrev pub answer_read_by : Find → ℕ → Coming → List ℕ → Result Read Placed → Reply
+answer_read_by find limit coming text (Err p) = refused text p
+answer_read_by find limit coming text (Ok p) = told p.names p.rules (session_by (find p.rules) (setting_of p) limit p.commands p.names coming)
 
-abbrev pub answer_to_by : Find → Coming → List ℕ → Reply
-answer_to_by find coming text = answer_read_by find coming text (reads text)
+abbrev pub answer_to_by : Find → ℕ → Coming → List ℕ → Reply
+answer_to_by find limit coming text = answer_read_by find limit coming text (reads text)
 
 -- ---- the whole
 
 -- A file is answered as its text. One that does not fit is a text that is too long.
-abbrev pub answer_file_by : Find → Coming → List ℕ → Reply
-answer_file_by find coming bytes = answer_to_by find coming (text_of bytes)
+abbrev pub answer_file_by : Find → ℕ → Coming → List ℕ → Reply
+answer_file_by find limit coming bytes = answer_to_by find limit coming (text_of bytes)
 
 abbrev pub unread : List ℕ → Reply
 unread name = record { bytes = unread_line name; status = status.ReadFault }
 
 -- `broken` tells whether the load failed, and the content is none where there is no such file
-abbrev pub whole_file_by : Find → List ℕ → Option (List ℕ) → Bool → Coming → Reply
-whole_file_by find name content true coming = unread name
-whole_file_by find name None false coming = unread name
-whole_file_by find name (Some bytes) false coming = answer_file_by find coming bytes
+abbrev pub whole_file_by : Find → Job → Option (List ℕ) → Bool → Coming → Reply
+whole_file_by find job content true coming = unread job.file
+whole_file_by find job None false coming = unread job.file
+whole_file_by find job (Some bytes) false coming = answer_file_by find job.limit coming bytes
+
+abbrev pub usage : Reply
+usage = record { bytes = usage_line; status = status.Usage }
+
+abbrev pub whole_job_by : Find → Option Job → Option (List ℕ) → Bool → Coming → Reply
+whole_job_by find None content broken coming = usage
+whole_job_by find (Some job) content broken coming = whole_file_by find job content broken coming
 
 abbrev pub whole_by : Find → List (List ℕ) → Option (List ℕ) → Bool → Coming → Reply
-whole_by find words content broken coming =
-    if words_fit words then whole_file_by find (first_word words) content broken coming else record { bytes = usage_line; status = status.Usage }
+whole_by find words content broken coming = whole_job_by find (job_of words) content broken coming
 
 -- ---- the same, by the conflict sets
 
-abbrev pub answer_read : Coming → List ℕ → Result Read Placed → Reply
-answer_read coming text r = answer_read_by conflict_set coming text r
+abbrev pub answer_read : ℕ → Coming → List ℕ → Result Read Placed → Reply
+answer_read limit coming text r = answer_read_by conflict_set limit coming text r
 
-abbrev pub answer_to : Coming → List ℕ → Reply
-answer_to coming text = answer_to_by conflict_set coming text
+abbrev pub answer_to : ℕ → Coming → List ℕ → Reply
+answer_to limit coming text = answer_to_by conflict_set limit coming text
 
-abbrev pub answer_file : Coming → List ℕ → Reply
-answer_file coming bytes = answer_file_by conflict_set coming bytes
+abbrev pub answer_file : ℕ → Coming → List ℕ → Reply
+answer_file limit coming bytes = answer_file_by conflict_set limit coming bytes
 
-abbrev pub whole_file : List ℕ → Option (List ℕ) → Bool → Coming → Reply
-whole_file name content broken coming = whole_file_by conflict_set name content broken coming
+abbrev pub whole_file : Job → Option (List ℕ) → Bool → Coming → Reply
+whole_file job content broken coming = whole_file_by conflict_set job content broken coming
 
 abbrev pub whole : List (List ℕ) → Option (List ℕ) → Bool → Coming → Reply
 whole words content broken coming = whole_by conflict_set words content broken coming

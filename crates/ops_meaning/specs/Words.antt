@@ -10,6 +10,15 @@ use Rattle.ops_meaning.specs.declared.words.Word.{Word}
 use Rattle.ops_meaning.specs.declared.words.Keyword.{Keyword}
 use Rattle.ops_meaning.specs.declared.words.Keyword.TheVariants as keyword
 
+-- the keyword of a plain symbol that stands in a command alone
+abbrev pub keyword_of_command : List ℕ → Keyword
+keyword_of_command s =
+    if bytes_eq s (codes "run") then keyword.Run
+    else if bytes_eq s (codes "strategy") then keyword.Strategy
+    else if bytes_eq s (codes "lex") then keyword.Lex
+    else if bytes_eq s (codes "mea") then keyword.Mea
+    else keyword.Other
+
 -- the keyword of a plain symbol that names a function or an operation
 abbrev pub keyword_of_function : List ℕ → Keyword
 keyword_of_function s =
@@ -20,7 +29,7 @@ keyword_of_function s =
     else if bytes_eq s (codes "*") then keyword.Times
     else if bytes_eq s (codes "\\\\") then keyword.Remainder
     else if bytes_eq s (codes "\\") then keyword.Remainder
-    else keyword.Other
+    else keyword_of_command s
 
 -- the keyword of a plain symbol
 abbrev pub keyword_of_symbol : List ℕ → Keyword
@@ -30,7 +39,6 @@ keyword_of_symbol s =
     else if bytes_eq s (codes "p") then keyword.Production
     else if bytes_eq s (codes "make") then keyword.Make
     else if bytes_eq s (codes "remove") then keyword.Remove
-    else if bytes_eq s (codes "run") then keyword.Run
     else if bytes_eq s (codes "modify") then keyword.Modify
     else if bytes_eq s (codes "write") then keyword.Write
     else if bytes_eq s (codes "bind") then keyword.Bind

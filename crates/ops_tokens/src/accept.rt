@@ -16,7 +16,7 @@ use ops_base::memory::OutOfMemory;
 use ops_base::symbols::Names;
 use ops_base::values::Value;
 use ops_io::{Failed, Input, Source};
-use std::alloc::{AllocError, AllocFailed};
+use std::alloc::{AllocError, AllocFailed, Global};
 
 /// Why no atom was accepted.
 #[derive(Clone, Copy, Debug, PartialEq, Eq)]
@@ -56,6 +56,7 @@ impl<T: Drop> From<AllocFailed<T>> for AcceptFault {
 /// Reads one atom: white space is skipped, and the byte behind an atom without bars is not taken. A whole number of 64
 /// bits is that number, and any other atom a symbol. It takes at most 1,048,576 bytes, each in constant time.
 pub fn accept_atom<I: Source>(
+    alloc: Global,
     names: &mut Names,
     input: &mut Input,
     source: &mut I,
@@ -68,13 +69,14 @@ pub fn accept_atom<I: Source>(
     let space = skip_space(input, source)?;
     match input.next(source)? {
         None => symbol(names, b"end-of-file"),
-        Some(b'|') => quoted(names, space, input, source),
-        Some(_) => run(names, space, input, source),
+        Some(b'|') => quoted(alloc, names, space, input, source),
+        Some(_) => run(alloc, names, space, input, source),
     }
 }
 
 // an atom without bars, behind so many bytes of white space
 fn run<I: Source>(
+    alloc: Global,
     names: &mut Names,
     space: usize,
     input: &mut Input,
@@ -87,7 +89,7 @@ fn run<I: Source>(
         (inlet input.new (I.left source.new) (I.faults source.new)) }
     ensures names { OnErr result (names.new ≡ names.old) }
 {
-    let mut bytes = read_part(Part::Run, space, input, source)?;
+    let mut bytes = read_part(alloc, Part::Run, space, input, source)?;
     if let Some(number) = number_of(&bytes) {
         return Ok(Value::Whole(number));
     }
@@ -97,6 +99,7 @@ fn run<I: Source>(
 
 // an atom that begins with a bar
 fn quoted<I: Source>(
+    alloc: Global,
     names: &mut Names,
     space: usize,
     input: &mut Input,
@@ -110,7 +113,7 @@ fn quoted<I: Source>(
     ensures names { OnErr result (names.new ≡ names.old) }
 {
     take_of(Part::Bar, space, input, source)?;
-    let mut bytes = read_part(Part::Quoted, space + 1, input, source)?;
+    let mut bytes = read_part(alloc, Part::Quoted, space + 1, input, source)?;
     take_of(Part::Bar, space + 1 + bytes.len(), input, source)?;
     show(&mut bytes);
     symbol(names, &bytes)

@@ -7,6 +7,7 @@ ghost use Rattle.ops_tokens.specs.Taking.{is_of, TakesOne, SkipsSpace, ReadsPart
 use crate::accept::AcceptFault;
 use crate::bytes::is_white;
 use ops_io::{Input, Source};
+use std::alloc::Global;
 
 /// How many bytes one `accept` takes at most.
 pub const MOST: usize = 1_048_576;
@@ -76,6 +77,7 @@ pub fn skip_space<I: Source>(input: &mut Input, source: &mut I) -> Result<usize,
 
 /// Takes all bytes of the part, behind `before` others.
 pub fn read_part<I: Source>(
+    alloc: Global,
     part: Part,
     before: usize,
     input: &mut Input,
@@ -86,7 +88,7 @@ pub fn read_part<I: Source>(
     ensures { ReadsPart part before result (inlet input.old (I.left source.old) (I.faults source.old))
         (inlet input.new (I.left source.new) (I.faults source.new)) }
 {
-    let mut bytes = Vec::new(input.allocator());
+    let mut bytes = Vec::new(alloc);
     while let Some(byte) = take_of(part, before + bytes.len(), input, source)? {
         bytes.push(byte)?;
     }

@@ -9,11 +9,16 @@ use std::alloc::{AllocError, Global};
 use std::test::Fail;
 
 /// The next atom.
-fn next(names: &mut Names, input: &mut Input, source: &mut MemSource) -> Result<Value, AcceptFault>
+fn next(
+    alloc: Global,
+    names: &mut Names,
+    input: &mut Input,
+    source: &mut MemSource,
+) -> Result<Value, AcceptFault>
     requires { source.old.faults < 2 ^ 63 }
     ensures { source.new.faults ≤ source.old.faults + 1 }
 {
-    accept_atom(names, input, source)
+    accept_atom(alloc, names, input, source)
 }
 
 /// How it is written here: a number with a dot behind it, a symbol between quotes, and a fault by its name.
@@ -51,7 +56,7 @@ fn atoms(
     let mut source = MemSource::new(text.to_vec(alloc)?, piece, failing);
     let mut atoms = Vec::new(alloc);
     for _ in 0..count {
-        let atom = next(&mut names, &mut input, &mut source);
+        let atom = next(alloc, &mut names, &mut input, &mut source);
         atoms.extend_from_slice(&written(alloc, &names, atom)?)?;
     }
     Ok(atoms)

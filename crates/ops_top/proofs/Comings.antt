@@ -23,14 +23,6 @@ some_failing old new = by (nat_lt old.faults new.faults)
     by true = (record { bytes = new.buffer.held; fails = true }, refl, refl)
     by false = let z = some_may new in (z.0, z.1, refl)
 
--- something may come behind a call
-pub some_after : (old new : Inlet) → (c : Coming) × ComesAfter old new c
-some_after old new = by (nat_lt old.faults new.faults)
-  where
-    by : (failed : Bool) → (c : Coming) × ComesBehind failed new c
-    by true = (record { bytes = new.buffer.held; fails = true }, refl)
-    by false = some_may new
-
 -- some bytes were put
 pub pending_put : {E S : Type 0} (i j : Inlet) (a b : Port) (whole rest : Coming → Effect E S) → PendingOn i j a b whole rest → (xs : List ℕ) × Put a b xs
 pending_put i j a b whole rest p = let z = some_may j in let q = p.pending z.0 z.1 in (q.sofar, q.put)

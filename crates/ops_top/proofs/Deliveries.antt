@@ -16,7 +16,7 @@ use Rattle.ops_meaning.specs.Running.{Course as Meant}
 use Rattle.ops_meaning.specs.Whole.{Reply, status_of, told}
 use Rattle.ops_top.specs.Calls.{OfInput}
 use Rattle.ops_top.specs.Told.{Delivers, TellsOn}
-use Rattle.ops_top.proofs.Comings.{some_after}
+use Rattle.ops_top.proofs.Comings.{some_failing}
 use Rattle.ops_top.proofs.Inputs.{over_input}
 
 -- all was put, and then written out
@@ -48,7 +48,7 @@ module _ {before now : Inlet} {a b : Port} {names : Spellings} {rules : List Rul
   -- what is told was put
   pub put_told : (f : Ending) → TellsOn (Ok f) before now a b names rules e → (xs : List ℕ) × Put a b xs
   put_told f p =
-      let z = some_after before now in ((told names rules (e (preceded_by p.taken z.0))).bytes, (p.tells z.0 z.1).1)
+      let z = some_failing before now in ((told names rules (e (preceded_by p.taken z.0))).bytes, (p.tells z.0 z.1).1)
 
   module _ (empty : before.buffer ≡ record { held = []; ended = false }) (held : a.out.held ≡ []) where
     -- the session was cut

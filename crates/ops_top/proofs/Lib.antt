@@ -1,11 +1,14 @@
 pub mod Comings
 pub mod Inputs
-pub mod Stores
-pub mod Firings
+pub mod Seen
+pub mod Pending
 pub mod Turns
 pub mod Commands
+pub mod UnderWay
+pub mod SessionEnds
 pub mod Deliveries
 pub mod Sessions
 pub mod Loads
+pub mod Limits
 pub mod Refusals
 pub mod Answering

@@ -1,15 +1,16 @@
 -- What a load decides of the answer.
-use Rattle.std.proofs.Common.{◌≡◌, ℕ, zero, suc, ◌+◌, ◌<◌, ◌≤◌, List, [], ◌∷◌, ◌++◌, Bool, true, false, Option, Some, None, Result, Ok, refl, ap, sym, subst, nat_lt, length, cond, String, string_bytes, get_or, arith}
+use Rattle.std.proofs.Common.{◌≡◌, ℕ, zero, suc, ◌+◌, ◌<◌, ◌≤◌, List, [], ◌∷◌, ◌++◌, Bool, true, false, Option, Some, None, Result, Ok, option_map, unwrap_or, refl, sym, subst, nat_lt, length, cond, arith}
 use Rattle.std.proofs.lemmas.Bool.Decides.{nat_tests}
 use Rattle.std.proofs.lemmas.Grind.{common_steps}
+use Rattle.ops_base.specs.ConflictSet.{conflict_set}
 use Rattle.ops_base.specs.Valid.{longest_list}
 use Rattle.ops_base.specs.declared.endings.Fault.TheVariants as fault
 use Rattle.ops_io.specs.Coming.{Coming}
 use Rattle.ops_io.specs.Outside.{LoadGives}
 use Rattle.ops_io.specs.declared.outside.LoadError.{LoadError}
-use Rattle.ops_meaning.specs.Whole.{Reply, ends_in_line, text_of, answer_file, refused_at, unread, whole_file, whole, words_fit, word_bytes, first_word}
-use Rattle.ops_top.specs.Calls.{OfContent, OfInput, usage}
-use Rattle.ops_top.proofs.Inputs.{input_map, input_untouched}
+use Rattle.ops_meaning.specs.Whole.{Reply, Job, job_of, ends_in_line, text_of, answer_file, refused_at, unread, usage, whole_file, whole_job_by, whole, file_of}
+use Rattle.ops_top.specs.Calls.{OfContent, OfInput}
+use Rattle.ops_top.proofs.Inputs.{input_untouched}
 use Rattle.ops_top.proofs.Refusals.{too_long}
 
 not_broken : (before now : ℕ) → now ≡ before → nat_lt before now ≡ false
@@ -52,62 +53,55 @@ of_long (Some (Some bytes)) P room old new h f = f bytes h.0
 -- ---- the arms of a load
 
 -- the file was loaded, and its text is answered
-pub loaded_delivers : (I : (Coming → Type 0) → Type 0) (D : Reply → Type 0) (name : List ℕ) (told : Option (Option (List ℕ))) (room before now : ℕ) (old new : List ℕ) → old ≡ [] → (let r : Result Bool LoadError = Ok true in LoadGives told room r old new) → now ≡ before
-    → I (λ z. D (answer_file z new)) → OfContent told (λ content. I (λ z. D (whole_file name content (nat_lt before now) z)))
-loaded_delivers I D name told room before now old new empty h same d =
+pub loaded_delivers : (I : (Coming → Type 0) → Type 0) (D : Reply → Type 0) (job : Job) (told : Option (Option (List ℕ))) (room before now : ℕ) (old new : List ℕ) → old ≡ [] → (let r : Result Bool LoadError = Ok true in LoadGives told room r old new) → now ≡ before
+    → I (λ z. D (answer_file job.limit z new)) → OfContent told (λ content. I (λ z. D (whole_file job content (nat_lt before now) z)))
+loaded_delivers I D job told room before now old new empty h same d =
     let G : List ℕ → Type 0 = λ xs. (let r : Result Bool LoadError = Ok true in LoadGives told room r xs new) in
-    let B : Bool → Type 0 = λ b. I (λ z. D (whole_file name (Some new) b z)) in
+    let B : Bool → Type 0 = λ b. I (λ z. D (whole_file job (Some new) b z)) in
     of_loaded told _ room new (subst G empty h) (subst B (sym (not_broken before now same)) d)
 
 -- the file is longer than any text, and is refused
-pub long_delivers : (left : Option (List ℕ)) (failed : Bool) (D : Reply → Type 0) (name : List ℕ) (told : Option (Option (List ℕ))) (room before now : ℕ) (old new : List ℕ) → room ≡ longest_list → (let r : Result Bool LoadError = Ok false in LoadGives told room r old new) → now ≡ before
-    → D (refused_at fault.TooLong 1 1) → OfContent told (λ content. OfInput left left failed (λ z. D (whole_file name content (nat_lt before now) z)))
-long_delivers left failed D name told room before now old new is h same d =
+pub long_delivers : (left : Option (List ℕ)) (failed : Bool) (D : Reply → Type 0) (job : Job) (told : Option (Option (List ℕ))) (room before now : ℕ) (old new : List ℕ) → room ≡ longest_list → (let r : Result Bool LoadError = Ok false in LoadGives told room r old new) → now ≡ before
+    → D (refused_at fault.TooLong 1 1) → OfContent told (λ content. OfInput left left failed (λ z. D (whole_file job content (nat_lt before now) z)))
+long_delivers left failed D job told room before now old new is h same d =
     of_long told _ room old new h
-    (λ bytes long. let B : Bool → Type 0 = λ b. OfInput left left failed (λ z. D (whole_file name (Some bytes) b z)) in
+    (λ bytes long. let B : Bool → Type 0 = λ b. OfInput left left failed (λ z. D (whole_file job (Some bytes) b z)) in
     subst B (sym (not_broken before now same))
-    (input_untouched left failed (λ z. D (answer_file z bytes)) (λ z. subst D (too_long (text_of bytes) z (omega (arith, text_as_long bytes))) d)))
+    (input_untouched left failed (λ z. D (answer_file job.limit z bytes)) (λ z. subst D (too_long (text_of bytes) job.limit z (omega (arith, text_as_long bytes))) d)))
 
-unread_any : (name : List ℕ) (content : Option (List ℕ)) (z : Coming) → unread name ≡ whole_file name content true z
-unread_any name content z = refl
+unread_any : (job : Job) (content : Option (List ℕ)) (z : Coming) → unread job.file ≡ whole_file job content true z
+unread_any job content z = refl
 
 -- the load failed
-pub failed_delivers : (left : Option (List ℕ)) (failed : Bool) (D : Reply → Type 0) (name : List ℕ) (told : Option (Option (List ℕ))) (before now : ℕ) → now ≡ before + 1
-    → D (unread name) → OfContent told (λ content. OfInput left left failed (λ z. D (whole_file name content (nat_lt before now) z)))
-failed_delivers left failed D name told before now rose d =
+pub failed_delivers : (left : Option (List ℕ)) (failed : Bool) (D : Reply → Type 0) (job : Job) (told : Option (Option (List ℕ))) (before now : ℕ) → now ≡ before + 1
+    → D (unread job.file) → OfContent told (λ content. OfInput left left failed (λ z. D (whole_file job content (nat_lt before now) z)))
+failed_delivers left failed D job told before now rose d =
     of_any told _
-    (λ content. let B : Bool → Type 0 = λ b. OfInput left left failed (λ z. D (whole_file name content b z)) in
-    subst B (sym (is_broken before now rose)) (input_untouched left failed (λ z. D (whole_file name content true z)) (λ z. subst D (unread_any name content z) d)))
+    (λ content. let B : Bool → Type 0 = λ b. OfInput left left failed (λ z. D (whole_file job content b z)) in
+    subst B (sym (is_broken before now rose)) (input_untouched left failed (λ z. D (whole_file job content true z)) (λ z. subst D (unread_any job content z) d)))
 
 -- memory ran out
-pub short_delivers : (left : Option (List ℕ)) (failed : Bool) (D : Reply → Type 0) (name : List ℕ) (told : Option (Option (List ℕ))) (before now : ℕ) → ((o : Reply) → D o)
-    → OfContent told (λ content. OfInput left left failed (λ z. D (whole_file name content (nat_lt before now) z)))
-short_delivers left failed D name told before now d =
-    of_any told _ (λ content. input_untouched left failed (λ z. D (whole_file name content (nat_lt before now) z)) (λ z. d (whole_file name content (nat_lt before now) z)))
+pub short_delivers : (left : Option (List ℕ)) (failed : Bool) (D : Reply → Type 0) (job : Job) (told : Option (Option (List ℕ))) (before now : ℕ) → ((o : Reply) → D o)
+    → OfContent told (λ content. OfInput left left failed (λ z. D (whole_file job content (nat_lt before now) z)))
+short_delivers left failed D job told before now d =
+    of_any told _ (λ content. input_untouched left failed (λ z. D (whole_file job content (nat_lt before now) z)) (λ z. d (whole_file job content (nat_lt before now) z)))
 
 -- ---- words
 
-whole_fits : (ws : List (List ℕ)) (content : Option (List ℕ)) (broken : Bool) (z : Coming) → words_fit ws ≡ true → whole_file (first_word ws) content broken z ≡ whole ws content broken z
-whole_fits ws content broken z fit =
-    let by : Bool → Reply = λ b. cond b (whole_file (first_word ws) content broken z) usage in ap by (sym fit)
+-- the answer to what the words ask for, or to words that don't fit
+abbrev pub whole_job : Option Job → Option (List ℕ) → Bool → Coming → Reply
+whole_job asked content broken z = whole_job_by conflict_set asked content broken z
 
--- what is answered to the file of the first word is answered to the words
-pub words_deliver : (old new : Option (List ℕ)) (failed : Bool) (D : Reply → Type 0) (ws : List (List ℕ)) (name : List ℕ) (told : List ℕ → Option (Option (List ℕ))) (broken : Bool) → words_fit ws ≡ true → name ≡ first_word ws
-    → OfContent (told name) (λ content. OfInput old new failed (λ z. D (whole_file name content broken z))) → OfContent (told (first_word ws)) (λ content. OfInput old new failed (λ z. D (whole ws content broken z)))
-words_deliver old new failed D ws name told broken fit is p =
-    let N : List ℕ → Type 0 = λ w. OfContent (told w) (λ content. OfInput old new failed (λ z. D (whole_file w content broken z))) in
-    of_map (told (first_word ws)) _ _
-    (λ content d. input_map old new failed (λ z. D (whole_file (first_word ws) content broken z)) (λ z. D (whole ws content broken z)) (λ z d. subst D (whole_fits ws content broken z fit) d) d) (subst N is p)
+-- what is answered to the file that is asked for is answered to the words
+pub words_deliver : (old new : Option (List ℕ)) (failed : Bool) (D : Reply → Type 0) (ws : List (List ℕ)) (job : Job) (told : List ℕ → Option (Option (List ℕ))) (broken : Bool) → job_of ws ≡ Some job
+    → OfContent (told job.file) (λ content. OfInput old new failed (λ z. D (whole_file job content broken z))) → OfContent (told (file_of ws)) (λ content. OfInput old new failed (λ z. D (whole ws content broken z)))
+words_deliver old new failed D ws job told broken is p =
+    let by : Option Job → Type 0 = λ asked. OfContent (told (unwrap_or (option_map (λ j. j.file) asked) [])) (λ content. OfInput old new failed (λ z. D (whole_job asked content broken z))) in
+    subst by (sym is) p
 
 -- words that don't fit are answered whatever the input is
-pub unfit_deliver : (left : Option (List ℕ)) (failed : Bool) (D : Reply → Type 0) (ws : List (List ℕ)) (told : Option (Option (List ℕ))) (broken : Bool) → words_fit ws ≡ false
+pub unfit_deliver : (left : Option (List ℕ)) (failed : Bool) (D : Reply → Type 0) (ws : List (List ℕ)) (told : Option (Option (List ℕ))) (broken : Bool) → job_of ws ≡ None
     → D usage → OfContent told (λ content. OfInput left left failed (λ z. D (whole ws content broken z)))
-unfit_deliver left failed D ws told broken unfit d =
-    of_any told _
-    (λ content. let by : Coming → Bool → Reply = λ z b. cond b (whole_file (first_word ws) content broken z) usage in
-    input_untouched left failed (λ z. D (whole ws content broken z)) (λ z. subst D (ap (by z) (sym unfit)) d))
-
--- the first word, of words that fit
-pub first_is : {A : Type 0} (words : List (String A)) (w : String A) → words_fit (word_bytes words) ≡ true → w ≡ get_or words 0 w → string_bytes w ≡ first_word (word_bytes words)
-first_is [] w fit is = absurd (cc)
-first_is (v ∷ vs) w fit is = ap string_bytes is
+unfit_deliver left failed D ws told broken is d =
+    let by : Option Job → Type 0 = λ asked. OfContent told (λ content. OfInput left left failed (λ z. D (whole_job asked content broken z))) in
+    subst by (sym is) (of_any told _ (λ content. input_untouched left failed (λ z. D usage) (λ z. d)))

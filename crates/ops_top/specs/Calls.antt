@@ -4,10 +4,10 @@ use Rattle.std.specs.Io.KnownBytes.{prepend_known}
 use Rattle.ops_io.specs.Coming.{Coming}
 use Rattle.ops_meaning.specs.declared.statuses.Status.{Status}
 use Rattle.ops_meaning.specs.declared.statuses.Status.TheVariants as status
-use Rattle.ops_meaning.specs.Layout.{usage_line}
 use Rattle.ops_meaning.specs.Reads.{Read, Placed, reads}
 use Rattle.ops_meaning.specs.Running.{session_of}
-use Rattle.ops_meaning.specs.Whole.{Reply, words_fit, first_word, text_of, setting_of}
+use Rattle.ops_meaning.specs.Whole.{Job as Meant, words_fit, file_of, limit_of, text_of, setting_of}
+use Rattle.ops_top.specs.declared.words.Job.{Job}
 
 -- It holds for the content that is told of a file, or for some content where none is told.
 abbrev pub OfContent : Option (Option (List ℕ)) → (Option (List ℕ) → Type 0) → Type 0
@@ -49,6 +49,10 @@ TellsFailedRead status.WriteFault loads now reads now2 = BothStay loads now read
 TellsFailedRead status.OutOfMemory loads now reads now2 = BothStay loads now reads now2 ⊎ OneRises loads now reads now2
 TellsFailedRead s loads now reads now2 = BothStay loads now reads now2
 
+-- what is asked for, in the words of the definition
+abbrev pub job_meant : Job → Meant
+job_meant j = record { file = j.file.now; limit = j.limit }
+
 -- Usage is answered only where the words don't fit, and no other answer comes there but those of a write and of memory.
 abbrev pub TellsWords : Status → Bool → Type 0
 TellsWords status.Usage fit = fit ≡ false
@@ -61,28 +65,25 @@ abbrev pub AskedFor : Status → List ℕ → List (List ℕ) → List (List ℕ
 AskedFor status.OutOfMemory name old new = (new ≡ old) ⊎ (new ≡ old ++ name ∷ [])
 AskedFor s name old new = new ≡ old ++ name ∷ []
 
--- The file of the first word was asked for where the words fit, and none otherwise.
+-- The file that the words ask for was asked for where they fit, and none otherwise.
 abbrev pub AskedForWords : Status → List (List ℕ) → Bool → List (List ℕ) → List (List ℕ) → Type 0
-AskedForWords s words true old new = AskedFor s (first_word words) old new
+AskedForWords s words true old new = AskedFor s (file_of words) old new
 AskedForWords s words false old new = new ≡ old
 
-abbrev pub usage : Reply
-usage = record { bytes = usage_line; status = status.Usage }
+-- The text is a program whose session, of so many firings at most, comes to its end over this input.
+abbrev pub text_runs_through : ℕ → Coming → Result Read Placed → Bool
+text_runs_through limit coming (Err p) = false
+text_runs_through limit coming (Ok p) = is_ok (session_of (setting_of p) limit p.commands p.names coming).outcome
 
--- The text is a program whose session comes to its end over this input.
-abbrev pub text_runs_through : Coming → Result Read Placed → Bool
-text_runs_through coming (Err p) = false
-text_runs_through coming (Ok p) = is_ok (session_of (setting_of p) p.commands p.names coming).outcome
+abbrev pub file_runs_through : ℕ → Coming → List ℕ → Bool
+file_runs_through limit coming bytes = text_runs_through limit coming (reads (text_of bytes))
 
-abbrev pub file_runs_through : Coming → List ℕ → Bool
-file_runs_through coming bytes = text_runs_through coming (reads (text_of bytes))
-
--- The words fit, and this file's text is a program whose session comes to its end over an input of these bytes.
+-- The words fit, and this file's text is a program whose session comes to its end, within their limit, over an input of these bytes.
 abbrev pub runs_over : List (List ℕ) → List ℕ → List ℕ → Bool
-runs_over words bytes left = words_fit words && file_runs_through (record { bytes = left; fails = false }) bytes
+runs_over words bytes left = words_fit words && file_runs_through (limit_of words) (record { bytes = left; fails = false }) bytes
 
--- The words fit, the file is there, and its text is a program whose session comes to its end over the input that is left; where the
--- source does not tell that, over every input that ends.
+-- The words fit, the file is there, and its text is a program whose session comes to its end, within their limit, over the input that is
+-- left; where the source does not tell that, over every input that ends.
 abbrev pub RunsThrough : List (List ℕ) → Option (Option (List ℕ)) → Option (List ℕ) → Type 0
 RunsThrough words (Some (Some bytes)) (Some left) = runs_over words bytes left ≡ true
 RunsThrough words (Some (Some bytes)) None = (left : List ℕ) → runs_over words bytes left ≡ true

@@ -1,4 +1,3 @@
-pub mod Candidates
 pub mod Courses
 pub mod Codes
 pub mod Told

@@ -1,5 +1,5 @@
 -- How a part of a run tells its outcome, or gives up.
-use Rattle.std.specs.Prelude.{◌≡◌, ℕ, ◌+◌, List, length, Option, Result, Ok, Err, ◌⊎◌}
+use Rattle.std.specs.Prelude.{◌≡◌, ℕ, ◌+◌, List, Option, Result, Ok, Err, ◌⊎◌}
 use Rattle.ops_base.specs.declared.endings.Ending.{Ending}
 use Rattle.ops_base.specs.declared.endings.Ending.TheVariants as ending
 use Rattle.ops_io.specs.Outside.{GrewBy, GrewByPrefix}
@@ -14,7 +14,6 @@ use Rattle.ops_base.specs.declared.rules.Rule.{Rule}
 use Rattle.ops_base.specs.Names.{Spellings}
 use Rattle.ops_io.specs.Coming.{Coming, Inlet, preceded_by, Took, ComesAfter}
 use Rattle.ops_meaning.specs.Running.{Course as Meant, ending_of}
-use Rattle.ops_top.specs.declared.course.Course.{Course}
 
 -- All bytes of the outcome went out and its status is answered; or the call gave up, for the reason that the count of
 -- failed writes tells, and a prefix went out.
@@ -28,18 +27,22 @@ status_after (Ok s) = s
 status_after (Err stop.Write) = status.WriteFault
 status_after (Err stop.OutOfMemory) = status.OutOfMemory
 
--- the ending of a session that is told, or why none is
-abbrev pub ended : Result Course Ending → Result Ending Stop
-ended (Ok c) = Ok (ending.Done c.firings (length c.store.elements) c.store.last)
-ended (Err ending.WriteFault) = Err stop.Write
-ended (Err ending.OutOfMemory) = Err stop.OutOfMemory
-ended (Err f) = Ok f
-
 -- A read of the input failed exactly where that is the ending; where the call gave up one may have failed.
 abbrev pub CountsUnread : Result Ending Stop → ℕ → ℕ → Type 0
 CountsUnread (Ok ending.ReadFault) before now = now ≡ before + 1
 CountsUnread (Err why) before now = (now ≡ before) ⊎ (now ≡ before + 1)
 CountsUnread (Ok f) before now = now ≡ before
+
+-- The bytes of a session were put, and this is its ending; or the call gave up.
+abbrev pub EndsSession : Result Ending Stop → Port → Port → Effect Ending Meant → Type 0
+EndsSession (Ok f) old new e = (f ≡ ending_of e.outcome) × Put old new e.bytes
+EndsSession (Err why) old new e = Stopped why old new e.bytes
+
+-- It took bytes of the input, and whatever may come behind them, it ends so over those and that.
+pub record EndsOn (r : Result Ending Stop) (before now : Inlet) (old new : Port) (e : Coming → Effect Ending Meant) : Type 0 where
+  pub taken : List ℕ
+  pub took : Took before now taken
+  pub ends : (c : Coming) → ComesAfter before now c → EndsSession r old new (e (preceded_by taken c))
 
 -- The bytes of a session and its last line were put, and this is its ending; or the call gave up.
 abbrev pub TellsSession : Result Ending Stop → Port → Port → Spellings → List Rule → Effect Ending Meant → Type 0

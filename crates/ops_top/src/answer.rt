@@ -7,12 +7,13 @@ ghost use Rattle.ops_meaning.specs.Running.{session_of};
 ghost use Rattle.ops_meaning.specs.Symbols.{is_held};
 ghost use Rattle.ops_meaning.specs.Whole.{status_of, told, answer_to};
 ghost use Rattle.act_phase.specs.Outcomes.{setting_of};
+ghost use Rattle.work_store.specs.Stored.{nothing_stored};
 ghost use Rattle.ops_top.specs.Calls.{OfInput, TellsFailedInput};
-ghost use Rattle.ops_top.specs.Told.{Delivers, ended, status_after, CountsUnread, TellsOn};
+ghost use Rattle.ops_top.specs.Told.{Delivers, status_after, CountsUnread, TellsOn};
 
-use crate::course::Course;
 use crate::saying::refuse;
 use crate::session::run_session;
+use direct_engine::DirectEngine;
 use ops_base::endings::Ending;
 use ops_base::programs::Program;
 use ops_base::symbols::Names;
@@ -21,22 +22,7 @@ use ops_io::{Input, Out, Sink, Source, Stop};
 use ops_meaning::Status;
 use ops_print::put_fault;
 use std::alloc::Global;
-
-/// The ending of a session that is told, or why none is.
-fn ended(outcome: Result<Course, Ending>) -> Result<Ending, Stop>
-    ensures { result ≡ ended outcome }
-{
-    match outcome {
-        Ok(course) => Ok(Ending::Done {
-            firings: course.firings,
-            elements: course.store.len() as u64,
-            last_tag: course.store.last(),
-        }),
-        Err(Ending::WriteFault) => Err(Stop::Write),
-        Err(Ending::OutOfMemory) => Err(Stop::OutOfMemory),
-        Err(ending) => Ok(ending),
-    }
-}
+use work_store::Matcher;
 
 fn status_of(ending: Ending) -> Status
     ensures { result ≡ status_of ending }
@@ -61,17 +47,22 @@ fn status_of(ending: Ending) -> Status
     }
 }
 
-/// Runs the session of a program and puts its last line. The symbols of the program keep their spellings in it, so that
-/// the line is told with the names as they were.
-fn tell_session<I: Source, K: Sink>(
+/// Runs the session of a program over a matcher that stands for it, and puts its last line. The symbols of the program keep
+/// their spellings in it, so that the line is told with the names as they were.
+fn tell_session<M: Matcher, I: Source, K: Sink>(
     alloc: Global,
+    hand: &mut M::Hand,
     program: &Program,
     names: &mut Names,
+    matcher: M,
+    limit: u64,
     input: &mut Input,
     source: &mut I,
     out: &mut Out,
     sink: &mut K,
 ) -> Result<Ending, Stop>
+    requires stands { M.stands_for matcher program.now.rules }
+    requires empty { M.stored matcher ≡ nothing_stored }
     requires whole { IsTrue out.old.whole }
     requires faults { K.faults sink.old < 2 ^ 63 }
     requires reads { I.faults source.old < 2 ^ 63 }
@@ -82,19 +73,22 @@ fn tell_session<I: Source, K: Sink>(
         (inlet input.new (I.left source.new) (I.faults source.new))
         (port (K.taken sink.old) (K.faults sink.old) out.old)
         (port (K.taken sink.new) (K.faults sink.new) out.new)
-        names.old program.now.rules (λ c. session_of (setting_of program.now) program.now.commands names.old c) }
+        names.old program.now.rules (λ c. session_of (setting_of program.now) limit program.now.commands names.old c) }
     ensures reads { CountsUnread result (I.faults source.old) (I.faults source.new) }
 {
-    let ending = ended(run_session(alloc, program, names, input, source, out, sink))?;
+    let ending = run_session(
+        alloc, hand, program, names, matcher, limit, input, source, out, sink,
+    )?;
     put_fault(out, sink, names, program, &ending)?;
     Ok(ending)
 }
 
-/// The answer to a program, whose session reads from this source.
+/// The answer to a program, whose session makes at most so many firings and reads from this source.
 fn answer_program<I: Source, K: Sink>(
     alloc: Global,
     program: &Program,
     names: &mut Names,
+    limit: u64,
     source: &mut I,
     sink: &mut K,
 ) -> Result<Status, Stop>
@@ -104,14 +98,26 @@ fn answer_program<I: Source, K: Sink>(
     requires held { IsTrue (is_held (length names.old.held) program.now.classes program.now.rules program.now.commands) }
     ensures delivers { OfInput (I.left source.old) (I.left source.new) (nat_lt (I.faults source.old) (I.faults source.new))
         (λ coming. Delivers result (told names.old program.now.rules
-        (session_of (setting_of program.now) program.now.commands names.old coming))
+        (session_of (setting_of program.now) limit program.now.commands names.old coming))
         (K.taken sink.old) (K.faults sink.old) (K.taken sink.new) (K.faults sink.new)) }
     ensures reads { TellsFailedInput (status_after result) (I.faults source.old) (I.faults source.new) }
     ensures input { (got : List ℕ) × (I.left source.old ≡ prepend_known got (I.left source.new)) }
 {
+    let engine = DirectEngine::new(alloc, program)?;
     let mut input = Input::new(alloc)?;
     let mut out = Out::new(alloc)?;
-    let ending = tell_session(alloc, program, names, &mut input, source, &mut out, sink)?;
+    let ending = tell_session(
+        alloc,
+        &mut (),
+        program,
+        names,
+        engine,
+        limit,
+        &mut input,
+        source,
+        &mut out,
+        sink,
+    )?;
     out.flush(sink)?;
     Ok(status_of(ending))
 }
@@ -120,19 +126,20 @@ fn answer_program<I: Source, K: Sink>(
 pub fn answer_text<I: Source, K: Sink>(
     alloc: Global,
     text: Vec<u8>,
+    limit: u64,
     input: &mut I,
     sink: &mut K,
 ) -> Result<Status, Stop>
     requires faults { K.faults sink.old < 2 ^ 63 }
     requires reads { I.faults input.old < 2 ^ 63 }
     ensures delivers { OfInput (I.left input.old) (I.left input.new) (nat_lt (I.faults input.old) (I.faults input.new))
-        (λ coming. Delivers result (answer_to coming text.items)
+        (λ coming. Delivers result (answer_to limit coming text.items)
         (K.taken sink.old) (K.faults sink.old) (K.taken sink.new) (K.faults sink.new)) }
     ensures reads { TellsFailedInput (status_after result) (I.faults input.old) (I.faults input.new) }
     ensures input { (got : List ℕ) × (I.left input.old ≡ prepend_known got (I.left input.new)) }
 {
     match read_program(alloc, text) {
-        Ok((program, mut names)) => answer_program(alloc, &program, &mut names, input, sink),
+        Ok((program, mut names)) => answer_program(alloc, &program, &mut names, limit, input, sink),
         Err(
             ProgramFault::At {
                 fault,

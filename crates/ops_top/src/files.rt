@@ -34,29 +34,31 @@ fn text_of(bytes: Vec<u8>) -> Result<Vec<u8>, OutOfMemory>
     Ok(text)
 }
 
-/// The answer to a file of these bytes.
+/// The answer to a file of these bytes, whose session makes at most so many firings.
 fn answer_file<I: Source, K: Sink>(
     alloc: Global,
     bytes: Vec<u8>,
+    limit: u64,
     input: &mut I,
     sink: &mut K,
 ) -> Result<Status, Stop>
     requires faults { K.faults sink.old < 2 ^ 63 }
     requires reads { I.faults input.old < 2 ^ 63 }
     ensures delivers { OfInput (I.left input.old) (I.left input.new) (nat_lt (I.faults input.old) (I.faults input.new))
-        (λ coming. Delivers result (answer_file coming bytes.items)
+        (λ coming. Delivers result (answer_file limit coming bytes.items)
         (K.taken sink.old) (K.faults sink.old) (K.taken sink.new) (K.faults sink.new)) }
     ensures reads { TellsFailedInput (status_after result) (I.faults input.old) (I.faults input.new) }
     ensures input { (got : List ℕ) × (I.left input.old ≡ prepend_known got (I.left input.new)) }
 {
     let text = text_of(bytes)?;
-    answer_text(alloc, text, input, sink)
+    answer_text(alloc, text, limit, input, sink)
 }
 
-/// Loads the file of this name and answers it. It asks the shelf once.
+/// Loads the file of this name and answers it, with at most so many firings. It asks the shelf once.
 pub fn run_file<H: Shelf, I: Source, K: Sink>(
     alloc: Global,
     name: &str,
+    limit: u64,
     shelf: &mut H,
     input: &mut I,
     sink: &mut K,
@@ -67,7 +69,7 @@ pub fn run_file<H: Shelf, I: Source, K: Sink>(
     requires faults { K.faults sink.old < 2 ^ 63 }
     ensures delivers { OfContent (H.told shelf.old name.now) (λ content.
         OfInput (I.left input.old) (I.left input.new) (nat_lt (I.faults input.old) (I.faults input.new)) (λ coming.
-        Delivers result (whole_file name.now content (nat_lt (H.faults shelf.old) (H.faults shelf.new)) coming)
+        Delivers result (whole_file (record { file = name.now; limit = limit }) content (nat_lt (H.faults shelf.old) (H.faults shelf.new)) coming)
         (K.taken sink.old) (K.faults sink.old) (K.taken sink.new) (K.faults sink.new))) }
     ensures reads { TellsFailedRead (status_after result) (H.faults shelf.old) (H.faults shelf.new) (I.faults input.old) (I.faults input.new) }
     ensures input { (got : List ℕ) × (I.left input.old ≡ prepend_known got (I.left input.new)) }
@@ -76,7 +78,7 @@ pub fn run_file<H: Shelf, I: Source, K: Sink>(
 {
     let mut bytes = Vec::new(alloc);
     match shelf.load(name, LONGEST_TEXT, &mut bytes) {
-        Ok(true) => answer_file(alloc, bytes, input, sink),
+        Ok(true) => answer_file(alloc, bytes, limit, input, sink),
         Ok(false) => refuse(alloc, Fault::TooLong, 1, 1, sink),
         Err(LoadError::Failed) => say_unread(alloc, name.as_bytes(), sink),
         Err(LoadError::OutOfMemory) => Err(Stop::OutOfMemory),

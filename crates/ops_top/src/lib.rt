@@ -2,21 +2,23 @@
 #![tactic(auto)]
 
 mod answer;
-mod choosing;
-mod course;
 mod files;
+mod laws;
 mod lines;
 mod making;
 #[cfg(test)]
 mod rows;
 mod running;
 mod saying;
+#[cfg(test)]
+mod selection_rows;
 mod session;
 #[cfg(test)]
 mod tests;
 mod top;
 mod words;
 
+pub use laws::firings_are_limited;
 pub use ops_base::endings::{ActKind, Fault, Limit};
 pub use ops_meaning::Status;
 pub use top::{code, ops_run, still_run};

@@ -1,36 +1,27 @@
-//! The recognise-act cycle: one firing, and a run.
-ghost use Rattle.std.specs.Prelude.{◌≡◌, ◌^◌, ◌<◌, ◌-◌, IsTrue, IfOk, OnOk, false};
-ghost use Rattle.ops_base.specs.ConflictSet.{conflict_set};
-ghost use Rattle.ops_base.specs.WorkingMemory.{Lawful};
+//! A run: one firing after another, until it ends.
+ghost use Rattle.std.specs.Prelude.{◌≡◌, ◌^◌, ◌<◌, ◌-◌, IsTrue, IfOk, Some, false};
+ghost use Rattle.ops_base.specs.declared.rules.Inst.{Inst};
 ghost use Rattle.ops_io.specs.Coming.{inlet};
 ghost use Rattle.ops_io.specs.Ports.{port};
 ghost use Rattle.ops_meaning.specs.Effects.{PerformsOn, CountsReads, failure_as, of_ending};
-ghost use Rattle.ops_meaning.specs.Kept.{KeepsNames, last_after};
-ghost use Rattle.ops_meaning.specs.Running.{ended_in, firing, marked, most_firings, next_to_fire, phase_by, run_on};
+ghost use Rattle.ops_meaning.specs.Kept.{KeepsNames};
+ghost use Rattle.ops_meaning.specs.Running.{ended_in, firing, next_to_fire, one_less, run_on};
 ghost use Rattle.act_phase.specs.Outcomes.{failure_of, setting_of};
-ghost use Rattle.ops_top.specs.Courses.{alone, course_of, ends_unread};
+ghost use Rattle.cycle.specs.States.{alone, state_course};
+ghost use Rattle.ops_top.specs.Courses.{IsOf, ends_unread, is_spent};
 
-use crate::choosing::{marks_and_next, next_to_fire};
-use crate::course::{Course, do_changes};
-use act_phase::{ActFault, Acted, act};
+use act_phase::ActFault;
+use cycle::State;
 use ops_base::endings::Ending;
-use ops_base::memory::OutOfMemory;
 use ops_base::programs::Program;
-use ops_base::rules::Inst;
 use ops_base::symbols::Names;
 use ops_io::{Input, Out, Sink, Source};
 use ops_print::put_line;
 use std::alloc::Global;
+use work_store::Matcher;
 
-/// How many firings a session makes at most.
-const MOST_FIRINGS: u64 = 1_000_000;
-
-/// Whether `halt` was done in a firing, and what fires next.
-#[derive(Drop)]
-struct Turned {
-    halted: bool,
-    next: Option<Inst>,
-}
+/// No tag and no number of a firing reaches this. A session is over long before.
+const UNREACHED: u64 = 1 << 63;
 
 /// How a fault of a right side ends the session.
 fn ended_in(firing: u64, rule: usize, fault: ActFault) -> Ending
@@ -49,122 +40,116 @@ fn ended_in(firing: u64, rule: usize, fault: ActFault) -> Ending
     }
 }
 
-/// Ends the phase of a firing whose right side did this. `firings` counts it. The conflict set is found once.
-fn settle(
+/// The firing of the dominant instantiation, which is of this production.
+fn fire<M: Matcher + Drop, I: Source, K: Sink>(
     alloc: Global,
-    program: &Program,
-    course: &mut Course,
-    inst: Inst,
-    firings: u64,
-    acted: Acted,
-) -> Result<Turned, OutOfMemory>
-    requires { Lawful course.old.store.elements course.old.store.last acted.changes }
-    ensures course { OnOk result (alone course.new ≡ phase_by (conflict_set program.now.rules) acted.changes firings
-        (last_after course.old.store.last acted.changes) (marked inst (alone course.old))) }
-    ensures halted { IfOk result (λ t. t.halted ≡ acted.halted) }
-    ensures next { IfOk result (λ t. t.next ≡ next_to_fire program.now.rules (alone course.new)) }
-{
-    course.fired.push(inst)?;
-    course.firings = firings;
-    do_changes(&mut course.store, acted.changes.into_vec())?;
-    let next = marks_and_next(alloc, program, course)?;
-    Ok(Turned {
-        halted: acted.halted,
-        next,
-    })
-}
-
-/// One firing, which is one phase. A session is over long before firings can't be counted.
-fn fire<I: Source, K: Sink>(
-    alloc: Global,
+    hand: &mut M::Hand,
     program: &Program,
     names: &mut Names,
-    course: &mut Course,
-    inst: Inst,
+    state: State<M>,
+    rule: usize,
     input: &mut Input,
     source: &mut I,
     out: &mut Out,
     sink: &mut K,
-) -> Result<Turned, Ending>
+) -> Result<(State<M>, bool), Ending>
     requires whole { IsTrue out.old.whole }
     requires faults { K.faults sink.old < 2 ^ 63 }
     requires reads { I.faults source.old < 2 ^ 63 }
-    ensures performs { PerformsOn (λ t c. record { course = course_of course.new names.new c; halted = t.halted }) of_ending result
+    requires of { IsOf M.stands_for program.now.rules state }
+    requires next { (i : Inst) × (next_to_fire program.now.rules (alone M.stored state) ≡ Some i) × (i.rule ≡ rule) }
+    ensures performs { (i : Inst) → next_to_fire program.now.rules (alone M.stored state) ≡ Some i
+        → PerformsOn (λ r c. record { course = state_course M.stored r.0 names.new c; halted = r.1 }) of_ending result
         (inlet input.old (I.left source.old) (I.faults source.old))
         (inlet input.new (I.left source.new) (I.faults source.new))
         (port (K.taken sink.old) (K.faults sink.old) out.old)
         (port (K.taken sink.new) (K.faults sink.new) out.new)
-        (λ c. firing (setting_of program.now) out.old.column inst (course_of course.old names.old c)) }
+        (λ c. firing (setting_of program.now) out.old.column i (state_course M.stored state names.old c)) }
     ensures reads { CountsReads (ends_unread result) (I.faults source.old) (I.faults source.new) }
     ensures names { KeepsNames names.old names.new }
-    ensures next { IfOk result (λ t. t.next ≡ next_to_fire program.now.rules (alone course.new)) }
+    ensures of { IfOk result (λ r. IsOf M.stands_for program.now.rules r.0) }
 {
-    let Some(firings) = course.firings.checked_add(1) else {
+    let firings = state.firings();
+    if firings >= UNREACHED || state.last_tag() >= UNREACHED {
         return Err(Ending::OutOfMemory);
-    };
-    let next_tag = course.next_tag()?;
-    let rule = inst.rule;
-    match act(
-        alloc,
-        program,
-        names,
-        &course.store,
-        &inst,
-        next_tag,
-        0,
-        input,
-        source,
-        out,
-        sink,
-    ) {
-        Ok(acted) => Ok(settle(alloc, program, course, inst, firings, acted)?),
-        Err(fault) => Err(ended_in(firings, rule, fault)),
+    }
+    match state.fire(alloc, hand, program, names, 0, input, source, out, sink) {
+        Ok(fired) => Ok(fired),
+        Err(fault) => Err(ended_in(firings + 1, rule, fault)),
     }
 }
 
-/// A run, until it ends or the session has made its last firing. The conflict set is found once a firing.
-pub fn run<I: Source, K: Sink>(
+/// Whether the run has made all the firings that it has a number for.
+fn is_spent(count: Option<u64>) -> bool
+    ensures { result ≡ is_spent count }
+{
+    count == Some(0)
+}
+
+/// One firing less is left to the run.
+fn one_less(count: Option<u64>) -> Option<u64>
+    ensures { result ≡ one_less count }
+{
+    Some(count?.saturating_sub(1))
+}
+
+/// A run of at most `count` firings, if it has a number, until it ends or the session has made the last of its `limit`
+/// firings.
+pub fn run<M: Matcher + Drop, I: Source, K: Sink>(
     alloc: Global,
+    hand: &mut M::Hand,
     program: &Program,
     names: &mut Names,
-    course: &mut Course,
+    state: State<M>,
+    limit: u64,
+    count: Option<u64>,
     input: &mut Input,
     source: &mut I,
     out: &mut Out,
     sink: &mut K,
-) -> Result<(), Ending>
+) -> Result<State<M>, Ending>
     requires whole { IsTrue out.old.whole }
     requires faults { K.faults sink.old < 2 ^ 63 }
     requires reads { I.faults source.old < 2 ^ 63 }
-    ensures performs { PerformsOn (λ _ c. course_of course.new names.new c) of_ending result
+    requires of { IsOf M.stands_for program.now.rules state }
+    ensures performs { PerformsOn (λ s c. state_course M.stored s names.new c) of_ending result
         (inlet input.old (I.left source.old) (I.faults source.old))
         (inlet input.new (I.left source.new) (I.faults source.new))
         (port (K.taken sink.old) (K.faults sink.old) out.old)
         (port (K.taken sink.new) (K.faults sink.new) out.new)
-        (λ c. run_on (most_firings - course.old.firings) (setting_of program.now) out.old.column false (course_of course.old names.old c)) }
+        (λ c. run_on (limit - state.firings) (setting_of program.now) out.old.column false count
+        (state_course M.stored state names.old c)) }
     ensures reads { CountsReads (ends_unread result) (I.faults source.old) (I.faults source.new) }
     ensures names { KeepsNames names.old names.new }
+    ensures of { IfOk result (λ s. IsOf M.stands_for program.now.rules s) }
 {
-    let mut left = MOST_FIRINGS.saturating_sub(course.firings);
-    let mut next = next_to_fire(alloc, program, course)?;
+    let mut state = state;
+    let mut left = limit.saturating_sub(state.firings());
+    let mut count = count;
     let mut halted = false;
     'turns: loop {
         if halted {
-            return Ok(put_line(out, sink, b"end -- explicit halt")?);
+            put_line(out, sink, b"end -- explicit halt")?;
+            return Ok(state);
         }
-        let Some(inst) = next else {
-            return Ok(put_line(out, sink, b"end -- no production true")?);
+        if is_spent(count) {
+            put_line(out, sink, b"break -- run count")?;
+            return Ok(state);
+        }
+        let Some(next) = state.next() else {
+            put_line(out, sink, b"end -- no production true")?;
+            return Ok(state);
         };
+        let rule = next.rule;
         if left == 0 {
             return Err(Ending::Limit {
-                firings: course.firings,
+                firings: state.firings(),
             });
         }
         left -= 1;
-        let turned = fire(
-            alloc, program, names, course, inst, input, source, out, sink,
+        count = one_less(count);
+        (state, halted) = fire(
+            alloc, hand, program, names, state, rule, input, source, out, sink,
         )?;
-        halted = turned.halted;
-        next = turned.next;
     }
 }

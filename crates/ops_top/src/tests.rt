@@ -1,5 +1,5 @@
 //! Each public call once, on words and files that need no program.
-ghost use Rattle.std.specs.Prelude.{◌≡◌, ◌∷◌, [], IfOk};
+ghost use Rattle.std.specs.Prelude.{◌≡◌, ◌∷◌, [], map, IfOk};
 ghost use Rattle.ops_meaning.specs.Whole.{word_bytes};
 
 use crate::top::{code, ops_run, still_run};
@@ -22,7 +22,9 @@ pub fn one_file(alloc: Global, name: &str, bytes: &[u8]) -> Result<MemShelf, All
 }
 
 /// These words.
-pub fn words_of(alloc: Global, words: &[&str]) -> Result<Vec<String>, AllocError> {
+pub fn words_of(alloc: Global, words: &[&str]) -> Result<Vec<String>, AllocError>
+    ensures { IfOk result (λ owned. word_bytes owned.items ≡ map (λ word. word.now) words.now) }
+{
     let mut owned = Vec::new(alloc);
     for word in words {
         owned.push(String::from_str(alloc, word)?)?;
@@ -34,12 +36,31 @@ const USAGE: &[u8] =
     b"usage: ops [--match direct|serial|rounds|free] [--workers N] [--lines L] [--limit N] FILE.. | ops --gen SEED SIZE | ops --net FILE..\n";
 
 /// Words that don't fit.
-const UNFIT: [&[&str]; 5] = [
+const UNFIT: [&[&str]; 15] = [
     &[],
     &["-x"],
-    &["a.ops", "a.ops"],
+    &["f", "f"],
     &["--gen", "7"],
-    &["--limit", "3", "--limit", "3", "a.ops"],
+    &["--limit", "f"],
+    &["--limit", "0", "f"],
+    &["--limit", "1000000001", "f"],
+    &["--limit", "10000000000", "f"],
+    &["--limit", "00000000001", "f"],
+    &["--limit", "-1", "f"],
+    &["--limit", "+1", "f"],
+    &["--limit", "1", "-x"],
+    &["--limit", "3", "--limit", "3", "f"],
+    &["f", "--limit", "1"],
+    &["--limit=1", "f"],
+];
+
+/// Words that fit, each with what is written where there is no such file.
+const FIT: [(&[&str], &[u8]); 5] = [
+    (&["f"], b"ops: cannot read f\n"),
+    (&["-"], b"ops: cannot read -\n"),
+    (&["--limit", "1", "f"], b"ops: cannot read f\n"),
+    (&["--limit", "0000000001", "-"], b"ops: cannot read -\n"),
+    (&["--limit", "1000000000", "f"], b"ops: cannot read f\n"),
 ];
 
 #[test]
@@ -76,17 +97,19 @@ fn usage_line_is_cut(rt: HostRuntime) -> Result<(), Fail> {
 }
 
 #[test]
-fn missing_file(rt: HostRuntime) -> Result<(), Fail> {
+fn words_that_fit(rt: HostRuntime) -> Result<(), Fail> {
     let alloc = rt.alloc();
-    let mut shelf = one_file(alloc, "a.ops", b"")?;
-    let mut input = MemSource::new(Vec::new(alloc), 1, Vec::new(alloc));
-    let mut sink = MemSink::new(alloc, 1_000, 1_000, Vec::new(alloc))?;
-    let words = words_of(alloc, &["-"])?;
-    let status = ops_run(
-        &rt, alloc, &words, &mut shelf, &mut input, &mut sink, &OpenGate,
-    );
-    assert_eq!(rt; status, Status::ReadFault);
-    assert_eq!(rt; sink.written(), b"ops: cannot read -\n".as_slice());
+    for (words, written) in FIT {
+        let mut shelf = one_file(alloc, "a.ops", b"")?;
+        let mut input = MemSource::new(Vec::new(alloc), 1, Vec::new(alloc));
+        let mut sink = MemSink::new(alloc, 1_000, 1_000, Vec::new(alloc))?;
+        let words = words_of(alloc, words)?;
+        let status = ops_run(
+            &rt, alloc, &words, &mut shelf, &mut input, &mut sink, &OpenGate,
+        );
+        assert_eq!(rt; status, Status::ReadFault);
+        assert_eq!(rt; sink.written(), written);
+    }
     Ok(())
 }
 

@@ -1,5 +1,9 @@
 //! The key of an instantiation.
+ghost use Rattle.std.specs.Prelude.{◌≡◌, IfOk};
+
 use ops_base::list::Listed;
+use ops_base::memory::OutOfMemory;
+use std::alloc::Global;
 
 /// What decides between instantiations, made once so that comparing takes no memory and sorts nothing.
 #[derive(Drop)]
@@ -13,4 +17,19 @@ pub struct Key {
     pub rule: usize,
     /// The tags in the order of the conditions.
     pub tags: Listed<u64>,
+}
+
+impl Key {
+    /// Takes memory and time for each tag twice, and sorts nothing.
+    pub fn copy(&self, alloc: Global) -> Result<Key, OutOfMemory>
+        ensures { IfOk result (λ c. c ≡ self.now) }
+    {
+        Ok(Key {
+            first: self.first,
+            sorted: self.sorted.copy(alloc)?,
+            specificity: self.specificity,
+            rule: self.rule,
+            tags: self.tags.copy(alloc)?,
+        })
+    }
 }

@@ -1,3 +1,4 @@
 -- What the contracts of working memory's store cite.
 pub mod Slots
 pub mod Stored
+pub mod Settling

@@ -1,11 +1,14 @@
-//! Working memory, kept so that an element is found by its time tag.
+//! Working memory, kept so that an element is found by its time tag, and what a matcher over it promises.
 #![tactic(auto)]
 
+mod changing;
 mod iter;
+mod matcher;
 mod slot;
 mod store;
 #[cfg(test)]
 mod tests;
 
 pub use iter::Elements;
+pub use matcher::{Matcher, Settled};
 pub use store::Store;

@@ -1,10 +1,10 @@
 //! The store: present elements by rising tag, and removed ones until they are forgotten.
-ghost use Rattle.std.specs.Prelude.{◌≡◌, ◌==◌, ◌++◌, ◌∷◌, ◌<◌, ℕ, [], length, slice_get, Some, IsSome, OnOk, OnErr, if◌then◌else◌, false};
+ghost use Rattle.std.specs.Prelude.{◌≡◌, ◌==◌, ◌++◌, ◌∷◌, ◌<◌, ℕ, [], length, slice_get, Some, IsSome, IfOk, OnOk, OnErr, if◌then◌else◌, false};
 ghost use Rattle.std.specs.Option.{option_copied};
 ghost use Rattle.std.specs.BTreeMap.{get, is_at};
 ghost use Rattle.std.specs.Map.{set_value};
 ghost use Rattle.std.specs.Ordering.{nat_cmp};
-ghost use Rattle.ops_base.specs.WorkingMemory.{without_tag};
+ghost use Rattle.ops_base.specs.WorkingMemory.{without_tag, shown, HasRisingTags};
 ghost use Rattle.work_store.specs.Stored.{Stored, nothing_stored, of_tag, or_else, IsStored};
 ghost use Rattle.work_store.specs.Slots.{without_all};
 ghost use Rattle.work_store.specs.declared.slot.Slot.{Slot};
@@ -114,6 +114,18 @@ impl Store {
         Elements {
             slots: self.slots.iter(),
         }
+    }
+
+    /// References to the present elements, by rising tag. None is copied. Takes a time in proportion to the number of those that
+    /// are present or kept.
+    pub fn present(&self, alloc: Global) -> Result<Vec<&Element>, OutOfMemory>
+        ensures elements { IfOk result (λ v. shown v.items ≡ self.now.elements) }
+        ensures rising { HasRisingTags self.now.elements }
+    {
+        let present = Elements {
+            slots: self.slots.iter(),
+        };
+        Ok(present.collect(alloc)?)
     }
 
     /// The present element at that place, by rising tag. Walks there from the first: to see all of them take `iter`.

@@ -3,7 +3,7 @@ ghost use Rattle.std.specs.Prelude.{◌≡◌, IfOk};
 ghost use Rattle.ops_base.specs.WorkingMemory.{tags_of};
 
 use crate::Store;
-use ops_base::elements::Element;
+use ops_base::elements::{Change, Element};
 use ops_base::list::Listed;
 use ops_base::memory::OutOfMemory;
 use std::alloc::Global;
@@ -81,5 +81,21 @@ fn elements_come_and_go(rt: HostRuntime) -> Result<(), OutOfMemory> {
     store.add(element(rt.alloc(), 12))?;
     assert_eq!(rt; shown(rt.alloc(), &store)?.as_slice(), [2, 12].as_slice());
     assert_eq!(rt; store.last(), 12);
+    Ok(())
+}
+
+#[test]
+fn changes_are_made_in_their_order(rt: HostRuntime) -> Result<(), OutOfMemory> {
+    let mut store = Store::new(rt.alloc());
+    let changes = [
+        Change::Add(element(rt.alloc(), 2)),
+        Change::Add(element(rt.alloc(), 5)),
+        Change::Remove(2),
+        Change::Add(element(rt.alloc(), 9)),
+    ];
+    store.make_changes(rt.alloc(), changes.as_slice())?;
+    assert_eq!(rt; shown(rt.alloc(), &store)?.as_slice(), [5, 9].as_slice());
+    assert_eq!(rt; (kept(&store, 2), store.last()), (Some(2), 9));
+    assert_eq!(rt; store.present(rt.alloc())?.len(), 2);
     Ok(())
 }

@@ -3,9 +3,10 @@ use Rattle.ops_io.specs.Coming.{inlet}
 use Rattle.ops_io.specs.Ports.{port}
 use Rattle.ops_meaning.specs.Effects.{PendingOn}
 use Rattle.ops_meaning.specs.Kept.{KeepsNames}
-use Rattle.ops_meaning.specs.Running.{run_on, most_firings, next_to_fire}
+use Rattle.ops_meaning.specs.Running.{run_on}
 use Rattle.act_phase.specs.Outcomes.{setting_of}
-use Rattle.ops_top.specs.Courses.{alone, course_of}
+use Rattle.cycle.specs.States.{state_course}
+use Rattle.ops_top.specs.Courses.{IsOf}
 use Rattle.ops_top.proofs.running.run.Given as goal
 
 abbrev pub invariant-turns : goal.invariant-turns
@@ -14,12 +15,12 @@ invariant-turns g l = record {
       (inlet l.input (g.I.Source.left l.source) (g.I.Source.faults l.source))
       (port (g.K.Sink.taken l.fn.sink) (g.K.Sink.faults l.fn.sink) l.fn.out)
       (port (g.K.Sink.taken l.sink) (g.K.Sink.faults l.sink) l.out)
-      (λ z. run_on (most_firings - l.fn.course.firings) (setting_of l.program) l.fn.out.column false (course_of l.fn.course l.fn.names z))
-      (λ z. run_on l.left (setting_of l.program) l.out.column l.halted (course_of l.course l.names z));
+      (λ z. run_on (l.fn.limit - l.fn.state.firings) (setting_of l.program) l.fn.out.column false l.fn.count (state_course g.M.Matcher.stored l.fn.state l.fn.names z))
+      (λ z. run_on l.left (setting_of l.program) l.out.column l.halted l.count (state_course g.M.Matcher.stored l.state l.names z));
   whole : IsTrue l.out.whole;
   faults : g.K.Sink.faults l.sink ≡ g.K.Sink.faults l.fn.sink;
   names : KeepsNames l.fn.names l.names;
-  next : l.next ≡ next_to_fire l.program.rules (alone l.course);
+  of : IsOf g.M.Matcher.stands_for l.program.rules l.state;
 }
 
 abbrev pub decreases-turns : goal.decreases-turns

@@ -1,0 +1,11 @@
+pub mod InstOrder
+pub mod Members
+pub mod MergeLaws
+pub mod MergeSteps
+pub mod Applied
+pub mod Ranks
+pub mod Selected
+pub mod Places
+pub mod Marks
+pub mod AppliedInsts
+pub mod TestPrograms

@@ -1,0 +1,5 @@
+-- What the contracts of the index of the conflict set cite.
+pub mod Indexed
+pub mod Applying
+pub mod Selecting
+pub mod Merging

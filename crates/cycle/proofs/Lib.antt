@@ -1,0 +1,6 @@
+pub mod Stores
+mod Members
+mod Marks
+mod Phases
+mod Firings
+mod Quiet

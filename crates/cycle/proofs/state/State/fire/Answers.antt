@@ -1,0 +1,50 @@
+use Rattle.std.proofs.Common.{◌+◌, ap, refl, subst, sym, List}
+use Rattle.std.proofs.lemmas.Result.{err_from_is_err_and}
+use Rattle.act_phase.specs.Outcomes.{setting_of}
+use Rattle.conflict_index.specs.Indexed.{Member, KeepsSpecificities}
+use Rattle.cycle.specs.States.{no_names, no_input, state_course}
+use Rattle.cycle.proofs.Marks.{some_copied, next_member, marked_specificities}
+use Rattle.cycle.proofs.Firings.{same_next, fires_not, fires_badly, fires_short, fires}
+use Rattle.cycle.proofs.state.State.fire.Goals as goal
+
+pub copy_of-requires : goal.copy_of-requires
+copy_of-requires g c =
+    some_copied c.next.result _ (c.next.ensures.dominant c.args.program.now.rules no_names no_input c.requires.stands c.requires.specificities) c.requires.next
+
+pub returns-in_err-inst-clause-performs : goal.returns-in_err-inst-clause-performs
+returns-in_err-inst-clause-performs g c = λ i is.
+    let p = err_from_is_err_and c.from_residual.result c.from_residual.ensures.1 in
+    rw (p.1, p.2) (fires_not g.M.Matcher.stored (setting_of c.args.program.now) c.args.out.now.column i c.args.self c.args.names.now c.requires.whole)
+
+pub returns-in_err-acted-clause-performs : goal.returns-in_err-acted-clause-performs
+returns-in_err-acted-clause-performs g c = λ i is.
+    let same = same_next _ _ c.in_ok-inst.inst i (c.next.ensures.dominant c.args.program.now.rules no_names no_input c.requires.stands c.requires.specificities) c.in_ok-inst.ensures is in
+    let p = err_from_is_err_and c.from_residual-in_err-acted.result c.from_residual-in_err-acted.ensures.1 in
+    rw (p.1, p.2)
+    (fires_badly g.M.Matcher.stored (setting_of c.args.program.now) c.args.out.now.column i c.args.self c.args.names.now c.store.result.now c.store.ensures c.in_ok-inst.inst same
+    (c.last_tag-tag.result + 1) (ap (λ n. n + 1) c.last_tag-tag.ensures.last) c.act.new.names c.in_err-acted.field-0.0 c.in_err-acted.ensures.acts)
+
+pub mark-requires-clause-member : goal.mark-requires-clause-member
+mark-requires-clause-member g c = next_member c.args.self.index.members c.next.result c.in_ok-inst.inst c.next.ensures.waiting c.in_ok-inst.ensures
+
+pub change-requires-clause-specificities : goal.change-requires-clause-specificities
+change-requires-clause-specificities g c =
+    let P : List Member → Type 0 = KeepsSpecificities c.args.program.now.rules in
+    subst P (sym (ap (λ h. h.index.members) c.mark.ensures)) (marked_specificities c.args.program.now.rules c.in_ok-inst.inst c.args.self.index.members c.requires.specificities)
+
+pub returns-in_err-state-clause-performs : goal.returns-in_err-state-clause-performs
+returns-in_err-state-clause-performs g c = λ i is.
+    let same = same_next _ _ c.in_ok-inst.inst i (c.next.ensures.dominant c.args.program.now.rules no_names no_input c.requires.stands c.requires.specificities) c.in_ok-inst.ensures is in
+    let p = err_from_is_err_and c.from_residual-in_err-state.result c.from_residual-in_err-state.ensures.1 in
+    rw (p.1, p.2)
+    (fires_short g.M.Matcher.stored (setting_of c.args.program.now) c.args.out.now.column i c.args.self c.args.names.now c.store.result.now c.store.ensures c.in_ok-inst.inst same
+    (c.last_tag-tag.result + 1) (ap (λ n. n + 1) c.last_tag-tag.ensures.last) c.act.new.names c.in_ok-acted.acted c.in_ok-acted.ensures.reads c.in_ok-acted.ensures.acts)
+
+pub returns-clause-performs : goal.returns-clause-performs
+returns-clause-performs g c = λ i is.
+    let same = same_next _ _ c.in_ok-inst.inst i (c.next.ensures.dominant c.args.program.now.rules no_names no_input c.requires.stands c.requires.specificities) c.in_ok-inst.ensures is in
+    fires g.M.Matcher.stored (setting_of c.args.program.now) c.args.out.now.column i c.args.self c.args.names.now c.store.result.now c.store.ensures c.in_ok-inst.inst same
+    (c.last_tag-tag.result + 1) (ap (λ n. n + 1) c.last_tag-tag.ensures.last) c.act.new.names c.in_ok-acted.acted c.in_ok-acted.ensures.reads c.in_ok-acted.ensures.acts
+    _ c.last_tag-tag.ensures.kept (next_member c.args.self.index.members c.next.result c.in_ok-inst.inst c.next.ensures.waiting c.in_ok-inst.ensures)
+    c.mark.new.self c.mark.ensures c.as_slice.result.now c.as_slice.ensures (λ z. state_course g.M.Matcher.stored c.in_ok-state.state c.act.new.names z) (λ z. c.in_ok-state.ensures.course c.act.new.names z)
+    (λ z. refl)

@@ -1,0 +1,259 @@
+//! A state of the cycle, its phases and its firings.
+ghost use Rattle.std.specs.Prelude.{◌≡◌, ◌↔◌, ◌<◌, ◌+◌, ◌^◌, List, [], Some, IsSome, IsTrue, Contains, MatchOption, OnOk, OnErr, IfOk};
+ghost use Rattle.std.specs.Option.{option_copied};
+ghost use Rattle.ops_base.specs.declared.rules.Inst.{Inst};
+ghost use Rattle.ops_base.specs.declared.rules.Rule.{Rule};
+ghost use Rattle.ops_base.specs.ConflictSet.{conflict_set};
+ghost use Rattle.ops_base.specs.Instances.{IsConflictSet};
+ghost use Rattle.ops_base.specs.Names.{Spellings};
+ghost use Rattle.ops_base.specs.WorkingMemory.{Lawful, last_after};
+ghost use Rattle.ops_io.specs.Coming.{Coming, inlet};
+ghost use Rattle.ops_io.specs.Ports.{port};
+ghost use Rattle.ops_meaning.specs.Effects.{PerformsOn, CountsReads, failure_as};
+ghost use Rattle.ops_meaning.specs.Kept.{KeepsNames, WellKept};
+ghost use Rattle.ops_meaning.specs.Running.{ended_in, firing, next_to_fire, nothing_yet, phase_by};
+ghost use Rattle.act_phase.specs.Outcomes.{failure_of, is_unread, setting_of};
+ghost use Rattle.conflict_index.specs.Applying.{marked};
+ghost use Rattle.conflict_index.specs.Indexed.{insts_of, nothing_indexed, waiting, KeepsSpecificities};
+ghost use Rattle.cycle.specs.States.{alone, state_course};
+
+use act_phase::{ActFault, act};
+use conflict_index::Index;
+use ops_base::commands::Strategy;
+use ops_base::elements::Change;
+use ops_base::memory::OutOfMemory;
+use ops_base::programs::Program;
+use ops_base::rules::Inst;
+use ops_base::symbols::Names;
+use ops_io::{Input, Out, Sink, Source};
+use std::alloc::Global;
+use std::marker::Model;
+use work_store::{Matcher, Settled, Store};
+
+/// A matcher, the conflict set that it has found with the marks of those that have fired, and how many firings were made.
+#[derive(Drop)]
+pub struct State<M: Matcher> {
+    matcher: M,
+    index: Index,
+    firings: u64,
+}
+
+impl<M: Matcher> Model for State<M> {
+    ghost use Rattle.cycle.specs.States.{Held, Agree};
+
+    ghost Value = { Held M };
+
+    ghost view = { λ s. record { matcher = s.matcher; index = s.index; firings = s.firings } };
+
+    ghost invariant = { λ s. Agree (M.stored s.matcher) (M.found s.matcher) (M.stands_for s.matcher) s.index.members };
+}
+
+/// The last tag that was given. With it comes what a matcher keeps true.
+fn last_of<M: Matcher>(matcher: &M) -> u64
+    ensures last { result ≡ (M.stored matcher.now).last }
+    ensures kept { WellKept (M.stored matcher.now).elements (M.stored matcher.now).last }
+    ensures set { (rules : List Rule) → M.stands_for matcher.now rules → IsConflictSet rules (M.stored matcher.now).elements (M.found matcher.now) }
+    ensures none { (M.stored matcher.now).elements ≡ [] → M.found matcher.now ≡ [] }
+{
+    matcher.store().last()
+}
+
+/// A copy of an instantiation that is there.
+fn copy_of(alloc: Global, next: Option<&Inst>) -> Result<Inst, OutOfMemory>
+    requires { IsSome next }
+    ensures { IfOk result (λ i. option_copied next.entry ≡ Some i) }
+{
+    match next {
+        Some(inst) => inst.copy(alloc),
+        None => unreachable!(),
+    }
+}
+
+impl<M: Matcher> State<M> {
+    /// These as one state.
+    fn of(matcher: M, index: Index, firings: u64) -> State<M>
+        requires { (i : Inst) → Contains (insts_of index.members) i ↔ Contains (M.found matcher) i }
+        ensures { result ≡ record { matcher = matcher; index = index; firings = firings } }
+    {
+        // the two are looked at for what they keep true
+        let _last = last_of(&matcher);
+        let _strategy = index.strategy();
+        State {
+            matcher,
+            index,
+            firings,
+        }
+    }
+
+    /// Nothing was done yet. Takes no memory.
+    pub fn start(alloc: Global, matcher: M) -> State<M>
+        requires elements { (M.stored matcher).elements ≡ [] }
+        requires last { (M.stored matcher).last ≡ 0 }
+        ensures matcher { result.matcher ≡ matcher }
+        ensures index { result.index ≡ nothing_indexed }
+        ensures course { (names : Spellings) (coming : Coming)
+            → state_course M.stored result names coming ≡ nothing_yet names coming }
+    {
+        // so nothing is found
+        let empty = matcher.store().len() == 0;
+        prove!(empty);
+        State::of(matcher, Index::new(alloc), 0)
+    }
+
+    /// Working memory.
+    pub fn store(&self) -> &Store
+        ensures { result.now ≡ M.stored self.now.matcher }
+    {
+        self.matcher.store()
+    }
+
+    /// The conflict set, with the marks of those that have fired.
+    pub fn index(&self) -> &Index
+        ensures index { result.now ≡ self.now.index }
+        ensures set { (rules : List Rule) → M.stands_for self.now.matcher rules
+            → insts_of self.now.index.members ≡ conflict_set rules (M.stored self.now.matcher).elements }
+    {
+        &self.index
+    }
+
+    /// How many firings were made.
+    pub fn firings(&self) -> u64
+        ensures { result ≡ self.now.firings }
+    {
+        self.firings
+    }
+
+    /// The last tag that was given, 0 where none was. All above it are free.
+    pub fn last_tag(&self) -> u64
+        ensures last { result ≡ (M.stored self.now.matcher).last }
+        ensures kept { WellKept (M.stored self.now.matcher).elements (M.stored self.now.matcher).last }
+    {
+        last_of(&self.matcher)
+    }
+
+    /// The dominant one of those that have not fired. Takes no memory, and goes once over the conflict set.
+    pub fn next(&self) -> Option<&Inst>
+        ensures waiting { MatchOption result (waiting self.now.index.members ≡ [])
+            (λ i. Contains (insts_of (waiting self.now.index.members)) i.now) }
+        ensures dominant { (rules : List Rule) (names : Spellings) (coming : Coming)
+            → M.stands_for self.now.matcher rules → KeepsSpecificities rules self.now.index.members
+            → option_copied result ≡ next_to_fire rules (state_course M.stored self.now names coming) }
+    {
+        self.index.select()
+    }
+
+    /// Does changes in their order, which is one phase: the matcher settles once, and the index takes in what that tells.
+    /// After a refusal the state is gone.
+    pub fn change(
+        self,
+        alloc: Global,
+        hand: &mut M::Hand,
+        program: &Program,
+        changes: &[Change],
+    ) -> Result<State<M>, OutOfMemory>
+        requires stands { M.stands_for self.matcher program.now.rules }
+        requires specificities { KeepsSpecificities program.now.rules self.index.members }
+        requires lawful { Lawful (M.stored self.matcher).elements (M.stored self.matcher).last changes.now }
+        ensures course { IfOk result (λ s. (names : Spellings) (coming : Coming) → state_course M.stored s names coming
+            ≡ phase_by (conflict_set program.now.rules) changes.now self.firings (last_after (M.stored self.matcher).last changes.now) (state_course M.stored self names coming)) }
+        ensures stands { IfOk result (λ s. M.stands_for s.matcher program.now.rules) }
+        ensures specificities { IfOk result (λ s. KeepsSpecificities program.now.rules s.index.members) }
+    {
+        let State {
+            matcher,
+            index,
+            firings,
+        } = self;
+        let Settled {
+            matcher,
+            come,
+            gone,
+        } = matcher.settle(alloc, hand, changes)?;
+        // the matcher is looked at for what it keeps true
+        let _last = last_of(&matcher);
+        let mut index = index;
+        index.apply(program, gone.as_slice(), come.as_slice())?;
+        Ok(State::of(matcher, index, firings))
+    }
+
+    /// This one fires: it is marked, and one firing more is counted.
+    fn mark(&mut self, inst: &Inst)
+        requires member { Contains (insts_of self.old.index.members) inst.now }
+        requires room { self.old.firings < 2 ^ 63 }
+        ensures { self.new ≡ record self.old {
+          index = record self.old.index { members = marked inst.now self.old.index.members };
+          firings = self.old.firings + 1;
+        } }
+    {
+        self.index.mark(inst);
+        self.firings += 1;
+    }
+
+    /// One firing: the right side of what is next, which is marked, and then one phase. The answer tells whether `halt` was
+    /// done in it. The conflict set is gone over once to find what fires and up to it to mark it. After a refusal the state
+    /// is gone; what was put and read stays so, and names may have come.
+    pub fn fire<I: Source, K: Sink>(
+        self,
+        alloc: Global,
+        hand: &mut M::Hand,
+        program: &Program,
+        names: &mut Names,
+        watch: u8,
+        input: &mut Input,
+        source: &mut I,
+        out: &mut Out,
+        sink: &mut K,
+    ) -> Result<(State<M>, bool), ActFault>
+        requires stands { M.stands_for self.matcher program.now.rules }
+        requires specificities { KeepsSpecificities program.now.rules self.index.members }
+        requires whole { IsTrue out.old.whole }
+        requires faults { K.faults sink.old < 2 ^ 63 }
+        requires reads { I.faults source.old < 2 ^ 63 }
+        requires firings { self.firings < 2 ^ 63 }
+        requires tags { (M.stored self.matcher).last < 2 ^ 63 }
+        requires silent { watch ≡ 0 }
+        requires next { IsSome (next_to_fire program.now.rules (alone M.stored self)) }
+        ensures performs { (i : Inst) → next_to_fire program.now.rules (alone M.stored self) ≡ Some i
+            → PerformsOn (λ r c. record { course = state_course M.stored r.0 names.new c; halted = r.1 })
+            (λ f. failure_as (ended_in (self.firings + 1) i.rule) (failure_of f)) result
+            (inlet input.old (I.left source.old) (I.faults source.old))
+            (inlet input.new (I.left source.new) (I.faults source.new))
+            (port (K.taken sink.old) (K.faults sink.old) out.old)
+            (port (K.taken sink.new) (K.faults sink.new) out.new)
+            (λ c. firing (setting_of program.now) out.old.column i (state_course M.stored self names.old c)) }
+        ensures reads { CountsReads (is_unread result) (I.faults source.old) (I.faults source.new) }
+        ensures names { KeepsNames names.old names.new }
+        ensures stands { IfOk result (λ r. M.stands_for r.0.matcher program.now.rules) }
+        ensures specificities { IfOk result (λ r. KeepsSpecificities program.now.rules r.0.index.members) }
+    {
+        let mut state = self;
+        let inst = copy_of(alloc, state.next())?;
+        let tag = state.last_tag() + 1;
+        let acted = act(
+            alloc,
+            program,
+            names,
+            state.store(),
+            &inst,
+            tag,
+            watch,
+            input,
+            source,
+            out,
+            sink,
+        )?;
+        state.mark(&inst);
+        let state = state.change(alloc, hand, program, acted.changes.as_slice())?;
+        Ok((state, acted.halted))
+    }
+
+    /// The conflict set and its marks stay. Takes no memory, and never refuses.
+    pub fn set_strategy(&mut self, strategy: Strategy) -> Result<(), OutOfMemory>
+        ensures ok { OnOk result (self.new ≡ record self.old { index = record self.old.index { strategy = strategy } }) }
+        ensures course { OnOk result ((names : Spellings) (coming : Coming) → state_course M.stored self.new names coming
+            ≡ record (state_course M.stored self.old names coming) { strategy = strategy }) }
+        ensures err { OnErr result (self.new ≡ self.old) }
+    {
+        self.index.set_strategy(strategy)
+    }
+}

@@ -1,0 +1,3 @@
+pub mod InstOrder
+pub mod Differing
+pub mod NothingFound

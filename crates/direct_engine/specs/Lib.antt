@@ -1,0 +1,2 @@
+-- What the contracts of the direct engine cite.
+pub mod Engines

@@ -1,0 +1,52 @@
+//! The commands of one word and an argument.
+ghost use Rattle.std.specs.Prelude.{◌≡◌};
+ghost use Rattle.ops_meaning.specs.Grammar.{Count, StrategyName};
+ghost use Rattle.ops_forms.specs.Going.{Reads, IsWithin};
+ghost use Rattle.ops_check.specs.Going.{view};
+
+use crate::draft::Draft;
+use ops_base::commands::Command;
+use ops_base::endings::Fault;
+use ops_forms::kinds::{count_of, is_right, strategy_of};
+use ops_forms::refusals::{Refusal, closing, first_of, refused};
+use ops_meaning::Word;
+
+impl Draft {
+    // [NAT] )
+    #[tactic(auto, unfolding(ops_meaning::specs::Grammar::goes, ops_meaning::specs::Grammar::step, ops_meaning::specs::Grammar::ends))]
+    pub fn run<'a>(&mut self, words: &'a [Word]) -> Result<&'a [Word], Refusal>
+        ensures reads { Reads Count (view self.old) (view self.new) words.now result }
+        ensures within { IsWithin words.now result }
+    {
+        let (word, rest) = first_of(words)?;
+        if is_right(word.kind) {
+            self.add_command(Command::Run { count: None })?;
+            return Ok(rest);
+        }
+        let Some(count) = count_of(word.kind) else {
+            return refused(Fault::BadForm, word);
+        };
+        let count = Some(count);
+        self.add_command(Command::Run { count })?;
+        closing(rest)
+    }
+
+    // ) | lex ) | mea )
+    #[tactic(auto, unfolding(ops_meaning::specs::Grammar::goes, ops_meaning::specs::Grammar::step, ops_meaning::specs::Grammar::ends))]
+    pub fn strategy<'a>(&mut self, words: &'a [Word]) -> Result<&'a [Word], Refusal>
+        ensures reads { Reads StrategyName (view self.old) (view self.new) words.now result }
+        ensures within { IsWithin words.now result }
+    {
+        let (word, rest) = first_of(words)?;
+        if is_right(word.kind) {
+            self.add_command(Command::Strategy { set: None })?;
+            return Ok(rest);
+        }
+        let Some(strategy) = strategy_of(word.keyword) else {
+            return refused(Fault::BadForm, word);
+        };
+        let set = Some(strategy);
+        self.add_command(Command::Strategy { set })?;
+        closing(rest)
+    }
+}
