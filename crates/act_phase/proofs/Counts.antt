@@ -1,5 +1,5 @@
 -- Which tags are present after the changes of a right side.
-use Rattle.std.proofs.Common.{◌≡◌, ℕ, ◌+◌, ◌<◌, ◌≤◌, List, [], ◌∷◌, ◌++◌, Bool, true, false, cond, not, ◌==◌, ◌&&◌, ◌||◌, Option, Some, None, is_some, refl, ap, sym, ◌∙◌, subst, arith}
+use Rattle.std.proofs.Common.{◌≡◌, ℕ, ◌+◌, ◌-◌, ◌<◌, ◌≤◌, List, [], ◌∷◌, ◌++◌, Bool, true, false, cond, not, ◌==◌, ◌&&◌, ◌||◌, Option, Some, None, is_some, refl, ap, sym, ◌∙◌, subst, arith}
 use Rattle.std.specs.List.{All}
 use Rattle.std.specs.Borrow.{Bor}
 use Rattle.std.specs.Option.{option_copied}
@@ -16,20 +16,20 @@ use Rattle.ops_base.specs.declared.elements.Change.{Change}
 use Rattle.ops_base.specs.declared.elements.Change.TheVariants as change
 use Rattle.ops_base.specs.WorkingMemory.{tags_of, without_tag, done}
 use Rattle.ops_meaning.specs.Acting.{has_tag, element_of, made_by, made_last, no_element}
-use Rattle.ops_base.proofs.Changes.{done_push}
-use Rattle.ops_meaning.proofs.Lawful.{has_tag-Contains}
+use Rattle.ops_base.proofs.Changes.{done_push, last_after_push}
+use Rattle.ops_meaning.proofs.Lawful.{has_tag-Contains, lawful_push}
 use Rattle.work_store.proofs.Lists.{or_false, at_is, tag_is}
 use Rattle.act_phase.specs.Changed.{is_new, AreCounted}
 
 -- ---- one change
 
-has_tag-added : (wm : List Element) (e : Element) (t : ℕ) → has_tag (wm ++ e ∷ []) t ≡ (has_tag wm t || e.tag == t)
+pub has_tag-added : (wm : List Element) (e : Element) (t : ℕ) → has_tag (wm ++ e ∷ []) t ≡ (has_tag wm t || e.tag == t)
 has_tag-added wm e t = list_any-append (λ e. e.tag == t) wm (e ∷ []) ∙ ap (λ b. has_tag wm t || b) (or_false (e.tag == t))
 
 without_step : (x tag t : ℕ) (a b : Bool) → a ≡ (b && not (t == tag)) → cond (not (x == tag)) (x == t || a) a ≡ ((x == t || b) && not (t == tag))
 without_step x tag t a b e = grind (arith, nat_tests)
 
-has_tag-without : (wm : List Element) (tag t : ℕ) → has_tag (without_tag tag wm) t ≡ (has_tag wm t && not (t == tag))
+pub has_tag-without : (wm : List Element) (tag t : ℕ) → has_tag (without_tag tag wm) t ≡ (has_tag wm t && not (t == tag))
 has_tag-without [] tag t = refl
 has_tag-without (e ∷ wm) tag t = by (not (e.tag == tag)) ∙ without_step e.tag tag t (has_tag (without_tag tag wm) t) (has_tag wm t) (has_tag-without wm tag t)
   where
@@ -63,6 +63,8 @@ counted_first start kept gone last next below lt none = record {
   order = omega arith;
   gone_below = λ t h. absurd (let e : true ≡ false = sym h ∙ none t in cc);
   start_below = λ t h. let le = All-contains (λ t. t ≤ last) (tags_of (start ++ kept)) t below (within t h) in omega (arith, le);
+  lawful = tt;
+  free = omega arith;
 }
   where
     within : (t : ℕ) → has_tag start t ≡ true → Contains (tags_of (start ++ kept)) t
@@ -81,6 +83,8 @@ counted_added start changes gone first next e c is = record {
   order = let o = c.order in omega arith;
   gone_below = λ t h. let lt = c.gone_below t h in omega arith;
   start_below = c.start_below;
+  lawful = lawful_push start (first - 1) changes (change.Add e) c.lawful (let f = c.free in omega (arith, f, is), tt);
+  free = let last = last_after_push (first - 1) changes (change.Add e) in omega (arith, last, is);
 }
 
 -- an element less
@@ -94,6 +98,8 @@ counted_removed start changes gone now first next tag c there is = record {
   order = c.order;
   gone_below = λ t h. gone_or_this t (t == tag) (gone t) refl refl (sym (now_is t) ∙ h);
   start_below = c.start_below;
+  lawful = lawful_push start (first - 1) changes (change.Remove tag) c.lawful (has_tag-Contains (done start changes) tag there, tt);
+  free = let last = last_after_push (first - 1) changes (change.Remove tag) in let f = c.free in omega (arith, last, f);
 }
   where
     now_is : (t : ℕ) → now t ≡ cond (t == tag) true (gone t)
@@ -111,7 +117,7 @@ counted_removed start changes gone now first next tag c there is = record {
 -- ---- what is looked up
 
 -- an element is found exactly where its tag is there
-found_there : (wm : List Element) (tag : ℕ) → is_some (element_of wm tag) ≡ has_tag wm tag
+pub found_there : (wm : List Element) (tag : ℕ) → is_some (element_of wm tag) ≡ has_tag wm tag
 found_there [] tag = refl
 found_there (e ∷ wm) tag = by (e.tag == tag) (found_there wm tag)
   where

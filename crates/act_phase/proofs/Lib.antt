@@ -3,8 +3,11 @@ pub mod Computed
 pub mod Counts
 pub mod Deeds
 pub mod Evaluating
+pub mod Following
+pub mod Found
 pub mod Items
 pub mod Onward
 pub mod Placing
 pub mod States
 pub mod Steps
+pub mod Told

@@ -4,7 +4,6 @@ use Rattle.std.specs.Prelude.{Contains, IsErrAnd}
 use Rattle.std.proofs.lemmas.List.{append-nil, drop_more, map-append}
 use Rattle.std.proofs.lemmas.List.Elements.{All-contains, All-contains_itself, Contains-append_left}
 use Rattle.ops_base.specs.declared.actions.Action.{Action}
-use Rattle.ops_base.specs.declared.elements.Class.{Class}
 use Rattle.ops_base.specs.declared.elements.Element.{Element}
 use Rattle.ops_base.specs.declared.rules.Inst.{Inst}
 use Rattle.ops_base.specs.Names.{Spellings}
@@ -45,10 +44,10 @@ module _ {S T : Type 0} (left : Coming → Result S Missed) (next : S → T) {a 
   then_fails seen r p h = silent_fails seen r (λ s. Ok (next s)) h (still_all a (λ d. silent (followed_by (left d) (λ s. Ok (next s)))) w) p (λ d. refl)
 
 -- an action that neither reads nor puts
-pub action_quiet : {X : Type 0} (y : X) (classes : List Class) (x known : Action) (now next : Doing) (a : Scene) → IsTrue a.port.out.whole → x ≡ known → ((names : Spellings) (d : Coming) → action_done classes a.port.out.column known (doing_of now names d) ≡ writes [] (doing_of next names d))
-    → Acts (λ _ d. doing_of next a.names d) (Ok y) a a (λ d. action_done classes a.port.out.column x (doing_of now a.names d))
-action_quiet y classes x known now next a w is does =
-    does_nothing y a _ w (λ d. ap (λ x. action_done classes a.port.out.column x (doing_of now a.names d)) is ∙ does a.names d)
+pub action_quiet : {X : Type 0} (y : X) (s : Setting) (x known : Action) (now next : Doing) (a : Scene) → IsTrue a.port.out.whole → x ≡ known → ((names : Spellings) (d : Coming) → action_done s a.port.out.column known (doing_of now names d) ≡ writes [] (doing_of next names d))
+    → Acts (λ _ d. doing_of next a.names d) (Ok y) a a (λ d. action_done s a.port.out.column x (doing_of now a.names d))
+action_quiet y s x known now next a w is does =
+    does_nothing y a _ w (λ d. ap (λ x. action_done s a.port.out.column x (doing_of now a.names d)) is ∙ does a.names d)
 
 -- ---- the action with this number
 
@@ -78,23 +77,23 @@ numbered_err {view = view} {m = m} number f {a = a} {b = b} {e = e} of same p = 
 
 -- ---- one action after another
 
-module _ (classes : List Class) (actions : List Action) (i : ℕ) (x : Action) (within : i < length actions) (is : x ≡ get_or actions i x) where
+module _ (s : Setting) (actions : List Action) (i : ℕ) (x : Action) (within : i < length actions) (is : x ≡ get_or actions i x) where
   abbrev behind : ℕ → Meant → Effect Misdeed Meant
-  behind n d = actions_done classes n (i + 1 + 1) (drop (i + 1) actions) d
+  behind n d = actions_done s n (i + 1 + 1) (drop (i + 1) actions) d
 
-  actions_here : (column : ℕ) (d : Meant) → actions_done classes column (i + 1) (drop i actions) d ≡ and_then column (told_as (λ d. d) (in_action (i + 1)) (action_done classes column x d)) behind
+  actions_here : (column : ℕ) (d : Meant) → actions_done s column (i + 1) (drop i actions) d ≡ and_then column (told_as (λ d. d) (in_action (i + 1)) (action_done s column x d)) behind
   actions_here column d =
       let more : suc (i + 1) ≡ i + 1 + 1 = omega arith in
-      ap (λ rest. actions_done classes column (i + 1) rest d) (drop_more actions i x within ∙ ap (λ y. y ∷ drop (i + 1) actions) (sym is))
-      ∙ ap (λ n. and_then {T = Meant} column (told_as (λ d. d) (in_action (i + 1)) (action_done classes column x d)) (λ next d. actions_done classes next n (drop (i + 1) actions) d)) more
+      ap (λ rest. actions_done s column (i + 1) rest d) (drop_more actions i x within ∙ ap (λ y. y ∷ drop (i + 1) actions) (sym is))
+      ∙ ap (λ n. and_then {T = Meant} column (told_as (λ d. d) (in_action (i + 1)) (action_done s column x d)) (λ next d. actions_done s next n (drop (i + 1) actions) d)) more
 
-  module _ (now next : Doing) {a b c : Scene} {whole : Coming → Effect Misdeed Meant} (p : StillDoes a b whole (λ d. actions_done classes b.port.out.column (i + 1) (drop i actions) (doing_of now b.names d))) where
-    pub action_ok : {X : Type 0} {y : X} → Does (λ _ d. doing_of next c.names d) failure_of is_read (Ok y) b c (λ d. told_as (λ d. d) (in_action (i + 1)) (action_done classes b.port.out.column x (doing_of now b.names d)))
-        → StillDoes a c whole (λ d. actions_done classes c.port.out.column (i + 1 + 1) (drop (i + 1) actions) (doing_of next c.names d))
+  module _ (now next : Doing) {a b c : Scene} {whole : Coming → Effect Misdeed Meant} (p : StillDoes a b whole (λ d. actions_done s b.port.out.column (i + 1) (drop i actions) (doing_of now b.names d))) where
+    pub action_ok : {X : Type 0} {y : X} → Does (λ _ d. doing_of next c.names d) failure_of is_read (Ok y) b c (λ d. told_as (λ d. d) (in_action (i + 1)) (action_done s b.port.out.column x (doing_of now b.names d)))
+        → StillDoes a c whole (λ d. actions_done s c.port.out.column (i + 1 + 1) (drop (i + 1) actions) (doing_of next c.names d))
     action_ok q = still_then behind p q (λ d. actions_here b.port.out.column (doing_of now b.names d))
 
     pub action_err : {X Y : Type 0} {view : X → Coming → Meant} {f : ActFault} (seen : Y → Coming → Meant) (r : Result Y ActFault) → IsErrAnd r (λ g. g ≡ f)
-        → Does view failure_of is_read (Err f) b c (λ d. told_as (λ d. d) (in_action (i + 1)) (action_done classes b.port.out.column x (doing_of now b.names d))) → Does seen failure_of is_read r a c whole
+        → Does view failure_of is_read (Err f) b c (λ d. told_as (λ d. d) (in_action (i + 1)) (action_done s b.port.out.column x (doing_of now b.names d))) → Does seen failure_of is_read r a c whole
     action_err seen r h q = still_fails seen r behind h p q (λ d. actions_here b.port.out.column (doing_of now b.names d))
 
 -- ---- the whole
@@ -126,13 +125,13 @@ module _ (s : Setting) (inst : Inst) (wm : List Element) (last : ℕ) (a : Scene
 
   module _ (actions : List Action) (same : actions ≡ actions_of s.rules inst.rule) (start : Doing) (begin : (names : Spellings) (d : Coming) → doing_of start names d ≡ begun s inst (record { wm = wm; last = last; names = names; coming = d })) where
     abbrev done : Coming → Effect Misdeed Meant
-    done d = actions_done s.classes a.port.out.column 1 actions (doing_of start a.names d)
+    done d = actions_done s a.port.out.column 1 actions (doing_of start a.names d)
 
     whole_here : (d : Coming) → right_side d ≡ and_then a.port.out.column (done d) (λ _ d. writes [] (left_by d))
     whole_here d =
         let given : Given = record { wm = wm; last = last; names = a.names; coming = d } in
-        ap (λ xs. told_as left_by (λ f. f) (actions_done s.classes a.port.out.column 1 xs (begun s inst given))) (sym same)
-        ∙ ap (λ d. told_as left_by (λ f. f) (actions_done s.classes a.port.out.column 1 actions d)) (sym (begin a.names d))
+        ap (λ xs. told_as left_by (λ f. f) (actions_done s a.port.out.column 1 xs (begun s inst given))) (sym same)
+        ∙ ap (λ d. told_as left_by (λ f. f) (actions_done s a.port.out.column 1 actions d)) (sym (begin a.names d))
         ∙ told_then a.port.out.column left_by (done d)
 
     -- all actions were done

@@ -1,9 +1,10 @@
 -- Working memory as a right side changes it.
-use Rattle.std.specs.Prelude.{◌≡◌, ℕ, ◌<◌, ◌≤◌, List, [], ◌∷◌, ◌++◌, Bool, not, ◌&&◌, ◌||◌, nat_lt, nat_le, if◌then◌else◌, true}
+use Rattle.std.specs.Prelude.{◌≡◌, ℕ, ◌-◌, ◌<◌, ◌≤◌, List, [], ◌∷◌, ◌++◌, fold, Bool, not, ◌&&◌, ◌||◌, ◌==◌, nat_lt, nat_le, if◌then◌else◌, true, Option, Some, None}
+use Rattle.std.specs.Option.{option_or}
 use Rattle.ops_base.specs.declared.elements.Element.{Element}
 use Rattle.ops_base.specs.declared.elements.Change.{Change}
 use Rattle.ops_base.specs.declared.elements.Change.TheVariants as change
-use Rattle.ops_base.specs.WorkingMemory.{done}
+use Rattle.ops_base.specs.WorkingMemory.{done, Lawful, last_after}
 use Rattle.ops_meaning.specs.Acting.{has_tag}
 
 -- working memory at the start, the changes since then in order, and the last tag that was given
@@ -31,15 +32,32 @@ with_removed c tag = if has_tag (memory_of c) tag then with_change c (change.Rem
 abbrev pub with_added : Changed → Element → Changed
 with_added c e = with_change (record c { last = e.tag }) (change.Add e)
 
+-- This comes of it by more changes.
+pub record GoesOnTo (old new : Changed) : Type 0 where
+  pub start : new.start ≡ old.start
+  pub more : List Change
+  pub changes : new.changes ≡ old.changes ++ more
+
+-- the element that a change adds, where it has this tag
+abbrev pub added_by : ℕ → Change → Option Element
+added_by tag (change.Add e) = if e.tag == tag then Some e else None
+added_by tag (change.Remove removed) = None
+
+-- the element of this tag that was added last
+abbrev pub last_added : List Change → ℕ → Option Element
+last_added changes tag = fold (λ found c. option_or (added_by tag c) found) None changes
+
 -- a tag that was given since the first of these
 abbrev pub is_new : ℕ → ℕ → ℕ → Bool
 is_new first next tag = nat_le first tag && nat_lt tag next
 
 -- Which tags are present after the changes: those of the start and the new ones, without those that are gone. A tag that is gone is
--- below the next one, and a tag of the start is below the first new one.
+-- below the next one, and a tag of the start is below the first new one. The changes are lawful, and the next tag is free.
 pub record AreCounted (start : List Element) (changes : List Change) (gone : ℕ → Bool) (first next : ℕ) : Type 0 where
   pub present : (t : ℕ) → has_tag (done start changes) t ≡ (not (gone t) && (has_tag start t || is_new first next t))
   pub positive : 0 < first
   pub order : first ≤ next
   pub gone_below : (t : ℕ) → gone t ≡ true → t < next
   pub start_below : (t : ℕ) → has_tag start t ≡ true → t < first
+  pub lawful : Lawful start (first - 1) changes
+  pub free : last_after (first - 1) changes < next

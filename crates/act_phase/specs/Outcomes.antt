@@ -1,5 +1,5 @@
 -- What the answers of a right side and of its actions stand for.
-use Rattle.std.specs.Prelude.{◌-◌, Bool, true, false, Result, Ok, Err}
+use Rattle.std.specs.Prelude.{ℕ, ◌-◌, Bool, true, false, Result, Ok, Err}
 use Rattle.ops_base.specs.Names.{Spellings}
 use Rattle.ops_base.specs.declared.programs.Program.{Program}
 use Rattle.ops_io.specs.Coming.{Coming}
@@ -12,9 +12,9 @@ use Rattle.act_phase.specs.declared.outcome.Acted.{Acted}
 use Rattle.act_phase.specs.declared.outcome.Mishap.{Mishap}
 use Rattle.act_phase.specs.declared.outcome.Mishap.TheVariants as mishap
 
--- what a right side of a program stands in
-abbrev pub setting_of : Program → Setting
-setting_of p = record { classes = p.classes; rules = p.rules }
+-- what a right side of a program stands in at this trace level
+abbrev pub setting_of : Program → ℕ → Setting
+setting_of p watch = record { classes = p.classes; rules = p.rules; text = p.text; watch = watch }
 
 abbrev pub acted_of : Acted → Spellings → Coming → Meant
 acted_of a names coming = record { changes = a.changes; last = a.next_tag - 1; halted = a.halted; names = names; coming = coming }

@@ -7,6 +7,7 @@ ghost use Rattle.ops_io.specs.Coming.{Coming, inlet};
 ghost use Rattle.ops_io.specs.Ports.{port};
 ghost use Rattle.ops_meaning.specs.Acting.{cell_of, removed, added, modified, bound, first_of, evaluated, made_fields, modified_fields, action_done, actions_done, in_action, acted, actions_of, conditions_of};
 ghost use Rattle.ops_meaning.specs.Effects.{PerformsOn, CountsReads, told_as, silent, followed_by};
+ghost use Rattle.act_phase.specs.Changed.{GoesOnTo};
 ghost use Rattle.act_phase.specs.Deeds.{Acts, Does, scene};
 ghost use Rattle.act_phase.specs.Outcomes.{setting_of, acted_of, failure_of, is_read, is_unread};
 ghost use Rattle.act_phase.specs.State.{doing_of};
@@ -14,6 +15,7 @@ ghost use Rattle.act_phase.specs.State.{doing_of};
 use crate::doing::Doing;
 use crate::fields::{made_fields, modified_fields};
 use crate::outcome::{ActFault, Acted, Mishap};
+use crate::telling::tell_changes;
 use crate::values::evaluate;
 use crate::writing::put_items;
 use ops_base::actions::{Action, Put, Term};
@@ -43,11 +45,12 @@ fn make<I: Source, K: Sink>(
     requires whole { IsTrue out.old.whole }
     requires writes { K.faults sink.old < 2 ^ 63 }
     requires reads { I.faults source.old < 2 ^ 63 }
-    ensures { Acts (λ _ c. doing_of doing.new names.new c) result
+    ensures does { Acts (λ _ c. doing_of doing.new names.new c) result
         (scene names.old input.old (I.left source.old) (I.faults source.old) (K.taken sink.old) (K.faults sink.old) out.old)
         (scene names.new input.new (I.left source.new) (I.faults source.new) (K.taken sink.new) (K.faults sink.new) out.new)
         (λ c. silent (followed_by (made_fields classes.now (class_of classes.now class) puts.now (doing_of doing.old names.old c))
         (λ f. Ok (added f.doing class f.fields)))) }
+    ensures goes_on { OnOk result (GoesOnTo doing.old.working doing.new.working) }
 {
     let fields = made_fields(
         alloc, classes, names, doing, class, puts, input, source, out, sink,
@@ -71,11 +74,12 @@ fn modify<I: Source, K: Sink>(
     requires whole { IsTrue out.old.whole }
     requires writes { K.faults sink.old < 2 ^ 63 }
     requires reads { I.faults source.old < 2 ^ 63 }
-    ensures { Acts (λ _ c. doing_of doing.new names.new c) result
+    ensures does { Acts (λ _ c. doing_of doing.new names.new c) result
         (scene names.old input.old (I.left source.old) (I.faults source.old) (K.taken sink.old) (K.faults sink.old) out.old)
         (scene names.new input.new (I.left source.new) (I.faults source.new) (K.taken sink.new) (K.faults sink.new) out.new)
         (λ c. silent (followed_by (modified_fields classes.now puts.now cell (doing_of doing.old names.old c))
         (λ f. Ok (modified f.doing cell f.fields)))) }
+    ensures goes_on { OnOk result (GoesOnTo doing.old.working doing.new.working) }
 {
     let fields = modified_fields(
         alloc, classes, names, doing, cell, puts, input, source, out, sink,
@@ -112,8 +116,9 @@ fn bind<I: Source, K: Sink>(
 
 /// Removes the elements of these cells.
 fn remove(doing: &mut Doing<'_>, cells: &[usize]) -> Result<(), OutOfMemory>
-    ensures { OnOk result ((names : Spellings) (coming : Coming)
+    ensures does { OnOk result ((names : Spellings) (coming : Coming)
         → doing_of doing.new names coming ≡ fold (λ d c. removed d (cell_of d c).tag) (doing_of doing.old names coming) cells.now) }
+    ensures goes_on { OnOk result (GoesOnTo doing.old.working doing.new.working) }
 {
     for cell in cells {
         doing.remove(*cell)?;
@@ -121,12 +126,73 @@ fn remove(doing: &mut Doing<'_>, cells: &[usize]) -> Result<(), OutOfMemory>
     Ok(())
 }
 
+/// Makes an element, and tells of it where elements are traced.
+fn make_and_tell<I: Source, K: Sink>(
+    alloc: Global,
+    program: &Program,
+    names: &mut Names,
+    doing: &mut Doing<'_>,
+    watch: u8,
+    class: usize,
+    puts: &[Put],
+    input: &mut Input,
+    source: &mut I,
+    out: &mut Out,
+    sink: &mut K,
+) -> Result<(), Mishap>
+    requires whole { IsTrue out.old.whole }
+    requires writes { K.faults sink.old < 2 ^ 63 }
+    requires reads { I.faults source.old < 2 ^ 63 }
+    ensures { Acts (λ _ c. doing_of doing.new names.new c) result
+        (scene names.old input.old (I.left source.old) (I.faults source.old) (K.taken sink.old) (K.faults sink.old) out.old)
+        (scene names.new input.new (I.left source.new) (I.faults source.new) (K.taken sink.new) (K.faults sink.new) out.new)
+        (λ c. action_done (setting_of program.now watch) out.old.column (Action.Make class puts.now) (doing_of doing.old names.old c)) }
+{
+    let since = doing.working.changes().len();
+    let classes = program.classes.as_slice();
+    make(
+        alloc, classes, names, doing, class, puts, input, source, out, sink,
+    )?;
+    Ok(tell_changes(program, names, &doing.working, watch, since, out, sink)?)
+}
+
+/// Puts a copy with other fields in the place of a cell's element, and tells of both where elements are traced.
+fn modify_and_tell<I: Source, K: Sink>(
+    alloc: Global,
+    program: &Program,
+    names: &mut Names,
+    doing: &mut Doing<'_>,
+    watch: u8,
+    cell: usize,
+    puts: &[Put],
+    input: &mut Input,
+    source: &mut I,
+    out: &mut Out,
+    sink: &mut K,
+) -> Result<(), Mishap>
+    requires whole { IsTrue out.old.whole }
+    requires writes { K.faults sink.old < 2 ^ 63 }
+    requires reads { I.faults source.old < 2 ^ 63 }
+    ensures { Acts (λ _ c. doing_of doing.new names.new c) result
+        (scene names.old input.old (I.left source.old) (I.faults source.old) (K.taken sink.old) (K.faults sink.old) out.old)
+        (scene names.new input.new (I.left source.new) (I.faults source.new) (K.taken sink.new) (K.faults sink.new) out.new)
+        (λ c. action_done (setting_of program.now watch) out.old.column (Action.Modify cell puts.now) (doing_of doing.old names.old c)) }
+{
+    let since = doing.working.changes().len();
+    let classes = program.classes.as_slice();
+    modify(
+        alloc, classes, names, doing, cell, puts, input, source, out, sink,
+    )?;
+    Ok(tell_changes(program, names, &doing.working, watch, since, out, sink)?)
+}
+
 /// Does an action.
 fn act_one<I: Source, K: Sink>(
     alloc: Global,
-    classes: &[Class],
+    program: &Program,
     names: &mut Names,
     doing: &mut Doing<'_>,
+    watch: u8,
     action: &Action,
     input: &mut Input,
     source: &mut I,
@@ -139,22 +205,27 @@ fn act_one<I: Source, K: Sink>(
     ensures { Acts (λ _ c. doing_of doing.new names.new c) result
         (scene names.old input.old (I.left source.old) (I.faults source.old) (K.taken sink.old) (K.faults sink.old) out.old)
         (scene names.new input.new (I.left source.new) (I.faults source.new) (K.taken sink.new) (K.faults sink.new) out.new)
-        (λ c. action_done classes.now out.old.column action.now (doing_of doing.old names.old c)) }
+        (λ c. action_done (setting_of program.now watch) out.old.column action.now (doing_of doing.old names.old c)) }
 {
+    let classes = program.classes.as_slice();
     match action {
         Action::Make { class, puts } => {
             let puts = puts.as_slice();
-            make(
-                alloc, classes, names, doing, *class, puts, input, source, out, sink,
+            make_and_tell(
+                alloc, program, names, doing, watch, *class, puts, input, source, out, sink,
             )
         }
         Action::Modify { cell, puts } => {
             let puts = puts.as_slice();
-            modify(
-                alloc, classes, names, doing, *cell, puts, input, source, out, sink,
+            modify_and_tell(
+                alloc, program, names, doing, watch, *cell, puts, input, source, out, sink,
             )
         }
-        Action::Remove { cells } => Ok(remove(doing, cells.as_slice())?),
+        Action::Remove { cells } => {
+            let since = doing.working.changes().len();
+            remove(doing, cells.as_slice())?;
+            Ok(tell_changes(program, names, &doing.working, watch, since, out, sink)?)
+        }
         Action::Write { items } => {
             let items = items.as_slice();
             put_items(
@@ -175,9 +246,10 @@ fn act_one<I: Source, K: Sink>(
 /// Does the action with this number.
 fn act_at<I: Source, K: Sink>(
     alloc: Global,
-    classes: &[Class],
+    program: &Program,
     names: &mut Names,
     doing: &mut Doing<'_>,
+    watch: u8,
     number: usize,
     action: &Action,
     input: &mut Input,
@@ -191,10 +263,10 @@ fn act_at<I: Source, K: Sink>(
     ensures { Does (λ _ c. doing_of doing.new names.new c) failure_of is_read result
         (scene names.old input.old (I.left source.old) (I.faults source.old) (K.taken sink.old) (K.faults sink.old) out.old)
         (scene names.new input.new (I.left source.new) (I.faults source.new) (K.taken sink.new) (K.faults sink.new) out.new)
-        (λ c. told_as (λ d. d) (in_action number) (action_done classes.now out.old.column action.now (doing_of doing.old names.old c))) }
+        (λ c. told_as (λ d. d) (in_action number) (action_done (setting_of program.now watch) out.old.column action.now (doing_of doing.old names.old c))) }
 {
     match act_one(
-        alloc, classes, names, doing, action, input, source, out, sink,
+        alloc, program, names, doing, watch, action, input, source, out, sink,
     ) {
         Ok(()) => Ok(()),
         Err(mishap) => Err(mishap.in_action(number)),
@@ -222,9 +294,10 @@ fn actions_of(program: &Program, rule: usize) -> &[Action]
 /// Does actions in order.
 fn act_all<I: Source, K: Sink>(
     alloc: Global,
-    classes: &[Class],
+    program: &Program,
     names: &mut Names,
     doing: &mut Doing<'_>,
+    watch: u8,
     actions: &[Action],
     input: &mut Input,
     source: &mut I,
@@ -237,12 +310,12 @@ fn act_all<I: Source, K: Sink>(
     ensures { Does (λ _ c. doing_of doing.new names.new c) failure_of is_read result
         (scene names.old input.old (I.left source.old) (I.faults source.old) (K.taken sink.old) (K.faults sink.old) out.old)
         (scene names.new input.new (I.left source.new) (I.faults source.new) (K.taken sink.new) (K.faults sink.new) out.new)
-        (λ c. actions_done classes.now out.old.column 1 actions.now (doing_of doing.old names.old c)) }
+        (λ c. actions_done (setting_of program.now watch) out.old.column 1 actions.now (doing_of doing.old names.old c)) }
 {
     for (before, action) in actions.iter().enumerate() {
         let number = before + 1;
         act_at(
-            alloc, classes, names, doing, number, action, input, source, out, sink,
+            alloc, program, names, doing, watch, number, action, input, source, out, sink,
         )?;
     }
     Ok(())
@@ -250,8 +323,10 @@ fn act_all<I: Source, K: Sink>(
 
 /// Does the right side of an instantiation, whose first new element gets the tag `next_tag`. The store is only read: an
 /// element of the left side is looked up there, and an element is copied only where it is modified or named. Before an
-/// `accept` all that was put is written. A session is over long before the tags are, so that one beyond 64 bits is answered
-/// as want of memory.
+/// `accept` all that was put is written. Where `watch` is 2, what an action has removed and made is told once it is done: an
+/// element of the left side is looked up in the store for that, and for one that the right side has made itself it goes back over
+/// the changes to where it was made. A session is over long before the tags are, so that one beyond 64 bits is answered as want of
+/// memory.
 pub fn act<I: Source, K: Sink>(
     alloc: Global,
     program: &Program,
@@ -270,11 +345,10 @@ pub fn act<I: Source, K: Sink>(
     requires reads { I.faults source.old < 2 ^ 63 }
     requires tags { store.now.last < next_tag }
     requires room { next_tag ≤ 2 ^ 63 }
-    requires silent { watch ≡ 0 }
     ensures acts { PerformsOn (λ a c. acted_of a names.new c) failure_of result
         (inlet input.old (I.left source.old) (I.faults source.old)) (inlet input.new (I.left source.new) (I.faults source.new))
         (port (K.taken sink.old) (K.faults sink.old) out.old) (port (K.taken sink.new) (K.faults sink.new) out.new)
-        (λ c. acted (setting_of program.now) out.old.column inst.now
+        (λ c. acted (setting_of program.now watch) out.old.column inst.now
         (record { wm = store.now.elements; last = next_tag - 1; names = names.old; coming = c })) }
     ensures lawful { IfOk result (λ a. Lawful store.now.elements (next_tag - 1) a.changes) }
     ensures reads { CountsReads (is_unread result) (I.faults source.old) (I.faults source.new) }
@@ -283,14 +357,13 @@ pub fn act<I: Source, K: Sink>(
     ensures names { (i : ℕ) (s : List ℕ) → slice_get names.old.held i ≡ Some s → slice_get names.new.held i ≡ Some s }
 {
     let last = store.last();
-    prove!(last < next_tag && watch == 0);
+    prove!(last < next_tag);
     let conditions = conditions_of(program, inst.rule);
     let tags = inst.tags.as_slice();
     let mut doing = Doing::new(alloc, store, conditions, tags, next_tag)?;
-    let classes = program.classes.as_slice();
     let actions = actions_of(program, inst.rule);
     act_all(
-        alloc, classes, names, &mut doing, actions, input, source, out, sink,
+        alloc, program, names, &mut doing, watch, actions, input, source, out, sink,
     )?;
     Ok(doing.finish())
 }

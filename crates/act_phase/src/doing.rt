@@ -4,6 +4,7 @@ ghost use Rattle.std.specs.Option.{option_copied};
 ghost use Rattle.ops_base.specs.Names.{Spellings};
 ghost use Rattle.ops_io.specs.Coming.{Coming};
 ghost use Rattle.ops_meaning.specs.Acting.{elements_of, bindings_of, no_element, made_last, added, removed, modified, cell_bound, bound, left_by};
+ghost use Rattle.act_phase.specs.Changed.{GoesOnTo};
 ghost use Rattle.act_phase.specs.Outcomes.{acted_of};
 ghost use Rattle.act_phase.specs.State.{held_by, held_in, doing_of};
 
@@ -104,7 +105,8 @@ impl<'s> Doing<'s> {
 
     /// Adds an element.
     pub(crate) fn make(&mut self, class: usize, fields: Vec<Value>) -> Result<(), OutOfMemory>
-        ensures { OnOk result ((names : Spellings) (coming : Coming) → doing_of self.new names coming ≡ added (doing_of self.old names coming) class fields.items) }
+        ensures does { OnOk result ((names : Spellings) (coming : Coming) → doing_of self.new names coming ≡ added (doing_of self.old names coming) class fields.items) }
+        ensures goes_on { OnOk result (GoesOnTo self.old.working self.new.working) }
     {
         self.working.add(class, Listed::from_vec(fields))?;
         Ok(())
@@ -112,7 +114,8 @@ impl<'s> Doing<'s> {
 
     /// Removes the element of a cell, where it is present.
     pub(crate) fn remove(&mut self, cell: usize) -> Result<(), OutOfMemory>
-        ensures { OnOk result ((names : Spellings) (coming : Coming) → doing_of self.new names coming ≡ removed (doing_of self.old names coming) (held_in self.old cell).tag) }
+        ensures does { OnOk result ((names : Spellings) (coming : Coming) → doing_of self.new names coming ≡ removed (doing_of self.old names coming) (held_in self.old cell).tag) }
+        ensures goes_on { OnOk result (GoesOnTo self.old.working self.new.working) }
     {
         let tag = self.tag(cell);
         self.working.remove(tag)?;
@@ -140,7 +143,8 @@ impl<'s> Doing<'s> {
         cell: usize,
         fields: Vec<Value>,
     ) -> Result<(), OutOfMemory>
-        ensures { OnOk result ((names : Spellings) (coming : Coming) → doing_of self.new names coming ≡ modified (doing_of self.old names coming) cell fields.items) }
+        ensures does { OnOk result ((names : Spellings) (coming : Coming) → doing_of self.new names coming ≡ modified (doing_of self.old names coming) cell fields.items) }
+        ensures goes_on { OnOk result (GoesOnTo self.old.working self.new.working) }
     {
         let class = self.class(cell);
         self.remove(cell)?;

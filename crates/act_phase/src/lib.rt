@@ -8,6 +8,7 @@ mod computing;
 mod doing;
 mod fields;
 mod outcome;
+mod telling;
 #[cfg(test)]
 mod tests;
 mod values;

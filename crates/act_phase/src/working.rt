@@ -1,8 +1,9 @@
 //! Working memory as a right side changes it.
-ghost use Rattle.std.specs.Prelude.{◌≡◌, ◌+◌, ◌-◌, ◌<◌, OnOk, fold, unwrap_or};
+ghost use Rattle.std.specs.Prelude.{◌≡◌, ◌+◌, ◌-◌, ◌<◌, OnOk, Some, slice_get, take, unwrap_or};
 ghost use Rattle.std.specs.Option.{option_copied};
-ghost use Rattle.ops_meaning.specs.Acting.{has_tag, no_element, made_last};
-ghost use Rattle.act_phase.specs.Changed.{memory_of, unchanged, with_removed, with_added};
+ghost use Rattle.ops_base.specs.WorkingMemory.{done};
+ghost use Rattle.ops_meaning.specs.Acting.{has_tag, element_of, no_element, made_last};
+ghost use Rattle.act_phase.specs.Changed.{memory_of, unchanged, with_removed, with_added, added_by, last_added};
 
 use ops_base::elements::{Change, Element};
 use ops_base::list::Listed;
@@ -36,6 +37,31 @@ impl<'s> Model for Working<'s> {
     ghost view = { λ w. record { start = w.store.now.elements; changes = w.changes.items; last = w.next_tag - 1 } };
 
     ghost invariant = { λ w. AreCounted w.store.now.elements w.changes.items (contains nat_cmp w.gone) w.first_tag w.next_tag };
+}
+
+/// The element that a change adds, where it has this tag.
+fn added_by(tag: u64, change: &Change) -> Option<&Element>
+    ensures { option_copied result ≡ added_by tag change.now }
+{
+    match change {
+        Change::Add(element) if element.tag == tag => Some(element),
+        _ => None,
+    }
+}
+
+#[tactic(auto, using(crate::proofs::Found::last_added_push))]
+/// The element of this tag that was added last. Looks at the changes since then.
+fn last_added(changes: &[Change], tag: u64) -> Option<&Element>
+    ensures { option_copied result ≡ last_added changes.now tag }
+{
+    let mut left = changes;
+    while let Some((last, before)) = left.split_last() {
+        if let Some(element) = added_by(tag, last) {
+            return Some(element);
+        }
+        left = before;
+    }
+    None
 }
 
 impl<'s> Working<'s> {
@@ -117,6 +143,28 @@ impl<'s> Working<'s> {
             left = before;
         }
         None
+    }
+
+    /// The changes so far.
+    pub(crate) fn changes(&self) -> &[Change]
+        ensures { result.now ≡ self.now.changes }
+    {
+        self.changes.as_slice()
+    }
+
+    /// The element that the removal of this tag took out, which is the change at this place. One that was there at the start
+    /// is looked up in the store. For one that was made here it goes back over the changes to where it was made.
+    pub(crate) fn removed_at(&self, place: usize, tag: u64) -> &Element
+        requires { slice_get self.now.changes place ≡ Some (Change.Remove tag) }
+        ensures { element_of (done self.now.start (take place self.now.changes)) tag ≡ Some result.now }
+    {
+        if let Some(element) = self.store.get(tag) {
+            return element;
+        }
+        match last_added(&self.changes.as_slice()[..place], tag) {
+            Some(element) => element,
+            None => unreachable!(),
+        }
     }
 
     /// The changes, and the next tag.

@@ -12,16 +12,19 @@ use Rattle.ops_base.specs.declared.endings.Ending.{Ending}
 use Rattle.ops_base.specs.declared.rules.Inst.{Inst}
 use Rattle.ops_base.proofs.RefractionLaws.{is_among-Decides}
 use Rattle.ops_io.specs.Coming.{Coming, Inlet, preceded_by}
-use Rattle.ops_io.specs.Ports.{Port}
-use Rattle.ops_io.proofs.PortLemmas.{put_nothing}
+use Rattle.ops_io.specs.Output.{column_after}
+use Rattle.ops_io.specs.Ports.{Port, Put, Stopped}
+use Rattle.ops_io.specs.declared.stop.Stop.TheVariants as stop
+use Rattle.ops_io.proofs.PortLemmas.{put_nothing, stopped_more}
 use Rattle.ops_io.proofs.ComingLemmas.{took_nothing}
 use Rattle.ops_meaning.specs.Acting.{Setting, Acted as Meant, Misdeed, acted}
-use Rattle.ops_meaning.specs.Effects.{Effect, Failure, failure_as, PerformsOn}
+use Rattle.ops_meaning.specs.Effects.{Effect, led_by, told_as, Failure, failure_as, PerformsOn}
 use Rattle.ops_meaning.specs.Kept.{WellKept, IsLawfulOver}
+use Rattle.ops_meaning.specs.Layout.{firing_bytes}
 use Rattle.ops_meaning.specs.Running.{Course, Turned, given_by, phase_by, turned_of, ended_in, firing}
 use Rattle.ops_meaning.proofs.Doings.{ok_goes, EndsActions, KeptActed, acted_kept}
-use Rattle.ops_meaning.proofs.EffectLemmas.{Leaves, told_leaves, told_fails}
-use Rattle.ops_meaning.proofs.InletLemmas.{LeavesOn, short_on, short_behind, leaves_on, fails_on, on_ok, on_err}
+use Rattle.ops_meaning.proofs.EffectLemmas.{Leaves, told_leaves, told_fails, fails_stopped}
+use Rattle.ops_meaning.proofs.InletLemmas.{LeavesOn, short_on, short_behind, leaves_on, fails_on, on_ok, on_err, fails_apart, performs_on_led}
 use Rattle.act_phase.specs.Outcomes.{acted_of, failure_of}
 use Rattle.act_phase.specs.declared.outcome.Acted.{Acted}
 use Rattle.act_phase.specs.declared.outcome.ActFault.{ActFault}
@@ -60,8 +63,9 @@ module _ {M : Type 0} (stored : M → Stored) (s : Setting) (column : ℕ) (i : 
   abbrev acts : Coming → Effect Misdeed Meant
   acts = acts_over (stored h.matcher) i (stored h.matcher).last
 
+  -- a firing, behind its line
   abbrev fires_of : Coming → Effect Ending Turned
-  fires_of z = firing s column i (state_course stored h names z)
+  fires_of z = told_as (turned_of s.rules i (state_course stored h names z)) (ended_in (h.firings + 1) i.rule) (acts z)
 
   abbrev ends : ActFault → Failure Ending
   ends f = failure_as (ended_in (h.firings + 1) i.rule) (failure_of f)
@@ -115,12 +119,6 @@ module _ {M : Type 0} (stored : M → Stored) (s : Setting) (column : ℕ) (i : 
           let P : Turned → Type 0 = λ t. Leaves t a b (fires_of w) in
           subst P (ap turned ended) (told_leaves (turned_of s.rules i (state_course stored h names w)) (ended_in (h.firings + 1) i.rule) x a b (acts w) left)
 
-  module _ {X : Type 0} {view : X → Coming → Turned} {p : Inlet} {a : Port} where
-    -- memory ran out before the right side
-    pub fires_not : IsTrue a.out.whole → (let r : Result X ActFault = Err fault.OutOfMemory in PerformsOn view ends r p p a a fires_of)
-    fires_not whole =
-        on_err view ends fault.OutOfMemory p p a a fires_of (short_on p p a a [] fires_of (took_nothing p) (put_nothing a whole))
-
   module _ {p q : Inlet} {a b : Port} (x : Stored) (held : x ≡ stored h.matcher) (w : Inst) (is : w ≡ i) (tag : ℕ) (next_tag : tag ≡ (stored h.matcher).last + 1) (new : Spellings) where
     -- what was done over these is what is to be done
     meant : (r : Result Acted ActFault) → PerformsOn (λ y z. acted_of y new z) failure_of r p q a b (acts_over x w (tag - 1)) → PerformsOn (λ y z. acted_of y new z) failure_of r p q a b acts
@@ -163,3 +161,45 @@ module _ {M : Type 0} (stored : M → Stored) (s : Setting) (column : ℕ) (i : 
           let marks : Inst → Held M = λ w. record h { index = record h.index { members = marked_members w h.index.members }; firings = h.firings + 1 } in
           on_ok view ends r p q a b fires_of
           (subst P (sym (λ n z. tells z n)) (leaves_firing y new p q a b left well (subst C is there) next (subst A all (subst N (at ∙ ap marks is) phase))))
+
+module _ {M : Type 0} (stored : M → Stored) (s : Setting) (i : Inst) (h : Held M) (names : Spellings) where
+  -- a firing, its line and what is behind it
+  abbrev whole_of : ℕ → Coming → Effect Ending Turned
+  whole_of column z = firing s column i (state_course stored h names z)
+
+  -- a line that begins at this column, of a firing with this number
+  abbrev line_of : ℕ → ℕ → Inst → List ℕ
+  line_of column number w = firing_bytes s.watch column names s.rules number w
+
+  abbrev ends_so : ActFault → Failure Ending
+  ends_so f = failure_as (ended_in (h.firings + 1) i.rule) (failure_of f)
+
+  -- the line of what was copied is that of what fires next
+  line_is : (column number : ℕ) (w : Inst) → number ≡ h.firings + 1 → w ≡ i → line_of column number w ≡ line_of column (h.firings + 1) i
+  line_is column number w next is = ap (λ n. line_of column n w) next ∙ ap (λ w. line_of column (h.firings + 1) w) is
+
+  module _ {X : Type 0} {view : X → Coming → Turned} {p : Inlet} {a : Port} where
+    -- memory ran out before the line
+    pub fires_not : IsTrue a.out.whole → (let r : Result X ActFault = Err fault.OutOfMemory in PerformsOn view ends_so r p p a a (whole_of a.out.column))
+    fires_not whole =
+        on_err view ends_so fault.OutOfMemory p p a a (whole_of a.out.column) (short_on p p a a [] (whole_of a.out.column) (took_nothing p) (put_nothing a whole))
+
+    module _ {b : Port} (number : ℕ) (w : Inst) (next : number ≡ h.firings + 1) (is : w ≡ i) where
+      -- the sink refused the line
+      pub fires_unseen : (f : ActFault) → f ≡ fault.Write → Stopped stop.Write a b (line_of a.out.column number w) → (let r : Result X ActFault = Err f in PerformsOn view ends_so r p p a b (whole_of a.out.column))
+      fires_unseen f refused stopped =
+          let line = line_of a.out.column (h.firings + 1) i in
+          let P : List ℕ → Type 0 = Stopped stop.Write a b in
+          on_err view ends_so f p p a b (whole_of a.out.column)
+          (fails_apart (ends_so f) p a b (whole_of a.out.column)
+          (λ z. fails_stopped stop.Write (ends_so f) a b (whole_of a.out.column z) (ap ends_so refused)
+          (stopped_more stop.Write a b line (fires_of stored s (column_after a.out.column line) i h names z).bytes (subst P (line_is a.out.column number w next is) stopped))))
+
+      -- a firing is its line, and what is behind it
+      pub behind_line : {q : Inlet} {c : Port} (r : Result X ActFault) → Put a b (line_of a.out.column number w) → PerformsOn view ends_so r p q b c (fires_of stored s b.out.column i h names) → PerformsOn view ends_so r p q a c (whole_of a.out.column)
+      behind_line {q = q} {c = c} r put did =
+          let line = line_of a.out.column (h.firings + 1) i in
+          let P : List ℕ → Type 0 = Put a b in
+          let told = subst P (line_is a.out.column number w next is) put in
+          let Q : ℕ → Type 0 = λ n. PerformsOn view ends_so r p q a c (λ z. led_by line (fires_of stored s n i h names z)) in
+          subst Q told.column (performs_on_led view ends_so r p q a b c line (fires_of stored s b.out.column i h names) told did)

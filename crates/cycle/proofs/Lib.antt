@@ -1,6 +1,6 @@
 pub mod Stores
 mod Members
-mod Marks
+pub mod Marks
 mod Phases
 mod Firings
 mod Quiet

@@ -1,5 +1,5 @@
 //! A state of the cycle, its phases and its firings.
-ghost use Rattle.std.specs.Prelude.{◌≡◌, ◌↔◌, ◌<◌, ◌+◌, ◌^◌, List, [], Some, IsSome, IsTrue, Contains, MatchOption, OnOk, OnErr, IfOk};
+ghost use Rattle.std.specs.Prelude.{◌≡◌, ◌↔◌, ◌<◌, ◌+◌, ◌^◌, List, [], Some, IsSome, IsTrue, Contains, MatchOption, OnOk, OnErr, IfOk, IfErr};
 ghost use Rattle.std.specs.Option.{option_copied};
 ghost use Rattle.ops_base.specs.declared.rules.Inst.{Inst};
 ghost use Rattle.ops_base.specs.declared.rules.Rule.{Rule};
@@ -8,9 +8,10 @@ ghost use Rattle.ops_base.specs.Instances.{IsConflictSet};
 ghost use Rattle.ops_base.specs.Names.{Spellings};
 ghost use Rattle.ops_base.specs.WorkingMemory.{Lawful, last_after};
 ghost use Rattle.ops_io.specs.Coming.{Coming, inlet};
-ghost use Rattle.ops_io.specs.Ports.{port};
+ghost use Rattle.ops_io.specs.Ports.{port, PutsBytes};
 ghost use Rattle.ops_meaning.specs.Effects.{PerformsOn, CountsReads, failure_as};
 ghost use Rattle.ops_meaning.specs.Kept.{KeepsNames, WellKept};
+ghost use Rattle.ops_meaning.specs.Layout.{firing_bytes};
 ghost use Rattle.ops_meaning.specs.Running.{ended_in, firing, next_to_fire, nothing_yet, phase_by};
 ghost use Rattle.act_phase.specs.Outcomes.{failure_of, is_unread, setting_of};
 ghost use Rattle.conflict_index.specs.Applying.{marked};
@@ -26,6 +27,7 @@ use ops_base::programs::Program;
 use ops_base::rules::Inst;
 use ops_base::symbols::Names;
 use ops_io::{Input, Out, Sink, Source};
+use ops_print::put_firing;
 use std::alloc::Global;
 use std::marker::Model;
 use work_store::{Matcher, Settled, Store};
@@ -66,6 +68,32 @@ fn copy_of(alloc: Global, next: Option<&Inst>) -> Result<Inst, OutOfMemory>
     match next {
         Some(inst) => inst.copy(alloc),
         None => unreachable!(),
+    }
+}
+
+/// Puts the line of the firing with this number, where firings are traced.
+fn put_trace<K: Sink>(
+    out: &mut Out,
+    sink: &mut K,
+    names: &Names,
+    program: &Program,
+    watch: u8,
+    firing: u64,
+    inst: &Inst,
+) -> Result<(), ActFault>
+    requires whole { IsTrue out.old.whole }
+    requires faults { K.faults sink.old < 2 ^ 63 }
+    ensures puts { PutsBytes result (port (K.taken sink.old) (K.faults sink.old) out.old)
+        (port (K.taken sink.new) (K.faults sink.new) out.new)
+        (firing_bytes watch out.old.column names.now program.now.rules firing inst.now) }
+    ensures refused { IfErr result (λ f. f ≡ ActFault.Write) }
+{
+    if watch < 1 {
+        return Ok(());
+    }
+    match put_firing(out, sink, names, program, firing, inst) {
+        Ok(()) => Ok(()),
+        Err(_refused) => Err(ActFault::Write),
     }
 }
 
@@ -189,9 +217,9 @@ impl<M: Matcher> State<M> {
         self.firings += 1;
     }
 
-    /// One firing: the right side of what is next, which is marked, and then one phase. The answer tells whether `halt` was
-    /// done in it. The conflict set is gone over once to find what fires and up to it to mark it. After a refusal the state
-    /// is gone; what was put and read stays so, and names may have come.
+    /// One firing: its line where firings are traced, the right side of what is next, which is marked, and then one phase. The
+    /// answer tells whether `halt` was done in it. The conflict set is gone over once to find what fires and up to it to mark
+    /// it. After a refusal the state is gone; what was put and read stays so, and names may have come.
     pub fn fire<I: Source, K: Sink>(
         self,
         alloc: Global,
@@ -211,7 +239,6 @@ impl<M: Matcher> State<M> {
         requires reads { I.faults source.old < 2 ^ 63 }
         requires firings { self.firings < 2 ^ 63 }
         requires tags { (M.stored self.matcher).last < 2 ^ 63 }
-        requires silent { watch ≡ 0 }
         requires next { IsSome (next_to_fire program.now.rules (alone M.stored self)) }
         ensures performs { (i : Inst) → next_to_fire program.now.rules (alone M.stored self) ≡ Some i
             → PerformsOn (λ r c. record { course = state_course M.stored r.0 names.new c; halted = r.1 })
@@ -220,7 +247,7 @@ impl<M: Matcher> State<M> {
             (inlet input.new (I.left source.new) (I.faults source.new))
             (port (K.taken sink.old) (K.faults sink.old) out.old)
             (port (K.taken sink.new) (K.faults sink.new) out.new)
-            (λ c. firing (setting_of program.now) out.old.column i (state_course M.stored self names.old c)) }
+            (λ c. firing (setting_of program.now watch) out.old.column i (state_course M.stored self names.old c)) }
         ensures reads { CountsReads (is_unread result) (I.faults source.old) (I.faults source.new) }
         ensures names { KeepsNames names.old names.new }
         ensures stands { IfOk result (λ r. M.stands_for r.0.matcher program.now.rules) }
@@ -228,6 +255,8 @@ impl<M: Matcher> State<M> {
     {
         let mut state = self;
         let inst = copy_of(alloc, state.next())?;
+        let firing = state.firings() + 1;
+        put_trace(out, sink, names, program, watch, firing, &inst)?;
         let tag = state.last_tag() + 1;
         let acted = act(
             alloc,

@@ -21,7 +21,7 @@ use Rattle.ops_meaning.specs.declared.words.Word.{Word}
 use Rattle.ops_meaning.specs.declared.words.Keyword.{Keyword}
 use Rattle.ops_meaning.specs.declared.words.Keyword.TheVariants as keyword
 use Rattle.ops_meaning.specs.Words.{keyword_of, names_with, word_of, words_from}
-use Rattle.ops_meaning.specs.Grammar.{Use, InPattern, InPut, InFixed, Target, ToPut, ToTerms, ToConstants, ToItem, ToBind, Column, Wanted, Forms, Form, ClassDeclared, Attributes, VectorName, VectorNames, RuleName, FirstPattern, Patterns, Pattern, Braced, ElementName, ClosesBrace, ClassName, Terms, Attribute, Several, Place, Tests, Tested, Choice, Atom, ValueFor, Function, ExpressionUnit, ExpressionRest, Bracketed, SourceCell, SourceAttribute, SourceEnd, Actions, ActionWord, Modified, BoundName, BoundValue, CellName, Cell, Cells, Items, ItemWord, Columns, Count, StrategyName, Closes, State, Step, Next, Refuses, Outcome, is_left, is_right, is_left_brace, is_right_brace, is_caret, is_name, is_variable, is_arrow, is_literal, is_minus, opens_choice, closes_choice, pred_of, constant_of, value_of, atom_of, is_one_of, number_of, bound_value, EndsWhole, may_declare, may_produce, is_class, is_rule, is_second, makes_second, vector_declared, vector_name, form, class_at, attributes_of, behind_attribute, field_at, terms, within, one_of_several, with_several, place, element_at, element_name, cell_bound, variable_tested, constant_tested, tested, predicated, test, chosen, atom_at, term_at, bound_at, constant_at, is_of_action, value_for, Waiting, most_brackets, is_compute, operation_of, unit_bound, unit_at, bracket_at, expression_unit, bracketed, operation_at, expression_ended, with_formula, no_formula, expression_rest, completed, function, source_named, source_cell, source_class, source_at, source_attribute, takes_several, is_inf, ends_at_inf, source_end, action_word, cell_of, with_designated, with_modified, small_of, item_word, columns_at, count_of, counted, count, strategy_of, strategy_set, strategy_name, step, ends, after, goes}
+use Rattle.ops_meaning.specs.Grammar.{Use, InPattern, InPut, InFixed, Target, ToPut, ToTerms, ToConstants, ToItem, ToBind, TagUse, ToRemove, NameUse, Column, Wanted, Forms, Form, ClassDeclared, Attributes, VectorName, VectorNames, RuleName, FirstPattern, Patterns, Pattern, Braced, ElementName, ClosesBrace, ClassName, Terms, Attribute, Several, Place, Tests, Tested, Choice, Atom, ValueFor, Function, ExpressionUnit, ExpressionRest, Bracketed, SourceCell, SourceAttribute, SourceEnd, Actions, ActionWord, Modified, BoundName, BoundValue, CellName, Cell, Cells, Items, ItemWord, Columns, Count, StrategyName, TagOrAll, Tags, Shown, NamedRule, NamedRules, Level, Closes, State, Step, Next, Refuses, Outcome, is_left, is_right, is_left_brace, is_right_brace, is_caret, is_name, is_variable, is_arrow, is_literal, is_minus, opens_choice, closes_choice, pred_of, constant_of, value_of, atom_of, is_one_of, number_of, bound_value, EndsWhole, may_declare, may_produce, is_class, is_rule, is_second, makes_second, vector_declared, vector_name, form, class_at, attributes_of, behind_attribute, field_at, terms, within, one_of_several, with_several, place, element_at, element_name, cell_bound, variable_tested, constant_tested, tested, predicated, test, chosen, atom_at, term_at, bound_at, constant_at, is_of_action, value_for, Waiting, most_brackets, is_compute, operation_of, unit_bound, unit_at, bracket_at, expression_unit, bracketed, operation_at, expression_ended, with_formula, no_formula, expression_rest, completed, function, source_named, source_cell, source_class, source_at, source_attribute, takes_several, is_inf, ends_at_inf, source_end, action_word, cell_of, with_designated, with_modified, small_of, item_word, columns_at, count_of, counted, count, strategy_of, strategy_set, strategy_name, is_all, tag_at, tag_or_all, tags, class_name, shown, named_rule, named_rules, level_of, level_set, level, step, ends, after, goes}
 use Rattle.ops_forms.specs.Forms.{open_behind, is_last, closes_last, stays_open, opens}
 
 -- ---- what is owed
@@ -46,6 +46,11 @@ owes Items = true
 owes ItemWord = true
 owes Count = true
 owes StrategyName = true
+owes TagOrAll = true
+owes (Tags u) = true
+owes Shown = true
+owes (NamedRules u) = true
+owes Level = true
 owes (Closes e) = true
 owes _ = false
 
@@ -91,6 +96,11 @@ in_form_owes (Items ∷ ws) i h = omega arith
 in_form_owes (ItemWord ∷ ws) i h = omega arith
 in_form_owes (Count ∷ ws) i h = omega arith
 in_form_owes (StrategyName ∷ ws) i h = omega arith
+in_form_owes (TagOrAll ∷ ws) i h = omega arith
+in_form_owes (Tags u ∷ ws) i h = omega arith
+in_form_owes (Shown ∷ ws) i h = omega arith
+in_form_owes (NamedRules u ∷ ws) i h = omega arith
+in_form_owes (Level ∷ ws) i h = omega arith
 in_form_owes (Closes e ∷ ws) i h = omega arith
 in_form_owes (ClassDeclared ∷ ws) i h = let p = and_parts (in_form ws) (stands ws) h in in_form_owes ws p.0 p.1
 in_form_owes (VectorName ∷ ws) i h = let p = and_parts (in_form ws) (stands ws) h in in_form_owes ws p.0 p.1
@@ -115,6 +125,7 @@ in_form_owes (CellName ∷ ws) i h = let p = and_parts (in_form ws) (stands ws) 
 in_form_owes (Columns c ∷ ws) i h = let p = and_parts (in_form ws) (stands ws) h in in_form_owes ws p.0 p.1
 in_form_owes (SourceCell ∷ ws) i h = let p = and_parts (in_form ws) (stands ws) h in in_form_owes ws p.0 p.1
 in_form_owes (SourceEnd t name ∷ ws) i h = let p = and_parts (in_form ws) (stands ws) h in in_form_owes ws p.0 p.1
+in_form_owes (NamedRule ∷ ws) i h = let p = and_parts (in_form ws) (stands ws) h in in_form_owes ws p.0 p.1
 in_form_owes (Cell ∷ ws) i h = let p = and_parts (in_form ws) (stands ws) h in in_form_owes ws p.0 p.1
 
 -- ---- brackets by kinds
@@ -182,6 +193,10 @@ count_keeps : (k : TokenKind) (m n : ℕ) → count_of k ≡ Some m → open_beh
 count_keeps (kind.Whole z) m n e = refl
 count_keeps _ m n e = absurd (cc)
 
+level_keeps : (k : TokenKind) (m n : ℕ) → level_of k ≡ Some m → open_behind n k ≡ n
+level_keeps (kind.Whole z) m n e = refl
+level_keeps _ m n e = absurd (cc)
+
 -- ---- keywords that are there
 
 literal_known : (k : Keyword) → is_literal k ≡ true → k ≡ keyword.Other → ⊥
@@ -220,6 +235,10 @@ strategy_known : (k : Keyword) (g : Strategy) → strategy_of k ≡ Some g → k
 strategy_known keyword.Other g e o = absurd (cc)
 strategy_known _ g e o = absurd (cc)
 
+all_known : (k : Keyword) → is_all k ≡ true → k ≡ keyword.Other → ⊥
+all_known keyword.Times e o = absurd (cc)
+all_known _ e o = absurd (true≢false (sym e))
+
 keyword_keeps : (k : TokenKind) (s : List ℕ) (n : ℕ) → (keyword_of k s ≡ keyword.Other → ⊥) → open_behind n k ≡ n
 keyword_keeps kind.Symbol s n e = refl
 keyword_keeps kind.Operator s n e = refl
@@ -246,8 +265,16 @@ module _ (w : Word) (quiet : (n : ℕ) → (w.keyword ≡ keyword.Other → ⊥)
   form_balanced keyword.VectorAttribute ws s e h = cond_both (may_declare s) _ _ (B (Form ∷ ws)) (λ _. (h, sym (quiet (1 + owed ws) (λ o. absurd (cc))))) (λ _. tt)
   form_balanced keyword.Production ws s e h = cond_both (may_produce s) _ _ (B (Form ∷ ws)) (λ _. (h, sym (quiet (1 + owed ws) (λ o. absurd (cc))))) (λ _. tt)
   form_balanced keyword.Make ws s e h = (h, sym (quiet (1 + owed ws) (λ o. absurd (cc))))
+  form_balanced keyword.Remove ws s e h = (h, sym (quiet (1 + owed ws) (λ o. absurd (cc))))
   form_balanced keyword.Run ws s e h = (h, sym (quiet (1 + owed ws) (λ o. absurd (cc))))
+  form_balanced keyword.Wm ws s e h = (h, sym (quiet (1 + owed ws) (λ o. absurd (cc))))
+  form_balanced keyword.Ppwm ws s e h = (h, sym (quiet (1 + owed ws) (λ o. absurd (cc))))
+  form_balanced keyword.Cs ws s e h = (h, sym (quiet (1 + owed ws) (λ o. absurd (cc))))
+  form_balanced keyword.Pm ws s e h = (h, sym (quiet (1 + owed ws) (λ o. absurd (cc))))
   form_balanced keyword.Strategy ws s e h = (h, sym (quiet (1 + owed ws) (λ o. absurd (cc))))
+  form_balanced keyword.Watch ws s e h = (h, sym (quiet (1 + owed ws) (λ o. absurd (cc))))
+  form_balanced keyword.Pbreak ws s e h = (h, sym (quiet (1 + owed ws) (λ o. absurd (cc))))
+  form_balanced keyword.Exit ws s e h = (h, sym (quiet (1 + owed ws) (λ o. absurd (cc))))
   form_balanced _ ws s e h = tt
 
   action_word_balanced : (k : Keyword) (ws : List Wanted) (s : State) → w.keyword ≡ k → stands ws ≡ true → B (ActionWord ∷ ws) (action_word k ws s)
@@ -470,6 +497,43 @@ module _ (w : Word) (quiet : (n : ℕ) → (w.keyword ≡ keyword.Other → ⊥)
   strategy_name_balanced ws s h =
       cond_both (is_right w.kind) _ _ (B (StrategyName ∷ ws)) (λ e. (h, closed ws e)) (λ _. strategy_set_balanced (strategy_of w.keyword) ws s refl h)
 
+  tag_balanced : (u : TagUse) (o : Option ℕ) (ws : List Wanted) (s : State) → count_of w.kind ≡ o → stands ws ≡ true → B (Tags u ∷ ws) (tag_at o (Tags u ∷ ws) s)
+  tag_balanced u (Some n) ws s e h = (h, sym (count_keeps w.kind n (1 + owed ws) e))
+  tag_balanced u None ws s e h = tt
+
+  tag_or_all_balanced : (ws : List Wanted) (s : State) → stands ws ≡ true → B (TagOrAll ∷ ws) (tag_or_all w ws s)
+  tag_or_all_balanced ws s h =
+      cond_both (is_all w.keyword) _ _ (B (TagOrAll ∷ ws)) (λ e. (h, sym (quiet (1 + owed ws) (all_known w.keyword e))))
+      (λ _. tag_balanced ToRemove (count_of w.kind) ws s refl h)
+
+  tags_balanced : (u : TagUse) (ws : List Wanted) (s : State) → stands ws ≡ true → B (Tags u ∷ ws) (tags u w ws s)
+  tags_balanced u ws s h =
+      cond_both (is_right w.kind) _ _ (B (Tags u ∷ ws)) (λ e. (h, closed ws e)) (λ _. tag_balanced u (count_of w.kind) ws s refl h)
+
+  class_name_balanced : (ws : List Wanted) (s : State) → stands ws ≡ true → B ws (class_name w ws s)
+  class_name_balanced ws s h =
+      cond_both (is_name w.kind) _ _ (B ws) (λ e. class_at_balanced (position (λ c. c.name.0 == w.name.0) s.classes) ws s e h) (λ _. tt)
+
+  shown_balanced : (ws : List Wanted) (s : State) → stands ws ≡ true → B (Shown ∷ ws) (shown w ws s)
+  shown_balanced ws s h =
+      cond_both (is_right w.kind) _ _ (B (Shown ∷ ws)) (λ e. (h, closed ws e))
+      (λ _. class_name_balanced (Terms InFixed ∷ ws) (record s { fixed = []; shows = true }) h)
+
+  named_rule_balanced : (ws : List Wanted) (s : State) → stands ws ≡ true → B ws (named_rule w ws s)
+  named_rule_balanced ws s h = cond_both (is_name w.kind) _ _ (B ws) (λ e. (h, named ws e)) (λ _. tt)
+
+  named_rules_balanced : (u : NameUse) (ws : List Wanted) (s : State) → stands ws ≡ true → B (NamedRules u ∷ ws) (named_rules u w ws s)
+  named_rules_balanced u ws s h =
+      cond_both (is_right w.kind) _ _ (B (NamedRules u ∷ ws)) (λ e. (h, closed ws e)) (λ _. named_rule_balanced (NamedRules u ∷ ws) s h)
+
+  level_set_balanced : (o : Option ℕ) (ws : List Wanted) (s : State) → level_of w.kind ≡ o → stands ws ≡ true → B (Level ∷ ws) (level_set o ws s)
+  level_set_balanced (Some n) ws s e h = (h, sym (level_keeps w.kind n (1 + owed ws) e))
+  level_set_balanced None ws s e h = tt
+
+  level_balanced : (ws : List Wanted) (s : State) → stands ws ≡ true → B (Level ∷ ws) (level w ws s)
+  level_balanced ws s h =
+      cond_both (is_right w.kind) _ _ (B (Level ∷ ws)) (λ e. (h, closed ws e)) (λ _. level_set_balanced (level_of w.kind) ws s refl h)
+
   -- ---- the places and values of a vector attribute
 
   place_balanced : (f : ℕ) (ws : List Wanted) (s : State) → (in_form ws && stands ws) ≡ true → B ws (place f w ws s)
@@ -538,8 +602,7 @@ module _ (w : Word) (quiet : (n : ℕ) → (w.keyword ≡ keyword.Other → ⊥)
   step_balanced (ElementName ∷ ws) s h = element_name_balanced ws s (and_parts (in_form ws) (stands ws) h).1
   step_balanced (ClosesBrace ∷ ws) s h =
       cond_both (is_right_brace w.kind) _ _ (B (ClosesBrace ∷ ws)) (λ e. ((and_parts (in_form ws) (stands ws) h).1, sym (right_brace_keeps w.kind (owed ws) e))) (λ _. tt)
-  step_balanced (ClassName ∷ ws) s h =
-      cond_both (is_name w.kind) _ _ (B (ClassName ∷ ws)) (λ e. class_at_balanced (position (λ c. c.name.0 == w.name.0) s.classes) ws s e (and_parts (in_form ws) (stands ws) h).1) (λ _. tt)
+  step_balanced (ClassName ∷ ws) s h = class_name_balanced ws s (and_parts (in_form ws) (stands ws) h).1
   step_balanced (Terms u ∷ ws) s h = terms_balanced u ws s h
   step_balanced (Attribute u ∷ ws) s h =
       cond_both (is_name w.kind) _ _ (B (Attribute u ∷ ws))
@@ -584,6 +647,12 @@ module _ (w : Word) (quiet : (n : ℕ) → (w.keyword ≡ keyword.Other → ⊥)
   step_balanced (Columns c ∷ ws) s h = columns_balanced c (small_of w.kind) ws s refl (and_parts (in_form ws) (stands ws) h).1
   step_balanced (Count ∷ ws) s h = count_balanced ws s h
   step_balanced (StrategyName ∷ ws) s h = strategy_name_balanced ws s h
+  step_balanced (TagOrAll ∷ ws) s h = tag_or_all_balanced ws s h
+  step_balanced (Tags u ∷ ws) s h = tags_balanced u ws s h
+  step_balanced (Shown ∷ ws) s h = shown_balanced ws s h
+  step_balanced (NamedRule ∷ ws) s h = named_rule_balanced ws s (and_parts (in_form ws) (stands ws) h).1
+  step_balanced (NamedRules u ∷ ws) s h = named_rules_balanced u ws s h
+  step_balanced (Level ∷ ws) s h = level_balanced ws s h
   step_balanced (Closes x ∷ ws) s h = cond_both (is_right w.kind) _ _ (B (Closes x ∷ ws)) (λ e. (h, closed ws e)) (λ _. tt)
 
 -- ---- where the words end

@@ -2,3 +2,4 @@ pub mod Balance
 pub mod Texts
 pub mod Rooms
 pub mod Sides
+pub mod Ways

@@ -1,12 +1,16 @@
 -- How the code's walk over the words goes along with the definition's.
 use Rattle.std.specs.Prelude.{◌≡◌, Bool, false, ◌||◌, is_some, List, [], ◌∷◌, ◌++◌, Some, None, Result, Ok, Err}
 use Rattle.ops_meaning.specs.declared.words.Word.{Word}
-use Rattle.ops_meaning.specs.Grammar.{Target as Goal, ToFixed, ToConstants, Forms, State, is_literal, value_of, no_formula, goes}
+use Rattle.ops_meaning.specs.Grammar.{Target as Goal, ToFixed, ToConstants, TagUse as TagGoal, ToRemove, ToShow, NameUse as NameGoal, ToPrint, ToBreak, Forms, State, is_literal, value_of, no_formula, goes}
 use Rattle.ops_forms.specs.declared.refusals.Refusal.{Refusal}
 use Rattle.ops_forms.specs.declared.refusals.Refusal.TheVariants as refusal
 use Rattle.ops_check.specs.declared.draft.Draft.{Draft}
 use Rattle.ops_check.specs.declared.draft.Target.{Target}
 use Rattle.ops_check.specs.declared.draft.Target.TheVariants as target
+use Rattle.ops_check.specs.declared.draft.TagUse.{TagUse}
+use Rattle.ops_check.specs.declared.draft.TagUse.TheVariants as tag_use
+use Rattle.ops_check.specs.declared.draft.NameUse.{NameUse}
+use Rattle.ops_check.specs.declared.draft.NameUse.TheVariants as name_use
 
 -- what a draft holds, which is nothing of a side of a production that is being read
 abbrev pub view : Draft → State
@@ -43,11 +47,22 @@ view d =
       source = 0;
       source_field = 0;
       formula = no_formula;
+      shows = d.shows;
+      tags = d.tags.items;
+      named = d.named.items;
     }
 
 abbrev pub target_of : Target → Goal
 target_of (target.Fixed f) = ToFixed f
 target_of target.Constants = ToConstants
+
+abbrev pub tag_use_of : TagUse → TagGoal
+tag_use_of tag_use.Remove = ToRemove
+tag_use_of tag_use.Show = ToShow
+
+abbrev pub name_use_of : NameUse → NameGoal
+name_use_of name_use.Print = ToPrint
+name_use_of name_use.Break = ToBreak
 
 -- a call read all words as forms
 abbrev pub ReadsAll : State → State → List Word → Result Unit Refusal → Type 0

@@ -1,13 +1,13 @@
-//! The commands of one word and an argument.
+//! The commands of one word, and those of one word and an argument.
 ghost use Rattle.std.specs.Prelude.{◌≡◌};
-ghost use Rattle.ops_meaning.specs.Grammar.{Count, StrategyName};
+ghost use Rattle.ops_meaning.specs.Grammar.{Count, StrategyName, Level, Closes, EndsCs, EndsExit};
 ghost use Rattle.ops_forms.specs.Going.{Reads, IsWithin};
 ghost use Rattle.ops_check.specs.Going.{view};
 
 use crate::draft::Draft;
 use ops_base::commands::Command;
 use ops_base::endings::Fault;
-use ops_forms::kinds::{count_of, is_right, strategy_of};
+use ops_forms::kinds::{count_of, is_right, level_of, strategy_of};
 use ops_forms::refusals::{Refusal, closing, first_of, refused};
 use ops_meaning::Word;
 
@@ -48,5 +48,46 @@ impl Draft {
         let set = Some(strategy);
         self.add_command(Command::Strategy { set })?;
         closing(rest)
+    }
+
+    // ) | 0 ) | 1 ) | 2 )
+    #[tactic(auto, unfolding(ops_meaning::specs::Grammar::goes, ops_meaning::specs::Grammar::step, ops_meaning::specs::Grammar::ends))]
+    pub fn watch<'a>(&mut self, words: &'a [Word]) -> Result<&'a [Word], Refusal>
+        ensures reads { Reads Level (view self.old) (view self.new) words.now result }
+        ensures within { IsWithin words.now result }
+    {
+        let (word, rest) = first_of(words)?;
+        if is_right(word.kind) {
+            self.add_command(Command::Watch { set: None })?;
+            return Ok(rest);
+        }
+        let Some(level) = level_of(word.kind) else {
+            return refused(Fault::BadForm, word);
+        };
+        let set = Some(level);
+        self.add_command(Command::Watch { set })?;
+        closing(rest)
+    }
+}
+
+impl Draft {
+    // )
+    pub fn cs<'a>(&mut self, words: &'a [Word]) -> Result<&'a [Word], Refusal>
+        ensures reads { Reads (Closes EndsCs) (view self.old) (view self.new) words.now result }
+        ensures within { IsWithin words.now result }
+    {
+        let rest = closing(words)?;
+        self.add_command(Command::Cs)?;
+        Ok(rest)
+    }
+
+    // )
+    pub fn exit<'a>(&mut self, words: &'a [Word]) -> Result<&'a [Word], Refusal>
+        ensures reads { Reads (Closes EndsExit) (view self.old) (view self.new) words.now result }
+        ensures within { IsWithin words.now result }
+    {
+        let rest = closing(words)?;
+        self.add_command(Command::Exit)?;
+        Ok(rest)
     }
 }

@@ -17,11 +17,25 @@ use ops_forms::vectors::{arranged, has_vector, is_one_of};
 use ops_forms::{Classes, Declared, Named};
 use std::alloc::Global;
 
-/// Where a constant of a command `make` goes: to a scalar attribute, or among the values of the vector attribute.
+/// Where a constant of a command goes: to a scalar attribute, or among the values of the vector attribute.
 #[derive(Clone, Copy, Debug, PartialEq, Eq)]
 pub enum Target {
     Fixed { field: usize },
     Constants,
+}
+
+/// What the tags of a command are for.
+#[derive(Clone, Copy, Debug, PartialEq, Eq)]
+pub enum TagUse {
+    Remove,
+    Show,
+}
+
+/// What the names of a command are for.
+#[derive(Clone, Copy, Debug, PartialEq, Eq)]
+pub enum NameUse {
+    Print,
+    Break,
 }
 
 /// The classes, rules and commands that were read, and the parts of the form that is being read.
@@ -34,10 +48,14 @@ pub struct Draft {
     pub name: Sym,
     pub first: usize,
     pub attrs: Vec<Sym>,
-    /// The class and the values of a command.
+    /// The class and the values of a command, and whether it shows elements in place of making one.
     pub class: usize,
     pub constants: Vec<Value>,
     pub fixed: Vec<Fixed>,
+    pub shows: bool,
+    /// The tags of a command, and its names.
+    pub tags: Vec<u64>,
+    pub named: Vec<Sym>,
     /// What a production leaves in sight, until the next one begins.
     pub values: Declared<Named>,
     pub elements: Declared<Named>,
@@ -60,6 +78,9 @@ impl Draft {
             class: 0,
             constants: Vec::new(alloc),
             fixed: Vec::new(alloc),
+            shows: false,
+            tags: Vec::new(alloc),
+            named: Vec::new(alloc),
             values: Declared::new(alloc),
             elements: Declared::new(alloc),
             variables: 0,

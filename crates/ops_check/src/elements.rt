@@ -1,10 +1,11 @@
 //! The elements of commands: a class with attributes and values.
-ghost use Rattle.std.specs.Prelude.{◌≡◌, ◌∷◌, ◌++◌};
-ghost use Rattle.ops_meaning.specs.Grammar.{goes, InFixed, ClassName, Terms, Attribute};
+ghost use Rattle.std.specs.Prelude.{◌≡◌, false, [], ◌∷◌, ◌++◌};
+ghost use Rattle.ops_meaning.specs.Grammar.{goes, InFixed, Shown, ClassName, Terms, Attribute};
 ghost use Rattle.ops_forms.specs.Going.{Goes, GoesToTerms, Reads, IsWithin};
 ghost use Rattle.ops_check.specs.Going.{view};
 
 use crate::draft::{Draft, Target};
+use ops_base::commands::Command;
 use ops_base::endings::Fault;
 use ops_forms::kinds::{is_caret, is_name, is_right};
 use ops_forms::refusals::{Refusal, first_of, refused};
@@ -12,7 +13,33 @@ use ops_meaning::Word;
 
 impl Draft {
     // CLASS fixed* )
-    pub fn element<'a>(&mut self, words: &'a [Word]) -> Result<&'a [Word], Refusal>
+    pub fn make<'a>(&mut self, words: &'a [Word]) -> Result<&'a [Word], Refusal>
+        ensures reads { Goes (λ more ws. goes (words.now ++ more) (ClassName ∷ Terms InFixed ∷ ws) (record (view self.old) { fixed = []; shows = false })) (view self.new) result }
+        ensures within { IsWithin words.now result }
+    {
+        self.fixed.clear();
+        self.shows = false;
+        self.element(words)
+    }
+
+    // CLASS fixed* ) | )
+    #[tactic(auto, unfolding(ops_meaning::specs::Grammar::goes, ops_meaning::specs::Grammar::step, ops_meaning::specs::Grammar::ends))]
+    pub fn ppwm<'a>(&mut self, words: &'a [Word]) -> Result<&'a [Word], Refusal>
+        ensures reads { Reads Shown (view self.old) (view self.new) words.now result }
+        ensures within { IsWithin words.now result }
+    {
+        let (word, rest) = first_of(words)?;
+        if is_right(word.kind) {
+            self.add_command(Command::Ppwm { pattern: None })?;
+            return Ok(rest);
+        }
+        self.fixed.clear();
+        self.shows = true;
+        self.element(words)
+    }
+
+    // CLASS fixed* )
+    fn element<'a>(&mut self, words: &'a [Word]) -> Result<&'a [Word], Refusal>
         ensures reads { Goes (λ more ws. goes (words.now ++ more) (ClassName ∷ Terms InFixed ∷ ws) (view self.old)) (view self.new) result }
         ensures within { IsWithin words.now result }
     {
@@ -41,7 +68,7 @@ impl Draft {
 
     // fixed* )
     #[tactic(auto, unfolding(ops_meaning::specs::Grammar::goes, ops_meaning::specs::Grammar::step, ops_meaning::specs::Grammar::ends))]
-    pub fn terms<'a>(&mut self, words: &'a [Word]) -> Result<&'a [Word], Refusal>
+    fn terms<'a>(&mut self, words: &'a [Word]) -> Result<&'a [Word], Refusal>
         ensures reads { Reads (Terms InFixed) (view self.old) (view self.new) words.now result }
         ensures within { IsWithin words.now result }
     {

@@ -1,7 +1,7 @@
 //! What ends while a text is read: the parts of a form become one of its parts.
 ghost use Rattle.std.specs.Prelude.{◌≡◌, ◌+◌, ◌++◌, List, ℕ, not, count_by, SomeIff, ◌<◌, ◌^◌};
 ghost use Rattle.ops_base.specs.Valid.{cells_of, specificity};
-ghost use Rattle.ops_meaning.specs.Grammar.{with_several, with_element, with_rule, InFixed};
+ghost use Rattle.ops_meaning.specs.Grammar.{with_several, with_element, with_rule, fixed_command, InFixed};
 ghost use Rattle.ops_forms.specs.Going.{Becomes};
 ghost use Rattle.ops_rhs.specs.RightSides.{right_read};
 ghost use Rattle.ops_check.specs.Going.{view};
@@ -26,14 +26,13 @@ impl Draft {
         Ok(())
     }
 
-    // a `make` ends
+    // a `make` or a `ppwm` ends
     pub fn end_fixed(&mut self) -> Result<(), Refusal>
         ensures { Becomes (view self.new) (with_element InFixed (view self.old)) result }
     {
         let none = Vec::new(self.alloc);
         let puts = Listed::from_vec(mem::replace(&mut self.fixed, none));
-        let class = self.class;
-        self.add_command(Command::Make { class, puts })
+        self.add_command(fixed_command(self.shows, self.class, puts))
     }
 
     // A production ends, with these conditions and this right side, before the byte `past`.
@@ -66,6 +65,18 @@ impl Draft {
         self.elements = sight.elements;
         self.variables = sight.variables;
         Ok(())
+    }
+}
+
+// a `make` of this class, or a `ppwm` of the elements that have these values
+fn fixed_command(shows: bool, class: usize, puts: Listed<Fixed>) -> Command
+    ensures { result ≡ fixed_command shows class puts }
+{
+    if shows {
+        let pattern = Some((class, puts));
+        Command::Ppwm { pattern }
+    } else {
+        Command::Make { class, puts }
     }
 }
 

@@ -1,7 +1,7 @@
 //! The faults of a text, where they stand, and how they are told.
 ghost use Rattle.std.specs.Prelude.{◌≡◌};
 ghost use Rattle.ops_meaning.specs.Reads.{fault_of, cut_off};
-ghost use Rattle.ops_meaning.specs.Whole.{limit_text, fault_text};
+ghost use Rattle.ops_meaning.specs.Layout.{limit_text, fault_text};
 ghost use Rattle.ops_check.specs.Answered.{stop_of, placed, fault_at};
 ghost use Rattle.ops_check.specs.declared.faults.ProgramFault.TheVariants.{OutOfMemory as WantOfMemory};
 ghost use Rattle.ops_check.specs.declared.faults.TextFault.TheVariants.{OutOfMemory as NoMemory};

@@ -32,8 +32,9 @@ impl Draft {
         }
     }
 
-    // literalize NAME NAME* ) | vector-attribute NAME NAME* ) | p NAME first condition* --> action* ) | make CLASS fixed* ) | run [NAT] )
-    // | strategy ) | strategy lex ) | strategy mea )
+    // literalize NAME NAME* ) | vector-attribute NAME NAME* ) | p NAME first condition* --> action* ) | make CLASS fixed* )
+    // | remove NAT NAT* ) | remove * ) | run [NAT] ) | wm NAT* ) | ppwm ) | ppwm CLASS fixed* ) | cs ) | pm NAME NAME* )
+    // | strategy ) | strategy lex ) | strategy mea ) | watch ) | watch 0 ) | watch 1 ) | watch 2 ) | pbreak NAME* ) | exit )
     #[tactic(auto, unfolding(ops_meaning::specs::Grammar::goes, ops_meaning::specs::Grammar::step, ops_meaning::specs::Grammar::ends))]
     fn form<'a>(&mut self, words: &'a [Word]) -> Result<&'a [Word], Refusal>
         ensures reads { Reads Form (view self.old) (view self.new) words.now result }
@@ -59,12 +60,17 @@ impl Draft {
                 }
                 self.production(rest)
             }
-            Keyword::Make => {
-                self.fixed.clear();
-                self.element(rest)
-            }
+            Keyword::Make => self.make(rest),
+            Keyword::Remove => self.remove(rest),
             Keyword::Run => self.run(rest),
+            Keyword::Wm => self.wm(rest),
+            Keyword::Ppwm => self.ppwm(rest),
+            Keyword::Cs => self.cs(rest),
+            Keyword::Pm => self.pm(rest),
             Keyword::Strategy => self.strategy(rest),
+            Keyword::Watch => self.watch(rest),
+            Keyword::Pbreak => self.pbreak(rest),
+            Keyword::Exit => self.exit(rest),
             _ => refused(Fault::UnknownCommand, word),
         }
     }

@@ -13,9 +13,11 @@ mod forms;
 #[cfg(test)]
 mod function_tests;
 pub mod laws;
+mod names;
 mod productions;
 mod program;
 mod several;
+mod tags;
 #[cfg(test)]
 mod tests;
 mod values;

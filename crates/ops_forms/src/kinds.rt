@@ -1,6 +1,6 @@
 //! What a word may be where something is wanted.
 ghost use Rattle.std.specs.Prelude.{◌≡◌};
-ghost use Rattle.ops_meaning.specs.Grammar.{is_left, is_right, is_left_brace, is_right_brace, is_caret, is_name, is_variable, is_arrow, is_literal, is_minus, opens_choice, closes_choice, is_inf, is_compute, operation_of, pred_of, constant_of, atom_of, value_of, natural_of, small_of, count_of, strategy_of};
+ghost use Rattle.ops_meaning.specs.Grammar.{is_left, is_right, is_left_brace, is_right_brace, is_caret, is_name, is_variable, is_arrow, is_literal, is_minus, opens_choice, closes_choice, is_inf, is_compute, operation_of, pred_of, constant_of, atom_of, value_of, natural_of, small_of, count_of, strategy_of, is_all, level_of};
 
 use ops_base::commands::Strategy;
 use ops_base::expression::Op;
@@ -245,6 +245,29 @@ pub fn strategy_of(keyword: Keyword) -> Option<Strategy>
     match keyword {
         Keyword::Lex => Some(Strategy::Lex),
         Keyword::Mea => Some(Strategy::Mea),
+        _ => None,
+    }
+}
+
+// *, for all elements
+pub fn is_all(keyword: Keyword) -> bool
+    ensures { result ≡ is_all keyword }
+{
+    match keyword {
+        Keyword::Times => true,
+        _ => false,
+    }
+}
+
+// the trace level that a whole number from 0 to 2 is
+pub fn level_of(kind: TokenKind) -> Option<u8>
+    ensures { result ≡ level_of kind }
+{
+    let TokenKind::Whole(number) = kind else {
+        return None;
+    };
+    match u8::try_from(number) {
+        Ok(level) if level <= 2 => Some(level),
         _ => None,
     }
 }

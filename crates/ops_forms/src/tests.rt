@@ -3,7 +3,7 @@
 use crate::classes::Classes;
 use crate::declared::{Declared, number_of};
 use crate::form::{FormEnd, FormFault, read_form};
-use crate::kinds::{count_of, small_of};
+use crate::kinds::{count_of, level_of, small_of};
 use crate::places::{Place, place_of};
 use crate::scope::Scope;
 use crate::vectors::{add_vectors, arranged, has_vector, is_one_of, scalars_of, with_last};
@@ -188,8 +188,23 @@ fn counts_begin_at_1(rt: HostRuntime) {
 }
 
 #[test]
+fn levels_end_at_2(rt: HostRuntime) {
+    let rows = [
+        (-1, None),
+        (0, Some(0)),
+        (2, Some(2)),
+        (3, None),
+        (256, None),
+    ];
+    for (number, level) in rows {
+        assert_eq!(rt; level_of(TokenKind::Whole(number)), level);
+    }
+    assert_eq!(rt; level_of(TokenKind::Symbol), None);
+}
+
+#[test]
 fn commands_have_keywords(rt: HostRuntime) -> Result<(), FormFault> {
-    let text = b"(run strategy lex mea |lex| lexx)";
+    let text = b"(run strategy lex mea |lex| lexx wm ppwm cs pm watch pbreak exit |wm|)";
     let mut names = Names::new(rt.alloc())?;
     if let Some(form) = read_form(rt.alloc(), text, 0)? {
         let words = words_of(rt.alloc(), &mut names, text, form.tokens.as_slice())?;
@@ -201,6 +216,14 @@ fn commands_have_keywords(rt: HostRuntime) -> Result<(), FormFault> {
             Keyword::Lex,
             Keyword::Mea,
             Keyword::Other,
+            Keyword::Other,
+            Keyword::Wm,
+            Keyword::Ppwm,
+            Keyword::Cs,
+            Keyword::Pm,
+            Keyword::Watch,
+            Keyword::Pbreak,
+            Keyword::Exit,
             Keyword::Other,
             Keyword::Other,
         ];

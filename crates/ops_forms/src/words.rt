@@ -179,6 +179,20 @@ fn keyword_of_command(spelling: &[u8]) -> Keyword
         Keyword::Lex
     } else if is(spelling, b"mea") {
         Keyword::Mea
+    } else if is(spelling, b"wm") {
+        Keyword::Wm
+    } else if is(spelling, b"ppwm") {
+        Keyword::Ppwm
+    } else if is(spelling, b"cs") {
+        Keyword::Cs
+    } else if is(spelling, b"pm") {
+        Keyword::Pm
+    } else if is(spelling, b"watch") {
+        Keyword::Watch
+    } else if is(spelling, b"pbreak") {
+        Keyword::Pbreak
+    } else if is(spelling, b"exit") {
+        Keyword::Exit
     } else {
         Keyword::Other
     }

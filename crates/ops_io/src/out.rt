@@ -1,5 +1,5 @@
 //! The output buffer, which gathers what is put and knows the column.
-ghost use Rattle.std.specs.Prelude.{◌≡◌, ◌+◌, ◌-◌, ◌^◌, ◌<◌, ◌≤◌, [], ◌++◌, length, IfOk, OnOk, OnErr, IsTrue, true, false};
+ghost use Rattle.std.specs.Prelude.{◌≡◌, ◌+◌, ◌-◌, ◌^◌, ◌<◌, ◌≤◌, [], ◌++◌, length, IfOk, IsOk, OnOk, OnErr, IsTrue, true, false};
 ghost use Rattle.ops_io.specs.Outside.{CountsFailure, GrewBy, GrewByPrefix};
 ghost use Rattle.ops_io.specs.Output.{column_after};
 ghost use Rattle.ops_io.specs.Ports.{port, PutsBytes, FlushesAll};
@@ -43,6 +43,9 @@ fn write_all<K: Sink>(sink: &mut K, bytes: &[u8]) -> Result<(), WriteFailed>
     ensures ok { OnOk result (GrewBy (K.taken sink.old) (K.taken sink.new) bytes.now) }
     ensures err { OnErr result (GrewByPrefix (K.taken sink.old) (K.taken sink.new) bytes.now) }
     ensures cause { CountsFailure (K.faults sink.old) (K.faults sink.new) result }
+
+    // Where there are none, no call of the sink is made.
+    ensures unwritten { bytes.now ≡ [] → (sink.new ≡ sink.old) × IsOk result }
 {
     let mut at = 0;
     while at < bytes.len() {
@@ -96,6 +99,9 @@ impl Out {
         ensures flushes { FlushesAll result (port (K.taken sink.old) (K.faults sink.old) self.old)
             (port (K.taken sink.new) (K.faults sink.new) self.new) }
         ensures broken { OnErr result (self.new.whole ≡ false) }
+
+        // Where nothing is held, no call of the sink is made.
+        ensures unwritten { self.old.held ≡ [] → (sink.new ≡ sink.old) × IsOk result }
     {
         let outcome = write_all(sink, self.held.as_slice());
         self.held.clear();
@@ -132,6 +138,11 @@ impl Out {
         ensures puts { PutsBytes result (port (K.taken sink.old) (K.faults sink.old) self.old)
             (port (K.taken sink.new) (K.faults sink.new) self.new) bytes.now }
         ensures broken { OnErr result (self.new.whole ≡ false) }
+
+        // Where what it holds and these bytes are 8,192 bytes at most, no call of the sink is made, and they are held too.
+        ensures unwritten { length self.old.held + length bytes.now ≤ ROOM → (sink.new ≡ sink.old) × IsOk result }
+        ensures gathered { length self.old.held + length bytes.now ≤ ROOM
+            → self.new ≡ record self.old { held = self.old.held ++ bytes.now; column = column_after self.old.column bytes.now } }
     {
         let mut rest = bytes;
         while rest.len() > self.room() {

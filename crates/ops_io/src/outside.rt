@@ -70,6 +70,7 @@ pub trait Source {
     ghost faults: { Self → ℕ };
 
     /// Gives the next bytes at the front of `buf`, and answers how many; 0 is the end. A read that fails gives up no byte.
+    /// No clause says what stands in `buf` after a failure, since nothing is promised of what a real reader leaves there.
     fn read(&mut self, buf: &mut [u8]) -> Result<usize, Failed>
         requires room { 0 < length buf.old }
         requires faults { faults self.old < 2 ^ 64 - 1 }

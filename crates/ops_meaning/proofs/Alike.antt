@@ -15,7 +15,7 @@ use Rattle.ops_tokens.specs.declared.token.TokenKind.TheVariants as kind
 use Rattle.ops_meaning.specs.declared.words.Word.{Word}
 use Rattle.ops_meaning.specs.declared.words.Keyword.{Keyword}
 use Rattle.ops_meaning.specs.declared.words.Keyword.TheVariants as keyword
-use Rattle.ops_meaning.specs.Grammar.{Use, InPattern, InPut, InFixed, Target, ToTest, ToTerms, ToConstants, ToItem, ToBind, EndsWhole, Wanted, Forms, Form, ClassDeclared, Attributes, VectorName, VectorNames, RuleName, FirstPattern, Patterns, Pattern, Braced, ElementName, ClosesBrace, ClassName, Terms, Attribute, Several, Place, Tests, Tested, Choice, Atom, ValueFor, Function, Waiting, ExpressionUnit, ExpressionRest, Bracketed, SourceCell, SourceAttribute, SourceEnd, Actions, ActionWord, Modified, BoundName, BoundValue, CellName, Cell, Cells, Items, ItemWord, Columns, Count, StrategyName, Closes, State, Step, Next, Refuses, is_left, is_right, is_left_brace, is_right_brace, is_caret, is_literal, is_inf, opens_choice, closes_choice, pred_of, with_write, with_constant, constant_of, value_of, atom_of, form, constant_tested, tested, predicated, test, place, chosen, atom_at, constant_at, is_of_action, value_for, number_of, with_bind, most_brackets, completed, unit_bound, unit_at, bracket_at, expression_unit, is_compute, operation_of, operation_at, expression_ended, source_class, terms, within, one_of_several, with_several, step}
+use Rattle.ops_meaning.specs.Grammar.{Use, InPattern, InPut, InFixed, Target, ToTest, ToTerms, ToConstants, ToItem, ToBind, EndsWhole, Wanted, Forms, Form, ClassDeclared, Attributes, VectorName, VectorNames, RuleName, FirstPattern, Patterns, Pattern, Braced, ElementName, ClosesBrace, ClassName, Terms, Attribute, Several, Place, Tests, Tested, Choice, Atom, ValueFor, Function, Waiting, ExpressionUnit, ExpressionRest, Bracketed, SourceCell, SourceAttribute, SourceEnd, Actions, ActionWord, Modified, BoundName, BoundValue, CellName, Cell, Cells, Items, ItemWord, Columns, Count, StrategyName, TagOrAll, Tags, Shown, NamedRule, NamedRules, Level, Closes, State, Step, Next, Refuses, is_left, is_right, is_left_brace, is_right_brace, is_caret, is_literal, is_inf, opens_choice, closes_choice, pred_of, with_write, with_constant, constant_of, value_of, atom_of, form, constant_tested, tested, predicated, test, place, chosen, atom_at, constant_at, is_of_action, value_for, number_of, with_bind, most_brackets, completed, unit_bound, unit_at, bracket_at, expression_unit, is_compute, operation_of, operation_at, expression_ended, source_class, terms, within, one_of_several, with_several, step}
 use Rattle.ops_meaning.specs.Derivation.{is_no_form}
 use Rattle.ops_meaning.specs.Spelling.{spelled_name}
 use Rattle.ops_meaning.specs.Words.{keyword_of_symbol, has_name}
@@ -40,6 +40,9 @@ wants_name (ValueFor t) = true
 wants_name (SourceAttribute t) = true
 wants_name BoundValue = true
 wants_name Items = true
+wants_name Shown = true
+wants_name NamedRule = true
+wants_name (NamedRules u) = true
 wants_name _ = false
 
 -- ---- a keyword that is none of an operator
@@ -108,6 +111,9 @@ symbol-alike k name first past (ValueFor t) ws s unmarked e = value_alike k unma
 symbol-alike k name first past (SourceAttribute t) ws s unmarked e = refl
 symbol-alike k name first past BoundValue ws s unmarked e = value_alike k unmarked name first past (Closes EndsWhole ∷ ws) s ToBind
 symbol-alike k name first past Items ws s unmarked e = value_alike k unmarked name first past (Items ∷ ws) s ToItem
+symbol-alike k name first past Shown ws s unmarked e = refl
+symbol-alike k name first past NamedRule ws s unmarked e = refl
+symbol-alike k name first past (NamedRules u) ws s unmarked e = refl
 symbol-alike k name first past _ ws s unmarked e = absurd (true≢false (sym e))
 
 -- Where a name may stand, a plain symbol is read as the same name in bars, whatever it spells.
@@ -248,6 +254,12 @@ moved-alike w first past ItemWord ws s e = refl
 moved-alike w first past (Columns x) ws s e = refl
 moved-alike w first past Count ws s e = refl
 moved-alike w first past StrategyName ws s e = refl
+moved-alike w first past TagOrAll ws s e = refl
+moved-alike w first past (Tags u) ws s e = refl
+moved-alike w first past Shown ws s e = refl
+moved-alike w first past NamedRule ws s e = refl
+moved-alike w first past (NamedRules u) ws s e = refl
+moved-alike w first past Level ws s e = refl
 moved-alike w first past (Closes x) ws s e = refl
 
 -- ---- how many brackets are open

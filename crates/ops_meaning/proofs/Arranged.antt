@@ -27,7 +27,7 @@ use Rattle.ops_tokens.specs.declared.token.TokenKind.TheVariants as kind
 use Rattle.ops_meaning.specs.declared.words.Word.{Word}
 use Rattle.ops_meaning.specs.declared.words.Keyword.{Keyword}
 use Rattle.ops_meaning.specs.declared.words.Keyword.TheVariants as keyword
-use Rattle.ops_meaning.specs.Grammar.{Use, InPattern, InPut, InFixed, Target, ToTest, ToPut, ToFixed, ToTerms, ToConstants, ToItem, ToBind, Ends, EndsHalt, EndsCrlf, EndsWhole, Column, Wanted, Forms, Form, ClassDeclared, Attributes, VectorName, VectorNames, RuleName, FirstPattern, Patterns, Pattern, Braced, ElementName, ClosesBrace, ClassName, Terms, Attribute, Several, Place, Tests, Tested, Choice, Atom, ValueFor, Function, ExpressionUnit, ExpressionRest, Bracketed, SourceCell, SourceAttribute, SourceEnd, Actions, ActionWord, Modified, BoundName, BoundValue, CellName, Cell, Cells, Items, ItemWord, Columns, Count, StrategyName, Closes, State, Step, Next, Refuses, is_left, is_right, is_left_brace, is_right_brace, is_caret, is_name, is_variable, is_arrow, is_literal, is_minus, opens_choice, closes_choice, pred_of, constant_of, atom_of, value_of, small_of, is_one_of, number_of, may_declare, may_produce, is_class, is_rule, form, class_declared, arranged, has_vector, with_class, is_second, attribute_declared, attributes, with_vector, makes_second, vector_declared, vector_name, class_at, attributes_of, behind_attribute, field_at, with_test, with_put, with_item, with_bind, with_constant, with_bound, variable_tested, constant_tested, tested, predicated, test, place, tests, with_choice, chosen, choice, atom_at, term_at, bound_at, constant_at, is_of_action, value_for, function, no_formula, with_formula, most_brackets, completed, is_compute, operation_of, unit_bound, unit_at, expression_unit, bracketed, operation_at, expression_ended, expression_rest, Waiting, source_named, source_cell, source_class, source_at, source_attribute, takes_several, ends_at_inf, source_end, with_element, terms, within, one_of_several, with_several, several, left_begun, left_ended, right_begun, rule_name, first_pattern, one_more, more_patterns, patterns, element_at, element_name, braced, with_bound_element, with_rule, actions, action_word, with_designated, cell_of, classes_of_cells, with_modified, bound_name, bound_value, with_cell, cell_bound, cell_name, with_remove, cells, with_write, items, item_word, column_item, columns_at, ended, with_command, count_of, counted, count, strategy_of, strategy_set, strategy_name, step, nothing_read}
+use Rattle.ops_meaning.specs.Grammar.{Use, InPattern, InPut, InFixed, Target, ToTest, ToPut, ToFixed, ToTerms, ToConstants, ToItem, ToBind, Ends, EndsHalt, EndsCrlf, EndsCs, EndsExit, EndsWhole, Column, TagUse, ToRemove, NameUse, Wanted, Forms, Form, ClassDeclared, Attributes, VectorName, VectorNames, RuleName, FirstPattern, Patterns, Pattern, Braced, ElementName, ClosesBrace, ClassName, Terms, Attribute, Several, Place, Tests, Tested, Choice, Atom, ValueFor, Function, ExpressionUnit, ExpressionRest, Bracketed, SourceCell, SourceAttribute, SourceEnd, Actions, ActionWord, Modified, BoundName, BoundValue, CellName, Cell, Cells, Items, ItemWord, Columns, Count, StrategyName, TagOrAll, Tags, Shown, NamedRule, NamedRules, Level, Closes, State, Step, Next, Refuses, is_left, is_right, is_left_brace, is_right_brace, is_caret, is_name, is_variable, is_arrow, is_literal, is_minus, opens_choice, closes_choice, pred_of, constant_of, atom_of, value_of, small_of, is_one_of, number_of, may_declare, may_produce, is_class, is_rule, form, class_declared, arranged, has_vector, with_class, is_second, attribute_declared, attributes, with_vector, makes_second, vector_declared, vector_name, class_at, class_name, attributes_of, behind_attribute, field_at, with_test, with_put, with_item, with_bind, with_constant, with_bound, variable_tested, constant_tested, tested, predicated, test, place, tests, with_choice, chosen, choice, atom_at, term_at, bound_at, constant_at, is_of_action, value_for, function, no_formula, with_formula, most_brackets, completed, is_compute, operation_of, unit_bound, unit_at, expression_unit, bracketed, operation_at, expression_ended, expression_rest, Waiting, source_named, source_cell, source_class, source_at, source_attribute, takes_several, ends_at_inf, source_end, with_element, terms, within, one_of_several, with_several, several, left_begun, left_ended, right_begun, rule_name, first_pattern, one_more, more_patterns, patterns, element_at, element_name, braced, with_bound_element, with_rule, actions, action_word, with_designated, cell_of, classes_of_cells, with_modified, bound_name, bound_value, with_cell, cell_bound, cell_name, with_remove, cells, with_write, items, item_word, column_item, columns_at, ended, with_command, count_of, counted, count, strategy_of, strategy_set, strategy_name, tag_at, is_all, tag_or_all, with_tags, tags, shown, named_rule, with_named, named_rules, level_of, level_set, level, step, nothing_read}
 use Rattle.ops_meaning.specs.Spelling.{unnamed, attribute_name, last_field}
 use Rattle.ops_meaning.proofs.PlainClasses.{IsArranged, IsAttributes, class_arranged, classes_arranged, attributes_begun, attribute_pushed}
 
@@ -133,8 +133,16 @@ module _ (w : Word) where
   form_stays keyword.VectorAttribute ws s h = cond_both (may_declare s) _ _ StayArranged (λ _. h) (λ _. tt)
   form_stays keyword.Production ws s h = cond_both (may_produce s) _ _ StayArranged (λ _. h) (λ _. tt)
   form_stays keyword.Make ws s h = h
+  form_stays keyword.Remove ws s h = h
   form_stays keyword.Run ws s h = h
+  form_stays keyword.Wm ws s h = h
+  form_stays keyword.Ppwm ws s h = h
+  form_stays keyword.Cs ws s h = h
+  form_stays keyword.Pm ws s h = h
   form_stays keyword.Strategy ws s h = h
+  form_stays keyword.Watch ws s h = h
+  form_stays keyword.Pbreak ws s h = h
+  form_stays keyword.Exit ws s h = h
   form_stays _ ws s h = tt
 
   class_declared_stays : (ws : List Wanted) (s : State) → Rests ws s → StayArranged (class_declared w ws s)
@@ -170,6 +178,10 @@ module _ (w : Word) where
   class_at_stays : (o : Option ℕ) (ws : List Wanted) (s : State) → Rests ws s → StayArranged (class_at o ws s)
   class_at_stays (Some c) ws s h = rests ws (record s { class = c }) h
   class_at_stays None ws s h = tt
+
+  class_name_stays : (ws : List Wanted) (s : State) → Rests ws s → StayArranged (class_name w ws s)
+  class_name_stays ws s h =
+      cond_both (is_name w.kind) _ _ StayArranged (λ _. class_at_stays (position (λ c. c.name.0 == w.name.0) s.classes) ws s h) (λ _. tt)
 
   behind_stays : (u : Use) (f : ℕ) (ws : List Wanted) (s : State) → Rests ws s → AreArranged (behind_attribute u f ∷ Terms u ∷ ws) s
   behind_stays InPattern f ws s h = h
@@ -461,6 +473,8 @@ module _ (w : Word) where
   ended_stays : (e : Ends) (ws : List Wanted) (s : State) → Rests ws s → AreArranged ws (ended e s)
   ended_stays EndsHalt ws s h = rests ws (ended EndsHalt s) h
   ended_stays EndsCrlf ws s h = rests ws (ended EndsCrlf s) h
+  ended_stays EndsCs ws s h = rests ws (ended EndsCs s) h
+  ended_stays EndsExit ws s h = rests ws (ended EndsExit s) h
   ended_stays EndsWhole ws s h = rests ws s h
 
   -- ---- commands
@@ -482,6 +496,36 @@ module _ (w : Word) where
       cond_both (is_right w.kind) _ _ StayArranged (λ _. rests ws (with_command s (command.Strategy None)) h)
       (λ _. strategy_set_stays (strategy_of w.keyword) ws s h)
 
+  tag_stays : (o : Option ℕ) (ws : List Wanted) (s : State) → Rests ws s → StayArranged (tag_at o ws s)
+  tag_stays (Some n) ws s h = rests ws (record s { tags = s.tags ++ n ∷ [] }) h
+  tag_stays None ws s h = tt
+
+  tag_or_all_stays : (ws : List Wanted) (s : State) → Rests ws s → StayArranged (tag_or_all w ws s)
+  tag_or_all_stays ws s h = cond_both (is_all w.keyword) _ _ StayArranged (λ _. h) (λ _. tag_stays (count_of w.kind) (Tags ToRemove ∷ ws) s h)
+
+  tags_stay : (u : TagUse) (ws : List Wanted) (s : State) → Rests ws s → StayArranged (tags u w ws s)
+  tags_stay u ws s h = cond_both (is_right w.kind) _ _ StayArranged (λ _. rests ws (with_tags u s) h) (λ _. tag_stays (count_of w.kind) (Tags u ∷ ws) s h)
+
+  shown_stays : (ws : List Wanted) (s : State) → Rests ws s → StayArranged (shown w ws s)
+  shown_stays ws s h =
+      cond_both (is_right w.kind) _ _ StayArranged (λ _. rests ws (with_command s (command.Ppwm None)) h)
+      (λ _. class_name_stays (Terms InFixed ∷ ws) (record s { fixed = []; shows = true }) h)
+
+  named_rule_stays : (ws : List Wanted) (s : State) → Rests ws s → StayArranged (named_rule w ws s)
+  named_rule_stays ws s h = cond_both (is_name w.kind) _ _ StayArranged (λ _. rests ws (record s { named = s.named ++ w.name ∷ [] }) h) (λ _. tt)
+
+  named_rules_stay : (u : NameUse) (ws : List Wanted) (s : State) → Rests ws s → StayArranged (named_rules u w ws s)
+  named_rules_stay u ws s h =
+      cond_both (is_right w.kind) _ _ StayArranged (λ _. rests ws (with_named u s) h) (λ _. named_rule_stays (NamedRules u ∷ ws) s h)
+
+  level_set_stays : (o : Option ℕ) (ws : List Wanted) (s : State) → Rests ws s → StayArranged (level_set o ws s)
+  level_set_stays (Some n) ws s h = h
+  level_set_stays None ws s h = tt
+
+  level_stays : (ws : List Wanted) (s : State) → Rests ws s → StayArranged (level w ws s)
+  level_stays ws s h =
+      cond_both (is_right w.kind) _ _ StayArranged (λ _. rests ws (with_command s (command.Watch None)) h) (λ _. level_set_stays (level_of w.kind) ws s h)
+
 pub stays_arranged : (w : Word) (ws : List Wanted) (s : State) → AreArranged ws s → StayArranged (step w ws s)
 unfolding step
 stays_arranged w [] s h = tt
@@ -498,8 +542,7 @@ stays_arranged w (Pattern ∷ ws) s h = cond_both (is_left w.kind) _ _ StayArran
 stays_arranged w (Braced ∷ ws) s h = braced_stays w ws s h
 stays_arranged w (ElementName ∷ ws) s h = element_name_stays w ws s h
 stays_arranged w (ClosesBrace ∷ ws) s h = cond_both (is_right_brace w.kind) _ _ StayArranged (λ _. rests ws (with_bound_element s) h) (λ _. tt)
-stays_arranged w (ClassName ∷ ws) s h =
-    cond_both (is_name w.kind) _ _ StayArranged (λ _. class_at_stays w (position (λ c. c.name.0 == w.name.0) s.classes) ws s h) (λ _. tt)
+stays_arranged w (ClassName ∷ ws) s h = class_name_stays w ws s h
 stays_arranged w (Terms u ∷ ws) s h = terms_stay w u ws s h
 stays_arranged w (Attribute u ∷ ws) s h =
     cond_both (is_name w.kind) _ _ StayArranged (λ _. field_at_stays w u (position (λ a. a.0 == w.name.0) (attributes_of (slice_get s.classes s.class))) ws s h) (λ _. tt)
@@ -530,4 +573,10 @@ stays_arranged w (ItemWord ∷ ws) s h = item_word_stays w w.keyword ws s h
 stays_arranged w (Columns c ∷ ws) s h = columns_stay w c (small_of w.kind) ws s h
 stays_arranged w (Count ∷ ws) s h = count_stays w ws s h
 stays_arranged w (StrategyName ∷ ws) s h = strategy_name_stays w ws s h
+stays_arranged w (TagOrAll ∷ ws) s h = tag_or_all_stays w ws s h
+stays_arranged w (Tags u ∷ ws) s h = tags_stay w u ws s h
+stays_arranged w (Shown ∷ ws) s h = shown_stays w ws s h
+stays_arranged w (NamedRule ∷ ws) s h = named_rule_stays w ws s h
+stays_arranged w (NamedRules u ∷ ws) s h = named_rules_stay w u ws s h
+stays_arranged w (Level ∷ ws) s h = level_stays w ws s h
 stays_arranged w (Closes e ∷ ws) s h = cond_both (is_right w.kind) _ _ StayArranged (λ _. ended_stays w e ws s h) (λ _. tt)

@@ -17,8 +17,8 @@ use Rattle.ops_tokens.specs.declared.token.TokenKind.TheVariants as kind
 use Rattle.ops_meaning.specs.declared.words.Word.{Word}
 use Rattle.ops_meaning.specs.declared.words.Keyword.{Keyword}
 use Rattle.ops_meaning.specs.declared.words.Keyword.TheVariants as keyword
-use Rattle.ops_meaning.specs.Grammar.{Use, InPattern, InPut, InFixed, Target, ToTest, ToPut, ToFixed, ToTerms, ToConstants, ToItem, ToBind, Ends, EndsHalt, EndsCrlf, EndsWhole, Column, Wanted, Forms, Form, ClassDeclared, Attributes, VectorName, VectorNames, RuleName, FirstPattern, Patterns, Pattern, Braced, ElementName, ClosesBrace, ClassName, Terms, Attribute, Several, Place, Tests, Tested, Choice, Atom, ValueFor, Function, Waiting, ExpressionUnit, ExpressionRest, Bracketed, SourceCell, SourceAttribute, SourceEnd, Actions, ActionWord, Modified, BoundName, BoundValue, CellName, Cell, Cells, Items, ItemWord, Columns, Count, StrategyName, Closes, State, Step, Next, Refuses, is_left, is_right, is_left_brace, is_right_brace, is_caret, is_name, is_variable, is_arrow, is_literal, is_inf, is_minus, opens_choice, closes_choice, pred_of, constant_of, value_of, atom_of, small_of, is_one_of, number_of, may_declare, may_produce, is_class, is_rule, form, class_declared, is_second, attributes, makes_second, vector_declared, vector_name, vector_names, class_at, class_name, attributes_of, behind_attribute, field_at, attribute, with_bind, with_constant, variable_tested, constant_tested, tested, predicated, test, place, tests, chosen, choice, atom_at, term_at, bound_at, constant_at, is_of_action, value_for, most_brackets, no_formula, with_formula, unit_bound, unit_at, expression_unit, bracketed, is_compute, operation_of, operation_at, expression_ended, expression_rest, function, source_named, source_cell, source_class, source_at, source_attribute, takes_several, ends_at_inf, source_end, with_element, terms, within, one_of_several, with_several, several, rule_name, first_pattern, one_more, patterns, pattern, element_at, element_name, braced, closes_brace, actions, action_word, cell_of, with_designated, cell, with_modified, modified, bound_name, bound_value, cell_bound, cell_name, cells, items, item_word, columns_at, counted, count_of, count, strategy_set, strategy_of, strategy_name, ended, closes, forms, step}
-use Rattle.ops_meaning.specs.Derivation.{is_whole, is_designator, is_operand, is_value, is_choice, with_name, Derives, a_form, a_literalize, a_class, an_attribute, no_attribute, a_vector_declaration, a_vector, one_more_vector, no_more_vectors, a_production, a_rule, a_first, a_braced_first, a_negated_first, a_pattern, a_braced_pattern, a_negated_pattern, a_whole_pattern, a_name_before, a_name_behind, an_element_name, a_closed_brace, an_arrow, a_make, a_run, a_count, no_count, a_strategy, a_strategy_name, no_strategy_name, a_class_name, a_term, no_term, a_scalar_attribute, a_vector_attribute, one_more_place, one_more_term, one_more_constant, no_more_of_several, a_value, a_literal_value, a_function, a_compute, a_genatom, an_accept, a_unit, a_bracketed_unit, a_bracketed_compute, a_bracketed_expression, an_operation, no_operation, a_substr, a_source, a_source_attribute, the_same_again, up_to_inf, an_atom, a_conjunction, no_more_tests, an_operand, a_literal, a_predicate, a_disjunction, one_more_operand, one_more_literal, one_more_predicate, one_more_disjunction, a_tested_operand, a_tested_literal, one_more_choice, no_more_choices, an_action, no_action, to_make, to_modify, to_bind, to_cbind, to_remove, to_write, to_halt, a_modified, a_bound_name, a_bound_value, no_bound_value, a_cell_name, a_cell, one_more_cell, no_more_cells, an_item, a_literal_item, an_item_form, no_item, a_crlf, a_tab, a_right, a_function_item, some_columns, a_closing, is_no_form}
+use Rattle.ops_meaning.specs.Grammar.{Use, InPattern, InPut, InFixed, Target, ToTest, ToPut, ToFixed, ToTerms, ToConstants, ToItem, ToBind, Ends, EndsHalt, EndsCrlf, EndsCs, EndsExit, EndsWhole, TagUse, ToRemove, NameUse, Column, Wanted, Forms, Form, ClassDeclared, Attributes, VectorName, VectorNames, RuleName, FirstPattern, Patterns, Pattern, Braced, ElementName, ClosesBrace, ClassName, Terms, Attribute, Several, Place, Tests, Tested, Choice, Atom, ValueFor, Function, Waiting, ExpressionUnit, ExpressionRest, Bracketed, SourceCell, SourceAttribute, SourceEnd, Actions, ActionWord, Modified, BoundName, BoundValue, CellName, Cell, Cells, Items, ItemWord, Columns, Count, StrategyName, TagOrAll, Tags, Shown, NamedRule, NamedRules, Level, Closes, State, Step, Next, Refuses, is_left, is_right, is_left_brace, is_right_brace, is_caret, is_name, is_variable, is_arrow, is_literal, is_inf, is_minus, opens_choice, closes_choice, pred_of, constant_of, value_of, atom_of, small_of, is_one_of, number_of, may_declare, may_produce, is_class, is_rule, form, class_declared, is_second, attributes, makes_second, vector_declared, vector_name, vector_names, class_at, class_name, attributes_of, behind_attribute, field_at, attribute, with_bind, with_constant, variable_tested, constant_tested, tested, predicated, test, place, tests, chosen, choice, atom_at, term_at, bound_at, constant_at, is_of_action, value_for, most_brackets, no_formula, with_formula, unit_bound, unit_at, expression_unit, bracketed, is_compute, operation_of, operation_at, expression_ended, expression_rest, function, source_named, source_cell, source_class, source_at, source_attribute, takes_several, ends_at_inf, source_end, with_element, terms, within, one_of_several, with_several, several, rule_name, first_pattern, one_more, patterns, pattern, element_at, element_name, braced, closes_brace, actions, action_word, cell_of, with_designated, cell, with_modified, modified, bound_name, bound_value, cell_bound, cell_name, cells, items, item_word, columns_at, counted, count_of, count, strategy_set, strategy_of, strategy_name, tag_at, is_all, tag_or_all, tags, shown, named_rule, named_rules, level_of, level_set, level, ended, closes, forms, step}
+use Rattle.ops_meaning.specs.Derivation.{is_whole, is_designator, is_operand, is_value, is_choice, with_name, Derives, a_form, a_literalize, a_class, an_attribute, no_attribute, a_vector_declaration, a_vector, one_more_vector, no_more_vectors, a_production, a_rule, a_first, a_braced_first, a_negated_first, a_pattern, a_braced_pattern, a_negated_pattern, a_whole_pattern, a_name_before, a_name_behind, an_element_name, a_closed_brace, an_arrow, a_make, a_run, a_count, no_count, a_strategy, a_strategy_name, no_strategy_name, a_remove_command, all_tags, a_first_tag, a_wm, one_more_tag, no_more_tags, a_ppwm, a_shown_class, all_shown, a_cs, an_exit, a_pm, a_pbreak, a_named_rule, one_more_rule, no_more_rules, a_watch, a_level, no_level, a_class_name, a_term, no_term, a_scalar_attribute, a_vector_attribute, one_more_place, one_more_term, one_more_constant, no_more_of_several, a_value, a_literal_value, a_function, a_compute, a_genatom, an_accept, a_unit, a_bracketed_unit, a_bracketed_compute, a_bracketed_expression, an_operation, no_operation, a_substr, a_source, a_source_attribute, the_same_again, up_to_inf, an_atom, a_conjunction, no_more_tests, an_operand, a_literal, a_predicate, a_disjunction, one_more_operand, one_more_literal, one_more_predicate, one_more_disjunction, a_tested_operand, a_tested_literal, one_more_choice, no_more_choices, an_action, no_action, to_make, to_modify, to_bind, to_cbind, to_remove, to_write, to_halt, a_modified, a_bound_name, a_bound_value, no_bound_value, a_cell_name, a_cell, one_more_cell, no_more_cells, an_item, a_literal_item, an_item_form, no_item, a_crlf, a_tab, a_right, a_function_item, some_columns, a_closing, is_no_form}
 use Rattle.ops_meaning.proofs.Completed.{completed, attribute_completed}
 use Rattle.ops_meaning.proofs.Arranged.{AreArranged, StayArranged, stays_arranged, kind_agrees}
 
@@ -67,6 +67,8 @@ several_vectors InFixed f s = refl
 pub ended_vectors : (e : Ends) (s : State) → (ended e s).vectors ≡ s.vectors
 ended_vectors EndsHalt s = refl
 ended_vectors EndsCrlf s = refl
+ended_vectors EndsCs s = refl
+ended_vectors EndsExit s = refl
 ended_vectors EndsWhole s = refl
 
 -- ---- words
@@ -122,8 +124,16 @@ module _ (w : Word) (ws : List Wanted) (s : State) where
       cond_both (may_produce s) _ _ (Continues s.vectors (Form ∷ ws) w) (λ _. (λ h. h, λ ts d. a_production e d))
       (λ _ _. behind (Form ∷ ws) (RuleName ∷ FirstPattern ∷ Patterns ∷ Actions ∷ ws) (λ ts d. a_production e d))
   form_continues keyword.Make e = (λ h. h, λ ts d. a_make e d)
+  form_continues keyword.Remove e = (λ h. h, λ ts d. a_remove_command e d)
   form_continues keyword.Run e = (λ h. h, λ ts d. a_run e d)
+  form_continues keyword.Wm e = (λ h. h, λ ts d. a_wm e d)
+  form_continues keyword.Ppwm e = (λ h. h, λ ts d. a_ppwm e d)
+  form_continues keyword.Cs e = (λ h. h, λ ts d. a_cs e d)
+  form_continues keyword.Pm e = (λ h. h, λ ts d. a_pm e d)
   form_continues keyword.Strategy e = (λ h. h, λ ts d. a_strategy e d)
+  form_continues keyword.Watch e = (λ h. h, λ ts d. a_watch e d)
+  form_continues keyword.Pbreak e = (λ h. h, λ ts d. a_pbreak e d)
+  form_continues keyword.Exit e = (λ h. h, λ ts d. an_exit e d)
   form_continues _ e = λ f. no_fault f
 
   class_declared_continues : Continues s.vectors (ClassDeclared ∷ ws) w (class_declared w ws s)
@@ -213,13 +223,15 @@ module _ (w : Word) (ws : List Wanted) (s : State) where
   closes_brace_continues =
       cond_both (is_right_brace w.kind) _ _ (Continues s.vectors (ClosesBrace ∷ ws) w) (λ e. (λ h. h, λ ts d. a_closed_brace e d)) (λ _ f. no_fault f)
 
-  class_at_continues : is_name w.kind ≡ true → (o : Option ℕ) → Continues s.vectors (ClassName ∷ ws) w (class_at o ws s)
-  class_at_continues e (Some c) = (λ h. h, λ ts d. a_class_name e d)
-  class_at_continues e None = λ _. behind (ClassName ∷ ws) ws (λ ts d. a_class_name e d)
+  -- a class in front of what is wanted behind it
+  class_at_continues : (head ws' : List Wanted) → Stays head ws' → ((ts : List Word) → Derives s.vectors ws' ts → Derives s.vectors head (w ∷ ts)) → (o : Option ℕ) → Continues s.vectors head w (class_at o ws' s)
+  class_at_continues head ws' stay more (Some c) = (stay, more)
+  class_at_continues head ws' stay more None = λ _. behind head ws' more
 
-  class_name_continues : Continues s.vectors (ClassName ∷ ws) w (class_name w ws s)
-  class_name_continues =
-      cond_both (is_name w.kind) _ _ (Continues s.vectors (ClassName ∷ ws) w) (λ e. class_at_continues e (position (λ c. c.name.0 == w.name.0) s.classes)) (λ _ f. no_fault f)
+  class_name_continues : (head ws' : List Wanted) → Stays head ws' → (is_name w.kind ≡ true → (ts : List Word) → Derives s.vectors ws' ts → Derives s.vectors head (w ∷ ts)) → Continues s.vectors head w (class_name w ws' s)
+  class_name_continues head ws' stay more =
+      cond_both (is_name w.kind) _ _ (Continues s.vectors head w)
+      (λ e. class_at_continues head ws' stay (more e) (position (λ c. c.name.0 == w.name.0) s.classes)) (λ _ f. no_fault f)
 
   terms_continue : (u : Use) → Continues s.vectors (Terms u ∷ ws) w (terms u w ws s)
   terms_continue u =
@@ -512,6 +524,40 @@ module _ (w : Word) (ws : List Wanted) (s : State) where
       cond_both (is_right w.kind) _ _ (Continues s.vectors (StrategyName ∷ ws) w) (λ e. (λ h. h, λ ts d. no_strategy_name e d))
       (λ _. strategy_continues (strategy_of w.keyword) refl)
 
+  -- a tag in front of those that may follow it
+  tag_at_continues : (head ws' : List Wanted) → Stays head ws' → (is_some (count_of w.kind) ≡ true → (ts : List Word) → Derives s.vectors ws' ts → Derives s.vectors head (w ∷ ts)) → (o : Option ℕ) → count_of w.kind ≡ o → Continues s.vectors head w (tag_at o ws' s)
+  tag_at_continues head ws' stay more (Some n) e = (stay, more (ap (λ (o : Option ℕ). is_some o) e))
+  tag_at_continues head ws' stay more None e = λ f. no_fault f
+
+  tag_or_all_continues : Continues s.vectors (TagOrAll ∷ ws) w (tag_or_all w ws s)
+  tag_or_all_continues =
+      cond_both (is_all w.keyword) _ _ (Continues s.vectors (TagOrAll ∷ ws) w) (λ e. (λ h. h, λ ts d. all_tags e d))
+      (λ _. tag_at_continues (TagOrAll ∷ ws) (Tags ToRemove ∷ ws) (λ h. h) (λ e ts d. a_first_tag e d) (count_of w.kind) refl)
+
+  tags_continue : (u : TagUse) → Continues s.vectors (Tags u ∷ ws) w (tags u w ws s)
+  tags_continue u =
+      cond_both (is_right w.kind) _ _ (Continues s.vectors (Tags u ∷ ws) w) (λ e. (λ h. h, λ ts d. no_more_tags e d))
+      (λ _. tag_at_continues (Tags u ∷ ws) (Tags u ∷ ws) (λ h. h) (λ e ts d. one_more_tag e d) (count_of w.kind) refl)
+
+  -- the name of a production in front of those that may follow it
+  named_rule_continues : (head ws' : List Wanted) → Stays head ws' → (is_name w.kind ≡ true → (ts : List Word) → Derives s.vectors ws' ts → Derives s.vectors head (w ∷ ts)) → Continues s.vectors head w (named_rule w ws' s)
+  named_rule_continues head ws' stay more = cond_both (is_name w.kind) _ _ (Continues s.vectors head w) (λ e. (stay, more e)) (λ _ f. no_fault f)
+
+  named_rules_continue : (u : NameUse) → Continues s.vectors (NamedRules u ∷ ws) w (named_rules u w ws s)
+  named_rules_continue u =
+      cond_both (is_right w.kind) _ _ (Continues s.vectors (NamedRules u ∷ ws) w) (λ e. (λ h. h, λ ts d. no_more_rules e d))
+      (λ _. named_rule_continues (NamedRules u ∷ ws) (NamedRules u ∷ ws) (λ h. h) (λ e ts d. one_more_rule e d))
+
+  -- a trace level
+  level_set_continues : (o : Option ℕ) → level_of w.kind ≡ o → Continues s.vectors (Level ∷ ws) w (level_set o ws s)
+  level_set_continues (Some n) e = (λ h. h, λ ts d. a_level (ap (λ (o : Option ℕ). is_some o) e) d)
+  level_set_continues None e = λ f. no_fault f
+
+  level_continues : Continues s.vectors (Level ∷ ws) w (level w ws s)
+  level_continues =
+      cond_both (is_right w.kind) _ _ (Continues s.vectors (Level ∷ ws) w) (λ e. (λ h. h, λ ts d. no_level e d))
+      (λ _. level_set_continues (level_of w.kind) refl)
+
   closes_continues : (e : Ends) → Continues s.vectors (Closes e ∷ ws) w (closes e w ws s)
   closes_continues e = cond_both (is_right w.kind) _ _ (Continues s.vectors (Closes e ∷ ws) w) (λ is. (λ h. h, kept (ended e s) (ended_vectors e s) (Closes e ∷ ws) ws (λ ts d. a_closing is d))) (λ _ f. no_fault f)
 
@@ -559,6 +605,12 @@ expression_rest_continues w ws s d waiting into =
     (λ e. expression_ended_continues w (ExpressionRest d waiting into ∷ ws) ws s (λ h. h) (λ ts d. no_operation e d) into _)
     (λ _. operation_continues w ws s d waiting into (operation_of w.keyword) refl)
 
+-- a class whose elements are shown, or none
+shown_continues : (w : Word) (ws : List Wanted) (s : State) → Continues s.vectors (Shown ∷ ws) w (shown w ws s)
+shown_continues w ws s =
+    cond_both (is_right w.kind) _ _ (Continues s.vectors (Shown ∷ ws) w) (λ e. (λ h. h, λ ts d. all_shown e d))
+    (λ _. class_name_continues w ws (record s { fixed = []; shows = true }) (Shown ∷ ws) (Terms InFixed ∷ ws) (λ h. h) (λ e ts d. a_shown_class e d))
+
 step_continues : (w : Word) (ws : List Wanted) (s : State) → AreArranged ws s → Continues s.vectors ws w (step w ws s)
 unfolding step
 step_continues w [] s a = λ f. no_fault f
@@ -575,7 +627,7 @@ step_continues w (Pattern ∷ ws) s a = pattern_continues w ws s
 step_continues w (Braced ∷ ws) s a = braced_continues w ws s
 step_continues w (ElementName ∷ ws) s a = element_name_continues w ws s (ElementName ∷ ws) ws (λ h. h) (λ e ts d. an_element_name e d)
 step_continues w (ClosesBrace ∷ ws) s a = closes_brace_continues w ws s
-step_continues w (ClassName ∷ ws) s a = class_name_continues w ws s
+step_continues w (ClassName ∷ ws) s a = class_name_continues w ws s (ClassName ∷ ws) ws (λ h. h) (λ e ts d. a_class_name e d)
 step_continues w (Terms u ∷ ws) s a = terms_continue w ws s u
 step_continues w (Attribute u ∷ ws) s a = attribute_continues w ws s u a
 step_continues w (Several u f ∷ ws) s a = several_continue w ws s u f
@@ -607,6 +659,12 @@ step_continues w (ItemWord ∷ ws) s a = item_word_continues w ws s w.keyword re
 step_continues w (Columns c ∷ ws) s a = columns_continue w ws s c (small_of w.kind) refl
 step_continues w (Count ∷ ws) s a = count_continues w ws s
 step_continues w (StrategyName ∷ ws) s a = strategy_name_continues w ws s
+step_continues w (TagOrAll ∷ ws) s a = tag_or_all_continues w ws s
+step_continues w (Tags u ∷ ws) s a = tags_continue w ws s u
+step_continues w (Shown ∷ ws) s a = shown_continues w ws s
+step_continues w (NamedRule ∷ ws) s a = named_rule_continues w ws s (NamedRule ∷ ws) ws (λ h. h) (λ e ts d. a_named_rule e d)
+step_continues w (NamedRules u ∷ ws) s a = named_rules_continue w ws s u
+step_continues w (Level ∷ ws) s a = level_continues w ws s
 step_continues w (Closes e ∷ ws) s a = closes_continues w ws s e
 
 module _ (w : Word) (ws : List Wanted) (s : State) (arranged : AreArranged ws s) where

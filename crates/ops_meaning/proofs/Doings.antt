@@ -22,7 +22,7 @@ use Rattle.ops_io.specs.Output.{column_after}
 use Rattle.ops_tokens.specs.Accepting.{Accepted, accepted}
 use Rattle.ops_tokens.specs.declared.accept.AcceptFault.{AcceptFault}
 use Rattle.ops_tokens.specs.declared.accept.AcceptFault.TheVariants as accept_fault
-use Rattle.ops_meaning.specs.Acting.{Setting, Doing, Mishap, Fault, Unread, Misdeed, Bad, NoInput, in_action, Given, Acted, Valued, Filled, evaluated, value_in, computed_as, accepted_as, values_placed, placed, terms_placed, puts_made, puts_over, made_fields, modified_fields, emptied, has_tag, cell_of, changed, next_element, added, removed, modified, bound, first_of, printed, lead_after, item_done, items_done, action_done, actions_done, actions_of, begun, left_by, acted}
+use Rattle.ops_meaning.specs.Acting.{Setting, Doing, Mishap, Fault, Unread, Misdeed, Bad, NoInput, in_action, Given, Acted, Valued, Filled, evaluated, value_in, computed_as, accepted_as, values_placed, placed, terms_placed, puts_made, puts_over, made_fields, modified_fields, emptied, has_tag, cell_of, changed, next_element, added, removed, modified, bound, first_of, printed, lead_after, item_done, items_done, changes_told, action_done, actions_done, actions_of, begun, left_by, acted}
 use Rattle.ops_meaning.specs.Computing.{Computed, computed}
 use Rattle.ops_meaning.specs.Effects.{Effect, going_on, followed_by, outcome_as}
 use Rattle.ops_meaning.specs.Kept.{WellKept, KeepsNames, IsLawfulOver}
@@ -203,32 +203,36 @@ module _ (old : List Element) (given : ℕ) (names : Spellings) (fails : Bool) w
       goes_on Kept Kept Ends e.bytes e.outcome (λ d. items_done classes (lead_after x) (column_after column e.bytes) items d) (item_kept classes lead column x d p)
       (λ d q. items_kept classes (lead_after x) (column_after column e.bytes) items d q)
 
-  action_kept : (classes : List Class) (column : ℕ) (a : Action) (d : Doing) → Kept d → MatchResult (action_done classes column a d).outcome Kept Ends
-  action_kept classes column (action.Make class puts) d p =
-      goes_behind KeptFilled Kept Ends (made_fields classes (class_of classes class) puts d) (λ f. Ok (added f.doing class f.fields))
-      (made_kept classes (class_of classes class) puts _ p) (λ f q. one_added f.doing class f.fields q)
-  action_kept classes column (action.Modify cell puts) d p =
-      goes_behind KeptFilled Kept Ends (modified_fields classes puts cell d) (λ f. Ok (modified f.doing cell f.fields))
-      (over_kept classes puts _ p) (λ f q. one_modified f.doing cell f.fields q)
-  action_kept classes column (action.Remove cells) d p = all_removed cells d p
-  action_kept classes column (action.Write items) d p = items_kept classes Apart column items d p
-  action_kept classes column (action.Bind variable t) d p =
-      goes_behind KeptValued Kept Ends (evaluated classes t d) (λ v. Ok (bound v.doing variable (first_of v.values)))
-      (evaluated_kept classes t d p) (λ v q. kept_beside v.doing _ v.doing.cells v.doing.halted q)
-  action_kept classes column (action.Cbind cell) d p = kept_beside d d.bindings _ d.halted p
-  action_kept classes column action.Halt d p = kept_beside d d.bindings d.cells true p
+  action_kept : (s : Setting) (column : ℕ) (a : Action) (d : Doing) → Kept d → MatchResult (action_done s column a d).outcome Kept Ends
+  action_kept s column (action.Make class puts) d p =
+      goes_on Kept Kept Ends [] (followed_by (made_fields s.classes (class_of s.classes class) puts d) (λ f. Ok (added f.doing class f.fields))) (changes_told s d (column_after column []))
+      (goes_behind KeptFilled Kept Ends (made_fields s.classes (class_of s.classes class) puts d) (λ f. Ok (added f.doing class f.fields))
+      (made_kept s.classes (class_of s.classes class) puts _ p) (λ f q. one_added f.doing class f.fields q))
+      (λ d q. q)
+  action_kept s column (action.Modify cell puts) d p =
+      goes_on Kept Kept Ends [] (followed_by (modified_fields s.classes puts cell d) (λ f. Ok (modified f.doing cell f.fields))) (changes_told s d (column_after column []))
+      (goes_behind KeptFilled Kept Ends (modified_fields s.classes puts cell d) (λ f. Ok (modified f.doing cell f.fields))
+      (over_kept s.classes puts _ p) (λ f q. one_modified f.doing cell f.fields q))
+      (λ d q. q)
+  action_kept s column (action.Remove cells) d p = all_removed cells d p
+  action_kept s column (action.Write items) d p = items_kept s.classes Apart column items d p
+  action_kept s column (action.Bind variable t) d p =
+      goes_behind KeptValued Kept Ends (evaluated s.classes t d) (λ v. Ok (bound v.doing variable (first_of v.values)))
+      (evaluated_kept s.classes t d p) (λ v q. kept_beside v.doing _ v.doing.cells v.doing.halted q)
+  action_kept s column (action.Cbind cell) d p = kept_beside d d.bindings _ d.halted p
+  action_kept s column action.Halt d p = kept_beside d d.bindings d.cells true p
 
   ends_in : (n : ℕ) (m : Mishap) → Ends m → EndsActions fails (in_action n m)
   ends_in n (Fault kind) p = tt
   ends_in n Unread p = p
 
-  actions_kept : (classes : List Class) (column n : ℕ) (actions : List Action) (d : Doing) → Kept d → MatchResult (actions_done classes column n actions d).outcome Kept (EndsActions fails)
-  actions_kept classes column n [] d p = p
-  actions_kept classes column n (a ∷ rest) d p =
-      let e = action_done classes column a d in
-      goes_on Kept Kept (EndsActions fails) e.bytes (outcome_as (λ d. d) (in_action n) e.outcome) (λ d. actions_done classes (column_after column e.bytes) (suc n) rest d)
-      (goes_as Kept Kept Ends (EndsActions fails) (λ d. d) (in_action n) e.outcome (action_kept classes column a d p) (λ d q. q) (ends_in n))
-      (λ d q. actions_kept classes (column_after column e.bytes) (suc n) rest d q)
+  actions_kept : (s : Setting) (column n : ℕ) (actions : List Action) (d : Doing) → Kept d → MatchResult (actions_done s column n actions d).outcome Kept (EndsActions fails)
+  actions_kept s column n [] d p = p
+  actions_kept s column n (a ∷ rest) d p =
+      let e = action_done s column a d in
+      goes_on Kept Kept (EndsActions fails) e.bytes (outcome_as (λ d. d) (in_action n) e.outcome) (λ d. actions_done s (column_after column e.bytes) (suc n) rest d)
+      (goes_as Kept Kept Ends (EndsActions fails) (λ d. d) (in_action n) e.outcome (action_kept s column a d p) (λ d q. q) (ends_in n))
+      (λ d q. actions_kept s (column_after column e.bytes) (suc n) rest d q)
 
   left_lawful : (d : Doing) → WellKept old given → Kept d → IsLawfulOver old given (left_by d)
   left_lawful d well p =
@@ -248,9 +252,9 @@ module _ (old : List Element) (given : ℕ) (names : Spellings) (fails : Bool) w
 pub acted_kept : (s : Setting) (column : ℕ) (i : Inst) (g : Given) → MatchResult (acted s column i g).outcome (KeptActed g.wm g.last g.names g.coming.fails) (EndsActions g.coming.fails)
 acted_kept s column i g =
     let start = begun s i g in
-    let e = actions_done s.classes column 1 (actions_of s.rules i.rule) start in
+    let e = actions_done s column 1 (actions_of s.rules i.rule) start in
     goes_as (KeptDoing g.wm g.last g.names g.coming.fails) (KeptActed g.wm g.last g.names g.coming.fails) (EndsActions g.coming.fails) (EndsActions g.coming.fails) left_by (λ f. f) e.outcome
-    (actions_kept g.wm g.last g.names g.coming.fails s.classes column 1 (actions_of s.rules i.rule) start (record { lawful = tt; memory = refl; last_tag = refl; keeps = names_stay g.names; coming = refl }))
+    (actions_kept g.wm g.last g.names g.coming.fails s column 1 (actions_of s.rules i.rule) start (record { lawful = tt; memory = refl; last_tag = refl; keeps = names_stay g.names; coming = refl }))
     (left_kept g.wm g.last g.names g.coming.fails) (λ e p. p)
 
 -- the symbols keep their spellings in a right side

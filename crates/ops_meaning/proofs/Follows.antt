@@ -19,8 +19,8 @@ use Rattle.ops_tokens.specs.declared.token.TokenKind.TheVariants as kind
 use Rattle.ops_meaning.specs.declared.words.Word.{Word}
 use Rattle.ops_meaning.specs.declared.words.Keyword.{Keyword}
 use Rattle.ops_meaning.specs.declared.words.Keyword.TheVariants as keyword
-use Rattle.ops_meaning.specs.Grammar.{Use, InPattern, InPut, InFixed, Target, ToTest, ToPut, ToTerms, ToConstants, ToItem, ToBind, EndsWhole, Column, Wanted, Forms, Attribute, VectorNames, Patterns, Pattern, Braced, ClosesBrace, ClassName, Terms, Several, Place, Tests, Choice, ValueFor, Function, Waiting, ExpressionUnit, ExpressionRest, Bracketed, SourceEnd, Atom, Tested, BoundValue, Cells, Items, ItemWord, Closes, State, Step, Next, Refuses, is_left, is_right, is_left_brace, is_right_brace, is_caret, is_name, is_variable, is_arrow, is_literal, is_inf, is_minus, opens_choice, closes_choice, pred_of, constant_of, value_of, atom_of, natural_of, small_of, is_one_of, number_of, may_declare, may_produce, is_class, is_rule, is_second, makes_second, vector_declared, form, class_at, attributes_of, behind_attribute, field_at, with_bind, with_constant, variable_tested, constant_tested, tested, predicated, test, place, tests, chosen, atom_at, term_at, bound_at, constant_at, is_of_action, value_for, most_brackets, no_formula, with_formula, unit_bound, unit_at, expression_unit, is_compute, operation_of, operation_at, expression_ended, function, source_named, source_class, source_at, takes_several, ends_at_inf, source_end, with_element, terms, within, one_of_several, with_several, several, one_more, element_at, action_word, designated, numbered_cell, named_cell, cell_of, with_designated, with_modified, cell_bound, item_word, columns_at, counted, count_of, strategy_set, strategy_of, ended, step}
-use Rattle.ops_meaning.specs.Derivation.{is_designator, is_operand, is_value, with_name, Derives, nothing, no_form, a_form, a_literalize, a_class, an_attribute, no_attribute, a_vector_declaration, a_vector, one_more_vector, no_more_vectors, a_production, a_rule, a_first, a_braced_first, a_negated_first, a_pattern, a_braced_pattern, a_negated_pattern, a_whole_pattern, a_name_before, a_name_behind, an_element_name, a_closed_brace, an_arrow, a_make, a_run, a_count, no_count, a_strategy, a_strategy_name, no_strategy_name, a_class_name, a_term, no_term, a_scalar_attribute, a_vector_attribute, one_more_place, one_more_term, one_more_constant, no_more_of_several, a_value, a_literal_value, a_function, a_compute, a_genatom, an_accept, a_unit, a_bracketed_unit, a_bracketed_compute, a_bracketed_expression, an_operation, no_operation, a_substr, a_source, a_source_attribute, the_same_again, up_to_inf, an_atom, a_conjunction, no_more_tests, an_operand, a_literal, a_predicate, a_disjunction, one_more_operand, one_more_literal, one_more_predicate, one_more_disjunction, a_tested_operand, a_tested_literal, one_more_choice, no_more_choices, an_action, no_action, to_make, to_modify, to_bind, to_cbind, to_remove, to_write, to_halt, a_modified, a_bound_name, a_bound_value, no_bound_value, a_cell_name, a_cell, one_more_cell, no_more_cells, an_item, a_literal_item, an_item_form, no_item, a_crlf, a_tab, a_right, a_function_item, some_columns, a_closing, is_no_form}
+use Rattle.ops_meaning.specs.Grammar.{Use, InPattern, InPut, InFixed, Target, ToTest, ToPut, ToTerms, ToConstants, ToItem, ToBind, EndsWhole, ToRemove, Column, Wanted, Forms, Attribute, VectorNames, Patterns, Pattern, Braced, ClosesBrace, ClassName, Terms, Several, Place, Tests, Choice, ValueFor, Function, Waiting, ExpressionUnit, ExpressionRest, Bracketed, SourceEnd, Atom, Tested, BoundValue, Cells, Items, ItemWord, Tags, Closes, State, Step, Next, Refuses, is_left, is_right, is_left_brace, is_right_brace, is_caret, is_name, is_variable, is_arrow, is_literal, is_inf, is_minus, opens_choice, closes_choice, pred_of, constant_of, value_of, atom_of, natural_of, small_of, is_one_of, number_of, may_declare, may_produce, is_class, is_rule, is_second, makes_second, vector_declared, form, class_at, attributes_of, behind_attribute, field_at, with_bind, with_constant, variable_tested, constant_tested, tested, predicated, test, place, tests, chosen, atom_at, term_at, bound_at, constant_at, is_of_action, value_for, most_brackets, no_formula, with_formula, unit_bound, unit_at, expression_unit, is_compute, operation_of, operation_at, expression_ended, function, source_named, source_class, source_at, takes_several, ends_at_inf, source_end, with_element, terms, within, one_of_several, with_several, several, one_more, element_at, action_word, designated, numbered_cell, named_cell, cell_of, with_designated, with_modified, cell_bound, item_word, columns_at, counted, count_of, strategy_set, strategy_of, tag_at, is_all, level_of, level_set, ended, step}
+use Rattle.ops_meaning.specs.Derivation.{is_designator, is_operand, is_value, with_name, Derives, nothing, no_form, a_form, a_literalize, a_class, an_attribute, no_attribute, a_vector_declaration, a_vector, one_more_vector, no_more_vectors, a_production, a_rule, a_first, a_braced_first, a_negated_first, a_pattern, a_braced_pattern, a_negated_pattern, a_whole_pattern, a_name_before, a_name_behind, an_element_name, a_closed_brace, an_arrow, a_make, a_run, a_count, no_count, a_strategy, a_strategy_name, no_strategy_name, a_remove_command, all_tags, a_first_tag, a_wm, one_more_tag, no_more_tags, a_ppwm, a_shown_class, all_shown, a_cs, an_exit, a_pm, a_pbreak, a_named_rule, one_more_rule, no_more_rules, a_watch, a_level, no_level, a_class_name, a_term, no_term, a_scalar_attribute, a_vector_attribute, one_more_place, one_more_term, one_more_constant, no_more_of_several, a_value, a_literal_value, a_function, a_compute, a_genatom, an_accept, a_unit, a_bracketed_unit, a_bracketed_compute, a_bracketed_expression, an_operation, no_operation, a_substr, a_source, a_source_attribute, the_same_again, up_to_inf, an_atom, a_conjunction, no_more_tests, an_operand, a_literal, a_predicate, a_disjunction, one_more_operand, one_more_literal, one_more_predicate, one_more_disjunction, a_tested_operand, a_tested_literal, one_more_choice, no_more_choices, an_action, no_action, to_make, to_modify, to_bind, to_cbind, to_remove, to_write, to_halt, a_modified, a_bound_name, a_bound_value, no_bound_value, a_cell_name, a_cell, one_more_cell, no_more_cells, an_item, a_literal_item, an_item_form, no_item, a_crlf, a_tab, a_right, a_function_item, some_columns, a_closing, is_no_form}
 use Rattle.ops_meaning.proofs.Arranged.{AreArranged, kind_agrees}
 use Rattle.ops_meaning.proofs.Derived.{forms_last, bind_vectors, constant_vectors, element_vectors, ended_vectors}
 use Rattle.ops_meaning.proofs.Moved.{at_any_place, several_at_any_place, whatever_waits}
@@ -61,6 +61,10 @@ left_brace_not_left _ e = refl
 count_not_right : (k : TokenKind) → is_some (count_of k) ≡ true → is_right k ≡ false
 count_not_right kind.Right e = absurd (true≢false (sym e))
 count_not_right _ e = refl
+
+level_not_right : (k : TokenKind) → is_some (level_of k) ≡ true → is_right k ≡ false
+level_not_right kind.Right e = absurd (true≢false (sym e))
+level_not_right _ e = refl
 
 pub variable_not_left : (k : TokenKind) → is_variable k ≡ true → is_left k ≡ false
 variable_not_left kind.Left e = absurd (true≢false (sym e))
@@ -156,6 +160,10 @@ compute_named _ e = refl
 strategy_named : (k : Keyword) → is_some (strategy_of k) ≡ true → is_other k ≡ false
 strategy_named keyword.Other e = absurd (true≢false (sym e))
 strategy_named _ e = refl
+
+all_named : (k : Keyword) → is_all k ≡ true → is_other k ≡ false
+all_named keyword.Other e = absurd (true≢false (sym e))
+all_named _ e = refl
 
 -- a unit does not begin with `compute`
 unit_begins : {A : Type 0} (d : ℕ) (vs : List Sym) (ws : List Wanted) (w : Word) (ts : List Word) → Derives vs (ExpressionUnit d ∷ ws) (w ∷ ts) → is_compute w.keyword ≡ true → is_proper w ≡ true → A
@@ -418,6 +426,15 @@ module _ (w : Word) (ts : List Word) where
     strategy_goes (Some g) e d = λ _. d
     strategy_goes None e d = absurd (true≢false (sym e))
 
+    -- a tag, and a trace level
+    tag_goes : (o : Option ℕ) → is_some o ≡ true → Derives s.vectors ws ts → Went w ts (tag_at o ws s)
+    tag_goes (Some n) e d = λ _. d
+    tag_goes None e d = absurd (true≢false (sym e))
+
+    level_goes : (o : Option ℕ) → is_some o ≡ true → Derives s.vectors (Closes EndsWhole ∷ ws) ts → Went w ts (level_set o ws s)
+    level_goes (Some n) e d = λ _. d
+    level_goes None e d = absurd (true≢false (sym e))
+
 -- the end of an expression
 ended_goes_on : (w : Word) (ts : List Word) (ws : List Wanted) (s : State) (into : Option Target) (f : Formula) → Derives s.vectors ws ts → Went w ts (expression_ended into f ws s)
 ended_goes_on w ts ws s (Some t) f d = term_goes w ts ws (with_formula s no_formula) t (term.Compute f) d
@@ -573,6 +590,33 @@ derived_goes ws words s a (a_strategy_name {ws = rest} {w = w} {ts = ts} e d) la
     cond_both (is_right w.kind) _ _ (Went w ts) (λ right proper. no_keyword w is_right refl refl (strategy_named w.keyword e) right proper)
     (λ _. strategy_goes w ts rest s (strategy_of w.keyword) e d)
 derived_goes ws words s a (no_strategy_name {w = w} {ts = ts} e d) last = met w ts (is_right w.kind) _ _ e (λ _. d)
+derived_goes ws words s a (a_remove_command {ws = rest} {w = w} {ts = ts} e d) last = form_goes w ts rest s keyword.Remove e (λ _. d)
+derived_goes ws words s a (all_tags {w = w} {ts = ts} e d) last = met w ts (is_all w.keyword) _ _ e (λ _. d)
+derived_goes ws words s a (a_first_tag {ws = rest} {w = w} {ts = ts} e d) last =
+    cond_both (is_all w.keyword) _ _ (Went w ts) (λ all proper. no_keyword w (λ k. is_some (count_of k)) refl refl (all_named w.keyword all) e proper)
+    (λ _. tag_goes w ts (Tags ToRemove ∷ rest) s (count_of w.kind) e d)
+derived_goes ws words s a (a_wm {ws = rest} {w = w} {ts = ts} e d) last = form_goes w ts rest s keyword.Wm e (λ _. d)
+derived_goes ws words s a (one_more_tag {u = u} {ws = rest} {w = w} {ts = ts} e d) last =
+    unmet w ts (is_right w.kind) _ _ (count_not_right w.kind e) (tag_goes w ts (Tags u ∷ rest) s (count_of w.kind) e d)
+derived_goes ws words s a (no_more_tags {w = w} {ts = ts} e d) last = met w ts (is_right w.kind) _ _ e (λ _. d)
+derived_goes ws words s a (a_ppwm {ws = rest} {w = w} {ts = ts} e d) last = form_goes w ts rest s keyword.Ppwm e (λ _. d)
+derived_goes ws words s a (a_shown_class {ws = rest} {w = w} {ts = ts} e d) last =
+    unmet w ts (is_right w.kind) _ _ (name_not_right w.kind e)
+    (met w ts (is_name w.kind) _ _ e
+    (class_goes w ts (Terms InFixed ∷ rest) (record s { fixed = []; shows = true }) (position (λ c. c.name.0 == w.name.0) s.classes) d))
+derived_goes ws words s a (all_shown {w = w} {ts = ts} e d) last = met w ts (is_right w.kind) _ _ e (λ _. d)
+derived_goes ws words s a (a_cs {ws = rest} {w = w} {ts = ts} e d) last = form_goes w ts rest s keyword.Cs e (λ _. d)
+derived_goes ws words s a (an_exit {ws = rest} {w = w} {ts = ts} e d) last = form_goes w ts rest s keyword.Exit e (λ _. d)
+derived_goes ws words s a (a_pm {ws = rest} {w = w} {ts = ts} e d) last = form_goes w ts rest s keyword.Pm e (λ _. d)
+derived_goes ws words s a (a_pbreak {ws = rest} {w = w} {ts = ts} e d) last = form_goes w ts rest s keyword.Pbreak e (λ _. d)
+derived_goes ws words s a (a_named_rule {w = w} {ts = ts} e d) last = met w ts (is_name w.kind) _ _ e (λ _. d)
+derived_goes ws words s a (one_more_rule {w = w} {ts = ts} e d) last =
+    unmet w ts (is_right w.kind) _ _ (name_not_right w.kind e) (met w ts (is_name w.kind) _ _ e (λ _. d))
+derived_goes ws words s a (no_more_rules {w = w} {ts = ts} e d) last = met w ts (is_right w.kind) _ _ e (λ _. d)
+derived_goes ws words s a (a_watch {ws = rest} {w = w} {ts = ts} e d) last = form_goes w ts rest s keyword.Watch e (λ _. d)
+derived_goes ws words s a (a_level {ws = rest} {w = w} {ts = ts} e d) last =
+    unmet w ts (is_right w.kind) _ _ (level_not_right w.kind e) (level_goes w ts rest s (level_of w.kind) e d)
+derived_goes ws words s a (no_level {w = w} {ts = ts} e d) last = met w ts (is_right w.kind) _ _ e (λ _. d)
 derived_goes ws words s a (a_class_name {ws = rest} {w = w} {ts = ts} e d) last =
     met w ts (is_name w.kind) _ _ e (class_goes w ts rest s (position (λ c. c.name.0 == w.name.0) s.classes) d)
 derived_goes ws words s a (a_term {w = w} {ts = ts} e d) last =

@@ -12,7 +12,6 @@ pub mod NamesKept
 pub mod Doings
 pub mod RisingTags
 pub mod InletLemmas
-pub mod Endings
 pub mod ReadsWithin
 pub mod Completed
 pub mod Derived
@@ -46,3 +45,4 @@ pub mod Taken
 pub mod ReadsHeld
 pub mod NamesOf
 pub mod Limits
+pub mod Ranked

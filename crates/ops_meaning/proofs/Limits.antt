@@ -1,26 +1,28 @@
 -- A session makes at most as many firings as its limit says, and a run with a number at most as many as that says.
-use Rattle.std.proofs.Common.{◌≡◌, ℕ, zero, suc, ◌+◌, ◌-◌, ◌≤◌, List, [], ◌∷◌, Bool, true, false, Option, Some, None, MatchResult, refl, arith}
+use Rattle.std.proofs.Common.{◌≡◌, ℕ, zero, suc, ◌+◌, ◌-◌, ◌≤◌, List, [], ◌∷◌, Bool, true, false, cond, Option, Some, None, MatchResult, refl, arith}
+use Rattle.std.proofs.lemmas.Bool.{cond_both}
 use Rattle.ops_base.specs.declared.commands.Command.{Command}
 use Rattle.ops_base.specs.declared.commands.Command.TheVariants as command
+use Rattle.ops_base.specs.declared.commands.Strategy.{Strategy}
 use Rattle.ops_base.specs.declared.endings.Ending.{Ending}
 use Rattle.ops_base.specs.declared.rules.Inst.{Inst}
+use Rattle.ops_base.specs.declared.rules.Rule.{Rule}
+use Rattle.ops_base.specs.declared.values.Sym.{Sym}
 use Rattle.ops_base.specs.Names.{Spellings}
 use Rattle.ops_io.specs.Output.{column_after}
 use Rattle.ops_meaning.specs.Acting.{Setting, Misdeed, Bad, NoInput, acted}
-use Rattle.ops_meaning.specs.Effects.{Effect}
+use Rattle.ops_meaning.specs.Effects.{Effect, writes, and_then}
 use Rattle.ops_meaning.specs.Kept.{TellsLimit, KeepsLimit, IsLimited, IsCounted}
-use Rattle.ops_meaning.specs.Running.{Course, Turned, nothing_yet, turn, one_less, given_by, ended_in, turned_of, firing, run_on, next_to_fire, command_done, commands_done, strategy_given}
+use Rattle.ops_meaning.specs.Layout.{firing_bytes, halted_line, broken_line, counted_line, rule_name}
+use Rattle.ops_meaning.specs.Running.{Course, Turned, Session, LastFiring, begun, turn, line_of_pause, has_break, last_of, one_less, given_by, ended_in, with_course, turned_of, firing, run_on, next_to_fire, command_done, commands_done, is_exit, strategy_given, level_given, breaks_given}
 use Rattle.ops_meaning.proofs.Doings.{goes_on, goes_as, ok_goes, EndsActions, KeptActed, acted_kept}
 
 -- what every turn leaves of a run whose end it does not come to
-turn_leaves : (P : Course → Type 0) (R : Ending → Type 0) (column : ℕ) (halted : Bool) (count : Option ℕ) (m : Course) (next : Option Inst) (go_on : Inst → Effect Ending Course) → P m
-    → ((i : Inst) → MatchResult (go_on i).outcome P R) → MatchResult (turn column halted count m next go_on).outcome P R
-turn_leaves P R column true count m next go_on p q = p
-turn_leaves P R column false (Some zero) m next go_on p q = p
-turn_leaves P R column false (Some (suc n)) m None go_on p q = p
-turn_leaves P R column false (Some (suc n)) m (Some i) go_on p q = q i
-turn_leaves P R column false None m None go_on p q = p
-turn_leaves P R column false None m (Some i) go_on p q = q i
+turn_leaves : (P : Course → Type 0) (R : Ending → Type 0) (column : ℕ) (line : Option (List ℕ)) (m : Course) (next : Option Inst) (go_on : Inst → Effect Ending Course) → P m
+    → ((i : Inst) → MatchResult (go_on i).outcome P R) → MatchResult (turn column line m next go_on).outcome P R
+turn_leaves P R column (Some line) m next go_on p q = p
+turn_leaves P R column None m None go_on p q = p
+turn_leaves P R column None m (Some i) go_on p q = q i
 
 -- ---- the limit
 
@@ -28,53 +30,73 @@ module _ (limit : ℕ) where
   abbrev Within : Course → Type 0
   Within m = m.firings ≤ limit
 
-  ended_tells : (firing rule : ℕ) (e : Misdeed) → TellsLimit limit (ended_in firing rule e)
-  ended_tells firing rule (Bad n k) = tt
-  ended_tells firing rule NoInput = tt
+  abbrev WithinSession : Session → Type 0
+  WithinSession k = Within k.course
 
-  -- a firing is counted
-  firing_counts : (s : Setting) (column : ℕ) (i : Inst) (m : Course) → MatchResult (firing s column i m).outcome (λ t. t.course.firings ≡ m.firings + 1) (TellsLimit limit)
-  firing_counts s column i m =
-      goes_as (KeptActed m.wm m.last m.names m.coming.fails) (λ (t : Turned). t.course.firings ≡ m.firings + 1) (EndsActions m.coming.fails) (TellsLimit limit) (turned_of s.rules i m) (ended_in (m.firings + 1) i.rule) (acted s column i (given_by m)).outcome
-      (acted_kept s column i (given_by m)) (λ a q. refl) (λ e q. ended_tells (m.firings + 1) i.rule e)
+  ended_tells : (firing rule : ℕ) (e : Misdeed) → firing ≤ limit → TellsLimit limit (ended_in firing rule e)
+  ended_tells firing rule (Bad n k) p = p
+  ended_tells firing rule NoInput p = tt
 
-  run_limited : (left : ℕ) (s : Setting) (column : ℕ) (halted : Bool) (count : Option ℕ) (m : Course) → m.firings + left ≡ limit → KeepsLimit limit (run_on left s column halted count m).outcome
-  run_limited zero s column halted count m is =
-      turn_leaves Within (TellsLimit limit) column halted count m (next_to_fire s.rules m) _ (omega arith) (λ i. omega arith)
-  run_limited (suc left) s column halted count m is =
-      turn_leaves Within (TellsLimit limit) column halted count m (next_to_fire s.rules m) _ (omega arith)
+  -- a firing is counted, and one that fails is told by its number
+  firing_counts : (s : Setting) (column : ℕ) (i : Inst) (m : Course) → m.firings + 1 ≤ limit → MatchResult (firing s column i m).outcome (λ t. t.course.firings ≡ m.firings + 1) (TellsLimit limit)
+  firing_counts s column i m within =
+      let behind = column_after column (firing_bytes s.watch column m.names s.rules (m.firings + 1) i) in
+      goes_as (KeptActed m.wm m.last m.names m.coming.fails) (λ (t : Turned). t.course.firings ≡ m.firings + 1) (EndsActions m.coming.fails) (TellsLimit limit) (turned_of s.rules i m) (ended_in (m.firings + 1) i.rule) (acted s behind i (given_by m)).outcome
+      (acted_kept s behind i (given_by m)) (λ a q. refl) (λ e q. ended_tells (m.firings + 1) i.rule e within)
+
+  run_limited : (left : ℕ) (s : Setting) (breaks : List Bool) (column : ℕ) (last : Option LastFiring) (count : Option ℕ) (m : Course) → m.firings + left ≡ limit
+      → MatchResult (run_on left s breaks column last count m).outcome Within (TellsLimit limit)
+  run_limited zero s breaks column last count m is =
+      turn_leaves Within (TellsLimit limit) column (line_of_pause m.names s.rules breaks last count) m (next_to_fire s.rules m) _ (omega arith) (λ i. omega arith)
+  run_limited (suc left) s breaks column last count m is =
+      turn_leaves Within (TellsLimit limit) column (line_of_pause m.names s.rules breaks last count) m (next_to_fire s.rules m) _ (omega arith)
       (λ i. let e = firing s column i m in
-      goes_on (λ (t : Turned). t.course.firings ≡ m.firings + 1) Within (TellsLimit limit) e.bytes e.outcome (λ t. run_on left s (column_after column e.bytes) t.halted (one_less count) t.course) (firing_counts s column i m)
-      (λ t q. run_limited left s (column_after column e.bytes) t.halted (one_less count) t.course (omega arith)))
+      goes_on (λ (t : Turned). t.course.firings ≡ m.firings + 1) Within (TellsLimit limit) e.bytes e.outcome (λ t. run_on left s breaks (column_after column e.bytes) (last_of i t) (one_less count) t.course) (firing_counts s column i m (omega arith))
+      (λ t q. run_limited left s breaks (column_after column e.bytes) (last_of i t) (one_less count) t.course (omega arith)))
 
-  strategy_limited : (column : ℕ) (set : _) (m : Course) → Within m → KeepsLimit limit (strategy_given column set m).outcome
-  strategy_limited column None m p = p
-  strategy_limited column (Some g) m p = p
+  strategy_limited : (column : ℕ) (set : Option Strategy) (k : Session) → WithinSession k → KeepsLimit limit (strategy_given column set k).outcome
+  strategy_limited column None k p = p
+  strategy_limited column (Some g) k p = p
 
-  command_limited : (s : Setting) (column : ℕ) (c : Command) (m : Course) → Within m → KeepsLimit limit (command_done s limit column c m).outcome
-  command_limited s column (command.Make class puts) m p = p
-  command_limited s column (command.Run count) m p = run_limited (limit - m.firings) s column false count m (omega arith)
-  command_limited s column (command.Strategy set) m p = strategy_limited column set m p
-  command_limited s column (command.Remove tags) m p = p
-  command_limited s column command.RemoveAll m p = p
-  command_limited s column (command.Wm tags) m p = p
-  command_limited s column (command.Ppwm pattern) m p = p
-  command_limited s column command.Cs m p = p
-  command_limited s column (command.Pm names) m p = p
-  command_limited s column (command.Watch set) m p = p
-  command_limited s column (command.Pbreak names) m p = p
-  command_limited s column command.Exit m p = p
+  level_limited : (column : ℕ) (set : Option ℕ) (k : Session) → WithinSession k → KeepsLimit limit (level_given column set k).outcome
+  level_limited column None k p = p
+  level_limited column (Some n) k p = p
 
-  commands_limited : (s : Setting) (column : ℕ) (commands : List Command) (m : Course) → Within m → KeepsLimit limit (commands_done s limit column commands m).outcome
-  commands_limited s column [] m p = p
-  commands_limited s column (c ∷ rest) m p =
-      let e = command_done s limit column c m in
-      goes_on Within Within (TellsLimit limit) e.bytes e.outcome (λ m. commands_done s limit (column_after column e.bytes) rest m) (command_limited s column c m p)
-      (λ m q. commands_limited s (column_after column e.bytes) rest m q)
+  breaks_limited : (s : Setting) (column : ℕ) (names : List Sym) (k : Session) → WithinSession k → KeepsLimit limit (breaks_given s column names k).outcome
+  breaks_limited s column [] k p = p
+  breaks_limited s column (n ∷ ns) k p = p
+
+  command_limited : (s : Setting) (column : ℕ) (c : Command) (k : Session) → WithinSession k → KeepsLimit limit (command_done s limit column c k).outcome
+  command_limited s column (command.Make class puts) k p = p
+  command_limited s column (command.Remove tags) k p = p
+  command_limited s column command.RemoveAll k p = p
+  command_limited s column (command.Run count) k p =
+      let at : Setting = record s { watch = k.watch } in
+      let left = limit - k.course.firings in
+      goes_as Within WithinSession (TellsLimit limit) (TellsLimit limit) (with_course k) (λ e. e) (run_on left at k.breaks column None count k.course).outcome
+      (run_limited left at k.breaks column None count k.course (omega arith)) (λ m q. q) (λ e q. q)
+  command_limited s column (command.Wm tags) k p = p
+  command_limited s column (command.Ppwm pattern) k p = p
+  command_limited s column command.Cs k p = p
+  command_limited s column (command.Pm names) k p = p
+  command_limited s column (command.Strategy set) k p = strategy_limited column set k p
+  command_limited s column (command.Watch set) k p = level_limited column set k p
+  command_limited s column (command.Pbreak names) k p = breaks_limited s column names k p
+  command_limited s column command.Exit k p = p
+
+  commands_limited : (s : Setting) (column : ℕ) (commands : List Command) (k : Session) → WithinSession k → KeepsLimit limit (commands_done s limit column commands k).outcome
+  commands_limited s column [] k p = p
+  commands_limited s column (c ∷ rest) k p =
+      let e = command_done s limit column c k in
+      let go_on : ℕ → Session → Effect Ending Session = λ next k. commands_done s limit next rest k in
+      cond_both (is_exit c) (writes [] k) (and_then column e go_on) (λ f. KeepsLimit limit f.outcome) (λ _. p)
+      (λ _. goes_on WithinSession WithinSession (TellsLimit limit) e.bytes e.outcome (go_on (column_after column e.bytes)) (command_limited s column c k p)
+      (λ k q. commands_limited s (column_after column e.bytes) rest k q))
 
 -- a session keeps to its limit
 pub session_limited : (s : Setting) (limit : ℕ) (commands : List Command) (names : Spellings) → IsLimited s limit commands names
-session_limited s limit commands names coming = commands_limited limit s 0 commands (nothing_yet names coming) (omega arith)
+session_limited s limit commands names coming =
+    commands_limited limit s 0 commands (begun s.rules names coming) (omega arith)
 
 -- ---- the number of a run
 
@@ -84,21 +106,36 @@ AtMost bound m = m.firings ≤ bound
 abbrev Any : Ending → Type 0
 Any e = Unit {0}
 
-run_counted : (bound left : ℕ) (s : Setting) (column : ℕ) (halted : Bool) (n : ℕ) (m : Course) → m.firings + n ≡ bound → MatchResult (run_on left s column halted (Some n) m).outcome (AtMost bound) Any
-run_counted bound zero s column halted n m is = turn_leaves (AtMost bound) Any column halted (Some n) m (next_to_fire s.rules m) _ (omega arith) (λ i. tt)
-run_counted bound (suc left) s column true n m is = omega arith
-run_counted bound (suc left) s column false zero m is = omega arith
-run_counted bound (suc left) s column false (suc n) m is =
-    turn_leaves (AtMost bound) Any column false (Some (suc n)) m (next_to_fire s.rules m) _ (omega arith)
+-- a run that has made all its firings goes on in no case
+turn_stops : (P : Course → Type 0) (R : Ending → Type 0) (column : ℕ) (names : Spellings) (rules : List Rule) (breaks : List Bool) (last : Option LastFiring) (m : Course) (next : Option Inst) (go_on : Inst → Effect Ending Course) → P m
+    → MatchResult (turn column (line_of_pause names rules breaks last (Some zero)) m next go_on).outcome P R
+turn_stops P R column names rules breaks None m next go_on p = p
+turn_stops P R column names rules breaks (Some l) m next go_on p = by l.halted (has_break breaks l.rule)
+  where
+    by : (halted broken : Bool) → MatchResult (turn column (cond halted (Some halted_line) (cond broken (Some (broken_line names (rule_name rules l.rule))) (Some counted_line))) m next go_on).outcome P R
+    by true broken = p
+    by false true = p
+    by false false = p
+
+run_counted : (bound left : ℕ) (s : Setting) (breaks : List Bool) (column : ℕ) (last : Option LastFiring) (n : ℕ) (m : Course) → m.firings + n ≡ bound
+    → MatchResult (run_on left s breaks column last (Some n) m).outcome (AtMost bound) Any
+run_counted bound zero s breaks column last n m is =
+    turn_leaves (AtMost bound) Any column (line_of_pause m.names s.rules breaks last (Some n)) m (next_to_fire s.rules m) _ (omega arith) (λ i. tt)
+run_counted bound (suc left) s breaks column last zero m is =
+    turn_stops (AtMost bound) Any column m.names s.rules breaks last m (next_to_fire s.rules m) _ (omega arith)
+run_counted bound (suc left) s breaks column last (suc n) m is =
+    turn_leaves (AtMost bound) Any column (line_of_pause m.names s.rules breaks last (Some (suc n))) m (next_to_fire s.rules m) _ (omega arith)
     (λ i. let e = firing s column i m in
-    goes_on (λ (t : Turned). t.course.firings ≡ m.firings + 1) (AtMost bound) Any e.bytes e.outcome (λ t. run_on left s (column_after column e.bytes) t.halted (one_less (Some (suc n))) t.course) (counts i)
-    (λ t q. run_counted bound left s (column_after column e.bytes) t.halted (suc n - 1) t.course (omega arith)))
+    goes_on (λ (t : Turned). t.course.firings ≡ m.firings + 1) (AtMost bound) Any e.bytes e.outcome (λ t. run_on left s breaks (column_after column e.bytes) (last_of i t) (one_less (Some (suc n))) t.course) (counts i)
+    (λ t q. run_counted bound left s breaks (column_after column e.bytes) (last_of i t) (suc n - 1) t.course (omega arith)))
   where
     counts : (i : Inst) → MatchResult (firing s column i m).outcome (λ (t : Turned). t.course.firings ≡ m.firings + 1) Any
-    counts i = goes_as (KeptActed m.wm m.last m.names m.coming.fails) (λ (t : Turned). t.course.firings ≡ m.firings + 1) (EndsActions m.coming.fails) Any (turned_of s.rules i m) (ended_in (m.firings + 1) i.rule) (acted s column i (given_by m)).outcome
-        (acted_kept s column i (given_by m)) (λ a q. refl) (λ e q. tt)
+    counts i =
+        let behind = column_after column (firing_bytes s.watch column m.names s.rules (m.firings + 1) i) in
+        goes_as (KeptActed m.wm m.last m.names m.coming.fails) (λ (t : Turned). t.course.firings ≡ m.firings + 1) (EndsActions m.coming.fails) Any (turned_of s.rules i m) (ended_in (m.firings + 1) i.rule) (acted s behind i (given_by m)).outcome
+        (acted_kept s behind i (given_by m)) (λ a q. refl) (λ e q. tt)
 
 -- a run with a number makes at most so many firings
 pub run_is_counted : (left : ℕ) (s : Setting) (m : Course) → IsCounted left s m
-run_is_counted left s m column n =
-    ok_goes (AtMost (m.firings + n)) (AtMost (m.firings + n)) Any (run_on left s column false (Some n) m).outcome (run_counted (m.firings + n) left s column false n m refl) (λ k p. p)
+run_is_counted left s m breaks column n =
+    ok_goes (AtMost (m.firings + n)) (AtMost (m.firings + n)) Any (run_on left s breaks column None (Some n) m).outcome (run_counted (m.firings + n) left s breaks column None n m refl) (λ k p. p)

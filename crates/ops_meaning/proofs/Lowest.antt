@@ -11,7 +11,7 @@ use Rattle.ops_tokens.specs.declared.token.TokenKind.{TokenKind}
 use Rattle.ops_tokens.specs.declared.token.TokenKind.TheVariants as kind
 use Rattle.ops_meaning.specs.declared.words.Word.{Word}
 use Rattle.ops_meaning.specs.declared.words.Keyword.TheVariants as keyword
-use Rattle.ops_meaning.specs.Grammar.{InPattern, InPut, InFixed, ToConstants, Wanted, Form, ClassDeclared, Attributes, VectorName, VectorNames, RuleName, FirstPattern, Patterns, Braced, ElementName, ClassName, Attribute, Several, Tested, ValueFor, ExpressionUnit, Bracketed, SourceCell, SourceAttribute, Modified, BoundValue, CellName, Cell, Cells, Items, State, Step, Next, Refuses, is_left, is_right, is_caret, is_name, is_variable, is_literal, value_of, is_one_of, number_of, is_second, attributes, bound_at, constant_at, is_of_action, value_for, within, several, step}
+use Rattle.ops_meaning.specs.Grammar.{InPattern, InPut, InFixed, ToConstants, Wanted, Form, ClassDeclared, Attributes, VectorName, VectorNames, RuleName, FirstPattern, Patterns, Braced, ElementName, ClassName, Attribute, Several, Shown, Tested, ValueFor, ExpressionUnit, Bracketed, SourceCell, SourceAttribute, Modified, BoundValue, CellName, Cell, Cells, Items, State, Step, Next, Refuses, is_left, is_right, is_caret, is_name, is_variable, is_literal, value_of, is_one_of, number_of, is_second, attributes, bound_at, constant_at, is_of_action, value_for, within, several, step}
 use Rattle.ops_meaning.specs.Derivation.{is_no_form}
 use Rattle.ops_meaning.specs.Reasons.{fault_number, is_declaration, wants_form, wants_class, wants_attribute, is_declared, gives_second, is_full, nests_deepest, wants_condition, wants_first, wants_bound, designates, wants_cell, is_bad_designator, Because}
 use Rattle.ops_meaning.specs.Standing.{IsLowest}
@@ -25,6 +25,7 @@ use Rattle.ops_meaning.proofs.Reasons.{refused-because}
 -- the lowest number of the faults in a form that may have their reason where this is wanted
 abbrev least_at : List Wanted → ℕ
 least_at (ClassName ∷ ws) = 8
+least_at (Shown ∷ ws) = 8
 least_at (Attribute u ∷ ws) = 9
 least_at (SourceAttribute t ∷ ws) = 9
 least_at (ClassDeclared ∷ ws) = 10
@@ -60,6 +61,7 @@ is_single ws = true
 
 class_least : (ws : List Wanted) → wants_class ws ≡ true → least_at ws ≡ 8
 class_least (ClassName ∷ ws) e = refl
+class_least (Shown ∷ ws) e = refl
 class_least _ e = absurd (true≢false (sym e))
 
 attribute_least : (ws : List Wanted) → wants_attribute ws ≡ true → least_at ws ≡ 9

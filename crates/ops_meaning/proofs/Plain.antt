@@ -10,12 +10,12 @@ use Rattle.ops_base.specs.declared.conditions.Condition.{Condition}
 use Rattle.ops_base.specs.declared.actions.Action.{Action}
 use Rattle.ops_base.specs.declared.rules.Rule.{Rule}
 use Rattle.ops_base.specs.declared.commands.Command.{Command}
-use Rattle.ops_base.specs.Valid.{most_fields, most_conditions, is_in, class_of, is_attribute, is_vector, is_field, first_is_positive, cells_of, fixed_is_valid}
+use Rattle.ops_base.specs.Valid.{most_fields, most_conditions, is_in, class_of, is_attribute, is_vector, is_field, is_natural, first_is_positive, cells_of, fixed_is_valid}
 use Rattle.ops_meaning.specs.declared.words.Named.{Named}
-use Rattle.ops_meaning.specs.Grammar.{Use, InPattern, InPut, InFixed, Target, ToTest, ToPut, ToFixed, ToTerms, ToConstants, ToItem, ToBind, EndsHalt, EndsCrlf, EndsWhole, Column, Wanted, Forms, Form, ClassDeclared, Attributes, VectorName, VectorNames, RuleName, FirstPattern, Patterns, Pattern, Braced, ElementName, ClosesBrace, ClassName, Terms, Attribute, Several, Place, Tests, Tested, Choice, Atom, ValueFor, Function, Waiting, ExpressionUnit, ExpressionRest, Bracketed, SourceCell, SourceAttribute, SourceEnd, Actions, ActionWord, Modified, BoundName, BoundValue, CellName, Cell, Cells, Items, ItemWord, Columns, Count, StrategyName, Closes, State, Step, Next, Refuses, number_of, renumbered, precedes_classes, is_of_action, most_brackets, function_depth, classes_of_cells, source_class}
+use Rattle.ops_meaning.specs.Grammar.{Use, InPattern, InPut, InFixed, Target, ToTest, ToPut, ToFixed, ToTerms, ToConstants, ToItem, ToBind, EndsHalt, EndsCrlf, EndsCs, EndsExit, EndsWhole, Column, TagUse, NameUse, ToPrint, Wanted, Forms, Form, ClassDeclared, Attributes, VectorName, VectorNames, RuleName, FirstPattern, Patterns, Pattern, Braced, ElementName, ClosesBrace, ClassName, Terms, Attribute, Several, Place, Tests, Tested, Choice, Atom, ValueFor, Function, Waiting, ExpressionUnit, ExpressionRest, Bracketed, SourceCell, SourceAttribute, SourceEnd, Actions, ActionWord, Modified, BoundName, BoundValue, CellName, Cell, Cells, Items, ItemWord, Columns, Count, StrategyName, TagOrAll, Tags, Shown, NamedRule, NamedRules, Level, Closes, State, Step, Next, Refuses, number_of, renumbered, precedes_classes, is_of_action, most_brackets, function_depth, classes_of_cells, source_class}
 use Rattle.ops_meaning.specs.Spelling.{Numbered, nothing_numbered, test_is_plain, after_test, tests_are_plain, after_tests, after_condition, condition_is_plain, conditions_are_plain, after_conditions, InSight, at_arrow, class_of_cell, after_action, after_actions, term_is_plain, put_is_plain, item_is_plain, action_is_plain, actions_are_plain, rule_is_plain, command_is_plain}
 use Rattle.ops_meaning.proofs.Lists.{all_weaker}
-use Rattle.ops_meaning.proofs.Sound.{Braces, behind, behind_pattern}
+use Rattle.ops_meaning.proofs.Sound.{Braces, behind, behind_pattern, HasTags, HasNames}
 use Rattle.ops_meaning.proofs.PlainClasses.{IsArranged, IsAttributes}
 use Rattle.ops_meaning.proofs.PlainFormulas.{IsOperand, AreOperands, AreOpen}
 
@@ -115,6 +115,13 @@ HasItems s = Base s × Right s × (list_all (item_is_plain s.classes (in_sight s
 abbrev pub Conditions : State → Type 0
 Conditions s =
     Base s × Left s × (s.tests ≡ []) × (first_is_positive s.conditions ≡ true) × (length s.conditions ≤ most_conditions) × (s.negated ≡ false)
+
+-- a command up to its next tag, or to its next name
+abbrev pub AtTags : TagUse → State → Type 0
+AtTags u s = Base s × (list_all is_natural s.tags ≡ true) × HasTags u s.tags
+
+abbrev pub AtNames : NameUse → State → Type 0
+AtNames u s = Base s × HasNames u s.named
 
 -- an attribute of the element's class
 abbrev pub HasAttribute : State → ℕ → Type 0
@@ -238,6 +245,14 @@ pub data IsPlainly (s : State) : List Wanted → Type 0 where
   at_halt : Base s × Right s → IsPlainly s (Closes EndsHalt ∷ Actions ∷ Forms ∷ [])
   at_count : Base s → IsPlainly s (Count ∷ Forms ∷ [])
   at_strategy_name : Base s → IsPlainly s (StrategyName ∷ Forms ∷ [])
+  at_tag_or_all : Base s × (s.tags ≡ []) → IsPlainly s (TagOrAll ∷ Forms ∷ [])
+  at_tags : (u : TagUse) → AtTags u s → IsPlainly s (Tags u ∷ Forms ∷ [])
+  at_shown : Base s → IsPlainly s (Shown ∷ Forms ∷ [])
+  at_named_rule : Base s → IsPlainly s (NamedRule ∷ NamedRules ToPrint ∷ Forms ∷ [])
+  at_named_rules : (u : NameUse) → AtNames u s → IsPlainly s (NamedRules u ∷ Forms ∷ [])
+  at_level : Base s → IsPlainly s (Level ∷ Forms ∷ [])
+  at_cs : Base s → IsPlainly s (Closes EndsCs ∷ Forms ∷ [])
+  at_exit : Base s → IsPlainly s (Closes EndsExit ∷ Forms ∷ [])
 
 abbrev pub Keeps : Step → Type 0
 Keeps (Next ws s) = IsPlainly s ws

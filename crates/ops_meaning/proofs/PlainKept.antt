@@ -35,10 +35,15 @@ command_kept s c g plain = record { arranged = g.arranged; rules_plain = g.rules
 
 -- A command before declarations looks at no class.
 command_still : (classes more : List Class) (c : Command) → precedes_classes c ≡ true → command_is_plain classes c ≡ true → command_is_plain more c ≡ true
-command_still classes more (command.Strategy set) before plain = refl
 command_still classes more (command.Make class puts) before plain = absurd (true≢false (sym before))
 command_still classes more (command.Run count) before plain = absurd (true≢false (sym before))
-command_still classes more _ before plain = absurd (true≢false (sym plain))
+command_still classes more (command.Ppwm pattern) before plain = absurd (true≢false (sym before))
+command_still classes more (command.Remove tags) before plain = plain
+command_still classes more (command.Wm tags) before plain = plain
+command_still classes more (command.Pm names) before plain = plain
+command_still classes more (command.Watch None) before plain = refl
+command_still classes more (command.Watch (Some n)) before plain = plain
+command_still classes more _ before plain = refl
 
 pub commands_still : (classes more : List Class) (cs : List Command) → list_all precedes_classes cs ≡ true → list_all (command_is_plain classes) cs ≡ true → list_all (command_is_plain more) cs ≡ true
 commands_still classes more [] before plain = refl

@@ -1,5 +1,5 @@
 -- Each word leads from what has a spelling to what has one.
-use Rattle.std.proofs.Common.{◌≡◌, ℕ, suc, ◌+◌, ◌-◌, ◌<◌, Bool, true, false, ◌&&◌, ◌||◌, ◌==◌, cond, List, [], ◌∷◌, ◌++◌, length, take, refl, sym, ap, ◌∙◌, arith, Option, Some, None, Result, Ok, Err, nat_lt, pos, unwrap_or, slice_get, position, get_or, length-append, subst, true≢false}
+use Rattle.std.proofs.Common.{◌≡◌, ℕ, suc, ◌+◌, ◌-◌, ◌<◌, Bool, true, false, ◌&&◌, ◌||◌, ◌==◌, cond, List, [], ◌∷◌, ◌++◌, length, take, refl, sym, ap, ◌∙◌, arith, Option, Some, None, Result, Ok, Err, nat_lt, nat_le, pos, unwrap_or, slice_get, position, get_or, length-append, subst, true≢false}
 use Rattle.std.specs.List.{list_all, list_any}
 use Rattle.std.proofs.lemmas.Bool.{cond_both, and_parts, and_from, or_left, or_right, eqb-true, lt-ltb, ltb-true}
 use Rattle.std.proofs.lemmas.List.Elements.{All-push}
@@ -21,6 +21,8 @@ use Rattle.ops_base.specs.declared.actions.Term.TheVariants as term
 use Rattle.ops_base.specs.declared.actions.Item.{Item}
 use Rattle.ops_base.specs.declared.actions.Item.TheVariants as item
 use Rattle.ops_base.specs.declared.actions.Action.TheVariants as action
+use Rattle.ops_base.specs.declared.commands.Fixed.{Fixed}
+use Rattle.ops_base.specs.declared.commands.Command.{Command}
 use Rattle.ops_base.specs.declared.commands.Command.TheVariants as command
 use Rattle.ops_base.specs.declared.commands.Strategy.{Strategy}
 use Rattle.ops_base.specs.declared.endings.Fault.{Fault}
@@ -31,14 +33,14 @@ use Rattle.ops_tokens.specs.declared.token.TokenKind.TheVariants as kind
 use Rattle.ops_meaning.specs.declared.words.Word.{Word}
 use Rattle.ops_meaning.specs.declared.words.Keyword.{Keyword}
 use Rattle.ops_meaning.specs.declared.words.Keyword.TheVariants as keyword
-use Rattle.ops_meaning.specs.Grammar.{Use, InPattern, InPut, InFixed, Target, ToTest, ToPut, ToFixed, ToTerms, ToConstants, ToItem, ToBind, EndsWhole, Column, ToTab, ToRight, Wanted, Forms, Attributes, VectorNames, Patterns, Pattern, ClosesBrace, Terms, Several, Choice, ExpressionRest, SourceAttribute, Actions, Cells, Items, Closes, is_left, is_right, is_left_brace, is_right_brace, is_caret, is_name, is_variable, is_arrow, is_literal, is_minus, opens_choice, closes_choice, pred_of, constant_of, atom_of, value_of, natural_of, small_of, is_one_of, number_of, precedes_classes, may_declare, may_produce, is_class, is_rule, form, class_declared, is_second, attribute_declared, attributes, arranged, has_vector, makes_second, vector_declared, vector_name, class_at, attributes_of, behind_attribute, field_at, with_test, with_item, with_constant, with_bound, variable_tested, constant_tested, tested, predicated, test, with_choice, chosen, choice, atom_at, term_at, bound_at, constant_at, is_of_action, value_for, function, function_depth, most_brackets, no_formula, with_formula, Waiting, completed, is_compute, operation_of, unit_bound, unit_at, expression_unit, bracketed, operation_at, expression_rest, source_named, source_class, source_at, takes_several, is_inf, ends_at_inf, source_end, with_element, with_several, terms, within, one_of_several, several, place, one_more, patterns, element_at, element_name, action_word, classes_of_cells, designated, numbered_cell, named_cell, cell_of, with_designated, with_modified, bound_value, cell_bound, item_word, column_item, columns_at, count_of, counted, count, strategy_of, strategy_set, strategy_name, State, Step, Next, Refuses, step}
-use Rattle.ops_meaning.specs.Spelling.{nothing_numbered, tests_are_plain, after_tests, after_conditions, InSight, cell_is_plain, term_is_plain, put_is_plain, item_is_plain}
+use Rattle.ops_meaning.specs.Grammar.{Use, InPattern, InPut, InFixed, Target, ToTest, ToPut, ToFixed, ToTerms, ToConstants, ToItem, ToBind, EndsWhole, Column, ToTab, ToRight, TagUse, ToRemove, ToShow, NameUse, ToPrint, ToBreak, Wanted, Forms, Attributes, VectorNames, Patterns, Pattern, ClosesBrace, Terms, Several, Choice, ExpressionRest, SourceAttribute, Actions, Cells, Items, Tags, NamedRules, Closes, is_left, is_right, is_left_brace, is_right_brace, is_caret, is_name, is_variable, is_arrow, is_literal, is_minus, opens_choice, closes_choice, pred_of, constant_of, atom_of, value_of, natural_of, small_of, is_one_of, number_of, precedes_classes, may_declare, may_produce, is_class, is_rule, form, class_declared, is_second, attribute_declared, attributes, arranged, has_vector, makes_second, vector_declared, vector_name, class_at, class_name, attributes_of, behind_attribute, field_at, with_test, with_item, with_constant, with_bound, variable_tested, constant_tested, tested, predicated, test, with_choice, chosen, choice, atom_at, term_at, bound_at, constant_at, is_of_action, value_for, function, function_depth, most_brackets, no_formula, with_formula, Waiting, completed, is_compute, operation_of, unit_bound, unit_at, expression_unit, bracketed, operation_at, expression_rest, source_named, source_class, source_at, takes_several, is_inf, ends_at_inf, source_end, with_command, fixed_command, with_element, with_several, terms, within, one_of_several, several, place, one_more, patterns, element_at, element_name, action_word, classes_of_cells, designated, numbered_cell, named_cell, cell_of, with_designated, with_modified, bound_value, cell_bound, item_word, column_item, columns_at, count_of, counted, count, strategy_of, strategy_set, strategy_name, tag_at, is_all, tag_or_all, tag_command, tags, shown, named_rule, name_command, named_rules, level_of, level_set, level, State, Step, Next, Refuses, step}
+use Rattle.ops_meaning.specs.Spelling.{nothing_numbered, tests_are_plain, after_tests, after_conditions, InSight, cell_is_plain, term_is_plain, put_is_plain, item_is_plain, command_is_plain}
 use Rattle.ops_meaning.proofs.Lists.{all_push, all_none, all_at}
 use Rattle.ops_meaning.proofs.Parts.{has_cell}
-use Rattle.ops_meaning.proofs.Sound.{Braces, Bare, NamedBefore, NamedBehind, behind}
+use Rattle.ops_meaning.proofs.Sound.{Braces, Bare, NamedBefore, NamedBehind, behind, HasTags, HasNames}
 use Rattle.ops_meaning.proofs.PlainClasses.{IsArranged, IsAttributes, class_arranged, classes_arranged, attributes_begun, attribute_pushed}
 use Rattle.ops_meaning.proofs.PlainFormulas.{IsOperand, AreOperands, AreOpen, outermost, bracket, operand_completed, operand_bracketed}
-use Rattle.ops_meaning.proofs.Plain.{numbers_in, in_sight, Base, Right, Declaring, Around, IsBegun, IsOfCell, IsElement, Conditions, HasCells, HasItems, HasAttribute, IsVector, HasMore, HasSeveral, IsSource, Spot, HasPlace, HasTarget, behind_place, behind_test, behind_target, IsPlainly, at_forms, at_form, at_class_declared, at_attributes, at_vector_name, at_vector_names, at_rule_name, at_first_pattern, at_patterns, at_pattern, at_braced, at_element_name, at_closes_brace, at_class_name, at_terms, at_attribute, at_several, at_place, at_tests, at_tested, at_choice, at_atom, at_value, at_function, at_expression_unit, at_last_rest, at_bracketed_rest, at_bracketed, at_source_cell, at_source_attribute, at_source_end, at_actions, at_action_word, at_modified, at_bound_name, at_bound_value, at_cell_name, at_cell, at_cells, at_items, at_item_word, at_columns, at_whole, at_crlf, at_halt, at_count, at_strategy_name, Keeps, after_conditions-push, conditions_push, condition_counted, begun_positive, begins_first, begins_behind, number_sighted, cells_more, number_below, below_more}
+use Rattle.ops_meaning.proofs.Plain.{numbers_in, in_sight, Base, Right, Declaring, Around, IsBegun, IsOfCell, IsElement, Conditions, HasCells, HasItems, AtTags, AtNames, HasAttribute, IsVector, HasMore, HasSeveral, IsSource, Spot, HasPlace, HasTarget, behind_place, behind_test, behind_target, IsPlainly, at_forms, at_form, at_class_declared, at_attributes, at_vector_name, at_vector_names, at_rule_name, at_first_pattern, at_patterns, at_pattern, at_braced, at_element_name, at_closes_brace, at_class_name, at_terms, at_attribute, at_several, at_place, at_tests, at_tested, at_choice, at_atom, at_value, at_function, at_expression_unit, at_last_rest, at_bracketed_rest, at_bracketed, at_source_cell, at_source_attribute, at_source_end, at_actions, at_action_word, at_modified, at_bound_name, at_bound_value, at_cell_name, at_cell, at_cells, at_items, at_item_word, at_columns, at_whole, at_crlf, at_halt, at_count, at_strategy_name, at_tag_or_all, at_tags, at_shown, at_named_rule, at_named_rules, at_level, at_cs, at_exit, Keeps, after_conditions-push, conditions_push, condition_counted, begun_positive, begins_first, begins_behind, number_sighted, cells_more, number_below, below_more}
 use Rattle.ops_meaning.proofs.PlainKept.{command_kept, commands_still, action_kept, element_kept, bind_kept, cell_kept, test_kept, test_bound, choosing, put_kept, fixed_kept, several_begun, several_kept, term_pushed, constant_pushed, right_kept, negated_begun, rule_kept, element_bound}
 
 -- ---- designators
@@ -72,7 +74,7 @@ cell_there s (kind.Whole z) name c g found = numbered_there s (natural_of z) c f
 cell_there s kind.Variable name c g found = named_there s name (number_of name s.elements) c g refl found
 cell_there s _ name c g found = absurd (cc)
 
--- ---- columns and counts
+-- ---- columns, counts and trace levels
 
 -- a number that is taken where it passes does so
 passed_by : (f : ℕ → Bool) (b : Bool) (m n : ℕ) → f m ≡ b → (let o : Option ℕ = cond b (Some m) None in o ≡ Some n) → f n ≡ true
@@ -87,9 +89,36 @@ count_there : (k : TokenKind) (n : ℕ) → count_of k ≡ Some n → is_natural
 count_there (kind.Whole (pos m)) n e = passed_by is_natural (is_natural m) m n refl e
 count_there _ n e = absurd (cc)
 
+level_there : (k : TokenKind) (n : ℕ) → level_of k ≡ Some n → nat_le n 2 ≡ true
+level_there (kind.Whole (pos m)) n e = passed_by (λ i. nat_le i 2) (nat_le m 2) m n refl e
+level_there _ n e = absurd (cc)
+
 column_plain : (classes : List Class) (k : InSight) (c : Column) (n : ℕ) → is_column n ≡ true → item_is_plain classes k (column_item c n) ≡ true
 column_plain classes k ToTab n is = is
 column_plain classes k ToRight n is = is
+
+-- ---- commands
+
+-- with one more tag or name there are enough
+tag_enough : (u : TagUse) (tags : List ℕ) (tag : ℕ) → HasTags u (tags ++ tag ∷ [])
+tag_enough ToRemove tags tag = omega (arith, length-append tags (tag ∷ []))
+tag_enough ToShow tags tag = tt
+
+name_enough : (u : NameUse) (names : List Sym) (name : Sym) → HasNames u (names ++ name ∷ [])
+name_enough ToPrint names name = omega (arith, length-append names (name ∷ []))
+name_enough ToBreak names name = tt
+
+tags_plain : (classes : List Class) (u : TagUse) (tags : List ℕ) → list_all is_natural tags ≡ true → HasTags u tags → command_is_plain classes (tag_command u tags) ≡ true
+tags_plain classes ToRemove tags natural enough = and_from _ _ (lt-ltb _ _ enough) natural
+tags_plain classes ToShow tags natural enough = natural
+
+names_plain : (classes : List Class) (u : NameUse) (names : List Sym) → HasNames u names → command_is_plain classes (name_command u names) ≡ true
+names_plain classes ToPrint names enough = lt-ltb _ _ enough
+names_plain classes ToBreak names enough = refl
+
+constants_plain : (classes : List Class) (shows : Bool) (class : ℕ) (puts : List Fixed) → class < length classes → list_all (fixed_is_valid (class_of classes class)) puts ≡ true → command_is_plain classes (fixed_command shows class puts) ≡ true
+constants_plain classes false class puts lt fields = and_from _ _ (lt-ltb _ _ lt) fields
+constants_plain classes true class puts lt fields = and_from _ _ (lt-ltb _ _ lt) fields
 
 -- ---- values of actions
 
@@ -152,8 +181,16 @@ module _ (w : Word) where
       (λ e. at_vector_name (declaring s g e)) (λ _. tt)
   form_keeps s g keyword.Production = cond_both (may_produce s) _ _ Keeps (λ _. at_rule_name g) (λ _. tt)
   form_keeps s g keyword.Make = at_class_name Bare InFixed (g, refl)
+  form_keeps s g keyword.Remove = at_tag_or_all (g, refl)
   form_keeps s g keyword.Run = at_count g
+  form_keeps s g keyword.Wm = at_tags ToShow (g, refl, tt)
+  form_keeps s g keyword.Ppwm = at_shown g
+  form_keeps s g keyword.Cs = at_cs g
+  form_keeps s g keyword.Pm = at_named_rule g
   form_keeps s g keyword.Strategy = at_strategy_name g
+  form_keeps s g keyword.Watch = at_level g
+  form_keeps s g keyword.Pbreak = at_named_rules ToBreak (g, tt)
+  form_keeps s g keyword.Exit = at_exit g
   form_keeps s g _ = tt
 
   class_declared_keeps : (s : State) → Declaring s → Keeps (class_declared w (Attributes ∷ Forms ∷ []) s)
@@ -206,6 +243,9 @@ module _ (w : Word) where
   class_at_keeps : (b : Braces) (u : Use) (s : State) → Around u s × IsBegun u s → (o : Option ℕ) → position (λ c. c.name.0 == w.name.0) s.classes ≡ o → Keeps (class_at o (Terms u ∷ behind b u) s)
   class_at_keeps b u s g (Some c) e = at_terms b u (element_named u s c g (position-Some (λ c. c.name.0 == w.name.0) s.classes c no_class e).0)
   class_at_keeps b u s g None e = tt
+
+  class_name_keeps : (b : Braces) (u : Use) (s : State) → Around u s × IsBegun u s → Keeps (class_name w (Terms u ∷ behind b u) s)
+  class_name_keeps b u s g = cond_both (is_name w.kind) _ _ Keeps (λ _. class_at_keeps b u s g (position (λ c. c.name.0 == w.name.0) s.classes) refl) (λ _. tt)
 
   attribute_keeps : (b : Braces) (u : Use) (f : ℕ) (s : State) → IsElement u s → HasAttribute s f → IsVector s f false → Keeps (Next (behind_attribute u f ∷ Terms u ∷ behind b u) s)
   attribute_keeps b InPattern f s g a v = at_place b None f (g, or_left _ _ a, tt)
@@ -444,7 +484,7 @@ module _ (w : Word) where
         refl,
       )
   element_keeps b InPut s g = at_actions (g.around.0, element_kept s g)
-  element_keeps b InFixed s g = at_forms (command_kept s (command.Make s.class s.fixed) g.around (and_from _ _ (lt-ltb _ _ g.class) g.fields))
+  element_keeps b InFixed s g = at_forms (command_kept s (fixed_command s.shows s.class s.fixed) g.around (constants_plain s.classes s.shows s.class s.fixed g.class g.fields))
 
   terms_keep : (b : Braces) (u : Use) (s : State) → IsElement u s → Keeps (terms u w (behind b u) s)
   terms_keep b u s g =
@@ -550,20 +590,60 @@ module _ (w : Word) where
 
   -- ---- commands
 
+  -- a command more, and behind it the next form
+  command_keeps : (c : Command) (s : State) → Base s → command_is_plain s.classes c ≡ true → Keeps (Next (Forms ∷ []) (with_command s c))
+  command_keeps c s g plain = at_forms (command_kept s c g plain)
+
+  -- or its bracket
+  whole_command_keeps : (c : Command) (s : State) → Base s → command_is_plain s.classes c ≡ true → Keeps (Next (Closes EndsWhole ∷ Forms ∷ []) (with_command s c))
+  whole_command_keeps c s g plain = at_whole (Forms ∷ []) (at_forms (command_kept s c g plain))
+
   counted_keeps : (s : State) → Base s → (o : Option ℕ) → count_of w.kind ≡ o → Keeps (counted o (Forms ∷ []) s)
-  counted_keeps s g (Some n) e = at_whole (Forms ∷ []) (at_forms (command_kept s (command.Run (Some n)) g (count_there w.kind n e)))
+  counted_keeps s g (Some n) e = whole_command_keeps (command.Run (Some n)) s g (count_there w.kind n e)
   counted_keeps s g None e = tt
 
   count_keeps : (s : State) → Base s → Keeps (count w (Forms ∷ []) s)
-  count_keeps s g = cond_both (is_right w.kind) _ _ Keeps (λ _. at_forms (command_kept s (command.Run None) g refl)) (λ _. counted_keeps s g (count_of w.kind) refl)
+  count_keeps s g = cond_both (is_right w.kind) _ _ Keeps (λ _. command_keeps (command.Run None) s g refl) (λ _. counted_keeps s g (count_of w.kind) refl)
 
   strategy_set_keeps : (s : State) → Base s → (o : Option Strategy) → Keeps (strategy_set o (Forms ∷ []) s)
-  strategy_set_keeps s g (Some set) = at_whole (Forms ∷ []) (at_forms (command_kept s (command.Strategy (Some set)) g refl))
+  strategy_set_keeps s g (Some set) = whole_command_keeps (command.Strategy (Some set)) s g refl
   strategy_set_keeps s g None = tt
 
   strategy_name_keeps : (s : State) → Base s → Keeps (strategy_name w (Forms ∷ []) s)
   strategy_name_keeps s g =
-      cond_both (is_right w.kind) _ _ Keeps (λ _. at_forms (command_kept s (command.Strategy None) g refl)) (λ _. strategy_set_keeps s g (strategy_of w.keyword))
+      cond_both (is_right w.kind) _ _ Keeps (λ _. command_keeps (command.Strategy None) s g refl) (λ _. strategy_set_keeps s g (strategy_of w.keyword))
+
+  level_set_keeps : (s : State) → Base s → (o : Option ℕ) → level_of w.kind ≡ o → Keeps (level_set o (Forms ∷ []) s)
+  level_set_keeps s g (Some n) e = whole_command_keeps (command.Watch (Some n)) s g (level_there w.kind n e)
+  level_set_keeps s g None e = tt
+
+  level_keeps : (s : State) → Base s → Keeps (level w (Forms ∷ []) s)
+  level_keeps s g = cond_both (is_right w.kind) _ _ Keeps (λ _. command_keeps (command.Watch None) s g refl) (λ _. level_set_keeps s g (level_of w.kind) refl)
+
+  tag_keeps : (u : TagUse) (s : State) → Base s → list_all is_natural s.tags ≡ true → (o : Option ℕ) → count_of w.kind ≡ o → Keeps (tag_at o (Tags u ∷ Forms ∷ []) s)
+  tag_keeps u s g natural (Some n) e = at_tags u (g, all_push is_natural s.tags n natural (count_there w.kind n e), tag_enough u s.tags n)
+  tag_keeps u s g natural None e = tt
+
+  tag_or_all_keeps : (s : State) → Base s × (s.tags ≡ []) → Keeps (tag_or_all w (Forms ∷ []) s)
+  tag_or_all_keeps s g =
+      cond_both (is_all w.keyword) _ _ Keeps (λ _. whole_command_keeps command.RemoveAll s g.0 refl)
+      (λ _. tag_keeps ToRemove s g.0 (ap (list_all is_natural) g.1) (count_of w.kind) refl)
+
+  tags_keep : (u : TagUse) (s : State) → AtTags u s → Keeps (tags u w (Forms ∷ []) s)
+  tags_keep u s g =
+      cond_both (is_right w.kind) _ _ Keeps (λ _. at_forms (command_kept s (tag_command u s.tags) g.0 (tags_plain s.classes u s.tags g.1 g.2)))
+      (λ _. tag_keeps u s g.0 g.1 (count_of w.kind) refl)
+
+  shown_keeps : (s : State) → Base s → Keeps (shown w (Forms ∷ []) s)
+  shown_keeps s g =
+      cond_both (is_right w.kind) _ _ Keeps (λ _. command_keeps (command.Ppwm None) s g refl) (λ _. class_name_keeps Bare InFixed (record s { fixed = []; shows = true }) (g, refl))
+
+  named_rule_keeps : (u : NameUse) (s : State) → Base s → Keeps (named_rule w (NamedRules u ∷ Forms ∷ []) s)
+  named_rule_keeps u s g = cond_both (is_name w.kind) _ _ Keeps (λ _. at_named_rules u (g, name_enough u s.named w.name)) (λ _. tt)
+
+  named_rules_keep : (u : NameUse) (s : State) → AtNames u s → Keeps (named_rules u w (Forms ∷ []) s)
+  named_rules_keep u s g =
+      cond_both (is_right w.kind) _ _ Keeps (λ _. at_forms (command_kept s (name_command u s.named) g.0 (names_plain s.classes u s.named g.1))) (λ _. named_rule_keeps u s g.0)
 
   -- ---- a word
 
@@ -590,7 +670,7 @@ module _ (w : Word) where
       (λ _. element_name_keeps (Pattern ∷ ClosesBrace ∷ Patterns ∷ Actions ∷ Forms ∷ []) s (at_pattern NamedBefore g))
   step_keeps s ws (at_element_name g) = element_name_keeps (ClosesBrace ∷ Patterns ∷ Actions ∷ Forms ∷ []) s (at_closes_brace g)
   step_keeps s ws (at_closes_brace g) = cond_both (is_right_brace w.kind) _ _ Keeps (λ _. at_patterns (element_bound s g)) (λ _. tt)
-  step_keeps s ws (at_class_name b u g) = cond_both (is_name w.kind) _ _ Keeps (λ _. class_at_keeps b u s g (position (λ c. c.name.0 == w.name.0) s.classes) refl) (λ _. tt)
+  step_keeps s ws (at_class_name b u g) = class_name_keeps b u s g
   step_keeps s ws (at_terms b u g) = terms_keep b u s g
   step_keeps s ws (at_attribute b u g) =
       cond_both (is_name w.kind) _ _ Keeps (λ _. field_at_keeps b u s g (position (λ a. a.0 == w.name.0) (attributes_of (slice_get s.classes s.class))) refl) (λ _. tt)
@@ -631,3 +711,11 @@ module _ (w : Word) where
   step_keeps s ws (at_halt g) = cond_both (is_right w.kind) _ _ Keeps (λ _. at_actions (g.0, action_kept s action.Halt g.1 refl refl)) (λ _. tt)
   step_keeps s ws (at_count g) = count_keeps s g
   step_keeps s ws (at_strategy_name g) = strategy_name_keeps s g
+  step_keeps s ws (at_tag_or_all g) = tag_or_all_keeps s g
+  step_keeps s ws (at_tags u g) = tags_keep u s g
+  step_keeps s ws (at_shown g) = shown_keeps s g
+  step_keeps s ws (at_named_rule g) = named_rule_keeps ToPrint s g
+  step_keeps s ws (at_named_rules u g) = named_rules_keep u s g
+  step_keeps s ws (at_level g) = level_keeps s g
+  step_keeps s ws (at_cs g) = cond_both (is_right w.kind) _ _ Keeps (λ _. command_keeps command.Cs s g refl) (λ _. tt)
+  step_keeps s ws (at_exit g) = cond_both (is_right w.kind) _ _ Keeps (λ _. command_keeps command.Exit s g refl) (λ _. tt)

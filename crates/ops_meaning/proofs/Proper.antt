@@ -84,7 +84,14 @@ symbol_proper s =
     (either kind.Symbol (bytes_eq s (codes "run")) _ _ refl
     (either kind.Symbol (bytes_eq s (codes "strategy")) _ _ refl
     (either kind.Symbol (bytes_eq s (codes "lex")) _ _ refl
-    (either kind.Symbol (bytes_eq s (codes "mea")) _ _ refl refl)))))))))))))))))))))))))
+    (either kind.Symbol (bytes_eq s (codes "mea")) _ _ refl
+    (either kind.Symbol (bytes_eq s (codes "wm")) _ _ refl
+    (either kind.Symbol (bytes_eq s (codes "ppwm")) _ _ refl
+    (either kind.Symbol (bytes_eq s (codes "cs")) _ _ refl
+    (either kind.Symbol (bytes_eq s (codes "pm")) _ _ refl
+    (either kind.Symbol (bytes_eq s (codes "watch")) _ _ refl
+    (either kind.Symbol (bytes_eq s (codes "pbreak")) _ _ refl
+    (either kind.Symbol (bytes_eq s (codes "exit")) _ _ refl refl))))))))))))))))))))))))))))))))
 
 -- a plain symbol has no keyword of operators
 pub symbol_unmarked : (s : List ℕ) → is_mark (keyword_of_symbol s) ≡ false

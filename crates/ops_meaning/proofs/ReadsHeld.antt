@@ -41,7 +41,7 @@ use Rattle.ops_meaning.specs.declared.words.Word.{Word}
 use Rattle.ops_meaning.specs.declared.words.Keyword.{Keyword}
 use Rattle.ops_meaning.specs.declared.words.Keyword.TheVariants as keyword
 use Rattle.ops_meaning.specs.Words.{lexed, has_name, names_with, word_of, words_from, names_from}
-use Rattle.ops_meaning.specs.Grammar.{Use, Target, Ends, Column, Waiting, Wanted, State, Step, is_left, is_right, is_left_brace, is_right_brace, is_caret, is_name, is_variable, is_arrow, is_literal, is_minus, opens_choice, closes_choice, pred_of, constant_of, atom_of, value_of, small_of, is_one_of, number_of, may_declare, may_produce, is_class, is_rule, form, class_declared, arranged, has_vector, with_class, is_second, attribute_declared, attributes, with_vector_last, with_vector, makes_second, vector_declared, vector_name, vector_names, class_at, class_name, attributes_of, field_at, attribute, with_test, with_put, with_fixed, with_item, with_bind, with_constant, with_bound, variable_tested, constant_tested, tested, predicated, test, place, tests, with_choice, chosen, choice, atom_at, term_at, bound_at, constant_at, is_of_action, value_for, most_brackets, no_formula, with_formula, completed, unit_bound, unit_at, expression_unit, bracketed, is_compute, operation_of, operation_at, expression_ended, expression_rest, function, source_named, source_cell, source_class, source_at, source_attribute, takes_several, ends_at_inf, source_end, with_action, with_command, with_condition, put_action, with_element, terms, within, one_of_several, with_several, several, rule_name, first_pattern, one_more, more_patterns, patterns, pattern, element_at, element_name, braced, closes_brace, classes_of_cells, with_rule, actions, action_word, cell_of, with_designated, with_modified, bound_name, bound_value, cell_bound, cell_name, cells, items, item_word, column_item, columns_at, ended, closes, count_of, counted, count, strategy_of, strategy_set, strategy_name, forms, step, Outcome, ends, after, goes, nothing_read, InPattern, InPut, InFixed, ToTest, ToPut, ToFixed, ToTerms, ToConstants, ToItem, ToBind, EndsHalt, EndsCrlf, EndsWhole, ToTab, ToRight, Forms, Form, ClassDeclared, Attributes, VectorName, VectorNames, RuleName, FirstPattern, Patterns, Pattern, Braced, ElementName, ClosesBrace, ClassName, Terms, Attribute, Several, Place, Tests, Tested, Choice, Atom, ValueFor, Function, ExpressionUnit, ExpressionRest, Bracketed, SourceCell, SourceAttribute, SourceEnd, Actions, ActionWord, Modified, BoundName, BoundValue, CellName, Cell, Cells, Items, ItemWord, Columns, Count, StrategyName, Closes, Next, Refuses}
+use Rattle.ops_meaning.specs.Grammar.{Use, Target, Ends, Column, TagUse, NameUse, Waiting, Wanted, State, Step, is_left, is_right, is_left_brace, is_right_brace, is_caret, is_name, is_variable, is_arrow, is_literal, is_minus, opens_choice, closes_choice, pred_of, constant_of, atom_of, value_of, small_of, is_one_of, number_of, may_declare, may_produce, is_class, is_rule, form, class_declared, arranged, has_vector, with_class, is_second, attribute_declared, attributes, with_vector_last, with_vector, makes_second, vector_declared, vector_name, vector_names, class_at, class_name, attributes_of, field_at, attribute, with_test, with_put, with_fixed, with_item, with_bind, with_constant, with_bound, variable_tested, constant_tested, tested, predicated, test, place, tests, with_choice, chosen, choice, atom_at, term_at, bound_at, constant_at, is_of_action, value_for, most_brackets, no_formula, with_formula, completed, unit_bound, unit_at, expression_unit, bracketed, is_compute, operation_of, operation_at, expression_ended, expression_rest, function, source_named, source_cell, source_class, source_at, source_attribute, takes_several, ends_at_inf, source_end, with_action, with_command, with_condition, put_action, fixed_command, with_element, terms, within, one_of_several, with_several, several, rule_name, first_pattern, one_more, more_patterns, patterns, pattern, element_at, element_name, braced, closes_brace, classes_of_cells, with_rule, actions, action_word, cell_of, with_designated, with_modified, bound_name, bound_value, cell_bound, cell_name, cells, items, item_word, column_item, columns_at, ended, closes, count_of, counted, count, strategy_of, strategy_set, strategy_name, tag_at, is_all, tag_or_all, tag_command, tags, shown, named_rule, name_command, named_rules, level_of, level_set, level, forms, step, Outcome, ends, after, goes, nothing_read, InPattern, InPut, InFixed, ToTest, ToPut, ToFixed, ToTerms, ToConstants, ToItem, ToBind, EndsHalt, EndsCrlf, EndsCs, EndsExit, EndsWhole, ToTab, ToRight, ToRemove, ToShow, ToPrint, ToBreak, Forms, Form, ClassDeclared, Attributes, VectorName, VectorNames, RuleName, FirstPattern, Patterns, Pattern, Braced, ElementName, ClosesBrace, ClassName, Terms, Attribute, Several, Place, Tests, Tested, Choice, Atom, ValueFor, Function, ExpressionUnit, ExpressionRest, Bracketed, SourceCell, SourceAttribute, SourceEnd, Actions, ActionWord, Modified, BoundName, BoundValue, CellName, Cell, Cells, Items, ItemWord, Columns, Count, StrategyName, TagOrAll, Tags, Shown, NamedRule, NamedRules, Level, Closes, Next, Refuses}
 use Rattle.ops_meaning.specs.Reads.{Read, Placed, verdict, read_lexed, reads}
 use Rattle.ops_meaning.specs.Symbols.{symbol_held, value_held, class_held, operand_held, condition_held, term_held, put_held, item_held, action_held, rule_held, fixed_held, command_held, is_held}
 use Rattle.ops_meaning.proofs.Lists.{all_push}
@@ -79,6 +79,7 @@ pub record AreHeld (n : ℕ) (s : State) : Type 0 where
   pub items : list_all (item_held n) s.items ≡ true
   pub conditions : list_all (condition_held n) s.conditions ≡ true
   pub actions : list_all (action_held n) s.actions ≡ true
+  pub named : list_all (symbol_held n) s.named ≡ true
 
 -- a step that goes on leaves them held
 abbrev Keeps : ℕ → Step → Type 0
@@ -159,11 +160,16 @@ module _ (n : ℕ) where
   put_action_held None class puts h = h
   put_action_held (Some cell) class puts h = h
 
+  fixed_command_held : (shows : Bool) (class : ℕ) (puts : List Fixed) → list_all (fixed_held n) puts ≡ true → command_held n (fixed_command shows class puts) ≡ true
+  fixed_command_held false class puts h = h
+  fixed_command_held true class puts h = h
+
   element_kept : (u : Use) (s : State) → AreHeld n s → AreHeld n (with_element u s)
   element_kept InPattern s h = condition_kept s h
   element_kept InPut s h =
       let more = action_kept s (put_action s.modified s.class s.puts) h (put_action_held s.modified s.class s.puts h.puts) in assumption (refl, more)
-  element_kept InFixed s h = let more = command_kept s (command.Make s.class s.fixed) h h.fixed in assumption (refl, more)
+  element_kept InFixed s h =
+      let more = command_kept s (fixed_command s.shows s.class s.fixed) h (fixed_command_held s.shows s.class s.fixed h.fixed) in assumption (refl, more)
 
   several_kept : (u : Use) (f : ℕ) (s : State) → AreHeld n s → AreHeld n (with_several u f s)
   several_kept InPattern f s h = h
@@ -214,8 +220,16 @@ module _ (n : ℕ) (w : Word) (named : symbol_held n w.name ≡ true) where
   form_keeps keyword.VectorAttribute ws s h = cond_both (may_declare s) _ _ (Keeps n) (λ _. h) (λ _. tt)
   form_keeps keyword.Production ws s h = cond_both (may_produce s) _ _ (Keeps n) (λ _. h) (λ _. tt)
   form_keeps keyword.Make ws s h = assumption (refl, h)
+  form_keeps keyword.Remove ws s h = assumption h
   form_keeps keyword.Run ws s h = h
+  form_keeps keyword.Wm ws s h = assumption h
+  form_keeps keyword.Ppwm ws s h = h
+  form_keeps keyword.Cs ws s h = h
+  form_keeps keyword.Pm ws s h = assumption (refl, h)
   form_keeps keyword.Strategy ws s h = h
+  form_keeps keyword.Watch ws s h = h
+  form_keeps keyword.Pbreak ws s h = assumption (refl, h)
+  form_keeps keyword.Exit ws s h = h
   form_keeps _ ws s h = tt
 
   class_declared_keeps : (ws : List Wanted) (s : State) → AreHeld n s → Keeps n (class_declared w ws s)
@@ -535,6 +549,8 @@ module _ (n : ℕ) (w : Word) (named : symbol_held n w.name ≡ true) where
   ended_kept : (e : Ends) (s : State) → AreHeld n s → AreHeld n (ended e s)
   ended_kept EndsHalt s h = action_kept n s action.Halt h refl
   ended_kept EndsCrlf s h = item_kept n s item.Crlf h refl
+  ended_kept EndsCs s h = command_kept n s command.Cs h refl
+  ended_kept EndsExit s h = command_kept n s command.Exit h refl
   ended_kept EndsWhole s h = h
 
   closes_keeps : (e : Ends) (ws : List Wanted) (s : State) → AreHeld n s → Keeps n (closes e w ws s)
@@ -558,6 +574,48 @@ module _ (n : ℕ) (w : Word) (named : symbol_held n w.name ≡ true) where
   strategy_name_keeps ws s h =
       cond_both (is_right w.kind) _ _ (Keeps n) (λ _. command_kept n s (command.Strategy None) h refl)
       (λ _. strategy_set_keeps (strategy_of w.keyword) ws s h)
+
+  tag_keeps : (o : Option ℕ) (ws : List Wanted) (s : State) → AreHeld n s → Keeps n (tag_at o ws s)
+  tag_keeps (Some m) ws s h = assumption h
+  tag_keeps None ws s h = tt
+
+  tag_or_all_keeps : (ws : List Wanted) (s : State) → AreHeld n s → Keeps n (tag_or_all w ws s)
+  tag_or_all_keeps ws s h =
+      cond_both (is_all w.keyword) _ _ (Keeps n) (λ _. command_kept n s command.RemoveAll h refl) (λ _. tag_keeps (count_of w.kind) (Tags ToRemove ∷ ws) s h)
+
+  tag_command_held : (u : TagUse) (tags : List ℕ) → command_held n (tag_command u tags) ≡ true
+  tag_command_held ToRemove tags = refl
+  tag_command_held ToShow tags = refl
+
+  tags_keeps : (u : TagUse) (ws : List Wanted) (s : State) → AreHeld n s → Keeps n (tags u w ws s)
+  tags_keeps u ws s h =
+      let more = command_kept n s (tag_command u s.tags) h (tag_command_held u s.tags) in
+      cond_both (is_right w.kind) _ _ (Keeps n) (λ _. assumption more) (λ _. tag_keeps (count_of w.kind) (Tags u ∷ ws) s h)
+
+  shown_keeps : (ws : List Wanted) (s : State) → AreHeld n s → Keeps n (shown w ws s)
+  shown_keeps ws s h =
+      cond_both (is_right w.kind) _ _ (Keeps n) (λ _. command_kept n s (command.Ppwm None) h refl)
+      (λ _. class_name_keeps (Terms InFixed ∷ ws) (record s { fixed = []; shows = true }) (assumption (refl, h)))
+
+  named_rule_keeps : (ws : List Wanted) (s : State) → AreHeld n s → Keeps n (named_rule w ws s)
+  named_rule_keeps ws s h = cond_both (is_name w.kind) _ _ (Keeps n) (λ _. assumption (all_push (symbol_held n) s.named w.name h.named named)) (λ _. tt)
+
+  name_command_held : (u : NameUse) (names : List Sym) → list_all (symbol_held n) names ≡ true → command_held n (name_command u names) ≡ true
+  name_command_held ToPrint names h = h
+  name_command_held ToBreak names h = h
+
+  named_rules_keeps : (u : NameUse) (ws : List Wanted) (s : State) → AreHeld n s → Keeps n (named_rules u w ws s)
+  named_rules_keeps u ws s h =
+      let more = command_kept n s (name_command u s.named) h (name_command_held u s.named h.named) in
+      cond_both (is_right w.kind) _ _ (Keeps n) (λ _. assumption (refl, more)) (λ _. named_rule_keeps (NamedRules u ∷ ws) s h)
+
+  level_set_keeps : (o : Option ℕ) (ws : List Wanted) (s : State) → AreHeld n s → Keeps n (level_set o ws s)
+  level_set_keeps (Some m) ws s h = command_kept n s (command.Watch (Some m)) h refl
+  level_set_keeps None ws s h = tt
+
+  level_keeps : (ws : List Wanted) (s : State) → AreHeld n s → Keeps n (level w ws s)
+  level_keeps ws s h =
+      cond_both (is_right w.kind) _ _ (Keeps n) (λ _. command_kept n s (command.Watch None) h refl) (λ _. level_set_keeps (level_of w.kind) ws s h)
 
   -- ---- a word
 
@@ -607,6 +665,12 @@ module _ (n : ℕ) (w : Word) (named : symbol_held n w.name ≡ true) where
   step_keeps (Columns c ∷ ws) s h = columns_keeps c (small_of w.kind) ws s h
   step_keeps (Count ∷ ws) s h = count_keeps ws s h
   step_keeps (StrategyName ∷ ws) s h = strategy_name_keeps ws s h
+  step_keeps (TagOrAll ∷ ws) s h = tag_or_all_keeps ws s h
+  step_keeps (Tags u ∷ ws) s h = tags_keeps u ws s h
+  step_keeps (Shown ∷ ws) s h = shown_keeps ws s h
+  step_keeps (NamedRule ∷ ws) s h = named_rule_keeps ws s h
+  step_keeps (NamedRules u ∷ ws) s h = named_rules_keeps u ws s h
+  step_keeps (Level ∷ ws) s h = level_keeps ws s h
   step_keeps (Closes e ∷ ws) s h = closes_keeps e ws s h
 
 -- ---- names only grow

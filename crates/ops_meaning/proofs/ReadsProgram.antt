@@ -10,7 +10,7 @@ use Rattle.ops_base.specs.declared.conditions.Condition.{Condition}
 use Rattle.ops_base.specs.declared.rules.Rule.{Rule}
 use Rattle.ops_base.specs.declared.commands.Command.{Command}
 use Rattle.ops_base.specs.declared.commands.Command.TheVariants as command
-use Rattle.ops_base.specs.Valid.{most_conditions, are_distinct, class_of, class_is_valid, first_is_positive, cells_of, specificity, fixed_is_valid}
+use Rattle.ops_base.specs.Valid.{most_conditions, are_distinct, class_of, class_is_valid, first_is_positive, is_natural, cells_of, specificity, fixed_is_valid}
 use Rattle.ops_meaning.specs.declared.words.Word.{Word}
 use Rattle.ops_meaning.specs.declared.words.Named.{Named}
 use Rattle.ops_meaning.specs.declared.words.Keyword.TheVariants as keyword
@@ -21,7 +21,7 @@ use Rattle.ops_meaning.proofs.Lists.{all_weaker}
 use Rattle.ops_meaning.proofs.Places.{numbered}
 use Rattle.ops_meaning.proofs.Numbering.{after_condition-given, below}
 use Rattle.ops_meaning.proofs.ReadsBack.{apart_before, vector-read, IsUnder, class-read}
-use Rattle.ops_meaning.proofs.ReadsFacts.{AreNamed, fact-read, run-read, run_so_often-read, strategy-read}
+use Rattle.ops_meaning.proofs.ReadsFacts.{AreNamed, fact-read, shown-read, all_shown-read, remove-read, remove_all-read, wm-read, pm-read, pbreak-read, run-read, run_so_often-read, strategy-read, watch-read, watch_at-read, cs-read, exit-read}
 use Rattle.ops_meaning.proofs.ReadsRight.{Trail, acted, actions-read}
 use Rattle.ops_meaning.proofs.ReadsRules.{Left, left_after, left_behind, matched, cells_behind, first-read, conditions-read}
 
@@ -34,6 +34,7 @@ pub record Rest : Type 0 where
   pub values : List Named
   pub elements : List Named
   pub variables : ℕ
+  pub shows : Bool
 
 -- where no form is open
 abbrev pub idle : Rest → List Class → List Rule → List Command → State
@@ -70,6 +71,9 @@ idle rest classes rules commands =
       source = 0;
       source_field = 0;
       formula = no_formula;
+      shows = rest.shows;
+      tags = [];
+      named = [];
     }
 
 -- ---- a production
@@ -93,6 +97,7 @@ after_rule rest r =
       values = numbered to.variables.sight;
       elements = numbered (below (length to.cells));
       variables = to.variables.given;
+      shows = rest.shows;
     }
 
 rule_begun : (r : Rule) (words : List Word) (ws : List Wanted) (s : State) → may_produce s ≡ true → is_rule s r.name ≡ false
@@ -277,11 +282,25 @@ command_read : (classes : List Class) (rules : List Rule) (c : Command) (done : 
     → Reads (spelled_command classes c) rest classes rules done classes rules (done ++ c ∷ [])
 command_read classes rules (command.Make class puts) done rest names plain =
     let parts = and_parts (nat_lt class (length classes)) (list_all (fixed_is_valid (class_of classes class)) puts) plain in
-    (record rest { first = 0; class = class }, λ more. fact-read class puts more [] (idle rest classes rules done) names (ltb-true _ _ parts.0) parts.1)
+    (record rest { first = 0; class = class; shows = false }, λ more. fact-read class puts more [] (idle rest classes rules done) names (ltb-true _ _ parts.0) parts.1)
+command_read classes rules (command.Remove tags) done rest names plain =
+    let parts = and_parts (nat_lt 0 (length tags)) (list_all is_natural tags) plain in
+    (record rest { first = 0 }, λ more. remove-read tags more [] (idle rest classes rules done) parts.0 parts.1)
+command_read classes rules command.RemoveAll done rest names plain = (record rest { first = 0 }, λ more. remove_all-read more [] (idle rest classes rules done))
 command_read classes rules (command.Run None) done rest names plain = (record rest { first = 0 }, λ more. run-read more [] (idle rest classes rules done))
 command_read classes rules (command.Run (Some n)) done rest names plain = (record rest { first = 0 }, λ more. run_so_often-read n more [] (idle rest classes rules done) plain)
+command_read classes rules (command.Wm tags) done rest names plain = (record rest { first = 0 }, λ more. wm-read tags more [] (idle rest classes rules done) plain)
+command_read classes rules (command.Ppwm None) done rest names plain = (record rest { first = 0 }, λ more. all_shown-read classes more [] (idle rest classes rules done))
+command_read classes rules (command.Ppwm (Some p)) done rest names plain =
+    let parts = and_parts (nat_lt p.0 (length classes)) (list_all (fixed_is_valid (class_of classes p.0)) p.1) plain in
+    (record rest { first = 0; class = p.0; shows = true }, λ more. shown-read p.0 p.1 more [] (idle rest classes rules done) names (ltb-true _ _ parts.0) parts.1)
+command_read classes rules command.Cs done rest names plain = (record rest { first = 0 }, λ more. cs-read more [] (idle rest classes rules done))
+command_read classes rules (command.Pm ns) done rest names plain = (record rest { first = 0 }, λ more. pm-read ns more [] (idle rest classes rules done) plain)
 command_read classes rules (command.Strategy set) done rest names plain = (record rest { first = 0 }, λ more. strategy-read set more [] (idle rest classes rules done))
-command_read classes rules _ done rest names plain = absurd (true≢false (sym plain))
+command_read classes rules (command.Watch None) done rest names plain = (record rest { first = 0 }, λ more. watch-read more [] (idle rest classes rules done))
+command_read classes rules (command.Watch (Some n)) done rest names plain = (record rest { first = 0 }, λ more. watch_at-read n more [] (idle rest classes rules done) plain)
+command_read classes rules (command.Pbreak ns) done rest names plain = (record rest { first = 0 }, λ more. pbreak-read ns more [] (idle rest classes rules done))
+command_read classes rules command.Exit done rest names plain = (record rest { first = 0 }, λ more. exit-read more [] (idle rest classes rules done))
 
 commands_read : (classes : List Class) (rules : List Rule) (cs done : List Command) (rest : Rest) → AreNamed classes → list_all (command_is_plain classes) cs ≡ true
     → Reads (spelled_each (spelled_command classes) cs) rest classes rules done classes rules (done ++ cs)
@@ -308,7 +327,7 @@ at_end s = refl
 
 -- before the first form
 abbrev nothing_left : Rest
-nothing_left = record { name = record { 0 = 0 }; first = 0; vectors = []; class = 0; values = []; elements = []; variables = 0 }
+nothing_left = record { name = record { 0 = 0 }; first = 0; vectors = []; class = 0; values = []; elements = []; variables = 0; shows = false }
 
 -- Each program that has a spelling is what its spelling is read as.
 pub program-read : (classes : List Class) (rules : List Rule) (commands : List Command) → is_plain classes rules commands ≡ true → AreRead (spelled_program classes rules commands) classes rules commands

@@ -20,9 +20,9 @@ use Rattle.ops_tokens.specs.declared.token.TokenKind.TheVariants as kind
 use Rattle.ops_meaning.specs.declared.words.Word.{Word}
 use Rattle.ops_meaning.specs.declared.words.Keyword.{Keyword}
 use Rattle.ops_meaning.specs.declared.words.Keyword.TheVariants as keyword
-use Rattle.ops_meaning.specs.Grammar.{Use, InPattern, InPut, InFixed, Target, ToTest, ToPut, ToFixed, ToTerms, ToConstants, ToItem, ToBind, EndsWhole, Column, Wanted, Forms, Form, ClassDeclared, Attributes, VectorName, VectorNames, RuleName, FirstPattern, Patterns, Pattern, Braced, ElementName, ClosesBrace, ClassName, Terms, Attribute, Several, Place, Tests, Tested, Choice, Atom, ValueFor, Function, Waiting, ExpressionUnit, ExpressionRest, Bracketed, SourceCell, SourceAttribute, SourceEnd, Actions, ActionWord, Modified, BoundName, BoundValue, CellName, Cell, Cells, Items, ItemWord, Columns, Count, StrategyName, Closes, State, Step, Next, Refuses, is_left, is_right, is_left_brace, is_right_brace, is_caret, is_name, is_variable, is_arrow, is_literal, is_minus, opens_choice, closes_choice, pred_of, constant_of, value_of, atom_of, natural_of, small_of, is_one_of, number_of, may_declare, may_produce, is_class, is_rule, is_second, makes_second, vector_name, form, class_at, attributes_of, field_at, variable_tested, constant_tested, tested, predicated, test, place, chosen, atom_at, term_at, bound_at, constant_at, is_of_action, value_for, most_brackets, no_formula, with_formula, unit_bound, unit_at, expression_unit, bracketed, completed, is_compute, operation_of, operation_at, expression_ended, expression_rest, function, source_named, source_class, source_at, takes_several, ends_at_inf, source_end, within, one_of_several, several, element_at, element_name, action_word, designated, numbered_cell, named_cell, cell_of, with_designated, with_modified, cell_bound, item_word, columns_at, counted, count_of, count, strategy_set, strategy_of, strategy_name, step}
+use Rattle.ops_meaning.specs.Grammar.{Use, InPattern, InPut, InFixed, Target, ToTest, ToPut, ToFixed, ToTerms, ToConstants, ToItem, ToBind, EndsWhole, TagUse, ToRemove, NameUse, Column, Wanted, Forms, Form, ClassDeclared, Attributes, VectorName, VectorNames, RuleName, FirstPattern, Patterns, Pattern, Braced, ElementName, ClosesBrace, ClassName, Terms, Attribute, Several, Place, Tests, Tested, Choice, Atom, ValueFor, Function, Waiting, ExpressionUnit, ExpressionRest, Bracketed, SourceCell, SourceAttribute, SourceEnd, Actions, ActionWord, Modified, BoundName, BoundValue, CellName, Cell, Cells, Items, ItemWord, Columns, Count, StrategyName, TagOrAll, Tags, Shown, NamedRule, NamedRules, Level, Closes, State, Step, Next, Refuses, is_left, is_right, is_left_brace, is_right_brace, is_caret, is_name, is_variable, is_arrow, is_literal, is_minus, opens_choice, closes_choice, pred_of, constant_of, value_of, atom_of, natural_of, small_of, is_one_of, number_of, may_declare, may_produce, is_class, is_rule, is_second, makes_second, vector_name, form, class_at, attributes_of, field_at, variable_tested, constant_tested, tested, predicated, test, place, chosen, atom_at, term_at, bound_at, constant_at, is_of_action, value_for, most_brackets, no_formula, with_formula, unit_bound, unit_at, expression_unit, bracketed, completed, is_compute, operation_of, operation_at, expression_ended, expression_rest, function, source_named, source_class, source_at, takes_several, ends_at_inf, source_end, within, one_of_several, several, element_at, element_name, action_word, designated, numbered_cell, named_cell, cell_of, with_designated, with_modified, cell_bound, item_word, columns_at, counted, count_of, count, strategy_set, strategy_of, strategy_name, tag_at, is_all, tag_or_all, tags, shown, named_rule, named_rules, level_of, level_set, level, step}
 use Rattle.ops_meaning.specs.Derivation.{is_designator}
-use Rattle.ops_meaning.specs.Reasons.{no_form_fault, is_declaration, gives_second, is_full, nests_deepest, wants_bound, is_bound, is_positive, is_condition, designates, is_unclear, designates_unclearly, wants_cell, is_bad_designator, Because}
+use Rattle.ops_meaning.specs.Reasons.{no_form_fault, is_declaration, wants_class, gives_second, is_full, nests_deepest, wants_bound, is_bound, is_positive, is_condition, designates, is_unclear, designates_unclearly, wants_cell, is_bad_designator, Because}
 use Rattle.ops_meaning.proofs.Arranged.{AreArranged, functions_fit}
 
 abbrev pub HasReason : List Wanted → Word → State → Step → Type 0
@@ -60,13 +60,21 @@ module _ (w : Word) (ws : List Wanted) (s : State) where
   form_reason keyword.VectorAttribute e = cond_both (may_declare s) _ _ (At (Form ∷ ws)) (λ _. tt) (λ late. (refl, ap is_declaration e, late))
   form_reason keyword.Production e = cond_both (may_produce s) _ _ (At (Form ∷ ws)) (λ _. tt) (λ late. (refl, e, late))
   form_reason keyword.Make e = tt
+  form_reason keyword.Remove e = tt
   form_reason keyword.Run e = tt
+  form_reason keyword.Wm e = tt
+  form_reason keyword.Ppwm e = tt
+  form_reason keyword.Cs e = tt
+  form_reason keyword.Pm e = tt
   form_reason keyword.Strategy e = tt
+  form_reason keyword.Watch e = tt
+  form_reason keyword.Pbreak e = tt
+  form_reason keyword.Exit e = tt
   form_reason _ e = refl
 
-  class_at_reason : is_name w.kind ≡ true → (o : Option ℕ) → position (λ c. c.name.0 == w.name.0) s.classes ≡ o → At (ClassName ∷ ws) (class_at o ws s)
-  class_at_reason is (Some c) e = tt
-  class_at_reason is None e = (refl, is, position_none (λ c. c.name.0 == w.name.0) s.classes e)
+  class_at_reason : (here behind : List Wanted) (s' : State) → wants_class here ≡ true → is_name w.kind ≡ true → (o : Option ℕ) → position (λ c. c.name.0 == w.name.0) s.classes ≡ o → At here (class_at o behind s')
+  class_at_reason here behind s' wants is (Some c) e = tt
+  class_at_reason here behind s' wants is None e = (wants, is, position_none (λ c. c.name.0 == w.name.0) s.classes e)
 
   field_at_reason : (u : Use) → is_name w.kind ≡ true → (o : Option ℕ) → position (λ a. a.0 == w.name.0) (attributes_of (slice_get s.classes s.class)) ≡ o → At (Attribute u ∷ ws) (field_at u o ws s)
   field_at_reason u is (Some f) e = cond_both (is_vector (class_of s.classes s.class) f) _ _ (At (Attribute u ∷ ws)) (λ _. tt) (λ _. tt)
@@ -322,6 +330,44 @@ module _ (w : Word) (ws : List Wanted) (s : State) where
   strategy_name_reason : At (StrategyName ∷ ws) (strategy_name w ws s)
   strategy_name_reason = cond_both (is_right w.kind) _ _ (At (StrategyName ∷ ws)) (λ _. tt) (λ _. strategy_reason (strategy_of w.keyword))
 
+  -- tags
+  tag_at_reason : (here behind : List Wanted) → no_form_fault here ≡ fault.BadForm → (o : Option ℕ) → At here (tag_at o behind s)
+  tag_at_reason here behind bad (Some n) = tt
+  tag_at_reason here behind bad None = bad
+
+  tag_or_all_reason : At (TagOrAll ∷ ws) (tag_or_all w ws s)
+  tag_or_all_reason =
+      cond_both (is_all w.keyword) _ _ (At (TagOrAll ∷ ws)) (λ _. tt)
+      (λ _. tag_at_reason (TagOrAll ∷ ws) (Tags ToRemove ∷ ws) refl (count_of w.kind))
+
+  tags_reason : (u : TagUse) → At (Tags u ∷ ws) (tags u w ws s)
+  tags_reason u =
+      cond_both (is_right w.kind) _ _ (At (Tags u ∷ ws)) (λ _. tt) (λ _. tag_at_reason (Tags u ∷ ws) (Tags u ∷ ws) refl (count_of w.kind))
+
+  -- a class whose elements are shown
+  shown_reason : At (Shown ∷ ws) (shown w ws s)
+  shown_reason =
+      cond_both (is_right w.kind) _ _ (At (Shown ∷ ws)) (λ _. tt)
+      (λ _. cond_both (is_name w.kind) _ _ (At (Shown ∷ ws))
+      (λ is. class_at_reason (Shown ∷ ws) (Terms InFixed ∷ ws) (record s { fixed = []; shows = true }) refl is (position (λ c. c.name.0 == w.name.0) s.classes) refl)
+      (λ _. refl))
+
+  -- names of productions
+  named_rule_reason : (here behind : List Wanted) → no_form_fault here ≡ fault.BadForm → At here (named_rule w behind s)
+  named_rule_reason here behind bad = cond_both (is_name w.kind) _ _ (At here) (λ _. tt) (λ _. bad)
+
+  named_rules_reason : (u : NameUse) → At (NamedRules u ∷ ws) (named_rules u w ws s)
+  named_rules_reason u =
+      cond_both (is_right w.kind) _ _ (At (NamedRules u ∷ ws)) (λ _. tt) (λ _. named_rule_reason (NamedRules u ∷ ws) (NamedRules u ∷ ws) refl)
+
+  -- a trace level
+  level_set_reason : (o : Option ℕ) → At (Level ∷ ws) (level_set o ws s)
+  level_set_reason (Some n) = tt
+  level_set_reason None = refl
+
+  level_reason : At (Level ∷ ws) (level w ws s)
+  level_reason = cond_both (is_right w.kind) _ _ (At (Level ∷ ws)) (λ _. tt) (λ _. level_set_reason (level_of w.kind))
+
 step_reason : (w : Word) (ws : List Wanted) (s : State) → AreArranged ws s → HasReason ws w s (step w ws s)
 unfolding step
 step_reason w [] s arranged = refl
@@ -361,7 +407,7 @@ step_reason w (Braced ∷ ws) s arranged =
 step_reason w (ElementName ∷ ws) s arranged = element_name_reason w ws s (ElementName ∷ ws) ws refl (λ is again. and_from _ _ is again)
 step_reason w (ClosesBrace ∷ ws) s arranged = cond_both (is_right_brace w.kind) _ _ (HasReason (ClosesBrace ∷ ws) w s) (λ _. tt) (λ _. refl)
 step_reason w (ClassName ∷ ws) s arranged =
-    cond_both (is_name w.kind) _ _ (HasReason (ClassName ∷ ws) w s) (λ is. class_at_reason w ws s is (position (λ c. c.name.0 == w.name.0) s.classes) refl) (λ _. refl)
+    cond_both (is_name w.kind) _ _ (HasReason (ClassName ∷ ws) w s) (λ is. class_at_reason w ws s (ClassName ∷ ws) ws s refl is (position (λ c. c.name.0 == w.name.0) s.classes) refl) (λ _. refl)
 step_reason w (Terms u ∷ ws) s arranged =
     cond_both (is_right w.kind) _ _ (HasReason (Terms u ∷ ws) w s) (λ _. tt) (λ _. cond_both (is_caret w.kind) _ _ (HasReason (Terms u ∷ ws) w s) (λ _. tt) (λ _. refl))
 step_reason w (Attribute u ∷ ws) s arranged =
@@ -407,6 +453,12 @@ step_reason w (ItemWord ∷ ws) s arranged = item_word_reason w ws s w.keyword
 step_reason w (Columns c ∷ ws) s arranged = columns_reason w ws s c (small_of w.kind)
 step_reason w (Count ∷ ws) s arranged = count_reason w ws s
 step_reason w (StrategyName ∷ ws) s arranged = strategy_name_reason w ws s
+step_reason w (TagOrAll ∷ ws) s arranged = tag_or_all_reason w ws s
+step_reason w (Tags u ∷ ws) s arranged = tags_reason w ws s u
+step_reason w (Shown ∷ ws) s arranged = shown_reason w ws s
+step_reason w (NamedRule ∷ ws) s arranged = named_rule_reason w ws s (NamedRule ∷ ws) ws refl
+step_reason w (NamedRules u ∷ ws) s arranged = named_rules_reason w ws s u
+step_reason w (Level ∷ ws) s arranged = level_reason w ws s
 step_reason w (Closes e ∷ ws) s arranged = cond_both (is_right w.kind) _ _ (HasReason (Closes e ∷ ws) w s) (λ _. tt) (λ _. refl)
 
 -- A word is refused for the reason that the fault names.

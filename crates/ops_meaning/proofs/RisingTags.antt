@@ -1,34 +1,31 @@
 -- A right side acts lawfully, and working memory holds its elements in the order of their tags through a whole session: so each
 -- conflict set that the session looks at is the set of all instantiations. And what else a session keeps, and the ends that it comes to.
-use Rattle.std.proofs.Common.{◌≡◌, ℕ, zero, suc, ◌+◌, ◌-◌, ◌≤◌, List, [], ◌∷◌, Bool, true, false, Option, Some, None, Result, Ok, Err, IfOk, MatchResult, refl, ap, sym, ◌∙◌, arith}
+use Rattle.std.proofs.Common.{◌≡◌, ℕ, zero, suc, ◌+◌, ◌-◌, ◌≤◌, List, [], ◌∷◌, map, length, Bool, true, cond, Option, Some, None, Result, Ok, Err, IfOk, MatchResult, refl, ap, sym, ◌∙◌, arith}
+use Rattle.std.proofs.lemmas.Bool.{cond_both}
 use Rattle.std.proofs.lemmas.List.Elements.{All-nil}
 use Rattle.ops_base.specs.declared.commands.Command.{Command}
 use Rattle.ops_base.specs.declared.commands.Command.TheVariants as command
-use Rattle.ops_base.specs.declared.commands.Fixed.{Fixed}
 use Rattle.ops_base.specs.declared.elements.Change.{Change}
 use Rattle.ops_base.specs.declared.elements.Change.TheVariants as change
-use Rattle.ops_base.specs.declared.elements.Class.{Class}
 use Rattle.ops_base.specs.declared.elements.Element.{Element}
 use Rattle.ops_base.specs.declared.endings.Ending.{Ending}
 use Rattle.ops_base.specs.declared.endings.Ending.TheVariants as ending
 use Rattle.ops_base.specs.declared.rules.Inst.{Inst}
-use Rattle.ops_base.specs.declared.rules.Rule.{Rule}
-use Rattle.ops_base.specs.WorkingMemory.{HasRisingTags, done}
+use Rattle.ops_base.specs.declared.values.Sym.{Sym}
+use Rattle.ops_base.specs.WorkingMemory.{HasRisingTags, tags_of, done}
 use Rattle.ops_base.specs.declared.commands.Strategy.{Strategy}
 use Rattle.ops_base.specs.ConflictSet.{conflict_set}
 use Rattle.ops_base.specs.Names.{Spellings}
-use Rattle.ops_base.specs.Valid.{class_of}
 use Rattle.ops_base.specs.Refraction.{unfired, still_fired, dominant}
 use Rattle.ops_base.proofs.ConflictSetLaws.{conflict_set-is, conflict_set_only}
 use Rattle.ops_io.specs.Coming.{Coming}
 use Rattle.ops_io.specs.Output.{column_after}
-use Rattle.ops_meaning.specs.Acting.{Setting, Misdeed, Bad, NoInput, Given, Acted, acted}
-use Rattle.ops_meaning.specs.Effects.{Effect, writes, led_by, going_on, and_then, outcome_as}
+use Rattle.ops_meaning.specs.Acting.{Setting, Misdeed, Bad, NoInput, Given, Acted, acted, change_lines}
+use Rattle.ops_meaning.specs.Effects.{Effect, writes, led_by, going_on, and_then, told_as, outcome_as}
 use Rattle.ops_meaning.specs.Kept.{WellKept, KeepsNames, IsLawfulOver, ActsLawfully, FindsConflictSets, GoesByConflictSets}
-use Rattle.ops_meaning.specs.Running.{Finder, Course, Turned, nothing_yet, turn, one_less, next_by, phase_by, marked, turned_by, given_by, ended_in, firing_by, run_by, fixed_fields, made_by, strategy_given, command_by, commands_by, turned_of, firing, run_on, next_to_fire, made_at_top, command_done, commands_done, session_of}
-use Rattle.ops_meaning.specs.Reads.{Read, Placed, reads}
-use Rattle.ops_meaning.specs.Whole.{Find, Job, job_of, answer_read, answer_read_by, whole_file, whole_file_by, whole_job_by, told, setting_of, text_of, GoesByConflictSetsAlone}
-use Rattle.ops_meaning.proofs.Lawful.{added_kept}
+use Rattle.ops_meaning.specs.Layout.{firing_bytes, inst_text, traced}
+use Rattle.ops_meaning.specs.Running.{Finder, Course, Turned, Session, LastFiring, nothing_yet, begun, turn, line_of_pause, last_of, one_less, next_by, phase_by, marked, turned_by, given_by, ended_in, firing_by, run_by, with_course, lists, element_made, removals, ranked, standing_by, strategy_given, level_given, breaks_given, run_given, is_exit, phase_told, command_by, commands_by, turned_of, firing, run_on, next_to_fire, phase_done, command_done, commands_done, session_of}
+use Rattle.ops_meaning.proofs.Lawful.{added_kept, kept_after, removals_lawful, removals_last, clearing_lawful, clearing_last}
 use Rattle.ops_meaning.proofs.NamesKept.{names_stay, names_then}
 use Rattle.ops_meaning.proofs.Doings.{goes_on, goes_as, ok_goes, EndsActions, KeptActed, acted_kept}
 
@@ -61,6 +58,9 @@ module _ (names : Spellings) (fails : Bool) where
   abbrev KeptTurned : Turned → Type 0
   KeptTurned t = Kept t.course
 
+  abbrev KeptSession : Session → Type 0
+  KeptSession k = Kept k.course
+
   abbrev Ends : Ending → Type 0
   Ends e = EndsSession fails e
 
@@ -77,74 +77,93 @@ module _ (names : Spellings) (fails : Bool) where
 
   firing_kept : (s : Setting) (column : ℕ) (i : Inst) (m : Course) → Kept m → MatchResult (firing s column i m).outcome KeptTurned Ends
   firing_kept s column i m p =
-      goes_as (KeptActed m.wm m.last m.names m.coming.fails) KeptTurned (EndsActions m.coming.fails) Ends (turned_of s.rules i m) (ended_in (m.firings + 1) i.rule) (acted s column i (given_by m)).outcome
-      (acted_kept s column i (given_by m)) (λ a q. turned_kept s i m a p q) (λ e q. ended_kept m (m.firings + 1) i.rule e p q)
+      let behind = column_after column (firing_bytes s.watch column m.names s.rules (m.firings + 1) i) in
+      goes_as (KeptActed m.wm m.last m.names m.coming.fails) KeptTurned (EndsActions m.coming.fails) Ends (turned_of s.rules i m) (ended_in (m.firings + 1) i.rule) (acted s behind i (given_by m)).outcome
+      (acted_kept s behind i (given_by m)) (λ a q. turned_kept s i m a p q) (λ e q. ended_kept m (m.firings + 1) i.rule e p q)
 
-  turn_kept : (column : ℕ) (halted : Bool) (count : Option ℕ) (m : Course) (next : Option Inst) (go_on : Inst → Effect Ending Course) → Kept m
-      → ((i : Inst) → MatchResult (go_on i).outcome Kept Ends) → MatchResult (turn column halted count m next go_on).outcome Kept Ends
-  turn_kept column true count m next go_on p q = p
-  turn_kept column false (Some zero) m next go_on p q = p
-  turn_kept column false (Some (suc n)) m None go_on p q = p
-  turn_kept column false (Some (suc n)) m (Some i) go_on p q = q i
-  turn_kept column false None m None go_on p q = p
-  turn_kept column false None m (Some i) go_on p q = q i
+  turn_kept : (column : ℕ) (line : Option (List ℕ)) (m : Course) (next : Option Inst) (go_on : Inst → Effect Ending Course) → Kept m
+      → ((i : Inst) → MatchResult (go_on i).outcome Kept Ends) → MatchResult (turn column line m next go_on).outcome Kept Ends
+  turn_kept column (Some line) m next go_on p q = p
+  turn_kept column None m None go_on p q = p
+  turn_kept column None m (Some i) go_on p q = q i
 
-  run_kept : (left : ℕ) (s : Setting) (column : ℕ) (halted : Bool) (count : Option ℕ) (m : Course) → Kept m → MatchResult (run_on left s column halted count m).outcome Kept Ends
-  run_kept zero s column halted count m p = turn_kept column halted count m (next_to_fire s.rules m) _ p (λ i. tt)
-  run_kept (suc left) s column halted count m p =
-      turn_kept column halted count m (next_to_fire s.rules m) _ p
+  run_kept : (left : ℕ) (s : Setting) (breaks : List Bool) (column : ℕ) (last : Option LastFiring) (count : Option ℕ) (m : Course) → Kept m
+      → MatchResult (run_on left s breaks column last count m).outcome Kept Ends
+  run_kept zero s breaks column last count m p =
+      turn_kept column (line_of_pause m.names s.rules breaks last count) m (next_to_fire s.rules m) _ p (λ i. tt)
+  run_kept (suc left) s breaks column last count m p =
+      turn_kept column (line_of_pause m.names s.rules breaks last count) m (next_to_fire s.rules m) _ p
       (λ i. let e = firing s column i m in
-      goes_on KeptTurned Kept Ends e.bytes e.outcome (λ t. run_on left s (column_after column e.bytes) t.halted (one_less count) t.course) (firing_kept s column i m p)
-      (λ t q. run_kept left s (column_after column e.bytes) t.halted (one_less count) t.course q))
+      goes_on KeptTurned Kept Ends e.bytes e.outcome (λ t. run_on left s breaks (column_after column e.bytes) (last_of i t) (one_less count) t.course) (firing_kept s column i m p)
+      (λ t q. run_kept left s breaks (column_after column e.bytes) (last_of i t) (one_less count) t.course q))
 
-  made_at_top-kept : (classes : List Class) (rules : List Rule) (class : ℕ) (puts : List Fixed) (m : Course) → Kept m → Kept (made_at_top classes rules class puts m)
-  made_at_top-kept classes rules class puts m p =
-      record { memory = added_kept m.wm m.last _ (omega arith) p.memory; keeps = p.keeps; coming = p.coming }
+  -- a phase that leaves working memory well kept
+  phase_kept : (s : Setting) (column : ℕ) (changes : List Change) (last : ℕ) (k : Session) → KeptSession k → WellKept (done k.course.wm changes) last
+      → MatchResult (phase_done s column changes last k).outcome KeptSession Ends
+  phase_kept s column changes last k p well = record { memory = well; keeps = p.keeps; coming = p.coming }
 
   -- a strategy changes itself alone
-  strategy_kept : (column : ℕ) (set : Option Strategy) (m : Course) → Kept m → MatchResult (strategy_given column set m).outcome Kept Ends
-  strategy_kept column None m p = p
-  strategy_kept column (Some g) m p = record { memory = p.memory; keeps = p.keeps; coming = p.coming }
+  strategy_kept : (column : ℕ) (set : Option Strategy) (k : Session) → KeptSession k → MatchResult (strategy_given column set k).outcome KeptSession Ends
+  strategy_kept column None k p = p
+  strategy_kept column (Some g) k p = record { memory = p.memory; keeps = p.keeps; coming = p.coming }
 
-  command_kept : (s : Setting) (limit column : ℕ) (c : Command) (m : Course) → Kept m → MatchResult (command_done s limit column c m).outcome Kept Ends
-  command_kept s limit column (command.Make class puts) m p = made_at_top-kept s.classes s.rules class puts m p
-  command_kept s limit column (command.Run count) m p = run_kept (limit - m.firings) s column false count m p
-  command_kept s limit column (command.Strategy set) m p = strategy_kept column set m p
-  command_kept s limit column (command.Remove tags) m p = p
-  command_kept s limit column command.RemoveAll m p = p
-  command_kept s limit column (command.Wm tags) m p = p
-  command_kept s limit column (command.Ppwm pattern) m p = p
-  command_kept s limit column command.Cs m p = p
-  command_kept s limit column (command.Pm names) m p = p
-  command_kept s limit column (command.Watch x) m p = p
-  command_kept s limit column (command.Pbreak names) m p = p
-  command_kept s limit column command.Exit m p = p
+  level_kept : (column : ℕ) (set : Option ℕ) (k : Session) → KeptSession k → MatchResult (level_given column set k).outcome KeptSession Ends
+  level_kept column None k p = p
+  level_kept column (Some n) k p = p
 
-  commands_kept : (s : Setting) (limit column : ℕ) (commands : List Command) (m : Course) → Kept m → MatchResult (commands_done s limit column commands m).outcome Kept Ends
-  commands_kept s limit column [] m p = p
-  commands_kept s limit column (c ∷ rest) m p =
-      let e = command_done s limit column c m in
-      goes_on Kept Kept Ends e.bytes e.outcome (λ m. commands_done s limit (column_after column e.bytes) rest m) (command_kept s limit column c m p)
-      (λ m q. commands_kept s limit (column_after column e.bytes) rest m q)
+  breaks_kept : (s : Setting) (column : ℕ) (names : List Sym) (k : Session) → KeptSession k → MatchResult (breaks_given s column names k).outcome KeptSession Ends
+  breaks_kept s column [] k p = p
+  breaks_kept s column (n ∷ ns) k p = p
+
+  command_kept : (s : Setting) (limit column : ℕ) (c : Command) (k : Session) → KeptSession k → MatchResult (command_done s limit column c k).outcome KeptSession Ends
+  command_kept s limit column (command.Make class puts) k p =
+      phase_kept s column (change.Add (element_made s.classes class puts k.course) ∷ []) (k.course.last + 1) k p (added_kept k.course.wm k.course.last _ (omega arith) p.memory)
+  command_kept s limit column (command.Remove tags) k p =
+      phase_kept s column (removals k.course.wm tags) k.course.last k p
+      (kept_after k.course.wm k.course.last (removals k.course.wm tags) p.memory (removals_lawful k.course.wm k.course.last tags) (removals_last k.course.wm k.course.last tags))
+  command_kept s limit column command.RemoveAll k p =
+      phase_kept s column (map change.Remove (tags_of k.course.wm)) k.course.last k p
+      (kept_after k.course.wm k.course.last (map change.Remove (tags_of k.course.wm)) p.memory (clearing_lawful k.course.wm k.course.last p.memory.0) (clearing_last k.course.last (tags_of k.course.wm)))
+  command_kept s limit column (command.Run count) k p =
+      let at : Setting = record s { watch = k.watch } in
+      goes_as Kept KeptSession Ends Ends (with_course k) (λ e. e) (run_on (limit - k.course.firings) at k.breaks column None count k.course).outcome
+      (run_kept (limit - k.course.firings) at k.breaks column None count k.course p) (λ m q. q) (λ e q. q)
+  command_kept s limit column (command.Wm tags) k p = p
+  command_kept s limit column (command.Ppwm pattern) k p = p
+  command_kept s limit column command.Cs k p = p
+  command_kept s limit column (command.Pm names) k p = p
+  command_kept s limit column (command.Strategy set) k p = strategy_kept column set k p
+  command_kept s limit column (command.Watch set) k p = level_kept column set k p
+  command_kept s limit column (command.Pbreak names) k p = breaks_kept s column names k p
+  command_kept s limit column command.Exit k p = p
+
+  commands_kept : (s : Setting) (limit column : ℕ) (commands : List Command) (k : Session) → KeptSession k → MatchResult (commands_done s limit column commands k).outcome KeptSession Ends
+  commands_kept s limit column [] k p = p
+  commands_kept s limit column (c ∷ rest) k p =
+      let e = command_done s limit column c k in
+      let go_on : ℕ → Session → Effect Ending Session = λ next k. commands_done s limit next rest k in
+      cond_both (is_exit c) (writes [] k) (and_then column e go_on) (λ f. MatchResult f.outcome KeptSession Ends) (λ _. p)
+      (λ _. goes_on KeptSession KeptSession Ends e.bytes e.outcome (go_on (column_after column e.bytes)) (command_kept s limit column c k p)
+      (λ k q. commands_kept s limit (column_after column e.bytes) rest k q))
 
 nothing_kept : (names : Spellings) (coming : Coming) → KeptCourse names coming.fails (nothing_yet names coming)
 nothing_kept names coming =
     record { memory = (λ k within. absurd (omega arith), All-nil (λ t. t ≤ 0)); keeps = names_stay names; coming = refl }
 
 -- what a session leaves, and the ends that it comes to
-pub session_goes_on : (s : Setting) (limit : ℕ) (commands : List Command) (names : Spellings) (coming : Coming) → MatchResult (session_of s limit commands names coming).outcome (KeptCourse names coming.fails) (EndsSession coming.fails)
+pub session_goes_on : (s : Setting) (limit : ℕ) (commands : List Command) (names : Spellings) (coming : Coming) → MatchResult (session_of s limit commands names coming).outcome (λ k. KeptCourse names coming.fails k.course) (EndsSession coming.fails)
 session_goes_on s limit commands names coming =
-    commands_kept names coming.fails s limit 0 commands (nothing_yet names coming) (nothing_kept names coming)
+    commands_kept names coming.fails s limit 0 commands (begun s.rules names coming) (nothing_kept names coming)
 
 -- what a session leaves is well kept
-pub session_kept : (s : Setting) (limit : ℕ) (commands : List Command) (names : Spellings) (coming : Coming) → IfOk (session_of s limit commands names coming).outcome (λ m. WellKept m.wm m.last)
+pub session_kept : (s : Setting) (limit : ℕ) (commands : List Command) (names : Spellings) (coming : Coming) → IfOk (session_of s limit commands names coming).outcome (λ k. WellKept k.course.wm k.course.last)
 session_kept s limit commands names coming =
-    ok_goes (KeptCourse names coming.fails) (λ m. WellKept m.wm m.last) (EndsSession coming.fails) (session_of s limit commands names coming).outcome (session_goes_on s limit commands names coming) (λ m p. p.memory)
+    ok_goes (λ (k : Session). KeptCourse names coming.fails k.course) (λ k. WellKept k.course.wm k.course.last) (EndsSession coming.fails) (session_of s limit commands names coming).outcome (session_goes_on s limit commands names coming) (λ k p. p.memory)
 
 -- and the symbols keep their spellings
-pub session_keeps_names : (s : Setting) (limit : ℕ) (commands : List Command) (names : Spellings) (coming : Coming) → IfOk (session_of s limit commands names coming).outcome (λ m. KeepsNames names m.names)
+pub session_keeps_names : (s : Setting) (limit : ℕ) (commands : List Command) (names : Spellings) (coming : Coming) → IfOk (session_of s limit commands names coming).outcome (λ k. KeepsNames names k.course.names)
 session_keeps_names s limit commands names coming =
-    ok_goes (KeptCourse names coming.fails) (λ m. KeepsNames names m.names) (EndsSession coming.fails) (session_of s limit commands names coming).outcome (session_goes_on s limit commands names coming) (λ m p. p.keeps)
+    ok_goes (λ (k : Session). KeptCourse names coming.fails k.course) (λ k. KeepsNames names k.course.names) (EndsSession coming.fails) (session_of s limit commands names coming).outcome (session_goes_on s limit commands names coming) (λ k p. p.keeps)
 
 -- ---- the session by any finder of conflict sets
 
@@ -156,9 +175,9 @@ same_as : {E F S T : Type 0} (P : S → Type 0) (R : E → Type 0) (f g : S → 
 same_as P R f g end (Ok s) p h = ap Ok (h s p)
 same_as P R f g end (Err e) p h = refl
 
-same_turn : (column : ℕ) (halted : Bool) (count : Option ℕ) (m : Course) (next other : Option Inst) (f g : Inst → Effect Ending Course) → next ≡ other → ((i : Inst) → f i ≡ g i)
-    → turn column halted count m next f ≡ turn column halted count m other g
-same_turn column halted count m next other f g e h = λ j. turn column halted count m (e j) (λ i. h i j)
+same_turn : (column : ℕ) (line : Option (List ℕ)) (m : Course) (next other : Option Inst) (f g : Inst → Effect Ending Course) → next ≡ other → ((i : Inst) → f i ≡ g i)
+    → turn column line m next f ≡ turn column line m other g
+same_turn column line m next other f g e h = λ j. turn column line m (e j) (λ i. h i j)
 
 module _ (s : Setting) (found : Finder) (finds : FindsConflictSets s.rules found) (names : Spellings) (fails : Bool) where
   abbrev Well : Course → Type 0
@@ -189,76 +208,81 @@ module _ (s : Setting) (found : Finder) (finds : FindsConflictSets s.rules found
 
   firing_is : (column : ℕ) (i : Inst) (m : Course) → Well m → firing s column i m ≡ firing_by found s column i m
   firing_is column i m p =
-      let e = acted s column i (given_by m) in
-      ap (λ o. let f : Effect Ending Turned = record { bytes = e.bytes; outcome = o } in f)
+      let line = firing_bytes s.watch column m.names s.rules (m.firings + 1) i in
+      let behind = column_after column line in
+      let e = acted s behind i (given_by m) in
+      ap (λ o. let f : Effect Ending Turned = record { bytes = e.bytes; outcome = o } in led_by line f)
       (same_as (KeptActed m.wm m.last m.names m.coming.fails) (EndsActions m.coming.fails) (turned_of s.rules i m) (turned_by found i m) (ended_in (m.firings + 1) i.rule) e.outcome
-      (acted_kept s column i (given_by m)) (λ a q. turned_is i m a (q.lawful p.memory)))
+      (acted_kept s behind i (given_by m)) (λ a q. turned_is i m a (q.lawful p.memory)))
 
-  run_is : (left column : ℕ) (halted : Bool) (count : Option ℕ) (m : Course) → Well m → run_on left s column halted count m ≡ run_by found left s column halted count m
-  run_is zero column halted count m p = same_turn column halted count m _ _ _ _ (next_is m p) (λ i. refl)
-  run_is (suc left) column halted count m p =
-      same_turn column halted count m _ _ _ _ (next_is m p)
+  run_is : (left : ℕ) (breaks : List Bool) (column : ℕ) (last : Option LastFiring) (count : Option ℕ) (m : Course) → Well m
+      → run_on left s breaks column last count m ≡ run_by found left s breaks column last count m
+  run_is zero breaks column last count m p =
+      same_turn column (line_of_pause m.names s.rules breaks last count) m _ _ _ _ (next_is m p) (λ i. refl)
+  run_is (suc left) breaks column last count m p =
+      same_turn column (line_of_pause m.names s.rules breaks last count) m _ _ _ _ (next_is m p)
       (λ i. let e = firing s column i m in
       same_then WellTurned Ended e.bytes e.outcome
-      (λ t. run_on left s (column_after column e.bytes) t.halted (one_less count) t.course)
-      (λ t. run_by found left s (column_after column e.bytes) t.halted (one_less count) t.course)
+      (λ t. run_on left s breaks (column_after column e.bytes) (last_of i t) (one_less count) t.course)
+      (λ t. run_by found left s breaks (column_after column e.bytes) (last_of i t) (one_less count) t.course)
       (firing_kept names fails s column i m p)
-      (λ t q. run_is left (column_after column e.bytes) t.halted (one_less count) t.course q)
-      ∙ ap (λ e. and_then column e (λ next t. run_by found left s next t.halted (one_less count) t.course)) (firing_is column i m p))
+      (λ t q. run_is left breaks (column_after column e.bytes) (last_of i t) (one_less count) t.course q)
+      ∙ ap (λ e. and_then column e (λ next t. run_by found left s breaks next (last_of i t) (one_less count) t.course)) (firing_is column i m p))
 
-  made_is : (class : ℕ) (puts : List Fixed) (m : Course) → Well m → made_at_top s.classes s.rules class puts m ≡ made_by found s.classes class puts m
-  made_is class puts m p =
-      let e : Element = record { tag = m.last + 1; class = class; fields = fixed_fields (class_of s.classes class) puts } in
-      let kept = made_at_top-kept names fails s.classes s.rules class puts m p in
-      phase_is (change.Add e ∷ []) m.firings (m.last + 1) m kept.memory.0
+module _ (s : Setting) (found : Finder) (finds : FindsConflictSets s.rules found) (names : Spellings) (fails : Bool) where
+  abbrev WellSession : Session → Type 0
+  WellSession k = KeptCourse names fails k.course
 
-  command_is : (limit column : ℕ) (c : Command) (m : Course) → Well m → command_done s limit column c m ≡ command_by found s limit column c m
-  command_is limit column (command.Make class puts) m p = ap (writes []) (made_is class puts m p)
-  command_is limit column (command.Run count) m p = run_is (limit - m.firings) column false count m p
-  command_is limit column (command.Strategy set) m p = refl
-  command_is limit column (command.Remove tags) m p = refl
-  command_is limit column command.RemoveAll m p = refl
-  command_is limit column (command.Wm tags) m p = refl
-  command_is limit column (command.Ppwm pattern) m p = refl
-  command_is limit column command.Cs m p = refl
-  command_is limit column (command.Pm names) m p = refl
-  command_is limit column (command.Watch x) m p = refl
-  command_is limit column (command.Pbreak names) m p = refl
-  command_is limit column command.Exit m p = refl
+  phase_told_is : (column : ℕ) (changes : List Change) (last : ℕ) (k : Session) → HasRisingTags (done k.course.wm changes)
+      → phase_done s column changes last k ≡ phase_told found s column changes last k
+  phase_told_is column changes last k rising =
+      ap (λ m. writes (traced k.watch column (change_lines k.course.names s.classes k.course.wm changes)) (with_course k m))
+      (phase_is s found finds names fails changes k.course.firings last k.course rising)
 
-  commands_are : (limit column : ℕ) (commands : List Command) (m : Course) → Well m → commands_done s limit column commands m ≡ commands_by found s limit column commands m
-  commands_are limit column [] m p = refl
-  commands_are limit column (c ∷ rest) m p =
-      let e = command_done s limit column c m in
-      same_then Well Ended e.bytes e.outcome
-      (λ m. commands_done s limit (column_after column e.bytes) rest m)
-      (λ m. commands_by found s limit (column_after column e.bytes) rest m)
-      (command_kept names fails s limit column c m p)
-      (λ m q. commands_are limit (column_after column e.bytes) rest m q)
-      ∙ ap (λ e. and_then column e (λ next m. commands_by found s limit next rest m)) (command_is limit column c m p)
+  standing_is : (k : Session) → WellSession k → standing_by (conflict_set s.rules) s.rules k.course ≡ standing_by found s.rules k.course
+  standing_is k p =
+      ap (λ set. let insts = unfired set k.course.fired in ranked (length insts) k.course.strategy s.rules insts)
+      (found_is s found finds names fails k.course.wm p.memory.0)
+
+  run_given_is : (limit column : ℕ) (count : Option ℕ) (k : Session) → WellSession k → run_given (conflict_set s.rules) s limit column count k ≡ run_given found s limit column count k
+  run_given_is limit column count k p =
+      let at : Setting = record s { watch = k.watch } in
+      ap (told_as (with_course k) (λ e. e)) (run_is at found finds names fails (limit - k.course.firings) k.breaks column None count k.course p)
+
+  command_is : (limit column : ℕ) (c : Command) (k : Session) → WellSession k → command_done s limit column c k ≡ command_by found s limit column c k
+  command_is limit column (command.Make class puts) k p =
+      let well = added_kept k.course.wm k.course.last (element_made s.classes class puts k.course) (omega arith) p.memory in
+      phase_told_is column (change.Add (element_made s.classes class puts k.course) ∷ []) (k.course.last + 1) k well.0
+  command_is limit column (command.Remove tags) k p =
+      let well = kept_after k.course.wm k.course.last (removals k.course.wm tags) p.memory (removals_lawful k.course.wm k.course.last tags) (removals_last k.course.wm k.course.last tags) in
+      phase_told_is column (removals k.course.wm tags) k.course.last k well.0
+  command_is limit column command.RemoveAll k p =
+      let well = kept_after k.course.wm k.course.last (map change.Remove (tags_of k.course.wm)) p.memory (clearing_lawful k.course.wm k.course.last p.memory.0) (clearing_last k.course.last (tags_of k.course.wm)) in
+      phase_told_is column (map change.Remove (tags_of k.course.wm)) k.course.last k well.0
+  command_is limit column (command.Run count) k p = run_given_is limit column count k p
+  command_is limit column (command.Wm tags) k p = refl
+  command_is limit column (command.Ppwm pattern) k p = refl
+  command_is limit column command.Cs k p =
+      ap (λ insts. lists column (map (inst_text k.course.names s.rules) insts) k) (standing_is k p)
+  command_is limit column (command.Pm names) k p = refl
+  command_is limit column (command.Strategy set) k p = refl
+  command_is limit column (command.Watch set) k p = refl
+  command_is limit column (command.Pbreak names) k p = refl
+  command_is limit column command.Exit k p = refl
+
+  commands_are : (limit column : ℕ) (commands : List Command) (k : Session) → WellSession k → commands_done s limit column commands k ≡ commands_by found s limit column commands k
+  commands_are limit column [] k p = refl
+  commands_are limit column (c ∷ rest) k p =
+      let e = command_done s limit column c k in
+      ap (λ f. cond (is_exit c) (writes [] k) f)
+      (same_then WellSession (EndsSession fails) e.bytes e.outcome
+      (λ k. commands_done s limit (column_after column e.bytes) rest k)
+      (λ k. commands_by found s limit (column_after column e.bytes) rest k)
+      (command_kept names fails s limit column c k p)
+      (λ k q. commands_are limit (column_after column e.bytes) rest k q)
+      ∙ ap (λ e. and_then column e (λ next k. commands_by found s limit next rest k)) (command_is limit column c k p))
 
 -- a session goes by the conflict sets, however they are found
 pub session_goes : (s : Setting) (limit : ℕ) (commands : List Command) (names : Spellings) → GoesByConflictSets s limit commands names
 session_goes s limit commands names found finds coming =
-    commands_are s found finds names coming.fails limit 0 commands (nothing_yet names coming) (nothing_kept names coming)
-
--- ---- the whole
-
-module _ (find : Find) (finds : (rules : List Rule) → FindsConflictSets rules (find rules)) (coming : Coming) where
-  answer_is : (limit : ℕ) (text : List ℕ) (r : Result Read Placed) → answer_read limit coming text r ≡ answer_read_by find limit coming text r
-  answer_is limit text (Err p) = refl
-  answer_is limit text (Ok p) =
-      ap (told p.names p.rules) (session_goes (setting_of p) limit p.commands p.names (find p.rules) (finds p.rules) coming)
-
-  file_is : (job : Job) (content : Option (List ℕ)) (broken : Bool) → whole_file job content broken coming ≡ whole_file_by find job content broken coming
-  file_is job content true = refl
-  file_is job None false = refl
-  file_is job (Some bytes) false = answer_is job.limit (text_of bytes) (reads (text_of bytes))
-
-  job_is : (job : Option Job) (content : Option (List ℕ)) (broken : Bool) → whole_job_by conflict_set job content broken coming ≡ whole_job_by find job content broken coming
-  job_is None content broken = refl
-  job_is (Some job) content broken = file_is job content broken
-
--- the whole goes by the conflict sets alone
-pub whole_goes : (words : List (List ℕ)) → GoesByConflictSetsAlone words
-whole_goes words find finds content broken coming = job_is find finds coming (job_of words) content broken
+    commands_are s found finds names coming.fails limit 0 commands (begun s.rules names coming) (nothing_kept names coming)

@@ -10,9 +10,9 @@ use Rattle.ops_base.specs.declared.actions.Action.{Action}
 use Rattle.ops_base.specs.declared.rules.Rule.{Rule}
 use Rattle.ops_base.specs.declared.commands.Command.{Command}
 use Rattle.ops_base.specs.Expression.{Formula, all_variables}
-use Rattle.ops_base.specs.Valid.{most_fields, most_conditions, are_distinct, class_of, class_is_valid, is_attribute, is_vector, is_field, is_in, Sight, tests_are_valid, sight_after_tests, conditions_are_valid, sight_after_conditions, nothing_in_sight, first_is_positive, cells_of, known_of, is_cell, class_of_cell, Known, known_after_actions, term_is_valid, put_is_valid, item_is_valid, actions_are_valid, rule_is_valid, fixed_is_valid, command_is_valid}
+use Rattle.ops_base.specs.Valid.{most_fields, most_conditions, are_distinct, class_of, class_is_valid, is_attribute, is_vector, is_field, is_in, Sight, tests_are_valid, sight_after_tests, conditions_are_valid, sight_after_conditions, nothing_in_sight, first_is_positive, cells_of, known_of, is_cell, class_of_cell, is_natural, Known, known_after_actions, term_is_valid, put_is_valid, item_is_valid, actions_are_valid, rule_is_valid, fixed_is_valid, command_is_valid}
 use Rattle.ops_meaning.specs.declared.words.Named.{Named}
-use Rattle.ops_meaning.specs.Grammar.{Use, InPattern, InPut, InFixed, Target, ToTest, ToPut, ToFixed, ToTerms, ToConstants, ToItem, ToBind, EndsHalt, EndsCrlf, EndsWhole, Column, Wanted, Forms, Form, ClassDeclared, Attributes, VectorName, VectorNames, RuleName, FirstPattern, Patterns, Pattern, Braced, ElementName, ClosesBrace, ClassName, Terms, Attribute, Several, Place, Tests, Tested, Choice, Atom, ValueFor, Function, Waiting, ExpressionUnit, ExpressionRest, Bracketed, SourceCell, SourceAttribute, SourceEnd, Actions, ActionWord, Modified, BoundName, BoundValue, CellName, Cell, Cells, Items, ItemWord, Columns, Count, StrategyName, Closes, precedes_classes, State, Step, Next, Refuses}
+use Rattle.ops_meaning.specs.Grammar.{Use, InPattern, InPut, InFixed, Target, ToTest, ToPut, ToFixed, ToTerms, ToConstants, ToItem, ToBind, EndsHalt, EndsCrlf, EndsCs, EndsExit, EndsWhole, Column, TagUse, ToRemove, ToShow, NameUse, ToPrint, ToBreak, Wanted, Forms, Form, ClassDeclared, Attributes, VectorName, VectorNames, RuleName, FirstPattern, Patterns, Pattern, Braced, ElementName, ClosesBrace, ClassName, Terms, Attribute, Several, Place, Tests, Tested, Choice, Atom, ValueFor, Function, Waiting, ExpressionUnit, ExpressionRest, Bracketed, SourceCell, SourceAttribute, SourceEnd, Actions, ActionWord, Modified, BoundName, BoundValue, CellName, Cell, Cells, Items, ItemWord, Columns, Count, StrategyName, TagOrAll, Tags, Shown, NamedRule, NamedRules, Level, Closes, precedes_classes, State, Step, Next, Refuses}
 
 -- the form that is read began before the first place, and no list is longer than that place, but those of attributes with values
 -- are not longer than the second
@@ -20,7 +20,7 @@ abbrev pub IsShortBy : ℕ → ℕ → State → Type 0
 IsShortBy n m s =
     (s.first ≤ n) × (length s.classes ≤ n) × (length s.rules ≤ n) × (length s.commands ≤ n) × (length s.tests ≤ n) × (length s.puts ≤ m)
     × (length s.fixed ≤ m) × (length s.cells ≤ n) × (length s.items ≤ n) × (length s.actions ≤ n) × (length s.choice ≤ n)
-    × (length s.terms ≤ n)
+    × (length s.terms ≤ n) × (length s.tags ≤ n) × (length s.named ≤ n)
 
 -- the form that is read began before the place, and no list is longer than the place
 abbrev pub IsShort : ℕ → State → Type 0
@@ -296,6 +296,22 @@ HasSource slot text s = AtValue slot text s × (is_cell (known_in s) s.source �
 abbrev pub HasSourceField : Slot → ℕ → State → Type 0
 HasSourceField slot text s = HasSource slot text s × (is_attribute (class_of_cell s.classes (known_in s) s.source) s.source_field ≡ true)
 
+-- so many tags, or names, as the command that they are for needs
+abbrev pub HasTags : TagUse → List ℕ → Type 0
+HasTags ToRemove tags = 0 < length tags
+HasTags ToShow tags = Unit {0}
+
+abbrev pub HasNames : NameUse → List Sym → Type 0
+HasNames ToPrint names = 0 < length names
+HasNames ToBreak names = Unit {0}
+
+-- a command up to its next tag, or to its next name
+abbrev pub AtTags : TagUse → ℕ → State → Type 0
+AtTags u text s = Program text s × (list_all is_natural s.tags ≡ true) × HasTags u s.tags
+
+abbrev pub AtNames : NameUse → ℕ → State → Type 0
+AtNames u text s = Program text s × HasNames u s.named
+
 -- what may be wanted, and what then holds
 pub data IsRead (text : ℕ) (s : State) : List Wanted → Type 0 where
   at_forms : (Program text s) → IsRead text s (Forms ∷ [])
@@ -349,6 +365,14 @@ pub data IsRead (text : ℕ) (s : State) : List Wanted → Type 0 where
   at_halt : (Body text s) → IsRead text s (Closes EndsHalt ∷ Actions ∷ Forms ∷ [])
   at_count : (Program text s) → IsRead text s (Count ∷ Forms ∷ [])
   at_strategy_name : (Program text s) → IsRead text s (StrategyName ∷ Forms ∷ [])
+  at_tag_or_all : (Program text s × (s.tags ≡ [])) → IsRead text s (TagOrAll ∷ Forms ∷ [])
+  at_tags : (u : TagUse) → (AtTags u text s) → IsRead text s (Tags u ∷ Forms ∷ [])
+  at_shown : (Program text s) → IsRead text s (Shown ∷ Forms ∷ [])
+  at_named_rule : (Program text s) → IsRead text s (NamedRule ∷ NamedRules ToPrint ∷ Forms ∷ [])
+  at_named_rules : (u : NameUse) → (AtNames u text s) → IsRead text s (NamedRules u ∷ Forms ∷ [])
+  at_level : (Program text s) → IsRead text s (Level ∷ Forms ∷ [])
+  at_cs : (Program text s) → IsRead text s (Closes EndsCs ∷ Forms ∷ [])
+  at_exit : (Program text s) → IsRead text s (Closes EndsExit ∷ Forms ∷ [])
   at_command_end : (Program text s) → IsRead text s (Closes EndsWhole ∷ Forms ∷ [])
 
 -- where a step leads, up to a place

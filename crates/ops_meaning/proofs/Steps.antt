@@ -4,6 +4,7 @@ use Rattle.std.specs.List.{list_all}
 use Rattle.std.proofs.lemmas.Bool.{and_parts, and_from, or_left, or_right, cond_both, eqb-true, lt-ltb, le-leb, ltb-true, not_from_false}
 use Rattle.std.proofs.lemmas.List.Quantifiers.{position-Some}
 use Rattle.std.proofs.lemmas.List.{length-map}
+use Rattle.ops_base.specs.declared.values.Sym.{Sym}
 use Rattle.ops_base.specs.declared.values.Value.{Value}
 use Rattle.ops_base.specs.declared.values.Pred.{Pred}
 use Rattle.ops_base.specs.declared.values.Pred.TheVariants as pred
@@ -18,28 +19,53 @@ use Rattle.ops_base.specs.declared.commands.Fixed.{Fixed}
 use Rattle.ops_base.specs.declared.commands.Command.{Command}
 use Rattle.ops_base.specs.declared.commands.Command.TheVariants as command
 use Rattle.ops_base.specs.declared.commands.Strategy.{Strategy}
-use Rattle.ops_base.specs.Valid.{longest_list, most_fields, most_conditions, is_in, is_natural, no_class, class_of, is_attribute, is_vector, operand_is_valid, tests_are_valid, sight_after_tests, sight_after_conditions, nothing_in_sight, put_is_valid, fixed_is_valid}
+use Rattle.ops_base.specs.Valid.{longest_list, most_fields, most_conditions, is_in, is_natural, no_class, class_of, is_attribute, is_vector, operand_is_valid, tests_are_valid, sight_after_tests, sight_after_conditions, nothing_in_sight, put_is_valid, fits, fixed_is_valid, command_is_valid}
 use Rattle.ops_tokens.specs.declared.token.TokenKind.{TokenKind}
 use Rattle.ops_tokens.specs.declared.token.TokenKind.TheVariants as kind
 use Rattle.ops_meaning.specs.declared.words.Word.{Word}
 use Rattle.ops_meaning.specs.declared.words.Keyword.{Keyword}
 use Rattle.ops_meaning.specs.declared.words.Keyword.TheVariants as keyword
-use Rattle.ops_meaning.specs.Grammar.{Use, InPattern, InPut, InFixed, ToTest, ToFixed, ToConstants, EndsWhole, Wanted, Forms, Attributes, VectorNames, FirstPattern, Patterns, Pattern, ClosesBrace, Terms, Several, Choice, Actions, State, Step, Next, Refuses, is_left, is_right, is_left_brace, is_right_brace, is_caret, is_name, is_variable, is_arrow, is_literal, is_minus, opens_choice, closes_choice, pred_of, constant_of, value_of, atom_of, small_of, count_of, precedes_classes, is_one_of, number_of, may_declare, may_produce, is_class, is_rule, form, class_declared, with_vector_last, makes_second, vector_declared, vector_name, vector_names, is_second, attribute_declared, attributes, class_at, class_name, attributes_of, behind_attribute, field_at, attribute, with_test, with_bound, variable_tested, constant_tested, tested, predicated, test, place, tests, with_choice, chosen, choice, atom_at, bound_at, constant_at, value_for, with_element, terms, within, one_of_several, with_several, several, left_ended, right_begun, rule_name, first_pattern, one_more, patterns, pattern, element_at, element_name, braced, closes_brace, put_action, closes, forms, step, counted, count, strategy_of, strategy_set, strategy_name}
+use Rattle.ops_meaning.specs.Grammar.{Use, InPattern, InPut, InFixed, ToTest, ToFixed, ToConstants, EndsCs, EndsExit, EndsWhole, TagUse, ToRemove, ToShow, NameUse, ToPrint, ToBreak, Wanted, Forms, Attributes, VectorNames, FirstPattern, Patterns, Pattern, ClosesBrace, Terms, Several, Choice, Actions, Tags, NamedRules, Closes, State, Step, Next, Refuses, is_left, is_right, is_left_brace, is_right_brace, is_caret, is_name, is_variable, is_arrow, is_literal, is_minus, opens_choice, closes_choice, pred_of, constant_of, value_of, atom_of, small_of, count_of, precedes_classes, is_one_of, number_of, may_declare, may_produce, is_class, is_rule, form, class_declared, with_vector_last, makes_second, vector_declared, vector_name, vector_names, is_second, attribute_declared, attributes, class_at, class_name, attributes_of, behind_attribute, field_at, attribute, with_test, with_bound, variable_tested, constant_tested, tested, predicated, test, place, tests, with_choice, chosen, choice, atom_at, bound_at, constant_at, value_for, fixed_command, with_element, terms, within, one_of_several, with_several, several, left_ended, right_begun, rule_name, first_pattern, one_more, patterns, pattern, element_at, element_name, braced, closes_brace, put_action, closes, forms, step, counted, count, strategy_of, strategy_set, strategy_name, with_command, tag_at, is_all, tag_or_all, tag_command, tags, shown, named_rule, name_command, named_rules, level_of, level_set, level}
 use Rattle.ops_meaning.proofs.Lists.{all_push, not_below}
-use Rattle.ops_meaning.proofs.Sound.{IsShortBy, IsShort, IsHead, known_in, IsNamed, IsOfClass, Program, Declaring, IsClass, Head, Body, Around, IsEmpty, IsElement, Braces, Bare, NamedBefore, NamedBehind, AtField, HasMore, AtPlace, AtSeveral, BeforePattern, AfterPattern, behind, behind_place, behind_test, variables_of, side_of, seen, IsRead, at_forms, at_form, at_class_declared, at_attributes, at_vector_name, at_vector_names, at_rule_name, at_first_pattern, at_patterns, at_pattern, at_braced, at_element_name, at_closes_brace, at_class_name, at_terms, at_attribute, at_several, at_place, at_tests, at_tested, at_choice, at_test_atom, at_fixed_value, at_fixed_atom, at_constants_atom, InScalar, InVector, at_value, at_atom, at_function, at_expression_unit, at_bracketed, at_expression_rest, at_source_cell, at_source_attribute, at_source_end, at_value_end, at_actions, at_action_word, at_modified, at_bound_name, at_bound_value, at_cell_name, at_action_end, at_cell, at_cells, at_items, at_item_word, at_columns, at_crlf, at_halt, at_command_end, at_strategy_name, at_count, Leads}
+use Rattle.ops_meaning.proofs.Sound.{IsShortBy, IsShort, IsHead, known_in, IsNamed, IsOfClass, Program, Declaring, IsClass, Head, Body, Around, IsEmpty, IsElement, Braces, Bare, NamedBefore, NamedBehind, AtField, HasMore, AtPlace, AtSeveral, BeforePattern, AfterPattern, behind, behind_place, behind_test, variables_of, side_of, seen, IsRead, at_forms, at_form, at_class_declared, at_attributes, at_vector_name, at_vector_names, at_rule_name, at_first_pattern, at_patterns, at_pattern, at_braced, at_element_name, at_closes_brace, at_class_name, at_terms, at_attribute, at_several, at_place, at_tests, at_tested, at_choice, at_test_atom, at_fixed_value, at_fixed_atom, at_constants_atom, InScalar, InVector, at_value, at_atom, at_function, at_expression_unit, at_bracketed, at_expression_rest, at_source_cell, at_source_attribute, at_source_end, at_value_end, at_actions, at_action_word, at_modified, at_bound_name, at_bound_value, at_cell_name, at_action_end, at_cell, at_cells, at_items, at_item_word, at_columns, at_crlf, at_halt, at_count, at_strategy_name, HasTags, HasNames, AtTags, AtNames, at_tag_or_all, at_tags, at_shown, at_named_rule, at_named_rules, at_level, at_cs, at_exit, at_command_end, Leads}
 use Rattle.ops_meaning.proofs.Grown.{fits_below, class_begun, attribute_added, class_added, vector_added, number_in, head_begun, negated_begun, element_bound, test_kept, test_bound, test_valid, condition_added, body_begun, put_known, vector_parts, several_valid, command_added, fixed_valid, vector_within, constants_valid}
 use Rattle.ops_meaning.proofs.ValueSteps.{IsPlaced, added, atom_leads, value_leads, bound_value_leads, function_leads, expression_unit_leads, bracketed_leads, expression_rest_leads, source_cell_leads, source_attribute_leads, source_end_leads, value_end_leads}
 use Rattle.ops_meaning.proofs.RightSteps.{put_action_valid, actions_leads, action_word_leads, cell_leads, modified_leads, bound_name_leads, cell_name_leads, action_end_leads, cells_leads, items_leads, item_word_leads, columns_leads, crlf_leads, halt_leads}
 
--- ---- counts
+-- ---- counts, tags, trace levels and constants of commands
 
-natural_by : (b : Bool) (m k : ℕ) → is_natural m ≡ b → cond b (Some m) None ≡ Some k → is_natural k ≡ true
-natural_by true m k is e = let same : m ≡ k = cc in ap is_natural (sym same) ∙ is
-natural_by false m k is e = absurd (cc)
+tested_by : (p : ℕ → Bool) (b : Bool) (m k : ℕ) → p m ≡ b → cond b (Some m) None ≡ Some k → p k ≡ true
+tested_by p true m k is e = let same : m ≡ k = cc in ap p (sym same) ∙ is
+tested_by p false m k is e = absurd (cc)
 
 count_natural : (t : TokenKind) (k : ℕ) → count_of t ≡ Some k → is_natural k ≡ true
-count_natural (kind.Whole (pos m)) k e = natural_by (is_natural m) m k refl e
+count_natural (kind.Whole (pos m)) k e = tested_by is_natural (is_natural m) m k refl e
 count_natural _ k e = absurd (cc)
+
+level_small : (t : TokenKind) (k : ℕ) → level_of t ≡ Some k → nat_le k 2 ≡ true
+level_small (kind.Whole (pos m)) k e = tested_by (λ j. nat_le j 2) (nat_le m 2) m k refl e
+level_small _ k e = absurd (cc)
+
+-- with one more there are enough
+tag_enough : (u : TagUse) (tags : List ℕ) (tag : ℕ) → HasTags u (tags ++ tag ∷ [])
+tag_enough ToRemove tags tag = omega (arith, length-append tags (tag ∷ []))
+tag_enough ToShow tags tag = tt
+
+name_enough : (u : NameUse) (names : List Sym) (name : Sym) → HasNames u (names ++ name ∷ [])
+name_enough ToPrint names name = omega (arith, length-append names (name ∷ []))
+name_enough ToBreak names name = tt
+
+tags_valid : (classes : List Class) (u : TagUse) (tags : List ℕ) → fits tags ≡ true → list_all is_natural tags ≡ true → HasTags u tags → command_is_valid classes (tag_command u tags) ≡ true
+tags_valid classes ToRemove tags short natural enough = and_from _ _ (and_from _ _ (lt-ltb _ _ enough) short) natural
+tags_valid classes ToShow tags short natural enough = and_from _ _ short natural
+
+names_valid : (classes : List Class) (u : NameUse) (names : List Sym) → fits names ≡ true → HasNames u names → command_is_valid classes (name_command u names) ≡ true
+names_valid classes ToPrint names short enough = and_from _ _ (lt-ltb _ _ enough) short
+names_valid classes ToBreak names short enough = short
+
+constants_fit : (classes : List Class) (shows : Bool) (class : ℕ) (puts : List Fixed) → class < length classes → fits puts ≡ true → list_all (fixed_is_valid (class_of classes class)) puts ≡ true → command_is_valid classes (fixed_command shows class puts) ≡ true
+constants_fit classes false class puts within short fields = and_from _ _ (and_from _ _ (lt-ltb _ _ within) short) fields
+constants_fit classes true class puts within short fields = and_from _ _ (and_from _ _ (lt-ltb _ _ within) short) fields
 
 module _ (text n : ℕ) (w : Word) (fit : text ≤ longest_list) (placed : IsPlaced text n w) where
   -- ---- declarations
@@ -57,8 +83,16 @@ module _ (text n : ℕ) (w : Word) (fit : text ≤ longest_list) (placed : IsPla
   form_leads s short g keyword.VectorAttribute = cond_both (may_declare s) _ _ (Leads text w.past) (λ e. (omega arith, at_vector_name (declaring s g e))) (λ _. tt)
   form_leads s short g keyword.Production = cond_both (may_produce s) _ _ (Leads text w.past) (λ _. (omega arith, at_rule_name g)) (λ _. tt)
   form_leads s short g keyword.Make = (omega arith, at_class_name Bare InFixed (g, refl, tt))
+  form_leads s short g keyword.Remove = (omega arith, at_tag_or_all (g, refl))
   form_leads s short g keyword.Run = (omega arith, at_count g)
+  form_leads s short g keyword.Wm = (omega arith, at_tags ToShow (g, refl, tt))
+  form_leads s short g keyword.Ppwm = (omega arith, at_shown g)
+  form_leads s short g keyword.Cs = (omega arith, at_cs g)
+  form_leads s short g keyword.Pm = (omega arith, at_named_rule g)
   form_leads s short g keyword.Strategy = (omega arith, at_strategy_name g)
+  form_leads s short g keyword.Watch = (omega arith, at_level g)
+  form_leads s short g keyword.Pbreak = (omega arith, at_named_rules ToBreak (g, tt))
+  form_leads s short g keyword.Exit = (omega arith, at_exit g)
   form_leads s short g _ = tt
 
   class_declared_leads : (s : State) → IsShort n s → (Declaring text s) → Leads text w.past (class_declared w (Attributes ∷ Forms ∷ []) s)
@@ -315,8 +349,8 @@ module _ (text n : ℕ) (w : Word) (fit : text ≤ longest_list) (placed : IsPla
   )
   element_leads b InFixed s short g = (
     omega (arith, length-append {A = Command}),
-    at_forms (command_added text s.classes s.rules s.commands (command.Make s.class s.fixed) g.around
-        (and_from _ _ (and_from _ _ (lt-ltb _ _ g.class) (fits_below s.fixed (n + 1) short.6 behind_fits)) g.fields)),
+    at_forms (command_added text s.classes s.rules s.commands (fixed_command s.shows s.class s.fixed) g.around
+        (constants_fit s.classes s.shows s.class s.fixed g.class (fits_below s.fixed (n + 1) short.6 behind_fits) g.fields)),
   )
 
   terms_leads : (b : Braces) (u : Use) (s : State) → IsShortBy n (n + 1) s → (IsElement u text s) → Leads text w.past (terms u w (behind b u) s)
@@ -438,29 +472,83 @@ module _ (text n : ℕ) (w : Word) (fit : text ≤ longest_list) (placed : IsPla
 
   -- ---- commands
 
+  -- a command more, and behind it the next form
+  command_leads : (c : Command) (s : State) → IsShort n s → Program text s → command_is_valid s.classes c ≡ true → Leads text w.past (Next (Forms ∷ []) (with_command s c))
+  command_leads c s short g valid = (omega (arith, length-append {A = Command}), at_forms (command_added text s.classes s.rules s.commands c g valid))
+
+  -- or its bracket
+  whole_command_leads : (c : Command) (s : State) → IsShort n s → Program text s → command_is_valid s.classes c ≡ true → Leads text w.past (Next (Closes EndsWhole ∷ Forms ∷ []) (with_command s c))
+  whole_command_leads c s short g valid = (omega (arith, length-append {A = Command}), at_command_end (command_added text s.classes s.rules s.commands c g valid))
+
   counted_leads : (s : State) → IsShort n s → Program text s → (o : Option ℕ) → count_of w.kind ≡ o → Leads text w.past (counted o (Forms ∷ []) s)
-  counted_leads s short g (Some k) e = (
-    omega (arith, length-append {A = Command}),
-    at_command_end (command_added text s.classes s.rules s.commands (command.Run (Some k)) g (count_natural w.kind k e)),
-  )
+  counted_leads s short g (Some k) e = whole_command_leads (command.Run (Some k)) s short g (count_natural w.kind k e)
   counted_leads s short g None e = tt
 
   count_leads : (s : State) → IsShort n s → Program text s → Leads text w.past (count w (Forms ∷ []) s)
   count_leads s short g =
-      cond_both (is_right w.kind) _ _ (Leads text w.past)
-      (λ _. (omega (arith, length-append {A = Command}), at_forms (command_added text s.classes s.rules s.commands (command.Run None) g refl)))
+      cond_both (is_right w.kind) _ _ (Leads text w.past) (λ _. command_leads (command.Run None) s short g refl)
       (λ _. counted_leads s short g (count_of w.kind) refl)
 
   strategy_set_leads : (s : State) → IsShort n s → Program text s → (o : Option Strategy) → Leads text w.past (strategy_set o (Forms ∷ []) s)
-  strategy_set_leads s short g (Some set) =
-      (omega (arith, length-append {A = Command}), at_command_end (command_added text s.classes s.rules s.commands (command.Strategy (Some set)) g refl))
+  strategy_set_leads s short g (Some set) = whole_command_leads (command.Strategy (Some set)) s short g refl
   strategy_set_leads s short g None = tt
 
   strategy_name_leads : (s : State) → IsShort n s → Program text s → Leads text w.past (strategy_name w (Forms ∷ []) s)
   strategy_name_leads s short g =
-      cond_both (is_right w.kind) _ _ (Leads text w.past)
-      (λ _. (omega (arith, length-append {A = Command}), at_forms (command_added text s.classes s.rules s.commands (command.Strategy None) g refl)))
+      cond_both (is_right w.kind) _ _ (Leads text w.past) (λ _. command_leads (command.Strategy None) s short g refl)
       (λ _. strategy_set_leads s short g (strategy_of w.keyword))
+
+  level_set_leads : (s : State) → IsShort n s → Program text s → (o : Option ℕ) → level_of w.kind ≡ o → Leads text w.past (level_set o (Forms ∷ []) s)
+  level_set_leads s short g (Some k) e = whole_command_leads (command.Watch (Some k)) s short g (level_small w.kind k e)
+  level_set_leads s short g None e = tt
+
+  level_leads : (s : State) → IsShort n s → Program text s → Leads text w.past (level w (Forms ∷ []) s)
+  level_leads s short g =
+      cond_both (is_right w.kind) _ _ (Leads text w.past) (λ _. command_leads (command.Watch None) s short g refl)
+      (λ _. level_set_leads s short g (level_of w.kind) refl)
+
+  tag_leads : (u : TagUse) (s : State) → IsShort n s → Program text s → list_all is_natural s.tags ≡ true → (o : Option ℕ) → count_of w.kind ≡ o → Leads text w.past (tag_at o (Tags u ∷ Forms ∷ []) s)
+  tag_leads u s short g natural (Some k) e =
+      (omega (arith, length-append {A = ℕ}), at_tags u (g, all_push is_natural s.tags k natural (count_natural w.kind k e), tag_enough u s.tags k))
+  tag_leads u s short g natural None e = tt
+
+  tag_or_all_leads : (s : State) → IsShort n s → Program text s × (s.tags ≡ []) → Leads text w.past (tag_or_all w (Forms ∷ []) s)
+  tag_or_all_leads s short g =
+      cond_both (is_all w.keyword) _ _ (Leads text w.past) (λ _. whole_command_leads command.RemoveAll s short g.0 refl)
+      (λ _. tag_leads ToRemove s short g.0 (ap (list_all is_natural) g.1) (count_of w.kind) refl)
+
+  tags_leads : (u : TagUse) (s : State) → IsShort n s → AtTags u text s → Leads text w.past (tags u w (Forms ∷ []) s)
+  tags_leads u s short g =
+      cond_both (is_right w.kind) _ _ (Leads text w.past)
+      (λ _. (
+        omega (arith, length-append {A = Command}),
+        at_forms (command_added text s.classes s.rules s.commands (tag_command u s.tags) g.0 (tags_valid s.classes u s.tags (fits_below s.tags n short.12 place_fits) g.1 g.2)),
+      ))
+      (λ _. tag_leads u s short g.0 g.1 (count_of w.kind) refl)
+
+  shown_leads : (s : State) → IsShort n s → Program text s → Leads text w.past (shown w (Forms ∷ []) s)
+  shown_leads s short g =
+      cond_both (is_right w.kind) _ _ (Leads text w.past) (λ _. command_leads (command.Ppwm None) s short g refl)
+      (λ _. class_name_leads Bare InFixed (record s { fixed = []; shows = true }) (omega arith) (g, refl, tt))
+
+  named_rule_leads : (u : NameUse) (s : State) → IsShort n s → Program text s → Leads text w.past (named_rule w (NamedRules u ∷ Forms ∷ []) s)
+  named_rule_leads u s short g =
+      cond_both (is_name w.kind) _ _ (Leads text w.past) (λ _. (omega (arith, length-append {A = Sym}), at_named_rules u (g, name_enough u s.named w.name))) (λ _. tt)
+
+  named_rules_leads : (u : NameUse) (s : State) → IsShort n s → AtNames u text s → Leads text w.past (named_rules u w (Forms ∷ []) s)
+  named_rules_leads u s short g =
+      cond_both (is_right w.kind) _ _ (Leads text w.past)
+      (λ _. (
+        omega (arith, length-append {A = Command}),
+        at_forms (command_added text s.classes s.rules s.commands (name_command u s.named) g.0 (names_valid s.classes u s.named (fits_below s.named n short.13 place_fits) g.1)),
+      ))
+      (λ _. named_rule_leads u s short g.0)
+
+  cs_leads : (s : State) → IsShort n s → Program text s → Leads text w.past (closes EndsCs w (Forms ∷ []) s)
+  cs_leads s short g = cond_both (is_right w.kind) _ _ (Leads text w.past) (λ _. command_leads command.Cs s short g refl) (λ _. tt)
+
+  exit_leads : (s : State) → IsShort n s → Program text s → Leads text w.past (closes EndsExit w (Forms ∷ []) s)
+  exit_leads s short g = cond_both (is_right w.kind) _ _ (Leads text w.past) (λ _. command_leads command.Exit s short g refl) (λ _. tt)
 
   command_end_leads : (s : State) → IsShort n s → Program text s → Leads text w.past (closes EndsWhole w (Forms ∷ []) s)
   command_end_leads s short g = cond_both (is_right w.kind) _ _ (Leads text w.past) (λ _. (omega arith, at_forms g)) (λ _. tt)
@@ -520,4 +608,12 @@ module _ (text n : ℕ) (w : Word) (fit : text ≤ longest_list) (placed : IsPla
   step_leads s ws short (at_halt g) = halt_leads text n w fit placed s short g
   step_leads s ws short (at_count g) = count_leads s short g
   step_leads s ws short (at_strategy_name g) = strategy_name_leads s short g
+  step_leads s ws short (at_tag_or_all g) = tag_or_all_leads s short g
+  step_leads s ws short (at_tags u g) = tags_leads u s short g
+  step_leads s ws short (at_shown g) = shown_leads s short g
+  step_leads s ws short (at_named_rule g) = named_rule_leads ToPrint s short g
+  step_leads s ws short (at_named_rules u g) = named_rules_leads u s short g
+  step_leads s ws short (at_level g) = level_leads s short g
+  step_leads s ws short (at_cs g) = cs_leads s short g
+  step_leads s ws short (at_exit g) = exit_leads s short g
   step_leads s ws short (at_command_end g) = command_end_leads s short g

@@ -16,7 +16,7 @@ use Rattle.ops_tokens.specs.declared.token.TokenKind.TheVariants as kind
 use Rattle.ops_meaning.specs.declared.words.Word.{Word}
 use Rattle.ops_meaning.specs.declared.words.Keyword.{Keyword}
 use Rattle.ops_meaning.specs.declared.words.Keyword.TheVariants as keyword
-use Rattle.ops_meaning.specs.Grammar.{Use, InPattern, InPut, InFixed, Target, ToPut, ToTerms, ToConstants, ToItem, ToBind, Wanted, Form, ClassDeclared, Attributes, VectorName, VectorNames, RuleName, Patterns, Pattern, Braced, ElementName, ClosesBrace, ClassName, Attribute, Several, Tested, ValueFor, ExpressionUnit, ExpressionRest, Bracketed, EndsWhole, SourceCell, SourceAttribute, SourceEnd, Modified, BoundValue, CellName, Cell, Cells, Items, Closes, State, Step, Next, Refuses, is_left, is_right, is_left_brace, is_caret, is_name, is_variable, is_arrow, is_literal, is_minus, constant_of, value_of, natural_of, is_one_of, number_of, may_declare, may_produce, is_class, is_rule, is_second, makes_second, vector_name, form, class_at, attributes_of, field_at, variable_tested, constant_tested, tested, term_at, bound_at, constant_at, is_of_action, value_for, most_brackets, unit_bound, unit_at, expression_unit, is_compute, source_named, source_class, source_at, takes_several, ends_at_inf, place, terms, within, one_of_several, with_several, several, element_at, element_name, designated, numbered_cell, named_cell, cell_of, with_designated, with_modified, cell_bound, step}
+use Rattle.ops_meaning.specs.Grammar.{Use, InPattern, InPut, InFixed, Target, ToPut, ToTerms, ToConstants, ToItem, ToBind, Wanted, Form, ClassDeclared, Attributes, VectorName, VectorNames, RuleName, Patterns, Pattern, Braced, ElementName, ClosesBrace, ClassName, Terms, Attribute, Several, Tested, ValueFor, ExpressionUnit, ExpressionRest, Bracketed, EndsWhole, SourceCell, SourceAttribute, SourceEnd, Modified, BoundValue, CellName, Cell, Cells, Items, Shown, Closes, State, Step, Next, Refuses, is_left, is_right, is_left_brace, is_caret, is_name, is_variable, is_arrow, is_literal, is_minus, constant_of, value_of, natural_of, is_one_of, number_of, may_declare, may_produce, is_class, is_rule, is_second, makes_second, vector_name, form, class_at, attributes_of, field_at, variable_tested, constant_tested, tested, term_at, bound_at, constant_at, is_of_action, value_for, most_brackets, unit_bound, unit_at, expression_unit, is_compute, source_named, source_class, source_at, takes_several, ends_at_inf, place, terms, within, one_of_several, with_several, several, element_at, element_name, designated, numbered_cell, named_cell, cell_of, with_designated, with_modified, cell_bound, step}
 use Rattle.ops_meaning.specs.Derivation.{is_designator}
 use Rattle.ops_meaning.proofs.Follows.{name_not_right, designator_not_right, variable_not_left}
 use Rattle.ops_meaning.specs.Reasons.{gives_second, is_full, is_positive, is_condition, designates, is_unclear, designates_unclearly}
@@ -79,6 +79,7 @@ Fits (Patterns ∷ ws) w s = is_arrow w.keyword ≡ false → nat_lt (length s.c
 Fits (Braced ∷ ws) w s = is_left w.kind ≡ false → ElementFits w s
 Fits (ElementName ∷ ws) w s = ElementFits w s
 Fits (ClassName ∷ ws) w s = is_class s w.name ≡ true
+Fits (Shown ∷ ws) w s = is_right w.kind ≡ false → is_class s w.name ≡ true
 Fits (Attribute u ∷ ws) w s = is_one_of w.name (attributes_of (slice_get s.classes s.class)) ≡ true
 Fits (Several u f ∷ ws) w s = SeveralFit u f w s
 Fits (Tested f p ∷ ws) w s = OperandFits p w s
@@ -154,9 +155,9 @@ module _ (w : Word) (ws : List Wanted) (s : State) where
   form_fits keyword.Run = tt
   form_fits _ = tt
 
-  class_fits : (o : Option ℕ) → position (λ c. c.name.0 == w.name.0) s.classes ≡ o → IfTaken (is_class s w.name ≡ true) (class_at o ws s)
-  class_fits (Some c) e = found_any (λ c. c.name.0 == w.name.0) s.classes c no_class e
-  class_fits None e = tt
+  class_fits : (ws' : List Wanted) (s' : State) (o : Option ℕ) → position (λ c. c.name.0 == w.name.0) s.classes ≡ o → IfTaken (is_class s w.name ≡ true) (class_at o ws' s')
+  class_fits ws' s' (Some c) e = found_any (λ c. c.name.0 == w.name.0) s.classes c no_class e
+  class_fits ws' s' None e = tt
 
   field_fits : (u : Use) (o : Option ℕ) → position (λ a. a.0 == w.name.0) (attributes_of (slice_get s.classes s.class)) ≡ o → IfTaken (is_one_of w.name (attributes_of (slice_get s.classes s.class)) ≡ true) (field_at u o ws s)
   field_fits u (Some f) e =
@@ -350,7 +351,13 @@ step_fits w (Braced ∷ ws) s =
     (λ _. weaker (ElementFits w s) P (λ h _. h) _ (element_name_fits w (Pattern ∷ ClosesBrace ∷ ws) s))
 step_fits w (ElementName ∷ ws) s = element_name_fits w ws s
 step_fits w (ClassName ∷ ws) s =
-    cond_both (is_name w.kind) _ _ (IfTaken (is_class s w.name ≡ true)) (λ _. class_fits w ws s (position (λ c. c.name.0 == w.name.0) s.classes) refl) (λ _. tt)
+    cond_both (is_name w.kind) _ _ (IfTaken (is_class s w.name ≡ true)) (λ _. class_fits w ws s ws s (position (λ c. c.name.0 == w.name.0) s.classes) refl) (λ _. tt)
+step_fits w (Shown ∷ ws) s =
+    let P : Type 0 = Fits (Shown ∷ ws) w s in
+    cond_both (is_right w.kind) _ _ (IfTaken P) (λ right other. clash (is_right w.kind) right other)
+    (λ _. cond_both (is_name w.kind) _ _ (IfTaken P)
+    (λ _. weaker (is_class s w.name ≡ true) P (λ h _. h) _
+    (class_fits w ws s (Terms InFixed ∷ ws) (record s { fixed = []; shows = true }) (position (λ c. c.name.0 == w.name.0) s.classes) refl)) (λ _. tt))
 step_fits w (Attribute u ∷ ws) s =
     cond_both (is_name w.kind) _ _ (IfTaken (Fits (Attribute u ∷ ws) w s)) (λ _. field_fits w ws s u (position (λ a. a.0 == w.name.0) (attributes_of (slice_get s.classes s.class))) refl) (λ _. tt)
 step_fits w (Several u f ∷ ws) s = several_fit w ws s u f

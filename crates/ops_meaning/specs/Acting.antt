@@ -1,5 +1,5 @@
 -- What a right side does.
-use Rattle.std.specs.Prelude.{ℕ, suc, ◌+◌, ◌-◌, List, [], ◌∷◌, ◌++◌, length, map, fold, take, drop, replicate, Bool, true, false, ◌==◌, nat_lt, if◌then◌else◌, slice_get, slice_set, unwrap_or, option_map, find, Option, Some, None, option_and_then, Result, Ok, Err}
+use Rattle.std.specs.Prelude.{ℕ, suc, ◌+◌, ◌-◌, List, [], ◌∷◌, ◌++◌, length, map, fold, take, drop, replicate, Bool, true, false, ◌==◌, nat_lt, if◌then◌else◌, slice_get, slice_set, unwrap_or, option_map, find, Option, Some, None, option_and_then, Result, Ok, Err, codes}
 use Rattle.std.specs.List.{list_any}
 use Rattle.ops_base.specs.declared.values.Value.{Value}
 use Rattle.ops_base.specs.declared.values.Value.TheVariants as value
@@ -31,12 +31,14 @@ use Rattle.ops_tokens.specs.declared.accept.AcceptFault.{AcceptFault}
 use Rattle.ops_tokens.specs.declared.accept.AcceptFault.TheVariants as accept_fault
 use Rattle.ops_meaning.specs.Effects.{Effect, writes, ends_with, and_then, told_as, followed_by, silent}
 use Rattle.ops_meaning.specs.Computing.{Computed, computed}
-use Rattle.ops_meaning.specs.Layout.{Lead, Apart, Close, RightIn, values_bytes, tab_bytes}
+use Rattle.ops_meaning.specs.Layout.{Lead, Apart, Close, RightIn, values_bytes, tab_bytes, tagged_text, traced}
 
--- what stands still during a session
+-- what stands still during a run: the classes, the rules and the bytes of the program, and the trace level
 pub record Setting : Type 0 where
   pub classes : List Class
   pub rules : List Rule
+  pub text : List ℕ
+  pub watch : ℕ
 
 -- ---- what an instantiation brings
 
@@ -268,26 +270,44 @@ items_done classes lead column [] d = writes [] d
 items_done classes lead column (i ∷ is) d =
     and_then column (item_done classes lead column i d) (λ next d. items_done classes (lead_after i) next is d)
 
+-- ---- the trace
+
+-- what tells a change to this working memory: an element that is made, or one that is removed
+abbrev pub change_text : Spellings → List Class → List Element → Change → List ℕ
+change_text names classes wm (change.Add e) = codes "=>WM: " ++ tagged_text names classes e
+change_text names classes wm (change.Remove tag) = codes "<=WM: " ++ tagged_text names classes (unwrap_or (element_of wm tag) no_element)
+
+-- the lines of changes in their order
+abbrev pub change_lines : Spellings → List Class → List Element → List Change → List (List ℕ)
+change_lines names classes wm [] = []
+change_lines names classes wm (c ∷ cs) = change_text names classes wm c ∷ change_lines names classes (change_done wm c) cs
+
+-- The changes since this one are told, where elements are traced.
+abbrev pub changes_told : Setting → Doing → ℕ → Doing → Effect Mishap Doing
+changes_told s before column d =
+    writes (traced s.watch column (change_lines d.names s.classes before.wm (drop (length before.changes) d.changes))) d
+
 -- ---- actions
 
--- What an action does from a column on. All values of an element are placed before it is removed or made.
-abbrev pub action_done : List Class → ℕ → Action → Doing → Effect Mishap Doing
-action_done classes column (action.Make class puts) d =
-    silent (followed_by (made_fields classes (class_of classes class) puts d) (λ f. Ok (added f.doing class f.fields)))
-action_done classes column (action.Modify cell puts) d =
-    silent (followed_by (modified_fields classes puts cell d) (λ f. Ok (modified f.doing cell f.fields)))
-action_done classes column (action.Remove cells) d = writes [] (fold (λ d c. removed d (cell_of d c).tag) d cells)
-action_done classes column (action.Write items) d = items_done classes Apart column items d
-action_done classes column (action.Bind variable t) d =
-    silent (followed_by (evaluated classes t d) (λ v. Ok (bound v.doing variable (first_of v.values))))
-action_done classes column (action.Cbind cell) d = writes [] (cell_bound d)
-action_done classes column action.Halt d = writes [] (record d { halted = true })
+-- What an action does from a column on. All values of an element are placed before it is removed or made, and what is removed and made is told
+-- in that order.
+abbrev pub action_done : Setting → ℕ → Action → Doing → Effect Mishap Doing
+action_done s column (action.Make class puts) d =
+    and_then column (silent (followed_by (made_fields s.classes (class_of s.classes class) puts d) (λ f. Ok (added f.doing class f.fields)))) (changes_told s d)
+action_done s column (action.Modify cell puts) d =
+    and_then column (silent (followed_by (modified_fields s.classes puts cell d) (λ f. Ok (modified f.doing cell f.fields)))) (changes_told s d)
+action_done s column (action.Remove cells) d = changes_told s d column (fold (λ d c. removed d (cell_of d c).tag) d cells)
+action_done s column (action.Write items) d = items_done s.classes Apart column items d
+action_done s column (action.Bind variable t) d =
+    silent (followed_by (evaluated s.classes t d) (λ v. Ok (bound v.doing variable (first_of v.values))))
+action_done s column (action.Cbind cell) d = writes [] (cell_bound d)
+action_done s column action.Halt d = writes [] (record d { halted = true })
 
 -- the actions in order, the first of which has this number
-abbrev pub actions_done : List Class → ℕ → ℕ → List Action → Doing → Effect Misdeed Doing
-actions_done classes column n [] d = writes [] d
-actions_done classes column n (a ∷ rest) d =
-    and_then column (told_as (λ d. d) (in_action n) (action_done classes column a d)) (λ next d. actions_done classes next (suc n) rest d)
+abbrev pub actions_done : Setting → ℕ → ℕ → List Action → Doing → Effect Misdeed Doing
+actions_done s column n [] d = writes [] d
+actions_done s column n (a ∷ rest) d =
+    and_then column (told_as (λ d. d) (in_action n) (action_done s column a d)) (λ next d. actions_done s next (suc n) rest d)
 
 -- ---- a whole right side
 
@@ -326,4 +346,4 @@ left_by d = record { changes = d.changes; last = d.last; halted = d.halted; name
 
 -- what the right side of an instantiation does from a column on
 abbrev pub acted : Setting → ℕ → Inst → Given → Effect Misdeed Acted
-acted s column i g = told_as left_by (λ f. f) (actions_done s.classes column 1 (actions_of s.rules i.rule) (begun s i g))
+acted s column i g = told_as left_by (λ f. f) (actions_done s column 1 (actions_of s.rules i.rule) (begun s i g))

@@ -9,7 +9,7 @@ use Rattle.ops_tokens.specs.declared.token.TokenKind.{TokenKind}
 use Rattle.ops_tokens.specs.declared.token.TokenKind.TheVariants as kind
 use Rattle.ops_meaning.specs.declared.words.Word.{Word}
 use Rattle.ops_meaning.specs.declared.words.Keyword.TheVariants as keyword
-use Rattle.ops_meaning.specs.Grammar.{Use, InPattern, InPut, InFixed, Target, ToTest, ToTerms, ToConstants, ToItem, ToBind, Ends, EndsHalt, EndsCrlf, EndsWhole, Column, ToTab, ToRight, Wanted, Forms, Form, ClassDeclared, Attributes, VectorName, VectorNames, RuleName, FirstPattern, Patterns, Pattern, Braced, ElementName, ClosesBrace, ClassName, Terms, Attribute, Several, Place, Tests, Tested, Choice, Atom, ValueFor, Function, Waiting, ExpressionUnit, ExpressionRest, Bracketed, SourceCell, SourceAttribute, SourceEnd, Actions, ActionWord, Modified, BoundName, BoundValue, CellName, Cell, Cells, Items, ItemWord, Columns, Count, StrategyName, Closes, is_left, is_right, is_left_brace, is_right_brace, is_caret, is_name, is_variable, is_literal, is_inf, operation_of, function_depth, is_of_action, takes_several, is_minus, opens_choice, closes_choice, pred_of, constant_of, value_of, atom_of, small_of, count_of, strategy_of, is_one_of, behind_attribute}
+use Rattle.ops_meaning.specs.Grammar.{Use, InPattern, InPut, InFixed, Target, ToTest, ToTerms, ToConstants, ToItem, ToBind, Ends, EndsHalt, EndsCrlf, EndsCs, EndsExit, EndsWhole, TagUse, ToRemove, ToShow, NameUse, ToPrint, ToBreak, Column, ToTab, ToRight, Wanted, Forms, Form, ClassDeclared, Attributes, VectorName, VectorNames, RuleName, FirstPattern, Patterns, Pattern, Braced, ElementName, ClosesBrace, ClassName, Terms, Attribute, Several, Place, Tests, Tested, Choice, Atom, ValueFor, Function, Waiting, ExpressionUnit, ExpressionRest, Bracketed, SourceCell, SourceAttribute, SourceEnd, Actions, ActionWord, Modified, BoundName, BoundValue, CellName, Cell, Cells, Items, ItemWord, Columns, Count, StrategyName, TagOrAll, Tags, Shown, NamedRule, NamedRules, Level, Closes, is_left, is_right, is_left_brace, is_right_brace, is_caret, is_name, is_variable, is_literal, is_inf, operation_of, function_depth, is_of_action, takes_several, is_minus, opens_choice, closes_choice, pred_of, constant_of, value_of, atom_of, small_of, count_of, strategy_of, is_all, level_of, is_one_of, behind_attribute}
 
 -- WHOLE
 abbrev pub is_whole : TokenKind → Bool
@@ -81,6 +81,30 @@ pub data Derives : List Sym → List Wanted → List Word → Type 0 where
   a_strategy : {vs : List Sym} {ws : List Wanted} {w : Word} {ts : List Word} → w.keyword ≡ keyword.Strategy → Derives vs (StrategyName ∷ ws) ts → Derives vs (Form ∷ ws) (w ∷ ts)
   a_strategy_name : {vs : List Sym} {ws : List Wanted} {w : Word} {ts : List Word} → is_some (strategy_of w.keyword) ≡ true → Derives vs (Closes EndsWhole ∷ ws) ts → Derives vs (StrategyName ∷ ws) (w ∷ ts)
   no_strategy_name : {vs : List Sym} {ws : List Wanted} {w : Word} {ts : List Word} → is_right w.kind ≡ true → Derives vs ws ts → Derives vs (StrategyName ∷ ws) (w ∷ ts)
+  -- form = ( remove NAT NAT* ) | ( remove * ), form = ( wm NAT* )
+  a_remove_command : {vs : List Sym} {ws : List Wanted} {w : Word} {ts : List Word} → w.keyword ≡ keyword.Remove → Derives vs (TagOrAll ∷ ws) ts → Derives vs (Form ∷ ws) (w ∷ ts)
+  all_tags : {vs : List Sym} {ws : List Wanted} {w : Word} {ts : List Word} → is_all w.keyword ≡ true → Derives vs (Closes EndsWhole ∷ ws) ts → Derives vs (TagOrAll ∷ ws) (w ∷ ts)
+  a_first_tag : {vs : List Sym} {ws : List Wanted} {w : Word} {ts : List Word} → is_some (count_of w.kind) ≡ true → Derives vs (Tags ToRemove ∷ ws) ts → Derives vs (TagOrAll ∷ ws) (w ∷ ts)
+  a_wm : {vs : List Sym} {ws : List Wanted} {w : Word} {ts : List Word} → w.keyword ≡ keyword.Wm → Derives vs (Tags ToShow ∷ ws) ts → Derives vs (Form ∷ ws) (w ∷ ts)
+  one_more_tag : {vs : List Sym} {u : TagUse} {ws : List Wanted} {w : Word} {ts : List Word} → is_some (count_of w.kind) ≡ true → Derives vs (Tags u ∷ ws) ts → Derives vs (Tags u ∷ ws) (w ∷ ts)
+  no_more_tags : {vs : List Sym} {u : TagUse} {ws : List Wanted} {w : Word} {ts : List Word} → is_right w.kind ≡ true → Derives vs ws ts → Derives vs (Tags u ∷ ws) (w ∷ ts)
+  -- form = ( ppwm ) | ( ppwm CLASS fixed* )
+  a_ppwm : {vs : List Sym} {ws : List Wanted} {w : Word} {ts : List Word} → w.keyword ≡ keyword.Ppwm → Derives vs (Shown ∷ ws) ts → Derives vs (Form ∷ ws) (w ∷ ts)
+  a_shown_class : {vs : List Sym} {ws : List Wanted} {w : Word} {ts : List Word} → is_name w.kind ≡ true → Derives vs (Terms InFixed ∷ ws) ts → Derives vs (Shown ∷ ws) (w ∷ ts)
+  all_shown : {vs : List Sym} {ws : List Wanted} {w : Word} {ts : List Word} → is_right w.kind ≡ true → Derives vs ws ts → Derives vs (Shown ∷ ws) (w ∷ ts)
+  -- form = ( cs ), form = ( exit )
+  a_cs : {vs : List Sym} {ws : List Wanted} {w : Word} {ts : List Word} → w.keyword ≡ keyword.Cs → Derives vs (Closes EndsCs ∷ ws) ts → Derives vs (Form ∷ ws) (w ∷ ts)
+  an_exit : {vs : List Sym} {ws : List Wanted} {w : Word} {ts : List Word} → w.keyword ≡ keyword.Exit → Derives vs (Closes EndsExit ∷ ws) ts → Derives vs (Form ∷ ws) (w ∷ ts)
+  -- form = ( pm NAME NAME* ), form = ( pbreak NAME* )
+  a_pm : {vs : List Sym} {ws : List Wanted} {w : Word} {ts : List Word} → w.keyword ≡ keyword.Pm → Derives vs (NamedRule ∷ NamedRules ToPrint ∷ ws) ts → Derives vs (Form ∷ ws) (w ∷ ts)
+  a_pbreak : {vs : List Sym} {ws : List Wanted} {w : Word} {ts : List Word} → w.keyword ≡ keyword.Pbreak → Derives vs (NamedRules ToBreak ∷ ws) ts → Derives vs (Form ∷ ws) (w ∷ ts)
+  a_named_rule : {vs : List Sym} {ws : List Wanted} {w : Word} {ts : List Word} → is_name w.kind ≡ true → Derives vs ws ts → Derives vs (NamedRule ∷ ws) (w ∷ ts)
+  one_more_rule : {vs : List Sym} {u : NameUse} {ws : List Wanted} {w : Word} {ts : List Word} → is_name w.kind ≡ true → Derives vs (NamedRules u ∷ ws) ts → Derives vs (NamedRules u ∷ ws) (w ∷ ts)
+  no_more_rules : {vs : List Sym} {u : NameUse} {ws : List Wanted} {w : Word} {ts : List Word} → is_right w.kind ≡ true → Derives vs ws ts → Derives vs (NamedRules u ∷ ws) (w ∷ ts)
+  -- form = ( watch ) | ( watch 0 ) | ( watch 1 ) | ( watch 2 )
+  a_watch : {vs : List Sym} {ws : List Wanted} {w : Word} {ts : List Word} → w.keyword ≡ keyword.Watch → Derives vs (Level ∷ ws) ts → Derives vs (Form ∷ ws) (w ∷ ts)
+  a_level : {vs : List Sym} {ws : List Wanted} {w : Word} {ts : List Word} → is_some (level_of w.kind) ≡ true → Derives vs (Closes EndsWhole ∷ ws) ts → Derives vs (Level ∷ ws) (w ∷ ts)
+  no_level : {vs : List Sym} {ws : List Wanted} {w : Word} {ts : List Word} → is_right w.kind ≡ true → Derives vs ws ts → Derives vs (Level ∷ ws) (w ∷ ts)
   -- CLASS; term = ^ ATTR place*; put = ^ ATTR value*; fixed = ^ ATTR value*
   a_class_name : {vs : List Sym} {ws : List Wanted} {w : Word} {ts : List Word} → is_name w.kind ≡ true → Derives vs ws ts → Derives vs (ClassName ∷ ws) (w ∷ ts)
   a_term : {vs : List Sym} {u : Use} {ws : List Wanted} {w : Word} {ts : List Word} → is_caret w.kind ≡ true → Derives vs (Attribute u ∷ ws) ts → Derives vs (Terms u ∷ ws) (w ∷ ts)

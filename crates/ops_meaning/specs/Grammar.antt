@@ -1,5 +1,5 @@
 -- The grammar of program texts, as what a word does where something is wanted.
-use Rattle.std.specs.Prelude.{ℕ, suc, ◌+◌, ◌-◌, List, [], ◌∷◌, ◌++◌, length, take, map, filter, position, Bool, true, false, not, ◌==◌, ◌&&◌, ◌||◌, nat_lt, if◌then◌else◌, Option, Some, None, Result, Ok, Err, ℤ, pos, negsuc, slice_get, unwrap_or}
+use Rattle.std.specs.Prelude.{ℕ, suc, ◌+◌, ◌-◌, List, [], ◌∷◌, ◌++◌, length, take, map, filter, position, Bool, true, false, not, ◌==◌, ◌&&◌, ◌||◌, nat_lt, nat_le, if◌then◌else◌, Option, Some, None, Result, Ok, Err, ℤ, pos, negsuc, slice_get, unwrap_or}
 use Rattle.std.specs.List.{list_any, list_all}
 use Rattle.ops_base.specs.declared.values.Sym.{Sym}
 use Rattle.ops_base.specs.declared.values.Value.{Value}
@@ -56,16 +56,28 @@ pub data Target : Type 0 where
   ToItem : Target
   ToBind : Target
 
--- what a closing bracket ends: an action or an item that has nothing in it, or something that is done already
+-- what a closing bracket ends: an action, an item or a command that has nothing in it, or something that is done already
 pub data Ends : Type 0 where
   EndsHalt : Ends
   EndsCrlf : Ends
+  EndsCs : Ends
+  EndsExit : Ends
   EndsWhole : Ends
 
 -- what a number of columns is for
 pub data Column : Type 0 where
   ToTab : Column
   ToRight : Column
+
+-- what the tags of a command are for: its elements are removed, or shown
+pub data TagUse : Type 0 where
+  ToRemove : TagUse
+  ToShow : TagUse
+
+-- what the names of a command are for: its productions are printed, or get a break or lose it
+pub data NameUse : Type 0 where
+  ToPrint : NameUse
+  ToBreak : NameUse
 
 -- an operand of `compute` and the operation behind it, which wait for what stands behind them
 pub record Waiting : Type 0 where
@@ -76,8 +88,9 @@ pub record Waiting : Type 0 where
 pub data Wanted : Type 0 where
   -- form*
   Forms : Wanted
-  -- literalize NAME NAME* ) | vector-attribute NAME NAME* ) | p NAME first condition* --> action* ) | make CLASS fixed* ) | run [NAT] )
-  -- | strategy ) | strategy lex ) | strategy mea )
+  -- literalize NAME NAME* ) | vector-attribute NAME NAME* ) | p NAME first condition* --> action* ) | make CLASS fixed* )
+  -- | remove NAT NAT* ) | remove * ) | run [NAT] ) | wm NAT* ) | ppwm ) | ppwm CLASS fixed* ) | cs ) | pm NAME NAME* )
+  -- | strategy ) | strategy lex ) | strategy mea ) | watch ) | watch 0 ) | watch 1 ) | watch 2 ) | pbreak NAME* ) | exit )
   Form : Wanted
   -- NAME
   ClassDeclared : Wanted
@@ -164,6 +177,18 @@ pub data Wanted : Type 0 where
   Count : Wanted
   -- lex ) | mea ) | )
   StrategyName : Wanted
+  -- NAT NAT* ) | * )
+  TagOrAll : Wanted
+  -- NAT* )
+  Tags : (use_of : TagUse) → Wanted
+  -- CLASS fixed* ) | )
+  Shown : Wanted
+  -- NAME
+  NamedRule : Wanted
+  -- NAME* )
+  NamedRules : (use_of : NameUse) → Wanted
+  -- 0 ) | 1 ) | 2 ) | )
+  Level : Wanted
   -- )
   Closes : (what : Ends) → Wanted
 
@@ -208,6 +233,10 @@ pub record State : Type 0 where
   pub source : ℕ
   pub source_field : ℕ
   pub formula : Formula
+  -- of a command: whether it shows the elements that its constants fit, in place of making one; its tags; and its names
+  pub shows : Bool
+  pub tags : List ℕ
+  pub named : List Sym
 
 -- what a word does: something else is wanted now, or the word is refused
 pub data Step : Type 0 where
@@ -379,9 +408,17 @@ form w keyword.Literalize ws s =
 form w keyword.VectorAttribute ws s = if may_declare s then Next (VectorName ∷ VectorNames ∷ ws) s else Refuses fault.LateDeclaration
 form w keyword.Production ws s =
     if may_produce s then Next (RuleName ∷ FirstPattern ∷ Patterns ∷ Actions ∷ ws) s else Refuses fault.LateProduction
-form w keyword.Make ws s = Next (ClassName ∷ Terms InFixed ∷ ws) (record s { fixed = [] })
+form w keyword.Make ws s = Next (ClassName ∷ Terms InFixed ∷ ws) (record s { fixed = []; shows = false })
+form w keyword.Remove ws s = Next (TagOrAll ∷ ws) (record s { tags = [] })
 form w keyword.Run ws s = Next (Count ∷ ws) s
+form w keyword.Wm ws s = Next (Tags ToShow ∷ ws) (record s { tags = [] })
+form w keyword.Ppwm ws s = Next (Shown ∷ ws) s
+form w keyword.Cs ws s = Next (Closes EndsCs ∷ ws) s
+form w keyword.Pm ws s = Next (NamedRule ∷ NamedRules ToPrint ∷ ws) (record s { named = [] })
 form w keyword.Strategy ws s = Next (StrategyName ∷ ws) s
+form w keyword.Watch ws s = Next (Level ∷ ws) s
+form w keyword.Pbreak ws s = Next (NamedRules ToBreak ∷ ws) (record s { named = [] })
+form w keyword.Exit ws s = Next (Closes EndsExit ∷ ws) s
 form w _ ws s = Refuses fault.UnknownCommand
 
 abbrev pub class_declared : Word → List Wanted → State → Step
@@ -729,11 +766,16 @@ abbrev pub put_action : Option ℕ → ℕ → List Put → Action
 put_action None class puts = action.Make class puts
 put_action (Some cell) class puts = action.Modify cell puts
 
+-- a `make` of this class, or a `ppwm` of the elements that have these values
+abbrev pub fixed_command : Bool → ℕ → List Fixed → Command
+fixed_command false class puts = command.Make class puts
+fixed_command true class puts = command.Ppwm (Some (class, puts))
+
 -- an element form ends
 abbrev pub with_element : Use → State → State
 with_element InPattern s = with_condition s
 with_element InPut s = record (with_action s (put_action s.modified s.class s.puts)) { puts = []; made = Some s.class }
-with_element InFixed s = record (with_command s (command.Make s.class s.fixed)) { fixed = [] }
+with_element InFixed s = record (with_command s (fixed_command s.shows s.class s.fixed)) { fixed = [] }
 
 abbrev pub terms : Use → Word → List Wanted → State → Step
 terms u w ws s =
@@ -1001,6 +1043,8 @@ columns_at c None ws s = Refuses fault.BadForm
 abbrev pub ended : Ends → State → State
 ended EndsHalt s = with_action s action.Halt
 ended EndsCrlf s = with_item s item.Crlf
+ended EndsCs s = with_command s command.Cs
+ended EndsExit s = with_command s command.Exit
 ended EndsWhole s = s
 
 abbrev pub closes : Ends → Word → List Wanted → State → Step
@@ -1035,6 +1079,67 @@ strategy_set None ws s = Refuses fault.BadForm
 abbrev pub strategy_name : Word → List Wanted → State → Step
 strategy_name w ws s =
     if is_right w.kind then Next ws (with_command s (command.Strategy None)) else strategy_set (strategy_of w.keyword) ws s
+
+abbrev pub tag_at : Option ℕ → List Wanted → State → Step
+tag_at (Some n) ws s = Next ws (record s { tags = s.tags ++ n ∷ [] })
+tag_at None ws s = Refuses fault.BadForm
+
+-- all elements, where they are removed
+abbrev pub is_all : Keyword → Bool
+is_all keyword.Times = true
+is_all _ = false
+
+-- NAT NAT* ) | * )
+abbrev pub tag_or_all : Word → List Wanted → State → Step
+tag_or_all w ws s =
+    if is_all w.keyword then Next (Closes EndsWhole ∷ ws) (with_command s command.RemoveAll) else tag_at (count_of w.kind) (Tags ToRemove ∷ ws) s
+
+abbrev pub tag_command : TagUse → List ℕ → Command
+tag_command ToRemove tags = command.Remove tags
+tag_command ToShow tags = command.Wm tags
+
+-- a command of tags ends
+abbrev pub with_tags : TagUse → State → State
+with_tags u s = record (with_command s (tag_command u s.tags)) { tags = [] }
+
+-- NAT* )
+abbrev pub tags : TagUse → Word → List Wanted → State → Step
+tags u w ws s = if is_right w.kind then Next ws (with_tags u s) else tag_at (count_of w.kind) (Tags u ∷ ws) s
+
+-- CLASS fixed* ) | )
+abbrev pub shown : Word → List Wanted → State → Step
+shown w ws s =
+    if is_right w.kind then Next ws (with_command s (command.Ppwm None))
+    else class_name w (Terms InFixed ∷ ws) (record s { fixed = []; shows = true })
+
+-- NAME, which need not be one of a production
+abbrev pub named_rule : Word → List Wanted → State → Step
+named_rule w ws s = if is_name w.kind then Next ws (record s { named = s.named ++ w.name ∷ [] }) else Refuses fault.BadForm
+
+abbrev pub name_command : NameUse → List Sym → Command
+name_command ToPrint names = command.Pm names
+name_command ToBreak names = command.Pbreak names
+
+-- a command of names ends
+abbrev pub with_named : NameUse → State → State
+with_named u s = record (with_command s (name_command u s.named)) { named = [] }
+
+-- NAME* )
+abbrev pub named_rules : NameUse → Word → List Wanted → State → Step
+named_rules u w ws s = if is_right w.kind then Next ws (with_named u s) else named_rule w (NamedRules u ∷ ws) s
+
+-- a trace level
+abbrev pub level_of : TokenKind → Option ℕ
+level_of (kind.Whole (pos n)) = if nat_le n 2 then Some n else None
+level_of _ = None
+
+abbrev pub level_set : Option ℕ → List Wanted → State → Step
+level_set (Some n) ws s = Next (Closes EndsWhole ∷ ws) (with_command s (command.Watch (Some n)))
+level_set None ws s = Refuses fault.BadForm
+
+-- 0 ) | 1 ) | 2 ) | )
+abbrev pub level : Word → List Wanted → State → Step
+level w ws s = if is_right w.kind then Next ws (with_command s (command.Watch None)) else level_set (level_of w.kind) ws s
 
 -- ---- the walk over the words
 
@@ -1088,6 +1193,12 @@ step w (ItemWord ∷ ws) s = item_word w.keyword ws s
 step w (Columns c ∷ ws) s = columns_at c (small_of w.kind) ws s
 step w (Count ∷ ws) s = count w ws s
 step w (StrategyName ∷ ws) s = strategy_name w ws s
+step w (TagOrAll ∷ ws) s = tag_or_all w ws s
+step w (Tags u ∷ ws) s = tags u w ws s
+step w (Shown ∷ ws) s = shown w ws s
+step w (NamedRule ∷ ws) s = named_rule w ws s
+step w (NamedRules u ∷ ws) s = named_rules u w ws s
+step w (Level ∷ ws) s = level w ws s
 step w (Closes e ∷ ws) s = closes e w ws s
 
 -- the state that was reached, or the fault at the word that goes on to nothing, and at none where the words end too early
@@ -1143,4 +1254,7 @@ nothing_read =
       source = 0;
       source_field = 0;
       formula = no_formula;
+      shows = false;
+      tags = [];
+      named = [];
     }

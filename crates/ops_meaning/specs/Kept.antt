@@ -1,6 +1,6 @@
 -- What a session keeps of working memory and of the names, that its right sides act lawfully, and that its conflict sets are the sets of all
 -- instantiations.
-use Rattle.std.specs.Prelude.{◌≡◌, ℕ, ◌≤◌, ◌+◌, List, false, Result, IfOk, MatchResult, Some, slice_get}
+use Rattle.std.specs.Prelude.{◌≡◌, ℕ, ◌≤◌, ◌+◌, List, Bool, Result, IfOk, MatchResult, Some, None, slice_get}
 use Rattle.std.specs.List.{All}
 use Rattle.ops_base.specs.declared.elements.Element.{Element}
 use Rattle.ops_base.specs.declared.rules.Rule.{Rule}
@@ -13,7 +13,7 @@ use Rattle.ops_base.specs.Instances.{IsConflictSet}
 use Rattle.ops_base.specs.Names.{Spellings}
 use Rattle.ops_io.specs.Coming.{Coming}
 use Rattle.ops_meaning.specs.Acting.{Setting, Given, Acted, acted}
-use Rattle.ops_meaning.specs.Running.{Finder, Course, run_on, session_by, session_of}
+use Rattle.ops_meaning.specs.Running.{Finder, Course, Session, run_on, session_by, session_of}
 
 -- The elements stand in the order of their tags, each tag once, and no tag is above the last that was given: so the next
 -- one is free.
@@ -46,23 +46,24 @@ abbrev pub GoesByConflictSets : Setting → ℕ → List Command → Spellings �
 GoesByConflictSets s limit commands names =
     (found : Finder) → FindsConflictSets s.rules found → (coming : Coming) → session_of s limit commands names coming ≡ session_by found s limit commands names coming
 
--- the limit that an ending tells is this one
+-- the limit that an ending tells is this one, and a firing that failed is within it
 abbrev pub TellsLimit : ℕ → Ending → Type 0
 TellsLimit limit (ending.Done firings elements last) = Unit {0}
-TellsLimit limit (ending.Act firing rule action kind) = Unit {0}
+TellsLimit limit (ending.Act firing rule action kind) = firing ≤ limit
 TellsLimit limit (ending.Limit firings) = firings ≡ limit
 TellsLimit limit ending.ReadFault = Unit {0}
 TellsLimit limit ending.WriteFault = Unit {0}
 TellsLimit limit ending.OutOfMemory = Unit {0}
 
 -- At most so many firings were made, or the limit that was told is this one.
-abbrev pub KeepsLimit : ℕ → Result Course Ending → Type 0
-KeepsLimit limit r = MatchResult r (λ m. m.firings ≤ limit) (TellsLimit limit)
+abbrev pub KeepsLimit : ℕ → Result Session Ending → Type 0
+KeepsLimit limit r = MatchResult r (λ k. k.course.firings ≤ limit) (TellsLimit limit)
 
 -- A session keeps to its limit, whatever input comes.
 abbrev pub IsLimited : Setting → ℕ → List Command → Spellings → Type 0
 IsLimited s limit commands names = (coming : Coming) → KeepsLimit limit (session_of s limit commands names coming).outcome
 
--- A run with a number makes at most so many firings.
+-- A run with a number that comes to its end makes at most so many firings.
 abbrev pub IsCounted : ℕ → Setting → Course → Type 0
-IsCounted left s m = (column n : ℕ) → IfOk (run_on left s column false (Some n) m).outcome (λ k. k.firings ≤ m.firings + n)
+IsCounted left s m =
+    (breaks : List Bool) (column n : ℕ) → IfOk (run_on left s breaks column None (Some n) m).outcome (λ k. k.firings ≤ m.firings + n)

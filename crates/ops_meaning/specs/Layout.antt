@@ -1,14 +1,26 @@
 -- What is printed.
-use Rattle.std.specs.Prelude.{ℕ, ◌-◌, List, [], ◌∷◌, ◌++◌, length, replicate, Bool, true, false, ◌==◌, ◌&&◌, nat_le, if◌then◌else◌, Some, Ok, slice_get, unwrap_or, option_map, codes, decimal}
+use Rattle.std.specs.Prelude.{ℕ, suc, ◌-◌, List, [], ◌∷◌, ◌++◌, length, drop, replicate, Bool, true, false, ◌==◌, ◌&&◌, nat_le, if◌then◌else◌, Some, Ok, slice_get, unwrap_or, option_map, codes, decimal}
 use Rattle.std.specs.Fmt.{signed_decimal}
 use Rattle.ops_base.specs.declared.values.Value.{Value}
 use Rattle.ops_base.specs.declared.values.Value.TheVariants.{Symbol, Whole}
 use Rattle.ops_base.specs.declared.values.Sym.{Sym}
+use Rattle.ops_base.specs.declared.elements.Class.{Class}
+use Rattle.ops_base.specs.declared.elements.Element.{Element}
+use Rattle.ops_base.specs.declared.commands.Strategy.{Strategy}
+use Rattle.ops_base.specs.declared.commands.Strategy.TheVariants.{Lex, Mea}
 use Rattle.ops_base.specs.declared.rules.Rule.{Rule}
+use Rattle.ops_base.specs.declared.rules.Inst.{Inst}
 use Rattle.ops_base.specs.declared.endings.ActKind.{ActKind}
 use Rattle.ops_base.specs.declared.endings.ActKind.TheVariants as act_fault
 use Rattle.ops_base.specs.declared.endings.Ending.{Ending}
 use Rattle.ops_base.specs.declared.endings.Ending.TheVariants as ending
+use Rattle.ops_base.specs.declared.endings.Fault.{Fault}
+use Rattle.ops_base.specs.declared.endings.Fault.TheVariants as fault
+use Rattle.ops_base.specs.declared.endings.Limit.{Limit}
+use Rattle.ops_base.specs.declared.endings.Limit.TheVariants as limit
+use Rattle.ops_base.specs.Valid.{class_of, is_vector}
+use Rattle.ops_base.specs.Values.{nil, are_same}
+use Rattle.ops_base.specs.WorkingMemory.{field_of}
 use Rattle.ops_base.specs.Names.{Spellings, spelling_of}
 use Rattle.ops_io.specs.Output.{column_after}
 use Rattle.ops_tokens.specs.declared.token.TokenKind.{TokenKind}
@@ -61,6 +73,11 @@ fresh_line column = if column == 0 then [] else 10 ∷ []
 abbrev pub line_at : ℕ → List ℕ → List ℕ
 line_at column text = fresh_line column ++ (text ++ 10 ∷ [])
 
+-- lines of their own, one after another
+abbrev pub lines_at : ℕ → List (List ℕ) → List ℕ
+lines_at column [] = []
+lines_at column (l ∷ ls) = line_at column l ++ lines_at 0 ls
+
 -- ---- symbols
 
 abbrev pub is_symbol : TokenKind → Bool
@@ -83,6 +100,101 @@ barred s = 124 ∷ s ++ 124 ∷ []
 abbrev pub symbol_text : Spellings → Sym → List ℕ
 symbol_text names sym = if is_plain_symbol (spelling_of names sym) then spelling_of names sym else barred (spelling_of names sym)
 
+-- ---- elements
+
+-- a value, everywhere but in `write`
+abbrev pub shown_value : Spellings → Value → List ℕ
+shown_value names (Symbol s) = symbol_text names s
+shown_value names (Whole n) = signed_decimal n
+
+-- values, each after one space
+abbrev pub shown_values : Spellings → List Value → List ℕ
+shown_values names [] = []
+shown_values names (v ∷ vs) = 32 ∷ shown_value names v ++ shown_values names vs
+
+-- an attribute with its values, where it has any
+abbrev pub attribute_text : Spellings → Sym → List Value → List ℕ
+attribute_text names a [] = []
+attribute_text names a (v ∷ vs) = codes " ^" ++ symbol_text names a ++ shown_values names (v ∷ vs)
+
+-- the value of a scalar attribute, but nil
+abbrev pub value_shown : Value → List Value
+value_shown v = if are_same v nil then [] else v ∷ []
+
+-- the values that are shown of the attribute with this number: of the vector attribute all that it has
+abbrev pub values_shown : Class → Element → ℕ → List Value
+values_shown c e f = if is_vector c f then drop f e.fields else value_shown (field_of e f)
+
+-- these attributes of the class, of which the first has this number
+abbrev pub attributes_text : Spellings → Class → Element → ℕ → List Sym → List ℕ
+attributes_text names c e f [] = []
+attributes_text names c e f (a ∷ as_) = attribute_text names a (values_shown c e f) ++ attributes_text names c e (suc f) as_
+
+-- (CLASS ^attr value ^attr value)
+abbrev pub element_text : Spellings → List Class → Element → List ℕ
+element_text names classes e =
+    let c = class_of classes e.class in codes "(" ++ symbol_text names c.name ++ attributes_text names c e 0 c.attrs ++ codes ")"
+
+-- TAG: ELEMENT
+abbrev pub tagged_text : Spellings → List Class → Element → List ℕ
+tagged_text names classes e = decimal e.tag ++ codes ": " ++ element_text names classes e
+
+-- ---- instantiations
+
+abbrev pub rule_name : List Rule → ℕ → Sym
+rule_name rules n = unwrap_or (option_map (λ r. r.name) (slice_get rules n)) (record { 0 = 0 })
+
+-- tags, each after one space
+abbrev pub tags_text : List ℕ → List ℕ
+tags_text [] = []
+tags_text (t ∷ ts) = 32 ∷ decimal t ++ tags_text ts
+
+-- NAME TAG TAG
+abbrev pub inst_text : Spellings → List Rule → Inst → List ℕ
+inst_text names rules i = symbol_text names (rule_name rules i.rule) ++ tags_text i.tags
+
+-- ---- the trace
+
+-- the line of a firing with this number, where firings are traced
+abbrev pub firing_bytes : ℕ → ℕ → Spellings → List Rule → ℕ → Inst → List ℕ
+firing_bytes watch column names rules firing i =
+    if nat_le 1 watch then line_at column (decimal firing ++ codes ". " ++ inst_text names rules i) else []
+
+-- the lines of changes, where elements are traced
+abbrev pub traced : ℕ → ℕ → List (List ℕ) → List ℕ
+traced watch column lines = if nat_le 2 watch then lines_at column lines else []
+
+-- ---- what a command tells
+
+abbrev pub strategy_line : Strategy → List ℕ
+strategy_line Lex = codes "strategy lex"
+strategy_line Mea = codes "strategy mea"
+
+abbrev pub level_line : ℕ → List ℕ
+level_line n = codes "watch " ++ decimal n
+
+-- a production has a break
+abbrev pub break_line : Spellings → Sym → List ℕ
+break_line names name = codes "break " ++ symbol_text names name
+
+-- there is no such production
+abbrev pub unknown_line : Spellings → Sym → List ℕ
+unknown_line names name = codes "no production " ++ symbol_text names name
+
+-- ---- how a run ends
+
+abbrev pub halted_line : List ℕ
+halted_line = codes "end -- explicit halt"
+
+abbrev pub no_more_line : List ℕ
+no_more_line = codes "end -- no production true"
+
+abbrev pub counted_line : List ℕ
+counted_line = codes "break -- run count"
+
+abbrev pub broken_line : Spellings → Sym → List ℕ
+broken_line names name = codes "break -- production " ++ symbol_text names name
+
 -- ---- endings
 
 abbrev pub act_fault_text : ActKind → List ℕ
@@ -91,9 +203,6 @@ act_fault_text act_fault.ZeroDivisor = codes "zero divisor"
 act_fault_text act_fault.Overflow = codes "overflow"
 act_fault_text act_fault.TooManyFields = codes "too many fields"
 act_fault_text act_fault.InputTooLong = codes "input too long"
-
-abbrev pub rule_name : List Rule → ℕ → Sym
-rule_name rules n = unwrap_or (option_map (λ r. r.name) (slice_get rules n)) (record { 0 = 0 })
 
 abbrev pub act_fault_line : Spellings → List Rule → ℕ → ℕ → ℕ → ActKind → List ℕ
 act_fault_line names rules firing rule action k =
@@ -113,3 +222,35 @@ usage_line = codes "usage: ops [--match direct|serial|rounds|free] [--workers N]
 
 abbrev pub unread_line : List ℕ → List ℕ
 unread_line name = codes "ops: cannot read " ++ name ++ 10 ∷ []
+
+-- ---- faults of a text
+
+abbrev pub limit_text : Limit → List ℕ
+limit_text limit.Conditions = codes "limit passed: conditions"
+limit_text limit.Fields = codes "limit passed: fields"
+limit_text limit.Nesting = codes "limit passed: nesting"
+
+abbrev pub fault_text : Fault → List ℕ
+fault_text fault.BadByte = codes "bad byte"
+fault_text fault.Unclosed = codes "unclosed"
+fault_text fault.Stray = codes "stray"
+fault_text fault.FractionNumber = codes "fraction"
+fault_text fault.NumberRange = codes "number out of range"
+fault_text fault.UnknownCommand = codes "unknown command"
+fault_text fault.BadForm = codes "bad form"
+fault_text fault.UnknownClass = codes "unknown class"
+fault_text fault.UnknownAttribute = codes "unknown attribute"
+fault_text fault.DeclaredTwice = codes "declared twice"
+fault_text fault.TwoVectors = codes "two vector attributes"
+fault_text fault.LateDeclaration = codes "late declaration"
+fault_text fault.LateProduction = codes "late production"
+fault_text fault.FirstNegated = codes "first condition negated"
+fault_text fault.UnboundVariable = codes "unbound variable"
+fault_text fault.BadDesignator = codes "bad designator"
+fault_text fault.AmbiguousDesignator = codes "ambiguous designator"
+fault_text (fault.LimitPassed l) = limit_text l
+fault_text fault.TooLong = codes "text too long"
+
+-- the line of a fault that stands at this line and column
+abbrev pub fault_line : Fault → ℕ → ℕ → List ℕ
+fault_line f line column = codes "ops: " ++ decimal line ++ codes ":" ++ decimal column ++ codes ": " ++ fault_text f ++ 10 ∷ []

@@ -13,4 +13,3 @@ pub mod Computing
 pub mod Acting
 pub mod Running
 pub mod Kept
-pub mod Whole

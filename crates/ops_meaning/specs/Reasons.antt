@@ -12,7 +12,7 @@ use Rattle.ops_tokens.specs.declared.token.TokenKind.TheVariants as kind
 use Rattle.ops_meaning.specs.declared.words.Word.{Word}
 use Rattle.ops_meaning.specs.declared.words.Keyword.{Keyword}
 use Rattle.ops_meaning.specs.declared.words.Keyword.TheVariants as keyword
-use Rattle.ops_meaning.specs.Grammar.{InPattern, InPut, InFixed, ToTest, ToFixed, ToConstants, Wanted, Forms, Form, ClassDeclared, Attributes, VectorName, VectorNames, RuleName, FirstPattern, Patterns, Braced, ElementName, ClassName, Attribute, Several, Tested, ValueFor, ExpressionUnit, Bracketed, SourceCell, SourceAttribute, Modified, BoundValue, CellName, Cell, Cells, Items, State, most_brackets, is_left, is_name, is_variable, is_minus, natural_of, is_one_of, number_of, may_declare, may_produce, is_class, is_rule, is_second, makes_second, attributes_of, source_class}
+use Rattle.ops_meaning.specs.Grammar.{InPattern, InPut, InFixed, ToTest, ToFixed, ToConstants, Wanted, Forms, Form, ClassDeclared, Attributes, VectorName, VectorNames, RuleName, FirstPattern, Patterns, Braced, ElementName, ClassName, Attribute, Several, Shown, Tested, ValueFor, ExpressionUnit, Bracketed, SourceCell, SourceAttribute, Modified, BoundValue, CellName, Cell, Cells, Items, State, most_brackets, is_left, is_name, is_variable, is_minus, natural_of, is_one_of, number_of, may_declare, may_produce, is_class, is_rule, is_second, makes_second, attributes_of, source_class}
 use Rattle.ops_meaning.specs.Derivation.{is_designator}
 
 -- the numbers of the faults, by which one of several at a word is chosen
@@ -57,6 +57,7 @@ is_declaration _ = false
 
 abbrev pub wants_class : List Wanted → Bool
 wants_class (ClassName ∷ ws) = true
+wants_class (Shown ∷ ws) = true
 wants_class ws = false
 
 abbrev pub wants_attribute : List Wanted → Bool

@@ -1,5 +1,7 @@
 -- The recognise-act cycle and the session.
-use Rattle.std.specs.Prelude.{ℕ, zero, suc, ◌+◌, ◌-◌, List, [], ◌∷◌, ◌++◌, length, fold, slice_set, if◌then◌else◌, Bool, true, false, Option, Some, None, option_map, Result, Ok, Err, codes}
+use Rattle.std.specs.Prelude.{ℕ, zero, suc, ◌+◌, ◌-◌, List, [], ◌∷◌, ◌++◌, length, map, filter, find, position, fold, take, drop, slice_get, slice_set, if◌then◌else◌, Bool, true, false, not, ◌==◌, ◌&&◌, Option, Some, None, is_some, option_map, unwrap_or, Result, Ok, Err}
+use Rattle.std.specs.List.{list_all, filter_map}
+use Rattle.ops_base.specs.declared.values.Sym.{Sym}
 use Rattle.ops_base.specs.declared.values.Value.{Value}
 use Rattle.ops_base.specs.declared.elements.Class.{Class}
 use Rattle.ops_base.specs.declared.elements.Element.{Element}
@@ -11,18 +13,20 @@ use Rattle.ops_base.specs.declared.commands.Fixed.{Fixed}
 use Rattle.ops_base.specs.declared.commands.Command.{Command}
 use Rattle.ops_base.specs.declared.commands.Command.TheVariants as command
 use Rattle.ops_base.specs.declared.commands.Strategy.{Strategy}
-use Rattle.ops_base.specs.declared.commands.Strategy.TheVariants.{Lex, Mea}
+use Rattle.ops_base.specs.declared.commands.Strategy.TheVariants.{Lex}
 use Rattle.ops_base.specs.declared.endings.Ending.{Ending}
 use Rattle.ops_base.specs.declared.endings.Ending.TheVariants as ending
 use Rattle.ops_base.specs.Valid.{class_of, is_vector}
-use Rattle.ops_base.specs.WorkingMemory.{done}
+use Rattle.ops_base.specs.Values.{are_same}
+use Rattle.ops_base.specs.WorkingMemory.{done, field_of, tags_of, without_tag}
 use Rattle.ops_base.specs.ConflictSet.{conflict_set}
-use Rattle.ops_base.specs.Refraction.{unfired, still_fired, dominant}
-use Rattle.ops_meaning.specs.Effects.{Effect, writes, ends_with, and_then, told_as}
-use Rattle.ops_meaning.specs.Layout.{line_at}
+use Rattle.ops_base.specs.Refraction.{unfired, still_fired, dominant, is_same_inst}
+use Rattle.ops_io.specs.Output.{column_after}
+use Rattle.ops_meaning.specs.Effects.{Effect, writes, ends_with, and_then, told_as, led_by}
+use Rattle.ops_meaning.specs.Layout.{line_at, lines_at, traced, firing_bytes, tagged_text, inst_text, rule_name, strategy_line, level_line, break_line, unknown_line, halted_line, no_more_line, counted_line, broken_line}
 use Rattle.ops_base.specs.Names.{Spellings}
 use Rattle.ops_io.specs.Coming.{Coming}
-use Rattle.ops_meaning.specs.Acting.{Setting, Misdeed, Bad, NoInput, Given, Acted, acted, no_fields, emptied, first_of}
+use Rattle.ops_meaning.specs.Acting.{Setting, Misdeed, Bad, NoInput, Given, Acted, acted, no_fields, emptied, first_of, element_of, has_tag, change_lines}
 
 -- what a session has come to: working memory, the strategy, the instantiations that are marked as fired, how many firings were made, the
 -- last tag that was given, the spellings in use with the number of the last fresh atom, and the input that is still to come
@@ -83,34 +87,81 @@ ended_in firing rule NoInput = ending.ReadFault
 abbrev pub given_by : Course → Given
 given_by m = record { wm = m.wm; last = m.last; names = m.names; coming = m.coming }
 
--- A firing does its right side, and is then one phase.
+-- A firing is traced by its line, does its right side, and is then one phase.
 abbrev pub firing_by : Finder → Setting → ℕ → Inst → Course → Effect Ending Turned
-firing_by found s column i m = told_as (turned_by found i m) (ended_in (m.firings + 1) i.rule) (acted s column i (given_by m))
+firing_by found s column i m =
+    let line = firing_bytes s.watch column m.names s.rules (m.firings + 1) i in
+    led_by line (told_as (turned_by found i m) (ended_in (m.firings + 1) i.rule) (acted s (column_after column line) i (given_by m)))
 
 -- ---- a run
 
--- A run ends after a `halt`, behind its last firing where it has a number of them, and where nothing is left to fire; otherwise it goes on
--- with what is next.
-abbrev pub turn : ℕ → Bool → Option ℕ → Course → Option Inst → (Inst → Effect Ending Course) → Effect Ending Course
-turn column true count m next go_on = writes (line_at column (codes "end -- explicit halt")) m
-turn column false (Some zero) m next go_on = writes (line_at column (codes "break -- run count")) m
-turn column false (Some (suc n)) m None go_on = writes (line_at column (codes "end -- no production true")) m
-turn column false (Some (suc n)) m (Some i) go_on = go_on i
-turn column false None m None go_on = writes (line_at column (codes "end -- no production true")) m
-turn column false None m (Some i) go_on = go_on i
+-- the last firing of a run: its production, and whether `halt` was done in it
+pub record LastFiring : Type 0 where
+  pub rule : ℕ
+  pub halted : Bool
+
+-- the production with this number has a break, where this tells which have one
+abbrev pub has_break : List Bool → ℕ → Bool
+has_break breaks n = unwrap_or (slice_get breaks n) false
+
+-- the line of a run that has made all its firings, where it has a number of them
+abbrev pub line_of_count : Option ℕ → Option (List ℕ)
+line_of_count (Some zero) = Some counted_line
+line_of_count _ = None
+
+-- The line of a run that pauses or ends whatever is next: behind a firing that did `halt`, behind one whose production has a break, and where it
+-- has made all its firings.
+abbrev pub line_of_pause : Spellings → List Rule → List Bool → Option LastFiring → Option ℕ → Option (List ℕ)
+line_of_pause names rules breaks None count = line_of_count count
+line_of_pause names rules breaks (Some last) count =
+    if last.halted then Some halted_line
+    else if has_break breaks last.rule then Some (broken_line names (rule_name rules last.rule))
+    else line_of_count count
+
+-- A run ends with its line where it has one, and where nothing is left to fire; otherwise it goes on with what is next.
+abbrev pub turn : ℕ → Option (List ℕ) → Course → Option Inst → (Inst → Effect Ending Course) → Effect Ending Course
+turn column (Some line) m next go_on = writes (line_at column line) m
+turn column None m None go_on = writes (line_at column no_more_line) m
+turn column None m (Some i) go_on = go_on i
 
 -- one firing less is left to the run
 abbrev pub one_less : Option ℕ → Option ℕ
 one_less count = option_map (λ n. n - 1) count
 
--- A run from here on, where so many firings are left to the session, and so many to this run, if it has a number.
-abbrev pub run_by : Finder → ℕ → Setting → ℕ → Bool → Option ℕ → Course → Effect Ending Course
-run_by found zero s column halted count m = turn column halted count m (next_by found s.rules m) (λ i. ends_with (ending.Limit m.firings))
-run_by found (suc left) s column halted count m =
-    turn column halted count m (next_by found s.rules m)
-    (λ i. and_then column (firing_by found s column i m) (λ next t. run_by found left s next t.halted (one_less count) t.course))
+-- a firing of this instantiation was the last one
+abbrev pub last_of : Inst → Turned → Option LastFiring
+last_of i t = Some (record { rule = i.rule; halted = t.halted })
+
+-- A run from here on, where so many firings are left to the session, these productions have a break, this was its last firing, if it made
+-- one, and so many are left to it, if it has a number of them.
+abbrev pub run_by : Finder → ℕ → Setting → List Bool → ℕ → Option LastFiring → Option ℕ → Course → Effect Ending Course
+run_by found zero s breaks column last count m =
+    turn column (line_of_pause m.names s.rules breaks last count) m (next_by found s.rules m) (λ i. ends_with (ending.Limit m.firings))
+run_by found (suc left) s breaks column last count m =
+    turn column (line_of_pause m.names s.rules breaks last count) m (next_by found s.rules m)
+    (λ i. and_then column (firing_by found s column i m) (λ next t. run_by found left s breaks next (last_of i t) (one_less count) t.course))
 
 -- ---- commands
+
+-- what a session has come to: its course, the trace level, and whether each production has a break
+pub record Session : Type 0 where
+  pub course : Course
+  pub watch : ℕ
+  pub breaks : List Bool
+
+-- the course goes on
+abbrev pub with_course : Session → Course → Session
+with_course k m = record k { course = m }
+
+-- lines are written, and nothing else is done
+abbrev pub lists : ℕ → List (List ℕ) → Session → Effect Ending Session
+lists column lines k = writes (lines_at column lines) k
+
+-- One phase, whose changes are told where elements are traced.
+abbrev pub phase_told : Finder → Setting → ℕ → List Change → ℕ → Session → Effect Ending Session
+phase_told found s column changes last k =
+    writes (traced k.watch column (change_lines k.course.names s.classes k.course.wm changes))
+    (with_course k (phase_by found changes k.course.firings last k.course))
 
 -- One attribute is given by a command: a scalar one the value, and the vector attribute all of them, in the place of those that it had.
 abbrev pub with_values : Class → List Value → ℕ → List Value → List Value
@@ -121,51 +172,143 @@ with_values c fields field values =
 abbrev pub fixed_fields : Class → List Fixed → List Value
 fixed_fields c puts = fold (λ fields p. with_values c fields p.field p.values) (no_fields c) puts
 
--- A top-level `make` is one phase.
-abbrev pub made_by : Finder → List Class → ℕ → List Fixed → Course → Course
-made_by found classes class puts m =
-    let e : Element = record { tag = m.last + 1; class = class; fields = fixed_fields (class_of classes class) puts } in
-    phase_by found (change.Add e ∷ []) m.firings (m.last + 1) m
+-- the element that a command makes
+abbrev pub element_made : List Class → ℕ → List Fixed → Course → Element
+element_made classes class puts m = record { tag = m.last + 1; class = class; fields = fixed_fields (class_of classes class) puts }
 
--- the line that tells a strategy
-abbrev pub strategy_line : Strategy → List ℕ
-strategy_line Lex = codes "strategy lex"
-strategy_line Mea = codes "strategy mea"
+-- the removals of these tags in their order, where an absent one, or one that is removed already, is none
+abbrev pub removals : List Element → List ℕ → List Change
+removals wm [] = []
+removals wm (t ∷ ts) = if has_tag wm t then change.Remove t ∷ removals (without_tag t wm) ts else removals wm ts
+
+-- The elements of these tags, in the order of the tags, where an absent one is none; all where no tag is given.
+abbrev pub elements_listed : List Element → List ℕ → List Element
+elements_listed wm [] = wm
+elements_listed wm (t ∷ ts) = filter_map (element_of wm) (t ∷ ts)
+
+-- the element has these values from this field on, where a field past its end is nil
+abbrev pub has_values : Element → ℕ → List Value → Bool
+has_values e f [] = true
+has_values e f (v ∷ vs) = are_same (field_of e f) v && has_values e (suc f) vs
+
+-- the element is of the class and has each of the values; without a pattern each element meets it
+abbrev pub meets : Option (ℕ × List Fixed) → Element → Bool
+meets None e = true
+meets (Some p) e = (e.class == p.0) && list_all (λ g. has_values e g.field g.values) p.1
+
+abbrev pub element_lines : Spellings → List Class → List Element → List (List ℕ)
+element_lines names classes es = map (tagged_text names classes) es
+
+-- these without this one
+abbrev pub without_inst : Inst → List Inst → List Inst
+without_inst i insts = filter (λ j. not (is_same_inst i j)) insts
+
+-- at most so many of them, the dominant one first, and then the rest likewise
+abbrev pub ranked : ℕ → Strategy → List Rule → List Inst → List Inst
+ranked zero strategy rules insts = []
+ranked (suc n) strategy rules insts =
+    unwrap_or (option_map (λ i. i ∷ ranked n strategy rules (without_inst i insts)) (dominant strategy rules insts)) []
+
+-- those that have not fired, the dominant one first
+abbrev pub standing_by : Finder → List Rule → Course → List Inst
+standing_by found rules m = let insts = unfired (found m.wm) m.fired in ranked (length insts) m.strategy rules insts
+
+abbrev pub rule_named : List Rule → Sym → Option ℕ
+rule_named rules name = position (λ r. r.name.0 == name.0) rules
+
+-- the bytes of a production, from its bracket to its bracket
+abbrev pub rule_text : List ℕ → Rule → List ℕ
+rule_text text r = drop r.first (take r.past text)
+
+-- the production of this name as it stands in the text
+abbrev pub production_line : Setting → Spellings → Sym → List ℕ
+production_line s names name = unwrap_or (option_map (rule_text s.text) (find (λ r. r.name.0 == name.0) s.rules)) (unknown_line names name)
 
 -- A strategy is set, or told where none is given.
-abbrev pub strategy_given : ℕ → Option Strategy → Course → Effect Ending Course
-strategy_given column None m = writes (line_at column (strategy_line m.strategy)) m
-strategy_given column (Some g) m = writes [] (record m { strategy = g })
+abbrev pub strategy_given : ℕ → Option Strategy → Session → Effect Ending Session
+strategy_given column None k = lists column (strategy_line k.course.strategy ∷ []) k
+strategy_given column (Some g) k = writes [] (with_course k (record k.course { strategy = g }))
 
--- what one command does from a column on, in a session that makes at most so many firings; those behind the first three stand in no text yet
-abbrev pub command_by : Finder → Setting → ℕ → ℕ → Command → Course → Effect Ending Course
-command_by found s limit column (command.Make class puts) m = writes [] (made_by found s.classes class puts m)
-command_by found s limit column (command.Run count) m = run_by found (limit - m.firings) s column false count m
-command_by found s limit column (command.Strategy set) m = strategy_given column set m
-command_by found s limit column (command.Remove tags) m = writes [] m
-command_by found s limit column command.RemoveAll m = writes [] m
-command_by found s limit column (command.Wm tags) m = writes [] m
-command_by found s limit column (command.Ppwm pattern) m = writes [] m
-command_by found s limit column command.Cs m = writes [] m
-command_by found s limit column (command.Pm names) m = writes [] m
-command_by found s limit column (command.Watch set) m = writes [] m
-command_by found s limit column (command.Pbreak names) m = writes [] m
-command_by found s limit column command.Exit m = writes [] m
+-- A trace level is set, or told where none is given.
+abbrev pub level_given : ℕ → Option ℕ → Session → Effect Ending Session
+level_given column None k = lists column (level_line k.watch ∷ []) k
+level_given column (Some n) k = writes [] (record k { watch = n })
 
-abbrev pub commands_by : Finder → Setting → ℕ → ℕ → List Command → Course → Effect Ending Course
-commands_by found s limit column [] m = writes [] m
-commands_by found s limit column (c ∷ rest) m =
-    and_then column (command_by found s limit column c m) (λ next m. commands_by found s limit next rest m)
+-- the production of this number gets a break, or loses it
+abbrev pub toggled : Option ℕ → List Bool → List Bool
+toggled None breaks = breaks
+toggled (Some n) breaks = slice_set breaks n (not (has_break breaks n))
+
+-- the same of each production that has one of these names
+abbrev pub all_toggled : List Rule → List Sym → List Bool → List Bool
+all_toggled rules names breaks = fold (λ b name. toggled (rule_named rules name) b) breaks names
+
+-- the names that no production has
+abbrev pub unknown_of : List Rule → List Sym → List Sym
+unknown_of rules names = filter (λ name. not (is_some (rule_named rules name))) names
+
+-- the lines of the productions that have a break; the first of these has this number
+abbrev pub break_lines : Spellings → List Bool → ℕ → List Rule → List (List ℕ)
+break_lines names breaks n [] = []
+break_lines names breaks n (r ∷ rs) =
+    if has_break breaks n then break_line names r.name ∷ break_lines names breaks (suc n) rs else break_lines names breaks (suc n) rs
+
+-- Breaks are set or cleared by names, or listed where no name is given.
+abbrev pub breaks_given : Setting → ℕ → List Sym → Session → Effect Ending Session
+breaks_given s column [] k = lists column (break_lines k.course.names k.breaks 0 s.rules) k
+breaks_given s column (n ∷ ns) k =
+    writes (lines_at column (map (unknown_line k.course.names) (unknown_of s.rules (n ∷ ns)))) (record k { breaks = all_toggled s.rules (n ∷ ns) k.breaks })
+
+-- A run, in a session that makes at most so many firings.
+abbrev pub run_given : Finder → Setting → ℕ → ℕ → Option ℕ → Session → Effect Ending Session
+run_given found s limit column count k =
+    told_as (with_course k) (λ e. e)
+    (run_by found (limit - k.course.firings) (record s { watch = k.watch }) k.breaks column None count k.course)
+
+-- What one command does from a column on, in a session that makes at most so many firings. A top-level `make` is one phase, and so is a `remove`.
+abbrev pub command_by : Finder → Setting → ℕ → ℕ → Command → Session → Effect Ending Session
+command_by found s limit column (command.Make class puts) k =
+    phase_told found s column (change.Add (element_made s.classes class puts k.course) ∷ []) (k.course.last + 1) k
+command_by found s limit column (command.Remove tags) k = phase_told found s column (removals k.course.wm tags) k.course.last k
+command_by found s limit column command.RemoveAll k = phase_told found s column (map change.Remove (tags_of k.course.wm)) k.course.last k
+command_by found s limit column (command.Run count) k = run_given found s limit column count k
+command_by found s limit column (command.Wm tags) k =
+    lists column (element_lines k.course.names s.classes (elements_listed k.course.wm tags)) k
+command_by found s limit column (command.Ppwm pattern) k =
+    lists column (element_lines k.course.names s.classes (filter (meets pattern) k.course.wm)) k
+command_by found s limit column command.Cs k =
+    lists column (map (inst_text k.course.names s.rules) (standing_by found s.rules k.course)) k
+command_by found s limit column (command.Pm names) k = lists column (map (production_line s k.course.names) names) k
+command_by found s limit column (command.Strategy set) k = strategy_given column set k
+command_by found s limit column (command.Watch set) k = level_given column set k
+command_by found s limit column (command.Pbreak names) k = breaks_given s column names k
+command_by found s limit column command.Exit k = writes [] k
+
+-- nothing behind it is done
+abbrev pub is_exit : Command → Bool
+is_exit command.Exit = true
+is_exit _ = false
+
+-- the commands in their order, up to the first `exit`
+abbrev pub commands_by : Finder → Setting → ℕ → ℕ → List Command → Session → Effect Ending Session
+commands_by found s limit column [] k = writes [] k
+commands_by found s limit column (c ∷ rest) k =
+    if is_exit c then writes [] k
+    else and_then column (command_by found s limit column c k) (λ next k. commands_by found s limit next rest k)
 
 -- ---- the session
 
-abbrev pub ending_of : Result Course Ending → Ending
-ending_of (Ok m) = ending.Done m.firings (length m.wm) m.last
+abbrev pub ending_of : Result Session Ending → Ending
+ending_of (Ok k) = ending.Done k.course.firings (length k.course.wm) k.course.last
 ending_of (Err e) = e
 
+-- nothing was done yet: no trace, and no break
+abbrev pub begun : List Rule → Spellings → Coming → Session
+begun rules names coming = record { course = nothing_yet names coming; watch = 0; breaks = map (λ r. false) rules }
+
 -- the whole session, from column 0 and nothing, where it makes at most so many firings, these names are in use and this input is to come
-abbrev pub session_by : Finder → Setting → ℕ → List Command → Spellings → Coming → Effect Ending Course
-session_by found s limit commands names coming = commands_by found s limit 0 commands (nothing_yet names coming)
+abbrev pub session_by : Finder → Setting → ℕ → List Command → Spellings → Coming → Effect Ending Session
+session_by found s limit commands names coming = commands_by found s limit 0 commands (begun s.rules names coming)
 
 -- ---- the same, by the conflict set of the rules
 
@@ -178,17 +321,17 @@ turned_of rules i m a = turned_by (conflict_set rules) i m a
 abbrev pub firing : Setting → ℕ → Inst → Course → Effect Ending Turned
 firing s column i m = firing_by (conflict_set s.rules) s column i m
 
-abbrev pub run_on : ℕ → Setting → ℕ → Bool → Option ℕ → Course → Effect Ending Course
-run_on left s column halted count m = run_by (conflict_set s.rules) left s column halted count m
+abbrev pub run_on : ℕ → Setting → List Bool → ℕ → Option LastFiring → Option ℕ → Course → Effect Ending Course
+run_on left s breaks column last count m = run_by (conflict_set s.rules) left s breaks column last count m
 
-abbrev pub made_at_top : List Class → List Rule → ℕ → List Fixed → Course → Course
-made_at_top classes rules class puts m = made_by (conflict_set rules) classes class puts m
+abbrev pub phase_done : Setting → ℕ → List Change → ℕ → Session → Effect Ending Session
+phase_done s column changes last k = phase_told (conflict_set s.rules) s column changes last k
 
-abbrev pub command_done : Setting → ℕ → ℕ → Command → Course → Effect Ending Course
-command_done s limit column c m = command_by (conflict_set s.rules) s limit column c m
+abbrev pub command_done : Setting → ℕ → ℕ → Command → Session → Effect Ending Session
+command_done s limit column c k = command_by (conflict_set s.rules) s limit column c k
 
-abbrev pub commands_done : Setting → ℕ → ℕ → List Command → Course → Effect Ending Course
-commands_done s limit column commands m = commands_by (conflict_set s.rules) s limit column commands m
+abbrev pub commands_done : Setting → ℕ → ℕ → List Command → Session → Effect Ending Session
+commands_done s limit column commands k = commands_by (conflict_set s.rules) s limit column commands k
 
-abbrev pub session_of : Setting → ℕ → List Command → Spellings → Coming → Effect Ending Course
+abbrev pub session_of : Setting → ℕ → List Command → Spellings → Coming → Effect Ending Session
 session_of s limit commands names coming = session_by (conflict_set s.rules) s limit commands names coming

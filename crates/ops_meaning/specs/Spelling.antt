@@ -97,15 +97,28 @@ spelled_attribute c f values = caret ∷ spelled_name (attribute_name c f) ∷ v
 abbrev pub spelled_fixed : Class → Fixed → List Word
 spelled_fixed c p = spelled_attribute c p.field (map spelled_value p.values)
 
--- ( make CLASS fixed* )
-abbrev pub spelled_fact : Class → List Fixed → List Word
-spelled_fact c puts = opening ∷ spelled_keyword keyword.Make ∷ spelled_name c.name ∷ spelled_each (spelled_fixed c) puts ++ closing ∷ []
+-- CLASS fixed*
+abbrev pub spelled_constants : Class → List Fixed → List Word
+spelled_constants c puts = spelled_name c.name ∷ spelled_each (spelled_fixed c) puts
 
--- a command of one word and an argument, if it has one
+-- a command of one word and what stands behind it
 abbrev pub spelled_short : Keyword → List Word → List Word
 spelled_short k argument = opening ∷ spelled_keyword k ∷ argument ++ closing ∷ []
 
--- ( run [NAT] )
+-- ( make CLASS fixed* )
+abbrev pub spelled_fact : Class → List Fixed → List Word
+spelled_fact c puts = spelled_short keyword.Make (spelled_constants c puts)
+
+-- ( ppwm ) | ( ppwm CLASS fixed* )
+abbrev pub spelled_shown : List Class → Option (ℕ × List Fixed) → List Word
+spelled_shown classes None = []
+spelled_shown classes (Some p) = spelled_constants (class_of classes p.0) p.1
+
+-- NAT*
+abbrev pub spelled_tags : List ℕ → List Word
+spelled_tags tags = map (λ n. spelled_value (value.Whole (pos n))) tags
+
+-- [NAT], or a trace level
 abbrev pub spelled_count : Option ℕ → List Word
 spelled_count None = []
 spelled_count (Some n) = spelled_value (value.Whole (pos n)) ∷ []
@@ -121,9 +134,17 @@ spelled_strategy (Some g) = spelled_keyword (keyword_of_strategy g) ∷ []
 
 abbrev pub spelled_command : List Class → Command → List Word
 spelled_command classes (command.Make class puts) = spelled_fact (class_of classes class) puts
+spelled_command classes (command.Remove tags) = spelled_short keyword.Remove (spelled_tags tags)
+spelled_command classes command.RemoveAll = spelled_short keyword.Remove (spelled_keyword keyword.Times ∷ [])
 spelled_command classes (command.Run count) = spelled_short keyword.Run (spelled_count count)
+spelled_command classes (command.Wm tags) = spelled_short keyword.Wm (spelled_tags tags)
+spelled_command classes (command.Ppwm pattern) = spelled_short keyword.Ppwm (spelled_shown classes pattern)
+spelled_command classes command.Cs = spelled_short keyword.Cs []
+spelled_command classes (command.Pm names) = spelled_short keyword.Pm (map spelled_name names)
 spelled_command classes (command.Strategy set) = spelled_short keyword.Strategy (spelled_strategy set)
-spelled_command classes _ = []
+spelled_command classes (command.Watch set) = spelled_short keyword.Watch (spelled_count set)
+spelled_command classes (command.Pbreak names) = spelled_short keyword.Pbreak (map spelled_name names)
+spelled_command classes command.Exit = spelled_short keyword.Exit []
 
 -- ---- left sides
 
@@ -411,12 +432,22 @@ scalars_of c = if c.vector then take (last_field c) c.attrs else c.attrs
 abbrev pub class_is_plain : List Sym → Class → Bool
 class_is_plain vectors c = class_is_valid c && list_all (λ a. not (is_one_of a vectors)) (scalars_of c)
 
+-- the class is there, and the values fit its attributes
+abbrev pub constants_are_plain : List Class → ℕ → List Fixed → Bool
+constants_are_plain classes class puts = nat_lt class (length classes) && list_all (fixed_is_valid (class_of classes class)) puts
+
 abbrev pub command_is_plain : List Class → Command → Bool
-command_is_plain classes (command.Make class puts) = nat_lt class (length classes) && list_all (fixed_is_valid (class_of classes class)) puts
+command_is_plain classes (command.Make class puts) = constants_are_plain classes class puts
+command_is_plain classes (command.Remove tags) = nat_lt 0 (length tags) && list_all is_natural tags
 command_is_plain classes (command.Run None) = true
 command_is_plain classes (command.Run (Some n)) = is_natural n
-command_is_plain classes (command.Strategy set) = true
-command_is_plain classes _ = false
+command_is_plain classes (command.Wm tags) = list_all is_natural tags
+command_is_plain classes (command.Ppwm None) = true
+command_is_plain classes (command.Ppwm (Some p)) = constants_are_plain classes p.0 p.1
+command_is_plain classes (command.Pm names) = nat_lt 0 (length names)
+command_is_plain classes (command.Watch None) = true
+command_is_plain classes (command.Watch (Some n)) = nat_le n 2
+command_is_plain classes _ = true
 
 -- the program has a spelling
 abbrev pub is_plain : List Class → List Rule → List Command → Bool

@@ -17,6 +17,13 @@ keyword_of_command s =
     else if bytes_eq s (codes "strategy") then keyword.Strategy
     else if bytes_eq s (codes "lex") then keyword.Lex
     else if bytes_eq s (codes "mea") then keyword.Mea
+    else if bytes_eq s (codes "wm") then keyword.Wm
+    else if bytes_eq s (codes "ppwm") then keyword.Ppwm
+    else if bytes_eq s (codes "cs") then keyword.Cs
+    else if bytes_eq s (codes "pm") then keyword.Pm
+    else if bytes_eq s (codes "watch") then keyword.Watch
+    else if bytes_eq s (codes "pbreak") then keyword.Pbreak
+    else if bytes_eq s (codes "exit") then keyword.Exit
     else keyword.Other
 
 -- the keyword of a plain symbol that names a function or an operation

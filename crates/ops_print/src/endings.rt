@@ -1,14 +1,14 @@
 //! The line that tells how a run ended.
 ghost use Rattle.std.specs.Prelude.{◌≡◌, ◌^◌, ◌<◌, [], ◌∷◌, ◌++◌, IsTrue, OnErr, false, codes, decimal};
 ghost use Rattle.ops_io.specs.Ports.{port, PutsBytes};
-ghost use Rattle.ops_meaning.specs.Layout.{act_fault_text, last_line, line_at, rule_name, symbol_text};
+ghost use Rattle.ops_meaning.specs.Layout.{act_fault_text, last_line, line_at, symbol_text};
 
+use crate::instances::rule_name;
 use crate::lines::{fresh_line, put_line};
 use crate::pieces::put_numbered;
 use crate::symbols::put_symbol;
 use ops_base::endings::{ActKind, Ending};
 use ops_base::programs::Program;
-use ops_base::rules::Rule;
 use ops_base::symbols::Names;
 use ops_base::values::Sym;
 use ops_io::{Out, Sink, WriteFailed};
@@ -23,15 +23,6 @@ fn act_fault_end(kind: ActKind) -> &'static [u8]
         ActKind::Overflow => b"overflow\n",
         ActKind::TooManyFields => b"too many fields\n",
         ActKind::InputTooLong => b"input too long\n",
-    }
-}
-
-fn rule_name(rules: &[Rule], rule: usize) -> Sym
-    ensures { result ≡ rule_name rules.now rule }
-{
-    match rules.get(rule) {
-        Some(found) => found.name,
-        None => Sym(0),
     }
 }
 

@@ -1,9 +1,12 @@
 //! Lines of their own.
-ghost use Rattle.std.specs.Prelude.{◌≡◌, ◌^◌, ◌<◌, IsTrue, OnErr, false};
+ghost use Rattle.std.specs.Prelude.{◌≡◌, ◌^◌, ◌<◌, ◌++◌, IsTrue, OnErr, false, decimal};
 ghost use Rattle.ops_io.specs.Ports.{port, PutsBytes};
-ghost use Rattle.ops_meaning.specs.Layout.{fresh_line, line_at};
+ghost use Rattle.ops_meaning.specs.Layout.{fresh_line, line_at, symbol_text};
 
-use crate::pieces::put_three;
+use crate::pieces::{put_numbered, put_three};
+use crate::symbols::put_named;
+use ops_base::symbols::Names;
+use ops_base::values::Sym;
 use ops_io::{Out, Sink, WriteFailed};
 
 /// What begins a line from a column on.
@@ -34,4 +37,40 @@ pub fn put_line<K: Sink>(out: &mut Out, sink: &mut K, text: &[u8]) -> Result<(),
 {
     let fresh = fresh_line_at(out.column());
     put_three(out, sink, fresh, text, b"\n")
+}
+
+/// Puts a line of its own: these bytes, and a symbol as a program names it.
+pub fn put_name_line<K: Sink>(
+    out: &mut Out,
+    sink: &mut K,
+    names: &Names,
+    before: &[u8],
+    name: &Sym,
+) -> Result<(), WriteFailed>
+    requires whole { IsTrue out.old.whole }
+    requires faults { K.faults sink.old < 2 ^ 63 }
+    ensures puts { PutsBytes result (port (K.taken sink.old) (K.faults sink.old) out.old)
+        (port (K.taken sink.new) (K.faults sink.new) out.new)
+        (line_at out.old.column (before.now ++ symbol_text names.now name.now)) }
+    ensures broken { OnErr result (out.new.whole ≡ false) }
+{
+    fresh_line(out, sink)?;
+    put_named(out, sink, names, before, name, b"\n")
+}
+
+/// Puts a line of its own: these bytes, and a number.
+pub fn put_number_line<K: Sink>(
+    out: &mut Out,
+    sink: &mut K,
+    before: &[u8],
+    number: u64,
+) -> Result<(), WriteFailed>
+    requires whole { IsTrue out.old.whole }
+    requires faults { K.faults sink.old < 2 ^ 63 }
+    ensures puts { PutsBytes result (port (K.taken sink.old) (K.faults sink.old) out.old)
+        (port (K.taken sink.new) (K.faults sink.new) out.new) (line_at out.old.column (before.now ++ decimal number)) }
+    ensures broken { OnErr result (out.new.whole ≡ false) }
+{
+    fresh_line(out, sink)?;
+    put_numbered(out, sink, before, number, b"\n")
 }

@@ -1,5 +1,5 @@
 //! Symbols as they are printed everywhere but in `write`.
-ghost use Rattle.std.specs.Prelude.{◌≡◌, ◌^◌, ◌<◌, [], IsTrue, OnErr, false, codes, if◌then◌else◌};
+ghost use Rattle.std.specs.Prelude.{◌≡◌, ◌^◌, ◌<◌, [], ◌++◌, IsTrue, OnErr, false, codes, if◌then◌else◌};
 ghost use Rattle.ops_io.specs.Ports.{port, PutsBytes};
 ghost use Rattle.ops_meaning.specs.Layout.{is_symbol, is_plain_symbol, symbol_text};
 
@@ -53,4 +53,25 @@ pub fn put_symbol<K: Sink>(
     let spelling = names.text(*item);
     let bar = bar_of(spelling);
     put_three(out, sink, bar, spelling, bar)
+}
+
+/// Puts a symbol between two texts.
+pub(crate) fn put_named<K: Sink>(
+    out: &mut Out,
+    sink: &mut K,
+    names: &Names,
+    before: &[u8],
+    item: &Sym,
+    after: &[u8],
+) -> Result<(), WriteFailed>
+    requires whole { IsTrue out.old.whole }
+    requires faults { K.faults sink.old < 2 ^ 63 }
+    ensures puts { PutsBytes result (port (K.taken sink.old) (K.faults sink.old) out.old)
+        (port (K.taken sink.new) (K.faults sink.new) out.new)
+        (before.now ++ symbol_text names.now item.now ++ after.now) }
+    ensures broken { OnErr result (out.new.whole ≡ false) }
+{
+    out.put(sink, before)?;
+    put_symbol(out, sink, names, item)?;
+    out.put(sink, after)
 }

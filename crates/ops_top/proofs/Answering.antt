@@ -1,5 +1,5 @@
 -- What a delivered whole tells of the answer.
-use Rattle.std.proofs.Common.{◌≡◌, ℕ, ◌<◌, List, [], Bool, true, false, ◌&&◌, Option, Some, None, is_some, option_map, unwrap_or, Result, Ok, Err, is_ok, refl, ap, sym, ◌∙◌, subst, nat_lt, ◌⊎◌, inl, inr, arith}
+use Rattle.std.proofs.Common.{◌≡◌, ℕ, List, [], Bool, true, false, ◌&&◌, Option, Some, None, is_some, option_map, unwrap_or, Result, Ok, Err, is_ok, refl, sym, ◌∙◌, subst, nat_lt, ◌⊎◌, inl, inr, arith}
 use Rattle.std.proofs.lemmas.Bool.Decides.{nat_tests}
 use Rattle.std.proofs.lemmas.List.{append-nil}
 use Rattle.ops_base.specs.declared.endings.Ending.{Ending}
@@ -7,21 +7,18 @@ use Rattle.ops_io.specs.Coming.{Coming}
 use Rattle.ops_io.specs.Outside.{GrewBy, GrewByPrefix}
 use Rattle.ops_io.specs.declared.stop.Stop.{Stop}
 use Rattle.ops_io.specs.declared.stop.Stop.TheVariants as stop
+use Rattle.ops_jobs.specs.CommandLine.{job_of}
+use Rattle.ops_jobs.specs.declared.jobs.Job.{Job}
 use Rattle.ops_meaning.specs.declared.statuses.Status.{Status}
 use Rattle.ops_meaning.specs.declared.statuses.Status.TheVariants as status
 use Rattle.ops_meaning.specs.Reads.{Read, Placed, reads}
-use Rattle.ops_meaning.specs.Running.{Course, session_of, ending_of}
-use Rattle.ops_meaning.specs.Whole.{Reply, Answers, status_of, answer_read, answer_file, text_of, setting_of, unread, usage, Job, job_of, most_firings, whole_file, whole, words_fit, file_of, limit_of}
-use Rattle.ops_top.specs.Calls.{OfContent, OfInput, TellsFailedWrite, TellsWords, RunsThrough, file_runs_through, text_runs_through}
+use Rattle.ops_meaning.specs.Running.{Session, session_of, ending_of}
+use Rattle.ops_top.specs.Whole.{Reply, Answers, Gathered, Joined, Unread, Overlong, status_of, answer_read, answer_to, answer_gathered, gathered, readable, setting_of, usage, files_in, limit_in, whole_job, whole, words_fit, files_of, limit_of}
+use Rattle.ops_top.specs.Calls.{OfContents, OfInput, TellsFailedWrite, TellsWords, RunsThrough, all_told, gathered_runs_through, text_runs_through}
 use Rattle.ops_top.specs.Told.{Delivers, status_after}
-use Rattle.ops_meaning.proofs.Endings.{IsOfText, answer_file_of_text}
+use Rattle.ops_top.proofs.StatusesOfText.{IsOfText, answer_to_of_text}
+use Rattle.ops_top.proofs.Contents.{AreTold, contents_of, contents_map, contents_some, told_are}
 use Rattle.ops_top.proofs.Inputs.{input_map, input_some}
-use Rattle.ops_top.proofs.Loads.{of_map, whole_job}
-
--- what holds whatever the content is
-of_some : (told : Option (Option (List ℕ))) (P : Option (List ℕ) → Type 0) (Q : Type 0) → ((content : Option (List ℕ)) → P content → Q) → OfContent told P → Q
-of_some None P Q f p = f p.0 p.1
-of_some (Some content) P Q f p = f content p
 
 -- ---- bytes
 
@@ -67,16 +64,16 @@ text_is_plain fails status.ReadFault p = tt
 text_is_plain fails status.WriteFault p = p
 text_is_plain fails status.OutOfMemory p = p
 
-file_is_plain : (job : Job) (content : Option (List ℕ)) (broken : Bool) (z : Coming) → IsPlain (whole_file job content broken z).status
-file_is_plain job content true z = tt
-file_is_plain job None false z = tt
-file_is_plain job (Some bytes) false z = text_is_plain z.fails (answer_file job.limit z bytes).status (answer_file_of_text job.limit z bytes)
+gathered_is_plain : (limit : ℕ) (z : Coming) (g : Gathered) → IsPlain (answer_gathered limit z g).status
+gathered_is_plain limit z (Joined text) = text_is_plain z.fails (answer_to limit z text).status (answer_to_of_text limit z text)
+gathered_is_plain limit z (Unread name) = tt
+gathered_is_plain limit z Overlong = tt
 
-whole_is_plain : (ws : List (List ℕ)) (content : Option (List ℕ)) (broken : Bool) (z : Coming) → IsPlain (whole ws content broken z).status
-whole_is_plain ws content broken z = by (job_of ws)
+whole_is_plain : (ws : List (List ℕ)) (contents : List (Option (List ℕ))) (broken : Option ℕ) (z : Coming) → IsPlain (whole ws contents broken z).status
+whole_is_plain ws contents broken z = by (job_of ws)
   where
-    by : (asked : Option Job) → IsPlain (whole_job asked content broken z).status
-    by (Some job) = file_is_plain job content broken z
+    by : (asked : Option Job) → IsPlain (whole_job asked contents broken z).status
+    by (Some job) = gathered_is_plain (limit_in job) z (gathered [] (files_in job) (readable contents broken))
     by None = tt
 
 plain_tells : (s : Status) (before now : ℕ) → IsPlain s → now ≡ before → TellsFailedWrite s before now
@@ -104,16 +101,16 @@ text_fits fails status.ReadFault p = refl
 text_fits fails status.WriteFault p = tt
 text_fits fails status.OutOfMemory p = tt
 
-file_fits : (job : Job) (content : Option (List ℕ)) (broken : Bool) (z : Coming) → TellsWords (whole_file job content broken z).status true
-file_fits job content true z = refl
-file_fits job None false z = refl
-file_fits job (Some bytes) false z = text_fits z.fails (answer_file job.limit z bytes).status (answer_file_of_text job.limit z bytes)
+gathered_fits : (limit : ℕ) (z : Coming) (g : Gathered) → TellsWords (answer_gathered limit z g).status true
+gathered_fits limit z (Joined text) = text_fits z.fails (answer_to limit z text).status (answer_to_of_text limit z text)
+gathered_fits limit z (Unread name) = refl
+gathered_fits limit z Overlong = refl
 
-whole_tells_words : (ws : List (List ℕ)) (content : Option (List ℕ)) (broken : Bool) (z : Coming) → TellsWords (whole ws content broken z).status (words_fit ws)
-whole_tells_words ws content broken z = by (job_of ws)
+whole_tells_words : (ws : List (List ℕ)) (contents : List (Option (List ℕ))) (broken : Option ℕ) (z : Coming) → TellsWords (whole ws contents broken z).status (words_fit ws)
+whole_tells_words ws contents broken z = by (job_of ws)
   where
-    by : (asked : Option Job) → TellsWords (whole_job asked content broken z).status (is_some asked)
-    by (Some job) = file_fits job content broken z
+    by : (asked : Option Job) → TellsWords (whole_job asked contents broken z).status (is_some asked)
+    by (Some job) = gathered_fits (limit_in job) z (gathered [] (files_in job) (readable contents broken))
     by None = refl
 
 tells_words : (r : Result Status Stop) (o : Reply) (fit : Bool) (k n : Option (List ℕ)) (b a : ℕ) → TellsWords o.status fit → Delivers r o k b n a → TellsWords (status_after r) fit
@@ -121,87 +118,68 @@ tells_words (Ok s) o fit k n b a p d = let P : Status → Type 0 = λ s. TellsWo
 tells_words (Err stop.Write) o fit k n b a p d = tt
 tells_words (Err stop.OutOfMemory) o fit k n b a p d = tt
 
-whole_usage : (ws : List (List ℕ)) (content : Option (List ℕ)) (broken : Bool) (z : Coming) → words_fit ws ≡ false → whole ws content broken z ≡ usage
-whole_usage ws content broken z unfit = by (job_of ws) unfit
+whole_usage : (ws : List (List ℕ)) (contents : List (Option (List ℕ))) (broken : Option ℕ) (z : Coming) → words_fit ws ≡ false → whole ws contents broken z ≡ usage
+whole_usage ws contents broken z unfit = by (job_of ws) unfit
   where
-    by : (asked : Option Job) → is_some asked ≡ false → whole_job asked content broken z ≡ usage
+    by : (asked : Option Job) → is_some asked ≡ false → whole_job asked contents broken z ≡ usage
     by (Some job) unfit = absurd (cc)
     by None unfit = refl
 
 -- ---- the clauses of a call, of words whose whole is delivered
 
-module _ (r : Result Status Stop) (ws : List (List ℕ)) (told : Option (Option (List ℕ))) (broken : Bool) (old new : Option (List ℕ)) (failed : Bool) (k n : Option (List ℕ)) (b a : ℕ) where
-  -- the content, the input and the counts that the clauses speak of
+module _ (r : Result Status Stop) (ws : List (List ℕ)) (told : List ℕ → Option (Option (List ℕ))) (broken : Option ℕ) (old new : Option (List ℕ)) (failed : Bool) (k n : Option (List ℕ)) (b a : ℕ) where
+  -- the contents, the input and the counts that the clauses speak of
   abbrev pub DeliversWhole : Type 0
-  DeliversWhole = OfContent told (λ content. OfInput old new failed (λ z. Delivers r (whole ws content broken z) k b n a))
+  DeliversWhole = OfContents told (files_of ws) (λ contents. OfInput old new failed (λ z. Delivers r (whole ws contents broken z) k b n a))
 
-  -- what holds whatever the content and the input are
-  of_whole : (Q : Type 0) → ((content : Option (List ℕ)) (z : Coming) → Delivers r (whole ws content broken z) k b n a → Q) → DeliversWhole → Q
+  -- what holds whatever the contents and the input are
+  of_whole : (Q : Type 0) → ((contents : List (Option (List ℕ))) (z : Coming) → Delivers r (whole ws contents broken z) k b n a → Q) → DeliversWhole → Q
   of_whole Q f d =
-      of_some told _ Q (λ content d. input_some old new failed (λ z. Delivers r (whole ws content broken z) k b n a) Q (f content) d) d
+      contents_some told (files_of ws) (λ contents. OfInput old new failed (λ z. Delivers r (whole ws contents broken z) k b n a)) Q
+      (λ contents d. input_some old new failed (λ z. Delivers r (whole ws contents broken z) k b n a) Q (f contents) d) d
 
-  pub whole_answers : DeliversWhole → OfContent told (λ content. OfInput old new failed (λ z. Answers (status_after r) (whole ws content broken z) k n))
+  pub whole_answers : DeliversWhole → OfContents told (files_of ws) (λ contents. OfInput old new failed (λ z. Answers (status_after r) (whole ws contents broken z) k n))
   whole_answers d =
-      of_map told _ _
-      (λ content d. input_map old new failed (λ z. Delivers r (whole ws content broken z) k b n a) (λ z. Answers (status_after r) (whole ws content broken z) k n)
-      (λ z d. delivered_answers r (whole ws content broken z) k n b a d) d) d
+      contents_map told (files_of ws) (λ contents. OfInput old new failed (λ z. Delivers r (whole ws contents broken z) k b n a))
+      (λ contents. OfInput old new failed (λ z. Answers (status_after r) (whole ws contents broken z) k n))
+      (λ contents d. input_map old new failed (λ z. Delivers r (whole ws contents broken z) k b n a) (λ z. Answers (status_after r) (whole ws contents broken z) k n)
+      (λ z d. delivered_answers r (whole ws contents broken z) k n b a d) d) d
 
   pub whole_tells_write : DeliversWhole → TellsFailedWrite (status_after r) b a
   whole_tells_write d =
-      of_whole (TellsFailedWrite (status_after r) b a) (λ content z d. tells_write r (whole ws content broken z) k n b a (whole_is_plain ws content broken z) d) d
+      of_whole (TellsFailedWrite (status_after r) b a) (λ contents z d. tells_write r (whole ws contents broken z) k n b a (whole_is_plain ws contents broken z) d) d
 
   pub whole_fits_words : DeliversWhole → TellsWords (status_after r) (words_fit ws)
   whole_fits_words d =
-      of_whole (TellsWords (status_after r) (words_fit ws)) (λ content z d. tells_words r (whole ws content broken z) (words_fit ws) k n b a (whole_tells_words ws content broken z) d) d
+      of_whole (TellsWords (status_after r) (words_fit ws)) (λ contents z d. tells_words r (whole ws contents broken z) (words_fit ws) k n b a (whole_tells_words ws contents broken z) d) d
 
   -- words that don't fit are answered with the usage line
   pub unfit_answers : DeliversWhole → words_fit ws ≡ false → Answers (status_after r) usage k n
   unfit_answers d unfit =
       let P : Reply → Type 0 = λ o. Answers (status_after r) o k n in
       of_whole (Answers (status_after r) usage k n)
-      (λ content z d. subst P (whole_usage ws content broken z unfit) (delivered_answers r (whole ws content broken z) k n b a d)) d
-
-broken_fits : (b : Bool) (ws : List (List ℕ)) (before now : ℕ) → words_fit ws ≡ b → (words_fit ws ≡ false → now ≡ before) → before < now → words_fit ws ≡ true
-broken_fits true ws before now is unasked rose = is
-broken_fits false ws before now is unasked rose = let same = unasked is in absurd (omega arith)
-
-is_broken : (before now : ℕ) → before < now → nat_lt before now ≡ true
-is_broken before now h = grind (arith, nat_tests)
-
-whole_unread : (ws : List (List ℕ)) (content : Option (List ℕ)) (broken : Bool) (z : Coming) → words_fit ws ≡ true → broken ≡ true → whole ws content broken z ≡ unread (file_of ws)
-whole_unread ws content broken z fit is = by (job_of ws) fit
-  where
-    by : (asked : Option Job) → is_some asked ≡ true → whole_job asked content broken z ≡ unread (unwrap_or (option_map (λ j. j.file) asked) [])
-    by (Some job) fit = ap (λ broken. whole_file job content broken z) is
-    by None fit = absurd (cc)
-
--- a load that failed is answered with the line that tells so
-pub unread_answers : (r : Result Status Stop) (ws : List (List ℕ)) (told : Option (Option (List ℕ))) (before now : ℕ) (old new : Option (List ℕ)) (failed : Bool) (k n : Option (List ℕ)) (b a : ℕ) → DeliversWhole r ws told (nat_lt before now) old new failed k n b a
-    → (words_fit ws ≡ false → now ≡ before) → before < now → Answers (status_after r) (unread (file_of ws)) k n
-unread_answers r ws told before now old new failed k n b a d unasked rose =
-    let P : Reply → Type 0 = λ o. Answers (status_after r) o k n in
-    let fit = broken_fits (words_fit ws) ws before now refl unasked rose in
-    of_whole r ws told (nat_lt before now) old new failed k n b a (Answers (status_after r) (unread (file_of ws)) k n)
-    (λ content z d. subst P (whole_unread ws content (nat_lt before now) z fit (is_broken before now rose)) (delivered_answers r (whole ws content (nat_lt before now) z) k n b a d)) d
+      (λ contents z d. subst P (whole_usage ws contents broken z unfit) (delivered_answers r (whole ws contents broken z) k n b a d)) d
 
 -- ---- completeness
 
-done_session : (o : Result Course Ending) → is_ok o ≡ true → status_of (ending_of o) ≡ status.Done
+done_session : (o : Result Session Ending) → is_ok o ≡ true → status_of (ending_of o) ≡ status.Done
 done_session (Ok m) h = refl
 done_session (Err f) h = absurd (cc)
 
-done_text : (limit : ℕ) (z : Coming) (text : List ℕ) (r : Result Read Placed) → text_runs_through limit z r ≡ true → (answer_read limit z text r).status ≡ status.Done
+done_text : (limit : ℕ) (z : Coming) (text : List ℕ) (r : Result Read Placed) → text_runs_through limit z text r ≡ true → (answer_read limit z text r).status ≡ status.Done
 done_text limit z text (Err p) h = absurd (cc)
-done_text limit z text (Ok p) h = done_session (session_of (setting_of p) limit p.commands p.names z).outcome h
+done_text limit z text (Ok p) h = done_session (session_of (setting_of text p) limit p.commands p.names z).outcome h
 
-done_file : (limit : ℕ) (z : Coming) (bytes : List ℕ) → file_runs_through limit z bytes ≡ true → (answer_file limit z bytes).status ≡ status.Done
-done_file limit z bytes h = done_text limit z (text_of bytes) (reads (text_of bytes)) h
+done_gathered : (limit : ℕ) (z : Coming) (g : Gathered) → gathered_runs_through limit z g ≡ true → (answer_gathered limit z g).status ≡ status.Done
+done_gathered limit z (Joined text) h = done_text limit z text (reads text) h
+done_gathered limit z (Unread name) h = absurd (cc)
+done_gathered limit z Overlong h = absurd (cc)
 
-done_whole : (z : Coming) (ws : List (List ℕ)) (bytes : List ℕ) (broken : Bool) → (words_fit ws && file_runs_through (limit_of ws) z bytes) ≡ true → broken ≡ false → (whole ws (Some bytes) broken z).status ≡ status.Done
-done_whole z ws bytes broken runs is = by (job_of ws) runs
+done_whole : (z : Coming) (ws : List (List ℕ)) (contents : List (Option (List ℕ))) → (words_fit ws && gathered_runs_through (limit_of ws) z (gathered [] (files_of ws) contents)) ≡ true → (whole ws contents None z).status ≡ status.Done
+done_whole z ws contents runs = by (job_of ws) runs
   where
-    by : (asked : Option Job) → (is_some asked && file_runs_through (unwrap_or (option_map (λ j. j.limit) asked) most_firings) z bytes) ≡ true → (whole_job asked (Some bytes) broken z).status ≡ status.Done
-    by (Some job) runs = ap (λ broken. (whole_file job (Some bytes) broken z).status) is ∙ done_file job.limit z bytes runs
+    by : (asked : Option Job) → (is_some asked && gathered_runs_through (unwrap_or (option_map limit_in asked) 0) z (gathered [] (unwrap_or (option_map files_in asked) []) contents)) ≡ true → (whole_job asked contents None z).status ≡ status.Done
+    by (Some job) runs = done_gathered (limit_in job) z (gathered [] (files_in job) contents) runs
     by None runs = absurd (cc)
 
 done_or_short : (s : Status) (o : Reply) (k n : Option (List ℕ)) (b a : ℕ) → o.status ≡ status.Done → Answers s o k n → TellsFailedWrite s b a → a ≡ b → (s ≡ status.Done) ⊎ (s ≡ status.OutOfMemory)
@@ -217,18 +195,29 @@ done_or_short status.OutOfMemory o k n b a h p w e = inr refl
 unbroken : (before now : ℕ) → now ≡ before → nat_lt before now ≡ false
 unbroken before now h = grind (arith, nat_tests)
 
--- a program that runs through is done, where no device failed
-pub runs_to_end : (s : Status) (ws : List (List ℕ)) (told : Option (Option (List ℕ))) (old new : Option (List ℕ)) (before now before2 now2 : ℕ) (k n : Option (List ℕ)) (b a : ℕ)
-    → OfContent told (λ content. OfInput old new (nat_lt before2 now2) (λ z. Answers s (whole ws content (nat_lt before now) z) k n)) → TellsFailedWrite s b a → RunsThrough ws told old → now ≡ before → now2 ≡ before2 → a ≡ b → (s ≡ status.Done) ⊎ (s ≡ status.OutOfMemory)
-runs_to_end s ws None old new before now before2 now2 k n b a p w h same steady e = absurd h
-runs_to_end s ws (Some None) old new before now before2 now2 k n b a p w h same steady e = absurd h
-runs_to_end s ws (Some (Some bytes)) None new before now before2 now2 k n b a p w h same steady e =
-    let z : Coming = p.0 in
-    let R : Bool → Type 0 = λ fails. (words_fit ws && file_runs_through (limit_of ws) (record { bytes = z.bytes; fails = fails }) bytes) ≡ true in
-    let runs : (words_fit ws && file_runs_through (limit_of ws) z bytes) ≡ true = subst R (sym (p.1 ∙ unbroken before2 now2 steady)) (h z.bytes) in
-    done_or_short s (whole ws (Some bytes) (nat_lt before now) z) k n b a (done_whole z ws bytes (nat_lt before now) runs (unbroken before now same)) p.2 w e
-runs_to_end s ws (Some (Some bytes)) (Some left) new before now before2 now2 k n b a p w h same steady e =
-    let z : Coming = record { bytes = left; fails = false } in
-    let is : nat_lt before now ≡ false = unbroken before now same in
-    let I : Bool → Type 0 = λ failed. OfInput (Some left) new failed (λ z. Answers s (whole ws (Some bytes) (nat_lt before now) z) k n) in
-    done_or_short s (whole ws (Some bytes) (nat_lt before now) z) k n b a (done_whole z ws bytes (nat_lt before now) h is) (subst I (unbroken before2 now2 steady) p) w e
+module _ (s : Status) (ws : List (List ℕ)) (k n : Option (List ℕ)) (b a : ℕ) (w : TellsFailedWrite s b a) (e : a ≡ b) where
+  over_contents : (contents : List (Option (List ℕ))) (old new : Option (List ℕ)) (before now : ℕ) → now ≡ before → RunsThrough ws (Some contents) old
+      → OfInput old new (nat_lt before now) (λ z. Answers s (whole ws contents None z) k n) → (s ≡ status.Done) ⊎ (s ≡ status.OutOfMemory)
+  over_contents contents None new before now steady h p =
+      let z : Coming = p.0 in
+      let R : Bool → Type 0 = λ fails. (words_fit ws && gathered_runs_through (limit_of ws) (record { bytes = z.bytes; fails = fails }) (gathered [] (files_of ws) contents)) ≡ true in
+      done_or_short s (whole ws contents None z) k n b a (done_whole z ws contents (subst R (sym (p.1 ∙ unbroken before now steady)) (h z.bytes))) p.2 w e
+  over_contents contents (Some left) new before now steady h p =
+      let z : Coming = record { bytes = left; fails = false } in
+      let I : Bool → Type 0 = λ failed. OfInput (Some left) new failed (λ z. Answers s (whole ws contents None z) k n) in
+      done_or_short s (whole ws contents None z) k n b a (done_whole z ws contents h) (subst I (unbroken before now steady) p) w e
+
+  -- a program that runs through is done, where no device failed
+  pub runs_to_end : (told : List ℕ → Option (Option (List ℕ))) (broken : Option ℕ) (old new : Option (List ℕ)) (before now : ℕ) → broken ≡ None → now ≡ before
+      → OfContents told (files_of ws) (λ contents. OfInput old new (nat_lt before now) (λ z. Answers s (whole ws contents broken z) k n)) → RunsThrough ws (all_told told (files_of ws)) old → (s ≡ status.Done) ⊎ (s ≡ status.OutOfMemory)
+  runs_to_end told broken old new before now same steady p h =
+      let some = contents_of told (files_of ws) (λ contents. OfInput old new (nat_lt before now) (λ z. Answers s (whole ws contents broken z) k n)) p in
+      by some.0 some.1 some.2 (all_told told (files_of ws)) refl h
+    where
+      by : (contents : List (Option (List ℕ))) → AreTold told (files_of ws) contents → OfInput old new (nat_lt before now) (λ z. Answers s (whole ws contents broken z) k n)
+          → (all : Option (List (Option (List ℕ)))) → all_told told (files_of ws) ≡ all → RunsThrough ws all old → (s ≡ status.Done) ⊎ (s ≡ status.OutOfMemory)
+      by contents are p None is h = absurd h
+      by contents are p (Some all) is h =
+          let A : List (Option (List ℕ)) → Type 0 = λ cs. OfInput old new (nat_lt before now) (λ z. Answers s (whole ws cs broken z) k n) in
+          let B : Option ℕ → Type 0 = λ m. OfInput old new (nat_lt before now) (λ z. Answers s (whole ws all m z) k n) in
+          over_contents all old new before now steady h (subst B same (subst A (told_are told (files_of ws) contents all are is) p))

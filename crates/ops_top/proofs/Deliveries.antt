@@ -12,11 +12,11 @@ use Rattle.ops_io.proofs.Known.{append_known-nothing}
 use Rattle.ops_io.proofs.PortLemmas.{put_flushed, put_unflushed}
 use Rattle.ops_meaning.specs.declared.statuses.Status.{Status}
 use Rattle.ops_meaning.specs.Effects.{Effect}
-use Rattle.ops_meaning.specs.Running.{Course as Meant}
-use Rattle.ops_meaning.specs.Whole.{Reply, status_of, told}
+use Rattle.ops_meaning.specs.Running.{Session as Meant}
+use Rattle.ops_top.specs.Whole.{Reply, status_of, told}
 use Rattle.ops_top.specs.Calls.{OfInput}
 use Rattle.ops_top.specs.Told.{Delivers, TellsOn}
-use Rattle.ops_top.proofs.Comings.{some_failing}
+use Rattle.session.proofs.Comings.{some_failing}
 use Rattle.ops_top.proofs.Inputs.{over_input}
 
 -- all was put, and then written out

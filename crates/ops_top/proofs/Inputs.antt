@@ -6,7 +6,7 @@ use Rattle.std.proofs.lemmas.Bool.{false≢true}
 use Rattle.ops_io.specs.Input.{InputState}
 use Rattle.ops_io.specs.Coming.{Coming, Inlet, preceded_by, Took, IsBehind, MayCome, ComesBehind, ComesAfter}
 use Rattle.ops_top.specs.Calls.{OfInput}
-use Rattle.ops_top.proofs.Comings.{some_failing}
+use Rattle.session.proofs.Comings.{some_failing}
 
 pub input_map : (old new : Option (List ℕ)) (failed : Bool) (P Q : Coming → Type 0) → ((coming : Coming) → P coming → Q coming) → OfInput old new failed P → OfInput old new failed Q
 input_map None new failed P Q f p = (p.0, p.1, f p.0 p.2)

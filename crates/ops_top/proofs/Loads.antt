@@ -1,23 +1,26 @@
--- What a load decides of the answer.
-use Rattle.std.proofs.Common.{◌≡◌, ℕ, zero, suc, ◌+◌, ◌<◌, ◌≤◌, List, [], ◌∷◌, ◌++◌, Bool, true, false, Option, Some, None, Result, Ok, option_map, unwrap_or, refl, sym, subst, nat_lt, length, cond, arith}
-use Rattle.std.proofs.lemmas.Bool.Decides.{nat_tests}
+-- What the loads of files come to.
+use Rattle.std.proofs.Common.{◌≡◌, ℕ, zero, suc, ◌+◌, ◌-◌, ◌<◌, ◌≤◌, List, [], ◌∷◌, ◌++◌, length, take, drop, get_or, cond, Bool, true, false, Option, Some, None, Result, Ok, Err, String, string_bytes, inl, inr, refl, sym, ap, ◌∙◌, subst, append_assoc, arith}
+use Rattle.std.proofs.lemmas.Bool.{false≢true, le-leb, lt-leb, lt-ltb, le-ltb}
 use Rattle.std.proofs.lemmas.Grind.{common_steps}
-use Rattle.ops_base.specs.ConflictSet.{conflict_set}
+use Rattle.std.proofs.lemmas.List.{append-nil, drop_more, drop_all, take_all, take_more, take-append-drop, length-append, length-take-le, set_at, get_or-map}
 use Rattle.ops_base.specs.Valid.{longest_list}
-use Rattle.ops_base.specs.declared.endings.Fault.TheVariants as fault
-use Rattle.ops_io.specs.Coming.{Coming}
+use Rattle.ops_jobs.specs.Words.{word_bytes}
 use Rattle.ops_io.specs.Outside.{LoadGives}
 use Rattle.ops_io.specs.declared.outside.LoadError.{LoadError}
-use Rattle.ops_meaning.specs.Whole.{Reply, Job, job_of, ends_in_line, text_of, answer_file, refused_at, unread, usage, whole_file, whole_job_by, whole, file_of}
-use Rattle.ops_top.specs.Calls.{OfContent, OfInput}
-use Rattle.ops_top.proofs.Inputs.{input_untouched}
-use Rattle.ops_top.proofs.Refusals.{too_long}
+use Rattle.ops_top.specs.Whole.{Gathered, Joined, Unread, Overlong, ends_in_line, text_of, joined, gathered, readable}
+use Rattle.ops_top.specs.Calls.{OfContents, broken_load, AskedFor}
+use Rattle.ops_top.specs.Loads.{IsTold, Adds, CountsUnread, AsksFor, ComesTo}
+use Rattle.ops_top.specs.declared.files.FilesFault.{FilesFault}
+use Rattle.ops_top.specs.declared.files.FilesFault.TheVariants as fault
+use Rattle.ops_top.proofs.Contents.{AreTold, of_contents, any_content, any_contents, contents_any, told_append, told_length}
 
-not_broken : (before now : ℕ) → now ≡ before → nat_lt before now ≡ false
-not_broken before now h = grind (arith, nat_tests)
+-- ---- one file more
 
-is_broken : (before now : ℕ) → now ≡ before + 1 → nat_lt before now ≡ true
-is_broken before now h = grind (arith, nat_tests)
+joined_fits : (sofar bytes : List ℕ) (rest : List ℕ → Gathered) → length (sofar ++ text_of bytes) ≤ longest_list → joined sofar bytes rest ≡ rest (sofar ++ text_of bytes)
+joined_fits sofar bytes rest fits = rw (le-leb (length (sofar ++ text_of bytes)) longest_list fits) refl
+
+joined_long : (sofar bytes : List ℕ) (rest : List ℕ → Gathered) → longest_list < length (sofar ++ text_of bytes) → joined sofar bytes rest ≡ Overlong
+joined_long sofar bytes rest long = rw (lt-leb (length (sofar ++ text_of bytes)) longest_list long) refl
 
 text_as_long : (bytes : List ℕ) → length bytes ≤ length (text_of bytes)
 text_as_long bytes = by (ends_in_line bytes)
@@ -30,78 +33,160 @@ some_list : (n : ℕ) → (xs : List ℕ) × (length xs ≡ n)
 some_list zero = ([], refl)
 some_list (suc n) = let xs = some_list n in (0 ∷ xs.0, grind (arith, common_steps, xs.1))
 
--- ---- contents
+longer : (room : ℕ) (old bytes : List ℕ) → longest_list ≤ room + length old → room < length bytes → longest_list < length (old ++ text_of bytes)
+longer room old bytes h long = omega (arith, length-append {A = ℕ}, text_as_long bytes)
 
-pub of_map : (told : Option (Option (List ℕ))) (P Q : Option (List ℕ) → Type 0) → ((content : Option (List ℕ)) → P content → Q content) → OfContent told P → OfContent told Q
-of_map None P Q f p = (p.0, f p.0 p.1)
-of_map (Some content) P Q f p = f content p
+-- a file that does not fit the room that is left
+pub long_file : (known : Option (Option (List ℕ))) (room : ℕ) (old new : List ℕ) → longest_list ≤ room + length old → (let r : Result Bool LoadError = Ok false in LoadGives known room r old new) → (bytes : List ℕ) × IsTold known (Some bytes) × (longest_list < length (old ++ text_of bytes))
+long_file None room old new h p =
+    let xs = some_list (suc room) in (xs.0, tt, longer room old xs.0 h (omega (arith, xs.1)))
+long_file (Some None) room old new h p = absurd p
+long_file (Some (Some bytes)) room old new h p = (bytes, refl, longer room old bytes h p.0)
 
-pub of_any : (told : Option (Option (List ℕ))) (P : Option (List ℕ) → Type 0) → ((content : Option (List ℕ)) → P content) → OfContent told P
-of_any None P f = (None, f None)
-of_any (Some content) P f = f content
+module _ (told : List ℕ → Option (Option (List ℕ))) (names : List (List ℕ)) where
+  -- So many of the files were loaded, in their order, and this is their text.
+  pub record Loaded (count : ℕ) (text : List ℕ) : Type 0 where
+    pub contents : List (Option (List ℕ))
+    pub are : AreTold told (take count names) contents
+    pub rest : (more : List (Option (List ℕ))) → gathered [] names (contents ++ more) ≡ gathered text (drop count names) more
 
-of_loaded : (told : Option (Option (List ℕ))) (P : Option (List ℕ) → Type 0) (room : ℕ) (new : List ℕ) → (let r : Result Bool LoadError = Ok true in LoadGives told room r [] new) → P (Some new) → OfContent told P
-of_loaded None P room new h p = (Some new, p)
-of_loaded (Some None) P room new h p = absurd h
-of_loaded (Some (Some bytes)) P room new h p = let Q : List ℕ → Type 0 = λ xs. P (Some xs) in subst Q h.1 p
+  -- what the files come to by contents that may be theirs
+  pub record Comes (cs : List (Option (List ℕ))) (g : Gathered) : Type 0 where
+    pub are : AreTold told names cs
+    pub gathers : gathered [] names cs ≡ g
 
-of_long : (told : Option (Option (List ℕ))) (P : Option (List ℕ) → Type 0) (room : ℕ) (old new : List ℕ) → (let r : Result Bool LoadError = Ok false in LoadGives told room r old new) → ((bytes : List ℕ) → room < length bytes → P (Some bytes)) → OfContent told P
-of_long None P room old new h f = let xs = some_list (suc room) in (Some xs.0, f xs.0 (omega (arith, xs.1)))
-of_long (Some None) P room old new h f = absurd h
-of_long (Some (Some bytes)) P room old new h f = f bytes h.0
+  pub loaded_none : Loaded 0 []
+  loaded_none = record { contents = []; are = tt; rest = λ more. refl }
 
--- ---- the arms of a load
+  module _ (i : ℕ) (text : List ℕ) (p : Loaded i text) where
+    pub loaded_all : length names ≤ i → Comes p.contents (Joined text)
+    loaded_all all = record {
+      are = subst (λ (ns : List (List ℕ)). AreTold told ns p.contents) (take_all i names all) p.are;
+      gathers =
+          ap (gathered [] names) (sym (append-nil p.contents)) ∙ p.rest [] ∙ ap (λ ns. gathered text ns []) (drop_all i names all);
+    }
 
--- the file was loaded, and its text is answered
-pub loaded_delivers : (I : (Coming → Type 0) → Type 0) (D : Reply → Type 0) (job : Job) (told : Option (Option (List ℕ))) (room before now : ℕ) (old new : List ℕ) → old ≡ [] → (let r : Result Bool LoadError = Ok true in LoadGives told room r old new) → now ≡ before
-    → I (λ z. D (answer_file job.limit z new)) → OfContent told (λ content. I (λ z. D (whole_file job content (nat_lt before now) z)))
-loaded_delivers I D job told room before now old new empty h same d =
-    let G : List ℕ → Type 0 = λ xs. (let r : Result Bool LoadError = Ok true in LoadGives told room r xs new) in
-    let B : Bool → Type 0 = λ b. I (λ z. D (whole_file job (Some new) b z)) in
-    of_loaded told _ room new (subst G empty h) (subst B (sym (not_broken before now same)) d)
+    module _ (within : i < length names) (name : List ℕ) (is : name ≡ get_or names i []) where
+      rest_is : drop i names ≡ name ∷ drop (i + 1) names
+      rest_is = drop_more names i [] within ∙ ap (λ n. n ∷ drop (i + 1) names) (sym is)
 
--- the file is longer than any text, and is refused
-pub long_delivers : (left : Option (List ℕ)) (failed : Bool) (D : Reply → Type 0) (job : Job) (told : Option (Option (List ℕ))) (room before now : ℕ) (old new : List ℕ) → room ≡ longest_list → (let r : Result Bool LoadError = Ok false in LoadGives told room r old new) → now ≡ before
-    → D (refused_at fault.TooLong 1 1) → OfContent told (λ content. OfInput left left failed (λ z. D (whole_file job content (nat_lt before now) z)))
-long_delivers left failed D job told room before now old new is h same d =
-    of_long told _ room old new h
-    (λ bytes long. let B : Bool → Type 0 = λ b. OfInput left left failed (λ z. D (whole_file job (Some bytes) b z)) in
-    subst B (sym (not_broken before now same))
-    (input_untouched left failed (λ z. D (answer_file job.limit z bytes)) (λ z. subst D (too_long (text_of bytes) job.limit z (omega (arith, text_as_long bytes))) d)))
+      -- this content comes next
+      goes : (c : Option (List ℕ)) (more : List (Option (List ℕ))) → gathered [] names (p.contents ++ c ∷ more) ≡ gathered text (name ∷ drop (i + 1) names) (c ∷ more)
+      goes c more = p.rest (c ∷ more) ∙ ap (λ ns. gathered text ns (c ∷ more)) rest_is
 
-unread_any : (job : Job) (content : Option (List ℕ)) (z : Coming) → unread job.file ≡ whole_file job content true z
-unread_any job content z = refl
+      -- these are the contents of all, whatever those behind this one are
+      all_are : (c : Option (List ℕ)) → IsTold (told name) c → AreTold told names (p.contents ++ c ∷ (any_contents told (drop (i + 1) names)).0)
+      all_are c a =
+          let behind = any_contents told (drop (i + 1) names) in
+          let A : List (List ℕ) → Type 0 = λ ns. AreTold told ns (p.contents ++ c ∷ behind.0) in
+          subst A (ap (λ ns. take i names ++ ns) (sym rest_is) ∙ take-append-drop i names)
+          (told_append told (take i names) (name ∷ drop (i + 1) names) p.contents (c ∷ behind.0) p.are (a, behind.1))
 
--- the load failed
-pub failed_delivers : (left : Option (List ℕ)) (failed : Bool) (D : Reply → Type 0) (job : Job) (told : Option (Option (List ℕ))) (before now : ℕ) → now ≡ before + 1
-    → D (unread job.file) → OfContent told (λ content. OfInput left left failed (λ z. D (whole_file job content (nat_lt before now) z)))
-failed_delivers left failed D job told before now rose d =
-    of_any told _
-    (λ content. let B : Bool → Type 0 = λ b. OfInput left left failed (λ z. D (whole_file job content b z)) in
-    subst B (sym (is_broken before now rose)) (input_untouched left failed (λ z. D (whole_file job content true z)) (λ z. subst D (unread_any job content z) d)))
+      pub loaded_more : (bytes new : List ℕ) → IsTold (told name) (Some bytes) → new ≡ text ++ text_of bytes → length new ≤ longest_list → Loaded (i + 1) new
+      loaded_more bytes new a e fits = record {
+        contents = p.contents ++ Some bytes ∷ [];
+        are = let A : List (List ℕ) → Type 0 = λ ns. AreTold told ns (p.contents ++ Some bytes ∷ []) in
+            subst A (ap (λ n. take i names ++ n ∷ []) is ∙ sym (take_more names i [] within))
+            (told_append told (take i names) (name ∷ []) p.contents (Some bytes ∷ []) p.are (a, tt));
+        rest = λ more. let F : List ℕ → Type 0 = λ xs. length xs ≤ longest_list in
+            ap (gathered [] names) (append_assoc p.contents (Some bytes ∷ []) more) ∙ goes (Some bytes) more
+            ∙ joined_fits text bytes (λ text. gathered text (drop (i + 1) names) more) (subst F e fits)
+            ∙ ap (λ xs. gathered xs (drop (i + 1) names) more) (sym e);
+      }
 
--- memory ran out
-pub short_delivers : (left : Option (List ℕ)) (failed : Bool) (D : Reply → Type 0) (job : Job) (told : Option (Option (List ℕ))) (before now : ℕ) → ((o : Reply) → D o)
-    → OfContent told (λ content. OfInput left left failed (λ z. D (whole_file job content (nat_lt before now) z)))
-short_delivers left failed D job told before now d =
-    of_any told _ (λ content. input_untouched left failed (λ z. D (whole_file job content (nat_lt before now) z)) (λ z. d (whole_file job content (nat_lt before now) z)))
+      -- a file is too long
+      pub loaded_long : (bytes : List ℕ) → IsTold (told name) (Some bytes) → longest_list < length (text ++ text_of bytes) → (cs : List (Option (List ℕ))) × Comes cs Overlong
+      loaded_long bytes a long =
+          let behind = any_contents told (drop (i + 1) names) in (
+            p.contents ++ Some bytes ∷ behind.0,
+            record {
+              are = all_are (Some bytes) a;
+              gathers = goes (Some bytes) behind.0 ∙ joined_long text bytes (λ text. gathered text (drop (i + 1) names) behind.0) long;
+            },
+          )
 
--- ---- words
+      -- a file can't be read
+      pub loaded_unread : (cs : List (Option (List ℕ))) × AreTold told names cs × (gathered [] names (readable cs (Some (i + 1))) ≡ Unread name)
+      loaded_unread =
+          let one = any_content (told name) in
+          let behind = any_contents told (drop (i + 1) names) in
+          let place : length p.contents ≡ i + 1 - 1 = told_length told (take i names) p.contents p.are ∙ length-take-le i names (omega arith) ∙ omega arith in (
+            p.contents ++ one.0 ∷ behind.0,
+            all_are one.0 one.1,
+            ap (gathered [] names) (set_at p.contents one.0 behind.0 None (i + 1 - 1) place) ∙ goes None behind.0,
+          )
 
--- the answer to what the words ask for, or to words that don't fit
-abbrev pub whole_job : Option Job → Option (List ℕ) → Bool → Coming → Reply
-whole_job asked content broken z = whole_job_by conflict_set asked content broken z
+-- ---- the number of the load that failed
 
--- what is answered to the file that is asked for is answered to the words
-pub words_deliver : (old new : Option (List ℕ)) (failed : Bool) (D : Reply → Type 0) (ws : List (List ℕ)) (job : Job) (told : List ℕ → Option (Option (List ℕ))) (broken : Bool) → job_of ws ≡ Some job
-    → OfContent (told job.file) (λ content. OfInput old new failed (λ z. D (whole_file job content broken z))) → OfContent (told (file_of ws)) (λ content. OfInput old new failed (λ z. D (whole ws content broken z)))
-words_deliver old new failed D ws job told broken is p =
-    let by : Option Job → Type 0 = λ asked. OfContent (told (unwrap_or (option_map (λ j. j.file) asked) [])) (λ content. OfInput old new failed (λ z. D (whole_job asked content broken z))) in
-    subst by (sym is) p
+pub none_broken : (old new : List (List ℕ)) (before now : ℕ) → now ≡ before → broken_load old new before now ≡ None
+none_broken old new before now same = rw (le-ltb before now (omega arith)) refl
 
--- words that don't fit are answered whatever the input is
-pub unfit_deliver : (left : Option (List ℕ)) (failed : Bool) (D : Reply → Type 0) (ws : List (List ℕ)) (told : Option (Option (List ℕ))) (broken : Bool) → job_of ws ≡ None
-    → D usage → OfContent told (λ content. OfInput left left failed (λ z. D (whole ws content broken z)))
-unfit_deliver left failed D ws told broken is d =
-    let by : Option Job → Type 0 = λ asked. OfContent told (λ content. OfInput left left failed (λ z. D (whole_job asked content broken z))) in
-    subst by (sym is) (of_any told _ (λ content. input_untouched left failed (λ z. D usage) (λ z. d)))
+pub one_broken : (old new names : List (List ℕ)) (before now i : ℕ) → now ≡ before + 1 → new ≡ old ++ take (i + 1) names → i < length names → broken_load old new before now ≡ Some (i + 1)
+one_broken old new names before now i rose asked within =
+    let loads : length new - length old ≡ i + 1 = grind (arith, length-append {A = List ℕ}, length-take-le {A = List ℕ}, ap (λ (ns : List (List ℕ)). length ns) asked) in
+    rw (lt-ltb before now (omega arith)) (ap Some loads)
+
+-- ---- what stands behind a load of a file
+
+-- the name of an item
+pub name_is : {A : Type 0} (words : List (String A)) (i : ℕ) (item : String A) (name : List ℕ) → i < length words → item ≡ get_or words i item → name ≡ string_bytes item → name ≡ get_or (word_bytes words) i []
+name_is words i item name within is e =
+    e ∙ ap string_bytes is ∙ sym (get_or-map string_bytes words i item [] within)
+
+-- what is told of a file is told of it later
+pub told_still : (told now : List ℕ → Option (Option (List ℕ))) (name : List ℕ) (c : Option (List ℕ)) → ((n : List ℕ) → now n ≡ told n) → IsTold (now name) c → IsTold (told name) c
+told_still told now name c same p = subst (λ (k : Option (Option (List ℕ))). IsTold k c) (same name) p
+
+pub asked_more : (asked before new names : List (List ℕ)) (i : ℕ) (name : List ℕ) → before ≡ asked ++ take i names → new ≡ before ++ name ∷ [] → i < length names → name ≡ get_or names i [] → new ≡ asked ++ take (i + 1) names
+asked_more asked before new names i name e more within is =
+    more ∙ ap (λ ns. ns ++ name ∷ []) e ∙ append_assoc asked (take i names) (name ∷ []) ∙ ap (λ n. asked ++ (take i names ++ n ∷ [])) is
+    ∙ ap (λ ns. asked ++ ns) (sym (take_more names i [] within))
+
+module _ (told : List ℕ → Option (Option (List ℕ))) (names asked : List (List ℕ)) (i : ℕ) (text : List ℕ) (p : Loaded told names i text) where
+  -- all were loaded
+  pub all_come : (new : List (List ℕ)) (before now : ℕ) → length names ≤ i → now ≡ before → OfContents told names (λ cs. gathered [] names (readable cs (broken_load asked new before now)) ≡ Joined text)
+  all_come new before now all same =
+      let done = loaded_all told names i text p all in
+      of_contents told names (λ cs. gathered [] names (readable cs (broken_load asked new before now)) ≡ Joined text) p.contents done.are
+      (ap (λ m. gathered [] names (readable p.contents m)) (none_broken asked new before now same) ∙ done.gathers)
+
+  module _ (within : i < length names) (name : List ℕ) (is : name ≡ get_or names i []) (mid new : List (List ℕ)) (so_far : mid ≡ asked ++ take i names) where
+    come : (T : Type 0) (f : FilesFault) (behind : List ℕ) (before now : ℕ) → (let r : Result T FilesFault = Err f in Adds r (told name) name text behind) → (let r : Result T FilesFault = Err f in CountsUnread r before now)
+        → (let r : Result T FilesFault = Err f in AsksFor r name mid new) → OfContents told names (λ cs. ComesTo f (gathered [] names (readable cs (broken_load asked new before now))))
+    come T (fault.Unread of) behind before now a rose more =
+        let next = loaded_unread told names i text p within name is in
+        let broken = one_broken asked new names before now i rose (asked_more asked mid new names i name so_far more within is) within in
+        of_contents told names (λ cs. gathered [] names (readable cs (broken_load asked new before now)) ≡ Unread of.now) next.0 next.1
+        (ap (λ m. gathered [] names (readable next.0 m)) broken ∙ next.2 ∙ ap Unread (sym a))
+    come T fault.TooLong behind before now a same more =
+        let next = loaded_long told names i text p within name is a.0 a.1 a.2 in
+        let comes = next.1 in
+        of_contents told names (λ cs. gathered [] names (readable cs (broken_load asked new before now)) ≡ Overlong) next.0 comes.are
+        (ap (λ m. gathered [] names (readable next.0 m)) (none_broken asked new before now same) ∙ comes.gathers)
+    come T fault.OutOfMemory behind before now a same more =
+        contents_any told names (λ cs. ComesTo fault.OutOfMemory (gathered [] names (readable cs (broken_load asked new before now)))) (λ cs. tt)
+
+    -- the next one can't be had
+    pub none_comes : (T : Type 0) (f : FilesFault) (behind : List ℕ) (before then now : ℕ) (known : Option (Option (List ℕ))) → known ≡ told name → then ≡ before
+        → (let r : Result T FilesFault = Err f in Adds r known name text behind) → (let r : Result T FilesFault = Err f in CountsUnread r then now)
+        → (let r : Result T FilesFault = Err f in AsksFor r name mid new) → OfContents told names (λ cs. ComesTo f (gathered [] names (readable cs (broken_load asked new before now))))
+    none_comes T f behind before then now known same steady a counts more =
+        let r : Result T FilesFault = Err f in
+        come T f behind before now (subst (λ (k : Option (Option (List ℕ))). Adds r k name text behind) same a) (subst (λ n. CountsUnread r n now) steady counts) more
+
+    one_asked : new ≡ mid ++ name ∷ [] → AskedFor false names asked new
+    one_asked more = record {
+      loads = i + 1;
+      within = omega arith;
+      names = asked_more asked mid new names i name so_far more within is;
+      all_of_them = λ e. absurd (false≢true e);
+    }
+
+    -- the files that were asked for then
+    pub asked_so_far : (T : Type 0) (f : FilesFault) → (let r : Result T FilesFault = Err f in AsksFor r name mid new) → AskedFor false names asked new
+    asked_so_far T (fault.Unread of) more = one_asked more
+    asked_so_far T fault.TooLong more = one_asked more
+    asked_so_far T fault.OutOfMemory more = elim more [
+      | inl none ↦ record { loads = i; within = omega arith; names = none ∙ so_far; all_of_them = λ e. absurd (false≢true e) }
+      | inr one ↦ one_asked one
+    ]

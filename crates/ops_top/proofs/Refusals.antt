@@ -7,7 +7,7 @@ use Rattle.ops_base.specs.declared.endings.Fault.TheVariants as fault
 use Rattle.ops_io.specs.Coming.{Coming}
 use Rattle.ops_meaning.specs.Places.{line_of}
 use Rattle.ops_meaning.specs.Reads.{reads}
-use Rattle.ops_meaning.specs.Whole.{refused_at, answer_read, answer_to}
+use Rattle.ops_top.specs.Whole.{refused_at, answer_read, answer_to}
 use Rattle.ops_check.specs.declared.faults.ProgramFault.TheVariants as refusal
 use Rattle.ops_check.specs.Answered.{IsRefusal}
 

@@ -15,12 +15,13 @@ use Rattle.ops_io.proofs.PortLemmas.{put_then, stopped_then, stopped_more}
 use Rattle.ops_meaning.specs.Effects.{Effect}
 use Rattle.ops_meaning.specs.Kept.{KeepsNames}
 use Rattle.ops_meaning.specs.Layout.{last_line}
-use Rattle.ops_meaning.specs.Running.{Course as Meant, ending_of}
+use Rattle.ops_meaning.specs.Running.{Session as Meant, ending_of}
 use Rattle.ops_meaning.specs.Symbols.{is_held, rule_held}
-use Rattle.ops_meaning.specs.Whole.{told}
+use Rattle.ops_top.specs.Whole.{told}
 use Rattle.ops_meaning.proofs.NamesKept.{last_line_kept}
-use Rattle.ops_top.specs.Told.{EndsSession, EndsOn, TellsOn}
-use Rattle.ops_top.proofs.Comings.{some_failing}
+use Rattle.ops_top.specs.Told.{TellsOn}
+use Rattle.session.specs.Endings.{EndsSession, EndsOn}
+use Rattle.session.proofs.Comings.{some_failing}
 
 -- the last line of a session that began at column 0
 last_line_at : (names : Spellings) (rules : List Rule) (a b : Port) (f : Ending) (e : Effect Ending Meant) → a.out.column ≡ 0 → f ≡ ending_of e.outcome → Put a b e.bytes → last_line names rules b.out.column f ≡ last_line names rules (column_after 0 e.bytes) (ending_of e.outcome)

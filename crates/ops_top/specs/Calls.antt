@@ -1,18 +1,26 @@
 -- What a call of the program leaves, beside the bytes: what each answer tells of the words and of the outside.
-use Rattle.std.specs.Prelude.{◌≡◌, ℕ, ◌+◌, List, [], ◌∷◌, ◌++◌, Bool, true, false, ◌&&◌, Option, Some, None, Result, Ok, Err, is_ok, ◌⊎◌}
+use Rattle.std.specs.Prelude.{◌≡◌, ℕ, ◌+◌, ◌-◌, ◌≤◌, nat_lt, List, [], ◌∷◌, ◌++◌, length, take, slice_index_or, Bool, true, false, ◌&&◌, if◌then◌else◌, Option, Some, None, option_map, option_and_then, Result, Ok, Err, is_ok, ◌⊎◌}
 use Rattle.std.specs.Io.KnownBytes.{prepend_known}
 use Rattle.ops_io.specs.Coming.{Coming}
 use Rattle.ops_meaning.specs.declared.statuses.Status.{Status}
 use Rattle.ops_meaning.specs.declared.statuses.Status.TheVariants as status
 use Rattle.ops_meaning.specs.Reads.{Read, Placed, reads}
 use Rattle.ops_meaning.specs.Running.{session_of}
-use Rattle.ops_meaning.specs.Whole.{Job as Meant, words_fit, file_of, limit_of, text_of, setting_of}
-use Rattle.ops_top.specs.declared.words.Job.{Job}
+use Rattle.ops_top.specs.Whole.{Gathered, Joined, gathered, words_fit, files_of, limit_of, setting_of}
 
 -- It holds for the content that is told of a file, or for some content where none is told.
 abbrev pub OfContent : Option (Option (List ℕ)) → (Option (List ℕ) → Type 0) → Type 0
 OfContent (Some content) P = P content
 OfContent None P = (content : Option (List ℕ)) × P content
+
+-- It holds for contents of these files, in their order, each of which is the one that is told, or some content where none is told.
+abbrev pub OfContents : (List ℕ → Option (Option (List ℕ))) → List (List ℕ) → (List (Option (List ℕ)) → Type 0) → Type 0
+OfContents told [] P = P []
+OfContents told (name ∷ names) P = OfContent (told name) (λ content. OfContents told names (λ contents. P (content ∷ contents)))
+
+-- Which load of a call failed, counted from 1: the last one, where the count of failures rose.
+abbrev pub broken_load : (old new : List (List ℕ)) → (before now : ℕ) → Option ℕ
+broken_load old new before now = if nat_lt before now then Some (length new - length old) else None
 
 -- It holds for the input of a call: all that the source had left; or, where a read failed, the bytes that were taken from it, behind which it
 -- fails. Where the source does not tell its bytes it holds for some input, which fails where a read did.
@@ -41,17 +49,13 @@ BothStay before now before2 now2 = (now ≡ before) × (now2 ≡ before2)
 abbrev pub OneRises : (before now before2 now2 : ℕ) → Type 0
 OneRises before now before2 now2 = ((now ≡ before + 1) × (now2 ≡ before2)) ⊎ ((now ≡ before) × (now2 ≡ before2 + 1))
 
--- A read fault is answered only where the load or a read of the input failed, and where one failed no other answer comes but those of a
+-- A read fault is answered only where a load or a read of the input failed, and where one failed no other answer comes but those of a
 -- write and of memory. The counts are those of the shelf and of the input.
 abbrev pub TellsFailedRead : Status → (loads now reads now2 : ℕ) → Type 0
 TellsFailedRead status.ReadFault loads now reads now2 = OneRises loads now reads now2
 TellsFailedRead status.WriteFault loads now reads now2 = BothStay loads now reads now2 ⊎ OneRises loads now reads now2
 TellsFailedRead status.OutOfMemory loads now reads now2 = BothStay loads now reads now2 ⊎ OneRises loads now reads now2
 TellsFailedRead s loads now reads now2 = BothStay loads now reads now2
-
--- what is asked for, in the words of the definition
-abbrev pub job_meant : Job → Meant
-job_meant j = record { file = j.file.now; limit = j.limit }
 
 -- Usage is answered only where the words don't fit, and no other answer comes there but those of a write and of memory.
 abbrev pub TellsWords : Status → Bool → Type 0
@@ -60,32 +64,52 @@ TellsWords status.WriteFault fit = Unit {0}
 TellsWords status.OutOfMemory fit = Unit {0}
 TellsWords s fit = fit ≡ true
 
--- The file of this name was asked for once; where memory ran out it may not have been.
-abbrev pub AskedFor : Status → List ℕ → List (List ℕ) → List (List ℕ) → Type 0
-AskedFor status.OutOfMemory name old new = (new ≡ old) ⊎ (new ≡ old ++ name ∷ [])
-AskedFor s name old new = new ≡ old ++ name ∷ []
+-- the text of all files was had
+abbrev pub has_text : Status → Bool
+has_text status.Done = true
+has_text (status.ActFault firing rule action kind) = true
+has_text status.Limit = true
+has_text _ = false
 
--- The file that the words ask for was asked for where they fit, and none otherwise.
+-- The first of these files were asked for, in their order, each once; all of them, where that is so.
+pub record AskedFor (all : Bool) (files old new : List (List ℕ)) : Type 0 where
+  pub loads : ℕ
+  pub within : loads ≤ length files
+  pub names : new ≡ old ++ take loads files
+  pub all_of_them : all ≡ true → loads ≡ length files
+
+-- The files that the words name were asked for where they fit, all where their text was had, and none was otherwise.
 abbrev pub AskedForWords : Status → List (List ℕ) → Bool → List (List ℕ) → List (List ℕ) → Type 0
-AskedForWords s words true old new = AskedFor s (file_of words) old new
+AskedForWords s words true old new = AskedFor (has_text s) (files_of words) old new
 AskedForWords s words false old new = new ≡ old
 
+-- the name that the last load was given
+abbrev pub last_of : List (List ℕ) → List ℕ
+last_of names = slice_index_or names (length names - 1) []
+
 -- The text is a program whose session, of so many firings at most, comes to its end over this input.
-abbrev pub text_runs_through : ℕ → Coming → Result Read Placed → Bool
-text_runs_through limit coming (Err p) = false
-text_runs_through limit coming (Ok p) = is_ok (session_of (setting_of p) limit p.commands p.names coming).outcome
+abbrev pub text_runs_through : ℕ → Coming → List ℕ → Result Read Placed → Bool
+text_runs_through limit coming text (Err p) = false
+text_runs_through limit coming text (Ok p) = is_ok (session_of (setting_of text p) limit p.commands p.names coming).outcome
 
-abbrev pub file_runs_through : ℕ → Coming → List ℕ → Bool
-file_runs_through limit coming bytes = text_runs_through limit coming (reads (text_of bytes))
+-- So is what the files come to.
+abbrev pub gathered_runs_through : ℕ → Coming → Gathered → Bool
+gathered_runs_through limit coming (Joined text) = text_runs_through limit coming text (reads text)
+gathered_runs_through limit coming g = false
 
--- The words fit, and this file's text is a program whose session comes to its end, within their limit, over an input of these bytes.
-abbrev pub runs_over : List (List ℕ) → List ℕ → List ℕ → Bool
-runs_over words bytes left = words_fit words && file_runs_through (limit_of words) (record { bytes = left; fails = false }) bytes
+-- The words fit, and the files of these contents are a program whose session comes to its end, within its limit, over an input of these bytes.
+abbrev pub runs_over : List (List ℕ) → List (Option (List ℕ)) → List ℕ → Bool
+runs_over words contents left =
+    words_fit words && gathered_runs_through (limit_of words) (record { bytes = left; fails = false }) (gathered [] (files_of words) contents)
 
--- The words fit, the file is there, and its text is a program whose session comes to its end, within their limit, over the input that is
+-- the contents of these files, where those of all are told
+abbrev pub all_told : (List ℕ → Option (Option (List ℕ))) → List (List ℕ) → Option (List (Option (List ℕ)))
+all_told told [] = Some []
+all_told told (name ∷ names) = option_and_then (λ content. option_map (λ contents. content ∷ contents) (all_told told names)) (told name)
+
+-- The words fit, the files are there, and they are a program whose session comes to its end, within its limit, over the input that is
 -- left; where the source does not tell that, over every input that ends.
-abbrev pub RunsThrough : List (List ℕ) → Option (Option (List ℕ)) → Option (List ℕ) → Type 0
-RunsThrough words (Some (Some bytes)) (Some left) = runs_over words bytes left ≡ true
-RunsThrough words (Some (Some bytes)) None = (left : List ℕ) → runs_over words bytes left ≡ true
-RunsThrough words (Some None) left = ⊥
+abbrev pub RunsThrough : List (List ℕ) → Option (List (Option (List ℕ))) → Option (List ℕ) → Type 0
+RunsThrough words (Some contents) (Some left) = runs_over words contents left ≡ true
+RunsThrough words (Some contents) None = (left : List ℕ) → runs_over words contents left ≡ true
 RunsThrough words None left = ⊥

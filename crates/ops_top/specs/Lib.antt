@@ -1,4 +1,5 @@
-pub mod Courses
+pub mod Whole
 pub mod Codes
 pub mod Told
 pub mod Calls
+pub mod Loads

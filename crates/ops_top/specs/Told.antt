@@ -1,7 +1,6 @@
 -- How a part of a run tells its outcome, or gives up.
-use Rattle.std.specs.Prelude.{◌≡◌, ℕ, ◌+◌, List, Option, Result, Ok, Err, ◌⊎◌}
+use Rattle.std.specs.Prelude.{◌≡◌, ℕ, List, Option, Result, Ok, Err}
 use Rattle.ops_base.specs.declared.endings.Ending.{Ending}
-use Rattle.ops_base.specs.declared.endings.Ending.TheVariants as ending
 use Rattle.ops_io.specs.Outside.{GrewBy, GrewByPrefix}
 use Rattle.ops_io.specs.Ports.{Port, Put, Stopped, Cause}
 use Rattle.ops_io.specs.declared.stop.Stop.{Stop}
@@ -9,11 +8,11 @@ use Rattle.ops_io.specs.declared.stop.Stop.TheVariants as stop
 use Rattle.ops_meaning.specs.declared.statuses.Status.{Status}
 use Rattle.ops_meaning.specs.declared.statuses.Status.TheVariants as status
 use Rattle.ops_meaning.specs.Effects.{Effect}
-use Rattle.ops_meaning.specs.Whole.{Reply, told}
+use Rattle.ops_top.specs.Whole.{Reply, told}
 use Rattle.ops_base.specs.declared.rules.Rule.{Rule}
 use Rattle.ops_base.specs.Names.{Spellings}
 use Rattle.ops_io.specs.Coming.{Coming, Inlet, preceded_by, Took, ComesAfter}
-use Rattle.ops_meaning.specs.Running.{Course as Meant, ending_of}
+use Rattle.ops_meaning.specs.Running.{Session as Meant, ending_of}
 
 -- All bytes of the outcome went out and its status is answered; or the call gave up, for the reason that the count of
 -- failed writes tells, and a prefix went out.
@@ -26,23 +25,6 @@ abbrev pub status_after : Result Status Stop → Status
 status_after (Ok s) = s
 status_after (Err stop.Write) = status.WriteFault
 status_after (Err stop.OutOfMemory) = status.OutOfMemory
-
--- A read of the input failed exactly where that is the ending; where the call gave up one may have failed.
-abbrev pub CountsUnread : Result Ending Stop → ℕ → ℕ → Type 0
-CountsUnread (Ok ending.ReadFault) before now = now ≡ before + 1
-CountsUnread (Err why) before now = (now ≡ before) ⊎ (now ≡ before + 1)
-CountsUnread (Ok f) before now = now ≡ before
-
--- The bytes of a session were put, and this is its ending; or the call gave up.
-abbrev pub EndsSession : Result Ending Stop → Port → Port → Effect Ending Meant → Type 0
-EndsSession (Ok f) old new e = (f ≡ ending_of e.outcome) × Put old new e.bytes
-EndsSession (Err why) old new e = Stopped why old new e.bytes
-
--- It took bytes of the input, and whatever may come behind them, it ends so over those and that.
-pub record EndsOn (r : Result Ending Stop) (before now : Inlet) (old new : Port) (e : Coming → Effect Ending Meant) : Type 0 where
-  pub taken : List ℕ
-  pub took : Took before now taken
-  pub ends : (c : Coming) → ComesAfter before now c → EndsSession r old new (e (preceded_by taken c))
 
 -- The bytes of a session and its last line were put, and this is its ending; or the call gave up.
 abbrev pub TellsSession : Result Ending Stop → Port → Port → Spellings → List Rule → Effect Ending Meant → Type 0

@@ -1,18 +1,17 @@
 //! The answer to a text.
-ghost use Rattle.std.specs.Prelude.{◌≡◌, ◌^◌, ◌<◌, ℕ, List, length, nat_lt, IsTrue};
+ghost use Rattle.std.specs.Prelude.{◌≡◌, ◌^◌, ◌<◌, ℕ, List, [], length, nat_lt, IsTrue};
 ghost use Rattle.std.specs.Io.KnownBytes.{prepend_known};
 ghost use Rattle.ops_io.specs.Coming.{inlet};
 ghost use Rattle.ops_io.specs.Ports.{port};
 ghost use Rattle.ops_meaning.specs.Running.{session_of};
 ghost use Rattle.ops_meaning.specs.Symbols.{is_held};
-ghost use Rattle.ops_meaning.specs.Whole.{status_of, told, answer_to};
+ghost use Rattle.ops_top.specs.Whole.{status_of, told, answer_to};
 ghost use Rattle.act_phase.specs.Outcomes.{setting_of};
-ghost use Rattle.work_store.specs.Stored.{nothing_stored};
 ghost use Rattle.ops_top.specs.Calls.{OfInput, TellsFailedInput};
-ghost use Rattle.ops_top.specs.Told.{Delivers, status_after, CountsUnread, TellsOn};
+ghost use Rattle.ops_top.specs.Told.{Delivers, status_after, TellsOn};
+ghost use Rattle.session.specs.Endings.{CountsUnread};
 
 use crate::saying::refuse;
-use crate::session::run_session;
 use direct_engine::DirectEngine;
 use ops_base::endings::Ending;
 use ops_base::programs::Program;
@@ -21,6 +20,7 @@ use ops_check::{ProgramFault, read_program};
 use ops_io::{Input, Out, Sink, Source, Stop};
 use ops_meaning::Status;
 use ops_print::put_fault;
+use session::run_session;
 use std::alloc::Global;
 use work_store::Matcher;
 
@@ -62,7 +62,8 @@ fn tell_session<M: Matcher, I: Source, K: Sink>(
     sink: &mut K,
 ) -> Result<Ending, Stop>
     requires stands { M.stands_for matcher program.now.rules }
-    requires empty { M.stored matcher ≡ nothing_stored }
+    requires elements { (M.stored matcher).elements ≡ [] }
+    requires last { (M.stored matcher).last ≡ 0 }
     requires whole { IsTrue out.old.whole }
     requires faults { K.faults sink.old < 2 ^ 63 }
     requires reads { I.faults source.old < 2 ^ 63 }
@@ -73,7 +74,7 @@ fn tell_session<M: Matcher, I: Source, K: Sink>(
         (inlet input.new (I.left source.new) (I.faults source.new))
         (port (K.taken sink.old) (K.faults sink.old) out.old)
         (port (K.taken sink.new) (K.faults sink.new) out.new)
-        names.old program.now.rules (λ c. session_of (setting_of program.now) limit program.now.commands names.old c) }
+        names.old program.now.rules (λ c. session_of (setting_of program.now 0) limit program.now.commands names.old c) }
     ensures reads { CountsUnread result (I.faults source.old) (I.faults source.new) }
 {
     let ending = run_session(
@@ -98,7 +99,7 @@ fn answer_program<I: Source, K: Sink>(
     requires held { IsTrue (is_held (length names.old.held) program.now.classes program.now.rules program.now.commands) }
     ensures delivers { OfInput (I.left source.old) (I.left source.new) (nat_lt (I.faults source.old) (I.faults source.new))
         (λ coming. Delivers result (told names.old program.now.rules
-        (session_of (setting_of program.now) limit program.now.commands names.old coming))
+        (session_of (setting_of program.now 0) limit program.now.commands names.old coming))
         (K.taken sink.old) (K.faults sink.old) (K.taken sink.new) (K.faults sink.new)) }
     ensures reads { TellsFailedInput (status_after result) (I.faults source.old) (I.faults source.new) }
     ensures input { (got : List ℕ) × (I.left source.old ≡ prepend_known got (I.left source.new)) }

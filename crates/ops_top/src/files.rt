@@ -1,18 +1,26 @@
-//! The answer to a file.
-ghost use Rattle.std.specs.Prelude.{◌≡◌, ◌^◌, ◌<◌, ℕ, List, length, nat_lt, IfOk};
-ghost use Rattle.std.specs.Io.KnownBytes.{prepend_known};
-ghost use Rattle.ops_meaning.specs.Whole.{ends_in_line, text_of, answer_file, whole_file};
-ghost use Rattle.ops_top.specs.Calls.{OfContent, OfInput, TellsFailedInput, TellsFailedRead, AskedFor};
-ghost use Rattle.ops_top.specs.Told.{Delivers, status_after};
+//! The files of a program, as one text.
+ghost use Rattle.std.specs.Prelude.{◌≡◌, ◌^◌, ◌<◌, ◌≤◌, ◌-◌, ◌++◌, ℕ, List, [], length, take, drop, vec_len, IfOk, IfErr, is_ok};
+ghost use Rattle.ops_base.specs.Valid.{longest_list};
+ghost use Rattle.ops_jobs.specs.Words.{word_bytes};
+ghost use Rattle.ops_top.specs.Whole.{ends_in_line, text_of, gathered, readable, Joined};
+ghost use Rattle.ops_top.specs.Calls.{OfContents, broken_load, AskedFor};
+ghost use Rattle.ops_top.specs.Loads.{Fits, Adds, CountsUnread, AsksFor, ComesTo, IsOfLast};
 
-use crate::answer::answer_text;
-use crate::saying::{refuse, say_unread};
-use ops_base::endings::Fault;
 use ops_base::memory::OutOfMemory;
 use ops_check::LONGEST_TEXT;
-use ops_io::{LoadError, Shelf, Sink, Source, Stop};
-use ops_meaning::Status;
+use ops_io::{LoadError, Shelf};
 use std::alloc::Global;
+
+/// Why the files of a program are no text.
+#[derive(Clone, Copy)]
+pub enum FilesFault<'n> {
+    /// The file of this name can't be read.
+    Unread(&'n str),
+    /// They are longer than a text may be.
+    TooLong,
+    /// Memory ran out.
+    OutOfMemory,
+}
 
 fn ends_in_line(bytes: &[u8]) -> bool
     ensures { result ≡ ends_in_line bytes.now }
@@ -23,64 +31,72 @@ fn ends_in_line(bytes: &[u8]) -> bool
     }
 }
 
-/// The text of a file: its bytes, with an LF after them where the last line lacks it.
-fn text_of(bytes: Vec<u8>) -> Result<Vec<u8>, OutOfMemory>
-    ensures { IfOk result (λ v. v.items ≡ text_of bytes.items) }
+/// Adds an LF where what stands from this place on lacks it, and answers whether that fits.
+fn end_line(text: &mut Vec<u8>, from: usize) -> Result<bool, OutOfMemory>
+    requires from { from ≤ vec_len text.old }
+    requires fits { vec_len text.old ≤ longest_list }
+    ensures { IfOk result (λ fits. Fits fits (take from text.old.items ++ text_of (drop from text.old.items)) text.new.items) }
 {
-    let mut text = bytes;
-    if !ends_in_line(text.as_slice()) {
-        text.push(b'\n')?;
+    if ends_in_line(&text[from..]) {
+        return Ok(true);
     }
-    Ok(text)
+    if text.len() == LONGEST_TEXT {
+        return Ok(false);
+    }
+    text.push(b'\n')?;
+    Ok(true)
 }
 
-/// The answer to a file of these bytes, whose session makes at most so many firings.
-fn answer_file<I: Source, K: Sink>(
-    alloc: Global,
-    bytes: Vec<u8>,
-    limit: u64,
-    input: &mut I,
-    sink: &mut K,
-) -> Result<Status, Stop>
-    requires faults { K.faults sink.old < 2 ^ 63 }
-    requires reads { I.faults input.old < 2 ^ 63 }
-    ensures delivers { OfInput (I.left input.old) (I.left input.new) (nat_lt (I.faults input.old) (I.faults input.new))
-        (λ coming. Delivers result (answer_file limit coming bytes.items)
-        (K.taken sink.old) (K.faults sink.old) (K.taken sink.new) (K.faults sink.new)) }
-    ensures reads { TellsFailedInput (status_after result) (I.faults input.old) (I.faults input.new) }
-    ensures input { (got : List ℕ) × (I.left input.old ≡ prepend_known got (I.left input.new)) }
-{
-    let text = text_of(bytes)?;
-    answer_text(alloc, text, limit, input, sink)
-}
-
-/// Loads the file of this name and answers it, with at most so many firings. It asks the shelf once.
-pub fn run_file<H: Shelf, I: Source, K: Sink>(
-    alloc: Global,
-    name: &str,
-    limit: u64,
+/// Loads a file behind a text, with an LF where its last line lacks it. It asks the shelf once, and takes memory in
+/// proportion to what is added.
+fn add_file<'n, H: Shelf>(
+    name: &'n str,
     shelf: &mut H,
-    input: &mut I,
-    sink: &mut K,
-) -> Result<Status, Stop>
+    text: &mut Vec<u8>,
+) -> Result<(), FilesFault<'n>>
     requires shelf { H.faults shelf.old < 2 ^ 63 }
-    requires loads { length (H.names shelf.old) < 2 ^ 63 }
-    requires reads { I.faults input.old < 2 ^ 63 }
-    requires faults { K.faults sink.old < 2 ^ 63 }
-    ensures delivers { OfContent (H.told shelf.old name.now) (λ content.
-        OfInput (I.left input.old) (I.left input.new) (nat_lt (I.faults input.old) (I.faults input.new)) (λ coming.
-        Delivers result (whole_file (record { file = name.now; limit = limit }) content (nat_lt (H.faults shelf.old) (H.faults shelf.new)) coming)
-        (K.taken sink.old) (K.faults sink.old) (K.taken sink.new) (K.faults sink.new))) }
-    ensures reads { TellsFailedRead (status_after result) (H.faults shelf.old) (H.faults shelf.new) (I.faults input.old) (I.faults input.new) }
-    ensures input { (got : List ℕ) × (I.left input.old ≡ prepend_known got (I.left input.new)) }
-    ensures names { AskedFor (status_after result) name.now (H.names shelf.old) (H.names shelf.new) }
+    requires loads { length (H.names shelf.old) < 2 ^ 64 - 1 }
+    requires fits { vec_len text.old ≤ longest_list }
+    ensures adds { Adds result (H.told shelf.old name.now) name.now text.old.items text.new.items }
+    ensures cause { CountsUnread result (H.faults shelf.old) (H.faults shelf.new) }
+    ensures names { AsksFor result name.now (H.names shelf.old) (H.names shelf.new) }
     ensures told { (n : List ℕ) → H.told shelf.new n ≡ H.told shelf.old n }
 {
-    let mut bytes = Vec::new(alloc);
-    match shelf.load(name, LONGEST_TEXT, &mut bytes) {
-        Ok(true) => answer_file(alloc, bytes, limit, input, sink),
-        Ok(false) => refuse(alloc, Fault::TooLong, 1, 1, sink),
-        Err(LoadError::Failed) => say_unread(alloc, name.as_bytes(), sink),
-        Err(LoadError::OutOfMemory) => Err(Stop::OutOfMemory),
+    let from = text.len();
+    match shelf.load(name, LONGEST_TEXT - from, text) {
+        Ok(true) => match end_line(text, from) {
+            Ok(true) => Ok(()),
+            Ok(false) => Err(FilesFault::TooLong),
+            Err(OutOfMemory) => Err(FilesFault::OutOfMemory),
+        },
+        Ok(false) => Err(FilesFault::TooLong),
+        Err(LoadError::Failed) => Err(FilesFault::Unread(name)),
+        Err(LoadError::OutOfMemory) => Err(FilesFault::OutOfMemory),
     }
+}
+
+/// Loads the files of these names in their order, and asks the shelf no more once one can't be had.
+pub fn load_files<'n, H: Shelf>(
+    alloc: Global,
+    names: &'n [String],
+    shelf: &mut H,
+) -> Result<Vec<u8>, FilesFault<'n>>
+    requires shelf { H.faults shelf.old < 2 ^ 63 }
+    requires loads { length (H.names shelf.old) < 2 ^ 63 }
+    ensures text { IfOk result (λ text. OfContents (H.told shelf.old) (word_bytes names.now) (λ contents.
+        gathered [] (word_bytes names.now) (readable contents
+        (broken_load (H.names shelf.old) (H.names shelf.new) (H.faults shelf.old) (H.faults shelf.new))) ≡ Joined text.items)) }
+    ensures fault { IfErr result (λ why. OfContents (H.told shelf.old) (word_bytes names.now) (λ contents. ComesTo why
+        (gathered [] (word_bytes names.now) (readable contents
+        (broken_load (H.names shelf.old) (H.names shelf.new) (H.faults shelf.old) (H.faults shelf.new)))))) }
+    ensures last { IfErr result (λ why. IsOfLast why (H.names shelf.new)) }
+    ensures cause { CountsUnread result (H.faults shelf.old) (H.faults shelf.new) }
+    ensures names { AskedFor (is_ok result) (word_bytes names.now) (H.names shelf.old) (H.names shelf.new) }
+    ensures told { (n : List ℕ) → H.told shelf.new n ≡ H.told shelf.old n }
+{
+    let mut text = Vec::new(alloc);
+    for name in names {
+        add_file(name.as_str(), shelf, &mut text)?;
+    }
+    Ok(text)
 }

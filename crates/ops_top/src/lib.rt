@@ -5,14 +5,11 @@ mod answer;
 mod files;
 mod laws;
 mod lines;
-mod making;
 #[cfg(test)]
 mod rows;
-mod running;
 mod saying;
 #[cfg(test)]
 mod selection_rows;
-mod session;
 #[cfg(test)]
 mod tests;
 mod top;

@@ -1,7 +1,6 @@
 //! The lines that answer words, files and texts that are not run.
 ghost use Rattle.std.specs.Prelude.{◌≡◌, IfOk};
-ghost use Rattle.ops_meaning.specs.Layout.{usage_line, unread_line};
-ghost use Rattle.ops_meaning.specs.Whole.{fault_line};
+ghost use Rattle.ops_meaning.specs.Layout.{usage_line, unread_line, fault_line};
 
 use itoa::Buffer;
 use ops_base::endings::Fault;

@@ -1,44 +1,11 @@
-//! Whole programs through the top call.
-ghost use Rattle.std.specs.Prelude.{◌^◌, ◌<◌};
+//! Whole programs of one file through the top call.
 
-use crate::tests::{one_file, words_of};
-use crate::top::ops_run;
+use crate::tests::{answer, answer_over};
 use ops_base::endings::{ActKind, Fault};
-use ops_io::{MemSink, MemSource, OpenGate};
+use ops_io::{MemSink, MemSource};
 use ops_meaning::Status;
 use std::alloc::{AllocError, Global};
-use std::sync::Wait;
 use std::test::Fail;
-use std::thread::Threads;
-
-/// What is answered to a file of these bytes over an input.
-fn answer_over<R: Threads + Wait + Clone + Drop + Send + Sync>(
-    rt: &R,
-    alloc: Global,
-    bytes: &[u8],
-    input: &mut MemSource,
-    sink: &mut MemSink,
-) -> Result<Status, Fail>
-    requires input { input.old.faults < 2 ^ 63 }
-    requires sink { sink.old.faults < 2 ^ 63 }
-{
-    let mut shelf = one_file(alloc, "a.ops", bytes)?;
-    let words = words_of(alloc, &["a.ops"])?;
-    Ok(ops_run(rt, alloc, &words, &mut shelf, input, sink, &OpenGate))
-}
-
-/// What is answered to a file of these bytes where the input is empty.
-fn answer<R: Threads + Wait + Clone + Drop + Send + Sync>(
-    rt: &R,
-    alloc: Global,
-    bytes: &[u8],
-    sink: &mut MemSink,
-) -> Result<Status, Fail>
-    requires { sink.old.faults < 2 ^ 63 }
-{
-    let mut input = MemSource::new(Vec::new(alloc), 1, Vec::new(alloc));
-    answer_over(rt, alloc, bytes, &mut input, sink)
-}
 
 const HELLO: &[u8] =
     b"(literalize start)\n(p hello (start) --> (write Hello from OPS5 (crlf)) (remove 1))\n(make start)\n(run)\n";
@@ -87,26 +54,97 @@ const PAIR: &[u8] = b"(literalize a n)
 // A blocker is made and removed in one right side, and the mark stays.
 const ONCE: &[u8] = b"(literalize a n) (literalize stop)
 (p once (a ^n <x>) - (stop) --> (make stop) (cbind <s>) (remove <s>) (write <x> (crlf)))
+(watch 2)
 (make a ^n 1)
 (run)
+(wm)
 ";
 
 // The second modify goes on from what the first left.
 const TWICE: &[u8] = b"(literalize a n)
 (p up { <w> (a ^n 0) } --> (modify <w> ^n 1) (modify <w> ^n 2))
-(p both (a ^n 2) (a ^n 2) --> (write both (crlf)) (remove 1 2))
+(p both (a ^n 2) (a ^n 2) --> (remove 1 2))
+(watch 2)
 (make a ^n 0)
 (run)
+";
+
+const VALUES: &[u8] = b"(literalize v n list) (vector-attribute list)
+(p r { <w> (v ^list <h> <k>) } --> (make v ^n <k> ^list <h> (substr <w> list inf)) (halt))
+(make v ^list a b c)
+(run)
+(wm)
+";
+
+const DIVIDED: &[u8] = b"(literalize s)
+(p c (s) -->
+  (write (compute 2 * 3 + 4) (compute -7 // 2) (compute -7 \\\\ 2) (crlf))
+  (write (compute 1 // 0)))
+(make s) (run)
 ";
 
 const LAYOUT: &[u8] = b"(literalize a n)
 (p r (a ^n <x>) --> (write <x> (tabto 5) x (rjust 4) 12 (crlf)))
 (make a ^n |b c|)
+(pbreak r q) (pbreak)
 (run)
+(pm r) (strategy) (watch) (wm)
+(remove *) (wm)
 ";
 
+const BLOCKS: &[u8] = b"; put one block on another, clearing what is in the way
+(literalize block name on)
+(literalize goal kind what where)
+(strategy mea)
+(watch 1)
+
+(p done
+    { <g> (goal ^kind put ^what <b> ^where <t>) }
+    (block ^name <b> ^on <t>)
+  -->
+    (write <b> is on <t> (crlf))
+    (remove <g>))
+
+(p clear-what
+    (goal ^kind put ^what <b> ^where <t>)
+    (block ^name <b> ^on <> <t>)
+    (block ^name <c> ^on <b>)
+  -->
+    (make goal ^kind put ^what <c> ^where table))
+
+(p clear-where
+    (goal ^kind put ^what <b> ^where <t>)
+    (block ^name <b> ^on <> <t>)
+    (block ^name <c> ^on { <t> <> table })
+  -->
+    (make goal ^kind put ^what <c> ^where table))
+
+(p move
+    (goal ^kind put ^what <b> ^where <t>)
+    { <k> (block ^name <b> ^on <> <t>) }
+    - (block ^on <b>)
+    - (block ^on { <t> <> table })
+  -->
+    (modify <k> ^on <t>)
+    (write move <b> to <t> (crlf)))
+
+(make block ^name a ^on table)
+(make block ^name b ^on a)
+(make block ^name c ^on b)
+(make goal ^kind put ^what a ^where c)
+(run)
+(wm)
+";
+
+const DIVIDED_BY_ZERO: Status = Status::ActFault {
+    firing: 1,
+    rule: 0,
+    action: 2,
+    kind: ActKind::ZeroDivisor,
+};
+
 /// Texts, each with the status that answers it and what is written.
-const ROWS: [(&[u8], Status, &[u8]); 11] = [
+const ROWS: [(&[u8], Status, &[u8]); 14] = [
     (
         HELLO,
         Status::Done,
@@ -135,12 +173,35 @@ const ROWS: [(&[u8], Status, &[u8]); 11] = [
         Status::Done,
         b"pair 6\npair 5\nend -- no production true\n",
     ),
-    (ONCE, Status::Done, b"1\nend -- no production true\n"),
-    (TWICE, Status::Done, b"both\nend -- no production true\n"),
+    (
+        ONCE,
+        Status::Done,
+        b"=>WM: 1: (a ^n 1)\n1. once 1\n=>WM: 2: (stop)\n<=WM: 2: (stop)\n1\nend -- no production true\n1: (a ^n 1)\n",
+    ),
+    (
+        TWICE,
+        Status::Done,
+        b"=>WM: 1: (a ^n 0)\n1. up 1\n<=WM: 1: (a ^n 0)\n=>WM: 2: (a ^n 1)\n<=WM: 2: (a ^n 1)\n=>WM: 3: (a ^n 2)\n2. both 3 3\n<=WM: 3: (a ^n 2)\nend -- no production true\n",
+    ),
+    (
+        VALUES,
+        Status::Done,
+        b"end -- explicit halt\n1: (v ^list a b c)\n2: (v ^n b ^list a a b c)\n",
+    ),
+    (
+        DIVIDED,
+        DIVIDED_BY_ZERO,
+        b"14 -3 -1\nops: firing 1: c: action 2: zero divisor\n",
+    ),
     (
         LAYOUT,
         Status::Done,
-        b"b c x  12\nend -- no production true\n",
+        b"no production q\nbreak r\nb c x  12\nbreak -- production r\n(p r (a ^n <x>) --> (write <x> (tabto 5) x (rjust 4) 12 (crlf)))\nstrategy lex\nwatch 0\n1: (a ^n |b c|)\n",
+    ),
+    (
+        BLOCKS,
+        Status::Done,
+        b"1. clear-what 4 1 2\n2. clear-what 5 2 3\n3. move 6 3\nmove c to table\n4. done 6 7\nc is on table\n5. move 5 2\nmove b to table\n6. done 5 8\nb is on table\n7. move 4 1\nmove a to c\n8. done 4 9\na is on c\nend -- no production true\n7: (block ^name c ^on table)\n8: (block ^name b ^on table)\n9: (block ^name a ^on c)\n",
     ),
 ];
 
@@ -178,7 +239,10 @@ fn rows(rt: HostRuntime) -> Result<(), Fail> {
     let alloc = rt.alloc();
     for (text, status, written) in ROWS {
         let mut sink = MemSink::new(alloc, 1_000, 1_000, Vec::new(alloc))?;
-        assert_eq!(rt; answer(&rt, alloc, text, &mut sink)?, status);
+        assert_eq!(rt;
+            answer(&rt, alloc, &["a"], &[("a", text)], &mut sink)?,
+            status
+        );
         assert_eq!(rt; sink.written(), written);
     }
     Ok(())
@@ -194,7 +258,10 @@ fn refusals(rt: HostRuntime) -> Result<(), Fail> {
             line: 1,
             column,
         };
-        assert_eq!(rt; answer(&rt, alloc, text, &mut sink)?, refused);
+        assert_eq!(rt;
+            answer(&rt, alloc, &["a"], &[("a", text)], &mut sink)?,
+            refused
+        );
         assert_eq!(rt; sink.written(), written);
     }
     Ok(())
@@ -204,7 +271,8 @@ fn refusals(rt: HostRuntime) -> Result<(), Fail> {
 fn failing_sink(rt: HostRuntime) -> Result<(), Fail> {
     let alloc = rt.alloc();
     let mut sink = MemSink::new(alloc, 1_000, 4, vec![in alloc; 3]?)?;
-    assert_eq!(rt; answer(&rt, alloc, HELLO, &mut sink)?, Status::WriteFault);
+    let status = answer(&rt, alloc, &["a"], &[("a", HELLO)], &mut sink)?;
+    assert_eq!(rt; status, Status::WriteFault);
     assert_eq!(rt; sink.written(), b"Hello fr".as_slice());
     Ok(())
 }
@@ -226,7 +294,8 @@ fn too_many_fields(rt: HostRuntime) -> Result<(), Fail> {
     let alloc = rt.alloc();
     let mut sink = MemSink::new(alloc, 1_000, 1_000, Vec::new(alloc))?;
     let fits = vector_of(alloc, 126)?;
-    assert_eq!(rt; answer(&rt, alloc, &fits, &mut sink)?, Status::Done);
+    let status = answer(&rt, alloc, &["a"], &[("a", fits.as_slice())], &mut sink)?;
+    assert_eq!(rt; status, Status::Done);
     let fault = Status::ActFault {
         firing: 1,
         rule: 0,
@@ -235,7 +304,8 @@ fn too_many_fields(rt: HostRuntime) -> Result<(), Fail> {
     };
     let mut sink = MemSink::new(alloc, 1_000, 1_000, Vec::new(alloc))?;
     let passes = vector_of(alloc, 127)?;
-    assert_eq!(rt; answer(&rt, alloc, &passes, &mut sink)?, fault);
+    let status = answer(&rt, alloc, &["a"], &[("a", passes.as_slice())], &mut sink)?;
+    assert_eq!(rt; status, fault);
     let expected = b"on\nops: firing 1: |r s|: action 2: too many fields\n".as_slice();
     assert_eq!(rt; sink.written(), expected);
     Ok(())
@@ -247,27 +317,34 @@ const ASK: &[u8] = b"(literalize s)
 (run)
 ";
 
+const ATOMS: &[u8] = b"(literalize a n m)
+(p r (a) --> (make a ^n (accept) ^m (accept)) (make a ^n (accept) ^m (accept)) (halt))
+(make a) (run) (wm)
+";
+
+/// Texts, each with an input and what is written.
+const ACCEPTED: [(&[u8], &[u8], &[u8]); 3] = [
+    (ASK, b"  Ann Bob", b"name? Ann\nend -- no production true\n"),
+    (ASK, b"", b"name? end-of-file\nend -- no production true\n"),
+    (
+        ATOMS,
+        b"12 1.5 |a b| (x",
+        b"end -- explicit halt\n1: (a)\n2: (a ^n 12 ^m |1.5|)\n3: (a ^n |a b| ^m |(x|)\n",
+    ),
+];
+
 /// The input comes a byte at a time.
 #[test]
-fn accept_a_name(rt: HostRuntime) -> Result<(), Fail> {
+fn accepted(rt: HostRuntime) -> Result<(), Fail> {
     let alloc = rt.alloc();
-    let bytes = Vec::from_slice(alloc, b"  Ann Bob")?;
-    let mut input = MemSource::new(bytes, 1, Vec::new(alloc));
-    let mut sink = MemSink::new(alloc, 1_000, 1_000, Vec::new(alloc))?;
-    let status = answer_over(&rt, alloc, ASK, &mut input, &mut sink)?;
-    assert_eq!(rt; status, Status::Done);
-    let expected = b"name? Ann\nend -- no production true\n".as_slice();
-    assert_eq!(rt; sink.written(), expected);
-    Ok(())
-}
-
-#[test]
-fn accept_at_the_end_of_the_input(rt: HostRuntime) -> Result<(), Fail> {
-    let alloc = rt.alloc();
-    let mut sink = MemSink::new(alloc, 1_000, 1_000, Vec::new(alloc))?;
-    assert_eq!(rt; answer(&rt, alloc, ASK, &mut sink)?, Status::Done);
-    let expected = b"name? end-of-file\nend -- no production true\n".as_slice();
-    assert_eq!(rt; sink.written(), expected);
+    for (text, bytes, written) in ACCEPTED {
+        let bytes = Vec::from_slice(alloc, bytes)?;
+        let mut input = MemSource::new(bytes, 1, Vec::new(alloc));
+        let mut sink = MemSink::new(alloc, 1_000, 1_000, Vec::new(alloc))?;
+        let status = answer_over(&rt, alloc, &["a"], &[("a", text)], &mut input, &mut sink)?;
+        assert_eq!(rt; status, Status::Done);
+        assert_eq!(rt; sink.written(), written);
+    }
     Ok(())
 }
 
@@ -278,7 +355,7 @@ fn failing_input(rt: HostRuntime) -> Result<(), Fail> {
     let bytes = Vec::from_slice(alloc, b"Ann")?;
     let mut input = MemSource::new(bytes, 1, vec![in alloc; 1]?);
     let mut sink = MemSink::new(alloc, 1_000, 1_000, Vec::new(alloc))?;
-    let status = answer_over(&rt, alloc, ASK, &mut input, &mut sink)?;
+    let status = answer_over(&rt, alloc, &["a"], &[("a", ASK)], &mut input, &mut sink)?;
     assert_eq!(rt; status, Status::ReadFault);
     let expected = b"name?\nops: cannot read the input\n".as_slice();
     assert_eq!(rt; sink.written(), expected);
@@ -296,10 +373,9 @@ const COUNTER: &[u8] = b"(literalize n)
 fn limit(rt: HostRuntime) -> Result<(), Fail> {
     let alloc = rt.alloc();
     let mut sink = MemSink::new(alloc, 1_000, 1_000, Vec::new(alloc))?;
-    assert_eq!(rt; answer(&rt, alloc, COUNTER, &mut sink)?, Status::Limit);
-    assert_eq!(rt;
-        sink.written(),
-        b"ops: limit of 1000000 firings reached\n".as_slice()
-    );
+    let status = answer(&rt, alloc, &["a"], &[("a", COUNTER)], &mut sink)?;
+    assert_eq!(rt; status, Status::Limit);
+    let expected = b"ops: limit of 1000000 firings reached\n".as_slice();
+    assert_eq!(rt; sink.written(), expected);
     Ok(())
 }

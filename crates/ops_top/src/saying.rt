@@ -1,6 +1,6 @@
 //! Saying one line and no more.
 ghost use Rattle.std.specs.Prelude.{◌≡◌, ◌^◌, ◌<◌};
-ghost use Rattle.ops_meaning.specs.Whole.{refused_at, unread, usage};
+ghost use Rattle.ops_top.specs.Whole.{refused_at, unread, usage};
 ghost use Rattle.ops_top.specs.Told.{Delivers, status_after};
 
 use crate::lines::{fault_line, unread_line, usage_line};

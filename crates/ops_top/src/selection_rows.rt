@@ -1,120 +1,133 @@
-//! Programs that show which instantiation fires, and how runs and sessions are limited.
+//! Programs of several files, which show which instantiation fires and how runs and sessions are limited.
 
-use crate::tests::{one_file, words_of};
-use crate::top::still_run;
-use ops_io::{MemSink, MemSource, OpenGate};
+use crate::tests::answer;
+use ops_base::endings::Fault;
+use ops_io::MemSink;
 use ops_meaning::Status;
 use std::test::Fail;
 
-const OVER_GOALS: &[u8] = b"(literalize goal n) (literalize item)
+const GOALS: &[u8] = b"(literalize goal n) (literalize item)
 (p old (goal ^n 1) (item) --> (write old (crlf)))
 (p new (goal ^n 2) --> (write new (crlf)))
 (make goal ^n 1) (make goal ^n 2) (make item)
-(run)
 ";
 
-const STRATEGIES: &[u8] = b"(literalize goal n) (strategy lex) (literalize item)
-(p old (goal ^n 1) (item) --> (write old (crlf)))
-(p new (goal ^n 2) --> (write new (crlf)))
-(make goal ^n 1) (make goal ^n 2) (make item)
-(run 1) (strategy mea) (strategy) (run)
-";
-
-const UNDER_MEA: &[u8] = b"(strategy mea) (literalize goal n) (literalize item)
-(p old (goal ^n 1) (item) --> (write old (crlf)))
-(p new (goal ^n 2) --> (write new (crlf)))
-(make goal ^n 1) (make goal ^n 2) (make item)
-(run)
-";
-
-const FORGOTTEN: &[u8] = b"(literalize a n) (literalize stop)
+// Its last line is a note that no LF ends.
+const CLOSING: &[u8] = b"(literalize a n) (literalize stop)
 (p close (a) - (stop) --> (make stop) (write close (crlf)))
 (p open { <s> (stop) } --> (remove <s>) (write open (crlf)))
-(make a)
-(run 4)
+(make a) ; one";
+
+const COUNTING: &[u8] = b"(literalize a n)
+(p up { <w> (a ^n <x>) } --> (modify <w> ^n (compute <x> + 1)))
+(make a ^n 0)
 ";
 
-// The limit is of all runs together.
-const RUNS: &[u8] = b"(literalize goal n) (literalize item)
-(p old (goal ^n 1) (item) --> (write old (crlf)))
-(p new (goal ^n 2) --> (write new (crlf)))
-(make goal ^n 1) (make goal ^n 2) (make item)
-(run 1) (run)
-";
+const REFUSED: Status = Status::Refused {
+    fault: Fault::UnknownAttribute,
+    line: 5,
+    column: 10,
+};
 
-// A make behind a run is a phase, in which the marks stay.
-const MADE_BEHIND: &[u8] = b"(literalize goal n) (literalize item)
-(p old (goal ^n 1) (item) --> (write old (crlf)))
-(p new (goal ^n 2) --> (write new (crlf)))
-(make goal ^n 1) (make goal ^n 2) (make item)
-(run) (make item) (run)
-";
-
-/// Words before the file, its text, the status that answers them and what is written.
-const SELECTED: [(&[&str], &[u8], Status, &[u8]); 8] = [
+/// Words, the text of the file `go`, the status that answers them and what is written.
+const SELECTED: [(&[&str], &[u8], Status, &[u8]); 13] = [
     (
-        &[],
-        STRATEGIES,
+        &["goals", "go"],
+        b"(cs) (strategy mea) (cs)",
+        Status::Done,
+        b"old 1 3\nnew 2\nnew 2\nold 1 3\n",
+    ),
+    (
+        &["goals", "go"],
+        b"(run 1) (strategy mea) (strategy) (run)",
         Status::Done,
         b"old\nbreak -- run count\nstrategy mea\nnew\nend -- no production true\n",
     ),
     (
-        &[],
-        UNDER_MEA,
+        &["goals", "go"],
+        b"(strategy mea) (run)",
         Status::Done,
         b"new\nold\nend -- no production true\n",
     ),
+    // A make behind a run is a phase, in which the marks stay.
     (
-        &[],
-        FORGOTTEN,
-        Status::Done,
-        b"close\nopen\nclose\nopen\nbreak -- run count\n",
-    ),
-    (
-        &["--limit", "1"],
-        OVER_GOALS,
-        Status::Limit,
-        b"old\nops: limit of 1 firings reached\n",
-    ),
-    (
-        &["--limit", "2"],
-        OVER_GOALS,
-        Status::Done,
-        b"old\nnew\nend -- no production true\n",
-    ),
-    (
-        &["--limit", "1"],
-        RUNS,
-        Status::Limit,
-        b"old\nbreak -- run count\nops: limit of 1 firings reached\n",
-    ),
-    (
-        &[],
-        MADE_BEHIND,
+        &["goals", "go"],
+        b"(run) (make item) (run)",
         Status::Done,
         b"old\nnew\nend -- no production true\nold\nend -- no production true\n",
     ),
     (
-        &["--limit", "2"],
-        STRATEGIES,
+        &["--limit", "1", "goals", "go"],
+        b"(run)",
+        Status::Limit,
+        b"old\nops: limit of 1 firings reached\n",
+    ),
+    (
+        &["goals", "--limit=2", "go"],
+        b"(run)",
         Status::Done,
-        b"old\nbreak -- run count\nstrategy mea\nnew\nend -- no production true\n",
+        b"old\nnew\nend -- no production true\n",
+    ),
+    // The limit is of all runs together.
+    (
+        &["goals", "go", "--limit", "1"],
+        b"(run 1) (run)",
+        Status::Limit,
+        b"old\nbreak -- run count\nops: limit of 1 firings reached\n",
+    ),
+    (
+        &["closing", "go"],
+        b"(run 4)",
+        Status::Done,
+        b"close\nopen\nclose\nopen\nbreak -- run count\n",
+    ),
+    // A file that is empty adds no line.
+    (
+        &["closing", "none", "go"],
+        b"(make a ^q 1)",
+        REFUSED,
+        b"ops: 5:10: unknown attribute\n",
+    ),
+    (
+        &["closing", "absent", "go"],
+        b"(run)",
+        Status::ReadFault,
+        b"ops: cannot read absent\n",
+    ),
+    (
+        &["counting", "--limit", "3", "go"],
+        b"(run)",
+        Status::Limit,
+        b"ops: limit of 3 firings reached\n",
+    ),
+    (
+        &["counting", "go"],
+        b"(run 3) (wm)",
+        Status::Done,
+        b"break -- run count\n4: (a ^n 3)\n",
+    ),
+    (
+        &["--", "--limit"],
+        b"",
+        Status::Done,
+        b"end -- no production true\n",
     ),
 ];
 
 #[test]
 fn selected(rt: HostRuntime) -> Result<(), Fail> {
     let alloc = rt.alloc();
-    for (before, text, status, written) in SELECTED {
-        let mut shelf = one_file(alloc, "a.ops", text)?;
-        let mut input = MemSource::new(Vec::new(alloc), 1, Vec::new(alloc));
+    for (words, text, status, written) in SELECTED {
+        let files: [(&str, &[u8]); 6] = [
+            ("goals", GOALS),
+            ("closing", CLOSING),
+            ("counting", COUNTING),
+            ("none", b""),
+            ("--limit", b"(run)"),
+            ("go", text),
+        ];
         let mut sink = MemSink::new(alloc, 1_000, 1_000, Vec::new(alloc))?;
-        let mut words = words_of(alloc, before)?;
-        words.push(String::from_str(alloc, "a.ops")?)?;
-        let answered = still_run(
-            &rt, alloc, &words, &mut shelf, &mut input, &mut sink, &OpenGate,
-        );
-        assert_eq!(rt; answered, Some(status));
+        assert_eq!(rt; answer(&rt, alloc, words, &files, &mut sink)?, status);
         assert_eq!(rt; sink.written(), written);
     }
     Ok(())

@@ -1,8 +1,9 @@
 //! The top calls.
 ghost use Rattle.std.specs.Prelude.{◌≡◌, ◌^◌, ◌<◌, ◌⊎◌, ℕ, List, length, nat_lt, true, false, IfSome, IsSome};
 ghost use Rattle.std.specs.Io.KnownBytes.{prepend_known};
-ghost use Rattle.ops_meaning.specs.Whole.{whole, unread, usage, Answers, GoesByConflictSetsAlone, word_bytes, words_fit, file_of};
-ghost use Rattle.ops_top.specs.Calls.{OfContent, OfInput, TellsFailedWrite, TellsFailedRead, TellsWords, AskedForWords, RunsThrough};
+ghost use Rattle.ops_jobs.specs.Words.{word_bytes};
+ghost use Rattle.ops_top.specs.Whole.{whole, unread, usage, Answers, GoesByConflictSetsAlone, words_fit, files_of};
+ghost use Rattle.ops_top.specs.Calls.{OfContents, OfInput, broken_load, last_of, all_told, TellsFailedWrite, TellsFailedRead, TellsWords, AskedForWords, RunsThrough};
 ghost use Rattle.ops_top.specs.Codes.{code_of};
 
 use crate::saying::status_after;
@@ -45,16 +46,17 @@ pub fn still_run<R: Threads + Clone + Drop + Send + Sync, H: Shelf, I: Source, K
     requires input { I.faults input.old < 2 ^ 63 }
     requires sink { K.faults sink.old < 2 ^ 63 }
     ensures some { IsSome result }
-    ensures answers { IfSome result (λ status. OfContent (H.told shelf.old (file_of (word_bytes words.now))) (λ content.
+    ensures answers { IfSome result (λ status. OfContents (H.told shelf.old) (files_of (word_bytes words.now)) (λ contents.
         OfInput (I.left input.old) (I.left input.new) (nat_lt (I.faults input.old) (I.faults input.new)) (λ coming.
-        Answers status (whole (word_bytes words.now) content (nat_lt (H.faults shelf.old) (H.faults shelf.new)) coming)
+        Answers status (whole (word_bytes words.now) contents
+        (broken_load (H.names shelf.old) (H.names shelf.new) (H.faults shelf.old) (H.faults shelf.new)) coming)
         (K.taken sink.old) (K.taken sink.new)))) }
     ensures sets { GoesByConflictSetsAlone (word_bytes words.now) }
     ensures write { IfSome result (λ status. TellsFailedWrite status (K.faults sink.old) (K.faults sink.new)) }
     ensures reads { IfSome result (λ status.
         TellsFailedRead status (H.faults shelf.old) (H.faults shelf.new) (I.faults input.old) (I.faults input.new)) }
     ensures unread { IfSome result (λ status. H.faults shelf.old < H.faults shelf.new
-        → Answers status (unread (file_of (word_bytes words.now))) (K.taken sink.old) (K.taken sink.new)) }
+        → Answers status (unread (last_of (H.names shelf.new))) (K.taken sink.old) (K.taken sink.new)) }
     ensures words { IfSome result (λ status. TellsWords status (words_fit (word_bytes words.now))) }
     ensures usage { IfSome result (λ status. words_fit (word_bytes words.now) ≡ false
         → Answers status usage (K.taken sink.old) (K.taken sink.new)) }
@@ -64,7 +66,7 @@ pub fn still_run<R: Threads + Clone + Drop + Send + Sync, H: Shelf, I: Source, K
     ensures input { (got : List ℕ) × (I.left input.old ≡ prepend_known got (I.left input.new)) }
     ensures untouched { words_fit (word_bytes words.now) ≡ false → input.new ≡ input.old }
     ensures complete { IfSome result (λ status.
-        RunsThrough (word_bytes words.now) (H.told shelf.old (file_of (word_bytes words.now))) (I.left input.old)
+        RunsThrough (word_bytes words.now) (all_told (H.told shelf.old) (files_of (word_bytes words.now))) (I.left input.old)
         → H.faults shelf.new ≡ H.faults shelf.old → I.faults input.new ≡ I.faults input.old → K.faults sink.new ≡ K.faults sink.old
         → (status ≡ Status.Done) ⊎ (status ≡ Status.OutOfMemory)) }
 {
@@ -91,15 +93,16 @@ pub fn ops_run<
     requires loads { length (H.names shelf.old) < 2 ^ 63 }
     requires input { I.faults input.old < 2 ^ 63 }
     requires sink { K.faults sink.old < 2 ^ 63 }
-    ensures answers { OfContent (H.told shelf.old (file_of (word_bytes words.now))) (λ content.
+    ensures answers { OfContents (H.told shelf.old) (files_of (word_bytes words.now)) (λ contents.
         OfInput (I.left input.old) (I.left input.new) (nat_lt (I.faults input.old) (I.faults input.new)) (λ coming.
-        Answers result (whole (word_bytes words.now) content (nat_lt (H.faults shelf.old) (H.faults shelf.new)) coming)
+        Answers result (whole (word_bytes words.now) contents
+        (broken_load (H.names shelf.old) (H.names shelf.new) (H.faults shelf.old) (H.faults shelf.new)) coming)
         (K.taken sink.old) (K.taken sink.new))) }
     ensures sets { GoesByConflictSetsAlone (word_bytes words.now) }
     ensures write { TellsFailedWrite result (K.faults sink.old) (K.faults sink.new) }
     ensures reads { TellsFailedRead result (H.faults shelf.old) (H.faults shelf.new) (I.faults input.old) (I.faults input.new) }
     ensures unread { H.faults shelf.old < H.faults shelf.new
-        → Answers result (unread (file_of (word_bytes words.now))) (K.taken sink.old) (K.taken sink.new) }
+        → Answers result (unread (last_of (H.names shelf.new))) (K.taken sink.old) (K.taken sink.new) }
     ensures words { TellsWords result (words_fit (word_bytes words.now)) }
     ensures usage { words_fit (word_bytes words.now) ≡ false → Answers result usage (K.taken sink.old) (K.taken sink.new) }
     ensures names { AskedForWords result (word_bytes words.now) (words_fit (word_bytes words.now)) (H.names shelf.old) (H.names shelf.new) }
@@ -107,7 +110,7 @@ pub fn ops_run<
     ensures told { (n : List ℕ) → H.told shelf.new n ≡ H.told shelf.old n }
     ensures input { (got : List ℕ) × (I.left input.old ≡ prepend_known got (I.left input.new)) }
     ensures untouched { words_fit (word_bytes words.now) ≡ false → input.new ≡ input.old }
-    ensures complete { RunsThrough (word_bytes words.now) (H.told shelf.old (file_of (word_bytes words.now))) (I.left input.old)
+    ensures complete { RunsThrough (word_bytes words.now) (all_told (H.told shelf.old) (files_of (word_bytes words.now))) (I.left input.old)
         → H.faults shelf.new ≡ H.faults shelf.old → I.faults input.new ≡ I.faults input.old → K.faults sink.new ≡ K.faults sink.old
         → (result ≡ Status.Done) ⊎ (result ≡ Status.OutOfMemory) }
 {

@@ -1,4 +1,9 @@
-use Rattle.act_phase.proofs.Deeds.{still_all}
+use Rattle.std.proofs.Common.{◌+◌, ap}
+use Rattle.std.proofs.lemmas.List.{drop_all}
+use Rattle.ops_meaning.specs.Acting.{actions_done}
+use Rattle.act_phase.specs.Outcomes.{setting_of}
+use Rattle.act_phase.specs.State.{doing_of}
+use Rattle.act_phase.proofs.Deeds.{still_all, still_done}
 use Rattle.act_phase.proofs.Steps.{action_ok, action_err}
 use Rattle.act_phase.proofs.acting.act_all.Goals as goal
 
@@ -8,11 +13,18 @@ loop-before-init g c = still_all _ _ c.requires.whole
 pub returns-in_err-act_at : goal.returns-in_err-act_at
 returns-in_err-act_at g c =
     let l = c.loop-before in
-    action_err c.args.classes.now c.args.actions.now l.before c.index-actions-before.result c.loop-before-test.true c.index-actions-before.is l.doing c.act_at.new.doing l.invariant
+    action_err (setting_of c.args.program.now c.args.watch) c.args.actions.now l.before c.index-actions-before.result c.loop-before-test.true c.index-actions-before.is l.doing c.act_at.new.doing l.invariant
     _ _ c.from_residual.ensures.1 c.in_err-act_at.ensures
 
 pub loop-before-preserved : goal.loop-before-preserved
 loop-before-preserved g c =
     let l = c.loop-before in
-    action_ok c.args.classes.now c.args.actions.now l.before c.index-actions-before.result c.loop-before-test.true c.index-actions-before.is l.doing c.act_at.new.doing l.invariant
+    action_ok (setting_of c.args.program.now c.args.watch) c.args.actions.now l.before c.index-actions-before.result c.loop-before-test.true c.index-actions-before.is l.doing c.act_at.new.doing l.invariant
     c.in_ok-act_at.ensures
+
+pub returns : goal.returns
+returns g c =
+    let l = c.loop-before in
+    still_done _ l.invariant
+    (λ d. ap (λ rest. actions_done (setting_of c.args.program.now c.args.watch) l.out.column (l.before + 1) rest (doing_of l.doing l.names d))
+    (drop_all l.before c.args.actions.now c.loop-before-test.false))

@@ -1,4 +1,4 @@
-use Rattle.std.proofs.Common.{◌∙◌, ℕ, sym, arith, take, drop, length-take, length-drop}
+use Rattle.std.proofs.Common.{◌∙◌, ℕ, ap, sym, arith, length, take, drop, length-take, length-drop}
 use Rattle.std.proofs.lemmas.List.{take-append-drop}
 use Rattle.ops_io.proofs.Known.{write_step}
 use Rattle.ops_io.proofs.out.write_all.Goals as goal
@@ -8,6 +8,7 @@ loop-at-preserved g c = record {
   within = omega (arith, c.in-Ok.ensures.bound.1, length-take {A = ℕ}, length-drop {A = ℕ});
   taken = write_step _ _ _ c.args.bytes.now c.loop-at.at c.in-Ok.count c.loop-at.invariant.taken c.in-Ok.ensures.bytes;
   faults = c.in-Ok.ensures.cause ∙ c.loop-at.invariant.faults;
+  unwritten = λ none. absurd (omega (arith, ap length none, c.loop-at-test.true));
 }
 
 pub returns-in-Err-clause-err : goal.returns-in-Err-clause-err

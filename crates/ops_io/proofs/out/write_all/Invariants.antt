@@ -1,4 +1,4 @@
-use Rattle.std.proofs.Common.{◌≡◌, ◌≤◌, ◌-◌, length, take}
+use Rattle.std.proofs.Common.{◌≡◌, [], ◌≤◌, ◌-◌, length, take}
 use Rattle.std.specs.Io.KnownBytes.{append_known}
 use Rattle.ops_io.proofs.out.write_all.Given as goal
 
@@ -7,6 +7,7 @@ invariant-loop-at g l = record {
   within : l.at ≤ length l.bytes;
   taken : g.K.Sink.taken l.sink ≡ append_known (g.K.Sink.taken l.fn.sink) (take l.at l.bytes);
   faults : g.K.Sink.faults l.sink ≡ g.K.Sink.faults l.fn.sink;
+  unwritten : l.bytes ≡ [] → l.sink ≡ l.fn.sink;
 }
 
 abbrev pub decreases-loop-at : goal.decreases-loop-at

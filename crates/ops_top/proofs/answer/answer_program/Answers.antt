@@ -4,7 +4,7 @@ use Rattle.ops_io.specs.Coming.{Coming}
 use Rattle.ops_io.specs.Output.{OutState}
 use Rattle.ops_io.specs.declared.stop.Stop.TheVariants as stop
 use Rattle.ops_meaning.specs.Running.{session_of}
-use Rattle.ops_meaning.specs.Whole.{Reply, told}
+use Rattle.ops_top.specs.Whole.{Reply, told}
 use Rattle.act_phase.specs.Outcomes.{setting_of}
 use Rattle.ops_top.proofs.Deliveries.{untold, put_told, program_cut, program_unflushed, program_delivered}
 use Rattle.ops_top.proofs.Inputs.{input_untouched}
@@ -13,19 +13,19 @@ use Rattle.ops_top.proofs.answer.answer_program.Goals as goal
 pub returns-in_err-engine-clause-delivers : goal.returns-in_err-engine-clause-delivers
 returns-in_err-engine-clause-delivers g c =
     let p = err_from_is_err_and c.from_residual.result c.from_residual.ensures.1 in
-    let o : Coming → Reply = λ z. told c.args.names.now c.args.program.now.rules (session_of (setting_of c.args.program.now) c.args.limit c.args.program.now.commands c.args.names.now z) in
+    let o : Coming → Reply = λ z. told c.args.names.now c.args.program.now.rules (session_of (setting_of c.args.program.now 0) c.args.limit c.args.program.now.commands c.args.names.now z) in
     rw (p.1, p.2) (input_untouched _ _ _ (λ z. untold (o z) _ _))
 
 pub returns-in_err-input-clause-delivers : goal.returns-in_err-input-clause-delivers
 returns-in_err-input-clause-delivers g c =
     let p = err_from_is_err_and c.from_residual-in_err-input.result c.from_residual-in_err-input.ensures.1 in
-    let o : Coming → Reply = λ z. told c.args.names.now c.args.program.now.rules (session_of (setting_of c.args.program.now) c.args.limit c.args.program.now.commands c.args.names.now z) in
+    let o : Coming → Reply = λ z. told c.args.names.now c.args.program.now.rules (session_of (setting_of c.args.program.now 0) c.args.limit c.args.program.now.commands c.args.names.now z) in
     rw (p.1, p.2) (input_untouched _ _ _ (λ z. untold (o z) _ _))
 
 pub returns-in_err-out-clause-delivers : goal.returns-in_err-out-clause-delivers
 returns-in_err-out-clause-delivers g c =
     let p = err_from_is_err_and c.from_residual-in_err-out.result c.from_residual-in_err-out.ensures.1 in
-    let o : Coming → Reply = λ z. told c.args.names.now c.args.program.now.rules (session_of (setting_of c.args.program.now) c.args.limit c.args.program.now.commands c.args.names.now z) in
+    let o : Coming → Reply = λ z. told c.args.names.now c.args.program.now.rules (session_of (setting_of c.args.program.now 0) c.args.limit c.args.program.now.commands c.args.names.now z) in
     rw (p.1, p.2) (input_untouched _ _ _ (λ z. untold (o z) _ _))
 
 pub returns-in_err-ending-clause-delivers : goal.returns-in_err-ending-clause-delivers

@@ -1,5 +1,5 @@
 use Rattle.std.proofs.Common.{subst}
-use Rattle.ops_meaning.specs.Whole.{Reply, answer_to}
+use Rattle.ops_top.specs.Whole.{Reply, answer_to}
 use Rattle.ops_top.specs.Told.{Delivers}
 use Rattle.ops_top.proofs.Deliveries.{untold}
 use Rattle.ops_top.proofs.Inputs.{input_untouched}

@@ -1,6 +1,6 @@
 use Rattle.std.proofs.Common.{◌≡◌, ℕ, ◌-◌, suc, List, [], ◌∷◌, ◌==◌, length, Option, Some, ap, ◌∙◌, arith}
 use Rattle.std.specs.List.{slice_get}
-use Rattle.ops_meaning.specs.Whole.{ends_in_line}
+use Rattle.ops_top.specs.Whole.{ends_in_line}
 use Rattle.ops_top.proofs.files.ends_in_line.Goals as goal
 
 -- the last byte decides

@@ -2,7 +2,7 @@ use Rattle.std.proofs.Common.{ap}
 use Rattle.std.proofs.lemmas.Result.{err_from_is_err_and}
 use Rattle.ops_io.specs.Output.{OutState}
 use Rattle.ops_io.specs.declared.stop.Stop.TheVariants as stop
-use Rattle.ops_meaning.specs.Whole.{Reply}
+use Rattle.ops_top.specs.Whole.{Reply}
 use Rattle.ops_top.proofs.Deliveries.{unput, unflushed}
 use Rattle.ops_top.proofs.saying.say.Goals as goal
 

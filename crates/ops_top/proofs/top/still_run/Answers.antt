@@ -1,6 +1,7 @@
-use Rattle.ops_meaning.specs.Whole.{word_bytes}
-use Rattle.ops_meaning.proofs.RisingTags.{whole_goes}
-use Rattle.ops_top.proofs.Answering.{whole_answers, whole_tells_write, whole_fits_words, unfit_answers, unread_answers, runs_to_end}
+use Rattle.ops_jobs.specs.Words.{word_bytes}
+use Rattle.ops_top.proofs.Answering.{delivered_answers, whole_answers, whole_tells_write, whole_fits_words, unfit_answers, runs_to_end}
+use Rattle.ops_top.proofs.Loads.{none_broken}
+use Rattle.ops_top.proofs.WholeGoes.{whole_goes}
 use Rattle.ops_top.proofs.top.still_run.Goals as goal
 
 pub returns-clause-write : goal.returns-clause-write
@@ -9,7 +10,7 @@ returns-clause-write g c =
 
 pub returns-clause-unread : goal.returns-clause-unread
 returns-clause-unread g c =
-    rw c.status_after.ensures (unread_answers c.run_words.result (word_bytes c.args.words.now) _ _ _ _ _ _ _ _ _ _ c.run_words.ensures.delivers c.run_words.ensures.unasked)
+    rw c.status_after.ensures (λ rose. delivered_answers c.run_words.result _ _ _ _ _ (c.run_words.ensures.unread rose))
 
 pub returns-clause-answers : goal.returns-clause-answers
 returns-clause-answers g c =
@@ -26,9 +27,9 @@ returns-clause-usage g c =
 pub returns-clause-complete : goal.returns-clause-complete
 returns-clause-complete g c =
     rw c.status_after.ensures
-    (λ through same inputs sinks. runs_to_end _ (word_bytes c.args.words.now) _ _ _ _ _ _ _ _ _ _ _
-    (whole_answers c.run_words.result (word_bytes c.args.words.now) _ _ _ _ _ _ _ _ _ c.run_words.ensures.delivers)
-    (whole_tells_write c.run_words.result (word_bytes c.args.words.now) _ _ _ _ _ _ _ _ _ c.run_words.ensures.delivers) through same inputs sinks)
+    (λ through same inputs sinks. runs_to_end _ (word_bytes c.args.words.now) _ _ _ _
+    (whole_tells_write c.run_words.result (word_bytes c.args.words.now) _ _ _ _ _ _ _ _ _ c.run_words.ensures.delivers) sinks _ _ _ _ _ _ (none_broken _ _ _ _ same) inputs
+    (whole_answers c.run_words.result (word_bytes c.args.words.now) _ _ _ _ _ _ _ _ _ c.run_words.ensures.delivers) through)
 
 pub returns-clause-sets : goal.returns-clause-sets
 returns-clause-sets g c = whole_goes (word_bytes c.args.words.now)

@@ -1,17 +1,27 @@
-use Rattle.std.proofs.Common.{sym}
-use Rattle.ops_meaning.specs.Whole.{Reply, word_bytes}
-use Rattle.ops_top.specs.Calls.{job_meant}
+use Rattle.std.proofs.Common.{nat_lt, Err, refl, rules}
+use Rattle.ops_io.specs.Coming.{Coming}
+use Rattle.ops_io.specs.declared.stop.Stop.TheVariants as stop
+use Rattle.ops_jobs.specs.Words.{word_bytes}
+use Rattle.ops_top.specs.Whole.{Reply}
+use Rattle.ops_top.specs.Calls.{OfInput}
 use Rattle.ops_top.specs.Told.{Delivers}
-use Rattle.ops_top.proofs.Loads.{words_deliver, unfit_deliver}
+use Rattle.ops_top.proofs.Deliveries.{untold}
+use Rattle.ops_top.proofs.FilesAnswered.{words_deliver, unfit_deliver, short_deliver}
 use Rattle.ops_top.proofs.words.run_words.Goals as goal
 
-pub returns-in-Some-clause-delivers : goal.returns-in-Some-clause-delivers
-returns-in-Some-clause-delivers g c =
-    let D : Reply → Type 0 = λ o. Delivers c.run_file.result o (g.K.Sink.taken c.args.sink.now) (g.K.Sink.faults c.args.sink.now) (g.K.Sink.taken c.run_file.new.sink) (g.K.Sink.faults c.run_file.new.sink) in
-    words_deliver _ _ _ D (word_bytes c.args.words.now) (job_meant c.in-Some.field-0) (g.H.Shelf.told c.args.shelf.now) _ (sym c.in-Some.ensures)
-    c.run_file.ensures.delivers
+pub returns-in-Ok-Run-clause-delivers : goal.returns-in-Ok-Run-clause-delivers
+returns-in-Ok-Run-clause-delivers g c =
+    let I : (Coming → Type 0) → Type 0 = OfInput (g.I.Source.left c.args.input.now) (g.I.Source.left c.run_files.new.input) (nat_lt (g.I.Source.faults c.args.input.now) (g.I.Source.faults c.run_files.new.input)) in
+    let D : Reply → Type 0 = λ o. Delivers c.run_files.result o (g.K.Sink.taken c.args.sink.now) (g.K.Sink.faults c.args.sink.now) (g.K.Sink.taken c.run_files.new.sink) (g.K.Sink.faults c.run_files.new.sink) in
+    words_deliver (word_bytes c.args.words.now) (g.H.Shelf.told c.args.shelf.now) _ I D c.in-Ok-Run.field-0 _ (word_bytes c.as_slice.result.now) c.in-Ok-Run.ensures.fits c.run_files.ensures.delivers (search rules) (search rules)
 
-pub returns-in-None-clause-delivers : goal.returns-in-None-clause-delivers
-returns-in-None-clause-delivers g c =
+pub returns-in-Err-Usage-clause-delivers : goal.returns-in-Err-Usage-clause-delivers
+returns-in-Err-Usage-clause-delivers g c =
     let D : Reply → Type 0 = λ o. Delivers c.say_usage.result o (g.K.Sink.taken c.args.sink.now) (g.K.Sink.faults c.args.sink.now) (g.K.Sink.taken c.say_usage.new.sink) (g.K.Sink.faults c.say_usage.new.sink) in
-    unfit_deliver _ _ D (word_bytes c.args.words.now) _ _ (sym c.in-None.ensures) c.say_usage.ensures
+    let unfit = rw c.in-Err-Usage.field-0-is at c.in-Err-Usage.ensures.usage in
+    unfit_deliver (word_bytes c.args.words.now) (g.H.Shelf.told c.args.shelf.now) _ _ _ D (unfit refl) c.say_usage.ensures
+
+pub returns-in-Err-OutOfMemory-clause-delivers : goal.returns-in-Err-OutOfMemory-clause-delivers
+returns-in-Err-OutOfMemory-clause-delivers g c =
+    let D : Reply → Type 0 = λ o. Delivers (Err stop.OutOfMemory) o (g.K.Sink.taken c.args.sink.now) (g.K.Sink.faults c.args.sink.now) (g.K.Sink.taken c.args.sink.now) (g.K.Sink.faults c.args.sink.now) in
+    short_deliver (word_bytes c.args.words.now) (g.H.Shelf.told c.args.shelf.now) _ _ _ D (λ o. untold o (g.K.Sink.taken c.args.sink.now) (g.K.Sink.faults c.args.sink.now))

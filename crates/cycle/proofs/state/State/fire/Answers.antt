@@ -1,10 +1,11 @@
-use Rattle.std.proofs.Common.{◌+◌, ap, refl, subst, sym, List}
+use Rattle.std.proofs.Common.{◌+◌, ap, refl, subst, sym, List, Ok, Err}
 use Rattle.std.proofs.lemmas.Result.{err_from_is_err_and}
 use Rattle.act_phase.specs.Outcomes.{setting_of}
+use Rattle.act_phase.specs.declared.outcome.ActFault.TheVariants as fault
 use Rattle.conflict_index.specs.Indexed.{Member, KeepsSpecificities}
 use Rattle.cycle.specs.States.{no_names, no_input, state_course}
 use Rattle.cycle.proofs.Marks.{some_copied, next_member, marked_specificities}
-use Rattle.cycle.proofs.Firings.{same_next, fires_not, fires_badly, fires_short, fires}
+use Rattle.cycle.proofs.Firings.{same_next, fires_not, fires_unseen, behind_line, fires_badly, fires_short, fires}
 use Rattle.cycle.proofs.state.State.fire.Goals as goal
 
 pub copy_of-requires : goal.copy_of-requires
@@ -14,15 +15,26 @@ copy_of-requires g c =
 pub returns-in_err-inst-clause-performs : goal.returns-in_err-inst-clause-performs
 returns-in_err-inst-clause-performs g c = λ i is.
     let p = err_from_is_err_and c.from_residual.result c.from_residual.ensures.1 in
-    rw (p.1, p.2) (fires_not g.M.Matcher.stored (setting_of c.args.program.now) c.args.out.now.column i c.args.self c.args.names.now c.requires.whole)
+    rw (p.1, p.2) (fires_not g.M.Matcher.stored (setting_of c.args.program.now c.args.watch) i c.args.self c.args.names.now c.requires.whole)
+
+pub returns-in_err-put_trace-clause-performs : goal.returns-in_err-put_trace-clause-performs
+returns-in_err-put_trace-clause-performs g c = λ i is.
+    let same = same_next _ _ c.in_ok-inst.inst i (c.next.ensures.dominant c.args.program.now.rules no_names no_input c.requires.stands c.requires.specificities) c.in_ok-inst.ensures is in
+    let p = err_from_is_err_and c.from_residual-in_err-put_trace.result c.from_residual-in_err-put_trace.ensures.1 in
+    let next = ap (λ n. n + 1) c.firings-firing.ensures in
+    rw (p.1, p.2)
+    (fires_unseen g.M.Matcher.stored (setting_of c.args.program.now c.args.watch) i c.args.self c.args.names.now (c.firings-firing.result + 1) c.in_ok-inst.inst next same
+    c.in_err-put_trace.field-0.0 c.in_err-put_trace.ensures.refused c.in_err-put_trace.ensures.puts)
 
 pub returns-in_err-acted-clause-performs : goal.returns-in_err-acted-clause-performs
 returns-in_err-acted-clause-performs g c = λ i is.
     let same = same_next _ _ c.in_ok-inst.inst i (c.next.ensures.dominant c.args.program.now.rules no_names no_input c.requires.stands c.requires.specificities) c.in_ok-inst.ensures is in
     let p = err_from_is_err_and c.from_residual-in_err-acted.result c.from_residual-in_err-acted.ensures.1 in
+    let next = ap (λ n. n + 1) c.firings-firing.ensures in
     rw (p.1, p.2)
-    (fires_badly g.M.Matcher.stored (setting_of c.args.program.now) c.args.out.now.column i c.args.self c.args.names.now c.store.result.now c.store.ensures c.in_ok-inst.inst same
-    (c.last_tag-tag.result + 1) (ap (λ n. n + 1) c.last_tag-tag.ensures.last) c.act.new.names c.in_err-acted.field-0.0 c.in_err-acted.ensures.acts)
+    (behind_line g.M.Matcher.stored (setting_of c.args.program.now c.args.watch) i c.args.self c.args.names.now (c.firings-firing.result + 1) c.in_ok-inst.inst next same (Err c.in_err-acted.field-0.0) c.in_ok-put_trace.ensures.puts
+    (fires_badly g.M.Matcher.stored (setting_of c.args.program.now c.args.watch) c.put_trace.new.out.column i c.args.self c.args.names.now c.store.result.now c.store.ensures c.in_ok-inst.inst same
+    (c.last_tag-tag.result + 1) (ap (λ n. n + 1) c.last_tag-tag.ensures.last) c.act.new.names c.in_err-acted.field-0.0 c.in_err-acted.ensures.acts))
 
 pub mark-requires-clause-member : goal.mark-requires-clause-member
 mark-requires-clause-member g c = next_member c.args.self.index.members c.next.result c.in_ok-inst.inst c.next.ensures.waiting c.in_ok-inst.ensures
@@ -36,15 +48,19 @@ pub returns-in_err-state-clause-performs : goal.returns-in_err-state-clause-perf
 returns-in_err-state-clause-performs g c = λ i is.
     let same = same_next _ _ c.in_ok-inst.inst i (c.next.ensures.dominant c.args.program.now.rules no_names no_input c.requires.stands c.requires.specificities) c.in_ok-inst.ensures is in
     let p = err_from_is_err_and c.from_residual-in_err-state.result c.from_residual-in_err-state.ensures.1 in
+    let next = ap (λ n. n + 1) c.firings-firing.ensures in
     rw (p.1, p.2)
-    (fires_short g.M.Matcher.stored (setting_of c.args.program.now) c.args.out.now.column i c.args.self c.args.names.now c.store.result.now c.store.ensures c.in_ok-inst.inst same
-    (c.last_tag-tag.result + 1) (ap (λ n. n + 1) c.last_tag-tag.ensures.last) c.act.new.names c.in_ok-acted.acted c.in_ok-acted.ensures.reads c.in_ok-acted.ensures.acts)
+    (behind_line g.M.Matcher.stored (setting_of c.args.program.now c.args.watch) i c.args.self c.args.names.now (c.firings-firing.result + 1) c.in_ok-inst.inst next same (Err fault.OutOfMemory) c.in_ok-put_trace.ensures.puts
+    (fires_short g.M.Matcher.stored (setting_of c.args.program.now c.args.watch) c.put_trace.new.out.column i c.args.self c.args.names.now c.store.result.now c.store.ensures c.in_ok-inst.inst same
+    (c.last_tag-tag.result + 1) (ap (λ n. n + 1) c.last_tag-tag.ensures.last) c.act.new.names c.in_ok-acted.acted c.in_ok-acted.ensures.reads c.in_ok-acted.ensures.acts))
 
 pub returns-clause-performs : goal.returns-clause-performs
 returns-clause-performs g c = λ i is.
     let same = same_next _ _ c.in_ok-inst.inst i (c.next.ensures.dominant c.args.program.now.rules no_names no_input c.requires.stands c.requires.specificities) c.in_ok-inst.ensures is in
-    fires g.M.Matcher.stored (setting_of c.args.program.now) c.args.out.now.column i c.args.self c.args.names.now c.store.result.now c.store.ensures c.in_ok-inst.inst same
+    let next = ap (λ n. n + 1) c.firings-firing.ensures in
+    behind_line g.M.Matcher.stored (setting_of c.args.program.now c.args.watch) i c.args.self c.args.names.now (c.firings-firing.result + 1) c.in_ok-inst.inst next same (Ok _) c.in_ok-put_trace.ensures.puts
+    (fires g.M.Matcher.stored (setting_of c.args.program.now c.args.watch) c.put_trace.new.out.column i c.args.self c.args.names.now c.store.result.now c.store.ensures c.in_ok-inst.inst same
     (c.last_tag-tag.result + 1) (ap (λ n. n + 1) c.last_tag-tag.ensures.last) c.act.new.names c.in_ok-acted.acted c.in_ok-acted.ensures.reads c.in_ok-acted.ensures.acts
     _ c.last_tag-tag.ensures.kept (next_member c.args.self.index.members c.next.result c.in_ok-inst.inst c.next.ensures.waiting c.in_ok-inst.ensures)
     c.mark.new.self c.mark.ensures c.as_slice.result.now c.as_slice.ensures (λ z. state_course g.M.Matcher.stored c.in_ok-state.state c.act.new.names z) (λ z. c.in_ok-state.ensures.course c.act.new.names z)
-    (λ z. refl)
+    (λ z. refl))

@@ -1,0 +1,23 @@
+-- The options, one by one.
+use Rattle.std.proofs.Common.{◌≡◌, ◌||◌, Bool, true, false, codes, refl, sym, subst}
+use Rattle.std.specs.Str.{bytes_eq}
+use Rattle.std.proofs.lemmas.Slice.Eq.{bytes_eq-Decides}
+use Rattle.std.proofs.lemmas.Bool.{true≢false}
+use Rattle.ops_jobs.specs.CommandLine.{Word, is_option}
+
+-- what holds of each of the four holds of whatever is an option
+pub each_option : (P : Word → Type 0) → P (codes "match") → P (codes "workers") → P (codes "lines") → P (codes "limit")
+    → (name : Word) → is_option name ≡ true → P name
+each_option P a b c d name is =
+    go (bytes_eq (codes "match") name) (bytes_eq (codes "workers") name) (bytes_eq (codes "lines") name) (bytes_eq (codes "limit") name) refl refl refl refl is
+  where
+    same : (other : Word) → bytes_eq other name ≡ true → P other → P name
+    same other e p = subst P ((bytes_eq-Decides other name).0 e) p
+
+    go : (s t u v : Bool) → bytes_eq (codes "match") name ≡ s → bytes_eq (codes "workers") name ≡ t → bytes_eq (codes "lines") name ≡ u → bytes_eq (codes "limit") name ≡ v
+        → (s || (t || (u || (v || false)))) ≡ true → P name
+    go true t u v e f g h is = same _ e a
+    go false true u v e f g h is = same _ f b
+    go false false true v e f g h is = same _ g c
+    go false false false true e f g h is = same _ h d
+    go false false false false e f g h is = absurd (true≢false (sym is))

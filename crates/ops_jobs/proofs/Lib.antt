@@ -1,0 +1,4 @@
+pub mod EachOption
+pub mod Limits
+mod Spelling
+mod Rows

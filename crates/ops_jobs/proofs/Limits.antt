@@ -1,0 +1,165 @@
+-- What a job keeps: the limits of its numbers, and that no value is dashed.
+use Rattle.std.proofs.Common.{◌≡◌, ◌∙◌, ◌≢◌, ◌≤◌, ℕ, Bool, cond, true, false, List, [], ◌∷◌, length, codes, Option, Some, None, is_some, option_map, refl, sym, ap, subst, arith}
+use Rattle.std.specs.Prelude.{slice_index, option_and_then}
+use Rattle.std.specs.List.{list_all}
+use Rattle.std.specs.Char.{is_ascii_digit}
+use Rattle.std.specs.Str.{bytes_eq}
+use Rattle.std.specs.Str.Parse.{digits_value}
+use Rattle.std.proofs.lemmas.Bool.{and_parts, leb-true, true≢false}
+use Rattle.std.proofs.lemmas.Slice.Eq.{bytes_eq-Decides}
+use Rattle.ops_jobs.specs.declared.jobs.TheConstants.{DEFAULT_WORKERS, DEFAULT_LINES, DEFAULT_LIMIT, GREATEST_WORKERS, GREATEST_LINES, GREATEST_LIMIT}
+use Rattle.ops_jobs.specs.declared.jobs.Engine.{Engine}
+use Rattle.ops_jobs.specs.declared.jobs.Engine.TheVariants.{Direct}
+use Rattle.ops_jobs.specs.declared.jobs.Options.{Options}
+use Rattle.ops_jobs.specs.declared.jobs.Job.{Job}
+use Rattle.ops_jobs.specs.declared.jobs.Job.TheVariants.{Run}
+use Rattle.ops_jobs.specs.CommandLine.{Piece, Word, engine_from, files_of, is_complete, is_number, is_option, job_from, job_of, number_from, options_of, pieces_of, value_of}
+use Rattle.ops_jobs.specs.Laws.{IsWithinLimits, KeepsLimits}
+use Rattle.ops_jobs.proofs.EachOption.{each_option}
+
+-- ---- a number
+
+-- what a word that spells a number is
+record IsNumber (greatest : ℕ) (word : Word) : Type 0 where
+  digits : list_all is_ascii_digit word ≡ true
+  least : 1 ≤ digits_value 10 word
+  most : digits_value 10 word ≤ greatest
+
+number_parts : (greatest : ℕ) (word : Word) → is_number greatest word ≡ true → IsNumber greatest word
+number_parts greatest word is =
+    let four = and_parts _ _ is in
+    let three = and_parts _ _ four.0 in
+    let two = and_parts _ _ three.0 in
+    let one = and_parts _ _ two.0 in
+    record { digits = one.0; least = leb-true 1 (digits_value 10 word) three.1; most = leb-true (digits_value 10 word) greatest four.1 }
+
+number_is : (greatest : ℕ) (word : Word) (n : ℕ) → number_from 0 greatest (Some word) ≡ Some n → (is_number greatest word ≡ true) × (digits_value 10 word ≡ n)
+number_is greatest word n e = go (is_number greatest word) refl e
+  where
+    go : (t : Bool) → is_number greatest word ≡ t → cond t (Some (digits_value 10 word)) None ≡ Some n → (is_number greatest word ≡ true) × (digits_value 10 word ≡ n)
+    go true is same = (is, (cc))
+    go false is none = absurd (true≢false (sym (ap is_some none)))
+
+number_within : (usual greatest : ℕ) (word : Option Word) (n : ℕ) → 1 ≤ usual → usual ≤ greatest → number_from usual greatest word ≡ Some n → (1 ≤ n) × (n ≤ greatest)
+number_within usual greatest None n least most e =
+    let same : usual ≡ n = cc in
+    (omega arith, omega arith)
+number_within usual greatest (Some word) n least most e =
+    let is = number_is greatest word n e in
+    let parts = number_parts greatest word is.0 in
+    let low = parts.least in
+    let high = parts.most in
+    let same = is.1 in
+    (omega arith, omega arith)
+
+-- ---- the options
+
+-- options come only where each value is fit
+record AreFrom (engine : Option Engine) (workers lines limit : Option ℕ) (o : Options) : Type 0 where
+  engine_is : engine ≡ Some o.engine
+  workers_are : workers ≡ Some o.workers
+  lines_are : lines ≡ Some o.lines
+  limit_is : limit ≡ Some o.limit
+
+abbrev joined : Option Engine → Option ℕ → Option ℕ → Option ℕ → Option Options
+joined engine workers lines limit =
+    option_and_then (λ e. option_and_then (λ w. option_and_then (λ l. option_map (λ n. record { engine = e; workers = w; lines = l; limit = n }) limit) lines) workers) engine
+
+from_all : (engine : Option Engine) (workers lines limit : Option ℕ) (o : Options) → joined engine workers lines limit ≡ Some o → AreFrom engine workers lines limit o
+from_all None w l n o e = absurd (true≢false (sym (ap is_some e)))
+from_all (Some en) None l n o e = absurd (true≢false (sym (ap is_some e)))
+from_all (Some en) (Some w) None n o e = absurd (true≢false (sym (ap is_some e)))
+from_all (Some en) (Some w) (Some l) None o e = absurd (true≢false (sym (ap is_some e)))
+from_all (Some en) (Some w) (Some l) (Some n) o e =
+    let same : ◌≡◌ {A = Options} (record { engine = en; workers = w; lines = l; limit = n }) o = cc in
+    record {
+      engine_is = ap (λ (x : Options). Some x.engine) same;
+      workers_are = ap (λ (x : Options). Some x.workers) same;
+      lines_are = ap (λ (x : Options). Some x.lines) same;
+      limit_is = ap (λ (x : Options). Some x.limit) same;
+    }
+
+-- what a job comes from
+record IsJobOf (pieces : List Piece) (job : Job) : Type 0 where
+  options : Options
+  complete : is_complete pieces ≡ true
+  from : options_of pieces ≡ Some options
+  job_is : job ≡ Run options (files_of pieces)
+
+job_parts : (pieces : List Piece) (job : Job) → job_from pieces ≡ Some job → IsJobOf pieces job
+job_parts pieces job e = go (is_complete pieces) refl (options_of pieces) refl e
+  where
+    go : (t : Bool) → is_complete pieces ≡ t → (o : Option Options) → options_of pieces ≡ o
+        → cond t (option_map (λ options. Run options (files_of pieces)) o) None ≡ Some job → IsJobOf pieces job
+    go false incomplete o from none = absurd (true≢false (sym (ap is_some none)))
+    go true complete None from none = absurd (true≢false (sym (ap is_some none)))
+    go true complete (Some options) from same = record { options = options; complete = complete; from = from; job_is = sym (cc) }
+
+of_words : (words : List Word) (job : Job) → job_of words ≡ Some job → (pieces : List Piece) × (pieces_of words ≡ Some pieces) × IsJobOf pieces job
+of_words words job e = go (pieces_of words) refl e
+  where
+    go : (read : Option (List Piece)) → pieces_of words ≡ read → option_and_then job_from read ≡ Some job
+        → (pieces : List Piece) × (pieces_of words ≡ Some pieces) × IsJobOf pieces job
+    go None are none = absurd (true≢false (sym (ap is_some none)))
+    go (Some pieces) are same = (pieces, are, job_parts pieces job same)
+
+options_within : (pieces : List Piece) (options : Options) → is_complete pieces ≡ true → options_of pieces ≡ Some options → IsWithinLimits options (files_of pieces)
+options_within pieces o complete from =
+    let all = from_all _ _ _ _ o from in
+    let workers = number_within DEFAULT_WORKERS GREATEST_WORKERS (value_of (codes "workers") pieces) o.workers (omega arith) (omega arith) all.workers_are in
+    let lines = number_within DEFAULT_LINES GREATEST_LINES (value_of (codes "lines") pieces) o.lines (omega arith) (omega arith) all.lines_are in
+    let limit = number_within DEFAULT_LIMIT GREATEST_LIMIT (value_of (codes "limit") pieces) o.limit (omega arith) (omega arith) all.limit_is in
+    record {
+      some_workers = workers.0;
+      few_workers = workers.1;
+      some_lines = lines.0;
+      few_lines = lines.1;
+      some_firings = limit.0;
+      few_firings = limit.1;
+      some_files = leb-true 1 (length (files_of pieces)) (and_parts _ _ complete).1;
+    }
+
+pub job_within : (words : List Word) (job : Job) → job_of words ≡ Some job → KeepsLimits job
+job_within words job e =
+    let of = of_words words job e in
+    subst KeepsLimits (sym of.2.job_is) (options_within of.0 of.2.options of.2.complete of.2.from)
+
+-- ---- no value is dashed
+
+digits_not_dashed : (word : Word) → list_all is_ascii_digit word ≡ true → slice_index word 0 ≢ 45
+digits_not_dashed [] all is = absurd (omega arith)
+digits_not_dashed (b ∷ bs) all is =
+    let digit = and_parts _ _ (and_parts (is_ascii_digit b) _ all).0 in
+    let low = leb-true 48 b digit.0 in
+    absurd (omega arith)
+
+number_not_dashed : (usual greatest : ℕ) (word : Word) (n : ℕ) → number_from usual greatest (Some word) ≡ Some n → slice_index word 0 ≢ 45
+number_not_dashed usual greatest word n e = digits_not_dashed word (number_parts greatest word (number_is greatest word n e).0).digits
+
+engine_not_dashed : (word : Word) (engine : Engine) → engine_from (Some word) ≡ Some engine → slice_index word 0 ≢ 45
+engine_not_dashed word engine e = go (bytes_eq word (codes "direct")) refl e
+  where
+    go : (t : Bool) → bytes_eq word (codes "direct") ≡ t → cond t (Some Direct) None ≡ Some engine → slice_index word 0 ≢ 45
+    go true is same begins =
+        let direct : word ≡ codes "direct" = (bytes_eq-Decides word (codes "direct")).0 is in
+        let first : slice_index word 0 ≡ 100 = ap (λ (w : Word). slice_index w 0) direct in
+        let bad : 100 ≡ 45 = sym first ∙ begins in
+        omega (arith, bad)
+    go false is none begins = absurd (true≢false (sym (ap is_some none)))
+
+value_not_dashed : (pieces : List Piece) (o : Options) → options_of pieces ≡ Some o → (option : Word) → is_option option ≡ true → (value : Word) → value_of option pieces ≡ Some value
+    → slice_index value 0 ≢ 45
+value_not_dashed pieces o from =
+    let all = from_all _ _ _ _ o from in
+    each_option (λ option. (value : Word) → value_of option pieces ≡ Some value → slice_index value 0 ≢ 45)
+    (λ value is. engine_not_dashed value o.engine (sym (ap engine_from is) ∙ all.engine_is))
+    (λ value is. number_not_dashed DEFAULT_WORKERS GREATEST_WORKERS value o.workers (sym (ap (number_from DEFAULT_WORKERS GREATEST_WORKERS) is) ∙ all.workers_are))
+    (λ value is. number_not_dashed DEFAULT_LINES GREATEST_LINES value o.lines (sym (ap (number_from DEFAULT_LINES GREATEST_LINES) is) ∙ all.lines_are))
+    (λ value is. number_not_dashed DEFAULT_LIMIT GREATEST_LIMIT value o.limit (sym (ap (number_from DEFAULT_LIMIT GREATEST_LIMIT) is) ∙ all.limit_is))
+
+pub no_dashed_value : (words : List Word) (job : Job) (pieces : List Piece) (option value : Word) → job_of words ≡ Some job → pieces_of words ≡ Some pieces
+    → is_option option ≡ true → value_of option pieces ≡ Some value → slice_index value 0 ≢ 45
+no_dashed_value words job pieces option value e are known is =
+    let of = of_words words job e in
+    let same : of.0 ≡ pieces = cc in
+    value_not_dashed of.0 of.2.options of.2.from option known value (rw same is)

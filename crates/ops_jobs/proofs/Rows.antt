@@ -1,0 +1,149 @@
+-- Rows of words with what they ask for, which the definition computes.
+use Rattle.std.proofs.Common.{◌≡◌, [], ◌∷◌, Some, None, codes, refl}
+use Rattle.ops_jobs.specs.CommandLine.{Word, job_of, pieces_from}
+use Rattle.ops_jobs.specs.declared.jobs.Engine.TheVariants.{Direct}
+use Rattle.ops_jobs.specs.declared.jobs.Options.{Options}
+use Rattle.ops_jobs.specs.declared.jobs.Job.TheVariants.{Run}
+
+abbrev usual : Options
+usual = record { engine = Direct; workers = 4; lines = 1024; limit = 1000000 }
+
+-- a word of no bytes
+abbrev empty : Word
+empty = []
+
+a_limit_and_two_files : job_of (codes "--limit=3" ∷ codes "a" ∷ codes "b" ∷ []) ≡ Some (Run (record usual { limit = 3 }) (codes "a" ∷ codes "b" ∷ []))
+unfolding pieces_from
+a_limit_and_two_files = refl
+
+an_option_behind_a_file : job_of (codes "a" ∷ codes "--workers" ∷ codes "7" ∷ []) ≡ Some (Run (record usual { workers = 7 }) (codes "a" ∷ []))
+unfolding pieces_from
+an_option_behind_a_file = refl
+
+an_option_among_files : job_of (codes "a" ∷ codes "--lines" ∷ codes "8" ∷ codes "b" ∷ []) ≡ Some (Run (record usual { lines = 8 }) (codes "a" ∷ codes "b" ∷ []))
+unfolding pieces_from
+an_option_among_files = refl
+
+all_options : job_of (codes "--match" ∷ codes "direct" ∷ codes "--workers=64" ∷ codes "--lines" ∷ codes "65536" ∷ codes "--limit=1000000000" ∷ codes "a" ∷ []) ≡ Some (Run (record { engine = Direct; workers = 64; lines = 65536; limit = 1000000000 }) (codes "a" ∷ []))
+unfolding pieces_from
+all_options = refl
+
+a_file_like_an_option : job_of (codes "--" ∷ codes "--limit" ∷ []) ≡ Some (Run usual (codes "--limit" ∷ []))
+unfolding pieces_from
+a_file_like_an_option = refl
+
+the_first_close_alone_is_dropped : job_of (codes "a" ∷ codes "--" ∷ codes "-b" ∷ codes "--" ∷ codes "c" ∷ []) ≡ Some (Run usual (codes "a" ∷ codes "-b" ∷ codes "--" ∷ codes "c" ∷ []))
+unfolding pieces_from
+the_first_close_alone_is_dropped = refl
+
+one_dash_is_a_name : job_of (codes "-" ∷ []) ≡ Some (Run usual (codes "-" ∷ []))
+unfolding pieces_from
+one_dash_is_a_name = refl
+
+an_empty_word_is_a_name : job_of (empty ∷ []) ≡ Some (Run usual (empty ∷ []))
+unfolding pieces_from
+an_empty_word_is_a_name = refl
+
+an_engine : job_of (codes "--match=direct" ∷ codes "f" ∷ []) ≡ Some (Run usual (codes "f" ∷ []))
+unfolding pieces_from
+an_engine = refl
+
+zeros_before_a_number : job_of (codes "--limit" ∷ codes "0000000001" ∷ codes "f" ∷ []) ≡ Some (Run (record usual { limit = 1 }) (codes "f" ∷ []))
+unfolding pieces_from
+zeros_before_a_number = refl
+
+no_words : job_of [] ≡ None
+unfolding pieces_from
+no_words = refl
+
+no_file : job_of (codes "--limit=3" ∷ []) ≡ None
+unfolding pieces_from
+no_file = refl
+
+no_file_behind_a_close : job_of (codes "--" ∷ []) ≡ None
+unfolding pieces_from
+no_file_behind_a_close = refl
+
+another_engine : job_of (codes "--match=free" ∷ codes "f" ∷ []) ≡ None
+unfolding pieces_from
+another_engine = refl
+
+an_engine_in_part : job_of (codes "--match=dir" ∷ codes "f" ∷ []) ≡ None
+unfolding pieces_from
+an_engine_in_part = refl
+
+no_engine : job_of (codes "--match" ∷ codes "--workers" ∷ codes "7" ∷ codes "f" ∷ []) ≡ None
+unfolding pieces_from
+no_engine = refl
+
+nothing_for_a_limit : job_of (codes "--limit" ∷ codes "0" ∷ codes "f" ∷ []) ≡ None
+unfolding pieces_from
+nothing_for_a_limit = refl
+
+a_limit_past_the_greatest : job_of (codes "--limit=1000000001" ∷ codes "f" ∷ []) ≡ None
+unfolding pieces_from
+a_limit_past_the_greatest = refl
+
+workers_past_the_most : job_of (codes "--workers=65" ∷ codes "f" ∷ []) ≡ None
+unfolding pieces_from
+workers_past_the_most = refl
+
+lines_past_the_most : job_of (codes "--lines=65537" ∷ codes "f" ∷ []) ≡ None
+unfolding pieces_from
+lines_past_the_most = refl
+
+eleven_digits : job_of (codes "--limit" ∷ codes "00000000001" ∷ codes "f" ∷ []) ≡ None
+unfolding pieces_from
+eleven_digits = refl
+
+a_sign : job_of (codes "--limit=+3" ∷ codes "f" ∷ []) ≡ None
+unfolding pieces_from
+a_sign = refl
+
+a_dashed_value : job_of (codes "--limit=-3" ∷ codes "f" ∷ []) ≡ None
+unfolding pieces_from
+a_dashed_value = refl
+
+a_dash_as_a_value : job_of (codes "--limit" ∷ codes "-" ∷ codes "f" ∷ []) ≡ None
+unfolding pieces_from
+a_dash_as_a_value = refl
+
+an_empty_value : job_of (codes "--limit=" ∷ codes "f" ∷ []) ≡ None
+unfolding pieces_from
+an_empty_value = refl
+
+a_missing_value : job_of (codes "f" ∷ codes "--limit" ∷ []) ≡ None
+unfolding pieces_from
+a_missing_value = refl
+
+a_close_as_a_value : job_of (codes "--limit" ∷ codes "--" ∷ codes "3" ∷ codes "f" ∷ []) ≡ None
+unfolding pieces_from
+a_close_as_a_value = refl
+
+two_limits : job_of (codes "--limit" ∷ codes "3" ∷ codes "--limit" ∷ codes "3" ∷ codes "f" ∷ []) ≡ None
+unfolding pieces_from
+two_limits = refl
+
+two_limits_in_two_forms : job_of (codes "--limit=3" ∷ codes "f" ∷ codes "--limit" ∷ codes "4" ∷ []) ≡ None
+unfolding pieces_from
+two_limits_in_two_forms = refl
+
+an_option_in_part : job_of (codes "--lim=3" ∷ codes "f" ∷ []) ≡ None
+unfolding pieces_from
+an_option_in_part = refl
+
+one_letter : job_of (codes "-x" ∷ codes "f" ∷ []) ≡ None
+unfolding pieces_from
+one_letter = refl
+
+help : job_of (codes "--help" ∷ []) ≡ None
+unfolding pieces_from
+help = refl
+
+a_flag_that_generates : job_of (codes "--gen" ∷ codes "1" ∷ codes "2" ∷ []) ≡ None
+unfolding pieces_from
+a_flag_that_generates = refl
+
+a_flag_that_counts : job_of (codes "--net" ∷ codes "f" ∷ []) ≡ None
+unfolding pieces_from
+a_flag_that_counts = refl

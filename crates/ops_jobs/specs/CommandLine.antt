@@ -1,0 +1,147 @@
+-- What the words of the command line mean. In a word `-` is 45 and `=` is 61.
+use Rattle.std.specs.Prelude.{ℕ, ◌==◌, ◌&&◌, ◌∷◌, [], List, Bool, false, length, map, drop, codes, nat_le, bytes_eq, if◌then◌else◌, slice_get}
+use Rattle.std.specs.Prelude.{Option, Some, None, option_map, option_and_then}
+use Rattle.std.specs.List.{list_all, list_any, before_first, after_first}
+use Rattle.std.specs.Char.{is_ascii_digit}
+use Rattle.std.specs.Str.Parse.{digits_value}
+use Rattle.ops_jobs.specs.declared.jobs.TheConstants.{DEFAULT_WORKERS, DEFAULT_LINES, DEFAULT_LIMIT, GREATEST_WORKERS, GREATEST_LINES, GREATEST_LIMIT}
+use Rattle.ops_jobs.specs.declared.jobs.Engine.{Engine}
+use Rattle.ops_jobs.specs.declared.jobs.Engine.TheVariants.{Direct}
+use Rattle.ops_jobs.specs.declared.jobs.Options.{Options}
+use Rattle.ops_jobs.specs.declared.jobs.Job.{Job}
+use Rattle.ops_jobs.specs.declared.jobs.Job.TheVariants.{Run}
+
+abbrev pub Word : Type 0
+Word = List ℕ
+
+-- ---- what a word is
+
+abbrev pub option_names : List Word
+option_names = codes "match" ∷ codes "workers" ∷ codes "lines" ∷ codes "limit" ∷ []
+
+abbrev pub is_option : Word → Bool
+is_option name = list_any (λ option. bytes_eq option name) option_names
+
+-- two bytes or more, of which the first is `-`
+abbrev pub is_dashed : Word → Bool
+is_dashed (a ∷ b ∷ rest) = a == 45
+is_dashed _ = false
+
+-- and the second is `-` too
+abbrev pub is_long : Word → Bool
+is_long (a ∷ b ∷ rest) = a == 45 && b == 45
+is_long _ = false
+
+-- what stands behind `--`, up to the first `=`
+abbrev pub name_in : Word → Word
+name_in word = before_first (λ b. b == 61) (drop 2 word)
+
+-- what stands behind the first `=`, where there is one
+abbrev pub value_in : Word → Option Word
+value_in word = if list_any (λ b. b == 61) (drop 2 word) then Some (after_first (λ b. b == 61) (drop 2 word)) else None
+
+-- What a word is where no option waits for its value: the word `--`, an option with its value, an option that takes the next word, none
+-- of these but like one, or a name.
+pub data Sort : Type 0 where
+  ends_options : Sort
+  gives : (option value : Word) → Sort
+  opens : (option : Word) → Sort
+  unknown : Sort
+  names : Sort
+
+abbrev pub option_sort : Word → Option Word → Sort
+option_sort option (Some value) = gives option value
+option_sort option None = opens option
+
+abbrev pub sort_of : Word → Sort
+sort_of word =
+    if bytes_eq word (codes "--") then ends_options
+    else if is_long word && is_option (name_in word) then option_sort (name_in word) (value_in word)
+    else if is_dashed word then unknown
+    else names
+
+-- ---- how words are read, from left to right
+
+-- an option with its value, or a file
+pub data Piece : Type 0 where
+  given : (option value : Word) → Piece
+  file : (name : Word) → Piece
+
+abbrev pub with_piece : Piece → Option (List Piece) → Option (List Piece)
+with_piece piece pieces = option_map (λ ps. piece ∷ ps) pieces
+
+-- `rest` reads the words behind this one, where an option waits for its value or none does
+abbrev pub read_as : Sort → Word → List Word → (Option Word → Option (List Piece)) → Option (List Piece)
+read_as ends_options word words rest = Some (map file words)
+read_as (gives option value) word words rest = with_piece (given option value) (rest None)
+read_as (opens option) word words rest = rest (Some option)
+read_as unknown word words rest = None
+read_as names word words rest = with_piece (file word) (rest None)
+
+-- An option that waits takes the next word. A dashed one is no value: a number has digits alone, and no engine's name is dashed.
+unfoldable pub pieces_from : List Word → Option Word → Option (List Piece)
+pieces_from [] None = Some []
+pieces_from [] (Some option) = None
+pieces_from (word ∷ words) None = read_as (sort_of word) word words (pieces_from words)
+pieces_from (word ∷ words) (Some option) = if is_dashed word then None else with_piece (given option word) (pieces_from words None)
+
+abbrev pub pieces_of : List Word → Option (List Piece)
+pieces_of words = pieces_from words None
+
+-- ---- what the pieces ask for
+
+-- the values that the option was given
+abbrev pub values_of : Word → List Piece → List Word
+values_of option [] = []
+values_of option (given other value ∷ pieces) = if bytes_eq other option then value ∷ values_of option pieces else values_of option pieces
+values_of option (file name ∷ pieces) = values_of option pieces
+
+abbrev pub files_of : List Piece → List Word
+files_of [] = []
+files_of (given option value ∷ pieces) = files_of pieces
+files_of (file name ∷ pieces) = name ∷ files_of pieces
+
+-- each option stands at most once ..
+abbrev pub is_once : List Piece → Bool
+is_once pieces = list_all (λ option. nat_le (length (values_of option pieces)) 1) option_names
+
+-- .. and there is a file
+abbrev pub is_complete : List Piece → Bool
+is_complete pieces = is_once pieces && nat_le 1 (length (files_of pieces))
+
+abbrev pub value_of : Word → List Piece → Option Word
+value_of option pieces = slice_get (values_of option pieces) 0
+
+-- one to ten decimal digits that spell a number from 1 to this one
+abbrev pub is_number : ℕ → Word → Bool
+is_number greatest word =
+    list_all is_ascii_digit word && nat_le 1 (length word) && nat_le (length word) 10 && nat_le 1 (digits_value 10 word) && nat_le (digits_value 10 word) greatest
+
+-- the number that an option was given, or the usual one
+abbrev pub number_from : ℕ → ℕ → Option Word → Option ℕ
+number_from usual greatest None = Some usual
+number_from usual greatest (Some word) = if is_number greatest word then Some (digits_value 10 word) else None
+
+-- the engine that `--match` was given, or the usual one
+abbrev pub engine_from : Option Word → Option Engine
+engine_from None = Some Direct
+engine_from (Some word) = if bytes_eq word (codes "direct") then Some Direct else None
+
+-- the options, by the values that they were given
+abbrev pub options_from : Option Word → Option Word → Option Word → Option Word → Option Options
+options_from matching workers lines limit =
+    option_and_then (λ e. option_and_then (λ w. option_and_then (λ l. option_map (λ n. record { engine = e; workers = w; lines = l; limit = n })
+    (number_from DEFAULT_LIMIT GREATEST_LIMIT limit))
+    (number_from DEFAULT_LINES GREATEST_LINES lines))
+    (number_from DEFAULT_WORKERS GREATEST_WORKERS workers))
+    (engine_from matching)
+
+abbrev pub options_of : List Piece → Option Options
+options_of pieces = options_from (value_of (codes "match") pieces) (value_of (codes "workers") pieces) (value_of (codes "lines") pieces) (value_of (codes "limit") pieces)
+
+abbrev pub job_from : List Piece → Option Job
+job_from pieces = if is_complete pieces then option_map (λ options. Run options (files_of pieces)) (options_of pieces) else None
+
+-- the job that the words ask for, where they fit
+abbrev pub job_of : List Word → Option Job
+job_of words = option_and_then job_from (pieces_of words)

@@ -1,0 +1,36 @@
+-- What holds of the words of the command line, said apart from how they are read.
+use Rattle.std.specs.Prelude.{◌≡◌, ◌≤◌, List, [], ◌∷◌, ◌++◌, length, map, true, false, codes}
+use Rattle.ops_jobs.specs.CommandLine.{Word, Piece, given, file, files_of, is_dashed, is_option, values_of}
+use Rattle.ops_jobs.specs.declared.jobs.TheConstants.{GREATEST_WORKERS, GREATEST_LINES, GREATEST_LIMIT}
+use Rattle.ops_jobs.specs.declared.jobs.Options.{Options}
+use Rattle.ops_jobs.specs.declared.jobs.Job.{Job}
+use Rattle.ops_jobs.specs.declared.jobs.Job.TheVariants.{Run}
+
+-- The words spell the pieces: `--OPTION=VALUE`, or `--OPTION` and `VALUE`, for an option with its value, a word that is not dashed for a
+-- file, and behind `--` each word for a file.
+pub data Spells : List Word → List Piece → Type 0 where
+  nothing : Spells [] []
+  attached : (option value : Word) (words : List Word) (pieces : List Piece) → is_option option ≡ true → Spells words pieces
+      → Spells ((codes "--" ++ (option ++ (codes "=" ++ value))) ∷ words) (given option value ∷ pieces)
+  apart : (option value : Word) (words : List Word) (pieces : List Piece) → is_option option ≡ true → is_dashed value ≡ false → Spells words pieces
+      → Spells ((codes "--" ++ option) ∷ value ∷ words) (given option value ∷ pieces)
+  named : (name : Word) (words : List Word) (pieces : List Piece) → is_dashed name ≡ false → Spells words pieces → Spells (name ∷ words) (file name ∷ pieces)
+  closed : (names : List Word) → Spells (codes "--" ∷ names) (map file names)
+
+-- the pieces say the same: each option has the same values, and the files are the same in the same order
+pub record SayTheSame (ps qs : List Piece) : Type 0 where
+  pub values : (option : Word) → values_of option ps ≡ values_of option qs
+  pub files : files_of ps ≡ files_of qs
+
+-- each number is in its range, and there is a file
+pub record IsWithinLimits (options : Options) (files : List Word) : Type 0 where
+  pub some_workers : 1 ≤ options.workers
+  pub few_workers : options.workers ≤ GREATEST_WORKERS
+  pub some_lines : 1 ≤ options.lines
+  pub few_lines : options.lines ≤ GREATEST_LINES
+  pub some_firings : 1 ≤ options.limit
+  pub few_firings : options.limit ≤ GREATEST_LIMIT
+  pub some_files : 1 ≤ length files
+
+abbrev pub KeepsLimits : Job → Type 0
+KeepsLimits (Run options files) = IsWithinLimits options files

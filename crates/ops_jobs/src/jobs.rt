@@ -1,0 +1,45 @@
+//! What the command line can ask for.
+
+use crate::file_list::FileList;
+
+/// How many workers there are where `--workers` does not stand.
+pub const DEFAULT_WORKERS: usize = 4;
+
+/// How many lines a network has where `--lines` does not stand.
+pub const DEFAULT_LINES: usize = 1_024;
+
+/// How many firings a session makes at most where `--limit` does not stand.
+pub const DEFAULT_LIMIT: u64 = 1_000_000;
+
+/// The most workers that `--workers` may ask for.
+pub const GREATEST_WORKERS: usize = 64;
+
+/// The most lines that `--lines` may ask for.
+pub const GREATEST_LINES: usize = 65_536;
+
+/// The greatest limit that `--limit` may set.
+pub const GREATEST_LIMIT: u64 = 1_000_000_000;
+
+/// What finds the instantiations.
+#[derive(Clone, Copy, Debug, PartialEq, Eq)]
+pub enum Engine {
+    /// Each production is matched directly against all of working memory.
+    Direct,
+}
+
+/// What the options of the command line say.
+#[derive(Clone, Copy, Debug, PartialEq, Eq)]
+pub struct Options {
+    pub engine: Engine,
+    pub workers: usize,
+    pub lines: usize,
+    /// How many firings a session makes at most.
+    pub limit: u64,
+}
+
+/// What the words of the command line ask for.
+#[derive(Debug, Drop)]
+pub enum Job {
+    /// To run the program that the files hold, in their order.
+    Run { options: Options, files: FileList },
+}

@@ -1,0 +1,27 @@
+//! Laws of the words that hold of the definitions alone: the contracts of functions that do nothing.
+ghost use Rattle.std.specs.Prelude.{◌≡◌, ◌↔◌, ◌≢◌, List, Some, true, slice_index};
+ghost use Rattle.ops_jobs.specs.CommandLine.{Word, Piece, is_option, job_of, pieces_of, value_of};
+ghost use Rattle.ops_jobs.specs.Laws.{KeepsLimits, SayTheSame, Spells};
+ghost use Rattle.ops_jobs.specs.declared.jobs.Job.{Job};
+
+/// Words are cut into pieces exactly where they spell them.
+pub fn words_spell_their_pieces()
+    ensures { (words : List Word) (pieces : List Piece) → (pieces_of words ≡ Some pieces) ↔ Spells words pieces }
+{}
+
+/// Words that say the same ask for the same job, wherever the options stand among the files.
+pub fn options_stand_anywhere()
+    ensures { (words others : List Word) (ps qs : List Piece) → pieces_of words ≡ Some ps → pieces_of others ≡ Some qs → SayTheSame ps qs
+        → job_of words ≡ job_of others }
+{}
+
+/// A job keeps the limits of its numbers and has a file.
+pub fn jobs_keep_limits()
+    ensures { (words : List Word) (job : Job) → job_of words ≡ Some job → KeepsLimits job }
+{}
+
+/// No value that begins with `-` fits.
+pub fn no_value_is_dashed()
+    ensures { (words : List Word) (job : Job) (pieces : List Piece) (option value : Word) → job_of words ≡ Some job → pieces_of words ≡ Some pieces
+        → is_option option ≡ true → value_of option pieces ≡ Some value → slice_index value 0 ≢ 45 }
+{}

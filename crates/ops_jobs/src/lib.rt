@@ -1,0 +1,15 @@
+//! What the words of the command line ask for: the jobs, and the definition of the words.
+#![tactic(auto)]
+
+mod file_list;
+mod jobs;
+mod laws;
+
+pub use file_list::FileList;
+pub use jobs::{
+    DEFAULT_LIMIT, DEFAULT_LINES, DEFAULT_WORKERS, Engine, GREATEST_LIMIT, GREATEST_LINES,
+    GREATEST_WORKERS, Job, Options,
+};
+pub use laws::{
+    jobs_keep_limits, no_value_is_dashed, options_stand_anywhere, words_spell_their_pieces,
+};

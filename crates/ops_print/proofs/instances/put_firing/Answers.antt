@@ -1,0 +1,25 @@
+use Rattle.std.proofs.Common.{decimal}
+use Rattle.ops_io.proofs.PortLemmas.{puts_then, puts_refused}
+use Rattle.ops_meaning.specs.Layout.{fresh_line, inst_text}
+use Rattle.ops_print.proofs.Shown.{firing_pieces}
+use Rattle.ops_print.proofs.instances.put_firing.Goals as goal
+
+pub returns-in_err-fresh_line-clause-puts : goal.returns-in_err-fresh_line-clause-puts
+returns-in_err-fresh_line-clause-puts g c =
+    rw (firing_pieces (fresh_line c.args.out.now.column) (decimal c.args.firing) (inst_text c.args.names.now c.args.program.now.rules c.args.item.now))
+    (puts_refused _ _ _ _ _ _ c.from_residual.ensures.1 c.in_err-fresh_line.ensures.puts)
+
+pub returns-in_err-put_numbered-clause-puts : goal.returns-in_err-put_numbered-clause-puts
+returns-in_err-put_numbered-clause-puts g c =
+    rw (firing_pieces (fresh_line c.args.out.now.column) (decimal c.args.firing) (inst_text c.args.names.now c.args.program.now.rules c.args.item.now))
+    (puts_then _ _ _ _ _ _ c.in_ok-fresh_line.ensures.puts (puts_refused _ _ _ _ _ _ c.from_residual-in_err-put_numbered.ensures.1 c.in_err-put_numbered.ensures.puts))
+
+pub returns-in_err-put_inst-clause-puts : goal.returns-in_err-put_inst-clause-puts
+returns-in_err-put_inst-clause-puts g c =
+    rw (firing_pieces (fresh_line c.args.out.now.column) (decimal c.args.firing) (inst_text c.args.names.now c.args.program.now.rules c.args.item.now))
+    (puts_then _ _ _ _ _ _ c.in_ok-fresh_line.ensures.puts (puts_then _ _ _ _ _ _ c.in_ok-put_numbered.ensures.puts (puts_refused _ _ _ _ _ _ c.from_residual-in_err-put_inst.ensures.1 c.in_err-put_inst.ensures.puts)))
+
+pub returns-clause-puts : goal.returns-clause-puts
+returns-clause-puts g c =
+    rw (firing_pieces (fresh_line c.args.out.now.column) (decimal c.args.firing) (inst_text c.args.names.now c.args.program.now.rules c.args.item.now))
+    (puts_then _ _ _ _ _ _ c.in_ok-fresh_line.ensures.puts (puts_then _ _ _ _ _ _ c.in_ok-put_numbered.ensures.puts (puts_then _ _ _ _ _ _ c.in_ok-put_inst.ensures.puts c.put.ensures.puts)))

@@ -1,0 +1,41 @@
+-- The statuses that a text can be answered with: its session asks no device but the input, and wants no memory.
+use Rattle.std.proofs.Common.{◌≡◌, ℕ, List, true, Result, Ok, Err, Bool, MatchResult}
+use Rattle.ops_base.specs.declared.endings.Ending.{Ending}
+use Rattle.ops_base.specs.declared.endings.Ending.TheVariants as ending
+use Rattle.ops_io.specs.Coming.{Coming}
+use Rattle.ops_meaning.specs.declared.statuses.Status.{Status}
+use Rattle.ops_meaning.specs.declared.statuses.Status.TheVariants as status
+use Rattle.ops_meaning.specs.Reads.{Read, Placed, reads}
+use Rattle.ops_meaning.specs.Running.{Session, session_of, ending_of}
+use Rattle.ops_meaning.proofs.RisingTags.{KeptCourse, EndsSession, session_goes_on}
+use Rattle.ops_top.specs.Whole.{status_of, answer_read, answer_to, setting_of}
+
+-- a status that the text decides with its input: a read fault comes only where that fails
+abbrev pub IsOfText : Bool → Status → Type 0
+IsOfText fails status.Done = Unit {0}
+IsOfText fails (status.Refused f line column) = Unit {0}
+IsOfText fails status.Usage = ⊥
+IsOfText fails (status.ActFault f r n k) = Unit {0}
+IsOfText fails status.Limit = Unit {0}
+IsOfText fails status.ReadFault = fails ≡ true
+IsOfText fails status.WriteFault = ⊥
+IsOfText fails status.OutOfMemory = ⊥
+
+ended_of_text : (kept : Session → Type 0) (fails : Bool) (o : Result Session Ending) → MatchResult o kept (EndsSession fails) → IsOfText fails (status_of (ending_of o))
+ended_of_text kept fails (Ok k) p = tt
+ended_of_text kept fails (Err (ending.Done f n t)) p = tt
+ended_of_text kept fails (Err (ending.Act f r n k)) p = tt
+ended_of_text kept fails (Err (ending.Limit f)) p = tt
+ended_of_text kept fails (Err ending.ReadFault) p = p
+ended_of_text kept fails (Err ending.WriteFault) p = absurd p
+ended_of_text kept fails (Err ending.OutOfMemory) p = absurd p
+
+answer_read_of_text : (limit : ℕ) (coming : Coming) (text : List ℕ) (r : Result Read Placed) → IsOfText coming.fails (answer_read limit coming text r).status
+answer_read_of_text limit coming text (Err p) = tt
+answer_read_of_text limit coming text (Ok p) =
+    ended_of_text (λ (k : Session). KeptCourse p.names coming.fails k.course) coming.fails
+    (session_of (setting_of text p) limit p.commands p.names coming).outcome (session_goes_on (setting_of text p) limit p.commands p.names coming)
+
+-- the status of a text
+pub answer_to_of_text : (limit : ℕ) (coming : Coming) (text : List ℕ) → IsOfText coming.fails (answer_to limit coming text).status
+answer_to_of_text limit coming text = answer_read_of_text limit coming text (reads text)

@@ -1,0 +1,30 @@
+-- The job that what `clap` found asks for.
+use Rattle.std.proofs.Common.{◌≡◌, ◌∙◌, List, [], Option, Some, codes, refl, sym, ap, option_map}
+use Rattle.std.specs.Prelude.{unwrap_or}
+use Rattle.clap.specs.Matches.{first_value, found_of, matched_of, raw_values}
+use Rattle.clap.specs.declared.parser.matches.ArgMatches.{ArgMatches}
+use Rattle.ops_jobs.specs.declared.jobs.Options.{Options}
+use Rattle.ops_jobs.specs.declared.jobs.Job.TheVariants.{Run}
+use Rattle.ops_jobs.specs.CommandLine.{Word, files_of, job_of, options_from, options_of}
+use Rattle.ops_words.specs.Found.{Finds}
+
+-- the options that `clap` found
+abbrev pub options_found : ArgMatches → Option Options
+options_found m = options_from (first_value (found_of m) (codes "match")) (first_value (found_of m) (codes "workers"))
+    (first_value (found_of m) (codes "lines")) (first_value (found_of m) (codes "limit"))
+
+-- and the files
+abbrev pub files_found : ArgMatches → List Word
+files_found m = unwrap_or (option_map raw_values (matched_of (found_of m) (codes "file"))) []
+
+options-pieces : (words : List Word) (m : ArgMatches) (found : Finds words m) → options_found m ≡ options_of found.pieces
+options-pieces words m found =
+    rw (found.values (codes "match") refl, found.values (codes "workers") refl, found.values (codes "lines") refl, found.values (codes "limit") refl) refl
+
+-- they are the job that the words ask for
+pub job_found : (words : List Word) (m : ArgMatches) (options : Options) (files : List Word) → Finds words m → options_found m ≡ Some options → files ≡ files_found m
+    → job_of words ≡ Some (Run options files)
+job_found words m options files found from are =
+    let same : options_of found.pieces ≡ Some options = sym (options-pieces words m found) ∙ from in
+    let all : files_of found.pieces ≡ files = sym (are ∙ ap (λ o. unwrap_or o []) found.files) in
+    rw (found.are, found.complete, same, all) refl

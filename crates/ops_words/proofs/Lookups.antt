@@ -1,0 +1,70 @@
+-- The arguments of the command line once it is built, and which of them a name finds.
+use Rattle.std.proofs.Common.{◌≡◌, ◌&&◌, ◌||◌, ℕ, Bool, cond, true, false, List, [], ◌∷◌, Some, None, codes, refl}
+use Rattle.std.specs.Str.{bytes_eq}
+use Rattle.std.proofs.lemmas.Bool.{true≢false}
+use Rattle.clap.specs.Walk.{Rule, Text, arg_by_id, arg_by_index, arg_by_long, arg_by_short}
+use Rattle.clap.specs.Simple.{Shape, built, new_rule}
+use Rattle.clap.specs.declared.builder.action.ArgAction.TheVariants.{Append, Set}
+use Rattle.clap.specs.declared.builder.value_parser.ValueParser.TheVariants as parser
+use Rattle.ops_jobs.specs.CommandLine.{is_option}
+use Rattle.ops_jobs.proofs.EachOption.{each_option}
+use Rattle.ops_words.specs.Command.{app}
+
+-- an option and the files, as building leaves them
+abbrev pub built_option : Text → Rule
+built_option name = record (new_rule name) {
+  long = Some name;
+  action = Some Set;
+  parser = Some parser.String;
+  range = Some (record { start_inclusive = 1; end_inclusive = 1 });
+}
+
+abbrev pub built_files : Rule
+built_files = record (new_rule (codes "file")) {
+  action = Some Append;
+  index = Some 1;
+  parser = Some parser.String;
+  range = Some (record { start_inclusive = 1; end_inclusive = 1 });
+  required = true;
+}
+
+abbrev pub arguments : List Rule
+arguments = built_option (codes "match") ∷ built_option (codes "workers") ∷ built_option (codes "lines") ∷ built_option (codes "limit") ∷ built_files ∷ []
+
+abbrev pub top : Shape
+top = (built app).top
+
+pub top-rules : top.rules ≡ arguments
+top-rules = refl
+
+-- ---- by name
+
+pub long_option : (name : Text) → is_option name ≡ true → arg_by_long top.rules name ≡ Some (built_option name)
+long_option = each_option (λ name. arg_by_long top.rules name ≡ Some (built_option name)) refl refl refl refl
+
+pub id_option : (name : Text) → is_option name ≡ true → arg_by_id top.rules name ≡ Some (built_option name)
+id_option = each_option (λ name. arg_by_id top.rules name ≡ Some (built_option name)) refl refl refl refl
+
+pub not_files : (name : Text) → is_option name ≡ true → bytes_eq (codes "file") name ≡ false
+not_files = each_option (λ name. bytes_eq (codes "file") name ≡ false) refl refl refl refl
+
+pub no_option : (name : Text) → is_option name ≡ false → arg_by_long top.rules name ≡ None
+no_option name = go (bytes_eq (codes "match") name) (bytes_eq (codes "workers") name) (bytes_eq (codes "lines") name) (bytes_eq (codes "limit") name)
+  where
+    go : (s t u v : Bool) → (s || (t || (u || (v || false)))) ≡ false
+        → cond (true && (s || false)) (Some (built_option (codes "match"))) (cond (true && (t || false)) (Some (built_option (codes "workers")))
+        (cond (true && (u || false)) (Some (built_option (codes "lines"))) (cond (true && (v || false)) (Some (built_option (codes "limit"))) None))) ≡ None
+    go true t u v e = absurd (true≢false e)
+    go false true u v e = absurd (true≢false e)
+    go false false true v e = absurd (true≢false e)
+    go false false false true e = absurd (true≢false e)
+    go false false false false e = refl
+
+pub no_short : (c : ℕ) → arg_by_short top.rules c ≡ None
+no_short c = refl
+
+pub files_by_id : arg_by_id top.rules (codes "file") ≡ Some built_files
+files_by_id = refl
+
+pub files_by_index : arg_by_index top.rules 1 ≡ Some built_files
+files_by_index = refl

@@ -1,0 +1,13 @@
+//! The words of the command line, read with `clap`.
+#![tactic(auto)]
+
+mod command;
+mod faults;
+mod files;
+mod numbers;
+mod reading;
+#[cfg(test)]
+mod tests;
+
+pub use faults::WordsFault;
+pub use reading::read_words;

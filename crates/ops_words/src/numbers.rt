@@ -1,0 +1,84 @@
+//! The values of the options.
+ghost use Rattle.std.specs.Prelude.{◌≡◌, Some, None, option_map, codes, if◌then◌else◌};
+ghost use Rattle.std.specs.List.{list_all};
+ghost use Rattle.std.specs.Char.{is_ascii_digit};
+ghost use Rattle.std.specs.Str.Parse.{digits_value};
+ghost use Rattle.clap.specs.Words.{first_value, found_of};
+ghost use Rattle.ops_jobs.specs.CommandLine.{engine_from, is_number, number_from, options_from};
+
+use clap::ArgMatches;
+use ops_jobs::{
+    DEFAULT_LIMIT, DEFAULT_LINES, DEFAULT_WORKERS, Engine, GREATEST_LIMIT, GREATEST_LINES,
+    GREATEST_WORKERS, Options,
+};
+
+/// The most digits that a number may have.
+const MOST_DIGITS: usize = 10;
+
+fn are_digits(bytes: &[u8]) -> bool
+    ensures { result ≡ list_all is_ascii_digit bytes.now }
+{
+    bytes.iter().all(|byte| byte.is_ascii_digit())
+}
+
+/// The number from 1 to the greatest that the word spells, in one to ten digits.
+fn spelled_number(word: &str, greatest: u64) -> Option<u64>
+    ensures { result ≡ (if is_number greatest word.now then Some (digits_value 10 word.now) else None) }
+{
+    if word.len() > MOST_DIGITS || !are_digits(word.as_bytes()) {
+        return None;
+    }
+    match word.parse::<u64>() {
+        Ok(number) if 1 <= number && number <= greatest => Some(number),
+        Ok(_) => None,
+        Err(_) => None,
+    }
+}
+
+/// The number that an option was given, or the usual one.
+fn number_from(word: Option<&str>, usual: u64, greatest: u64) -> Option<u64>
+    ensures { result ≡ number_from usual greatest (option_map (λ w. w.now) word.entry) }
+{
+    match word {
+        None => Some(usual),
+        Some(word) => spelled_number(word, greatest),
+    }
+}
+
+fn engine_from(word: Option<&str>) -> Option<Engine>
+    ensures { result ≡ engine_from (option_map (λ w. w.now) word.entry) }
+{
+    match word {
+        None => Some(Engine::Direct),
+        Some(word) => if word == "direct" {
+            Some(Engine::Direct)
+        } else {
+            None
+        },
+    }
+}
+
+/// What the options say, where their values are fit.
+pub fn options_of(matches: &ArgMatches<'_>) -> Option<Options>
+    ensures { result ≡ options_from (first_value (found_of matches.now) (codes "match")) (first_value (found_of matches.now) (codes "workers"))
+        (first_value (found_of matches.now) (codes "lines")) (first_value (found_of matches.now) (codes "limit")) }
+{
+    let engine = engine_from(matches.get_str("match"))?;
+    let workers = number_from(
+        matches.get_str("workers"),
+        DEFAULT_WORKERS as u64,
+        GREATEST_WORKERS as u64,
+    )?;
+    let lines = number_from(
+        matches.get_str("lines"),
+        DEFAULT_LINES as u64,
+        GREATEST_LINES as u64,
+    )?;
+    let limit = number_from(matches.get_str("limit"), DEFAULT_LIMIT, GREATEST_LIMIT)?;
+    Some(Options {
+        engine,
+        workers: workers as usize,
+        lines: lines as usize,
+        limit,
+    })
+}

@@ -1,0 +1,115 @@
+//! Words with what they ask for, and words that do not fit.
+use crate::{WordsFault, read_words};
+use ops_jobs::{Engine, Job, Options};
+use std::alloc::{AllocError, Global};
+use std::test::Fail;
+
+fn words_of(alloc: Global, words: &[&str]) -> Result<Vec<String>, AllocError> {
+    let mut owned = Vec::new(alloc);
+    for word in words {
+        owned.push(String::from_str(alloc, word)?)?;
+    }
+    Ok(owned)
+}
+
+fn read(alloc: Global, words: &[&str]) -> Result<Job, WordsFault> {
+    let words = words_of(alloc, words)?;
+    read_words(alloc, &words)
+}
+
+const USUAL: Options = Options {
+    engine: Engine::Direct,
+    workers: 4,
+    lines: 1_024,
+    limit: 1_000_000,
+};
+
+/// Words that fit, with the workers, the lines and the limit that they set, and with their files.
+const FIT: [(&[&str], usize, usize, u64, &[&str]); 9] = [
+    (&["f"], 4, 1_024, 1_000_000, &["f"]),
+    (&["--limit=3", "a", "b"], 4, 1_024, 3, &["a", "b"]),
+    (&["a", "--workers", "7"], 7, 1_024, 1_000_000, &["a"]),
+    (&["--", "--limit"], 4, 1_024, 1_000_000, &["--limit"]),
+    (
+        &["a", "--", "-b", "--"],
+        4,
+        1_024,
+        1_000_000,
+        &["a", "-b", "--"],
+    ),
+    (
+        &["-", "--match=direct", ""],
+        4,
+        1_024,
+        1_000_000,
+        &["-", ""],
+    ),
+    (
+        &["--lines", "1", "a", "--limit=1000000000"],
+        4,
+        1,
+        1_000_000_000,
+        &["a"],
+    ),
+    (
+        &["a", "--workers=64", "b", "--lines=65536", "c"],
+        64,
+        65_536,
+        1_000_000,
+        &["a", "b", "c"],
+    ),
+    (&["--limit", "0000000009", "é"], 4, 1_024, 9, &["é"]),
+];
+
+/// Words that do not fit.
+const UNFIT: [&[&str]; 22] = [
+    &[],
+    &["--"],
+    &["--limit=3"],
+    &["--match=free", "f"],
+    &["--match", "--workers", "7", "f"],
+    &["--limit", "0", "f"],
+    &["--limit=1000000001", "f"],
+    &["--workers=65", "f"],
+    &["--lines=65537", "f"],
+    &["--limit", "00000000001", "f"],
+    &["--limit=+3", "f"],
+    &["--limit=-3", "f"],
+    &["--limit", "-", "f"],
+    &["--limit=", "f"],
+    &["f", "--limit"],
+    &["--limit", "--", "3", "f"],
+    &["--limit", "3", "--limit", "3", "f"],
+    &["--lim=3", "f"],
+    &["-x", "f"],
+    &["-é", "f"],
+    &["--help"],
+    &["--gen", "1", "2"],
+];
+
+#[test]
+fn words_that_fit(rt: HostRuntime) -> Result<(), Fail> {
+    for (words, workers, lines, limit, names) in FIT {
+        let Job::Run { options, files } = read(rt.alloc(), words)?;
+        let wanted = Options {
+            workers,
+            lines,
+            limit,
+            ..USUAL
+        };
+        assert_eq!(rt; options, wanted);
+        assert_eq!(rt; files.len(), names.len());
+        for (file, name) in files.as_slice().iter().zip(names) {
+            assert_eq!(rt; file.as_str(), *name);
+        }
+    }
+    Ok(())
+}
+
+#[test]
+fn words_that_do_not_fit(rt: HostRuntime) {
+    for words in UNFIT {
+        let fault = read(rt.alloc(), words).err();
+        assert_eq!(rt; fault, Some(WordsFault::Usage));
+    }
+}

@@ -1,0 +1,17 @@
+pub mod Comings
+pub mod Seen
+pub mod Turns
+pub mod Lines
+pub mod Told
+pub mod Removals
+pub mod Productions
+pub mod Values
+pub mod Listed
+pub mod Standing
+pub mod Pending
+pub mod UnderWay
+pub mod Phases
+pub mod Deeds
+pub mod Runs
+pub mod Sequence
+pub mod SessionEnds

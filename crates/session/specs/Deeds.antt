@@ -1,0 +1,18 @@
+-- What a command leaves that reads no input.
+use Rattle.std.specs.Prelude.{◌≡◌, List, false, Result, IfOk}
+use Rattle.ops_base.specs.declared.endings.Ending.{Ending}
+use Rattle.ops_base.specs.declared.rules.Rule.{Rule}
+use Rattle.ops_base.specs.Names.{Spellings}
+use Rattle.ops_io.specs.Coming.{Coming}
+use Rattle.ops_io.specs.Ports.{Port}
+use Rattle.ops_meaning.specs.Effects.{Effect, Performs, of_ending}
+use Rattle.ops_meaning.specs.Running.{Session as Meant}
+use Rattle.work_store.specs.Stored.{Stored}
+use Rattle.session.specs.Courses.{IsUnderWay, meant_by, ends_unread}
+use Rattle.session.specs.declared.under_way.Session.{Session}
+
+-- Whatever input is to come, it performs this on what the session has come to. No read fails in it, and the session is under way still.
+pub record Does {M H : Type 0} (stored : M → Stored) (stands_for : M → List Rule → Type 0) (rules : List Rule) (names : Spellings) (before : Session M H) (r : Result (Session M H) Ending) (old new : Port) (e : Meant → Effect Ending Meant) : Type 0 where
+  pub performs : (c : Coming) → Performs (λ s. meant_by stored s names c) of_ending r old new (e (meant_by stored before names c))
+  pub reads : ends_unread r ≡ false
+  pub under_way : IfOk r (IsUnderWay stored stands_for rules)

@@ -1,0 +1,5 @@
+pub mod Courses
+pub mod Deeds
+pub mod Endings
+pub mod Pauses
+pub mod Telling

@@ -1,0 +1,234 @@
+//! The commands of a program, in the order of the text.
+ghost use Rattle.std.specs.Prelude.{◌≡◌, ◌^◌, ◌<◌, ◌-◌, [], None, IsTrue, IfOk};
+ghost use Rattle.ops_io.specs.Coming.{inlet};
+ghost use Rattle.ops_io.specs.Ports.{port};
+ghost use Rattle.ops_meaning.specs.Effects.{PerformsOn, CountsReads, of_ending};
+ghost use Rattle.ops_meaning.specs.Kept.{KeepsNames, WellKept};
+ghost use Rattle.ops_meaning.specs.Running.{command_done, commands_done, is_exit, run_given, session_of};
+ghost use Rattle.ops_base.specs.ConflictSet.{conflict_set};
+ghost use Rattle.act_phase.specs.Outcomes.{setting_of};
+ghost use Rattle.session.specs.Courses.{IsUnderWay, meant_by, ends_unread};
+
+use crate::changing::{make_at_top, remove, remove_all};
+use crate::listing::{list_elements, list_met, list_standing};
+use crate::naming::{give_breaks, list_productions};
+use crate::running::run;
+use crate::setting::{give_level, give_strategy};
+use crate::under_way::{Session, settle, started};
+use ops_base::commands::Command;
+use ops_base::endings::Ending;
+use ops_base::programs::Program;
+use ops_base::symbols::Names;
+use ops_io::{Input, Out, Sink, Source};
+use std::alloc::Global;
+use work_store::Matcher;
+
+/// A run, for which nothing waits any longer.
+fn run_from<M: Matcher + Drop, I: Source, K: Sink>(
+    alloc: Global,
+    hand: &mut M::Hand,
+    program: &Program,
+    names: &mut Names,
+    session: Session<M>,
+    limit: u64,
+    count: Option<u64>,
+    input: &mut Input,
+    source: &mut I,
+    out: &mut Out,
+    sink: &mut K,
+) -> Result<Session<M>, Ending>
+    requires under_way { IsUnderWay M.stored M.stands_for program.now.rules session }
+    requires whole { IsTrue out.old.whole }
+    requires faults { K.faults sink.old < 2 ^ 63 }
+    requires reads { I.faults source.old < 2 ^ 63 }
+    ensures performs { PerformsOn (λ s c. meant_by M.stored s names.new c) of_ending result
+        (inlet input.old (I.left source.old) (I.faults source.old))
+        (inlet input.new (I.left source.new) (I.faults source.new))
+        (port (K.taken sink.old) (K.faults sink.old) out.old)
+        (port (K.taken sink.new) (K.faults sink.new) out.new)
+        (λ c. run_given (conflict_set program.now.rules) (setting_of program.now 0) limit out.old.column count
+        (meant_by M.stored session names.old c)) }
+    ensures reads { CountsReads (ends_unread result) (I.faults source.old) (I.faults source.new) }
+    ensures names { KeepsNames names.old names.new }
+    ensures under_way { IfOk result (IsUnderWay M.stored M.stands_for program.now.rules) }
+{
+    let session = settle(alloc, hand, program, session)?;
+    let Session {
+        state,
+        pending,
+        watch,
+        breaks,
+        ..
+    } = session;
+    let state = run(
+        alloc,
+        hand,
+        program,
+        names,
+        state,
+        watch,
+        breaks.as_slice(),
+        limit,
+        count,
+        input,
+        source,
+        out,
+        sink,
+    )?;
+    let last_tag = state.last_tag();
+    Ok(Session {
+        state,
+        pending,
+        last_tag,
+        ran: true,
+        watch,
+        breaks,
+    })
+}
+
+/// Does one command.
+fn do_command<M: Matcher + Drop, I: Source, K: Sink>(
+    alloc: Global,
+    hand: &mut M::Hand,
+    program: &Program,
+    names: &mut Names,
+    session: Session<M>,
+    limit: u64,
+    command: &Command,
+    input: &mut Input,
+    source: &mut I,
+    out: &mut Out,
+    sink: &mut K,
+) -> Result<Session<M>, Ending>
+    requires under_way { IsUnderWay M.stored M.stands_for program.now.rules session }
+    requires whole { IsTrue out.old.whole }
+    requires faults { K.faults sink.old < 2 ^ 63 }
+    requires reads { I.faults source.old < 2 ^ 63 }
+    ensures performs { PerformsOn (λ s c. meant_by M.stored s names.new c) of_ending result
+        (inlet input.old (I.left source.old) (I.faults source.old))
+        (inlet input.new (I.left source.new) (I.faults source.new))
+        (port (K.taken sink.old) (K.faults sink.old) out.old)
+        (port (K.taken sink.new) (K.faults sink.new) out.new)
+        (λ c. command_done (setting_of program.now 0) limit out.old.column command.now
+        (meant_by M.stored session names.old c)) }
+    ensures reads { CountsReads (ends_unread result) (I.faults source.old) (I.faults source.new) }
+    ensures names { KeepsNames names.old names.new }
+    ensures under_way { IfOk result (IsUnderWay M.stored M.stands_for program.now.rules) }
+{
+    match command {
+        Command::Make { class, puts } => make_at_top(
+            alloc, hand, program, names, session, *class, puts, out, sink,
+        ),
+        Command::Remove { tags } => {
+            remove(alloc, hand, program, names, session, tags, out, sink)
+        }
+        Command::RemoveAll => remove_all(alloc, hand, program, names, session, out, sink),
+        Command::Run { count } => run_from(
+            alloc, hand, program, names, session, limit, *count, input, source, out, sink,
+        ),
+        Command::Wm { tags } => {
+            list_elements(alloc, hand, program, names, session, tags, out, sink)
+        }
+        Command::Ppwm { pattern } => {
+            list_met(alloc, hand, program, names, session, pattern, out, sink)
+        }
+        Command::Cs => list_standing(alloc, hand, program, names, session, out, sink),
+        Command::Pm { names: given } => {
+            list_productions(program, names, session, given, out, sink)
+        }
+        Command::Strategy { set } => give_strategy(session, *set, out, sink),
+        Command::Watch { set } => give_level(session, *set, out, sink),
+        Command::Pbreak { names: given } => {
+            give_breaks(program, names, session, given, out, sink)
+        }
+        Command::Exit => Ok(session),
+    }
+}
+
+/// Nothing behind it is done.
+fn is_exit(command: &Command) -> bool
+    ensures { result ≡ is_exit command.now }
+{
+    match command {
+        Command::Exit => true,
+        _ => false,
+    }
+}
+
+/// Does the commands of a program in order, up to the first `exit`.
+fn do_each<M: Matcher + Drop, I: Source, K: Sink>(
+    alloc: Global,
+    hand: &mut M::Hand,
+    program: &Program,
+    names: &mut Names,
+    session: Session<M>,
+    limit: u64,
+    input: &mut Input,
+    source: &mut I,
+    out: &mut Out,
+    sink: &mut K,
+) -> Result<Session<M>, Ending>
+    requires under_way { IsUnderWay M.stored M.stands_for program.now.rules session }
+    requires whole { IsTrue out.old.whole }
+    requires faults { K.faults sink.old < 2 ^ 63 }
+    requires reads { I.faults source.old < 2 ^ 63 }
+    ensures performs { PerformsOn (λ s c. meant_by M.stored s names.new c) of_ending result
+        (inlet input.old (I.left source.old) (I.faults source.old))
+        (inlet input.new (I.left source.new) (I.faults source.new))
+        (port (K.taken sink.old) (K.faults sink.old) out.old)
+        (port (K.taken sink.new) (K.faults sink.new) out.new)
+        (λ c. commands_done (setting_of program.now 0) limit out.old.column program.now.commands
+        (meant_by M.stored session names.old c)) }
+    ensures reads { CountsReads (ends_unread result) (I.faults source.old) (I.faults source.new) }
+    ensures names { KeepsNames names.old names.new }
+    ensures under_way { IfOk result (IsUnderWay M.stored M.stands_for program.now.rules) }
+{
+    let mut session = session;
+    for command in program.commands.as_slice() {
+        if is_exit(command) {
+            return Ok(session);
+        }
+        session = do_command(
+            alloc, hand, program, names, session, limit, command, input, source, out, sink,
+        )?;
+    }
+    Ok(session)
+}
+
+/// Does the commands of a program from nothing. Working memory is left in the order of its tags, and nothing waits.
+pub(crate) fn do_commands<M: Matcher + Drop, I: Source, K: Sink>(
+    alloc: Global,
+    hand: &mut M::Hand,
+    program: &Program,
+    names: &mut Names,
+    matcher: M,
+    limit: u64,
+    input: &mut Input,
+    source: &mut I,
+    out: &mut Out,
+    sink: &mut K,
+) -> Result<Session<M>, Ending>
+    requires stands { M.stands_for matcher program.now.rules }
+    requires elements { (M.stored matcher).elements ≡ [] }
+    requires last { (M.stored matcher).last ≡ 0 }
+    requires whole { IsTrue out.old.whole }
+    requires faults { K.faults sink.old < 2 ^ 63 }
+    requires reads { I.faults source.old < 2 ^ 63 }
+    requires column { out.old.column ≡ 0 }
+    ensures performs { PerformsOn (λ s c. meant_by M.stored s names.new c) of_ending result
+        (inlet input.old (I.left source.old) (I.faults source.old))
+        (inlet input.new (I.left source.new) (I.faults source.new))
+        (port (K.taken sink.old) (K.faults sink.old) out.old)
+        (port (K.taken sink.new) (K.faults sink.new) out.new)
+        (λ c. session_of (setting_of program.now 0) limit program.now.commands names.old c) }
+    ensures reads { CountsReads (ends_unread result) (I.faults source.old) (I.faults source.new) }
+    ensures names { KeepsNames names.old names.new }
+    ensures none_waits { IfOk result (λ s. s.pending ≡ []) }
+    ensures kept { IfOk result (λ s. WellKept (M.stored s.state.matcher).elements (M.stored s.state.matcher).last) }
+{
+    let session = started(alloc, program, matcher)?;
+    let session = do_each(
+        alloc, hand, program, names, session, limit, input, source, out, sink,
+    )?;
+    Ok(settle(alloc, hand, program, session)?)
+}

@@ -1,0 +1,137 @@
+//! The element that a command makes.
+ghost use Rattle.std.specs.Prelude.{◌≡◌, IfOk, OnOk, slice_set};
+ghost use Rattle.ops_base.specs.Valid.{class_of, is_vector, no_class};
+ghost use Rattle.ops_meaning.specs.Acting.{first_of, no_fields, scalar_count};
+ghost use Rattle.ops_meaning.specs.Running.{fixed_fields, with_values};
+
+use ops_base::commands::Fixed;
+use ops_base::elements::{Class, Element};
+use ops_base::list::Listed;
+use ops_base::memory::OutOfMemory;
+use ops_base::programs::Program;
+use ops_base::values::{NIL, Sym, Value};
+use std::alloc::Global;
+
+const NOTHING: Value = Value::Symbol(NIL);
+
+/// A class without attributes, which takes no memory.
+fn no_class(alloc: Global) -> Class
+    ensures { result ≡ no_class }
+{
+    Class {
+        name: Sym(0),
+        attrs: Listed::new(alloc),
+        vector: false,
+    }
+}
+
+/// The class with this number, or `none`.
+fn class_of<'c>(classes: &'c [Class], class: usize, none: &'c Class) -> &'c Class
+    requires { none.now ≡ no_class }
+    ensures { result.now ≡ class_of classes.now class }
+{
+    match classes.get(class) {
+        Some(found) => found,
+        None => none,
+    }
+}
+
+/// Whether this is the first place of the vector attribute.
+fn is_vector(class: &Class, field: usize) -> bool
+    ensures { result ≡ is_vector class.now field }
+{
+    let count = class.attrs.len();
+    class.vector && count > 0 && field == count - 1
+}
+
+/// How many fields of a new element stand before those of its vector attribute.
+fn scalar_count(class: &Class) -> usize
+    ensures { result ≡ scalar_count class.now }
+{
+    let count = class.attrs.len();
+    if class.vector {
+        count.saturating_sub(1)
+    } else {
+        count
+    }
+}
+
+/// The fields of an element for which no value was given.
+fn no_fields(alloc: Global, class: &Class) -> Result<Vec<Value>, OutOfMemory>
+    ensures { IfOk result (λ v. v.items ≡ no_fields class.now) }
+{
+    let fields = vec![in alloc; NOTHING; scalar_count(class)]?;
+    Ok(fields)
+}
+
+/// Gives a scalar attribute, where there is one.
+fn set_field(fields: &mut Vec<Value>, field: usize, value: Value)
+    ensures { fields.new.items ≡ slice_set fields.old.items field value }
+{
+    if field < fields.len() {
+        fields[field] = value;
+    }
+}
+
+fn first_of(values: &[Value]) -> Value
+    ensures { result ≡ first_of values.now }
+{
+    match values.first() {
+        Some(value) => *value,
+        None => NOTHING,
+    }
+}
+
+/// Gives one attribute: a scalar one the first of the values, and the vector attribute all, in the place of those that it
+/// had. Takes time for these values alone.
+fn give_values(
+    class: &Class,
+    fields: &mut Vec<Value>,
+    field: usize,
+    values: &[Value],
+) -> Result<(), OutOfMemory>
+    ensures { OnOk result (fields.new.items ≡ with_values class.now fields.old.items field values.now) }
+{
+    if is_vector(class, field) {
+        fields.truncate(field);
+        fields.extend_from_slice(values)?;
+        return Ok(());
+    }
+    set_field(fields, field, first_of(values));
+    Ok(())
+}
+
+/// The fields of an element of this class that a command makes.
+fn fixed_fields(alloc: Global, class: &Class, puts: &[Fixed]) -> Result<Vec<Value>, OutOfMemory>
+    ensures { IfOk result (λ v. v.items ≡ fixed_fields class.now puts.now) }
+{
+    let mut fields = no_fields(alloc, class)?;
+    for put in puts {
+        give_values(class, &mut fields, put.field, put.values.as_slice())?;
+    }
+    Ok(fields)
+}
+
+/// The element that a command makes, with this tag.
+pub fn fixed_element(
+    alloc: Global,
+    program: &Program,
+    tag: u64,
+    class: usize,
+    puts: &[Fixed],
+) -> Result<Element, OutOfMemory>
+    ensures { IfOk result (λ e. e ≡ record {
+      tag = tag;
+      class = class;
+      fields = fixed_fields (class_of program.now.classes class) puts.now;
+    }) }
+{
+    let none = no_class(alloc);
+    let shape = class_of(program.classes.as_slice(), class, &none);
+    let fields = fixed_fields(alloc, shape, puts)?;
+    Ok(Element {
+        tag,
+        class,
+        fields: Listed::from_vec(fields),
+    })
+}

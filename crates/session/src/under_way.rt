@@ -1,0 +1,97 @@
+//! A session under way, and the phases that wait in it.
+ghost use Rattle.std.specs.Prelude.{◌≡◌, [], length, replicate, false, IfOk};
+ghost use Rattle.ops_base.specs.Names.{Spellings};
+ghost use Rattle.ops_io.specs.Coming.{Coming};
+ghost use Rattle.ops_meaning.specs.Running.{begun};
+ghost use Rattle.session.specs.Courses.{IsUnderWay, meant_by};
+
+use cycle::State;
+use ops_base::elements::Change;
+use ops_base::list::Listed;
+use ops_base::memory::OutOfMemory;
+use ops_base::programs::Program;
+use std::alloc::Global;
+use work_store::Matcher;
+
+/// A session under way. Before the first run nothing is marked as fired, so that no mark can be lost: top-level makes wait
+/// there, and their phases are made in one, for which the conflict set is found once.
+#[derive(Drop)]
+pub(crate) struct Session<M: Matcher> {
+    pub(crate) state: State<M>,
+    /// Top-level makes of which no phase was made yet. There are none behind a run.
+    pub(crate) pending: Listed<Change>,
+    /// The last tag that was given.
+    pub(crate) last_tag: u64,
+    /// Whether a run was begun.
+    pub(crate) ran: bool,
+    /// The trace level.
+    pub(crate) watch: u8,
+    /// Whether each production has a break.
+    pub(crate) breaks: Listed<bool>,
+}
+
+/// No production has a break.
+fn no_breaks(alloc: Global, program: &Program) -> Result<Listed<bool>, OutOfMemory>
+    ensures { IfOk result (λ breaks. breaks ≡ replicate (length program.now.rules) false) }
+{
+    let breaks = vec![in alloc; false; program.rules.len()]?;
+    Ok(Listed::from_vec(breaks))
+}
+
+/// A session in which nothing was done yet.
+pub(crate) fn started<M: Matcher + Drop>(
+    alloc: Global,
+    program: &Program,
+    matcher: M,
+) -> Result<Session<M>, OutOfMemory>
+    requires stands { M.stands_for matcher program.now.rules }
+    requires elements { (M.stored matcher).elements ≡ [] }
+    requires last { (M.stored matcher).last ≡ 0 }
+    ensures begun { IfOk result (λ s. (n : Spellings) (c : Coming) → meant_by M.stored s n c ≡ begun program.now.rules n c) }
+    ensures under_way { IfOk result (IsUnderWay M.stored M.stands_for program.now.rules) }
+{
+    let breaks = no_breaks(alloc, program)?;
+    Ok(Session {
+        state: State::start(alloc, matcher),
+        pending: Listed::new(alloc),
+        last_tag: 0,
+        ran: false,
+        watch: 0,
+        breaks,
+    })
+}
+
+/// Makes the phases that wait, as one.
+pub(crate) fn settle<M: Matcher + Drop>(
+    alloc: Global,
+    hand: &mut M::Hand,
+    program: &Program,
+    session: Session<M>,
+) -> Result<Session<M>, OutOfMemory>
+    requires { IsUnderWay M.stored M.stands_for program.now.rules session }
+    ensures meant { IfOk result (λ s.
+        (n : Spellings) (c : Coming) → meant_by M.stored s n c ≡ meant_by M.stored session n c) }
+    ensures under_way { IfOk result (IsUnderWay M.stored M.stands_for program.now.rules) }
+    ensures none_waits { IfOk result (λ s. s.pending ≡ []) }
+{
+    if session.pending.is_empty() {
+        return Ok(session);
+    }
+    let Session {
+        state,
+        pending,
+        last_tag,
+        ran,
+        watch,
+        breaks,
+    } = session;
+    let state = state.change(alloc, hand, program, pending.as_slice())?;
+    Ok(Session {
+        state,
+        pending: Listed::new(alloc),
+        last_tag,
+        ran,
+        watch,
+        breaks,
+    })
+}
