@@ -1,5 +1,0 @@
-pub mod Normal
-pub mod Tokens
-pub mod Sound
-pub mod Shape
-pub mod Network
