@@ -1,5 +1,5 @@
 -- How what calls leave adds up to what a right side does.
-use Rattle.std.proofs.Common.{◌≡◌, ℕ, [], Bool, false, Result, Ok, Err, refl, sym, ap, ◌∙◌, subst, IsTrue}
+use Rattle.std.proofs.Common.{◌≡◌, ℕ, [], Bool, true, false, Result, Ok, Err, refl, sym, ap, ◌∙◌, subst, IsTrue}
 use Rattle.std.specs.Prelude.{IsErrAnd, OnOk}
 use Rattle.ops_io.specs.Coming.{Coming}
 use Rattle.ops_io.specs.Ports.{Port, Stopped, Flushed}
@@ -179,3 +179,10 @@ does_given left (Err mishap.OutOfMemory) what a w g =
 pub gives_short : {X S : Type 0} (view : X → S) (r : Result X Mishap) (what : Result S Missed) → IsErrAnd r (λ f. f ≡ mishap.OutOfMemory) → Gives view r what
 gives_short view (Ok x) what h = absurd h
 gives_short view (Err f) what h = let P : Mishap → Type 0 = λ f. Gives view (Err f) what in subst P (sym h) tt
+
+-- ---- failed reads
+
+-- What is so where a read has failed is so where that failure is handed on.
+pub handed_on : {X F : Type 0} {P : Type 0} (unread : F → Bool) (r : Result X F) (f : F) → IsErrAnd r (λ g. g ≡ f) → (unread f ≡ true → P) → fails_by unread r ≡ true → P
+handed_on unread (Ok x) f h p is = absurd h
+handed_on unread (Err g) f h p is = p (sym (ap unread h) ∙ is)

@@ -1,7 +1,6 @@
 -- More changes of a right side come of those that it has made.
-use Rattle.std.proofs.Common.{◌≡◌, ℕ, List, [], ◌∷◌, ◌++◌, Bool, true, false, cond, refl, sym, ap, ◌∙◌, subst, append_assoc}
+use Rattle.std.proofs.Common.{◌≡◌, ℕ, [], ◌∷◌, ◌++◌, Bool, true, false, cond, refl, sym, ap, ◌∙◌, subst, append_assoc}
 use Rattle.std.proofs.lemmas.List.{append-nil}
-use Rattle.ops_base.specs.declared.elements.Change.{Change}
 use Rattle.ops_base.specs.declared.elements.Change.TheVariants as change
 use Rattle.ops_base.specs.declared.elements.Element.{Element}
 use Rattle.ops_meaning.specs.Acting.{has_tag}

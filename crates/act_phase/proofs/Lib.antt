@@ -6,7 +6,6 @@ pub mod Evaluating
 pub mod Following
 pub mod Found
 pub mod Items
-pub mod Onward
 pub mod Placing
 pub mod States
 pub mod Steps

@@ -144,8 +144,8 @@ module _ (s : Setting) (inst : Inst) (wm : List Element) (last : ℕ) (a : Scene
     pub whole_err : {X Y : Type 0} {view : X → Coming → Meant} {f : ActFault} {b : Scene} (seen : Y → Coming → Done) (r : Result Y ActFault) → IsErrAnd r (λ g. g ≡ f) → Does view failure_of is_read (Err f) a b done → IsTrue a.port.out.whole → Does seen failure_of is_read r a b right_side
     whole_err seen r h p w = still_fails seen r (λ _ d. writes [] (left_by d)) h (still_all a right_side w) p whole_here
 
-  -- what was done is lawful, since something may always come
-  pub whole_lawful : {b : Scene} (r : Acted) → Does (λ r d. acted_of r b.names d) failure_of is_read (Ok r) a b right_side → WellKept wm last → Lawful wm last r.changes
+  -- what was done is lawful, and no tag has fallen, since something may always come
+  pub whole_lawful : {b : Scene} (r : Acted) → Does (λ r d. acted_of r b.names d) failure_of is_read (Ok r) a b right_side → WellKept wm last → Lawful wm last r.changes × (last ≤ r.next_tag - 1)
   whole_lawful {b = b} r p well =
       let end = may_end b.inlet in
       let all = preceded_by p.performs.taken end.0 in
@@ -153,4 +153,4 @@ module _ (s : Setting) (inst : Inst) (wm : List Element) (last : ℕ) (a : Scene
       let P : Result Done Misdeed → Type 0 = λ o. IfOk o (IsLawfulOver wm last) in
       let answer = (p.performs.performs end.0 (steady_comes a.inlet b.inlet end.0 p.reads end.1)).0 in
       let lawful = subst P answer (acts_lawfully s a.port.out.column inst given well) in
-      lawful.changes
+      (lawful.changes, lawful.risen)

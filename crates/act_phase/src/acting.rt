@@ -1,5 +1,5 @@
 //! The actions of a right side, in order.
-ghost use Rattle.std.specs.Prelude.{◌≡◌, ◌^◌, ◌<◌, ◌-◌, ◌≤◌, ℕ, List, IsTrue, IfOk, OnOk, fold, slice_get, Some};
+ghost use Rattle.std.specs.Prelude.{◌≡◌, ◌^◌, ◌<◌, ◌-◌, ◌≤◌, [], true, IsTrue, IfOk, OnOk, fold};
 ghost use Rattle.ops_base.specs.Names.{Spellings};
 ghost use Rattle.ops_base.specs.Valid.{class_of};
 ghost use Rattle.ops_base.specs.WorkingMemory.{Lawful};
@@ -7,9 +7,10 @@ ghost use Rattle.ops_io.specs.Coming.{Coming, inlet};
 ghost use Rattle.ops_io.specs.Ports.{port};
 ghost use Rattle.ops_meaning.specs.Acting.{cell_of, removed, added, modified, bound, first_of, evaluated, made_fields, modified_fields, action_done, actions_done, in_action, acted, actions_of, conditions_of};
 ghost use Rattle.ops_meaning.specs.Effects.{PerformsOn, CountsReads, told_as, silent, followed_by};
+ghost use Rattle.ops_meaning.specs.Kept.{KeepsNames};
 ghost use Rattle.act_phase.specs.Changed.{GoesOnTo};
 ghost use Rattle.act_phase.specs.Deeds.{Acts, Does, scene};
-ghost use Rattle.act_phase.specs.Outcomes.{setting_of, acted_of, failure_of, is_read, is_unread};
+ghost use Rattle.act_phase.specs.Outcomes.{setting_of, acted_of, failure_of, fails_by, is_read, is_read_mishap, is_unread};
 ghost use Rattle.act_phase.specs.State.{doing_of};
 
 use crate::doing::Doing;
@@ -50,6 +51,7 @@ fn make<I: Source, K: Sink>(
         (scene names.new input.new (I.left source.new) (I.faults source.new) (K.taken sink.new) (K.faults sink.new) out.new)
         (λ c. silent (followed_by (made_fields classes.now (class_of classes.now class) puts.now (doing_of doing.old names.old c))
         (λ f. Ok (added f.doing class f.fields)))) }
+    ensures written { fails_by is_read_mishap result ≡ true → out.new.held ≡ [] }
     ensures goes_on { OnOk result (GoesOnTo doing.old.working doing.new.working) }
 {
     let fields = made_fields(
@@ -79,6 +81,7 @@ fn modify<I: Source, K: Sink>(
         (scene names.new input.new (I.left source.new) (I.faults source.new) (K.taken sink.new) (K.faults sink.new) out.new)
         (λ c. silent (followed_by (modified_fields classes.now puts.now cell (doing_of doing.old names.old c))
         (λ f. Ok (modified f.doing cell f.fields)))) }
+    ensures written { fails_by is_read_mishap result ≡ true → out.new.held ≡ [] }
     ensures goes_on { OnOk result (GoesOnTo doing.old.working doing.new.working) }
 {
     let fields = modified_fields(
@@ -103,11 +106,12 @@ fn bind<I: Source, K: Sink>(
     requires whole { IsTrue out.old.whole }
     requires writes { K.faults sink.old < 2 ^ 63 }
     requires reads { I.faults source.old < 2 ^ 63 }
-    ensures { Acts (λ _ c. doing_of doing.new names.new c) result
+    ensures does { Acts (λ _ c. doing_of doing.new names.new c) result
         (scene names.old input.old (I.left source.old) (I.faults source.old) (K.taken sink.old) (K.faults sink.old) out.old)
         (scene names.new input.new (I.left source.new) (I.faults source.new) (K.taken sink.new) (K.faults sink.new) out.new)
         (λ c. silent (followed_by (evaluated classes.now term.now (doing_of doing.old names.old c))
         (λ v. Ok (bound v.doing variable (first_of v.values))))) }
+    ensures written { fails_by is_read_mishap result ≡ true → out.new.held ≡ [] }
 {
     let values = evaluate(alloc, classes, names, doing, term, input, source, out, sink)?;
     let value = values.first();
@@ -143,10 +147,11 @@ fn make_and_tell<I: Source, K: Sink>(
     requires whole { IsTrue out.old.whole }
     requires writes { K.faults sink.old < 2 ^ 63 }
     requires reads { I.faults source.old < 2 ^ 63 }
-    ensures { Acts (λ _ c. doing_of doing.new names.new c) result
+    ensures does { Acts (λ _ c. doing_of doing.new names.new c) result
         (scene names.old input.old (I.left source.old) (I.faults source.old) (K.taken sink.old) (K.faults sink.old) out.old)
         (scene names.new input.new (I.left source.new) (I.faults source.new) (K.taken sink.new) (K.faults sink.new) out.new)
         (λ c. action_done (setting_of program.now watch) out.old.column (Action.Make class puts.now) (doing_of doing.old names.old c)) }
+    ensures written { fails_by is_read_mishap result ≡ true → out.new.held ≡ [] }
 {
     let since = doing.working.changes().len();
     let classes = program.classes.as_slice();
@@ -173,10 +178,11 @@ fn modify_and_tell<I: Source, K: Sink>(
     requires whole { IsTrue out.old.whole }
     requires writes { K.faults sink.old < 2 ^ 63 }
     requires reads { I.faults source.old < 2 ^ 63 }
-    ensures { Acts (λ _ c. doing_of doing.new names.new c) result
+    ensures does { Acts (λ _ c. doing_of doing.new names.new c) result
         (scene names.old input.old (I.left source.old) (I.faults source.old) (K.taken sink.old) (K.faults sink.old) out.old)
         (scene names.new input.new (I.left source.new) (I.faults source.new) (K.taken sink.new) (K.faults sink.new) out.new)
         (λ c. action_done (setting_of program.now watch) out.old.column (Action.Modify cell puts.now) (doing_of doing.old names.old c)) }
+    ensures written { fails_by is_read_mishap result ≡ true → out.new.held ≡ [] }
 {
     let since = doing.working.changes().len();
     let classes = program.classes.as_slice();
@@ -202,10 +208,11 @@ fn act_one<I: Source, K: Sink>(
     requires whole { IsTrue out.old.whole }
     requires writes { K.faults sink.old < 2 ^ 63 }
     requires reads { I.faults source.old < 2 ^ 63 }
-    ensures { Acts (λ _ c. doing_of doing.new names.new c) result
+    ensures does { Acts (λ _ c. doing_of doing.new names.new c) result
         (scene names.old input.old (I.left source.old) (I.faults source.old) (K.taken sink.old) (K.faults sink.old) out.old)
         (scene names.new input.new (I.left source.new) (I.faults source.new) (K.taken sink.new) (K.faults sink.new) out.new)
         (λ c. action_done (setting_of program.now watch) out.old.column action.now (doing_of doing.old names.old c)) }
+    ensures written { fails_by is_read_mishap result ≡ true → out.new.held ≡ [] }
 {
     let classes = program.classes.as_slice();
     match action {
@@ -260,10 +267,11 @@ fn act_at<I: Source, K: Sink>(
     requires whole { IsTrue out.old.whole }
     requires writes { K.faults sink.old < 2 ^ 63 }
     requires reads { I.faults source.old < 2 ^ 63 }
-    ensures { Does (λ _ c. doing_of doing.new names.new c) failure_of is_read result
+    ensures does { Does (λ _ c. doing_of doing.new names.new c) failure_of is_read result
         (scene names.old input.old (I.left source.old) (I.faults source.old) (K.taken sink.old) (K.faults sink.old) out.old)
         (scene names.new input.new (I.left source.new) (I.faults source.new) (K.taken sink.new) (K.faults sink.new) out.new)
         (λ c. told_as (λ d. d) (in_action number) (action_done (setting_of program.now watch) out.old.column action.now (doing_of doing.old names.old c))) }
+    ensures written { is_unread result ≡ true → out.new.held ≡ [] }
 {
     match act_one(
         alloc, program, names, doing, watch, action, input, source, out, sink,
@@ -307,10 +315,11 @@ fn act_all<I: Source, K: Sink>(
     requires whole { IsTrue out.old.whole }
     requires writes { K.faults sink.old < 2 ^ 63 }
     requires reads { I.faults source.old < 2 ^ 63 }
-    ensures { Does (λ _ c. doing_of doing.new names.new c) failure_of is_read result
+    ensures does { Does (λ _ c. doing_of doing.new names.new c) failure_of is_read result
         (scene names.old input.old (I.left source.old) (I.faults source.old) (K.taken sink.old) (K.faults sink.old) out.old)
         (scene names.new input.new (I.left source.new) (I.faults source.new) (K.taken sink.new) (K.faults sink.new) out.new)
         (λ c. actions_done (setting_of program.now watch) out.old.column 1 actions.now (doing_of doing.old names.old c)) }
+    ensures written { is_unread result ≡ true → out.new.held ≡ [] }
 {
     for (before, action) in actions.iter().enumerate() {
         let number = before + 1;
@@ -351,10 +360,14 @@ pub fn act<I: Source, K: Sink>(
         (λ c. acted (setting_of program.now watch) out.old.column inst.now
         (record { wm = store.now.elements; last = next_tag - 1; names = names.old; coming = c })) }
     ensures lawful { IfOk result (λ a. Lawful store.now.elements (next_tag - 1) a.changes) }
+    ensures tag { IfOk result (λ a. next_tag ≤ a.next_tag) }
     ensures reads { CountsReads (is_unread result) (I.faults source.old) (I.faults source.new) }
 
+    // Where a read fails, all that was put before is written out.
+    ensures written { is_unread result ≡ true → out.new.held ≡ [] }
+
     // Each symbol keeps its spelling, also after a fault.
-    ensures names { (i : ℕ) (s : List ℕ) → slice_get names.old.held i ≡ Some s → slice_get names.new.held i ≡ Some s }
+    ensures names { KeepsNames names.old names.new }
 {
     let last = store.last();
     prove!(last < next_tag);

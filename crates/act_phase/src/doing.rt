@@ -174,7 +174,8 @@ impl<'s> Doing<'s> {
     }
 
     pub(crate) fn finish(self) -> Acted
-        ensures { (names : Spellings) (coming : Coming) → acted_of result names coming ≡ left_by (doing_of self.entry names coming) }
+        ensures left { (names : Spellings) (coming : Coming) → acted_of result names coming ≡ left_by (doing_of self.entry names coming) }
+        ensures positive { 0 < result.next_tag }
     {
         let (changes, next_tag) = self.working.finish();
         Acted {

@@ -1,9 +1,10 @@
 //! The fields of the elements that a right side makes.
-ghost use Rattle.std.specs.Prelude.{◌≡◌, ◌^◌, ◌<◌, IfOk, OnOk, Some, IsTrue};
+ghost use Rattle.std.specs.Prelude.{◌≡◌, ◌^◌, ◌<◌, [], true, IfOk, OnOk, Some, IsTrue};
 ghost use Rattle.ops_base.specs.Valid.{class_of, is_vector};
 ghost use Rattle.ops_meaning.specs.Acting.{no_fields, value_placed, values_placed, emptied, terms_placed, made_fields, modified_fields};
 ghost use Rattle.ops_meaning.specs.Effects.{silent};
 ghost use Rattle.act_phase.specs.Deeds.{Acts, Gives, scene, fields_found};
+ghost use Rattle.act_phase.specs.Outcomes.{fails_by, is_read_mishap};
 ghost use Rattle.act_phase.specs.State.{doing_of, held_in, filled_of};
 
 use crate::doing::Doing;
@@ -92,10 +93,11 @@ fn place_put<I: Source, K: Sink>(
     requires whole { IsTrue out.old.whole }
     requires writes { K.faults sink.old < 2 ^ 63 }
     requires reads { I.faults source.old < 2 ^ 63 }
-    ensures { Acts (λ _ c. filled_of fields.new.items (doing_of doing.now names.new c)) result
+    ensures does { Acts (λ _ c. filled_of fields.new.items (doing_of doing.now names.new c)) result
         (scene names.old input.old (I.left source.old) (I.faults source.old) (K.taken sink.old) (K.faults sink.old) out.old)
         (scene names.new input.new (I.left source.new) (I.faults source.new) (K.taken sink.new) (K.faults sink.new) out.new)
         (λ c. silent (terms_placed classes.now put.now.field put.now.terms (filled_of fields.old.items (doing_of doing.now names.old c)))) }
+    ensures written { fails_by is_read_mishap result ≡ true → out.new.held ≡ [] }
 {
     let mut at = put.field;
     for term in put.terms.as_slice() {
@@ -122,10 +124,11 @@ pub(crate) fn made_fields<I: Source, K: Sink>(
     requires whole { IsTrue out.old.whole }
     requires writes { K.faults sink.old < 2 ^ 63 }
     requires reads { I.faults source.old < 2 ^ 63 }
-    ensures { Acts (λ v c. filled_of v.items (doing_of doing.now names.new c)) result
+    ensures does { Acts (λ v c. filled_of v.items (doing_of doing.now names.new c)) result
         (scene names.old input.old (I.left source.old) (I.faults source.old) (K.taken sink.old) (K.faults sink.old) out.old)
         (scene names.new input.new (I.left source.new) (I.faults source.new) (K.taken sink.new) (K.faults sink.new) out.new)
         (λ c. silent (made_fields classes.now (class_of classes.now class) puts.now (doing_of doing.now names.old c))) }
+    ensures written { fails_by is_read_mishap result ≡ true → out.new.held ≡ [] }
 {
     let mut fields = no_fields(alloc, classes, class)?;
     for put in puts {
@@ -173,10 +176,11 @@ pub(crate) fn modified_fields<I: Source, K: Sink>(
     requires whole { IsTrue out.old.whole }
     requires writes { K.faults sink.old < 2 ^ 63 }
     requires reads { I.faults source.old < 2 ^ 63 }
-    ensures { Acts (λ v c. filled_of v.items (doing_of doing.now names.new c)) result
+    ensures does { Acts (λ v c. filled_of v.items (doing_of doing.now names.new c)) result
         (scene names.old input.old (I.left source.old) (I.faults source.old) (K.taken sink.old) (K.faults sink.old) out.old)
         (scene names.new input.new (I.left source.new) (I.faults source.new) (K.taken sink.new) (K.faults sink.new) out.new)
         (λ c. silent (modified_fields classes.now puts.now cell (doing_of doing.now names.old c))) }
+    ensures written { fails_by is_read_mishap result ≡ true → out.new.held ≡ [] }
 {
     let mut fields = fields_of(alloc, doing, cell)?;
     for put in puts {

@@ -1,5 +1,5 @@
 //! What the terms of a right side give.
-ghost use Rattle.std.specs.Prelude.{◌≡◌, ◌^◌, ◌<◌, IsTrue, drop, unwrap_or};
+ghost use Rattle.std.specs.Prelude.{◌≡◌, ◌^◌, ◌<◌, [], true, IsTrue, drop, unwrap_or};
 ghost use Rattle.std.specs.Option.{option_copied};
 ghost use Rattle.ops_base.specs.Matching.{value_of};
 ghost use Rattle.ops_base.specs.Valid.{class_of};
@@ -9,6 +9,7 @@ ghost use Rattle.ops_meaning.specs.Acting.{no_element, scalar_count, first_of, e
 ghost use Rattle.ops_meaning.specs.Computing.{computed};
 ghost use Rattle.ops_meaning.specs.Effects.{silent};
 ghost use Rattle.act_phase.specs.Deeds.{Acts, Gives, scene, value_found};
+ghost use Rattle.act_phase.specs.Outcomes.{fails_by, is_read_mishap};
 ghost use Rattle.act_phase.specs.State.{doing_of, held_in, values_in, valued_of};
 
 use crate::accepting::accept;
@@ -134,10 +135,11 @@ pub(crate) fn evaluate<'d, I: Source, K: Sink>(
     requires whole { IsTrue out.old.whole }
     requires writes { K.faults sink.old < 2 ^ 63 }
     requires reads { I.faults source.old < 2 ^ 63 }
-    ensures { Acts (λ v c. valued_of v (doing_of doing.now names.new c)) result
+    ensures does { Acts (λ v c. valued_of v (doing_of doing.now names.new c)) result
         (scene names.old input.old (I.left source.old) (I.faults source.old) (K.taken sink.old) (K.faults sink.old) out.old)
         (scene names.new input.new (I.left source.new) (I.faults source.new) (K.taken sink.new) (K.faults sink.new) out.new)
         (λ c. silent (evaluated classes.now term.now (doing_of doing.now names.old c))) }
+    ensures written { fails_by is_read_mishap result ≡ true → out.new.held ≡ [] }
 {
     match term {
         Term::Constant(value) => Ok(Values::One(*value)),

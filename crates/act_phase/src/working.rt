@@ -171,6 +171,7 @@ impl<'s> Working<'s> {
     pub(crate) fn finish(self) -> (Vec<Change>, u64)
         ensures changes { result.0.items ≡ self.entry.changes }
         ensures tag { result.1 - 1 ≡ self.entry.last }
+        ensures positive { 0 < result.1 }
     {
         (self.changes, self.next_tag)
     }

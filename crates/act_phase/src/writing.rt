@@ -1,11 +1,12 @@
 //! What `write` puts.
-ghost use Rattle.std.specs.Prelude.{◌≡◌, ◌^◌, ◌<◌, ℕ, IsTrue, OnErr, false, length};
+ghost use Rattle.std.specs.Prelude.{◌≡◌, ◌^◌, ◌<◌, ℕ, [], true, IsTrue, OnErr, false, length};
 ghost use Rattle.ops_io.specs.Ports.{port, PutsBytes};
 ghost use Rattle.ops_base.specs.declared.actions.Item.TheVariants as item;
 ghost use Rattle.ops_meaning.specs.Acting.{lead_after, item_done, items_done};
 ghost use Rattle.ops_meaning.specs.Layout.{value_text, value_bytes, values_bytes, lead_bytes, Apart};
 ghost use Rattle.ops_print.specs.Leads.{lead_of};
 ghost use Rattle.act_phase.specs.Deeds.{Acts, scene};
+ghost use Rattle.act_phase.specs.Outcomes.{fails_by, is_read_mishap};
 ghost use Rattle.act_phase.specs.State.{doing_of};
 
 use crate::doing::Doing;
@@ -97,10 +98,11 @@ fn print<I: Source, K: Sink>(
     requires whole { IsTrue out.old.whole }
     requires writes { K.faults sink.old < 2 ^ 63 }
     requires reads { I.faults source.old < 2 ^ 63 }
-    ensures { Acts (λ _ c. doing_of doing.now names.new c) result
+    ensures does { Acts (λ _ c. doing_of doing.now names.new c) result
         (scene names.old input.old (I.left source.old) (I.faults source.old) (K.taken sink.old) (K.faults sink.old) out.old)
         (scene names.new input.new (I.left source.new) (I.faults source.new) (K.taken sink.new) (K.faults sink.new) out.new)
         (λ c. item_done classes.now (lead_of lead) out.old.column (item.Print term.now) (doing_of doing.now names.old c)) }
+    ensures written { fails_by is_read_mishap result ≡ true → out.new.held ≡ [] }
 {
     let values = evaluate(alloc, classes, names, doing, term, input, source, out, sink)?;
     Ok(put_values(out, sink, names, lead, values.as_slice())?)
@@ -122,10 +124,11 @@ fn put_item<I: Source, K: Sink>(
     requires whole { IsTrue out.old.whole }
     requires writes { K.faults sink.old < 2 ^ 63 }
     requires reads { I.faults source.old < 2 ^ 63 }
-    ensures { Acts (λ _ c. doing_of doing.now names.new c) result
+    ensures does { Acts (λ _ c. doing_of doing.now names.new c) result
         (scene names.old input.old (I.left source.old) (I.faults source.old) (K.taken sink.old) (K.faults sink.old) out.old)
         (scene names.new input.new (I.left source.new) (I.faults source.new) (K.taken sink.new) (K.faults sink.new) out.new)
         (λ c. item_done classes.now (lead_of lead) out.old.column item.now (doing_of doing.now names.old c)) }
+    ensures written { fails_by is_read_mishap result ≡ true → out.new.held ≡ [] }
 {
     match item {
         Item::Print(term) => print(
@@ -152,10 +155,11 @@ pub(crate) fn put_items<I: Source, K: Sink>(
     requires whole { IsTrue out.old.whole }
     requires writes { K.faults sink.old < 2 ^ 63 }
     requires reads { I.faults source.old < 2 ^ 63 }
-    ensures { Acts (λ _ c. doing_of doing.now names.new c) result
+    ensures does { Acts (λ _ c. doing_of doing.now names.new c) result
         (scene names.old input.old (I.left source.old) (I.faults source.old) (K.taken sink.old) (K.faults sink.old) out.old)
         (scene names.new input.new (I.left source.new) (I.faults source.new) (K.taken sink.new) (K.faults sink.new) out.new)
         (λ c. items_done classes.now Apart out.old.column items.now (doing_of doing.now names.old c)) }
+    ensures written { fails_by is_read_mishap result ≡ true → out.new.held ≡ [] }
 {
     let mut lead = Lead::Apart;
     for item in items {

@@ -93,9 +93,6 @@ rules_quiet rules actions cells is =
 pub quiet_set : (wm : List Element) → HasRisingTags wm → (rules : List Rule) → AreQuiet rules → IsConflictSet rules wm (quiet wm)
 quiet_set wm h rules are = let P : List Inst → Type 0 = IsConflictSet rules wm in subst P (are wm) (conflict_set-is rules wm h)
 
-pub quiet_none : (wm : List Element) → wm ≡ [] → quiet wm ≡ []
-quiet_none wm is = ap quiet is
-
 -- ---- what has changed
 
 others_in_order : (some others : List Inst) → IsInOrder some → IsInOrder (unfired some others)

@@ -1,5 +1,5 @@
 //! A state of the cycle, its phases and its firings.
-ghost use Rattle.std.specs.Prelude.{◌≡◌, ◌↔◌, ◌<◌, ◌+◌, ◌^◌, List, [], Some, IsSome, IsTrue, Contains, MatchOption, OnOk, OnErr, IfOk, IfErr};
+ghost use Rattle.std.specs.Prelude.{◌≡◌, ◌↔◌, ◌<◌, ◌+◌, ◌^◌, List, [], true, Some, IsSome, IsTrue, Contains, MatchOption, OnOk, OnErr, IfOk, IfErr};
 ghost use Rattle.std.specs.Option.{option_copied};
 ghost use Rattle.ops_base.specs.declared.rules.Inst.{Inst};
 ghost use Rattle.ops_base.specs.declared.rules.Rule.{Rule};
@@ -249,6 +249,7 @@ impl<M: Matcher> State<M> {
             (port (K.taken sink.new) (K.faults sink.new) out.new)
             (λ c. firing (setting_of program.now watch) out.old.column i (state_course M.stored self names.old c)) }
         ensures reads { CountsReads (is_unread result) (I.faults source.old) (I.faults source.new) }
+        ensures written { is_unread result ≡ true → out.new.held ≡ [] }
         ensures names { KeepsNames names.old names.new }
         ensures stands { IfOk result (λ r. M.stands_for r.0.matcher program.now.rules) }
         ensures specificities { IfOk result (λ r. KeepsSpecificities program.now.rules r.0.index.members) }

@@ -2,7 +2,6 @@
 
 use crate::faults::ProgramFault;
 use crate::tests::read;
-use ops_base::commands::{Command, Strategy};
 use ops_base::endings::Fault;
 
 // texts, each with its fault and its column
@@ -46,31 +45,4 @@ fn faults_of_commands_stand_at_their_places(rt: HostRuntime) {
         };
         assert_eq!(rt; read(rt.alloc(), text).err(), Some(at));
     }
-}
-
-const COMMANDS: &[u8] =
-    b"(strategy mea) (literalize a) (strategy) (p r (a) -->) (strategy lex) (p q (a) -->)
-(run 9223372036854775807) (strategy) (run)";
-
-#[test]
-fn strategies_stand_everywhere(rt: HostRuntime) -> Result<(), ProgramFault> {
-    let (program, _names) = read(rt.alloc(), COMMANDS)?;
-    assert_eq!(rt; (program.classes.len(), program.rules.len()), (1, 2));
-    let [
-        Command::Strategy { set: first },
-        Command::Strategy { set: second },
-        Command::Strategy { set: third },
-        Command::Run { count },
-        Command::Strategy { set: last },
-        Command::Run { count: none },
-    ] = program.commands.as_slice()
-    else {
-        panic!(rt; "six commands");
-    };
-    assert_eq!(rt;
-        (*first, *second, *third, *last),
-        (Some(Strategy::Mea), None, Some(Strategy::Lex), None)
-    );
-    assert_eq!(rt; (*count, *none), (Some(9223372036854775807), None));
-    Ok(())
 }

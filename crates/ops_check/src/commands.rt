@@ -1,5 +1,4 @@
 //! The commands of one word, and those of one word and an argument.
-ghost use Rattle.std.specs.Prelude.{◌≡◌};
 ghost use Rattle.ops_meaning.specs.Grammar.{Count, StrategyName, Level, Closes, EndsCs, EndsExit};
 ghost use Rattle.ops_forms.specs.Going.{Reads, IsWithin};
 ghost use Rattle.ops_check.specs.Going.{view};

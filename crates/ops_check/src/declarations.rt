@@ -1,6 +1,6 @@
 //! Declarations of classes.
-ghost use Rattle.std.specs.Prelude.{◌≡◌, ◌∷◌, ◌++◌};
-ghost use Rattle.ops_meaning.specs.Grammar.{goes, vector_name, vector_declared, VectorName, VectorNames, attribute_declared, ClassDeclared, Attributes};
+ghost use Rattle.std.specs.Prelude.{◌∷◌, ◌++◌};
+ghost use Rattle.ops_meaning.specs.Grammar.{goes, vector_name, VectorName, VectorNames, ClassDeclared, Attributes};
 ghost use Rattle.ops_forms.specs.Going.{Goes, Reads, Acts, IsWithin};
 ghost use Rattle.ops_check.specs.Going.{view};
 

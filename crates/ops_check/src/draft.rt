@@ -1,5 +1,5 @@
 //! What was read so far of a program, and how it grows.
-ghost use Rattle.std.specs.Prelude.{◌≡◌, ◌++◌, ◌∷◌, [], ◌==◌, position, slice_get};
+ghost use Rattle.std.specs.Prelude.{◌≡◌, ◌==◌, position, slice_get};
 ghost use Rattle.std.specs.List.{list_all};
 ghost use Rattle.ops_base.specs.Valid.{class_of, is_vector};
 ghost use Rattle.ops_meaning.specs.Grammar.{nothing_read, is_class, is_rule, is_one_of, is_second, makes_second, may_declare, may_produce, precedes_classes, precedes_rules, with_class, with_vector, with_fixed, with_constant, with_command, attributes_of};

@@ -1,5 +1,5 @@
 //! The elements of commands: a class with attributes and values.
-ghost use Rattle.std.specs.Prelude.{◌≡◌, false, [], ◌∷◌, ◌++◌};
+ghost use Rattle.std.specs.Prelude.{false, [], ◌∷◌, ◌++◌};
 ghost use Rattle.ops_meaning.specs.Grammar.{goes, InFixed, Shown, ClassName, Terms, Attribute};
 ghost use Rattle.ops_forms.specs.Going.{Goes, GoesToTerms, Reads, IsWithin};
 ghost use Rattle.ops_check.specs.Going.{view};

@@ -1,4 +1,4 @@
-//! What ends while a text is read: the parts of a form become one of its parts.
+//! What ends while a text is read: values become a field of an element, its fields a command, and two sides a production.
 ghost use Rattle.std.specs.Prelude.{◌≡◌, ◌+◌, ◌++◌, List, ℕ, not, count_by, SomeIff, ◌<◌, ◌^◌};
 ghost use Rattle.ops_base.specs.Valid.{cells_of, specificity};
 ghost use Rattle.ops_meaning.specs.Grammar.{with_several, with_element, with_rule, fixed_command, InFixed};
@@ -42,6 +42,7 @@ impl Draft {
         right: RightSide,
         past: usize,
     ) -> Result<(), Refusal>
+        requires { (further : List ℕ) × (right.sight.cells ≡ cells_of conditions.items ++ further) }
         ensures { (further : List ℕ) → right.sight.cells ≡ cells_of conditions.items ++ further
             → Becomes (view self.new) (with_rule (right_read (record (view self.old) { conditions = conditions.items }) right.actions.items right.sight further) past) result }
     {

@@ -13,7 +13,7 @@ use ops_base::endings::Fault;
 use ops_base::memory::OutOfMemory;
 use ops_forms::kinds::is_name;
 use ops_forms::refusals::{Refusal, first_of, refused};
-use ops_lhs::{LeftSide, cells_from, cells_of, left_side};
+use ops_lhs::{LeftSide, cells_of_conditions, classes_of_cells, left_side};
 use ops_meaning::Word;
 use ops_rhs::{Sight, right_side};
 use std::alloc::Global;
@@ -90,8 +90,8 @@ fn seen_behind(alloc: Global, left: LeftSide) -> Result<(Vec<Condition>, Sight),
     let sight = Sight {
         values: left.values,
         elements: left.elements,
-        cells: cells_of(alloc, &left.conditions)?,
-        conditions: cells_from(alloc, &left.conditions)?,
+        cells: classes_of_cells(alloc, &left.conditions)?,
+        conditions: cells_of_conditions(alloc, &left.conditions)?,
         variables: left.variables,
     };
     Ok((left.conditions, sight))

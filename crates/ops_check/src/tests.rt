@@ -2,14 +2,10 @@
 
 use crate::faults::ProgramFault;
 use crate::program::read_program;
-use ops_base::actions::{Action, Item, Term};
-use ops_base::commands::Command;
-use ops_base::conditions::Operand;
 use ops_base::endings::{Fault, Limit};
 use ops_base::memory::OutOfMemory;
 use ops_base::programs::Program;
 use ops_base::symbols::Names;
-use ops_base::values::{Pred, Value};
 use ops_forms::place_of;
 use std::alloc::Global;
 use std::test::Fail;
@@ -445,119 +441,6 @@ fn faults_of_right_sides_stand_at_their_places(rt: HostRuntime) {
     }
 }
 
-const CELLS: &[u8] = b"(literalize a n) (literalize b list) (vector-attribute list)
-(p r { (a ^n <n>) <w> } (b) --> (modify <w> ^n 1) (modify 2 ^list 1 <n>) (make b) (cbind <v>)
-  (modify <v> ^list <n>) (cbind <w>) (remove <w> 1))";
-
-#[test]
-fn cells_are_designated(rt: HostRuntime) -> Result<(), ProgramFault> {
-    let (program, _names) = read(rt.alloc(), CELLS)?;
-    for rule in program.rules.as_slice() {
-        let [
-            Action::Modify { cell: a, .. },
-            Action::Modify { cell: b, puts },
-            Action::Make { class, .. },
-            Action::Cbind { cell: v },
-            Action::Modify { cell: again, .. },
-            Action::Cbind { cell: w },
-            Action::Remove { cells },
-        ] = rule.actions.as_slice()
-        else {
-            panic!(rt; "seven actions");
-        };
-        assert_eq!(rt; (*a, *b, *v, *again, *w), (0, 1, 2, 2, 3));
-        let values = puts
-            .as_slice()
-            .iter()
-            .map(|put| (put.field, put.terms.len()));
-        assert!(rt; values.eq([(0, 2)]));
-        assert_eq!(rt; *class, 1);
-        assert_eq!(rt; cells.as_slice(), [3, 0].as_slice());
-        assert_eq!(rt; (rule.variables, rule.cells), (1, 4));
-    }
-    Ok(())
-}
-
-const BINDINGS: &[u8] = b"(literalize a n)
-(p r (a ^n <n>) --> (bind <x> 7) (bind <n> <x>) (write <n> (tabto 1) (rjust 1024)))";
-
-#[test]
-fn variables_are_bound(rt: HostRuntime) -> Result<(), ProgramFault> {
-    let (program, _names) = read(rt.alloc(), BINDINGS)?;
-    for rule in program.rules.as_slice() {
-        let [
-            Action::Bind {
-                variable: x,
-                term: Term::Constant(value),
-            },
-            Action::Bind {
-                variable: n,
-                term: Term::Variable(of),
-            },
-            Action::Write { items },
-        ] = rule.actions.as_slice()
-        else {
-            panic!(rt; "three actions");
-        };
-        assert_eq!(rt; (*x, *value, *n, *of), (1, Value::Whole(7), 0, 1));
-        let [
-            Item::Print(Term::Variable(printed)),
-            Item::TabTo(tab),
-            Item::RightIn(right),
-        ] = items.as_slice()
-        else {
-            panic!(rt; "three items");
-        };
-        assert_eq!(rt; (*printed, *tab, *right), (0, 1, 1024));
-        assert_eq!(rt; (rule.variables, rule.cells), (2, 1));
-    }
-    Ok(())
-}
-
-// a scalar attribute, one that is named `inf`, and the vector attribute
-const SUBSTRS: &[u8] = b"(literalize a n inf v) (vector-attribute v)
-(p r (a ^n 1) { (a) <w> } --> (bind <x> (substr <w> inf inf)) (make a ^n (substr <w> v v) ^v 1 (substr <w> v inf))
-  (write (substr <w> n n) (substr <w> v inf)))";
-
-#[test]
-fn substr_is_read(rt: HostRuntime) -> Result<(), ProgramFault> {
-    let (program, _names) = read(rt.alloc(), SUBSTRS)?;
-    for rule in program.rules.as_slice() {
-        let [
-            Action::Bind {
-                term: Term::One { cell, field },
-                ..
-            },
-            Action::Make { puts, .. },
-            Action::Write { items },
-        ] = rule.actions.as_slice()
-        else {
-            panic!(rt; "three actions");
-        };
-        assert_eq!(rt; (*cell, *field), (1, 1));
-        let [one, several] = puts.as_slice() else {
-            panic!(rt; "two puts");
-        };
-        let [Term::One { cell, field }] = one.terms.as_slice() else {
-            panic!(rt; "one value");
-        };
-        assert_eq!(rt; (one.field, *cell, *field), (0, 1, 2));
-        let [Term::Constant(_), Term::Rest { cell }] = several.terms.as_slice() else {
-            panic!(rt; "a constant, and all values");
-        };
-        assert_eq!(rt; (several.field, *cell), (2, 1));
-        let [
-            Item::Print(Term::One { cell, field }),
-            Item::Print(Term::Rest { cell: of }),
-        ] = items.as_slice()
-        else {
-            panic!(rt; "one value, and all");
-        };
-        assert_eq!(rt; (*cell, *field, *of), (1, 0, 1));
-    }
-    Ok(())
-}
-
 #[test]
 fn faults_stand_at_their_places(rt: HostRuntime) {
     let alloc = rt.alloc();
@@ -607,71 +490,6 @@ fn a_fault_is_told(rt: HostRuntime) -> Result<(), Fail> {
     };
     let told = format!(in rt.alloc(); "{fault}")?;
     assert_eq!(rt; told.as_str(), "3:14: limit passed: fields");
-    Ok(())
-}
-
-#[test]
-fn tests_are_read(rt: HostRuntime) -> Result<(), ProgramFault> {
-    let text = b"(literalize a n m)
-(p r (a ^n { <x> > 3 <= 9 } ^m << <x> 7 >>) (a ^n <> <x> ^m // <x>) --> (write // 7 =))";
-    let (program, mut names) = read(rt.alloc(), text)?;
-    let variable = Value::Symbol(names.intern(b"<x>")?);
-    for rule in program.rules.as_slice() {
-        let [first, second] = rule.conditions.as_slice() else {
-            panic!(rt; "two conditions");
-        };
-        let preds = first.tests.as_slice().iter().map(|test| test.pred);
-        assert!(rt; preds.eq([Pred::Eq, Pred::Gt, Pred::Le, Pred::Eq]));
-        for test in second.tests.as_slice() {
-            match &test.operand {
-                Operand::Constant(value) => assert_eq!(rt; (test.field, *value), (1, variable)),
-                Operand::Variable(number) => assert_eq!(rt; (test.pred, *number), (Pred::Ne, 0)),
-                Operand::OneOf(_) => panic!(rt; "no disjunction"),
-            }
-        }
-        assert_eq!(rt; (rule.variables, rule.specificity), (1, 7));
-    }
-    Ok(())
-}
-
-const VECTORS: &[u8] = b"(literalize v list n) (vector-attribute list)
-(p r { (v ^list <h> { } 3 ^n <n>) <w> } { <u> (v) } --> (make v ^list <h> 1 <n>) (remove <u> <w>))
-(make v ^list a b)";
-
-#[test]
-fn vectors_are_read(rt: HostRuntime) -> Result<(), ProgramFault> {
-    let (program, mut names) = read(rt.alloc(), VECTORS)?;
-    let (list, n) = (names.intern(b"list")?, names.intern(b"n")?);
-    for class in program.classes.as_slice() {
-        assert_eq!(rt;
-            (class.attrs.as_slice(), class.vector),
-            ([n, list].as_slice(), true)
-        );
-    }
-    for rule in program.rules.as_slice() {
-        let [first, _second] = rule.conditions.as_slice() else {
-            panic!(rt; "two conditions");
-        };
-        let fields = first.tests.as_slice().iter().map(|test| test.field);
-        assert!(rt; fields.eq([1, 3, 0]));
-        let [Action::Make { puts, .. }, Action::Remove { cells }] = rule.actions.as_slice() else {
-            panic!(rt; "two actions");
-        };
-        let values = puts
-            .as_slice()
-            .iter()
-            .map(|put| (put.field, put.terms.len()));
-        assert!(rt; values.eq([(1, 3)]));
-        assert_eq!(rt; cells.as_slice(), [1, 0].as_slice());
-    }
-    let [Command::Make { puts, .. }] = program.commands.as_slice() else {
-        panic!(rt; "one command");
-    };
-    let values = puts
-        .as_slice()
-        .iter()
-        .map(|put| (put.field, put.values.len()));
-    assert!(rt; values.eq([(1, 2)]));
     Ok(())
 }
 

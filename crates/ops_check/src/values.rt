@@ -1,5 +1,4 @@
 //! Constants where a value of a command stands.
-ghost use Rattle.std.specs.Prelude.{◌≡◌};
 ghost use Rattle.ops_meaning.specs.Grammar.{goes, atom_of, value_for, Atom, ValueFor};
 ghost use Rattle.ops_forms.specs.Going.{Reads, Acts, IsWithin};
 ghost use Rattle.ops_check.specs.Going.{view, target_of};

@@ -36,7 +36,7 @@ pub struct Form {
 pub enum FormFault {
     /// A bad byte, or a bar that is not closed.
     Lex(LexFault),
-    /// An atom or a bracket that begins no form, at its first byte.
+    /// An atom, a caret or a bracket that begins no form, at its first byte.
     Stray { at: usize },
     OutOfMemory,
 }

@@ -8,6 +8,7 @@ use ops_base::values::{Pred, Sym, Value};
 use ops_meaning::Keyword;
 use ops_tokens::TokenKind;
 
+/// Whether a word is an opening bracket.
 pub fn is_left(kind: TokenKind) -> bool
     ensures { result ≡ is_left kind }
 {
@@ -17,6 +18,7 @@ pub fn is_left(kind: TokenKind) -> bool
     }
 }
 
+/// Whether a word is a closing bracket.
 pub fn is_right(kind: TokenKind) -> bool
     ensures { result ≡ is_right kind }
 {
@@ -26,6 +28,7 @@ pub fn is_right(kind: TokenKind) -> bool
     }
 }
 
+/// Whether a word is an opening brace.
 pub fn is_left_brace(kind: TokenKind) -> bool
     ensures { result ≡ is_left_brace kind }
 {
@@ -35,6 +38,7 @@ pub fn is_left_brace(kind: TokenKind) -> bool
     }
 }
 
+/// Whether a word is a closing brace.
 pub fn is_right_brace(kind: TokenKind) -> bool
     ensures { result ≡ is_right_brace kind }
 {
@@ -44,6 +48,7 @@ pub fn is_right_brace(kind: TokenKind) -> bool
     }
 }
 
+/// Whether a word is the caret before an attribute.
 pub fn is_caret(kind: TokenKind) -> bool
     ensures { result ≡ is_caret kind }
 {
@@ -53,6 +58,7 @@ pub fn is_caret(kind: TokenKind) -> bool
     }
 }
 
+/// Whether a word is a name: a plain symbol or a quoted atom.
 pub fn is_name(kind: TokenKind) -> bool
     ensures { result ≡ is_name kind }
 {
@@ -62,6 +68,7 @@ pub fn is_name(kind: TokenKind) -> bool
     }
 }
 
+/// Whether a word is a variable.
 pub fn is_variable(kind: TokenKind) -> bool
     ensures { result ≡ is_variable kind }
 {
@@ -71,6 +78,7 @@ pub fn is_variable(kind: TokenKind) -> bool
     }
 }
 
+/// Whether a word is `-->`, between the sides of a production.
 pub fn is_arrow(keyword: Keyword) -> bool
     ensures { result ≡ is_arrow keyword }
 {
@@ -80,7 +88,7 @@ pub fn is_arrow(keyword: Keyword) -> bool
     }
 }
 
-// // before an atom
+/// Whether a word is `//`, before an atom.
 pub fn is_literal(keyword: Keyword) -> bool
     ensures { result ≡ is_literal keyword }
 {
@@ -90,7 +98,7 @@ pub fn is_literal(keyword: Keyword) -> bool
     }
 }
 
-// - before a pattern
+/// Whether a word is `-`, before a pattern.
 pub fn is_minus(keyword: Keyword) -> bool
     ensures { result ≡ is_minus keyword }
 {
@@ -100,7 +108,7 @@ pub fn is_minus(keyword: Keyword) -> bool
     }
 }
 
-// << before constants
+/// Whether a word is `<<`, before constants.
 pub fn opens_choice(keyword: Keyword) -> bool
     ensures { result ≡ opens_choice keyword }
 {
@@ -110,7 +118,7 @@ pub fn opens_choice(keyword: Keyword) -> bool
     }
 }
 
-// >> behind them
+/// Whether a word is `>>`, behind constants.
 pub fn closes_choice(keyword: Keyword) -> bool
     ensures { result ≡ closes_choice keyword }
 {
@@ -120,7 +128,7 @@ pub fn closes_choice(keyword: Keyword) -> bool
     }
 }
 
-// inf, behind the vector attribute
+/// Whether a word is `inf`, behind the vector attribute.
 pub fn is_inf(keyword: Keyword) -> bool
     ensures { result ≡ is_inf keyword }
 {
@@ -130,7 +138,7 @@ pub fn is_inf(keyword: Keyword) -> bool
     }
 }
 
-// compute, behind a bracket
+/// Whether a word is `compute`, behind a bracket.
 pub fn is_compute(keyword: Keyword) -> bool
     ensures { result ≡ is_compute keyword }
 {
@@ -140,6 +148,7 @@ pub fn is_compute(keyword: Keyword) -> bool
     }
 }
 
+/// The operation that a word of an expression stands for.
 pub fn operation_of(keyword: Keyword) -> Option<Op>
     ensures { result ≡ operation_of keyword }
 {
@@ -153,6 +162,7 @@ pub fn operation_of(keyword: Keyword) -> Option<Op>
     }
 }
 
+/// The predicate that a word before the operand of a test stands for.
 pub fn pred_of(keyword: Keyword) -> Option<Pred>
     ensures { result ≡ pred_of keyword }
 {
@@ -168,7 +178,7 @@ pub fn pred_of(keyword: Keyword) -> Option<Pred>
     }
 }
 
-// the constant that a name or a whole number is
+/// The constant that a name or a whole number is.
 pub fn constant_of(kind: TokenKind, name: Sym) -> Option<Value>
     ensures { result ≡ constant_of kind name }
 {
@@ -179,7 +189,7 @@ pub fn constant_of(kind: TokenKind, name: Sym) -> Option<Value>
     }
 }
 
-// the constant that an atom is, whatever it spells
+/// The constant that an atom is, whatever it spells.
 pub fn atom_of(kind: TokenKind, name: Sym) -> Option<Value>
     ensures { result ≡ atom_of kind name }
 {
@@ -192,7 +202,7 @@ pub fn atom_of(kind: TokenKind, name: Sym) -> Option<Value>
     }
 }
 
-// the constant that a value is: an atom, but a variable and //
+/// The constant that a value is: an atom, but a variable and `//`.
 pub fn value_of(kind: TokenKind, name: Sym) -> Option<Value>
     ensures { result ≡ value_of kind name }
 {
@@ -203,7 +213,7 @@ pub fn value_of(kind: TokenKind, name: Sym) -> Option<Value>
     }
 }
 
-// the number that a whole number from 1 on is
+/// The number that a whole number from 1 on is.
 pub fn natural_of(number: i64) -> Option<usize>
     ensures { result ≡ natural_of number }
 {
@@ -213,7 +223,7 @@ pub fn natural_of(number: i64) -> Option<usize>
     }
 }
 
-// the number that a whole number from 1 to 1,024 is
+/// The number that a whole number from 1 to 1,024 is.
 pub fn small_of(kind: TokenKind) -> Option<u16>
     ensures { result ≡ small_of kind }
 {
@@ -226,7 +236,7 @@ pub fn small_of(kind: TokenKind) -> Option<u16>
     }
 }
 
-// the number that a whole number from 1 on is, where it counts firings
+/// The number that a whole number from 1 on is, as a count of firings or a tag.
 pub fn count_of(kind: TokenKind) -> Option<u64>
     ensures { result ≡ count_of kind }
 {
@@ -239,6 +249,7 @@ pub fn count_of(kind: TokenKind) -> Option<u64>
     }
 }
 
+/// The strategy that a word names.
 pub fn strategy_of(keyword: Keyword) -> Option<Strategy>
     ensures { result ≡ strategy_of keyword }
 {
@@ -249,7 +260,7 @@ pub fn strategy_of(keyword: Keyword) -> Option<Strategy>
     }
 }
 
-// *, for all elements
+/// Whether a word is `*`, for all elements.
 pub fn is_all(keyword: Keyword) -> bool
     ensures { result ≡ is_all keyword }
 {
@@ -259,7 +270,7 @@ pub fn is_all(keyword: Keyword) -> bool
     }
 }
 
-// the trace level that a whole number from 0 to 2 is
+/// The trace level that a whole number from 0 to 2 is.
 pub fn level_of(kind: TokenKind) -> Option<u8>
     ensures { result ≡ level_of kind }
 {

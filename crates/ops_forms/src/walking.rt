@@ -1,5 +1,7 @@
 //! Steps of a walk by places in words.
-ghost use Rattle.std.specs.Prelude.{◌≡◌};
+ghost use Rattle.std.specs.Prelude.{◌≡◌, ◌+◌, IfOk, Some, slice_get, true};
+ghost use Rattle.ops_meaning.specs.Grammar.{is_right};
+ghost use Rattle.ops_meaning.specs.declared.words.Word.{Word};
 ghost use Rattle.ops_forms.specs.Forms.{past_last};
 ghost use Rattle.ops_forms.specs.Walking.{Takes, ReadsClosing, IsFrom, fault_of};
 
@@ -27,6 +29,7 @@ pub fn first_of(words: &[Word], at: usize) -> Result<(Word, usize), Refusal>
 pub fn closing(words: &[Word], at: usize) -> Result<usize, Refusal>
     ensures reads { ReadsClosing words.now at result }
     ensures within { IsFrom at result }
+    ensures rest { IfOk result (λ next. (next ≡ at + 1) × (w : Word) × (slice_get words.now at ≡ Some w) × (is_right w.kind ≡ true)) }
 {
     let (word, rest) = first_of(words, at)?;
     if !is_right(word.kind) {

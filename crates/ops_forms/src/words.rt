@@ -1,5 +1,5 @@
 //! The words of a text.
-ghost use Rattle.std.specs.Prelude.{◌≡◌, bytes_eq, codes, All, IfOk, OnOk};
+ghost use Rattle.std.specs.Prelude.{◌≡◌, bytes_eq, All, IfOk, OnOk};
 ghost use Rattle.ops_tokens.specs.Tokens.{spelling, LiesIn};
 ghost use Rattle.ops_meaning.specs.Words.{keyword_of, keyword_of_symbol, keyword_of_function, keyword_of_command, keyword_of_operator, has_name, names_with, name_in, word_of, words_from, names_from};
 

@@ -1,9 +1,9 @@
--- The options, one by one.
+-- The options and the flags, one by one.
 use Rattle.std.proofs.Common.{◌≡◌, ◌||◌, Bool, true, false, codes, refl, sym, subst}
 use Rattle.std.specs.Str.{bytes_eq}
 use Rattle.std.proofs.lemmas.Slice.Eq.{bytes_eq-Decides}
 use Rattle.std.proofs.lemmas.Bool.{true≢false}
-use Rattle.ops_jobs.specs.CommandLine.{Word, is_option}
+use Rattle.ops_jobs.specs.CommandLine.{Word, is_flag, is_option}
 
 -- what holds of each of the four holds of whatever is an option
 pub each_option : (P : Word → Type 0) → P (codes "match") → P (codes "workers") → P (codes "lines") → P (codes "limit")
@@ -21,3 +21,11 @@ each_option P a b c d name is =
     go false false true v e f g h is = same _ g c
     go false false false true e f g h is = same _ h d
     go false false false false e f g h is = absurd (true≢false (sym is))
+
+-- and what holds of the one flag holds of whatever is a flag
+pub each_flag : (P : Word → Type 0) → P (codes "net") → (name : Word) → is_flag name ≡ true → P name
+each_flag P a name is = go (bytes_eq (codes "net") name) refl is
+  where
+    go : (s : Bool) → bytes_eq (codes "net") name ≡ s → (s || false) ≡ true → P name
+    go true e is = subst P ((bytes_eq-Decides (codes "net") name).0 e) a
+    go false e is = absurd (true≢false (sym is))

@@ -1,4 +1,5 @@
 pub mod EachOption
 pub mod Limits
 mod Spelling
+pub mod Flags
 mod Rows

@@ -1,4 +1,4 @@
--- What a job keeps: the limits of its numbers, and that no value is dashed.
+-- What a job keeps: the limits of its numbers, that no value is dashed, and that a network has no options.
 use Rattle.std.proofs.Common.{◌≡◌, ◌∙◌, ◌≢◌, ◌≤◌, ℕ, Bool, cond, true, false, List, [], ◌∷◌, length, codes, Option, Some, None, is_some, option_map, refl, sym, ap, subst, arith}
 use Rattle.std.specs.Prelude.{slice_index, option_and_then}
 use Rattle.std.specs.List.{list_all}
@@ -12,8 +12,8 @@ use Rattle.ops_jobs.specs.declared.jobs.Engine.{Engine}
 use Rattle.ops_jobs.specs.declared.jobs.Engine.TheVariants.{Direct}
 use Rattle.ops_jobs.specs.declared.jobs.Options.{Options}
 use Rattle.ops_jobs.specs.declared.jobs.Job.{Job}
-use Rattle.ops_jobs.specs.declared.jobs.Job.TheVariants.{Run}
-use Rattle.ops_jobs.specs.CommandLine.{Piece, Word, engine_from, files_of, is_complete, is_number, is_option, job_from, job_of, number_from, options_of, pieces_of, value_of}
+use Rattle.ops_jobs.specs.declared.jobs.Job.TheVariants.{Net}
+use Rattle.ops_jobs.specs.CommandLine.{Piece, Word, engine_from, files_of, is_complete, is_number, is_option, is_raised, job_for, job_from, job_of, number_from, options_of, pieces_of, value_of}
 use Rattle.ops_jobs.specs.Laws.{IsWithinLimits, KeepsLimits}
 use Rattle.ops_jobs.proofs.EachOption.{each_option}
 
@@ -84,13 +84,13 @@ record IsJobOf (pieces : List Piece) (job : Job) : Type 0 where
   options : Options
   complete : is_complete pieces ≡ true
   from : options_of pieces ≡ Some options
-  job_is : job ≡ Run options (files_of pieces)
+  job_is : job ≡ job_for (is_raised (codes "net") pieces) options (files_of pieces)
 
 job_parts : (pieces : List Piece) (job : Job) → job_from pieces ≡ Some job → IsJobOf pieces job
 job_parts pieces job e = go (is_complete pieces) refl (options_of pieces) refl e
   where
     go : (t : Bool) → is_complete pieces ≡ t → (o : Option Options) → options_of pieces ≡ o
-        → cond t (option_map (λ options. Run options (files_of pieces)) o) None ≡ Some job → IsJobOf pieces job
+        → cond t (option_map (λ options. job_for (is_raised (codes "net") pieces) options (files_of pieces)) o) None ≡ Some job → IsJobOf pieces job
     go false incomplete o from none = absurd (true≢false (sym (ap is_some none)))
     go true complete None from none = absurd (true≢false (sym (ap is_some none)))
     go true complete (Some options) from same = record { options = options; complete = complete; from = from; job_is = sym (cc) }
@@ -119,10 +119,16 @@ options_within pieces o complete from =
       some_files = leb-true 1 (length (files_of pieces)) (and_parts _ _ complete).1;
     }
 
+-- whether it is a network or not
+job_keeps : (t : Bool) (options : Options) (files : List Word) → IsWithinLimits options files → KeepsLimits (job_for t options files)
+job_keeps true options files within = within.some_files
+job_keeps false options files within = within
+
 pub job_within : (words : List Word) (job : Job) → job_of words ≡ Some job → KeepsLimits job
 job_within words job e =
     let of = of_words words job e in
-    subst KeepsLimits (sym of.2.job_is) (options_within of.0 of.2.options of.2.complete of.2.from)
+    subst KeepsLimits (sym of.2.job_is)
+    (job_keeps (is_raised (codes "net") of.0) of.2.options (files_of of.0) (options_within of.0 of.2.options of.2.complete of.2.from))
 
 -- ---- no value is dashed
 
@@ -163,3 +169,13 @@ no_dashed_value words job pieces option value e are known is =
     let of = of_words words job e in
     let same : of.0 ≡ pieces = cc in
     value_not_dashed of.0 of.2.options of.2.from option known value (rw same is)
+
+-- ---- a network
+
+pub network_of_files : (words : List Word) (job : Job) (pieces : List Piece) → job_of words ≡ Some job → pieces_of words ≡ Some pieces
+    → is_raised (codes "net") pieces ≡ true → job ≡ Net (files_of pieces)
+network_of_files words job pieces e are raised =
+    let of = of_words words job e in
+    let same : of.0 ≡ pieces = cc in
+    let is : is_raised (codes "net") of.0 ≡ true = ap (is_raised (codes "net")) same ∙ raised in
+    of.2.job_is ∙ (ap (λ t. job_for t of.2.options (files_of of.0)) is ∙ ap (λ (ps : List Piece). Net (files_of ps)) same)

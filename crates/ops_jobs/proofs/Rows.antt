@@ -3,7 +3,7 @@ use Rattle.std.proofs.Common.{◌≡◌, [], ◌∷◌, Some, None, codes, refl}
 use Rattle.ops_jobs.specs.CommandLine.{Word, job_of, pieces_from}
 use Rattle.ops_jobs.specs.declared.jobs.Engine.TheVariants.{Direct}
 use Rattle.ops_jobs.specs.declared.jobs.Options.{Options}
-use Rattle.ops_jobs.specs.declared.jobs.Job.TheVariants.{Run}
+use Rattle.ops_jobs.specs.declared.jobs.Job.TheVariants.{Net, Run}
 
 abbrev usual : Options
 usual = record { engine = Direct; workers = 4; lines = 1024; limit = 1000000 }
@@ -144,6 +144,38 @@ a_flag_that_generates : job_of (codes "--gen" ∷ codes "1" ∷ codes "2" ∷ []
 unfolding pieces_from
 a_flag_that_generates = refl
 
-a_flag_that_counts : job_of (codes "--net" ∷ codes "f" ∷ []) ≡ None
+a_network : job_of (codes "--net" ∷ codes "f" ∷ []) ≡ Some (Net (codes "f" ∷ []))
 unfolding pieces_from
-a_flag_that_counts = refl
+a_network = refl
+
+a_network_with_a_limit : job_of (codes "f" ∷ codes "--net" ∷ codes "--limit=3" ∷ codes "g" ∷ []) ≡ Some (Net (codes "f" ∷ codes "g" ∷ []))
+unfolding pieces_from
+a_network_with_a_limit = refl
+
+a_network_of_a_file_like_a_flag : job_of (codes "--net" ∷ codes "--" ∷ codes "--net" ∷ []) ≡ Some (Net (codes "--net" ∷ []))
+unfolding pieces_from
+a_network_of_a_file_like_a_flag = refl
+
+a_network_without_a_file : job_of (codes "--net" ∷ []) ≡ None
+unfolding pieces_from
+a_network_without_a_file = refl
+
+a_flag_with_a_value : job_of (codes "--net=1" ∷ codes "f" ∷ []) ≡ None
+unfolding pieces_from
+a_flag_with_a_value = refl
+
+a_flag_with_an_empty_value : job_of (codes "--net=" ∷ codes "f" ∷ []) ≡ None
+unfolding pieces_from
+a_flag_with_an_empty_value = refl
+
+two_flags : job_of (codes "--net" ∷ codes "--net" ∷ codes "f" ∷ []) ≡ None
+unfolding pieces_from
+two_flags = refl
+
+a_network_with_a_limit_of_zero : job_of (codes "--net" ∷ codes "--limit" ∷ codes "0" ∷ codes "f" ∷ []) ≡ None
+unfolding pieces_from
+a_network_with_a_limit_of_zero = refl
+
+a_flag_as_a_value : job_of (codes "--limit" ∷ codes "--net" ∷ codes "f" ∷ []) ≡ None
+unfolding pieces_from
+a_flag_as_a_value = refl

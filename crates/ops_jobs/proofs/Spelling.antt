@@ -3,9 +3,9 @@ use Rattle.std.proofs.Common.{◌≡◌, ◌↔◌, ◌==◌, ◌&&◌, ◌||◌
 use Rattle.std.specs.List.{after_first, before_first, list_any, position_or_len}
 use Rattle.std.specs.Str.{bytes_eq}
 use Rattle.std.proofs.lemmas.Bool.{eqb-true, true≢false}
-use Rattle.ops_jobs.specs.CommandLine.{Piece, Sort, Word, ends_options, file, given, gives, is_dashed, is_option, names, opens, option_sort, pieces_from, pieces_of, read_as, sort_of, unknown, with_piece}
-use Rattle.ops_jobs.specs.Laws.{Spells, apart, attached, closed, named, nothing}
-use Rattle.ops_jobs.proofs.EachOption.{each_option}
+use Rattle.ops_jobs.specs.CommandLine.{Piece, Sort, Word, ends_options, file, flag_sort, flagged, given, gives, is_dashed, is_flag, is_option, names, opens, option_sort, pieces_from, pieces_of, raises, read_as, sort_of, unknown, with_piece}
+use Rattle.ops_jobs.specs.Laws.{Spells, apart, attached, closed, named, nothing, raised}
+use Rattle.ops_jobs.proofs.EachOption.{each_flag, each_option}
 
 -- ---- a word cut at its first `=`
 
@@ -40,25 +40,35 @@ abbrev IsSpelled : Sort → Word → Type 0
 IsSpelled ends_options word = word ≡ codes "--"
 IsSpelled (gives option value) word = (is_option option ≡ true) × (word ≡ codes "--" ++ (option ++ (codes "=" ++ value)))
 IsSpelled (opens option) word = (is_option option ≡ true) × (word ≡ codes "--" ++ option)
+IsSpelled (raises flag) word = (is_flag flag ≡ true) × (word ≡ codes "--" ++ flag)
 IsSpelled unknown word = Unit {0}
 IsSpelled names word = is_dashed word ≡ false
 
+abbrev valued : Word → Option Word
+valued rest = cond (list_any (λ b. b == 61) rest) (Some (after_first (λ b. b == 61) rest)) None
+
+-- a word behind its two dashes, where its name is an option's or a flag's
+abbrev named_sort : Word → Bool → Bool → Option Word → Sort
+named_sort name s f value = cond s (option_sort name value) (cond f (flag_sort name value) unknown)
+
 abbrev long_sort : Word → Sort
-long_sort rest = cond (bytes_eq rest []) ends_options (cond (is_option (before_first (λ b. b == 61) rest))
-    (option_sort (before_first (λ b. b == 61) rest) (cond (list_any (λ b. b == 61) rest) (Some (after_first (λ b. b == 61) rest)) None)) unknown)
+long_sort rest = cond (bytes_eq rest []) ends_options
+    (named_sort (before_first (λ b. b == 61) rest) (is_option (before_first (λ b. b == 61) rest)) (is_flag (before_first (λ b. b == 61) rest)) (valued rest))
 
 long_is_spelled : (rest : Word) → IsSpelled (long_sort rest) (45 ∷ 45 ∷ rest)
 long_is_spelled [] = refl
-long_is_spelled (c ∷ cs) = go (is_option name) refl (list_any (λ b. b == 61) (c ∷ cs)) refl
+long_is_spelled (c ∷ cs) = go (is_option name) refl (is_flag name) refl (list_any (λ b. b == 61) (c ∷ cs)) refl
   where
     name : Word
     name = before_first (λ b. b == 61) (c ∷ cs)
 
-    go : (s : Bool) → is_option name ≡ s → (t : Bool) → list_any (λ b. b == 61) (c ∷ cs) ≡ t
-        → IsSpelled (cond s (option_sort name (cond t (Some (after_first (λ b. b == 61) (c ∷ cs))) None)) unknown) (45 ∷ 45 ∷ c ∷ cs)
-    go false strange t e = tt
-    go true known true has = (known, ap (λ x. 45 ∷ 45 ∷ x) (sym (rejoined (c ∷ cs) has)))
-    go true known false lacks = (known, ap (λ x. 45 ∷ 45 ∷ x) (sym (whole (c ∷ cs) lacks)))
+    go : (s : Bool) → is_option name ≡ s → (f : Bool) → is_flag name ≡ f → (t : Bool) → list_any (λ b. b == 61) (c ∷ cs) ≡ t
+        → IsSpelled (named_sort name s f (cond t (Some (after_first (λ b. b == 61) (c ∷ cs))) None)) (45 ∷ 45 ∷ c ∷ cs)
+    go true known f e true has = (known, ap (λ x. 45 ∷ 45 ∷ x) (sym (rejoined (c ∷ cs) has)))
+    go true known f e false lacks = (known, ap (λ x. 45 ∷ 45 ∷ x) (sym (whole (c ∷ cs) lacks)))
+    go false other true known true has = tt
+    go false other true known false lacks = (known, ap (λ x. 45 ∷ 45 ∷ x) (sym (whole (c ∷ cs) lacks)))
+    go false other false strange t e = tt
 
 sort_is_spelled : (word : Word) → IsSpelled (sort_of word) word
 sort_is_spelled [] = refl
@@ -70,8 +80,9 @@ sort_is_spelled (a ∷ []) = go (a == 45)
 sort_is_spelled (a ∷ b ∷ rest) = go (a == 45) refl (b == 45) refl
   where
     go : (s : Bool) → (a == 45) ≡ s → (t : Bool) → (b == 45) ≡ t
-        → IsSpelled (cond (s && (t && bytes_eq rest [])) ends_options (cond (s && t && is_option (before_first (λ c. c == 61) rest))
-        (option_sort (before_first (λ c. c == 61) rest) (cond (list_any (λ c. c == 61) rest) (Some (after_first (λ c. c == 61) rest)) None)) (cond s unknown names))) (a ∷ b ∷ rest)
+        → IsSpelled (cond (s && (t && bytes_eq rest [])) ends_options
+        (cond (s && t && is_option (before_first (λ c. c == 61) rest)) (option_sort (before_first (λ c. c == 61) rest) (valued rest))
+        (cond (s && t && is_flag (before_first (λ c. c == 61) rest)) (flag_sort (before_first (λ c. c == 61) rest) (valued rest)) (cond s unknown names)))) (a ∷ b ∷ rest)
     go false other t e = other
     go true dash false other = tt
     go true dash true also =
@@ -83,6 +94,9 @@ sort-attached = each_option (λ option. (value : Word) → sort_of (codes "--" +
 
 sort-apart : (option : Word) → is_option option ≡ true → sort_of (codes "--" ++ option) ≡ opens option
 sort-apart = each_option (λ option. sort_of (codes "--" ++ option) ≡ opens option) refl refl refl refl
+
+sort-raised : (flag : Word) → is_flag flag ≡ true → sort_of (codes "--" ++ flag) ≡ raises flag
+sort-raised = each_flag (λ flag. sort_of (codes "--" ++ flag) ≡ raises flag) refl
 
 sort-named : (name : Word) → is_dashed name ≡ false → sort_of name ≡ names
 sort-named [] plain = refl
@@ -119,6 +133,10 @@ by_sort word words (opens option) pieces is e rest =
     let parts = rest (Some option) pieces e in
     subst (Spells (word ∷ words)) (sym parts.4) (subst (λ ws. Spells (word ∷ ws) (given option parts.0 ∷ parts.2)) (sym parts.3)
     (subst (λ w. Spells (w ∷ parts.0 ∷ parts.1) (given option parts.0 ∷ parts.2)) (sym is.1) (apart option parts.0 parts.1 parts.2 is.0 parts.5 parts.6)))
+by_sort word words (raises flag) pieces is e rest =
+    let parts = with_piece_parts (flagged flag) (pieces_from words None) pieces e in
+    subst (Spells (word ∷ words)) parts.2
+    (subst (λ w. Spells (w ∷ words) (flagged flag ∷ parts.0)) (sym is.1) (raised flag words parts.0 is.0 (rest None parts.0 parts.1)))
 by_sort word words unknown pieces is e rest = absurd (true≢false (sym (ap is_some e)))
 by_sort word words names pieces is e rest =
     let parts = with_piece_parts (file word) (pieces_from words None) pieces e in
@@ -150,6 +168,7 @@ unfolding pieces_from
 read _ _ nothing = refl
 read _ _ (attached option value words pieces known rest) = rw (sort-attached option known value, read words pieces rest) refl
 read _ _ (apart option value words pieces known plain rest) = rw (sort-apart option known, plain, read words pieces rest) refl
+read _ _ (raised flag words pieces known rest) = rw (sort-raised flag known, read words pieces rest) refl
 read _ _ (named name words pieces plain rest) = rw (sort-named name plain, read words pieces rest) refl
 read _ _ (closed files) = refl
 

@@ -1,5 +1,5 @@
 -- What the words of the command line mean. In a word `-` is 45 and `=` is 61.
-use Rattle.std.specs.Prelude.{ℕ, ◌==◌, ◌&&◌, ◌∷◌, [], List, Bool, false, length, map, drop, codes, nat_le, bytes_eq, if◌then◌else◌, slice_get}
+use Rattle.std.specs.Prelude.{ℕ, ◌==◌, ◌&&◌, ◌∷◌, ◌++◌, [], List, Bool, true, false, length, map, drop, codes, nat_le, bytes_eq, if◌then◌else◌, slice_get}
 use Rattle.std.specs.Prelude.{Option, Some, None, option_map, option_and_then}
 use Rattle.std.specs.List.{list_all, list_any, before_first, after_first}
 use Rattle.std.specs.Char.{is_ascii_digit}
@@ -9,7 +9,7 @@ use Rattle.ops_jobs.specs.declared.jobs.Engine.{Engine}
 use Rattle.ops_jobs.specs.declared.jobs.Engine.TheVariants.{Direct}
 use Rattle.ops_jobs.specs.declared.jobs.Options.{Options}
 use Rattle.ops_jobs.specs.declared.jobs.Job.{Job}
-use Rattle.ops_jobs.specs.declared.jobs.Job.TheVariants.{Run}
+use Rattle.ops_jobs.specs.declared.jobs.Job.TheVariants.{Run, Net}
 
 abbrev pub Word : Type 0
 Word = List ℕ
@@ -21,6 +21,13 @@ option_names = codes "match" ∷ codes "workers" ∷ codes "lines" ∷ codes "li
 
 abbrev pub is_option : Word → Bool
 is_option name = list_any (λ option. bytes_eq option name) option_names
+
+-- flags take no value
+abbrev pub flag_names : List Word
+flag_names = codes "net" ∷ []
+
+abbrev pub is_flag : Word → Bool
+is_flag name = list_any (λ flag. bytes_eq flag name) flag_names
 
 -- two bytes or more, of which the first is `-`
 abbrev pub is_dashed : Word → Bool
@@ -40,12 +47,13 @@ name_in word = before_first (λ b. b == 61) (drop 2 word)
 abbrev pub value_in : Word → Option Word
 value_in word = if list_any (λ b. b == 61) (drop 2 word) then Some (after_first (λ b. b == 61) (drop 2 word)) else None
 
--- What a word is where no option waits for its value: the word `--`, an option with its value, an option that takes the next word, none
--- of these but like one, or a name.
+-- What a word is where no option waits for its value: the word `--`, an option with its value, an option that takes the next word, a flag,
+-- none of these but like one, or a name.
 pub data Sort : Type 0 where
   ends_options : Sort
   gives : (option value : Word) → Sort
   opens : (option : Word) → Sort
+  raises : (flag : Word) → Sort
   unknown : Sort
   names : Sort
 
@@ -53,18 +61,25 @@ abbrev pub option_sort : Word → Option Word → Sort
 option_sort option (Some value) = gives option value
 option_sort option None = opens option
 
+-- a flag has no `=`
+abbrev pub flag_sort : Word → Option Word → Sort
+flag_sort flag (Some value) = unknown
+flag_sort flag None = raises flag
+
 abbrev pub sort_of : Word → Sort
 sort_of word =
     if bytes_eq word (codes "--") then ends_options
     else if is_long word && is_option (name_in word) then option_sort (name_in word) (value_in word)
+    else if is_long word && is_flag (name_in word) then flag_sort (name_in word) (value_in word)
     else if is_dashed word then unknown
     else names
 
 -- ---- how words are read, from left to right
 
--- an option with its value, or a file
+-- an option with its value, a flag, or a file
 pub data Piece : Type 0 where
   given : (option value : Word) → Piece
+  flagged : (flag : Word) → Piece
   file : (name : Word) → Piece
 
 abbrev pub with_piece : Piece → Option (List Piece) → Option (List Piece)
@@ -75,6 +90,7 @@ abbrev pub read_as : Sort → Word → List Word → (Option Word → Option (Li
 read_as ends_options word words rest = Some (map file words)
 read_as (gives option value) word words rest = with_piece (given option value) (rest None)
 read_as (opens option) word words rest = rest (Some option)
+read_as (raises flag) word words rest = with_piece (flagged flag) (rest None)
 read_as unknown word words rest = None
 read_as names word words rest = with_piece (file word) (rest None)
 
@@ -90,20 +106,22 @@ pieces_of words = pieces_from words None
 
 -- ---- what the pieces ask for
 
--- the values that the option was given
+-- the values that the option or flag of this name was given: a flag that stands is given `true`
 abbrev pub values_of : Word → List Piece → List Word
-values_of option [] = []
-values_of option (given other value ∷ pieces) = if bytes_eq other option then value ∷ values_of option pieces else values_of option pieces
-values_of option (file name ∷ pieces) = values_of option pieces
+values_of name [] = []
+values_of name (given option value ∷ pieces) = if bytes_eq option name then value ∷ values_of name pieces else values_of name pieces
+values_of name (flagged flag ∷ pieces) = if bytes_eq flag name then codes "true" ∷ values_of name pieces else values_of name pieces
+values_of name (file other ∷ pieces) = values_of name pieces
 
 abbrev pub files_of : List Piece → List Word
 files_of [] = []
 files_of (given option value ∷ pieces) = files_of pieces
+files_of (flagged flag ∷ pieces) = files_of pieces
 files_of (file name ∷ pieces) = name ∷ files_of pieces
 
--- each option stands at most once ..
+-- each option and each flag stands at most once ..
 abbrev pub is_once : List Piece → Bool
-is_once pieces = list_all (λ option. nat_le (length (values_of option pieces)) 1) option_names
+is_once pieces = list_all (λ name. nat_le (length (values_of name pieces)) 1) (option_names ++ flag_names)
 
 -- .. and there is a file
 abbrev pub is_complete : List Piece → Bool
@@ -139,8 +157,18 @@ options_from matching workers lines limit =
 abbrev pub options_of : List Piece → Option Options
 options_of pieces = options_from (value_of (codes "match") pieces) (value_of (codes "workers") pieces) (value_of (codes "lines") pieces) (value_of (codes "limit") pieces)
 
+-- the flag of this name stands
+abbrev pub is_raised : Word → List Piece → Bool
+is_raised flag pieces = nat_le 1 (length (values_of flag pieces))
+
+-- The options have no effect where the network is asked for.
+abbrev pub job_for : Bool → Options → List Word → Job
+job_for false options files = Run options files
+job_for true options files = Net files
+
 abbrev pub job_from : List Piece → Option Job
-job_from pieces = if is_complete pieces then option_map (λ options. Run options (files_of pieces)) (options_of pieces) else None
+job_from pieces =
+    if is_complete pieces then option_map (λ options. job_for (is_raised (codes "net") pieces) options (files_of pieces)) (options_of pieces) else None
 
 -- the job that the words ask for, where they fit
 abbrev pub job_of : List Word → Option Job

@@ -1,25 +1,27 @@
 -- What holds of the words of the command line, said apart from how they are read.
 use Rattle.std.specs.Prelude.{◌≡◌, ◌≤◌, List, [], ◌∷◌, ◌++◌, length, map, true, false, codes}
-use Rattle.ops_jobs.specs.CommandLine.{Word, Piece, given, file, files_of, is_dashed, is_option, values_of}
+use Rattle.ops_jobs.specs.CommandLine.{Word, Piece, given, flagged, file, files_of, is_dashed, is_flag, is_option, values_of}
 use Rattle.ops_jobs.specs.declared.jobs.TheConstants.{GREATEST_WORKERS, GREATEST_LINES, GREATEST_LIMIT}
 use Rattle.ops_jobs.specs.declared.jobs.Options.{Options}
 use Rattle.ops_jobs.specs.declared.jobs.Job.{Job}
-use Rattle.ops_jobs.specs.declared.jobs.Job.TheVariants.{Run}
+use Rattle.ops_jobs.specs.declared.jobs.Job.TheVariants.{Run, Net}
 
--- The words spell the pieces: `--OPTION=VALUE`, or `--OPTION` and `VALUE`, for an option with its value, a word that is not dashed for a
--- file, and behind `--` each word for a file.
+-- The words spell the pieces: `--OPTION=VALUE`, or `--OPTION` and `VALUE`, for an option with its value, `--FLAG` for a flag, a word that is
+-- not dashed for a file, and behind `--` each word for a file.
 pub data Spells : List Word → List Piece → Type 0 where
   nothing : Spells [] []
   attached : (option value : Word) (words : List Word) (pieces : List Piece) → is_option option ≡ true → Spells words pieces
       → Spells ((codes "--" ++ (option ++ (codes "=" ++ value))) ∷ words) (given option value ∷ pieces)
   apart : (option value : Word) (words : List Word) (pieces : List Piece) → is_option option ≡ true → is_dashed value ≡ false → Spells words pieces
       → Spells ((codes "--" ++ option) ∷ value ∷ words) (given option value ∷ pieces)
+  raised : (flag : Word) (words : List Word) (pieces : List Piece) → is_flag flag ≡ true → Spells words pieces
+      → Spells ((codes "--" ++ flag) ∷ words) (flagged flag ∷ pieces)
   named : (name : Word) (words : List Word) (pieces : List Piece) → is_dashed name ≡ false → Spells words pieces → Spells (name ∷ words) (file name ∷ pieces)
   closed : (names : List Word) → Spells (codes "--" ∷ names) (map file names)
 
--- the pieces say the same: each option has the same values, and the files are the same in the same order
+-- the pieces say the same: each option and each flag has the same values, and the files are the same in the same order
 pub record SayTheSame (ps qs : List Piece) : Type 0 where
-  pub values : (option : Word) → values_of option ps ≡ values_of option qs
+  pub values : (name : Word) → values_of name ps ≡ values_of name qs
   pub files : files_of ps ≡ files_of qs
 
 -- each number is in its range, and there is a file
@@ -34,3 +36,4 @@ pub record IsWithinLimits (options : Options) (files : List Word) : Type 0 where
 
 abbrev pub KeepsLimits : Job → Type 0
 KeepsLimits (Run options files) = IsWithinLimits options files
+KeepsLimits (Net files) = 1 ≤ length files

@@ -1,5 +1,5 @@
 //! The names of the files of a job.
-ghost use Rattle.std.specs.Prelude.{◌≡◌, [], length, IsTrue, ◌↔◌};
+ghost use Rattle.std.specs.Prelude.{◌≡◌, length};
 ghost use Rattle.ops_jobs.specs.Words.{word_bytes};
 
 use std::marker::Model;
@@ -39,9 +39,10 @@ impl FileList {
         self.names.len()
     }
 
-    pub fn is_empty(&self) -> bool
-        ensures { IsTrue result ↔ (self.now ≡ []) }
+    /// Takes no memory.
+    pub fn into_vec(self) -> Vec<String>
+        ensures { word_bytes result.items ≡ self }
     {
-        self.names.is_empty()
+        self.names
     }
 }

@@ -42,4 +42,6 @@ pub struct Options {
 pub enum Job {
     /// To run the program that the files hold, in their order.
     Run { options: Options, files: FileList },
+    /// To tell how large the network of that program is. The options are checked and have no effect.
+    Net { files: FileList },
 }

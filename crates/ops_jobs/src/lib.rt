@@ -11,5 +11,6 @@ pub use jobs::{
     GREATEST_WORKERS, Job, Options,
 };
 pub use laws::{
-    jobs_keep_limits, no_value_is_dashed, options_stand_anywhere, words_spell_their_pieces,
+    jobs_keep_limits, networks_have_no_options, no_value_is_dashed, options_stand_anywhere,
+    words_spell_their_pieces,
 };

@@ -1,5 +1,5 @@
 //! Conditions up to the arrow.
-ghost use Rattle.std.specs.Prelude.{◌≡◌, ◌∷◌, ◌++◌, drop, IfOk};
+ghost use Rattle.std.specs.Prelude.{◌∷◌, ◌++◌, drop, IfOk};
 ghost use Rattle.ops_meaning.specs.Grammar.{goes, more_patterns, left_ended, right_begun, FirstPattern, Patterns};
 ghost use Rattle.ops_forms.specs.Walking.{GoesAmong, IsFrom, IsBehind};
 ghost use Rattle.ops_lhs.specs.LeftSides.{IsArrow};

@@ -1,5 +1,5 @@
 //! Element variables.
-ghost use Rattle.std.specs.Prelude.{◌≡◌, ◌∷◌, ◌++◌, drop};
+ghost use Rattle.std.specs.Prelude.{◌∷◌, ◌++◌, drop};
 ghost use Rattle.ops_meaning.specs.Grammar.{goes, element_name, InPattern, Pattern, Braced, ElementName, ClosesBrace, ClassName, Terms};
 ghost use Rattle.ops_forms.specs.Walking.{GoesOn, GoesAmong, IsFrom};
 ghost use Rattle.ops_lhs.specs.Taking.{seen, Reads, Acts, ReadsAmong, ActsAmong, Among};

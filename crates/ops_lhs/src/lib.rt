@@ -15,4 +15,4 @@ mod tests;
 
 pub use reading::{left_side, read_lhs};
 pub use sides::LeftSide;
-pub use sight::{cells_from, cells_of};
+pub use sight::{cells_of_conditions, classes_of_cells};

@@ -1,7 +1,6 @@
 //! Left sides, from their words and from their tokens.
 ghost use Rattle.std.specs.Prelude.{◌≡◌, ◌≤◌, length, All, IfOk, IfErr};
 ghost use Rattle.ops_tokens.specs.Tokens.{LiesIn};
-ghost use Rattle.ops_forms.specs.Forms.{past_last};
 ghost use Rattle.ops_lhs.specs.LeftSides.{ReadsLeft, RefusesLeft, AreBehindArrow, IsLeftSide, IsRefused};
 ghost use Rattle.ops_forms.specs.Walking.{fault_of};
 

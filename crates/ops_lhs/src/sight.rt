@@ -16,8 +16,8 @@ pub fn show(alloc: Global, scope: &mut Scope, side: LeftSide) -> Result<Vec<Cond
     ensures ok { OnOk result (scope.new ≡ record scope.old { values = side.values; elements = side.elements; variables = side.variables; cells = cells_of side.conditions.items; conditions = cells_from 0 side.conditions.items }) }
     ensures err { OnErr result (scope.new ≡ scope.old) }
 {
-    let cells = cells_of(alloc, &side.conditions)?;
-    let conditions = cells_from(alloc, &side.conditions)?;
+    let cells = classes_of_cells(alloc, &side.conditions)?;
+    let conditions = cells_of_conditions(alloc, &side.conditions)?;
     scope.values = side.values;
     scope.elements = side.elements;
     scope.variables = side.variables;
@@ -26,8 +26,11 @@ pub fn show(alloc: Global, scope: &mut Scope, side: LeftSide) -> Result<Vec<Cond
     Ok(side.conditions)
 }
 
-/// The class of each cell. Takes time in proportion to the conditions, as `cells_from` does.
-pub fn cells_of(alloc: Global, conditions: &[Condition]) -> Result<Listed<usize>, OutOfMemory>
+/// The class of each cell. Takes time in proportion to the conditions, as `cells_of_conditions` does.
+pub fn classes_of_cells(
+    alloc: Global,
+    conditions: &[Condition],
+) -> Result<Listed<usize>, OutOfMemory>
     ensures { IfOk result (λ cells. cells ≡ cells_of conditions.now) }
 {
     let mut cells = Listed::new(alloc);
@@ -40,7 +43,7 @@ pub fn cells_of(alloc: Global, conditions: &[Condition]) -> Result<Listed<usize>
 }
 
 /// The cell of each condition, `None` for a negated one.
-pub fn cells_from(
+pub fn cells_of_conditions(
     alloc: Global,
     conditions: &[Condition],
 ) -> Result<Listed<Option<usize>>, OutOfMemory>

@@ -1,7 +1,6 @@
 //! Tests of a condition.
-ghost use Rattle.std.specs.Prelude.{◌≡◌};
-ghost use Rattle.ops_meaning.specs.Grammar.{goes, number_of, place, test, tested, variable_tested, atom_at, Place, Tests, Tested, Choice, Atom, ToTest};
-ghost use Rattle.ops_forms.specs.Walking.{Takes, IsFrom};
+ghost use Rattle.ops_meaning.specs.Grammar.{goes, number_of, place, test, tested, variable_tested, Place, Tests, Tested, Choice, Atom, ToTest};
+ghost use Rattle.ops_forms.specs.Walking.{IsFrom};
 ghost use Rattle.ops_lhs.specs.Taking.{Reads, Acts};
 
 use crate::left::Left;

@@ -1,5 +1,5 @@
 //! Actions up to the closing bracket of a production.
-ghost use Rattle.std.specs.Prelude.{◌≡◌, ◌∷◌, ◌++◌, drop, IfOk};
+ghost use Rattle.std.specs.Prelude.{◌∷◌, ◌++◌, drop, IfOk};
 ghost use Rattle.ops_meaning.specs.Grammar.{goes, Actions, ActionWord, Closes, EndsHalt};
 ghost use Rattle.ops_forms.specs.Walking.{IsFrom};
 ghost use Rattle.ops_rhs.specs.Taking.{seen, Reads, GoesTo, IsClosing, ReadsAnywhere};

@@ -1,5 +1,5 @@
 //! The functions that a value may be.
-ghost use Rattle.std.specs.Prelude.{◌≡◌, ◌∷◌, [], ◌++◌, drop, Some};
+ghost use Rattle.std.specs.Prelude.{◌∷◌, [], ◌++◌, drop, Some};
 ghost use Rattle.ops_meaning.specs.Grammar.{goes, function, function_depth, Function, ExpressionUnit, ExpressionRest, Closes, EndsWhole};
 ghost use Rattle.ops_forms.specs.Walking.{GoesOn, IsFrom};
 ghost use Rattle.ops_rhs.specs.Taking.{seen, target_of, with_term, Reads, Acts};

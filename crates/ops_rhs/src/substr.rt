@@ -1,6 +1,6 @@
 //! The function `substr`, which reads the values of a cell's element.
 ghost use Rattle.std.specs.Prelude.{◌≡◌, ◌∷◌, ◌++◌, ◌==◌, drop, position};
-ghost use Rattle.ops_base.specs.Valid.{class_of, is_vector};
+ghost use Rattle.ops_base.specs.Valid.{is_vector};
 ghost use Rattle.ops_meaning.specs.Grammar.{goes, takes_several, SourceCell, SourceAttribute, SourceEnd, Closes, EndsWhole};
 ghost use Rattle.ops_forms.specs.Walking.{GoesAmong, IsFrom};
 ghost use Rattle.ops_rhs.specs.Taking.{seen, target_of, source_class, IsAround, Reads, ReadsAnywhere};

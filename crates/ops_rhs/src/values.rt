@@ -1,5 +1,4 @@
 //! Values: constants, variables and functions.
-ghost use Rattle.std.specs.Prelude.{◌≡◌};
 ghost use Rattle.ops_meaning.specs.Grammar.{goes, value_for, bound_at, number_of, Atom, ValueFor};
 ghost use Rattle.ops_forms.specs.Walking.{IsFrom};
 ghost use Rattle.ops_rhs.specs.Taking.{target_of, Reads, Acts, ReadsAnywhere, ActsAnywhere};

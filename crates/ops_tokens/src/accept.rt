@@ -1,7 +1,7 @@
 //! The atoms that `accept` reads from an input.
 ghost use Rattle.std.specs.Prelude.{◌≡◌, ◌^◌, ◌<◌, ◌≤◌, ◌&&◌, map, OnErr, SomeIff, IsTrue};
 ghost use Rattle.ops_io.specs.Coming.{inlet};
-ghost use Rattle.ops_tokens.specs.Accepting.{Accepts, Spelled, shown, atom_of_run, most_accepted};
+ghost use Rattle.ops_tokens.specs.Accepting.{Accepts, Spelled, shown, most_accepted};
 ghost use Rattle.ops_tokens.specs.Numbers.{whole_value, is_in_range};
 ghost use Rattle.ops_tokens.specs.Spellings.{is_whole};
 ghost use Rattle.ops_tokens.specs.Taking.{GoesOn, GivesAtom, AcceptsBehind};
@@ -54,7 +54,9 @@ impl<T: Drop> From<AllocFailed<T>> for AcceptFault {
 }
 
 /// Reads one atom: white space is skipped, and the byte behind an atom without bars is not taken. A whole number of 64
-/// bits is that number, and any other atom a symbol. It takes at most 1,048,576 bytes, each in constant time.
+/// bits is that number, and any other atom a symbol, in which a byte that no text may have is shown as `?`. Where nothing is left it
+/// is the symbol `end-of-file`. More than 1,048,576 bytes are too many, and a read that fails is told as that. Each byte takes
+/// constant time.
 pub fn accept_atom<I: Source>(
     alloc: Global,
     names: &mut Names,

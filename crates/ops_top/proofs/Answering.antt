@@ -1,7 +1,8 @@
 -- What a delivered whole tells of the answer.
-use Rattle.std.proofs.Common.{◌≡◌, ℕ, List, [], Bool, true, false, ◌&&◌, Option, Some, None, is_some, option_map, unwrap_or, Result, Ok, Err, is_ok, refl, sym, ◌∙◌, subst, nat_lt, ◌⊎◌, inl, inr, arith}
+use Rattle.std.proofs.Common.{◌≡◌, ℕ, List, [], Bool, true, false, Option, Some, None, is_some, Result, Ok, Err, is_ok, refl, sym, ◌∙◌, subst, nat_lt, ◌⊎◌, inl, inr, arith}
 use Rattle.std.proofs.lemmas.Bool.Decides.{nat_tests}
 use Rattle.std.proofs.lemmas.List.{append-nil}
+use Rattle.ops_base.specs.ConflictSet.{conflict_set}
 use Rattle.ops_base.specs.declared.endings.Ending.{Ending}
 use Rattle.ops_io.specs.Coming.{Coming}
 use Rattle.ops_io.specs.Outside.{GrewBy, GrewByPrefix}
@@ -9,12 +10,13 @@ use Rattle.ops_io.specs.declared.stop.Stop.{Stop}
 use Rattle.ops_io.specs.declared.stop.Stop.TheVariants as stop
 use Rattle.ops_jobs.specs.CommandLine.{job_of}
 use Rattle.ops_jobs.specs.declared.jobs.Job.{Job}
+use Rattle.ops_jobs.specs.declared.jobs.Job.TheVariants.{Run, Net}
 use Rattle.ops_meaning.specs.declared.statuses.Status.{Status}
 use Rattle.ops_meaning.specs.declared.statuses.Status.TheVariants as status
 use Rattle.ops_meaning.specs.Reads.{Read, Placed, reads}
 use Rattle.ops_meaning.specs.Running.{Session, session_of, ending_of}
-use Rattle.ops_top.specs.Whole.{Reply, Answers, Gathered, Joined, Unread, Overlong, status_of, answer_read, answer_to, answer_gathered, gathered, readable, setting_of, usage, files_in, limit_in, whole_job, whole, words_fit, files_of, limit_of}
-use Rattle.ops_top.specs.Calls.{OfContents, OfInput, TellsFailedWrite, TellsWords, RunsThrough, all_told, gathered_runs_through, text_runs_through}
+use Rattle.ops_top.specs.Whole.{Reply, Answers, Gathered, Joined, Unread, Overlong, status_of, answer_program_by, answer_read, answer_to, answer_gathered, gathered, readable, setting_of, usage, files_in, whole_job, whole, words_fit, files_of}
+use Rattle.ops_top.specs.Calls.{OfContents, OfInput, TellsFailedWrite, TellsWords, RunsThrough, all_told, program_runs_through, text_runs_through, gathered_runs_through, job_runs_over, runs_over}
 use Rattle.ops_top.specs.Told.{Delivers, status_after}
 use Rattle.ops_top.proofs.StatusesOfText.{IsOfText, answer_to_of_text}
 use Rattle.ops_top.proofs.Contents.{AreTold, contents_of, contents_map, contents_some, told_are}
@@ -64,16 +66,16 @@ text_is_plain fails status.ReadFault p = tt
 text_is_plain fails status.WriteFault p = p
 text_is_plain fails status.OutOfMemory p = p
 
-gathered_is_plain : (limit : ℕ) (z : Coming) (g : Gathered) → IsPlain (answer_gathered limit z g).status
-gathered_is_plain limit z (Joined text) = text_is_plain z.fails (answer_to limit z text).status (answer_to_of_text limit z text)
-gathered_is_plain limit z (Unread name) = tt
-gathered_is_plain limit z Overlong = tt
+gathered_is_plain : (job : Job) (z : Coming) (g : Gathered) → IsPlain (answer_gathered job z g).status
+gathered_is_plain job z (Joined text) = text_is_plain z.fails (answer_to job z text).status (answer_to_of_text job z text)
+gathered_is_plain job z (Unread name) = tt
+gathered_is_plain job z Overlong = tt
 
 whole_is_plain : (ws : List (List ℕ)) (contents : List (Option (List ℕ))) (broken : Option ℕ) (z : Coming) → IsPlain (whole ws contents broken z).status
 whole_is_plain ws contents broken z = by (job_of ws)
   where
     by : (asked : Option Job) → IsPlain (whole_job asked contents broken z).status
-    by (Some job) = gathered_is_plain (limit_in job) z (gathered [] (files_in job) (readable contents broken))
+    by (Some job) = gathered_is_plain job z (gathered [] (files_in job) (readable contents broken))
     by None = tt
 
 plain_tells : (s : Status) (before now : ℕ) → IsPlain s → now ≡ before → TellsFailedWrite s before now
@@ -101,16 +103,16 @@ text_fits fails status.ReadFault p = refl
 text_fits fails status.WriteFault p = tt
 text_fits fails status.OutOfMemory p = tt
 
-gathered_fits : (limit : ℕ) (z : Coming) (g : Gathered) → TellsWords (answer_gathered limit z g).status true
-gathered_fits limit z (Joined text) = text_fits z.fails (answer_to limit z text).status (answer_to_of_text limit z text)
-gathered_fits limit z (Unread name) = refl
-gathered_fits limit z Overlong = refl
+gathered_fits : (job : Job) (z : Coming) (g : Gathered) → TellsWords (answer_gathered job z g).status true
+gathered_fits job z (Joined text) = text_fits z.fails (answer_to job z text).status (answer_to_of_text job z text)
+gathered_fits job z (Unread name) = refl
+gathered_fits job z Overlong = refl
 
 whole_tells_words : (ws : List (List ℕ)) (contents : List (Option (List ℕ))) (broken : Option ℕ) (z : Coming) → TellsWords (whole ws contents broken z).status (words_fit ws)
 whole_tells_words ws contents broken z = by (job_of ws)
   where
     by : (asked : Option Job) → TellsWords (whole_job asked contents broken z).status (is_some asked)
-    by (Some job) = gathered_fits (limit_in job) z (gathered [] (files_in job) (readable contents broken))
+    by (Some job) = gathered_fits job z (gathered [] (files_in job) (readable contents broken))
     by None = refl
 
 tells_words : (r : Result Status Stop) (o : Reply) (fit : Bool) (k n : Option (List ℕ)) (b a : ℕ) → TellsWords o.status fit → Delivers r o k b n a → TellsWords (status_after r) fit
@@ -166,20 +168,24 @@ done_session : (o : Result Session Ending) → is_ok o ≡ true → status_of (e
 done_session (Ok m) h = refl
 done_session (Err f) h = absurd (cc)
 
-done_text : (limit : ℕ) (z : Coming) (text : List ℕ) (r : Result Read Placed) → text_runs_through limit z text r ≡ true → (answer_read limit z text r).status ≡ status.Done
-done_text limit z text (Err p) h = absurd (cc)
-done_text limit z text (Ok p) h = done_session (session_of (setting_of text p) limit p.commands p.names z).outcome h
+done_program : (job : Job) (z : Coming) (text : List ℕ) (p : Read) → program_runs_through job z text p ≡ true → (answer_program_by conflict_set job z text p).status ≡ status.Done
+done_program (Run options files) z text p h = done_session (session_of (setting_of text p) options.limit p.commands p.names z).outcome h
+done_program (Net files) z text p h = refl
 
-done_gathered : (limit : ℕ) (z : Coming) (g : Gathered) → gathered_runs_through limit z g ≡ true → (answer_gathered limit z g).status ≡ status.Done
-done_gathered limit z (Joined text) h = done_text limit z text (reads text) h
-done_gathered limit z (Unread name) h = absurd (cc)
-done_gathered limit z Overlong h = absurd (cc)
+done_text : (job : Job) (z : Coming) (text : List ℕ) (r : Result Read Placed) → text_runs_through job z text r ≡ true → (answer_read job z text r).status ≡ status.Done
+done_text job z text (Err p) h = absurd (cc)
+done_text job z text (Ok p) h = done_program job z text p h
 
-done_whole : (z : Coming) (ws : List (List ℕ)) (contents : List (Option (List ℕ))) → (words_fit ws && gathered_runs_through (limit_of ws) z (gathered [] (files_of ws) contents)) ≡ true → (whole ws contents None z).status ≡ status.Done
-done_whole z ws contents runs = by (job_of ws) runs
+done_gathered : (job : Job) (z : Coming) (g : Gathered) → gathered_runs_through job z g ≡ true → (answer_gathered job z g).status ≡ status.Done
+done_gathered job z (Joined text) h = done_text job z text (reads text) h
+done_gathered job z (Unread name) h = absurd (cc)
+done_gathered job z Overlong h = absurd (cc)
+
+done_whole : (left : List ℕ) (ws : List (List ℕ)) (contents : List (Option (List ℕ))) → runs_over ws contents left ≡ true → (whole ws contents None (record { bytes = left; fails = false })).status ≡ status.Done
+done_whole left ws contents runs = by (job_of ws) runs
   where
-    by : (asked : Option Job) → (is_some asked && gathered_runs_through (unwrap_or (option_map limit_in asked) 0) z (gathered [] (unwrap_or (option_map files_in asked) []) contents)) ≡ true → (whole_job asked contents None z).status ≡ status.Done
-    by (Some job) runs = done_gathered (limit_in job) z (gathered [] (files_in job) contents) runs
+    by : (asked : Option Job) → job_runs_over asked contents left ≡ true → (whole_job asked contents None (record { bytes = left; fails = false })).status ≡ status.Done
+    by (Some job) runs = done_gathered job (record { bytes = left; fails = false }) (gathered [] (files_in job) contents) runs
     by None runs = absurd (cc)
 
 done_or_short : (s : Status) (o : Reply) (k n : Option (List ℕ)) (b a : ℕ) → o.status ≡ status.Done → Answers s o k n → TellsFailedWrite s b a → a ≡ b → (s ≡ status.Done) ⊎ (s ≡ status.OutOfMemory)
@@ -200,12 +206,12 @@ module _ (s : Status) (ws : List (List ℕ)) (k n : Option (List ℕ)) (b a : �
       → OfInput old new (nat_lt before now) (λ z. Answers s (whole ws contents None z) k n) → (s ≡ status.Done) ⊎ (s ≡ status.OutOfMemory)
   over_contents contents None new before now steady h p =
       let z : Coming = p.0 in
-      let R : Bool → Type 0 = λ fails. (words_fit ws && gathered_runs_through (limit_of ws) (record { bytes = z.bytes; fails = fails }) (gathered [] (files_of ws) contents)) ≡ true in
-      done_or_short s (whole ws contents None z) k n b a (done_whole z ws contents (subst R (sym (p.1 ∙ unbroken before now steady)) (h z.bytes))) p.2 w e
+      let R : Bool → Type 0 = λ fails. (whole ws contents None (record { bytes = z.bytes; fails = fails })).status ≡ status.Done in
+      done_or_short s (whole ws contents None z) k n b a (subst R (sym (p.1 ∙ unbroken before now steady)) (done_whole z.bytes ws contents (h z.bytes))) p.2 w e
   over_contents contents (Some left) new before now steady h p =
       let z : Coming = record { bytes = left; fails = false } in
       let I : Bool → Type 0 = λ failed. OfInput (Some left) new failed (λ z. Answers s (whole ws contents None z) k n) in
-      done_or_short s (whole ws contents None z) k n b a (done_whole z ws contents h) (subst I (unbroken before now steady) p) w e
+      done_or_short s (whole ws contents None z) k n b a (done_whole left ws contents h) (subst I (unbroken before now steady) p) w e
 
   -- a program that runs through is done, where no device failed
   pub runs_to_end : (told : List ℕ → Option (Option (List ℕ))) (broken : Option ℕ) (old new : Option (List ℕ)) (before now : ℕ) → broken ≡ None → now ≡ before

@@ -5,6 +5,7 @@ use Rattle.ops_base.specs.Valid.{longest_list}
 use Rattle.ops_base.specs.declared.endings.Fault.{Fault}
 use Rattle.ops_base.specs.declared.endings.Fault.TheVariants as fault
 use Rattle.ops_io.specs.Coming.{Coming}
+use Rattle.ops_jobs.specs.declared.jobs.Job.{Job}
 use Rattle.ops_meaning.specs.Places.{line_of}
 use Rattle.ops_meaning.specs.Reads.{reads}
 use Rattle.ops_top.specs.Whole.{refused_at, answer_read, answer_to}
@@ -12,11 +13,11 @@ use Rattle.ops_check.specs.declared.faults.ProgramFault.TheVariants as refusal
 use Rattle.ops_check.specs.Answered.{IsRefusal}
 
 -- a refusal is answered with its line and column, whatever the input is
-pub refusal_is : (text : List ℕ) (f : Fault) (line column : ℕ) (limit : ℕ) (coming : Coming) → IsRefusal text (refusal.At f line column) → refused_at f line column ≡ answer_to limit coming text
-refusal_is text f line column limit coming p =
-    ap (λ (n : ℕ). refused_at f n column) p.2 ∙ ap (refused_at f (line_of text p.0)) p.3 ∙ ap (answer_read limit coming text) (sym p.1)
+pub refusal_is : (text : List ℕ) (f : Fault) (line column : ℕ) (job : Job) (coming : Coming) → IsRefusal text (refusal.At f line column) → refused_at f line column ≡ answer_to job coming text
+refusal_is text f line column job coming p =
+    ap (λ (n : ℕ). refused_at f n column) p.2 ∙ ap (refused_at f (line_of text p.0)) p.3 ∙ ap (answer_read job coming text) (sym p.1)
 
 -- a text that is too long is refused at its first byte
-pub too_long : (text : List ℕ) (limit : ℕ) (coming : Coming) → longest_list < length text → refused_at fault.TooLong 1 1 ≡ answer_to limit coming text
+pub too_long : (text : List ℕ) (job : Job) (coming : Coming) → longest_list < length text → refused_at fault.TooLong 1 1 ≡ answer_to job coming text
 unfolding reads
-too_long text limit coming long = rw (lt-ltb longest_list (length text) long) refl
+too_long text job coming long = rw (lt-ltb longest_list (length text) long) refl

@@ -37,18 +37,18 @@ rules_held n classes rules commands h = (and_parts _ _ (and_parts _ _ h).0).1
 
 module _ {i j : Inlet} {a b : Port} {e : Coming → Effect Ending Meant} (names new : Spellings) (rules : List Rule) where
   -- what the session wrote was put
-  pub put_ended : (f : Ending) → EndsOn (Ok f) i j a b e → (xs : List ℕ) × Put a b xs
+  pub put_ended : (f : Ending) → EndsOn (Ok f) i j a b new e → (xs : List ℕ) × Put a b xs
   put_ended f p = let z = some_failing i j in ((e (preceded_by p.taken z.0)).bytes, (p.ends z.0 z.1).1)
 
   -- the session gave up
-  pub tells_stopped : (why : Stop) → EndsOn (Err why) i j a b e → TellsOn (Err why) i j a b names rules e
+  pub tells_stopped : (why : Stop) → EndsOn (Err why) i j a b new e → TellsOn (Err why) i j a b names rules e
   tells_stopped why p = record { taken = p.taken; took = p.took; tells = λ z h. one (e (preceded_by p.taken z)) (p.ends z h) }
     where
       one : (e : Effect Ending Meant) → Stopped why a b e.bytes → Stopped why a b (told names rules e).bytes
       one e q = stopped_more why a b e.bytes (last_line names rules (column_after 0 e.bytes) (ending_of e.outcome)) q
 
   module _ (classes : List Class) (commands : List Command) (keeps : KeepsNames names new) (some : 0 < length names.held) (held : IsTrue (is_held (length names.held) classes rules commands)) (c : Port) (zero_column : a.out.column ≡ 0)
-      (f : Ending) (p : EndsOn (Ok f) i j a b e) where
+      (f : Ending) (p : EndsOn (Ok f) i j a b new e) where
     -- the line with the names as they are is the line with the names as they were
     line_is : (e : Effect Ending Meant) → f ≡ ending_of e.outcome → Put a b e.bytes → last_line new rules b.out.column f ≡ last_line names rules (column_after 0 e.bytes) (ending_of e.outcome)
     line_is e is q =
@@ -56,18 +56,18 @@ module _ {i j : Inlet} {a b : Port} {e : Coming → Effect Ending Meant} (names 
 
     -- the last line was refused
     pub tells_cut : (why : Stop) → Stopped why b c (last_line new rules b.out.column f) → TellsOn (Err why) i j a c names rules e
-    tells_cut why s = record { taken = p.taken; took = p.took; tells = λ z h. one (e (preceded_by p.taken z)) (p.ends z h) }
+    tells_cut why s = record { taken = p.taken; took = p.took; tells = λ z h. one z (e (preceded_by p.taken z)) (p.ends z h) }
       where
-        one : (e : Effect Ending Meant) → EndsSession (Ok f) a b e → Stopped why a c (told names rules e).bytes
-        one e q =
+        one : (z : Coming) (e : Effect Ending Meant) → EndsSession (Ok f) a b new z e → Stopped why a c (told names rules e).bytes
+        one z e q =
             let P : List ℕ → Type 0 = λ xs. Stopped why a c (e.bytes ++ xs) in
             subst P (line_is e q.0 q.1) (stopped_then why a b c e.bytes (last_line new rules b.out.column f) q.1 s)
 
     -- the session and its last line were put
     pub tells_all : Put b c (last_line new rules b.out.column f) → TellsOn (Ok f) i j a c names rules e
-    tells_all s = record { taken = p.taken; took = p.took; tells = λ z h. one (e (preceded_by p.taken z)) (p.ends z h) }
+    tells_all s = record { taken = p.taken; took = p.took; tells = λ z h. one z (e (preceded_by p.taken z)) (p.ends z h) }
       where
-        one : (e : Effect Ending Meant) → EndsSession (Ok f) a b e → (f ≡ ending_of e.outcome) × Put a c (told names rules e).bytes
-        one e q =
+        one : (z : Coming) (e : Effect Ending Meant) → EndsSession (Ok f) a b new z e → (f ≡ ending_of e.outcome) × Put a c (told names rules e).bytes
+        one z e q =
             let P : List ℕ → Type 0 = λ xs. Put a c (e.bytes ++ xs) in
             (q.0, subst P (line_is e q.0 q.1) (put_then a b c e.bytes (last_line new rules b.out.column f) q.1 s))

@@ -1,14 +1,17 @@
 -- The statuses that a text can be answered with: its session asks no device but the input, and wants no memory.
 use Rattle.std.proofs.Common.{◌≡◌, ℕ, List, true, Result, Ok, Err, Bool, MatchResult}
+use Rattle.ops_base.specs.ConflictSet.{conflict_set}
 use Rattle.ops_base.specs.declared.endings.Ending.{Ending}
 use Rattle.ops_base.specs.declared.endings.Ending.TheVariants as ending
 use Rattle.ops_io.specs.Coming.{Coming}
+use Rattle.ops_jobs.specs.declared.jobs.Job.{Job}
+use Rattle.ops_jobs.specs.declared.jobs.Job.TheVariants.{Run, Net}
 use Rattle.ops_meaning.specs.declared.statuses.Status.{Status}
 use Rattle.ops_meaning.specs.declared.statuses.Status.TheVariants as status
 use Rattle.ops_meaning.specs.Reads.{Read, Placed, reads}
 use Rattle.ops_meaning.specs.Running.{Session, session_of, ending_of}
 use Rattle.ops_meaning.proofs.RisingTags.{KeptCourse, EndsSession, session_goes_on}
-use Rattle.ops_top.specs.Whole.{status_of, answer_read, answer_to, setting_of}
+use Rattle.ops_top.specs.Whole.{status_of, answer_program_by, answer_read, answer_to, setting_of}
 
 -- a status that the text decides with its input: a read fault comes only where that fails
 abbrev pub IsOfText : Bool → Status → Type 0
@@ -30,12 +33,16 @@ ended_of_text kept fails (Err ending.ReadFault) p = p
 ended_of_text kept fails (Err ending.WriteFault) p = absurd p
 ended_of_text kept fails (Err ending.OutOfMemory) p = absurd p
 
-answer_read_of_text : (limit : ℕ) (coming : Coming) (text : List ℕ) (r : Result Read Placed) → IsOfText coming.fails (answer_read limit coming text r).status
-answer_read_of_text limit coming text (Err p) = tt
-answer_read_of_text limit coming text (Ok p) =
+program_of_text : (job : Job) (coming : Coming) (text : List ℕ) (p : Read) → IsOfText coming.fails (answer_program_by conflict_set job coming text p).status
+program_of_text (Run options files) coming text p =
     ended_of_text (λ (k : Session). KeptCourse p.names coming.fails k.course) coming.fails
-    (session_of (setting_of text p) limit p.commands p.names coming).outcome (session_goes_on (setting_of text p) limit p.commands p.names coming)
+    (session_of (setting_of text p) options.limit p.commands p.names coming).outcome (session_goes_on (setting_of text p) options.limit p.commands p.names coming)
+program_of_text (Net files) coming text p = tt
+
+answer_read_of_text : (job : Job) (coming : Coming) (text : List ℕ) (r : Result Read Placed) → IsOfText coming.fails (answer_read job coming text r).status
+answer_read_of_text job coming text (Err p) = tt
+answer_read_of_text job coming text (Ok p) = program_of_text job coming text p
 
 -- the status of a text
-pub answer_to_of_text : (limit : ℕ) (coming : Coming) (text : List ℕ) → IsOfText coming.fails (answer_to limit coming text).status
-answer_to_of_text limit coming text = answer_read_of_text limit coming text (reads text)
+pub answer_to_of_text : (job : Job) (coming : Coming) (text : List ℕ) → IsOfText coming.fails (answer_to job coming text).status
+answer_to_of_text job coming text = answer_read_of_text job coming text (reads text)

@@ -1,12 +1,16 @@
 -- What a call of the program leaves, beside the bytes: what each answer tells of the words and of the outside.
-use Rattle.std.specs.Prelude.{◌≡◌, ℕ, ◌+◌, ◌-◌, ◌≤◌, nat_lt, List, [], ◌∷◌, ◌++◌, length, take, slice_index_or, Bool, true, false, ◌&&◌, if◌then◌else◌, Option, Some, None, option_map, option_and_then, Result, Ok, Err, is_ok, ◌⊎◌}
+use Rattle.std.specs.Prelude.{◌≡◌, ℕ, ◌+◌, ◌-◌, ◌≤◌, nat_lt, List, [], ◌∷◌, ◌++◌, length, take, slice_index_or, Bool, true, false, if◌then◌else◌, Option, Some, None, option_map, option_and_then, Result, Ok, Err, is_ok, ◌⊎◌}
 use Rattle.std.specs.Io.KnownBytes.{prepend_known}
 use Rattle.ops_io.specs.Coming.{Coming}
 use Rattle.ops_meaning.specs.declared.statuses.Status.{Status}
 use Rattle.ops_meaning.specs.declared.statuses.Status.TheVariants as status
+use Rattle.ops_base.specs.declared.endings.Fault.TheVariants as fault
 use Rattle.ops_meaning.specs.Reads.{Read, Placed, reads}
 use Rattle.ops_meaning.specs.Running.{session_of}
-use Rattle.ops_top.specs.Whole.{Gathered, Joined, gathered, words_fit, files_of, limit_of, setting_of}
+use Rattle.ops_jobs.specs.CommandLine.{job_of}
+use Rattle.ops_jobs.specs.declared.jobs.Job.{Job}
+use Rattle.ops_jobs.specs.declared.jobs.Job.TheVariants.{Run, Net}
+use Rattle.ops_top.specs.Whole.{Gathered, Joined, gathered, files_in, files_of, setting_of}
 
 -- It holds for the content that is told of a file, or for some content where none is told.
 abbrev pub OfContent : Option (Option (List ℕ)) → (Option (List ℕ) → Type 0) → Type 0
@@ -64,12 +68,18 @@ TellsWords status.WriteFault fit = Unit {0}
 TellsWords status.OutOfMemory fit = Unit {0}
 TellsWords s fit = fit ≡ true
 
--- the text of all files was had
+-- The text of all files was had. (A text that is too long is that of files which do not fit, of which the last ones may not be asked for.)
 abbrev pub has_text : Status → Bool
 has_text status.Done = true
 has_text (status.ActFault firing rule action kind) = true
 has_text status.Limit = true
+has_text (status.Refused fault.TooLong line column) = false
+has_text (status.Refused f line column) = true
 has_text _ = false
+
+abbrev pub is_refused : Status → Bool
+is_refused (status.Refused f line column) = true
+is_refused _ = false
 
 -- The first of these files were asked for, in their order, each once; all of them, where that is so.
 pub record AskedFor (all : Bool) (files old new : List (List ℕ)) : Type 0 where
@@ -87,20 +97,29 @@ AskedForWords s words false old new = new ≡ old
 abbrev pub last_of : List (List ℕ) → List ℕ
 last_of names = slice_index_or names (length names - 1) []
 
--- The text is a program whose session, of so many firings at most, comes to its end over this input.
-abbrev pub text_runs_through : ℕ → Coming → List ℕ → Result Read Placed → Bool
-text_runs_through limit coming text (Err p) = false
-text_runs_through limit coming text (Ok p) = is_ok (session_of (setting_of text p) limit p.commands p.names coming).outcome
+-- The program's session comes to its end, within its limit, over this input; its network is told always.
+abbrev pub program_runs_through : Job → Coming → List ℕ → Read → Bool
+program_runs_through (Run options files) coming text p = is_ok (session_of (setting_of text p) options.limit p.commands p.names coming).outcome
+program_runs_through (Net files) coming text p = true
+
+-- The text is such a program.
+abbrev pub text_runs_through : Job → Coming → List ℕ → Result Read Placed → Bool
+text_runs_through job coming text (Err p) = false
+text_runs_through job coming text (Ok p) = program_runs_through job coming text p
 
 -- So is what the files come to.
-abbrev pub gathered_runs_through : ℕ → Coming → Gathered → Bool
-gathered_runs_through limit coming (Joined text) = text_runs_through limit coming text (reads text)
-gathered_runs_through limit coming g = false
+abbrev pub gathered_runs_through : Job → Coming → Gathered → Bool
+gathered_runs_through job coming (Joined text) = text_runs_through job coming text (reads text)
+gathered_runs_through job coming g = false
 
--- The words fit, and the files of these contents are a program whose session comes to its end, within its limit, over an input of these bytes.
+abbrev pub job_runs_over : Option Job → List (Option (List ℕ)) → List ℕ → Bool
+job_runs_over None contents left = false
+job_runs_over (Some job) contents left = gathered_runs_through job (record { bytes = left; fails = false }) (gathered [] (files_in job) contents)
+
+-- The words fit, and the files of these contents are a program whose session comes to its end, within its limit, over an input of these
+-- bytes, or whose network is asked for.
 abbrev pub runs_over : List (List ℕ) → List (Option (List ℕ)) → List ℕ → Bool
-runs_over words contents left =
-    words_fit words && gathered_runs_through (limit_of words) (record { bytes = left; fails = false }) (gathered [] (files_of words) contents)
+runs_over words contents left = job_runs_over (job_of words) contents left
 
 -- the contents of these files, where those of all are told
 abbrev pub all_told : (List ℕ → Option (Option (List ℕ))) → List (List ℕ) → Option (List (Option (List ℕ)))
@@ -108,7 +127,7 @@ all_told told [] = Some []
 all_told told (name ∷ names) = option_and_then (λ content. option_map (λ contents. content ∷ contents) (all_told told names)) (told name)
 
 -- The words fit, the files are there, and they are a program whose session comes to its end, within its limit, over the input that is
--- left; where the source does not tell that, over every input that ends.
+-- left, or whose network is asked for; where the source does not tell that, over every input that ends.
 abbrev pub RunsThrough : List (List ℕ) → Option (List (Option (List ℕ))) → Option (List ℕ) → Type 0
 RunsThrough words (Some contents) (Some left) = runs_over words contents left ≡ true
 RunsThrough words (Some contents) None = (left : List ℕ) → runs_over words contents left ≡ true

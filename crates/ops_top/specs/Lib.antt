@@ -1,3 +1,4 @@
+pub mod NetLines
 pub mod Whole
 pub mod Codes
 pub mod Told

@@ -1,6 +1,7 @@
 -- How a part of a run tells its outcome, or gives up.
-use Rattle.std.specs.Prelude.{◌≡◌, ℕ, List, Option, Result, Ok, Err}
+use Rattle.std.specs.Prelude.{◌≡◌, ℕ, ◌+◌, List, Option, Result, Ok, Err, ◌⊎◌}
 use Rattle.ops_base.specs.declared.endings.Ending.{Ending}
+use Rattle.ops_base.specs.declared.endings.Ending.TheVariants as ending
 use Rattle.ops_io.specs.Outside.{GrewBy, GrewByPrefix}
 use Rattle.ops_io.specs.Ports.{Port, Put, Stopped, Cause}
 use Rattle.ops_io.specs.declared.stop.Stop.{Stop}
@@ -30,6 +31,12 @@ status_after (Err stop.OutOfMemory) = status.OutOfMemory
 abbrev pub TellsSession : Result Ending Stop → Port → Port → Spellings → List Rule → Effect Ending Meant → Type 0
 TellsSession (Ok f) old new names rules e = (f ≡ ending_of e.outcome) × Put old new (told names rules e).bytes
 TellsSession (Err why) old new names rules e = Stopped why old new (told names rules e).bytes
+
+-- A read of the input failed exactly where that is the ending. Where the call gave up one may have failed, as where the last line was refused.
+abbrev pub CountsTold : Result Ending Stop → ℕ → ℕ → Type 0
+CountsTold (Ok ending.ReadFault) before now = now ≡ before + 1
+CountsTold (Err why) before now = (now ≡ before) ⊎ (now ≡ before + 1)
+CountsTold (Ok f) before now = now ≡ before
 
 -- It took bytes of the input, and whatever may come behind them, it tells the session over those and that.
 pub record TellsOn (r : Result Ending Stop) (before now : Inlet) (old new : Port) (names : Spellings) (rules : List Rule) (e : Coming → Effect Ending Meant) : Type 0 where

@@ -1,8 +1,8 @@
 -- What the program answers to its words and files.
-use Rattle.std.specs.Prelude.{◌≡◌, ℕ, ◌-◌, List, [], ◌∷◌, ◌++◌, length, slice_set, Bool, true, ◌==◌, nat_le, if◌then◌else◌, Option, Some, None, is_some, option_map, unwrap_or, Result, Ok, Err}
+use Rattle.std.specs.Prelude.{◌≡◌, ℕ, ◌-◌, List, [], ◌∷◌, ◌++◌, length, slice_set, Bool, true, false, ◌==◌, nat_le, if◌then◌else◌, Option, Some, None, is_some, option_map, unwrap_or, Result, Ok, Err}
 use Rattle.ops_jobs.specs.CommandLine.{job_of}
 use Rattle.ops_jobs.specs.declared.jobs.Job.{Job}
-use Rattle.ops_jobs.specs.declared.jobs.Job.TheVariants.{Run}
+use Rattle.ops_jobs.specs.declared.jobs.Job.TheVariants.{Run, Net}
 use Rattle.ops_base.specs.declared.rules.Rule.{Rule}
 use Rattle.ops_base.specs.ConflictSet.{conflict_set}
 use Rattle.ops_base.specs.Valid.{longest_list}
@@ -23,6 +23,8 @@ use Rattle.ops_meaning.specs.Reads.{Read, Placed, reads}
 use Rattle.ops_meaning.specs.Acting.{Setting}
 use Rattle.ops_meaning.specs.Running.{Finder, Session, session_by, ending_of}
 use Rattle.ops_meaning.specs.Kept.{FindsConflictSets}
+use Rattle.net_base.specs.Counting.{shape_of}
+use Rattle.ops_top.specs.NetLines.{net_lines}
 
 -- the bytes that are written, and the status
 pub record Reply : Type 0 where
@@ -36,17 +38,19 @@ words_fit words = is_some (job_of words)
 
 abbrev pub files_in : Job → List (List ℕ)
 files_in (Run options files) = files
+files_in (Net files) = files
 
-abbrev pub limit_in : Job → ℕ
-limit_in (Run options files) = options.limit
+abbrev pub is_run : Job → Bool
+is_run (Run options files) = true
+is_run (Net files) = false
+
+-- the words fit, and ask for a session
+abbrev pub ask_for_run : List (List ℕ) → Bool
+ask_for_run words = unwrap_or (option_map is_run (job_of words)) false
 
 -- the files that are asked for, in their order, where the words fit
 abbrev pub files_of : List (List ℕ) → List (List ℕ)
 files_of words = unwrap_or (option_map files_in (job_of words)) []
-
--- how many firings the session makes at most, where the words fit
-abbrev pub limit_of : List (List ℕ) → ℕ
-limit_of words = unwrap_or (option_map limit_in (job_of words)) 0
 
 -- it ends in LF
 abbrev pub ends_in_line : List ℕ → Bool
@@ -91,12 +95,22 @@ setting_of text p = record { classes = p.classes; rules = p.rules; text = text; 
 abbrev pub Find : Type 0
 Find = List Rule → Finder
 
-abbrev pub answer_read_by : Find → ℕ → Coming → List ℕ → Result Read Placed → Reply
-answer_read_by find limit coming text (Err p) = refused text p
-answer_read_by find limit coming text (Ok p) = told p.names p.rules (session_by (find p.rules) (setting_of text p) limit p.commands p.names coming)
+-- how large the network of these rules is
+abbrev pub net_told : List Rule → Reply
+net_told rules = record { bytes = net_lines (shape_of rules); status = status.Done }
 
-abbrev pub answer_to_by : Find → ℕ → Coming → List ℕ → Reply
-answer_to_by find limit coming text = answer_read_by find limit coming text (reads text)
+-- the answer to a program: its session with at most so many firings, or its network
+abbrev pub answer_program_by : Find → Job → Coming → List ℕ → Read → Reply
+answer_program_by find (Run options files) coming text p =
+    told p.names p.rules (session_by (find p.rules) (setting_of text p) options.limit p.commands p.names coming)
+answer_program_by find (Net files) coming text p = net_told p.rules
+
+abbrev pub answer_read_by : Find → Job → Coming → List ℕ → Result Read Placed → Reply
+answer_read_by find job coming text (Err p) = refused text p
+answer_read_by find job coming text (Ok p) = answer_program_by find job coming text p
+
+abbrev pub answer_to_by : Find → Job → Coming → List ℕ → Reply
+answer_to_by find job coming text = answer_read_by find job coming text (reads text)
 
 -- ---- the files
 
@@ -129,15 +143,14 @@ unread name = record { bytes = unread_line name; status = status.ReadFault }
 abbrev pub usage : Reply
 usage = record { bytes = usage_line; status = status.Usage }
 
-abbrev pub answer_gathered_by : Find → ℕ → Coming → Gathered → Reply
-answer_gathered_by find limit coming (Joined text) = answer_to_by find limit coming text
-answer_gathered_by find limit coming (Unread name) = unread name
-answer_gathered_by find limit coming Overlong = refused_at fault.TooLong 1 1
+abbrev pub answer_gathered_by : Find → Job → Coming → Gathered → Reply
+answer_gathered_by find job coming (Joined text) = answer_to_by find job coming text
+answer_gathered_by find job coming (Unread name) = unread name
+answer_gathered_by find job coming Overlong = refused_at fault.TooLong 1 1
 
 abbrev pub whole_job_by : Find → Option Job → List (Option (List ℕ)) → Option ℕ → Coming → Reply
 whole_job_by find None contents broken coming = usage
-whole_job_by find (Some job) contents broken coming =
-    answer_gathered_by find (limit_in job) coming (gathered [] (files_in job) (readable contents broken))
+whole_job_by find (Some job) contents broken coming = answer_gathered_by find job coming (gathered [] (files_in job) (readable contents broken))
 
 -- The words are those of the command line, the contents those of the files that they name, in their order, none where one is not there;
 -- `broken` tells which load failed, counted from 1, if one did; and this input is to come.
@@ -146,14 +159,14 @@ whole_by find words contents broken coming = whole_job_by find (job_of words) co
 
 -- ---- the same, by the conflict sets
 
-abbrev pub answer_read : ℕ → Coming → List ℕ → Result Read Placed → Reply
-answer_read limit coming text r = answer_read_by conflict_set limit coming text r
+abbrev pub answer_read : Job → Coming → List ℕ → Result Read Placed → Reply
+answer_read job coming text r = answer_read_by conflict_set job coming text r
 
-abbrev pub answer_to : ℕ → Coming → List ℕ → Reply
-answer_to limit coming text = answer_to_by conflict_set limit coming text
+abbrev pub answer_to : Job → Coming → List ℕ → Reply
+answer_to job coming text = answer_to_by conflict_set job coming text
 
-abbrev pub answer_gathered : ℕ → Coming → Gathered → Reply
-answer_gathered limit coming g = answer_gathered_by conflict_set limit coming g
+abbrev pub answer_gathered : Job → Coming → Gathered → Reply
+answer_gathered job coming g = answer_gathered_by conflict_set job coming g
 
 abbrev pub whole_job : Option Job → List (Option (List ℕ)) → Option ℕ → Coming → Reply
 whole_job job contents broken coming = whole_job_by conflict_set job contents broken coming

@@ -1,23 +1,25 @@
 //! The answer to a text.
-ghost use Rattle.std.specs.Prelude.{◌≡◌, ◌^◌, ◌<◌, ℕ, List, [], length, nat_lt, IsTrue};
+ghost use Rattle.std.specs.Prelude.{◌≡◌, ◌^◌, ◌<◌, ℕ, List, [], length, nat_lt, true, false, IsTrue};
 ghost use Rattle.std.specs.Io.KnownBytes.{prepend_known};
+ghost use Rattle.ops_base.specs.ConflictSet.{conflict_set};
 ghost use Rattle.ops_io.specs.Coming.{inlet};
 ghost use Rattle.ops_io.specs.Ports.{port};
+ghost use Rattle.ops_meaning.specs.Reads.{Read};
 ghost use Rattle.ops_meaning.specs.Running.{session_of};
 ghost use Rattle.ops_meaning.specs.Symbols.{is_held};
-ghost use Rattle.ops_top.specs.Whole.{status_of, told, answer_to};
+ghost use Rattle.ops_top.specs.Whole.{status_of, told, answer_program_by, answer_to, is_run};
 ghost use Rattle.act_phase.specs.Outcomes.{setting_of};
-ghost use Rattle.ops_top.specs.Calls.{OfInput, TellsFailedInput};
-ghost use Rattle.ops_top.specs.Told.{Delivers, status_after, TellsOn};
-ghost use Rattle.session.specs.Endings.{CountsUnread};
+ghost use Rattle.ops_top.specs.Calls.{OfInput, TellsFailedInput, is_refused};
+ghost use Rattle.ops_top.specs.Told.{Delivers, status_after, CountsTold, TellsOn};
 
-use crate::saying::refuse;
+use crate::saying::{refuse, say_network};
 use direct_engine::DirectEngine;
 use ops_base::endings::Ending;
 use ops_base::programs::Program;
 use ops_base::symbols::Names;
 use ops_check::{ProgramFault, read_program};
 use ops_io::{Input, Out, Sink, Source, Stop};
+use ops_jobs::Job;
 use ops_meaning::Status;
 use ops_print::put_fault;
 use session::run_session;
@@ -25,7 +27,8 @@ use std::alloc::Global;
 use work_store::Matcher;
 
 fn status_of(ending: Ending) -> Status
-    ensures { result ≡ status_of ending }
+    ensures is { result ≡ status_of ending }
+    ensures unrefused { is_refused result ≡ false }
 {
     match ending {
         Ending::Done { .. } => Status::Done,
@@ -75,7 +78,7 @@ fn tell_session<M: Matcher, I: Source, K: Sink>(
         (port (K.taken sink.old) (K.faults sink.old) out.old)
         (port (K.taken sink.new) (K.faults sink.new) out.new)
         names.old program.now.rules (λ c. session_of (setting_of program.now 0) limit program.now.commands names.old c) }
-    ensures reads { CountsUnread result (I.faults source.old) (I.faults source.new) }
+    ensures reads { CountsTold result (I.faults source.old) (I.faults source.new) }
 {
     let ending = run_session(
         alloc, hand, program, names, matcher, limit, input, source, out, sink,
@@ -103,6 +106,7 @@ fn answer_program<I: Source, K: Sink>(
         (K.taken sink.old) (K.faults sink.old) (K.taken sink.new) (K.faults sink.new)) }
     ensures reads { TellsFailedInput (status_after result) (I.faults source.old) (I.faults source.new) }
     ensures input { (got : List ℕ) × (I.left source.old ≡ prepend_known got (I.left source.new)) }
+    ensures unrefused { is_refused (status_after result) ≡ false }
 {
     let engine = DirectEngine::new(alloc, program)?;
     let mut input = Input::new(alloc)?;
@@ -123,24 +127,56 @@ fn answer_program<I: Source, K: Sink>(
     Ok(status_of(ending))
 }
 
-/// The answer to a text: its fault, or what its session writes.
+/// The answer to a program: what its session writes, or how large its network is.
+fn answer_job<I: Source, K: Sink>(
+    alloc: Global,
+    program: &Program,
+    names: &mut Names,
+    job: &Job,
+    source: &mut I,
+    sink: &mut K,
+) -> Result<Status, Stop>
+    requires faults { K.faults sink.old < 2 ^ 63 }
+    requires reads { I.faults source.old < 2 ^ 63 }
+    requires some { 0 < length names.old.held }
+    requires held { IsTrue (is_held (length names.old.held) program.now.classes program.now.rules program.now.commands) }
+    ensures delivers { let read : Read = record { classes = program.now.classes; rules = program.now.rules; commands = program.now.commands; names = names.old } in
+        OfInput (I.left source.old) (I.left source.new) (nat_lt (I.faults source.old) (I.faults source.new))
+        (λ coming. Delivers result (answer_program_by conflict_set job.now coming program.now.text read)
+        (K.taken sink.old) (K.faults sink.old) (K.taken sink.new) (K.faults sink.new)) }
+    ensures reads { TellsFailedInput (status_after result) (I.faults source.old) (I.faults source.new) }
+    ensures input { (got : List ℕ) × (I.left source.old ≡ prepend_known got (I.left source.new)) }
+    ensures untouched { is_run job.now ≡ false → source.new ≡ source.old }
+    ensures unrefused { is_refused (status_after result) ≡ false }
+{
+    match job {
+        Job::Run { options, .. } => {
+            answer_program(alloc, program, names, options.limit, source, sink)
+        }
+        Job::Net { .. } => say_network(alloc, program, sink),
+    }
+}
+
+/// The answer to a text: its fault, or what its session writes, or how large its network is.
 pub fn answer_text<I: Source, K: Sink>(
     alloc: Global,
     text: Vec<u8>,
-    limit: u64,
+    job: &Job,
     input: &mut I,
     sink: &mut K,
 ) -> Result<Status, Stop>
     requires faults { K.faults sink.old < 2 ^ 63 }
     requires reads { I.faults input.old < 2 ^ 63 }
     ensures delivers { OfInput (I.left input.old) (I.left input.new) (nat_lt (I.faults input.old) (I.faults input.new))
-        (λ coming. Delivers result (answer_to limit coming text.items)
+        (λ coming. Delivers result (answer_to job.now coming text.items)
         (K.taken sink.old) (K.faults sink.old) (K.taken sink.new) (K.faults sink.new)) }
     ensures reads { TellsFailedInput (status_after result) (I.faults input.old) (I.faults input.new) }
     ensures input { (got : List ℕ) × (I.left input.old ≡ prepend_known got (I.left input.new)) }
+    ensures untouched { is_run job.now ≡ false → input.new ≡ input.old }
+    ensures refused { is_refused (status_after result) ≡ true → input.new ≡ input.old }
 {
     match read_program(alloc, text) {
-        Ok((program, mut names)) => answer_program(alloc, &program, &mut names, limit, input, sink),
+        Ok((program, mut names)) => answer_job(alloc, &program, &mut names, job, input, sink),
         Err(
             ProgramFault::At {
                 fault,

@@ -1,8 +1,10 @@
-//! The lines that answer words, files and texts that are not run.
-ghost use Rattle.std.specs.Prelude.{◌≡◌, IfOk};
+//! The lines that answer words, files and texts that are not run, and those that tell a network.
+ghost use Rattle.std.specs.Prelude.{◌≡◌, ◌++◌, IfOk, OnOk};
 ghost use Rattle.ops_meaning.specs.Layout.{usage_line, unread_line, fault_line};
+ghost use Rattle.ops_top.specs.NetLines.{count_line, net_lines};
 
 use itoa::Buffer;
+use net_base::counts::Counts;
 use ops_base::endings::Fault;
 use ops_base::memory::OutOfMemory;
 use ops_check::fault_text;
@@ -43,4 +45,28 @@ pub fn fault_line(
     text.extend_from_slice(fault_text(fault).as_bytes())?;
     text.push(b'\n')?;
     Ok(text)
+}
+
+/// Adds a number behind its name.
+fn add_count(lines: &mut Vec<u8>, name: &[u8], count: usize) -> Result<(), OutOfMemory>
+    ensures { OnOk result (lines.new.items ≡ lines.old.items ++ count_line name.now count) }
+{
+    let mut buffer = Buffer::new();
+    lines.extend_from_slice(name)?;
+    lines.push(b' ')?;
+    lines.extend_from_slice(buffer.format(count).as_bytes())?;
+    lines.push(b'\n')?;
+    Ok(())
+}
+
+/// The lines that tell how large a network is.
+pub fn net_lines(alloc: Global, counts: Counts) -> Result<Vec<u8>, OutOfMemory>
+    ensures { IfOk result (λ v. v.items ≡ net_lines counts) }
+{
+    let mut lines = Vec::new(alloc);
+    add_count(&mut lines, b"alpha", counts.alpha)?;
+    add_count(&mut lines, b"join", counts.join)?;
+    add_count(&mut lines, b"negated", counts.negated)?;
+    add_count(&mut lines, b"terminal", counts.terminal)?;
+    Ok(lines)
 }

@@ -379,3 +379,71 @@ fn limit(rt: HostRuntime) -> Result<(), Fail> {
     assert_eq!(rt; sink.written(), expected);
     Ok(())
 }
+
+const TWIN: &[u8] = b"(literalize a n) (p twin (a ^n <x>) (a ^n <x>) --> )";
+
+const SHARED: &[u8] = b"(literalize a) (p first (a) --> ) (p second (a) --> )";
+
+// A binding is no test, and the same tests in another order make another node.
+const ORDERED: &[u8] = b"(literalize a n m)
+(p one (a ^n <x>) (a ^n <x> ^m <x>) --> )
+(p two (a ^n <y>) (a ^m <y> ^n <y>) --> )
+(p three (a) --> )";
+
+/// Words and a text, each with the status that answers them and what is written: the network of the text, or its fault.
+const NETWORKS: [(&[&str], &[u8], Status, &[u8]); 6] = [
+    (
+        &["--net", "a"],
+        b"",
+        Status::Done,
+        b"alpha 0\njoin 0\nnegated 0\nterminal 0\n",
+    ),
+    (
+        &["--net", "a"],
+        TWIN,
+        Status::Done,
+        b"alpha 1\njoin 2\nnegated 0\nterminal 1\n",
+    ),
+    (
+        &["a", "--net"],
+        SHARED,
+        Status::Done,
+        b"alpha 1\njoin 1\nnegated 0\nterminal 2\n",
+    ),
+    (
+        &["--net", "a"],
+        ORDERED,
+        Status::Done,
+        b"alpha 1\njoin 3\nnegated 0\nterminal 3\n",
+    ),
+    (
+        &["--limit=3", "--net", "a"],
+        BLOCKS,
+        Status::Done,
+        b"alpha 3\njoin 5\nnegated 2\nterminal 4\n",
+    ),
+    (
+        &["--net", "a"],
+        b")",
+        Status::Refused {
+            fault: Fault::Stray,
+            line: 1,
+            column: 1,
+        },
+        b"ops: 1:1: stray\n",
+    ),
+];
+
+#[test]
+fn networks(rt: HostRuntime) -> Result<(), Fail> {
+    let alloc = rt.alloc();
+    for (words, text, status, written) in NETWORKS {
+        let mut sink = MemSink::new(alloc, 1_000, 1_000, Vec::new(alloc))?;
+        assert_eq!(rt;
+            answer(&rt, alloc, words, &[("a", text)], &mut sink)?,
+            status
+        );
+        assert_eq!(rt; sink.written(), written);
+    }
+    Ok(())
+}

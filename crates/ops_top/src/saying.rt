@@ -1,10 +1,12 @@
-//! Saying one line and no more.
-ghost use Rattle.std.specs.Prelude.{◌≡◌, ◌^◌, ◌<◌};
-ghost use Rattle.ops_top.specs.Whole.{refused_at, unread, usage};
+//! Saying one line, or the lines of a network, and no more.
+ghost use Rattle.std.specs.Prelude.{◌≡◌, ◌^◌, ◌<◌, IfOk};
+ghost use Rattle.ops_top.specs.Whole.{net_told, refused_at, unread, usage};
 ghost use Rattle.ops_top.specs.Told.{Delivers, status_after};
 
-use crate::lines::{fault_line, unread_line, usage_line};
+use crate::lines::{fault_line, net_lines, unread_line, usage_line};
+use beta_net::compile;
 use ops_base::endings::Fault;
+use ops_base::programs::Program;
 use ops_io::{Out, Sink, Stop};
 use ops_meaning::Status;
 use std::alloc::Global;
@@ -12,8 +14,9 @@ use std::alloc::Global;
 /// Writes these bytes, and answers the status.
 fn say<K: Sink>(alloc: Global, bytes: &[u8], status: Status, sink: &mut K) -> Result<Status, Stop>
     requires faults { K.faults sink.old < 2 ^ 63 }
-    ensures { Delivers result (record { bytes = bytes.now; status = status })
+    ensures delivers { Delivers result (record { bytes = bytes.now; status = status })
         (K.taken sink.old) (K.faults sink.old) (K.taken sink.new) (K.faults sink.new) }
+    ensures said { IfOk result (λ s. s ≡ status) }
 {
     let mut out = Out::new(alloc)?;
     out.put(sink, bytes)?;
@@ -32,7 +35,8 @@ pub fn say_usage<K: Sink>(alloc: Global, sink: &mut K) -> Result<Status, Stop>
 /// Answers a file that can't be read.
 pub fn say_unread<K: Sink>(alloc: Global, name: &[u8], sink: &mut K) -> Result<Status, Stop>
     requires faults { K.faults sink.old < 2 ^ 63 }
-    ensures { Delivers result (unread name.now) (K.taken sink.old) (K.faults sink.old) (K.taken sink.new) (K.faults sink.new) }
+    ensures delivers { Delivers result (unread name.now) (K.taken sink.old) (K.faults sink.old) (K.taken sink.new) (K.faults sink.new) }
+    ensures said { IfOk result (λ s. s ≡ Status.ReadFault) }
 {
     let line = unread_line(alloc, name)?;
     say(alloc, &line, Status::ReadFault, sink)
@@ -47,8 +51,9 @@ pub fn refuse<K: Sink>(
     sink: &mut K,
 ) -> Result<Status, Stop>
     requires faults { K.faults sink.old < 2 ^ 63 }
-    ensures { Delivers result (refused_at fault line column)
+    ensures delivers { Delivers result (refused_at fault line column)
         (K.taken sink.old) (K.faults sink.old) (K.taken sink.new) (K.faults sink.new) }
+    ensures said { IfOk result (λ s. s ≡ Status.Refused fault line column) }
 {
     let text = fault_line(alloc, fault, line, column)?;
     let status = Status::Refused {
@@ -57,6 +62,18 @@ pub fn refuse<K: Sink>(
         column,
     };
     say(alloc, &text, status, sink)
+}
+
+/// Compiles the program and tells how large its network is.
+pub fn say_network<K: Sink>(alloc: Global, program: &Program, sink: &mut K) -> Result<Status, Stop>
+    requires faults { K.faults sink.old < 2 ^ 63 }
+    ensures delivers { Delivers result (net_told program.now.rules)
+        (K.taken sink.old) (K.faults sink.old) (K.taken sink.new) (K.faults sink.new) }
+    ensures said { IfOk result (λ s. s ≡ Status.Done) }
+{
+    let net = compile(alloc, program)?;
+    let lines = net_lines(alloc, net.counts())?;
+    say(alloc, &lines, Status::Done, sink)
 }
 
 /// The status of a call that may have given up.

@@ -33,7 +33,7 @@ fn words_of(alloc: Global, words: &[&str]) -> Result<Vec<String>, AllocError> {
 }
 
 /// What is answered to these words over these files and an input.
-pub fn answer_over<R: Threads + Wait + Clone + Drop + Send + Sync>(
+pub(crate) fn answer_over<R: Threads + Wait + Clone + Drop + Send + Sync>(
     rt: &R,
     alloc: Global,
     words: &[&str],
@@ -50,7 +50,7 @@ pub fn answer_over<R: Threads + Wait + Clone + Drop + Send + Sync>(
 }
 
 /// What is answered to these words over these files, where the input is empty.
-pub fn answer<R: Threads + Wait + Clone + Drop + Send + Sync>(
+pub(crate) fn answer<R: Threads + Wait + Clone + Drop + Send + Sync>(
     rt: &R,
     alloc: Global,
     words: &[&str],
@@ -70,7 +70,7 @@ const USAGE: &[u8] =
 const UNFIT: [&[&str]; 9] = [
     &[],
     &["-x", "f"],
-    &["--gen", "7"],
+    &["--net=1", "f"],
     &["--limit=1"],
     &["f", "--limit"],
     &["--limit", "0", "f"],

@@ -2,8 +2,8 @@
 ghost use Rattle.std.specs.Prelude.{◌≡◌, ◌^◌, ◌<◌, ◌⊎◌, ℕ, List, length, nat_lt, true, false, IfSome, IsSome};
 ghost use Rattle.std.specs.Io.KnownBytes.{prepend_known};
 ghost use Rattle.ops_jobs.specs.Words.{word_bytes};
-ghost use Rattle.ops_top.specs.Whole.{whole, unread, usage, Answers, GoesByConflictSetsAlone, words_fit, files_of};
-ghost use Rattle.ops_top.specs.Calls.{OfContents, OfInput, broken_load, last_of, all_told, TellsFailedWrite, TellsFailedRead, TellsWords, AskedForWords, RunsThrough};
+ghost use Rattle.ops_top.specs.Whole.{whole, unread, usage, Answers, GoesByConflictSetsAlone, ask_for_run, words_fit, files_of};
+ghost use Rattle.ops_top.specs.Calls.{OfContents, OfInput, broken_load, last_of, all_told, TellsFailedWrite, TellsFailedRead, TellsWords, AskedForWords, RunsThrough, is_refused};
 ghost use Rattle.ops_top.specs.Codes.{code_of};
 
 use crate::saying::status_after;
@@ -30,8 +30,8 @@ pub fn code(status: &Status) -> u8
     }
 }
 
-/// Runs the program on the words of its command line, without waiting for another thread. It answers a status for all
-/// words. The input is read where the program asks for an atom, and `rt` and `gate` are not used yet.
+/// Runs the program on the words of its command line, or tells its network, without waiting for another thread. It answers a
+/// status for all words. The input is read where the program asks for an atom, and `rt` and `gate` are not used yet.
 pub fn still_run<R: Threads + Clone + Drop + Send + Sync, H: Shelf, I: Source, K: Sink, G: Gate>(
     rt: &R,
     alloc: Global,
@@ -64,7 +64,9 @@ pub fn still_run<R: Threads + Clone + Drop + Send + Sync, H: Shelf, I: Source, K
     ensures unasked { words_fit (word_bytes words.now) ≡ false → H.faults shelf.new ≡ H.faults shelf.old }
     ensures told { (n : List ℕ) → H.told shelf.new n ≡ H.told shelf.old n }
     ensures input { (got : List ℕ) × (I.left input.old ≡ prepend_known got (I.left input.new)) }
-    ensures untouched { words_fit (word_bytes words.now) ≡ false → input.new ≡ input.old }
+    ensures untouched { ask_for_run (word_bytes words.now) ≡ false → input.new ≡ input.old }
+    ensures refused { IfSome result (λ status. is_refused status ≡ true → input.new ≡ input.old) }
+    ensures unloaded { H.faults shelf.old < H.faults shelf.new → input.new ≡ input.old }
     ensures complete { IfSome result (λ status.
         RunsThrough (word_bytes words.now) (all_told (H.told shelf.old) (files_of (word_bytes words.now))) (I.left input.old)
         → H.faults shelf.new ≡ H.faults shelf.old → I.faults input.new ≡ I.faults input.old → K.faults sink.new ≡ K.faults sink.old
@@ -73,7 +75,7 @@ pub fn still_run<R: Threads + Clone + Drop + Send + Sync, H: Shelf, I: Source, K
     Some(status_after(run_words(alloc, words, shelf, input, sink)))
 }
 
-/// Runs the program on the words of its command line. The input is read where the program asks for an atom.
+/// Runs the program on the words of its command line, or tells its network. The input is read where the program asks for an atom.
 pub fn ops_run<
     R: Threads + Wait + Clone + Drop + Send + Sync,
     H: Shelf,
@@ -109,7 +111,9 @@ pub fn ops_run<
     ensures unasked { words_fit (word_bytes words.now) ≡ false → H.faults shelf.new ≡ H.faults shelf.old }
     ensures told { (n : List ℕ) → H.told shelf.new n ≡ H.told shelf.old n }
     ensures input { (got : List ℕ) × (I.left input.old ≡ prepend_known got (I.left input.new)) }
-    ensures untouched { words_fit (word_bytes words.now) ≡ false → input.new ≡ input.old }
+    ensures untouched { ask_for_run (word_bytes words.now) ≡ false → input.new ≡ input.old }
+    ensures refused { is_refused result ≡ true → input.new ≡ input.old }
+    ensures unloaded { H.faults shelf.old < H.faults shelf.new → input.new ≡ input.old }
     ensures complete { RunsThrough (word_bytes words.now) (all_told (H.told shelf.old) (files_of (word_bytes words.now))) (I.left input.old)
         → H.faults shelf.new ≡ H.faults shelf.old → I.faults input.new ≡ I.faults input.old → K.faults sink.new ≡ K.faults sink.old
         → (result ≡ Status.Done) ⊎ (result ≡ Status.OutOfMemory) }

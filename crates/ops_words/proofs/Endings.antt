@@ -1,16 +1,15 @@
 -- What `clap` does behind the last word.
-use Rattle.std.proofs.Common.{◌≡◌, ◌∙◌, ◌||◌, Bool, cond, true, false, List, [], ◌∷◌, Option, Some, None, codes, refl, sym, ap, is_some, fold}
-use Rattle.std.specs.List.{list_all}
-use Rattle.std.proofs.lemmas.Bool.{and_parts, true≢false}
-use Rattle.clap.specs.Walk.{Held, Row, Rule, Text, Walk, finished, has_row, is_empty, nothing_held, settled, walk, walk_from, walked, with_default}
+use Rattle.std.proofs.Common.{◌≡◌, ◌∙◌, Bool, true, false, List, [], ◌∷◌, Option, Some, None, codes, refl, sym, ap, is_some, fold}
+use Rattle.std.proofs.lemmas.Bool.{true≢false}
+use Rattle.clap.specs.Walk.{Held, Row, Text, Walk, finished, nothing_held, settled, walk, walk_from, walked}
 use Rattle.clap.specs.Simple.{built, entered, matches_of}
 use Rattle.clap.specs.Kinds.{Kinds, or_else}
 use Rattle.clap.specs.Faults.{check_fault, defaults_fault, entered_fault, fault_of, level_fault, settle_fault, turn_fault, walk_fault}
-use Rattle.clap.proofs.SimpleLemmas.{is_nil}
 use Rattle.ops_jobs.specs.CommandLine.{Piece, files_of}
 use Rattle.ops_words.specs.Command.{app}
 use Rattle.ops_words.proofs.Lookups.{top}
-use Rattle.ops_words.proofs.FoundRows.{Shows, row_of, row_with}
+use Rattle.ops_words.proofs.FoundRows.{Shows, new_row, row_of, row_with}
+use Rattle.ops_words.proofs.Ends.{finished_ends, no_fault}
 use Rattle.ops_words.proofs.Turns.{Turn}
 
 -- some kind comes
@@ -79,42 +78,27 @@ pub matches_of-app : (words : List Text) → matches_of app words ≡ rows_from 
 unfolding rows_from
 matches_of-app words = refl
 
--- ---- no argument has a default
-
-pub no_defaults : (rs : List Rule) (rows : List Row) → list_all (λ a. is_empty a.defaults) rs ≡ true → (defaults_fault rows rs ≡ []) × (fold with_default rows rs ≡ rows)
-unfolding defaults_fault
-no_defaults [] rows e = (refl, refl)
-no_defaults (a ∷ rs) rows e =
-    let parts = and_parts (is_empty a.defaults) _ e in
-    let rest = no_defaults rs rows parts.1 in
-    let none : a.defaults ≡ [] = is_nil a.defaults parts.0 in
-    let stays : with_default rows a ≡ rows = rw none (go (has_row a.id rows)) in
-    (rw (parts.0, either (has_row a.id rows), stays) rest.0, rw stays rest.1)
-  where
-    go : (t : Bool) → cond t rows rows ≡ rows
-    go true = refl
-    go false = refl
-
-    either : (t : Bool) → (t || true) ≡ true
-    either true = refl
-    either false = refl
+-- ---- the last checks
 
 -- the files are wanted
+files_missing : (rows : List Row) → row_of (codes "file") rows ≡ None → does_fail (check_fault top rows false) ≡ true
+files_missing rows row = rw row refl
+
+files_there : (rows : List Row) (name : Text) (names : List Text) → row_of (codes "file") rows ≡ Some (new_row (codes "file") (name ∷ names)) → check_fault top rows false ≡ []
+files_there rows name names row = rw row refl
+
 pub end_missing : (pieces : List Piece) (h : Held) → Shows pieces (settled top.rules h).rows → files_of pieces ≡ [] → does_fail (end_fault h) ≡ true
 end_missing pieces h shows none =
-    let rows = (settled top.rules h).rows in
-    let defaults = no_defaults top.rules rows refl in
-    let row : row_of (codes "file") rows ≡ None = shows.row (codes "file") ∙ ap (row_with (codes "file")) none in
-    fails_last (settle_fault top.rules false h) _ (rw (defaults.0, defaults.1, row) refl)
+    let row : row_of (codes "file") (finished top.rules h) ≡ None = (finished_ends pieces h shows).row (codes "file") refl ∙ ap (row_with (codes "file")) none in
+    fails_last (settle_fault top.rules false h) _ (rw (no_fault top.rules (settled top.rules h).rows refl) (files_missing (finished top.rules h) row))
   where
     fails_last : (a b : Kinds) → does_fail b ≡ true → does_fail (or_else a b) ≡ true
     fails_last [] b e = e
     fails_last (k ∷ ks) b e = refl
 
 pub end_passes : (pieces : List Piece) (name : Text) (names : List Text) (h : Held) → settle_fault top.rules false h ≡ [] → Shows pieces (settled top.rules h).rows
-    → files_of pieces ≡ name ∷ names → (end_fault h ≡ []) × (finished top.rules h ≡ (settled top.rules h).rows)
+    → files_of pieces ≡ name ∷ names → end_fault h ≡ []
 end_passes pieces name names h settles shows some =
-    let rows = (settled top.rules h).rows in
-    let defaults = no_defaults top.rules rows refl in
-    let row : row_of (codes "file") rows ≡ row_with (codes "file") (name ∷ names) = shows.row (codes "file") ∙ ap (row_with (codes "file")) some in
-    (rw (settles, defaults.0, defaults.1, row) refl, defaults.1)
+    let row : row_of (codes "file") (finished top.rules h) ≡ Some (new_row (codes "file") (name ∷ names)) =
+    (finished_ends pieces h shows).row (codes "file") refl ∙ ap (row_with (codes "file")) some in
+    rw (settles, no_fault top.rules (settled top.rules h).rows refl) (files_there (finished top.rules h) name names row)

@@ -1,9 +1,9 @@
 -- What `clap` finds, and when it refuses, by the pieces of the words.
 use Rattle.std.proofs.Common.{◌≡◌, ◌∙◌, Bool, true, false, List, [], ◌∷◌, length, Option, Some, None, String, codes, inl, inr, refl, sym, ap, subst, option_map}
-use Rattle.std.specs.Prelude.{nat_le, option_and_then, slice_get}
+use Rattle.std.specs.Prelude.{if◌then◌else◌, nat_le, option_and_then, slice_get}
 use Rattle.std.proofs.lemmas.Bool.{and_parts, true≢false}
 use Rattle.std.proofs.lemmas.Str.{IsUtf8-string_bytes}
-use Rattle.clap.specs.Matches.{found_of}
+use Rattle.clap.specs.Matches.{found_of, one_text}
 use Rattle.clap.specs.Values.{kind_of}
 use Rattle.clap.specs.Walk.{Row, Text, rows_of}
 use Rattle.clap.specs.Simple.{App, HasMatchesOf, is_simple, matches_of}
@@ -12,14 +12,17 @@ use Rattle.clap.specs.Faults.{fault_of as clap_fault, is_simple_and_free}
 use Rattle.clap.specs.declared.error.Error.{Error}
 use Rattle.clap.specs.declared.error.kind.ErrorKind.{ErrorKind}
 use Rattle.clap.specs.declared.parser.matches.ArgMatches.{ArgMatches}
-use Rattle.clap.proofs.WalkLemmas.{first_value-rows, raw_values-rows}
-use Rattle.ops_jobs.specs.CommandLine.{Piece, Word, files_of, is_complete, pieces_of, values_of}
+use Rattle.clap.proofs.WalkLemmas.{first_value-rows, one_text-rows, raw_values-rows}
+use Rattle.ops_jobs.specs.CommandLine.{Piece, Word, files_of, is_complete, is_raised, pieces_of, values_of}
 use Rattle.ops_jobs.specs.Words.{word_bytes}
+use Rattle.ops_jobs.proofs.EachOption.{each_flag}
+use Rattle.ops_jobs.proofs.Flags.{flag_is_true}
 use Rattle.ops_words.specs.Command.{app}
 use Rattle.ops_words.specs.Found.{Finds, FindsNothing, fault_of}
 use Rattle.ops_words.specs.declared.faults.WordsFault.TheVariants.{Usage, OutOfMemory}
-use Rattle.ops_words.proofs.Lookups.{not_files}
-use Rattle.ops_words.proofs.FoundRows.{Shows, row_of, row_with}
+use Rattle.ops_words.proofs.Lookups.{not_files, not_net}
+use Rattle.ops_words.proofs.FoundRows.{row_of, row_with}
+use Rattle.ops_words.proofs.Ends.{Ends}
 use Rattle.ops_words.proofs.Endings.{does_fail}
 use Rattle.ops_words.proofs.Walks.{Answers, AreTexts, Fits, walk_answers}
 
@@ -38,16 +41,18 @@ all_in_row id [] e = absurd (true≢false (sym e))
 all_in_row id (v ∷ vs) e = refl
 
 finds_pieces : (words : List Word) (pieces : List Piece) (m : ArgMatches) → pieces_of words ≡ Some pieces → is_complete pieces ≡ true
-    → Shows pieces (rows_of (found_of m)) → Finds words m
-finds_pieces words pieces m are complete shows = record {
+    → Ends pieces (rows_of (found_of m)) → Finds words m
+finds_pieces words pieces m are complete ends = record {
   pieces = pieces;
   are = are;
   complete = complete;
   values = λ name known.
-      let row : row_of name (rows_of (found_of m)) ≡ row_with name (values_of name pieces) = shows.row name ∙ rw (not_files name known) refl in
+      let row : row_of name (rows_of (found_of m)) ≡ row_with name (values_of name pieces) = ends.row name (not_net name known) ∙ rw (not_files name known) refl in
       first_value-rows (found_of m) name ∙ (ap (option_and_then (λ (r : Row). slice_get r.values 0)) row ∙ first_in_row name (values_of name pieces));
+  flags = each_flag (λ flag. one_text (found_of m) flag ≡ Some (if is_raised flag pieces then codes "true" else codes "false"))
+      (one_text-rows (found_of m) (codes "net") ∙ (ends.flag ∙ ap Some (flag_is_true words pieces are)));
   files = raw_values-rows (found_of m) (codes "file")
-      ∙ (ap (option_map (λ (r : Row). r.values)) (shows.row (codes "file")) ∙ all_in_row (codes "file") (files_of pieces) (and_parts _ _ complete).1);
+      ∙ (ap (option_map (λ (r : Row). r.values)) (ends.row (codes "file") refl) ∙ all_in_row (codes "file") (files_of pieces) (and_parts _ _ complete).1);
 }
 
 pub finds_words : (words : List Word) (a : App) (m : ArgMatches) → AreTexts words → a ≡ app → HasMatchesOf a words m
@@ -58,7 +63,7 @@ finds_words words a m texts is matches passes =
   where
     by_test : (pieces : List Piece) → pieces_of words ≡ Some pieces → (t : Bool) → is_complete pieces ≡ t → Fits t (clap_fault app words) pieces (matches_of app words)
         → clap_fault app words ≡ [] → rows_of (found_of m) ≡ matches_of app words → Finds words m
-    by_test pieces are true complete fits none rows = finds_pieces words pieces m are complete (subst (Shows pieces) (sym rows) fits.1)
+    by_test pieces are true complete fits none rows = finds_pieces words pieces m are complete (subst (Ends pieces) (sym rows) fits.1)
     by_test pieces are false incomplete fails none rows = absurd (true≢false (sym (sym (ap does_fail none) ∙ fails)))
 
     go : (read : Option (List Piece)) → pieces_of words ≡ read → Answers read [] (clap_fault app words) (matches_of app words)

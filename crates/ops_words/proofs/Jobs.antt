@@ -1,11 +1,10 @@
 -- The job that what `clap` found asks for.
-use Rattle.std.proofs.Common.{◌≡◌, ◌∙◌, List, [], Option, Some, codes, refl, sym, ap, option_map}
-use Rattle.std.specs.Prelude.{unwrap_or}
-use Rattle.clap.specs.Matches.{first_value, found_of, matched_of, raw_values}
+use Rattle.std.proofs.Common.{◌≡◌, ◌∙◌, Bool, true, false, List, [], Option, Some, codes, refl, sym, ap, option_map}
+use Rattle.std.specs.Prelude.{if◌then◌else◌, unwrap_or}
+use Rattle.clap.specs.Matches.{first_value, found_of, matched_of, one_text, raw_values}
 use Rattle.clap.specs.declared.parser.matches.ArgMatches.{ArgMatches}
 use Rattle.ops_jobs.specs.declared.jobs.Options.{Options}
-use Rattle.ops_jobs.specs.declared.jobs.Job.TheVariants.{Run}
-use Rattle.ops_jobs.specs.CommandLine.{Word, files_of, job_of, options_from, options_of}
+use Rattle.ops_jobs.specs.CommandLine.{Word, files_of, is_raised, job_for, job_of, options_from, options_of}
 use Rattle.ops_words.specs.Found.{Finds}
 
 -- the options that `clap` found
@@ -21,10 +20,21 @@ options-pieces : (words : List Word) (m : ArgMatches) (found : Finds words m) �
 options-pieces words m found =
     rw (found.values (codes "match") refl, found.values (codes "workers") refl, found.values (codes "lines") refl, found.values (codes "limit") refl) refl
 
+-- whether the flag stands, as `get_flag` reads it
+abbrev pub IsFlagFound : ArgMatches → Bool → Type 0
+IsFlagFound m flag = (one_text (found_of m) (codes "net") ≡ Some (codes "true") → flag ≡ true) × (one_text (found_of m) (codes "net") ≡ Some (codes "false") → flag ≡ false)
+
+flag-pieces : (words : List Word) (m : ArgMatches) (flag : Bool) (found : Finds words m) → IsFlagFound m flag → is_raised (codes "net") found.pieces ≡ flag
+flag-pieces words m flag found is = go (is_raised (codes "net") found.pieces) (found.flags (codes "net") refl)
+  where
+    go : (t : Bool) → one_text (found_of m) (codes "net") ≡ Some (if t then codes "true" else codes "false") → t ≡ flag
+    go true e = sym (is.0 e)
+    go false e = sym (is.1 e)
+
 -- they are the job that the words ask for
-pub job_found : (words : List Word) (m : ArgMatches) (options : Options) (files : List Word) → Finds words m → options_found m ≡ Some options → files ≡ files_found m
-    → job_of words ≡ Some (Run options files)
-job_found words m options files found from are =
+pub job_found : (words : List Word) (m : ArgMatches) (options : Options) (flag : Bool) (files : List Word) → Finds words m → options_found m ≡ Some options
+    → IsFlagFound m flag → files ≡ files_found m → job_of words ≡ Some (job_for flag options files)
+job_found words m options flag files found from is are =
     let same : options_of found.pieces ≡ Some options = sym (options-pieces words m found) ∙ from in
     let all : files_of found.pieces ≡ files = sym (are ∙ ap (λ o. unwrap_or o []) found.files) in
-    rw (found.are, found.complete, same, all) refl
+    rw (found.are, found.complete, same, flag-pieces words m flag found is, all) refl

@@ -2,6 +2,7 @@ mod Lookups
 mod Seeing
 mod FoundRows
 mod Turns
+mod Ends
 mod Endings
 mod Uses
 mod Walks

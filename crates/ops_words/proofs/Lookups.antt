@@ -1,22 +1,32 @@
 -- The arguments of the command line once it is built, and which of them a name finds.
-use Rattle.std.proofs.Common.{◌≡◌, ◌&&◌, ◌||◌, ℕ, Bool, cond, true, false, List, [], ◌∷◌, Some, None, codes, refl}
+use Rattle.std.proofs.Common.{◌≡◌, ◌&&◌, ◌||◌, ℕ, Bool, cond, true, false, List, [], ◌∷◌, ◌++◌, Some, None, codes, refl}
 use Rattle.std.specs.Str.{bytes_eq}
 use Rattle.std.proofs.lemmas.Bool.{true≢false}
 use Rattle.clap.specs.Walk.{Rule, Text, arg_by_id, arg_by_index, arg_by_long, arg_by_short}
 use Rattle.clap.specs.Simple.{Shape, built, new_rule}
-use Rattle.clap.specs.declared.builder.action.ArgAction.TheVariants.{Append, Set}
+use Rattle.clap.specs.declared.builder.action.ArgAction.TheVariants.{Append, Set, SetTrue}
 use Rattle.clap.specs.declared.builder.value_parser.ValueParser.TheVariants as parser
-use Rattle.ops_jobs.specs.CommandLine.{is_option}
-use Rattle.ops_jobs.proofs.EachOption.{each_option}
+use Rattle.ops_jobs.specs.CommandLine.{is_flag, is_option}
+use Rattle.ops_jobs.proofs.EachOption.{each_flag, each_option}
 use Rattle.ops_words.specs.Command.{app}
 
--- an option and the files, as building leaves them
+-- an option, a flag and the files, as building leaves them
 abbrev pub built_option : Text → Rule
 built_option name = record (new_rule name) {
   long = Some name;
   action = Some Set;
   parser = Some parser.String;
   range = Some (record { start_inclusive = 1; end_inclusive = 1 });
+}
+
+abbrev pub built_flag : Text → Rule
+built_flag name = record (new_rule name) {
+  long = Some name;
+  action = Some SetTrue;
+  defaults = codes "false" ∷ [];
+  missing = codes "true" ∷ [];
+  parser = Some parser.Bool;
+  range = Some (record { start_inclusive = 0; end_inclusive = 0 });
 }
 
 abbrev pub built_files : Rule
@@ -28,8 +38,11 @@ built_files = record (new_rule (codes "file")) {
   required = true;
 }
 
+abbrev pub options : List Rule
+options = built_option (codes "match") ∷ built_option (codes "workers") ∷ built_option (codes "lines") ∷ built_option (codes "limit") ∷ []
+
 abbrev pub arguments : List Rule
-arguments = built_option (codes "match") ∷ built_option (codes "workers") ∷ built_option (codes "lines") ∷ built_option (codes "limit") ∷ built_files ∷ []
+arguments = options ++ built_flag (codes "net") ∷ built_files ∷ []
 
 abbrev pub top : Shape
 top = (built app).top
@@ -45,20 +58,31 @@ long_option = each_option (λ name. arg_by_long top.rules name ≡ Some (built_o
 pub id_option : (name : Text) → is_option name ≡ true → arg_by_id top.rules name ≡ Some (built_option name)
 id_option = each_option (λ name. arg_by_id top.rules name ≡ Some (built_option name)) refl refl refl refl
 
+pub long_flag : (name : Text) → is_flag name ≡ true → arg_by_long top.rules name ≡ Some (built_flag name)
+long_flag = each_flag (λ name. arg_by_long top.rules name ≡ Some (built_flag name)) refl
+
+pub not_net : (name : Text) → is_option name ≡ true → bytes_eq (codes "net") name ≡ false
+not_net = each_option (λ name. bytes_eq (codes "net") name ≡ false) refl refl refl refl
+
+pub flag_not_files : (name : Text) → is_flag name ≡ true → bytes_eq (codes "file") name ≡ false
+flag_not_files = each_flag (λ name. bytes_eq (codes "file") name ≡ false) refl
+
 pub not_files : (name : Text) → is_option name ≡ true → bytes_eq (codes "file") name ≡ false
 not_files = each_option (λ name. bytes_eq (codes "file") name ≡ false) refl refl refl refl
 
-pub no_option : (name : Text) → is_option name ≡ false → arg_by_long top.rules name ≡ None
-no_option name = go (bytes_eq (codes "match") name) (bytes_eq (codes "workers") name) (bytes_eq (codes "lines") name) (bytes_eq (codes "limit") name)
+pub no_argument : (name : Text) → is_option name ≡ false → is_flag name ≡ false → arg_by_long top.rules name ≡ None
+no_argument name = go (bytes_eq (codes "match") name) (bytes_eq (codes "workers") name) (bytes_eq (codes "lines") name) (bytes_eq (codes "limit") name) (bytes_eq (codes "net") name)
   where
-    go : (s t u v : Bool) → (s || (t || (u || (v || false)))) ≡ false
+    go : (s t u v w : Bool) → (s || (t || (u || (v || false)))) ≡ false → (w || false) ≡ false
         → cond (true && (s || false)) (Some (built_option (codes "match"))) (cond (true && (t || false)) (Some (built_option (codes "workers")))
-        (cond (true && (u || false)) (Some (built_option (codes "lines"))) (cond (true && (v || false)) (Some (built_option (codes "limit"))) None))) ≡ None
-    go true t u v e = absurd (true≢false e)
-    go false true u v e = absurd (true≢false e)
-    go false false true v e = absurd (true≢false e)
-    go false false false true e = absurd (true≢false e)
-    go false false false false e = refl
+        (cond (true && (u || false)) (Some (built_option (codes "lines"))) (cond (true && (v || false)) (Some (built_option (codes "limit")))
+        (cond (true && (w || false)) (Some (built_flag (codes "net"))) None)))) ≡ None
+    go true t u v w e f = absurd (true≢false e)
+    go false true u v w e f = absurd (true≢false e)
+    go false false true v w e f = absurd (true≢false e)
+    go false false false true w e f = absurd (true≢false e)
+    go false false false false true e f = absurd (true≢false f)
+    go false false false false false e f = refl
 
 pub no_short : (c : ℕ) → arg_by_short top.rules c ≡ None
 no_short c = refl

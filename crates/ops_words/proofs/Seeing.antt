@@ -9,17 +9,19 @@ use Rattle.std.proofs.lemmas.Str.{is_utf8-from_IsUtf8}
 use Rattle.clap.specs.Lexer.{long_of, short_of}
 use Rattle.clap.specs.Walk.{Held, Text}
 use Rattle.clap.specs.Faults.{bundle_fault, flags_fault, flag_word_fault}
-use Rattle.clap.specs.declared.error.kind.ErrorKind.TheVariants.{UnknownArgument}
-use Rattle.ops_jobs.specs.CommandLine.{ends_options, gives, opens, unknown, names, is_dashed, is_option, sort_of}
-use Rattle.ops_words.proofs.Lookups.{top, no_option}
+use Rattle.clap.specs.declared.error.kind.ErrorKind.{ErrorKind}
+use Rattle.clap.specs.declared.error.kind.ErrorKind.TheVariants.{TooManyValues, UnknownArgument}
+use Rattle.ops_jobs.specs.CommandLine.{ends_options, gives, opens, raises, unknown, names, is_dashed, is_flag, is_option, sort_of}
+use Rattle.ops_words.proofs.Lookups.{top, long_flag, no_argument}
 
 abbrev pub two_dashes : Text
 two_dashes = 45 ∷ 45 ∷ []
 
--- the word is no `--`, and `clap` finds no argument for it
+-- the word is no `--`, and `clap` finds no argument for it, or one that takes no value
 pub record IsUnknown (word : Text) : Type 0 where
+  pub kind : ErrorKind
   pub other : bytes_eq word two_dashes ≡ false
-  pub fails : (h : Held) → h.skip ≡ 0 → flag_word_fault top.rules false (long_of word) word h ≡ UnknownArgument ∷ []
+  pub fails : (h : Held) → h.skip ≡ 0 → flag_word_fault top.rules false (long_of word) word h ≡ kind ∷ []
 
 -- the word is an option, with its value or none
 pub record IsLong (word option : Text) (value : Option Text) : Type 0 where
@@ -27,7 +29,13 @@ pub record IsLong (word option : Text) (value : Option Text) : Type 0 where
   pub other : bytes_eq word two_dashes ≡ false
   pub long : long_of word ≡ Some (option, value)
 
--- the word is no flag
+-- the word is a flag
+pub record IsFlag (word flag : Text) : Type 0 where
+  pub known : is_flag flag ≡ true
+  pub other : bytes_eq word two_dashes ≡ false
+  pub long : long_of word ≡ Some (flag, None)
+
+-- the word is no option and no flag
 pub record IsPlain (word : Text) : Type 0 where
   pub other : bytes_eq word two_dashes ≡ false
   pub long : long_of word ≡ None
@@ -38,6 +46,7 @@ pub data Seen (word : Text) : Type 0 where
   sees_end : sort_of word ≡ ends_options → is_dashed word ≡ true → bytes_eq word two_dashes ≡ true → Seen word
   sees_given : (option value : Text) → sort_of word ≡ gives option value → is_dashed word ≡ true → IsLong word option (Some value) → Seen word
   sees_opener : (option : Text) → sort_of word ≡ opens option → is_dashed word ≡ true → IsLong word option None → Seen word
+  sees_flag : (flag : Text) → sort_of word ≡ raises flag → is_dashed word ≡ true → IsFlag word flag → Seen word
   sees_unknown : sort_of word ≡ unknown → is_dashed word ≡ true → IsUnknown word → Seen word
   sees_name : sort_of word ≡ names → is_dashed word ≡ false → IsPlain word → Seen word
 
@@ -53,7 +62,7 @@ unfolding chars is_utf8
 first_char b bs utf8 =
     some_first (chars (b ∷ bs)) b bs (and_parts _ _ (is_utf8-from_IsUtf8 (45 ∷ b ∷ bs) utf8)).1
 
--- ---- no flag has a short name
+-- ---- no argument has a short name
 
 short_fails : (b c : ℕ) (bs : Text) (h : Held) → h.skip ≡ 0 → slice_get (chars (b ∷ bs)) 0 ≡ Some c → bundle_fault top.rules false (b ∷ bs) h ≡ UnknownArgument ∷ []
 unfolding flags_fault
@@ -67,12 +76,13 @@ one_dash b bs differs utf8 =
     let short : short_of (45 ∷ b ∷ bs) ≡ Some (b ∷ bs) = rw differs refl in
     let long : long_of (45 ∷ b ∷ bs) ≡ None = rw differs refl in
     sees_unknown (rw differs refl) refl (record {
+      kind = UnknownArgument;
       other = rw differs refl;
       fails = λ h none. rw (long, short) (short_fails b first.0 bs h none first.1);
     })
 
 long_word : (b : ℕ) (bs : Text) → Seen (45 ∷ 45 ∷ b ∷ bs)
-long_word b bs = named (is_option name) refl
+long_word b bs = named (is_option name) refl (is_flag name) refl
   where
     word : Text
     word = 45 ∷ 45 ∷ b ∷ bs
@@ -88,11 +98,21 @@ long_word b bs = named (is_option name) refl
     })
     valued false has known = sees_opener name (rw (known, has) refl) refl (record { known = known; other = refl; long = rw has refl })
 
-    named : (t : Bool) → is_option name ≡ t → Seen word
-    named true known = valued (list_any (λ c. c == 61) (b ∷ bs)) refl known
-    named false strange = sees_unknown (rw strange refl) refl (record {
+    raised : (t : Bool) → list_any (λ c. c == 61) (b ∷ bs) ≡ t → is_option name ≡ false → is_flag name ≡ true → Seen word
+    raised true has other known = sees_unknown (rw (other, known, has) refl) refl (record {
+      kind = TooManyValues;
       other = refl;
-      fails = λ h none. rw (no_option name strange) refl;
+      fails = λ h none. rw (has, long_flag name known) refl;
+    })
+    raised false has other known = sees_flag name (rw (other, known, has) refl) refl (record { known = known; other = refl; long = rw has refl })
+
+    named : (s : Bool) → is_option name ≡ s → (t : Bool) → is_flag name ≡ t → Seen word
+    named true known t e = valued (list_any (λ c. c == 61) (b ∷ bs)) refl known
+    named false other true known = raised (list_any (λ c. c == 61) (b ∷ bs)) refl other known
+    named false other false strange = sees_unknown (rw (other, strange) refl) refl (record {
+      kind = UnknownArgument;
+      other = refl;
+      fails = λ h none. rw (no_argument name other strange) refl;
     })
 
 dashed : (b : ℕ) (bs : Text) → IsUtf8 (45 ∷ b ∷ bs) → Seen (45 ∷ b ∷ bs)

@@ -4,10 +4,9 @@ use Rattle.std.specs.Str.{bytes_eq}
 use Rattle.clap.specs.Walk.{Held, Text, Waiting, Walk, idle, option, positional, is_pending, reacted, settled, subcommand_met, takes_several, walked}
 use Rattle.clap.specs.Kinds.{Kinds, or_else}
 use Rattle.clap.specs.Faults.{react_fault, settle_fault, turn_fault}
-use Rattle.clap.specs.declared.error.kind.ErrorKind.TheVariants.{UnknownArgument}
 use Rattle.ops_jobs.specs.CommandLine.{is_option}
-use Rattle.ops_words.proofs.Lookups.{built_files, built_option, top, id_option, long_option}
-use Rattle.ops_words.proofs.Seeing.{IsLong, IsPlain, IsUnknown, two_dashes}
+use Rattle.ops_words.proofs.Lookups.{built_files, built_flag, built_option, top, id_option, long_flag, long_option}
+use Rattle.ops_words.proofs.Seeing.{IsFlag, IsLong, IsPlain, IsUnknown, two_dashes}
 use Rattle.ops_words.proofs.FoundRows.{text_is_itself}
 
 -- where the walk stands between two words
@@ -60,7 +59,15 @@ turn_opener h waiting word name is = record {
   leads = rw (no_subcommand waiting word, is.other, is.long, long_option name is.known) refl;
 }
 
-pub turn_unknown : (h : Held) (waiting : Waiting) (word : Text) → h.skip ≡ 0 → IsUnknown word → turn_fault top [] (stand h waiting false) word ≡ UnknownArgument ∷ []
+pub turn_flag : (h : Held) (waiting : Waiting) (word name : Text) → IsFlag word name
+    → Turn (stand h waiting false) word (react_fault top.rules false (built_flag name) [] h) (stand (reacted top.rules (built_flag name) [] h) idle false)
+unfolding walked
+turn_flag h waiting word name is = record {
+  fails = rw (no_subcommand waiting word, is.other, is.long, long_flag name is.known) (or_else-nil _);
+  leads = rw (no_subcommand waiting word, is.other, is.long, long_flag name is.known) refl;
+}
+
+pub turn_unknown : (h : Held) (waiting : Waiting) (word : Text) → h.skip ≡ 0 → (is : IsUnknown word) → turn_fault top [] (stand h waiting false) word ≡ is.kind ∷ []
 turn_unknown h waiting word none is = rw (no_subcommand waiting word, is.other, is.fails h none) refl
 
 -- a value of the files does not go to those before it

@@ -3,18 +3,19 @@ use Rattle.std.proofs.Common.{◌≡◌, ◌∙◌, Bool, cond, true, false, Lis
 use Rattle.std.specs.Prelude.{nat_le}
 use Rattle.std.specs.Str.{IsUtf8, bytes_eq}
 use Rattle.std.proofs.lemmas.Bool.{and_from, both_ways, le-leb}
-use Rattle.clap.specs.Walk.{Held, Row, Text, Waiting, Walk, idle, option, positional, nothing_held, settled}
+use Rattle.clap.specs.Walk.{Held, Row, Rule, Text, Waiting, Walk, idle, option, positional, nothing_held, reacted, settled}
 use Rattle.clap.specs.Simple.{matches_of}
 use Rattle.clap.specs.Kinds.{Kinds, or_else}
-use Rattle.clap.specs.Faults.{fault_of, settle_fault}
-use Rattle.ops_jobs.specs.CommandLine.{Piece, Sort, given, file, files_of, is_complete, is_dashed, is_once, is_option, pieces_from, read_as, sort_of, values_of, with_piece}
+use Rattle.clap.specs.Faults.{fault_of, react_fault, settle_fault}
+use Rattle.ops_jobs.specs.CommandLine.{Piece, Sort, given, flagged, file, files_of, is_complete, is_dashed, is_once, is_option, pieces_from, read_as, sort_of, values_of, with_piece}
 use Rattle.ops_words.specs.Command.{app}
-use Rattle.ops_words.proofs.Lookups.{top}
-use Rattle.ops_words.proofs.Seeing.{Seen, see, IsLong, IsPlain, sees_end, sees_given, sees_opener, sees_unknown, sees_name}
-use Rattle.ops_words.proofs.FoundRows.{Shows, row_with}
-use Rattle.ops_words.proofs.Turns.{IsFree, Turn, idles, fills, pending, stand, turn_end, turn_given, turn_name, turn_opener, turn_trailing, turn_unknown, turn_value}
+use Rattle.ops_words.proofs.Lookups.{built_flag, built_option, top}
+use Rattle.ops_words.proofs.Seeing.{Seen, see, IsPlain, sees_end, sees_flag, sees_given, sees_opener, sees_unknown, sees_name}
+use Rattle.ops_words.proofs.FoundRows.{Says, Shows, row_with}
+use Rattle.ops_words.proofs.Ends.{Ends, finished_ends}
+use Rattle.ops_words.proofs.Turns.{IsFree, Turn, idles, fills, pending, stand, turn_end, turn_flag, turn_given, turn_name, turn_opener, turn_trailing, turn_unknown, turn_value}
 use Rattle.ops_words.proofs.Endings.{does_fail, end_missing, end_passes, fails_at, fails_first, fault-end, fault-word, fault_from, fault_of-app, matches_of-app, rows-end, rows-word, rows_from}
-use Rattle.ops_words.proofs.Uses.{Agrees, agrees_file, agrees_pending, agrees_used, empty_fails, pending_fails, twice, use_again, use_fresh}
+use Rattle.ops_words.proofs.Uses.{Agrees, IsUse, agrees_file, agrees_pending, agrees_used, empty_fails, flag_use, option_use, pending_fails, twice, use_again, use_fresh}
 
 abbrev pub AreTexts : List Text → Type 0
 AreTexts [] = Unit {0}
@@ -24,7 +25,7 @@ AreTexts (word ∷ words) = IsUtf8 word × AreTexts words
 
 -- nothing fails, and the rows are those of the pieces; or something fails
 abbrev pub Fits : Bool → Kinds → List Piece → List Row → Type 0
-Fits true fault pieces rows = (fault ≡ []) × Shows pieces rows
+Fits true fault pieces rows = (fault ≡ []) × Ends pieces rows
 Fits false fault pieces rows = does_fail fault ≡ true
 
 -- the same of pieces that come behind others, or of none
@@ -74,6 +75,8 @@ dashed_fails word words h waiting (sees_end sort dashed is) d skip fails = fails
 dashed_fails word words h waiting (sees_given name value sort dashed is) d skip fails =
     fails_here _ _ word words _ (turn_given h waiting word name value is) (fails_first (settle_fault top.rules false h) _ fails)
 dashed_fails word words h waiting (sees_opener name sort dashed is) d skip fails = fails_here _ _ word words _ (turn_opener h waiting word name is) fails
+dashed_fails word words h waiting (sees_flag name sort dashed is) d skip fails =
+    fails_here _ _ word words _ (turn_flag h waiting word name is) (fails_first (settle_fault top.rules false h) _ fails)
 dashed_fails word words h waiting (sees_unknown sort dashed is) d skip fails =
     fails_at (stand h waiting false) word words (rw (turn_unknown h waiting word skip is) refl)
 dashed_fails word words h waiting (sees_name sort plain is) d skip fails = absurd (both_ways (is_dashed word) plain d)
@@ -88,6 +91,7 @@ free_fails (word ∷ words) h waiting free texts skip fails = go (see word texts
     go (sees_end sort dashed is) = dashed_fails word words h waiting (sees_end sort dashed is) dashed skip fails
     go (sees_given name value sort dashed is) = dashed_fails word words h waiting (sees_given name value sort dashed is) dashed skip fails
     go (sees_opener name sort dashed is) = dashed_fails word words h waiting (sees_opener name sort dashed is) dashed skip fails
+    go (sees_flag name sort dashed is) = dashed_fails word words h waiting (sees_flag name sort dashed is) dashed skip fails
     go (sees_unknown sort dashed is) = dashed_fails word words h waiting (sees_unknown sort dashed is) dashed skip fails
 
 -- ---- the end of the words
@@ -102,9 +106,8 @@ ends_well pieces w agrees (name ∷ names) some =
     let one : nat_le 1 (length (files_of pieces)) ≡ true = rw some (le-leb 1 (length (name ∷ names)) (omega arith)) in
     let complete : is_complete pieces ≡ true = and_from _ _ agrees.once one in
     let last = end_passes pieces name names w.held agrees.settles agrees.shows some in
-    let rows : rows_from w [] ≡ (settled top.rules w.held).rows = rows-end w ∙ last.1 in
     subst (λ t. Fits t (fault_from w []) pieces (rows_from w [])) (sym complete)
-    (fault-end w ∙ last.0, subst (Shows pieces) (sym rows) agrees.shows)
+    (fault-end w ∙ last, subst (Ends pieces) (sym (rows-end w)) (finished_ends pieces w.held agrees.shows))
 
 answers_end : (pieces : List Piece) (w : Walk) → Agrees pieces w.held → Answers (Some []) pieces (fault_from w []) (rows_from w [])
 answers_end pieces w agrees =
@@ -139,32 +142,37 @@ by_sort : (word : Text) (words : List Text) (s : Sort) (pieces : List Piece) (fa
 unfolding pieces_from
 by_sort word words s pieces fault rows is h = subst (λ x. Answers (read_as x word words (pieces_from words)) pieces fault rows) (sym is) h
 
--- an option that has a value already makes all that comes behind fail
-repeats : (read : Option (List Piece)) (pieces : List Piece) (name value v : Text) (vs : List Text) (fault : Kinds) (rows : List Row)
-    → is_option name ≡ true → values_of name pieces ≡ v ∷ vs → does_fail fault ≡ true → Answers (with_piece (given name value) read) pieces fault rows
-repeats read pieces name value v vs fault rows known some fails =
-    answers_more read pieces (given name value) fault rows
-    (answers_fault read (pieces ++ given name value ∷ []) fault rows (λ more. twice pieces more name value v vs known some) fails)
+-- an option or a flag that has a value already makes all that comes behind fail
+repeats : (read : Option (List Piece)) (pieces : List Piece) (piece : Piece) (name value v : Text) (vs : List Text) (fault : Kinds) (rows : List Row)
+    → Says piece name value → values_of name pieces ≡ v ∷ vs → does_fail fault ≡ true → Answers (with_piece piece read) pieces fault rows
+repeats read pieces piece name value v vs fault rows says some fails =
+    answers_more read pieces piece fault rows
+    (answers_fault read (pieces ++ piece ∷ []) fault rows (λ more. twice pieces more piece name value v vs says some) fails)
 
 free_step : (word : Text) (words : List Text) → IsUtf8 word → AreTexts words → AnswersFree words → AnswersWaiting words → AnswersFree (word ∷ words)
 free_step word words text texts free waiting pieces h wait is_free agrees = go (see word text)
   where
-    gives_value : (name value : Text) → IsLong word name (Some value) → (values : List Text) → values_of name pieces ≡ values
-        → Answers (with_piece (given name value) (pieces_from words None)) pieces (fault_from (stand h wait false) (word ∷ words)) (rows_from (stand h wait false) (word ∷ words))
-    gives_value name value is [] none =
-        let step = use_fresh pieces (settled top.rules h).rows name value is.known agrees.shows none in
-        leads_on _ _ word words _ (with_piece (given name value) (pieces_from words None)) pieces (turn_given h wait word name value is) (rw (agrees.settles, step.0) refl)
-        (answers_more (pieces_from words None) pieces (given name value) _ _
-        (free (pieces ++ given name value ∷ []) _ idle idles (agrees_used pieces h name value is.known agrees none)))
-    gives_value name value is (v ∷ vs) some =
-        repeats (pieces_from words None) pieces name value v vs _ _ is.known some
-        (fails_here _ _ word words _ (turn_given h wait word name value is)
-        (rw agrees.settles (use_again pieces (settled top.rules h).rows name value v vs is.known agrees.shows some)))
+    gives_value : (rule : Rule) (given_values : List Text) (piece : Piece) (name value : Text) → IsUse rule given_values piece name value
+        → Turn (stand h wait false) word (react_fault top.rules false rule given_values h) (stand (reacted top.rules rule given_values h) idle false)
+        → (values : List Text) → values_of name pieces ≡ values
+        → Answers (with_piece piece (pieces_from words None)) pieces (fault_from (stand h wait false) (word ∷ words)) (rows_from (stand h wait false) (word ∷ words))
+    gives_value rule given_values piece name value is turn [] none =
+        let step = use_fresh pieces (settled top.rules h).rows rule given_values piece name value is agrees.shows none in
+        leads_on _ _ word words _ (with_piece piece (pieces_from words None)) pieces turn (rw (agrees.settles, step.0) refl)
+        (answers_more (pieces_from words None) pieces piece _ _
+        (free (pieces ++ piece ∷ []) _ idle idles (agrees_used pieces h rule given_values piece name value is agrees none)))
+    gives_value rule given_values piece name value is turn (v ∷ vs) some =
+        repeats (pieces_from words None) pieces piece name value v vs _ _ is.says some
+        (fails_here _ _ word words _ turn
+        (rw agrees.settles (use_again pieces (settled top.rules h).rows rule given_values piece name value v vs is agrees.shows some)))
 
     go : Seen word → Answers (pieces_from (word ∷ words) None) pieces (fault_from (stand h wait false) (word ∷ words)) (rows_from (stand h wait false) (word ∷ words))
     go (sees_end sort dashed is) = by_sort word words _ pieces _ _ sort
         (leads_on _ _ word words [] (Some (map file words)) pieces (turn_end h wait word is) refl (trails words pieces h wait agrees))
-    go (sees_given name value sort dashed is) = by_sort word words _ pieces _ _ sort (gives_value name value is (values_of name pieces) refl)
+    go (sees_given name value sort dashed is) = by_sort word words _ pieces _ _ sort
+        (gives_value (built_option name) (value ∷ []) (given name value) name value (option_use name value is.known) (turn_given h wait word name value is) (values_of name pieces) refl)
+    go (sees_flag name sort dashed is) = by_sort word words _ pieces _ _ sort
+        (gives_value (built_flag name) [] (flagged name) name (codes "true") (flag_use name is.known) (turn_flag h wait word name is) (values_of name pieces) refl)
     go (sees_opener name sort dashed is) = by_sort word words _ pieces _ _ sort
         (leads_on _ _ word words _ (pieces_from words (Some name)) pieces (turn_opener h wait word name is) agrees.settles
         (waiting pieces (settled top.rules h) name is.known agrees.skip agrees.shows agrees.once))
@@ -203,7 +211,7 @@ waiting_step word words text texts free pieces h name known skip shows once = go
         (answers_more (pieces_from words None) pieces (given name word) _ _
         (free (pieces ++ given name word ∷ []) (pending name (word ∷ []) h) idle idles (agrees_pending pieces h name word known skip shows once none)))
     taken (v ∷ vs) some is =
-        repeats (pieces_from words None) pieces name word v vs _ _ known some
+        repeats (pieces_from words None) pieces (given name word) name word v vs _ _ (option_use name word known).says some
         (fails_behind _ _ word words (turn_value h word name known is)
         (free_fails words (pending name (word ∷ []) h) idle idles texts skip (pending_fails pieces h name word v vs known shows some)))
 
@@ -212,6 +220,7 @@ waiting_step word words text texts free pieces h name known skip shows once = go
     go (sees_end sort dashed is) = refused dashed
     go (sees_given other value sort dashed is) = refused dashed
     go (sees_opener other sort dashed is) = refused dashed
+    go (sees_flag other sort dashed is) = refused dashed
     go (sees_unknown sort dashed is) = refused dashed
 
 free_end : AnswersFree []

@@ -1,12 +1,16 @@
--- The command line as `clap` is told of it: four options that take a value, and files.
+-- The command line as `clap` is told of it: four options that take a value, a flag, and files.
 use Rattle.std.specs.Prelude.{codes, true, Some}
 use Rattle.clap.specs.Walk.{Rule, Text}
 use Rattle.clap.specs.Simple.{App, new_app, new_rule, on_top, with_rule}
-use Rattle.clap.specs.declared.builder.action.ArgAction.TheVariants.{Append}
+use Rattle.clap.specs.declared.builder.action.ArgAction.TheVariants.{Append, SetTrue}
 
 -- an option that takes a value
 abbrev pub option_rule : Text → Rule
 option_rule name = record (new_rule name) { long = Some name }
+
+-- a flag, which takes none
+abbrev pub flag_rule : Text → Rule
+flag_rule name = record (new_rule name) { long = Some name; action = Some SetTrue }
 
 abbrev pub files_rule : Rule
 files_rule = record (new_rule (codes "file")) { action = Some Append; required = true }
@@ -16,5 +20,5 @@ abbrev pub bare_app : App
 bare_app = on_top (λ s. record s { no_binary_name = true; disable_help_flag = true }) (new_app (codes "ops"))
 
 abbrev pub app : App
-app = with_rule (with_rule (with_rule (with_rule (with_rule bare_app (option_rule (codes "match"))) (option_rule (codes "workers")))
-    (option_rule (codes "lines"))) (option_rule (codes "limit"))) files_rule
+app = with_rule (with_rule (with_rule (with_rule (with_rule (with_rule bare_app (option_rule (codes "match"))) (option_rule (codes "workers")))
+    (option_rule (codes "lines"))) (option_rule (codes "limit"))) (flag_rule (codes "net"))) files_rule

@@ -1,8 +1,8 @@
 //! The command line as `clap` is told of it, and what it finds in words.
-ghost use Rattle.std.specs.Prelude.{◌≡◌, false, None, Err, IfOk};
+ghost use Rattle.std.specs.Prelude.{◌≡◌, false, None, Err, IfOk, codes};
 ghost use Rattle.clap.specs.Words.{app_of, rule_of};
 ghost use Rattle.ops_jobs.specs.Words.{word_bytes};
-ghost use Rattle.ops_words.specs.Command.{app, files_rule, option_rule};
+ghost use Rattle.ops_words.specs.Command.{app, files_rule, flag_rule, option_rule};
 ghost use Rattle.ops_words.specs.Found.{Finds, FindsNothing, fault_of};
 
 use crate::faults::WordsFault;
@@ -16,6 +16,16 @@ fn option_named<'a>(alloc: Global, name: &'a str) -> Arg<'a>
     ensures local { result.global ≡ false }
 {
     Arg::new(alloc, name).long(name)
+}
+
+/// The flag that asks for the network. It takes no value and stands at most once.
+fn network_flag<'a>(alloc: Global) -> Arg<'a>
+    ensures rule { rule_of result ≡ flag_rule (codes "net") }
+    ensures local { result.global ≡ false }
+{
+    Arg::new(alloc, "net")
+        .long("net")
+        .action(ArgAction::SetTrue)
 }
 
 /// The files, of which there is at least one.
@@ -38,6 +48,7 @@ fn command_line<'a>(alloc: Global) -> Result<Command<'a>, AllocError>
         .arg(option_named(alloc, "workers"))?
         .arg(option_named(alloc, "lines"))?
         .arg(option_named(alloc, "limit"))?
+        .arg(network_flag(alloc))?
         .arg(files(alloc))
 }
 

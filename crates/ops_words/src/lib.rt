@@ -10,4 +10,5 @@ mod reading;
 mod tests;
 
 pub use faults::WordsFault;
+pub use ops_jobs::{Engine, FileList, Job, Options};
 pub use reading::read_words;

@@ -22,5 +22,9 @@ pub fn read_words(alloc: Global, words: &[String]) -> Result<Job, WordsFault>
         return Err(WordsFault::Usage);
     };
     let files = files_of(alloc, &matches)?;
-    Ok(Job::Run { options, files })
+    if matches.get_flag("net") {
+        Ok(Job::Net { files })
+    } else {
+        Ok(Job::Run { options, files })
+    }
 }

@@ -61,8 +61,15 @@ const FIT: [(&[&str], usize, usize, u64, &[&str]); 9] = [
     (&["--limit", "0000000009", "é"], 4, 1_024, 9, &["é"]),
 ];
 
+/// Words that ask for the network, with their files.
+const NETWORKS: [(&[&str], &[&str]); 3] = [
+    (&["--net", "f"], &["f"]),
+    (&["f", "--net", "--limit=3", "g"], &["f", "g"]),
+    (&["--net", "--", "--net"], &["--net"]),
+];
+
 /// Words that do not fit.
-const UNFIT: [&[&str]; 22] = [
+const UNFIT: [&[&str]; 27] = [
     &[],
     &["--"],
     &["--limit=3"],
@@ -85,12 +92,19 @@ const UNFIT: [&[&str]; 22] = [
     &["-é", "f"],
     &["--help"],
     &["--gen", "1", "2"],
+    &["--net"],
+    &["--net=1", "f"],
+    &["--net", "--net", "f"],
+    &["--net", "--limit=0", "f"],
+    &["--limit", "--net", "f"],
 ];
 
 #[test]
 fn words_that_fit(rt: HostRuntime) -> Result<(), Fail> {
     for (words, workers, lines, limit, names) in FIT {
-        let Job::Run { options, files } = read(rt.alloc(), words)?;
+        let Job::Run { options, files } = read(rt.alloc(), words)? else {
+            panic!(rt; "a network");
+        };
         let wanted = Options {
             workers,
             lines,
@@ -98,6 +112,20 @@ fn words_that_fit(rt: HostRuntime) -> Result<(), Fail> {
             ..USUAL
         };
         assert_eq!(rt; options, wanted);
+        assert_eq!(rt; files.len(), names.len());
+        for (file, name) in files.as_slice().iter().zip(names) {
+            assert_eq!(rt; file.as_str(), *name);
+        }
+    }
+    Ok(())
+}
+
+#[test]
+fn networks(rt: HostRuntime) -> Result<(), Fail> {
+    for (words, names) in NETWORKS {
+        let Job::Net { files } = read(rt.alloc(), words)? else {
+            panic!(rt; "no network");
+        };
         assert_eq!(rt; files.len(), names.len());
         for (file, name) in files.as_slice().iter().zip(names) {
             assert_eq!(rt; file.as_str(), *name);

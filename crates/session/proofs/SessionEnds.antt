@@ -1,16 +1,16 @@
 -- How what the commands of a session leave ends it.
-use Rattle.std.proofs.Common.{◌≡◌, ◌∙◌, ap, sym, ℕ, [], length, Result, Ok, Err, IfOk, inl}
+use Rattle.std.proofs.Common.{◌≡◌, ◌∙◌, ap, sym, subst, refl, ℕ, [], length, true, Result, Ok, Err, IfOk}
 use Rattle.ops_base.specs.Names.{Spellings}
 use Rattle.ops_base.specs.declared.endings.Ending.{Ending}
 use Rattle.ops_base.specs.declared.endings.Ending.TheVariants as ending
 use Rattle.ops_io.specs.Coming.{Coming, Inlet, preceded_by}
-use Rattle.ops_io.specs.Ports.{Port}
+use Rattle.ops_io.specs.Ports.{Port, Put}
 use Rattle.ops_io.specs.declared.stop.Stop.{Stop}
 use Rattle.ops_meaning.specs.Effects.{Effect, Fails, Performs, PerformsOn, CountsReads, of_ending}
 use Rattle.ops_meaning.specs.Running.{Course, Session as Meant, ending_of}
 use Rattle.work_store.specs.Stored.{Stored}
 use Rattle.session.specs.Courses.{meant_by, ended, ends_unread}
-use Rattle.session.specs.Endings.{EndsSession, EndsOn, CountsUnread}
+use Rattle.session.specs.Endings.{Leaves, EndsSession, EndsOn, CountsUnread}
 use Rattle.session.specs.declared.under_way.Session.{Session}
 use Rattle.session.proofs.UnderWay.{nothing_waits}
 
@@ -18,30 +18,47 @@ module _ {M : Type 0} (H : Type 0) (stored : M → Stored) where
   abbrev told : Result (Session M H) Ending → Result Ending Stop
   told r = ended stored r
 
-  ended_fails : (f : Ending) (a b : Port) (e : Effect Ending Meant) → Fails (of_ending f) a b e → EndsSession (told (Err f)) a b e
-  ended_fails ending.WriteFault a b e p = p
-  ended_fails ending.OutOfMemory a b e p = p
-  ended_fails (ending.Done f n t) a b e p = (ap ending_of (sym p.0), p.1)
-  ended_fails (ending.Act f r n k) a b e p = (ap ending_of (sym p.0), p.1)
-  ended_fails (ending.Limit f) a b e p = (ap ending_of (sym p.0), p.1)
-  ended_fails ending.ReadFault a b e p = (ap ending_of (sym p.0), p.1)
+  module _ (new : Spellings) (z : Coming) where
+    -- so where it comes to an end of its own
+    ends_so : (f : Ending) (a b : Port) (e : Effect Ending Meant) → (e.outcome ≡ Err f) × Put a b e.bytes → (f ≡ ending_of e.outcome) × Put a b e.bytes × Leaves e.outcome new z
+    ends_so f a b e p =
+        let P : Result Meant Ending → Type 0 = λ o. Leaves o new z in (ap ending_of (sym p.0), p.1, subst P (sym p.0) tt)
 
-  ended_performs : (new : Spellings) (z : Coming) (r : Result (Session M H) Ending) (a b : Port) (e : Effect Ending Meant) → IfOk r (λ s. s.pending ≡ []) → Performs (λ s. meant_by stored s new z) of_ending r a b e → EndsSession (told r) a b e
-  ended_performs new z (Ok s) a b e none p =
-      (ap (λ (m : Course). ending.Done m.firings (length m.wm) m.last) (nothing_waits stored s new z none) ∙ ap ending_of (sym p.0), p.1)
-  ended_performs new z (Err f) a b e none p = ended_fails f a b e p
+    ended_fails : (f : Ending) (a b : Port) (e : Effect Ending Meant) → Fails (of_ending f) a b e → EndsSession (told (Err f)) a b new z e
+    ended_fails ending.WriteFault a b e p = p
+    ended_fails ending.OutOfMemory a b e p = p
+    ended_fails (ending.Done f n t) a b e p = ends_so (ending.Done f n t) a b e p
+    ended_fails (ending.Act f r n k) a b e p = ends_so (ending.Act f r n k) a b e p
+    ended_fails (ending.Limit f) a b e p = ends_so (ending.Limit f) a b e p
+    ended_fails ending.ReadFault a b e p = ends_so ending.ReadFault a b e p
+
+    ended_performs : (r : Result (Session M H) Ending) (a b : Port) (e : Effect Ending Meant) → IfOk r (λ s. s.pending ≡ []) → Performs (λ s. meant_by stored s new z) of_ending r a b e → EndsSession (told r) a b new z e
+    ended_performs (Ok s) a b e none p =
+        let P : Result Meant Ending → Type 0 = λ o. Leaves o new z in
+        (ap (λ (m : Course). ending.Done m.firings (length m.wm) m.last) (nothing_waits stored s new z none) ∙ ap ending_of (sym p.0), p.1, subst P (sym p.0) (refl, refl))
+    ended_performs (Err f) a b e none p = ended_fails f a b e p
 
   -- the session ends so, whatever may come
-  pub ends_on : (new : Spellings) (r : Result (Session M H) Ending) (i j : Inlet) (a b : Port) (e : Coming → Effect Ending Meant) → IfOk r (λ s. s.pending ≡ []) → PerformsOn (λ s z. meant_by stored s new z) of_ending r i j a b e → EndsOn (told r) i j a b e
+  pub ends_on : (new : Spellings) (r : Result (Session M H) Ending) (i j : Inlet) (a b : Port) (e : Coming → Effect Ending Meant) → IfOk r (λ s. s.pending ≡ []) → PerformsOn (λ s z. meant_by stored s new z) of_ending r i j a b e → EndsOn (told r) i j a b new e
   ends_on new r i j a b e none p =
       record { taken = p.taken; took = p.took; ends = λ z h. ended_performs new z r a b (e (preceded_by p.taken z)) none (p.performs z h) }
 
   -- the reads that failed
   pub ended_reads : (r : Result (Session M H) Ending) (before now : ℕ) → CountsReads (ends_unread r) before now → CountsUnread (told r) before now
   ended_reads (Ok s) before now p = p
-  ended_reads (Err ending.WriteFault) before now p = inl p
-  ended_reads (Err ending.OutOfMemory) before now p = inl p
+  ended_reads (Err ending.WriteFault) before now p = p
+  ended_reads (Err ending.OutOfMemory) before now p = p
   ended_reads (Err (ending.Done f n t)) before now p = p
   ended_reads (Err (ending.Act f r n k)) before now p = p
   ended_reads (Err (ending.Limit f)) before now p = p
   ended_reads (Err ending.ReadFault) before now p = p
+
+  -- it is told as unread only where the input failed
+  pub ended_unread : (r : Result (Session M H) Ending) → told r ≡ Ok ending.ReadFault → ends_unread r ≡ true
+  ended_unread (Ok s) e = cc
+  ended_unread (Err ending.WriteFault) e = cc
+  ended_unread (Err ending.OutOfMemory) e = cc
+  ended_unread (Err (ending.Done f n t)) e = cc
+  ended_unread (Err (ending.Act f r n k)) e = cc
+  ended_unread (Err (ending.Limit f)) e = cc
+  ended_unread (Err ending.ReadFault) e = refl

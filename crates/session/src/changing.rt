@@ -44,7 +44,7 @@ fn next_tag(last: u64) -> Result<u64, OutOfMemory>
 }
 
 /// Does changes in their order, which is one phase.
-fn change<M: Matcher + Drop>(
+fn change<M: Matcher>(
     alloc: Global,
     hand: &mut M::Hand,
     program: &Program,
@@ -80,7 +80,7 @@ fn change<M: Matcher + Drop>(
 }
 
 /// One phase, whose changes are told first.
-fn phase<M: Matcher + Drop, K: Sink>(
+fn phase<M: Matcher, K: Sink>(
     alloc: Global,
     hand: &mut M::Hand,
     program: &Program,
@@ -114,10 +114,7 @@ fn phase<M: Matcher + Drop, K: Sink>(
 }
 
 /// An element waits for its phase.
-fn with_waiting<M: Matcher + Drop>(
-    session: Session<M>,
-    made: Element,
-) -> Result<Session<M>, OutOfMemory>
+fn with_waiting<M: Matcher>(session: Session<M>, made: Element) -> Result<Session<M>, OutOfMemory>
     ensures { IfOk result (λ s. s ≡ record session { pending = session.pending ++ Change.Add made ∷ []; last_tag = made.tag }) }
 {
     let mut session = session;
@@ -127,7 +124,7 @@ fn with_waiting<M: Matcher + Drop>(
 }
 
 /// A top-level `make`, which is one phase. Where no run was begun it waits, but is told at once.
-pub(crate) fn make_at_top<M: Matcher + Drop, K: Sink>(
+pub(crate) fn make_at_top<M: Matcher, K: Sink>(
     alloc: Global,
     hand: &mut M::Hand,
     program: &Program,
@@ -203,7 +200,7 @@ fn all_removals(alloc: Global, store: &Store) -> Result<Listed<Change>, OutOfMem
 }
 
 /// Removes the elements of these tags, which is one phase.
-pub(crate) fn remove<M: Matcher + Drop, K: Sink>(
+pub(crate) fn remove<M: Matcher, K: Sink>(
     alloc: Global,
     hand: &mut M::Hand,
     program: &Program,
@@ -236,7 +233,7 @@ pub(crate) fn remove<M: Matcher + Drop, K: Sink>(
 }
 
 /// Removes all elements, which is one phase.
-pub(crate) fn remove_all<M: Matcher + Drop, K: Sink>(
+pub(crate) fn remove_all<M: Matcher, K: Sink>(
     alloc: Global,
     hand: &mut M::Hand,
     program: &Program,

@@ -1,5 +1,5 @@
 //! The commands of a program, in the order of the text.
-ghost use Rattle.std.specs.Prelude.{◌≡◌, ◌^◌, ◌<◌, ◌-◌, [], None, IsTrue, IfOk};
+ghost use Rattle.std.specs.Prelude.{◌≡◌, ◌^◌, ◌<◌, ◌-◌, [], None, true, IsTrue, IfOk};
 ghost use Rattle.ops_io.specs.Coming.{inlet};
 ghost use Rattle.ops_io.specs.Ports.{port};
 ghost use Rattle.ops_meaning.specs.Effects.{PerformsOn, CountsReads, of_ending};
@@ -24,7 +24,7 @@ use std::alloc::Global;
 use work_store::Matcher;
 
 /// A run, for which nothing waits any longer.
-fn run_from<M: Matcher + Drop, I: Source, K: Sink>(
+fn run_from<M: Matcher, I: Source, K: Sink>(
     alloc: Global,
     hand: &mut M::Hand,
     program: &Program,
@@ -49,6 +49,7 @@ fn run_from<M: Matcher + Drop, I: Source, K: Sink>(
         (λ c. run_given (conflict_set program.now.rules) (setting_of program.now 0) limit out.old.column count
         (meant_by M.stored session names.old c)) }
     ensures reads { CountsReads (ends_unread result) (I.faults source.old) (I.faults source.new) }
+    ensures written { ends_unread result ≡ true → out.new.held ≡ [] }
     ensures names { KeepsNames names.old names.new }
     ensures under_way { IfOk result (IsUnderWay M.stored M.stands_for program.now.rules) }
 {
@@ -87,7 +88,7 @@ fn run_from<M: Matcher + Drop, I: Source, K: Sink>(
 }
 
 /// Does one command.
-fn do_command<M: Matcher + Drop, I: Source, K: Sink>(
+fn do_command<M: Matcher, I: Source, K: Sink>(
     alloc: Global,
     hand: &mut M::Hand,
     program: &Program,
@@ -112,6 +113,7 @@ fn do_command<M: Matcher + Drop, I: Source, K: Sink>(
         (λ c. command_done (setting_of program.now 0) limit out.old.column command.now
         (meant_by M.stored session names.old c)) }
     ensures reads { CountsReads (ends_unread result) (I.faults source.old) (I.faults source.new) }
+    ensures written { ends_unread result ≡ true → out.new.held ≡ [] }
     ensures names { KeepsNames names.old names.new }
     ensures under_way { IfOk result (IsUnderWay M.stored M.stands_for program.now.rules) }
 {
@@ -156,7 +158,7 @@ fn is_exit(command: &Command) -> bool
 }
 
 /// Does the commands of a program in order, up to the first `exit`.
-fn do_each<M: Matcher + Drop, I: Source, K: Sink>(
+fn do_each<M: Matcher, I: Source, K: Sink>(
     alloc: Global,
     hand: &mut M::Hand,
     program: &Program,
@@ -180,6 +182,7 @@ fn do_each<M: Matcher + Drop, I: Source, K: Sink>(
         (λ c. commands_done (setting_of program.now 0) limit out.old.column program.now.commands
         (meant_by M.stored session names.old c)) }
     ensures reads { CountsReads (ends_unread result) (I.faults source.old) (I.faults source.new) }
+    ensures written { ends_unread result ≡ true → out.new.held ≡ [] }
     ensures names { KeepsNames names.old names.new }
     ensures under_way { IfOk result (IsUnderWay M.stored M.stands_for program.now.rules) }
 {
@@ -196,7 +199,7 @@ fn do_each<M: Matcher + Drop, I: Source, K: Sink>(
 }
 
 /// Does the commands of a program from nothing. Working memory is left in the order of its tags, and nothing waits.
-pub(crate) fn do_commands<M: Matcher + Drop, I: Source, K: Sink>(
+pub(crate) fn do_commands<M: Matcher, I: Source, K: Sink>(
     alloc: Global,
     hand: &mut M::Hand,
     program: &Program,
@@ -222,6 +225,7 @@ pub(crate) fn do_commands<M: Matcher + Drop, I: Source, K: Sink>(
         (port (K.taken sink.new) (K.faults sink.new) out.new)
         (λ c. session_of (setting_of program.now 0) limit program.now.commands names.old c) }
     ensures reads { CountsReads (ends_unread result) (I.faults source.old) (I.faults source.new) }
+    ensures written { ends_unread result ≡ true → out.new.held ≡ [] }
     ensures names { KeepsNames names.old names.new }
     ensures none_waits { IfOk result (λ s. s.pending ≡ []) }
     ensures kept { IfOk result (λ s. WellKept (M.stored s.state.matcher).elements (M.stored s.state.matcher).last) }

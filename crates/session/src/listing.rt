@@ -92,7 +92,7 @@ fn put_elements<K: Sink>(
 }
 
 /// Lists the elements of these tags, or all where no tag is given.
-pub(crate) fn list_elements<M: Matcher + Drop, K: Sink>(
+pub(crate) fn list_elements<M: Matcher, K: Sink>(
     alloc: Global,
     hand: &mut M::Hand,
     program: &Program,
@@ -224,7 +224,7 @@ fn put_met<K: Sink>(
 }
 
 /// Lists the elements that meet a pattern.
-pub(crate) fn list_met<M: Matcher + Drop, K: Sink>(
+pub(crate) fn list_met<M: Matcher, K: Sink>(
     alloc: Global,
     hand: &mut M::Hand,
     program: &Program,
@@ -277,7 +277,7 @@ fn put_standing<K: Sink>(
 }
 
 /// Lists the instantiations that have not fired, the dominant one first.
-pub(crate) fn list_standing<M: Matcher + Drop, K: Sink>(
+pub(crate) fn list_standing<M: Matcher, K: Sink>(
     alloc: Global,
     hand: &mut M::Hand,
     program: &Program,

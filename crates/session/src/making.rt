@@ -113,7 +113,7 @@ fn fixed_fields(alloc: Global, class: &Class, puts: &[Fixed]) -> Result<Vec<Valu
 }
 
 /// The element that a command makes, with this tag.
-pub fn fixed_element(
+pub(crate) fn fixed_element(
     alloc: Global,
     program: &Program,
     tag: u64,

@@ -3,11 +3,12 @@ ghost use Rattle.std.specs.Prelude.{◌≡◌, ◌==◌, ◌^◌, ◌<◌, ◌�
 ghost use Rattle.std.specs.Option.{option_copied};
 ghost use Rattle.ops_io.specs.Ports.{port, PutsBytes};
 ghost use Rattle.ops_meaning.specs.Layout.{break_line, line_at, lines_at, unknown_line};
-ghost use Rattle.ops_meaning.specs.Running.{all_toggled, break_lines, breaks_given, has_break, lists, production_line, rule_named, rule_text, toggled, unknown_of};
+ghost use Rattle.ops_meaning.specs.Running.{all_toggled, break_lines, breaks_given, lists, production_line, rule_named, rule_text, toggled, unknown_of};
 ghost use Rattle.act_phase.specs.Outcomes.{setting_of};
 ghost use Rattle.session.specs.Courses.{IsUnderWay};
 ghost use Rattle.session.specs.Deeds.{Does};
 
+use crate::running::has_break;
 use crate::under_way::Session;
 use ops_base::endings::Ending;
 use ops_base::list::Listed;
@@ -83,7 +84,7 @@ fn put_productions<K: Sink>(
 }
 
 /// Lists the productions of these names.
-pub(crate) fn list_productions<M: Matcher + Drop, K: Sink>(
+pub(crate) fn list_productions<M: Matcher, K: Sink>(
     program: &Program,
     names: &Names,
     session: Session<M>,
@@ -101,13 +102,6 @@ pub(crate) fn list_productions<M: Matcher + Drop, K: Sink>(
 {
     put_productions(out, sink, names, program, given.as_slice())?;
     Ok(session)
-}
-
-/// Whether the production with this number has a break.
-fn has_break(breaks: &[bool], rule: usize) -> bool
-    ensures { result ≡ has_break breaks.now rule }
-{
-    breaks.get(rule).copied().unwrap_or(false)
 }
 
 /// Puts the line of a production, where it has a break.
@@ -216,7 +210,7 @@ fn all_toggled(rules: &[Rule], given: &[Sym], breaks: Listed<bool>) -> Listed<bo
 
 /// Sets or clears breaks by names, or lists them where no name is given. For each name it looks at the productions one after
 /// the other.
-pub(crate) fn give_breaks<M: Matcher + Drop, K: Sink>(
+pub(crate) fn give_breaks<M: Matcher, K: Sink>(
     program: &Program,
     names: &Names,
     session: Session<M>,

@@ -1,5 +1,5 @@
 //! A run: one firing after another, until it ends.
-ghost use Rattle.std.specs.Prelude.{◌≡◌, ◌^◌, ◌<◌, ◌-◌, IsTrue, IfOk, Some, None, option_map};
+ghost use Rattle.std.specs.Prelude.{◌≡◌, ◌^◌, ◌<◌, ◌-◌, [], true, IsTrue, IfOk, Some, None, option_map};
 ghost use Rattle.ops_base.specs.Names.{Spellings};
 ghost use Rattle.ops_base.specs.declared.rules.Inst.{Inst};
 ghost use Rattle.ops_io.specs.Coming.{inlet};
@@ -45,7 +45,7 @@ fn ended_in(firing: u64, rule: usize, fault: ActFault) -> Ending
 }
 
 /// The firing of the dominant instantiation, which is of this production.
-fn fire<M: Matcher + Drop, I: Source, K: Sink>(
+fn fire<M: Matcher, I: Source, K: Sink>(
     alloc: Global,
     hand: &mut M::Hand,
     program: &Program,
@@ -71,6 +71,7 @@ fn fire<M: Matcher + Drop, I: Source, K: Sink>(
         (port (K.taken sink.new) (K.faults sink.new) out.new)
         (λ c. firing (setting_of program.now watch) out.old.column i (state_course M.stored state names.old c)) }
     ensures reads { CountsReads (ends_unread result) (I.faults source.old) (I.faults source.new) }
+    ensures written { ends_unread result ≡ true → out.new.held ≡ [] }
     ensures names { KeepsNames names.old names.new }
     ensures of { IfOk result (λ r. IsOf M.stands_for program.now.rules r.0) }
 {
@@ -102,7 +103,8 @@ enum Pause {
     Counted,
 }
 
-fn has_break(breaks: &[bool], rule: usize) -> bool
+/// Whether the production with this number has a break.
+pub(crate) fn has_break(breaks: &[bool], rule: usize) -> bool
     ensures { result ≡ has_break breaks.now rule }
 {
     breaks.get(rule).copied().unwrap_or(false)
@@ -180,7 +182,7 @@ fn one_less(count: Option<u64>) -> Option<u64>
 /// A run of at most `count` firings, if it has a number, until it ends or the session has made the last of its `limit`
 /// firings. It ends behind a firing that did `halt`, behind one whose production has a break, where it has made its number
 /// of firings, and where nothing is left to fire: these are looked at in this order, and the limit behind them.
-pub fn run<M: Matcher + Drop, I: Source, K: Sink>(
+pub(crate) fn run<M: Matcher, I: Source, K: Sink>(
     alloc: Global,
     hand: &mut M::Hand,
     program: &Program,
@@ -207,6 +209,7 @@ pub fn run<M: Matcher + Drop, I: Source, K: Sink>(
         (λ c. run_on (limit - state.firings) (setting_of program.now watch) breaks.now out.old.column None count
         (state_course M.stored state names.old c)) }
     ensures reads { CountsReads (ends_unread result) (I.faults source.old) (I.faults source.new) }
+    ensures written { ends_unread result ≡ true → out.new.held ≡ [] }
     ensures names { KeepsNames names.old names.new }
     ensures of { IfOk result (λ s. IsOf M.stands_for program.now.rules s) }
 {

@@ -1,5 +1,5 @@
 //! A whole session, and what is told of it.
-ghost use Rattle.std.specs.Prelude.{◌≡◌, ◌^◌, ◌<◌, [], IsTrue};
+ghost use Rattle.std.specs.Prelude.{◌≡◌, ◌^◌, ◌<◌, [], Ok, IsTrue};
 ghost use Rattle.ops_io.specs.Coming.{inlet};
 ghost use Rattle.ops_io.specs.Ports.{port};
 ghost use Rattle.ops_meaning.specs.Kept.{KeepsNames, GoesByConflictSets};
@@ -18,7 +18,7 @@ use std::alloc::Global;
 use work_store::Matcher;
 
 /// What is told of a session once its commands are done.
-fn ended<M: Matcher + Drop>(done: Result<Session<M>, Ending>) -> Result<Ending, Stop>
+fn ended<M: Matcher>(done: Result<Session<M>, Ending>) -> Result<Ending, Stop>
     ensures { result ≡ ended M.stored done }
 {
     match done {
@@ -34,8 +34,8 @@ fn ended<M: Matcher + Drop>(done: Result<Session<M>, Ending>) -> Result<Ending, 
 }
 
 /// Does the commands of a program in order, from nothing. Each symbol keeps its spelling, and wherever the session looks for
-/// instantiations it looks at the conflict set.
-pub fn run_session<M: Matcher + Drop, I: Source, K: Sink>(
+/// instantiations it looks at the conflict set. Where a read fails, all that was put before is written out.
+pub fn run_session<M: Matcher, I: Source, K: Sink>(
     alloc: Global,
     hand: &mut M::Hand,
     program: &Program,
@@ -59,12 +59,15 @@ pub fn run_session<M: Matcher + Drop, I: Source, K: Sink>(
         (inlet input.new (I.left source.new) (I.faults source.new))
         (port (K.taken sink.old) (K.faults sink.old) out.old)
         (port (K.taken sink.new) (K.faults sink.new) out.new)
+        names.new
         (λ c. session_of (setting_of program.now 0) limit program.now.commands names.old c) }
     ensures reads { CountsUnread result (I.faults source.old) (I.faults source.new) }
+    ensures written { result ≡ Ok Ending.ReadFault → out.new.held ≡ [] }
     ensures names { KeepsNames names.old names.new }
     ensures sets { GoesByConflictSets (setting_of program.now 0) limit program.now.commands names.old }
 {
-    ended(do_commands(
+    let done = do_commands(
         alloc, hand, program, names, matcher, limit, input, source, out, sink,
-    ))
+    );
+    ended(done)
 }

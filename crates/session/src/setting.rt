@@ -26,7 +26,7 @@ fn strategy_line(strategy: Strategy) -> &'static [u8]
 }
 
 /// Sets the strategy, or tells it where none is given.
-pub(crate) fn give_strategy<M: Matcher + Drop, K: Sink>(
+pub(crate) fn give_strategy<M: Matcher, K: Sink>(
     session: Session<M>,
     set: Option<Strategy>,
     out: &mut Out,
@@ -54,7 +54,7 @@ pub(crate) fn give_strategy<M: Matcher + Drop, K: Sink>(
 }
 
 /// Sets the trace level, or tells it where none is given.
-pub(crate) fn give_level<M: Matcher + Drop, K: Sink>(
+pub(crate) fn give_level<M: Matcher, K: Sink>(
     session: Session<M>,
     set: Option<u8>,
     out: &mut Out,

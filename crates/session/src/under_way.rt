@@ -39,7 +39,7 @@ fn no_breaks(alloc: Global, program: &Program) -> Result<Listed<bool>, OutOfMemo
 }
 
 /// A session in which nothing was done yet.
-pub(crate) fn started<M: Matcher + Drop>(
+pub(crate) fn started<M: Matcher>(
     alloc: Global,
     program: &Program,
     matcher: M,
@@ -62,7 +62,7 @@ pub(crate) fn started<M: Matcher + Drop>(
 }
 
 /// Makes the phases that wait, as one.
-pub(crate) fn settle<M: Matcher + Drop>(
+pub(crate) fn settle<M: Matcher>(
     alloc: Global,
     hand: &mut M::Hand,
     program: &Program,

@@ -10,20 +10,20 @@ use Rattle.act_phase.proofs.acting.act_all.Goals as goal
 pub loop-before-init : goal.loop-before-init
 loop-before-init g c = still_all _ _ c.requires.whole
 
-pub returns-in_err-act_at : goal.returns-in_err-act_at
-returns-in_err-act_at g c =
+pub returns-in_err-act_at-clause-does : goal.returns-in_err-act_at-clause-does
+returns-in_err-act_at-clause-does g c =
     let l = c.loop-before in
     action_err (setting_of c.args.program.now c.args.watch) c.args.actions.now l.before c.index-actions-before.result c.loop-before-test.true c.index-actions-before.is l.doing c.act_at.new.doing l.invariant
-    _ _ c.from_residual.ensures.1 c.in_err-act_at.ensures
+    _ _ c.from_residual.ensures.1 c.in_err-act_at.ensures.does
 
 pub loop-before-preserved : goal.loop-before-preserved
 loop-before-preserved g c =
     let l = c.loop-before in
     action_ok (setting_of c.args.program.now c.args.watch) c.args.actions.now l.before c.index-actions-before.result c.loop-before-test.true c.index-actions-before.is l.doing c.act_at.new.doing l.invariant
-    c.in_ok-act_at.ensures
+    c.in_ok-act_at.ensures.does
 
-pub returns : goal.returns
-returns g c =
+pub returns-clause-does : goal.returns-clause-does
+returns-clause-does g c =
     let l = c.loop-before in
     still_done _ l.invariant
     (λ d. ap (λ rest. actions_done (setting_of c.args.program.now c.args.watch) l.out.column (l.before + 1) rest (doing_of l.doing l.names d))

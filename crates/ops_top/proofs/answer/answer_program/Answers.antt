@@ -47,4 +47,4 @@ returns-in_err-flush-clause-delivers g c =
 
 pub returns-clause-delivers : goal.returns-clause-delivers
 returns-clause-delivers g c =
-    program_delivered c.in_ok-input.ensures (ap (λ (o : OutState). o.held) c.in_ok-out.ensures) c.in_ok-ending.ending c.in_ok-ending.ensures.tells c.status_of.result c.status_of.ensures c.in_ok-flush.ensures.flushes
+    program_delivered c.in_ok-input.ensures (ap (λ (o : OutState). o.held) c.in_ok-out.ensures) c.in_ok-ending.ending c.in_ok-ending.ensures.tells c.status_of.result c.status_of.ensures.is c.in_ok-flush.ensures.flushes

@@ -1,4 +1,4 @@
-use Rattle.std.proofs.Common.{nat_lt, Err, refl, rules}
+use Rattle.std.proofs.Common.{nat_lt, Err, refl}
 use Rattle.ops_io.specs.Coming.{Coming}
 use Rattle.ops_io.specs.declared.stop.Stop.TheVariants as stop
 use Rattle.ops_jobs.specs.Words.{word_bytes}
@@ -9,11 +9,11 @@ use Rattle.ops_top.proofs.Deliveries.{untold}
 use Rattle.ops_top.proofs.FilesAnswered.{words_deliver, unfit_deliver, short_deliver}
 use Rattle.ops_top.proofs.words.run_words.Goals as goal
 
-pub returns-in-Ok-Run-clause-delivers : goal.returns-in-Ok-Run-clause-delivers
-returns-in-Ok-Run-clause-delivers g c =
+pub returns-in-Ok-clause-delivers : goal.returns-in-Ok-clause-delivers
+returns-in-Ok-clause-delivers g c =
     let I : (Coming → Type 0) → Type 0 = OfInput (g.I.Source.left c.args.input.now) (g.I.Source.left c.run_files.new.input) (nat_lt (g.I.Source.faults c.args.input.now) (g.I.Source.faults c.run_files.new.input)) in
     let D : Reply → Type 0 = λ o. Delivers c.run_files.result o (g.K.Sink.taken c.args.sink.now) (g.K.Sink.faults c.args.sink.now) (g.K.Sink.taken c.run_files.new.sink) (g.K.Sink.faults c.run_files.new.sink) in
-    words_deliver (word_bytes c.args.words.now) (g.H.Shelf.told c.args.shelf.now) _ I D c.in-Ok-Run.field-0 _ (word_bytes c.as_slice.result.now) c.in-Ok-Run.ensures.fits c.run_files.ensures.delivers (search rules) (search rules)
+    words_deliver (word_bytes c.args.words.now) (g.H.Shelf.told c.args.shelf.now) _ I D c.in-Ok.job c.in-Ok.ensures.fits c.run_files.ensures.delivers
 
 pub returns-in-Err-Usage-clause-delivers : goal.returns-in-Err-Usage-clause-delivers
 returns-in-Err-Usage-clause-delivers g c =

@@ -1,7 +1,7 @@
 use Rattle.std.proofs.Common.{◌≡◌, ◌∙◌, codes, true, ap}
 use Rattle.std.proofs.lemmas.Result.{IfOk-weaker}
 use Rattle.clap.specs.Simple.{app_of, on_top}
-use Rattle.ops_words.specs.Command.{bare_app, files_rule, option_rule}
+use Rattle.ops_words.specs.Command.{bare_app, files_rule, flag_rule, option_rule}
 use Rattle.ops_words.proofs.Building.{with_argument, without_help, without_name}
 use Rattle.ops_words.proofs.command.command_line.Goals as goal
 
@@ -15,4 +15,5 @@ returns c =
     let second = with_argument c.in_ok-arg.field-0 c.in_ok-arg-2.field-0 c.option_named-2.result _ (option_rule (codes "workers")) c.in_ok-arg-2.ensures c.option_named-2.ensures.local first c.option_named-2.ensures.rule in
     let third = with_argument c.in_ok-arg-2.field-0 c.in_ok-arg-3.field-0 c.option_named-3.result _ (option_rule (codes "lines")) c.in_ok-arg-3.ensures c.option_named-3.ensures.local second c.option_named-3.ensures.rule in
     let fourth = with_argument c.in_ok-arg-3.field-0 c.in_ok-arg-4.field-0 c.option_named-4.result _ (option_rule (codes "limit")) c.in_ok-arg-4.ensures c.option_named-4.ensures.local third c.option_named-4.ensures.rule in
-    IfOk-weaker c.arg-5.result _ _ (λ r adds. with_argument c.in_ok-arg-4.field-0 r c.files.result _ files_rule adds c.files.ensures.local fourth c.files.ensures.rule) c.arg-5.ensures
+    let fifth = with_argument c.in_ok-arg-4.field-0 c.in_ok-arg-5.field-0 c.network_flag.result _ (flag_rule (codes "net")) c.in_ok-arg-5.ensures c.network_flag.ensures.local fourth c.network_flag.ensures.rule in
+    IfOk-weaker c.arg-6.result _ _ (λ r adds. with_argument c.in_ok-arg-5.field-0 r c.files.result _ files_rule adds c.files.ensures.local fifth c.files.ensures.rule) c.arg-6.ensures

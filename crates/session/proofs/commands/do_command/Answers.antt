@@ -43,6 +43,11 @@ returns-in-Strategy-clause-reads g c =
     let deed = c.give_strategy.ensures c.args.program.now.rules c.args.names.now c.requires.under_way in
     rw deed.reads
 
+pub returns-in-Strategy-clause-written : goal.returns-in-Strategy-clause-written
+returns-in-Strategy-clause-written g c = λ unread.
+    let deed = c.give_strategy.ensures c.args.program.now.rules c.args.names.now c.requires.under_way in
+    cc deed.reads
+
 pub returns-in-Strategy-clause-under_way : goal.returns-in-Strategy-clause-under_way
 returns-in-Strategy-clause-under_way g c =
     let deed = c.give_strategy.ensures c.args.program.now.rules c.args.names.now c.requires.under_way in
@@ -56,6 +61,11 @@ pub returns-in-Watch-clause-reads : goal.returns-in-Watch-clause-reads
 returns-in-Watch-clause-reads g c =
     let deed = c.give_level.ensures c.args.program.now.rules c.args.names.now c.requires.under_way in
     rw deed.reads
+
+pub returns-in-Watch-clause-written : goal.returns-in-Watch-clause-written
+returns-in-Watch-clause-written g c = λ unread.
+    let deed = c.give_level.ensures c.args.program.now.rules c.args.names.now c.requires.under_way in
+    cc deed.reads
 
 pub returns-in-Watch-clause-under_way : goal.returns-in-Watch-clause-under_way
 returns-in-Watch-clause-under_way g c =

@@ -1,0 +1,102 @@
+//! Conditions with their variables replaced by what binds them.
+ghost use Rattle.std.specs.Prelude.{◌≡◌, IfOk, OnOk};
+ghost use Rattle.net_base.specs.Normal.{origin_of, normal_operand, normal_tests, normal_of, binders_with, binders_after};
+
+use net_base::normal::{Binder, NormalCondition, NormalOperand, NormalTest, Origin};
+use ops_base::conditions::{Condition, Operand, Test};
+use ops_base::list::Listed;
+use ops_base::memory::OutOfMemory;
+use std::alloc::Global;
+
+/// What binds a variable, the last of several.
+#[tactic(auto, using(crate::proofs::Origins::origin_of_last))]
+fn origin_of(binders: &[Binder], variable: usize) -> Option<Origin>
+    ensures { result ≡ origin_of binders.now variable }
+{
+    let mut left = binders;
+    while let Some((last, before)) = left.split_last() {
+        if last.variable == variable {
+            return Some(last.origin);
+        }
+        left = before;
+    }
+    None
+}
+
+/// An operand with its variable replaced, none where nothing binds it.
+fn normal_operand(
+    alloc: Global,
+    binders: &[Binder],
+    operand: &Operand,
+) -> Result<Option<NormalOperand>, OutOfMemory>
+    ensures { IfOk result (λ o. o ≡ normal_operand binders.now operand.now) }
+{
+    match operand {
+        Operand::Constant(value) => Ok(Some(NormalOperand::Constant(*value))),
+        Operand::OneOf(values) => Ok(Some(NormalOperand::OneOf(values.copy(alloc)?))),
+        Operand::Variable(variable) => match origin_of(binders, *variable) {
+            Some(origin) => Ok(Some(NormalOperand::Bound(origin))),
+            None => Ok(None),
+        },
+    }
+}
+
+fn bind(binders: &mut Vec<Binder>, operand: &Operand, origin: Origin) -> Result<(), OutOfMemory>
+    ensures { OnOk result (binders.new.items ≡ binders_with binders.old.items operand.now origin) }
+{
+    match operand {
+        Operand::Constant(_) => Ok(()),
+        Operand::OneOf(_) => Ok(()),
+        Operand::Variable(variable) => {
+            binders.push(Binder {
+                variable: *variable,
+                origin,
+            })?;
+            Ok(())
+        }
+    }
+}
+
+fn normal_tests(
+    alloc: Global,
+    place: usize,
+    tests: &[Test],
+    binders: &mut Vec<Binder>,
+) -> Result<Vec<NormalTest>, OutOfMemory>
+    ensures tests { IfOk result (λ v. v.items ≡ normal_tests place tests.now binders.old.items) }
+    ensures binders { OnOk result (binders.new.items ≡ binders_after place tests.now binders.old.items) }
+{
+    let mut found = Vec::new(alloc);
+    for test in tests {
+        let field = test.field;
+        if test.binds {
+            bind(binders, &test.operand, Origin { place, field })?;
+        } else if let Some(operand) = normal_operand(alloc, binders.as_slice(), &test.operand)? {
+            found.push(NormalTest {
+                field,
+                pred: test.pred,
+                operand,
+            })?;
+        }
+    }
+    Ok(found)
+}
+
+/// The normal form of a condition with so many positive ones before it. What it binds is added to the binders. It looks back
+/// over the binders for each test of a variable. After a refusal the binders hold some of it, and are not used again.
+pub fn normal_form(
+    alloc: Global,
+    place: usize,
+    condition: &Condition,
+    binders: &mut Vec<Binder>,
+) -> Result<NormalCondition, OutOfMemory>
+    ensures normal { IfOk result (λ c. c ≡ normal_of place condition.now binders.old.items) }
+    ensures binders { OnOk result (binders.new.items ≡ binders_after place condition.now.tests binders.old.items) }
+{
+    let tests = normal_tests(alloc, place, condition.tests.as_slice(), binders)?;
+    Ok(NormalCondition {
+        negated: condition.negated,
+        class: condition.class,
+        tests: Listed::from_vec(tests),
+    })
+}

@@ -1,0 +1,56 @@
+//! The compiler of productions to a network in which they share what they have in common.
+#![tactic(auto)]
+
+ghost use Rattle.std.specs.Prelude.{IfOk};
+ghost use Rattle.net_base.specs.Network.{NetOf};
+ghost use Rattle.net_base.specs.Shape.{IsShape, counts_of};
+ghost use Rattle.beta_net.specs.Built.{IsCompiled};
+
+mod alphas;
+mod chains;
+mod children;
+mod code;
+mod links;
+mod lower;
+mod same;
+#[cfg(test)]
+mod tests;
+
+use crate::children::add_children;
+use crate::links::build;
+use crate::lower::{Draft, lower};
+use net_base::net::Net;
+use ops_base::list::Listed;
+use ops_base::memory::OutOfMemory;
+use ops_base::programs::Program;
+use ops_base::rules::Rule;
+use std::alloc::Global;
+
+/// The alphas and nodes of these productions.
+fn draft_of(alloc: Global, rules: &[Rule]) -> Result<Draft, OutOfMemory>
+    ensures { IfOk result (λ d. IsCompiled rules.now d.alphas.items d.nodes.items) }
+{
+    let built = build(alloc, rules)?;
+    let mut draft = lower(alloc, built.links.list.as_slice(), built.ends.as_slice())?;
+    add_children(&mut draft.nodes)?;
+    Ok(draft)
+}
+
+/// The network of the program's productions. Two conditions share a node exactly where the same conditions stand before them and
+/// they have one sign, one class and the same tests that do not bind, in one order; and two nodes share an alpha where they have
+/// one class and the same tests of one element alone.
+///
+/// Each condition is looked up by its code among those of the same code, and so is each alpha. A test of a variable looks back over
+/// the variables that the production binds.
+pub fn compile(alloc: Global, program: &Program) -> Result<Net, OutOfMemory>
+    ensures network { IfOk result (λ net. NetOf net program.now.rules) }
+    ensures shape { IfOk result (λ net. IsShape program.now.rules (counts_of net.alphas net.nodes)) }
+
+    // A node for each prefix, with the tests of its last condition, and nothing else.
+    ensures built { IfOk result (λ net. IsCompiled program.now.rules net.alphas net.nodes) }
+{
+    let draft = draft_of(alloc, program.rules.as_slice())?;
+    let alphas = Listed::from_vec(draft.alphas);
+    let nodes = Listed::from_vec(draft.nodes);
+    Ok(Net::new(alphas, nodes))
+}

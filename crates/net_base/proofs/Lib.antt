@@ -1,0 +1,14 @@
+pub mod Variables
+pub mod OneElement
+pub mod TwoParts
+pub mod AlphaAlone
+pub mod Places
+pub mod Steps
+pub mod Chains
+pub mod Paths
+pub mod Instantiations
+pub mod Terminals
+pub mod ValidRules
+pub mod Sames
+pub mod Counted
+pub mod ShapeOf

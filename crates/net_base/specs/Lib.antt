@@ -1,0 +1,6 @@
+pub mod Normal
+pub mod Tokens
+pub mod Sound
+pub mod Shape
+pub mod Network
+pub mod Counting

@@ -1,0 +1,104 @@
+-- What every network keeps.
+use Rattle.std.specs.Prelude.{◌≡◌, ◌<◌, ℕ, zero, suc, ◌+◌, Bool, true, false, List, [], ◌∷◌, ◌++◌, length, slice_get, Option, Some, None, ◌==◌, if◌then◌else◌, All}
+use Rattle.net_base.specs.declared.nodes.Kind.{Kind}
+use Rattle.net_base.specs.declared.nodes.Kind.TheVariants.{Join, Negated, Terminal}
+use Rattle.net_base.specs.declared.nodes.Node.{Node}
+use Rattle.net_base.specs.declared.nodes.Alpha.{Alpha}
+
+-- ---- parents and children
+
+abbrev pub is_parent : Option ℕ → ℕ → Bool
+is_parent None n = false
+is_parent (Some p) n = p == n
+
+abbrev pub child_if : Option Node → ℕ → ℕ → List ℕ
+child_if None n i = []
+child_if (Some x) n i = if is_parent x.parent n then i ∷ [] else []
+
+-- the nodes below the bound that name n as parent, in order
+abbrev pub children_below : List Node → ℕ → ℕ → List ℕ
+children_below nodes zero n = []
+children_below nodes (suc i) n = children_below nodes i n ++ child_if (slice_get nodes i) n i
+
+-- each node has as children just the nodes that name it as parent, each once
+abbrev pub HasChildren : List Node → Type 0
+HasChildren nodes = (n : ℕ) (x : Node) → slice_get nodes n ≡ Some x → x.children ≡ children_below nodes (length nodes) n
+
+abbrev pub depth_of : Option Node → ℕ
+depth_of None = 0
+depth_of (Some x) = x.depth
+
+abbrev pub depth_above : List Node → Option ℕ → ℕ
+depth_above nodes None = 0
+depth_above nodes (Some p) = depth_of (slice_get nodes p)
+
+-- ---- how long tokens are
+
+-- how many tags a node adds to a left token
+abbrev pub added_tags : Kind → ℕ
+added_tags Join = 1
+added_tags Negated = 0
+added_tags (Terminal rule) = 0
+
+abbrev pub width_above : (ℕ → ℕ) → Option ℕ → ℕ
+width_above widths None = 0
+width_above widths (Some p) = widths p
+
+abbrev pub width_of_node : (ℕ → ℕ) → Option Node → ℕ
+width_of_node widths None = 0
+width_of_node widths (Some x) = width_above widths x.parent + added_tags x.kind
+
+-- of each node whose number is below the bound
+abbrev pub width_below : ℕ → List Node → ℕ → ℕ
+width_below zero nodes n = 0
+width_below (suc k) nodes n = width_of_node (width_below k nodes) (slice_get nodes n)
+
+-- how many tags the tokens have that a node puts out
+abbrev pub width : List Node → ℕ → ℕ
+width nodes n = width_below (suc n) nodes n
+
+-- how many tags the left tokens have below this parent
+abbrev pub left_width : List Node → Option ℕ → ℕ
+left_width nodes parent = width_above (width nodes) parent
+
+-- ---- kinds
+
+abbrev pub is_join : Kind → Bool
+is_join Join = true
+is_join Negated = false
+is_join (Terminal rule) = false
+
+abbrev pub is_negated : Kind → Bool
+is_negated Join = false
+is_negated Negated = true
+is_negated (Terminal rule) = false
+
+abbrev pub is_terminal : Kind → Bool
+is_terminal Join = false
+is_terminal Negated = false
+is_terminal (Terminal rule) = true
+
+-- ---- sound
+
+-- a terminal has no children, no tests, and no class or alpha of its own
+pub record IsBare (x : Node) : Type 0 where
+  pub children : length x.children ≡ 0
+  pub joins : length x.joins ≡ 0
+  pub class : x.class ≡ 0
+  pub alpha : x.alpha ≡ 0
+
+-- Node n is as it is to be. A node of a condition names an alpha, which has its class, and its tests look at places in its left tokens.
+pub record IsSoundAt (alphas : List Alpha) (nodes : List Node) (n : ℕ) (x : Node) : Type 0 where
+  pub parent : (p : ℕ) → x.parent ≡ Some p → p < n
+  pub root : x.parent ≡ None → is_join x.kind ≡ true
+  pub depth : x.depth ≡ depth_above nodes x.parent + 1
+  pub alpha : is_terminal x.kind ≡ false → x.alpha < length alphas
+  pub class : is_terminal x.kind ≡ false → (a : Alpha) → slice_get alphas x.alpha ≡ Some a → a.class ≡ x.class
+  pub places : All (λ j. j.place < left_width nodes x.parent) x.joins
+  pub terminal : is_terminal x.kind ≡ true → IsBare x
+
+-- Each node is as it is to be, and no two terminals have one rule.
+pub record IsSound (alphas : List Alpha) (nodes : List Node) : Type 0 where
+  pub each : (n : ℕ) (x : Node) → slice_get nodes n ≡ Some x → IsSoundAt alphas nodes n x
+  pub children : HasChildren nodes
+  pub one : (n m k : ℕ) (x y : Node) → slice_get nodes n ≡ Some x → slice_get nodes m ≡ Some y → x.kind ≡ Terminal k → y.kind ≡ Terminal k → n ≡ m

@@ -1,0 +1,12 @@
+//! A law of the shape that holds of the definitions alone: the contract of a function that does nothing.
+ghost use Rattle.std.specs.Prelude.{◌≡◌, List};
+ghost use Rattle.ops_base.specs.declared.rules.Rule.{Rule};
+ghost use Rattle.net_base.specs.declared.counts.Counts.{Counts};
+ghost use Rattle.net_base.specs.Shape.{IsShape};
+ghost use Rattle.net_base.specs.Counting.{shape_of};
+
+/// The numbers that are computed are the shape of the productions, and no others are.
+pub fn shape_is_counted()
+    ensures counted { (rules : List Rule) → IsShape rules (shape_of rules) }
+    ensures one { (rules : List Rule) (counts : Counts) → IsShape rules counts → counts ≡ shape_of rules }
+{}

@@ -1,0 +1,46 @@
+//! Nodes and alphas.
+
+use ops_base::conditions::Test;
+use ops_base::list::Listed;
+use ops_base::values::Pred;
+
+#[derive(Clone, Copy, Debug, PartialEq, Eq)]
+pub enum Kind {
+    /// Of a positive condition: it joins an element to a token.
+    Join,
+    /// Of a negated condition: it lets a token pass while no element meets it.
+    Negated,
+    /// Below the last condition of a production.
+    Terminal { rule: usize },
+}
+
+/// Compares a field of the right element with the field `other` of the element at `place` of the left token.
+#[derive(Clone, Copy, Debug, PartialEq, Eq)]
+pub struct JoinTest {
+    pub field: usize,
+    pub pred: Pred,
+    pub place: usize,
+    pub other: usize,
+}
+
+/// A node's left tokens come from its parent, and from the root where it has none. Its right tokens are the elements that
+/// pass its alpha. A terminal has no right tokens, and its class and alpha are not used.
+#[derive(Drop)]
+pub struct Node {
+    pub kind: Kind,
+    pub parent: Option<usize>,
+    pub class: usize,
+    pub alpha: usize,
+    pub joins: Listed<JoinTest>,
+    /// The nodes whose parent it is.
+    pub children: Listed<usize>,
+    /// How many nodes a token passes from the root to here, this one counted.
+    pub depth: usize,
+}
+
+/// A class, and tests that look at one element alone. A variable in such a test is a field of the same element.
+#[derive(Drop)]
+pub struct Alpha {
+    pub class: usize,
+    pub tests: Listed<Test>,
+}
