@@ -13,9 +13,9 @@ use Rattle.ops_base.specs.Matching.{value_of}
 use Rattle.ops_base.specs.Names.{Spellings, with_fresh}
 use Rattle.ops_base.specs.Valid.{class_of}
 use Rattle.ops_base.specs.Values.{nil}
-use Rattle.ops_base.specs.WorkingMemory.{field_of}
+use Rattle.ops_base.specs.WorkingMemory.{field_of, scalar_count}
 use Rattle.ops_io.specs.Coming.{Coming}
-use Rattle.ops_meaning.specs.Acting.{Mishap as Missed, Doing as Meant, Valued, evaluated, scalar_count, computed_as}
+use Rattle.ops_meaning.specs.Acting.{Mishap as Missed, Doing as Meant, Valued, evaluated, computed_as}
 use Rattle.ops_meaning.specs.Acting.{accepted_as as accepted_in}
 use Rattle.ops_meaning.specs.Computing.{Computed, computed}
 use Rattle.ops_meaning.specs.Effects.{Effect, writes, silent, followed_by, outcome_as}

@@ -1,4 +1,4 @@
-//! The actions of a right side, in order.
+//! `act`, which does a right side: its actions in order, and each kind of action with what it puts and reads.
 ghost use Rattle.std.specs.Prelude.{◌≡◌, ◌^◌, ◌<◌, ◌-◌, ◌≤◌, [], true, IsTrue, IfOk, OnOk, fold};
 ghost use Rattle.ops_base.specs.Names.{Spellings};
 ghost use Rattle.ops_base.specs.Valid.{class_of};
@@ -369,6 +369,7 @@ pub fn act<I: Source, K: Sink>(
     // Each symbol keeps its spelling, also after a fault.
     ensures names { KeepsNames names.old names.new }
 {
+    // only the proof needs this: the store is looked at for what it keeps true
     let last = store.last();
     prove!(last < next_tag);
     let conditions = conditions_of(program, inst.rule);

@@ -9,7 +9,7 @@ use ops_base::endings::ActKind;
 use ops_base::expression::{Expr, Op, Step};
 use ops_base::matching::{Binding, bound_value};
 use ops_base::memory::OutOfMemory;
-use ops_base::values::{NIL, Value};
+use ops_base::values::{NOTHING, Value};
 use smallvec::SmallVec;
 use std::alloc::Global;
 use std::marker::Model;
@@ -94,7 +94,7 @@ fn applied(op: Op, left: Computed, right: Computed) -> Computed
     }
 }
 
-/// What one operand gave. It is seen as that.
+/// What one operand gave. A contract sees it as that result alone, and not as a struct.
 #[derive(Drop)]
 struct Operand {
     given: Computed,
@@ -149,7 +149,7 @@ fn step(stack: &mut Operands, bindings: &[Binding], step: Step) -> Result<(), Ou
     match step {
         Step::Number(n) => put(stack, Ok(Value::Whole(n))),
         Step::Variable(variable) => {
-            let value = bound_value(bindings, variable).unwrap_or(Value::Symbol(NIL));
+            let value = bound_value(bindings, variable).unwrap_or(NOTHING);
             put(stack, Ok(value))
         }
         Step::Apply(op) => operate(stack, op),

@@ -1,4 +1,4 @@
-//! What a right side has done so far.
+//! `Doing`, the whole state between two actions: working memory, bindings, cells, and whether `halt` was done.
 ghost use Rattle.std.specs.Prelude.{◌≡◌, ◌+◌, ◌-◌, ◌<◌, IfOk, OnOk, [], ◌∷◌, map, true, false, unwrap_or};
 ghost use Rattle.std.specs.Option.{option_copied};
 ghost use Rattle.ops_base.specs.Names.{Spellings};

@@ -1,7 +1,8 @@
 //! The fields of the elements that a right side makes.
 ghost use Rattle.std.specs.Prelude.{◌≡◌, ◌^◌, ◌<◌, [], true, IfOk, OnOk, Some, IsTrue};
 ghost use Rattle.ops_base.specs.Valid.{class_of, is_vector};
-ghost use Rattle.ops_meaning.specs.Acting.{no_fields, value_placed, values_placed, emptied, terms_placed, made_fields, modified_fields};
+ghost use Rattle.ops_base.specs.WorkingMemory.{no_fields};
+ghost use Rattle.ops_meaning.specs.Acting.{value_placed, values_placed, emptied, terms_placed, made_fields, modified_fields};
 ghost use Rattle.ops_meaning.specs.Effects.{silent};
 ghost use Rattle.act_phase.specs.Deeds.{Acts, Gives, scene, fields_found};
 ghost use Rattle.act_phase.specs.Outcomes.{fails_by, is_read_mishap};
@@ -9,9 +10,9 @@ ghost use Rattle.act_phase.specs.State.{doing_of, held_in, filled_of};
 
 use crate::doing::Doing;
 use crate::outcome::Mishap;
-use crate::values::{NOTHING, evaluate, scalar_count};
+use crate::values::evaluate;
 use ops_base::actions::Put;
-use ops_base::elements::Class;
+use ops_base::elements::{Class, MOST_FIELDS};
 use ops_base::endings::ActKind;
 use ops_base::memory::OutOfMemory;
 use ops_base::symbols::Names;
@@ -19,15 +20,12 @@ use ops_base::values::Value;
 use ops_io::{Input, Out, Sink, Source};
 use std::alloc::Global;
 
-/// How many fields an element has at most, its class not counted.
-const MOST_FIELDS: usize = 126;
-
 /// Whether this is the first field of the vector attribute.
 fn is_vector(classes: &[Class], class: usize, field: usize) -> bool
     ensures { result ≡ is_vector (class_of classes.now class) field }
 {
     match classes.get(class) {
-        Some(class) => class.vector && class.attrs.len().checked_sub(1) == Some(field),
+        Some(class) => class.is_vector(field),
         None => false,
     }
 }
@@ -45,8 +43,10 @@ fn empty_vector(classes: &[Class], class: usize, field: usize, fields: &mut Vec<
 fn no_fields(alloc: Global, classes: &[Class], class: usize) -> Result<Vec<Value>, OutOfMemory>
     ensures { IfOk result (λ v. v.items ≡ no_fields (class_of classes.now class)) }
 {
-    let fields = vec![in alloc; NOTHING; scalar_count(classes, class)]?;
-    Ok(fields)
+    match classes.get(class) {
+        Some(class) => class.no_fields(alloc),
+        None => Ok(Vec::new(alloc)),
+    }
 }
 
 /// Places a value at a field, or behind the last one.

@@ -10,6 +10,7 @@ use ops_base::endings::ActKind;
 use ops_base::list::Listed;
 use ops_base::memory::OutOfMemory;
 use ops_io::WriteFailed;
+use thiserror::Error;
 
 /// What a right side did: the changes to working memory in order, whether it did `halt`, and the next tag.
 #[derive(Drop)]
@@ -20,15 +21,19 @@ pub struct Acted {
 }
 
 /// Why a right side was not done to its end.
-#[derive(Clone, Copy, Debug, PartialEq, Eq)]
+#[derive(Clone, Copy, Debug, PartialEq, Eq, Error)]
 pub enum ActFault {
     /// The action with this number, counted from 1, can't be done.
+    #[error("action {action} can't be done: {kind:?}")]
     Bad { action: usize, kind: ActKind },
     /// The source failed.
+    #[error("cannot read the input")]
     Read,
     /// The sink refused a write.
+    #[error("cannot write the output")]
     Write,
     /// Memory ran out.
+    #[error("out of memory")]
     OutOfMemory,
 }
 
@@ -50,6 +55,14 @@ impl From<OutOfMemory> for ActFault {
 
     fn from(_error: OutOfMemory) -> Self {
         ActFault::OutOfMemory
+    }
+}
+
+impl From<WriteFailed> for ActFault {
+    ghost from_gives = { λ _ why. why ≡ fault.Write };
+
+    fn from(_error: WriteFailed) -> Self {
+        ActFault::Write
     }
 }
 

@@ -1,4 +1,4 @@
-//! The lines that tell what was removed and made.
+//! What is told at each trace level, and the lines that tell what was removed and made.
 ghost use Rattle.std.specs.Prelude.{◌≡◌, ◌^◌, ◌<◌, IsTrue, OnErr, Some, false, nat_le, slice_get, drop, take};
 ghost use Rattle.ops_base.specs.WorkingMemory.{done};
 ghost use Rattle.ops_io.specs.Ports.{port, PutsBytes};
@@ -10,7 +10,7 @@ use ops_base::elements::Change;
 use ops_base::programs::Program;
 use ops_base::symbols::Names;
 use ops_io::{Out, Sink, WriteFailed};
-use ops_print::put_element_line;
+use ops_print::{put_made_line, put_removed_line};
 
 /// Puts the line of the change at this place.
 fn tell_change<K: Sink>(
@@ -32,16 +32,23 @@ fn tell_change<K: Sink>(
     ensures broken { OnErr result (out.new.whole ≡ false) }
 {
     match change {
-        Change::Add(element) => put_element_line(out, sink, names, program, b"=>WM: ", element),
+        Change::Add(element) => put_made_line(out, sink, names, program, element),
         Change::Remove(tag) => {
             let element = working.removed_at(place, *tag);
-            put_element_line(out, sink, names, program, b"<=WM: ", element)
+            put_removed_line(out, sink, names, program, element)
         }
     }
 }
 
-/// Whether elements are told of at this trace level.
-fn traces_elements(watch: u8) -> bool
+/// Whether firings are traced at this level.
+pub fn traces_firings(watch: u8) -> bool
+    ensures { result ≡ nat_le 1 watch }
+{
+    watch >= 1
+}
+
+/// Whether elements are traced at this level.
+pub fn traces_elements(watch: u8) -> bool
     ensures { result ≡ nat_le 2 watch }
 {
     watch >= 2

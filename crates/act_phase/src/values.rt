@@ -4,8 +4,8 @@ ghost use Rattle.std.specs.Option.{option_copied};
 ghost use Rattle.ops_base.specs.Matching.{value_of};
 ghost use Rattle.ops_base.specs.Valid.{class_of};
 ghost use Rattle.ops_base.specs.Values.{nil};
-ghost use Rattle.ops_base.specs.WorkingMemory.{field_of};
-ghost use Rattle.ops_meaning.specs.Acting.{no_element, scalar_count, first_of, evaluated};
+ghost use Rattle.ops_base.specs.WorkingMemory.{field_of, scalar_count};
+ghost use Rattle.ops_meaning.specs.Acting.{no_element, first_of, evaluated};
 ghost use Rattle.ops_meaning.specs.Computing.{computed};
 ghost use Rattle.ops_meaning.specs.Effects.{silent};
 ghost use Rattle.act_phase.specs.Deeds.{Acts, Gives, scene, value_found};
@@ -21,12 +21,10 @@ use ops_base::elements::{Class, Element};
 use ops_base::expression::Expr;
 use ops_base::matching::bound_value;
 use ops_base::symbols::Names;
-use ops_base::values::{NIL, Value};
+use ops_base::values::{NOTHING, Value};
 use ops_io::{Input, Out, Sink, Source};
 use std::alloc::Global;
 use std::slice;
-
-pub(crate) const NOTHING: Value = Value::Symbol(NIL);
 
 /// The values of one term. They take no memory.
 #[derive(Drop)]
@@ -57,12 +55,11 @@ impl Values<'_> {
 }
 
 /// How many fields an element of this class has before those of its vector attribute.
-pub(crate) fn scalar_count(classes: &[Class], class: usize) -> usize
+fn scalar_count(classes: &[Class], class: usize) -> usize
     ensures { result ≡ scalar_count (class_of classes.now class) }
 {
     match classes.get(class) {
-        Some(class) if class.vector => class.attrs.len().saturating_sub(1),
-        Some(class) => class.attrs.len(),
+        Some(class) => class.scalar_count(),
         None => 0,
     }
 }
@@ -72,8 +69,8 @@ fn rest(element: Option<&Element>, count: usize) -> &[Value]
     ensures { result.now ≡ drop count (unwrap_or (option_copied element.entry) no_element).fields }
 {
     match element {
-        Some(element) if count < element.fields.len() => &element.fields.as_slice()[count..],
-        _ => &[],
+        Some(element) => element.fields_from(count),
+        None => &[],
     }
 }
 

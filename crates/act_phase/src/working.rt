@@ -1,4 +1,4 @@
-//! Working memory as a right side changes it.
+//! `Working`, the working memory within that state: the store that a right side began with, and its changes so far.
 ghost use Rattle.std.specs.Prelude.{◌≡◌, ◌+◌, ◌-◌, ◌<◌, OnOk, Some, slice_get, take, unwrap_or};
 ghost use Rattle.std.specs.Option.{option_copied};
 ghost use Rattle.ops_base.specs.WorkingMemory.{done};
@@ -70,6 +70,7 @@ impl<'s> Working<'s> {
         requires { store.now.last < next_tag }
         ensures { result ≡ unchanged store.now.elements (next_tag - 1) }
     {
+        // only the proof needs this: the store is looked at for what it keeps true
         let last = store.last();
         prove!(last < next_tag);
         Working {

@@ -1,5 +1,5 @@
 //! Conditions with their variables replaced by what binds them.
-ghost use Rattle.std.specs.Prelude.{◌≡◌, IfOk, OnOk};
+ghost use Rattle.std.specs.Prelude.{◌≡◌, IfOk, OnOk, OnErr, length, take};
 ghost use Rattle.net_base.specs.Normal.{origin_of, normal_operand, normal_tests, normal_of, binders_with, binders_after};
 
 use net_base::normal::{Binder, NormalCondition, NormalOperand, NormalTest, Origin};
@@ -42,7 +42,8 @@ fn normal_operand(
 }
 
 fn bind(binders: &mut Vec<Binder>, operand: &Operand, origin: Origin) -> Result<(), OutOfMemory>
-    ensures { OnOk result (binders.new.items ≡ binders_with binders.old.items operand.now origin) }
+    ensures ok { OnOk result (binders.new.items ≡ binders_with binders.old.items operand.now origin) }
+    ensures err { OnErr result (binders.new.items ≡ binders.old.items) }
 {
     match operand {
         Operand::Constant(_) => Ok(()),
@@ -57,6 +58,8 @@ fn bind(binders: &mut Vec<Binder>, operand: &Operand, origin: Origin) -> Result<
     }
 }
 
+/// The tests that do not bind. What the others bind comes behind what was bound before, also where memory runs out.
+#[tactic(auto, using(crate::proofs::Binding::still_first))]
 fn normal_tests(
     alloc: Global,
     place: usize,
@@ -65,6 +68,7 @@ fn normal_tests(
 ) -> Result<Vec<NormalTest>, OutOfMemory>
     ensures tests { IfOk result (λ v. v.items ≡ normal_tests place tests.now binders.old.items) }
     ensures binders { OnOk result (binders.new.items ≡ binders_after place tests.now binders.old.items) }
+    ensures first { take (length binders.old.items) binders.new.items ≡ binders.old.items }
 {
     let mut found = Vec::new(alloc);
     for test in tests {
@@ -83,7 +87,7 @@ fn normal_tests(
 }
 
 /// The normal form of a condition with so many positive ones before it. What it binds is added to the binders. It looks back
-/// over the binders for each test of a variable. After a refusal the binders hold some of it, and are not used again.
+/// over the binders for each test of a variable. Where memory runs out the binders are as before.
 pub fn normal_form(
     alloc: Global,
     place: usize,
@@ -92,11 +96,18 @@ pub fn normal_form(
 ) -> Result<NormalCondition, OutOfMemory>
     ensures normal { IfOk result (λ c. c ≡ normal_of place condition.now binders.old.items) }
     ensures binders { OnOk result (binders.new.items ≡ binders_after place condition.now.tests binders.old.items) }
+    ensures err { OnErr result (binders.new.items ≡ binders.old.items) }
 {
-    let tests = normal_tests(alloc, place, condition.tests.as_slice(), binders)?;
-    Ok(NormalCondition {
-        negated: condition.negated,
-        class: condition.class,
-        tests: Listed::from_vec(tests),
-    })
+    let known = binders.as_slice().len();
+    match normal_tests(alloc, place, condition.tests.as_slice(), binders) {
+        Ok(tests) => Ok(NormalCondition {
+            negated: condition.negated,
+            class: condition.class,
+            tests: Listed::from_vec(tests),
+        }),
+        Err(error) => {
+            binders.truncate(known);
+            Err(error)
+        }
+    }
 }

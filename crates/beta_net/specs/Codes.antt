@@ -3,8 +3,6 @@ use Rattle.std.specs.Prelude.{ℕ, ◌+◌, ◌*◌, ◌%◌, ◌^◌, List, [],
 use Rattle.std.specs.Int.{cast_unsigned, w64}
 use Rattle.ops_base.specs.declared.values.Value.{Value}
 use Rattle.ops_base.specs.declared.values.Value.TheVariants.{Symbol, Whole}
-use Rattle.ops_base.specs.declared.values.Pred.{Pred}
-use Rattle.ops_base.specs.declared.values.Pred.TheVariants.{Eq, Ne, Lt, Le, Gt, Ge, SameKind}
 use Rattle.ops_base.specs.declared.conditions.Operand.{Operand}
 use Rattle.ops_base.specs.declared.conditions.Operand.TheVariants as operand
 use Rattle.ops_base.specs.declared.conditions.Test.{Test}
@@ -12,18 +10,10 @@ use Rattle.net_base.specs.declared.normal.NormalOperand.{NormalOperand}
 use Rattle.net_base.specs.declared.normal.NormalOperand.TheVariants as normal
 use Rattle.net_base.specs.declared.normal.NormalTest.{NormalTest}
 use Rattle.net_base.specs.declared.normal.NormalCondition.{NormalCondition}
+use Rattle.net_base.specs.Counting.{pred_number}
 
 unfoldable pub mixed : ℕ → ℕ → ℕ
 mixed code x = ((code * 6364136223846793005) % 2 ^ 64 + x) % 2 ^ 64
-
-abbrev pub pred_code : Pred → ℕ
-pred_code Eq = 1
-pred_code Ne = 2
-pred_code Lt = 3
-pred_code Le = 4
-pred_code Gt = 5
-pred_code Ge = 6
-pred_code SameKind = 7
 
 abbrev pub value_code : ℕ → Value → ℕ
 value_code code (Symbol s) = mixed (mixed code 1) s.0
@@ -45,11 +35,11 @@ normal_operand_code code (normal.Bound o) = mixed (mixed (mixed code 5) o.place)
 
 abbrev pub tests_code : ℕ → List Test → ℕ
 tests_code code [] = code
-tests_code code (t ∷ ts) = tests_code (operand_code (mixed (mixed code t.field) (pred_code t.pred)) t.operand) ts
+tests_code code (t ∷ ts) = tests_code (operand_code (mixed (mixed code t.field) (pred_number t.pred)) t.operand) ts
 
 abbrev pub normal_tests_code : ℕ → List NormalTest → ℕ
 normal_tests_code code [] = code
-normal_tests_code code (t ∷ ts) = normal_tests_code (normal_operand_code (mixed (mixed code t.field) (pred_code t.pred)) t.operand) ts
+normal_tests_code code (t ∷ ts) = normal_tests_code (normal_operand_code (mixed (mixed code t.field) (pred_number t.pred)) t.operand) ts
 
 abbrev pub parent_code : Option ℕ → ℕ
 parent_code None = 1

@@ -1,6 +1,7 @@
 //! Codes by which conditions and alphas are looked up. The same ones have the same code, and different ones rarely do.
 ghost use Rattle.std.specs.Prelude.{◌≡◌};
-ghost use Rattle.beta_net.specs.Codes.{mixed, pred_code, value_code, values_code, operand_code, normal_operand_code, tests_code, normal_tests_code, parent_code, condition_code, alpha_code};
+ghost use Rattle.net_base.specs.Counting.{pred_number};
+ghost use Rattle.beta_net.specs.Codes.{mixed, value_code, values_code, operand_code, normal_operand_code, tests_code, normal_tests_code, parent_code, condition_code, alpha_code};
 
 use net_base::normal::{NormalCondition, NormalOperand, NormalTest};
 use ops_base::conditions::{Operand, Test};
@@ -15,17 +16,17 @@ fn mixed(code: u64, x: u64) -> u64
     code.wrapping_mul(FACTOR).wrapping_add(x)
 }
 
-fn pred_code(pred: Pred) -> u64
-    ensures { result ≡ pred_code pred }
+fn pred_number(pred: Pred) -> u64
+    ensures { result ≡ pred_number pred }
 {
     match pred {
-        Pred::Eq => 1,
-        Pred::Ne => 2,
-        Pred::Lt => 3,
-        Pred::Le => 4,
-        Pred::Gt => 5,
-        Pred::Ge => 6,
-        Pred::SameKind => 7,
+        Pred::Eq => 0,
+        Pred::Ne => 1,
+        Pred::Lt => 2,
+        Pred::Le => 3,
+        Pred::Gt => 4,
+        Pred::Ge => 5,
+        Pred::SameKind => 6,
     }
 }
 
@@ -79,7 +80,7 @@ fn tests_code(code: u64, tests: &[Test]) -> u64
     let mut all = code;
     for test in tests {
         all = operand_code(
-            mixed(mixed(all, test.field as u64), pred_code(test.pred)),
+            mixed(mixed(all, test.field as u64), pred_number(test.pred)),
             &test.operand,
         );
     }
@@ -92,7 +93,7 @@ fn normal_tests_code(code: u64, tests: &[NormalTest]) -> u64
     let mut all = code;
     for test in tests {
         all = normal_operand_code(
-            mixed(mixed(all, test.field as u64), pred_code(test.pred)),
+            mixed(mixed(all, test.field as u64), pred_number(test.pred)),
             &test.operand,
         );
     }

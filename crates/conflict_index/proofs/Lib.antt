@@ -1,4 +1,4 @@
-pub mod InstOrder
+pub mod IsBefore
 pub mod Members
 pub mod MergeLaws
 pub mod MergeSteps

@@ -8,9 +8,9 @@ use Rattle.ops_base.specs.declared.rules.Inst.{Inst}
 use Rattle.ops_base.specs.Refraction.{is_same_inst}
 use Rattle.ops_base.proofs.RefractionLaws.{is_same_inst-Decides}
 use Rattle.ops_base.proofs.Members.{IsMember}
+use Rattle.ops_base.proofs.InstOrder.{before_differs}
 use Rattle.conflict_index.specs.Indexed.{Member, insts_of}
 use Rattle.conflict_index.specs.Applying.{marked}
-use Rattle.conflict_index.proofs.InstOrder.{before_itself}
 use Rattle.conflict_index.proofs.Members.{InOrder}
 
 abbrev pub with_mark : Member → Member
@@ -65,7 +65,7 @@ set_is_marked i (m ∷ members) zero d a l t =
     others : (n : Member) → IsMember n members → is_same_inst n.inst i ≡ false
     others n h =
         not_true (is_same_inst n.inst i) (n.inst ≡ i) (is_same_inst-Decides n.inst i)
-        (λ e. before_itself m.inst n.inst ((is_same_inst-Decides m.inst i).0 t ∙ sym e) (a.0 n h))
+        (λ e. before_differs m.inst n.inst (a.0 n h) ((is_same_inst-Decides m.inst i).0 t ∙ sym e))
 set_is_marked i (m ∷ members) (suc k) d a l t =
     ap (λ ms. m ∷ ms) (set_is_marked i members k d a.1 (omega arith) t)
     ∙ ap (λ b. cond b (with_mark m) m ∷ marked i members) (sym first)
@@ -73,8 +73,8 @@ set_is_marked i (m ∷ members) (suc k) d a l t =
     first : is_same_inst m.inst i ≡ false
     first =
         not_true (is_same_inst m.inst i) (m.inst ≡ i) (is_same_inst-Decides m.inst i)
-        (λ e. before_itself m.inst (get_or members k d).inst (e ∙ sym ((is_same_inst-Decides (get_or members k d).inst i).0 t))
-        (a.0 (get_or members k d) (member_at members k d (omega arith))))
+        (λ e. before_differs m.inst (get_or members k d).inst (a.0 (get_or members k d) (member_at members k d (omega arith)))
+        (e ∙ sym ((is_same_inst-Decides (get_or members k d).inst i).0 t)))
 
 pub found_marked : (i : Inst) (members : List Member) (k : ℕ) (d : Member) → InOrder members → position (λ (m : Member). is_same_inst m.inst i) members ≡ Some k
     → set members k (with_mark (get_or members k d)) ≡ marked i members

@@ -7,10 +7,11 @@ use Rattle.ops_base.specs.Instances.{Before}
 use Rattle.ops_base.specs.Refraction.{is_same_inst}
 use Rattle.ops_base.proofs.Members.{IsMember, member_left, member_right, member_cases, map_member}
 use Rattle.ops_base.proofs.InOrder.{AllBefore, all_before-append}
+use Rattle.ops_base.proofs.InstOrder.{before_trans, before_differs, not_both_before}
 use Rattle.ops_base.proofs.RefractionLaws.{is_same_inst-Decides}
 use Rattle.conflict_index.specs.Indexed.{Member, insts_of}
 use Rattle.conflict_index.specs.Merging.{is_before, begin_with, without_first, staying, before, behind, merged}
-use Rattle.conflict_index.proofs.InstOrder.{before_trans, before_itself, not_both_before, other_before, tested_before}
+use Rattle.conflict_index.proofs.IsBefore.{other_before, tested_before}
 use Rattle.conflict_index.proofs.Members.{MemberBefore, InOrder}
 
 -- ---- those that stay
@@ -80,7 +81,7 @@ later_differs x members a i h =
 -- where the first member is the first that is gone, the others that are gone are among the other members
 part_of_rest : (g : Inst) (gone : List Inst) (x : Member) (members : List Member) → AllBefore Before (g ∷ gone) → g ≡ x.inst → PartOf (g ∷ gone) (x ∷ members) → PartOf gone members
 part_of_rest g gone x members order e part i h = elim (part i (inr h)) [
-  | inl f ↦ absurd (before_itself g i (e ∙ sym f) (order.0 i h))
+  | inl f ↦ absurd (before_differs g i (order.0 i h) (e ∙ sym f))
   | inr k ↦ k
 ]
 
@@ -122,7 +123,7 @@ staying_is_not_gone (g ∷ gone) (x ∷ members) m order a part h k =
         → (PartOf (g ∷ gone) members → IsMember m (staying (g ∷ gone) members) → ⊥)
         → ⊥
     by_test true d t n one other = elim k [
-      | inl e ↦ before_itself x.inst m.inst (sym (d.0 refl) ∙ sym e) (a.0 m (staying_member gone members m n))
+      | inl e ↦ before_differs x.inst m.inst (a.0 m (staying_member gone members m n)) (sym (d.0 refl) ∙ sym e)
       | inr later ↦ one (d.0 refl) n later
     ]
     by_test false d f (inl e) one other =

@@ -7,10 +7,11 @@ use Rattle.std.proofs.lemmas.Bool.{cases_lt, cases_order, false≢true}
 use Rattle.std.proofs.lemmas.Bool.Decides.{nat_tests}
 use Rattle.ops_base.specs.declared.commands.Strategy.{Strategy}
 use Rattle.ops_base.proofs.Members.{IsMember, contains_from_member}
+use Rattle.ops_base.proofs.InstOrder.{before_differs}
+use Rattle.ops_base.proofs.Filtered.{filter_member, member-filter, all_before-filter}
 use Rattle.conflict_index.specs.Indexed.{Member, waiting, outranks}
 use Rattle.conflict_index.specs.Selecting.{IsAt, rank, stands_at}
-use Rattle.conflict_index.proofs.InstOrder.{before_itself}
-use Rattle.conflict_index.proofs.Members.{InOrder, kept_member, member_kept, filter_in_order}
+use Rattle.conflict_index.proofs.Members.{MemberBefore, InOrder}
 use Rattle.conflict_index.proofs.Ranks.{outranks_itself, none_outranks, outranked, other_outranks}
 
 -- how many of these outrank it
@@ -116,7 +117,7 @@ each_place strategy (x ∷ members) place order within =
               arith,
               p.rank,
               fewer_above strategy p.who x members
-                  (other_outranks strategy x p.who e (λ same. before_itself x.inst p.who.inst same (order.0 p.who p.member))) p.member,
+                  (other_outranks strategy x p.who e (before_differs x.inst p.who.inst (order.0 p.who p.member))) p.member,
             ))
 
 -- ---- the search for the member at a place
@@ -190,8 +191,8 @@ place_found strategy members place order o e =
     past : ((m : Member) → IsMember m members → stands_at strategy members place m ≡ false) → length (waiting members) ≤ place
     past none = elim (cases_lt place (length (waiting members))) [
       | inl within ↦ (
-          let p = each_place strategy (waiting members) place (filter_in_order (λ m. not m.fired) members order) within in
-          absurd (false≢true (sym (none p.who (kept_member (λ m. not m.fired) p.who members p.member)) ∙ stands strategy members place p.who p.member p.rank))
+          let p = each_place strategy (waiting members) place (all_before-filter MemberBefore (λ m. not m.fired) members order) within in
+          absurd (false≢true (sym (none p.who (filter_member (λ m. not m.fired) p.who members p.member).0) ∙ stands strategy members place p.who p.member p.rank))
           )
       | inr h ↦ h
     ]
@@ -201,7 +202,7 @@ place_found strategy members place order o e =
         let b = both_hold (not m.fired) (rank strategy members m == place) t in
         let at : rank strategy members m ≡ place = number_same (rank strategy members m) place b.1 in
         record {
-          member = (m, contains_from_member m (waiting members) (member_kept (λ n. not n.fired) m members h b.0), refl, sym (rank_is strategy members m) ∙ at);
+          member = (m, contains_from_member m (waiting members) (member-filter (λ n. not n.fired) m members h b.0), refl, sym (rank_is strategy members m) ∙ at);
         }
 
     by_answer : (o : Option Member) → MatchOption o ((m : Member) → IsMember m members → stands_at strategy members place m ≡ false) (λ m. IsMember m members × (stands_at strategy members place m ≡ true))

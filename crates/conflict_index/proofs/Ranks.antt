@@ -1,20 +1,20 @@
 -- Outranking is a strict total order of members with different instantiations, and it is dominance where specificities are kept.
-use Rattle.std.proofs.Common.{◌≡◌, ◌≢◌, ℕ, List, true, false, refl, ap, sym, ◌∙◌}
+use Rattle.std.proofs.Common.{◌≡◌, ◌≢◌, List, true, false, refl, ap, sym, ◌∙◌}
 use Rattle.std.specs.Cmp.Lexicographic.{slice_cmp}
 use Rattle.std.specs.declared.cmp.Ordering.{Ordering}
 use Rattle.std.specs.declared.cmp.Ordering.TheVariants.{Less, Equal, Greater}
 use Rattle.std.specs.Ordering.{nat_cmp, ordering_reverse, is_gt}
-use Rattle.std.proofs.lemmas.Cmp.{tied_itself, upto, ranked}
+use Rattle.std.proofs.lemmas.Cmp.{tied_itself, upto}
 use Rattle.std.proofs.lemmas.Map.Lookups.{exact_bytes}
 use Rattle.ops_base.specs.declared.commands.Strategy.{Strategy}
 use Rattle.ops_base.specs.declared.commands.Strategy.TheVariants.{Lex, Mea}
 use Rattle.ops_base.specs.declared.rules.Rule.{Rule}
 use Rattle.ops_base.specs.Dominance.{is_greater, dominates, specificity_of}
 use Rattle.ops_base.proofs.InstEquality.{same_fields}
+use Rattle.ops_base.proofs.InstOrder.{both_equal, equal_numbers}
 use Rattle.resolution.specs.Keys.{IsKey, compare_keys, compare_keys_lex}
 use Rattle.resolution.proofs.KeyLaws.{compare_keys_total, compare_keys-compare_insts}
 use Rattle.conflict_index.specs.Indexed.{Member, key_of, outranks}
-use Rattle.conflict_index.proofs.InstOrder.{both_equal}
 
 abbrev ranks : Strategy → Member → Member → Ordering
 ranks strategy m n = compare_keys strategy (key_of m) (key_of n)
@@ -44,9 +44,6 @@ outranked strategy m n t = by_order (ranks strategy m n) refl t
     by_order Equal e t = cc
     by_order Greater e t =
         ap is_greater ((compare_keys_total strategy).antisymm (key_of n) (key_of m) ∙ ap ordering_reverse e)
-
-equal_numbers : (x y : ℕ) → nat_cmp x y ≡ Equal → x ≡ y
-equal_numbers x y e = ranked x y Equal (sym e)
 
 tied_by_lex : (m n : Member) → compare_keys_lex (key_of m) (key_of n) ≡ Equal → m.inst ≡ n.inst
 tied_by_lex m n e =

@@ -10,9 +10,10 @@ use Rattle.ops_base.specs.Dominance.{dominates, specificity_of}
 use Rattle.ops_base.specs.Refraction.{dominant}
 use Rattle.ops_base.proofs.DominanceLaws.{dominant_only}
 use Rattle.ops_base.proofs.Members.{IsMember, member_from_contains, contains_from_member, member-map, map_member}
+use Rattle.ops_base.proofs.Filtered.{filter_member, all_before-filter}
 use Rattle.conflict_index.specs.Indexed.{Member, insts_of, waiting, outranks, KeepsSpecificities}
 use Rattle.conflict_index.specs.Selecting.{IsFirst, higher}
-use Rattle.conflict_index.proofs.Members.{InOrder, one_member, kept_member, filter_in_order}
+use Rattle.conflict_index.proofs.Members.{MemberBefore, InOrder, one_member}
 use Rattle.conflict_index.proofs.Ranks.{outranks_itself, none_outranks, outranked, other_outranks, outranks-dominates}
 
 -- it is one of these, and none of them outranks it
@@ -100,7 +101,7 @@ is_first strategy members b order u = record {
   where
     above : (m n : Member) → Contains (waiting members) m → m.inst ≡ b.inst → Contains (waiting members) n → n.inst ≢ b.inst → IsTrue (outranks strategy m n)
     above m n h e k differ =
-        let same : m ≡ b = one_member (waiting members) m b (filter_in_order waits members order) (member_from_contains m (waiting members) h) u.member e in
+        let same : m ≡ b = one_member (waiting members) m b (all_before-filter MemberBefore waits members order) (member_from_contains m (waiting members) h) u.member e in
         let P : Member → Type 0 = λ w. outranks strategy w n ≡ true in
         subst P (sym same) (other_outranks strategy n b (u.none n (member_from_contains n (waiting members) k)) differ)
 
@@ -117,7 +118,7 @@ is_dominant strategy rules members b kept u =
     keeps : (m : Member) → IsMember m (waiting members) → m.specificity ≡ specificity_of rules m.inst.rule
     keeps m h =
         let P : Member → Type 0 = λ w. w.specificity ≡ specificity_of rules w.inst.rule in
-        All-contains P members m kept (contains_from_member m members (kept_member waits m members h))
+        All-contains P members m kept (contains_from_member m members (filter_member waits m members h).0)
 
     above : (j : Inst) → Contains (insts_of (waiting members)) j → j ≢ b.inst → IsTrue (dominates strategy rules b.inst j)
     above j h differ =

@@ -1,14 +1,14 @@
 -- How members and newcomers are put together, each given in the order of rule and tags.
 use Rattle.std.specs.Prelude.{List, [], ◌∷◌, ◌++◌, Bool, false, if◌then◌else◌}
-use Rattle.std.specs.Ordering.{nat_cmp, ordering_then, is_lt}
-use Rattle.std.specs.Cmp.Lexicographic.{slice_cmp}
+use Rattle.std.specs.Ordering.{is_lt}
 use Rattle.ops_base.specs.declared.rules.Inst.{Inst}
+use Rattle.ops_base.specs.Instances.{by_rule_and_tags}
 use Rattle.ops_base.specs.Refraction.{is_same_inst}
 use Rattle.conflict_index.specs.Indexed.{Member}
 
 -- the first stands before the second in the order of rule and tags
 abbrev pub is_before : Inst → Inst → Bool
-is_before i j = is_lt (ordering_then (nat_cmp i.rule j.rule) (slice_cmp nat_cmp i.tags j.tags))
+is_before i j = is_lt (by_rule_and_tags i j)
 
 -- the instantiations begin with this one
 abbrev pub begin_with : List Inst → Inst → Bool

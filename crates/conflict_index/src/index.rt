@@ -109,8 +109,11 @@ impl Index {
         self.strategy
     }
 
-    /// Takes those that are gone out, with their marks, and adds those that come. Goes once over all members, and takes
-    /// memory for a list of them, and for the keys of those that come. Where it runs out nothing has changed.
+    /// Takes those that are gone out, with their marks, and adds those that come. Where memory runs out nothing has changed.
+    ///
+    /// However few change, it moves every member into a new list, which is made before the old one is let go. That takes two
+    /// comparisons for each member at most and one for each newcomer, by production and by tags up to the first that
+    /// differs. For each newcomer it copies the tags three times, and sorts one of the copies.
     pub fn apply(
         &mut self,
         program: &Program,
@@ -137,7 +140,8 @@ impl Index {
         Ok(())
     }
 
-    /// Marks a member as fired. Takes no memory, and looks at the members one after the other until it is found.
+    /// Marks a member as fired. Takes no memory. It looks for the member from the front, so it costs a comparison of
+    /// productions and tags for each member up to it.
     pub fn mark(&mut self, inst: &Inst)
         requires { Contains (insts_of self.old.members) inst.now }
         ensures { self.new ≡ record self.old { members = marked inst.now self.old.members } }
@@ -147,7 +151,8 @@ impl Index {
         }
     }
 
-    /// Takes no memory, and never refuses.
+    /// Lets another strategy decide what `select` and `nth` answer from now on. Members, keys and marks stay as they are, and
+    /// nothing is sorted anew. Takes no memory, and answers `Ok` always.
     pub fn set_strategy(&mut self, strategy: Strategy) -> Result<(), OutOfMemory>
         ensures ok { OnOk result (self.new ≡ record self.old { strategy = strategy }) }
         ensures err { OnErr result (self.new ≡ self.old) }

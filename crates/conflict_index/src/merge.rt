@@ -32,10 +32,7 @@ pub(crate) fn newcomers(
 fn is_before(i: &Inst, j: &Inst) -> bool
     ensures { result ≡ is_before i.now j.now }
 {
-    let by_rule = i.rule.cmp(&j.rule);
-    by_rule
-        .then_with(|| i.tags.as_slice().cmp(j.tags.as_slice()))
-        .is_lt()
+    i.compare(j).is_lt()
 }
 
 /// Whether that instantiation stands at that place.

@@ -13,13 +13,14 @@ use Rattle.ops_base.specs.Instances.{Before, IsInOrder}
 use Rattle.ops_base.specs.Refraction.{is_same_inst, is_among, unfired}
 use Rattle.ops_base.proofs.Members.{IsMember, member_from_contains, contains_from_member, all_from_members, member_left, member_right, member_cases, member-map, map_member}
 use Rattle.ops_base.proofs.InOrder.{AllBefore, before_from_all_pairs}
+use Rattle.ops_base.proofs.Filtered.{filter_member, member-filter, all_before-filter}
 use Rattle.ops_base.proofs.ConflictSetLaws.{same_members}
 use Rattle.ops_base.proofs.RefractionLaws.{is_same_inst-Decides, member-unfired}
 use Rattle.conflict_index.specs.Indexed.{Member, insts_of, waiting, KeepsSpecificities}
 use Rattle.conflict_index.specs.Applying.{marked}
 use Rattle.work_store.specs.Stored.{Stored}
 use Rattle.cycle.specs.States.{fired_of, Agree}
-use Rattle.cycle.proofs.Members.{filter_member, member-filter, all_before-filter, insts_before-filter, one_member}
+use Rattle.cycle.proofs.Members.{insts_before-filter, one_member}
 
 -- a member that is marked, for each instantiation that is
 pub fired_member : (ms : List Member) (i : Inst) → Contains (fired_of ms) i → (m : Member) × IsMember m ms × (m.fired ≡ true) × (i ≡ m.inst)

@@ -1,50 +1,19 @@
 -- The members of an index and their instantiations, which stand in order.
-use Rattle.std.proofs.Common.{◌≡◌, List, [], ◌∷◌, filter, length, ◌<◌, Bool, true, false, cond, refl, ap, sym, ◌∙◌, subst, inl, inr, ◌⊎◌}
+use Rattle.std.proofs.Common.{◌≡◌, List, [], ◌∷◌, filter, length, ◌<◌, Bool, ap, sym, ◌∙◌, inl, inr}
 use Rattle.std.specs.Prelude.{Contains, ◌↔◌}
-use Rattle.std.specs.Bool.{Decides}
-use Rattle.std.proofs.lemmas.Bool.{false≢true}
 use Rattle.std.proofs.lemmas.List.Elements.{All-contains}
 use Rattle.ops_base.specs.declared.elements.Element.{Element}
 use Rattle.ops_base.specs.declared.rules.Inst.{Inst}
 use Rattle.ops_base.specs.declared.rules.Rule.{Rule}
 use Rattle.ops_base.specs.ConflictSet.{conflict_set}
 use Rattle.ops_base.specs.Instances.{Before, IsInOrder, IsConflictSet, AreOf}
-use Rattle.ops_base.specs.Refraction.{is_among}
 use Rattle.ops_base.specs.WorkingMemory.{HasRisingTags}
-use Rattle.ops_base.proofs.Members.{IsMember, member_from_contains, contains_from_member, all_from_members, member-map}
+use Rattle.ops_base.proofs.Members.{IsMember, contains_from_member, all_from_members, member-map}
 use Rattle.ops_base.proofs.InOrder.{AllBefore, all_before-map}
-use Rattle.ops_base.proofs.ConflictSetLaws.{before_itself, conflict_set-is, conflict_set_only, computed_of}
-use Rattle.ops_base.proofs.RefractionLaws.{is_among-Decides, Contains-filter}
+use Rattle.ops_base.proofs.InstOrder.{before_differs}
+use Rattle.ops_base.proofs.ConflictSetLaws.{conflict_set-is, conflict_set_only, computed_of}
+use Rattle.ops_base.proofs.Filtered.{all_before-filter}
 use Rattle.conflict_index.specs.Indexed.{Member, insts_of}
-
--- ---- tests of a list
-
--- what a test leaves of a list is in it, and passes
-pub filter_member : {X : Type 0} (p : X → Bool) (x : X) (xs : List X) → IsMember x (filter p xs) → IsMember x xs × (p x ≡ true)
-filter_member p x xs m =
-    let h = (Contains-filter p (λ y. p y ≡ true) (λ y. (λ e. e, λ e. e)) x xs).0 (contains_from_member x (filter p xs) m) in
-    (member_from_contains x xs h.0, h.1)
-
-pub member-filter : {X : Type 0} (p : X → Bool) (x : X) (xs : List X) → IsMember x xs → p x ≡ true → IsMember x (filter p xs)
-member-filter p x xs m e =
-    member_from_contains x (filter p xs) ((Contains-filter p (λ y. p y ≡ true) (λ y. (λ e. e, λ e. e)) x xs).1 (contains_from_member x xs m, e))
-
--- what it leaves stands in the order of the list
-pub all_before-filter : {X : Type 0} (R : X → X → Type 0) (p : X → Bool) (xs : List X) → AllBefore R xs → AllBefore R (filter p xs)
-all_before-filter R p [] a = tt
-all_before-filter R p (x ∷ xs) a = by (p x) (all_before-filter R p xs a.1)
-  where
-    by : (b : Bool) → AllBefore R (filter p xs) → AllBefore R (cond b (x ∷ filter p xs) (filter p xs))
-    by true rest = (λ y m. a.0 y (filter_member p y xs m).0, rest)
-    by false rest = rest
-
--- an instantiation is among some or not
-pub among_or_not : (insts : List Inst) (i : Inst) → Contains insts i ⊎ ¬ Contains insts i
-among_or_not insts i = by (is_among insts i) (is_among-Decides insts i)
-  where
-    by : (b : Bool) → Decides b (Contains insts i) → Contains insts i ⊎ ¬ Contains insts i
-    by true d = inl (d.0 refl)
-    by false d = inr (λ h. false≢true (d.1 h))
 
 -- ---- members in order
 
@@ -66,11 +35,9 @@ pub one_member : (ms : List Member) → AllBefore Before (insts_of ms) → (m n 
 one_member [] a m n p q e = absurd p
 one_member (k ∷ ms) a m n (inl p) (inl q) e = p ∙ sym q
 one_member (k ∷ ms) a m n (inl p) (inr q) e =
-    let P : Inst → Type 0 = Before k.inst in
-    absurd (before_itself k.inst (subst P (sym e ∙ ap (λ (w : Member). w.inst) p) (a.0 n.inst (member-map (λ (w : Member). w.inst) n ms q))))
+    absurd (before_differs k.inst n.inst (a.0 n.inst (member-map (λ (w : Member). w.inst) n ms q)) (ap (λ (w : Member). w.inst) (sym p) ∙ e))
 one_member (k ∷ ms) a m n (inr p) (inl q) e =
-    let P : Inst → Type 0 = Before k.inst in
-    absurd (before_itself k.inst (subst P (e ∙ ap (λ (w : Member). w.inst) q) (a.0 m.inst (member-map (λ (w : Member). w.inst) m ms p))))
+    absurd (before_differs k.inst m.inst (a.0 m.inst (member-map (λ (w : Member). w.inst) m ms p)) (ap (λ (w : Member). w.inst) (sym q) ∙ sym e))
 one_member (k ∷ ms) a m n (inr p) (inr q) e = one_member ms a.1 m n p q e
 
 -- ---- the conflict set

@@ -14,8 +14,9 @@ use Rattle.ops_base.specs.Refraction.{is_among, still_fired, unfired, dominant}
 use Rattle.ops_base.specs.WorkingMemory.{done, last_after}
 use Rattle.ops_base.proofs.Members.{IsMember, member_from_contains, contains_from_member, all_from_members}
 use Rattle.ops_base.proofs.InOrder.{AllBefore, before_from_all_pairs}
+use Rattle.ops_base.proofs.Filtered.{all_before-filter}
 use Rattle.ops_base.proofs.ConflictSetLaws.{same_members, computed_of}
-use Rattle.ops_base.proofs.RefractionLaws.{member-still_fired}
+use Rattle.ops_base.proofs.RefractionLaws.{among_or_not, member-still_fired}
 use Rattle.ops_io.specs.Coming.{Coming}
 use Rattle.ops_meaning.specs.Kept.{WellKept}
 use Rattle.ops_meaning.specs.Running.{Course, next_to_fire, phase_by}
@@ -24,7 +25,7 @@ use Rattle.work_store.specs.Stored.{Stored}
 use Rattle.conflict_index.specs.Indexed.{Member, Indexed, insts_of, waiting, KeepsSpecificities}
 use Rattle.conflict_index.specs.Applying.{newcomer, Stays, Comes, IsApplied, IsPart, IsApart}
 use Rattle.cycle.specs.States.{Held, Agree, fired_of, state_course}
-use Rattle.cycle.proofs.Members.{among_or_not, all_before-filter, insts_before-filter, members_computed, set_of, part_of}
+use Rattle.cycle.proofs.Members.{insts_before-filter, members_computed, set_of, part_of}
 use Rattle.cycle.proofs.Marks.{fired_member, member_fired, inst_member, member_inst, waiting_are}
 
 module _ (before now gone come : List Inst) (settled : IsSettled before now gone come) (ms : List Member) (same : (i : Inst) → Contains (insts_of ms) i ↔ Contains before i) where

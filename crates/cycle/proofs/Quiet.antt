@@ -21,13 +21,13 @@ use Rattle.ops_base.specs.Refraction.{is_among, unfired}
 use Rattle.ops_base.specs.WorkingMemory.{HasRisingTags, tags_of}
 use Rattle.ops_base.proofs.ConflictSetLaws.{conflict_set-is}
 use Rattle.ops_base.proofs.InOrder.{all_pairs_from_before, before_from_all_pairs}
+use Rattle.ops_base.proofs.Filtered.{all_before-filter}
 use Rattle.ops_base.proofs.Members.{IsMember, contains_from_member}
 use Rattle.ops_base.proofs.RefractionLaws.{member-unfired}
 use Rattle.work_store.specs.Settling.{IsSettled}
 use Rattle.work_store.specs.Stored.{Stored, of_tag}
 use Rattle.conflict_index.specs.Indexed.{Member, KeepsSpecificities}
 use Rattle.cycle.specs.Quiet.{production, is_a, is_stop, inst_of, quiet, AreQuiet}
-use Rattle.cycle.proofs.Members.{all_before-filter}
 
 -- ---- the conflict set
 

@@ -18,7 +18,7 @@ ghost use Rattle.conflict_index.specs.Applying.{marked};
 ghost use Rattle.conflict_index.specs.Indexed.{insts_of, nothing_indexed, waiting, KeepsSpecificities};
 ghost use Rattle.cycle.specs.States.{alone, state_course};
 
-use act_phase::{ActFault, act};
+use act_phase::{ActFault, act, traces_firings};
 use conflict_index::Index;
 use ops_base::commands::Strategy;
 use ops_base::elements::Change;
@@ -88,13 +88,10 @@ fn put_trace<K: Sink>(
         (firing_bytes watch out.old.column names.now program.now.rules firing inst.now) }
     ensures refused { IfErr result (λ f. f ≡ ActFault.Write) }
 {
-    if watch < 1 {
+    if !traces_firings(watch) {
         return Ok(());
     }
-    match put_firing(out, sink, names, program, firing, inst) {
-        Ok(()) => Ok(()),
-        Err(_refused) => Err(ActFault::Write),
-    }
+    Ok(put_firing(out, sink, names, program, firing, inst)?)
 }
 
 impl<M: Matcher> State<M> {
@@ -255,6 +252,8 @@ impl<M: Matcher> State<M> {
         ensures specificities { IfOk result (λ r. KeepsSpecificities program.now.rules r.0.index.members) }
     {
         let mut state = self;
+        // whoever asked for a firing has looked for what is next, and it is looked for here once more: each time the conflict set is
+        // gone over once
         let inst = copy_of(alloc, state.next())?;
         let firing = state.firings() + 1;
         put_trace(out, sink, names, program, watch, firing, &inst)?;

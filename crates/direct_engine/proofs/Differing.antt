@@ -8,10 +8,10 @@ use Rattle.ops_base.specs.Instances.{Before, IsInOrder}
 use Rattle.ops_base.specs.Refraction.{is_same_inst, is_among}
 use Rattle.ops_base.proofs.Members.{IsMember, member_from_contains}
 use Rattle.ops_base.proofs.InOrder.{AllBefore, all_pairs_from_before, before_from_all_pairs}
-use Rattle.ops_base.proofs.ConflictSetLaws.{before_itself}
-use Rattle.ops_base.proofs.RefractionLaws.{is_same_inst-Decides, is_among-Decides, Contains-filter}
+use Rattle.ops_base.proofs.InstOrder.{before_trans, before_itself}
+use Rattle.ops_base.proofs.Filtered.{Contains-filter, all_before-filter}
+use Rattle.ops_base.proofs.RefractionLaws.{is_same_inst-Decides, is_among-Decides}
 use Rattle.work_store.specs.Settling.{IsSettled}
-use Rattle.direct_engine.proofs.InstOrder.{before_trans}
 
 -- those that are not among the others
 abbrev pub without : List Inst → List Inst → List Inst
@@ -96,27 +96,10 @@ all_of_the_other is js (inr e) = (ap (without is) e ∙ without_none is, ap (λ 
 
 -- ---- in order
 
-kept_member : (p : Inst → Bool) (i : Inst) (insts : List Inst) → IsMember i (filter p insts) → IsMember i insts
-kept_member p i [] m = absurd m
-kept_member p i (j ∷ insts) m = by (p j) m (λ k. kept_member p i insts k)
-  where
-    by : (b : Bool) → IsMember i (cond b (j ∷ filter p insts) (filter p insts)) → (IsMember i (filter p insts) → IsMember i insts) → IsMember i (j ∷ insts)
-    by true (inl e) later = inl e
-    by true (inr k) later = inr (later k)
-    by false k later = inr (later k)
-
-filter_in_order : (p : Inst → Bool) (insts : List Inst) → AllBefore Before insts → AllBefore Before (filter p insts)
-filter_in_order p [] a = tt
-filter_in_order p (i ∷ insts) a = by (p i) (filter_in_order p insts a.1)
-  where
-    by : (b : Bool) → AllBefore Before (filter p insts) → AllBefore Before (cond b (i ∷ filter p insts) (filter p insts))
-    by true later = (λ j m. a.0 j (kept_member p j insts m), later)
-    by false later = later
-
 without_in_order : (insts others : List Inst) → IsInOrder insts → IsInOrder (without insts others)
 without_in_order insts others a =
     all_pairs_from_before Before (without insts others)
-    (filter_in_order (λ i. not (is_among others i)) insts (before_from_all_pairs Before insts a))
+    (all_before-filter Before (λ i. not (is_among others i)) insts (before_from_all_pairs Before insts a))
 
 in_without : (insts others : List Inst) (i : Inst) → Contains (without insts others) i ↔ (Contains insts i × ¬ Contains others i)
 in_without insts others i =

@@ -1,3 +1,2 @@
-pub mod InstOrder
 pub mod Differing
 pub mod NothingFound

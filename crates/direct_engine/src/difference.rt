@@ -1,7 +1,6 @@
 //! What two conflict sets differ in.
 ghost use Rattle.std.specs.Prelude.{◌≡◌, ◌++◌, IfOk, OnOk};
-ghost use Rattle.std.specs.Ordering.{MatchOrdering};
-ghost use Rattle.ops_base.specs.Instances.{Before, IsInOrder};
+ghost use Rattle.ops_base.specs.Instances.{IsInOrder};
 ghost use Rattle.work_store.specs.Settling.{IsSettled};
 
 use ops_base::memory::OutOfMemory;
@@ -14,15 +13,6 @@ use std::cmp::Ordering;
 pub(crate) struct Difference {
     pub(crate) gone: Vec<Inst>,
     pub(crate) come: Vec<Inst>,
-}
-
-/// How two instantiations stand in the order of rule and tags.
-#[tactic(auto, using(crate::proofs::InstOrder::standing))]
-fn compare(i: &Inst, j: &Inst) -> Ordering
-    ensures { MatchOrdering result (Before i.now j.now) (i.now ≡ j.now) (Before j.now i.now) }
-{
-    let by_rule = i.rule.cmp(&j.rule);
-    by_rule.then_with(|| i.tags.as_slice().cmp(j.tags.as_slice()))
 }
 
 fn add_copies(alloc: Global, from: &[Inst], to: &mut Vec<Inst>) -> Result<(), OutOfMemory>
@@ -51,7 +41,7 @@ pub(crate) fn difference_of(
     'both: while before_at < before.len() && now_at < now.len() {
         let old = &before[before_at];
         let new = &now[now_at];
-        match compare(old, new) {
+        match old.compare(new) {
             Ordering::Less => {
                 gone.push(old.copy(alloc)?)?;
                 before_at += 1;

@@ -8,5 +8,6 @@ pub mod net;
 pub mod nodes;
 pub mod normal;
 pub mod tags;
+pub mod tasks;
 #[cfg(test)]
 mod tests;

@@ -1,9 +1,13 @@
 //! Tokens: the tags of elements.
-ghost use Rattle.std.specs.Prelude.{◌≡◌, ◌++◌, ◌∷◌, [], IfOk, OnOk, OnErr, length};
+ghost use Rattle.std.proofs.Common.{rules};
+ghost use Rattle.std.specs.Cmp.Rules.{comparing, hashing};
+ghost use Rattle.std.specs.Hash as fed;
+ghost use Rattle.std.specs.Prelude.{◌≡◌, ◌++◌, ◌∷◌, [], IfOk, OnOk, OnErr, bytes_eq, length};
 
 use ops_base::memory::OutOfMemory;
 use smallvec::SmallVec;
 use std::alloc::Global;
+use std::hash::{Hash, Hasher};
 use std::marker::Model;
 
 /// The tags that a token names, in the order of their places.
@@ -18,6 +22,30 @@ impl Model for Tags {
     ghost Value = { List ℕ };
 
     ghost view = { λ t. t.tags.items };
+}
+
+impl PartialEq for Tags {
+    ghost eq = { bytes_eq };
+
+    ghost laws = { Prim.search (comparing, rules) };
+
+    fn eq(&self, other: &Tags) -> bool {
+        self.tags == other.tags
+    }
+}
+
+impl Eq for Tags {
+    ghost laws = { Prim.search (comparing, rules) };
+}
+
+impl Hash for Tags {
+    ghost hash_input = { λ a. fed.slice fed.u64 a };
+
+    ghost respects_eq = { Prim.search (hashing, rules) };
+
+    fn hash<H: Hasher>(&self, state: &mut H) {
+        self.tags.hash(state);
+    }
 }
 
 impl Tags {
@@ -37,6 +65,13 @@ impl Tags {
         Ok(Tags {
             tags: SmallVec::from_slice(alloc, tags)?,
         })
+    }
+
+    /// Up to eight tags take no memory.
+    pub fn copy(&self, alloc: Global) -> Result<Tags, OutOfMemory>
+        ensures { IfOk result (λ t. t ≡ self.now) }
+    {
+        Tags::from_slice(alloc, self.tags.as_slice())
     }
 
     /// Takes no memory.

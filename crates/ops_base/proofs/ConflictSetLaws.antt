@@ -8,10 +8,12 @@ use Rattle.ops_base.specs.declared.rules.Rule.{Rule}
 use Rattle.ops_base.specs.declared.rules.Inst.{Inst}
 use Rattle.ops_base.specs.WorkingMemory.{HasRisingTags}
 use Rattle.ops_base.specs.ConflictSet.{matches_of, insts_of, insts_from, conflict_set}
-use Rattle.ops_base.specs.Instances.{Meets, IsInst, TagsBefore, Before, IsConflictSet, AreOf}
+use Rattle.ops_base.specs.Instances.{Meets, IsInst, Before, IsConflictSet, AreOf}
 use Rattle.ops_base.proofs.Members.{IsMember, member_from_contains, contains_from_member, member_left, member_right, member_cases, member-map, map_member}
 use Rattle.ops_base.proofs.WalkFinds.{matches_of-meets, meets-matches_of}
 use Rattle.ops_base.proofs.InOrder.{AllBefore, PartialBefore, all_before-append, all_before-map, all_pairs_from_before, before_from_all_pairs, matches_in_order}
+use Rattle.ops_base.proofs.InstOrder.{not_both_before}
+use Rattle.ops_base.proofs.InstOrder.{before_itself}
 
 abbrev inst : ℕ → List ℕ → Inst
 inst n tags = record { rule = n; tags = tags }
@@ -104,34 +106,6 @@ conflict_set-is rules wm h = record { sound = sound; complete = complete; in_ord
         let P : ℕ → Type 0 = λ w. IsMember (inst w i.tags) (conflict_set rules wm) in
         contains_from_member i (conflict_set rules wm) (subst P e (insts_from-complete 0 rules wm i.rule i.tags is.0 is.1 is.2))
 
--- no list of tags is before itself
-pub tags_before_itself : (xs : List ℕ) → TagsBefore xs xs → ⊥
-tags_before_itself [] h = h
-tags_before_itself (x ∷ xs) (inl h) = omega arith
-tags_before_itself (x ∷ xs) (inr h) = tags_before_itself xs h.1
-
--- two lists of tags are not each before the other
-pub tags_before_both : (xs ys : List ℕ) → TagsBefore xs ys → TagsBefore ys xs → ⊥
-tags_before_both [] [] a b = a
-tags_before_both [] (y ∷ ys) a b = b
-tags_before_both (x ∷ xs) [] a b = a
-tags_before_both (x ∷ xs) (y ∷ ys) (inl a) (inl b) = omega arith
-tags_before_both (x ∷ xs) (y ∷ ys) (inl a) (inr b) = omega (arith, b.0)
-tags_before_both (x ∷ xs) (y ∷ ys) (inr a) (inl b) = omega (arith, a.0)
-tags_before_both (x ∷ xs) (y ∷ ys) (inr a) (inr b) = tags_before_both xs ys a.1 b.1
-
--- no instantiation is before itself
-pub before_itself : (i : Inst) → Before i i → ⊥
-before_itself i (inl h) = omega arith
-before_itself i (inr h) = tags_before_itself i.tags h.1
-
--- two instantiations are not each before the other
-pub before_both : (i j : Inst) → Before i j → Before j i → ⊥
-before_both i j (inl a) (inl b) = omega arith
-before_both i j (inl a) (inr b) = omega (arith, b.0)
-before_both i j (inr a) (inl b) = omega (arith, a.0)
-before_both i j (inr a) (inr b) = tags_before_both i.tags j.tags a.1 b.1
-
 -- two lists in order with the same members are equal
 pub same_members : (xs ys : List Inst) → AllBefore Before xs → AllBefore Before ys → ((i : Inst) → IsMember i xs → IsMember i ys) → ((i : Inst) → IsMember i ys → IsMember i xs) → xs ≡ ys
 same_members [] [] a b to from = refl
@@ -145,7 +119,7 @@ same_members (x ∷ xs) (y ∷ ys) a b to from =
     heads : IsMember x (y ∷ ys) → IsMember y (x ∷ xs) → x ≡ y
     heads (inl e) n = e
     heads (inr m) (inl e) = sym e
-    heads (inr m) (inr n) = absurd (before_both x y (a.0 y n) (b.0 x m))
+    heads (inr m) (inr n) = absurd (not_both_before x y (a.0 y n) (b.0 x m))
 
     tail_to : x ≡ y → (i : Inst) → IsMember i xs → IsMember i (y ∷ ys) → IsMember i ys
     tail_to e i m (inl is) =

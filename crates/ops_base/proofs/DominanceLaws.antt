@@ -1,13 +1,13 @@
 -- Dominance is a strict total order of instantiations, and the dominant one of a list is the one that dominates all others.
-use Rattle.std.proofs.Common.{◌≡◌, ◌≢◌, ℕ, List, [], ◌∷◌, Bool, true, false, cond, not, Option, Some, None, refl, ap, sym, ◌∙◌, subst, inl, inr, ◌⊎◌, fold}
+use Rattle.std.proofs.Common.{◌≡◌, ◌≢◌, List, [], ◌∷◌, Bool, true, false, cond, not, Option, Some, None, refl, ap, sym, ◌∙◌, subst, inl, inr, ◌⊎◌, fold}
 use Rattle.std.specs.Prelude.{IsTrue}
 use Rattle.std.specs.Option.{MatchOption}
 use Rattle.std.specs.Cmp.{IsTotalOrder}
 use Rattle.std.specs.Cmp.Lexicographic.{slice_cmp}
 use Rattle.std.specs.declared.cmp.Ordering.{Ordering}
 use Rattle.std.specs.declared.cmp.Ordering.TheVariants.{Less, Equal, Greater}
-use Rattle.std.specs.Ordering.{nat_cmp, ordering_then, ordering_reverse, is_gt}
-use Rattle.std.proofs.lemmas.Cmp.{nat_cmp_total, nat_list_cmp_total, on_total, then_total, back_total, tied_itself, upto, ranked}
+use Rattle.std.specs.Ordering.{nat_cmp, ordering_reverse, is_gt}
+use Rattle.std.proofs.lemmas.Cmp.{nat_cmp_total, nat_list_cmp_total, on_total, then_total, back_total, tied_itself, upto}
 use Rattle.std.proofs.lemmas.Map.Lookups.{exact_bytes}
 use Rattle.std.proofs.lemmas.Bool.{false≢true}
 use Rattle.std.specs.Bool.{Decides}
@@ -19,6 +19,7 @@ use Rattle.ops_base.specs.Dominance.{downwards, specificity_of, first_tag, compa
 use Rattle.ops_base.specs.Refraction.{IsDominant, better, dominant, is_same_inst}
 use Rattle.ops_base.proofs.Members.{IsMember, member_from_contains, contains_from_member}
 use Rattle.ops_base.proofs.InstEquality.{same_fields}
+use Rattle.ops_base.proofs.InstOrder.{both_equal, equal_numbers}
 use Rattle.ops_base.proofs.RefractionLaws.{is_same_inst-Decides}
 
 compare_lex_total : (rules : List Rule) → IsTotalOrder (compare_lex rules)
@@ -32,15 +33,6 @@ pub compare_insts_total : (strategy : Strategy) (rules : List Rule) → IsTotalO
 compare_insts_total Lex rules = compare_lex_total rules
 compare_insts_total Mea rules =
     then_total (on_total first_tag nat_cmp_total) (compare_lex_total rules)
-
-both_equal : (o p : Ordering) → ordering_then o p ≡ Equal → (o ≡ Equal) × (p ≡ Equal)
-both_equal Less p e = cc
-both_equal Equal p e = (refl, e)
-both_equal Greater p e = cc
-
--- two numbers that compare as equal are
-equal_numbers : (x y : ℕ) → nat_cmp x y ≡ Equal → x ≡ y
-equal_numbers x y e = ranked x y Equal (sym e)
 
 equal_by_lex : (rules : List Rule) (i j : Inst) → compare_lex rules i j ≡ Equal → i ≡ j
 equal_by_lex rules i j e =

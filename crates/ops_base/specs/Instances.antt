@@ -1,6 +1,9 @@
 -- What an instantiation is and what the conflict set is, apart from how they are found.
 use Rattle.std.specs.Prelude.{◌≡◌, ℕ, ◌<◌, List, [], ◌∷◌, length, ◌⊎◌, All, AllPairs, Contains, Some, None, slice_get}
 use Rattle.std.specs.Bool.{MatchBool}
+use Rattle.std.specs.declared.cmp.Ordering.{Ordering}
+use Rattle.std.specs.Ordering.{nat_cmp, ordering_then}
+use Rattle.std.specs.Cmp.Lexicographic.{slice_cmp}
 use Rattle.ops_base.specs.declared.elements.Element.{Element}
 use Rattle.ops_base.specs.declared.conditions.Condition.{Condition}
 use Rattle.ops_base.specs.declared.rules.Rule.{Rule}
@@ -30,6 +33,10 @@ TagsBefore (x ∷ xs) (y ∷ ys) = (x < y) ⊎ ((x ≡ y) × TagsBefore xs ys)
 -- by rule, then by tags
 abbrev pub Before : Inst → Inst → Type 0
 Before i j = (i.rule < j.rule) ⊎ ((i.rule ≡ j.rule) × TagsBefore i.tags j.tags)
+
+-- how two instantiations stand in that order
+abbrev pub by_rule_and_tags : Inst → Inst → Ordering
+by_rule_and_tags i j = ordering_then (nat_cmp i.rule j.rule) (slice_cmp nat_cmp i.tags j.tags)
 
 -- each is before all that follow it, so each is there once
 abbrev pub IsInOrder : List Inst → Type 0

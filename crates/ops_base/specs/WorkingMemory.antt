@@ -1,8 +1,9 @@
 -- Working memory: elements whose tags rise strictly, and what a phase does to it.
-use Rattle.std.specs.Prelude.{ℕ, ◌<◌, List, [], ◌∷◌, ◌++◌, map, filter, not, ◌==◌, unwrap_or, slice_get, Contains}
+use Rattle.std.specs.Prelude.{ℕ, ◌<◌, ◌-◌, List, [], ◌∷◌, ◌++◌, length, map, filter, replicate, not, ◌==◌, if◌then◌else◌, unwrap_or, slice_get, Contains}
 use Rattle.std.specs.Borrow.{Bor}
 use Rattle.std.specs.List.Sorted.{IsStrictlyIncreasing}
 use Rattle.ops_base.specs.declared.values.Value.{Value}
+use Rattle.ops_base.specs.declared.elements.Class.{Class}
 use Rattle.ops_base.specs.declared.elements.Element.{Element}
 use Rattle.ops_base.specs.declared.elements.Change.{Change}
 use Rattle.ops_base.specs.declared.elements.Change.TheVariants.{Add, Remove}
@@ -11,6 +12,14 @@ use Rattle.ops_base.specs.Values.{nil}
 -- a field's value, nil past the end
 abbrev pub field_of : Element → ℕ → Value
 field_of e f = unwrap_or (slice_get e.fields f) nil
+
+-- how many fields of an element of that class stand before those of its vector attribute
+abbrev pub scalar_count : Class → ℕ
+scalar_count c = if c.vector then length c.attrs - 1 else length c.attrs
+
+-- the fields of an element for which no value was given
+abbrev pub no_fields : Class → List Value
+no_fields c = replicate (scalar_count c) nil
 
 -- the elements that these references show
 abbrev pub shown : List (Bor Element) → List Element

@@ -6,7 +6,7 @@ use crate::values::Value;
 
 /// A value of a right side. The cells 0 to c - 1 of a rule hold the elements of its c positive conditions in order; each
 /// `cbind` has a further one.
-#[derive(Drop)]
+#[derive(Debug, Drop)]
 pub enum Term {
     Constant(Value),
     Variable(usize),
@@ -22,14 +22,14 @@ pub enum Term {
 }
 
 /// The values given for one attribute.
-#[derive(Drop)]
+#[derive(Debug, Drop)]
 pub struct Put {
     pub field: usize,
     pub terms: Listed<Term>,
 }
 
 /// One thing that `write` prints.
-#[derive(Drop)]
+#[derive(Debug, Drop)]
 pub enum Item {
     Print(Term),
     Crlf,
@@ -39,7 +39,7 @@ pub enum Item {
     RightIn(u16),
 }
 
-#[derive(Drop)]
+#[derive(Debug, Drop)]
 pub enum Action {
     Make { class: usize, puts: Listed<Put> },
     Modify { cell: usize, puts: Listed<Put> },

@@ -4,7 +4,7 @@ use crate::list::Listed;
 use crate::values::{Sym, Value};
 
 /// The constants given for one attribute.
-#[derive(Drop)]
+#[derive(Debug, Drop)]
 pub struct Fixed {
     pub field: usize,
     pub values: Listed<Value>,
@@ -17,7 +17,7 @@ pub enum Strategy {
     Mea,
 }
 
-#[derive(Drop)]
+#[derive(Debug, Drop)]
 pub enum Command {
     Make {
         class: usize,

@@ -3,7 +3,7 @@
 use crate::list::Listed;
 use crate::values::{Pred, Value};
 
-#[derive(Drop)]
+#[derive(Debug, Drop)]
 pub enum Operand {
     Constant(Value),
     /// A disjunction, which holds where the field equals one of these.
@@ -12,7 +12,7 @@ pub enum Operand {
 }
 
 /// One test of a field. A test that binds puts the field's value at its variable.
-#[derive(Drop)]
+#[derive(Debug, Drop)]
 pub struct Test {
     pub field: usize,
     pub pred: Pred,
@@ -21,7 +21,7 @@ pub struct Test {
 }
 
 /// A condition element: a class and the tests of its fields in text order.
-#[derive(Drop)]
+#[derive(Debug, Drop)]
 pub struct Condition {
     pub class: usize,
     pub negated: bool,

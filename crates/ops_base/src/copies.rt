@@ -258,16 +258,8 @@ impl Program {
 #[cfg(test)]
 mod tests {
     use super::*;
-    use crate::values::{NIL, Pred, Sym, Value};
+    use crate::values::{NOTHING, Pred, Sym, Value};
     use std::test::Fail;
-
-    fn one<T: Drop>(alloc: Global, item: T) -> Result<Listed<T>, OutOfMemory>
-        ensures { IfOk result (λ l. l ≡ item ∷ []) }
-    {
-        let mut items = Vec::new(alloc);
-        items.push(item)?;
-        Ok(Listed::from_vec(items))
-    }
 
     /// `(box ^size << 3 nil >>)`
     fn condition(alloc: Global) -> Result<Condition, OutOfMemory>
@@ -283,9 +275,7 @@ mod tests {
               } ∷ [];
         }) }
     {
-        let mut sizes = Listed::new(alloc);
-        sizes.push(Value::Whole(3))?;
-        sizes.push(Value::Symbol(NIL))?;
+        let sizes = Listed::from_array(alloc, [Value::Whole(3), NOTHING])?;
         let test = Test {
             field: 0,
             pred: Pred::Eq,
@@ -295,7 +285,7 @@ mod tests {
         Ok(Condition {
             class: 0,
             negated: false,
-            tests: one(alloc, test)?,
+            tests: Listed::from_array(alloc, [test])?,
         })
     }
 
@@ -323,14 +313,11 @@ mod tests {
           past = 4;
         }) }
     {
-        let mut actions = Listed::new(alloc);
-        actions.push(Action::Remove {
-            cells: one(alloc, 0)?,
-        })?;
-        actions.push(Action::Halt)?;
+        let cells = Listed::from_array(alloc, [0])?;
+        let actions = Listed::from_array(alloc, [Action::Remove { cells }, Action::Halt])?;
         Ok(Rule {
             name: Sym(5),
-            conditions: one(alloc, condition(alloc)?)?,
+            conditions: Listed::from_array(alloc, [condition(alloc)?])?,
             actions,
             specificity: 2,
             variables: 0,
@@ -346,14 +333,14 @@ mod tests {
         let element = Element {
             tag: 7,
             class: 1,
-            fields: one(alloc, Value::Whole(3))?,
+            fields: Listed::from_array(alloc, [Value::Whole(3)])?,
         };
         let copy = element.copy(alloc)?;
         assert_eq!(rt; (copy.tag, copy.class), (7, 1));
         assert_eq!(rt; copy.fields.as_slice(), [Value::Whole(3)].as_slice());
         let inst = Inst {
             rule: 2,
-            tags: one(alloc, 7)?,
+            tags: Listed::from_array(alloc, [7])?,
         };
         let copy = inst.copy(alloc)?;
         assert_eq!(rt; copy.rule, 2);
@@ -371,7 +358,7 @@ mod tests {
         assert_eq!(rt; copy.conditions.len(), 1);
         let test = &copy.conditions.as_slice()[0].tests.as_slice()[0];
         if let Operand::OneOf(sizes) = &test.operand {
-            let wanted = [Value::Whole(3), Value::Symbol(NIL)];
+            let wanted = [Value::Whole(3), NOTHING];
             assert_eq!(rt; sizes.as_slice(), wanted.as_slice());
         } else {
             assert!(rt; false);
@@ -386,15 +373,15 @@ mod tests {
         let alloc = rt.alloc();
         let class = Class {
             name: Sym(1),
-            attrs: one(alloc, Sym(2))?,
+            attrs: Listed::from_array(alloc, [Sym(2)])?,
             vector: false,
         };
         let command = Command::Run { count: Some(9) };
         let text = Listed::from_vec(Vec::from_slice(alloc, b"drop")?);
         let program = Program::new(
-            one(alloc, class)?,
-            one(alloc, rule(alloc)?)?,
-            one(alloc, command)?,
+            Listed::from_array(alloc, [class])?,
+            Listed::from_array(alloc, [rule(alloc)?])?,
+            Listed::from_array(alloc, [command])?,
             text,
         );
         let copy = program.copy(alloc)?;

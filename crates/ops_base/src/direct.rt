@@ -16,7 +16,7 @@ use crate::rules::{Inst, Rule};
 use std::alloc::Global;
 
 /// The tags of the elements that meet the first positive conditions, with the bindings that they gave.
-#[derive(Drop)]
+#[derive(Debug, Drop)]
 pub struct Partial {
     pub tags: Listed<u64>,
     pub bindings: Listed<Binding>,
@@ -193,27 +193,10 @@ mod tests {
     use crate::values::{Pred, Sym, Value};
     use std::test::Fail;
 
-    fn one<T: Drop>(alloc: Global, item: T) -> Result<Listed<T>, OutOfMemory>
-        ensures { IfOk result (λ l. l ≡ item ∷ []) }
-    {
-        let mut items = Vec::new(alloc);
-        items.push(item)?;
-        Ok(Listed::from_vec(items))
-    }
-
-    fn two<T: Drop>(alloc: Global, first: T, second: T) -> Result<Listed<T>, OutOfMemory>
-        ensures { IfOk result (λ l. l ≡ first ∷ second ∷ []) }
-    {
-        let mut items = Vec::new(alloc);
-        items.push(first)?;
-        items.push(second)?;
-        Ok(Listed::from_vec(items))
-    }
-
     fn element(alloc: Global, tag: u64, class: usize, n: i64) -> Result<Element, OutOfMemory>
         ensures { IfOk result (λ e. e.tag ≡ tag) }
     {
-        let fields = one(alloc, Value::Whole(n))?;
+        let fields = Listed::from_array(alloc, [Value::Whole(n)])?;
         Ok(Element { tag, class, fields })
     }
 
@@ -222,7 +205,7 @@ mod tests {
             c ≡ record { name = record { 0 = name }; attrs = record { 0 = 9 } ∷ []; vector = false }) }
     {
         let name = Sym(name);
-        let attrs = one(alloc, Sym(9))?;
+        let attrs = Listed::from_array(alloc, [Sym(9)])?;
         let vector = false;
         Ok(Class {
             name,
@@ -251,7 +234,7 @@ mod tests {
             operand: Operand::Variable(0),
             binds,
         };
-        let tests = one(alloc, test)?;
+        let tests = Listed::from_array(alloc, [test])?;
         Ok(Condition {
             class,
             negated,
@@ -261,14 +244,14 @@ mod tests {
 
     /// `(p twin (a ^n <x>) (a ^n <x>) - (b ^n <x>) --> )`
     fn twin(alloc: Global) -> Result<Program, OutOfMemory> {
-        let classes = two(alloc, class(alloc, 1)?, class(alloc, 2)?)?;
-        let mut conditions = Vec::new(alloc);
+        let classes = Listed::from_array(alloc, [class(alloc, 1)?, class(alloc, 2)?])?;
+        let mut conditions = Listed::new(alloc);
         conditions.push(with_x(alloc, 0, false, true)?)?;
         conditions.push(with_x(alloc, 0, false, false)?)?;
         conditions.push(with_x(alloc, 1, true, false)?)?;
         let rule = Rule {
             name: Sym(3),
-            conditions: Listed::from_vec(conditions),
+            conditions,
             actions: Listed::new(alloc),
             specificity: 5,
             variables: 1,
@@ -276,7 +259,7 @@ mod tests {
             first: 0,
             past: 0,
         };
-        let rules = one(alloc, rule)?;
+        let rules = Listed::from_array(alloc, [rule])?;
         Ok(Program::new(classes, rules, Listed::new(alloc), Listed::new(alloc)))
     }
 

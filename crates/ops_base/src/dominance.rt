@@ -26,7 +26,7 @@ pub fn downwards_sorts()
         → IsPermutation tags other → AllPairs (λ x y. y ≤ x) other → other ≡ downwards tags }
 {}
 
-/// Of a list with an instantiation, the dominant one is the one that dominates all others in it.
+/// The dominant instantiation of a list is the one that dominates all others in it. The empty list has none.
 pub fn dominant_dominates()
     ensures found { (strategy : Strategy) (rules : List Rule) (insts : List Inst)
         → MatchOption (dominant strategy rules insts) (insts ≡ [])
@@ -35,8 +35,8 @@ pub fn dominant_dominates()
         → IsDominant strategy rules insts i → dominant strategy rules insts ≡ Some i }
 {}
 
-/// Whatever is found, as the conflict set is: what has not fired is what is found less what has, and what stays marked is
-/// what was marked and is found.
+/// Of any list of instantiations that was found, as a conflict set is: `unfired` leaves out those that have fired, and
+/// `still_fired` those that have not. Two instantiations are the same exactly where they are equal.
 pub fn refraction_marks()
     ensures same { (i j : Inst) → IsTrue (is_same_inst i j) ↔ (i ≡ j) }
     ensures among { (insts : List Inst) (i : Inst) → IsTrue (is_among insts i) ↔ Contains insts i }

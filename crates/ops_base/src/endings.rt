@@ -1,10 +1,10 @@
-//! How a session ends, and what a program text is refused for.
+//! How a session ends, what a firing fails for, and the faults and limits of a program text.
 ghost use Rattle.std.specs.Prelude.{◌≡◌};
 ghost use Rattle.ops_base.specs.declared.endings.Ending.TheVariants.{OutOfMemory as NoMemory};
 
 use crate::memory::OutOfMemory;
 
-/// What a firing can't do.
+/// Why an action of a firing fails.
 #[derive(Clone, Copy, Debug, PartialEq, Eq)]
 pub enum ActKind {
     NotNumber,
@@ -14,25 +14,32 @@ pub enum ActKind {
     InputTooLong,
 }
 
-/// How a session ends. Firings and actions are counted from 1.
+/// How a session ends. Firings and actions are counted from 1. The last two variants are no endings: no session ends so,
+/// and a call that works for the session gives up with them.
 #[derive(Clone, Copy, Debug, PartialEq, Eq)]
 pub enum Ending {
+    /// All commands were done, to the last one or to `exit`.
     Done {
         firings: u64,
         elements: u64,
         last_tag: u64,
     },
+    /// An action failed.
     Act {
         firing: u64,
         rule: usize,
         action: usize,
         kind: ActKind,
     },
+    /// The limit of firings was reached.
     Limit {
         firings: u64,
     },
+    /// The input could not be read.
     ReadFault,
+    /// No session ends so: a call gives up with it where the sink refuses bytes.
     WriteFault,
+    /// No session ends so: a call gives up with it where memory runs out.
     OutOfMemory,
 }
 
@@ -44,7 +51,7 @@ impl From<OutOfMemory> for Ending {
     }
 }
 
-/// A limit of the language that a program text passes.
+/// What a program text has too many of.
 #[derive(Clone, Copy, Debug, PartialEq, Eq)]
 pub enum Limit {
     Conditions,
@@ -52,7 +59,7 @@ pub enum Limit {
     Nesting,
 }
 
-/// The faults of a program text. Where several stand at one place, the first in this order is answered.
+/// What a program text is refused for. Where several stand at one place, the first in this order is answered.
 #[derive(Clone, Copy, Debug, PartialEq, Eq)]
 pub enum Fault {
     BadByte,

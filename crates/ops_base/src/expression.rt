@@ -28,7 +28,7 @@ pub enum Step {
 
 /// Operations on numbers and variables, nested to any depth. A text can hold millions of operands in a row, so nothing
 /// here recurses: an expression is made, copied, compared and dropped as the list of its steps.
-#[derive(Drop)]
+#[derive(Debug, Drop)]
 pub struct Expr {
     steps: Vec<Step>,
 }

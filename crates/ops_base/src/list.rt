@@ -1,11 +1,12 @@
 //! A list that contracts see as the list of its items.
-ghost use Rattle.std.specs.Prelude.{◌≡◌, List, [], ◌∷◌, ◌++◌, length, IsTrue, ◌↔◌, OnOk, OnErr, IfErr};
+ghost use Rattle.std.specs.Prelude.{◌≡◌, List, [], ◌∷◌, ◌++◌, length, IsTrue, ◌↔◌, OnOk, OnErr, IfOk, IfErr};
 
+use crate::memory::OutOfMemory;
 use std::alloc::{AllocFailed, Global};
 use std::marker::Model;
 
-/// A `Vec` of which a contract sees the items alone, and neither where they lie nor how many there is room for.
-#[derive(Drop)]
+/// A `Vec` of which a contract sees the items alone, and neither where they lie nor how much room there is.
+#[derive(Debug, Drop)]
 pub struct Listed<T> {
     items: Vec<T>,
 }
@@ -26,6 +27,18 @@ impl<T> Listed<T> {
         Listed {
             items: Vec::new(alloc),
         }
+    }
+
+    /// The list of these items, in their order.
+    pub fn from_array<const N: usize>(
+        alloc: Global,
+        items: [T; N],
+    ) -> Result<Listed<T>, OutOfMemory>
+    where
+        T: Drop,
+        ensures { IfOk result (λ l. l ≡ items) }
+    {
+        Ok(Listed::from_vec(Vec::from_array(alloc, items)?))
     }
 
     /// Takes no memory.

@@ -54,7 +54,7 @@ pub fn holds(pred: Pred, a: Value, b: Value) -> bool
     }
 }
 
-/// What was put at a variable last.
+/// What a variable was bound to last. Looks through the bindings from their end.
 #[tactic(auto, using(crate::proofs::Bound::value_of_last))]
 pub fn bound_value(bindings: &[Binding], variable: usize) -> Option<Value>
     ensures { result ≡ value_of bindings.now variable }
@@ -88,7 +88,7 @@ fn operand_meets(test: &Test, a: Value, bindings: &[Binding]) -> bool
     }
 }
 
-/// Does one test, and binds its variable. False is a test that does not hold.
+/// Does one test, and binds its variable if it binds. Answers whether the test holds.
 fn pass(test: &Test, e: &Element, found: &mut Vec<Binding>) -> Result<bool, OutOfMemory>
     ensures { IfOk result (λ b. after_test test.now e.now found.old.items ≡ (if b then Some found.new.items else None)) }
 {
@@ -105,8 +105,9 @@ fn pass(test: &Test, e: &Element, found: &mut Vec<Binding>) -> Result<bool, OutO
     Ok(true)
 }
 
-/// The bindings with which the element meets the condition, none where it does not. It costs the condition's tests, each
-/// of a variable the bindings so far.
+/// The bindings with which the element meets the condition, `None` where it does not meet it. For an element of another
+/// class it looks at the class alone. Otherwise it copies the bindings and does the tests up to the first that fails, and
+/// each test of a variable looks through the bindings so far.
 pub fn matched(
     alloc: Global,
     condition: &Condition,
@@ -130,7 +131,7 @@ pub fn matched(
 #[cfg(test)]
 mod tests {
     use super::*;
-    use crate::values::{NIL, Sym};
+    use crate::values::{NOTHING, Sym};
 
     #[test]
     fn predicates(rt: HostRuntime) {
@@ -144,7 +145,7 @@ mod tests {
             (Pred::Le, four, four, true),
             (Pred::Gt, four, word, false),
             (Pred::Ge, word, word, false),
-            (Pred::SameKind, word, Value::Symbol(NIL), true),
+            (Pred::SameKind, word, NOTHING, true),
             (Pred::SameKind, word, three, false),
         ];
         for (pred, a, b, want) in cases {

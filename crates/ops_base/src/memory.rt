@@ -1,9 +1,11 @@
-//! Want of memory.
+//! The error of a call that finds no memory.
 
 use std::alloc::{AllocError, AllocFailed};
+use thiserror::Error;
 
-/// Memory ran out. It is an answer of its own and is never merged with another refusal.
-#[derive(Clone, Copy, Debug, PartialEq, Eq)]
+/// Memory ran out. A count that no machine reaches is answered so, too, and nothing else is.
+#[derive(Clone, Copy, Debug, PartialEq, Eq, Error)]
+#[error("out of memory")]
 pub struct OutOfMemory;
 
 impl From<AllocError> for OutOfMemory {

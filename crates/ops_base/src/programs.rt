@@ -9,7 +9,7 @@ use crate::rules::Rule;
 
 /// A program that was read, with its text. All numbers of classes, fields, variables, cells and bytes in it are in range,
 /// and what its rules and commands use is bound and allowed where they use it.
-#[derive(Drop)]
+#[derive(Debug, Drop)]
 pub struct Program {
     pub classes: Listed<Class>,
     pub rules: Listed<Rule>,

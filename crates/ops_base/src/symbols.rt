@@ -13,7 +13,7 @@ use std::alloc::Global;
 use std::marker::Model;
 
 /// The spellings of all symbols, each once and that of `nil` first. A spelling is looked up by its hash.
-#[derive(Drop)]
+#[derive(Debug, Drop)]
 pub struct Names {
     held: IndexSet<Vec<u8>>,
     made: u64,
@@ -78,8 +78,8 @@ fn write_fresh(spelling: &mut Vec<u8>, number: u64) -> Result<(), OutOfMemory>
     Ok(())
 }
 
-/// The number of the next fresh atom, with its spelling in `spelling`. A counter past 64 bits is answered as want of
-/// memory.
+/// The number of the next fresh atom, with its spelling in `spelling`. A counter that would pass 64 bits is answered as
+/// `OutOfMemory`.
 fn find_free(
     held: &IndexSet<Vec<u8>>,
     made: u64,
@@ -123,8 +123,8 @@ impl Names {
 
     /// The next fresh atom: `g` and the next number of a counter that starts at 1, without the numbers whose spelling is
     /// held. It costs a look-up for each number that is tried, so one more than there are held spellings of that form
-    /// in a row. A counter past 64 bits is answered as want of memory. Where memory runs out nothing has changed, the
-    /// counter neither.
+    /// in a row. A counter that would pass 64 bits is answered as `OutOfMemory`. After an error nothing has changed, not
+    /// even the counter.
     pub fn fresh(&mut self) -> Result<Sym, OutOfMemory>
         ensures symbol { IfOk result (λ sym. sym.0 ≡ length self.old.held) }
         ensures names { OnOk result (self.new ≡ with_fresh self.old) }

@@ -33,7 +33,7 @@ IsStanding text (refusal.At f line column) =
 
 -- the program that a draft holds, with these names
 abbrev pub read_of : Draft → Spellings → Read
-read_of d names = record { classes = d.classes; rules = d.rules; commands = d.commands.items; names = names }
+read_of d names = record { classes = d.classes; rules = d.rules; commands = d.commands; names = names }
 
 -- this is answered where that is read
 abbrev pub IsAnswer : Result Read Placed → Result (Draft × Spellings) TextFault → Type 0

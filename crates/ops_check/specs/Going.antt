@@ -1,5 +1,5 @@
 -- How the code's walk over the words goes along with the definition's.
-use Rattle.std.specs.Prelude.{◌≡◌, Bool, false, ◌||◌, is_some, List, [], ◌∷◌, ◌++◌, Some, None, Result, Ok, Err}
+use Rattle.std.specs.Prelude.{◌≡◌, Bool, true, false, ◌||◌, is_some, List, [], ◌∷◌, ◌++◌, Some, None, Result, Ok, Err}
 use Rattle.ops_meaning.specs.declared.words.Word.{Word}
 use Rattle.ops_meaning.specs.Grammar.{Target as Goal, ToFixed, ToConstants, TagUse as TagGoal, ToRemove, ToShow, NameUse as NameGoal, ToPrint, ToBreak, Forms, State, is_literal, value_of, no_formula, goes}
 use Rattle.ops_forms.specs.declared.refusals.Refusal.{Refusal}
@@ -9,8 +9,15 @@ use Rattle.ops_check.specs.declared.draft.Target.{Target}
 use Rattle.ops_check.specs.declared.draft.Target.TheVariants as target
 use Rattle.ops_check.specs.declared.draft.TagUse.{TagUse}
 use Rattle.ops_check.specs.declared.draft.TagUse.TheVariants as tag_use
+use Rattle.ops_check.specs.declared.draft.ElementUse.{ElementUse}
+use Rattle.ops_check.specs.declared.draft.ElementUse.TheVariants as element_use
 use Rattle.ops_check.specs.declared.draft.NameUse.{NameUse}
 use Rattle.ops_check.specs.declared.draft.NameUse.TheVariants as name_use
+
+-- whether the element of a command is shown
+abbrev pub shows : ElementUse → Bool
+shows element_use.Make = false
+shows element_use.Show = true
 
 -- what a draft holds, which is nothing of a side of a production that is being read
 abbrev pub view : Draft → State
@@ -18,7 +25,7 @@ view d =
     record {
       classes = d.classes;
       rules = d.rules;
-      commands = d.commands.items;
+      commands = d.commands;
       vectors = d.vectors;
       name = d.name;
       first = d.first;
@@ -47,7 +54,7 @@ view d =
       source = 0;
       source_field = 0;
       formula = no_formula;
-      shows = d.shows;
+      shows = shows d.element_use;
       tags = d.tags.items;
       named = d.named.items;
     }

@@ -5,10 +5,10 @@ ghost use Rattle.ops_forms.specs.Going.{Goes, Reads, Acts, IsWithin};
 ghost use Rattle.ops_check.specs.Going.{view};
 
 use crate::draft::Draft;
-use ops_base::endings::{Fault, Limit};
-use ops_forms::fields::MOST_FIELDS;
+use ops_base::elements::MOST_FIELDS;
+use ops_base::endings::Fault;
 use ops_forms::kinds::{is_name, is_right};
-use ops_forms::refusals::{Refusal, first_of, refused};
+use ops_forms::refusals::{Refusal, fields_passed, first_of, refused};
 use ops_meaning::Word;
 
 impl Draft {
@@ -17,10 +17,8 @@ impl Draft {
         ensures reads { Goes (λ more ws. goes (words.now ++ more) (ClassDeclared ∷ Attributes ∷ ws) (view self.old)) (view self.new) result }
         ensures within { IsWithin words.now result }
     {
-        match self.class_declared(words) {
-            Ok(rest) => return self.attributes(rest),
-            Err(refusal) => return Err(refusal),
-        }
+        let rest = self.class_declared(words)?;
+        self.attributes(rest)
     }
 
     #[tactic(auto, unfolding(ops_meaning::specs::Grammar::goes, ops_meaning::specs::Grammar::step, ops_meaning::specs::Grammar::ends))]
@@ -63,12 +61,7 @@ impl Draft {
                 return refused(Fault::TwoVectors, word);
             }
             if self.attrs.len() >= MOST_FIELDS {
-                return refused(
-                    Fault::LimitPassed {
-                        limit: Limit::Fields,
-                    },
-                    word,
-                );
+                return fields_passed(word);
             }
             self.attrs.push(word.name)?;
             rest = after;
@@ -84,10 +77,8 @@ impl Draft {
         ensures within { IsWithin words.now result }
     {
         let (word, rest) = first_of(words)?;
-        match self.vector_name(word, rest) {
-            Ok(rest) => return self.vector_names(rest),
-            Err(refusal) => return Err(refusal),
-        }
+        let rest = self.vector_name(word, rest)?;
+        self.vector_names(rest)
     }
 
     // NAME* )
@@ -102,10 +93,7 @@ impl Draft {
             if is_right(word.kind) {
                 return Ok(after);
             }
-            match self.vector_name(word, after) {
-                Ok(next) => rest = next,
-                Err(refusal) => return Err(refusal),
-            }
+            rest = self.vector_name(word, after)?;
         }
     }
 

@@ -1,17 +1,16 @@
 //! What was read so far of a program, and how it grows.
 ghost use Rattle.std.specs.Prelude.{◌≡◌, ◌==◌, position, slice_get};
-ghost use Rattle.std.specs.List.{list_all};
 ghost use Rattle.ops_base.specs.Valid.{class_of, is_vector};
-ghost use Rattle.ops_meaning.specs.Grammar.{nothing_read, is_class, is_rule, is_one_of, is_second, makes_second, may_declare, may_produce, precedes_classes, precedes_rules, with_class, with_vector, with_fixed, with_constant, with_command, attributes_of};
+ghost use Rattle.ops_meaning.specs.Grammar.{nothing_read, is_class, is_rule, is_one_of, is_second, makes_second, may_declare, may_produce, with_class, with_vector, with_fixed, with_constant, with_command, attributes_of};
 ghost use Rattle.ops_forms.specs.Going.{Becomes};
 ghost use Rattle.ops_check.specs.Going.{view, target_of};
 
+use crate::given::GivenCommands;
 use ops_base::commands::{Command, Fixed};
 use ops_base::elements::Class;
 use ops_base::list::Listed;
 use ops_base::rules::Rule;
 use ops_base::values::{NIL, Sym, Value};
-use ops_forms::fields::{field_of, is_vector};
 use ops_forms::refusals::Refusal;
 use ops_forms::vectors::{arranged, has_vector, is_one_of};
 use ops_forms::{Classes, Declared, Named};
@@ -38,27 +37,45 @@ pub enum NameUse {
     Break,
 }
 
-/// The classes, rules and commands that were read, and the parts of the form that is being read.
+/// What the element of a command is for: it is made, or the elements that have its values are shown.
+#[derive(Clone, Copy, Debug, PartialEq, Eq)]
+pub enum ElementUse {
+    Make,
+    Show,
+}
+
+/// The classes, rules and commands that were read, and the parts of the form that is being read. The fields are those of the
+/// state of the definition's walk (`State` in the specs/Grammar.antt of ops_meaning), which hands values from one method to
+/// the next.
 #[derive(Drop)]
 pub struct Draft {
     pub classes: Classes,
     pub rules: Declared<Rule>,
-    pub commands: Vec<Command>,
+    pub commands: GivenCommands,
+    /// The names of vector attributes.
     pub vectors: Declared<Sym>,
+    /// The name of the class or the production that is being read.
     pub name: Sym,
+    /// The first byte of the form that is being read.
     pub first: usize,
+    /// The attributes of the class that is being read.
     pub attrs: Vec<Sym>,
-    /// The class and the values of a command, and whether it shows elements in place of making one.
+    /// The class of the element of a command.
     pub class: usize,
+    /// The values of the vector attribute that is being read in a command.
     pub constants: Vec<Value>,
+    /// The fields of the element of a command, with their values.
     pub fixed: Vec<Fixed>,
-    pub shows: bool,
-    /// The tags of a command, and its names.
+    pub element_use: ElementUse,
+    /// The tags of a command.
     pub tags: Vec<u64>,
+    /// The names of a command.
     pub named: Vec<Sym>,
-    /// What a production leaves in sight, until the next one begins.
+    /// The value variables that a production leaves in sight, until the next one begins.
     pub values: Declared<Named>,
+    /// The element variables that it leaves in sight.
     pub elements: Declared<Named>,
+    /// How many variables it gave a number.
     pub variables: usize,
     pub alloc: Global,
 }
@@ -70,7 +87,7 @@ impl Draft {
         Draft {
             classes: Classes::new(alloc),
             rules: Declared::new(alloc),
-            commands: Vec::new(alloc),
+            commands: GivenCommands::new(alloc),
             vectors: Declared::new(alloc),
             name: NIL,
             first: 0,
@@ -78,7 +95,7 @@ impl Draft {
             class: 0,
             constants: Vec::new(alloc),
             fixed: Vec::new(alloc),
-            shows: false,
+            element_use: ElementUse::Make,
             tags: Vec::new(alloc),
             named: Vec::new(alloc),
             values: Declared::new(alloc),
@@ -88,18 +105,18 @@ impl Draft {
         }
     }
 
-    // no production was read, and no command behind which a declaration is late
+    // whether a class may still be declared: no production was read, and no command behind which a declaration is late
     pub fn may_declare(&self) -> bool
         ensures { result ≡ may_declare (view self.now) }
     {
-        self.rules.len() == 0 && all_precede_classes(&self.commands)
+        self.rules.len() == 0 && self.commands.may_declare()
     }
 
-    // no command was read behind which a production is late. The first such command ends the look.
+    // whether a production may still be read: no command was read behind which it is late
     pub fn may_produce(&self) -> bool
         ensures { result ≡ may_produce (view self.now) }
     {
-        self.commands.iter().all(precedes_rules)
+        self.commands.may_produce()
     }
 
     pub fn is_class(&self, name: Sym) -> bool
@@ -126,14 +143,14 @@ impl Draft {
         is_one_of(name, &self.vectors)
     }
 
-    // the class that is read would have a second vector attribute by this name
+    // whether the class that is read would have a second vector attribute by this name
     pub fn is_second(&self, name: Sym) -> bool
         ensures { result ≡ is_second name (view self.now) }
     {
         is_one_of(name, &self.vectors) && has_vector(&self.vectors, &self.attrs)
     }
 
-    // a class would get a second vector attribute by this name
+    // whether a class would get a second vector attribute by this name
     pub fn makes_second(&self, name: Sym) -> bool
         ensures { result ≡ makes_second name (view self.now).classes }
     {
@@ -201,12 +218,13 @@ impl Draft {
         }
     }
 
-    // the field is the vector attribute of the class that was named
+    // whether the field is the vector attribute of the class that was named. The definition is total: the class was found by its
+    // name, so it is there.
     pub fn is_vector(&self, field: usize) -> bool
         ensures { result ≡ is_vector (class_of (view self.now).classes (view self.now).class) field }
     {
         match self.classes.get(self.class) {
-            Some(class) => is_vector(class, field),
+            Some(class) => class.is_vector(field),
             None => false,
         }
     }
@@ -215,33 +233,6 @@ impl Draft {
     pub fn field_of(&self, name: Sym) -> Option<usize>
         ensures { result ≡ position (λ a. a.0 == name.0) (attributes_of (slice_get (view self.now).classes (view self.now).class)) }
     {
-        field_of(self.classes.get(self.class)?, name)
-    }
-}
-
-// a class may be declared behind each of the commands. The first one behind which it may not ends the look.
-fn all_precede_classes(commands: &[Command]) -> bool
-    ensures { result ≡ list_all precedes_classes commands.now }
-{
-    commands.iter().all(precedes_classes)
-}
-
-// a class may be declared behind this command
-fn precedes_classes(command: &Command) -> bool
-    ensures { result ≡ precedes_classes command.now }
-{
-    match command {
-        Command::Make { .. } | Command::Run { .. } | Command::Ppwm { .. } => false,
-        _ => true,
-    }
-}
-
-// a production may stand behind this command
-fn precedes_rules(command: &Command) -> bool
-    ensures { result ≡ precedes_rules command.now }
-{
-    match command {
-        Command::Make { .. } | Command::Run { .. } => false,
-        _ => true,
+        self.classes.get(self.class)?.field_of(name)
     }
 }

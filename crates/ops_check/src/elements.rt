@@ -4,7 +4,7 @@ ghost use Rattle.ops_meaning.specs.Grammar.{goes, InFixed, Shown, ClassName, Ter
 ghost use Rattle.ops_forms.specs.Going.{Goes, GoesToTerms, Reads, IsWithin};
 ghost use Rattle.ops_check.specs.Going.{view};
 
-use crate::draft::{Draft, Target};
+use crate::draft::{Draft, ElementUse, Target};
 use ops_base::commands::Command;
 use ops_base::endings::Fault;
 use ops_forms::kinds::{is_caret, is_name, is_right};
@@ -18,8 +18,8 @@ impl Draft {
         ensures within { IsWithin words.now result }
     {
         self.fixed.clear();
-        self.shows = false;
-        self.element(words)
+        self.element_use = ElementUse::Make;
+        self.class_and_terms(words)
     }
 
     // CLASS fixed* ) | )
@@ -34,19 +34,17 @@ impl Draft {
             return Ok(rest);
         }
         self.fixed.clear();
-        self.shows = true;
-        self.element(words)
+        self.element_use = ElementUse::Show;
+        self.class_and_terms(words)
     }
 
     // CLASS fixed* )
-    fn element<'a>(&mut self, words: &'a [Word]) -> Result<&'a [Word], Refusal>
+    fn class_and_terms<'a>(&mut self, words: &'a [Word]) -> Result<&'a [Word], Refusal>
         ensures reads { Goes (λ more ws. goes (words.now ++ more) (ClassName ∷ Terms InFixed ∷ ws) (view self.old)) (view self.new) result }
         ensures within { IsWithin words.now result }
     {
-        match self.class_name(words) {
-            Ok(rest) => return self.terms(rest),
-            Err(refusal) => return Err(refusal),
-        }
+        let rest = self.class_name(words)?;
+        self.terms(rest)
     }
 
     // CLASS
@@ -82,10 +80,7 @@ impl Draft {
             if !is_caret(word.kind) {
                 return refused(Fault::BadForm, word);
             }
-            match self.attribute(after) {
-                Ok(next) => rest = next,
-                Err(refusal) => return Err(refusal),
-            }
+            rest = self.attribute(after)?;
         }
     }
 
@@ -106,6 +101,6 @@ impl Draft {
             self.constants.clear();
             return self.several_constants(field, rest);
         }
-        self.value_of(Target::Fixed { field }, rest)
+        self.value(Target::Fixed { field }, rest)
     }
 }

@@ -4,9 +4,9 @@ ghost use Rattle.ops_base.specs.Valid.{cells_of, specificity};
 ghost use Rattle.ops_meaning.specs.Grammar.{with_several, with_element, with_rule, fixed_command, InFixed};
 ghost use Rattle.ops_forms.specs.Going.{Becomes};
 ghost use Rattle.ops_rhs.specs.RightSides.{right_read};
-ghost use Rattle.ops_check.specs.Going.{view};
+ghost use Rattle.ops_check.specs.Going.{view, shows};
 
-use crate::draft::Draft;
+use crate::draft::{Draft, ElementUse};
 use ops_base::commands::{Command, Fixed};
 use ops_base::conditions::Condition;
 use ops_base::list::Listed;
@@ -32,7 +32,7 @@ impl Draft {
     {
         let none = Vec::new(self.alloc);
         let puts = Listed::from_vec(mem::replace(&mut self.fixed, none));
-        self.add_command(fixed_command(self.shows, self.class, puts))
+        self.add_command(fixed_command(self.element_use, self.class, puts))
     }
 
     // A production ends, with these conditions and this right side, before the byte `past`.
@@ -46,7 +46,7 @@ impl Draft {
         ensures { (further : List ℕ) → right.sight.cells ≡ cells_of conditions.items ++ further
             → Becomes (view self.new) (with_rule (right_read (record (view self.old) { conditions = conditions.items }) right.actions.items right.sight further) past) result }
     {
-        // The tests of a text of 16,777,216 bytes can't be as many as a u32 doesn't hold.
+        // A text of 16,777,216 bytes has too few tests for the sum to pass what a u32 holds.
         let Some(specificity) = specificity(&conditions) else {
             return Err(Refusal::OutOfMemory);
         };
@@ -70,14 +70,15 @@ impl Draft {
 }
 
 // a `make` of this class, or a `ppwm` of the elements that have these values
-fn fixed_command(shows: bool, class: usize, puts: Listed<Fixed>) -> Command
-    ensures { result ≡ fixed_command shows class puts }
+fn fixed_command(element_use: ElementUse, class: usize, puts: Listed<Fixed>) -> Command
+    ensures { result ≡ fixed_command (shows element_use) class puts }
 {
-    if shows {
-        let pattern = Some((class, puts));
-        Command::Ppwm { pattern }
-    } else {
-        Command::Make { class, puts }
+    match element_use {
+        ElementUse::Make => Command::Make { class, puts },
+        ElementUse::Show => {
+            let pattern = Some((class, puts));
+            Command::Ppwm { pattern }
+        }
     }
 }
 

@@ -25,10 +25,7 @@ impl Draft {
                 return refused(Fault::Stray, word);
             }
             self.first = word.first;
-            match self.form(after) {
-                Ok(next) => rest = next,
-                Err(refusal) => return Err(refusal),
-            }
+            rest = self.form(after)?;
         }
     }
 

@@ -24,10 +24,8 @@ impl Draft {
         ensures reads { Goes (λ more ws. goes (words.now ++ more) (RuleName ∷ FirstPattern ∷ Patterns ∷ Actions ∷ ws) (view self.old)) (view self.new) result }
         ensures within { IsWithin words.now result }
     {
-        match self.rule_name(words) {
-            Ok(rest) => return self.sides(rest),
-            Err(refusal) => return Err(refusal),
-        }
+        let rest = self.rule_name(words)?;
+        self.sides(rest)
     }
 
     #[tactic(auto, unfolding(ops_meaning::specs::Grammar::goes, ops_meaning::specs::Grammar::step, ops_meaning::specs::Grammar::ends))]
@@ -58,10 +56,8 @@ impl Draft {
         ensures reads { Goes (λ more ws. goes (words.now ++ more) (FirstPattern ∷ Patterns ∷ Actions ∷ ws) (view self.old)) (view self.new) result }
         ensures within { IsWithin words.now result }
     {
-        match left_side(self.alloc, &self.classes, words) {
-            Ok((left, rest)) => return self.actions(left, rest),
-            Err(refusal) => return Err(refusal),
-        }
+        let (left, rest) = left_side(self.alloc, &self.classes, words)?;
+        self.actions(left, rest)
     }
 
     // action* ), behind this left side
@@ -71,14 +67,10 @@ impl Draft {
         ensures within { IsWithin words.now result }
     {
         let (conditions, sight) = seen_behind(self.alloc, left)?;
-        match right_side(self.alloc, &self.classes, sight, words) {
-            Ok((right, rest)) => {
-                let bracket = word_before(words, rest);
-                self.end_rule(conditions, right, bracket.past)?;
-                return Ok(rest);
-            }
-            Err(refusal) => return Err(refusal),
-        }
+        let (right, rest) = right_side(self.alloc, &self.classes, sight, words)?;
+        let bracket = word_before(words, rest);
+        self.end_rule(conditions, right, bracket.past)?;
+        Ok(rest)
     }
 }
 

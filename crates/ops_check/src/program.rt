@@ -118,10 +118,10 @@ fn read_form(
 }
 
 fn program_of(draft: Draft, text: Vec<u8>) -> Program
-    requires { IsTrue (is_valid draft.classes draft.rules draft.commands.items (length text.items)) }
+    requires { IsTrue (is_valid draft.classes draft.rules draft.commands (length text.items)) }
     ensures classes { result.classes ≡ draft.classes }
     ensures rules { result.rules ≡ draft.rules }
-    ensures commands { result.commands ≡ draft.commands.items }
+    ensures commands { result.commands ≡ draft.commands }
     ensures text { result.text ≡ text.items }
 {
     let Draft {
@@ -133,7 +133,7 @@ fn program_of(draft: Draft, text: Vec<u8>) -> Program
     Program::new(
         Listed::from_vec(classes.into_vec()),
         Listed::from_vec(rules.into_vec()),
-        Listed::from_vec(commands),
+        Listed::from_vec(commands.into_vec()),
         Listed::from_vec(text),
     )
 }

@@ -1,15 +1,14 @@
 //! The values of the vector attribute of a command.
-ghost use Rattle.std.specs.Prelude.{◌≡◌, ◌+◌, ◌∷◌, ◌++◌, ◌||◌, length, nat_lt, Err, Some};
+ghost use Rattle.std.specs.Prelude.{◌≡◌, ◌+◌, ◌∷◌, ◌++◌, length, nat_lt};
 ghost use Rattle.ops_base.specs.Valid.{most_fields};
-ghost use Rattle.ops_meaning.specs.Grammar.{goes, is_right, is_caret, value_for, within, ToConstants, InFixed, Several};
+ghost use Rattle.ops_meaning.specs.Grammar.{goes, value_for, within, ToConstants, InFixed, Several};
 ghost use Rattle.ops_forms.specs.Going.{GoesToTerms, Acts, IsWithin};
 ghost use Rattle.ops_check.specs.Going.{view, begins_value};
 
 use crate::draft::{Draft, Target};
-use ops_base::endings::{Fault, Limit};
-use ops_forms::fields::MOST_FIELDS;
-use ops_forms::kinds::{is_caret, is_literal, is_right, value_of};
-use ops_forms::refusals::{Refusal, first_of, refused};
+use ops_base::elements::MOST_FIELDS;
+use ops_forms::kinds::{ends_values, is_literal, value_of};
+use ops_forms::refusals::{Refusal, fields_passed, first_of};
 use ops_meaning::Word;
 
 impl Draft {
@@ -26,19 +25,16 @@ impl Draft {
         let mut rest = words;
         'constants: loop {
             let (word, after) = first_of(rest)?;
-            if ends_several(word) {
+            if ends_values(word.kind) {
                 self.end_constants(field)?;
                 return Ok(rest);
             }
-            match self.constant_within(field, word, after) {
-                Ok(next) => rest = next,
-                Err(refusal) => return Err(refusal),
-            }
+            rest = self.next_constant_from(field, word, after)?;
         }
     }
 
-    // a constant of which the first word is taken, where an element has room for one more
-    fn constant_within<'a>(
+    // a constant, of which the first word is taken, where an element has room for one more
+    fn next_constant_from<'a>(
         &mut self,
         field: usize,
         word: Word,
@@ -49,33 +45,15 @@ impl Draft {
     {
         let room = MOST_FIELDS.saturating_sub(field);
         if begins_value(word) && self.constants.len() >= room {
-            return passed(word);
+            return fields_passed(word);
         }
-        self.value(Target::Constants, word, rest)
+        self.value_from(Target::Constants, word, rest)
     }
 }
 
-// more attributes come, or the element ends
-fn ends_several(word: Word) -> bool
-    ensures { result ≡ (is_right word.kind || is_caret word.kind) }
-{
-    is_right(word.kind) || is_caret(word.kind)
-}
-
+// whether a constant begins at a word
 fn begins_value(word: Word) -> bool
     ensures { result ≡ begins_value word }
 {
     is_literal(word.keyword) || value_of(word.kind, word.name).is_some()
-}
-
-// the word would take the 128th field of an element, its class counted
-fn passed<T>(word: Word) -> Result<T, Refusal>
-    ensures { result ≡ Err (Refusal.At (Fault.LimitPassed Limit.Fields) (Some word)) }
-{
-    refused(
-        Fault::LimitPassed {
-            limit: Limit::Fields,
-        },
-        word,
-    )
 }

@@ -30,7 +30,7 @@ impl Draft {
             return refused(Fault::BadForm, word);
         };
         self.tags.push(tag)?;
-        self.tags(TagUse::Remove, rest)
+        self.read_tags(TagUse::Remove, rest)
     }
 
     // NAT* )
@@ -39,12 +39,12 @@ impl Draft {
         ensures within { IsWithin words.now result }
     {
         self.tags.clear();
-        self.tags(TagUse::Show, words)
+        self.read_tags(TagUse::Show, words)
     }
 
     // NAT* )
     #[tactic(auto, unfolding(ops_meaning::specs::Grammar::goes, ops_meaning::specs::Grammar::step, ops_meaning::specs::Grammar::ends))]
-    fn tags<'a>(&mut self, tag_use: TagUse, words: &'a [Word]) -> Result<&'a [Word], Refusal>
+    fn read_tags<'a>(&mut self, tag_use: TagUse, words: &'a [Word]) -> Result<&'a [Word], Refusal>
         ensures reads { Reads (Tags (tag_use_of tag_use)) (view self.old) (view self.new) words.now result }
         ensures within { IsWithin words.now result }
     {

@@ -19,7 +19,7 @@ const STACK: &[u8] = b"; two conditions that share a variable
 (run)
 ";
 
-pub fn read(alloc: Global, text: &[u8]) -> Result<(Program, Names), ProgramFault> {
+pub(crate) fn read(alloc: Global, text: &[u8]) -> Result<(Program, Names), ProgramFault> {
     match Vec::from_slice(alloc, text) {
         Ok(text) => read_program(alloc, text),
         Err(_) => Err(ProgramFault::OutOfMemory),

@@ -12,16 +12,16 @@ use ops_meaning::Word;
 impl Draft {
     // rconstant
     #[tactic(auto, unfolding(ops_meaning::specs::Grammar::goes, ops_meaning::specs::Grammar::step, ops_meaning::specs::Grammar::ends))]
-    pub fn value_of<'a>(&mut self, target: Target, words: &'a [Word]) -> Result<&'a [Word], Refusal>
+    pub fn value<'a>(&mut self, target: Target, words: &'a [Word]) -> Result<&'a [Word], Refusal>
         ensures reads { Reads (ValueFor (target_of target)) (view self.old) (view self.new) words.now result }
         ensures within { IsWithin words.now result }
     {
         let (word, rest) = first_of(words)?;
-        self.value(target, word, rest)
+        self.value_from(target, word, rest)
     }
 
     // rconstant, of which the first word is taken; a variable is bound nowhere in a command
-    pub fn value<'a>(
+    pub fn value_from<'a>(
         &mut self,
         target: Target,
         word: Word,

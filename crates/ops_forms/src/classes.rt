@@ -120,6 +120,7 @@ fn note_class(
     ensures ok { OnOk result ((n : ℕ) → noted having.new n ≡ with_place (noted having.old n) (has_number n (attrs_at place classes.now)) place) }
     ensures err { OnErr result ((n : ℕ) → noted having.new n ≡ without_place (noted having.old n) (has_number n (attrs_at place classes.now)) place) }
 {
+    // The contract is total: the place is that of a class.
     let Some(class) = classes.get(place) else {
         return Ok(());
     };
@@ -132,7 +133,7 @@ fn note_class(
     }
 }
 
-/// The class at a place has a vector attribute.
+/// Whether the class at a place has a vector attribute. The definition is total: each place that is noted has a class.
 fn is_vector_at(classes: &[Class], place: usize) -> bool
     ensures { result ≡ is_vector_at classes.now place }
 {
@@ -142,7 +143,7 @@ fn is_vector_at(classes: &[Class], place: usize) -> bool
     }
 }
 
-/// One of the classes at these places has a vector attribute.
+/// Whether one of the classes at these places has a vector attribute.
 fn any_vector(classes: &[Class], places: &[usize]) -> bool
     ensures { result ≡ list_any (is_vector_at classes.now) places.now }
 {
@@ -241,7 +242,7 @@ impl Classes {
         self.list.into_vec()
     }
 
-    /// A class that has a vector attribute has an attribute of this name. Looks only at the classes that have it.
+    /// Whether a class that has a vector attribute has an attribute of this name. Looks only at the classes that have it.
     pub fn makes_second(&self, name: Sym) -> bool
         ensures { result ≡ makes_second name self.now }
     {

@@ -11,6 +11,7 @@ use ops_base::memory::OutOfMemory;
 use ops_tokens::token::{FRACTION_NUMBER, NUMBER_RANGE};
 use ops_tokens::{LexFault, Scanner, Token, TokenKind};
 use std::alloc::Global;
+use thiserror::Error;
 
 /// How the tokens of a form end.
 #[derive(Clone, Copy, Debug, PartialEq, Eq)]
@@ -32,12 +33,15 @@ pub struct Form {
 }
 
 /// Why no form stands at a place.
-#[derive(Clone, Copy, Debug, PartialEq, Eq)]
+#[derive(Clone, Copy, Debug, PartialEq, Eq, Error)]
 pub enum FormFault {
     /// A bad byte, or a bar that is not closed.
+    #[error("byte {}: no token", .0.at)]
     Lex(LexFault),
     /// An atom, a caret or a bracket that begins no form, at its first byte.
+    #[error("byte {at}: no form")]
     Stray { at: usize },
+    #[error("out of memory")]
     OutOfMemory,
 }
 

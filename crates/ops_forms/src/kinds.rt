@@ -1,5 +1,5 @@
 //! What a word may be where something is wanted.
-ghost use Rattle.std.specs.Prelude.{◌≡◌};
+ghost use Rattle.std.specs.Prelude.{◌≡◌, ◌||◌};
 ghost use Rattle.ops_meaning.specs.Grammar.{is_left, is_right, is_left_brace, is_right_brace, is_caret, is_name, is_variable, is_arrow, is_literal, is_minus, opens_choice, closes_choice, is_inf, is_compute, operation_of, pred_of, constant_of, atom_of, value_of, natural_of, small_of, count_of, strategy_of, is_all, level_of};
 
 use ops_base::commands::Strategy;
@@ -12,140 +12,105 @@ use ops_tokens::TokenKind;
 pub fn is_left(kind: TokenKind) -> bool
     ensures { result ≡ is_left kind }
 {
-    match kind {
-        TokenKind::Left => true,
-        _ => false,
-    }
+    matches!(kind, TokenKind::Left)
 }
 
 /// Whether a word is a closing bracket.
 pub fn is_right(kind: TokenKind) -> bool
     ensures { result ≡ is_right kind }
 {
-    match kind {
-        TokenKind::Right => true,
-        _ => false,
-    }
+    matches!(kind, TokenKind::Right)
 }
 
 /// Whether a word is an opening brace.
 pub fn is_left_brace(kind: TokenKind) -> bool
     ensures { result ≡ is_left_brace kind }
 {
-    match kind {
-        TokenKind::LeftBrace => true,
-        _ => false,
-    }
+    matches!(kind, TokenKind::LeftBrace)
 }
 
 /// Whether a word is a closing brace.
 pub fn is_right_brace(kind: TokenKind) -> bool
     ensures { result ≡ is_right_brace kind }
 {
-    match kind {
-        TokenKind::RightBrace => true,
-        _ => false,
-    }
+    matches!(kind, TokenKind::RightBrace)
 }
 
 /// Whether a word is the caret before an attribute.
 pub fn is_caret(kind: TokenKind) -> bool
     ensures { result ≡ is_caret kind }
 {
-    match kind {
-        TokenKind::Caret => true,
-        _ => false,
-    }
+    matches!(kind, TokenKind::Caret)
+}
+
+/// Whether the values of an attribute end at a word: more attributes come, or the element ends.
+pub fn ends_values(kind: TokenKind) -> bool
+    ensures { result ≡ (is_right kind || is_caret kind) }
+{
+    is_right(kind) || is_caret(kind)
 }
 
 /// Whether a word is a name: a plain symbol or a quoted atom.
 pub fn is_name(kind: TokenKind) -> bool
     ensures { result ≡ is_name kind }
 {
-    match kind {
-        TokenKind::Symbol | TokenKind::Quoted => true,
-        _ => false,
-    }
+    matches!(kind, TokenKind::Symbol | TokenKind::Quoted)
 }
 
 /// Whether a word is a variable.
 pub fn is_variable(kind: TokenKind) -> bool
     ensures { result ≡ is_variable kind }
 {
-    match kind {
-        TokenKind::Variable => true,
-        _ => false,
-    }
+    matches!(kind, TokenKind::Variable)
 }
 
 /// Whether a word is `-->`, between the sides of a production.
 pub fn is_arrow(keyword: Keyword) -> bool
     ensures { result ≡ is_arrow keyword }
 {
-    match keyword {
-        Keyword::Arrow => true,
-        _ => false,
-    }
+    matches!(keyword, Keyword::Arrow)
 }
 
 /// Whether a word is `//`, before an atom.
 pub fn is_literal(keyword: Keyword) -> bool
     ensures { result ≡ is_literal keyword }
 {
-    match keyword {
-        Keyword::Literal => true,
-        _ => false,
-    }
+    matches!(keyword, Keyword::Literal)
 }
 
 /// Whether a word is `-`, before a pattern.
 pub fn is_minus(keyword: Keyword) -> bool
     ensures { result ≡ is_minus keyword }
 {
-    match keyword {
-        Keyword::Minus => true,
-        _ => false,
-    }
+    matches!(keyword, Keyword::Minus)
 }
 
 /// Whether a word is `<<`, before constants.
 pub fn opens_choice(keyword: Keyword) -> bool
     ensures { result ≡ opens_choice keyword }
 {
-    match keyword {
-        Keyword::OpenChoice => true,
-        _ => false,
-    }
+    matches!(keyword, Keyword::OpenChoice)
 }
 
 /// Whether a word is `>>`, behind constants.
 pub fn closes_choice(keyword: Keyword) -> bool
     ensures { result ≡ closes_choice keyword }
 {
-    match keyword {
-        Keyword::CloseChoice => true,
-        _ => false,
-    }
+    matches!(keyword, Keyword::CloseChoice)
 }
 
 /// Whether a word is `inf`, behind the vector attribute.
 pub fn is_inf(keyword: Keyword) -> bool
     ensures { result ≡ is_inf keyword }
 {
-    match keyword {
-        Keyword::Inf => true,
-        _ => false,
-    }
+    matches!(keyword, Keyword::Inf)
 }
 
 /// Whether a word is `compute`, behind a bracket.
 pub fn is_compute(keyword: Keyword) -> bool
     ensures { result ≡ is_compute keyword }
 {
-    match keyword {
-        Keyword::Compute => true,
-        _ => false,
-    }
+    matches!(keyword, Keyword::Compute)
 }
 
 /// The operation that a word of an expression stands for.
@@ -264,10 +229,7 @@ pub fn strategy_of(keyword: Keyword) -> Option<Strategy>
 pub fn is_all(keyword: Keyword) -> bool
     ensures { result ≡ is_all keyword }
 {
-    match keyword {
-        Keyword::Times => true,
-        _ => false,
-    }
+    matches!(keyword, Keyword::Times)
 }
 
 /// The trace level that a whole number from 0 to 2 is.

@@ -4,7 +4,6 @@
 
 pub mod classes;
 pub mod declared;
-pub mod fields;
 pub mod form;
 pub mod kinds;
 pub mod places;

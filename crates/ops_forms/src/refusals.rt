@@ -7,15 +7,18 @@ ghost use Rattle.ops_forms.specs.declared.refusals.Refusal.TheVariants.{OutOfMem
 ghost use Rattle.ops_forms.specs.declared.refusals.ReadFault.TheVariants.{OutOfMemory as NoMemory};
 
 use crate::kinds::is_right;
-use ops_base::endings::Fault;
+use ops_base::endings::{Fault, Limit};
 use ops_base::memory::OutOfMemory;
 use ops_meaning::Word;
 use std::alloc::{AllocError, AllocFailed};
+use thiserror::Error;
 
 /// The fault of the grammar and the word that stands where another is wanted, or `None` where the words end.
-#[derive(Clone, Copy, Debug, PartialEq, Eq)]
+#[derive(Clone, Copy, Debug, PartialEq, Eq, Error)]
 pub enum Refusal {
+    #[error("{fault:?}")]
     At { fault: Fault, word: Option<Word> },
+    #[error("out of memory")]
     OutOfMemory,
 }
 
@@ -44,9 +47,11 @@ impl<T: Drop> From<AllocFailed<T>> for Refusal {
 }
 
 /// Why a side of a production is not read: the fault, and the byte at which it stands.
-#[derive(Clone, Copy, Debug, PartialEq, Eq)]
+#[derive(Clone, Copy, Debug, PartialEq, Eq, Error)]
 pub enum ReadFault {
+    #[error("byte {at}: {fault:?}")]
     At { fault: Fault, at: usize },
+    #[error("out of memory")]
     OutOfMemory,
 }
 
@@ -65,6 +70,18 @@ pub fn refused<T>(fault: Fault, word: Word) -> Result<T, Refusal>
         fault,
         word: Some(word),
     })
+}
+
+/// Refuses a word that would take the 128th field of an element, its class counted.
+pub fn fields_passed<T>(word: Word) -> Result<T, Refusal>
+    ensures { result ≡ Err (Refusal.At (Fault.LimitPassed Limit.Fields) (Some word)) }
+{
+    refused(
+        Fault::LimitPassed {
+            limit: Limit::Fields,
+        },
+        word,
+    )
 }
 
 // the first word and those after it

@@ -10,13 +10,14 @@ use ops_base::memory::OutOfMemory;
 use ops_base::values::Sym;
 use std::alloc::Global;
 
+/// Whether a name is one of these.
 pub fn is_one_of(name: Sym, names: &Declared<Sym>) -> bool
     ensures { result ≡ is_one_of name names.now }
 {
     names.place_of(name).is_some()
 }
 
-/// One of the attributes is a vector attribute.
+/// Whether one of the attributes is a vector attribute.
 pub fn has_vector(vectors: &Declared<Sym>, attrs: &[Sym]) -> bool
     ensures { result ≡ has_vector vectors.now attrs.now }
 {

@@ -58,7 +58,7 @@ pub fn fault_of(refusal: Refusal, tokens: &[Token]) -> ReadFault
     }
 }
 
-// the byte past the last token
+// The byte past the last token. The definition is total: a form has a token, its bracket.
 fn past_of(tokens: &[Token]) -> usize
     ensures { result ≡ past_last 0 tokens.now }
 {

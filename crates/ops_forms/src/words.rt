@@ -57,13 +57,14 @@ fn name_of(names: &mut Names, kind: TokenKind, spelling: &[u8]) -> Result<Sym, O
     }
 }
 
+// whether the spelling of such a token is a name
 fn has_name(kind: TokenKind) -> bool
     ensures { result ≡ has_name kind }
 {
-    match kind {
-        TokenKind::Symbol | TokenKind::Quoted | TokenKind::Variable | TokenKind::Operator => true,
-        _ => false,
-    }
+    matches!(
+        kind,
+        TokenKind::Symbol | TokenKind::Quoted | TokenKind::Variable | TokenKind::Operator
+    )
 }
 
 fn keyword_of(kind: TokenKind, spelling: &[u8]) -> Keyword
@@ -198,6 +199,7 @@ fn keyword_of_command(spelling: &[u8]) -> Keyword
     }
 }
 
+// whether a spelling is that of a word
 fn is(spelling: &[u8], word: &[u8]) -> bool
     ensures { result ≡ bytes_eq spelling.now word.now }
 {

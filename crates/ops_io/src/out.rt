@@ -8,9 +8,11 @@ use crate::outside::{Failed, Sink};
 use ops_base::memory::OutOfMemory;
 use std::alloc::Global;
 use std::marker::Model;
+use thiserror::Error;
 
 /// The sink refused a write.
-#[derive(Clone, Copy, Debug, PartialEq, Eq)]
+#[derive(Clone, Copy, Debug, PartialEq, Eq, Error)]
+#[error("cannot write the output")]
 pub struct WriteFailed;
 
 /// How many bytes the buffer holds at most.
@@ -21,6 +23,7 @@ const ROOM: usize = 8192;
 pub struct Out {
     held: Vec<u8>,
     column: u64,
+    // That no call was refused. No code reads it: it is there for the contracts, which ask for it before each call.
     whole: bool,
 }
 

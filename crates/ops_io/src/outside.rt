@@ -5,17 +5,21 @@ ghost use Rattle.ops_io.specs.Outside.{CountsFailure, ReadGives, WriteGives, Loa
 ghost use Rattle.ops_io.specs.declared.outside.LoadError.TheVariants as load;
 
 use std::alloc::{AllocError, AllocFailed};
+use thiserror::Error;
 
 /// A device refused.
-#[derive(Clone, Copy, Debug, PartialEq, Eq)]
+#[derive(Clone, Copy, Debug, PartialEq, Eq, Error)]
+#[error("the device refused")]
 pub struct Failed;
 
 /// Why a file was not loaded.
-#[derive(Clone, Copy, Debug, PartialEq, Eq)]
+#[derive(Clone, Copy, Debug, PartialEq, Eq, Error)]
 pub enum LoadError {
     /// The device refused, or there is no such file.
+    #[error("cannot read the file")]
     Failed,
     /// Memory ran out.
+    #[error("out of memory")]
     OutOfMemory,
 }
 

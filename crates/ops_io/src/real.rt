@@ -136,6 +136,7 @@ fn read_file<R: Files>(
 #[derive(Drop)]
 pub struct StdShelf<'r, R> {
     rt: &'r R,
+    // The names that loads were given. No code reads them: they are there for the contracts, which say what was asked for.
     names: Vec<Vec<u8>>,
     faults: u64,
 }

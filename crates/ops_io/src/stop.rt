@@ -6,13 +6,16 @@ ghost use Rattle.ops_io.specs.declared.stop.Stop.TheVariants as stop;
 use crate::out::WriteFailed;
 use ops_base::endings::Ending;
 use ops_base::memory::OutOfMemory;
+use thiserror::Error;
 
 /// Why a call that puts bytes, and may also take memory, gave up.
-#[derive(Clone, Copy, Debug, PartialEq, Eq)]
+#[derive(Clone, Copy, Debug, PartialEq, Eq, Error)]
 pub enum Stop {
     /// The sink refused a write.
+    #[error("cannot write the output")]
     Write,
     /// Memory ran out.
+    #[error("out of memory")]
     OutOfMemory,
 }
 

@@ -1,3 +1,4 @@
-pub mod Ways
-pub mod Rooms
 pub mod Borders
+pub mod Cells
+pub mod Rooms
+pub mod Ways

@@ -1,16 +1,12 @@
 -- Steps of the walk over a left side, in every state around it.
-use Rattle.std.proofs.Common.{◌≡◌, ℕ, ◌==◌, true, false, List, ◌∷◌, ◌++◌, slice_get, position, None, Some, Result, Ok, Err, refl, ◌∙◌}
+use Rattle.std.proofs.Common.{◌≡◌, ℕ, List, ◌∷◌, Result, Ok, Err, ◌∙◌}
 use Rattle.ops_base.specs.declared.elements.Class.{Class}
 use Rattle.ops_meaning.specs.declared.words.Word.{Word}
-use Rattle.ops_base.specs.declared.endings.Fault.{Fault}
-use Rattle.ops_base.specs.declared.endings.Fault.TheVariants as fault
-use Rattle.ops_base.specs.Valid.{is_vector}
-use Rattle.ops_meaning.specs.Grammar.{InPattern, Wanted, ClassName, Attribute, Several, Place, Terms, State, goes, step, is_name}
+use Rattle.ops_meaning.specs.Grammar.{InPattern, Wanted, Terms, State}
 use Rattle.ops_forms.specs.declared.refusals.Refusal.{Refusal}
-use Rattle.ops_forms.specs.declared.refusals.Refusal.TheVariants as refusal
 use Rattle.ops_lhs.specs.declared.left.Left.{Left}
 use Rattle.ops_forms.specs.Walking.{Way, GoesOn}
-use Rattle.ops_forms.proofs.Walks.{fails_as, fails_under, fails_anywhere}
+use Rattle.ops_forms.proofs.Walks.{fails_under, fails_anywhere}
 use Rattle.ops_lhs.specs.Taking.{seen, GoesToTerms, Among, GoesToTermsAmong}
 
 -- ---- where these classes are declared

@@ -18,7 +18,7 @@ const MOST_CONDITIONS: usize = 64;
 
 impl Left {
     // first condition* -->
-    pub fn conditions(
+    pub fn read_conditions(
         &mut self,
         classes: &Classes,
         words: &[Word],
@@ -27,10 +27,8 @@ impl Left {
         ensures reads { GoesAmong (Among classes.now) (λ more ws s. goes (drop at words.now ++ more) (FirstPattern ∷ Patterns ∷ ws) (seen s self.old)) words.now (λ s. right_begun (left_ended (seen s self.new))) result }
         ensures behind { IfOk result (λ next. IsBehind IsArrow words.now next) }
     {
-        match self.first_pattern(classes, words, at) {
-            Ok(rest) => return self.patterns(classes, words, rest),
-            Err(refusal) => return Err(refusal),
-        }
+        let rest = self.first_pattern(classes, words, at)?;
+        self.patterns(classes, words, rest)
     }
 
     // positive
@@ -46,7 +44,7 @@ impl Left {
     {
         let (word, rest) = first_of(words, at)?;
         if is_left(word.kind) {
-            return self.element(classes, words, rest);
+            return self.class_and_terms(classes, words, rest);
         }
         if is_left_brace(word.kind) {
             return self.braced(classes, words, rest);
@@ -69,15 +67,12 @@ impl Left {
             if is_arrow(word.keyword) {
                 return Ok(after);
             }
-            match self.condition(classes, word, words, after) {
-                Ok(next) => rest = next,
-                Err(refusal) => return Err(refusal),
-            }
+            rest = self.condition_from(classes, word, words, after)?;
         }
     }
 
     // positive | - pattern, of which the first word is taken, where there is room for one more
-    fn condition(
+    fn condition_from(
         &mut self,
         classes: &Classes,
         word: Word,
@@ -99,7 +94,7 @@ impl Left {
             );
         }
         if is_left(word.kind) {
-            return self.element(classes, words, at);
+            return self.class_and_terms(classes, words, at);
         }
         if is_left_brace(word.kind) {
             return self.braced(classes, words, at);

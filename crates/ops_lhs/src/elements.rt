@@ -23,7 +23,7 @@ impl Left {
         if is_left(word.kind) {
             return self.pattern_then_name(classes, words, rest);
         }
-        self.name_then_pattern(classes, word, words, rest)
+        self.name_then_pattern_from(classes, word, words, rest)
     }
 
     // CLASS term* ) VARIABLE }
@@ -36,14 +36,12 @@ impl Left {
         ensures reads { GoesAmong (Among classes.now) (λ more ws s. goes (drop at words.now ++ more) (ClassName ∷ Terms InPattern ∷ ElementName ∷ ClosesBrace ∷ ws) (seen s self.old)) words.now (λ s. seen s self.new) result }
         ensures within { IsFrom at result }
     {
-        match self.element(classes, words, at) {
-            Ok(rest) => return self.name_and_brace(words, rest),
-            Err(refusal) => return Err(refusal),
-        }
+        let rest = self.class_and_terms(classes, words, at)?;
+        self.name_and_brace(words, rest)
     }
 
     // VARIABLE pattern }, of which the first word is taken
-    fn name_then_pattern(
+    fn name_then_pattern_from(
         &mut self,
         classes: &Classes,
         word: Word,
@@ -53,10 +51,8 @@ impl Left {
         ensures acts { ActsAmong classes.now (λ ws s. element_name word (Pattern ∷ ClosesBrace ∷ ws) s) word self.old self.new words.now at result }
         ensures within { IsFrom at result }
     {
-        match self.element_name(word, words, at) {
-            Ok(rest) => return self.pattern_and_brace(classes, words, rest),
-            Err(refusal) => return Err(refusal),
-        }
+        let rest = self.element_name(word, words, at)?;
+        self.pattern_and_brace(classes, words, rest)
     }
 
     // pattern }
@@ -69,10 +65,8 @@ impl Left {
         ensures reads { GoesAmong (Among classes.now) (λ more ws s. goes (drop at words.now ++ more) (Pattern ∷ ClosesBrace ∷ ws) (seen s self.old)) words.now (λ s. seen s self.new) result }
         ensures within { IsFrom at result }
     {
-        match self.pattern(classes, words, at) {
-            Ok(rest) => return self.closing_brace(words, rest),
-            Err(refusal) => return Err(refusal),
-        }
+        let rest = self.pattern(classes, words, at)?;
+        self.closing_brace(words, rest)
     }
 
     // VARIABLE }
@@ -82,10 +76,8 @@ impl Left {
         ensures within { IsFrom at result }
     {
         let (word, rest) = first_of(words, at)?;
-        match self.element_name(word, words, rest) {
-            Ok(rest) => return self.closing_brace(words, rest),
-            Err(refusal) => return Err(refusal),
-        }
+        let rest = self.element_name(word, words, rest)?;
+        self.closing_brace(words, rest)
     }
 
     // VARIABLE, which is the word, and was not bound in this left side

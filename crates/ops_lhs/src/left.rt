@@ -1,5 +1,6 @@
 //! What was read so far of a left side, and how it grows.
-ghost use Rattle.std.specs.Prelude.{◌≡◌};
+ghost use Rattle.std.specs.Prelude.{◌≡◌, length};
+ghost use Rattle.ops_base.specs.Valid.{cells_of};
 ghost use Rattle.ops_meaning.specs.Grammar.{nothing_read, left_begun, with_test, with_bound, with_choice, with_condition, with_bound_element};
 ghost use Rattle.ops_forms.specs.Going.{Becomes};
 ghost use Rattle.ops_lhs.specs.Taking.{view};
@@ -7,23 +8,29 @@ ghost use Rattle.ops_lhs.specs.Taking.{view};
 use ops_base::conditions::{Condition, Operand, Test};
 use ops_base::list::Listed;
 use ops_base::values::{NIL, Pred, Sym, Value};
-use ops_forms::fields::count_cells;
 use ops_forms::{Declared, Named, Refusal};
 use std::alloc::Global;
 use std::mem;
 
-/// What was read so far of a left side.
+/// What was read so far of a left side. Its fields are those of the state of the definition's walk (`State` in the
+/// specs/Grammar.antt of ops_meaning), which hands values from one method to the next.
 #[derive(Drop)]
 pub struct Left {
-    /// The class, the tests and the constants of a disjunction of the condition that is being read.
+    /// The class of the condition that is being read.
     pub class: usize,
+    /// The tests of that condition.
     pub tests: Vec<Test>,
+    /// The constants of the disjunction that is being read.
     pub choice: Vec<Value>,
+    /// The value variables in sight, with their numbers.
     pub values: Declared<Named>,
+    /// The element variables in sight, with their cells.
     pub elements: Declared<Named>,
     /// The element variable of the condition that is being read.
     pub element: Sym,
+    /// How many variables were given a number.
     pub variables: usize,
+    /// Whether the condition that is being read is negated.
     pub negated: bool,
     /// How many variables are in sight around a negated condition.
     pub around: usize,
@@ -105,7 +112,8 @@ impl Left {
         Ok(())
     }
 
-    // the element variable names the cell of the condition that was read last
+    // The element variable names the cell of the condition that was read last. The definition is total: that condition is positive,
+    // so there is a cell.
     pub fn bind_element(&mut self) -> Result<(), Refusal>
         ensures { Becomes (view self.new) (with_bound_element (view self.old)) result }
     {
@@ -116,4 +124,15 @@ impl Left {
         })?;
         Ok(())
     }
+}
+
+/// How many cells an instantiation of conditions has: one per positive condition.
+#[tactic(auto, using(crate::proofs::Cells::cells_counted))]
+fn count_cells(conditions: &[Condition]) -> usize
+    ensures { result ≡ length (cells_of conditions.now) }
+{
+    conditions
+        .iter()
+        .filter(|condition| !condition.negated)
+        .count()
 }

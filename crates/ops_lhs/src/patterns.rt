@@ -6,7 +6,6 @@ ghost use Rattle.ops_lhs.specs.Taking.{seen, GoesToTermsAmong, ReadsAmong, Among
 
 use crate::left::Left;
 use ops_base::endings::Fault;
-use ops_forms::fields::{field_of, is_vector};
 use ops_forms::kinds::{is_caret, is_left, is_name, is_right};
 use ops_forms::refusals::refused;
 use ops_forms::walking::first_of;
@@ -29,11 +28,11 @@ impl Left {
         if !is_left(word.kind) {
             return refused(Fault::BadForm, word);
         }
-        self.element(classes, words, rest)
+        self.class_and_terms(classes, words, rest)
     }
 
     // CLASS term* )
-    pub fn element(
+    pub fn class_and_terms(
         &mut self,
         classes: &Classes,
         words: &[Word],
@@ -42,10 +41,8 @@ impl Left {
         ensures reads { GoesAmong (Among classes.now) (λ more ws s. goes (drop at words.now ++ more) (ClassName ∷ Terms InPattern ∷ ws) (seen s self.old)) words.now (λ s. seen s self.new) result }
         ensures within { IsFrom at result }
     {
-        match self.class_name(classes, words, at) {
-            Ok(rest) => return self.terms(classes, words, rest),
-            Err(refusal) => return Err(refusal),
-        }
+        let rest = self.class_name(classes, words, at)?;
+        self.terms(classes, words, rest)
     }
 
     // CLASS
@@ -81,10 +78,7 @@ impl Left {
             if !is_caret(word.kind) {
                 return refused(Fault::BadForm, word);
             }
-            match self.attribute(classes, words, after) {
-                Ok(next) => rest = next,
-                Err(refusal) => return Err(refusal),
-            }
+            rest = self.attribute(classes, words, after)?;
         }
     }
 
@@ -98,13 +92,14 @@ impl Left {
         if !is_name(word.kind) {
             return refused(Fault::BadForm, word);
         }
+        // The definition is total: the class was found by its name, so it is there.
         let Some(class) = classes.get(self.class) else {
             return refused(Fault::UnknownAttribute, word);
         };
-        let Some(field) = field_of(class, word.name) else {
+        let Some(field) = class.field_of(word.name) else {
             return refused(Fault::UnknownAttribute, word);
         };
-        if is_vector(class, field) {
+        if class.is_vector(field) {
             return self.places(field, words, rest);
         }
         self.place(field, words, rest)

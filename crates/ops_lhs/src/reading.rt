@@ -26,7 +26,7 @@ pub fn left_side<'a>(
     ensures err { IfErr result (λ e. RefusesLeft classes.now words.now e) }
 {
     let mut left = Left::new(alloc);
-    let next = left.conditions(classes, words, 0)?;
+    let next = left.read_conditions(classes, words, 0)?;
     let side = LeftSide {
         conditions: left.conditions,
         values: left.values,

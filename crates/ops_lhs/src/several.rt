@@ -1,18 +1,17 @@
 //! The places of a vector attribute.
-ghost use Rattle.std.specs.Prelude.{◌≡◌, ◌∷◌, ◌++◌, ◌||◌, drop, is_some, nat_lt, Err, Some};
+ghost use Rattle.std.specs.Prelude.{◌≡◌, ◌∷◌, ◌++◌, ◌||◌, drop, is_some, nat_lt};
 ghost use Rattle.ops_base.specs.Valid.{most_fields};
-ghost use Rattle.ops_meaning.specs.Grammar.{goes, is_right, is_caret, is_literal, is_variable, constant_of, place, within, InPattern, Several};
+ghost use Rattle.ops_meaning.specs.Grammar.{goes, is_literal, is_variable, constant_of, place, within, InPattern, Several};
 ghost use Rattle.ops_forms.specs.Walking.{IsFrom};
 ghost use Rattle.ops_lhs.specs.Taking.{seen, GoesToTerms, Acts, begins_place};
 
 use crate::left::Left;
-use ops_base::endings::{Fault, Limit};
+use ops_base::elements::MOST_FIELDS;
 use ops_forms::Refusal;
-use ops_forms::fields::MOST_FIELDS;
 use ops_forms::kinds::{
-    constant_of, is_caret, is_left_brace, is_literal, is_right, is_variable, opens_choice, pred_of,
+    constant_of, ends_values, is_left_brace, is_literal, is_variable, opens_choice, pred_of,
 };
-use ops_forms::refusals::refused;
+use ops_forms::refusals::fields_passed;
 use ops_forms::walking::first_of;
 use ops_meaning::Word;
 
@@ -27,19 +26,16 @@ impl Left {
         let mut rest = at;
         'places: loop {
             let (word, after) = first_of(words, rest)?;
-            if ends_places(word) {
+            if ends_values(word.kind) {
                 return Ok(rest);
             }
-            match self.place_within(next, word, words, after) {
-                Ok(behind) => rest = behind,
-                Err(refusal) => return Err(refusal),
-            }
+            rest = self.next_place_from(next, word, words, after)?;
             next = next.checked_add(1).ok_or(Refusal::OutOfMemory)?;
         }
     }
 
-    // a place of which the first word is taken, where an element has room for its field
-    fn place_within(
+    // a place, of which the first word is taken, where an element has room for its field
+    fn next_place_from(
         &mut self,
         field: usize,
         word: Word,
@@ -50,19 +46,13 @@ impl Left {
         ensures within { IsFrom at result }
     {
         if begins_place(word) && field >= MOST_FIELDS {
-            return passed(word);
+            return fields_passed(word);
         }
         self.place_from(field, word, words, at)
     }
 }
 
-// more attributes come, or the element ends
-fn ends_places(word: Word) -> bool
-    ensures { result ≡ (is_right word.kind || is_caret word.kind) }
-{
-    is_right(word.kind) || is_caret(word.kind)
-}
-
+// whether a place begins at a word
 fn begins_place(word: Word) -> bool
     ensures { result ≡ begins_place word }
 {
@@ -72,22 +62,11 @@ fn begins_place(word: Word) -> bool
         || begins_operand(word)
 }
 
+// whether a constant or a variable begins at a word
 fn begins_operand(word: Word) -> bool
     ensures { result ≡ (is_literal word.keyword || (is_some (constant_of word.kind word.name) || is_variable word.kind)) }
 {
     is_literal(word.keyword)
         || constant_of(word.kind, word.name).is_some()
         || is_variable(word.kind)
-}
-
-// the word would take the 128th field of an element, its class counted
-fn passed<T>(word: Word) -> Result<T, Refusal>
-    ensures { result ≡ Err (Refusal.At (Fault.LimitPassed Limit.Fields) (Some word)) }
-{
-    refused(
-        Fault::LimitPassed {
-            limit: Limit::Fields,
-        },
-        word,
-    )
 }

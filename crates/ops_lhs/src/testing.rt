@@ -41,7 +41,7 @@ impl Left {
         if is_left_brace(word.kind) {
             return self.conjunction(field, words, at);
         }
-        self.test(field, word, words, at)
+        self.test_from(field, word, words, at)
     }
 
     // test* }
@@ -56,15 +56,12 @@ impl Left {
             if is_right_brace(word.kind) {
                 return Ok(after);
             }
-            match self.test(field, word, words, after) {
-                Ok(next) => rest = next,
-                Err(refusal) => return Err(refusal),
-            }
+            rest = self.test_from(field, word, words, after)?;
         }
     }
 
     // constant | VARIABLE | PRED constant | PRED VARIABLE | << atom* >>, of which the first word is taken
-    fn test(
+    fn test_from(
         &mut self,
         field: usize,
         word: Word,
@@ -80,7 +77,7 @@ impl Left {
         }
         match pred_of(word.keyword) {
             Some(pred) => self.tested(field, pred, words, at),
-            None => self.operand(field, Pred::Eq, word, words, at),
+            None => self.operand_from(field, Pred::Eq, word, words, at),
         }
     }
 
@@ -97,11 +94,11 @@ impl Left {
         ensures within { IsFrom at result }
     {
         let (word, rest) = first_of(words, at)?;
-        self.operand(field, pred, word, words, rest)
+        self.operand_from(field, pred, word, words, rest)
     }
 
     // constant | VARIABLE, of which the first word is taken
-    fn operand(
+    fn operand_from(
         &mut self,
         field: usize,
         pred: Pred,

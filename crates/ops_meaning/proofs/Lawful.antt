@@ -15,7 +15,7 @@ use Rattle.ops_base.specs.declared.elements.Change.TheVariants.{Add, Remove}
 use Rattle.ops_base.specs.WorkingMemory.{tags_of, HasRisingTags, without_tag, done, last_after, Lawful}
 use Rattle.ops_base.proofs.InOrder.{AllBefore, TagBelow, tags_in_order}
 use Rattle.ops_base.proofs.Members.{IsMember, contains_from_member, member-map}
-use Rattle.ops_base.proofs.RefractionLaws.{Contains-filter}
+use Rattle.ops_base.proofs.Filtered.{Contains-filter}
 use Rattle.ops_meaning.specs.Acting.{has_tag}
 use Rattle.ops_meaning.specs.Kept.{WellKept}
 use Rattle.ops_meaning.specs.Running.{removals}

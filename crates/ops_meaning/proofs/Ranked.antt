@@ -16,11 +16,12 @@ use Rattle.ops_base.specs.declared.rules.Rule.{Rule}
 use Rattle.ops_base.specs.Dominance.{is_greater, dominates}
 use Rattle.ops_base.specs.Instances.{Before, IsInOrder}
 use Rattle.ops_base.specs.Refraction.{IsDominant, dominant, is_same_inst}
-use Rattle.ops_base.proofs.ConflictSetLaws.{before_itself}
+use Rattle.ops_base.proofs.InstOrder.{before_itself}
 use Rattle.ops_base.proofs.DominanceLaws.{dominates-less, dominates_itself, dominant_is}
 use Rattle.ops_base.proofs.InOrder.{AllBefore, before_from_all_pairs, all_pairs_from_before}
 use Rattle.ops_base.proofs.Members.{IsMember, member_from_contains, contains_from_member, member-map}
-use Rattle.ops_base.proofs.RefractionLaws.{is_same_inst-Decides, Contains-filter}
+use Rattle.ops_base.proofs.RefractionLaws.{is_same_inst-Decides}
+use Rattle.ops_base.proofs.Filtered.{Contains-filter}
 use Rattle.ops_meaning.specs.Running.{without_inst, ranked}
 
 -- ---- each is there once

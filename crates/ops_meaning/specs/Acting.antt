@@ -1,5 +1,5 @@
 -- What a right side does.
-use Rattle.std.specs.Prelude.{ℕ, suc, ◌+◌, ◌-◌, List, [], ◌∷◌, ◌++◌, length, map, fold, take, drop, replicate, Bool, true, false, ◌==◌, nat_lt, if◌then◌else◌, slice_get, slice_set, unwrap_or, option_map, find, Option, Some, None, option_and_then, Result, Ok, Err, codes}
+use Rattle.std.specs.Prelude.{ℕ, suc, ◌+◌, List, [], ◌∷◌, ◌++◌, length, map, fold, take, drop, Bool, true, false, ◌==◌, nat_lt, if◌then◌else◌, slice_get, slice_set, unwrap_or, option_map, find, Option, Some, None, option_and_then, Result, Ok, Err, codes}
 use Rattle.std.specs.List.{list_any}
 use Rattle.ops_base.specs.declared.values.Value.{Value}
 use Rattle.ops_base.specs.declared.values.Value.TheVariants as value
@@ -23,7 +23,7 @@ use Rattle.ops_base.specs.declared.endings.ActKind.TheVariants as act_fault
 use Rattle.ops_base.specs.Values.{nil}
 use Rattle.ops_base.specs.Valid.{class_of, is_vector, most_fields}
 use Rattle.ops_base.specs.Names.{Spellings, with_fresh}
-use Rattle.ops_base.specs.WorkingMemory.{change_done, field_of}
+use Rattle.ops_base.specs.WorkingMemory.{change_done, field_of, no_fields, scalar_count}
 use Rattle.ops_base.specs.Matching.{match_of, value_of}
 use Rattle.ops_io.specs.Coming.{Coming}
 use Rattle.ops_tokens.specs.Accepting.{Accepted, accepted}
@@ -110,10 +110,6 @@ cell_of d cell = unwrap_or (slice_get d.cells cell) no_element
 
 -- ---- values
 
--- how many fields of an element of that class stand before those of its vector attribute
-abbrev pub scalar_count : Class → ℕ
-scalar_count c = if c.vector then length c.attrs - 1 else length c.attrs
-
 -- the values of a term, and what evaluating it leaves
 pub record Valued : Type 0 where
   pub values : List Value
@@ -154,10 +150,6 @@ first_of [] = nil
 first_of (v ∷ vs) = v
 
 -- ---- fields
-
--- the fields of an element for which no value was given
-abbrev pub no_fields : Class → List Value
-no_fields c = replicate (scalar_count c) nil
 
 -- One value is placed at a field, or none where that is past the last one.
 abbrev pub value_placed : ℕ → Value → List Value → Option (List Value)

@@ -18,7 +18,7 @@ use Rattle.ops_base.specs.declared.endings.Ending.{Ending}
 use Rattle.ops_base.specs.declared.endings.Ending.TheVariants as ending
 use Rattle.ops_base.specs.Valid.{class_of, is_vector}
 use Rattle.ops_base.specs.Values.{are_same}
-use Rattle.ops_base.specs.WorkingMemory.{done, field_of, tags_of, without_tag}
+use Rattle.ops_base.specs.WorkingMemory.{done, field_of, no_fields, tags_of, without_tag}
 use Rattle.ops_base.specs.ConflictSet.{conflict_set}
 use Rattle.ops_base.specs.Refraction.{unfired, still_fired, dominant, is_same_inst}
 use Rattle.ops_io.specs.Output.{column_after}
@@ -26,7 +26,7 @@ use Rattle.ops_meaning.specs.Effects.{Effect, writes, ends_with, and_then, told_
 use Rattle.ops_meaning.specs.Layout.{line_at, lines_at, traced, firing_bytes, tagged_text, inst_text, rule_name, strategy_line, level_line, break_line, unknown_line, halted_line, no_more_line, counted_line, broken_line}
 use Rattle.ops_base.specs.Names.{Spellings}
 use Rattle.ops_io.specs.Coming.{Coming}
-use Rattle.ops_meaning.specs.Acting.{Setting, Misdeed, Bad, NoInput, Given, Acted, acted, no_fields, emptied, first_of, element_of, has_tag, change_lines}
+use Rattle.ops_meaning.specs.Acting.{Setting, Misdeed, Bad, NoInput, Given, Acted, acted, emptied, first_of, element_of, has_tag, change_lines}
 
 -- what a session has come to: working memory, the strategy, the instantiations that are marked as fired, how many firings were made, the
 -- last tag that was given, the spellings in use with the number of the last fresh atom, and the input that is still to come

@@ -7,50 +7,95 @@ use ops_tokens::TokenKind;
 /// symbol elsewhere.
 #[derive(Clone, Copy, Debug, PartialEq, Eq)]
 pub enum Keyword {
+    /// `literalize`
     Literalize,
+    /// `vector-attribute`
     VectorAttribute,
+    /// `p`, which begins a production.
     Production,
+    /// `make`
     Make,
+    /// `remove`
     Remove,
+    /// `run`
     Run,
+    /// `strategy`
     Strategy,
+    /// `lex`
     Lex,
+    /// `mea`
     Mea,
+    /// `wm`
     Wm,
+    /// `ppwm`
     Ppwm,
+    /// `cs`
     Cs,
+    /// `pm`
     Pm,
+    /// `watch`
     Watch,
+    /// `pbreak`
     Pbreak,
+    /// `exit`
     Exit,
+    /// `modify`
     Modify,
+    /// `write`
     Write,
+    /// `bind`
     Bind,
+    /// `cbind`
     Cbind,
+    /// `crlf`
     Crlf,
+    /// `tabto`
     Tabto,
+    /// `rjust`
     Rjust,
+    /// `substr`
     Substr,
+    /// `inf`
     Inf,
+    /// `halt`
     Halt,
+    /// `compute`
     Compute,
+    /// `genatom`
     Genatom,
+    /// `accept`
     Accept,
+    /// `+`
     Plus,
+    /// `*`: a product in an expression, and all elements behind the command `remove`.
     Times,
+    /// `\` or `\\`
     Remainder,
+    /// `-->`
     Arrow,
+    /// `=`
     Equal,
+    /// `<>`
     NotEqual,
+    /// `<`
     Less,
+    /// `<=`
     AtMost,
+    /// `>`
     Greater,
+    /// `>=`
     AtLeast,
+    /// `<=>`
     SameKind,
+    /// `<<`
     OpenChoice,
+    /// `>>`
     CloseChoice,
+    /// `//`: before an atom, which is taken as it is spelled, and a quotient in an expression.
     Literal,
+    /// `-`
     Minus,
+    /// A word of any other spelling, or one that is no plain symbol and no operator.
     Other,
 }
 

@@ -12,7 +12,7 @@ use itoa::Buffer;
 use ops_base::elements::{Class, Element};
 use ops_base::programs::Program;
 use ops_base::symbols::Names;
-use ops_base::values::{NIL, Sym, Value};
+use ops_base::values::{NIL, NOTHING, Sym, Value};
 use ops_io::{Out, Sink, WriteFailed};
 use std::slice;
 
@@ -95,7 +95,7 @@ fn put_attribute<K: Sink>(
 fn is_nil(value: &Value) -> bool
     ensures { result ≡ are_same value.now nil }
 {
-    *value == Value::Symbol(NIL)
+    *value == NOTHING
 }
 
 /// The value of a scalar attribute, but `nil`.
@@ -108,18 +108,6 @@ fn value_shown(element: &Element, field: usize) -> &[Value]
     }
 }
 
-/// The fields of an element from one on.
-fn fields_from(element: &Element, field: usize) -> &[Value]
-    ensures { result.now ≡ drop field element.now.fields }
-{
-    let fields = element.fields.as_slice();
-    if field < fields.len() {
-        &fields[field..]
-    } else {
-        &[]
-    }
-}
-
 /// What is shown of the attribute with this number.
 fn values_shown<'e>(class: &Class, element: &'e Element, field: usize) -> &'e [Value]
     requires { field < length class.now.attrs }
@@ -127,7 +115,7 @@ fn values_shown<'e>(class: &Class, element: &'e Element, field: usize) -> &'e [V
 {
     let count = class.attrs.len();
     if class.vector && field + 1 == count {
-        fields_from(element, field)
+        element.fields_from(field)
     } else {
         value_shown(element, field)
     }
@@ -216,4 +204,40 @@ pub fn put_element_line<K: Sink>(
     put_numbered(out, sink, before, item.tag, b": ")?;
     put_element(out, sink, names, program, item)?;
     out.put(sink, b"\n")
+}
+
+/// Puts the line that tells that an element was made. Takes no memory.
+pub fn put_made_line<K: Sink>(
+    out: &mut Out,
+    sink: &mut K,
+    names: &Names,
+    program: &Program,
+    item: &Element,
+) -> Result<(), WriteFailed>
+    requires whole { IsTrue out.old.whole }
+    requires faults { K.faults sink.old < 2 ^ 63 }
+    ensures puts { PutsBytes result (port (K.taken sink.old) (K.faults sink.old) out.old)
+        (port (K.taken sink.new) (K.faults sink.new) out.new)
+        (line_at out.old.column (codes "=>WM: " ++ tagged_text names.now program.now.classes item.now)) }
+    ensures broken { OnErr result (out.new.whole ≡ false) }
+{
+    put_element_line(out, sink, names, program, b"=>WM: ", item)
+}
+
+/// Puts the line that tells that an element was removed. Takes no memory.
+pub fn put_removed_line<K: Sink>(
+    out: &mut Out,
+    sink: &mut K,
+    names: &Names,
+    program: &Program,
+    item: &Element,
+) -> Result<(), WriteFailed>
+    requires whole { IsTrue out.old.whole }
+    requires faults { K.faults sink.old < 2 ^ 63 }
+    ensures puts { PutsBytes result (port (K.taken sink.old) (K.faults sink.old) out.old)
+        (port (K.taken sink.new) (K.faults sink.new) out.new)
+        (line_at out.old.column (codes "<=WM: " ++ tagged_text names.now program.now.classes item.now)) }
+    ensures broken { OnErr result (out.new.whole ≡ false) }
+{
+    put_element_line(out, sink, names, program, b"<=WM: ", item)
 }

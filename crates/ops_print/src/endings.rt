@@ -102,6 +102,6 @@ pub fn put_fault<K: Sink>(
         }
         Ending::Limit { firings } => put_limit(out, sink, firings),
         Ending::ReadFault => put_unread(out, sink),
-        _ => Ok(()),
+        Ending::Done { .. } | Ending::WriteFault | Ending::OutOfMemory => Ok(()),
     }
 }

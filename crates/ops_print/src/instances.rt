@@ -9,16 +9,16 @@ use crate::symbols::put_symbol;
 use ops_base::programs::Program;
 use ops_base::rules::{Inst, Rule};
 use ops_base::symbols::Names;
-use ops_base::values::Sym;
+use ops_base::values::{NIL, Sym};
 use ops_io::{Out, Sink, WriteFailed};
 
-/// The name of the rule with this number.
-pub(crate) fn rule_name(rules: &[Rule], rule: usize) -> Sym
+/// The name of the production with this number, `nil` where there is none.
+pub fn rule_name(rules: &[Rule], rule: usize) -> Sym
     ensures { result ≡ rule_name rules.now rule }
 {
     match rules.get(rule) {
         Some(found) => found.name,
-        None => Sym(0),
+        None => NIL,
     }
 }
 

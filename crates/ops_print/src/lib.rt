@@ -1,5 +1,6 @@
 //! The layout of what is printed, put into the output buffer: values, symbols, elements, instantiations, spaces,
-//! lines and the lines of endings.
+//! lines and the lines of endings. The definitions of these texts are total, and so are the functions: `nil` stands for a
+//! production or a class that a program does not have. A program that was checked names none.
 #![tactic(auto)]
 
 mod elements;
@@ -12,9 +13,9 @@ mod symbols;
 mod tests;
 mod values;
 
-pub use elements::{put_element, put_element_line};
+pub use elements::{put_element, put_element_line, put_made_line, put_removed_line};
 pub use endings::put_fault;
-pub use instances::{put_firing, put_inst, put_inst_line};
+pub use instances::{put_firing, put_inst, put_inst_line, rule_name};
 pub use lines::{fresh_line, put_line, put_name_line, put_number_line};
 pub use pieces::put_spaces;
 pub use symbols::put_symbol;

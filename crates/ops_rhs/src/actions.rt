@@ -16,7 +16,12 @@ use ops_meaning::{Keyword, Word};
 impl Right {
     // action*, up to the closing bracket, whose place is answered
     #[tactic(auto, unfolding(ops_meaning::specs::Grammar::goes, ops_meaning::specs::Grammar::step, ops_meaning::specs::Grammar::ends))]
-    pub fn actions(&mut self, around: &Around, words: &[Word], at: usize) -> Result<usize, Refusal>
+    pub fn read_actions(
+        &mut self,
+        around: &Around,
+        words: &[Word],
+        at: usize,
+    ) -> Result<usize, Refusal>
         ensures reads { GoesTo around.now Actions (λ more ws s. goes (drop at words.now ++ more) (Actions ∷ ws) (seen s self.old)) words.now self.new result }
         ensures closing { IfOk result (λ place. IsClosing words.now place) }
         ensures within { IsFrom at result }
@@ -30,10 +35,7 @@ impl Right {
             if !is_left(word.kind) {
                 return refused(Fault::BadForm, word);
             }
-            match self.action(around, words, after) {
-                Ok(next) => rest = next,
-                Err(refusal) => return Err(refusal),
-            }
+            rest = self.action(around, words, after)?;
         }
     }
 

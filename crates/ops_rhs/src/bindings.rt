@@ -19,10 +19,8 @@ impl Right {
         ensures reads { GoesAmong (IsAround around.now) (λ more ws s. goes (drop at words.now ++ more) (BoundName ∷ BoundValue ∷ ws) (seen s self.old)) words.now (λ s. seen s self.new) result }
         ensures within { IsFrom at result }
     {
-        match self.bound_name(words, at) {
-            Ok(rest) => return self.bound_value(around, words, rest),
-            Err(refusal) => return Err(refusal),
-        }
+        let rest = self.bound_name(words, at)?;
+        self.bound_value(around, words, rest)
     }
 
     // VARIABLE
@@ -50,11 +48,11 @@ impl Right {
             self.add(Target::Bind, Term::Fresh)?;
             return Ok(rest);
         }
-        self.written_value(around, word, words, rest)
+        self.written_value_from(around, word, words, rest)
     }
 
     // value ), of which the first word is taken
-    fn written_value(
+    fn written_value_from(
         &mut self,
         around: &Around,
         word: Word,
@@ -64,10 +62,8 @@ impl Right {
         ensures acts { Acts around.now (λ ws s. value_for ToBind word (Closes EndsWhole ∷ ws) s) word self.old self.new words.now at result }
         ensures within { IsFrom at result }
     {
-        match self.value(around, Target::Bind, word, words, at) {
-            Ok(rest) => return closing(words, rest),
-            Err(refusal) => return Err(refusal),
-        }
+        let rest = self.value_from(around, Target::Bind, word, words, at)?;
+        closing(words, rest)
     }
 }
 
@@ -77,10 +73,8 @@ impl Right {
         ensures reads { GoesAmong (IsAround around.now) (λ more ws s. goes (drop at words.now ++ more) (CellName ∷ Closes EndsWhole ∷ ws) (seen s self.old)) words.now (λ s. seen s self.new) result }
         ensures within { IsFrom at result }
     {
-        match self.cell_name(around, words, at) {
-            Ok(rest) => return closing(words, rest),
-            Err(refusal) => return Err(refusal),
-        }
+        let rest = self.cell_name(around, words, at)?;
+        closing(words, rest)
     }
 
     // VARIABLE, for the element that was made last

@@ -22,10 +22,8 @@ impl Right {
         ensures within { IsFrom at result }
     {
         let (word, rest) = first_of(words, at)?;
-        match self.cell(around, word, words, rest) {
-            Ok(rest) => return self.remove_cells(around, words, rest),
-            Err(refusal) => return Err(refusal),
-        }
+        let rest = self.cell(around, word, words, rest)?;
+        self.remove_cells(around, words, rest)
     }
 
     // DESIGNATOR* )
@@ -41,10 +39,7 @@ impl Right {
                 self.end_remove()?;
                 return Ok(after);
             }
-            match self.cell(around, word, words, after) {
-                Ok(next) => rest = next,
-                Err(refusal) => return Err(refusal),
-            }
+            rest = self.cell(around, word, words, after)?;
         }
     }
 
@@ -75,10 +70,8 @@ impl Right {
         ensures reads { GoesAmong (IsAround around.now) (λ more ws s. goes (drop at words.now ++ more) (Modified ∷ Terms InPut ∷ ws) (seen s self.old)) words.now (λ s. seen s self.new) result }
         ensures within { IsFrom at result }
     {
-        match self.modified_cell(around, words, at) {
-            Ok(rest) => return self.terms(around, words, rest),
-            Err(refusal) => return Err(refusal),
-        }
+        let rest = self.modified_cell(around, words, at)?;
+        self.read_terms(around, words, rest)
     }
 
     // DESIGNATOR
@@ -134,7 +127,8 @@ fn numbered_cell(around: &Around, number: i64) -> Result<usize, Fault>
     }
 }
 
-// The condition behind so many is positive. Where each before it is too, as many cells stand before its cell.
+// The cell of the condition that has so many conditions before it, if that condition is positive. Where one of those before it is
+// negated, its number and its cell differ, and the designator is ambiguous.
 fn designated(around: &Around, before: usize) -> Result<usize, Fault>
     ensures { result ≡ cell_by before (slice_get around.now.conditions.now before) }
 {

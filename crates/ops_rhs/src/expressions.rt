@@ -42,10 +42,7 @@ impl Right {
         ensures within { IsFromOperand at result }
     {
         let mut waiting = Vec::new(self.alloc);
-        let (mut operand, mut rest) = match self.unit(depth, words, at) {
-            Ok(first) => first,
-            Err(refusal) => return Err(refusal),
-        };
+        let (mut operand, mut rest) = self.unit(depth, words, at)?;
         'operations: loop {
             let (word, after) = first_of(words, rest)?;
             if is_right(word.kind) {
@@ -55,13 +52,9 @@ impl Right {
                 return refused(Fault::BadForm, word);
             };
             waiting.push(Waiting { left: operand, op })?;
-            match self.unit(depth, words, after) {
-                Ok((next, behind)) => {
-                    operand = next;
-                    rest = behind;
-                }
-                Err(refusal) => return Err(refusal),
-            }
+            let (next, behind) = self.unit(depth, words, after)?;
+            operand = next;
+            rest = behind;
         }
     }
 
@@ -76,10 +69,7 @@ impl Right {
         if is_left(word.kind) {
             return self.bracket(depth, word, words, rest);
         }
-        match self.operand(word) {
-            Ok(operand) => Ok((operand, rest)),
-            Err(refusal) => Err(refusal),
-        }
+        Ok((self.operand(word)?, rest))
     }
 
     // expr ) | compute expr ), behind a bracket
@@ -102,10 +92,8 @@ impl Right {
                 word,
             );
         }
-        match behind_compute(words, at) {
-            Ok(rest) => self.expression(depth + 1, words, rest),
-            Err(refusal) => Err(refusal),
-        }
+        let rest = behind_compute(words, at)?;
+        self.expression(depth + 1, words, rest)
     }
 }
 
@@ -152,10 +140,7 @@ fn completed(mut waiting: Vec<Waiting>, last: Expr) -> Result<Expr, OutOfMemory>
 {
     let mut value = last;
     'waiting: while let Some(Waiting { left, op }) = waiting.pop() {
-        match Expr::apply(op, left, value) {
-            Ok(whole) => value = whole,
-            Err(error) => return Err(error),
-        }
+        value = Expr::apply(op, left, value)?;
     }
     Ok(value)
 }

@@ -27,11 +27,11 @@ impl Right {
         ensures within { IsFrom at result }
     {
         let (word, rest) = first_of(words, at)?;
-        self.function_of(around, target, word, words, rest)
+        self.function_from(around, target, word, words, rest)
     }
 
     // the same, of which the first word is taken
-    pub fn function_of(
+    pub fn function_from(
         &mut self,
         around: &Around,
         target: Target,
@@ -56,13 +56,9 @@ impl Right {
         ensures reads { GoesOn (λ more ws s. goes (drop at words.now ++ more) (ExpressionUnit function_depth ∷ ExpressionRest function_depth [] (Some (target_of target)) ∷ ws) (seen s self.old)) words.now (λ s. seen s self.new) result }
         ensures within { IsFrom at result }
     {
-        match self.expression(FUNCTION_DEPTH, words, at) {
-            Ok((formula, rest)) => {
-                self.add(target, Term::Compute(formula))?;
-                Ok(rest)
-            }
-            Err(refusal) => Err(refusal),
-        }
+        let (formula, rest) = self.expression(FUNCTION_DEPTH, words, at)?;
+        self.add(target, Term::Compute(formula))?;
+        Ok(rest)
     }
 
     // ), behind this term

@@ -27,15 +27,12 @@ impl Right {
                 self.end_write()?;
                 return Ok(after);
             }
-            match self.item(around, word, words, after) {
-                Ok(next) => rest = next,
-                Err(refusal) => return Err(refusal),
-            }
+            rest = self.item_from(around, word, words, after)?;
         }
     }
 
     // ( item in brackets | value, of which the first word is taken
-    fn item(
+    fn item_from(
         &mut self,
         around: &Around,
         word: Word,
@@ -48,7 +45,7 @@ impl Right {
         if is_left(word.kind) {
             return self.item_word(around, words, at);
         }
-        self.value(around, Target::Item, word, words, at)
+        self.value_from(around, Target::Item, word, words, at)
     }
 
     // crlf ) | tabto SMALL ) | rjust SMALL ) | function
@@ -62,7 +59,7 @@ impl Right {
             Keyword::Crlf => self.crlf(words, rest),
             Keyword::Tabto => self.columns(Column::Tab, words, rest),
             Keyword::Rjust => self.columns(Column::Right, words, rest),
-            _ => self.function_of(around, Target::Item, word, words, rest),
+            _ => self.function_from(around, Target::Item, word, words, rest),
         }
     }
 
@@ -81,10 +78,8 @@ impl Right {
         ensures reads { GoesOn (λ more ws s. goes (drop at words.now ++ more) (Columns (column_of column) ∷ Closes EndsWhole ∷ ws) (seen s self.old)) words.now (λ s. seen s self.new) result }
         ensures within { IsFrom at result }
     {
-        match self.small(column, words, at) {
-            Ok(rest) => return closing(words, rest),
-            Err(refusal) => return Err(refusal),
-        }
+        let rest = self.small(column, words, at)?;
+        closing(words, rest)
     }
 
     // SMALL

@@ -1,14 +1,13 @@
 //! The elements that a right side makes: a class with attributes and values.
-ghost use Rattle.std.specs.Prelude.{◌≡◌, ◌∷◌, ◌++◌, ◌||◌, drop};
-ghost use Rattle.ops_meaning.specs.Grammar.{goes, is_right, is_caret, InPut, ClassName, Terms, Attribute, Several};
+ghost use Rattle.std.specs.Prelude.{◌∷◌, ◌++◌, drop};
+ghost use Rattle.ops_meaning.specs.Grammar.{goes, InPut, ClassName, Terms, Attribute, Several};
 ghost use Rattle.ops_forms.specs.Walking.{GoesAmong, IsFrom};
 ghost use Rattle.ops_rhs.specs.Taking.{seen, IsAround, Reads, GoesTo};
 
 use crate::right::{Around, Right, Target};
 use ops_base::endings::Fault;
 use ops_forms::Refusal;
-use ops_forms::fields::{field_of, is_vector};
-use ops_forms::kinds::{is_caret, is_name, is_right};
+use ops_forms::kinds::{ends_values, is_caret, is_name, is_right};
 use ops_forms::refusals::refused;
 use ops_forms::walking::first_of;
 use ops_meaning::Word;
@@ -19,10 +18,8 @@ impl Right {
         ensures reads { GoesAmong (IsAround around.now) (λ more ws s. goes (drop at words.now ++ more) (ClassName ∷ Terms InPut ∷ ws) (seen s self.old)) words.now (λ s. seen s self.new) result }
         ensures within { IsFrom at result }
     {
-        match self.class_name(around, words, at) {
-            Ok(rest) => return self.terms(around, words, rest),
-            Err(refusal) => return Err(refusal),
-        }
+        let rest = self.class_name(around, words, at)?;
+        self.read_terms(around, words, rest)
     }
 
     // CLASS
@@ -44,7 +41,12 @@ impl Right {
 
     // put* )
     #[tactic(auto, unfolding(ops_meaning::specs::Grammar::goes, ops_meaning::specs::Grammar::step, ops_meaning::specs::Grammar::ends))]
-    pub fn terms(&mut self, around: &Around, words: &[Word], at: usize) -> Result<usize, Refusal>
+    pub fn read_terms(
+        &mut self,
+        around: &Around,
+        words: &[Word],
+        at: usize,
+    ) -> Result<usize, Refusal>
         ensures reads { Reads around.now (Terms InPut) self.old self.new words.now at result }
         ensures within { IsFrom at result }
     {
@@ -58,10 +60,7 @@ impl Right {
             if !is_caret(word.kind) {
                 return refused(Fault::BadForm, word);
             }
-            match self.attribute(around, words, after) {
-                Ok(next) => rest = next,
-                Err(refusal) => return Err(refusal),
-            }
+            rest = self.attribute(around, words, after)?;
         }
     }
 
@@ -75,17 +74,18 @@ impl Right {
         if !is_name(word.kind) {
             return refused(Fault::BadForm, word);
         }
+        // The definition is total: the class was found by its name, so it is there.
         let Some(class) = around.classes.get(self.class) else {
             return refused(Fault::UnknownAttribute, word);
         };
-        let Some(field) = field_of(class, word.name) else {
+        let Some(field) = class.field_of(word.name) else {
             return refused(Fault::UnknownAttribute, word);
         };
-        if is_vector(class, field) {
+        if class.is_vector(field) {
             self.terms.clear();
             return self.several(around, field, words, rest);
         }
-        self.value_of(around, Target::Put { field }, words, rest)
+        self.value(around, Target::Put { field }, words, rest)
     }
 
     // value*, up to what is no more of them
@@ -103,21 +103,11 @@ impl Right {
         let mut rest = at;
         'several: loop {
             let (word, after) = first_of(words, rest)?;
-            if ends_several(word) {
+            if ends_values(word.kind) {
                 self.end_terms(field)?;
                 return Ok(rest);
             }
-            match self.value(around, Target::Terms, word, words, after) {
-                Ok(next) => rest = next,
-                Err(refusal) => return Err(refusal),
-            }
+            rest = self.value_from(around, Target::Terms, word, words, after)?;
         }
     }
-}
-
-// more attributes come, or the element ends
-fn ends_several(word: Word) -> bool
-    ensures { result ≡ (is_right word.kind || is_caret word.kind) }
-{
-    is_right(word.kind) || is_caret(word.kind)
 }

@@ -41,7 +41,7 @@ pub fn right_side<'a>(
         cells: cells.as_slice(),
         conditions: conditions.as_slice(),
     };
-    let place = right.actions(&around, words, 0)?;
+    let place = right.read_actions(&around, words, 0)?;
     let sight = Sight {
         values: right.values,
         elements: right.elements,

@@ -36,16 +36,25 @@ pub enum Column {
     Right,
 }
 
-/// What was read so far of a right side.
+/// What was read so far of a right side. Its fields are those of the state of the definition's walk (`State` in the
+/// specs/Grammar.antt of ops_meaning), which hands values from one method to the next.
 #[derive(Drop)]
 pub struct Right {
+    /// The class of the element that a `make` or a `modify` is about.
     pub class: usize,
+    /// The values of the vector attribute that is being read.
     pub terms: Vec<Term>,
+    /// The fields that a `make` or a `modify` gives values.
     pub puts: Vec<Put>,
+    /// The cells that a `remove` names.
     pub cells: Vec<usize>,
+    /// What a `write` prints.
     pub items: Vec<Item>,
+    /// The value variables in sight, with their numbers.
     pub values: Declared<Named>,
+    /// The element variables in sight, with their cells.
     pub elements: Declared<Named>,
+    /// How many variables were given a number.
     pub variables: usize,
     pub actions: Vec<Action>,
     /// The cell that a `modify` names, none in a `make`.
@@ -56,8 +65,9 @@ pub struct Right {
     pub further: Vec<usize>,
     /// The variable of a `bind`.
     pub variable: Sym,
-    /// The cell and the field of a `substr`.
+    /// The cell of a `substr`.
     pub source: usize,
+    /// The field of a `substr`.
     pub source_field: usize,
     pub alloc: Global,
 }

@@ -9,7 +9,6 @@ use crate::right::{Around, Right, Target};
 use ops_base::actions::Term;
 use ops_base::endings::Fault;
 use ops_base::values::Sym;
-use ops_forms::fields::{field_of, is_vector};
 use ops_forms::kinds::{is_inf, is_name, is_variable};
 use ops_forms::refusals::refused;
 use ops_forms::walking::{closing, first_of};
@@ -28,10 +27,8 @@ impl Right {
         ensures reads { GoesAmong (IsAround around.now) (λ more ws s. goes (drop at words.now ++ more) (SourceCell ∷ SourceAttribute (target_of target) ∷ ws) (seen s self.old)) words.now (λ s. seen s self.new) result }
         ensures within { IsFrom at result }
     {
-        match self.source_cell(words, at) {
-            Ok(rest) => return self.source_attribute(around, target, words, rest),
-            Err(refusal) => return Err(refusal),
-        }
+        let rest = self.source_cell(words, at)?;
+        self.source_attribute(around, target, words, rest)
     }
 
     // VARIABLE
@@ -86,10 +83,8 @@ impl Right {
         ensures reads { GoesAmong (IsAround around.now) (λ more ws s. goes (drop at words.now ++ more) (SourceEnd (target_of target) name ∷ Closes EndsWhole ∷ ws) (seen s self.old)) words.now (λ s. seen s self.new) result }
         ensures within { IsFrom at result }
     {
-        match self.source_end(around, target, name, words, at) {
-            Ok(rest) => return closing(words, rest),
-            Err(refusal) => return Err(refusal),
-        }
+        let rest = self.source_end(around, target, name, words, at)?;
+        closing(words, rest)
     }
 
     // ATTR | inf, behind this name
@@ -128,21 +123,22 @@ impl Right {
         ensures { result ≡ position (λ a. a.0 == name.0) (source_class around.now self.now).attrs }
     {
         let class = around.classes.get(self.class_of_cell(around, self.source))?;
-        field_of(class, name)
+        class.field_of(name)
     }
 
-    // the field that `substr` reads is the vector attribute of that class
+    // whether the field that `substr` reads is the vector attribute of that class
     fn is_source_vector(&self, around: &Around) -> bool
         ensures { result ≡ is_vector (source_class around.now self.now) self.now.source_field }
     {
         match around.classes.get(self.class_of_cell(around, self.source)) {
-            Some(class) => is_vector(class, self.source_field),
+            Some(class) => class.is_vector(self.source_field),
+            // The definition is total: each cell has a class that was declared.
             None => false,
         }
     }
 }
 
-// several values may stand there
+// whether several values may stand there
 fn takes_several(target: Target) -> bool
     ensures { result ≡ takes_several (target_of target) }
 {

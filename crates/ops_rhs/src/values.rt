@@ -15,7 +15,7 @@ use ops_meaning::Word;
 impl Right {
     // rconstant | VARIABLE | ( function
     #[tactic(auto, unfolding(ops_meaning::specs::Grammar::goes, ops_meaning::specs::Grammar::step, ops_meaning::specs::Grammar::ends))]
-    pub fn value_of(
+    pub fn value(
         &mut self,
         around: &Around,
         target: Target,
@@ -26,11 +26,11 @@ impl Right {
         ensures within { IsFrom at result }
     {
         let (word, rest) = first_of(words, at)?;
-        self.value(around, target, word, words, rest)
+        self.value_from(around, target, word, words, rest)
     }
 
     // rconstant | VARIABLE | ( function, of which the first word is taken
-    pub fn value(
+    pub fn value_from(
         &mut self,
         around: &Around,
         target: Target,

@@ -1,10 +1,10 @@
 -- The table of plain atoms is a table, decides their rows, and takes plain bytes alone.
-use Rattle.std.proofs.Common.{◌≡◌, ◌≢◌, ℕ, ◌<◌, Bool, true, false, List, [], ◌∷◌, length, map, fold, get_or, refl, ap, ◌∙◌, arith, Option, Some, None}
+use Rattle.std.proofs.Common.{◌≡◌, ◌≢◌, ℕ, ◌<◌, Bool, true, false, List, [], ◌∷◌, length, map, fold, get_or, refl, ap, ◌∙◌, arith}
 use Rattle.std.proofs.lemmas.Bool.{eqb-false, ltb-true, and_parts, not-true}
-use Rattle.std.specs.Prelude.{◌&&◌, ◌||◌, ◌==◌, not, nat_lt, slice_index, slice_index_or, SomeIff}
+use Rattle.std.specs.Prelude.{◌&&◌, ◌||◌, ◌==◌, not, nat_lt, slice_index, slice_index_or}
 use Rattle.std.specs.List.{AllByRecursion}
 use mathlib.Core.Bool.{beq}
-use Rattle.scan_table.specs.Table.{Table, step_of, accepted, AreBelow, IsTable}
+use Rattle.scan_table.specs.Table.{step_of, accepted, AreBelow, IsTable}
 use Rattle.ops_tokens.specs.Regex.{Regex, Never, after, nullable}
 use Rattle.ops_tokens.specs.Bytes.{is_plain}
 use Rattle.ops_tokens.specs.Spellings.{operator, whole, fraction, variable, some, plain, is_operator, is_whole, is_fraction, is_variable, is_atom, row_of}
@@ -97,8 +97,3 @@ step-plain q b state byte =
 -- only the start and state 1 accept nothing
 pub kind-some : (q : ℕ) → q < 22 → (slice_index program_table.kinds q == 0) ≡ (q == 0 || q == 1)
 kind-some q state = beq-is _ _ (all_below-at (λ p. beq (slice_index program_table.kinds p == 0) (p == 0 || p == 1)) 22 q kinds_some state)
-
--- what is made exactly where the table is one
-pub made : (o : Option Table) → SomeIff o (IsTable 22 11 program_table) program_table → o ≡ Some program_table
-made None h = absurd (h is_table)
-made (Some t) h = ap Some h.1

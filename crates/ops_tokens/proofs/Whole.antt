@@ -1,10 +1,10 @@
 -- The table of whole numbers is a table, and accepts whole numbers alone.
 use Rattle.std.proofs.Common.{◌≡◌, ◌≢◌, ℕ, ◌-◌, ◌<◌, ◌≤◌, Bool, true, false, cond, eqb, List, [], ◌∷◌, length, map, fold, refl, sym, ap, ◌∙◌, arith, Option, Some, None, inl, inr}
-use Rattle.std.specs.Prelude.{slice_index_or, SomeIff}
+use Rattle.std.specs.Prelude.{slice_index_or}
 use Rattle.std.specs.List.{AllByRecursion, slice_range}
 use Rattle.std.proofs.lemmas.Bool.{cases_eq, eq-eqb, ne_eqb}
 use Rattle.std.proofs.lemmas.List.{take_all}
-use Rattle.scan_table.specs.Table.{Table, accepted, IsTable, IsLongest}
+use Rattle.scan_table.specs.Table.{accepted, IsTable, IsLongest}
 use Rattle.ops_tokens.specs.Regex.{Regex, after}
 use Rattle.ops_tokens.specs.Spellings.{whole, is_whole}
 use Rattle.ops_tokens.specs.Whole.{whole_table}
@@ -12,18 +12,13 @@ use Rattle.ops_tokens.proofs.Below.{all_below, all_below-at}
 use Rattle.ops_tokens.proofs.Program.{are_below, are_below-at}
 use Rattle.ops_tokens.proofs.Residuals.{states_fit, decides}
 
-is_table : IsTable 5 4 whole_table
+pub is_table : IsTable 5 4 whole_table
 unfolding whole_table all_below
 is_table = (
   omega arith,
   are_below-at 4 whole_table.classes refl,
   λ k lt. are_below-at 5 (slice_index_or whole_table.next k []) (all_below-at (λ q. are_below 5 (slice_index_or whole_table.next q [])) 5 k refl lt),
 )
-
--- what is made exactly where the table is one
-pub made : (o : Option Table) → SomeIff o (IsTable 5 4 whole_table) whole_table → o ≡ Some whole_table
-made None h = absurd (h is_table)
-made (Some t) h = ap Some h.1
 
 -- a text that leads to each state
 abbrev paths : List (List ℕ)

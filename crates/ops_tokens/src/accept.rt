@@ -17,15 +17,19 @@ use ops_base::symbols::Names;
 use ops_base::values::Value;
 use ops_io::{Failed, Input, Source};
 use std::alloc::{AllocError, AllocFailed, Global};
+use thiserror::Error;
 
 /// Why no atom was accepted.
-#[derive(Clone, Copy, Debug, PartialEq, Eq)]
+#[derive(Clone, Copy, Debug, PartialEq, Eq, Error)]
 pub enum AcceptFault {
     /// The white space before the atom and the atom with its bars have more than 1,048,576 bytes.
+    #[error("input too long")]
     TooLong,
     /// The source failed.
+    #[error("cannot read the input")]
     Read,
     /// Memory ran out.
+    #[error("out of memory")]
     OutOfMemory,
 }
 

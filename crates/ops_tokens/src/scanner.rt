@@ -23,12 +23,12 @@ pub struct Scanner {
 }
 
 impl Scanner {
-    /// Takes no memory.
+    /// Takes no memory, and tests nothing.
     pub fn new() -> Scanner
         ensures { result.table ≡ program_table }
     {
         Scanner {
-            table: Dfa::new(CLASS_OF, NEXT, KINDS).unwrap(),
+            table: Dfa::from_table(CLASS_OF, NEXT, KINDS),
         }
     }
 

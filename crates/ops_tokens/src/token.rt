@@ -2,6 +2,8 @@
 ghost use Rattle.std.specs.Prelude.{◌≡◌};
 ghost use Rattle.ops_tokens.specs.Tokens.{is_quoted, spelling, LiesIn};
 
+use thiserror::Error;
+
 /// A byte that may stand in a comment alone stands outside one.
 pub const BAD_BYTE: u8 = 1;
 /// No bar follows a bar.
@@ -35,19 +37,27 @@ pub struct Token {
 }
 
 /// Why no token stands at a place: `BAD_BYTE`, `UNCLOSED`, `FRACTION_NUMBER` or `NUMBER_RANGE`, and the byte to blame.
-#[derive(Clone, Copy, Debug, PartialEq, Eq)]
+#[derive(Clone, Copy, Debug, PartialEq, Eq, Error)]
+#[error("byte {at}: {}", fault_text(*number))]
 pub struct LexFault {
     pub number: u8,
     pub at: usize,
 }
 
+// how the fault of a number is told
+fn fault_text(number: u8) -> &'static str {
+    match number {
+        BAD_BYTE => "bad byte",
+        UNCLOSED => "unclosed",
+        FRACTION_NUMBER => "fraction",
+        _ => "number out of range",
+    }
+}
+
 fn is_quoted(kind: TokenKind) -> bool
     ensures { result ≡ is_quoted kind }
 {
-    match kind {
-        TokenKind::Quoted => true,
-        _ => false,
-    }
+    matches!(kind, TokenKind::Quoted)
 }
 
 /// The bytes that count as the token's spelling: a quoted atom's are those between its bars.

@@ -47,7 +47,7 @@ const KINDS: [u8; STATES] = [
 pub fn is_whole(bytes: &[u8]) -> bool
     ensures { result ≡ is_whole bytes.now }
 {
-    let table = Dfa::new(CLASS_OF, NEXT, KINDS).unwrap();
+    let table = Dfa::from_table(CLASS_OF, NEXT, KINDS);
     match table.longest(bytes, 0) {
         Some((end, _)) => end == bytes.len(),
         None => false,

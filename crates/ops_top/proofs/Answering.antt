@@ -15,7 +15,7 @@ use Rattle.ops_meaning.specs.declared.statuses.Status.{Status}
 use Rattle.ops_meaning.specs.declared.statuses.Status.TheVariants as status
 use Rattle.ops_meaning.specs.Reads.{Read, Placed, reads}
 use Rattle.ops_meaning.specs.Running.{Session, session_of, ending_of}
-use Rattle.ops_top.specs.Whole.{Reply, Answers, Gathered, Joined, Unread, Overlong, status_of, answer_program_by, answer_read, answer_to, answer_gathered, gathered, readable, setting_of, usage, files_in, whole_job, whole, words_fit, files_of}
+use Rattle.ops_top.specs.Whole.{Reply, Answers, Gathered, Joined, Unread, Overlong, status_of, answer_program_by, answer_read, answer_to, answer_gathered, gathered, readable, setting_read, usage, files_in, whole_job, whole, words_fit, files_of}
 use Rattle.ops_top.specs.Calls.{OfContents, OfInput, TellsFailedWrite, TellsWords, RunsThrough, all_told, program_runs_through, text_runs_through, gathered_runs_through, job_runs_over, runs_over}
 use Rattle.ops_top.specs.Told.{Delivers, status_after}
 use Rattle.ops_top.proofs.StatusesOfText.{IsOfText, answer_to_of_text}
@@ -169,7 +169,7 @@ done_session (Ok m) h = refl
 done_session (Err f) h = absurd (cc)
 
 done_program : (job : Job) (z : Coming) (text : List ℕ) (p : Read) → program_runs_through job z text p ≡ true → (answer_program_by conflict_set job z text p).status ≡ status.Done
-done_program (Run options files) z text p h = done_session (session_of (setting_of text p) options.limit p.commands p.names z).outcome h
+done_program (Run options files) z text p h = done_session (session_of (setting_read text p) options.limit p.commands p.names z).outcome h
 done_program (Net files) z text p h = refl
 
 done_text : (job : Job) (z : Coming) (text : List ℕ) (r : Result Read Placed) → text_runs_through job z text r ≡ true → (answer_read job z text r).status ≡ status.Done

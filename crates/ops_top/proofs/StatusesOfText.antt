@@ -11,7 +11,7 @@ use Rattle.ops_meaning.specs.declared.statuses.Status.TheVariants as status
 use Rattle.ops_meaning.specs.Reads.{Read, Placed, reads}
 use Rattle.ops_meaning.specs.Running.{Session, session_of, ending_of}
 use Rattle.ops_meaning.proofs.RisingTags.{KeptCourse, EndsSession, session_goes_on}
-use Rattle.ops_top.specs.Whole.{status_of, answer_program_by, answer_read, answer_to, setting_of}
+use Rattle.ops_top.specs.Whole.{status_of, answer_program_by, answer_read, answer_to, setting_read}
 
 -- a status that the text decides with its input: a read fault comes only where that fails
 abbrev pub IsOfText : Bool → Status → Type 0
@@ -36,7 +36,7 @@ ended_of_text kept fails (Err ending.OutOfMemory) p = absurd p
 program_of_text : (job : Job) (coming : Coming) (text : List ℕ) (p : Read) → IsOfText coming.fails (answer_program_by conflict_set job coming text p).status
 program_of_text (Run options files) coming text p =
     ended_of_text (λ (k : Session). KeptCourse p.names coming.fails k.course) coming.fails
-    (session_of (setting_of text p) options.limit p.commands p.names coming).outcome (session_goes_on (setting_of text p) options.limit p.commands p.names coming)
+    (session_of (setting_read text p) options.limit p.commands p.names coming).outcome (session_goes_on (setting_read text p) options.limit p.commands p.names coming)
 program_of_text (Net files) coming text p = tt
 
 answer_read_of_text : (job : Job) (coming : Coming) (text : List ℕ) (r : Result Read Placed) → IsOfText coming.fails (answer_read job coming text r).status

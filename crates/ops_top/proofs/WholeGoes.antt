@@ -9,12 +9,12 @@ use Rattle.ops_jobs.specs.declared.jobs.Job.TheVariants.{Run, Net}
 use Rattle.ops_meaning.specs.Kept.{FindsConflictSets}
 use Rattle.ops_meaning.specs.Reads.{Read, Placed, reads}
 use Rattle.ops_meaning.proofs.RisingTags.{session_goes}
-use Rattle.ops_top.specs.Whole.{Find, Gathered, Joined, Unread, Overlong, gathered, readable, files_in, answer_program_by, answer_read, answer_read_by, answer_gathered, answer_gathered_by, whole_job, whole_job_by, told, setting_of, GoesByConflictSetsAlone}
+use Rattle.ops_top.specs.Whole.{Find, Gathered, Joined, Unread, Overlong, gathered, readable, files_in, answer_program_by, answer_read, answer_read_by, answer_gathered, answer_gathered_by, whole_job, whole_job_by, told, setting_read, GoesByConflictSetsAlone}
 
 module _ (find : Find) (finds : (rules : List Rule) → FindsConflictSets rules (find rules)) (coming : Coming) where
   program_is : (job : Job) (text : List ℕ) (p : Read) → answer_program_by conflict_set job coming text p ≡ answer_program_by find job coming text p
   program_is (Run options files) text p =
-      ap (told p.names p.rules) (session_goes (setting_of text p) options.limit p.commands p.names (find p.rules) (finds p.rules) coming)
+      ap (told p.names p.rules) (session_goes (setting_read text p) options.limit p.commands p.names (find p.rules) (finds p.rules) coming)
   program_is (Net files) text p = refl
 
   answer_is : (job : Job) (text : List ℕ) (r : Result Read Placed) → answer_read job coming text r ≡ answer_read_by find job coming text r

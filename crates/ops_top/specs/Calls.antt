@@ -10,7 +10,7 @@ use Rattle.ops_meaning.specs.Running.{session_of}
 use Rattle.ops_jobs.specs.CommandLine.{job_of}
 use Rattle.ops_jobs.specs.declared.jobs.Job.{Job}
 use Rattle.ops_jobs.specs.declared.jobs.Job.TheVariants.{Run, Net}
-use Rattle.ops_top.specs.Whole.{Gathered, Joined, gathered, files_in, files_of, setting_of}
+use Rattle.ops_top.specs.Whole.{Gathered, Joined, gathered, files_in, files_of, setting_read}
 
 -- It holds for the content that is told of a file, or for some content where none is told.
 abbrev pub OfContent : Option (Option (List ℕ)) → (Option (List ℕ) → Type 0) → Type 0
@@ -99,7 +99,7 @@ last_of names = slice_index_or names (length names - 1) []
 
 -- The program's session comes to its end, within its limit, over this input; its network is told always.
 abbrev pub program_runs_through : Job → Coming → List ℕ → Read → Bool
-program_runs_through (Run options files) coming text p = is_ok (session_of (setting_of text p) options.limit p.commands p.names coming).outcome
+program_runs_through (Run options files) coming text p = is_ok (session_of (setting_read text p) options.limit p.commands p.names coming).outcome
 program_runs_through (Net files) coming text p = true
 
 -- The text is such a program.

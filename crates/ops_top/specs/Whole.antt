@@ -88,8 +88,8 @@ told names rules e =
     }
 
 -- what a session stands in at its start, where the text is read as this
-abbrev pub setting_of : List ℕ → Read → Setting
-setting_of text p = record { classes = p.classes; rules = p.rules; text = text; watch = 0 }
+abbrev pub setting_read : List ℕ → Read → Setting
+setting_read text p = record { classes = p.classes; rules = p.rules; text = text; watch = 0 }
 
 -- What finds the instantiations, for any rules.
 abbrev pub Find : Type 0
@@ -102,7 +102,7 @@ net_told rules = record { bytes = net_lines (shape_of rules); status = status.Do
 -- the answer to a program: its session with at most so many firings, or its network
 abbrev pub answer_program_by : Find → Job → Coming → List ℕ → Read → Reply
 answer_program_by find (Run options files) coming text p =
-    told p.names p.rules (session_by (find p.rules) (setting_of text p) options.limit p.commands p.names coming)
+    told p.names p.rules (session_by (find p.rules) (setting_read text p) options.limit p.commands p.names coming)
 answer_program_by find (Net files) coming text p = net_told p.rules
 
 abbrev pub answer_read_by : Find → Job → Coming → List ℕ → Result Read Placed → Reply

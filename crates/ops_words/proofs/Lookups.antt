@@ -2,7 +2,7 @@
 use Rattle.std.proofs.Common.{◌≡◌, ◌&&◌, ◌||◌, ℕ, Bool, cond, true, false, List, [], ◌∷◌, ◌++◌, Some, None, codes, refl}
 use Rattle.std.specs.Str.{bytes_eq}
 use Rattle.std.proofs.lemmas.Bool.{true≢false}
-use Rattle.clap.specs.Walk.{Rule, Text, arg_by_id, arg_by_index, arg_by_long, arg_by_short}
+use Rattle.clap.specs.Walk.{Rule, Text, arg_by_id, arg_by_long}
 use Rattle.clap.specs.Simple.{Shape, built, new_rule}
 use Rattle.clap.specs.declared.builder.action.ArgAction.TheVariants.{Append, Set, SetTrue}
 use Rattle.clap.specs.declared.builder.value_parser.ValueParser.TheVariants as parser
@@ -47,9 +47,6 @@ arguments = options ++ built_flag (codes "net") ∷ built_files ∷ []
 abbrev pub top : Shape
 top = (built app).top
 
-pub top-rules : top.rules ≡ arguments
-top-rules = refl
-
 -- ---- by name
 
 pub long_option : (name : Text) → is_option name ≡ true → arg_by_long top.rules name ≡ Some (built_option name)
@@ -83,12 +80,3 @@ no_argument name = go (bytes_eq (codes "match") name) (bytes_eq (codes "workers"
     go false false false true w e f = absurd (true≢false e)
     go false false false false true e f = absurd (true≢false f)
     go false false false false false e f = refl
-
-pub no_short : (c : ℕ) → arg_by_short top.rules c ≡ None
-no_short c = refl
-
-pub files_by_id : arg_by_id top.rules (codes "file") ≡ Some built_files
-files_by_id = refl
-
-pub files_by_index : arg_by_index top.rules 1 ≡ Some built_files
-files_by_index = refl

@@ -6,7 +6,7 @@ use ops_base::memory::OutOfMemory;
 use std::alloc::Global;
 
 /// What decides between instantiations, made once so that comparing takes no memory and sorts nothing.
-#[derive(Drop)]
+#[derive(Debug, Drop)]
 pub struct Key {
     /// The tag of the first condition.
     pub first: u64,

@@ -160,6 +160,16 @@ mod tests {
     }
 
     #[test]
+    fn a_key_is_copied(rt: HostRuntime) -> Result<(), Fail> {
+        let made = key_of(rt.alloc(), 3, 7, &[4, 9, 4])?;
+        let copy = made.copy(rt.alloc())?;
+        assert_eq!(rt; (copy.first, copy.specificity, copy.rule), (4, 7, 3));
+        assert_eq!(rt; copy.sorted.as_slice(), [9, 4, 4].as_slice());
+        assert_eq!(rt; copy.tags.as_slice(), [4, 9, 4].as_slice());
+        Ok(())
+    }
+
+    #[test]
     fn the_first_tag_decides_under_mea(rt: HostRuntime) -> Result<(), Fail> {
         let old = key_of(rt.alloc(), 0, 3, &[1, 3])?;
         let new = key_of(rt.alloc(), 1, 2, &[2])?;

@@ -17,7 +17,7 @@ use Rattle.ops_meaning.proofs.InletLemmas.{performs_apart}
 use Rattle.work_store.specs.Stored.{Stored}
 use Rattle.session.specs.Courses.{IsUnderWay, meant_by, ends_unread}
 use Rattle.session.specs.Deeds.{Does}
-use Rattle.session.specs.declared.under_way.Session.{Session}
+use Rattle.session.specs.declared.session.Session.{Session}
 
 -- what a command does to what the session has come to
 abbrev Deed : Type 0

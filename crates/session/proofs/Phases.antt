@@ -14,7 +14,7 @@ use Rattle.ops_meaning.specs.Layout.{tagged_text, traced}
 use Rattle.ops_meaning.specs.Running.{Session as Meant, phase_by, phase_done, with_course}
 use Rattle.work_store.specs.Stored.{Stored}
 use Rattle.session.specs.Courses.{meant_by}
-use Rattle.session.specs.declared.under_way.Session.{Session}
+use Rattle.session.specs.declared.session.Session.{Session}
 use Rattle.session.proofs.UnderWay.{all_stored}
 
 module _ {M H : Type 0} (stored : M → Stored) (at : Setting) (column : ℕ) (names : Spellings) (s : Session M H) where

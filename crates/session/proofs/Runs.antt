@@ -12,7 +12,7 @@ use Rattle.ops_meaning.proofs.InletLemmas.{LeavesOn, FailsOn, leaves_on, fails_o
 use Rattle.cycle.specs.States.{Held, state_course}
 use Rattle.work_store.specs.Stored.{Stored}
 use Rattle.session.specs.Courses.{meant_by}
-use Rattle.session.specs.declared.under_way.Session.{Session}
+use Rattle.session.specs.declared.session.Session.{Session}
 use Rattle.session.proofs.UnderWay.{nothing_waits}
 
 same_failure : {E : Type 0} (f : Failure E) → failure_as (λ e. e) f ≡ f

@@ -10,8 +10,8 @@ use Rattle.ops_meaning.specs.Effects.{Effect, Fails, Performs, PerformsOn, Count
 use Rattle.ops_meaning.specs.Running.{Course, Session as Meant, ending_of}
 use Rattle.work_store.specs.Stored.{Stored}
 use Rattle.session.specs.Courses.{meant_by, ended, ends_unread}
-use Rattle.session.specs.Endings.{Leaves, EndsSession, EndsOn, CountsUnread}
-use Rattle.session.specs.declared.under_way.Session.{Session}
+use Rattle.session.specs.Endings.{Leaves, EndsSession, EndsOn, CountsReadFault}
+use Rattle.session.specs.declared.session.Session.{Session}
 use Rattle.session.proofs.UnderWay.{nothing_waits}
 
 module _ {M : Type 0} (H : Type 0) (stored : M → Stored) where
@@ -44,7 +44,7 @@ module _ {M : Type 0} (H : Type 0) (stored : M → Stored) where
       record { taken = p.taken; took = p.took; ends = λ z h. ended_performs new z r a b (e (preceded_by p.taken z)) none (p.performs z h) }
 
   -- the reads that failed
-  pub ended_reads : (r : Result (Session M H) Ending) (before now : ℕ) → CountsReads (ends_unread r) before now → CountsUnread (told r) before now
+  pub ended_reads : (r : Result (Session M H) Ending) (before now : ℕ) → CountsReads (ends_unread r) before now → CountsReadFault (told r) before now
   ended_reads (Ok s) before now p = p
   ended_reads (Err ending.WriteFault) before now p = p
   ended_reads (Err ending.OutOfMemory) before now p = p

@@ -11,7 +11,7 @@ use Rattle.ops_base.specs.ConflictSet.{conflict_set}
 use Rattle.ops_base.specs.Dominance.{specificity_of}
 use Rattle.ops_base.specs.Instances.{Before, IsInOrder}
 use Rattle.ops_base.specs.Refraction.{is_among, unfired}
-use Rattle.ops_base.proofs.RefractionLaws.{Contains-filter}
+use Rattle.ops_base.proofs.Filtered.{Contains-filter}
 use Rattle.ops_meaning.specs.Running.{ranked}
 use Rattle.ops_meaning.proofs.Ranked.{AreDistinct, in_order_distinct, ranked_from, ranked_over}
 use Rattle.conflict_index.specs.Indexed.{Indexed, Member, insts_of, waiting, outranks, KeepsSpecificities}

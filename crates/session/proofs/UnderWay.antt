@@ -19,7 +19,7 @@ use Rattle.ops_meaning.proofs.Lawful.{lawful_push}
 use Rattle.cycle.specs.States.{Held, no_names, no_input, alone, state_course}
 use Rattle.work_store.specs.Stored.{Stored}
 use Rattle.session.specs.Courses.{with_pending, course_of, meant_by, IsOf, IsUnderWay}
-use Rattle.session.specs.declared.under_way.Session.{Session}
+use Rattle.session.specs.declared.session.Session.{Session}
 use Rattle.session.proofs.Productions.{none_broken}
 use Rattle.session.proofs.Pending.{none_stay, phase_unmarked, made_element, made_waits}
 

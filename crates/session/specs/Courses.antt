@@ -15,7 +15,7 @@ use Rattle.ops_meaning.specs.Running.{Course, Session as Meant, ranked}
 use Rattle.conflict_index.specs.Indexed.{Indexed, insts_of, KeepsSpecificities}
 use Rattle.cycle.specs.States.{Held, alone, fired_of, state_course}
 use Rattle.work_store.specs.Stored.{Stored}
-use Rattle.session.specs.declared.under_way.Session.{Session}
+use Rattle.session.specs.declared.session.Session.{Session}
 
 -- what a session has come to, once changes that wait are done
 abbrev pub with_pending : List Change → Course → Course

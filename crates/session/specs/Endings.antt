@@ -10,9 +10,9 @@ use Rattle.ops_meaning.specs.Effects.{Effect}
 use Rattle.ops_meaning.specs.Running.{Session, ending_of}
 
 -- a read of the input failed exactly where that is the ending
-abbrev pub CountsUnread : Result Ending Stop → ℕ → ℕ → Type 0
-CountsUnread (Ok ending.ReadFault) before now = now ≡ before + 1
-CountsUnread r before now = now ≡ before
+abbrev pub CountsReadFault : Result Ending Stop → ℕ → ℕ → Type 0
+CountsReadFault (Ok ending.ReadFault) before now = now ≡ before + 1
+CountsReadFault r before now = now ≡ before
 
 -- what a session leaves that comes to the end of its commands: these names, and this input, which is still to come
 abbrev pub Leaves : Result Session Ending → Spellings → Coming → Type 0

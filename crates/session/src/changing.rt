@@ -15,8 +15,8 @@ ghost use Rattle.session.specs.Deeds.{Does};
 ghost use Rattle.session.specs.Telling.{AreToldBy};
 
 use crate::making::fixed_element;
+use crate::session::{Session, settle};
 use crate::telling::{tell, tell_made};
-use crate::under_way::{Session, settle};
 use ops_base::commands::Fixed;
 use ops_base::elements::{Change, Element};
 use ops_base::endings::Ending;
@@ -59,23 +59,12 @@ fn change<M: Matcher>(
         (phase_by (conflict_set program.now.rules) changes.now k.course.firings (last_after k.course.last changes.now) k.course))) }
     ensures under_way { IfOk result (IsUnderWay M.stored M.stands_for program.now.rules) }
 {
-    let Session {
-        state,
-        pending,
-        ran,
-        watch,
-        breaks,
-        ..
-    } = session;
-    let state = state.change(alloc, hand, program, changes)?;
+    let state = session.state.change(alloc, hand, program, changes)?;
     let last_tag = state.last_tag();
     Ok(Session {
         state,
-        pending,
         last_tag,
-        ran,
-        watch,
-        breaks,
+        ..session
     })
 }
 
@@ -123,7 +112,7 @@ fn with_waiting<M: Matcher>(session: Session<M>, made: Element) -> Result<Sessio
     Ok(session)
 }
 
-/// A top-level `make`, which is one phase. Where no run was begun it waits, but is told at once.
+/// The command `make`, which is one phase. Where no run was begun it waits, but is told at once.
 pub(crate) fn make_at_top<M: Matcher, K: Sink>(
     alloc: Global,
     hand: &mut M::Hand,
@@ -199,7 +188,7 @@ fn all_removals(alloc: Global, store: &Store) -> Result<Listed<Change>, OutOfMem
     Ok(changes)
 }
 
-/// Removes the elements of these tags, which is one phase.
+/// The command `remove` with tags: removes their elements, which is one phase.
 pub(crate) fn remove<M: Matcher, K: Sink>(
     alloc: Global,
     hand: &mut M::Hand,
@@ -232,7 +221,7 @@ pub(crate) fn remove<M: Matcher, K: Sink>(
     )
 }
 
-/// Removes all elements, which is one phase.
+/// The command `remove *`: removes all elements, which is one phase.
 pub(crate) fn remove_all<M: Matcher, K: Sink>(
     alloc: Global,
     hand: &mut M::Hand,

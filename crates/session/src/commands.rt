@@ -13,8 +13,8 @@ use crate::changing::{make_at_top, remove, remove_all};
 use crate::listing::{list_elements, list_met, list_standing};
 use crate::naming::{give_breaks, list_productions};
 use crate::running::run;
+use crate::session::{Session, settle, started};
 use crate::setting::{give_level, give_strategy};
-use crate::under_way::{Session, settle, started};
 use ops_base::commands::Command;
 use ops_base::endings::Ending;
 use ops_base::programs::Program;
@@ -23,7 +23,7 @@ use ops_io::{Input, Out, Sink, Source};
 use std::alloc::Global;
 use work_store::Matcher;
 
-/// A run, for which nothing waits any longer.
+/// The command `run`, for which nothing waits any longer.
 fn run_from<M: Matcher, I: Source, K: Sink>(
     alloc: Global,
     hand: &mut M::Hand,
@@ -54,21 +54,14 @@ fn run_from<M: Matcher, I: Source, K: Sink>(
     ensures under_way { IfOk result (IsUnderWay M.stored M.stands_for program.now.rules) }
 {
     let session = settle(alloc, hand, program, session)?;
-    let Session {
-        state,
-        pending,
-        watch,
-        breaks,
-        ..
-    } = session;
     let state = run(
         alloc,
         hand,
         program,
         names,
-        state,
-        watch,
-        breaks.as_slice(),
+        session.state,
+        session.watch,
+        session.breaks.as_slice(),
         limit,
         count,
         input,
@@ -79,11 +72,9 @@ fn run_from<M: Matcher, I: Source, K: Sink>(
     let last_tag = state.last_tag();
     Ok(Session {
         state,
-        pending,
         last_tag,
         ran: true,
-        watch,
-        breaks,
+        ..session
     })
 }
 
@@ -143,11 +134,12 @@ fn do_command<M: Matcher, I: Source, K: Sink>(
         Command::Pbreak { names: given } => {
             give_breaks(program, names, session, given, out, sink)
         }
+        // the definition is total: whoever does the commands in order stops before it
         Command::Exit => Ok(session),
     }
 }
 
-/// Nothing behind it is done.
+/// Whether this is `exit`, behind which nothing is done.
 fn is_exit(command: &Command) -> bool
     ensures { result ≡ is_exit command.now }
 {

@@ -12,7 +12,7 @@ ghost use Rattle.conflict_index.specs.Indexed.{KeepsSpecificities};
 ghost use Rattle.session.specs.Courses.{IsUnderWay, ends_unread, standing_in};
 ghost use Rattle.session.specs.Deeds.{Does};
 
-use crate::under_way::{Session, settle};
+use crate::session::{Session, settle};
 use conflict_index::Index;
 use ops_base::commands::Fixed;
 use ops_base::elements::Element;
@@ -20,7 +20,7 @@ use ops_base::endings::Ending;
 use ops_base::list::Listed;
 use ops_base::programs::Program;
 use ops_base::symbols::Names;
-use ops_base::values::{NIL, Value};
+use ops_base::values::{NOTHING, Value};
 use ops_io::{Out, Sink, WriteFailed};
 use ops_print::{put_element_line, put_inst_line};
 use std::alloc::Global;
@@ -91,7 +91,7 @@ fn put_elements<K: Sink>(
     Ok(())
 }
 
-/// Lists the elements of these tags, or all where no tag is given.
+/// The command `wm`: lists the elements of these tags, or all where no tag is given.
 pub(crate) fn list_elements<M: Matcher, K: Sink>(
     alloc: Global,
     hand: &mut M::Hand,
@@ -122,25 +122,13 @@ pub(crate) fn list_elements<M: Matcher, K: Sink>(
     Ok(session)
 }
 
-/// The fields of an element from one on.
-fn fields_from(element: &Element, field: usize) -> &[Value]
-    ensures { result.now ≡ drop field element.now.fields }
-{
-    let fields = element.fields.as_slice();
-    if field < fields.len() {
-        &fields[field..]
-    } else {
-        &[]
-    }
-}
-
 /// The value at a place of these, `nil` past the end.
 fn value_at(fields: &[Value], place: usize) -> Value
     ensures { result ≡ unwrap_or (slice_get fields.now place) nil }
 {
     match fields.get(place) {
         Some(value) => *value,
-        None => Value::Symbol(NIL),
+        None => NOTHING,
     }
 }
 
@@ -154,7 +142,7 @@ fn is_same(value: Value, other: &Value) -> bool
 fn has_values(element: &Element, field: usize, values: &[Value]) -> bool
     ensures { result ≡ has_values element.now field values.now }
 {
-    let fields = fields_from(element, field);
+    let fields = element.fields_from(field);
     for (place, value) in values.iter().enumerate() {
         if !is_same(value_at(fields, place), value) {
             return false;
@@ -223,7 +211,7 @@ fn put_met<K: Sink>(
     Ok(())
 }
 
-/// Lists the elements that meet a pattern.
+/// The command `ppwm`: lists the elements that meet a pattern.
 pub(crate) fn list_met<M: Matcher, K: Sink>(
     alloc: Global,
     hand: &mut M::Hand,
@@ -276,7 +264,7 @@ fn put_standing<K: Sink>(
     Err(Ending::OutOfMemory)
 }
 
-/// Lists the instantiations that have not fired, the dominant one first.
+/// The command `cs`: lists the instantiations that have not fired, the dominant one first.
 pub(crate) fn list_standing<M: Matcher, K: Sink>(
     alloc: Global,
     hand: &mut M::Hand,

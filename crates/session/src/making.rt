@@ -1,7 +1,7 @@
 //! The element that a command makes.
 ghost use Rattle.std.specs.Prelude.{◌≡◌, IfOk, OnOk, slice_set};
-ghost use Rattle.ops_base.specs.Valid.{class_of, is_vector, no_class};
-ghost use Rattle.ops_meaning.specs.Acting.{first_of, no_fields, scalar_count};
+ghost use Rattle.ops_base.specs.Valid.{class_of, no_class};
+ghost use Rattle.ops_meaning.specs.Acting.{first_of};
 ghost use Rattle.ops_meaning.specs.Running.{fixed_fields, with_values};
 
 use ops_base::commands::Fixed;
@@ -9,17 +9,15 @@ use ops_base::elements::{Class, Element};
 use ops_base::list::Listed;
 use ops_base::memory::OutOfMemory;
 use ops_base::programs::Program;
-use ops_base::values::{NIL, Sym, Value};
+use ops_base::values::{NIL, NOTHING, Value};
 use std::alloc::Global;
-
-const NOTHING: Value = Value::Symbol(NIL);
 
 /// A class without attributes, which takes no memory.
 fn no_class(alloc: Global) -> Class
     ensures { result ≡ no_class }
 {
     Class {
-        name: Sym(0),
+        name: NIL,
         attrs: Listed::new(alloc),
         vector: false,
     }
@@ -34,34 +32,6 @@ fn class_of<'c>(classes: &'c [Class], class: usize, none: &'c Class) -> &'c Clas
         Some(found) => found,
         None => none,
     }
-}
-
-/// Whether this is the first place of the vector attribute.
-fn is_vector(class: &Class, field: usize) -> bool
-    ensures { result ≡ is_vector class.now field }
-{
-    let count = class.attrs.len();
-    class.vector && count > 0 && field == count - 1
-}
-
-/// How many fields of a new element stand before those of its vector attribute.
-fn scalar_count(class: &Class) -> usize
-    ensures { result ≡ scalar_count class.now }
-{
-    let count = class.attrs.len();
-    if class.vector {
-        count.saturating_sub(1)
-    } else {
-        count
-    }
-}
-
-/// The fields of an element for which no value was given.
-fn no_fields(alloc: Global, class: &Class) -> Result<Vec<Value>, OutOfMemory>
-    ensures { IfOk result (λ v. v.items ≡ no_fields class.now) }
-{
-    let fields = vec![in alloc; NOTHING; scalar_count(class)]?;
-    Ok(fields)
 }
 
 /// Gives a scalar attribute, where there is one.
@@ -92,7 +62,7 @@ fn give_values(
 ) -> Result<(), OutOfMemory>
     ensures { OnOk result (fields.new.items ≡ with_values class.now fields.old.items field values.now) }
 {
-    if is_vector(class, field) {
+    if class.is_vector(field) {
         fields.truncate(field);
         fields.extend_from_slice(values)?;
         return Ok(());
@@ -105,7 +75,7 @@ fn give_values(
 fn fixed_fields(alloc: Global, class: &Class, puts: &[Fixed]) -> Result<Vec<Value>, OutOfMemory>
     ensures { IfOk result (λ v. v.items ≡ fixed_fields class.now puts.now) }
 {
-    let mut fields = no_fields(alloc, class)?;
+    let mut fields = class.no_fields(alloc)?;
     for put in puts {
         give_values(class, &mut fields, put.field, put.values.as_slice())?;
     }

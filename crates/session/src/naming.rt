@@ -9,7 +9,7 @@ ghost use Rattle.session.specs.Courses.{IsUnderWay};
 ghost use Rattle.session.specs.Deeds.{Does};
 
 use crate::running::has_break;
-use crate::under_way::Session;
+use crate::session::Session;
 use ops_base::endings::Ending;
 use ops_base::list::Listed;
 use ops_base::programs::Program;
@@ -83,7 +83,7 @@ fn put_productions<K: Sink>(
     Ok(())
 }
 
-/// Lists the productions of these names.
+/// The command `pm`: lists the productions of these names.
 pub(crate) fn list_productions<M: Matcher, K: Sink>(
     program: &Program,
     names: &Names,
@@ -208,8 +208,8 @@ fn all_toggled(rules: &[Rule], given: &[Sym], breaks: Listed<bool>) -> Listed<bo
     Listed::from_vec(breaks)
 }
 
-/// Sets or clears breaks by names, or lists them where no name is given. For each name it looks at the productions one after
-/// the other.
+/// The command `pbreak`: sets or clears breaks by names, or lists them where no name is given. For each name it looks at the
+/// productions one after the other.
 pub(crate) fn give_breaks<M: Matcher, K: Sink>(
     program: &Program,
     names: &Names,

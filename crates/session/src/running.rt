@@ -6,7 +6,7 @@ ghost use Rattle.ops_io.specs.Coming.{inlet};
 ghost use Rattle.ops_io.specs.Ports.{port, PutsBytes};
 ghost use Rattle.ops_meaning.specs.Effects.{PerformsOn, CountsReads, failure_as, of_ending};
 ghost use Rattle.ops_meaning.specs.Kept.{KeepsNames};
-ghost use Rattle.ops_meaning.specs.Layout.{line_at, rule_name};
+ghost use Rattle.ops_meaning.specs.Layout.{line_at};
 ghost use Rattle.ops_meaning.specs.Running.{ended_in, firing, has_break, line_of_count, line_of_pause, next_to_fire, one_less, run_on};
 ghost use Rattle.act_phase.specs.Outcomes.{failure_of, setting_of};
 ghost use Rattle.cycle.specs.States.{alone, state_course};
@@ -20,7 +20,7 @@ use ops_base::programs::Program;
 use ops_base::symbols::Names;
 use ops_base::values::Sym;
 use ops_io::{Input, Out, Sink, Source, WriteFailed};
-use ops_print::{put_line, put_name_line};
+use ops_print::{put_line, put_name_line, rule_name};
 use std::alloc::Global;
 use work_store::Matcher;
 
@@ -110,15 +110,6 @@ pub(crate) fn has_break(breaks: &[bool], rule: usize) -> bool
     breaks.get(rule).copied().unwrap_or(false)
 }
 
-fn rule_name(program: &Program, rule: usize) -> Sym
-    ensures { result ≡ rule_name program.now.rules rule }
-{
-    match program.rules.as_slice().get(rule) {
-        Some(found) => found.name,
-        None => Sym(0),
-    }
-}
-
 /// Why the run ends here by its number of firings, if it does.
 fn pause_by_count(count: Option<u64>) -> Option<Pause>
     ensures { (names : Spellings) → option_map (pause_line names) result ≡ line_of_count count }
@@ -147,7 +138,7 @@ fn pause_of(
         return Some(Pause::Halted);
     }
     if has_break(breaks, fired.rule) {
-        return Some(Pause::Broken(rule_name(program, fired.rule)));
+        return Some(Pause::Broken(rule_name(program.rules.as_slice(), fired.rule)));
     }
     pause_by_count(count)
 }
@@ -179,7 +170,7 @@ fn one_less(count: Option<u64>) -> Option<u64>
     Some(count?.saturating_sub(1))
 }
 
-/// A run of at most `count` firings, if it has a number, until it ends or the session has made the last of its `limit`
+/// What the command `run` does: a run of at most `count` firings, if it has a number, until it ends or the session has made the last of its `limit`
 /// firings. It ends behind a firing that did `halt`, behind one whose production has a break, where it has made its number
 /// of firings, and where nothing is left to fire: these are looked at in this order, and the limit behind them.
 pub(crate) fn run<M: Matcher, I: Source, K: Sink>(
@@ -222,6 +213,8 @@ pub(crate) fn run<M: Matcher, I: Source, K: Sink>(
             put_pause(out, sink, names, pause)?;
             return Ok(state);
         }
+        // what is next is looked for here, for the end and for its production, and once more as it fires: a firing goes over the
+        // conflict set twice for that
         let Some(next) = state.next() else {
             put_line(out, sink, b"end -- no production true")?;
             return Ok(state);

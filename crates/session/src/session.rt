@@ -1,73 +1,88 @@
-//! A whole session, and what is told of it.
-ghost use Rattle.std.specs.Prelude.{◌≡◌, ◌^◌, ◌<◌, [], Ok, IsTrue};
-ghost use Rattle.ops_io.specs.Coming.{inlet};
-ghost use Rattle.ops_io.specs.Ports.{port};
-ghost use Rattle.ops_meaning.specs.Kept.{KeepsNames, GoesByConflictSets};
-ghost use Rattle.ops_meaning.specs.Running.{session_of};
-ghost use Rattle.act_phase.specs.Outcomes.{setting_of};
-ghost use Rattle.session.specs.Courses.{ended};
-ghost use Rattle.session.specs.Endings.{EndsOn, CountsUnread};
+//! `Session`, which is a session between two of its commands, and the phases that wait in it.
+ghost use Rattle.std.specs.Prelude.{◌≡◌, [], length, replicate, false, IfOk};
+ghost use Rattle.ops_base.specs.Names.{Spellings};
+ghost use Rattle.ops_io.specs.Coming.{Coming};
+ghost use Rattle.ops_meaning.specs.Running.{begun};
+ghost use Rattle.session.specs.Courses.{IsUnderWay, meant_by};
 
-use crate::commands::do_commands;
-use crate::under_way::Session;
-use ops_base::endings::Ending;
+use cycle::State;
+use ops_base::elements::Change;
+use ops_base::list::Listed;
+use ops_base::memory::OutOfMemory;
 use ops_base::programs::Program;
-use ops_base::symbols::Names;
-use ops_io::{Input, Out, Sink, Source, Stop};
 use std::alloc::Global;
 use work_store::Matcher;
 
-/// What is told of a session once its commands are done.
-fn ended<M: Matcher>(done: Result<Session<M>, Ending>) -> Result<Ending, Stop>
-    ensures { result ≡ ended M.stored done }
-{
-    match done {
-        Ok(session) => Ok(Ending::Done {
-            firings: session.state.firings(),
-            elements: session.state.store().len() as u64,
-            last_tag: session.state.last_tag(),
-        }),
-        Err(Ending::WriteFault) => Err(Stop::Write),
-        Err(Ending::OutOfMemory) => Err(Stop::OutOfMemory),
-        Err(ending) => Ok(ending),
-    }
+/// A session between two of its commands. Before the first run nothing is marked as fired, so that no mark can be lost: top-level makes wait
+/// there, and their phases are made in one, for which the conflict set is found once.
+#[derive(Drop)]
+pub(crate) struct Session<M: Matcher> {
+    pub(crate) state: State<M>,
+    /// Top-level makes of which no phase was made yet. There are none behind a run.
+    pub(crate) pending: Listed<Change>,
+    /// The last tag that was given, also to the makes that wait. `State::last_tag` does not count those.
+    pub(crate) last_tag: u64,
+    /// Whether a run was begun.
+    pub(crate) ran: bool,
+    /// The trace level.
+    pub(crate) watch: u8,
+    /// Whether each production has a break.
+    pub(crate) breaks: Listed<bool>,
 }
 
-/// Does the commands of a program in order, from nothing. Each symbol keeps its spelling, and wherever the session looks for
-/// instantiations it looks at the conflict set. Where a read fails, all that was put before is written out.
-pub fn run_session<M: Matcher, I: Source, K: Sink>(
+/// No production has a break.
+fn no_breaks(alloc: Global, program: &Program) -> Result<Listed<bool>, OutOfMemory>
+    ensures { IfOk result (λ breaks. breaks ≡ replicate (length program.now.rules) false) }
+{
+    let breaks = vec![in alloc; false; program.rules.len()]?;
+    Ok(Listed::from_vec(breaks))
+}
+
+/// A session in which nothing was done yet.
+pub(crate) fn started<M: Matcher>(
     alloc: Global,
-    hand: &mut M::Hand,
     program: &Program,
-    names: &mut Names,
     matcher: M,
-    limit: u64,
-    input: &mut Input,
-    source: &mut I,
-    out: &mut Out,
-    sink: &mut K,
-) -> Result<Ending, Stop>
+) -> Result<Session<M>, OutOfMemory>
     requires stands { M.stands_for matcher program.now.rules }
     requires elements { (M.stored matcher).elements ≡ [] }
     requires last { (M.stored matcher).last ≡ 0 }
-    requires whole { IsTrue out.old.whole }
-    requires faults { K.faults sink.old < 2 ^ 63 }
-    requires reads { I.faults source.old < 2 ^ 63 }
-    requires column { out.old.column ≡ 0 }
-    ensures ends { EndsOn result
-        (inlet input.old (I.left source.old) (I.faults source.old))
-        (inlet input.new (I.left source.new) (I.faults source.new))
-        (port (K.taken sink.old) (K.faults sink.old) out.old)
-        (port (K.taken sink.new) (K.faults sink.new) out.new)
-        names.new
-        (λ c. session_of (setting_of program.now 0) limit program.now.commands names.old c) }
-    ensures reads { CountsUnread result (I.faults source.old) (I.faults source.new) }
-    ensures written { result ≡ Ok Ending.ReadFault → out.new.held ≡ [] }
-    ensures names { KeepsNames names.old names.new }
-    ensures sets { GoesByConflictSets (setting_of program.now 0) limit program.now.commands names.old }
+    ensures begun { IfOk result (λ s. (n : Spellings) (c : Coming) → meant_by M.stored s n c ≡ begun program.now.rules n c) }
+    ensures under_way { IfOk result (IsUnderWay M.stored M.stands_for program.now.rules) }
 {
-    let done = do_commands(
-        alloc, hand, program, names, matcher, limit, input, source, out, sink,
-    );
-    ended(done)
+    let breaks = no_breaks(alloc, program)?;
+    Ok(Session {
+        state: State::start(alloc, matcher),
+        pending: Listed::new(alloc),
+        last_tag: 0,
+        ran: false,
+        watch: 0,
+        breaks,
+    })
+}
+
+/// Makes the phases that wait, as one.
+pub(crate) fn settle<M: Matcher>(
+    alloc: Global,
+    hand: &mut M::Hand,
+    program: &Program,
+    session: Session<M>,
+) -> Result<Session<M>, OutOfMemory>
+    requires { IsUnderWay M.stored M.stands_for program.now.rules session }
+    ensures meant { IfOk result (λ s.
+        (n : Spellings) (c : Coming) → meant_by M.stored s n c ≡ meant_by M.stored session n c) }
+    ensures under_way { IfOk result (IsUnderWay M.stored M.stands_for program.now.rules) }
+    ensures none_waits { IfOk result (λ s. s.pending ≡ []) }
+{
+    if session.pending.is_empty() {
+        return Ok(session);
+    }
+    let state = session
+        .state
+        .change(alloc, hand, program, session.pending.as_slice())?;
+    Ok(Session {
+        state,
+        pending: Listed::new(alloc),
+        ..session
+    })
 }

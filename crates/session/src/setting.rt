@@ -8,7 +8,7 @@ ghost use Rattle.ops_meaning.specs.Running.{level_given, strategy_given};
 ghost use Rattle.session.specs.Courses.{IsUnderWay};
 ghost use Rattle.session.specs.Deeds.{Does};
 
-use crate::under_way::Session;
+use crate::session::Session;
 use ops_base::commands::Strategy;
 use ops_base::endings::Ending;
 use ops_io::{Out, Sink};
@@ -25,7 +25,7 @@ fn strategy_line(strategy: Strategy) -> &'static [u8]
     }
 }
 
-/// Sets the strategy, or tells it where none is given.
+/// The command `strategy`: sets the strategy, or tells it where none is given.
 pub(crate) fn give_strategy<M: Matcher, K: Sink>(
     session: Session<M>,
     set: Option<Strategy>,
@@ -53,7 +53,7 @@ pub(crate) fn give_strategy<M: Matcher, K: Sink>(
     }
 }
 
-/// Sets the trace level, or tells it where none is given.
+/// The command `watch`: sets the trace level, or tells it where none is given.
 pub(crate) fn give_level<M: Matcher, K: Sink>(
     session: Session<M>,
     set: Option<u8>,

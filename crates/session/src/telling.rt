@@ -5,15 +5,13 @@ ghost use Rattle.ops_meaning.specs.Acting.{change_text, change_lines};
 ghost use Rattle.ops_meaning.specs.Layout.{line_at, lines_at, tagged_text, traced};
 ghost use Rattle.session.specs.Telling.{IsToldBy, AreToldBy};
 
+use act_phase::traces_elements;
 use ops_base::elements::{Change, Element};
 use ops_base::programs::Program;
 use ops_base::symbols::Names;
 use ops_io::{Out, Sink, WriteFailed};
-use ops_print::put_element_line;
+use ops_print::{put_made_line, put_removed_line};
 use work_store::Store;
-
-/// From this trace level on elements are traced.
-const ELEMENTS: u8 = 2;
 
 /// Puts the line of a change. An element that is removed is looked up by its tag.
 fn put_change<K: Sink>(
@@ -32,9 +30,9 @@ fn put_change<K: Sink>(
         (line_at out.old.column (change_text names.now program.now.classes store.now.elements change.now)) }
 {
     match change {
-        Change::Add(element) => put_element_line(out, sink, names, program, b"=>WM: ", element),
+        Change::Add(element) => put_made_line(out, sink, names, program, element),
         Change::Remove(tag) => match store.get(*tag) {
-            Some(element) => put_element_line(out, sink, names, program, b"<=WM: ", element),
+            Some(element) => put_removed_line(out, sink, names, program, element),
             None => unreachable!(),
         },
     }
@@ -79,7 +77,7 @@ pub(crate) fn tell<K: Sink>(
         (port (K.taken sink.new) (K.faults sink.new) out.new)
         (traced watch out.old.column (change_lines names.now program.now.classes store.now.elements changes.now)) }
 {
-    if watch < ELEMENTS {
+    if !traces_elements(watch) {
         return Ok(());
     }
     put_changes(out, sink, names, program, store, changes)
@@ -100,8 +98,8 @@ pub(crate) fn tell_made<K: Sink>(
         (port (K.taken sink.new) (K.faults sink.new) out.new)
         (traced watch out.old.column ((codes "=>WM: " ++ tagged_text names.now program.now.classes made.now) ∷ [])) }
 {
-    if watch < ELEMENTS {
+    if !traces_elements(watch) {
         return Ok(());
     }
-    put_element_line(out, sink, names, program, b"=>WM: ", made)
+    put_made_line(out, sink, names, program, made)
 }

@@ -11,7 +11,7 @@ use Rattle.std.specs.Ordering.{nat_cmp, match_ordering}
 use Rattle.ops_base.specs.declared.elements.Element.{Element}
 use Rattle.ops_base.specs.WorkingMemory.{without_tag}
 use Rattle.work_store.specs.declared.slot.Slot.{Slot}
-use Rattle.work_store.specs.Slots.{passing, elements_of, those, is_present, is_kept, stored_in, kept_slot, ArePlaced, IsNoted, AreSlots, without_all, passed}
+use Rattle.work_store.specs.Slots.{passing, elements_of, those, is_present, is_kept, stored_in, ArePlaced, IsNoted, AreSlots, without_all, passed}
 use Rattle.work_store.specs.Stored.{Stored, of_tag}
 use Rattle.work_store.proofs.Lists.{same_tag, above_differs, differs_back, at_is, compares_greater, not_not, or_true, or_false, all_each, all_weaker, all_push, all_filter, passes, filter_all, filter_none, filter_same, filter_twice, filter_shorter, any_push, none_above}
 use Rattle.work_store.proofs.Slots.{tag_found, tag_passed, after_found, found}
@@ -85,6 +85,10 @@ inserted_stored es gone space last x a above =
     ap (λ fs. stored_in fs x.tag) (goes_last x.tag (new_slot x) es (all_below es last x.tag above a.below)) ∙ added_stored es x
 
 -- ---- a removal
+
+-- the slot once its element was removed
+abbrev pub kept_slot : Slot → Slot
+kept_slot s = record s { present = false }
 
 -- working memory without a tag that is below all of its tags
 without_missing : (test : Slot → Bool) (t : ℕ) (es : List (ℕ × Slot)) → ArePlaced es → AllByRecursion (λ e. t < e.0) es → without_tag t (those test es) ≡ those test es

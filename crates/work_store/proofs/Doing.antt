@@ -1,12 +1,12 @@
--- Changes that are done to a store: a lawful removal finds its element, and what the first change does to the last tag.
+-- Changes that are done to a store: a lawful removal finds its element.
 use Rattle.std.proofs.Common.{◌≡◌, ℕ, ◌==◌, List, [], ◌∷◌, Bool, true, false, cond, Some, IsSome, refl, subst, arith}
 use Rattle.std.specs.Prelude.{Contains}
 use Rattle.std.proofs.lemmas.Bool.Decides.{nat_tests}
 use Rattle.std.proofs.lemmas.Map.Made.{Contains-tail}
 use Rattle.ops_base.specs.declared.elements.Change.{Change}
-use Rattle.ops_base.specs.declared.elements.Change.TheVariants.{Add, Remove}
+use Rattle.ops_base.specs.declared.elements.Change.TheVariants.{Remove}
 use Rattle.ops_base.specs.declared.elements.Element.{Element}
-use Rattle.ops_base.specs.WorkingMemory.{tags_of, last_after, Lawful}
+use Rattle.ops_base.specs.WorkingMemory.{tags_of, Lawful}
 use Rattle.work_store.specs.Stored.{of_tag}
 
 differs : (k t : ℕ) → (k == t) ≡ false → k ≡ t → ⊥
@@ -24,8 +24,3 @@ there (e ∷ wm) tag p = by (e.tag == tag) (λ apart. there wm tag (Contains-tai
 -- the element that a lawful removal names is found
 pub found_to_remove : (wm : List Element) (last tag : ℕ) (c : Change) → c ≡ Remove tag → Lawful wm last (c ∷ []) → IsSome (of_tag wm tag)
 found_to_remove wm last tag c is p = let P : Change → Type 0 = λ x. Lawful wm last (x ∷ []) in there wm tag (subst P is p).0
-
--- the last tag after changes is that after the first and then the others
-pub last_after_first : (last : ℕ) (c : Change) (rest : List Change) → last_after last (c ∷ rest) ≡ last_after (last_after last (c ∷ [])) rest
-last_after_first last (Add e) rest = refl
-last_after_first last (Remove tag) rest = refl

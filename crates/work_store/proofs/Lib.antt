@@ -1,4 +1,5 @@
 pub mod Lists
 pub mod Slots
 pub mod Changes
+pub mod Holding
 pub mod Doing

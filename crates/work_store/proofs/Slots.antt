@@ -9,12 +9,13 @@ use Rattle.std.specs.BTreeMap.{is_at}
 use Rattle.std.specs.List.{AllByRecursion, All}
 use Rattle.std.specs.List.Sorted.{IsStrictlySortedBy}
 use Rattle.std.specs.Map.{lookup}
+use Rattle.std.specs.Option.{option_or}
 use Rattle.std.specs.Ordering.{nat_cmp}
 use Rattle.ops_base.specs.declared.elements.Element.{Element}
 use Rattle.ops_base.specs.WorkingMemory.{tags_of}
 use Rattle.work_store.specs.declared.slot.Slot.{Slot}
 use Rattle.work_store.specs.Slots.{passing, elements_of, those, is_present, is_kept, stored_in, ArePlaced, AreSlots, passed}
-use Rattle.work_store.specs.Stored.{of_tag, or_else, IsStored}
+use Rattle.work_store.specs.Stored.{of_tag, IsStored}
 use Rattle.work_store.proofs.Lists.{tag_is, same_tag, above_differs, at_is, all_weaker}
 
 -- a tag below those of all slots is that of none of their elements
@@ -64,16 +65,16 @@ pub get_present : (t : ℕ) (es : List (ℕ × Slot)) (o : Option Slot) → AreP
 get_present t es o placed e = found is_present t es placed ∙ sym (ap (passed is_present) e)
 
 -- what was found, present or kept
-pub get_any : (t : ℕ) (es : List (ℕ × Slot)) (o : Option Slot) → ArePlaced es → o ≡ lookup (is_at (nat_cmp t)) es → or_else (of_tag (those is_present es) t) (of_tag (those is_kept es) t) ≡ passed (λ s. true) o
+pub get_any : (t : ℕ) (es : List (ℕ × Slot)) (o : Option Slot) → ArePlaced es → o ≡ lookup (is_at (nat_cmp t)) es → option_or (of_tag (those is_present es) t) (of_tag (those is_kept es) t) ≡ passed (λ s. true) o
 get_any t es o placed e =
-    ap (λ a. or_else a (of_tag (those is_kept es) t)) (get_present t es o placed e)
-    ∙ ap (or_else (passed is_present o)) (found is_kept t es placed ∙ sym (ap (passed is_kept) e)) ∙ by o
+    ap (λ a. option_or a (of_tag (those is_kept es) t)) (get_present t es o placed e)
+    ∙ ap (option_or (passed is_present o)) (found is_kept t es placed ∙ sym (ap (passed is_kept) e)) ∙ by o
   where
-    by : (o : Option Slot) → or_else (passed is_present o) (passed is_kept o) ≡ passed (λ s. true) o
+    by : (o : Option Slot) → option_or (passed is_present o) (passed is_kept o) ≡ passed (λ s. true) o
     by None = refl
     by (Some s) = either s.present
       where
-        either : (b : Bool) → or_else (cond b (Some s.element) None) (cond (not b) (Some s.element) None) ≡ Some s.element
+        either : (b : Bool) → option_or (cond b (Some s.element) None) (cond (not b) (Some s.element) None) ≡ Some s.element
         either true = refl
         either false = refl
 

@@ -1,5 +1,5 @@
 -- How a store keeps its elements: a slot for each tag, which says whether its element is present.
-use Rattle.std.specs.Prelude.{◌≡◌, ◌==◌, ◌<◌, ◌≤◌, ◌+◌, ℕ, List, [], ◌∷◌, map, filter, not, length, Bool, false, Option, Some, None, if◌then◌else◌}
+use Rattle.std.specs.Prelude.{◌≡◌, ◌==◌, ◌<◌, ◌≤◌, ◌+◌, ℕ, List, [], ◌∷◌, map, filter, not, length, Bool, Option, Some, None, if◌then◌else◌}
 use Rattle.std.specs.BTreeMap.{is_at}
 use Rattle.std.specs.List.{AllByRecursion, list_any}
 use Rattle.std.specs.Map.{remove_entry}
@@ -28,10 +28,6 @@ is_kept s = not s.present
 -- what is stored in these slots
 abbrev pub stored_in : List (ℕ × Slot) → ℕ → Stored
 stored_in slots last = record { elements = those is_present slots; kept = those is_kept slots; last = last }
-
--- the slot once its element was removed
-abbrev pub kept_slot : Slot → Slot
-kept_slot s = record s { present = false }
 
 -- each slot stands at its element's tag, and the tags rise
 abbrev pub ArePlaced : List (ℕ × Slot) → Type 0

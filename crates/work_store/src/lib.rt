@@ -11,4 +11,5 @@ mod tests;
 
 pub use iter::Elements;
 pub use matcher::{Matcher, Settled};
+pub use ops_base::elements::Change;
 pub use store::Store;

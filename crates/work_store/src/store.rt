@@ -5,7 +5,7 @@ ghost use Rattle.std.specs.BTreeMap.{get, is_at};
 ghost use Rattle.std.specs.Map.{set_value};
 ghost use Rattle.std.specs.Ordering.{nat_cmp};
 ghost use Rattle.ops_base.specs.WorkingMemory.{without_tag, shown, HasRisingTags};
-ghost use Rattle.work_store.specs.Stored.{Stored, nothing_stored, of_tag, or_else, IsStored};
+ghost use Rattle.work_store.specs.Stored.{Stored, nothing_stored, of_tag, held_of, HoldsAlso, IsStored};
 ghost use Rattle.work_store.specs.Slots.{without_all};
 ghost use Rattle.work_store.specs.declared.slot.Slot.{Slot};
 
@@ -85,7 +85,7 @@ impl Store {
     #[tactic(auto, using(crate::proofs::Slots::get_any))]
     /// The element of that tag, present or kept. Takes a time that grows with the logarithm of the number of elements.
     pub fn kept(&self, tag: u64) -> Option<&Element>
-        ensures { option_copied result ≡ or_else (of_tag self.now.elements tag) (of_tag self.now.kept tag) }
+        ensures { option_copied result ≡ held_of self.now tag }
     {
         let held = self.slots.get(&tag)?;
         Some(&held.element)
@@ -144,6 +144,7 @@ impl Store {
     pub fn add(&mut self, element: Element) -> Result<(), OutOfMemory>
         requires { self.old.last < element.tag }
         ensures ok { OnOk result (self.new ≡ record { elements = self.old.elements ++ element ∷ []; kept = self.old.kept; last = element.tag }) }
+        ensures held { OnOk result (HoldsAlso self.old self.new (element ∷ [])) }
         ensures err { OnErr result (self.new ≡ self.old) }
     {
         let room = self.slots.len() + 1 - self.gone.len();

@@ -20,7 +20,7 @@ both-preserved-in-Less c =
     let j = c.both.now_at in
     let here = first_left before i _ c.index-before-before_at.is c.both-test.true in
     let there = first_left now j _ c.index-now-now_at.is c.if-now_at-now.true in
-    let step = only_in_one (drop i before) (drop j now) (drop (i + 1) before) (drop (j + 1) now) _ _ here there (left_in_order j now c.requires.now) c.in-Less.ensures in
+    let step = only_in_one (drop i before) (drop j now) (drop (i + 1) before) (drop (j + 1) now) _ _ here there (left_in_order j now c.requires.now) c.in-Less.ensures.order in
     record {
       before_within = omega arith;
       now_within = c.both.invariant.now_within;
@@ -40,10 +40,10 @@ both-preserved-in-Equal c =
       before_within = omega arith;
       now_within = omega arith;
       gone = ap (λ xs. c.both.gone.items ++ xs)
-          (sym (in_both (drop i before) (drop j now) (drop (i + 1) before) (drop (j + 1) now) _ _ here there (left_in_order i before c.requires.before) c.in-Equal.ensures))
+          (sym (in_both (drop i before) (drop j now) (drop (i + 1) before) (drop (j + 1) now) _ _ here there (left_in_order i before c.requires.before) c.in-Equal.ensures.order))
           ∙ c.both.invariant.gone;
       come = ap (λ xs. c.both.come.items ++ xs)
-          (sym (in_both (drop j now) (drop i before) (drop (j + 1) now) (drop (i + 1) before) _ _ there here (left_in_order j now c.requires.now) (sym c.in-Equal.ensures)))
+          (sym (in_both (drop j now) (drop i before) (drop (j + 1) now) (drop (i + 1) before) _ _ there here (left_in_order j now c.requires.now) (sym c.in-Equal.ensures.order)))
           ∙ c.both.invariant.come;
     }
 
@@ -55,7 +55,7 @@ both-preserved c =
     let j = c.both.now_at in
     let here = first_left before i _ c.index-before-before_at.is c.both-test.true in
     let there = first_left now j _ c.index-now-now_at.is c.if-now_at-now.true in
-    let step = only_in_one (drop j now) (drop i before) (drop (j + 1) now) (drop (i + 1) before) _ _ there here (left_in_order i before c.requires.before) c.in-Greater.ensures in
+    let step = only_in_one (drop j now) (drop i before) (drop (j + 1) now) (drop (i + 1) before) _ _ there here (left_in_order i before c.requires.before) c.in-Greater.ensures.order in
     record {
       before_within = c.both.invariant.before_within;
       now_within = omega arith;

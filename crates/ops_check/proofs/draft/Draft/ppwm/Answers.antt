@@ -13,4 +13,4 @@ returns-clause-reads c =
     (λ more ws.
     shown_first c.args.words.now c.in_ok-word.rest.now more c.in_ok-word.word ws s c.in_ok-word.ensures (sym c.is_right.ensures ∙ c.if-is_right.false)
     ∙ ap (λ (fixed : List Fixed). goes (c.args.words.now ++ more) (ClassName ∷ Terms InFixed ∷ ws) (record s { fixed = fixed; shows = true })) (sym c.clear.ensures.items))
-    (view c.element.new.self) c.element.result c.element.ensures.reads
+    (view c.class_and_terms.new.self) c.class_and_terms.result c.class_and_terms.ensures.reads

@@ -8,4 +8,4 @@ pub returns-clause-reads : goal.returns-clause-reads
 returns-clause-reads c =
     goes_as _ _
     (λ more ws s. tested_first c.args.field c.args.pred (drop c.args.at c.args.words.now) (drop c.in_ok-word.rest c.args.words.now) more c.in_ok-word.word ws (seen s c.args.self.now) c.in_ok-word.ensures.0)
-    c.args.words.now (λ s. seen s c.operand.new.self) c.operand.result c.operand.ensures.acts
+    c.args.words.now (λ s. seen s c.operand_from.new.self) c.operand_from.result c.operand_from.ensures.acts

@@ -38,5 +38,5 @@ returns-clause-reads c =
     let there : slice_get c.args.around.now.classes.now r.class ≡ Some c.in-Some.class.now = sym c.in-Some.ensures in
     goes_to_as_among (IsAround c.args.around.now) (Terms InPut) _ _
     (λ more ws s i. attribute_one InPut c.in-Some.class.now (drop c.args.at c.args.words.now) (drop c.in_ok-word.rest c.args.words.now) more w ws (seen s r) c.in_ok-word.ensures.0 named (ap (λ (cs : List Class). slice_get cs r.class) i.classes ∙ there) f (sym c.in-Some-field_of.ensures) (sym c.is_vector.ensures ∙ c.if-is_vector.false))
-    c.args.words.now (λ s. seen s c.value_of.new.self) c.value_of.result
-    (goes_to_among (IsAround c.args.around.now) (Terms InPut) (λ more ws s. goes (drop c.in_ok-word.rest c.args.words.now ++ more) (ValueFor (ToPut f) ∷ ws) (seen s r)) c.args.words.now (λ s. seen s c.value_of.new.self) c.value_of.result c.value_of.ensures.reads)
+    c.args.words.now (λ s. seen s c.value.new.self) c.value.result
+    (goes_to_among (IsAround c.args.around.now) (Terms InPut) (λ more ws s. goes (drop c.in_ok-word.rest c.args.words.now ++ more) (ValueFor (ToPut f) ∷ ws) (seen s r)) c.args.words.now (λ s. seen s c.value.new.self) c.value.result c.value.ensures.reads)

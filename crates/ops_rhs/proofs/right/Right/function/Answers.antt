@@ -8,4 +8,4 @@ pub returns-clause-reads : goal.returns-clause-reads
 returns-clause-reads c =
     goes_as_among (IsAround c.args.around.now) _ _
     (λ more ws s _. function_first (target_of c.args.target) (drop c.args.at c.args.words.now) (drop c.in_ok-word.rest c.args.words.now) more c.in_ok-word.word ws (seen s c.args.self.now) c.in_ok-word.ensures.0)
-    c.args.words.now (λ s. seen s c.function_of.new.self) c.function_of.result c.function_of.ensures.acts
+    c.args.words.now (λ s. seen s c.function_from.new.self) c.function_from.result c.function_from.ensures.acts

@@ -12,4 +12,4 @@ returns-in_default-clause-reads c =
     goes_as_among (IsAround c.args.around.now) _ _
     (λ more ws s _. item_first (drop c.args.at c.args.words.now) rest more w ws (seen s c.args.self.now) c.in_ok-word.ensures.0
     ∙ ap (after (goes (rest ++ more)) w) (item_otherwise w.keyword ws (seen s c.args.self.now) c.in_default.not-Crlf c.in_default.not-Tabto c.in_default.not-Rjust))
-    c.args.words.now (λ s. seen s c.function_of.new.self) c.function_of.result c.function_of.ensures.acts
+    c.args.words.now (λ s. seen s c.function_from.new.self) c.function_from.result c.function_from.ensures.acts

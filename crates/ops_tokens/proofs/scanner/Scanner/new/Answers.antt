@@ -1,14 +1,12 @@
-use Rattle.std.proofs.Common.{◌≡◌, refl, Some}
+use Rattle.std.proofs.Common.{arith}
 use Rattle.ops_tokens.specs.Program.{program_table}
-use Rattle.ops_tokens.proofs.Program.{made}
+use Rattle.ops_tokens.proofs.Program.{is_table}
 use Rattle.ops_tokens.proofs.scanner.Scanner.new.Goals as goal
 
-pub unwrap-requires : goal.unwrap-requires
+pub from_table-requires : goal.from_table-requires
 unfolding program_table
-unwrap-requires c = rw (made c.new.result c.new.ensures) refl
+from_table-requires c = (omega arith, (omega arith, (omega arith, (omega arith, is_table))))
 
 pub invariant_of-result : goal.invariant_of-result
 unfolding program_table
-invariant_of-result c =
-    let is : c.new.result ≡ Some program_table = made c.new.result c.new.ensures in
-    record { is_program_table = cc }
+invariant_of-result c = record { is_program_table = c.from_table.ensures }

@@ -1,8 +1,10 @@
 use Rattle.std.proofs.Common.{◌≤◌, ◌<◌, ◌+◌, [], ◌∷◌, ◌++◌, length, ◌∙◌, ap, sym, subst, arith}
 use Rattle.std.specs.Vec.{vec_capacity}
-use Rattle.work_store.specs.Stored.{Stored}
+use Rattle.work_store.specs.Stored.{Stored, HoldsAlso, IsStored}
 use Rattle.work_store.specs.Slots.{stored_in}
 use Rattle.work_store.proofs.Changes.{inserted_slots, inserted_stored}
+use Rattle.work_store.proofs.Holding.{added_held}
+use Rattle.work_store.proofs.Slots.{stored_well}
 use Rattle.work_store.proofs.store.Store.add.Goals as goal
 
 pub invariant_of-self-2 : goal.invariant_of-self-2
@@ -19,3 +21,10 @@ returns-clause-ok c =
     ap (λ es. stored_in es c.args.element.tag) c.in_ok-insert.ensures.entries
     ∙ inserted_stored fields.slots.entries fields.gone.items (vec_capacity fields.gone) fields.last c.args.element c.self.invariant above
     ∙ ap (λ (v : Stored). record { elements = v.elements ++ c.args.element ∷ []; kept = v.kept; last = c.args.element.tag }) c.self.view_is
+
+pub returns-clause-held : goal.returns-clause-held
+returns-clause-held c =
+    let fields = c.self.inside in
+    let well : IsStored c.args.self.now = subst IsStored c.self.view_is (stored_well fields.slots.entries fields.gone.items (vec_capacity fields.gone) fields.last c.self.invariant) in
+    let P : Stored → Type 0 = λ s. HoldsAlso c.args.self.now s (c.args.element ∷ []) in
+    subst P (sym (returns-clause-ok c)) (added_held c.args.self.now c.args.element well c.requires)

@@ -1,0 +1,9 @@
+pub mod Signed
+pub mod Childhood
+pub mod Widths
+pub mod Agreed
+pub mod PutNumbers
+pub mod JoinChange
+pub mod Arrived
+pub mod PutOutLemmas
+pub mod Acted

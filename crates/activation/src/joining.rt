@@ -1,0 +1,54 @@
+//! Whether a node joins an element to a left token.
+ghost use Rattle.std.specs.Prelude.{◌≡◌, slice_index};
+ghost use Rattle.std.specs.Option.{option_copied};
+ghost use Rattle.ops_base.specs.Values.{holds_of};
+ghost use Rattle.work_store.specs.Stored.{held_of};
+ghost use Rattle.net_base.specs.Tokens.{field_in, joins_hold};
+
+use net_base::nodes::JoinTest;
+use ops_base::elements::Element;
+use ops_base::matching::holds;
+use ops_base::values::{NOTHING, Value};
+use work_store::Store;
+
+fn field_of(element: Option<&Element>, field: usize) -> Value
+    ensures { result ≡ field_in (option_copied element.entry) field }
+{
+    match element {
+        Some(element) => element.field(field),
+        None => NOTHING,
+    }
+}
+
+/// The tag at a place, 0 where there is none.
+pub(crate) fn tag_at(tags: &[u64], place: usize) -> u64
+    ensures { result ≡ slice_index tags.now place }
+{
+    match tags.get(place) {
+        Some(tag) => *tag,
+        None => 0,
+    }
+}
+
+/// Whether the test holds of this element, and of those that the left token names.
+fn test_holds(store: &Store, token: &[u64], element: Option<&Element>, test: &JoinTest) -> bool
+    ensures { result ≡ holds_of test.now.pred (field_in (option_copied element.entry) test.now.field) (field_in (held_of store.now (slice_index token.now test.now.place)) test.now.other) }
+{
+    let other = store.kept(tag_at(token, test.place));
+    holds(
+        test.pred,
+        field_of(element, test.field),
+        field_of(other, test.other),
+    )
+}
+
+/// Whether all tests hold of the element of that tag and of the left token. It looks up an element for each test, and takes no
+/// memory.
+pub(crate) fn joins(store: &Store, tests: &[JoinTest], token: &[u64], tag: u64) -> bool
+    ensures { result ≡ joins_hold tests.now (held_of store.now) token.now tag }
+{
+    let element = store.kept(tag);
+    tests
+        .iter()
+        .all(|test| test_holds(store, token, element, test))
+}

@@ -1,0 +1,234 @@
+//! Joins at work on one line, with ample memory.
+ghost use Rattle.std.specs.Prelude.{◌≡◌, IfOk, IsSome};
+ghost use Rattle.work_store.specs.Stored.{held_of};
+ghost use Rattle.activation.specs.Acting.{IsCounted};
+ghost use Rattle.activation.specs.OneJoin.{one_join};
+
+use crate::activate;
+use crate::children::children_of;
+use crate::joining::joins;
+use crate::putting::{Put, put_by_join};
+use net_base::net::Net;
+use net_base::nodes::{Alpha, JoinTest, Kind, Node};
+use net_base::tags::Tags;
+use net_base::tasks::{Side, Task};
+use ops_base::elements::Element;
+use ops_base::list::Listed;
+use ops_base::memory::OutOfMemory;
+use ops_base::values::{Pred, Value};
+use std::alloc::Global;
+use std::test::Fail;
+use token_line::{Entry, Line};
+use work_store::Store;
+
+// an element with one field
+fn element(alloc: Global, tag: u64, value: i64) -> Result<Element, OutOfMemory>
+    ensures { IfOk result (λ e. e.tag ≡ tag) }
+{
+    let fields = Listed::from_array(alloc, [Value::Whole(value)])?;
+    Ok(Element {
+        tag,
+        class: 0,
+        fields,
+    })
+}
+
+// compares the one field of two elements
+fn compare(pred: Pred) -> JoinTest {
+    JoinTest {
+        field: 0,
+        pred,
+        place: 0,
+        other: 0,
+    }
+}
+
+#[test]
+fn elements_are_joined_by_their_values(rt: HostRuntime) -> Result<(), Fail> {
+    let mut store = Store::new(rt.alloc());
+    store.add(element(rt.alloc(), 1, 40)?)?;
+    store.add(element(rt.alloc(), 2, 50)?)?;
+    assert!(rt; joins(&store, &[], &[1], 2));
+    assert!(rt; joins(&store, &[compare(Pred::Gt)], &[1], 2));
+    assert!(rt; !joins(&store, &[compare(Pred::Gt), compare(Pred::Eq)], &[1], 2));
+    assert!(rt; joins(&store, &[compare(Pred::Eq)], &[2], 2));
+    Ok(())
+}
+
+// a token arrives or leaves at node 0
+fn task(alloc: Global, side: Side, plus: bool, tags: &[u64]) -> Result<Task, OutOfMemory>
+    ensures { IfOk result (λ x. x ≡ record { node = 0; side = side; plus = plus; token = tags.now }) }
+{
+    let token = Tags::from_slice(alloc, tags)?;
+    Ok(Task {
+        node: 0,
+        side,
+        plus,
+        token,
+    })
+}
+
+fn come(alloc: Global, line: &mut Line, side: Side, tag: u64) -> Result<(), OutOfMemory> {
+    let task = task(alloc, side, true, &[tag])?;
+    let children = Listed::new(alloc);
+    line.add(alloc, Entry { task, children })
+}
+
+// the tokens that are put out for a task, where all join, and how often
+fn put(alloc: Global, line: &Line, side: Side, tag: u64) -> Result<Vec<Put>, OutOfMemory> {
+    let store = Store::new(alloc);
+    let task = task(alloc, side, true, &[tag])?;
+    match line.memory(0) {
+        Some(memory) => put_by_join(alloc, &store, &[], memory, &task),
+        None => Ok(Vec::new(alloc)),
+    }
+}
+
+#[test]
+fn a_token_is_put_out_with_each_partner(rt: HostRuntime) -> Result<(), Fail> {
+    let mut line = Line::new(rt.alloc(), 0);
+    come(rt.alloc(), &mut line, Side::Left, 7)?;
+    come(rt.alloc(), &mut line, Side::Right, 4)?;
+    come(rt.alloc(), &mut line, Side::Right, 4)?;
+    let by_left = put(rt.alloc(), &line, Side::Left, 9)?;
+    assert_eq!(rt; by_left.len(), 1);
+    assert_eq!(rt; by_left.as_slice().first().map(|p| p.times), Some(2));
+    let by_right = put(rt.alloc(), &line, Side::Right, 4)?;
+    assert_eq!(rt; by_right.len(), 1);
+    assert_eq!(rt; by_right.as_slice().first().map(|p| p.times), Some(1));
+    Ok(())
+}
+
+#[test]
+fn each_child_gets_a_token_as_often(rt: HostRuntime) -> Result<(), Fail> {
+    let token = Tags::from_slice(rt.alloc(), &[9, 4])?;
+    let tasks = children_of(rt.alloc(), &[5, 7], false, &[Put { token, times: 2 }])?;
+    let nodes: Vec<usize> = tasks.iter().map(|x| x.node).collect(rt.alloc())?;
+    assert_eq!(rt; nodes.as_slice(), [5, 5, 7, 7].as_slice());
+    assert!(rt; !tasks.iter().any(|x| x.plus));
+    Ok(())
+}
+
+// a join at the root, of elements of class 0, with a terminal below
+fn net_of_one_join(alloc: Global) -> Result<Net, OutOfMemory>
+    ensures { IfOk result (λ net. net.nodes ≡ one_join) }
+{
+    let alpha = Alpha {
+        class: 0,
+        tests: Listed::new(alloc),
+    };
+    let join = Node {
+        kind: Kind::Join,
+        parent: None,
+        class: 0,
+        alpha: 0,
+        joins: Listed::new(alloc),
+        children: Listed::from_array(alloc, [1])?,
+        depth: 1,
+    };
+    let terminal = Node {
+        kind: Kind::Terminal { rule: 0 },
+        parent: Some(0),
+        class: 0,
+        alpha: 0,
+        joins: Listed::new(alloc),
+        children: Listed::new(alloc),
+        depth: 2,
+    };
+    let alphas = Listed::from_array(alloc, [alpha])?;
+    let nodes = Listed::from_array(alloc, [join, terminal])?;
+    Ok(Net::new(alphas, nodes))
+}
+
+fn store_of_one(alloc: Global) -> Result<Store, OutOfMemory>
+    ensures { IfOk result (λ s. IsSome (held_of s 1)) }
+{
+    let mut store = Store::new(alloc);
+    store.add(element(alloc, 1, 40)?)?;
+    Ok(store)
+}
+
+// the empty token arrives at the left, or element 1 at the right
+fn arrive(
+    alloc: Global,
+    net: &Net,
+    store: &Store,
+    line: &mut Line,
+    side: Side,
+    plus: bool,
+    out: &mut Vec<Task>,
+) -> Result<(), OutOfMemory>
+    requires net { net.now.nodes ≡ one_join }
+    requires held { IsSome (held_of store.now 1) }
+    requires counted { IsCounted net.now.nodes store.now line.old }
+    ensures counted { IsCounted net.now.nodes store.now line.new }
+{
+    match side {
+        Side::Left => {
+            let task = task(alloc, Side::Left, plus, &[])?;
+            activate(alloc, net, store, line, &task, out)
+        }
+        Side::Right => {
+            let task = task(alloc, Side::Right, plus, &[1])?;
+            activate(alloc, net, store, line, &task, out)
+        }
+    }
+}
+
+#[test]
+fn a_join_at_work(rt: HostRuntime) -> Result<(), Fail> {
+    let net = net_of_one_join(rt.alloc())?;
+    let store = store_of_one(rt.alloc())?;
+    let mut line = Line::new(rt.alloc(), 0);
+    let mut out = Vec::new(rt.alloc());
+    arrive(
+        rt.alloc(),
+        &net,
+        &store,
+        &mut line,
+        Side::Right,
+        true,
+        &mut out,
+    )?;
+    arrive(
+        rt.alloc(),
+        &net,
+        &store,
+        &mut line,
+        Side::Left,
+        false,
+        &mut out,
+    )?;
+    arrive(
+        rt.alloc(),
+        &net,
+        &store,
+        &mut line,
+        Side::Left,
+        true,
+        &mut out,
+    )?;
+    assert_eq!(rt; out.len(), 0);
+    arrive(
+        rt.alloc(),
+        &net,
+        &store,
+        &mut line,
+        Side::Left,
+        true,
+        &mut out,
+    )?;
+    arrive(
+        rt.alloc(),
+        &net,
+        &store,
+        &mut line,
+        Side::Right,
+        false,
+        &mut out,
+    )?;
+    let signs: Vec<bool> = out.iter().map(|x| x.plus).collect(rt.alloc())?;
+    assert_eq!(rt; signs.as_slice(), [true, false].as_slice());
+    assert_eq!(rt; line.entries().len(), 5);
+    Ok(())
+}

@@ -1,9 +1,0 @@
-use Rattle.ops_check.specs.Going.{view, target_of}
-use Rattle.ops_forms.proofs.Ways.{goes_as, value_first}
-use Rattle.ops_check.proofs.draft.Draft.value_of.Goals as goal
-
-pub returns-clause-reads : goal.returns-clause-reads
-returns-clause-reads c =
-    goes_as _ _
-    (λ more ws. value_first (target_of c.args.target) c.args.words.now c.in_ok-word.rest.now more c.in_ok-word.word ws (view c.args.self.now) c.in_ok-word.ensures)
-    (view c.value.new.self) c.value.result c.value.ensures.acts

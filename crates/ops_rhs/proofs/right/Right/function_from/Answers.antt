@@ -1,0 +1,22 @@
+use Rattle.std.proofs.Common.{◌∷◌, ◌++◌, ◌∙◌, drop, ap}
+use Rattle.ops_base.specs.declared.actions.Term.TheVariants as term
+use Rattle.ops_meaning.specs.Grammar.{Closes, EndsWhole, after, function, goes}
+use Rattle.ops_rhs.specs.Taking.{seen, target_of, IsAround}
+use Rattle.ops_rhs.proofs.Operands.{goes_anywhere, term_goes}
+use Rattle.ops_rhs.proofs.right.Right.function_from.Goals as goal
+
+pub returns-in-Genatom-clause-acts : goal.returns-in-Genatom-clause-acts
+returns-in-Genatom-clause-acts c =
+    let w = c.args.word in
+    let rest = drop c.args.at c.args.words.now in
+    goes_anywhere (IsAround c.args.around.now) _ _
+    (λ more ws s. ap (after (goes (rest ++ more)) w) (ap (λ k. function (target_of c.args.target) k ws (seen s c.args.self.now)) c.in-Genatom.is ∙ term_goes c.args.target term.Fresh (Closes EndsWhole ∷ ws) (seen s c.args.self.now)))
+    c.args.words.now (λ s. seen s c.term.new.self) c.term.result c.term.ensures.reads
+
+pub returns-in-Accept-clause-acts : goal.returns-in-Accept-clause-acts
+returns-in-Accept-clause-acts c =
+    let w = c.args.word in
+    let rest = drop c.args.at c.args.words.now in
+    goes_anywhere (IsAround c.args.around.now) _ _
+    (λ more ws s. ap (after (goes (rest ++ more)) w) (ap (λ k. function (target_of c.args.target) k ws (seen s c.args.self.now)) c.in-Accept.is ∙ term_goes c.args.target term.Accept (Closes EndsWhole ∷ ws) (seen s c.args.self.now)))
+    c.args.words.now (λ s. seen s c.term-in-Accept.new.self) c.term-in-Accept.result c.term-in-Accept.ensures.reads

@@ -1,0 +1,14 @@
+use Rattle.std.proofs.Common.{◌≡◌, List, length, ◌∷◌, ◌++◌, ◌≤◌, ◌-◌, drop}
+use Rattle.ops_meaning.specs.declared.words.Word.{Word}
+use Rattle.ops_meaning.specs.Grammar.{State, Wanted, InPut, Terms, goes}
+use Rattle.ops_rhs.specs.Taking.{seen, IsAround}
+use Rattle.ops_rhs.proofs.right.Right.read_terms.Given as goal
+
+abbrev pub invariant-terms : goal.invariant-terms
+invariant-terms l = record {
+  same : (more : List Word) (ws : List Wanted) (s : State) → IsAround l.around s → goes (drop l.fn.at l.words ++ more) (Terms InPut ∷ ws) (seen s l.fn.self) ≡ goes (drop l.rest l.words ++ more) (Terms InPut ∷ ws) (seen s l.self);
+  from : l.fn.at ≤ l.rest;
+}
+
+abbrev pub decreases-terms : goal.decreases-terms
+decreases-terms l = length l.words - l.rest

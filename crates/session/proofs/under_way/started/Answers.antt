@@ -1,6 +1,0 @@
-use Rattle.session.proofs.UnderWay.{started_is}
-use Rattle.session.proofs.under_way.started.Goals as goal
-
-pub returns-clause-begun : goal.returns-clause-begun
-returns-clause-begun g c = λ n z.
-    started_is g.row.M-Hand.Denot g.M.Matcher.stored c.start.result c.new.result c.in_ok-breaks.breaks c.args.program.now.rules n z c.new.ensures (c.start.ensures.course n z) c.in_ok-breaks.ensures

@@ -1,0 +1,21 @@
+use Rattle.std.proofs.Common.{◌∙◌, sym}
+use Rattle.ops_meaning.proofs.RisingTags.{session_goes}
+use Rattle.act_phase.specs.Outcomes.{setting_of}
+use Rattle.session.proofs.SessionEnds.{ends_on, ended_reads, ended_unread}
+use Rattle.session.proofs.whole.run_session.Goals as goal
+
+pub returns-clause-ends : goal.returns-clause-ends
+returns-clause-ends g c =
+    rw c.ended.ensures
+    (ends_on _ g.M.Matcher.stored c.do_commands-done.new.names c.do_commands-done.result _ _ _ _ _ c.do_commands-done.ensures.none_waits c.do_commands-done.ensures.performs)
+
+pub returns-clause-reads : goal.returns-clause-reads
+returns-clause-reads g c =
+    rw c.ended.ensures (ended_reads _ g.M.Matcher.stored c.do_commands-done.result _ _ c.do_commands-done.ensures.reads)
+
+pub returns-clause-written : goal.returns-clause-written
+returns-clause-written g c = λ is.
+    c.do_commands-done.ensures.written (ended_unread _ g.M.Matcher.stored c.do_commands-done.result (sym c.ended.ensures ∙ is))
+
+pub returns-clause-sets : goal.returns-clause-sets
+returns-clause-sets g c = session_goes (setting_of c.args.program.now 0) c.args.limit c.args.program.now.commands c.args.names.now

@@ -1,0 +1,73 @@
+//! A whole session, and what is told of it.
+ghost use Rattle.std.specs.Prelude.{◌≡◌, ◌^◌, ◌<◌, [], Ok, IsTrue};
+ghost use Rattle.ops_io.specs.Coming.{inlet};
+ghost use Rattle.ops_io.specs.Ports.{port};
+ghost use Rattle.ops_meaning.specs.Kept.{KeepsNames, GoesByConflictSets};
+ghost use Rattle.ops_meaning.specs.Running.{session_of};
+ghost use Rattle.act_phase.specs.Outcomes.{setting_of};
+ghost use Rattle.session.specs.Courses.{ended};
+ghost use Rattle.session.specs.Endings.{EndsOn, CountsReadFault};
+
+use crate::commands::do_commands;
+use crate::session::Session;
+use ops_base::endings::Ending;
+use ops_base::programs::Program;
+use ops_base::symbols::Names;
+use ops_io::{Input, Out, Sink, Source, Stop};
+use std::alloc::Global;
+use work_store::Matcher;
+
+/// What is told of a session once its commands are done.
+fn ended<M: Matcher>(done: Result<Session<M>, Ending>) -> Result<Ending, Stop>
+    ensures { result ≡ ended M.stored done }
+{
+    match done {
+        Ok(session) => Ok(Ending::Done {
+            firings: session.state.firings(),
+            elements: session.state.store().len() as u64,
+            last_tag: session.state.last_tag(),
+        }),
+        Err(Ending::WriteFault) => Err(Stop::Write),
+        Err(Ending::OutOfMemory) => Err(Stop::OutOfMemory),
+        Err(ending) => Ok(ending),
+    }
+}
+
+/// Does the commands of a program in order, from nothing. Each symbol keeps its spelling, and wherever the session looks for
+/// instantiations it looks at the conflict set. Where a read fails, all that was put before is written out.
+pub fn run_session<M: Matcher, I: Source, K: Sink>(
+    alloc: Global,
+    hand: &mut M::Hand,
+    program: &Program,
+    names: &mut Names,
+    matcher: M,
+    limit: u64,
+    input: &mut Input,
+    source: &mut I,
+    out: &mut Out,
+    sink: &mut K,
+) -> Result<Ending, Stop>
+    requires stands { M.stands_for matcher program.now.rules }
+    requires elements { (M.stored matcher).elements ≡ [] }
+    requires last { (M.stored matcher).last ≡ 0 }
+    requires whole { IsTrue out.old.whole }
+    requires faults { K.faults sink.old < 2 ^ 63 }
+    requires reads { I.faults source.old < 2 ^ 63 }
+    requires column { out.old.column ≡ 0 }
+    ensures ends { EndsOn result
+        (inlet input.old (I.left source.old) (I.faults source.old))
+        (inlet input.new (I.left source.new) (I.faults source.new))
+        (port (K.taken sink.old) (K.faults sink.old) out.old)
+        (port (K.taken sink.new) (K.faults sink.new) out.new)
+        names.new
+        (λ c. session_of (setting_of program.now 0) limit program.now.commands names.old c) }
+    ensures reads { CountsReadFault result (I.faults source.old) (I.faults source.new) }
+    ensures written { result ≡ Ok Ending.ReadFault → out.new.held ≡ [] }
+    ensures names { KeepsNames names.old names.new }
+    ensures sets { GoesByConflictSets (setting_of program.now 0) limit program.now.commands names.old }
+{
+    let done = do_commands(
+        alloc, hand, program, names, matcher, limit, input, source, out, sink,
+    );
+    ended(done)
+}

@@ -1,0 +1,17 @@
+pub mod Given
+pub mod Named
+pub mod Settled
+pub mod Signs
+pub mod Memory
+pub mod Made
+pub mod Fed
+pub mod Local
+pub mod Fair
+pub mod Lines
+pub mod Adding
+pub mod Keeping
+pub mod Balancing
+pub mod Runs
+pub mod Bundle
+pub mod Terminals
+pub mod LawProofs

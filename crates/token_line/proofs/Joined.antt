@@ -1,0 +1,77 @@
+-- What a node can join has one line.
+use Rattle.std.proofs.Common.{◌≡◌, ℕ, ◌%◌, true, false, List, [], ◌∷◌, map, fold, slice_index_or, refl, sym, ap, ap₂, ◌∙◌}
+use Rattle.std.specs.List.{AllByRecursion}
+use Rattle.std.proofs.lemmas.Bool.Decides.{Decides-eqb, Decides-int_eq}
+use Rattle.std.proofs.lemmas.List.Elements.{All-filter, filter_passes, recursion_from_All}
+use Rattle.std.proofs.lemmas.List.Sums.{AllPass-from_list_all}
+use Rattle.ops_base.specs.declared.values.Sym.{Sym}
+use Rattle.ops_base.specs.declared.values.Value.{Value}
+use Rattle.ops_base.specs.declared.values.Value.TheVariants.{Symbol, Whole}
+use Rattle.ops_base.specs.declared.values.Pred.{Pred}
+use Rattle.ops_base.specs.declared.values.Pred.TheVariants.{Eq, Ne, Lt, Le, Gt, Ge, SameKind}
+use Rattle.ops_base.specs.Values.{are_same, holds_of}
+use Rattle.net_base.specs.declared.nodes.Kind.{Kind}
+use Rattle.net_base.specs.declared.nodes.Kind.TheVariants.{Join, Negated, Terminal}
+use Rattle.net_base.specs.declared.nodes.JoinTest.{JoinTest}
+use Rattle.net_base.specs.declared.tasks.Side.TheVariants.{Left, Right}
+use Rattle.net_base.specs.Tokens.{Elements, join_test_holds, joins_hold}
+use Rattle.net_base.specs.Sound.{is_terminal}
+use Rattle.token_line.specs.Numbers.{value_code, mixed, is_equal, equalities, own_value, own_codes, codes_at}
+use Rattle.token_line.specs.OneLine.{HaveOneValue, OneLine, JoinedOnOneLine}
+
+-- ---- values
+
+same_symbols : (a b : Sym) → a.0 ≡ b.0 → Symbol a ≡ Symbol b
+same_symbols a b e = λ k. Symbol (record { 0 = e k })
+
+same_values : (a b : Value) → are_same a b ≡ true → a ≡ b
+same_values (Symbol a) (Symbol b) e = same_symbols a b ((Decides-eqb a.0 b.0).0 e)
+same_values (Symbol a) (Whole y) e = cc
+same_values (Whole x) (Symbol b) e = cc
+same_values (Whole x) (Whole y) e = ap Whole ((Decides-int_eq x y).0 e)
+
+equal_values : (p : Pred) (a b : Value) → is_equal p ≡ true → holds_of p a b ≡ true → a ≡ b
+equal_values Eq a b e h = same_values a b h
+equal_values Ne a b e h = cc
+equal_values Lt a b e h = cc
+equal_values Le a b e h = cc
+equal_values Gt a b e h = cc
+equal_values Ge a b e h = cc
+equal_values SameKind a b e h = cc
+
+-- a test for equality that holds finds one value on both sides
+one_value : (elements : Elements) (t : List ℕ) (e : ℕ) (j : JoinTest) → is_equal j.pred ≡ true → join_test_holds elements t e j ≡ true → own_value elements Left t j ≡ own_value elements Right (e ∷ []) j
+one_value elements t e j equal holds = sym (equal_values j.pred (own_value elements Right (e ∷ []) j) (own_value elements Left t j) equal holds)
+
+joined_have_one_value : (elements : Elements) (tests : List JoinTest) (t : List ℕ) (e : ℕ) → joins_hold tests elements t e ≡ true → HaveOneValue elements tests t e
+joined_have_one_value elements tests t e joined k d lt =
+    one_value elements t e (slice_index_or (equalities tests) k d)
+    (filter_passes (λ (j : JoinTest). is_equal j.pred) tests k d lt)
+    (All-filter (λ (j : JoinTest). is_equal j.pred) (λ j. join_test_holds elements t e j ≡ true) tests (AllPass-from_list_all (join_test_holds elements t e) tests joined) k d lt)
+
+-- ---- lines
+
+map_agree : {X Y : Type 0} (f g : X → Y) (xs : List X) → AllByRecursion (λ x. f x ≡ g x) xs → map f xs ≡ map g xs
+map_agree f g [] h = refl
+map_agree f g (x ∷ xs) h = ap₂ (λ y ys. y ∷ ys) h.0 (map_agree f g xs h.1)
+
+one_code : (elements : Elements) (tests : List JoinTest) (t : List ℕ) (e : ℕ) → HaveOneValue elements tests t e
+    → map (λ j. value_code (own_value elements Left t j)) (equalities tests) ≡ map (λ j. value_code (own_value elements Right (e ∷ []) j)) (equalities tests)
+one_code elements tests t e agree =
+    map_agree (λ j. value_code (own_value elements Left t j)) (λ j. value_code (own_value elements Right (e ∷ []) j)) (equalities tests)
+    (recursion_from_All (λ j. value_code (own_value elements Left t j) ≡ value_code (own_value elements Right (e ∷ []) j)) (equalities tests) (λ k d lt. ap value_code (agree k d lt)))
+
+same_codes : (elements : Elements) (kind : Kind) (tests : List JoinTest) (t : List ℕ) (e : ℕ) → is_terminal kind ≡ false → HaveOneValue elements tests t e → own_codes elements kind tests Left t ≡ own_codes elements kind tests Right (e ∷ [])
+same_codes elements Join tests t e inner agree = one_code elements tests t e agree
+same_codes elements Negated tests t e inner agree = one_code elements tests t e agree
+same_codes elements (Terminal rule) tests t e inner agree = cc
+
+pub one_line : OneLine
+one_line elements nodes lines n x t e at inner agree =
+    let left = ap (λ o. codes_at elements o Left t) at in
+    let right = ap (λ o. codes_at elements o Right (e ∷ [])) at in
+    ap (λ codes. fold mixed n codes % lines) (left ∙ (same_codes elements x.kind x.joins t e inner agree ∙ sym right))
+
+pub joined_on_one_line : JoinedOnOneLine
+joined_on_one_line elements nodes lines n x t e at inner joined =
+    one_line elements nodes lines n x t e at inner (joined_have_one_value elements x.joins t e joined)

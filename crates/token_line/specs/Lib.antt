@@ -1,0 +1,8 @@
+-- Signed tokens, the lines that hold them, and the numbers of these.
+pub mod Bags
+pub mod Numbers
+pub mod Held
+pub mod OneLine
+pub mod Sums
+pub mod Lines
+pub mod Lawful

@@ -1,0 +1,143 @@
+//! A line: the tokens of every node that stand on it, and what was done there in this phase.
+ghost use Rattle.std.specs.Prelude.{◌≡◌, ◌∷◌, ◌++◌, ◌==◌, ◌&&◌, ◌+ℤ◌, List, OnErr, OnOk, [], bytes_eq, if◌then◌else◌, pos, ℕ};
+ghost use Rattle.std.specs.Option.{option_copied};
+ghost use Rattle.net_base.specs.declared.tasks.Side.{Side};
+ghost use Rattle.net_base.specs.declared.tasks.Side.TheVariants.{Left, Right};
+ghost use Rattle.token_line.specs.Bags.{after, are_same_sides, sign};
+ghost use Rattle.token_line.specs.Lines.{memory_at, sum_among, sum_in};
+
+use crate::memory::Memory;
+use indexmap::IndexMap;
+use net_base::tags::Tags;
+use net_base::tasks::{Side, Task};
+use ops_base::list::Listed;
+use ops_base::memory::OutOfMemory;
+use std::alloc::Global;
+
+/// A task that was done, and the tasks that it gave.
+#[derive(Drop)]
+pub struct Entry {
+    pub task: Task,
+    pub children: Listed<Task>,
+}
+
+/// The tokens that stand on one line, by their nodes, and what was done there since the phase began, in this order.
+#[derive(Drop)]
+pub struct Line {
+    number: usize,
+    memories: IndexMap<usize, Memory>,
+    entries: Vec<Entry>,
+}
+
+/// Adds the insert or the delete of a token of one node to its sum, or changes no sum.
+fn add_at(
+    memories: &mut IndexMap<usize, Memory>,
+    alloc: Global,
+    node: usize,
+    side: Side,
+    token: Tags,
+    plus: bool,
+) -> Result<(), OutOfMemory>
+    ensures ok { OnOk result ((n : ℕ) (s : Side) (t : List ℕ) → sum_among memories.new n s t ≡ sum_among memories.old n s t +ℤ (if (n == node) && (are_same_sides s side && bytes_eq t token) then sign plus else pos 0)) }
+    ensures err { OnErr result ((n : ℕ) (s : Side) (t : List ℕ) → sum_among memories.new n s t ≡ sum_among memories.old n s t) }
+{
+    match memories.get_mut(&node) {
+        Some(memory) => memory.add(side, token, plus),
+        None => {
+            let mut memory = Memory::new(alloc);
+            memory.add(side, token, plus)?;
+            memories.insert(node, memory)?;
+            Ok(())
+        }
+    }
+}
+
+impl Line {
+    /// A line with no tokens, on which nothing was done. Takes no memory.
+    pub fn new(alloc: Global, number: usize) -> Line
+        ensures number { result.number ≡ number }
+        ensures sums { (n : ℕ) (s : Side) (t : List ℕ) → sum_in result n s t ≡ pos 0 }
+        ensures entries { result.entries.items ≡ [] }
+    {
+        Line {
+            number,
+            memories: IndexMap::new(alloc),
+            entries: Vec::new(alloc),
+        }
+    }
+
+    /// Takes no memory.
+    pub fn number(&self) -> usize
+        ensures { result ≡ self.now.number }
+    {
+        self.number
+    }
+
+    /// The tokens of a node, none where no token of it ever came. Takes no memory.
+    pub fn memory(&self, node: usize) -> Option<&Memory>
+        ensures { option_copied result ≡ memory_at self.now node }
+    {
+        self.memories.get(&node)
+    }
+
+    /// The sum of a left token of a node, 0 where it is not kept. Takes no memory.
+    pub fn left_sum(&self, node: usize, token: &Tags) -> i64
+        ensures { result ≡ sum_in self.now node Left token.now }
+    {
+        match self.memories.get(&node) {
+            Some(memory) => memory.left_sum(token),
+            None => 0,
+        }
+    }
+
+    /// The sum of a right token of a node, 0 where it is not kept. Takes no memory.
+    pub fn right_sum(&self, node: usize, token: &Tags) -> i64
+        ensures { result ≡ sum_in self.now node Right token.now }
+    {
+        match self.memories.get(&node) {
+            Some(memory) => memory.right_sum(token),
+            None => 0,
+        }
+    }
+
+    /// What was done since the phase began, in this order. Takes no memory.
+    pub fn entries(&self) -> &[Entry]
+        ensures { result.now ≡ self.now.entries.items }
+    {
+        self.entries.as_slice()
+    }
+
+    #[tactic(auto, unfolding(crate::specs::Bags::sign_at))]
+    /// Adds the entry at the end, and its task to the sum of its token. Where memory runs out, or a sum would not fit,
+    /// nothing has changed.
+    pub fn add(&mut self, alloc: Global, entry: Entry) -> Result<(), OutOfMemory>
+        ensures sums { OnOk result ((n : ℕ) (s : Side) (t : List ℕ) → sum_in self.new n s t ≡ after (sum_in self.old) entry.task n s t) }
+        ensures entries { OnOk result (self.new.entries.items ≡ self.old.entries.items ++ entry ∷ []) }
+        ensures same_sums { OnErr result ((n : ℕ) (s : Side) (t : List ℕ) → sum_in self.new n s t ≡ sum_in self.old n s t) }
+        ensures same_entries { OnErr result (self.new.entries.items ≡ self.old.entries.items) }
+        ensures number { self.new.number ≡ self.old.number }
+    {
+        let task = &entry.task;
+        let token = task.token.copy(alloc)?;
+        self.entries.reserve(1)?;
+        add_at(
+            &mut self.memories,
+            alloc,
+            task.node,
+            task.side,
+            token,
+            task.plus,
+        )?;
+        self.entries.push_reserved(entry);
+        Ok(())
+    }
+
+    /// Begins a phase: nothing was done. Takes no memory.
+    pub fn clear_phase(&mut self)
+        ensures sums { (n : ℕ) (s : Side) (t : List ℕ) → sum_in self.new n s t ≡ sum_in self.old n s t }
+        ensures entries { self.new.entries.items ≡ [] }
+        ensures number { self.new.number ≡ self.old.number }
+    {
+        self.entries.clear();
+    }
+}

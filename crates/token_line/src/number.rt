@@ -1,0 +1,102 @@
+//! The number of the line on which a token stands. Tokens that an equality test can join have one line.
+ghost use Rattle.std.specs.Prelude.{◌≡◌, ◌<◌, ◌≤◌, fold, map, slice_index};
+ghost use Rattle.net_base.specs.Tokens.{field_in};
+ghost use Rattle.work_store.specs.Stored.{held_of};
+ghost use Rattle.token_line.specs.Numbers.{equalities, is_equal, line_number, mixed, own_codes, own_value, value_code};
+
+use net_base::net::Net;
+use net_base::nodes::{JoinTest, Kind, Node};
+use net_base::tasks::{Side, Task};
+use ops_base::values::{NIL, Pred, Value};
+use work_store::Store;
+
+fn value_code(value: Value) -> u64
+    ensures { result ≡ value_code value }
+{
+    match value {
+        Value::Symbol(symbol) => symbol.0,
+        Value::Whole(number) => number.cast_unsigned(),
+    }
+}
+
+#[tactic(auto, unfolding(crate::specs::Numbers::mixed))]
+fn mixed(code: u64, next: u64) -> u64
+    ensures { result ≡ mixed code next }
+{
+    code.wrapping_mul(31).wrapping_add(next)
+}
+
+fn is_equal(pred: Pred) -> bool
+    ensures { result ≡ is_equal pred }
+{
+    match pred {
+        Pred::Eq => true,
+        Pred::Ne | Pred::Lt | Pred::Le | Pred::Gt | Pred::Ge | Pred::SameKind => false,
+    }
+}
+
+/// The field of the element that the tag names, present or kept.
+fn field_of(store: &Store, tag: u64, field: usize) -> Value
+    ensures { result ≡ field_in (held_of store.now tag) field }
+{
+    match store.kept(tag) {
+        Some(element) => element.field(field),
+        None => Value::Symbol(NIL),
+    }
+}
+
+fn tag_at(tags: &[u64], place: usize) -> u64
+    ensures { result ≡ slice_index tags.now place }
+{
+    match tags.get(place) {
+        Some(tag) => *tag,
+        None => 0,
+    }
+}
+
+/// What the token has at the test: a field of the element that it names there.
+fn own_value(store: &Store, side: Side, tags: &[u64], test: &JoinTest) -> Value
+    ensures { result ≡ own_value (held_of store.now) side tags.now test.now }
+{
+    match side {
+        Side::Left => field_of(store, tag_at(tags, test.place), test.other),
+        Side::Right => field_of(store, tag_at(tags, 0), test.field),
+    }
+}
+
+/// The code, with the token's values at the tests for equality mixed in.
+fn with_values(store: &Store, side: Side, tags: &[u64], tests: &[JoinTest], code: u64) -> u64
+    ensures { result ≡ fold mixed code (map (λ j. value_code (own_value (held_of store.now) side tags.now j)) (equalities tests.now)) }
+{
+    tests
+        .iter()
+        .filter(|test| is_equal(test.pred))
+        .map(|test| value_code(own_value(store, side, tags, test)))
+        .fold(code, mixed)
+}
+
+/// The code, with all that the token's line goes by mixed in.
+pub(crate) fn with_token(store: &Store, node: &Node, side: Side, tags: &[u64], code: u64) -> u64
+    ensures { result ≡ fold mixed code (own_codes (held_of store.now) node.now.kind node.now.joins side tags.now) }
+{
+    match node.kind {
+        Kind::Join | Kind::Negated => {
+            with_values(store, side, tags, node.joins.as_slice(), code)
+        }
+        Kind::Terminal { rule: _ } => tags.iter().copied().fold(code, mixed),
+    }
+}
+
+/// The line of the task's token, where there are so many lines. Looks at each test of the node, and takes no memory.
+pub fn line_of(net: &Net, store: &Store, task: &Task, lines: usize) -> usize
+    requires { 1 ≤ lines }
+    ensures number { result ≡ line_number (held_of store.now) net.now.nodes lines task.now.node task.now.side task.now.token }
+    ensures below { result < lines }
+{
+    let start = task.node as u64;
+    let code = match net.nodes().get(task.node) {
+        Some(node) => with_token(store, node, task.side, task.token.as_slice(), start),
+        None => start,
+    };
+    (code % lines as u64) as usize
+}

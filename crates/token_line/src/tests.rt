@@ -1,0 +1,143 @@
+//! The numbers of lines, and a line to which tasks come, with ample memory.
+ghost use Rattle.std.specs.Prelude.{◌≡◌, IfOk};
+
+use crate::line::{Entry, Line};
+use crate::number::{line_of, with_token};
+use net_base::net::Net;
+use net_base::nodes::{JoinTest, Kind, Node};
+use net_base::tags::Tags;
+use net_base::tasks::{Side, Task};
+use ops_base::elements::Element;
+use ops_base::list::Listed;
+use ops_base::memory::OutOfMemory;
+use ops_base::values::{Pred, Value};
+use std::alloc::Global;
+use std::test::Fail;
+use work_store::Store;
+
+// a token arrives or leaves at node 3
+fn entry(alloc: Global, side: Side, plus: bool) -> Result<Entry, OutOfMemory> {
+    let token = Tags::from_slice(alloc, &[2])?;
+    let task = Task {
+        node: 3,
+        side,
+        plus,
+        token,
+    };
+    let children = Listed::new(alloc);
+    Ok(Entry { task, children })
+}
+
+fn come(alloc: Global, line: &mut Line, side: Side, plus: bool) -> Result<(), OutOfMemory> {
+    let entry = entry(alloc, side, plus)?;
+    line.add(alloc, entry)
+}
+
+// the sums of that token at a node
+fn sums(alloc: Global, line: &Line, node: usize) -> Result<(i64, i64), OutOfMemory> {
+    let token = Tags::from_slice(alloc, &[2])?;
+    Ok((line.left_sum(node, &token), line.right_sum(node, &token)))
+}
+
+// how many tokens of node 3 are kept
+fn kept(line: &Line) -> Option<(usize, usize)> {
+    let memory = line.memory(3)?;
+    Some((memory.left().len(), memory.right().len()))
+}
+
+// how many entries there are, and how many of them are inserts
+fn done(line: &Line) -> (usize, usize) {
+    let inserts = line
+        .entries()
+        .iter()
+        .filter(|entry| entry.task.plus)
+        .count();
+    (line.entries().len(), inserts)
+}
+
+#[test]
+fn a_line_begins_with_nothing(rt: HostRuntime) -> Result<(), Fail> {
+    let line = Line::new(rt.alloc(), 7);
+    assert_eq!(rt; line.number(), 7);
+    assert_eq!(rt;
+        (sums(rt.alloc(), &line, 3)?, done(&line)),
+        ((0, 0), (0, 0))
+    );
+    assert_eq!(rt; kept(&line), None);
+    Ok(())
+}
+
+#[test]
+fn tasks_come_to_a_line(rt: HostRuntime) -> Result<(), Fail> {
+    let mut line = Line::new(rt.alloc(), 7);
+    come(rt.alloc(), &mut line, Side::Left, false)?;
+    come(rt.alloc(), &mut line, Side::Right, true)?;
+    assert_eq!(rt; sums(rt.alloc(), &line, 3)?, (-1, 1));
+    assert_eq!(rt; sums(rt.alloc(), &line, 4)?, (0, 0));
+
+    come(rt.alloc(), &mut line, Side::Left, true)?;
+    assert_eq!(rt; (kept(&line), done(&line)), (Some((0, 1)), (3, 2)));
+    line.clear_phase();
+    assert_eq!(rt;
+        (sums(rt.alloc(), &line, 3)?, done(&line)),
+        ((0, 1), (0, 0))
+    );
+    Ok(())
+}
+
+// an element with one field
+fn element(alloc: Global, tag: u64, value: i64) -> Result<Element, OutOfMemory>
+    ensures { IfOk result (λ e. e.tag ≡ tag) }
+{
+    let mut fields = Listed::new(alloc);
+    fields.push(Value::Whole(value))?;
+    Ok(Element {
+        tag,
+        class: 0,
+        fields,
+    })
+}
+
+// compares the one field of two elements
+fn equal_join(alloc: Global) -> Result<Node, OutOfMemory> {
+    let mut joins = Listed::new(alloc);
+    joins.push(JoinTest {
+        field: 0,
+        pred: Pred::Eq,
+        place: 0,
+        other: 0,
+    })?;
+    Ok(Node {
+        kind: Kind::Join,
+        parent: None,
+        class: 0,
+        alpha: 0,
+        joins,
+        children: Listed::new(alloc),
+        depth: 1,
+    })
+}
+
+#[test]
+fn equal_values_have_one_code(rt: HostRuntime) -> Result<(), Fail> {
+    let mut store = Store::new(rt.alloc());
+    store.add(element(rt.alloc(), 1, 40)?)?;
+    store.add(element(rt.alloc(), 2, 40)?)?;
+    let node = equal_join(rt.alloc())?;
+    assert_eq!(rt; with_token(&store, &node, Side::Left, &[1], 5), 195);
+    assert_eq!(rt; with_token(&store, &node, Side::Right, &[2], 5), 195);
+    Ok(())
+}
+
+fn no_nodes(alloc: Global) -> Net {
+    Net::new(Listed::new(alloc), Listed::new(alloc))
+}
+
+#[test]
+fn a_line_has_a_number_within_bounds(rt: HostRuntime) -> Result<(), Fail> {
+    let net = no_nodes(rt.alloc());
+    let store = Store::new(rt.alloc());
+    let task = entry(rt.alloc(), Side::Left, true)?.task;
+    assert_eq!(rt; line_of(&net, &store, &task, 2), 1);
+    Ok(())
+}
