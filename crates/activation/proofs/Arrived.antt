@@ -15,6 +15,10 @@ both : (a b : Bool) → (a && b) ≡ true → (a ≡ true) × (b ≡ true)
 both true b e = (refl, e)
 both false b e = absurd (cc)
 
+pub and_false : (b : Bool) → (b && false) ≡ false
+and_false true = refl
+and_false false = refl
+
 are_same_sides-true : (a b : Side) → are_same_sides a b ≡ true → a ≡ b
 are_same_sides-true Left Left e = refl
 are_same_sides-true Right Right e = refl

@@ -47,10 +47,10 @@ times_in-append : (n : ℕ) (xs ys : List ℕ) → times_in n (xs ++ ys) ≡ tim
 times_in-append n [] ys = omega arith
 times_in-append n (x ∷ xs) ys = omega (arith, times_in-append n xs ys)
 
-eqb-same : (n : ℕ) → (n == n) ≡ true
+pub eqb-same : (n : ℕ) → (n == n) ≡ true
 eqb-same n = grind (arith, nat_tests)
 
-eqb-apart : (n i : ℕ) → n ≢ i → (n == i) ≡ false
+pub eqb-apart : (n i : ℕ) → n ≢ i → (n == i) ≡ false
 eqb-apart n i ne = by (n == i) refl
   where
     by : (b : Bool) → (n == i) ≡ b → b ≡ false

@@ -32,7 +32,7 @@ stays (negsuc n) false e = let less : negsuc n +ℤ negsuc 0 ≡ negsuc (suc n) 
 
 -- ---- at one token
 
-agreed : (j h : Bool) (m : ℕ) → (m ≢ 0 → j ≡ h) → cond h m 0 ≡ cond j m 0
+pub agreed : (j h : Bool) (m : ℕ) → (m ≢ 0 → j ≡ h) → cond h m 0 ≡ cond j m 0
 agreed true true m same = refl
 agreed false false m same = refl
 agreed true false zero same = refl

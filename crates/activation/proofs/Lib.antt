@@ -2,8 +2,15 @@ pub mod Signed
 pub mod Childhood
 pub mod Widths
 pub mod Agreed
+pub mod CountBelow
 pub mod PutNumbers
 pub mod JoinChange
 pub mod Arrived
+pub mod Outs
+pub mod AtNode
 pub mod PutOutLemmas
+pub mod Matching
+pub mod NegatedChange
+pub mod EffectLemmas
 pub mod Acted
+pub mod Recounted

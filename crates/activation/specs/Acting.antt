@@ -1,30 +1,36 @@
 -- What a task does on its line.
-use Rattle.std.specs.Prelude.{◌≡◌, ◌≢◌, ℕ, ◌+◌, ℤ, pos, neg_ℤ, ◌+ℤ◌, Bool, true, false, List, [], ◌∷◌, ◌++◌, bytes_eq, length, slice_get, Some, IsSome, All, if◌then◌else◌}
+use Rattle.std.specs.Prelude.{◌≡◌, ◌≢◌, ℕ, ◌+◌, ◌-◌, ◌^◌, ◌<◌, ◌&&◌, ℤ, pos, neg_ℤ, ◌+ℤ◌, Bool, true, false, List, [], ◌∷◌, ◌++◌, bytes_eq, length, slice_get, Some, IsSome, All, if◌then◌else◌}
 use Rattle.indexmap.specs.IndexMap.{IsUnique}
 use Rattle.work_store.specs.Stored.{Stored, held_of}
+use Rattle.net_base.specs.declared.nodes.JoinTest.{JoinTest}
 use Rattle.net_base.specs.declared.nodes.Node.{Node}
 use Rattle.net_base.specs.declared.tasks.Side.{Side}
+use Rattle.net_base.specs.declared.tasks.Side.TheVariants.{Left, Right}
 use Rattle.net_base.specs.declared.tasks.Task.{Task}
-use Rattle.net_base.specs.Sound.{is_join, is_negated, width}
-use Rattle.net_base.specs.Tokens.{Elements}
+use Rattle.net_base.specs.Sound.{is_negated, is_terminal, width}
+use Rattle.net_base.specs.Tokens.{Elements, count_below, joins_hold}
 use Rattle.token_line.specs.declared.line.Entry.{Entry}
 use Rattle.token_line.specs.declared.line.Line.{Line}
 use Rattle.token_line.specs.declared.memory.Memory.{Memory}
-use Rattle.token_line.specs.Bags.{after}
+use Rattle.token_line.specs.Bags.{Bag, after, are_same_sides, standing_at}
 use Rattle.token_line.specs.Held.{Agrees, Fits, TaskFits}
 use Rattle.token_line.specs.Lawful.{IsLawful, out_at}
-use Rattle.token_line.specs.Lines.{sum_in}
+use Rattle.token_line.specs.Lines.{blockers_in, sum_in}
+use Rattle.activation.specs.declared.effects.Effect.{Effect}
 use Rattle.activation.specs.declared.putting.Put.{Put}
+use Rattle.activation.specs.Putting.{changes}
 
--- ---- what is asked of a line and a task
+-- ---- what is asked of a line
 
--- the node is a join or a terminal, if it is there
-abbrev pub IsJoinOrTerminal : List Node → ℕ → Type 0
-IsJoinOrTerminal nodes n = (x : Node) → slice_get nodes n ≡ Some x → is_negated x.kind ≡ false
+-- how often right tokens stand that match this left token of the node, over these sums; all tags are below 2 ^ 64
+abbrev pub matching : Elements → List JoinTest → Bag → ℕ → List ℕ → ℕ
+matching elements tests b n t = count_below (2 ^ 64) (joins_hold tests elements t) (standing_at b n Right)
 
--- each token of the line that has a sum other than 0 fits
-abbrev pub IsCounted : List Node → Stored → Line → Type 0
-IsCounted nodes s line = (n : ℕ) (side : Side) (t : List ℕ) → sum_in line n side t ≢ pos 0 → Fits nodes s n side t
+-- Each token of the line that has a sum other than 0 fits, and with each left token of a negated node the line keeps how often right tokens stand that match it.
+pub record IsCounted (nodes : List Node) (s : Stored) (line : Line) : Type 0 where
+  pub fit : (n : ℕ) (side : Side) (t : List ℕ) → sum_in line n side t ≢ pos 0 → Fits nodes s n side t
+  pub counts : (n : ℕ) (x : Node) (t : List ℕ) → slice_get nodes n ≡ Some x → is_negated x.kind ≡ true → sum_in line n Left t ≢ pos 0
+      → blockers_in line n t ≡ matching (held_of s) x.joins (sum_in line) n t
 
 -- ---- what a node puts out for a task
 
@@ -43,11 +49,18 @@ pub record IsOutOf (nodes : List Node) (s : Stored) (n : ℕ) (t : List ℕ) : T
   pub width : length t ≡ width nodes n
   pub held : All (λ tag. IsSome (held_of s tag)) t
 
--- These tokens, with the task's sign, are the change of what its node puts out, if that is a join.
-pub record IsPutOut (nodes : List Node) (s : Stored) (line : Line) (x : Task) (puts : List Put) : Type 0 where
-  pub fit : All (λ p. IsOutOf nodes s x.node p.token) puts
-  pub change : (node : Node) (elements : Elements) (t : List ℕ) → slice_get nodes x.node ≡ Some node → is_join node.kind ≡ true → Agrees s elements
-      → signed x.plus (number_put t puts) +ℤ pos (out_at elements nodes (sum_in line) x.node t) ≡ pos (out_at elements nodes (after (sum_in line) x) x.node t)
+-- What the task does at its node: what is put out, with the sign, is the change of what the node puts out, where the node can have children. At a negated
+-- node a left token is kept with how often right tokens stand that match it, and a right token is one blocker more, or one less, just where it stands once more
+-- or once less; each left token has room for that.
+pub record IsEffect (nodes : List Node) (s : Stored) (line : Line) (x : Task) (e : Effect) : Type 0 where
+  pub fit : All (λ p. IsOutOf nodes s x.node p.token) e.puts
+  pub change : (node : Node) (elements : Elements) (t : List ℕ) → slice_get nodes x.node ≡ Some node → is_terminal node.kind ≡ false → Agrees s elements
+      → signed e.plus (number_put t e.puts) +ℤ pos (out_at elements nodes (sum_in line) x.node t) ≡ pos (out_at elements nodes (after (sum_in line) x) x.node t)
+  pub blockers : (node : Node) → slice_get nodes x.node ≡ Some node → is_negated node.kind ≡ true → x.side ≡ Left
+      → e.blockers ≡ matching (held_of s) node.joins (sum_in line) x.node x.token
+  pub blocks : (node : Node) → slice_get nodes x.node ≡ Some node
+      → e.blocks ≡ (is_negated node.kind && (are_same_sides Right x.side && changes (sum_in line x.node x.side x.token) x.plus))
+  pub room : e.blocks ≡ true → x.plus ≡ true → (t : List ℕ) → sum_in line x.node Left t ≢ pos 0 → blockers_in line x.node t < 2 ^ 64 - 1
 
 -- no token is kept twice on one side, and none with a sum of 0
 pub record AreKept (m : Memory) : Type 0 where

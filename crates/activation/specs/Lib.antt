@@ -1,5 +1,8 @@
 -- What one task gives, and what it leaves of its line.
 pub mod Putting
+pub mod Negating
+pub mod Effects
 pub mod Children
 pub mod Acting
 pub mod OneJoin
+pub mod OneNegated

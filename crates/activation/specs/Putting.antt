@@ -1,5 +1,5 @@
 -- What a join puts out for a task, over the tokens of its line.
-use Rattle.std.specs.Prelude.{ℕ, zero, suc, ℤ, pos, negsuc, Bool, true, false, List, [], ◌∷◌, ◌++◌, slice_index, if◌then◌else◌}
+use Rattle.std.specs.Prelude.{ℕ, zero, suc, ℤ, pos, negsuc, Bool, true, false, List, [], ◌∷◌, ◌++◌, slice_index, Option, Some, None, if◌then◌else◌}
 use Rattle.std.specs.List.{flat_map}
 use Rattle.net_base.specs.declared.nodes.JoinTest.{JoinTest}
 use Rattle.net_base.specs.declared.tasks.Side.{Side}
@@ -18,21 +18,31 @@ changes (pos zero) false = false
 changes (pos (suc n)) false = true
 changes (negsuc n) false = false
 
--- ---- what a node puts out
+-- ---- the tokens of a node, none where no token of it ever came
 
--- the left token with the tag behind it, as often as the partner stands that has this sum, where the two join
-abbrev pub put_if : Bool → List ℕ → ℕ → ℤ → List Put
-put_if joined t tag sum = if joined then record { token = t ++ tag ∷ []; times = standing sum } ∷ [] else []
+abbrev pub left_entries : Option Memory → List (List ℕ × Cell)
+left_entries None = []
+left_entries (Some m) = m.left.entries
+
+abbrev pub right_entries : Option Memory → List (List ℕ × ℤ)
+right_entries None = []
+right_entries (Some m) = m.right.entries
+
+-- ---- what a join puts out
+
+-- the token, as often as one of this sum stands, where the test holds
+abbrev pub put_if : Bool → List ℕ → ℤ → List Put
+put_if holds t sum = if holds then record { token = t; times = standing sum } ∷ [] else []
 
 -- for one left token more or less: it with each right token that joins it
 abbrev pub put_for_left : List JoinTest → Elements → List ℕ → List (List ℕ × ℤ) → List Put
-put_for_left tests elements t right = flat_map (λ e. put_if (joins_hold tests elements t (slice_index e.0 0)) t (slice_index e.0 0) e.1) right
+put_for_left tests elements t right = flat_map (λ e. put_if (joins_hold tests elements t (slice_index e.0 0)) (t ++ slice_index e.0 0 ∷ []) e.1) right
 
 -- for one right token more or less: each left token that joins it, with its tag
 abbrev pub put_for_right : List JoinTest → Elements → ℕ → List (List ℕ × Cell) → List Put
-put_for_right tests elements tag left = flat_map (λ e. put_if (joins_hold tests elements e.0 tag) e.0 tag e.1.sum) left
+put_for_right tests elements tag left = flat_map (λ e. put_if (joins_hold tests elements e.0 tag) (e.0 ++ tag ∷ []) e.1.sum) left
 
 -- the same of a task that changes how often its token stands, by the side of the token
-abbrev pub put_for : List JoinTest → Elements → Memory → Side → List ℕ → List Put
-put_for tests elements m Left t = put_for_left tests elements t m.right.entries
-put_for tests elements m Right t = put_for_right tests elements (slice_index t 0) m.left.entries
+abbrev pub put_for : List JoinTest → Elements → Option Memory → Side → List ℕ → List Put
+put_for tests elements m Left t = put_for_left tests elements t (right_entries m)
+put_for tests elements m Right t = put_for_right tests elements (slice_index t 0) (left_entries m)

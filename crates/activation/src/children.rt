@@ -3,6 +3,7 @@ ghost use Rattle.std.specs.Prelude.{◌≡◌, ◌++◌, IfOk, OnOk, replicate, 
 ghost use Rattle.net_base.specs.Sound.{IsSound};
 ghost use Rattle.activation.specs.Children.{child, children_at, children_of, to_each};
 
+use crate::effects::Effect;
 use crate::putting::{Put, node_at};
 use net_base::net::Net;
 use net_base::tasks::{Side, Task};
@@ -63,18 +64,19 @@ pub(crate) fn children_of(
     Ok(made)
 }
 
-/// The tasks for the children of the task's node, with the task's sign.
+/// The tasks for the children of the node, of what is put out there.
 pub(crate) fn children_for(
     alloc: Global,
     net: &Net,
-    task: &Task,
-    puts: &[Put],
+    node: usize,
+    effect: &Effect,
 ) -> Result<Vec<Task>, OutOfMemory>
-    ensures children { IfOk result (λ v. v.items ≡ children_at (slice_get net.now.nodes task.now.node) task.now.plus puts.now) }
+    ensures children { IfOk result (λ v. v.items ≡ children_at (slice_get net.now.nodes node) effect.now.plus effect.now.puts) }
     ensures sound { IsSound net.now.alphas net.now.nodes }
 {
-    match node_at(net, task.node) {
-        Some(node) => children_of(alloc, node.children.as_slice(), task.plus, puts),
+    let puts = effect.puts.as_slice();
+    match node_at(net, node) {
+        Some(node) => children_of(alloc, node.children.as_slice(), effect.plus, puts),
         None => Ok(Vec::new(alloc)),
     }
 }

@@ -1,9 +1,10 @@
-//! One task of the match, done on its line: the tasks that it gives, and the change of its sum.
+//! One task of the match, done on its line: the tasks that it gives, and the change of its sum and of what blocks left tokens.
 #![tactic(auto)]
 
 mod acting;
 mod children;
-mod joining;
+mod effects;
+mod negating;
 mod putting;
 #[cfg(test)]
 mod tests;

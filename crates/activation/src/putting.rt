@@ -4,20 +4,17 @@ ghost use Rattle.std.specs.Option.{option_copied};
 ghost use Rattle.work_store.specs.Stored.{held_of};
 ghost use Rattle.net_base.specs.Sound.{IsSound};
 ghost use Rattle.token_line.specs.Bags.{standing};
-ghost use Rattle.token_line.specs.Held.{TaskFits};
-ghost use Rattle.token_line.specs.Sums.{side_sum};
+ghost use Rattle.token_line.specs.Lines.{sum_in};
 ghost use Rattle.activation.specs.Putting.{changes, put_for, put_for_left, put_for_right};
-ghost use Rattle.activation.specs.Acting.{AreKept, IsCounted, IsPutOut};
 
-use crate::joining::{joins, tag_at};
 use indexmap::IndexMap;
 use net_base::net::Net;
-use net_base::nodes::{JoinTest, Kind, Node};
+use net_base::nodes::{JoinTest, Node};
 use net_base::tags::Tags;
 use net_base::tasks::{Side, Task};
 use ops_base::memory::OutOfMemory;
 use std::alloc::Global;
-use token_line::{Cell, Line, Memory};
+use token_line::{Cell, Line, Memory, joins, tag_at};
 use work_store::Store;
 
 /// A token that a node puts out, and how often.
@@ -28,7 +25,7 @@ pub(crate) struct Put {
 }
 
 /// How often a token of this sum stands.
-fn standing(sum: i64) -> u64
+pub(crate) fn standing(sum: i64) -> u64
     ensures { result ≡ standing sum }
 {
     if sum > 0 { sum as u64 } else { 0 }
@@ -86,20 +83,20 @@ fn put_for_right(
 }
 
 /// The sum of the task's token.
-fn sum_of(memory: &Memory, task: &Task) -> i64
-    ensures { result ≡ side_sum memory.now.left memory.now.right task.now.side task.now.token }
+fn sum_of(line: &Line, task: &Task) -> i64
+    ensures { result ≡ sum_in line.now task.now.node task.now.side task.now.token }
 {
     match task.side {
-        Side::Left => memory.left_sum(&task.token),
-        Side::Right => memory.right_sum(&task.token),
+        Side::Left => line.left_sum(task.node, &task.token),
+        Side::Right => line.right_sum(task.node, &task.token),
     }
 }
 
 /// Whether the task changes how often its token stands. A delete that comes before its insert does not, and nor does that insert.
-fn changes(memory: &Memory, task: &Task) -> bool
-    ensures { result ≡ changes (side_sum memory.now.left memory.now.right task.now.side task.now.token) task.now.plus }
+pub(crate) fn changes(line: &Line, task: &Task) -> bool
+    ensures { result ≡ changes (sum_in line.now task.now.node task.now.side task.now.token) task.now.plus }
 {
-    let sum = sum_of(memory, task);
+    let sum = sum_of(line, task);
     if task.plus { sum >= 0 } else { sum > 0 }
 }
 
@@ -108,17 +105,20 @@ pub(crate) fn put_by_join(
     alloc: Global,
     store: &Store,
     tests: &[JoinTest],
-    memory: &Memory,
+    memory: Option<&Memory>,
     task: &Task,
 ) -> Result<Vec<Put>, OutOfMemory>
-    ensures puts { IfOk result (λ v. v.items ≡ put_for tests.now (held_of store.now) memory.now task.now.side task.now.token) }
-    ensures kept { AreKept memory.now }
+    ensures { IfOk result (λ v. v.items ≡ put_for tests.now (held_of store.now) (option_copied memory.entry) task.now.side task.now.token) }
 {
-    let left = memory.left();
-    let right = memory.right();
+    let Some(memory) = memory else {
+        return Ok(Vec::new(alloc));
+    };
     match task.side {
-        Side::Left => put_for_left(alloc, store, tests, &task.token, right),
-        Side::Right => put_for_right(alloc, store, tests, tag_at(task.token.as_slice(), 0), left),
+        Side::Left => put_for_left(alloc, store, tests, &task.token, memory.right()),
+        Side::Right => {
+            let tag = tag_at(task.token.as_slice(), 0);
+            put_for_right(alloc, store, tests, tag, memory.left())
+        }
     }
 }
 
@@ -128,33 +128,4 @@ pub(crate) fn node_at(net: &Net, number: usize) -> Option<&Node>
     ensures sound { IsSound net.now.alphas net.now.nodes }
 {
     net.nodes().get(number)
-}
-
-/// What the task's node puts out for it, before the task counts on its line. A terminal puts out nothing.
-pub(crate) fn put_out(
-    alloc: Global,
-    net: &Net,
-    store: &Store,
-    line: &Line,
-    task: &Task,
-) -> Result<Vec<Put>, OutOfMemory>
-    requires fits { TaskFits net.now.nodes store.now task.now }
-    requires counted { IsCounted net.now.nodes store.now line.now }
-    ensures { IfOk result (λ v. IsPutOut net.now.nodes store.now line.now task.now v.items) }
-{
-    let Some(node) = node_at(net, task.node) else {
-        return Ok(Vec::new(alloc));
-    };
-    let Some(memory) = line.memory(task.node) else {
-        return Ok(Vec::new(alloc));
-    };
-    match node.kind {
-        Kind::Join => {
-            if !changes(memory, task) {
-                return Ok(Vec::new(alloc));
-            }
-            put_by_join(alloc, store, node.joins.as_slice(), memory, task)
-        }
-        Kind::Negated | Kind::Terminal { rule: _ } => Ok(Vec::new(alloc)),
-    }
 }

@@ -5,6 +5,15 @@ pub mod Signs
 pub mod Memory
 pub mod Made
 pub mod Fed
+pub mod Results
+pub mod FedTasks
+pub mod RootTokens
+pub mod Counted
+pub mod Clearing
+pub mod Starting
+pub mod Started
+pub mod Placed
+pub mod Activating
 pub mod Local
 pub mod Fair
 pub mod Lines

@@ -1,4 +1,9 @@
--- Signed tokens, the lines that hold them, the steps of their match, and the laws of it.
+-- The steps of a match, the laws of it, and the world in which code takes the steps.
 pub mod Machine
 pub mod Phases
 pub mod Laws
+pub mod Feeding
+pub mod Starts
+pub mod Clearing
+pub mod Worlds
+pub mod TwoJoins

@@ -1,4 +1,12 @@
-//! The laws of a parallel match: what every list of its steps keeps, and what the lines hold where nothing is under way.
+//! The world of a parallel match and its steps, and the laws of these: what every list of steps keeps, and what the lines hold where
+//! nothing is under way.
 #![tactic(auto)]
 
+mod feeding;
 pub mod laws;
+mod start;
+#[cfg(test)]
+mod tests;
+pub mod world;
+
+pub use world::{Step, World};

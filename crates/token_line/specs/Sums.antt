@@ -1,5 +1,5 @@
--- The sums that are kept of the tokens of one side of a node.
-use Rattle.std.specs.Prelude.{◌≡◌, ◌≢◌, List, ℕ, ℤ, pos, bytes_eq, unwrap_or}
+-- The sums that are kept of the tokens of one side of a node, and the numbers that are kept with its left tokens.
+use Rattle.std.specs.Prelude.{◌≢◌, ◌+◌, ◌-◌, Bool, List, ℕ, ℤ, pos, bytes_eq, unwrap_or, if◌then◌else◌}
 use Rattle.std.specs.Option.{ForSome, option_map_or}
 use Rattle.indexmap.specs.IndexMap.{IndexMap, get}
 use Rattle.net_base.specs.declared.tasks.Side.{Side}
@@ -19,13 +19,21 @@ abbrev pub side_sum : {S T : Type 0} → IndexMap (List ℕ) Cell S → IndexMap
 side_sum left right Left t = left_sum left t
 side_sum left right Right t = right_sum right t
 
+-- the number that is kept with a left token, 0 where the token is not kept
+abbrev pub blockers_of : {S : Type 0} → IndexMap (List ℕ) Cell S → List ℕ → ℕ
+blockers_of kept t = option_map_or (λ c. c.blockers) (get bytes_eq kept t) 0
+
+-- one more, or one less, if there is one
+abbrev pub counted : Bool → ℕ → ℕ
+counted plus k = if plus then k + 1 else k - 1
+
+-- what is kept of a left token once one right token more or less has come, if that one matches
+abbrev pub blocked : Bool → Bool → Cell → Cell
+blocked matches plus c = record { sum = c.sum; blockers = if matches then counted plus c.blockers else c.blockers }
+
 -- no left token is kept with a sum of 0
 abbrev pub KeepsNoLeftZero : {S : Type 0} → IndexMap (List ℕ) Cell S → Type 0
 KeepsNoLeftZero kept = (t : List ℕ) → ForSome (get bytes_eq kept t) (λ c. c.sum ≢ pos 0)
-
--- no left token is kept with a number of right tokens that match it
-abbrev pub KeepsNoBlockers : {S : Type 0} → IndexMap (List ℕ) Cell S → Type 0
-KeepsNoBlockers kept = (t : List ℕ) → ForSome (get bytes_eq kept t) (λ c. c.blockers ≡ 0)
 
 -- no right token is kept with a sum of 0
 abbrev pub KeepsNoRightZero : {S : Type 0} → IndexMap (List ℕ) ℤ S → Type 0

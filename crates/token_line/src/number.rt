@@ -1,13 +1,13 @@
 //! The number of the line on which a token stands. Tokens that an equality test can join have one line.
-ghost use Rattle.std.specs.Prelude.{◌≡◌, ◌<◌, ◌≤◌, fold, map, slice_index};
-ghost use Rattle.net_base.specs.Tokens.{field_in};
+ghost use Rattle.std.specs.Prelude.{◌≡◌, ◌<◌, ◌≤◌, fold, map};
 ghost use Rattle.work_store.specs.Stored.{held_of};
 ghost use Rattle.token_line.specs.Numbers.{equalities, is_equal, line_number, mixed, own_codes, own_value, value_code};
 
+use crate::joining::{field_of, tag_at};
 use net_base::net::Net;
 use net_base::nodes::{JoinTest, Kind, Node};
 use net_base::tasks::{Side, Task};
-use ops_base::values::{NIL, Pred, Value};
+use ops_base::values::{Pred, Value};
 use work_store::Store;
 
 fn value_code(value: Value) -> u64
@@ -35,32 +35,13 @@ fn is_equal(pred: Pred) -> bool
     }
 }
 
-/// The field of the element that the tag names, present or kept.
-fn field_of(store: &Store, tag: u64, field: usize) -> Value
-    ensures { result ≡ field_in (held_of store.now tag) field }
-{
-    match store.kept(tag) {
-        Some(element) => element.field(field),
-        None => Value::Symbol(NIL),
-    }
-}
-
-fn tag_at(tags: &[u64], place: usize) -> u64
-    ensures { result ≡ slice_index tags.now place }
-{
-    match tags.get(place) {
-        Some(tag) => *tag,
-        None => 0,
-    }
-}
-
 /// What the token has at the test: a field of the element that it names there.
 fn own_value(store: &Store, side: Side, tags: &[u64], test: &JoinTest) -> Value
     ensures { result ≡ own_value (held_of store.now) side tags.now test.now }
 {
     match side {
-        Side::Left => field_of(store, tag_at(tags, test.place), test.other),
-        Side::Right => field_of(store, tag_at(tags, 0), test.field),
+        Side::Left => field_of(store.kept(tag_at(tags, test.place)), test.other),
+        Side::Right => field_of(store.kept(tag_at(tags, 0)), test.field),
     }
 }
 

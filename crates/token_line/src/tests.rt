@@ -1,6 +1,9 @@
 //! The numbers of lines, and a line to which tasks come, with ample memory.
-ghost use Rattle.std.specs.Prelude.{◌≡◌, IfOk};
+ghost use Rattle.std.specs.Prelude.{◌≡◌, ◌≢◌, IfOk, List, pos, ℕ};
+ghost use Rattle.net_base.specs.declared.tasks.Side.TheVariants.{Left};
+ghost use Rattle.token_line.specs.Lines.{blockers_in, sum_in};
 
+use crate::joining::joins;
 use crate::line::{Entry, Line};
 use crate::number::{line_of, with_token};
 use net_base::net::Net;
@@ -30,7 +33,7 @@ fn entry(alloc: Global, side: Side, plus: bool) -> Result<Entry, OutOfMemory> {
 
 fn come(alloc: Global, line: &mut Line, side: Side, plus: bool) -> Result<(), OutOfMemory> {
     let entry = entry(alloc, side, plus)?;
-    line.add(alloc, entry)
+    line.add(alloc, entry, 0)
 }
 
 // the sums of that token at a node
@@ -99,14 +102,65 @@ fn element(alloc: Global, tag: u64, value: i64) -> Result<Element, OutOfMemory>
 }
 
 // compares the one field of two elements
-fn equal_join(alloc: Global) -> Result<Node, OutOfMemory> {
-    let mut joins = Listed::new(alloc);
-    joins.push(JoinTest {
+fn compare(pred: Pred) -> JoinTest {
+    JoinTest {
         field: 0,
-        pred: Pred::Eq,
+        pred,
         place: 0,
         other: 0,
-    })?;
+    }
+}
+
+#[test]
+fn elements_are_joined_by_their_values(rt: HostRuntime) -> Result<(), Fail> {
+    let mut store = Store::new(rt.alloc());
+    store.add(element(rt.alloc(), 1, 40)?)?;
+    store.add(element(rt.alloc(), 2, 50)?)?;
+    assert!(rt; joins(&store, &[], &[1], 2));
+    assert!(rt; joins(&store, &[compare(Pred::Gt)], &[1], 2));
+    assert!(rt; !joins(&store, &[compare(Pred::Gt), compare(Pred::Eq)], &[1], 2));
+    assert!(rt; joins(&store, &[compare(Pred::Eq)], &[2], 2));
+    Ok(())
+}
+
+// a line where that token is kept at the left of node 3, with so many blockers
+#[tactic(auto, unfolding(crate::specs::Bags::sign_at))]
+fn line_of_one(alloc: Global, blockers: u64) -> Result<Line, OutOfMemory>
+    ensures { IfOk result (λ line. (t : List ℕ) → sum_in line 3 Left t ≢ pos 0 → blockers_in line 3 t ≡ blockers) }
+{
+    let mut line = Line::new(alloc, 7);
+    let entry = entry(alloc, Side::Left, true)?;
+    line.add(alloc, entry, blockers)?;
+    Ok(line)
+}
+
+// the blockers of that token
+fn blockers(alloc: Global, line: &Line) -> Result<Option<u64>, OutOfMemory> {
+    let token = Tags::from_slice(alloc, &[2])?;
+    match line.memory(3) {
+        Some(memory) => Ok(memory.left().get(&token).map(|cell| cell.blockers)),
+        None => Ok(None),
+    }
+}
+
+#[test]
+fn a_left_token_is_blocked_by_what_matches(rt: HostRuntime) -> Result<(), Fail> {
+    let mut store = Store::new(rt.alloc());
+    store.add(element(rt.alloc(), 1, 40)?)?;
+    store.add(element(rt.alloc(), 2, 40)?)?;
+    let tests = [compare(Pred::Eq)];
+    let mut line = line_of_one(rt.alloc(), 2)?;
+    line.block(&store, &tests, 3, 1, true);
+    assert_eq!(rt; blockers(rt.alloc(), &line)?, Some(3));
+    line.block(&store, &tests, 3, 1, false);
+    assert_eq!(rt; blockers(rt.alloc(), &line)?, Some(2));
+    Ok(())
+}
+
+// a join of two elements whose one fields are equal
+fn equal_join(alloc: Global) -> Result<Node, OutOfMemory> {
+    let mut joins = Listed::new(alloc);
+    joins.push(compare(Pred::Eq))?;
     Ok(Node {
         kind: Kind::Join,
         parent: None,

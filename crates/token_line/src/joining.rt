@@ -11,7 +11,8 @@ use ops_base::matching::holds;
 use ops_base::values::{NOTHING, Value};
 use work_store::Store;
 
-fn field_of(element: Option<&Element>, field: usize) -> Value
+/// The field of the element, nil where there is none.
+pub(crate) fn field_of(element: Option<&Element>, field: usize) -> Value
     ensures { result ≡ field_in (option_copied element.entry) field }
 {
     match element {
@@ -21,7 +22,7 @@ fn field_of(element: Option<&Element>, field: usize) -> Value
 }
 
 /// The tag at a place, 0 where there is none.
-pub(crate) fn tag_at(tags: &[u64], place: usize) -> u64
+pub fn tag_at(tags: &[u64], place: usize) -> u64
     ensures { result ≡ slice_index tags.now place }
 {
     match tags.get(place) {
@@ -44,7 +45,7 @@ fn test_holds(store: &Store, token: &[u64], element: Option<&Element>, test: &Jo
 
 /// Whether all tests hold of the element of that tag and of the left token. It looks up an element for each test, and takes no
 /// memory.
-pub(crate) fn joins(store: &Store, tests: &[JoinTest], token: &[u64], tag: u64) -> bool
+pub fn joins(store: &Store, tests: &[JoinTest], token: &[u64], tag: u64) -> bool
     ensures { result ≡ joins_hold tests.now (held_of store.now) token.now tag }
 {
     let element = store.kept(tag);

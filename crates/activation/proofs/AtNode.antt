@@ -1,0 +1,164 @@
+-- The tokens of one node that a line keeps: their sums, and what fits there.
+use Rattle.std.proofs.Common.{◌≡◌, ◌≢◌, ℕ, ◌≤◌, ◌<◌, ◌==◌, Bool, true, false, cond, List, [], ◌∷◌, ◌++◌, ℤ, pos, refl, sym, ap, subst, ◌∙◌, arith, length, slice_get, slice_index, slice_index_or, bytes_eq, unwrap_or, Option, Some, None, IsSome}
+use Rattle.std.specs.List.{All, AllByRecursion, IsDistinct}
+use Rattle.std.specs.Map.{lookup, keys_of}
+use Rattle.std.specs.Option.{ForSome, option_map_or}
+use Rattle.std.proofs.lemmas.Bool.Decides.{Decides-eqb}
+use Rattle.std.proofs.lemmas.Cmp.{nat_list_eq_equiv}
+use Rattle.std.proofs.lemmas.List.Elements.{All-get_or, All-nil, recursion_from_All}
+use Rattle.std.proofs.lemmas.List.Folds.{find-append}
+use Rattle.std.proofs.lemmas.Map.Entries.{hash_map_get_place}
+use Rattle.std.proofs.lemmas.Option.{slice_get-get_or}
+use Rattle.ops_base.specs.declared.elements.Element.{Element}
+use Rattle.ops_base.specs.WorkingMemory.{tags_of}
+use Rattle.work_store.specs.Stored.{IsStored, Stored, held_of, of_tag}
+use Rattle.net_base.specs.declared.nodes.Kind.{Kind}
+use Rattle.net_base.specs.declared.nodes.Kind.TheVariants.{Join, Negated, Terminal}
+use Rattle.net_base.specs.declared.nodes.Alpha.{Alpha}
+use Rattle.net_base.specs.declared.nodes.Node.{Node}
+use Rattle.net_base.specs.declared.tasks.Side.TheVariants.{Left, Right}
+use Rattle.net_base.specs.Sound.{IsSound, is_terminal, left_width}
+use Rattle.net_base.specs.Tokens.{Elements, joins_hold}
+use Rattle.token_line.specs.declared.line.Line.{Line}
+use Rattle.token_line.specs.declared.memory.Cell.{Cell}
+use Rattle.token_line.specs.declared.memory.Memory.{Memory}
+use Rattle.token_line.specs.Held.{Agrees, Fits, HasWidth}
+use Rattle.token_line.specs.Lines.{blockers_in, blockers_with, memory_at, sum_in, sum_of}
+use Rattle.activation.specs.Putting.{left_entries, right_entries}
+use Rattle.activation.specs.Acting.{AreKept, IsCounted}
+use Rattle.activation.proofs.Agreed.{IsHeld, joins_agree}
+use Rattle.activation.proofs.PutNumbers.{left_of, right_of, sum_at}
+
+-- ---- sums and look-ups
+
+pub right_sum_is : (line : Line) (n : ℕ) (k : List ℕ) → sum_in line n Right k ≡ right_of (right_entries (memory_at line n)) k
+right_sum_is line n k = by (memory_at line n)
+  where
+    found : (o : Option ℤ) → unwrap_or o (pos 0) ≡ sum_at (λ v. v) o
+    found None = refl
+    found (Some v) = refl
+
+    by : (o : Option Memory) → sum_of o Right k ≡ right_of (right_entries o) k
+    by None = refl
+    by (Some m) = found (lookup (bytes_eq k) m.right.entries)
+
+pub left_sum_is : (line : Line) (n : ℕ) (k : List ℕ) → sum_in line n Left k ≡ left_of (left_entries (memory_at line n)) k
+left_sum_is line n k = by (memory_at line n)
+  where
+    found : (o : Option Cell) → option_map_or (λ c. c.sum) o (pos 0) ≡ sum_at (λ (c : Cell). c.sum) o
+    found None = refl
+    found (Some c) = refl
+
+    by : (o : Option Memory) → sum_of o Left k ≡ left_of (left_entries o) k
+    by None = refl
+    by (Some m) = found (lookup (bytes_eq k) m.left.entries)
+
+-- ---- what is kept
+
+-- of each memory that there is
+abbrev pub Kept : Option Memory → Type 0
+Kept o = ForSome o AreKept
+
+pub right_distinct : (o : Option Memory) → Kept o → IsDistinct bytes_eq (keys_of (right_entries o))
+unfolding IsDistinct
+right_distinct None kept = tt
+right_distinct (Some m) kept = (kept m refl).right_unique
+
+pub left_distinct : (o : Option Memory) → Kept o → IsDistinct bytes_eq (keys_of (left_entries o))
+unfolding IsDistinct
+left_distinct None kept = tt
+left_distinct (Some m) kept = (kept m refl).left_unique
+
+module _ (nodes : List Node) (s : Stored) (line : Line) (counted : IsCounted nodes s line) (n : ℕ) where
+  right_fits_in : (o : Option Memory) → memory_at line n ≡ o → Kept o → All (λ e. Fits nodes s n Right e.0) (right_entries o)
+  right_fits_in None mem kept i d within = All-nil (λ (e : List ℕ × ℤ). Fits nodes s n Right e.0) i d within
+  right_fits_in (Some m) mem kept i d within =
+      let are = kept m refl in
+      let e = slice_index_or m.right.entries i d in
+      let found = hash_map_get_place nat_list_eq_equiv m.right i e.0 e.1 are.right_unique (slice_get-get_or m.right.entries i d within) in
+      let sum : sum_in line n Right e.0 ≡ e.1 = ap (λ o. sum_of o Right e.0) mem ∙ ap (λ o. unwrap_or o (pos 0)) found in
+      counted.fit n Right e.0 (λ z. are.right_some i d within (sym sum ∙ z))
+
+  left_fits_in : (o : Option Memory) → memory_at line n ≡ o → Kept o → All (λ e. Fits nodes s n Left e.0) (left_entries o)
+  left_fits_in None mem kept i d within = All-nil (λ (e : List ℕ × Cell). Fits nodes s n Left e.0) i d within
+  left_fits_in (Some m) mem kept i d within =
+      let are = kept m refl in
+      let e = slice_index_or m.left.entries i d in
+      let found = hash_map_get_place nat_list_eq_equiv m.left i e.0 e.1 are.left_unique (slice_get-get_or m.left.entries i d within) in
+      let sum : sum_in line n Left e.0 ≡ e.1.sum = ap (λ o. sum_of o Left e.0) mem ∙ ap (λ o. option_map_or (λ (c : Cell). c.sum) o (pos 0)) found in
+      counted.fit n Left e.0 (λ z. are.left_some i d within (sym sum ∙ z))
+
+  pub right_fits : Kept (memory_at line n) → All (λ e. Fits nodes s n Right e.0) (right_entries (memory_at line n))
+  right_fits kept = right_fits_in (memory_at line n) refl kept
+
+  pub left_fits : Kept (memory_at line n) → All (λ e. Fits nodes s n Left e.0) (left_entries (memory_at line n))
+  left_fits kept = left_fits_in (memory_at line n) refl kept
+
+-- ---- a left token that is kept
+
+-- what the line says of a left token of a node is what is kept of it
+pub record IsCell (line : Line) (n : ℕ) (t : List ℕ) (c : Cell) : Type 0 where
+  pub sum : sum_in line n Left t ≡ c.sum
+  pub some : c.sum ≢ pos 0
+  pub blockers : blockers_in line n t ≡ c.blockers
+
+pub cell_at : (line : Line) (n : ℕ) (t : List ℕ) (c : Cell) → lookup (bytes_eq t) (left_entries (memory_at line n)) ≡ Some c → IsCell line n t c
+cell_at line n t c = by (memory_at line n) refl
+  where
+    by : (o : Option Memory) → memory_at line n ≡ o → lookup (bytes_eq t) (left_entries o) ≡ Some c → IsCell line n t c
+    by None mem found = cc
+    by (Some m) mem found = record {
+      sum = ap (λ o. sum_of o Left t) mem ∙ ap (λ o. option_map_or (λ (d : Cell). d.sum) o (pos 0)) found;
+      some = m.no_left_zero t c found;
+      blockers = ap (λ o. blockers_with o t) mem ∙ ap (λ o. option_map_or (λ (d : Cell). d.blockers) o 0) found;
+    }
+
+-- ---- widths, and what is held
+
+one_long : (nodes : List Node) (x : Node) (t : List ℕ) → is_terminal x.kind ≡ false → HasWidth nodes x Right t → length t ≡ 1
+one_long nodes x t inner w = by x.kind inner w
+  where
+    by : (k : Kind) → is_terminal k ≡ false → HasWidth nodes (record x { kind = k }) Right t → length t ≡ 1
+    by Join e h = h
+    by Negated e h = h
+    by (Terminal rule) e h = cc
+
+pub only_one : (t : List ℕ) → length t ≡ 1 → t ≡ slice_index t 0 ∷ []
+only_one [] e = absurd (omega arith)
+only_one (x ∷ []) e = refl
+only_one (x ∷ y ∷ ys) e = absurd (omega arith)
+
+pub same_node : (x y : Node) → Some x ≡ Some y → x ≡ y
+same_node x y e = cc
+
+module _ (nodes : List Node) (s : Stored) (n : ℕ) (node : Node) (at : slice_get nodes n ≡ Some node) where
+  pub left_long : (t : List ℕ) → Fits nodes s n Left t → length t ≡ left_width nodes node.parent
+  left_long t f = f.width ∙ ap (λ (z : Node). left_width nodes z.parent) (same_node f.node node (sym f.at ∙ at))
+
+  pub right_long : is_terminal node.kind ≡ false → (t : List ℕ) → Fits nodes s n Right t → length t ≡ 1
+  right_long inner t f = one_long nodes f.node t (ap (λ (z : Node). is_terminal z.kind) (same_node f.node node (sym f.at ∙ at)) ∙ inner) f.width
+
+  pub right_held : is_terminal node.kind ≡ false → (t : List ℕ) → Fits nodes s n Right t → IsHeld s (slice_index t 0)
+  right_held inner t f = let long = right_long inner t f in All-get_or (IsHeld s) t 0 0 (omega arith) f.held
+
+  -- a left token and an element that is held join by any elements that agree with the store as they do by the store
+  pub both_agree : (alphas : List Alpha) → IsSound alphas nodes → (elements : Elements) → Agrees s elements → (t : List ℕ) (k : ℕ) → Fits nodes s n Left t → IsHeld s k
+      → joins_hold node.joins elements t k ≡ joins_hold node.joins (held_of s) t k
+  both_agree alphas sound elements agrees t k f here =
+      joins_agree s elements agrees node.joins t k (subst (λ w. All (λ j. j.place < w) node.joins) (sym (left_long t f)) (sound.each n node at).places) f.held here
+
+-- ---- tags
+
+low_tag : (es : List Element) (tag last : ℕ) → AllByRecursion (λ t. t ≤ last) (tags_of es) → IsSome (of_tag es tag) → tag ≤ last
+low_tag [] tag last low some = cc
+low_tag (e ∷ es) tag last low some = by (low_tag es tag last low.1) (e.tag == tag) refl some
+  where
+    by : (IsSome (of_tag es tag) → tag ≤ last) → (b : Bool) → (e.tag == tag) ≡ b → IsSome (cond b (Some e) (of_tag es tag)) → tag ≤ last
+    by rest true q some = let same : e.tag ≡ tag = (Decides-eqb e.tag tag).0 q in subst (λ t. t ≤ last) same low.0
+    by rest false q some = rest some
+
+-- each tag that a store holds is at most its last one
+pub held_below : (s : Stored) → IsStored s → (tag : ℕ) → IsHeld s tag → tag ≤ s.last
+held_below s stored tag held =
+    low_tag (s.elements ++ s.kept) tag s.last (recursion_from_All (λ t. t ≤ s.last) (tags_of (s.elements ++ s.kept)) stored.below)
+    (subst IsSome (sym (find-append (λ (e : Element). e.tag == tag) s.elements s.kept)) held)

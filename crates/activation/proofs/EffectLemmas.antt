@@ -1,0 +1,121 @@
+-- What a task does at a join and at a negated node is its effect there.
+use Rattle.std.proofs.Common.{◌≡◌, ◌≢◌, ℕ, ◌-◌, ◌^◌, ◌<◌, ◌&&◌, Bool, true, false, not, List, [], pos, refl, sym, ap, ap₂, subst, ◌∙◌, slice_get, bytes_eq, Option, Some, None, IfSome}
+use Rattle.std.specs.Map.{lookup}
+use Rattle.std.proofs.lemmas.Bool.Decides.{Decides-ltb}
+use Rattle.std.proofs.lemmas.List.Sums.{AllPass-from_list_all}
+use Rattle.std.proofs.lemmas.Map.Entries.{All-lookup}
+use Rattle.work_store.specs.Stored.{Stored, held_of}
+use Rattle.net_base.specs.declared.nodes.Alpha.{Alpha}
+use Rattle.net_base.specs.declared.nodes.Kind.{Kind}
+use Rattle.net_base.specs.declared.nodes.Kind.TheVariants.{Join, Negated, Terminal}
+use Rattle.net_base.specs.declared.nodes.Node.{Node}
+use Rattle.net_base.specs.declared.tasks.Side.TheVariants.{Left, Right}
+use Rattle.net_base.specs.declared.tasks.Task.{Task}
+use Rattle.net_base.specs.Sound.{IsSound, is_join, is_negated}
+use Rattle.token_line.specs.declared.line.Line.{Line}
+use Rattle.token_line.specs.declared.memory.Cell.{Cell}
+use Rattle.token_line.specs.Bags.{are_same_sides}
+use Rattle.token_line.specs.Held.{TaskFits}
+use Rattle.token_line.specs.Lines.{blockers_in, memory_at, sum_in}
+use Rattle.activation.specs.declared.putting.Put.{Put}
+use Rattle.activation.specs.Acting.{IsCounted, IsEffect, matching}
+use Rattle.activation.specs.Effects.{join_effect, left_effect, right_effect}
+use Rattle.activation.specs.Negating.{all_have_room, has_room}
+use Rattle.activation.specs.Putting.{changes, left_entries}
+use Rattle.activation.proofs.Agreed.{IsHeld}
+use Rattle.activation.proofs.Arrived.{and_false}
+use Rattle.activation.proofs.AtNode.{Kept, cell_at, left_sum_is, same_node}
+use Rattle.activation.proofs.Matching.{blockers_are}
+use Rattle.activation.proofs.NegatedChange.{left_change, right_change}
+use Rattle.activation.proofs.Outs.{IsChange, unchanged}
+use Rattle.activation.proofs.PutNumbers.{sum_at}
+use Rattle.activation.proofs.PutOutLemmas.{put_by_join}
+
+-- ---- room
+
+room_of : (c : Cell) → has_room true c ≡ true → c.blockers < 2 ^ 64 - 1
+room_of c e = (Decides-ltb c.blockers (2 ^ 64 - 1)).0 e
+
+-- where each left token that is kept has room, so has each with a sum other than 0
+room_at : (line : Line) (n : ℕ) → all_have_room true (left_entries (memory_at line n)) ≡ true → (t : List ℕ) → sum_in line n Left t ≢ pos 0 → blockers_in line n t < 2 ^ 64 - 1
+room_at line n room t some = by (lookup (bytes_eq t) left) refl
+  where
+    left : List (List ℕ × Cell)
+    left = left_entries (memory_at line n)
+
+    each : IfSome (lookup (bytes_eq t) left) (λ c. has_room true c ≡ true)
+    each = All-lookup (λ (c : Cell). has_room true c ≡ true) (bytes_eq t) left (AllPass-from_list_all (λ (e : List ℕ × Cell). has_room true e.1) left room)
+
+    by : (o : Option Cell) → lookup (bytes_eq t) left ≡ o → blockers_in line n t < 2 ^ 64 - 1
+    by None found = absurd (some (left_sum_is line n t ∙ ap (λ o. sum_at (λ (c : Cell). c.sum) o) found))
+    by (Some c) found =
+        let here : has_room true c ≡ true = subst (λ o. IfSome o (λ d. has_room true d ≡ true)) found each in
+        subst (λ k. k < 2 ^ 64 - 1) (sym (cell_at line n t c found).blockers) (room_of c here)
+
+join_blocks_not : (k : Kind) → is_join k ≡ true → (b : Bool) → false ≡ (is_negated k && b)
+join_blocks_not Join e b = refl
+join_blocks_not Negated e b = cc
+join_blocks_not (Terminal rule) e b = cc
+
+join_not_negated : (k : Kind) → is_join k ≡ true → is_negated k ≡ true → ⊥
+join_not_negated Join e f = cc
+join_not_negated Negated e f = cc
+join_not_negated (Terminal rule) e f = cc
+
+module _ (alphas : List Alpha) (nodes : List Node) (sound : IsSound alphas nodes) (s : Stored) (line : Line) (x : Task) (fits : TaskFits nodes s x) (counts : IsCounted nodes s line)
+    (node : Node) (at : slice_get nodes x.node ≡ Some node) (kept : Kept (memory_at line x.node)) where
+  -- ---- at a join
+
+  join_done : is_join node.kind ≡ true → (puts : List Put) → IsChange nodes s line x x.plus puts → IsEffect nodes s line x (record { plus = x.plus; puts = puts; blockers = 0; blocks = false })
+  join_done join puts is = record {
+    fit = is.fit;
+    change = λ other elements t there inner agrees. is.change elements t agrees;
+    blockers = λ other there negated e. absurd (join_not_negated node.kind join (ap (λ (z : Node). is_negated z.kind) (same_node node other (sym at ∙ there)) ∙ negated));
+    blocks = λ other there.
+        join_blocks_not other.kind (ap (λ (z : Node). is_join z.kind) (same_node other node (sym there ∙ at)) ∙ join) (are_same_sides Right x.side && changes (sum_in line x.node x.side x.token) x.plus);
+    room = λ blocks. cc;
+  }
+
+  pub join_is : is_join node.kind ≡ true → (moves : Bool) → moves ≡ changes (sum_in line x.node x.side x.token) x.plus → IsEffect nodes s line x (join_effect node.joins (held_of s) (memory_at line x.node) x moves)
+  join_is join true e = join_done join _ (put_by_join alphas nodes sound s line x fits counts node at join kept (sym e))
+  join_is join false e = join_done join [] (unchanged nodes s line x (sym e) x.plus)
+
+  -- ---- at a negated node
+
+  module _ (negated : is_negated node.kind ≡ true) (small : (tag : ℕ) → IsHeld s tag → tag < 2 ^ 64) where
+    left_done : x.side ≡ Left → (puts : List Put) (k : ℕ) → k ≡ matching (held_of s) node.joins (sum_in line) x.node x.token → IsChange nodes s line x x.plus puts
+        → IsEffect nodes s line x (record { plus = x.plus; puts = puts; blockers = k; blocks = false })
+    left_done e puts k number is = record {
+      fit = is.fit;
+      change = λ other elements t there inner agrees. is.change elements t agrees;
+      blockers = λ other there negated e. number ∙ ap (λ (z : Node). matching (held_of s) z.joins (sum_in line) x.node x.token) (same_node node other (sym at ∙ there));
+      blocks = λ other there.
+          sym (ap (λ b. is_negated other.kind && (b && changes (sum_in line x.node x.side x.token) x.plus)) (ap (λ d. are_same_sides Right d) e) ∙ and_false (is_negated other.kind));
+      room = λ blocks. cc;
+    }
+
+    pub left_is : x.side ≡ Left → (moves : Bool) → moves ≡ changes (sum_in line x.node x.side x.token) x.plus → IsEffect nodes s line x (left_effect node.joins (held_of s) (memory_at line x.node) x moves)
+    left_is e true had =
+        let number = blockers_are nodes s line counts x.node node at negated small kept x.token in
+        left_done e _ _ number (left_change alphas nodes sound s line x fits counts node at negated (sym had) e _ number)
+    left_is e false had = left_done e [] _ (blockers_are nodes s line counts x.node node at negated small kept x.token) (unchanged nodes s line x (sym had) x.plus)
+
+    right_done : x.side ≡ Right → (puts : List Put) (moves : Bool) → moves ≡ changes (sum_in line x.node x.side x.token) x.plus → IsChange nodes s line x (not x.plus) puts
+        → (moves ≡ true → all_have_room x.plus (left_entries (memory_at line x.node)) ≡ true)
+        → IsEffect nodes s line x (record { plus = not x.plus; puts = puts; blockers = 0; blocks = moves })
+    right_done e puts moves had is room = record {
+      fit = is.fit;
+      change = λ other elements t there inner agrees. is.change elements t agrees;
+      blockers = λ other there negated f. let bad : Right ≡ Left = sym e ∙ f in cc;
+      blocks = λ other there.
+          had
+          ∙ ap₂ (λ a b. a && (b && changes (sum_in line x.node x.side x.token) x.plus))
+          (sym (ap (λ (z : Node). is_negated z.kind) (same_node other node (sym there ∙ at)) ∙ negated)) (sym (ap (λ d. are_same_sides Right d) e));
+      room = λ blocks more. room_at line x.node (subst (λ p. all_have_room p (left_entries (memory_at line x.node)) ≡ true) more (room blocks));
+    }
+
+    pub right_is : x.side ≡ Right → (moves : Bool) → moves ≡ changes (sum_in line x.node x.side x.token) x.plus
+        → (moves ≡ true → all_have_room x.plus (left_entries (memory_at line x.node)) ≡ true)
+        → IsEffect nodes s line x (right_effect node.joins (held_of s) (memory_at line x.node) x moves)
+    right_is e true had room = right_done e _ true had (right_change alphas nodes sound s line x fits counts node at negated (sym had) e small kept) room
+    right_is e false had room = right_done e [] false had (unchanged nodes s line x (sym had) (not x.plus)) room

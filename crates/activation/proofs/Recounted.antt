@@ -1,0 +1,168 @@
+-- A line is still counted once a task has arrived, with what blocks its left tokens counted anew.
+use Rattle.std.proofs.Common.{◌≡◌, ◌≢◌, ℕ, ◌-◌, ◌<◌, ◌^◌, ◌==◌, ◌&&◌, Bool, true, false, cond, List, [], ◌∷◌, pos, refl, sym, ap, ap₂, subst, ◌∙◌, length, slice_get, slice_index, bytes_eq, Some}
+use Rattle.std.proofs.lemmas.Bool.Decides.{Decides-eqb}
+use Rattle.work_store.specs.Stored.{Stored, held_of}
+use Rattle.net_base.specs.declared.nodes.Node.{Node}
+use Rattle.net_base.specs.declared.tasks.Side.{Side}
+use Rattle.net_base.specs.declared.tasks.Side.TheVariants.{Left, Right}
+use Rattle.net_base.specs.declared.tasks.Task.{Task}
+use Rattle.net_base.specs.Sound.{is_negated}
+use Rattle.net_base.specs.Tokens.{joins_hold}
+use Rattle.token_line.specs.declared.line.Line.{Line}
+use Rattle.token_line.specs.Bags.{after, are_same_sides, is_at, standing}
+use Rattle.token_line.specs.Held.{Fits, TaskFits}
+use Rattle.token_line.specs.Lines.{blockers_in, sum_in}
+use Rattle.token_line.specs.Sums.{counted}
+use Rattle.activation.specs.declared.effects.Effect.{Effect}
+use Rattle.activation.specs.Acting.{IsCounted, IsEffect, matching}
+use Rattle.activation.specs.Negating.{is_matched}
+use Rattle.activation.specs.Putting.{changes}
+use Rattle.activation.proofs.Agreed.{IsHeld}
+use Rattle.activation.proofs.Arrived.{IsAt, and_false, at_place, is_at-true, other_sum, still}
+use Rattle.activation.proofs.AtNode.{only_one, right_held, right_long, same_node}
+use Rattle.activation.proofs.Matching.{left_matches, matching_same, negated_is_inner, others_match, right_matches}
+
+module _ (nodes : List Node) (s : Stored) (x : Task) (fits : TaskFits nodes s x) (old new : Line) (counts : IsCounted nodes s old) (e : Effect) (effect : IsEffect nodes s old x e)
+    (sums : (n : ℕ) (side : Side) (t : List ℕ) → sum_in new n side t ≡ after (sum_in old) x n side t) where
+  fits_after : (n : ℕ) (side : Side) (t : List ℕ) → sum_in new n side t ≢ pos 0 → Fits nodes s n side t
+  fits_after n side t some = by (is_at n side t x) refl
+    where
+      by : (b : Bool) → is_at n side t x ≡ b → Fits nodes s n side t
+      by true q =
+          let i = is_at-true n side t x q in
+          subst (λ m. Fits nodes s m side t) (sym i.node) (subst (λ d. Fits nodes s x.node d t) (sym i.side) (subst (Fits nodes s x.node x.side) (sym i.token) fits))
+      by false q = counts.fit n side t (λ z. some (sums n side t ∙ (other_sum (sum_in old) x n side t (λ i. elsewhere i) ∙ z)))
+        where
+          elsewhere : IsAt n side t x → ⊥
+          elsewhere i = let bad : true ≡ false = sym (at_place n side t x i) ∙ q in cc
+
+  -- a left token of a negated node
+  module _ (n : ℕ) (y : Node) (t : List ℕ) (at : slice_get nodes n ≡ Some y) (negated : is_negated y.kind ≡ true) (some : sum_in new n Left t ≢ pos 0) where
+    -- how often right tokens match it, over these sums
+    abbrev before : ℕ
+    before = matching (held_of s) y.joins (sum_in old) n t
+
+    abbrev now : ℕ
+    now = matching (held_of s) y.joins (after (sum_in old) x) n t
+
+    over_new : now ≡ matching (held_of s) y.joins (sum_in new) n t
+    over_new = sym (matching_same (held_of s) y.joins (sum_in new) (after (sum_in old) x) n t (λ k. ap standing (sums n Right (k ∷ []))))
+
+    kept_before : (IsAt n Left t x → ⊥) → blockers_in old n t ≡ before
+    kept_before elsewhere = counts.counts n y t at negated (λ z. some (sums n Left t ∙ (other_sum (sum_in old) x n Left t elsewhere ∙ z)))
+
+    -- a left task
+    of_left : x.side ≡ Left → cond (is_at n Left t x) e.blockers (blockers_in old n t) ≡ now
+    of_left q = by (is_at n Left t x) refl ∙ sym (left_matches (sum_in old) x (held_of s) y.joins t q n)
+      where
+        by : (b : Bool) → is_at n Left t x ≡ b → cond b e.blockers (blockers_in old n t) ≡ before
+        by true r =
+            let i = is_at-true n Left t x r in
+            effect.blockers y (ap (slice_get nodes) (sym i.node) ∙ at) negated q ∙ ap₂ (λ m v. matching (held_of s) y.joins (sum_in old) m v) (sym i.node) (sym i.token)
+        by false r = kept_before (λ i. let bad : true ≡ false = sym (at_place n Left t x i) ∙ r in cc)
+
+    -- a right task
+    module _ (q : x.side ≡ Right) (small : (tag : ℕ) → IsHeld s tag → tag < 2 ^ 64) where
+      not_mine : IsAt n Left t x → ⊥
+      not_mine i = let bad : Left ≡ Right = i.side ∙ q in cc
+
+      here : (n == x.node) ≡ true → n ≡ x.node
+      here r = (Decides-eqb n x.node).0 r
+
+      node_is : (n == x.node) ≡ true → fits.node ≡ y
+      node_is r = same_node fits.node y (sym fits.at ∙ (ap (slice_get nodes) (sym (here r)) ∙ at))
+
+      moves_here : (n == x.node) ≡ true → changes (sum_in old x.node Right x.token) x.plus ≡ true
+          → now ≡ cond (joins_hold y.joins (held_of s) t (slice_index x.token 0)) (counted x.plus before) before
+      moves_here r moved =
+          subst (λ m. matching (held_of s) y.joins (after (sum_in old) x) m t ≡ cond (joins_hold y.joins (held_of s) t tag) (counted x.plus (matching (held_of s) y.joins (sum_in old) m t)) (matching (held_of s) y.joins (sum_in old) m t)) (sym (here r))
+          (right_matches (sum_in old) x (held_of s) y.joins t q tag (only_one x.token long) (small tag (right_held nodes s x.node y there (negated_is_inner y.kind negated) x.token mine)) moved)
+        where
+          tag : ℕ
+          tag = slice_index x.token 0
+
+          mine : Fits nodes s x.node Right x.token
+          mine = subst (λ d. Fits nodes s x.node d x.token) q fits
+
+          there : slice_get nodes x.node ≡ Some y
+          there = ap (slice_get nodes) (sym (here r)) ∙ at
+
+          long : length x.token ≡ 1
+          long = right_long nodes s x.node y there (negated_is_inner y.kind negated) x.token mine
+
+      blocks_are : (n == x.node) ≡ true → e.blocks ≡ changes (sum_in old x.node Right x.token) x.plus
+      blocks_are r =
+          effect.blocks fits.node fits.at
+          ∙ (ap₂ (λ a d. a && (are_same_sides Right d && changes (sum_in old x.node d x.token) x.plus)) (ap (λ (z : Node). is_negated z.kind) (node_is r) ∙ negated) q)
+
+      of_right : cond (e.blocks && ((n == x.node) && joins_hold fits.node.joins (held_of s) t (slice_index x.token 0))) (counted x.plus before) before ≡ now
+      of_right = by (n == x.node) refl
+        where
+          stays : changes (sum_in old x.node Right x.token) x.plus ≡ false → before ≡ now
+          stays same =
+              matching_same (held_of s) y.joins (sum_in old) (after (sum_in old) x) n t
+              (λ k. still (sum_in old) x (subst (λ d. changes (sum_in old x.node d x.token) x.plus ≡ false) (sym q) same) n Right (k ∷ []))
+
+          by_change : (n == x.node) ≡ true → (c : Bool) → changes (sum_in old x.node Right x.token) x.plus ≡ c
+              → cond (c && joins_hold fits.node.joins (held_of s) t (slice_index x.token 0)) (counted x.plus before) before ≡ now
+          by_change r true moved = ap (λ (z : Node). cond (joins_hold z.joins (held_of s) t (slice_index x.token 0)) (counted x.plus before) before) (node_is r) ∙ sym (moves_here r moved)
+          by_change r false same = stays same
+
+          by : (b : Bool) → (n == x.node) ≡ b → cond (e.blocks && (b && joins_hold fits.node.joins (held_of s) t (slice_index x.token 0))) (counted x.plus before) before ≡ now
+          by true r =
+              ap (λ c. cond (c && joins_hold fits.node.joins (held_of s) t (slice_index x.token 0)) (counted x.plus before) before) (blocks_are r)
+              ∙ by_change r (changes (sum_in old x.node Right x.token) x.plus) refl
+          by false r =
+              ap (λ c. cond c (counted x.plus before) before) (and_false e.blocks)
+              ∙ sym (others_match (sum_in old) x (held_of s) y.joins t n (λ z. let bad : true ≡ false = sym ((Decides-eqb n x.node).1 z) ∙ r in cc))
+
+  -- what is kept with a left token, before it is counted anew
+  abbrev added : ℕ → List ℕ → ℕ
+  added n t = cond (is_at n Left t x) e.blockers (blockers_in old n t)
+
+  pub counted_after : ((tag : ℕ) → IsHeld s tag → tag < 2 ^ 64)
+      → ((n : ℕ) (t : List ℕ) → sum_in new n Left t ≢ pos 0
+      → blockers_in new n t ≡ cond (e.blocks && is_matched (slice_get nodes x.node) (held_of s) x n t) (counted x.plus (added n t)) (added n t))
+      → IsCounted nodes s new
+  counted_after small numbers = record { fit = fits_after; counts = λ n y t at negated some. numbers n t some ∙ (by n y t at negated some x.side refl ∙ over_new n y t at negated some) }
+    where
+      by : (n : ℕ) (y : Node) (t : List ℕ) (at : slice_get nodes n ≡ Some y) (negated : is_negated y.kind ≡ true) (some : sum_in new n Left t ≢ pos 0) → (d : Side) → x.side ≡ d
+          → cond (e.blocks && is_matched (slice_get nodes x.node) (held_of s) x n t) (counted x.plus (added n t)) (added n t) ≡ matching (held_of s) y.joins (after (sum_in old) x) n t
+      by n y t at negated some Left q =
+          let still_kept : e.blocks ≡ false =
+          effect.blocks fits.node fits.at ∙ (ap (λ d. is_negated fits.node.kind && (are_same_sides Right d && changes (sum_in old x.node x.side x.token) x.plus)) q ∙ and_false (is_negated fits.node.kind)) in
+          ap (λ b. cond (b && is_matched (slice_get nodes x.node) (held_of s) x n t) (counted x.plus (added n t)) (added n t)) still_kept ∙ of_left n y t at negated some q
+      by n y t at negated some Right q =
+          let unkept : added n t ≡ matching (held_of s) y.joins (sum_in old) n t =
+          ap (λ b. cond b e.blockers (blockers_in old n t)) (ap (λ d. (n == x.node) && (are_same_sides Left d && bytes_eq t x.token)) q ∙ and_false (n == x.node)) ∙ kept_before n y t at negated some (not_mine n y t at negated some q small) in
+          ap₂ (λ o k. cond (e.blocks && is_matched o (held_of s) x n t) (counted x.plus k) k) fits.at unkept ∙ of_right n y t at negated some q small
+
+-- the same sums and the same numbers count the same
+pub counted_same : (nodes : List Node) (s : Stored) (old new : Line) → IsCounted nodes s old → ((n : ℕ) (side : Side) (t : List ℕ) → sum_in new n side t ≡ sum_in old n side t)
+    → ((n : ℕ) (t : List ℕ) → blockers_in new n t ≡ blockers_in old n t) → IsCounted nodes s new
+counted_same nodes s old new counts same numbers = record {
+  fit = λ n side t some. counts.fit n side t (λ z. some (same n side t ∙ z));
+  counts = λ n y t at negated some.
+      numbers n t
+      ∙ (counts.counts n y t at negated (λ z. some (same n Left t ∙ z))
+      ∙ sym (matching_same (held_of s) y.joins (sum_in new) (sum_in old) n t (λ k. ap standing (same n Right (k ∷ [])))));
+}
+
+-- ---- room
+
+-- once a task is added, each left token of its node has the room that it had, where they are to be counted anew
+pub room_after : (nodes : List Node) (s : Stored) (x : Task) → TaskFits nodes s x → (old : Line) (e : Effect) → IsEffect nodes s old x e → (new : Line)
+    → ((n : ℕ) (side : Side) (t : List ℕ) → sum_in new n side t ≡ after (sum_in old) x n side t)
+    → ((n : ℕ) (t : List ℕ) → sum_in new n Left t ≢ pos 0 → blockers_in new n t ≡ cond (is_at n Left t x) e.blockers (blockers_in old n t))
+    → e.blocks ≡ true → x.plus ≡ true → (t : List ℕ) → sum_in new x.node Left t ≢ pos 0 → blockers_in new x.node t < 2 ^ 64 - 1
+room_after nodes s x fits old e effect new sums numbers blocks more t some = by x.side refl
+  where
+    by : (d : Side) → x.side ≡ d → blockers_in new x.node t < 2 ^ 64 - 1
+    by Left q =
+        let bad : true ≡ false =
+        sym blocks ∙ (effect.blocks fits.node fits.at ∙ (ap (λ d. is_negated fits.node.kind && (are_same_sides Right d && changes (sum_in old x.node x.side x.token) x.plus)) q ∙ and_false (is_negated fits.node.kind))) in cc
+    by Right q =
+        let kept : blockers_in new x.node t ≡ blockers_in old x.node t =
+        numbers x.node t some ∙ ap (λ b. cond b e.blockers (blockers_in old x.node t)) (ap (λ d. (x.node == x.node) && (are_same_sides Left d && bytes_eq t x.token)) q ∙ and_false (x.node == x.node)) in
+        subst (λ k. k < 2 ^ 64 - 1) (sym kept)
+        (effect.room blocks more t (λ z. some (sums x.node Left t ∙ (other_sum (sum_in old) x x.node Left t (λ i. let bad : Left ≡ Right = i.side ∙ q in cc) ∙ z))))

@@ -1,0 +1,56 @@
+-- What a negated node puts out for a task, and how often right tokens stand that match a left one, over the tokens of its line.
+use Rattle.std.specs.Prelude.{ℕ, ◌+◌, ◌-◌, ◌^◌, ◌==◌, ◌&&◌, ℤ, Bool, true, false, List, [], ◌∷◌, bytes_eq, nat_lt, slice_index, Option, Some, None, if◌then◌else◌}
+use Rattle.std.specs.List.{flat_map, list_all}
+use Rattle.std.specs.Option.{option_map_or}
+use Rattle.indexmap.specs.IndexMap.{get}
+use Rattle.net_base.specs.declared.nodes.JoinTest.{JoinTest}
+use Rattle.net_base.specs.declared.nodes.Node.{Node}
+use Rattle.net_base.specs.declared.tasks.Task.{Task}
+use Rattle.net_base.specs.Tokens.{Elements, joins_hold}
+use Rattle.token_line.specs.declared.memory.Cell.{Cell}
+use Rattle.token_line.specs.declared.memory.Memory.{Memory}
+use Rattle.token_line.specs.Bags.{standing}
+use Rattle.activation.specs.declared.putting.Put.{Put}
+use Rattle.activation.specs.Putting.{put_if}
+
+-- ---- how often right tokens stand that match a left one
+
+-- how often those of these stand that match the left token
+abbrev pub number_matching : List JoinTest → Elements → List ℕ → List (List ℕ × ℤ) → ℕ
+number_matching tests elements t [] = 0
+number_matching tests elements t (e ∷ right) =
+    (if joins_hold tests elements t (slice_index e.0 0) then standing e.1 else 0) + number_matching tests elements t right
+
+-- what is kept with the left token; where it is not kept, what stands now
+abbrev pub blockers_for : List JoinTest → Elements → Option Memory → List ℕ → ℕ
+blockers_for tests elements None t = 0
+blockers_for tests elements (Some m) t = option_map_or (λ c. c.blockers) (get bytes_eq m.left t) (number_matching tests elements t m.right.entries)
+
+-- ---- what a negated node puts out
+
+-- for one left token more or less: it, once, where it is free
+abbrev pub put_once : Bool → List ℕ → List Put
+put_once free t = if free then record { token = t; times = 1 } ∷ [] else []
+
+-- with so many blockers a left token is free before one right token more that matches it, or after one less
+abbrev pub before_flip : Bool → ℕ
+before_flip plus = if plus then 0 else 1
+
+-- for one right token more or less: each left token that it matches and that it blocks first, or frees, as often as that one stands
+abbrev pub put_flipped : List JoinTest → Elements → ℕ → Bool → List (List ℕ × Cell) → List Put
+put_flipped tests elements tag plus left = flat_map (λ e. put_if ((e.1.blockers == before_flip plus) && joins_hold tests elements e.0 tag) e.0 e.1.sum) left
+
+-- ---- room for one blocker more
+
+abbrev pub has_room : Bool → Cell → Bool
+has_room plus c = if plus then nat_lt c.blockers (2 ^ 64 - 1) else true
+
+abbrev pub all_have_room : Bool → List (List ℕ × Cell) → Bool
+all_have_room plus left = list_all (λ e. has_room plus e.1) left
+
+-- ---- which left tokens have one blocker more, or one less
+
+-- those of the task's node that its right token matches
+abbrev pub is_matched : Option Node → Elements → Task → ℕ → List ℕ → Bool
+is_matched None elements x n t = false
+is_matched (Some node) elements x n t = (n == x.node) && joins_hold node.joins elements t (slice_index x.token 0)

@@ -1,0 +1,73 @@
+-- The tasks of an element: one node after another, and they fit where the store holds the tag.
+use Rattle.std.proofs.Common.{◌≡◌, ℕ, zero, suc, ◌+◌, ◌<◌, Bool, true, false, cond, not, ◌&&◌, List, [], ◌∷◌, ◌++◌, refl, sym, ap, ap₂, subst, ◌∙◌, add-one, length, get_or, slice_get, append-nil, Option, Some, None, IsSome}
+use Rattle.std.specs.List.{All, AllByRecursion}
+use Rattle.std.proofs.lemmas.List.Elements.{All-cons, All-nil, All-from_recursion}
+use Rattle.std.proofs.lemmas.Option.{slice_get_read}
+use Rattle.ops_base.specs.declared.elements.Element.{Element}
+use Rattle.work_store.specs.Stored.{Stored, held_of}
+use Rattle.net_base.specs.declared.nodes.Kind.{Kind}
+use Rattle.net_base.specs.declared.nodes.Kind.TheVariants.{Join, Negated, Terminal}
+use Rattle.net_base.specs.declared.nodes.Node.{Node}
+use Rattle.net_base.specs.declared.nodes.Alpha.{Alpha}
+use Rattle.net_base.specs.declared.tasks.Side.TheVariants.{Right}
+use Rattle.net_base.specs.declared.tasks.Task.{Task}
+use Rattle.net_base.specs.Sound.{is_terminal}
+use Rattle.token_line.specs.Held.{HasWidth, TaskFits}
+use Rattle.step_core.specs.Machine.{passes_in, is_fed, task_at, tasks_below}
+use Rattle.step_core.proofs.Fed.{AllByRecursion-append}
+
+-- the node that a loop looks at
+pub node_at : (nodes seen : List Node) (i : ℕ) (x : Node) → seen ≡ nodes → i < length seen → x ≡ get_or seen i x → slice_get nodes i ≡ Some x
+node_at nodes seen i x same low is = ap (λ xs. slice_get xs i) (sym same) ∙ slice_get_read seen (length seen) i x refl low is
+
+-- ---- one node more
+
+module _ (alphas : List Alpha) (nodes : List Node) (plus : Bool) (tag : ℕ) (e : Option Element) (i : ℕ) (x : Node) (at : slice_get nodes i ≡ Some x) (ts : List Task) (are : ts ≡ tasks_below alphas nodes plus tag e i) where
+  more : (b : Bool) → is_fed alphas e x ≡ b → ts ++ cond b (record { node = i; side = Right; plus = plus; token = tag ∷ [] } ∷ []) [] ≡ tasks_below alphas nodes plus tag e (i + 1)
+  more b is =
+      ap₂ (λ a c. a ++ c) are (ap (λ a. cond a (record { node = i; side = Right; plus = plus; token = tag ∷ [] } ∷ []) []) (sym is) ∙ ap (task_at alphas plus tag e i) (sym at))
+      ∙ ap (tasks_below alphas nodes plus tag e) (sym (add-one i))
+
+  pub fed_more : is_fed alphas e x ≡ true → ts ++ record { node = i; side = Right; plus = plus; token = tag ∷ [] } ∷ [] ≡ tasks_below alphas nodes plus tag e (i + 1)
+  fed_more is = more true is
+
+  pub not_fed_more : is_fed alphas e x ≡ false → ts ≡ tasks_below alphas nodes plus tag e (i + 1)
+  not_fed_more is = sym (append-nil ts) ∙ more false is
+
+-- ---- they fit
+
+module _ (s : Stored) (alphas : List Alpha) (nodes : List Node) (plus : Bool) (tag : ℕ) (held : IsSome (held_of s tag)) (e : Option Element) where
+  fit_at : (i : ℕ) (o : Option Node) → slice_get nodes i ≡ o → AllByRecursion (TaskFits nodes s) (task_at alphas plus tag e i o)
+  fit_at i None at = tt
+  fit_at i (Some x) at = by x.kind refl (passes_in (slice_get alphas x.alpha) e)
+    where
+      tasks : Bool → List Task
+      tasks b = cond b (record { node = i; side = Right; plus = plus; token = tag ∷ [] } ∷ []) []
+
+      if_passed : HasWidth nodes x Right (tag ∷ []) → (b : Bool) → AllByRecursion (TaskFits nodes s) (tasks b)
+      if_passed width true = (
+        record {
+          node = x;
+          at = at;
+          width = width;
+          held = All-cons (λ t. IsSome (held_of s t)) tag [] held (All-nil (λ t. IsSome (held_of s t)));
+        },
+        tt,
+      )
+      if_passed width false = tt
+
+      width_of : (k : Kind) → x.kind ≡ k → HasWidth nodes (record x { kind = k }) Right (tag ∷ []) → HasWidth nodes x Right (tag ∷ [])
+      width_of k is = subst (λ z. HasWidth nodes (record x { kind = z }) Right (tag ∷ [])) (sym is)
+
+      by : (k : Kind) → x.kind ≡ k → (b : Bool) → AllByRecursion (TaskFits nodes s) (tasks (not (is_terminal k) && b))
+      by Join is b = if_passed (width_of Join is refl) b
+      by Negated is b = if_passed (width_of Negated is refl) b
+      by (Terminal rule) is b = tt
+
+  fit_below : (i : ℕ) → AllByRecursion (TaskFits nodes s) (tasks_below alphas nodes plus tag e i)
+  fit_below zero = tt
+  fit_below (suc i) =
+      AllByRecursion-append (TaskFits nodes s) (tasks_below alphas nodes plus tag e i) (task_at alphas plus tag e i (slice_get nodes i)) (fit_below i) (fit_at i (slice_get nodes i) refl)
+
+  pub tasks_fit : (i : ℕ) → All (TaskFits nodes s) (tasks_below alphas nodes plus tag e i)
+  tasks_fit i = All-from_recursion (TaskFits nodes s) (tasks_below alphas nodes plus tag e i) (fit_below i)

@@ -1,0 +1,68 @@
+-- A task that fits has its line by the elements that the store holds.
+use Rattle.std.proofs.Common.{◌≡◌, ℕ, ◌<◌, ◌%◌, Bool, true, false, cond, List, [], ◌∷◌, map, fold, length, refl, sym, ap, ap₂, subst, ◌∙◌, arith, slice_index, Option, Some, None, IsSome}
+use Rattle.std.specs.List.{All, AllByRecursion}
+use Rattle.std.proofs.lemmas.List.Elements.{All-get_or, recursion_from_All}
+use Rattle.ops_base.specs.declared.elements.Element.{Element}
+use Rattle.work_store.specs.Stored.{Stored, held_of}
+use Rattle.net_base.specs.declared.nodes.Alpha.{Alpha}
+use Rattle.net_base.specs.declared.nodes.JoinTest.{JoinTest}
+use Rattle.net_base.specs.declared.nodes.Kind.{Kind}
+use Rattle.net_base.specs.declared.nodes.Kind.TheVariants.{Join, Negated, Terminal}
+use Rattle.net_base.specs.declared.nodes.Node.{Node}
+use Rattle.net_base.specs.declared.tasks.Side.{Side}
+use Rattle.net_base.specs.declared.tasks.Side.TheVariants.{Left, Right}
+use Rattle.net_base.specs.declared.tasks.Task.{Task}
+use Rattle.net_base.specs.Sound.{IsSound}
+use Rattle.net_base.specs.Tokens.{Elements, field_in}
+use Rattle.token_line.specs.Held.{Agrees, HasWidth, TaskFits}
+use Rattle.token_line.specs.Numbers.{value_code, mixed, is_equal, equalities, own_value, own_codes, codes_at, line_number}
+
+module _ (s : Stored) (elements : Elements) (agrees : Agrees s elements) where
+  pub same_element : (tag : ℕ) → IsSome (held_of s tag) → elements tag ≡ held_of s tag
+  same_element tag is = by (held_of s tag) refl is
+    where
+      by : (o : Option Element) → held_of s tag ≡ o → IsSome o → elements tag ≡ o
+      by None at some = absurd (cc)
+      by (Some e) at some = agrees tag e at
+
+  module _ (t : List ℕ) (held : All (λ tag. IsSome (held_of s tag)) t) where
+    at_place : (place : ℕ) → place < length t → elements (slice_index t place) ≡ held_of s (slice_index t place)
+    at_place place low = same_element (slice_index t place) (All-get_or (λ tag. IsSome (held_of s tag)) t place 0 low held)
+
+    -- the tests look at places of the token
+    left_codes : (tests : List JoinTest) → AllByRecursion (λ j. j.place < length t) tests
+        → map (λ j. value_code (own_value elements Left t j)) (equalities tests) ≡ map (λ j. value_code (own_value (held_of s) Left t j)) (equalities tests)
+    left_codes [] low = refl
+    left_codes (j ∷ js) low = by (left_codes js low.1) (is_equal j.pred)
+      where
+        codes : Elements → List JoinTest → List ℕ
+        codes els tests = map (λ j. value_code (own_value els Left t j)) tests
+
+        by : codes elements (equalities js) ≡ codes (held_of s) (equalities js) → (b : Bool) → codes elements (cond b (j ∷ equalities js) (equalities js)) ≡ codes (held_of s) (cond b (j ∷ equalities js) (equalities js))
+        by rest true = ap₂ (λ a b. a ∷ b) (ap (λ e. value_code (field_in e j.other)) (at_place j.place low.0)) rest
+        by rest false = rest
+
+    right_codes : (tests : List JoinTest) → 0 < length t
+        → map (λ j. value_code (own_value elements Right t j)) tests ≡ map (λ j. value_code (own_value (held_of s) Right t j)) tests
+    right_codes [] some = refl
+    right_codes (j ∷ js) some = ap₂ (λ a b. a ∷ b) (ap (λ e. value_code (field_in e j.field)) (at_place 0 some)) (right_codes js some)
+
+    own_codes_same : (nodes : List Node) (x : Node) (k : Kind) (side : Side) → HasWidth nodes (record x { kind = k }) side t → (HasWidth nodes (record x { kind = k }) Left t → AllByRecursion (λ j. j.place < length t) x.joins)
+        → own_codes elements k x.joins side t ≡ own_codes (held_of s) k x.joins side t
+    own_codes_same nodes x Join Left width low = left_codes x.joins (low width)
+    own_codes_same nodes x Join Right width low = right_codes (equalities x.joins) (omega arith)
+    own_codes_same nodes x Negated Left width low = left_codes x.joins (low width)
+    own_codes_same nodes x Negated Right width low = right_codes (equalities x.joins) (omega arith)
+    own_codes_same nodes x (Terminal rule) side width low = refl
+
+  pub one_place : (alphas : List Alpha) (nodes : List Node) → IsSound alphas nodes → (lines : ℕ) (x : Task) → TaskFits nodes s x
+      → line_number elements nodes lines x.node x.side x.token ≡ line_number (held_of s) nodes lines x.node x.side x.token
+  one_place alphas nodes sound lines x fits =
+      ap (λ o. fold mixed x.node (codes_at elements o x.side x.token) % lines) fits.at
+      ∙ (ap (λ codes. fold mixed x.node codes % lines) (own_codes_same x.token fits.held nodes fits.node fits.node.kind x.side fits.width low)
+      ∙ ap (λ o. fold mixed x.node (codes_at (held_of s) o x.side x.token) % lines) (sym fits.at))
+    where
+      low : HasWidth nodes fits.node Left x.token → AllByRecursion (λ j. j.place < length x.token) fits.node.joins
+      low width =
+          subst (λ n. AllByRecursion (λ j. j.place < n) fits.node.joins) (sym width)
+          (recursion_from_All _ fits.node.joins (sound.each x.node fits.node fits.at).places)

@@ -1,0 +1,11 @@
+-- What holds of a call's result.
+use Rattle.std.proofs.Common.{◌≡◌, List, IfOk, OnErr, Result, Ok, Err, Vec, Global, sym, subst}
+use Rattle.ops_base.specs.declared.memory.OutOfMemory.{OutOfMemory}
+
+pub if_items : {X : Type 0} (P : List X → Type 0) (xs : List X) (r : Result (Vec X Global) OutOfMemory) → IfOk r (λ v. v.items ≡ xs) → P xs → IfOk r (λ v. P v.items)
+if_items P xs (Ok v) e h = subst P (sym e) h
+if_items P xs (Err err) e h = tt
+
+pub on_err : {T E : Type 0} (P : Type 0) (r : Result T E) → P → OnErr r P
+on_err P (Ok x) p = tt
+on_err P (Err e) p = p

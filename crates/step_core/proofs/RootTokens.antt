@@ -1,0 +1,40 @@
+-- What the root gives: the empty token, to the left side of each of its children.
+use Rattle.std.proofs.Common.{◌≡◌, ◌≢◌, ℕ, true, List, [], ◌∷◌, pos, slice_get, Option, Some, None, refl}
+use Rattle.net_base.specs.declared.nodes.Alpha.{Alpha}
+use Rattle.net_base.specs.declared.nodes.Kind.{Kind}
+use Rattle.net_base.specs.declared.nodes.Kind.TheVariants.{Join, Negated, Terminal}
+use Rattle.net_base.specs.declared.nodes.Node.{Node}
+use Rattle.net_base.specs.declared.tasks.Side.{Side}
+use Rattle.net_base.specs.declared.tasks.Side.TheVariants.{Left, Right}
+use Rattle.net_base.specs.Sound.{IsSound, is_join}
+use Rattle.net_base.specs.Tokens.{giver_of_parent, giver_of_kind}
+use Rattle.token_line.specs.Lawful.{giver_in, giver_of}
+use Rattle.step_core.specs.Machine.{root_part}
+
+-- the empty token at the left side of a child of the root, which is a join
+pub record IsRootToken (nodes : List Node) (n : ℕ) (side : Side) (t : List ℕ) : Type 0 where
+  pub node : Node
+  pub at : slice_get nodes n ≡ Some node
+  pub parent : node.parent ≡ None
+  pub join : is_join node.kind ≡ true
+  pub left : side ≡ Left
+  pub empty : t ≡ []
+
+-- the root gives nothing else
+pub root_token : (alphas : List Alpha) (nodes : List Node) → IsSound alphas nodes → (n : ℕ) (side : Side) (t : List ℕ) → pos (root_part (giver_of nodes n side) t) ≢ pos 0 → IsRootToken nodes n side t
+root_token alphas nodes sound n side t some = by (slice_get nodes n) refl side some
+  where
+    by_kind : (k : Kind) (side : Side) → pos (root_part (giver_of_kind k) t) ≢ pos 0 → IsRootToken nodes n side t
+    by_kind Join side some = absurd (some refl)
+    by_kind Negated side some = absurd (some refl)
+    by_kind (Terminal rule) side some = absurd (some refl)
+
+    by_parent : (x : Node) → slice_get nodes n ≡ Some x → (p : Option ℕ) → x.parent ≡ p → (t : List ℕ) → pos (root_part (giver_of_parent p) t) ≢ pos 0 → IsRootToken nodes n Left t
+    by_parent x at None is [] some = record { node = x; at = at; parent = is; join = (sound.each n x at).root is; left = refl; empty = refl }
+    by_parent x at None is (y ∷ ys) some = absurd (some refl)
+    by_parent x at (Some p) is t some = absurd (some refl)
+
+    by : (o : Option Node) → slice_get nodes n ≡ o → (side : Side) → pos (root_part (giver_in o side) t) ≢ pos 0 → IsRootToken nodes n side t
+    by None at side some = absurd (some refl)
+    by (Some x) at Left some = by_parent x at x.parent refl t some
+    by (Some x) at Right some = by_kind x.kind Right some
