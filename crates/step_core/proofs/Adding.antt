@@ -1,6 +1,7 @@
 -- Lines with one entry more or with none, and lists without one of their items.
 use Rattle.std.proofs.Common.{◌≡◌, ◌≢◌, ℕ, zero, suc, ◌+◌, ◌<◌, List, [], ◌∷◌, ◌++◌, pos, ◌+ℤ◌, refl, sym, ap, subst, ◌∙◌, arith, get_or, sum_by, length, map, remove, slice_get, Some}
-use Rattle.std.specs.List.{AllByRecursion}
+use Rattle.std.specs.List.{All, AllByRecursion}
+use Rattle.std.proofs.lemmas.List.Elements.{All-from_recursion, recursion_from_All}
 use Rattle.std.proofs.lemmas.Int.{ints}
 use Rattle.std.proofs.lemmas.Option.{slice_get_within, slice_get-get_or}
 use Rattle.std.proofs.lemmas.List.Edits.{length-remove}
@@ -16,6 +17,7 @@ use Rattle.token_line.specs.Bags.{Bag, sign_at, signs, after}
 use Rattle.token_line.specs.Lawful.{IsLawful}
 use Rattle.step_core.specs.Machine.{Placing, Seen, with_entry, cleared, sums_at, add_entry}
 use Rattle.step_core.specs.Phases.{total, tasks_of, children_of, now, before, AreLawful, entries_of}
+use Rattle.step_core.specs.Laws.{EntryLaw}
 use Rattle.step_core.proofs.Signs.{signs-append}
 use Rattle.step_core.proofs.Fed.{AllByRecursion-append}
 use Rattle.step_core.proofs.Fair.{IsOn, signs-off, after_all, after_all_is}
@@ -47,6 +49,17 @@ IsLine-push elements nodes line i l e is on lawful = record {
   lawful =
       subst (λ b. AreLawful elements nodes b (l.entries ++ e ∷ [])) (bag_ext (before l) (before (with_entry l e)) (λ n s t. sym (before-push l e n s t)))
       (AreLawful-push elements nodes l.entries e (before l) is.lawful (subst (λ b. IsLawful elements nodes b e) (sym (after_all_is_now l)) lawful));
+}
+
+pub entry_law : EntryLaw
+entry_law elements nodes line i l e phase on lawful = record {
+  lawful =
+      subst (λ b. AreLawful elements nodes b (l.entries ++ e ∷ [])) (bag_ext (before l) (before (with_entry l e)) (λ n s t. sym (before-push l e n s t)))
+      (AreLawful-push elements nodes l.entries e (before l) phase.lawful (subst (λ b. IsLawful elements nodes b e) (sym (after_all_is_now l)) lawful));
+  placed =
+      subst (All (IsOn line i)) (sym (map-append (λ (x : Entry). x.task) l.entries (e ∷ [])))
+      (All-from_recursion (IsOn line i) (tasks_of l.entries ++ e.task ∷ [])
+      (AllByRecursion-append (IsOn line i) (tasks_of l.entries) (e.task ∷ []) (recursion_from_All (IsOn line i) (tasks_of l.entries) phase.placed) (on, tt)));
 }
 
 -- ---- all lines with one entry more at line i, numbered from k on

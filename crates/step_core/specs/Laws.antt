@@ -18,9 +18,9 @@ use Rattle.net_base.specs.Network.{IsWm, NetOf}
 use Rattle.net_base.specs.Tokens.{Elements, Giver, Nothing, Root, Memory, Out, root_gives, left_tokens, right_tokens}
 use Rattle.token_line.specs.declared.line.Entry.{Entry}
 use Rattle.token_line.specs.Bags.{Bag, signs}
-use Rattle.token_line.specs.Lawful.{giver_of, out_at}
-use Rattle.step_core.specs.Machine.{Placing, KeepsOneLine, Seen, fed_by_all, World, Step, Feed, Activate, Finish, Clear, Run, changes_of, start}
-use Rattle.step_core.specs.Phases.{total, HoldJust, sums_over, tasks_of, children_of, now, entries_of, AreSame, IsBundle}
+use Rattle.token_line.specs.Lawful.{giver_of, out_at, IsLawful}
+use Rattle.step_core.specs.Machine.{Placing, place_of, KeepsOneLine, Seen, with_entry, fed_by_all, World, Step, Feed, Activate, Finish, Clear, Run, changes_of, start}
+use Rattle.step_core.specs.Phases.{total, HoldJust, sums_over, tasks_of, children_of, now, entries_of, AreSame, IsPhase, IsBundle}
 
 -- ---- what tags name
 
@@ -149,6 +149,12 @@ TaskLaw =
     → Run elements alphas nodes line (start nodes line lines) earlier w → w.counter ≡ 0 → AreEmpty w.lines
     → NoClear phase → Run elements alphas nodes line w phase w'
     → (finished : List Entry) × IsTallied (fed_by_all elements alphas nodes (changes_of phase)) finished w'
+
+-- an entry that is lawful over a line's sums, and whose task has that line, joins the line's phase
+abbrev pub EntryLaw : Type 0
+EntryLaw =
+    (elements : Elements) (nodes : List Node) (line : Placing) (i : ℕ) (l : Seen) (e : Entry)
+    → IsPhase elements nodes line i l → place_of line e.task ≡ i → IsLawful elements nodes l.sums e → IsPhase elements nodes line i (with_entry l e)
 
 -- what steps do from one counter of 0 to another is a bundle of the changes that they feed
 abbrev pub PhaseLaw : Type 0

@@ -1,4 +1,5 @@
--- Each law is proved in `LawProofs` or in `Terminals`.
+-- Each law is proved in `LawProofs`, in `Adding` or in `Terminals`.
+use Rattle.step_core.proofs.Adding.{entry_law}
 use Rattle.step_core.proofs.LawProofs.{start_law, counter_law, balance_law, zero_law, inst_law, task_law, phase_law, settle_law, bundle_law}
 use Rattle.step_core.proofs.Terminals.{once_law, terminal_law}
 use Rattle.step_core.proofs.laws.match_laws.Goals as goal
@@ -26,6 +27,9 @@ returns-clause-insts c = inst_law
 
 pub returns-clause-tasks : goal.returns-clause-tasks
 returns-clause-tasks c = task_law
+
+pub returns-clause-entry : goal.returns-clause-entry
+returns-clause-entry c = entry_law
 
 pub returns-clause-phase : goal.returns-clause-phase
 returns-clause-phase c = phase_law
