@@ -1,0 +1,61 @@
+-- The last task in flight is a child as long as one is left, so its node stands behind that of the task.
+use Rattle.std.proofs.Common.{◌≡◌, ◌≤◌, ◌<◌, ◌+◌, ◌-◌, ℕ, [], ◌++◌, length, length-append, take, sym, ap, ◌∙◌, arith}
+use Rattle.net_base.specs.declared.tasks.Task.{Task}
+use Rattle.token_line.specs.Lawful.{IsChildOf}
+use Rattle.serial_engine.specs.Working.{but_last}
+use Rattle.serial_engine.proofs.StepLemmas.{length_but_last, some_left, one_less, last_is, has_last, some_level, child_below, went_on}
+use Rattle.serial_engine.proofs.working.+work.Goals as goal
+
+pub work-requires : goal.work-requires
+work-requires t c =
+    let net = c.args.net.now in
+    let done = c.in_ok-do_last.ensures.done in
+    let front = but_last c.args.world.now.flight.items in
+    let r : ℕ = c.in_flight-rest.result - 1 in
+    let m : ℕ = r + (c.in_flight.result - r - c.loop-child._child) in
+    let a = length_but_last c.args.world.now.flight.items c.requires.some in
+    let b = length-append front done.children in
+    let d = ap length done.flight in
+    let e = c.in_flight-rest.ensures in
+    let f = c.in_flight.ensures in
+    let g = c.loop-child-test.true in
+    let low : length front < m = omega (arith, a, b, d, e, f, g) in
+    let high : m ≤ length (front ++ done.children) = omega (arith, a, b, d, e, f, g) in
+    let ws = c.loop-child.world.flight.items in
+    let is = c.loop-child.invariant.flight ∙ ap (take m) done.flight in
+    let last = has_last front done.children m low high ws is in
+    let child = last_is front done.children m low high ws is (IsChildOf net.nodes done.task.node) done.below in
+    let deep = c.requires.deep done.task done.was in
+    let some = some_level net.alphas net.nodes net.sound c.args.levels done.task.node last.0 (child last.0 last.1) deep in
+    let less = c.decreases in (
+      omega (arith, some, less),
+      (c.loop-child.invariant.ready, (some_left front done.children m low high ws is, (c.loop-child.invariant.none, λ x at. child_below net.alphas net.nodes net.sound c.args.levels done.task.node x (child x at) deep))),
+    )
+
+pub loop-child-preserved : goal.loop-child-preserved
+loop-child-preserved t c =
+    let net = c.args.net.now in
+    let done = c.in_ok-do_last.ensures.done in
+    let front = but_last c.args.world.now.flight.items in
+    let r : ℕ = c.in_flight-rest.result - 1 in
+    let m : ℕ = r + (c.in_flight.result - r - c.loop-child._child) in
+    let a = length_but_last c.args.world.now.flight.items c.requires.some in
+    let b = length-append front done.children in
+    let d = ap length done.flight in
+    let e = c.in_flight-rest.ensures in
+    let f = c.in_flight.ensures in
+    let g = c.loop-child-test.true in
+    let low : length front < m = omega (arith, a, b, d, e, f, g) in
+    let high : m ≤ length (front ++ done.children) = omega (arith, a, b, d, e, f, g) in
+    let ws = c.loop-child.world.flight.items in
+    let is = c.loop-child.invariant.flight ∙ ap (take m) done.flight in
+    let less : m - 1 ≡ r + (c.in_flight.result - r - (c.loop-child._child + 1)) = omega (arith, g) in
+    let left : ℕ = r + (c.in_flight.result - r - (c.loop-child._child + 1)) in
+    let back : take left (front ++ done.children) ≡ take left c.do_last.new.world.flight.items = ap (take left) (sym done.flight) in
+    record {
+      went = went_on net.alphas net.nodes c.args.store.now c.args.world.now c.loop-child.world c.work.new.world [] [] c.loop-child.invariant.went c.loop-child.invariant.lines c.in_ok-work.ensures.went;
+      flight = c.in_ok-work.ensures.flight ∙ (one_less front done.children m low high ws is ∙ (ap (λ n. take n (front ++ done.children)) less ∙ back));
+      none = c.in_ok-work.ensures.none;
+      ready = c.work.ensures.ready;
+      lines = c.work.ensures.lines ∙ c.loop-child.invariant.lines;
+    }
