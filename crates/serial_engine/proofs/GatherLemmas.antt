@@ -1,64 +1,37 @@
--- What the entries tell of tokens at terminals that came or went is all that came or went.
-use Rattle.std.proofs.Common.{inl, inr, ◌≡◌, ◌≢◌, ℕ, zero, suc, ◌+◌, ◌<◌, ◌≤◌, ◌==◌, Bool, true, false, cond, ◌&&◌, bytes_eq, nat_lt, List, [], ◌∷◌, ◌++◌, ℤ, pos, negsuc, ◌+ℤ◌, ◌-ℤ◌, refl, sym, ap, ap₂, subst, ◌∙◌, arith, length, map, slice_get, Option, Some, None}
+-- The totals of what the entries of lines moved tell what came and what went.
+use Rattle.std.proofs.Common.{◌≡◌, ◌≢◌, ℕ, zero, suc, ◌+◌, ◌<◌, ◌≤◌, ◌==◌, Bool, true, false, cond, ◌&&◌, nat_lt, List, [], ◌∷◌, ◌++◌, ℤ, pos, ◌+ℤ◌, ◌-ℤ◌, refl, sym, ap, ap₂, subst, ◌∙◌, arith, inl, inr, length, map, filter, fold, slice_get, Option, Some, None}
 use Rattle.std.specs.Prelude.{◌↔◌, ◌⊎◌, flat_map, option_map}
-use Rattle.std.specs.List.{All, AllByRecursion, Contains}
+use Rattle.std.specs.List.{AllPairs, Contains}
+use Rattle.std.specs.List.Sorted.{IsPermutation, IsSortedBy}
+use Rattle.std.specs.Ordering.{is_lt}
 use Rattle.std.proofs.lemmas.Int.{ints}
+use Rattle.std.proofs.lemmas.List.Sorted.{Contains-permutation, IsPermutation-sym}
 use Rattle.std.proofs.lemmas.Option.{slice_get-map}
-use Rattle.std.proofs.lemmas.Bool.{eqb-true}
-use Rattle.std.proofs.lemmas.Slice.Eq.{bytes_eq-Decides}
 use Rattle.std.proofs.lemmas.Bool.Decides.{nat_tests, Decides-eqb}
 use Rattle.ops_base.specs.declared.rules.Inst.{Inst}
-use Rattle.ops_base.specs.Instances.{IsInOrder}
-use Rattle.ops_base.proofs.Members.{IsMember, member_from_contains, contains_from_member, member-flat_map, flat_map_member, member-map}
+use Rattle.ops_base.specs.Instances.{Before, IsInOrder, by_rule_and_tags}
+use Rattle.ops_base.proofs.Filtered.{filter_member, member-filter, all_before-filter}
+use Rattle.ops_base.proofs.InOrder.{AllBefore, all_before-map, all_pairs_from_before}
+use Rattle.ops_base.proofs.Members.{IsMember, contains_from_member, member_from_contains, flat_map_member, map_member, member-map}
+use Rattle.net_base.specs.declared.nodes.Alpha.{Alpha}
 use Rattle.net_base.specs.declared.nodes.Kind.{Kind}
 use Rattle.net_base.specs.declared.nodes.Kind.TheVariants.{Join, Negated, Terminal}
 use Rattle.net_base.specs.declared.nodes.Node.{Node}
-use Rattle.net_base.specs.declared.nodes.Alpha.{Alpha}
 use Rattle.net_base.specs.declared.tasks.Side.{Side}
 use Rattle.net_base.specs.declared.tasks.Side.TheVariants.{Left, Right}
 use Rattle.net_base.specs.declared.tasks.Task.{Task}
 use Rattle.net_base.specs.Sound.{IsSound}
-use Rattle.token_line.specs.Bags.{Bag, standing, signs, sign_at, sign, is_at, are_same_sides}
+use Rattle.token_line.specs.Bags.{Bag, sign, sign_at, signs, standing}
+use Rattle.step_core.proofs.Signs.{sign_at-none, sign_at-own}
 use Rattle.step_core.specs.Machine.{Seen}
 use Rattle.step_core.specs.Phases.{now, before, tasks_of, total}
 use Rattle.serial_engine.specs.Found.{inst}
-use Rattle.serial_engine.specs.Gathering.{is_moved, rule_of, rule_in, chosen, moved_for, moved_for_of, moved_on_of, came_or_went, AreAlone}
 use Rattle.serial_engine.specs.Laws.{Stands, IsGathered}
+use Rattle.serial_engine.specs.declared.gathering.Moved.{Moved}
+use Rattle.serial_engine.specs.declared.gathering.Total.{Total}
+use Rattle.serial_engine.specs.Gathering.{HaveOwnLines, added, has_come, has_gone, is_moved, is_same, moved_by, moved_on, moved_over, moved_to, rule_in}
+use Rattle.serial_engine.proofs.AddingUp.{AreTotals, ByInst, is_same-itself, is_same-true, member_got, moved_change, moved_change-append, moved_change-permutation, own_change, part_of, some_total, sorted_totals, total_change}
 use Rattle.serial_engine.proofs.RestLemmas.{only_here}
-
--- ---- tasks
-
-both : (a b : Bool) → (a && b) ≡ true → (a ≡ true) × (b ≡ true)
-both true b e = (refl, e)
-both false b e = absurd (cc)
-
-sides : (a b : Side) → are_same_sides a b ≡ true → a ≡ b
-sides Left Left e = refl
-sides Right Right e = refl
-sides Left Right e = absurd (cc)
-sides Right Left e = absurd (cc)
-
-at_is : (n : ℕ) (s : Side) (t : List ℕ) (x : Task) → is_at n s t x ≡ true → (n ≡ x.node) × (s ≡ x.side) × (t ≡ x.token)
-at_is n s t x e =
-    let h = both (n == x.node) (are_same_sides s x.side && bytes_eq t x.token) e in
-    let k = both (are_same_sides s x.side) (bytes_eq t x.token) h.1 in
-    (eqb-true n x.node h.0, sides s x.side k.0, (bytes_eq-Decides t x.token).0 k.1)
-
-sign_at-off : (n : ℕ) (s : Side) (t : List ℕ) (x : Task) → is_at n s t x ≡ false → sign_at n s t x ≡ pos 0
-unfolding sign_at
-sign_at-off n s t x e = ap (λ b. cond b (sign x.plus) (pos 0)) e
-
--- ---- members of lists by their places
-
-pub place_in : {X : Type 0} (x : X) (xs : List X) → IsMember x xs → (i : ℕ) × (slice_get xs i ≡ Some x)
-place_in x [] m = absurd m
-place_in x (y ∷ ys) (inl e) = (zero, ap Some (sym e))
-place_in x (y ∷ ys) (inr m) = let r = place_in x ys m in (suc r.0, r.1)
-
-pub member_at : {X : Type 0} (x : X) (xs : List X) (i : ℕ) → slice_get xs i ≡ Some x → IsMember x xs
-member_at x [] i at = absurd (cc)
-member_at x (y ∷ ys) zero at = inl (let e : y ≡ x = cc in sym e)
-member_at x (y ∷ ys) (suc i) at = inr (member_at x ys i at)
 
 -- ---- a token that moved
 
@@ -80,154 +53,243 @@ stands_moved a b low none = ap₂ (λ v w. v && w) ((Decides-eqb (standing a) 0)
     lt zero e = absurd (omega (arith, e))
     lt (suc k) e = grind (arith, nat_tests)
 
--- ---- which task is chosen
+-- ---- totals that follow the sums
 
-pub record IsChosen (b : Bool) (o : Option Node) (d : Side) (t : List ℕ) (i : Inst) : Type 0 where
+-- where the terminal of an instantiation is
+pub record IsTerminalAt (nodes : List Node) (i : Inst) (n : ℕ) : Type 0 where
   pub node : Node
-  pub at : o ≡ Some node
+  pub at : slice_get nodes n ≡ Some node
   pub kind : node.kind ≡ Terminal i.rule
-  pub side : d ≡ Left
-  pub tags : i.tags ≡ t
-  pub moved : b ≡ true
 
-chosen_is : (b : Bool) (o : Option Node) (d : Side) (t : List ℕ) (i : Inst) → IsMember i (chosen b (rule_in o d) t) → IsChosen b o d t i
-chosen_is b None d t i m = absurd m
-chosen_is b (Some x) Right t i m = absurd m
-chosen_is b (Some x) Left t i m = by x.kind refl m
-  where
-    one : (k : ℕ) → x.kind ≡ Terminal k → (v : Bool) → b ≡ v → IsMember i (cond v (inst k t ∷ []) []) → IsChosen b (Some x) Left t i
-    one k q false e n = absurd n
-    one k q true e (inr n) = absurd n
-    one k q true e (inl n) = record { node = x; at = refl; kind = q ∙ ap Terminal (ap (λ (j : Inst). j.rule) (sym n)); side = refl; tags = ap (λ (j : Inst). j.tags) n; moved = e }
+-- the terminal of the total's instantiation, at which its token passes the test just where it moved
+pub record IsTested (nodes : List Node) (old new : Bag) (f : Total → Bool) (t : Total) : Type 0 where
+  pub n : ℕ
+  pub terminal : IsTerminalAt nodes t.inst n
+  pub test : f t ≡ is_moved (old n Left t.inst.tags) (new n Left t.inst.tags)
 
-    by : (k : Kind) → x.kind ≡ k → IsMember i (chosen b (rule_of k) t) → IsChosen b (Some x) Left t i
-    by Join q n = absurd n
-    by Negated q n = absurd n
-    by (Terminal rule) q n = one rule q b refl n
+module _ (nodes : List Node) (alphas : List Alpha) (sound : IsSound alphas nodes) (old new : Bag) (f : Total → Bool) (ts : List Total)
+    (each : (t : Total) → IsMember t ts → IsTested nodes old new f t)
+    (some : (i : Inst) (n : ℕ) → IsTerminalAt nodes i n → (old n Left i.tags ≡ new n Left i.tags) ⊎ ((t : Total) × IsMember t ts × (i ≡ t.inst))) where
+  abbrev chosen : List Inst
+  chosen = map (λ (t : Total). t.inst) (filter f ts)
 
-is_chosen : (b : Bool) (x : Node) (i : Inst) → x.kind ≡ Terminal i.rule → b ≡ true → IsMember i (chosen b (rule_in (Some x) Left) i.tags)
-is_chosen b x i kind moved =
-    subst (λ o. IsMember i (chosen b o i.tags)) (sym (ap rule_of kind)) (subst (λ v. IsMember i (cond v (inst i.rule i.tags ∷ []) [])) (sym moved) (inl refl))
+  chosen_moved : (i : Inst) → IsMember i chosen → Stands nodes new i × ¬ Stands nodes old i
+  chosen_moved i m =
+      let p = map_member (λ (t : Total). t.inst) i (filter f ts) m in
+      let t = p.0 in
+      let q = filter_member f t ts p.1 in
+      let is = each t q.0 in
+      let moved = moved_stands (old is.n Left t.inst.tags) (new is.n Left t.inst.tags) (sym is.test ∙ q.1) in
+      let stands : Stands nodes new t.inst = record { n = is.n; node = is.terminal.node; at = is.terminal.at; kind = is.terminal.kind; some = moved.0 } in
+      let stood : Stands nodes old t.inst → ⊥ =
+          (λ h. (let e : h.n ≡ is.n = sound.one h.n is.n t.inst.rule h.node is.terminal.node h.at is.terminal.at h.kind is.terminal.kind in
+            let g = subst (λ n. 0 < standing (old n Left t.inst.tags)) e h.some in omega (arith, g, moved.1))) in
+      subst (λ j. Stands nodes new j × ¬ Stands nodes old j) (sym p.2) (stands, stood)
 
--- ---- a task of a token whose sum changed
-
-pub record IsTaskAt (n : ℕ) (s : Side) (t : List ℕ) (xs : List Task) : Type 0 where
-  pub task : Task
-  pub member : IsMember task xs
-  pub node : n ≡ task.node
-  pub side : s ≡ task.side
-  pub token : t ≡ task.token
-
-some_task : (n : ℕ) (s : Side) (t : List ℕ) (xs : List Task) → (signs n s t xs ≡ pos 0) ⊎ IsTaskAt n s t xs
-some_task n s t [] = inl refl
-some_task n s t (x ∷ xs) = by (is_at n s t x) refl (some_task n s t xs)
-  where
-    by : (b : Bool) → is_at n s t x ≡ b → (signs n s t xs ≡ pos 0) ⊎ IsTaskAt n s t xs → (signs n s t (x ∷ xs) ≡ pos 0) ⊎ IsTaskAt n s t (x ∷ xs)
-    by true e r = let h = at_is n s t x e in inr (record { task = x; member = inl refl; node = h.0; side = h.1; token = h.2 })
-    by false e (inr r) = inr (record { task = r.task; member = inr r.member; node = r.node; side = r.side; token = r.token })
-    by false e (inl r) = inl (let z = sign_at-off n s t x e in omega (arith, ints, z, r))
-
-module _ (nodes : List Node) (alphas : List Alpha) (sound : IsSound alphas nodes) (ls : List Seen) (old new : Seen → Bag)
-    (old_alone : (i j : ℕ) (l m : Seen) → slice_get ls i ≡ Some l → slice_get ls j ≡ Some m → j ≢ i → (x : Task) → Contains (tasks_of l.entries) x → old m x.node x.side x.token ≡ pos 0)
-    (new_alone : (i j : ℕ) (l m : Seen) → slice_get ls i ≡ Some l → slice_get ls j ≡ Some m → j ≢ i → (x : Task) → Contains (tasks_of l.entries) x → new m x.node x.side x.token ≡ pos 0)
-    (same : (l : Seen) (n : ℕ) (s : Side) (t : List ℕ) → signs n s t (tasks_of l.entries) ≡ pos 0 → old l n s t ≡ new l n s t) where
-  -- each sum of all lines is that of the task's own line
-  bag_at : (f : Seen → Bag) (j : ℕ) (d : Bag) → slice_get (map f ls) j ≡ Some d → (m : Seen) × (slice_get ls j ≡ Some m) × (d ≡ f m)
-  bag_at f j d at = by (slice_get ls j) refl (sym (slice_get-map f ls j) ∙ at)
-    where
-      by : (o : Option Seen) → slice_get ls j ≡ o → option_map f o ≡ Some d → (m : Seen) × (slice_get ls j ≡ Some m) × (d ≡ f m)
-      by None q e = absurd (cc)
-      by (Some m) q e = let g : f m ≡ d = cc in (m, q, sym g)
-
-  own : (f : Seen → Bag) → ((i j : ℕ) (l m : Seen) → slice_get ls i ≡ Some l → slice_get ls j ≡ Some m → j ≢ i → (x : Task) → Contains (tasks_of l.entries) x → f m x.node x.side x.token ≡ pos 0)
-      → (i : ℕ) (l : Seen) → slice_get ls i ≡ Some l → (x : Task) → IsMember x (tasks_of l.entries) → total (map f ls) x.node x.side x.token ≡ f l x.node x.side x.token
-  own f alone i l at x m =
-      only_here x.node x.side x.token (map f ls) i (f l) (slice_get-map f ls i ∙ ap (option_map f) at)
-      (λ j d at' ne. (let b = bag_at f j d at' in ap (λ (c : Bag). c x.node x.side x.token) b.2 ∙ alone i j l b.0 at b.1 ne x (contains_from_member x (tasks_of l.entries) m)))
-
-  pub sound_for : (i : Inst) → IsMember i (flat_map (λ l. flat_map (moved_for nodes old new l) (tasks_of l.entries)) ls) → Stands nodes (total (map new ls)) i × ¬ Stands nodes (total (map old ls)) i
-  sound_for i m =
-      let a = flat_map_member (λ (l : Seen). flat_map (moved_for nodes old new l) (tasks_of l.entries)) i ls m in
-      let l = a.0 in
-      let p = place_in l ls a.1 in
-      let b = flat_map_member (moved_for nodes old new l) i (tasks_of l.entries) a.2 in
-      let x = b.0 in
-      let c = chosen_is (is_moved (old l x.node Left x.token) (new l x.node Left x.token)) (slice_get nodes x.node) x.side x.token i b.2 in
-      let moved = moved_stands (old l x.node Left x.token) (new l x.node Left x.token) c.moved in
-      let now_is : total (map new ls) x.node Left i.tags ≡ new l x.node Left x.token =
-          ap (total (map new ls) x.node Left) c.tags ∙ (ap (λ s. total (map new ls) x.node s x.token) (sym c.side) ∙ (own new new_alone p.0 l p.1 x b.1 ∙ ap (λ s. new l x.node s x.token) c.side)) in
-      let old_is : total (map old ls) x.node Left i.tags ≡ old l x.node Left x.token =
-          ap (total (map old ls) x.node Left) c.tags ∙ (ap (λ s. total (map old ls) x.node s x.token) (sym c.side) ∙ (own old old_alone p.0 l p.1 x b.1 ∙ ap (λ s. old l x.node s x.token) c.side)) in (
-        record { n = x.node; node = c.node; at = c.at; kind = c.kind; some = subst (λ z. 0 < standing z) (sym now_is) moved.0 },
-        λ h. (let e : h.n ≡ x.node = sound.one h.n x.node i.rule h.node c.node h.at c.at h.kind c.kind in
-          let f = subst (λ n. 0 < standing (total (map old ls) n Left i.tags)) e h.some in
-          let g = ap standing old_is in absurd (omega (arith, f, g, moved.1))),
-      )
-
-  -- ---- and all of them are found
-
-  differs_somewhere : (n : ℕ) (s : Side) (t : List ℕ) (ms : List Seen) → (total (map old ms) n s t ≡ total (map new ms) n s t) ⊎ ((j : ℕ) × (l : Seen) × (slice_get ms j ≡ Some l) × (signs n s t (tasks_of l.entries) ≢ pos 0))
-  differs_somewhere n s t [] = inl refl
-  differs_somewhere n s t (l ∷ ms) = by (signs n s t (tasks_of l.entries)) refl (differs_somewhere n s t ms)
-    where
-      off : signs n s t (tasks_of l.entries) ≢ pos 0 → (total (map old (l ∷ ms)) n s t ≡ total (map new (l ∷ ms)) n s t) ⊎ ((j : ℕ) × (k : Seen) × (slice_get (l ∷ ms) j ≡ Some k) × (signs n s t (tasks_of k.entries) ≢ pos 0))
-      off ne = inr (zero, l, refl, ne)
-
-      by : (z : ℤ) → signs n s t (tasks_of l.entries) ≡ z → (total (map old ms) n s t ≡ total (map new ms) n s t) ⊎ ((j : ℕ) × (k : Seen) × (slice_get ms j ≡ Some k) × (signs n s t (tasks_of k.entries) ≢ pos 0))
-          → (total (map old (l ∷ ms)) n s t ≡ total (map new (l ∷ ms)) n s t) ⊎ ((j : ℕ) × (k : Seen) × (slice_get (l ∷ ms) j ≡ Some k) × (signs n s t (tasks_of k.entries) ≢ pos 0))
-      by (pos zero) e (inl r) = inl (ap₂ (λ a b. a +ℤ b) (same l n s t e) r)
-      by (pos zero) e (inr r) = inr (suc r.0, r.1, r.2, r.3)
-      by (pos (suc k)) e r = off (λ z. absurd (omega (arith, ints, e, z)))
-      by (negsuc k) e r = off (λ z. absurd (omega (arith, ints, e, z)))
-
-  pub complete_for : (i : Inst) → Stands nodes (total (map new ls)) i → ¬ Stands nodes (total (map old ls)) i → IsMember i (flat_map (λ l. flat_map (moved_for nodes old new l) (tasks_of l.entries)) ls)
-  complete_for i h none = elim (differs_somewhere h.n Left i.tags ls) [
+  moved_chosen : (i : Inst) → Stands nodes new i → ¬ Stands nodes old i → IsMember i chosen
+  moved_chosen i h none = elim (some i h.n (record { node = h.node; at = h.at; kind = h.kind })) [
     | inl e ↦ absurd (none (record { n = h.n; node = h.node; at = h.at; kind = h.kind; some = subst (λ z. 0 < standing z) (sym e) h.some }))
-    | inr d ↦ at_line d.0 d.1 d.2 d.3
+    | inr p ↦ there p.0 p.1 p.2
   ]
     where
-      not_before : standing (total (map old ls) h.n Left i.tags) ≡ 0
-      not_before = by (standing (total (map old ls) h.n Left i.tags)) refl
-        where
-          by : (k : ℕ) → standing (total (map old ls) h.n Left i.tags) ≡ k → k ≡ 0
-          by zero e = refl
-          by (suc k) e = absurd (none (record { n = h.n; node = h.node; at = h.at; kind = h.kind; some = omega (arith, e) }))
+      not_before : (k : ℕ) → standing (old h.n Left i.tags) ≡ k → k ≡ 0
+      not_before zero e = refl
+      not_before (suc k) e = absurd (none (record { n = h.n; node = h.node; at = h.at; kind = h.kind; some = omega (arith, e) }))
 
-      at_line : (j : ℕ) (l : Seen) → slice_get ls j ≡ Some l → signs h.n Left i.tags (tasks_of l.entries) ≢ pos 0 → IsMember i (flat_map (λ l. flat_map (moved_for nodes old new l) (tasks_of l.entries)) ls)
-      at_line j l at ne = elim (some_task h.n Left i.tags (tasks_of l.entries)) [
-        | inl z ↦ absurd (ne z)
-        | inr f ↦
-            (let x = f.task in
-            let now_is : total (map new ls) h.n Left i.tags ≡ new l x.node Left x.token =
-                ap₂ (λ n t. total (map new ls) n Left t) f.node f.token ∙ (ap (λ s. total (map new ls) x.node s x.token) f.side ∙ (own new new_alone j l at x f.member ∙ ap (λ s. new l x.node s x.token) (sym f.side))) in
-            let old_is : total (map old ls) h.n Left i.tags ≡ old l x.node Left x.token =
-                ap₂ (λ n t. total (map old ls) n Left t) f.node f.token ∙ (ap (λ s. total (map old ls) x.node s x.token) f.side ∙ (own old old_alone j l at x f.member ∙ ap (λ s. old l x.node s x.token) (sym f.side))) in
-            let moved = stands_moved (old l x.node Left x.token) (new l x.node Left x.token) (subst (λ z. 0 < standing z) now_is h.some) (sym (ap standing old_is) ∙ not_before) in
-            let b = is_moved (old l x.node Left x.token) (new l x.node Left x.token) in
-            let here : IsMember i (moved_for nodes old new l x) =
-                subst (λ o. IsMember i (chosen b (rule_in o x.side) x.token)) (sym (ap (slice_get nodes) (sym f.node) ∙ h.at))
-                (subst (λ s. IsMember i (chosen b (rule_in (Some h.node) s) x.token)) f.side (subst (λ t. IsMember i (chosen b (rule_in (Some h.node) Left) t)) f.token (is_chosen b h.node i h.kind moved))) in
-            member-flat_map (λ (m : Seen). flat_map (moved_for nodes old new m) (tasks_of m.entries)) i l ls (member_at l ls j at) (member-flat_map (moved_for nodes old new l) i x (tasks_of l.entries) f.member here))
+      there : (t : Total) → IsMember t ts → i ≡ t.inst → IsMember i chosen
+      there t m e =
+          let is = each t m in
+          let same : h.n ≡ is.n = sound.one h.n is.n t.inst.rule h.node is.terminal.node h.at is.terminal.at (h.kind ∙ ap (λ (j : Inst). Terminal j.rule) e) is.terminal.kind in
+          let old_is : old h.n Left i.tags ≡ old is.n Left t.inst.tags = ap₂ (λ n (j : Inst). old n Left j.tags) same e in
+          let new_is : new h.n Left i.tags ≡ new is.n Left t.inst.tags = ap₂ (λ n (j : Inst). new n Left j.tags) same e in
+          let pass : f t ≡ true = is.test ∙ stands_moved (old is.n Left t.inst.tags) (new is.n Left t.inst.tags) (subst (λ z. 0 < standing z) new_is h.some) (sym (ap standing old_is) ∙ not_before (standing (old h.n Left i.tags)) refl) in
+          subst (λ j. IsMember j chosen) (sym e) (member-map (λ (u : Total). u.inst) t (filter f ts) (member-filter f t ts m pass))
+
+  pub chosen_are : (i : Inst) → Contains chosen i ↔ (Stands nodes new i × ¬ Stands nodes old i)
+  chosen_are i = (λ c. chosen_moved i (member_from_contains i chosen c), λ h. contains_from_member i chosen (moved_chosen i h.0 h.1))
+
+  pub chosen_in_order : AllBefore ByInst ts → IsInOrder chosen
+  chosen_in_order order = all_pairs_from_before Before chosen (all_before-map ByInst Before (λ (t : Total). t.inst) (filter f ts) (λ t u b. b) (all_before-filter ByInst f ts order))
+
+-- ---- the sum of all lines
+
+abbrev all_signs : ℕ → Side → List ℕ → List Seen → ℤ
+all_signs n s t [] = pos 0
+all_signs n s t (l ∷ ls) = signs n s t (tasks_of l.entries) +ℤ all_signs n s t ls
+
+total_before : (n : ℕ) (s : Side) (t : List ℕ) (ls : List Seen) → total (map before ls) n s t ≡ total (map now ls) n s t -ℤ all_signs n s t ls
+total_before n s t [] = omega (arith, ints)
+total_before n s t (l ∷ ls) = let r = total_before n s t ls in omega (arith, ints, r)
+
+module _ (nodes : List Node) (alphas : List Alpha) (sound : IsSound alphas nodes) where
+  -- ---- what the tasks moved
+
+  module _ (i : Inst) (n : ℕ) (is : IsTerminalAt nodes i n) where
+    no_part : (x : Task) → ((y : Node) → slice_get nodes x.node ≡ Some y → x.side ≡ Left → y.kind ≡ Terminal i.rule → i.tags ≡ x.token → ⊥) → sign_at n Left i.tags x ≡ pos 0
+    no_part x off = sign_at-none n Left i.tags x (λ node side token. off is.node (ap (slice_get nodes) (sym node) ∙ is.at) (sym side) is.kind token)
+
+    at_terminal : (x : Task) (sum : ℤ) (y : Node) → slice_get nodes x.node ≡ Some y → x.side ≡ Left → (k : ℕ) → y.kind ≡ Terminal k → (v : Bool) → is_same i (inst k x.token) ≡ v
+        → cond v (sign x.plus) (pos 0) +ℤ pos 0 ≡ sign_at n Left i.tags x
+    at_terminal x sum y at side k kind true e =
+        let same = is_same-true i (inst k x.token) e in
+        let rule = ap (λ (j : Inst). j.rule) same in
+        let tags = ap (λ (j : Inst). j.tags) same in
+        let node : n ≡ x.node = sound.one n x.node i.rule is.node y is.at at is.kind (kind ∙ ap Terminal (sym rule)) in
+        let own = sign_at-own x in
+        let a : sign_at n Left i.tags x ≡ sign_at x.node x.side x.token x =
+            ap₂ (λ m t. sign_at m Left t x) node tags ∙ ap (λ s. sign_at x.node s x.token x) (sym side) in omega (arith, ints, own, a)
+    at_terminal x sum y at side k kind false e =
+        let z = no_part x (λ y' at' side' kind' token.
+            (let f : y ≡ y' = (let g = sym at ∙ at' in cc) in
+            let r : k ≡ i.rule = (let g = sym kind ∙ (ap (λ (w : Node). w.kind) f ∙ kind') in cc) in
+            let same : i ≡ inst k x.token = ap₂ (λ q t. inst q t) (sym r) token in
+            let h = is_same-itself i (inst k x.token) same in absurd (let b = sym e ∙ h in cc))) in omega (arith, ints, z)
+
+    by_kind : (x : Task) (sum : ℤ) (y : Node) → slice_get nodes x.node ≡ Some y → (s : Side) → x.side ≡ s → (k : Kind) → y.kind ≡ k
+        → moved_change i (moved_to (rule_in (Some (record y { kind = k })) s) x sum) ≡ sign_at n Left i.tags x
+    by_kind x sum y at Right side k kind = sym (no_part x (λ y' at' side' kind' token. (let f = sym side ∙ side' in cc)))
+    by_kind x sum y at Left side Join kind = sym (no_part x (λ y' at' side' kind' token. (let g = sym at ∙ at' in let f : y ≡ y' = cc in let h = sym kind ∙ (ap (λ (w : Node). w.kind) f ∙ kind') in cc)))
+    by_kind x sum y at Left side Negated kind = sym (no_part x (λ y' at' side' kind' token. (let g = sym at ∙ at' in let f : y ≡ y' = cc in let h = sym kind ∙ (ap (λ (w : Node). w.kind) f ∙ kind') in cc)))
+    by_kind x sum y at Left side (Terminal k) kind = at_terminal x sum y at side k kind (is_same i (inst k x.token)) refl
+
+    one_moved : (x : Task) (sum : ℤ) → moved_change i (moved_to (rule_in (slice_get nodes x.node) x.side) x sum) ≡ sign_at n Left i.tags x
+    one_moved x sum = by (slice_get nodes x.node) refl
+      where
+        by : (o : Option Node) → slice_get nodes x.node ≡ o → moved_change i (moved_to (rule_in o x.side) x sum) ≡ sign_at n Left i.tags x
+        by None at = sym (no_part x (λ y at' side kind token. (let g = sym at ∙ at' in cc)))
+        by (Some y) at = by_kind x sum y at x.side refl y.kind refl
+
+    line_moved : (l : Seen) (xs : List Task) → moved_change i (flat_map (moved_by nodes l) xs) ≡ signs n Left i.tags xs
+    line_moved l [] = refl
+    line_moved l (x ∷ xs) =
+        let a = moved_change-append i (moved_by nodes l x) (flat_map (moved_by nodes l) xs) in
+        let b = one_moved x (l.sums x.node Left x.token) in
+        let r = line_moved l xs in omega (arith, ints, a, b, r)
+
+    all_moved : (ls : List Seen) → moved_change i (moved_over nodes ls) ≡ all_signs n Left i.tags ls
+    all_moved [] = refl
+    all_moved (l ∷ ls) =
+        let a = moved_change-append i (moved_on nodes l) (moved_over nodes ls) in
+        let b = line_moved l (tasks_of l.entries) in
+        let r = all_moved ls in omega (arith, ints, a, b, r)
+
+  -- ---- where what moved stands
+
+  -- a task of a line moved it
+  pub record IsOfTask (l : Seen) (m : Moved) : Type 0 where
+    pub task : Task
+    pub member : IsMember task (tasks_of l.entries)
+    pub side : task.side ≡ Left
+    pub token : m.inst.tags ≡ task.token
+    pub terminal : IsTerminalAt nodes m.inst task.node
+    pub sum : m.sum ≡ l.sums task.node Left task.token
+
+  of_task : (l : Seen) (x : Task) → IsMember x (tasks_of l.entries) → (m : Moved) → IsMember m (moved_by nodes l x) → IsOfTask l m
+  of_task l x in_line m k = by_node (slice_get nodes x.node) refl k
+    where
+      at_rule : (y : Node) → slice_get nodes x.node ≡ Some y → x.side ≡ Left → (r : ℕ) → y.kind ≡ Terminal r → IsMember m (record { inst = inst r x.token; plus = x.plus; sum = l.sums x.node Left x.token } ∷ []) → IsOfTask l m
+      at_rule y at side r kind (inr n) = absurd n
+      at_rule y at side r kind (inl e) = record {
+        task = x;
+        member = in_line;
+        side = side;
+        token = ap (λ (w : Moved). w.inst.tags) e;
+        terminal = record { node = y; at = at; kind = kind ∙ ap (λ (w : Moved). Terminal w.inst.rule) (sym e) };
+        sum = ap (λ (w : Moved). w.sum) e;
+      }
+
+      by_kind' : (y : Node) → slice_get nodes x.node ≡ Some y → (s : Side) → x.side ≡ s → (q : Kind) → y.kind ≡ q
+          → IsMember m (moved_to (rule_in (Some (record y { kind = q })) s) x (l.sums x.node Left x.token)) → IsOfTask l m
+      by_kind' y at Right side q kind n = absurd n
+      by_kind' y at Left side Join kind n = absurd n
+      by_kind' y at Left side Negated kind n = absurd n
+      by_kind' y at Left side (Terminal r) kind n = at_rule y at side r kind n
+
+      by_node : (o : Option Node) → slice_get nodes x.node ≡ o → IsMember m (moved_to (rule_in o x.side) x (l.sums x.node Left x.token)) → IsOfTask l m
+      by_node None at n = absurd n
+      by_node (Some y) at n = by_kind' y at x.side refl y.kind refl n
+
+  module _ (ls : List Seen) (own : HaveOwnLines ls) where
+    place_in : {X : Type 0} (x : X) (xs : List X) → IsMember x xs → (i : ℕ) × (slice_get xs i ≡ Some x)
+    place_in x [] m = absurd m
+    place_in x (y ∷ ys) (inl e) = (zero, ap Some (sym e))
+    place_in x (y ∷ ys) (inr m) = let r = place_in x ys m in (suc r.0, r.1)
+
+    bag_at : (j : ℕ) (d : Bag) → slice_get (map now ls) j ≡ Some d → (m : Seen) × (slice_get ls j ≡ Some m) × (d ≡ now m)
+    bag_at j d at = by (slice_get ls j) refl (sym (slice_get-map now ls j) ∙ at)
+      where
+        by : (o : Option Seen) → slice_get ls j ≡ o → option_map now o ≡ Some d → (m : Seen) × (slice_get ls j ≡ Some m) × (d ≡ now m)
+        by None q e = absurd (cc)
+        by (Some m) q e = let g : now m ≡ d = cc in (m, q, sym g)
+
+    -- the sum of all lines is that of the task's own line
+    own_sum : (l : Seen) → IsMember l ls → (x : Task) → IsMember x (tasks_of l.entries) → total (map now ls) x.node x.side x.token ≡ l.sums x.node x.side x.token
+    own_sum l in_lines x in_line =
+        let p = place_in l ls in_lines in
+        only_here x.node x.side x.token (map now ls) p.0 (now l) (slice_get-map now ls p.0 ∙ ap (option_map now) p.1)
+        (λ j d at ne. (let b = bag_at j d at in ap (λ (c : Bag). c x.node x.side x.token) b.2 ∙ own p.0 j l b.0 p.1 b.1 ne x (contains_from_member x (tasks_of l.entries) in_line)))
+
+    -- where it stands, and how often now
+    pub record IsSummed (i : Inst) (sum : ℤ) : Type 0 where
+      pub n : ℕ
+      pub terminal : IsTerminalAt nodes i n
+      pub sum : total (map now ls) n Left i.tags ≡ sum
+
+    moved_summed : (m : Moved) → IsMember m (moved_over nodes ls) → IsSummed m.inst m.sum
+    moved_summed m k =
+        let a = flat_map_member (moved_on nodes) m ls k in
+        let l = a.0 in
+        let b = flat_map_member (moved_by nodes l) m (tasks_of l.entries) a.2 in
+        let o = of_task l b.0 b.1 m b.2 in
+        let x = o.task in
+        let s = own_sum l a.1 x o.member in record {
+          n = x.node;
+          terminal = o.terminal;
+          sum = ap (total (map now ls) x.node Left) o.token ∙ (ap (λ d. total (map now ls) x.node d x.token) (sym o.side) ∙ (s ∙ (ap (λ d. l.sums x.node d x.token) o.side ∙ sym o.sum)));
+        }
+
+    module _ (ms : List Moved) (ts : List Total) (same : IsPermutation (moved_over nodes ls) ms) (are : AreTotals ms ts) where
+      total_summed : (t : Total) → IsMember t ts → IsSummed t.inst t.sum
+      total_summed t m =
+          let o = are.from t m in
+          let c = Contains-permutation ms (moved_over nodes ls) o.one (IsPermutation-sym (moved_over nodes ls) ms same) (contains_from_member o.one ms o.member) in
+          let s = moved_summed o.one (member_from_contains o.one (moved_over nodes ls) c) in
+          subst (λ z. IsSummed t.inst z) o.sum (subst (λ j. IsSummed j o.one.sum) o.inst s)
+
+      changed : (i : Inst) (n : ℕ) → IsTerminalAt nodes i n → total_change i ts ≡ all_signs n Left i.tags ls
+      changed i n is = are.change i ∙ (moved_change-permutation i (moved_over nodes ls) ms same ∙ all_moved i n is ls)
+
+      before_is : (t : Total) → IsMember t ts → (n : ℕ) → IsTerminalAt nodes t.inst n → total (map now ls) n Left t.inst.tags ≡ t.sum → total (map before ls) n Left t.inst.tags ≡ t.sum -ℤ t.change
+      before_is t m n is sum =
+          let a = total_before n Left t.inst.tags ls in
+          let b = changed t.inst n is in
+          let c = own_change ts are.order t m in omega (arith, ints, a, b, c, sum)
+
+      none_changed : (i : Inst) (n : ℕ) → IsTerminalAt nodes i n → (total (map before ls) n Left i.tags ≡ total (map now ls) n Left i.tags) ⊎ ((t : Total) × IsMember t ts × (i ≡ t.inst))
+      none_changed i n is = elim (some_total i ts) [
+        | inr h ↦ inr h
+        | inl z ↦ inl (let a = total_before n Left i.tags ls in let b = changed i n is in omega (arith, ints, a, b, z))
       ]
 
-pub gathered : (nodes : List Node) (alphas : List Alpha) → IsSound alphas nodes → (ls : List Seen) → AreAlone ls → (come gone : List Inst) → IsInOrder come → IsInOrder gone
-    → ((i : Inst) → Contains come i ↔ Contains (came_or_went true nodes ls) i) → ((i : Inst) → Contains gone i ↔ Contains (came_or_went false nodes ls) i)
-    → IsGathered nodes (total (map before ls)) (total (map now ls)) come gone
-gathered nodes alphas sound ls alone come gone first second a b = record {
-  come_is = λ i. (
-    λ c. sound_for nodes alphas sound ls before now alone.before_alone alone.now_alone up i (member_from_contains i (came_or_went true nodes ls) ((a i).0 c)),
-    λ h. (a i).1 (contains_from_member i (came_or_went true nodes ls) (complete_for nodes alphas sound ls before now alone.before_alone alone.now_alone up i h.0 h.1)),
-  );
-  gone_is = λ i. (
-    λ c. sound_for nodes alphas sound ls now before alone.now_alone alone.before_alone down i (member_from_contains i (came_or_went false nodes ls) ((b i).0 c)),
-    λ h. (b i).1 (contains_from_member i (came_or_went false nodes ls) (complete_for nodes alphas sound ls now before alone.now_alone alone.before_alone down i h.0 h.1)),
-  );
-  come_in_order = first;
-  gone_in_order = second;
-}
-  where
-    up : (l : Seen) (n : ℕ) (s : Side) (t : List ℕ) → signs n s t (tasks_of l.entries) ≡ pos 0 → before l n s t ≡ now l n s t
-    up l n s t e = omega (arith, ints, e)
+      come_tested : (t : Total) → IsMember t ts → IsTested nodes (total (map before ls)) (total (map now ls)) has_come t
+      come_tested t m =
+          let s = total_summed t m in
+          let b = before_is t m s.n s.terminal s.sum in
+          record { n = s.n; terminal = s.terminal; test = ap₂ is_moved (sym b) (sym s.sum) }
 
-    down : (l : Seen) (n : ℕ) (s : Side) (t : List ℕ) → signs n s t (tasks_of l.entries) ≡ pos 0 → now l n s t ≡ before l n s t
-    down l n s t e = omega (arith, ints, e)
+      gone_tested : (t : Total) → IsMember t ts → IsTested nodes (total (map now ls)) (total (map before ls)) has_gone t
+      gone_tested t m =
+          let s = total_summed t m in
+          let b = before_is t m s.n s.terminal s.sum in
+          record { n = s.n; terminal = s.terminal; test = ap₂ is_moved (sym s.sum) (sym b) }
+
+      gone_changed : (i : Inst) (n : ℕ) → IsTerminalAt nodes i n → (total (map now ls) n Left i.tags ≡ total (map before ls) n Left i.tags) ⊎ ((t : Total) × IsMember t ts × (i ≡ t.inst))
+      gone_changed i n is = elim (none_changed i n is) [ inl e ↦ inl (sym e) | inr h ↦ inr h ]
+
+      pub are_gathered : IsGathered nodes (total (map before ls)) (total (map now ls)) (map (λ (t : Total). t.inst) (filter has_come ts)) (map (λ (t : Total). t.inst) (filter has_gone ts))
+      are_gathered = record {
+        come_is = chosen_are nodes alphas sound (total (map before ls)) (total (map now ls)) has_come ts come_tested none_changed;
+        gone_is = chosen_are nodes alphas sound (total (map now ls)) (total (map before ls)) has_gone ts gone_tested gone_changed;
+        come_in_order = chosen_in_order nodes alphas sound (total (map before ls)) (total (map now ls)) has_come ts come_tested none_changed are.order;
+        gone_in_order = chosen_in_order nodes alphas sound (total (map now ls)) (total (map before ls)) has_gone ts gone_tested gone_changed are.order;
+      }

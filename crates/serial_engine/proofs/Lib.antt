@@ -9,4 +9,4 @@ pub mod PhaseLemmas
 pub mod GatherLemmas
 pub mod StoreLemmas
 pub mod SettleLemmas
-pub mod OrderLemmas
+pub mod AddingUp

@@ -45,22 +45,24 @@ module _ (alphas : List Alpha) (nodes : List Node) (s : Stored) (sound : IsSound
   pub done_stays : mid.done.items ≡ []
   done_stays = ap (λ w. w.done) step.1 ∙ none_is_done old quiet
 
+  pub flight_stays : mid.flight.items ≡ []
+  flight_stays = ap (λ w. w.flight) step.1 ∙ none_in_flight old quiet
+
   at_rest : (wm : List Element) → HoldJust line (sums_over wm alphas nodes) (map now (map seen old.lines.items)) → IsAtRest line (sums_over wm alphas nodes) (world_of mid)
   at_rest wm holds = record {
     counter = ap (λ w. w.counter) step.1 ∙ quiet;
-    flight = ap (λ w. w.flight) step.1 ∙ none_in_flight old quiet;
+    flight = flight_stays;
     done = done_stays;
     empty = subst AreEmpty (sym (ap (λ w. w.lines) step.1)) (empty_cleared (map seen old.lines.items));
     holds = subst (HoldJust line (sums_over wm alphas nodes)) (sym (ap (λ w. map now w.lines) step.1 ∙ now_cleared (map seen old.lines.items))) holds;
   }
 
-  pub phase_bundle : (fed new : World) (changes : List Change) → numbers_of mid ≡ numbers_of old → Went alphas nodes s (length mid.lines.items) mid changes fed
-      → numbers_of fed ≡ numbers_of mid → Went alphas nodes s (length fed.lines.items) fed [] new → new.counter ≡ 0 → IsBundleOf alphas nodes s changes old new
-  phase_bundle fed new changes same first again second zero' wm holds =
+  pub phase_bundle : (new : World) (changes : List Change) → numbers_of mid ≡ numbers_of old → Went alphas nodes s (length mid.lines.items) mid changes new → new.counter ≡ 0 → IsBundleOf alphas nodes s changes old new
+  phase_bundle new changes same went zero' wm holds =
       let count = same_count old mid same in
-      let h : HasRun (held_of s) alphas nodes line (world_of mid) (world_of new) (changes ++ []) = subst (λ n. Went alphas nodes s n mid (changes ++ []) new) count (went_on alphas nodes s mid fed new changes [] first again second) in
+      let h : HasRun (held_of s) alphas nodes line (world_of mid) (world_of new) changes = subst (λ n. Went alphas nodes s n mid changes new) count went in
       let long = length-map seen mid.lines.items in
       let some = old.some in
       let at = is_placed (held_of s) alphas nodes (length old.lines.items) sound some in
-      subst (λ cs. IsBundle (held_of s) alphas nodes line wm cs (map seen new.lines.items)) (h.fed ∙ append-nil changes)
+      subst (λ cs. IsBundle (held_of s) alphas nodes line wm cs (map seen new.lines.items)) h.fed
       (settle_law (held_of s) alphas nodes line wm h.steps (world_of mid) (world_of new) (λ n d t. (let b = at.below n d t in omega (arith, b, count, long))) (at_rest wm holds) h.clear h.run zero')

@@ -23,7 +23,7 @@ use Rattle.step_core.specs.Phases.{HoldJust, sums_over, now, before, tasks_of, t
 use Rattle.step_core.specs.Worlds.{placed, seen}
 use Rattle.step_core.proofs.Bundle.{bundle_settles}
 use Rattle.serial_engine.specs.Found.{found_over}
-use Rattle.serial_engine.specs.Gathering.{AreAlone}
+use Rattle.serial_engine.specs.Gathering.{HaveOwnLines}
 use Rattle.serial_engine.specs.Laws.{IsGathered}
 use Rattle.serial_engine.proofs.ChangeLemmas.{change_law}
 use Rattle.serial_engine.proofs.StartLemmas.{is_placed}
@@ -49,12 +49,9 @@ module _ (alphas : List Alpha) (nodes : List Node) (sound : IsSound alphas nodes
   bag : (f : Seen → Bag) (j : ℕ) (m : Seen) → slice_get ls j ≡ Some m → slice_get (map f ls) j ≡ Some (f m)
   bag f j m at = slice_get-map f ls j ∙ ap (option_map f) at
 
-  pub alone : AreAlone ls
-  alone = record {
-    now_alone = λ i j l m at at' ne x c. holds_now.apart j (now m) (bag now j m at') x.node x.side x.token (away i j l at ne x c);
-    before_alone = λ i j l m at at' ne x c. bundle.start.apart j (before m) (bag before j m at') x.node x.side x.token (away i j l at ne x c);
-  }
+  pub own_lines : HaveOwnLines ls
+  own_lines i j l m at at' ne x c = holds_now.apart j (now m) (bag now j m at') x.node x.side x.token (away i j l at ne x c)
 
-  pub settled : HasRisingTags s.elements → HasRisingTags s'.elements → (come gone : List Inst) → IsGathered nodes (total (map before ls)) (total (map now ls)) come gone
+  pub settled_by : HasRisingTags s.elements → HasRisingTags s'.elements → (come gone : List Inst) → IsGathered nodes (total (map before ls)) (total (map now ls)) come gone
       → IsSettled (found_over alphas nodes s.elements) (found_over alphas nodes s'.elements) gone come
-  settled rise rise' come gone g = change_law alphas nodes s.elements s'.elements line ls come gone sound rise rise' bundle.start holds_now g
+  settled_by rise rise' come gone g = change_law alphas nodes s.elements s'.elements line ls come gone sound rise rise' bundle.start holds_now g

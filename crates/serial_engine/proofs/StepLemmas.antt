@@ -57,15 +57,14 @@ module _ (elements : Elements) (alphas : List Alpha) (nodes : List Node) (line :
 -- ---- the last task
 
 module _ {X : Type 0} (xs : List X) (some : 1 ≤ length xs) where
-  last_gone : remove xs (length xs - 1) ≡ but_last xs
+  pub last_gone : remove xs (length xs - 1) ≡ but_last xs
   last_gone = ap (λ ys. take (length xs - 1) xs ++ ys) (drop_all (suc (length xs - 1)) xs (omega (arith, some))) ∙ append-nil (but_last xs)
 
   pub length_but_last : length (but_last xs) ≡ length xs - 1
   length_but_last = length-take-le (length xs - 1) xs (omega (arith, some))
 
--- what the last task's activation and the finish of its entry leave
-module _ (elements : Elements) (nodes : List Node) (line : Placing) (old mid new : World) (last : ℕ) (at : last ≡ length old.flight - 1) (some : 1 ≤ length old.flight) (none : old.done ≡ [])
-    (a : Activates elements nodes line old last mid) where
+-- what the activation of a task and the finish of its entry leave
+module _ (elements : Elements) (nodes : List Node) (line : Placing) (old mid new : World) (i : ℕ) (none : old.done ≡ []) (a : Activates elements nodes line old i mid) where
   one_done : mid.done ≡ a.entry ∷ []
   one_done = ap (λ w. w.done) a.becomes ∙ ap (λ es. es ++ a.entry ∷ []) none
 
@@ -79,13 +78,8 @@ module _ (elements : Elements) (nodes : List Node) (line : Placing) (old mid new
     pub none_done : new.done ≡ []
     none_done = ap (λ w. w.done) f.becomes ∙ ap (λ es. remove es 0) one_done
 
-    pub flight_done : new.flight ≡ but_last old.flight ++ a.entry.children
-    flight_done =
-        ap (λ w. w.flight) f.becomes
-        ∙ ap₂ (λ xs ys. xs ++ ys) (ap (λ w. w.flight) a.becomes ∙ (ap (remove old.flight) at ∙ last_gone old.flight some)) (ap (λ e. e.children) same_entry)
-
-    pub task_was : slice_get old.flight (length old.flight - 1) ≡ Some a.entry.task
-    task_was = ap (slice_get old.flight) (sym at) ∙ a.task
+    pub flight_done : new.flight ≡ remove old.flight i ++ a.entry.children
+    flight_done = ap (λ w. w.flight) f.becomes ∙ ap₂ (λ xs ys. xs ++ ys) (ap (λ w. w.flight) a.becomes) (ap (λ e. e.children) same_entry)
 
 -- ---- the children that are left
 

@@ -1,25 +1,28 @@
 -- What the entries of lines tell of instantiations that came and went.
-use Rattle.std.specs.Prelude.{◌≡◌, ◌≢◌, ◌==◌, ◌&&◌, ℕ, ℤ, pos, ◌-ℤ◌, Bool, true, false, List, [], ◌∷◌, flat_map, map, nat_lt, slice_get, Option, Some, None, Contains, if◌then◌else◌}
+use Rattle.std.specs.Prelude.{◌≡◌, ◌≢◌, ◌==◌, ◌&&◌, ◌-◌, ℕ, ℤ, pos, ◌+ℤ◌, ◌-ℤ◌, Bool, List, [], ◌∷◌, ◌++◌, flat_map, length, map, nat_lt, slice_get, slice_set, Option, Some, None, Contains, if◌then◌else◌}
+use Rattle.std.specs.Ordering.{eq_by_cmp}
 use Rattle.ops_base.specs.declared.rules.Inst.{Inst}
+use Rattle.ops_base.specs.Instances.{by_rule_and_tags}
 use Rattle.net_base.specs.declared.nodes.Kind.{Kind}
 use Rattle.net_base.specs.declared.nodes.Kind.TheVariants.{Join, Negated, Terminal}
 use Rattle.net_base.specs.declared.nodes.Node.{Node}
 use Rattle.net_base.specs.declared.tasks.Side.{Side}
 use Rattle.net_base.specs.declared.tasks.Side.TheVariants.{Left, Right}
 use Rattle.net_base.specs.declared.tasks.Task.{Task}
-use Rattle.token_line.specs.Bags.{Bag, standing, signs}
+use Rattle.token_line.specs.Bags.{sign, standing}
 use Rattle.step_core.specs.Machine.{Seen}
-use Rattle.step_core.specs.Phases.{now, before, tasks_of}
+use Rattle.step_core.specs.Phases.{tasks_of}
+use Rattle.serial_engine.specs.declared.gathering.Moved.{Moved}
+use Rattle.serial_engine.specs.declared.gathering.Total.{Total}
 use Rattle.serial_engine.specs.Found.{inst}
 
--- a token did not stand and stands
-abbrev pub is_moved : ℤ → ℤ → Bool
-is_moved old new = (standing old == 0) && nat_lt 0 (standing new)
+-- no other line has a token that a task of one line brought or took
+abbrev pub HaveOwnLines : List Seen → Type 0
+HaveOwnLines ls =
+    (i j : ℕ) (l m : Seen) → slice_get ls i ≡ Some l → slice_get ls j ≡ Some m → j ≢ i
+    → (x : Task) → Contains (tasks_of l.entries) x → m.sums x.node x.side x.token ≡ pos 0
 
--- it came, or it went, where this is its sum now and that is how much the phase changed it
-abbrev pub has_moved : Bool → ℤ → ℤ → Bool
-has_moved true sum change = is_moved (sum -ℤ change) sum
-has_moved false sum change = is_moved sum (sum -ℤ change)
+-- ---- what entries moved
 
 abbrev pub rule_of : Kind → Option ℕ
 rule_of Join = None
@@ -32,26 +35,49 @@ rule_in None s = None
 rule_in (Some x) Left = rule_of x.kind
 rule_in (Some x) Right = None
 
-abbrev pub chosen : Bool → Option ℕ → List ℕ → List Inst
-chosen b None t = []
-chosen b (Some k) t = if b then inst k t ∷ [] else []
+abbrev pub moved_to : Option ℕ → Task → ℤ → List Moved
+moved_to None x sum = []
+moved_to (Some k) x sum = record { inst = inst k x.token; plus = x.plus; sum = sum } ∷ []
 
-module _ (nodes : List Node) (old new : Seen → Bag) where
-  abbrev pub moved_for : Seen → Task → List Inst
-  moved_for l x = chosen (is_moved (old l x.node Left x.token) (new l x.node Left x.token)) (rule_in (slice_get nodes x.node) x.side) x.token
+-- what a task of the line moved, with the sum of its token now
+abbrev pub moved_by : List Node → Seen → Task → List Moved
+moved_by nodes l x = moved_to (rule_in (slice_get nodes x.node) x.side) x (l.sums x.node Left x.token)
 
-abbrev pub moved_for_of : Bool → List Node → Seen → Task → List Inst
-moved_for_of true nodes l x = moved_for nodes before now l x
-moved_for_of false nodes l x = moved_for nodes now before l x
+abbrev pub moved_on : List Node → Seen → List Moved
+moved_on nodes l = flat_map (moved_by nodes l) (tasks_of l.entries)
 
-abbrev pub moved_on_of : Bool → List Node → Seen → List Inst
-moved_on_of come nodes l = flat_map (moved_for_of come nodes l) (tasks_of l.entries)
+-- what the entries of these lines moved, in their order
+abbrev pub moved_over : List Node → List Seen → List Moved
+moved_over nodes ls = flat_map (moved_on nodes) ls
 
--- what came over these lines, or what went, in the order of their entries
-abbrev pub came_or_went : Bool → List Node → List Seen → List Inst
-came_or_went come nodes ls = flat_map (moved_on_of come nodes) ls
+-- ---- adding up
 
--- no other line has, or had, a token that a task of one line brought or took
-pub record AreAlone (ls : List Seen) : Type 0 where
-  pub now_alone : (i j : ℕ) (l m : Seen) → slice_get ls i ≡ Some l → slice_get ls j ≡ Some m → j ≢ i → (x : Task) → Contains (tasks_of l.entries) x → now m x.node x.side x.token ≡ pos 0
-  pub before_alone : (i j : ℕ) (l m : Seen) → slice_get ls i ≡ Some l → slice_get ls j ≡ Some m → j ≢ i → (x : Task) → Contains (tasks_of l.entries) x → before m x.node x.side x.token ≡ pos 0
+abbrev pub is_same : Inst → Inst → Bool
+is_same = eq_by_cmp by_rule_and_tags
+
+abbrev pub begun : Moved → Total
+begun m = record { inst = m.inst; change = sign m.plus; sum = m.sum }
+
+abbrev pub counted_in : Total → Moved → Total
+counted_in x m = record x { change = x.change +ℤ sign m.plus }
+
+abbrev pub added_to : Option Total → List Total → Moved → List Total
+added_to None ts m = ts ++ begun m ∷ []
+added_to (Some x) ts m = if is_same x.inst m.inst then slice_set ts (length ts - 1) (counted_in x m) else ts ++ begun m ∷ []
+
+-- one more that moved, counted in the last total, where that is of its instantiation
+abbrev pub added : List Total → Moved → List Total
+added ts m = added_to (slice_get ts (length ts - 1)) ts m
+
+-- ---- what came and went
+
+-- a token did not stand and stands
+abbrev pub is_moved : ℤ → ℤ → Bool
+is_moved old new = (standing old == 0) && nat_lt 0 (standing new)
+
+-- the sum before is the sum now, less the change
+abbrev pub has_come : Total → Bool
+has_come t = is_moved (t.sum -ℤ t.change) t.sum
+
+abbrev pub has_gone : Total → Bool
+has_gone t = is_moved t.sum (t.sum -ℤ t.change)

@@ -1,13 +1,12 @@
 //! What the entries of the lines tell of instantiations that came and went.
-ghost use Rattle.std.specs.Prelude.{◌≡◌, ◌<◌, ◌^◌, ◌++◌, ◌↔◌, length, IfOk, OnOk, Contains, map, slice_get};
-ghost use Rattle.net_base.specs.declared.tasks.Side.TheVariants.{Left};
-ghost use Rattle.ops_base.specs.declared.rules.Inst.{Inst};
-ghost use Rattle.ops_base.specs.Instances.{IsInOrder};
-ghost use Rattle.token_line.specs.Bags.{sign_at, signs};
-ghost use Rattle.step_core.specs.Phases.{before, now, tasks_of, total};
+ghost use Rattle.std.specs.Prelude.{◌≡◌, ◌<◌, ◌-◌, ◌^◌, ◌++◌, ◌+ℤ◌, [], Some, length, IfOk, OnOk, filter, fold, map, slice_get, IsPermutation, FitsSigned, w64};
+ghost use Rattle.std.specs.List.Sorted.{IsSortedByKey};
+ghost use Rattle.ops_base.specs.Instances.{by_rule_and_tags};
+ghost use Rattle.token_line.specs.Bags.{sign};
+ghost use Rattle.step_core.specs.Phases.{before, now, total};
 ghost use Rattle.step_core.specs.Worlds.{seen};
 ghost use Rattle.serial_engine.specs.Found.{inst};
-ghost use Rattle.serial_engine.specs.Gathering.{AreAlone, came_or_went, has_moved, moved_for_of, moved_on_of, rule_in};
+ghost use Rattle.serial_engine.specs.Gathering.{HaveOwnLines, added, has_come, has_gone, is_same, moved_by, moved_on, moved_over, rule_in};
 ghost use Rattle.serial_engine.specs.Laws.{IsGathered};
 
 use net_base::net::Net;
@@ -19,7 +18,30 @@ use ops_base::memory::OutOfMemory;
 use ops_base::rules::Inst;
 use std::alloc::Global;
 use std::cmp::Ordering;
-use token_line::{Entry, Line};
+use token_line::Line;
+
+/// What came and what went.
+#[derive(Drop)]
+pub struct Gathered {
+    pub come: Vec<Inst>,
+    pub gone: Vec<Inst>,
+}
+
+/// What an entry at a terminal moved: one of the instantiation came or went. Beside that the sum of its token now.
+#[derive(Drop)]
+struct Moved {
+    inst: Inst,
+    plus: bool,
+    sum: i64,
+}
+
+/// How all entries together changed the sum of an instantiation's token, and the sum now.
+#[derive(Drop)]
+struct Total {
+    inst: Inst,
+    change: i64,
+    sum: i64,
+}
 
 /// The rule of the terminal to which the task brings a left token.
 fn rule_of(net: &Net, task: &Task) -> Option<usize>
@@ -34,40 +56,6 @@ fn rule_of(net: &Net, task: &Task) -> Option<usize>
     }
 }
 
-#[tactic(auto, unfolding(token_line::specs::Bags::sign_at))]
-/// How the task changes the sum of a left token.
-fn sign_of(task: &Task, node: usize, token: &Tags) -> i64
-    ensures { result ≡ sign_at node Left token.now task.now }
-{
-    if task.node == node && task.side == Side::Left && task.token == *token {
-        if task.plus { 1 } else { -1 }
-    } else {
-        0
-    }
-}
-
-/// How much the entries changed the sum of a left token. It looks at each.
-fn change_of(entries: &[Entry], node: usize, token: &Tags) -> i64
-    requires { length entries.now < 2 ^ 63 }
-    ensures { result ≡ signs node Left token.now (tasks_of entries.now) }
-{
-    let mut sum = 0;
-    for entry in entries {
-        sum += sign_of(&entry.task, node, token);
-    }
-    sum
-}
-
-fn has_moved(come: bool, sum: i64, change: i64) -> bool
-    ensures { result ≡ has_moved come sum change }
-{
-    if come {
-        sum > 0 && sum <= change
-    } else {
-        sum <= 0 && sum > change
-    }
-}
-
 fn inst_of(alloc: Global, rule: usize, token: &Tags) -> Result<Inst, OutOfMemory>
     ensures { IfOk result (λ i. i ≡ inst rule token.now) }
 {
@@ -79,23 +67,21 @@ fn inst_of(alloc: Global, rule: usize, token: &Tags) -> Result<Inst, OutOfMemory
     })
 }
 
-/// Adds the task's instantiation, if it came, or if it went.
+/// Adds what the task moved, if it is one of a terminal.
 fn look_at(
     alloc: Global,
     net: &Net,
     line: &Line,
     task: &Task,
-    come: bool,
-    found: &mut Vec<Inst>,
+    moved: &mut Vec<Moved>,
 ) -> Result<(), OutOfMemory>
-    ensures { OnOk result (found.new.items ≡ found.old.items ++ moved_for_of come net.now.nodes (seen line.now) task.now) }
+    ensures { OnOk result (moved.new.items ≡ moved.old.items ++ moved_by net.now.nodes (seen line.now) task.now) }
 {
     if let Some(rule) = rule_of(net, task) {
+        let inst = inst_of(alloc, rule, &task.token)?;
         let sum = line.left_sum(task.node, &task.token);
-        let change = change_of(line.entries(), task.node, &task.token);
-        if has_moved(come, sum, change) {
-            found.push(inst_of(alloc, rule, &task.token)?)?;
-        }
+        let plus = task.plus;
+        moved.push(Moved { inst, plus, sum })?;
     }
     Ok(())
 }
@@ -105,58 +91,116 @@ fn look_over(
     alloc: Global,
     net: &Net,
     line: &Line,
-    come: bool,
-    found: &mut Vec<Inst>,
+    moved: &mut Vec<Moved>,
 ) -> Result<(), OutOfMemory>
-    ensures { OnOk result (found.new.items ≡ found.old.items ++ moved_on_of come net.now.nodes (seen line.now)) }
+    ensures { OnOk result (moved.new.items ≡ moved.old.items ++ moved_on net.now.nodes (seen line.now)) }
 {
     for entry in line.entries() {
-        look_at(alloc, net, line, &entry.task, come, found)?;
+        look_at(alloc, net, line, &entry.task, moved)?;
     }
     Ok(())
 }
 
-/// In the order of rule and tags, each once.
-fn in_order(mut insts: Vec<Inst>) -> Vec<Inst>
-    ensures order { IsInOrder result.items }
-    ensures same { (i : Inst) → Contains result.items i ↔ Contains insts.items i }
+/// What the entries of all lines moved.
+fn look_over_all(alloc: Global, net: &Net, lines: &[Line]) -> Result<Vec<Moved>, OutOfMemory>
+    ensures { IfOk result (λ v. v.items ≡ moved_over net.now.nodes (map seen lines.now)) }
 {
-    insts.sort_unstable_by(|one, other| one.compare(other));
-    insts.dedup_by(|one, other| matches!(one.compare(other), Ordering::Equal));
-    insts
-}
-
-/// What came over the lines, or what went.
-fn gather_all(
-    alloc: Global,
-    net: &Net,
-    lines: &[Line],
-    come: bool,
-) -> Result<Vec<Inst>, OutOfMemory>
-    ensures order { IfOk result (λ v. IsInOrder v.items) }
-    ensures same { IfOk result (λ v. (i : Inst) → Contains v.items i ↔ Contains (came_or_went come net.now.nodes (map seen lines.now)) i) }
-{
-    let mut found = Vec::new(alloc);
+    let mut moved = Vec::new(alloc);
     for line in lines {
-        look_over(alloc, net, line, come, &mut found)?;
+        look_over(alloc, net, line, &mut moved)?;
     }
-    Ok(in_order(found))
+    Ok(moved)
 }
 
-/// What came and what went.
-#[derive(Drop)]
-pub struct Gathered {
-    pub come: Vec<Inst>,
-    pub gone: Vec<Inst>,
+/// By rule and tags.
+fn in_order(mut moved: Vec<Moved>) -> Vec<Moved>
+    ensures order { IsSortedByKey (λ m. m.inst) by_rule_and_tags result.items }
+    ensures same { IsPermutation moved.items result.items }
+{
+    moved.sort_unstable_by(|one, other| one.inst.compare(&other.inst));
+    moved
 }
 
-/// What came and what went in the phase of the lines. It looks at each entry, and for those of terminals at the entries of their
-/// line.
+fn is_same(one: &Inst, other: &Inst) -> bool
+    ensures { result ≡ is_same one.now other.now }
+{
+    matches!(one.compare(other), Ordering::Equal)
+}
+
+fn change_of(moved: &Moved) -> i64
+    ensures { result ≡ sign moved.now.plus }
+{
+    if moved.plus { 1 } else { -1 }
+}
+
+/// One more that moved: it counts in the last total, where that is of its instantiation, or begins one of its own.
+fn add(totals: &mut Vec<Total>, next: Moved) -> Result<(), OutOfMemory>
+    requires { (x : Total) → slice_get totals.old.items (length totals.old.items - 1) ≡ Some x → FitsSigned w64 (x.change +ℤ sign next.plus) }
+    ensures { OnOk result (totals.new.items ≡ added totals.old.items next) }
+{
+    let change = change_of(&next);
+    if let Some(last) = totals.last_mut() {
+        if is_same(&last.inst, &next.inst) {
+            last.change += change;
+            return Ok(());
+        }
+    }
+    let Moved { inst, plus: _, sum } = next;
+    totals.push(Total { inst, change, sum })?;
+    Ok(())
+}
+
+/// What moved in order, added up for each instantiation.
+fn add_up(alloc: Global, moved: Vec<Moved>) -> Result<Vec<Total>, OutOfMemory>
+    requires { length moved.items < 2 ^ 63 }
+    ensures { IfOk result (λ v. v.items ≡ fold added [] moved.items) }
+{
+    let mut totals = Vec::new(alloc);
+    for next in moved {
+        add(&mut totals, next)?;
+    }
+    Ok(totals)
+}
+
+/// It did not stand, and stands.
+fn has_come(total: &Total) -> bool
+    ensures { result ≡ has_come total.now }
+{
+    total.sum > 0 && total.sum <= total.change
+}
+
+/// It stood, and does not.
+fn has_gone(total: &Total) -> bool
+    ensures { result ≡ has_gone total.now }
+{
+    total.sum <= 0 && total.sum > total.change
+}
+
+/// Those that did not stand and stand, and those that stood and do not.
+fn split(alloc: Global, totals: Vec<Total>) -> Result<Gathered, OutOfMemory>
+    ensures come { IfOk result (λ g. g.come.items ≡ map (λ t. t.inst) (filter has_come totals.items)) }
+    ensures gone { IfOk result (λ g. g.gone.items ≡ map (λ t. t.inst) (filter has_gone totals.items)) }
+{
+    let mut come = Vec::new(alloc);
+    let mut gone = Vec::new(alloc);
+    for total in totals {
+        if has_come(&total) {
+            come.push(total.inst)?;
+        } else if has_gone(&total) {
+            gone.push(total.inst)?;
+        }
+    }
+    Ok(Gathered { come, gone })
+}
+
+/// What came and what went in the phase of the lines: the instantiations that did not stand when it began and stand now, and those that
+/// stood and no longer do. It looks at each line and each entry once, and takes time for the entries at terminals alone: they are sorted.
+/// It takes no memory where there is none.
 pub fn gather(alloc: Global, net: &Net, lines: &[Line]) -> Result<Gathered, OutOfMemory>
-    requires { AreAlone (map seen lines.now) }
+    requires { HaveOwnLines (map seen lines.now) }
     ensures { IfOk result (λ g. IsGathered net.now.nodes (total (map before (map seen lines.now))) (total (map now (map seen lines.now))) g.come.items g.gone.items) }
 {
-    let come = gather_all(alloc, net, lines, true)?;
-    let gone = gather_all(alloc, net, lines, false)?;
-    Ok(Gathered { come, gone })
+    let moved = look_over_all(alloc, net, lines)?;
+    let totals = add_up(alloc, in_order(moved))?;
+    split(alloc, totals)
 }

@@ -1,9 +1,9 @@
 //! Laws that an engine needs beside those of the steps.
 #![tactic(auto)]
 
-pub mod engine;
-pub mod gathering;
-pub mod working;
+mod engine;
+mod gathering;
+mod phases;
 
 ghost use Rattle.serial_engine.specs.Laws.{FoundLaw, RestLaw, ChangeLaw};
 

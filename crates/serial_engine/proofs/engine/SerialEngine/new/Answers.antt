@@ -4,7 +4,7 @@ use Rattle.work_store.specs.Stored.{Stored, nothing_stored, held_of}
 use Rattle.step_core.specs.Phases.{HoldJust, sums_over, now}
 use Rattle.step_core.specs.Worlds.{placed, seen, world_of}
 use Rattle.serial_engine.proofs.FlatLemmas.{all_flat}
-use Rattle.serial_engine.proofs.StartLemmas.{start_holds}
+use Rattle.serial_engine.proofs.StartLemmas.{start_empty, start_holds, start_length}
 use Rattle.serial_engine.proofs.engine.SerialEngine.new.Goals as goal
 
 pub invariant_of-result-clause-quiet : goal.invariant_of-result-clause-quiet
@@ -19,3 +19,13 @@ invariant_of-result-clause-holds c =
     let w = c.in_ok-world.world in
     subst (λ (s : Stored). HoldJust (placed (held_of s) net.nodes (length w.lines.items)) (sums_over s.elements net.alphas net.nodes) (map now (map seen w.lines.items))) (sym c.new.ensures)
     (start_holds (held_of nothing_stored) net.alphas net.nodes c.args.lines net.sound c.requires w (c.in_ok-world.ensures.start (held_of nothing_stored)))
+
+pub returns-clause-lines : goal.returns-clause-lines
+returns-clause-lines c =
+    let net = c.args.net in
+    start_length (held_of nothing_stored) net.alphas net.nodes c.args.lines net.sound c.requires c.in_ok-world.world (c.in_ok-world.ensures.start (held_of nothing_stored))
+
+pub returns-clause-entries : goal.returns-clause-entries
+returns-clause-entries c =
+    let net = c.args.net in
+    start_empty (held_of nothing_stored) net.alphas net.nodes c.args.lines net.sound c.requires c.in_ok-world.world (c.in_ok-world.ensures.start (held_of nothing_stored))

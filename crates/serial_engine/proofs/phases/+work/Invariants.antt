@@ -2,7 +2,7 @@
 use Rattle.std.proofs.Common.{◌≡◌, ◌+◌, ◌-◌, ℕ, [], length, take}
 use Rattle.step_core.specs.Worlds.{IsReady, numbers_of}
 use Rattle.serial_engine.specs.Working.{Went}
-use Rattle.serial_engine.proofs.working.+work.Given as goal
+use Rattle.serial_engine.proofs.phases.+work.Given as goal
 
 abbrev pub decreases-work : goal.decreases-work
 decreases-work l = l.levels

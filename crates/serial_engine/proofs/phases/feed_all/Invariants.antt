@@ -2,7 +2,7 @@
 use Rattle.std.proofs.Common.{◌≡◌, length, take}
 use Rattle.step_core.specs.Worlds.{IsReady, numbers_of}
 use Rattle.serial_engine.specs.Working.{Went}
-use Rattle.serial_engine.proofs.working.feed_all.Given as goal
+use Rattle.serial_engine.proofs.phases.feed_all.Given as goal
 
 abbrev pub invariant-loop-change : goal.invariant-loop-change
 invariant-loop-change l = record {

@@ -6,7 +6,7 @@ use Rattle.work_store.specs.Stored.{held_of}
 use Rattle.step_core.specs.Worlds.{placed, world_of}
 use Rattle.serial_engine.specs.Working.{Went}
 use Rattle.serial_engine.proofs.StepLemmas.{one_feed, went_on}
-use Rattle.serial_engine.proofs.working.feed_all.Goals as goal
+use Rattle.serial_engine.proofs.phases.feed_all.Goals as goal
 
 pub loop-change-preserved : goal.loop-change-preserved
 loop-change-preserved c =

@@ -2,7 +2,7 @@
 use Rattle.std.proofs.Common.{◌≡◌, ◌+◌, ◌-◌, ℕ, [], length, take}
 use Rattle.step_core.specs.Worlds.{IsReady, numbers_of}
 use Rattle.serial_engine.specs.Working.{Went}
-use Rattle.serial_engine.proofs.working.work_all.Given as goal
+use Rattle.serial_engine.proofs.phases.work_all.Given as goal
 
 abbrev pub invariant-loop-task : goal.invariant-loop-task
 invariant-loop-task l = record {

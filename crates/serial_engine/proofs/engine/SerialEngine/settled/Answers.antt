@@ -5,14 +5,15 @@ use Rattle.work_store.specs.Stored.{Stored, held_of, added_by, HoldsAlso}
 use Rattle.token_line.specs.declared.line.Line.{Line}
 use Rattle.step_core.specs.Phases.{HoldJust, sums_over, now, before, total, IsBundle}
 use Rattle.step_core.specs.Worlds.{placed, seen}
-use Rattle.serial_engine.specs.Gathering.{AreAlone}
+use Rattle.serial_engine.specs.Gathering.{HaveOwnLines}
 use Rattle.serial_engine.specs.Laws.{IsGathered}
 use Rattle.serial_engine.proofs.FlatLemmas.{all_flat, all_counted}
 use Rattle.serial_engine.proofs.RestLemmas.{rest_law}
+use Rattle.serial_engine.proofs.StartLemmas.{numbers_stay}
 use Rattle.serial_engine.proofs.StepLemmas.{same_count}
 use Rattle.serial_engine.proofs.StoreLemmas.{forgot, stored_low, holds_own, holds_before, changes_known}
-use Rattle.serial_engine.proofs.SettleLemmas.{holds_now, alone, settled}
-use Rattle.serial_engine.proofs.engine.SerialEngineMatcher.settle.Goals as goal
+use Rattle.serial_engine.proofs.SettleLemmas.{holds_now, own_lines, settled_by}
+use Rattle.serial_engine.proofs.engine.SerialEngine.settled.Goals as goal
 
 pub run_phase-requires-clause-counted : goal.run_phase-requires-clause-counted
 run_phase-requires-clause-counted c =
@@ -50,8 +51,8 @@ gather-requires c =
     let w1 = c.run_phase.new.world in
     let is : s2.elements ≡ done s0.elements cs = c.in_ok-make_changes.ensures.elements ∙ ap (λ (f : Stored). done f.elements cs) c.forget.ensures in
     let bundle = c.in_ok-run_phase.ensures.bundle s0.elements rest.1 in
-    subst (λ (ls : List Line). AreAlone (map seen ls)) (sym c.lines.ensures.lines)
-    (alone net.alphas net.nodes net.sound s0 s2 cs low c.requires kept is (length w0.lines.items) w0.some (map seen w1.lines.items) bundle)
+    subst (λ (ls : List Line). HaveOwnLines (map seen ls)) (sym c.lines.ensures.lines)
+    (own_lines net.alphas net.nodes net.sound s0 s2 cs low c.requires kept is (length w0.lines.items) w0.some (map seen w1.lines.items) bundle)
 
 pub invariant_of-matcher-clause-counted : goal.invariant_of-matcher-clause-counted
 invariant_of-matcher-clause-counted c = all_flat c.args.self.net.nodes c.make_changes.new.self c.run_phase.new.world.lines.items c.in_ok-run_phase.ensures.counted
@@ -85,7 +86,7 @@ returns-clause-settled c =
     let w1 = c.run_phase.new.world in
     let is : s2.elements ≡ done s0.elements cs = c.in_ok-make_changes.ensures.elements ∙ ap (λ (f : Stored). done f.elements cs) c.forget.ensures in
     let bundle = c.in_ok-run_phase.ensures.bundle s0.elements rest.1 in
-    settled net.alphas net.nodes net.sound s0 s2 cs low c.requires kept is (length w0.lines.items) w0.some (map seen w1.lines.items) bundle c.last-before.ensures.stored.rising c.last-after.ensures.stored.rising
+    settled_by net.alphas net.nodes net.sound s0 s2 cs low c.requires kept is (length w0.lines.items) w0.some (map seen w1.lines.items) bundle c.last-before.ensures.stored.rising c.last-after.ensures.stored.rising
     c.in_ok-gathered.gathered.come.items c.in_ok-gathered.gathered.gone.items
     (subst (λ (ls : List Line). IsGathered net.nodes (total (map before (map seen ls))) (total (map now (map seen ls))) c.in_ok-gathered.gathered.come.items c.in_ok-gathered.gathered.gone.items) c.lines.ensures.lines c.in_ok-gathered.ensures)
 
@@ -102,3 +103,12 @@ returns-clause-bundle c =
     let w1 = c.run_phase.new.world in
     let bundle = c.in_ok-run_phase.ensures.bundle s0.elements rest.1 in
     subst (λ n. IsBundle (held_of s2) net.alphas net.nodes (placed (held_of s2) net.nodes n) s0.elements cs (map seen w1.lines.items)) (sym (same_count w0 w1 c.run_phase.ensures.lines)) bundle
+
+pub invariant_of-matcher-clause-numbered : goal.invariant_of-matcher-clause-numbered
+invariant_of-matcher-clause-numbered c = numbers_stay c.args.self.world.lines.items c.run_phase.new.world.lines.items c.args.self.numbered c.run_phase.ensures.lines
+
+pub returns-clause-kept : goal.returns-clause-kept
+returns-clause-kept c = subst (λ (f : Stored). HoldsAlso f c.make_changes.new.self (added_by c.args.changes.now)) c.forget.ensures c.in_ok-make_changes.ensures.kept
+
+pub returns-clause-lines : goal.returns-clause-lines
+returns-clause-lines c = same_count c.args.self.world c.run_phase.new.world c.run_phase.ensures.lines

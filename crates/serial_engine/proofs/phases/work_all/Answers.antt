@@ -2,7 +2,7 @@
 use Rattle.std.proofs.Common.{◌≡◌, ◌≤◌, ◌<◌, ◌+◌, ◌-◌, ℕ, [], ◌++◌, length, take, sym, ap, ◌∙◌, arith}
 use Rattle.std.proofs.lemmas.List.{take_all}
 use Rattle.serial_engine.proofs.StepLemmas.{one_less, went_on}
-use Rattle.serial_engine.proofs.working.work_all.Goals as goal
+use Rattle.serial_engine.proofs.phases.work_all.Goals as goal
 
 pub loop-task-preserved : goal.loop-task-preserved
 loop-task-preserved c =

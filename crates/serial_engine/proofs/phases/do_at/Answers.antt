@@ -1,9 +1,9 @@
--- The one entry that is done is that of the last task.
-use Rattle.std.proofs.Common.{◌≡◌, ◌-◌, [], length, ap, sym, ◌∙◌}
+-- The one entry that is done is that of the task.
+use Rattle.std.proofs.Common.{◌≡◌, [], length}
 use Rattle.work_store.specs.Stored.{held_of}
 use Rattle.step_core.specs.Worlds.{placed, world_of}
-use Rattle.serial_engine.proofs.StepLemmas.{run_on, one_activate, one_finish, some_done, none_done, flight_done, task_was}
-use Rattle.serial_engine.proofs.working.do_last.Goals as goal
+use Rattle.serial_engine.proofs.StepLemmas.{run_on, one_activate, one_finish, some_done, none_done, flight_done}
+use Rattle.serial_engine.proofs.phases.do_at.Goals as goal
 
 pub finish-requires : goal.finish-requires
 finish-requires c =
@@ -11,7 +11,7 @@ finish-requires c =
     let elements = held_of c.args.store.now in
     let old = c.args.world.now in
     let line = placed elements net.nodes (length old.lines.items) in
-    some_done elements net.nodes line (world_of old) (world_of c.activate.new.self) (world_of c.activate.new.self) (c.in_flight-last.result - 1) (ap (λ n. n - 1) c.in_flight-last.ensures) c.requires.some c.requires.none
+    some_done elements net.nodes line (world_of old) (world_of c.activate.new.self) (world_of c.activate.new.self) c.args.index c.requires.none
     (c.in_ok-activate.ensures.steps elements (λ tag e h. h))
 
 pub returns-clause-went : goal.returns-clause-went
@@ -33,10 +33,10 @@ returns-clause-done c =
     let a = c.in_ok-activate.ensures.steps elements (λ tag e h. h) in
     record {
       task = a.entry.task;
-      was = task_was elements net.nodes line (world_of old) (world_of c.activate.new.self) (world_of c.finish.new.self) (c.in_flight-last.result - 1) (ap (λ n. n - 1) c.in_flight-last.ensures) c.requires.some c.requires.none a c.in_ok-finish.ensures.steps;
+      was = a.task;
       children = a.entry.children;
       below = a.lawful.below;
-      flight = flight_done elements net.nodes line (world_of old) (world_of c.activate.new.self) (world_of c.finish.new.self) (c.in_flight-last.result - 1) (ap (λ n. n - 1) c.in_flight-last.ensures) c.requires.some c.requires.none a c.in_ok-finish.ensures.steps;
+      flight = flight_done elements net.nodes line (world_of old) (world_of c.activate.new.self) (world_of c.finish.new.self) c.args.index c.requires.none a c.in_ok-finish.ensures.steps;
     }
 
 pub returns-clause-none : goal.returns-clause-none
@@ -45,7 +45,7 @@ returns-clause-none c =
     let elements = held_of c.args.store.now in
     let old = c.args.world.now in
     let line = placed elements net.nodes (length old.lines.items) in
-    none_done elements net.nodes line (world_of old) (world_of c.activate.new.self) (world_of c.finish.new.self) (c.in_flight-last.result - 1) (ap (λ n. n - 1) c.in_flight-last.ensures) c.requires.some c.requires.none
+    none_done elements net.nodes line (world_of old) (world_of c.activate.new.self) (world_of c.finish.new.self) c.args.index c.requires.none
     (c.in_ok-activate.ensures.steps elements (λ tag e h. h)) c.in_ok-finish.ensures.steps
 
 pub returns-clause-ready : goal.returns-clause-ready

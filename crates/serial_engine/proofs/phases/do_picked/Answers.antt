@@ -1,0 +1,12 @@
+-- Where nothing is in flight no step is taken.
+use Rattle.std.proofs.Common.{length}
+use Rattle.work_store.specs.Stored.{held_of}
+use Rattle.step_core.specs.Worlds.{placed, world_of}
+use Rattle.serial_engine.proofs.StepLemmas.{no_run}
+use Rattle.serial_engine.proofs.phases.do_picked.Goals as goal
+
+pub returns-then-tasks-eq0-clause-went : goal.returns-then-tasks-eq0-clause-went
+returns-then-tasks-eq0-clause-went c =
+    let net = c.args.net.now in
+    let elements = held_of c.args.store.now in
+    no_run elements net.alphas net.nodes (placed elements net.nodes (length c.args.world.now.lines.items)) (world_of c.args.world.now)
