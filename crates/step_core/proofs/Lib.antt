@@ -24,3 +24,12 @@ pub mod Runs
 pub mod Bundle
 pub mod Terminals
 pub mod LawProofs
+pub mod Finding
+pub mod FoundSet
+pub mod Resting
+pub mod Changing
+pub mod Storing
+pub mod StartPlaced
+pub mod Settling
+pub mod AddingUp
+pub mod WhatMoved

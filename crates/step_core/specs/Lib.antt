@@ -7,3 +7,6 @@ pub mod Starts
 pub mod Clearing
 pub mod Worlds
 pub mod TwoJoins
+pub mod Found
+pub mod Settling
+pub mod Gathering

@@ -3,10 +3,12 @@
 #![tactic(auto)]
 
 mod feeding;
+mod gathering;
 pub mod laws;
 mod start;
 #[cfg(test)]
 mod tests;
 pub mod world;
 
+pub use gathering::{Gathered, gather};
 pub use world::{Step, World};

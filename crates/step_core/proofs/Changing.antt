@@ -11,12 +11,13 @@ use Rattle.net_base.specs.declared.tasks.Side.TheVariants.{Left}
 use Rattle.net_base.specs.Sound.{IsSound}
 use Rattle.net_base.specs.Tokens.{left_tokens}
 use Rattle.token_line.specs.Bags.{Bag, standing}
-use Rattle.step_core.specs.Machine.{Placing}
+use Rattle.work_store.specs.Settling.{IsSettled}
+use Rattle.step_core.specs.Machine.{Placing, Seen}
 use Rattle.step_core.specs.Phases.{HoldJust, sums_over, now, before, total}
 use Rattle.step_core.proofs.Terminals.{once_law}
-use Rattle.serial_engine.specs.Found.{found_over}
-use Rattle.serial_engine.specs.Laws.{IsFound, Stands, IsGathered, ChangeLaw}
-use Rattle.serial_engine.proofs.FoundLemmas.{found_law}
+use Rattle.step_core.specs.Found.{found_over}
+use Rattle.step_core.specs.Settling.{IsFound, Stands, IsGathered}
+use Rattle.step_core.proofs.Finding.{found_law}
 
 module _ (alphas : List Alpha) (nodes : List Node) (sound : IsSound alphas nodes) (wm : List Element) (rise : HasRisingTags wm) (line : Placing) (bags : List Bag) (hold : HoldJust line (sums_over wm alphas nodes) bags) where
   stands_found : (i : Inst) → Stands nodes (total bags) i → Contains (found_over alphas nodes wm) i
@@ -31,7 +32,11 @@ module _ (alphas : List Alpha) (nodes : List Node) (sound : IsSound alphas nodes
       let a = ap standing (hold.all f.n Left i.tags) in
       record { n = f.n; node = f.node; at = f.at; kind = f.kind; some = omega (arith, a, f.stands) }
 
-pub change_law : ChangeLaw
+pub change_law : (alphas : List Alpha) (nodes : List Node) (wm wm' : List Element) (line : Placing) (ls : List Seen) (come gone : List Inst)
+    → IsSound alphas nodes → HasRisingTags wm → HasRisingTags wm'
+    → HoldJust line (sums_over wm alphas nodes) (map before ls) → HoldJust line (sums_over wm' alphas nodes) (map now ls)
+    → IsGathered nodes (total (map before ls)) (total (map now ls)) come gone
+    → IsSettled (found_over alphas nodes wm) (found_over alphas nodes wm') gone come
 change_law alphas nodes wm wm' line ls come gone sound rise rise' was is gathered = record {
   gone_is = λ i. (
     λ c. (let h = (gathered.gone_is i).0 c in (stands_found alphas nodes sound wm rise line (map before ls) was i h.0, λ d. h.1 (found_stands alphas nodes sound wm' rise' line (map now ls) is i d))),

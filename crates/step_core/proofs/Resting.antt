@@ -18,7 +18,8 @@ use Rattle.net_base.specs.Sound.{IsSound, is_negated, left_width}
 use Rattle.net_base.specs.Tokens.{given, given_in, giver_of_kind, left_giver, right_giver, memory_gives, tokens, joins_hold}
 use Rattle.token_line.specs.declared.line.Line.{Line}
 use Rattle.token_line.specs.Bags.{Bag, standing_at}
-use Rattle.token_line.specs.Held.{Agrees, Fits, HasWidth}
+use Rattle.token_line.specs.Held.{Agrees, Fits, is_one}
+use Rattle.token_line.proofs.Fitting.{fits_at, left_is_wide}
 use Rattle.token_line.specs.Lines.{sum_in}
 use Rattle.activation.specs.Acting.{IsCounted, matching}
 use Rattle.activation.proofs.Agreed.{IsHeld, joins_agree}
@@ -30,7 +31,7 @@ use Rattle.step_core.specs.Phases.{total, HoldJust, sums_over, now}
 use Rattle.step_core.specs.Worlds.{placed, seen}
 use Rattle.step_core.proofs.Named.{IsIn, IsToken, left_are_tokens, right_are_tokens}
 use Rattle.step_core.proofs.Placed.{one_place}
-use Rattle.serial_engine.specs.Laws.{HoldsWm, RestLaw}
+use Rattle.step_core.specs.Settling.{HoldsWm, RestLaw}
 
 -- ---- one line alone has what stands
 
@@ -98,19 +99,22 @@ module _ (alphas : List Alpha) (nodes : List Node) (wm : List Element) where
         by None at = absurd (some (ap (λ o. pos (given_in wm alphas nodes left_giver o t)) at))
         by (Some x) at =
             let is = left_are_tokens wm alphas nodes n x at t (λ z. some (ap pos z)) in
-            record { node = x; at = at; width = is.long; held = All-from_recursion (λ tag. IsSome (held_of s tag)) t (all_held t is.all) }
+            fits_at nodes s n x at Left t (left_is_wide nodes x t is.long) (All-from_recursion (λ tag. IsSome (held_of s tag)) t (all_held t is.all))
     fits_of n Right t some = by (slice_get nodes n) refl
       where
         by : (o : Option Node) → slice_get nodes n ≡ o → Fits nodes s n Right t
         by None at = absurd (some (ap (λ o. pos (given_in wm alphas nodes right_giver o t)) at))
-        by (Some x) at = record { node = x; at = at; width = wide x.kind refl; held = All-from_recursion (λ tag. IsSome (held_of s tag)) t (all_held t is.all) }
+        by (Some x) at = fits_at nodes s n x at Right t (wide x.kind refl) (All-from_recursion (λ tag. IsSome (held_of s tag)) t (all_held t is.all))
           where
             is : IsToken wm 1 t
             is = right_are_tokens wm alphas nodes n x at t (λ z. some (ap pos z))
 
-            wide : (k : Kind) → x.kind ≡ k → HasWidth nodes (record x { kind = k }) Right t
-            wide Join q = is.long
-            wide Negated q = is.long
+            one : (length t == 1) ≡ true
+            one = (Decides-eqb (length t) 1).1 is.long
+
+            wide : (k : Kind) → x.kind ≡ k → is_one k t ≡ true
+            wide Join q = one
+            wide Negated q = one
             wide (Terminal rule) q = absurd (some (ap pos (ap (λ o. given_in wm alphas nodes right_giver o t) at ∙ ap (λ k. given (giver_of_kind k) (memory_gives wm (slice_get alphas x.alpha)) (tokens wm alphas nodes) t) q)))
 
   -- the store of working memory alone

@@ -1,8 +1,8 @@
 -- Some of the totals are looked at.
 use Rattle.std.proofs.Common.{◌≡◌, map, filter}
-use Rattle.serial_engine.specs.declared.gathering.Total.{Total}
-use Rattle.serial_engine.specs.Gathering.{has_come, has_gone}
-use Rattle.serial_engine.proofs.gathering.split.Given as goal
+use Rattle.step_core.specs.declared.gathering.Total.{Total}
+use Rattle.step_core.specs.Gathering.{has_come, has_gone}
+use Rattle.step_core.proofs.gathering.split.Given as goal
 
 abbrev pub invariant-loop-total : goal.invariant-loop-total
 invariant-loop-total l = record {

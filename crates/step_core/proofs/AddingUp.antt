@@ -1,5 +1,5 @@
 -- Adding up what moved: the totals stand in order, and each instantiation's change is that of all that moved.
-use Rattle.std.proofs.Common.{◌≡◌, ℕ, zero, suc, ◌+◌, ◌-◌, ◌<◌, ◌≤◌, ◌^◌, Bool, true, false, cond, List, [], ◌∷◌, ◌++◌, ℤ, pos, negsuc, ◌+ℤ◌, refl, sym, ap, ap₂, subst, ◌∙◌, arith, inl, inr, ◌⊎◌, length, map, fold, slice_get, Option, Some, None, length-append, append_assoc, append-nil, w64, FitsSigned}
+use Rattle.std.proofs.Common.{◌≡◌, ℕ, zero, suc, ◌+◌, ◌-◌, ◌<◌, ◌≤◌, ◌^◌, Bool, true, false, cond, List, [], ◌∷◌, ◌++◌, ℤ, pos, negsuc, ◌+ℤ◌, refl, sym, ap, ap₂, subst, ◌∙◌, arith, inl, inr, ◌⊎◌, length, map, fold, get_or, slice_get, Option, Some, None, length-append, append_assoc, append-nil, w64, FitsSigned}
 use Rattle.std.specs.Prelude.{slice_set}
 use Rattle.std.specs.Int.RustNames.{unsigned_abs}
 use Rattle.std.specs.List.{AllByRecursion, AllPairs, sum_by}
@@ -9,6 +9,7 @@ use Rattle.std.specs.declared.cmp.Ordering.{Ordering}
 use Rattle.std.specs.declared.cmp.Ordering.TheVariants.{Less, Equal, Greater}
 use Rattle.std.proofs.lemmas.Cmp.{tied_itself}
 use Rattle.std.proofs.lemmas.Int.{ints, fits_signed_from_abs}
+use Rattle.std.proofs.lemmas.List.Sums.{sum_by-cons}
 use Rattle.std.proofs.lemmas.List.Sorted.{ranks_by, sorted_far, sum_by-IsPermutation}
 use Rattle.ops_base.specs.declared.rules.Inst.{Inst}
 use Rattle.ops_base.specs.Instances.{Before, by_rule_and_tags}
@@ -16,9 +17,9 @@ use Rattle.ops_base.proofs.InstOrder.{standing, compare_total, before_itself, no
 use Rattle.ops_base.proofs.InOrder.{AllBefore, all_before-append, before_from_all_pairs}
 use Rattle.ops_base.proofs.Members.{IsMember, member_cases, member_left, member_right}
 use Rattle.token_line.specs.Bags.{sign}
-use Rattle.serial_engine.specs.declared.gathering.Moved.{Moved}
-use Rattle.serial_engine.specs.declared.gathering.Total.{Total}
-use Rattle.serial_engine.specs.Gathering.{is_same, begun, counted_in, added, added_to}
+use Rattle.step_core.specs.declared.gathering.Moved.{Moved}
+use Rattle.step_core.specs.declared.gathering.Total.{Total}
+use Rattle.step_core.specs.Gathering.{is_same, begun, counted_in, added, added_to}
 
 -- ---- the same instantiation
 
@@ -85,7 +86,11 @@ moved_change-permutation i xs ys p =
   where
     parts : (ms : List Moved) → moved_change i ms +ℤ pos (sum_by (λ (m : Moved). down_part (part_of i m.inst (sign m.plus))) ms) ≡ pos (sum_by (λ (m : Moved). up_part (part_of i m.inst (sign m.plus))) ms)
     parts [] = omega (arith, ints)
-    parts (m ∷ ms) = let r = parts ms in let t = two_parts (part_of i m.inst (sign m.plus)) in omega (arith, ints, r, t)
+    parts (m ∷ ms) =
+        let r = parts ms in
+        let t = two_parts (part_of i m.inst (sign m.plus)) in
+        let u = sum_by-cons (λ (k : Moved). up_part (part_of i k.inst (sign k.plus))) m ms in
+        let d = sum_by-cons (λ (k : Moved). down_part (part_of i k.inst (sign k.plus))) m ms in omega (arith, ints, r, t, u, d)
 
 -- ---- the last of a list
 
@@ -250,7 +255,7 @@ no_totals = record { order = tt; change = λ i. refl; from = λ t n. absurd n }
 sorted_up : (ms : List Moved) → IsSortedBy (λ x y. is_lt (by_rule_and_tags x.inst y.inst)) ms → AllBefore MovedUpTo ms
 sorted_up ms up =
     before_from_all_pairs MovedUpTo ms
-    (λ i j d l h. by _ _ (by_rule_and_tags _ _) refl (sorted_far (λ (x y : Moved). is_lt (by_rule_and_tags x.inst y.inst)) (ranks_by compare_total (λ (k : Moved). k.inst)) ms up i j d (omega (arith, l)) h))
+    (λ i j d l h. by (get_or ms i d) (get_or ms j d) (by_rule_and_tags (get_or ms j d).inst (get_or ms i d).inst) refl (sorted_far (λ (x y : Moved). is_lt (by_rule_and_tags x.inst y.inst)) (ranks_by compare_total (λ (k : Moved). k.inst)) ms up i j d (omega (arith, l)) h))
   where
     by : (k m : Moved) (o : Ordering) → o ≡ by_rule_and_tags m.inst k.inst → is_lt (by_rule_and_tags m.inst k.inst) ≡ false → MovedUpTo k m
     by k m Less e f = let g = ap is_lt e ∙ f in absurd (cc)

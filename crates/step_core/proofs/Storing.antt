@@ -2,12 +2,13 @@
 use Rattle.std.proofs.Common.{inl, inr, ◌≡◌, ◌≢◌, ℕ, zero, suc, ◌+◌, ◌<◌, ◌≤◌, ◌==◌, Bool, true, false, cond, List, [], ◌∷◌, ◌++◌, refl, sym, ap, subst, ◌∙◌, arith, map, Option, Some, None, IsSome}
 use Rattle.std.specs.List.{All, AllByRecursion, Contains}
 use Rattle.std.specs.Option.{option_or}
-use Rattle.std.proofs.lemmas.Bool.Decides.{nat_tests}
+use Rattle.std.proofs.lemmas.Bool.Decides.{Decides-eqb, nat_tests}
 use Rattle.std.proofs.lemmas.List.Elements.{recursion_from_All, All-from_recursion}
 use Rattle.ops_base.specs.declared.elements.Element.{Element}
 use Rattle.ops_base.specs.declared.elements.Change.{Change}
 use Rattle.ops_base.specs.declared.elements.Change.TheVariants.{Add, Remove}
 use Rattle.ops_base.specs.WorkingMemory.{tags_of, without_tag, done, last_after, Lawful}
+use Rattle.ops_base.proofs.InOrder.{AllBefore, TagBelow, tags_in_order}
 use Rattle.ops_base.proofs.Members.{IsMember, member_from_contains, all_from_members}
 use Rattle.ops_base.proofs.Changes.{first_lawful, rest_lawful}
 use Rattle.work_store.specs.Stored.{Stored, held_of, of_tag, added_by, HoldsAlso, IsStored}
@@ -16,7 +17,7 @@ use Rattle.step_core.specs.Feeding.{IsKnown}
 use Rattle.step_core.specs.Laws.{NamesAdded}
 use Rattle.step_core.proofs.Memory.{find_low, find_there, known_after, first_names, later_names, added_name}
 use Rattle.step_core.proofs.Memory
-use Rattle.serial_engine.specs.Laws.{HoldsWm}
+use Rattle.step_core.specs.Settling.{HoldsWm, StoreLaw}
 
 -- the store without what it kept
 abbrev pub forgot : Stored → Stored
@@ -79,6 +80,24 @@ all_known s last wm (Remove tag ∷ cs) k lawful names = (
   all_known s last (without_tag tag wm) cs (known_after (held_of s) last wm (Remove tag) k (lawful.0, tt) (first_names (held_of s) (Remove tag) cs names)) lawful.1 (later_names (held_of s) (Remove tag) cs names),
 )
 
-pub changes_known : (s s' : Stored) (cs : List Change) → low_tags s.last s.elements → Lawful s.elements s.last cs → HoldsAlso (forgot s) s' (added_by cs) → All (IsKnown s') cs
-changes_known s s' cs low lawful kept =
-    All-from_recursion (IsKnown s') cs (all_known s' s.last s.elements cs (known_before s s' cs low lawful kept) lawful (names_added s s' cs low lawful kept))
+-- a member is the first of its tag
+first_of : (wm : List Element) → AllBefore TagBelow wm → (e : Element) → IsMember e wm → of_tag wm e.tag ≡ Some e
+first_of [] a e m = absurd m
+first_of (x ∷ xs) a e (inl is) =
+    let tags = ap (λ (y : Element). y.tag) is in
+    let own : (x.tag == e.tag) ≡ true = (Decides-eqb x.tag e.tag).1 (sym tags) in
+    ap (λ b. cond b (Some x) (of_tag xs e.tag)) own ∙ ap Some (sym is)
+first_of (x ∷ xs) a e (inr m) =
+    let low = a.0 e m in
+    let other : (x.tag == e.tag) ≡ false = grind (arith, nat_tests, low) in
+    ap (λ b. cond b (Some x) (of_tag xs e.tag)) other ∙ first_of xs a.1 e m
+
+pub store_law : StoreLaw
+store_law s s' cs is lawful kept =
+    let low = stored_low s is in record {
+      low = All-from_recursion (λ t. t ≤ s.last) (tags_of s.elements) low;
+      holds = holds_before s s' cs low lawful kept;
+      names = λ e c. holds_before s s' cs low lawful kept e.tag e (first_of s.elements (tags_in_order s.elements is.rising) e (member_from_contains e s.elements c));
+      known = All-from_recursion (IsKnown s') cs (all_known s' s.last s.elements cs (known_before s s' cs low lawful kept) lawful (names_added s s' cs low lawful kept));
+      added = names_added s s' cs low lawful kept;
+    }

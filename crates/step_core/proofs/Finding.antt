@@ -17,8 +17,8 @@ use Rattle.net_base.specs.declared.nodes.Alpha.{Alpha}
 use Rattle.net_base.specs.Sound.{IsSound, left_width}
 use Rattle.net_base.specs.Tokens.{left_tokens, elements_of}
 use Rattle.step_core.proofs.Named.{IsIn, IsToken, left_are_tokens}
-use Rattle.serial_engine.specs.Found.{tag_lists, is_of, inst, found_at, found_of, found_below, past_rule, past_rules, found_over}
-use Rattle.serial_engine.specs.Laws.{IsFound, FoundLaw}
+use Rattle.step_core.specs.Found.{tag_lists, is_of, inst, found_at, found_of, found_below, past_rule, past_rules, found_over}
+use Rattle.step_core.specs.Settling.{IsFound, FoundLaw}
 
 -- ---- lists of tags
 

@@ -20,11 +20,11 @@ use Rattle.net_base.specs.Sound.{IsSound, width_below, left_width, added_tags, w
 use Rattle.net_base.specs.Tokens.{left_tokens, right_tokens, tokens, out_of, elements_of}
 use Rattle.step_core.proofs.Given.{parents_first, tokens_are_out}
 use Rattle.step_core.proofs.Named.{IsIn, IsToken, left_are_tokens}
-use Rattle.serial_engine.specs.Found.{found_over}
-use Rattle.serial_engine.specs.Laws.{IsFound}
-use Rattle.serial_engine.proofs.FoundLemmas.{found_law}
+use Rattle.step_core.specs.Found.{found_over}
+use Rattle.step_core.specs.Settling.{IsFound}
+use Rattle.step_core.proofs.Finding.{found_law}
 
-module _ (net : Net) (rules : List Rule) (is : NetOf net rules) (wm : List Element) (well : IsWm wm) where
+module _ (net : Net) (rules : List Rule) (wm : List Element) (is : NetOf net rules) (well : IsWm wm) where
   -- at a terminal what stands is what comes
   out_is_left : (n k : ℕ) (x : Node) → slice_get net.nodes n ≡ Some x → x.kind ≡ Terminal k → (t : List ℕ) → tokens wm net.alphas net.nodes n t ≡ left_tokens wm net.alphas net.nodes n t
   out_is_left n k x at kind t =
@@ -106,20 +106,8 @@ module _ (alphas : List Alpha) (nodes : List Node) (sound : IsSound alphas nodes
   no_members [] none = refl
   no_members (i ∷ xs) none = absurd (none i (inl refl))
 
-  pub found_none : (wm : List Element) → wm ≡ [] → found_over alphas nodes wm ≡ []
-  found_none wm e = ap (found_over alphas nodes) e ∙ no_members (found_over alphas nodes []) (λ i m. none_found i (((found_law alphas nodes [] sound nothing).0 i).0 (contains_from_member i (found_over alphas nodes []) m)))
+  pub found_none : found_over alphas nodes [] ≡ []
+  found_none = no_members (found_over alphas nodes []) (λ i m. none_found i (((found_law alphas nodes [] sound nothing).0 i).0 (contains_from_member i (found_over alphas nodes []) m)))
     where
       nothing : HasRisingTags []
       nothing = λ k within. absurd (omega arith)
-
--- ---- what a store holds
-
-small_from : (es more : List Element) (last : ℕ) → AllByRecursion (λ t. t ≤ last) (tags_of (es ++ more)) → last < 2 ^ 64 → AllByRecursion (λ e. e.tag < 2 ^ 64) es
-small_from [] more last low lt = tt
-small_from (e ∷ es) more last low lt = (omega (arith, low.0, lt), small_from es more last low.1 lt)
-
-pub stored_wm : (s : Stored) → IsStored s → s.last < 2 ^ 64 → IsWm s.elements
-stored_wm s is lt = record {
-  rising = is.rising;
-  small = All-from_recursion (λ e. e.tag < 2 ^ 64) s.elements (small_from s.elements s.kept s.last (recursion_from_All (λ t. t ≤ s.last) (tags_of (s.elements ++ s.kept)) is.below) lt);
-}

@@ -25,13 +25,13 @@ use Rattle.token_line.specs.Bags.{Bag, sign, sign_at, signs, standing}
 use Rattle.step_core.proofs.Signs.{sign_at-none, sign_at-own}
 use Rattle.step_core.specs.Machine.{Seen}
 use Rattle.step_core.specs.Phases.{now, before, tasks_of, total}
-use Rattle.serial_engine.specs.Found.{inst}
-use Rattle.serial_engine.specs.Laws.{Stands, IsGathered}
-use Rattle.serial_engine.specs.declared.gathering.Moved.{Moved}
-use Rattle.serial_engine.specs.declared.gathering.Total.{Total}
-use Rattle.serial_engine.specs.Gathering.{HaveOwnLines, added, has_come, has_gone, is_moved, is_same, moved_by, moved_on, moved_over, moved_to, rule_in}
-use Rattle.serial_engine.proofs.AddingUp.{AreTotals, ByInst, is_same-itself, is_same-true, member_got, moved_change, moved_change-append, moved_change-permutation, own_change, part_of, some_total, sorted_totals, total_change}
-use Rattle.serial_engine.proofs.RestLemmas.{only_here}
+use Rattle.step_core.specs.Found.{inst}
+use Rattle.step_core.specs.Settling.{HaveOwnLines, IsGathered, Stands}
+use Rattle.step_core.specs.declared.gathering.Moved.{Moved}
+use Rattle.step_core.specs.declared.gathering.Total.{Total}
+use Rattle.step_core.specs.Gathering.{added, has_come, has_gone, is_moved, is_same, moved_by, moved_on, moved_over, moved_to, rule_in}
+use Rattle.step_core.proofs.AddingUp.{AreTotals, ByInst, is_same-itself, is_same-true, member_got, moved_change, moved_change-append, moved_change-permutation, own_change, part_of, some_total, sorted_totals, total_change}
+use Rattle.step_core.proofs.Resting.{only_here}
 
 -- ---- a token that moved
 
@@ -230,10 +230,10 @@ module _ (nodes : List Node) (alphas : List Alpha) (sound : IsSound alphas nodes
         (λ j d at ne. (let b = bag_at j d at in ap (λ (c : Bag). c x.node x.side x.token) b.2 ∙ own p.0 j l b.0 p.1 b.1 ne x (contains_from_member x (tasks_of l.entries) in_line)))
 
     -- where it stands, and how often now
-    pub record IsSummed (i : Inst) (sum : ℤ) : Type 0 where
+    pub record IsSummed (i : Inst) (z : ℤ) : Type 0 where
       pub n : ℕ
       pub terminal : IsTerminalAt nodes i n
-      pub sum : total (map now ls) n Left i.tags ≡ sum
+      pub sum : total (map now ls) n Left i.tags ≡ z
 
     moved_summed : (m : Moved) → IsMember m (moved_over nodes ls) → IsSummed m.inst m.sum
     moved_summed m k =

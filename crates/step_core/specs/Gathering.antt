@@ -1,5 +1,5 @@
 -- What the entries of lines tell of instantiations that came and went.
-use Rattle.std.specs.Prelude.{◌≡◌, ◌≢◌, ◌==◌, ◌&&◌, ◌-◌, ℕ, ℤ, pos, ◌+ℤ◌, ◌-ℤ◌, Bool, List, [], ◌∷◌, ◌++◌, flat_map, length, map, nat_lt, slice_get, slice_set, Option, Some, None, Contains, if◌then◌else◌}
+use Rattle.std.specs.Prelude.{◌==◌, ◌&&◌, ◌-◌, ℕ, ℤ, ◌+ℤ◌, ◌-ℤ◌, Bool, List, [], ◌∷◌, ◌++◌, flat_map, length, map, nat_lt, slice_get, slice_set, Option, Some, None, if◌then◌else◌}
 use Rattle.std.specs.Ordering.{eq_by_cmp}
 use Rattle.ops_base.specs.declared.rules.Inst.{Inst}
 use Rattle.ops_base.specs.Instances.{by_rule_and_tags}
@@ -12,15 +12,9 @@ use Rattle.net_base.specs.declared.tasks.Task.{Task}
 use Rattle.token_line.specs.Bags.{sign, standing}
 use Rattle.step_core.specs.Machine.{Seen}
 use Rattle.step_core.specs.Phases.{tasks_of}
-use Rattle.serial_engine.specs.declared.gathering.Moved.{Moved}
-use Rattle.serial_engine.specs.declared.gathering.Total.{Total}
-use Rattle.serial_engine.specs.Found.{inst}
-
--- no other line has a token that a task of one line brought or took
-abbrev pub HaveOwnLines : List Seen → Type 0
-HaveOwnLines ls =
-    (i j : ℕ) (l m : Seen) → slice_get ls i ≡ Some l → slice_get ls j ≡ Some m → j ≢ i
-    → (x : Task) → Contains (tasks_of l.entries) x → m.sums x.node x.side x.token ≡ pos 0
+use Rattle.step_core.specs.declared.gathering.Moved.{Moved}
+use Rattle.step_core.specs.declared.gathering.Total.{Total}
+use Rattle.step_core.specs.Found.{inst}
 
 -- ---- what entries moved
 

@@ -1,13 +1,14 @@
 //! What the entries of the lines tell of instantiations that came and went.
-ghost use Rattle.std.specs.Prelude.{◌≡◌, ◌<◌, ◌-◌, ◌^◌, ◌++◌, ◌+ℤ◌, [], Some, length, IfOk, OnOk, filter, fold, map, slice_get, IsPermutation, FitsSigned, w64};
+ghost use Rattle.std.specs.Prelude.{◌≡◌, ◌<◌, ◌-◌, ◌^◌, ◌++◌, ◌+ℤ◌, [], Some, length, IfOk, OnOk, filter, fold, map, slice_get, IsPermutation, FitsSigned};
+ghost use Rattle.std.specs.Int.{w64};
 ghost use Rattle.std.specs.List.Sorted.{IsSortedByKey};
 ghost use Rattle.ops_base.specs.Instances.{by_rule_and_tags};
 ghost use Rattle.token_line.specs.Bags.{sign};
 ghost use Rattle.step_core.specs.Phases.{before, now, total};
 ghost use Rattle.step_core.specs.Worlds.{seen};
-ghost use Rattle.serial_engine.specs.Found.{inst};
-ghost use Rattle.serial_engine.specs.Gathering.{HaveOwnLines, added, has_come, has_gone, is_same, moved_by, moved_on, moved_over, rule_in};
-ghost use Rattle.serial_engine.specs.Laws.{IsGathered};
+ghost use Rattle.step_core.specs.Found.{inst};
+ghost use Rattle.step_core.specs.Gathering.{added, has_come, has_gone, is_same, moved_by, moved_on, moved_over, rule_in};
+ghost use Rattle.step_core.specs.Settling.{HaveOwnLines, IsGathered};
 
 use net_base::net::Net;
 use net_base::nodes::Kind;
