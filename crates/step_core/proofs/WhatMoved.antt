@@ -235,18 +235,20 @@ module _ (nodes : List Node) (alphas : List Alpha) (sound : IsSound alphas nodes
       pub terminal : IsTerminalAt nodes i n
       pub sum : total (map now ls) n Left i.tags ≡ z
 
+    task_summed : (l : Seen) → IsMember l ls → (m : Moved) → IsOfTask l m → IsSummed m.inst m.sum
+    task_summed l in_lines m o = record { n = o.task.node; terminal = o.terminal; sum = ap (total (map now ls) o.task.node Left) o.token ∙ sum_left }
+      where
+        own_left : total (map now ls) o.task.node Left o.task.token ≡ l.sums o.task.node Left o.task.token
+        own_left = subst (λ d. total (map now ls) o.task.node d o.task.token ≡ l.sums o.task.node d o.task.token) o.side (own_sum l in_lines o.task o.member)
+
+        sum_left : total (map now ls) o.task.node Left o.task.token ≡ m.sum
+        sum_left = own_left ∙ sym o.sum
+
     moved_summed : (m : Moved) → IsMember m (moved_over nodes ls) → IsSummed m.inst m.sum
     moved_summed m k =
         let a = flat_map_member (moved_on nodes) m ls k in
-        let l = a.0 in
-        let b = flat_map_member (moved_by nodes l) m (tasks_of l.entries) a.2 in
-        let o = of_task l b.0 b.1 m b.2 in
-        let x = o.task in
-        let s = own_sum l a.1 x o.member in record {
-          n = x.node;
-          terminal = o.terminal;
-          sum = ap (total (map now ls) x.node Left) o.token ∙ (ap (λ d. total (map now ls) x.node d x.token) (sym o.side) ∙ (s ∙ (ap (λ d. l.sums x.node d x.token) o.side ∙ sym o.sum)));
-        }
+        let b = flat_map_member (moved_by nodes a.0) m (tasks_of a.0.entries) a.2 in
+        task_summed a.0 a.1 m (of_task a.0 b.0 b.1 m b.2)
 
     module _ (ms : List Moved) (ts : List Total) (same : IsPermutation (moved_over nodes ls) ms) (are : AreTotals ms ts) where
       total_summed : (t : Total) → IsMember t ts → IsSummed t.inst t.sum

@@ -1,5 +1,5 @@
 -- What the entries of lines tell of instantiations that came and went.
-use Rattle.std.specs.Prelude.{◌==◌, ◌&&◌, ◌-◌, ℕ, ℤ, ◌+ℤ◌, ◌-ℤ◌, Bool, List, [], ◌∷◌, ◌++◌, flat_map, length, map, nat_lt, slice_get, slice_set, Option, Some, None, if◌then◌else◌}
+use Rattle.std.specs.Prelude.{◌==◌, ◌&&◌, ◌-◌, ℕ, ℤ, ◌+ℤ◌, ◌-ℤ◌, Bool, false, List, [], ◌∷◌, ◌++◌, flat_map, length, map, nat_lt, slice_get, slice_set, Option, Some, None, if◌then◌else◌}
 use Rattle.std.specs.Ordering.{eq_by_cmp}
 use Rattle.ops_base.specs.declared.rules.Inst.{Inst}
 use Rattle.ops_base.specs.Instances.{by_rule_and_tags}
@@ -55,13 +55,21 @@ begun m = record { inst = m.inst; change = sign m.plus; sum = m.sum }
 abbrev pub counted_in : Total → Moved → Total
 counted_in x m = record x { change = x.change +ℤ sign m.plus }
 
-abbrev pub added_to : Option Total → List Total → Moved → List Total
-added_to None ts m = ts ++ begun m ∷ []
-added_to (Some x) ts m = if is_same x.inst m.inst then slice_set ts (length ts - 1) (counted_in x m) else ts ++ begun m ∷ []
+abbrev pub is_of : Option Total → Inst → Bool
+is_of None i = false
+is_of (Some x) i = is_same x.inst i
 
--- one more that moved, counted in the last total, where that is of its instantiation
+-- the last total is that of the instantiation
+abbrev pub ends_with : List Total → Inst → Bool
+ends_with ts i = is_of (slice_get ts (length ts - 1)) i
+
+abbrev pub counted_last : Option Total → List Total → Moved → List Total
+counted_last None ts m = ts
+counted_last (Some x) ts m = slice_set ts (length ts - 1) (counted_in x m)
+
+-- one more that moved: it counts in the last total, where that is of its instantiation, or begins one of its own
 abbrev pub added : List Total → Moved → List Total
-added ts m = added_to (slice_get ts (length ts - 1)) ts m
+added ts m = if ends_with ts m.inst then counted_last (slice_get ts (length ts - 1)) ts m else ts ++ begun m ∷ []
 
 -- ---- what came and went
 

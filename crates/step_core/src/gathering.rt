@@ -1,5 +1,5 @@
 //! What the entries of the lines tell of instantiations that came and went.
-ghost use Rattle.std.specs.Prelude.{◌≡◌, ◌<◌, ◌-◌, ◌^◌, ◌++◌, ◌+ℤ◌, [], Some, length, IfOk, OnOk, filter, fold, map, slice_get, IsPermutation, FitsSigned};
+ghost use Rattle.std.specs.Prelude.{◌≡◌, ◌-◌, ◌++◌, ◌+ℤ◌, [], Some, length, IfOk, OnOk, filter, fold, map, slice_get, IsPermutation, FitsSigned};
 ghost use Rattle.std.specs.Int.{w64};
 ghost use Rattle.std.specs.List.Sorted.{IsSortedByKey};
 ghost use Rattle.ops_base.specs.Instances.{by_rule_and_tags};
@@ -7,7 +7,7 @@ ghost use Rattle.token_line.specs.Bags.{sign};
 ghost use Rattle.step_core.specs.Phases.{before, now, total};
 ghost use Rattle.step_core.specs.Worlds.{seen};
 ghost use Rattle.step_core.specs.Found.{inst};
-ghost use Rattle.step_core.specs.Gathering.{added, has_come, has_gone, is_same, moved_by, moved_on, moved_over, rule_in};
+ghost use Rattle.step_core.specs.Gathering.{added, ends_with, has_come, has_gone, is_same, moved_by, moved_on, moved_over, rule_in};
 ghost use Rattle.step_core.specs.Settling.{HaveOwnLines, IsGathered};
 
 use net_base::net::Net;
@@ -134,17 +134,26 @@ fn change_of(moved: &Moved) -> i64
     if moved.plus { 1 } else { -1 }
 }
 
+/// Whether the last total is that of the instantiation.
+fn ends_with(totals: &[Total], inst: &Inst) -> bool
+    ensures { result ≡ ends_with totals.now inst.now }
+{
+    match totals.last() {
+        Some(last) => is_same(&last.inst, inst),
+        None => false,
+    }
+}
+
 /// One more that moved: it counts in the last total, where that is of its instantiation, or begins one of its own.
 fn add(totals: &mut Vec<Total>, next: Moved) -> Result<(), OutOfMemory>
     requires { (x : Total) → slice_get totals.old.items (length totals.old.items - 1) ≡ Some x → FitsSigned w64 (x.change +ℤ sign next.plus) }
     ensures { OnOk result (totals.new.items ≡ added totals.old.items next) }
 {
     let change = change_of(&next);
-    if let Some(last) = totals.last_mut() {
-        if is_same(&last.inst, &next.inst) {
-            last.change += change;
-            return Ok(());
-        }
+    if ends_with(totals.as_slice(), &next.inst) {
+        let last = totals.len() - 1;
+        totals[last].change += change;
+        return Ok(());
     }
     let Moved { inst, plus: _, sum } = next;
     totals.push(Total { inst, change, sum })?;
@@ -153,7 +162,6 @@ fn add(totals: &mut Vec<Total>, next: Moved) -> Result<(), OutOfMemory>
 
 /// What moved in order, added up for each instantiation.
 fn add_up(alloc: Global, moved: Vec<Moved>) -> Result<Vec<Total>, OutOfMemory>
-    requires { length moved.items < 2 ^ 63 }
     ensures { IfOk result (λ v. v.items ≡ fold added [] moved.items) }
 {
     let mut totals = Vec::new(alloc);
