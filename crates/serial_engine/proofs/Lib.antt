@@ -1,12 +1,4 @@
-pub mod FoundLemmas
-pub mod RestLemmas
-pub mod SetLemmas
-pub mod ChangeLemmas
 pub mod StepLemmas
-pub mod FlatLemmas
 pub mod StartLemmas
 pub mod PhaseLemmas
-pub mod GatherLemmas
-pub mod StoreLemmas
 pub mod SettleLemmas
-pub mod AddingUp

@@ -1,6 +1,6 @@
 -- The steps of a phase from lines at rest to a counter of 0 are a bundle.
 use Rattle.std.proofs.Common.{◌≡◌, ℕ, zero, suc, ◌+◌, ◌<◌, ◌≤◌, List, [], ◌∷◌, ◌++◌, refl, sym, ap, ap₂, subst, ◌∙◌, arith, length, map, slice_get, Some, append-nil}
-use Rattle.ops_base.proofs.Held.{length-map}
+use Rattle.std.proofs.lemmas.List.{length-map}
 use Rattle.ops_base.specs.declared.elements.Change.{Change}
 use Rattle.ops_base.specs.declared.elements.Element.{Element}
 use Rattle.work_store.specs.Stored.{Stored, held_of}
@@ -11,11 +11,10 @@ use Rattle.net_base.specs.Tokens.{Elements}
 use Rattle.step_core.specs.declared.world.World.{World}
 use Rattle.step_core.specs.Machine.{Placing, Seen, Steps, Clear, cleared, changes_of}
 use Rattle.step_core.specs.Phases.{HoldJust, sums_over, now, IsBundle}
-use Rattle.step_core.specs.Laws.{AreEmpty, IsAtRest, IsPlaced}
+use Rattle.step_core.specs.Laws.{AreEmpty, IsAtRest, SettleLaw}
+use Rattle.step_core.specs.Settling.{PlacedLaw}
 use Rattle.step_core.specs.Worlds.{placed, seen, world_of, numbers_of, IsReady}
-use Rattle.step_core.proofs.LawProofs.{settle_law}
 use Rattle.serial_engine.specs.Working.{HasRun, Went, IsBundleOf}
-use Rattle.serial_engine.proofs.StartLemmas.{is_placed}
 use Rattle.serial_engine.proofs.StepLemmas.{same_count, went_on}
 
 empty_cleared : (ls : List Seen) → AreEmpty (map cleared ls)
@@ -57,12 +56,12 @@ module _ (alphas : List Alpha) (nodes : List Node) (s : Stored) (sound : IsSound
     holds = subst (HoldJust line (sums_over wm alphas nodes)) (sym (ap (λ w. map now w.lines) step.1 ∙ now_cleared (map seen old.lines.items))) holds;
   }
 
-  pub phase_bundle : (new : World) (changes : List Change) → numbers_of mid ≡ numbers_of old → Went alphas nodes s (length mid.lines.items) mid changes new → new.counter ≡ 0 → IsBundleOf alphas nodes s changes old new
-  phase_bundle new changes same went zero' wm holds =
+  pub phase_bundle : SettleLaw → PlacedLaw → (new : World) (changes : List Change) → numbers_of mid ≡ numbers_of old → Went alphas nodes s (length mid.lines.items) mid changes new → new.counter ≡ 0 → IsBundleOf alphas nodes s changes old new
+  phase_bundle settle_law placed_law new changes same went zero' wm holds =
       let count = same_count old mid same in
       let h : HasRun (held_of s) alphas nodes line (world_of mid) (world_of new) changes = subst (λ n. Went alphas nodes s n mid changes new) count went in
-      let long = length-map seen mid.lines.items in
+      let long = length-map mid.lines.items seen in
       let some = old.some in
-      let at = is_placed (held_of s) alphas nodes (length old.lines.items) sound some in
+      let at = placed_law (held_of s) alphas nodes (length old.lines.items) sound some in
       subst (λ cs. IsBundle (held_of s) alphas nodes line wm cs (map seen new.lines.items)) h.fed
       (settle_law (held_of s) alphas nodes line wm h.steps (world_of mid) (world_of new) (λ n d t. (let b = at.below n d t in omega (arith, b, count, long))) (at_rest wm holds) h.clear h.run zero')

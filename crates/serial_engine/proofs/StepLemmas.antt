@@ -5,14 +5,13 @@ use Rattle.std.proofs.lemmas.Grind.{flat_map-append}
 use Rattle.std.proofs.lemmas.List.{drop_all, take-take, length-take-le}
 use Rattle.std.proofs.lemmas.List.Elements.{All-get_or}
 use Rattle.std.proofs.lemmas.Option.{slice_get_within, get_or_from_slice_get, slice_get_cases}
-use Rattle.ops_base.proofs.Held.{length-map}
+use Rattle.std.proofs.lemmas.List.{length-map}
 use Rattle.net_base.specs.Sound.{IsSound}
 use Rattle.token_line.specs.declared.line.Line.{Line}
-use Rattle.token_line.specs.Lawful.{IsChildOf, giver_in}
+use Rattle.token_line.specs.Lawful.{IsChildOf}
 use Rattle.work_store.specs.Stored.{Stored, held_of}
 use Rattle.step_core.specs.declared.world.World as Code
 use Rattle.step_core.specs.Worlds.{numbers_of, placed, world_of}
-use Rattle.step_core.proofs.Settled.{giver_below}
 use Rattle.ops_base.specs.declared.elements.Change.{Change}
 use Rattle.net_base.specs.declared.nodes.Node.{Node}
 use Rattle.net_base.specs.declared.nodes.Alpha.{Alpha}
@@ -20,6 +19,7 @@ use Rattle.net_base.specs.declared.tasks.Task.{Task}
 use Rattle.net_base.specs.Tokens.{Elements}
 use Rattle.step_core.specs.Machine.{Placing, World, Step, Feed, Activate, Finish, Clear, Steps, Run, change_in, changes_of, Activates, Finishes}
 use Rattle.step_core.specs.Laws.{NoClear}
+use Rattle.step_core.specs.Settling.{ChildLaw}
 use Rattle.serial_engine.specs.Working.{HasRun, Went, but_last}
 
 module _ (elements : Elements) (alphas : List Alpha) (nodes : List Node) (line : Placing) where
@@ -115,18 +115,15 @@ module _ {X : Type 0} (front behind : List X) (m : ℕ) (low : length front < m)
       all_at P behind i x all (sym (sym at ∙ (a ∙ (b ∙ d))) )
 
 -- a child is below its task
-pub child_below : (alphas : List Alpha) (nodes : List Node) → IsSound alphas nodes → (levels p : ℕ) (x : Task) → IsChildOf nodes p x → length nodes ≤ levels + p → length nodes ≤ levels - 1 + x.node
-child_below alphas nodes sound levels p x child deep =
-    let below = giver_below alphas nodes sound x.node x.side p child in omega (arith, below, deep)
+module _ (child_law : ChildLaw) (alphas : List Alpha) (nodes : List Node) (sound : IsSound alphas nodes) (levels p : ℕ) (x : Task) (child : IsChildOf nodes p x) (deep : length nodes ≤ levels + p) where
+  pub child_below : length nodes ≤ levels - 1 + x.node
+  child_below = let c = child_law alphas nodes p x sound child in omega (arith, c.0, deep)
+
+  pub some_level : 1 ≤ levels
+  some_level = let c = child_law alphas nodes p x sound child in omega (arith, c.0, c.1, deep)
 
 pub same_count : (v w : Code.World) → numbers_of w ≡ numbers_of v → length w.lines.items ≡ length v.lines.items
-same_count v w same = sym (length-map (λ (l : Line). l.number) w.lines.items) ∙ (ap length same ∙ length-map (λ (l : Line). l.number) v.lines.items)
-
-child_within : (nodes : List Node) (x : Task) (p : ℕ) → IsChildOf nodes p x → x.node < length nodes
-child_within nodes x p child = elim (slice_get_cases nodes x.node).1 [
-  | inl h ↦ h.1
-  | inr h ↦ absurd (let e = sym child ∙ ap (λ o. giver_in o x.side) h.1 in cc)
-]
+same_count v w same = sym (length-map w.lines.items (λ (l : Line). l.number)) ∙ (ap length same ∙ length-map v.lines.items (λ (l : Line). l.number))
 
 module _ {X : Type 0} (front behind : List X) (m : ℕ) (low : length front < m) (high : m ≤ length (front ++ behind)) (ws : List X) (is : ws ≡ take m (front ++ behind)) where
   pub some_left : 1 ≤ length ws
@@ -140,11 +137,6 @@ module _ {X : Type 0} (front behind : List X) (m : ℕ) (low : length front < m)
 
   pub has_last : (x : X) × (slice_get ws (length ws - 1) ≡ Some x)
   has_last = elim (slice_get_cases ws (length ws - 1)).1 [ inl h ↦ (h.0, h.2) | inr h ↦ absurd (let a = some_left in omega (arith, h.0, a)) ]
-
-pub some_level : (alphas : List Alpha) (nodes : List Node) → IsSound alphas nodes → (levels p : ℕ) (x : Task) → IsChildOf nodes p x → length nodes ≤ levels + p → 1 ≤ levels
-some_level alphas nodes sound levels p x child deep =
-    let below = giver_below alphas nodes sound x.node x.side p child in
-    let within = child_within nodes x p child in omega (arith, below, within, deep)
 
 pub went_on : (alphas : List Alpha) (nodes : List Node) (s : Stored) (old mid new : Code.World) (cs ds : List Change)
     → Went alphas nodes s (length old.lines.items) old cs mid → numbers_of mid ≡ numbers_of old → Went alphas nodes s (length mid.lines.items) mid ds new

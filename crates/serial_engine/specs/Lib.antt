@@ -1,6 +1,2 @@
--- What a network tells over a working memory, and what stays where stores change.
-pub mod Found
-pub mod Laws
-pub mod Flat
+-- A phase on its way, as the serial engine works it.
 pub mod Working
-pub mod Gathering

@@ -1,19 +1,19 @@
 //! The serial engine: a matcher over a network, which works one task after another.
-ghost use Rattle.std.specs.Prelude.{◌≡◌, ◌≤◌, All, IfOk, length, map};
+ghost use Rattle.std.specs.Prelude.{◌≡◌, ◌≤◌, All, IfOk, [], length, map};
 ghost use Rattle.work_store.specs.Stored.{held_of, nothing_stored};
-ghost use Rattle.serial_engine.specs.Flat.{FlatCounted};
+ghost use Rattle.activation.specs.Acting.{IsCounted};
 ghost use Rattle.step_core.specs.Laws.{AreEmpty};
 ghost use Rattle.step_core.specs.Phases.{HoldJust, now, sums_over};
 ghost use Rattle.step_core.specs.Worlds.{AreNumbered, placed, seen};
 
-use crate::gathering::{Gathered, gather};
-use crate::phases::run_phase;
+use crate::phases::{do_changes, run_phase};
 use net_base::net::Net;
 use ops_base::elements::Change;
 use ops_base::memory::OutOfMemory;
 use ops_io::Gate;
 use std::alloc::Global;
-use step_core::World;
+use step_core::laws::{match_laws, settle_laws};
+use step_core::{Gathered, World, gather};
 use token_line::Line;
 use work_store::{Matcher, Settled, Store};
 
@@ -28,11 +28,17 @@ pub struct SerialEngine<G> {
     // Nothing is under way.
     ghost quiet: { world.counter ≡ 0 },
     ghost numbered: { AreNumbered world.lines.items },
-    ghost counted: { All (FlatCounted net.nodes store) world.lines.items },
+    ghost counted: { All (IsCounted net.nodes store) world.lines.items },
     ghost holds: { HoldJust (placed (held_of store) net.nodes (length world.lines.items)) (sums_over store.elements net.alphas net.nodes) (map now (map seen world.lines.items)) },
 }
 
-impl<G> SerialEngine<G> {
+impl<G: Gate + Drop> SerialEngine<G> {
+    ghost use Rattle.ops_base.specs.WorkingMemory.{Lawful, done, last_after};
+    ghost use Rattle.work_store.specs.Settling.{IsSettled};
+    ghost use Rattle.work_store.specs.Stored.{HoldsAlso, added_by};
+    ghost use Rattle.step_core.specs.Found.{found_over};
+    ghost use Rattle.step_core.specs.Phases.{IsBundle};
+
     /// An engine over the network with so many lines. Nothing is stored. It makes each line and looks at each node.
     pub fn new(
         alloc: Global,
@@ -40,14 +46,14 @@ impl<G> SerialEngine<G> {
         lines: usize,
         gate: G,
     ) -> Result<SerialEngine<G>, OutOfMemory>
-    where
-        G: Drop,
         requires { 1 ≤ lines }
         ensures net { IfOk result (λ e. e.net ≡ net) }
         ensures empty { IfOk result (λ e. e.store ≡ nothing_stored) }
         ensures lines { IfOk result (λ e. length e.world.lines.items ≡ lines) }
         ensures entries { IfOk result (λ e. AreEmpty (map seen e.world.lines.items)) }
     {
+        match_laws();
+        settle_laws();
         let world = World::start(alloc, &net, lines)?;
         Ok(SerialEngine {
             net,
@@ -73,14 +79,6 @@ impl<G> SerialEngine<G> {
     {
         self.world.lines()
     }
-}
-
-impl<G: Gate + Drop> SerialEngine<G> {
-    ghost use Rattle.ops_base.specs.WorkingMemory.{Lawful, done, last_after};
-    ghost use Rattle.work_store.specs.Settling.{IsSettled};
-    ghost use Rattle.work_store.specs.Stored.{HoldsAlso, added_by};
-    ghost use Rattle.step_core.specs.Phases.{IsBundle};
-    ghost use Rattle.serial_engine.specs.Found.{found_over};
 
     /// One settle: by the picks, where there are any, and otherwise each change by itself.
     fn settled(
@@ -98,16 +96,14 @@ impl<G: Gate + Drop> SerialEngine<G> {
         ensures bundle { IfOk result (λ s. IsBundle (held_of s.matcher.store) s.matcher.net.alphas s.matcher.net.nodes (placed (held_of s.matcher.store) s.matcher.net.nodes (length s.matcher.world.lines.items)) self.store.elements changes.now (map seen s.matcher.world.lines.items)) }
         ensures lines { IfOk result (λ s. length s.matcher.world.lines.items ≡ length self.world.lines.items) }
     {
+        settle_laws();
         let SerialEngine {
             net,
             mut store,
             mut world,
             gate,
         } = self;
-        let _before = store.last();
-        store.forget();
-        store.make_changes(alloc, changes)?;
-        let _after = store.last();
+        do_changes(alloc, &mut store, changes)?;
         run_phase(alloc, &net, &store, &gate, &mut world, changes, picks)?;
         let Gathered { come, gone } = gather(alloc, &net, world.lines())?;
         let matcher = SerialEngine {
@@ -154,7 +150,7 @@ impl<G: Gate + Drop> Matcher for SerialEngine<G> {
     ghost use Rattle.work_store.specs.Stored.{HoldsAlso, added_by};
     ghost use Rattle.net_base.specs.Network.{NetOf};
     ghost use Rattle.step_core.specs.Phases.{IsBundle};
-    ghost use Rattle.serial_engine.specs.Found.{found_over};
+    ghost use Rattle.step_core.specs.Found.{found_over};
 
     ghost stored = { λ e. e.store };
 
@@ -165,6 +161,7 @@ impl<G: Gate + Drop> Matcher for SerialEngine<G> {
     type Hand = ();
 
     fn store(&self) -> &Store {
+        settle_laws();
         let _last = self.store.last();
         let _nodes = self.net.nodes();
         &self.store

@@ -1,15 +1,9 @@
-//! Laws that an engine needs beside those of the steps.
+//! The serial engine: a matcher over a network that works one task after another.
 #![tactic(auto)]
 
 mod engine;
-mod gathering;
 mod phases;
+#[cfg(test)]
+mod tests;
 
-ghost use Rattle.serial_engine.specs.Laws.{FoundLaw, RestLaw, ChangeLaw};
-
-/// What an engine needs.
-pub fn rest_laws()
-    ensures found { FoundLaw }
-    ensures moves { RestLaw }
-    ensures changes { ChangeLaw }
-{}
+pub use engine::SerialEngine;

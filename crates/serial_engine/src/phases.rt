@@ -1,8 +1,11 @@
 //! A phase at work: changes are fed, and tasks are done, each with all that comes of it.
 ghost use Rattle.std.specs.Prelude.{◌≡◌, ◌≤◌, ◌<◌, ◌+◌, ℕ, OnOk, [], length, All};
+ghost use Rattle.ops_base.specs.WorkingMemory.{HasRisingTags, Lawful, done, last_after};
+ghost use Rattle.work_store.specs.Stored.{HoldsAlso, added_by};
 ghost use Rattle.net_base.specs.declared.tasks.Task.{Task};
 ghost use Rattle.activation.specs.Acting.{IsCounted};
 ghost use Rattle.step_core.specs.Feeding.{IsKnown};
+ghost use Rattle.step_core.specs.Settling.{HoldsPhase};
 ghost use Rattle.step_core.specs.Worlds.{IsReady, numbers_of};
 ghost use Rattle.serial_engine.specs.Working.{IsBundleOf, IsDoneAt, IsLast, Went, but_last};
 
@@ -12,7 +15,30 @@ use ops_base::memory::OutOfMemory;
 use ops_io::Gate;
 use std::alloc::Global;
 use step_core::World;
+use step_core::laws::{match_laws, settle_laws};
 use work_store::Store;
+
+/// Does the changes to the store. What it kept before goes, and what the changes remove is kept.
+pub(crate) fn do_changes(
+    alloc: Global,
+    store: &mut Store,
+    changes: &[Change],
+) -> Result<(), OutOfMemory>
+    requires { Lawful store.old.elements store.old.last changes.now }
+    ensures elements { OnOk result (store.new.elements ≡ done store.old.elements changes.now) }
+    ensures last { OnOk result (store.new.last ≡ last_after store.old.last changes.now) }
+    ensures kept { OnOk result (HoldsAlso (record store.old { kept = [] }) store.new (added_by changes.now)) }
+    ensures phase { OnOk result (HoldsPhase store.old store.new changes.now) }
+    ensures rising_before { HasRisingTags store.old.elements }
+    ensures rising { HasRisingTags store.new.elements }
+{
+    settle_laws();
+    let _before = store.last();
+    store.forget();
+    let made = store.make_changes(alloc, changes);
+    let _after = store.last();
+    made
+}
 
 /// Does the task in flight at that place. Its children are in flight behind the others.
 fn do_at<G: Gate>(
@@ -56,6 +82,7 @@ fn work<G: Gate>(
     ensures ready { IsReady net.now.nodes store.now world.new }
     ensures lines { numbers_of world.new ≡ numbers_of world.old }
 {
+    settle_laws();
     let rest = world.in_flight() - 1;
     do_at(alloc, net, store, gate, world, rest)?;
     let children = world.in_flight() - rest;
@@ -227,6 +254,8 @@ pub(crate) fn run_phase<G: Gate>(
     ensures lines { numbers_of world.new ≡ numbers_of world.old }
     ensures bundle { OnOk result (IsBundleOf net.now.alphas net.now.nodes store.now changes.now world.old world.new) }
 {
+    match_laws();
+    settle_laws();
     world.clear_phase();
     work_changes(alloc, net, store, gate, world, changes, picks)?;
     Ok(())

@@ -7,7 +7,7 @@ use Rattle.serial_engine.proofs.StepLemmas.{last_gone, length_but_last, some_lef
 use Rattle.serial_engine.proofs.phases.+work.Goals as goal
 
 pub work-requires : goal.work-requires
-work-requires t c =
+work-requires g t c =
     let net = c.args.net.now in
     let done = c.in_ok-do_at.ensures.done in
     let front = but_last c.args.world.now.flight.items in
@@ -29,14 +29,14 @@ work-requires t c =
     let last = has_last front done.children m low high ws is in
     let child = last_is front done.children m low high ws is (IsChildOf net.nodes done.task.node) done.below in
     let deep = c.requires.deep done.task (ap (slice_get c.args.world.now.flight.items) (sym at_last) ∙ done.was) in
-    let some = some_level net.alphas net.nodes net.sound c.args.levels done.task.node last.0 (child last.0 last.1) deep in
+    let some = some_level c.settle_laws.ensures.children net.alphas net.nodes net.sound c.args.levels done.task.node last.0 (child last.0 last.1) deep in
     let less = c.decreases in (
       omega (arith, some, less),
-      (c.loop-child.invariant.ready, (some_left front done.children m low high ws is, (c.loop-child.invariant.none, λ x at. child_below net.alphas net.nodes net.sound c.args.levels done.task.node x (child x at) deep))),
+      (c.loop-child.invariant.ready, (some_left front done.children m low high ws is, (c.loop-child.invariant.none, λ x at. child_below c.settle_laws.ensures.children net.alphas net.nodes net.sound c.args.levels done.task.node x (child x at) deep))),
     )
 
 pub loop-child-preserved : goal.loop-child-preserved
-loop-child-preserved t c =
+loop-child-preserved g t c =
     let net = c.args.net.now in
     let done = c.in_ok-do_at.ensures.done in
     let front = but_last c.args.world.now.flight.items in

@@ -5,10 +5,10 @@ use Rattle.serial_engine.specs.Working.{Went}
 use Rattle.serial_engine.proofs.phases.+work.Given as goal
 
 abbrev pub decreases-work : goal.decreases-work
-decreases-work l = l.levels
+decreases-work g l = l.levels
 
 abbrev pub invariant-loop-child : goal.invariant-loop-child
-invariant-loop-child l = record {
+invariant-loop-child g l = record {
   went : Went l.net.alphas l.net.nodes l.store (length l.fn.world.lines.items) l.fn.world [] l.world;
   flight : l.world.flight.items ≡ take (l.rest + (l.children - l._child)) l.initial.world.flight.items;
   none : l.world.done.items ≡ [];

@@ -6,7 +6,7 @@ use Rattle.serial_engine.proofs.StepLemmas.{run_on, one_activate, one_finish, so
 use Rattle.serial_engine.proofs.phases.do_at.Goals as goal
 
 pub finish-requires : goal.finish-requires
-finish-requires c =
+finish-requires g c =
     let net = c.args.net.now in
     let elements = held_of c.args.store.now in
     let old = c.args.world.now in
@@ -15,7 +15,7 @@ finish-requires c =
     (c.in_ok-activate.ensures.steps elements (λ tag e h. h))
 
 pub returns-clause-went : goal.returns-clause-went
-returns-clause-went c =
+returns-clause-went g c =
     let net = c.args.net.now in
     let elements = held_of c.args.store.now in
     let old = c.args.world.now in
@@ -25,7 +25,7 @@ returns-clause-went c =
     (one_finish elements net.alphas net.nodes line (world_of c.activate.new.self) (world_of c.finish.new.self) 0 c.in_ok-finish.ensures.steps)
 
 pub returns-clause-done : goal.returns-clause-done
-returns-clause-done c =
+returns-clause-done g c =
     let net = c.args.net.now in
     let elements = held_of c.args.store.now in
     let old = c.args.world.now in
@@ -40,7 +40,7 @@ returns-clause-done c =
     }
 
 pub returns-clause-none : goal.returns-clause-none
-returns-clause-none c =
+returns-clause-none g c =
     let net = c.args.net.now in
     let elements = held_of c.args.store.now in
     let old = c.args.world.now in
@@ -49,7 +49,7 @@ returns-clause-none c =
     (c.in_ok-activate.ensures.steps elements (λ tag e h. h)) c.in_ok-finish.ensures.steps
 
 pub returns-clause-ready : goal.returns-clause-ready
-returns-clause-ready c = c.finish.ensures.ready c.args.net.now.nodes c.args.store.now c.activate.ensures.ready
+returns-clause-ready g c = c.finish.ensures.ready c.args.net.now.nodes c.args.store.now c.activate.ensures.ready
 
 pub returns-in_err-finish-clause-ready : goal.returns-in_err-finish-clause-ready
-returns-in_err-finish-clause-ready c = c.finish.ensures.ready c.args.net.now.nodes c.args.store.now c.activate.ensures.ready
+returns-in_err-finish-clause-ready g c = c.finish.ensures.ready c.args.net.now.nodes c.args.store.now c.activate.ensures.ready

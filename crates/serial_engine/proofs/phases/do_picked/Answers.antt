@@ -6,7 +6,7 @@ use Rattle.serial_engine.proofs.StepLemmas.{no_run}
 use Rattle.serial_engine.proofs.phases.do_picked.Goals as goal
 
 pub returns-then-tasks-eq0-clause-went : goal.returns-then-tasks-eq0-clause-went
-returns-then-tasks-eq0-clause-went c =
+returns-then-tasks-eq0-clause-went g c =
     let net = c.args.net.now in
     let elements = held_of c.args.store.now in
     no_run elements net.alphas net.nodes (placed elements net.nodes (length c.args.world.now.lines.items)) (world_of c.args.world.now)

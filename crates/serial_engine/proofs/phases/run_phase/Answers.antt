@@ -9,7 +9,7 @@ use Rattle.serial_engine.proofs.PhaseLemmas.{none_in_flight, none_is_done, done_
 use Rattle.serial_engine.proofs.phases.run_phase.Goals as goal
 
 pub work_changes-requires-clause-ready : goal.work_changes-requires-clause-ready
-work_changes-requires-clause-ready c =
+work_changes-requires-clause-ready g c =
     let nodes = c.args.net.now.nodes in
     let s = c.args.store.now in
     let old = c.args.world.now in
@@ -20,25 +20,25 @@ work_changes-requires-clause-ready c =
     })
 
 pub work_changes-requires-clause-none : goal.work_changes-requires-clause-none
-work_changes-requires-clause-none c =
+work_changes-requires-clause-none g c =
     let net = c.args.net.now in
     let s = c.args.store.now in
     let old = c.args.world.now in
     done_stays net.alphas net.nodes s net.sound old c.clear_phase.new.self c.requires.quiet (c.clear_phase.ensures.steps (held_of s) net.alphas net.nodes (placed (held_of s) net.nodes (length old.lines.items)))
 
 pub work_changes-requires-clause-flight : goal.work_changes-requires-clause-flight
-work_changes-requires-clause-flight c =
+work_changes-requires-clause-flight g c =
     let net = c.args.net.now in
     let s = c.args.store.now in
     let old = c.args.world.now in
     flight_stays net.alphas net.nodes s net.sound old c.clear_phase.new.self c.requires.quiet (c.clear_phase.ensures.steps (held_of s) net.alphas net.nodes (placed (held_of s) net.nodes (length old.lines.items)))
 
 pub returns-clause-bundle : goal.returns-clause-bundle
-returns-clause-bundle c =
+returns-clause-bundle g c =
     let net = c.args.net.now in
     let s = c.args.store.now in
     let old = c.args.world.now in
     let new = c.work_changes.new.world in
     phase_bundle net.alphas net.nodes s net.sound old c.clear_phase.new.self c.requires.quiet (c.clear_phase.ensures.steps (held_of s) net.alphas net.nodes (placed (held_of s) net.nodes (length old.lines.items)))
-    new c.args.changes.now c.clear_phase.ensures.lines c.in_ok-work_changes.ensures.went
+    c.match_laws.ensures.settle c.settle_laws.ensures.placed new c.args.changes.now c.clear_phase.ensures.lines c.in_ok-work_changes.ensures.went
     (grind (arith, new.counted, c.in_ok-work_changes.ensures.flight, c.in_ok-work_changes.ensures.none))

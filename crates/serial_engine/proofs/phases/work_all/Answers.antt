@@ -5,7 +5,7 @@ use Rattle.serial_engine.proofs.StepLemmas.{one_less, went_on}
 use Rattle.serial_engine.proofs.phases.work_all.Goals as goal
 
 pub loop-task-preserved : goal.loop-task-preserved
-loop-task-preserved c =
+loop-task-preserved g c =
     let net = c.args.net.now in
     let flight = c.args.world.now.flight.items in
     let m : ℕ = length flight - c.loop-task._task in

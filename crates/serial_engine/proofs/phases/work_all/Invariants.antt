@@ -5,7 +5,7 @@ use Rattle.serial_engine.specs.Working.{Went}
 use Rattle.serial_engine.proofs.phases.work_all.Given as goal
 
 abbrev pub invariant-loop-task : goal.invariant-loop-task
-invariant-loop-task l = record {
+invariant-loop-task g l = record {
   went : Went l.net.alphas l.net.nodes l.store (length l.fn.world.lines.items) l.fn.world [] l.world;
   flight : l.world.flight.items ≡ take (length l.initial.world.flight.items - l._task) l.initial.world.flight.items;
   none : l.world.done.items ≡ [];

@@ -5,7 +5,7 @@ use Rattle.serial_engine.proofs.StepLemmas.{went_on}
 use Rattle.serial_engine.proofs.phases.work_changes.Goals as goal
 
 pub returns-clause-went : goal.returns-clause-went
-returns-clause-went c =
+returns-clause-went g c =
     let net = c.args.net.now in
     let s = c.args.store.now in
     let old = c.args.world.now in

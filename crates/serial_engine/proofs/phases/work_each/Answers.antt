@@ -9,10 +9,10 @@ use Rattle.serial_engine.proofs.StepLemmas.{one_feed, went_on}
 use Rattle.serial_engine.proofs.phases.work_each.Goals as goal
 
 pub work_all-requires-clause-none : goal.work_all-requires-clause-none
-work_all-requires-clause-none c = ap (λ w. w.done) (c.in_ok-feed.ensures.steps (held_of c.args.store.now) (λ tag e h. h)) ∙ c.loop-change.invariant.none
+work_all-requires-clause-none g c = ap (λ w. w.done) (c.in_ok-feed.ensures.steps (held_of c.args.store.now) (λ tag e h. h)) ∙ c.loop-change.invariant.none
 
 pub loop-change-preserved : goal.loop-change-preserved
-loop-change-preserved c =
+loop-change-preserved g c =
     let net = c.args.net.now in
     let s = c.args.store.now in
     let elements = held_of s in

@@ -6,7 +6,7 @@ use Rattle.serial_engine.proofs.StepLemmas.{no_run, went_on}
 use Rattle.serial_engine.proofs.phases.work_picked.Goals as goal
 
 pub loop-pick-init : goal.loop-pick-init
-loop-pick-init c =
+loop-pick-init g c =
     let net = c.args.net.now in
     let elements = held_of c.args.store.now in record {
       went = no_run elements net.alphas net.nodes (placed elements net.nodes (length c.args.world.now.lines.items)) (world_of c.args.world.now);
@@ -16,7 +16,7 @@ loop-pick-init c =
     }
 
 pub loop-pick-preserved : goal.loop-pick-preserved
-loop-pick-preserved c =
+loop-pick-preserved g c =
     let net = c.args.net.now in record {
       went = went_on net.alphas net.nodes c.args.store.now c.args.world.now c.loop-pick.world c.do_picked.new.world [] [] c.loop-pick.invariant.went c.loop-pick.invariant.lines c.in_ok-do_picked.ensures.went;
       none = c.in_ok-do_picked.ensures.none;

@@ -5,7 +5,7 @@ use Rattle.serial_engine.specs.Working.{Went}
 use Rattle.serial_engine.proofs.phases.work_picked.Given as goal
 
 abbrev pub invariant-loop-pick : goal.invariant-loop-pick
-invariant-loop-pick l = record {
+invariant-loop-pick g l = record {
   went : Went l.net.alphas l.net.nodes l.store (length l.fn.world.lines.items) l.fn.world [] l.world;
   none : l.world.done.items ≡ [];
   ready : IsReady l.net.nodes l.store l.world;

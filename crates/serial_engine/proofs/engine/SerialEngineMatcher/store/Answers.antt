@@ -1,10 +1,15 @@
--- What the network tells is the conflict set.
-use Rattle.std.proofs.Common.{◌≡◌, ◌<◌, ◌^◌, subst, arith}
-use Rattle.serial_engine.proofs.SetLemmas.{found_set, found_none, stored_wm}
+-- What the network finds is the conflict set.
+use Rattle.std.proofs.Common.{◌≡◌, ◌<◌, ◌^◌, [], ap, subst, ◌∙◌, arith}
+use Rattle.step_core.specs.Found.{found_over}
+use Rattle.serial_engine.proofs.SettleLemmas.{stored_wm}
 use Rattle.serial_engine.proofs.engine.SerialEngineMatcher.store.Goals as goal
 
 pub returns-clause-set : goal.returns-clause-set
-returns-clause-set c = λ rules is. found_set c.args.self.now.net rules is c.args.self.now.store.elements (stored_wm c.args.self.now.store c.last-last.ensures.stored (omega (arith, c.last-last.ensures.last, c.last-last.type_inv)))
+returns-clause-set g c = λ rules is.
+    c.settle_laws.ensures.set c.args.self.now.net rules c.args.self.now.store.elements is
+    (stored_wm c.args.self.now.store c.last-last.ensures.stored (omega (arith, c.last-last.ensures.last, c.last-last.type_inv)))
 
 pub returns-clause-none : goal.returns-clause-none
-returns-clause-none c = λ e. found_none c.args.self.now.net.alphas c.args.self.now.net.nodes c.nodes-nodes.ensures.sound c.args.self.now.store.elements e
+returns-clause-none g c = λ e.
+    ap (found_over c.args.self.now.net.alphas c.args.self.now.net.nodes) e
+    ∙ c.settle_laws.ensures.none c.args.self.now.net.alphas c.args.self.now.net.nodes c.nodes-nodes.ensures.sound

@@ -1,0 +1,1 @@
+//! A serial engine at work over small networks, with ample memory.
