@@ -4,6 +4,8 @@ pub mod Phases
 pub mod Laws
 pub mod Feeding
 pub mod Starts
-pub mod Clearing
+pub mod Worked
+pub mod Doing
 pub mod Worlds
+pub mod Working
 pub mod TwoJoins

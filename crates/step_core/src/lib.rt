@@ -2,11 +2,13 @@
 //! nothing is under way.
 #![tactic(auto)]
 
+mod done;
 mod feeding;
 pub mod laws;
 mod start;
 #[cfg(test)]
 mod tests;
+mod worked;
 pub mod world;
 
 pub use world::{Step, World};
