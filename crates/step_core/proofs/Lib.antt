@@ -9,6 +9,8 @@ pub mod Results
 pub mod FedTasks
 pub mod RootTokens
 pub mod Counted
+pub mod ListPlaces
+pub mod WorkedLines
 pub mod Clearing
 pub mod Starting
 pub mod Started

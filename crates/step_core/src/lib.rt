@@ -2,12 +2,14 @@
 //! nothing is under way.
 #![tactic(auto)]
 
+mod done;
 mod feeding;
 mod gathering;
 pub mod laws;
 mod start;
 #[cfg(test)]
 mod tests;
+mod worked;
 pub mod world;
 
 pub use gathering::{Gathered, gather};
