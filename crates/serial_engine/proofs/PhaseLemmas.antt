@@ -13,8 +13,9 @@ use Rattle.step_core.specs.Machine.{Placing, Seen, Steps, Clear, cleared, change
 use Rattle.step_core.specs.Phases.{HoldJust, sums_over, now, IsBundle}
 use Rattle.step_core.specs.Laws.{AreEmpty, IsAtRest, SettleLaw}
 use Rattle.step_core.specs.Settling.{PlacedLaw}
+use Rattle.step_core.specs.Doing.{entry_of}
 use Rattle.step_core.specs.Worlds.{placed, seen, world_of, numbers_of, IsReady}
-use Rattle.serial_engine.specs.Working.{HasRun, Went, IsBundleOf}
+use Rattle.serial_engine.specs.Running.{HasRun, Went, IsBundleOf}
 use Rattle.serial_engine.proofs.StepLemmas.{same_count, went_on}
 
 empty_cleared : (ls : List Seen) → AreEmpty (map cleared ls)
@@ -36,13 +37,20 @@ none_in_flight w quiet = let e = w.counted in no_items w.flight.items (omega (ar
 pub none_is_done : (w : World) → w.counter ≡ 0 → w.done.items ≡ []
 none_is_done w quiet = let e = w.counted in no_items w.done.items (omega (arith, e, quiet))
 
+-- where nothing is in flight, and nothing done, the counter is 0
+pub counter_none : (w : World) → w.flight.items ≡ [] → (world_of w).done ≡ [] → w.counter ≡ 0
+counter_none w flight done =
+    let a = w.counted in
+    let b = ap length flight in
+    let d = sym (length-map w.done.items entry_of) ∙ ap length done in omega (arith, a, b, d)
+
 module _ (alphas : List Alpha) (nodes : List Node) (s : Stored) (sound : IsSound alphas nodes) (old mid : World) (quiet : old.counter ≡ 0)
     (step : Steps (held_of s) alphas nodes (placed (held_of s) nodes (length old.lines.items)) (world_of old) Clear (world_of mid)) where
   abbrev line : Placing
   line = placed (held_of s) nodes (length old.lines.items)
 
-  pub done_stays : mid.done.items ≡ []
-  done_stays = ap (λ w. w.done) step.1 ∙ none_is_done old quiet
+  pub done_stays : (world_of mid).done ≡ []
+  done_stays = ap (λ w. w.done) step.1 ∙ ap (map entry_of) (none_is_done old quiet)
 
   pub flight_stays : mid.flight.items ≡ []
   flight_stays = ap (λ w. w.flight) step.1 ∙ none_in_flight old quiet

@@ -14,7 +14,7 @@ use Rattle.step_core.specs.declared.world.World.{World}
 use Rattle.step_core.specs.Phases.{HoldJust, IsBundle, now, sums_over}
 use Rattle.step_core.specs.Settling.{HasSettled, HoldsPhase, HoldsWm, RestLaw, SettledLaw}
 use Rattle.step_core.specs.Worlds.{numbers_of, placed, seen}
-use Rattle.serial_engine.specs.Working.{IsBundleOf}
+use Rattle.serial_engine.specs.Running.{IsBundleOf}
 use Rattle.serial_engine.proofs.StepLemmas.{same_count}
 
 holds_own : (s : Stored) → HoldsWm s.elements s

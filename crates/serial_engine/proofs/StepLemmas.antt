@@ -11,6 +11,7 @@ use Rattle.token_line.specs.declared.line.Line.{Line}
 use Rattle.token_line.specs.Lawful.{IsChildOf}
 use Rattle.work_store.specs.Stored.{Stored, held_of}
 use Rattle.step_core.specs.declared.world.World as Code
+use Rattle.step_core.specs.Working.{IsWorked, but_last}
 use Rattle.step_core.specs.Worlds.{numbers_of, placed, world_of}
 use Rattle.ops_base.specs.declared.elements.Change.{Change}
 use Rattle.net_base.specs.declared.nodes.Node.{Node}
@@ -20,7 +21,7 @@ use Rattle.net_base.specs.Tokens.{Elements}
 use Rattle.step_core.specs.Machine.{Placing, World, Step, Feed, Activate, Finish, Clear, Steps, Run, change_in, changes_of, Activates, Finishes}
 use Rattle.step_core.specs.Laws.{NoClear}
 use Rattle.step_core.specs.Settling.{ChildLaw}
-use Rattle.serial_engine.specs.Working.{HasRun, Went, but_last}
+use Rattle.serial_engine.specs.Running.{HasRun, Went}
 
 module _ (elements : Elements) (alphas : List Alpha) (nodes : List Node) (line : Placing) where
   run_append : (ss ts : List Step) (old mid new : World) → Run elements alphas nodes line old ss mid → Run elements alphas nodes line mid ts new → Run elements alphas nodes line old (ss ++ ts) new
@@ -48,38 +49,11 @@ module _ (elements : Elements) (alphas : List Alpha) (nodes : List Node) (line :
   pub one_feed : (old new : World) (c : Change) → Steps elements alphas nodes line old (Feed c) new → HasRun elements alphas nodes line old new (c ∷ [])
   one_feed old new c step = record { steps = Feed c ∷ []; run = (new, step, refl); clear = tt; fed = refl }
 
-  pub one_activate : (old new : World) (i : ℕ) → Activates elements nodes line old i new → HasRun elements alphas nodes line old new []
-  one_activate old new i step = record { steps = Activate i ∷ []; run = (new, step, refl); clear = tt; fed = refl }
-
-  pub one_finish : (old new : World) (j : ℕ) → Finishes old j new → HasRun elements alphas nodes line old new []
-  one_finish old new j step = record { steps = Finish j ∷ []; run = (new, step, refl); clear = tt; fed = refl }
-
 -- ---- the last task
 
 module _ {X : Type 0} (xs : List X) (some : 1 ≤ length xs) where
-  pub last_gone : remove xs (length xs - 1) ≡ but_last xs
-  last_gone = ap (λ ys. take (length xs - 1) xs ++ ys) (drop_all (suc (length xs - 1)) xs (omega (arith, some))) ∙ append-nil (but_last xs)
-
   pub length_but_last : length (but_last xs) ≡ length xs - 1
   length_but_last = length-take-le (length xs - 1) xs (omega (arith, some))
-
--- what the activation of a task and the finish of its entry leave
-module _ (elements : Elements) (nodes : List Node) (line : Placing) (old mid new : World) (i : ℕ) (none : old.done ≡ []) (a : Activates elements nodes line old i mid) where
-  one_done : mid.done ≡ a.entry ∷ []
-  one_done = ap (λ w. w.done) a.becomes ∙ ap (λ es. es ++ a.entry ∷ []) none
-
-  pub some_done : 0 < length mid.done
-  some_done = let e = ap length one_done in omega (arith, e)
-
-  module _ (f : Finishes mid 0 new) where
-    same_entry : f.entry ≡ a.entry
-    same_entry = let e = sym f.was ∙ ap (λ es. slice_get es 0) one_done in cc
-
-    pub none_done : new.done ≡ []
-    none_done = ap (λ w. w.done) f.becomes ∙ ap (λ es. remove es 0) one_done
-
-    pub flight_done : new.flight ≡ remove old.flight i ++ a.entry.children
-    flight_done = ap (λ w. w.flight) f.becomes ∙ ap₂ (λ xs ys. xs ++ ys) (ap (λ w. w.flight) a.becomes) (ap (λ e. e.children) same_entry)
 
 -- ---- the children that are left
 
@@ -144,3 +118,8 @@ pub went_on : (alphas : List Alpha) (nodes : List Node) (s : Stored) (old mid ne
 went_on alphas nodes s old mid new cs ds a same b =
     run_on (held_of s) alphas nodes (placed (held_of s) nodes (length old.lines.items)) (world_of old) (world_of mid) (world_of new) cs ds a
     (subst (λ n. Went alphas nodes s n mid ds new) (same_count old mid same) b)
+
+-- a task that is done and finished at once
+pub worked_run : (alphas : List Alpha) (nodes : List Node) (s : Stored) (old new : Code.World) (i : ℕ) (left : List Task) → IsWorked alphas nodes s old i left new
+    → Went alphas nodes s (length old.lines.items) old [] new
+worked_run alphas nodes s old new i left w = record { steps = Activate i ∷ Finish (length old.done.items) ∷ []; run = w.steps (held_of s) (λ tag e h. h); clear = tt; fed = refl }

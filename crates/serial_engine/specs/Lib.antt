@@ -1,2 +1,2 @@
--- A phase on its way, as the serial engine works it.
-pub mod Working
+-- A phase on its way.
+pub mod Running

@@ -6,14 +6,14 @@ ghost use Rattle.step_core.specs.Laws.{AreEmpty};
 ghost use Rattle.step_core.specs.Phases.{HoldJust, now, sums_over};
 ghost use Rattle.step_core.specs.Worlds.{AreNumbered, placed, seen};
 
-use crate::phases::{do_changes, run_phase};
+use crate::phases::settle;
 use net_base::net::Net;
 use ops_base::elements::Change;
 use ops_base::memory::OutOfMemory;
 use ops_io::Gate;
 use std::alloc::Global;
 use step_core::laws::{match_laws, settle_laws};
-use step_core::{Gathered, World, gather};
+use step_core::{Gathered, World};
 use token_line::Line;
 use work_store::{Matcher, Settled, Store};
 
@@ -53,7 +53,6 @@ impl<G: Gate + Drop> SerialEngine<G> {
         ensures entries { IfOk result (λ e. AreEmpty (map seen e.world.lines.items)) }
     {
         match_laws();
-        settle_laws();
         let world = World::start(alloc, &net, lines)?;
         Ok(SerialEngine {
             net,
@@ -80,45 +79,6 @@ impl<G: Gate + Drop> SerialEngine<G> {
         self.world.lines()
     }
 
-    /// One settle: by the picks, where there are any, and otherwise each change by itself.
-    fn settled(
-        self,
-        alloc: Global,
-        changes: &[Change],
-        picks: Option<&[usize]>,
-    ) -> Result<Settled<SerialEngine<G>>, OutOfMemory>
-        requires { Lawful self.store.elements self.store.last changes.now }
-        ensures elements { IfOk result (λ s. s.matcher.store.elements ≡ done self.store.elements changes.now) }
-        ensures last { IfOk result (λ s. s.matcher.store.last ≡ last_after self.store.last changes.now) }
-        ensures settled { IfOk result (λ s. IsSettled (found_over self.net.alphas self.net.nodes self.store.elements) (found_over s.matcher.net.alphas s.matcher.net.nodes s.matcher.store.elements) s.gone.items s.come.items) }
-        ensures net { IfOk result (λ s. s.matcher.net ≡ self.net) }
-        ensures kept { IfOk result (λ s. HoldsAlso (record self.store { kept = [] }) s.matcher.store (added_by changes.now)) }
-        ensures bundle { IfOk result (λ s. IsBundle (held_of s.matcher.store) s.matcher.net.alphas s.matcher.net.nodes (placed (held_of s.matcher.store) s.matcher.net.nodes (length s.matcher.world.lines.items)) self.store.elements changes.now (map seen s.matcher.world.lines.items)) }
-        ensures lines { IfOk result (λ s. length s.matcher.world.lines.items ≡ length self.world.lines.items) }
-    {
-        settle_laws();
-        let SerialEngine {
-            net,
-            mut store,
-            mut world,
-            gate,
-        } = self;
-        do_changes(alloc, &mut store, changes)?;
-        run_phase(alloc, &net, &store, &gate, &mut world, changes, picks)?;
-        let Gathered { come, gone } = gather(alloc, &net, world.lines())?;
-        let matcher = SerialEngine {
-            net,
-            store,
-            world,
-            gate,
-        };
-        Ok(Settled {
-            matcher,
-            come,
-            gone,
-        })
-    }
-
     /// As `settle`, with an order that a test can choose: all changes are fed at once, and the activation of each pick is that of the task at the
     /// place that is the pick modulo the number of tasks in flight. The tasks that are fed stand in the order of the changes, and those of each change in that
     /// of their nodes; the children of a task come behind all others. When the picks have ended the engine goes on with what is left.
@@ -138,7 +98,25 @@ impl<G: Gate + Drop> SerialEngine<G> {
         ensures bundle { IfOk result (λ s. IsBundle (held_of s.matcher.store) s.matcher.net.alphas s.matcher.net.nodes (placed (held_of s.matcher.store) s.matcher.net.nodes (length s.matcher.world.lines.items)) self.store.elements changes.now (map seen s.matcher.world.lines.items)) }
         ensures lines { IfOk result (λ s. length s.matcher.world.lines.items ≡ length self.world.lines.items) }
     {
-        self.settled(alloc, changes, Some(picks))
+        let SerialEngine {
+            net,
+            mut store,
+            mut world,
+            gate,
+        } = self;
+        let enter = |line: usize| gate.enter(0, line);
+        let Gathered { come, gone } = settle(alloc, &net, &mut store, &enter, &mut world, changes, Some(picks))?;
+        let matcher = SerialEngine {
+            net,
+            store,
+            world,
+            gate,
+        };
+        Ok(Settled {
+            matcher,
+            come,
+            gone,
+        })
     }
 }
 
@@ -187,6 +165,24 @@ impl<G: Gate + Drop> Matcher for SerialEngine<G> {
         ensures bundle { IfOk result (λ s. IsBundle (held_of s.matcher.store) s.matcher.net.alphas s.matcher.net.nodes (placed (held_of s.matcher.store) s.matcher.net.nodes (length s.matcher.world.lines.items)) self.store.elements changes.now (map seen s.matcher.world.lines.items)) }
         ensures lines { IfOk result (λ s. length s.matcher.world.lines.items ≡ length self.world.lines.items) }
     {
-        self.settled(alloc, changes, None)
+        let SerialEngine {
+            net,
+            mut store,
+            mut world,
+            gate,
+        } = self;
+        let enter = |line: usize| gate.enter(0, line);
+        let Gathered { come, gone } = settle(alloc, &net, &mut store, &enter, &mut world, changes, None)?;
+        let matcher = SerialEngine {
+            net,
+            store,
+            world,
+            gate,
+        };
+        Ok(Settled {
+            matcher,
+            come,
+            gone,
+        })
     }
 }

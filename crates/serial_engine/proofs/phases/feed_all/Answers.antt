@@ -4,7 +4,7 @@ use Rattle.std.proofs.Math.Seq.{take-suc}
 use Rattle.ops_base.specs.declared.elements.Change.{Change}
 use Rattle.work_store.specs.Stored.{held_of}
 use Rattle.step_core.specs.Worlds.{placed, world_of}
-use Rattle.serial_engine.specs.Working.{Went}
+use Rattle.serial_engine.specs.Running.{Went}
 use Rattle.serial_engine.proofs.StepLemmas.{one_feed, went_on}
 use Rattle.serial_engine.proofs.phases.feed_all.Goals as goal
 
@@ -25,7 +25,7 @@ loop-change-preserved c =
     let is : take k changes ++ x ∷ [] ≡ take (k + 1) changes = ap (λ (y : Change). take k changes ++ y ∷ []) c.change-item.is ∙ sym (take-suc changes k x c.loop-change-test.true) ∙ ap (λ n. take n changes) more in
     record {
       went = subst (λ cs. Went net.alphas net.nodes s (length old.lines.items) old cs new) is (went_on net.alphas net.nodes s old mid new (take k changes) (x ∷ []) c.loop-change.invariant.went c.loop-change.invariant.lines one);
-      none = ap (λ w. w.done) step ∙ c.loop-change.invariant.none;
+      done = ap (λ w. w.done) step ∙ c.loop-change.invariant.done;
       ready = c.feed.ensures.ready;
       lines = c.feed.ensures.lines ∙ c.loop-change.invariant.lines;
     }

@@ -4,12 +4,9 @@ use Rattle.std.proofs.Math.Seq.{take-suc}
 use Rattle.ops_base.specs.declared.elements.Change.{Change}
 use Rattle.work_store.specs.Stored.{held_of}
 use Rattle.step_core.specs.Worlds.{placed, world_of}
-use Rattle.serial_engine.specs.Working.{Went}
+use Rattle.serial_engine.specs.Running.{Went}
 use Rattle.serial_engine.proofs.StepLemmas.{one_feed, went_on}
 use Rattle.serial_engine.proofs.phases.work_each.Goals as goal
-
-pub work_all-requires-clause-none : goal.work_all-requires-clause-none
-work_all-requires-clause-none g c = ap (λ w. w.done) (c.in_ok-feed.ensures.steps (held_of c.args.store.now) (λ tag e h. h)) ∙ c.loop-change.invariant.none
 
 pub loop-change-preserved : goal.loop-change-preserved
 loop-change-preserved g c =
@@ -33,7 +30,7 @@ loop-change-preserved g c =
       went = subst (λ cs. Went net.alphas net.nodes s (length old.lines.items) old cs new) (append-nil (take k changes ++ x ∷ []) ∙ is)
           (went_on net.alphas net.nodes s old fed new (take k changes ++ x ∷ []) [] begun same c.in_ok-work_all.ensures.went);
       flight = c.in_ok-work_all.ensures.flight;
-      none = c.in_ok-work_all.ensures.none;
+      done = c.in_ok-work_all.ensures.done ∙ (ap (λ w. w.done) step ∙ c.loop-change.invariant.done);
       ready = c.work_all.ensures.ready;
       lines = c.work_all.ensures.lines ∙ same;
     }
