@@ -18,10 +18,10 @@ invariant_of-result-clause-holds g c =
     let w = c.in_ok-world.world in
     let elements = held_of nothing_stored in
     subst (λ (s : Stored). HoldJust (placed (held_of s) net.nodes (length w.lines.items)) (sums_over s.elements net.alphas net.nodes) (map now (map seen w.lines.items))) (sym c.new.ensures)
-    (start_holds c.match_laws.ensures.start elements net.alphas net.nodes c.args.lines (c.start-world.ensures.placed elements) w (c.in_ok-world.ensures.start elements) c.in_ok-world.ensures.count)
+    (start_holds c.match_laws.ensures.start elements net.alphas net.nodes c.args.lines (c.start.ensures.placed elements) w (c.in_ok-world.ensures.start elements) c.in_ok-world.ensures.count)
 
 pub returns-clause-entries : goal.returns-clause-entries
 returns-clause-entries g c =
     let net = c.args.net in
     let elements = held_of nothing_stored in
-    start_empty c.match_laws.ensures.start elements net.alphas net.nodes c.args.lines (c.start-world.ensures.placed elements) c.in_ok-world.world (c.in_ok-world.ensures.start elements) c.in_ok-world.ensures.count
+    start_empty c.match_laws.ensures.start elements net.alphas net.nodes c.args.lines (c.start.ensures.placed elements) c.in_ok-world.world (c.in_ok-world.ensures.start elements) c.in_ok-world.ensures.count
