@@ -86,7 +86,7 @@ module _ {X : Type 0} (front behind : List X) (m : ℕ) (low : length front < m)
       let b = get_taken m (m - 1) (front ++ behind) (omega (arith, low)) in
       let e : m - 1 ≡ length front + i = omega (arith, low) in
       let d = ap (slice_get (front ++ behind)) e ∙ get_behind front behind i in
-      all_at P behind i x all (sym (sym at ∙ (a ∙ (b ∙ d))) )
+      all_at P behind i x all (sym (sym at ∙ (a ∙ (b ∙ d))))
 
 -- a child is below its task
 module _ (child_law : ChildLaw) (alphas : List Alpha) (nodes : List Node) (sound : IsSound alphas nodes) (levels p : ℕ) (x : Task) (child : IsChildOf nodes p x) (deep : length nodes ≤ levels + p) where

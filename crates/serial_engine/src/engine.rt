@@ -105,7 +105,15 @@ impl<G: Gate + Drop> SerialEngine<G> {
             gate,
         } = self;
         let enter = |line: usize| gate.enter(0, line);
-        let Gathered { come, gone } = settle(alloc, &net, &mut store, &enter, &mut world, changes, Some(picks))?;
+        let Gathered { come, gone } = settle(
+            alloc,
+            &net,
+            &mut store,
+            &enter,
+            &mut world,
+            changes,
+            Some(picks),
+        )?;
         let matcher = SerialEngine {
             net,
             store,
@@ -172,7 +180,9 @@ impl<G: Gate + Drop> Matcher for SerialEngine<G> {
             gate,
         } = self;
         let enter = |line: usize| gate.enter(0, line);
-        let Gathered { come, gone } = settle(alloc, &net, &mut store, &enter, &mut world, changes, None)?;
+        let Gathered { come, gone } = settle(
+            alloc, &net, &mut store, &enter, &mut world, changes, None,
+        )?;
         let matcher = SerialEngine {
             net,
             store,

@@ -146,7 +146,10 @@ fn deletes_come_first(rt: HostRuntime) -> Result<(), Fail> {
         assert_eq!(rt; (come.len(), gone.len()), (0, 0));
         assert_eq!(rt; gate.calls.load(Ordering::SeqCst), 4);
         for line in matcher.lines() {
-            assert_eq!(rt; (line.right_sum(0, &token), line.right_sum(1, &token)), (0, 0));
+            assert_eq!(rt;
+                (line.right_sum(0, &token), line.right_sum(1, &token)),
+                (0, 0)
+            );
             assert_eq!(rt; line.left_sum(1, &token), 0);
         }
     }
@@ -154,10 +157,7 @@ fn deletes_come_first(rt: HostRuntime) -> Result<(), Fail> {
 }
 
 // the element 1 of the first class comes
-fn begun(
-    alloc: Global,
-    gate: &Counting,
-) -> Result<Settled<SerialEngine<&Counting>>, OutOfMemory>
+fn begun(alloc: Global, gate: &Counting) -> Result<Settled<SerialEngine<&Counting>>, OutOfMemory>
     ensures elements { IfOk result (λ s. s.matcher.store.elements ≡ record { tag = 1; class = 0; fields = Whole (pos 5) ∷ [] } ∷ []) }
     ensures last { IfOk result (λ s. s.matcher.store.last ≡ 1) }
 {
@@ -185,7 +185,11 @@ fn what_comes_back_is_not_told(rt: HostRuntime) -> Result<(), Fail> {
     let gate = Counting {
         calls: AtomicU64::new(0),
     };
-    let Settled { matcher, come, gone } = begun(alloc, &gate)?;
+    let Settled {
+        matcher,
+        come,
+        gone,
+    } = begun(alloc, &gate)?;
     assert_eq!(rt; (come.len(), gone.len()), (1, 0));
     assert_eq!(rt; come[0].tags.as_slice(), [1].as_slice());
     let Settled {

@@ -118,7 +118,7 @@ unfolding added_at
 added-end front x m =
     ap (λ o. added_at o (front ++ x ∷ []) m) (ap (slice_get (front ++ x ∷ [])) (last_place front x) ∙ at_end front x)
     ∙ ap (λ ts. cond (is_same x.inst m.inst) ts ((front ++ x ∷ []) ++ begun m ∷ []))
-        (ap (λ k. slice_set (front ++ x ∷ []) k (counted_in x m)) (last_place front x) ∙ set_end front x (counted_in x m))
+    (ap (λ k. slice_set (front ++ x ∷ []) k (counted_in x m)) (last_place front x) ∙ set_end front x (counted_in x m))
 
 -- a total that counts one more, in its place
 pub counted_in_last : (ts : List Total) (m : Moved) (x : Total) → ends_with ts m.inst ≡ true → slice_get ts (length ts - 1) ≡ Some x → slice_set ts (length ts - 1) (counted_in x m) ≡ added ts m

@@ -31,9 +31,9 @@ lists_in_order (suc k) tags a =
     all_before-flat_map (λ x y. x < y) TagsBefore (λ x. map (λ t. x ∷ t) (tag_lists k tags)) tags a
     (λ x m. all_before-map TagsBefore TagsBefore (λ t. x ∷ t) (tag_lists k tags) (λ t u h. inr (refl, h)) (lists_in_order k tags a))
     (λ x z l m lt y w my mw.
-        let p = map_member (λ t. x ∷ t) y (tag_lists k tags) my in
-        let q = map_member (λ t. z ∷ t) w (tag_lists k tags) mw in
-        subst (λ u. TagsBefore u w) (sym p.2) (subst (λ v. TagsBefore (x ∷ p.0) v) (sym q.2) (inl lt)))
+    let p = map_member (λ t. x ∷ t) y (tag_lists k tags) my in
+    let q = map_member (λ t. z ∷ t) w (tag_lists k tags) mw in
+    subst (λ u. TagsBefore u w) (sym p.2) (subst (λ v. TagsBefore (x ∷ p.0) v) (sym q.2) (inl lt)))
 
 lists_have : (k : ℕ) (tags t : List ℕ) → length t ≡ k → AllByRecursion (λ tag. IsMember tag tags) t → IsMember t (tag_lists k tags)
 lists_have zero tags [] e a = inl refl
@@ -117,8 +117,8 @@ module _ (alphas : List Alpha) (nodes : List Node) (wm : List Element) (sound : 
   of_rule k zero i m = absurd m
   of_rule k (suc b) i m =
       elim (member_cases i (found_of alphas nodes wm k b) (found_at alphas nodes wm k b (slice_get nodes b)) m) [
-        inl l ↦ (let r = of_rule k b i l in record { n = r.n; low = omega (arith, r.low); is = r.is })
-      | inr h ↦ record { n = b; low = omega arith; is = of_at k b (slice_get nodes b) i h }
+        | inl l ↦ (let r = of_rule k b i l in record { n = r.n; low = omega (arith, r.low); is = r.is })
+        | inr h ↦ record { n = b; low = omega arith; is = of_at k b (slice_get nodes b) i h }
       ]
 
   rule_in_order : (k bound : ℕ) → AllBefore Before (found_of alphas nodes wm k bound)
@@ -126,10 +126,10 @@ module _ (alphas : List Alpha) (nodes : List Node) (wm : List Element) (sound : 
   rule_in_order k (suc b) =
       all_before-append Before (found_of alphas nodes wm k b) (found_at alphas nodes wm k b (slice_get nodes b)) (rule_in_order k b) (at_in_order k b (slice_get nodes b))
       (λ i j l m.
-          let p = of_rule k b i l in
-          let q = of_at k b (slice_get nodes b) j m in
-          let same = sound.one p.n b k p.is.node q.node p.is.at q.at p.is.kind q.kind in
-          absurd (omega (arith, same, p.low)))
+      let p = of_rule k b i l in
+      let q = of_at k b (slice_get nodes b) j m in
+      let same = sound.one p.n b k p.is.node q.node p.is.at q.at p.is.kind q.kind in
+      absurd (omega (arith, same, p.low)))
 
   record IsBelow (bound : ℕ) (i : Inst) : Type 0 where
     pub k : ℕ
@@ -140,8 +140,8 @@ module _ (alphas : List Alpha) (nodes : List Node) (wm : List Element) (sound : 
   of_below zero i m = absurd m
   of_below (suc b) i m =
       elim (member_cases i (found_below alphas nodes wm b) (found_of alphas nodes wm b (length nodes)) m) [
-        inl l ↦ (let r = of_below b i l in record { k = r.k; low = omega (arith, r.low); is = r.is })
-      | inr h ↦ record { k = b; low = omega arith; is = of_rule b (length nodes) i h }
+        | inl l ↦ (let r = of_below b i l in record { k = r.k; low = omega (arith, r.low); is = r.is })
+        | inr h ↦ record { k = b; low = omega arith; is = of_rule b (length nodes) i h }
       ]
 
   below_in_order : (bound : ℕ) → AllBefore Before (found_below alphas nodes wm bound)
@@ -149,11 +149,11 @@ module _ (alphas : List Alpha) (nodes : List Node) (wm : List Element) (sound : 
   below_in_order (suc b) =
       all_before-append Before (found_below alphas nodes wm b) (found_of alphas nodes wm b (length nodes)) (below_in_order b) (rule_in_order b (length nodes))
       (λ i j l m.
-          let p = of_below b i l in
-          let q = of_rule b (length nodes) j m in
-          let c = p.is.is.rule in
-          let d = q.is.rule in
-          inl (omega (arith, c, d, p.low)))
+      let p = of_below b i l in
+      let q = of_rule b (length nodes) j m in
+      let c = p.is.is.rule in
+      let d = q.is.rule in
+      inl (omega (arith, c, d, p.low)))
 
   -- the other way
   in_at : (k n : ℕ) (x : Node) (t : List ℕ) → slice_get nodes n ≡ Some x → x.kind ≡ Terminal k → left_tokens wm alphas nodes n t ≡ 1 → IsMember (inst k t) (found_at alphas nodes wm k n (Some x))

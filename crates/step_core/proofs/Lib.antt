@@ -35,3 +35,4 @@ pub mod StartPlaced
 pub mod Settling
 pub mod AddingUp
 pub mod WhatMoved
+pub mod WorkedMoves

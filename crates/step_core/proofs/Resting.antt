@@ -147,9 +147,9 @@ module _ (alphas : List Alpha) (nodes : List Node) (wm : List Element) where
           count_same (2 ^ 64) (joins_hold x.joins (held_of s) t) (joins_hold x.joins (held_of alone) t) (standing_at (sum_in l) n Right) (standing_at (sum_in l) n Right)
           (λ k low. sym (agreed (joins_hold x.joins (held_of s) t k) (joins_hold x.joins (held_of alone) t k) (standing_at (sum_in l) n Right (k ∷ []))
           (λ stood. joins_agree alone (held_of s) (agrees s holds) x.joins t k
-              (subst (λ w. All (λ j. j.place < w) x.joins) (sym is.long) (sound.each n x at).places)
-              (All-from_recursion (IsHeld alone) t (all_held alone alone_holds t is.all))
-              (held_in alone alone_holds k (right_are_tokens wm alphas nodes n x at (k ∷ []) (λ z. stand n Right (k ∷ []) (standing_some (sum_in l n Right (k ∷ [])) stood) (ap pos z))).all.0))))
+          (subst (λ w. All (λ j. j.place < w) x.joins) (sym is.long) (sound.each n x at).places)
+          (All-from_recursion (IsHeld alone) t (all_held alone alone_holds t is.all))
+          (held_in alone alone_holds k (right_are_tokens wm alphas nodes n x at (k ∷ []) (λ z. stand n Right (k ∷ []) (standing_some (sum_in l n Right (k ∷ [])) stood) (ap pos z))).all.0))))
         where
           is : IsToken wm (left_width nodes x.parent) t
           is = left_are_tokens wm alphas nodes n x at t (λ z. stand n Left t some (ap pos z))
@@ -164,9 +164,9 @@ pub rest_law : RestLaw
 rest_law alphas nodes wm s s' ls sound lines holds holds' counted hold = (
   (λ i d lt. counted_moves alphas nodes wm sound (get_or ls i d)
       (λ n side t some.
-          let h = here (placed (held_of s) nodes (length ls)) (sums_over wm alphas nodes) (map now (map seen ls)) hold i (now (seen (get_or ls i d)))
-              (slice_get-map now (map seen ls) i ∙ ap (option_map now) (slice_get-map seen ls i ∙ ap (option_map seen) (slice_get-get_or ls i d lt))) n side t some in
-          (λ z. some (sym h.stands ∙ z)))
+      let h = here (placed (held_of s) nodes (length ls)) (sums_over wm alphas nodes) (map now (map seen ls)) hold i (now (seen (get_or ls i d)))
+      (slice_get-map now (map seen ls) i ∙ ap (option_map now) (slice_get-map seen ls i ∙ ap (option_map seen) (slice_get-get_or ls i d lt))) n side t some in
+      (λ z. some (sym h.stands ∙ z)))
       s s' holds holds' (counted i d lt)),
   hold_moves (placed (held_of s) nodes (length ls)) (sums_over wm alphas nodes) (map now (map seen ls)) hold (placed (held_of s') nodes (length ls))
       (λ n side t some. places alphas nodes wm sound s holds (length ls) n side t some ∙ sym (places alphas nodes wm sound s' holds' (length ls) n side t some)),

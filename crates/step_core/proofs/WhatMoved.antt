@@ -2,7 +2,7 @@
 use Rattle.std.proofs.Common.{◌≡◌, ◌≢◌, ℕ, zero, suc, ◌+◌, ◌<◌, ◌≤◌, ◌==◌, Bool, true, false, cond, ◌&&◌, nat_lt, List, [], ◌∷◌, ◌++◌, ℤ, pos, ◌+ℤ◌, ◌-ℤ◌, refl, sym, ap, ap₂, subst, ◌∙◌, arith, inl, inr, length, map, filter, fold, slice_get, Option, Some, None}
 use Rattle.std.specs.Prelude.{◌↔◌, ◌⊎◌, flat_map, option_map}
 use Rattle.std.specs.List.{AllPairs, Contains}
-use Rattle.std.specs.List.Sorted.{IsPermutation, IsSortedBy}
+use Rattle.std.specs.List.Sorted.{IsPermutation}
 use Rattle.std.specs.Ordering.{is_lt}
 use Rattle.std.proofs.lemmas.Int.{ints}
 use Rattle.std.proofs.lemmas.List.Sorted.{Contains-permutation, IsPermutation-sym}
@@ -29,7 +29,7 @@ use Rattle.step_core.specs.Found.{inst}
 use Rattle.step_core.specs.Settling.{HaveOwnLines, IsGathered, Stands}
 use Rattle.step_core.specs.declared.gathering.Moved.{Moved}
 use Rattle.step_core.specs.declared.gathering.Total.{Total}
-use Rattle.step_core.specs.Gathering.{added, has_come, has_gone, is_moved, is_same, moved_by, moved_on, moved_over, moved_to, rule_in}
+use Rattle.step_core.specs.Gathering.{AreTold, added, has_come, has_gone, is_moved, is_same, moved_by, moved_on, moved_over, moved_to, rule_in}
 use Rattle.step_core.proofs.AddingUp.{AreTotals, ByInst, is_same-itself, is_same-true, member_got, moved_change, moved_change-append, moved_change-permutation, own_change, part_of, some_total, sorted_totals, total_change}
 use Rattle.step_core.proofs.Resting.{only_here}
 
@@ -82,8 +82,8 @@ module _ (nodes : List Node) (alphas : List Alpha) (sound : IsSound alphas nodes
       let moved = moved_stands (old is.n Left t.inst.tags) (new is.n Left t.inst.tags) (sym is.test ∙ q.1) in
       let stands : Stands nodes new t.inst = record { n = is.n; node = is.terminal.node; at = is.terminal.at; kind = is.terminal.kind; some = moved.0 } in
       let stood : Stands nodes old t.inst → ⊥ =
-          (λ h. (let e : h.n ≡ is.n = sound.one h.n is.n t.inst.rule h.node is.terminal.node h.at is.terminal.at h.kind is.terminal.kind in
-            let g = subst (λ n. 0 < standing (old n Left t.inst.tags)) e h.some in omega (arith, g, moved.1))) in
+      (λ h. (let e : h.n ≡ is.n = sound.one h.n is.n t.inst.rule h.node is.terminal.node h.at is.terminal.at h.kind is.terminal.kind in
+      let g = subst (λ n. 0 < standing (old n Left t.inst.tags)) e h.some in omega (arith, g, moved.1))) in
       subst (λ j. Stands nodes new j × ¬ Stands nodes old j) (sym p.2) (stands, stood)
 
   moved_chosen : (i : Inst) → Stands nodes new i → ¬ Stands nodes old i → IsMember i chosen
@@ -137,13 +137,13 @@ module _ (nodes : List Node) (alphas : List Alpha) (sound : IsSound alphas nodes
         let node : n ≡ x.node = sound.one n x.node i.rule is.node y is.at at is.kind (kind ∙ ap Terminal (sym rule)) in
         let own = sign_at-own x in
         let a : sign_at n Left i.tags x ≡ sign_at x.node x.side x.token x =
-            ap₂ (λ m t. sign_at m Left t x) node tags ∙ ap (λ s. sign_at x.node s x.token x) (sym side) in omega (arith, ints, own, a)
+        ap₂ (λ m t. sign_at m Left t x) node tags ∙ ap (λ s. sign_at x.node s x.token x) (sym side) in omega (arith, ints, own, a)
     at_terminal x sum y at side k kind false e =
         let z = no_part x (λ y' at' side' kind' token.
-            (let f : y ≡ y' = (let g = sym at ∙ at' in cc) in
-            let r : k ≡ i.rule = (let g = sym kind ∙ (ap (λ (w : Node). w.kind) f ∙ kind') in cc) in
-            let same : i ≡ inst k x.token = ap₂ (λ q t. inst q t) (sym r) token in
-            let h = is_same-itself i (inst k x.token) same in absurd (let b = sym e ∙ h in cc))) in omega (arith, ints, z)
+        (let f : y ≡ y' = (let g = sym at ∙ at' in cc) in
+        let r : k ≡ i.rule = (let g = sym kind ∙ (ap (λ (w : Node). w.kind) f ∙ kind') in cc) in
+        let same : i ≡ inst k x.token = ap₂ (λ q t. inst q t) (sym r) token in
+        let h = is_same-itself i (inst k x.token) same in absurd (let b = sym e ∙ h in cc))) in omega (arith, ints, z)
 
     by_kind : (x : Task) (sum : ℤ) (y : Node) → slice_get nodes x.node ≡ Some y → (s : Side) → x.side ≡ s → (k : Kind) → y.kind ≡ k
         → moved_change i (moved_to (rule_in (Some (record y { kind = k })) s) x sum) ≡ sign_at n Left i.tags x
@@ -250,16 +250,15 @@ module _ (nodes : List Node) (alphas : List Alpha) (sound : IsSound alphas nodes
         let b = flat_map_member (moved_by nodes a.0) m (tasks_of a.0.entries) a.2 in
         task_summed a.0 a.1 m (of_task a.0 b.0 b.1 m b.2)
 
-    module _ (ms : List Moved) (ts : List Total) (same : IsPermutation (moved_over nodes ls) ms) (are : AreTotals ms ts) where
+    module _ (ms : List Moved) (ts : List Total) (within : (m : Moved) → IsMember m ms → IsMember m (moved_over nodes ls)) (as_much : (i : Inst) → moved_change i ms ≡ moved_change i (moved_over nodes ls)) (are : AreTotals ms ts) where
       total_summed : (t : Total) → IsMember t ts → IsSummed t.inst t.sum
       total_summed t m =
           let o = are.from t m in
-          let c = Contains-permutation ms (moved_over nodes ls) o.one (IsPermutation-sym (moved_over nodes ls) ms same) (contains_from_member o.one ms o.member) in
-          let s = moved_summed o.one (member_from_contains o.one (moved_over nodes ls) c) in
+          let s = moved_summed o.one (within o.one o.member) in
           subst (λ z. IsSummed t.inst z) o.sum (subst (λ j. IsSummed j o.one.sum) o.inst s)
 
       changed : (i : Inst) (n : ℕ) → IsTerminalAt nodes i n → total_change i ts ≡ all_signs n Left i.tags ls
-      changed i n is = are.change i ∙ (moved_change-permutation i (moved_over nodes ls) ms same ∙ all_moved i n is ls)
+      changed i n is = are.change i ∙ (as_much i ∙ all_moved i n is ls)
 
       before_is : (t : Total) → IsMember t ts → (n : ℕ) → IsTerminalAt nodes t.inst n → total (map now ls) n Left t.inst.tags ≡ t.sum → total (map before ls) n Left t.inst.tags ≡ t.sum -ℤ t.change
       before_is t m n is sum =
@@ -295,3 +294,14 @@ module _ (nodes : List Node) (alphas : List Alpha) (sound : IsSound alphas nodes
         come_in_order = chosen_in_order nodes alphas sound (total (map before ls)) (total (map now ls)) has_come ts come_tested none_changed are.order;
         gone_in_order = chosen_in_order nodes alphas sound (total (map now ls)) (total (map before ls)) has_gone ts gone_tested gone_changed are.order;
       }
+
+    -- what is told of these moves, or of others that stand for them
+    module _ (moved : List Moved) (within : (m : Moved) → IsMember m moved → IsMember m (moved_over nodes ls)) (as_much : (i : Inst) → moved_change i moved ≡ moved_change i (moved_over nodes ls)) where
+      pub told_gathered : (come gone : List Inst) → AreTold moved come gone → IsGathered nodes (total (map before ls)) (total (map now ls)) come gone
+      told_gathered come gone told =
+          subst (λ (xs : List Inst). IsGathered nodes (total (map before ls)) (total (map now ls)) xs gone) (sym told.come_is)
+          (subst (λ (ys : List Inst). IsGathered nodes (total (map before ls)) (total (map now ls)) (map (λ (t : Total). t.inst) (filter has_come (fold added [] told.sorted))) ys) (sym told.gone_is)
+          (are_gathered told.sorted (fold added [] told.sorted)
+          (λ m k. within m (member_from_contains m moved (Contains-permutation told.sorted moved m (IsPermutation-sym moved told.sorted told.same) (contains_from_member m told.sorted k))))
+          (λ i. moved_change-permutation i moved told.sorted told.same ∙ as_much i)
+          (sorted_totals told.sorted told.order)))

@@ -1,5 +1,6 @@
 -- What the entries of lines tell of instantiations that came and went.
-use Rattle.std.specs.Prelude.{◌==◌, ◌&&◌, ◌-◌, ℕ, ℤ, ◌+ℤ◌, ◌-ℤ◌, Bool, false, List, [], ◌∷◌, ◌++◌, flat_map, length, map, nat_lt, slice_get, slice_set, Option, Some, None, if◌then◌else◌}
+use Rattle.std.specs.Prelude.{◌≡◌, ◌==◌, ◌&&◌, ◌-◌, ℕ, ℤ, ◌+ℤ◌, ◌-ℤ◌, Bool, false, List, [], ◌∷◌, ◌++◌, filter, flat_map, fold, length, map, nat_lt, slice_get, slice_set, Option, Some, None, if◌then◌else◌}
+use Rattle.std.specs.List.Sorted.{IsPermutation, IsSortedByKey}
 use Rattle.std.specs.Ordering.{eq_by_cmp}
 use Rattle.ops_base.specs.declared.rules.Inst.{Inst}
 use Rattle.ops_base.specs.Instances.{by_rule_and_tags}
@@ -44,6 +45,14 @@ moved_on nodes l = flat_map (moved_by nodes l) (tasks_of l.entries)
 abbrev pub moved_over : List Node → List Seen → List Moved
 moved_over nodes ls = flat_map (moved_on nodes) ls
 
+abbrev pub moved_in : List Node → Option Seen → List Moved
+moved_in nodes None = []
+moved_in nodes (Some l) = moved_on nodes l
+
+-- the same of the lines at these places
+abbrev pub moved_at : List Node → List Seen → List ℕ → List Moved
+moved_at nodes ls places = flat_map (λ i. moved_in nodes (slice_get ls i)) places
+
 -- ---- adding up
 
 abbrev pub is_same : Inst → Inst → Bool
@@ -83,3 +92,11 @@ has_come t = is_moved (t.sum -ℤ t.change) t.sum
 
 abbrev pub has_gone : Total → Bool
 has_gone t = is_moved t.sum (t.sum -ℤ t.change)
+
+-- these are told by the totals of what moved, in order
+pub record AreTold (moved : List Moved) (come gone : List Inst) : Type 0 where
+  pub sorted : List Moved
+  pub same : IsPermutation moved sorted
+  pub order : IsSortedByKey (λ m. m.inst) by_rule_and_tags sorted
+  pub come_is : come ≡ map (λ t. t.inst) (filter has_come (fold added [] sorted))
+  pub gone_is : gone ≡ map (λ t. t.inst) (filter has_gone (fold added [] sorted))

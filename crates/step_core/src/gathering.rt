@@ -1,13 +1,14 @@
 //! What the entries of the lines tell of instantiations that came and went.
-ghost use Rattle.std.specs.Prelude.{◌≡◌, ◌-◌, ◌++◌, ◌+ℤ◌, [], Some, length, IfOk, OnOk, filter, fold, map, slice_get, IsPermutation, FitsSigned};
+ghost use Rattle.std.specs.Prelude.{◌≡◌, ◌<◌, ◌-◌, ◌++◌, All, ◌+ℤ◌, [], Some, length, IfOk, OnOk, filter, fold, map, slice_get, IsPermutation, FitsSigned};
 ghost use Rattle.std.specs.Int.{w64};
 ghost use Rattle.std.specs.List.Sorted.{IsSortedByKey};
 ghost use Rattle.ops_base.specs.Instances.{by_rule_and_tags};
 ghost use Rattle.token_line.specs.Bags.{sign};
 ghost use Rattle.step_core.specs.Phases.{before, now, total};
+ghost use Rattle.step_core.specs.Worked.{AreWorked};
 ghost use Rattle.step_core.specs.Worlds.{seen};
 ghost use Rattle.step_core.specs.Found.{inst};
-ghost use Rattle.step_core.specs.Gathering.{added, ends_with, has_come, has_gone, is_same, moved_by, moved_on, moved_over, rule_in};
+ghost use Rattle.step_core.specs.Gathering.{AreTold, added, ends_with, has_come, has_gone, is_same, moved_at, moved_by, moved_on, moved_over, rule_in};
 ghost use Rattle.step_core.specs.Settling.{HaveOwnLines, IsGathered};
 
 use net_base::net::Net;
@@ -113,6 +114,23 @@ fn look_over_all(alloc: Global, net: &Net, lines: &[Line]) -> Result<Vec<Moved>,
     Ok(moved)
 }
 
+/// What the entries of the lines at these places moved.
+fn look_over_places(
+    alloc: Global,
+    net: &Net,
+    lines: &[Line],
+    places: &[usize],
+) -> Result<Vec<Moved>, OutOfMemory>
+    requires { All (λ i. i < length lines.now) places.now }
+    ensures { IfOk result (λ v. v.items ≡ moved_at net.now.nodes (map seen lines.now) places.now) }
+{
+    let mut moved = Vec::new(alloc);
+    for place in places {
+        look_over(alloc, net, &lines[*place], &mut moved)?;
+    }
+    Ok(moved)
+}
+
 /// By rule and tags.
 fn in_order(mut moved: Vec<Moved>) -> Vec<Moved>
     ensures order { IsSortedByKey (λ m. m.inst) by_rule_and_tags result.items }
@@ -202,6 +220,15 @@ fn split(alloc: Global, totals: Vec<Total>) -> Result<Gathered, OutOfMemory>
     Ok(Gathered { come, gone })
 }
 
+/// What came and what went, by what moved: that is sorted, and added up.
+fn tell(alloc: Global, moved: Vec<Moved>) -> Result<Gathered, OutOfMemory>
+    ensures { IfOk result (λ g. AreTold moved.items g.come.items g.gone.items) }
+{
+    let totals = add_up(alloc, in_order(moved))?;
+    let gathered = split(alloc, totals)?;
+    Ok(gathered)
+}
+
 /// What came and what went in the phase of the lines: the instantiations that did not stand when it began and stand now, and those that
 /// stood and no longer do. It looks at each line and each entry once, and takes time for the entries at terminals alone: they are sorted.
 /// It takes no memory where there is none.
@@ -210,6 +237,22 @@ pub fn gather(alloc: Global, net: &Net, lines: &[Line]) -> Result<Gathered, OutO
     ensures { IfOk result (λ g. IsGathered net.now.nodes (total (map before (map seen lines.now))) (total (map now (map seen lines.now))) g.come.items g.gone.items) }
 {
     let moved = look_over_all(alloc, net, lines)?;
-    let totals = add_up(alloc, in_order(moved))?;
-    split(alloc, totals)
+    let gathered = tell(alloc, moved)?;
+    Ok(gathered)
+}
+
+/// The same, where it is known which lines have entries: it looks at these alone.
+pub fn gather_worked(
+    alloc: Global,
+    net: &Net,
+    lines: &[Line],
+    worked: &[usize],
+) -> Result<Gathered, OutOfMemory>
+    requires own { HaveOwnLines (map seen lines.now) }
+    requires worked { AreWorked lines.now worked.now }
+    ensures { IfOk result (λ g. IsGathered net.now.nodes (total (map before (map seen lines.now))) (total (map now (map seen lines.now))) g.come.items g.gone.items) }
+{
+    let moved = look_over_places(alloc, net, lines, worked)?;
+    let gathered = tell(alloc, moved)?;
+    Ok(gathered)
 }

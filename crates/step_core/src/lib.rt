@@ -12,5 +12,5 @@ mod tests;
 mod worked;
 pub mod world;
 
-pub use gathering::{Gathered, gather};
+pub use gathering::{Gathered, gather, gather_worked};
 pub use world::{Step, World};

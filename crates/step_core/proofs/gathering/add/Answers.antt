@@ -23,5 +23,5 @@ returns-then-ends_with c =
     let b : to_z w64 (of_z w64 c.change_of-change.result) ≡ c.change_of-change.result = search rules in
     let sum : to_z w64 (of_z w64 x.change) +ℤ to_z w64 (of_z w64 c.change_of-change.result) ≡ x.change +ℤ sign m.plus = ap₂ (λ p q. p +ℤ q) a (b ∙ c.change_of-change.ensures) in
     let z : to_z w64 (of_z w64 (to_z w64 (of_z w64 x.change) +ℤ to_z w64 (of_z w64 c.change_of-change.result))) ≡ x.change +ℤ sign m.plus =
-        ap (λ p. to_z w64 (of_z w64 p)) sum ∙ to_z-of_z w64 (x.change +ℤ sign m.plus) fits in
+    ap (λ p. to_z w64 (of_z w64 p)) sum ∙ to_z-of_z w64 (x.change +ℤ sign m.plus) fits in
     ap₂ (λ n (p : ℤ). slice_set ts n (record x { change = p })) k z ∙ counted_in_last ts m x ends at
