@@ -9,7 +9,7 @@ use Rattle.std.proofs.lemmas.Bool.{and_parts, leb-true, true≢false}
 use Rattle.std.proofs.lemmas.Slice.Eq.{bytes_eq-Decides}
 use Rattle.ops_jobs.specs.declared.jobs.TheConstants.{DEFAULT_WORKERS, DEFAULT_LINES, DEFAULT_LIMIT, GREATEST_WORKERS, GREATEST_LINES, GREATEST_LIMIT}
 use Rattle.ops_jobs.specs.declared.jobs.Engine.{Engine}
-use Rattle.ops_jobs.specs.declared.jobs.Engine.TheVariants.{Direct}
+use Rattle.ops_jobs.specs.declared.jobs.Engine.TheVariants.{Direct, Serial}
 use Rattle.ops_jobs.specs.declared.jobs.Options.{Options}
 use Rattle.ops_jobs.specs.declared.jobs.Job.{Job}
 use Rattle.ops_jobs.specs.declared.jobs.Job.TheVariants.{Net}
@@ -143,15 +143,20 @@ number_not_dashed : (usual greatest : ℕ) (word : Word) (n : ℕ) → number_fr
 number_not_dashed usual greatest word n e = digits_not_dashed word (number_parts greatest word (number_is greatest word n e).0).digits
 
 engine_not_dashed : (word : Word) (engine : Engine) → engine_from (Some word) ≡ Some engine → slice_index word 0 ≢ 45
-engine_not_dashed word engine e = go (bytes_eq word (codes "direct")) refl e
+engine_not_dashed word engine e = go (bytes_eq word (codes "direct")) (bytes_eq word (codes "serial")) refl refl e
   where
-    go : (t : Bool) → bytes_eq word (codes "direct") ≡ t → cond t (Some Direct) None ≡ Some engine → slice_index word 0 ≢ 45
-    go true is same begins =
-        let direct : word ≡ codes "direct" = (bytes_eq-Decides word (codes "direct")).0 is in
-        let first : slice_index word 0 ≡ 100 = ap (λ (w : Word). slice_index w 0) direct in
-        let bad : 100 ≡ 45 = sym first ∙ begins in
+    begins_with : (name : Word) (first : ℕ) → bytes_eq word name ≡ true → slice_index name 0 ≡ first → slice_index word 0 ≡ first
+    begins_with name first is begins = ap (λ (w : Word). slice_index w 0) ((bytes_eq-Decides word name).0 is) ∙ begins
+
+    go : (s t : Bool) → bytes_eq word (codes "direct") ≡ s → bytes_eq word (codes "serial") ≡ t
+        → cond s (Some Direct) (cond t (Some Serial) None) ≡ Some engine → slice_index word 0 ≢ 45
+    go true t is other same dashed =
+        let bad : 100 ≡ 45 = sym (begins_with (codes "direct") 100 is refl) ∙ dashed in
         omega (arith, bad)
-    go false is none begins = absurd (true≢false (sym (ap is_some none)))
+    go false true other is same dashed =
+        let bad : 115 ≡ 45 = sym (begins_with (codes "serial") 115 is refl) ∙ dashed in
+        omega (arith, bad)
+    go false false d s none dashed = absurd (true≢false (sym (ap is_some none)))
 
 value_not_dashed : (pieces : List Piece) (o : Options) → options_of pieces ≡ Some o → (option : Word) → is_option option ≡ true → (value : Word) → value_of option pieces ≡ Some value
     → slice_index value 0 ≢ 45

@@ -1,7 +1,7 @@
 -- Rows of words with what they ask for, which the definition computes.
 use Rattle.std.proofs.Common.{◌≡◌, [], ◌∷◌, Some, None, codes, refl}
 use Rattle.ops_jobs.specs.CommandLine.{Word, job_of, pieces_from}
-use Rattle.ops_jobs.specs.declared.jobs.Engine.TheVariants.{Direct}
+use Rattle.ops_jobs.specs.declared.jobs.Engine.TheVariants.{Direct, Serial}
 use Rattle.ops_jobs.specs.declared.jobs.Options.{Options}
 use Rattle.ops_jobs.specs.declared.jobs.Job.TheVariants.{Net, Run}
 
@@ -48,6 +48,14 @@ an_engine : job_of (codes "--match=direct" ∷ codes "f" ∷ []) ≡ Some (Run u
 unfolding pieces_from
 an_engine = refl
 
+serial_over_one_line : job_of (codes "--match" ∷ codes "serial" ∷ codes "f" ∷ codes "--lines=1" ∷ []) ≡ Some (Run (record usual { engine = Serial; lines = 1 }) (codes "f" ∷ []))
+unfolding pieces_from
+serial_over_one_line = refl
+
+serial_over_the_most_lines : job_of (codes "--match=serial" ∷ codes "--workers=2" ∷ codes "--lines=65536" ∷ codes "f" ∷ []) ≡ Some (Run (record usual { engine = Serial; workers = 2; lines = 65536 }) (codes "f" ∷ []))
+unfolding pieces_from
+serial_over_the_most_lines = refl
+
 zeros_before_a_number : job_of (codes "--limit" ∷ codes "0000000001" ∷ codes "f" ∷ []) ≡ Some (Run (record usual { limit = 1 }) (codes "f" ∷ []))
 unfolding pieces_from
 zeros_before_a_number = refl
@@ -68,6 +76,18 @@ another_engine : job_of (codes "--match=free" ∷ codes "f" ∷ []) ≡ None
 unfolding pieces_from
 another_engine = refl
 
+rounds : job_of (codes "--match=rounds" ∷ codes "f" ∷ []) ≡ None
+unfolding pieces_from
+rounds = refl
+
+an_engine_in_capitals : job_of (codes "--match=Serial" ∷ codes "f" ∷ []) ≡ None
+unfolding pieces_from
+an_engine_in_capitals = refl
+
+an_engine_and_more : job_of (codes "--match=serially" ∷ codes "f" ∷ []) ≡ None
+unfolding pieces_from
+an_engine_and_more = refl
+
 an_engine_in_part : job_of (codes "--match=dir" ∷ codes "f" ∷ []) ≡ None
 unfolding pieces_from
 an_engine_in_part = refl
@@ -87,6 +107,10 @@ a_limit_past_the_greatest = refl
 workers_past_the_most : job_of (codes "--workers=65" ∷ codes "f" ∷ []) ≡ None
 unfolding pieces_from
 workers_past_the_most = refl
+
+no_lines : job_of (codes "--match=serial" ∷ codes "--lines" ∷ codes "0" ∷ codes "f" ∷ []) ≡ None
+unfolding pieces_from
+no_lines = refl
 
 lines_past_the_most : job_of (codes "--lines=65537" ∷ codes "f" ∷ []) ≡ None
 unfolding pieces_from

@@ -6,7 +6,7 @@ use Rattle.std.specs.Char.{is_ascii_digit}
 use Rattle.std.specs.Str.Parse.{digits_value}
 use Rattle.ops_jobs.specs.declared.jobs.TheConstants.{DEFAULT_WORKERS, DEFAULT_LINES, DEFAULT_LIMIT, GREATEST_WORKERS, GREATEST_LINES, GREATEST_LIMIT}
 use Rattle.ops_jobs.specs.declared.jobs.Engine.{Engine}
-use Rattle.ops_jobs.specs.declared.jobs.Engine.TheVariants.{Direct}
+use Rattle.ops_jobs.specs.declared.jobs.Engine.TheVariants.{Direct, Serial}
 use Rattle.ops_jobs.specs.declared.jobs.Options.{Options}
 use Rattle.ops_jobs.specs.declared.jobs.Job.{Job}
 use Rattle.ops_jobs.specs.declared.jobs.Job.TheVariants.{Run, Net}
@@ -140,10 +140,14 @@ abbrev pub number_from : ℕ → ℕ → Option Word → Option ℕ
 number_from usual greatest None = Some usual
 number_from usual greatest (Some word) = if is_number greatest word then Some (digits_value 10 word) else None
 
+-- the engine of this name
+abbrev pub engine_named : Word → Option Engine
+engine_named word = if bytes_eq word (codes "direct") then Some Direct else if bytes_eq word (codes "serial") then Some Serial else None
+
 -- the engine that `--match` was given, or the usual one
 abbrev pub engine_from : Option Word → Option Engine
 engine_from None = Some Direct
-engine_from (Some word) = if bytes_eq word (codes "direct") then Some Direct else None
+engine_from (Some word) = engine_named word
 
 -- the options, by the values that they were given
 abbrev pub options_from : Option Word → Option Word → Option Word → Option Word → Option Options

@@ -25,6 +25,8 @@ pub const GREATEST_LIMIT: u64 = 1_000_000_000;
 pub enum Engine {
     /// Each production is matched directly against all of working memory.
     Direct,
+    /// A network that the productions share takes the changes, one task after another.
+    Serial,
 }
 
 /// What the options of the command line say.

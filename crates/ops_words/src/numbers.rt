@@ -4,7 +4,7 @@ ghost use Rattle.std.specs.List.{list_all};
 ghost use Rattle.std.specs.Char.{is_ascii_digit};
 ghost use Rattle.std.specs.Str.Parse.{digits_value};
 ghost use Rattle.clap.specs.Words.{first_value, found_of};
-ghost use Rattle.ops_jobs.specs.CommandLine.{engine_from, is_number, number_from, options_from};
+ghost use Rattle.ops_jobs.specs.CommandLine.{engine_from, engine_named, is_number, number_from, options_from};
 
 use clap::ArgMatches;
 use ops_jobs::{
@@ -45,16 +45,22 @@ fn number_from(word: Option<&str>, usual: u64, greatest: u64) -> Option<u64>
     }
 }
 
+fn engine_named(word: &str) -> Option<Engine>
+    ensures { result ≡ engine_named word.now }
+{
+    match word {
+        "direct" => Some(Engine::Direct),
+        "serial" => Some(Engine::Serial),
+        _ => None,
+    }
+}
+
 fn engine_from(word: Option<&str>) -> Option<Engine>
     ensures { result ≡ engine_from (option_map (λ w. w.now) word.entry) }
 {
     match word {
         None => Some(Engine::Direct),
-        Some(word) => if word == "direct" {
-            Some(Engine::Direct)
-        } else {
-            None
-        },
+        Some(word) => engine_named(word),
     }
 }
 

@@ -24,41 +24,64 @@ const USUAL: Options = Options {
     limit: 1_000_000,
 };
 
-/// Words that fit, with the workers, the lines and the limit that they set, and with their files.
-const FIT: [(&[&str], usize, usize, u64, &[&str]); 9] = [
-    (&["f"], 4, 1_024, 1_000_000, &["f"]),
-    (&["--limit=3", "a", "b"], 4, 1_024, 3, &["a", "b"]),
-    (&["a", "--workers", "7"], 7, 1_024, 1_000_000, &["a"]),
-    (&["--", "--limit"], 4, 1_024, 1_000_000, &["--limit"]),
+const SERIAL: Options = Options {
+    engine: Engine::Serial,
+    ..USUAL
+};
+
+/// Words that fit, with the options that they set, and with their files.
+const FIT: [(&[&str], Options, &[&str]); 12] = [
+    (&["f"], USUAL, &["f"]),
     (
-        &["a", "--", "-b", "--"],
-        4,
-        1_024,
-        1_000_000,
-        &["a", "-b", "--"],
+        &["--limit=3", "a", "b"],
+        Options { limit: 3, ..USUAL },
+        &["a", "b"],
     ),
     (
-        &["-", "--match=direct", ""],
-        4,
-        1_024,
-        1_000_000,
-        &["-", ""],
+        &["a", "--workers", "7"],
+        Options {
+            workers: 7,
+            ..USUAL
+        },
+        &["a"],
     ),
+    (&["--", "--limit"], USUAL, &["--limit"]),
+    (&["a", "--", "-b", "--"], USUAL, &["a", "-b", "--"]),
+    (&["-", "--match=direct", ""], USUAL, &["-", ""]),
     (
         &["--lines", "1", "a", "--limit=1000000000"],
-        4,
-        1,
-        1_000_000_000,
+        Options {
+            lines: 1,
+            limit: 1_000_000_000,
+            ..USUAL
+        },
         &["a"],
     ),
     (
         &["a", "--workers=64", "b", "--lines=65536", "c"],
-        64,
-        65_536,
-        1_000_000,
+        Options {
+            workers: 64,
+            lines: 65_536,
+            ..USUAL
+        },
         &["a", "b", "c"],
     ),
-    (&["--limit", "0000000009", "é"], 4, 1_024, 9, &["é"]),
+    (
+        &["--limit", "0000000009", "é"],
+        Options { limit: 9, ..USUAL },
+        &["é"],
+    ),
+    (&["--match", "serial", "f"], SERIAL, &["f"]),
+    (
+        &["f", "--lines=2", "--match=serial", "--workers=3"],
+        Options {
+            workers: 3,
+            lines: 2,
+            ..SERIAL
+        },
+        &["f"],
+    ),
+    (&["--match=serial", "--", "serial"], SERIAL, &["serial"]),
 ];
 
 /// Words that ask for the network, with their files.
@@ -69,16 +92,20 @@ const NETWORKS: [(&[&str], &[&str]); 3] = [
 ];
 
 /// Words that do not fit.
-const UNFIT: [&[&str]; 27] = [
+const UNFIT: [&[&str]; 31] = [
     &[],
     &["--"],
     &["--limit=3"],
     &["--match=free", "f"],
+    &["--match=rounds", "f"],
+    &["--match", "Serial", "f"],
+    &["--match=", "f"],
     &["--match", "--workers", "7", "f"],
     &["--limit", "0", "f"],
     &["--limit=1000000001", "f"],
     &["--workers=65", "f"],
     &["--lines=65537", "f"],
+    &["--match=serial", "--lines=0", "f"],
     &["--limit", "00000000001", "f"],
     &["--limit=+3", "f"],
     &["--limit=-3", "f"],
@@ -101,15 +128,9 @@ const UNFIT: [&[&str]; 27] = [
 
 #[test]
 fn words_that_fit(rt: HostRuntime) -> Result<(), Fail> {
-    for (words, workers, lines, limit, names) in FIT {
+    for (words, wanted, names) in FIT {
         let Job::Run { options, files } = read(rt.alloc(), words)? else {
             panic!(rt; "a network");
-        };
-        let wanted = Options {
-            workers,
-            lines,
-            limit,
-            ..USUAL
         };
         assert_eq!(rt; options, wanted);
         assert_eq!(rt; files.len(), names.len());
