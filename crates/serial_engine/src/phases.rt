@@ -18,7 +18,7 @@ use ops_base::elements::Change;
 use ops_base::memory::OutOfMemory;
 use std::alloc::Global;
 use step_core::laws::{match_laws, settle_laws};
-use step_core::{Gathered, World, gather};
+use step_core::{Gathered, World, gather_worked};
 use work_store::Store;
 
 /// Does the last task in flight, and then all that comes of it, down to the terminals. `enter` gets the line of each task just before.
@@ -271,6 +271,6 @@ pub(crate) fn settle<F: Fn(usize)>(
     settle_laws();
     do_changes(alloc, store, changes)?;
     run_phase(alloc, net, store, enter, world, changes, picks)?;
-    let gathered = gather(alloc, net, world.lines())?;
+    let gathered = gather_worked(alloc, net, world.lines(), world.worked())?;
     Ok(gathered)
 }

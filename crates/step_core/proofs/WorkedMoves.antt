@@ -1,5 +1,5 @@
 -- What the lines that have entries moved is all that moved.
-use Rattle.std.proofs.Common.{◌≡◌, ◌≢◌, ℕ, zero, suc, ◌+◌, ◌<◌, ◌≤◌, ◌==◌, Bool, true, false, cond, List, [], ◌∷◌, ◌++◌, ℤ, pos, ◌+ℤ◌, refl, sym, ap, ap₂, subst, ◌∙◌, arith, inl, inr, ◌⊎◌, length, map, take, get_or, slice_get, Option, Some, None}
+use Rattle.std.proofs.Common.{◌≡◌, ◌≢◌, ℕ, zero, suc, ◌+◌, ◌<◌, ◌≤◌, ◌==◌, Bool, true, false, cond, List, [], ◌∷◌, ◌++◌, ℤ, pos, ◌+ℤ◌, refl, sym, ap, ap₂, subst, ◌∙◌, arith, inl, inr, ◌⊎◌, length, map, take, get_or, slice_get, Option, Some, None, append-nil}
 use Rattle.std.specs.Prelude.{flat_map, option_map}
 use Rattle.std.specs.List.{All}
 use Rattle.std.proofs.Math.Seq.{take-suc}
@@ -58,11 +58,11 @@ is_in j (p ∷ ps) = cond (j == p) true (is_in j ps)
 
 in_member : (j : ℕ) (ps : List ℕ) → is_in j ps ≡ true → IsMember j ps
 in_member j [] e = absurd (cc)
-in_member j (p ∷ ps) e = by (j == p) refl e
+in_member j (p ∷ ps) e = by (λ f. in_member j ps f) (j == p) refl e
   where
-    by : (v : Bool) → (j == p) ≡ v → cond v true (is_in j ps) ≡ true → IsMember j (p ∷ ps)
-    by true q f = inl ((Decides-eqb j p).0 q)
-    by false q f = inr (in_member j ps f)
+    by : (is_in j ps ≡ true → IsMember j ps) → (v : Bool) → (j == p) ≡ v → cond v true (is_in j ps) ≡ true → IsMember j (p ∷ ps)
+    by ih true q f = inl ((Decides-eqb j p).0 q)
+    by ih false q f = inr (ih f)
 
 not_in : (j : ℕ) (ps : List ℕ) → (IsMember j ps → ⊥) → is_in j ps ≡ false
 not_in j ps off = by (is_in j ps) refl
@@ -188,3 +188,15 @@ module _ (nodes : List Node) (ls : List Line) (worked : List ℕ) (are : AreWork
 
 pub all_within : (ls : List Line) (worked : List ℕ) → AreWorked ls worked → All (λ i. i < length ls) worked
 all_within ls worked are = λ k d low. are.within k (get_or worked k d) (slice_get-get_or worked k d low)
+
+-- one place more
+pub moved_more : (nodes : List Node) (ls : List Line) (places : List ℕ) (k : ℕ) (l : Line) → k < length places → get_or places k 0 < length ls → l ≡ get_or ls (get_or places k 0) l
+    → (ms : List Moved) → ms ≡ moved_at nodes (map seen ls) (take k places) → ms ++ moved_on nodes (seen l) ≡ moved_at nodes (map seen ls) (take (k + 1) places)
+moved_more nodes ls places k l low within is ms so_far =
+    let p : ℕ = get_or places k 0 in
+    let more : suc k ≡ k + 1 = omega arith in
+    let at : slice_get (map seen ls) p ≡ Some (seen l) = slice_get-map seen ls p ∙ ap (option_map seen) (slice_get-get_or ls p l within ∙ ap Some (sym is)) in
+    let one : moved_at nodes (map seen ls) (p ∷ []) ≡ moved_on nodes (seen l) = append-nil (moved_in nodes (slice_get (map seen ls) p)) ∙ ap (moved_in nodes) at in
+    ap₂ (λ xs ys. xs ++ ys) so_far (sym one)
+    ∙ (sym (flat_map-append (λ i. moved_in nodes (slice_get (map seen ls) i)) (take k places) (p ∷ []))
+    ∙ ap (moved_at nodes (map seen ls)) (sym (take-suc places k 0 low) ∙ ap (λ n. take n places) more))

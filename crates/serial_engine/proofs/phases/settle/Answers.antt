@@ -3,6 +3,7 @@ use Rattle.std.proofs.Common.{List, map, sym, subst}
 use Rattle.token_line.specs.declared.line.Line.{Line}
 use Rattle.step_core.specs.Phases.{before, now, total}
 use Rattle.step_core.specs.Settling.{HaveOwnLines, IsGathered}
+use Rattle.step_core.specs.Worked.{AreWorked}
 use Rattle.step_core.specs.Worlds.{seen}
 use Rattle.serial_engine.proofs.SettleLemmas.{bundle, has_settled, rests}
 use Rattle.serial_engine.proofs.phases.settle.Goals as goal
@@ -14,8 +15,11 @@ run_phase-requires-clause-counted g c =
 pub run_phase-requires-clause-known : goal.run_phase-requires-clause-known
 run_phase-requires-clause-known g c = c.in_ok-do_changes.ensures.phase.known
 
-pub gather-requires : goal.gather-requires
-gather-requires g c =
+pub gather_worked-requires-clause-worked : goal.gather_worked-requires-clause-worked
+gather_worked-requires-clause-worked g c = subst (λ (ls : List Line). AreWorked ls c.worked.result.now) (sym c.lines.ensures.lines) c.worked.ensures
+
+pub gather_worked-requires-clause-own : goal.gather_worked-requires-clause-own
+gather_worked-requires-clause-own g c =
     subst (λ (ls : List Line). HaveOwnLines (map seen ls)) (sym c.lines.ensures.lines)
     (has_settled c.args.net.now c.args.store.now c.do_changes.new.store c.args.world.now c.args.changes.now c.in_ok-do_changes.ensures.phase c.requires.counted c.requires.holds
     c.settle_laws.ensures.rest c.run_phase.new.world c.run_phase.ensures.lines c.in_ok-run_phase.ensures.bundle
