@@ -1,6 +1,7 @@
 -- What a task does at a join and at a negated node is its effect there.
 use Rattle.std.proofs.Common.{◌≡◌, ◌≢◌, ℕ, ◌-◌, ◌^◌, ◌<◌, ◌&&◌, Bool, true, false, not, List, [], pos, refl, sym, ap, ap₂, subst, ◌∙◌, slice_get, bytes_eq, Option, Some, None, IfSome, true≢false}
 use Rattle.std.specs.Map.{lookup}
+use Rattle.std.specs.Option.{option_map_or}
 use Rattle.std.proofs.lemmas.Bool.Decides.{Decides-ltb}
 use Rattle.std.proofs.lemmas.List.Elements.{All-nil}
 use Rattle.std.proofs.lemmas.List.Sums.{AllPass-from_list_all}
@@ -18,7 +19,8 @@ use Rattle.token_line.specs.declared.line.Line.{Line}
 use Rattle.token_line.specs.declared.tokens.Cell.{Cell}
 use Rattle.token_line.specs.Bags.{are_same_sides}
 use Rattle.token_line.specs.Held.{TaskFits}
-use Rattle.token_line.specs.Lines.{blockers_in, memory_at, sum_in}
+use Rattle.token_line.specs.declared.memory.Memory.{Memory}
+use Rattle.token_line.specs.Lines.{blockers_in, cell_among, memory_at, sum_in}
 use Rattle.activation.specs.Acting.{IsCounted, IsEffect, IsOutOf, matching}
 use Rattle.activation.specs.Effects.{effect_at, join_effect, left_effect, negated_effect, no_effect, right_effect}
 use Rattle.activation.specs.Negating.{all_have_room, has_room}
@@ -160,3 +162,12 @@ module _ (alphas : List Alpha) (nodes : List Node) (sound : IsSound alphas nodes
       by Join q = join_is (ap is_join q) moves had
       by Negated q = by_side q x.side refl
       by (Terminal rule) q = terminal_is (ap is_terminal q)
+
+  -- the same, of what was found on the line
+  pub done_effect : ((tag : ℕ) → IsHeld s tag → tag < 2 ^ 64) → (m : Option Memory) → m ≡ memory_at line x.node → (o : Option Cell) → o ≡ cell_among line.memories x.node x.side x.token
+      → (node.kind ≡ Negated → x.side ≡ Right → changes (option_map_or (λ (c : Cell). c.sum) o (pos 0)) x.plus ≡ true → all_have_room x.plus (left_entries m) ≡ true)
+      → IsEffect nodes s line x (effect_at node.kind node.joins (held_of s) m x (changes (option_map_or (λ (c : Cell). c.sum) o (pos 0)) x.plus))
+  done_effect small m is o kept_is room =
+      subst (λ k. IsEffect nodes s line x (effect_at node.kind node.joins (held_of s) k x (changes (option_map_or (λ (c : Cell). c.sum) o (pos 0)) x.plus))) (sym is)
+      (effect_is small (changes (option_map_or (λ (c : Cell). c.sum) o (pos 0)) x.plus) (ap (λ z. changes (option_map_or (λ (c : Cell). c.sum) z (pos 0)) x.plus) kept_is)
+      (λ q e moved. ap (λ k. all_have_room x.plus (left_entries k)) (sym is) ∙ room q e moved))

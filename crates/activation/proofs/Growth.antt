@@ -34,6 +34,14 @@ grows_more (x ∷ a) (y ∷ b) (z ∷ c) first next =
     let after : take (length b) c ≡ b = cc in
     ap₂ (λ w ws. w ∷ ws) same (grows_more a b c before after)
 
+-- what came after those that were there
+pub drop_grown : (a c b : List Task) (n : ℕ) → n ≡ length a → c ≡ a ++ b → drop n c ≡ b
+drop_grown a c b n len is = ap₂ (λ k ts. drop k ts) len is ∙ by a
+  where
+    by : (xs : List Task) → drop (length xs) (xs ++ b) ≡ b
+    by [] = refl
+    by (x ∷ xs) = by xs
+
 -- ---- tokens, one after the other
 
 abbrev pub Pair : Type 0

@@ -8,6 +8,7 @@ use net_base::tags::Tags;
 use net_base::tasks::{Side, Task};
 use ops_base::memory::OutOfMemory;
 use std::alloc::Global;
+use token_line::Cell;
 
 /// The nodes to which a node gives, and whether what it puts out arrives there (`plus`) or leaves.
 #[derive(Clone, Copy)]
@@ -61,7 +62,7 @@ pub(crate) fn push_to_each(
     times: u64,
     out: &mut Vec<Task>,
 ) -> Result<(), OutOfMemory>
-    ensures ok { OnOk result (out.new.items ≡ out.old.items ++ to_each below.nodes.now below.plus (record { token = tagged token.now tag; times = times })) }
+    ensures ok { OnOk result (out.new.items ≡ out.old.items ++ to_each below.entry.nodes.now below.entry.plus (record { token = tagged token.now tag; times = times })) }
     ensures grown { Grows out.old.items out.new.items }
 {
     let nodes = below.nodes;
@@ -78,7 +79,7 @@ pub(crate) fn standing(sum: i64) -> u64
     if sum > 0 { sum as u64 } else { 0 }
 }
 
-/// Adds the tasks for each node below, of a token that is put out as often as one of this sum stands, if that is so. Where memory runs
+/// Adds the tasks for each node below, of a token that is put out as often as one stands of which this is kept, if `holds` says so. Where memory runs
 /// out, some may have been added.
 pub(crate) fn push_if(
     alloc: Global,
@@ -86,14 +87,14 @@ pub(crate) fn push_if(
     below: Below,
     token: &Tags,
     tag: Option<u64>,
-    sum: i64,
+    cell: Cell,
     out: &mut Vec<Task>,
 ) -> Result<(), OutOfMemory>
-    ensures ok { OnOk result (out.new.items ≡ out.old.items ++ children_of below.nodes.now below.plus (put_if holds (tagged token.now tag) sum)) }
+    ensures ok { OnOk result (out.new.items ≡ out.old.items ++ children_of below.entry.nodes.now below.entry.plus (put_if holds (tagged token.now tag) cell.sum)) }
     ensures grown { Grows out.old.items out.new.items }
 {
     if !holds {
         return Ok(());
     }
-    push_to_each(alloc, below, token, tag, standing(sum), out)
+    push_to_each(alloc, below, token, tag, standing(cell.sum), out)
 }

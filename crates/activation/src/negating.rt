@@ -105,7 +105,7 @@ fn give_flipped(
     below: Below,
     out: &mut Vec<Task>,
 ) -> Result<(), OutOfMemory>
-    ensures ok { OnOk result (out.new.items ≡ out.old.items ++ children_of below.nodes.now below.plus (put_flipped tests.now (held_of store.now) (slice_index task.now.token 0) task.now.plus left.now)) }
+    ensures ok { OnOk result (out.new.items ≡ out.old.items ++ children_of below.entry.nodes.now below.entry.plus (put_flipped tests.now (held_of store.now) (slice_index task.now.token 0) task.now.plus left.now)) }
     ensures room { OnOk result (all_have_room task.now.plus left.now ≡ true) }
     ensures grown { Grows out.old.items out.new.items }
 {
@@ -117,7 +117,7 @@ fn give_flipped(
             return Err(OutOfMemory);
         }
         let holds = flips(store, tests, token, cell, tag, plus);
-        push_if(alloc, holds, below, token, None, cell.sum, out)?;
+        push_if(alloc, holds, below, token, None, cell, out)?;
     }
     Ok(())
 }
@@ -132,7 +132,7 @@ pub(crate) fn give_by_flip(
     below: Below,
     out: &mut Vec<Task>,
 ) -> Result<(), OutOfMemory>
-    ensures ok { OnOk result (out.new.items ≡ out.old.items ++ children_of below.nodes.now below.plus (put_flipped tests.now (held_of store.now) (slice_index task.now.token 0) task.now.plus (left_entries (option_copied memory.entry)))) }
+    ensures ok { OnOk result (out.new.items ≡ out.old.items ++ children_of below.entry.nodes.now below.entry.plus (put_flipped tests.now (held_of store.now) (slice_index task.now.token 0) task.now.plus (left_entries (option_copied memory.entry)))) }
     ensures room { OnOk result (all_have_room task.now.plus (left_entries (option_copied memory.entry)) ≡ true) }
     ensures grown { Grows out.old.items out.new.items }
 {

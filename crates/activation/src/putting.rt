@@ -32,14 +32,14 @@ fn give_for_left(
     below: Below,
     out: &mut Vec<Task>,
 ) -> Result<(), OutOfMemory>
-    ensures ok { OnOk result (out.new.items ≡ out.old.items ++ children_of below.nodes.now below.plus (put_for_left tests.now (held_of store.now) token.now right.now)) }
+    ensures ok { OnOk result (out.new.items ≡ out.old.items ++ children_of below.entry.nodes.now below.entry.plus (put_for_left tests.now (held_of store.now) token.now right.now)) }
     ensures grown { Grows out.old.items out.new.items }
 {
     for place in 0..right.len() {
         let (other, cell) = right.pair(place);
         let tag = tag_at(other.as_slice(), 0);
         let holds = joins(store, tests, token.as_slice(), tag);
-        push_if(alloc, holds, below, token, Some(tag), cell.sum, out)?;
+        push_if(alloc, holds, below, token, Some(tag), cell, out)?;
     }
     Ok(())
 }
@@ -54,13 +54,13 @@ fn give_for_right(
     below: Below,
     out: &mut Vec<Task>,
 ) -> Result<(), OutOfMemory>
-    ensures ok { OnOk result (out.new.items ≡ out.old.items ++ children_of below.nodes.now below.plus (put_for_right tests.now (held_of store.now) tag left.now)) }
+    ensures ok { OnOk result (out.new.items ≡ out.old.items ++ children_of below.entry.nodes.now below.entry.plus (put_for_right tests.now (held_of store.now) tag left.now)) }
     ensures grown { Grows out.old.items out.new.items }
 {
     for place in 0..left.len() {
         let (token, cell) = left.pair(place);
         let holds = joins(store, tests, token.as_slice(), tag);
-        push_if(alloc, holds, below, token, Some(tag), cell.sum, out)?;
+        push_if(alloc, holds, below, token, Some(tag), cell, out)?;
     }
     Ok(())
 }
@@ -75,7 +75,7 @@ pub(crate) fn give_by_join(
     below: Below,
     out: &mut Vec<Task>,
 ) -> Result<(), OutOfMemory>
-    ensures ok { OnOk result (out.new.items ≡ out.old.items ++ children_of below.nodes.now below.plus (put_for tests.now (held_of store.now) (option_copied memory.entry) task.now.side task.now.token)) }
+    ensures ok { OnOk result (out.new.items ≡ out.old.items ++ children_of below.entry.nodes.now below.entry.plus (put_for tests.now (held_of store.now) (option_copied memory.entry) task.now.side task.now.token)) }
     ensures grown { Grows out.old.items out.new.items }
 {
     let Some(memory) = memory else {
