@@ -1,5 +1,5 @@
 -- Lists of tasks that grow, and what is given of the tokens of one side, one after the other.
-use Rattle.std.proofs.Common.{◌≡◌, ℕ, zero, suc, ◌+◌, ◌≤◌, Bool, true, false, List, [], ◌∷◌, ◌++◌, append_assoc, add-one, length, drop, take, slice_get, Some, refl, sym, ap, ap₂, ◌∙◌, arith}
+use Rattle.std.proofs.Common.{◌≡◌, ℕ, zero, suc, ◌+◌, ◌≤◌, Bool, List, [], ◌∷◌, ◌++◌, append_assoc, add-one, length, drop, take, slice_get, Some, refl, sym, ap, ap₂, ◌∙◌, arith}
 use Rattle.std.specs.List.{flat_map}
 use Rattle.net_base.specs.declared.tasks.Task.{Task}
 use Rattle.token_line.specs.declared.tokens.Cell.{Cell}

@@ -1,7 +1,7 @@
 -- What is kept of tokens once one of them is written, added or taken out.
 use Rattle.std.proofs.Common.{◌≡◌, ◌≢◌, ℕ, zero, suc, ◌+◌, ◌<◌, Bool, true, false, cond, not, ◌||◌, nat_lt, List, [], ◌∷◌, ◌++◌, map, length, slice_get, slice_index_or, slice_set, take, Option, Some, None, IfSome, is_some, Result, Ok, Err, OnOk, OnErr, pos, refl, sym, ap, ap₂, subst, ◌∙◌, arith, bytes_eq, position, true≢false}
-use Rattle.std.specs.List.{All, AllByRecursion, IsDistinct, list_any, prefix_len, swap_remove}
-use Rattle.std.specs.Map.{keys_of, lookup}
+use Rattle.std.specs.List.{AllByRecursion, IsDistinct, list_any, prefix_len, swap_remove}
+use Rattle.std.specs.Map.{keys_of}
 use Rattle.std.specs.Option.{ForSome}
 use Rattle.std.proofs.lemmas.Cmp.{nat_list_eq_equiv}
 use Rattle.std.proofs.lemmas.List.Quantifiers.{position-Some}

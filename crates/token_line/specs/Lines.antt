@@ -1,5 +1,5 @@
 -- What a line holds: a sum for each node, side and token, and a number for each node and left token.
-use Rattle.std.specs.Prelude.{◌≡◌, ℕ, ℤ, List, [], nat_eq, position, Option, Some, None}
+use Rattle.std.specs.Prelude.{◌≡◌, ℕ, List, [], nat_eq, position, Option, Some, None}
 use Rattle.std.specs.Map.{keys_of}
 use Rattle.indexmap.specs.IndexMap.{IndexMap, get}
 use Rattle.net_base.specs.declared.tasks.Side.{Side}

@@ -1,5 +1,5 @@
 -- Tokens with what is kept of each, as a list.
-use Rattle.std.specs.Prelude.{◌≢◌, ℕ, ℤ, List, Option, pos, bytes_eq, position}
+use Rattle.std.specs.Prelude.{◌≢◌, ℕ, List, Option, pos, bytes_eq, position}
 use Rattle.std.specs.List.{IsDistinct}
 use Rattle.std.specs.Map.{keys_of, lookup}
 use Rattle.std.specs.Option.{ForSome}

@@ -1,5 +1,5 @@
 -- What came after the tasks that were there is what the entry has; and the line counts what blocks its left tokens.
-use Rattle.std.proofs.Common.{◌≡◌, ◌≢◌, ℕ, ◌++◌, ◌&&◌, List, pos, cond, drop, length, sym, ap, ap₂, subst, ◌∙◌, arith, slice_get}
+use Rattle.std.proofs.Common.{◌≡◌, ◌≢◌, ℕ, ◌++◌, ◌&&◌, List, pos, cond, length, sym, ap, ap₂, subst, ◌∙◌, arith, slice_get}
 use Rattle.std.specs.Option.{option_copied, option_map_or}
 use Rattle.work_store.specs.Stored.{held_of}
 use Rattle.net_base.specs.declared.tasks.Side.TheVariants.{Left}

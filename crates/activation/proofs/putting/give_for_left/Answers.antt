@@ -1,5 +1,5 @@
 -- The right token at the place gives what it gives, and the tasks grow.
-use Rattle.std.proofs.Common.{◌≡◌, ◌∙◌, ◌++◌, ◌∷◌, [], ap, ap₂, slice_index}
+use Rattle.std.proofs.Common.{◌∙◌, ◌++◌, ◌∷◌, [], ap, ap₂, slice_index}
 use Rattle.work_store.specs.Stored.{held_of}
 use Rattle.net_base.specs.Tokens.{joins_hold}
 use Rattle.activation.specs.Children.{children_of}

@@ -1,5 +1,5 @@
 -- The token at the index is not in the map yet, so it goes last.
-use Rattle.std.proofs.Common.{◌≡◌, ◌<◌, ◌∙◌, add-one, ap, ap₂, arith, bytes_eq, length, sym, take}
+use Rattle.std.proofs.Common.{◌<◌, ◌∙◌, add-one, ap, ap₂, arith, bytes_eq, length, sym, take}
 use Rattle.indexmap.specs.IndexMap.{insert_entry}
 use Rattle.token_line.proofs.PairLemmas.{next_pair}
 use Rattle.token_line.proofs.tokens.as_map.Goals as goal

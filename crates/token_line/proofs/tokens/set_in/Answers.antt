@@ -1,5 +1,4 @@
 -- The pair at the place keeps its token.
-use Rattle.std.proofs.Common.{◌∙◌, ap}
 use Rattle.token_line.proofs.PairLemmas.{set_pair}
 use Rattle.token_line.proofs.tokens.set_in.Goals as goal
 

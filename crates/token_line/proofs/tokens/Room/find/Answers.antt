@@ -1,5 +1,5 @@
 -- A place among the tokens is one among the pairs.
-use Rattle.std.proofs.Common.{List, ℕ, ap, bytes_eq, position, sym, ◌∙◌}
+use Rattle.std.proofs.Common.{ap, bytes_eq, position, sym, ◌∙◌}
 use Rattle.token_line.specs.Pairs.{place_of}
 use Rattle.token_line.specs.Rooms.{pairs_in}
 use Rattle.token_line.proofs.PairLemmas.{Pair, position-map}

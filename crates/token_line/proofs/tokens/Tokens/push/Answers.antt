@@ -1,5 +1,5 @@
 -- A new token joins those that were there, or nothing has changed.
-use Rattle.std.proofs.Common.{◌≡◌, ◌∙◌, None, ap₂, subst, sym}
+use Rattle.std.proofs.Common.{◌∙◌, ap₂, subst, sym}
 use Rattle.token_line.specs.Pairs.{ArePairs, cell_of}
 use Rattle.token_line.specs.Rooms.{pairs_in}
 use Rattle.token_line.proofs.PairLemmas.{pushed_or_not}
