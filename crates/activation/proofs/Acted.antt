@@ -1,5 +1,5 @@
 -- A task that became an entry, with the tasks for the children of its node, acts.
-use Rattle.std.proofs.Common.{◌≡◌, ℕ, false, List, [], ◌∷◌, ◌++◌, pos, ◌+ℤ◌, refl, sym, ap, ap₂, subst, ◌∙◌, arith, length, slice_get}
+use Rattle.std.proofs.Common.{◌≡◌, ℕ, false, List, [], ◌∷◌, ◌++◌, pos, ◌+ℤ◌, refl, sym, ap, ap₂, subst, ◌∙◌, arith, length, slice_get, Some}
 use Rattle.std.specs.List.{All}
 use Rattle.std.proofs.lemmas.List.Elements.{All-from_recursion, recursion_from_All}
 use Rattle.work_store.specs.Stored.{Stored}
@@ -18,6 +18,7 @@ use Rattle.token_line.specs.Bags.{after, signs}
 use Rattle.token_line.specs.Held.{Agrees, TaskFits}
 use Rattle.token_line.specs.Lawful.{IsChildOf, IsLawful, giver_of, out_at}
 use Rattle.token_line.specs.Lines.{sum_in}
+use Rattle.token_line.proofs.Fitting.{fits_at, left_is_wide, node_of}
 use Rattle.activation.specs.declared.effects.Effect.{Effect}
 use Rattle.activation.specs.declared.putting.Put.{Put}
 use Rattle.activation.specs.Children.{child, children_at, children_of}
@@ -30,8 +31,11 @@ no_items [] e = refl
 no_items (x ∷ xs) e = absurd (omega arith)
 
 module _ (alphas : List Alpha) (nodes : List Node) (sound : IsSound alphas nodes) (s : Stored) (x : Task) (fits : TaskFits nodes s x) (e : Effect) where
-  made_are : children_at (slice_get nodes x.node) e.plus e.puts ≡ children_of fits.node.children e.plus e.puts
-  made_are = ap (λ o. children_at o e.plus e.puts) fits.at
+  its_node : (node : Node) × (slice_get nodes x.node ≡ Some node)
+  its_node = node_of nodes s x.node x.side x.token fits
+
+  made_are : children_at (slice_get nodes x.node) e.plus e.puts ≡ children_of its_node.0.children e.plus e.puts
+  made_are = ap (λ o. children_at o e.plus e.puts) its_node.1
 
   -- ---- what holds of each child
 
@@ -39,17 +43,12 @@ module _ (alphas : List Alpha) (nodes : List Node) (sound : IsSound alphas nodes
       → All (λ p. IsOutOf nodes s x.node p.token) e.puts → All P (children_at (slice_get nodes x.node) e.plus e.puts)
   each_child P each fit =
       subst (All P) (sym made_are)
-      (All-from_recursion P (children_of fits.node.children e.plus e.puts)
-      (all_children P (λ c. IsChild nodes x.node c Left) (λ p. IsOutOf nodes s x.node p.token) e.plus each fits.node.children e.puts
-      (are_children nodes sound.children x.node fits.node fits.at) (recursion_from_All (λ p. IsOutOf nodes s x.node p.token) e.puts fit)))
+      (All-from_recursion P (children_of its_node.0.children e.plus e.puts)
+      (all_children P (λ c. IsChild nodes x.node c Left) (λ p. IsOutOf nodes s x.node p.token) e.plus each its_node.0.children e.puts
+      (are_children nodes sound.children x.node its_node.0 its_node.1) (recursion_from_All (λ p. IsOutOf nodes s x.node p.token) e.puts fit)))
 
   child_fits : (c : ℕ) (p : Put) → IsChild nodes x.node c Left → IsOutOf nodes s x.node p.token → TaskFits nodes s (child e.plus p.token c)
-  child_fits c p is out = record {
-    node = is.node;
-    at = is.at;
-    width = out.width ∙ ap (left_width nodes) (sym is.parent);
-    held = out.held;
-  }
+  child_fits c p is out = fits_at nodes s c is.node is.at Left p.token (left_is_wide nodes is.node p.token (out.width ∙ ap (left_width nodes) (sym is.parent))) out.held
 
   -- ---- the law
 
@@ -63,24 +62,24 @@ module _ (alphas : List Alpha) (nodes : List Node) (sound : IsSound alphas nodes
       where
         at_child : IsChild nodes x.node n Left
             → signs n Left t (children_at (slice_get nodes x.node) e.plus e.puts) +ℤ pos (out_at elements nodes (sum_in line) x.node t) ≡ pos (out_at elements nodes (after (sum_in line) x) x.node t)
-        at_child is = by fits.node.kind refl
+        at_child is = by its_node.0.kind refl
           where
-            once : times_in n fits.node.children ≡ 1
-            once = times_among nodes sound.children x.node n fits.node fits.at is
+            once : times_in n its_node.0.children ≡ 1
+            once = times_among nodes sound.children x.node n its_node.0 its_node.1 is
 
-            goes : is_terminal fits.node.kind ≡ false
+            goes : is_terminal its_node.0.kind ≡ false
                 → signs n Left t (children_at (slice_get nodes x.node) e.plus e.puts) +ℤ pos (out_at elements nodes (sum_in line) x.node t) ≡ pos (out_at elements nodes (after (sum_in line) x) x.node t)
             goes inner =
-                ap (λ z. z +ℤ pos (out_at elements nodes (sum_in line) x.node t)) (ap (signs n Left t) made_are ∙ child_signs n t fits.node.children e.plus e.puts once)
-                ∙ effect.change fits.node elements t fits.at inner agrees
+                ap (λ z. z +ℤ pos (out_at elements nodes (sum_in line) x.node t)) (ap (signs n Left t) made_are ∙ child_signs n t its_node.0.children e.plus e.puts once)
+                ∙ effect.change its_node.0 elements t its_node.1 inner agrees
 
-            by : (k : Kind) → fits.node.kind ≡ k
+            by : (k : Kind) → its_node.0.kind ≡ k
                 → signs n Left t (children_at (slice_get nodes x.node) e.plus e.puts) +ℤ pos (out_at elements nodes (sum_in line) x.node t) ≡ pos (out_at elements nodes (after (sum_in line) x) x.node t)
             by Join q = goes (ap is_terminal q)
             by Negated q = goes (ap is_terminal q)
             by (Terminal rule) q =
-                let bare = (sound.each x.node fits.node fits.at).terminal (ap is_terminal q) in
-                let bad : ◌≡◌ {A = ℕ} 0 1 = sym (ap (times_in n) (no_items fits.node.children bare.children)) ∙ once in absurd (omega (arith, bad))
+                let bare = (sound.each x.node its_node.0 its_node.1).terminal (ap is_terminal q) in
+                let bad : ◌≡◌ {A = ℕ} 0 1 = sym (ap (times_in n) (no_items its_node.0.children bare.children)) ∙ once in absurd (omega (arith, bad))
 
     lawful : (elements : Elements) → Agrees s elements → IsLawful elements nodes (sum_in line) (record { task = x; children = children_at (slice_get nodes x.node) e.plus e.puts })
     lawful elements agrees = record {

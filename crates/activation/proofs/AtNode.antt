@@ -12,17 +12,16 @@ use Rattle.std.proofs.lemmas.Option.{slice_get-get_or}
 use Rattle.ops_base.specs.declared.elements.Element.{Element}
 use Rattle.ops_base.specs.WorkingMemory.{tags_of}
 use Rattle.work_store.specs.Stored.{IsStored, Stored, held_of, of_tag}
-use Rattle.net_base.specs.declared.nodes.Kind.{Kind}
-use Rattle.net_base.specs.declared.nodes.Kind.TheVariants.{Join, Negated, Terminal}
 use Rattle.net_base.specs.declared.nodes.Alpha.{Alpha}
 use Rattle.net_base.specs.declared.nodes.Node.{Node}
 use Rattle.net_base.specs.declared.tasks.Side.TheVariants.{Left, Right}
-use Rattle.net_base.specs.Sound.{IsSound, is_terminal, left_width}
+use Rattle.net_base.specs.Sound.{IsSound, left_width}
 use Rattle.net_base.specs.Tokens.{Elements, joins_hold}
 use Rattle.token_line.specs.declared.line.Line.{Line}
 use Rattle.token_line.specs.declared.memory.Cell.{Cell}
 use Rattle.token_line.specs.declared.memory.Memory.{Memory}
-use Rattle.token_line.specs.Held.{Agrees, Fits, HasWidth}
+use Rattle.token_line.specs.Held.{Agrees, Fits}
+use Rattle.token_line.proofs.Fitting.{left_length, one_length}
 use Rattle.token_line.specs.Lines.{blockers_in, blockers_with, memory_at, sum_in, sum_of}
 use Rattle.activation.specs.Putting.{left_entries, right_entries}
 use Rattle.activation.specs.Acting.{AreKept, IsCounted}
@@ -115,14 +114,6 @@ cell_at line n t c = by (memory_at line n) refl
 
 -- ---- widths, and what is held
 
-one_long : (nodes : List Node) (x : Node) (t : List ℕ) → is_terminal x.kind ≡ false → HasWidth nodes x Right t → length t ≡ 1
-one_long nodes x t inner w = by x.kind inner w
-  where
-    by : (k : Kind) → is_terminal k ≡ false → HasWidth nodes (record x { kind = k }) Right t → length t ≡ 1
-    by Join e h = h
-    by Negated e h = h
-    by (Terminal rule) e h = cc
-
 pub only_one : (t : List ℕ) → length t ≡ 1 → t ≡ slice_index t 0 ∷ []
 only_one [] e = absurd (omega arith)
 only_one (x ∷ []) e = refl
@@ -133,13 +124,13 @@ same_node x y e = cc
 
 module _ (nodes : List Node) (s : Stored) (n : ℕ) (node : Node) (at : slice_get nodes n ≡ Some node) where
   pub left_long : (t : List ℕ) → Fits nodes s n Left t → length t ≡ left_width nodes node.parent
-  left_long t f = f.width ∙ ap (λ (z : Node). left_width nodes z.parent) (same_node f.node node (sym f.at ∙ at))
+  left_long t f = left_length nodes node t (f.width node at)
 
-  pub right_long : is_terminal node.kind ≡ false → (t : List ℕ) → Fits nodes s n Right t → length t ≡ 1
-  right_long inner t f = one_long nodes f.node t (ap (λ (z : Node). is_terminal z.kind) (same_node f.node node (sym f.at ∙ at)) ∙ inner) f.width
+  pub right_long : (t : List ℕ) → Fits nodes s n Right t → length t ≡ 1
+  right_long t f = one_length node.kind t (f.width node at)
 
-  pub right_held : is_terminal node.kind ≡ false → (t : List ℕ) → Fits nodes s n Right t → IsHeld s (slice_index t 0)
-  right_held inner t f = let long = right_long inner t f in All-get_or (IsHeld s) t 0 0 (omega arith) f.held
+  pub right_held : (t : List ℕ) → Fits nodes s n Right t → IsHeld s (slice_index t 0)
+  right_held t f = let long = right_long t f in All-get_or (IsHeld s) t 0 0 (omega arith) f.held
 
   -- a left token and an element that is held join by any elements that agree with the store as they do by the store
   pub both_agree : (alphas : List Alpha) → IsSound alphas nodes → (elements : Elements) → Agrees s elements → (t : List ℕ) (k : ℕ) → Fits nodes s n Left t → IsHeld s k

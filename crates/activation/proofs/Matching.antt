@@ -7,12 +7,10 @@ use Rattle.std.proofs.lemmas.List.Elements.{recursion_from_All}
 use Rattle.work_store.specs.Stored.{Stored, held_of}
 use Rattle.net_base.specs.declared.nodes.Alpha.{Alpha}
 use Rattle.net_base.specs.declared.nodes.JoinTest.{JoinTest}
-use Rattle.net_base.specs.declared.nodes.Kind.{Kind}
-use Rattle.net_base.specs.declared.nodes.Kind.TheVariants.{Join, Negated, Terminal}
 use Rattle.net_base.specs.declared.nodes.Node.{Node}
 use Rattle.net_base.specs.declared.tasks.Side.TheVariants.{Left, Right}
 use Rattle.net_base.specs.declared.tasks.Task.{Task}
-use Rattle.net_base.specs.Sound.{IsSound, is_negated, is_terminal}
+use Rattle.net_base.specs.Sound.{IsSound, is_negated}
 use Rattle.net_base.specs.Tokens.{Elements, count_below, joins_hold}
 use Rattle.token_line.specs.declared.line.Line.{Line}
 use Rattle.token_line.specs.declared.memory.Cell.{Cell}
@@ -65,14 +63,9 @@ pub matching_same : (elements : Elements) (tests : List JoinTest) (b b' : Bag) (
 matching_same elements tests b b' n t same =
     count_same (2 ^ 64) (joins_hold tests elements t) (joins_hold tests elements t) (standing_at b n Right) (standing_at b' n Right) (λ k low. ap (λ z. cond (joins_hold tests elements t k) z 0) (same k))
 
-pub negated_is_inner : (k : Kind) → is_negated k ≡ true → is_terminal k ≡ false
-negated_is_inner Join e = cc
-negated_is_inner Negated e = refl
-negated_is_inner (Terminal rule) e = cc
-
 module _ (nodes : List Node) (s : Stored) (line : Line) (counted : IsCounted nodes s line) (n : ℕ) (node : Node) (at : slice_get nodes n ≡ Some node) (negated : is_negated node.kind ≡ true) where
   held_at : (t : List ℕ) → Fits nodes s n Right t → IsHeld s (slice_index t 0)
-  held_at t f = right_held nodes s n node at (negated_is_inner node.kind negated) t f
+  held_at t f = right_held nodes s n node at t f
 
   -- by any elements that agree with the store
   pub matching_agrees : (alphas : List Alpha) → IsSound alphas nodes → (elements : Elements) → Agrees s elements → (t : List ℕ) → Fits nodes s n Left t
@@ -96,7 +89,7 @@ module _ (nodes : List Node) (s : Stored) (line : Line) (counted : IsCounted nod
         ones : AllByRecursion (λ e. length e.0 ≡ 1) right
         ones =
             recursion_from_All (λ (e : List ℕ × ℤ). length e.0 ≡ 1) right
-            (λ i d within. right_long nodes s n node at (negated_is_inner node.kind negated) (slice_index_or right i d).0 (right_fits nodes s line counted n kept i d within))
+            (λ i d within. right_long nodes s n node at (slice_index_or right i d).0 (right_fits nodes s line counted n kept i d within))
 
         lows : AllByRecursion (λ e. slice_index e.0 0 < 2 ^ 64) right
         lows =

@@ -31,7 +31,7 @@ use Rattle.activation.proofs.Arrived.{other_sum, own_sum}
 use Rattle.activation.proofs.AtNode.{Kept, both_agree, cell_at, left_distinct, left_fits, left_long, left_sum_is, only_one, right_held, right_long}
 use Rattle.activation.proofs.Childhood.{eqb-apart}
 use Rattle.activation.proofs.JoinChange.{moves, nothing_moves}
-use Rattle.activation.proofs.Matching.{left_matches, matching_agrees, negated_is_inner, one_matched, right_matches}
+use Rattle.activation.proofs.Matching.{left_matches, matching_agrees, one_matched, right_matches}
 use Rattle.activation.proofs.Outs.{IsChange, negated_out}
 use Rattle.activation.proofs.PutNumbers.{all_flipped, bytes_false, bytes_true, nothing, sum_at, flipped_at, flipped_number}
 use Rattle.activation.proofs.PutOutLemmas.{sides_differ}
@@ -166,10 +166,10 @@ module _ (alphas : List Alpha) (nodes : List Node) (sound : IsSound alphas nodes
     mine = subst (λ d. Fits nodes s x.node d x.token) e fits
 
     one : x.token ≡ tag ∷ []
-    one = only_one x.token (right_long nodes s x.node node at (negated_is_inner node.kind negated) x.token mine)
+    one = only_one x.token (right_long nodes s x.node node at x.token mine)
 
     here : IsHeld s tag
-    here = right_held nodes s x.node node at (negated_is_inner node.kind negated) x.token mine
+    here = right_held nodes s x.node node at x.token mine
 
     moved : changes (sum_in line x.node Right x.token) x.plus ≡ true
     moved = subst (λ d. changes (sum_in line x.node d x.token) x.plus ≡ true) e had

@@ -1,5 +1,5 @@
 -- What a join puts out for a task, over the tokens of its line.
-use Rattle.std.proofs.Common.{◌≡◌, ◌≢◌, ℕ, true, false, cond, List, [], ◌∷◌, ◌++◌, ℤ, pos, ◌+ℤ◌, refl, sym, ap, subst, ◌∙◌, arith, length, slice_get, slice_index, slice_index_or, Some}
+use Rattle.std.proofs.Common.{◌≡◌, ◌≢◌, ℕ, true, cond, List, [], ◌∷◌, ◌++◌, ℤ, pos, ◌+ℤ◌, refl, sym, ap, subst, ◌∙◌, arith, length, slice_get, slice_index, slice_index_or, Some}
 use Rattle.std.specs.List.{AllByRecursion}
 use Rattle.std.proofs.lemmas.List.{length_push}
 use Rattle.std.proofs.lemmas.List.Elements.{All-from_recursion, All-push, recursion_from_All}
@@ -11,7 +11,7 @@ use Rattle.net_base.specs.declared.nodes.Alpha.{Alpha}
 use Rattle.net_base.specs.declared.tasks.Side.{Side}
 use Rattle.net_base.specs.declared.tasks.Side.TheVariants.{Left, Right}
 use Rattle.net_base.specs.declared.tasks.Task.{Task}
-use Rattle.net_base.specs.Sound.{IsSound, added_tags, is_join, is_terminal}
+use Rattle.net_base.specs.Sound.{IsSound, added_tags, is_join}
 use Rattle.net_base.specs.Tokens.{Elements, joins_hold, out_of_join}
 use Rattle.token_line.specs.declared.line.Line.{Line}
 use Rattle.token_line.specs.declared.memory.Cell.{Cell}
@@ -34,11 +34,6 @@ one_added : (k : Kind) → is_join k ≡ true → added_tags k ≡ 1
 one_added Join e = refl
 one_added Negated e = cc
 one_added (Terminal rule) e = cc
-
-join_is_inner : (k : Kind) → is_join k ≡ true → is_terminal k ≡ false
-join_is_inner Join e = refl
-join_is_inner Negated e = cc
-join_is_inner (Terminal rule) e = cc
 
 pub standing_some : (z : ℤ) → standing z ≢ 0 → z ≢ pos 0
 standing_some z ne e = ne (ap standing e)
@@ -66,11 +61,8 @@ module _ (alphas : List Alpha) (nodes : List Node) (sound : IsSound alphas nodes
   abbrev right : List (List ℕ × ℤ)
   right = right_entries (memory_at line x.node)
 
-  inner : is_terminal node.kind ≡ false
-  inner = join_is_inner node.kind join
-
   held_at : (t : List ℕ) → Fits nodes s x.node Right t → IsHeld s (slice_index t 0)
-  held_at t f = right_held nodes s x.node node at inner t f
+  held_at t f = right_held nodes s x.node node at t f
 
   longer : (t : List ℕ) (k : ℕ) → Fits nodes s x.node Left t → IsHeld s k → IsOutOf nodes s x.node (t ++ k ∷ [])
   longer t k f here = record {
@@ -94,7 +86,7 @@ module _ (alphas : List Alpha) (nodes : List Node) (sound : IsSound alphas nodes
       own = subst (λ d. Fits nodes s x.node d x.token) e fits
 
       ones : AllByRecursion (λ r. length r.0 ≡ 1) right
-      ones = recursion_from_All (λ r. length r.0 ≡ 1) right (λ i d within. right_long nodes s x.node node at inner (slice_index_or right i d).0 (right_fits nodes s line counted x.node kept i d within))
+      ones = recursion_from_All (λ r. length r.0 ≡ 1) right (λ i d within. right_long nodes s x.node node at (slice_index_or right i d).0 (right_fits nodes s line counted x.node kept i d within))
 
       had : changes (sum_in line x.node Left x.token) x.plus ≡ true
       had = subst (λ d. changes (sum_in line x.node d x.token) x.plus ≡ true) e moved
@@ -131,7 +123,7 @@ module _ (alphas : List Alpha) (nodes : List Node) (sound : IsSound alphas nodes
       own = subst (λ d. Fits nodes s x.node d x.token) e fits
 
       one : x.token ≡ tag ∷ []
-      one = only_one x.token (right_long nodes s x.node node at inner x.token own)
+      one = only_one x.token (right_long nodes s x.node node at x.token own)
 
       had : changes (sum_in line x.node Right x.token) x.plus ≡ true
       had = subst (λ d. changes (sum_in line x.node d x.token) x.plus ≡ true) e moved

@@ -12,6 +12,7 @@ use Rattle.token_line.specs.declared.line.Line.{Line}
 use Rattle.token_line.specs.Bags.{after, are_same_sides, is_at, standing}
 use Rattle.token_line.specs.Held.{Fits, TaskFits}
 use Rattle.token_line.specs.Lines.{blockers_in, sum_in}
+use Rattle.token_line.proofs.Fitting.{node_of}
 use Rattle.token_line.specs.Sums.{counted}
 use Rattle.activation.specs.declared.effects.Effect.{Effect}
 use Rattle.activation.specs.Acting.{IsCounted, IsEffect, matching}
@@ -20,10 +21,13 @@ use Rattle.activation.specs.Putting.{changes}
 use Rattle.activation.proofs.Agreed.{IsHeld}
 use Rattle.activation.proofs.Arrived.{IsAt, and_false, at_place, is_at-true, other_sum, still}
 use Rattle.activation.proofs.AtNode.{only_one, right_held, right_long, same_node}
-use Rattle.activation.proofs.Matching.{left_matches, matching_same, negated_is_inner, others_match, right_matches}
+use Rattle.activation.proofs.Matching.{left_matches, matching_same, others_match, right_matches}
 
 module _ (nodes : List Node) (s : Stored) (x : Task) (fits : TaskFits nodes s x) (old new : Line) (counts : IsCounted nodes s old) (e : Effect) (effect : IsEffect nodes s old x e)
     (sums : (n : ℕ) (side : Side) (t : List ℕ) → sum_in new n side t ≡ after (sum_in old) x n side t) where
+  its_node : (node : Node) × (slice_get nodes x.node ≡ Some node)
+  its_node = node_of nodes s x.node x.side x.token fits
+
   fits_after : (n : ℕ) (side : Side) (t : List ℕ) → sum_in new n side t ≢ pos 0 → Fits nodes s n side t
   fits_after n side t some = by (is_at n side t x) refl
     where
@@ -69,14 +73,14 @@ module _ (nodes : List Node) (s : Stored) (x : Task) (fits : TaskFits nodes s x)
       here : (n == x.node) ≡ true → n ≡ x.node
       here r = (Decides-eqb n x.node).0 r
 
-      node_is : (n == x.node) ≡ true → fits.node ≡ y
-      node_is r = same_node fits.node y (sym fits.at ∙ (ap (slice_get nodes) (sym (here r)) ∙ at))
+      node_is : (n == x.node) ≡ true → its_node.0 ≡ y
+      node_is r = same_node its_node.0 y (sym its_node.1 ∙ (ap (slice_get nodes) (sym (here r)) ∙ at))
 
       moves_here : (n == x.node) ≡ true → changes (sum_in old x.node Right x.token) x.plus ≡ true
           → now ≡ cond (joins_hold y.joins (held_of s) t (slice_index x.token 0)) (counted x.plus before) before
       moves_here r moved =
           subst (λ m. matching (held_of s) y.joins (after (sum_in old) x) m t ≡ cond (joins_hold y.joins (held_of s) t tag) (counted x.plus (matching (held_of s) y.joins (sum_in old) m t)) (matching (held_of s) y.joins (sum_in old) m t)) (sym (here r))
-          (right_matches (sum_in old) x (held_of s) y.joins t q tag (only_one x.token long) (small tag (right_held nodes s x.node y there (negated_is_inner y.kind negated) x.token mine)) moved)
+          (right_matches (sum_in old) x (held_of s) y.joins t q tag (only_one x.token long) (small tag (right_held nodes s x.node y there x.token mine)) moved)
         where
           tag : ℕ
           tag = slice_index x.token 0
@@ -88,14 +92,14 @@ module _ (nodes : List Node) (s : Stored) (x : Task) (fits : TaskFits nodes s x)
           there = ap (slice_get nodes) (sym (here r)) ∙ at
 
           long : length x.token ≡ 1
-          long = right_long nodes s x.node y there (negated_is_inner y.kind negated) x.token mine
+          long = right_long nodes s x.node y there x.token mine
 
       blocks_are : (n == x.node) ≡ true → e.blocks ≡ changes (sum_in old x.node Right x.token) x.plus
       blocks_are r =
-          effect.blocks fits.node fits.at
+          effect.blocks its_node.0 its_node.1
           ∙ (ap₂ (λ a d. a && (are_same_sides Right d && changes (sum_in old x.node d x.token) x.plus)) (ap (λ (z : Node). is_negated z.kind) (node_is r) ∙ negated) q)
 
-      of_right : cond (e.blocks && ((n == x.node) && joins_hold fits.node.joins (held_of s) t (slice_index x.token 0))) (counted x.plus before) before ≡ now
+      of_right : cond (e.blocks && ((n == x.node) && joins_hold its_node.0.joins (held_of s) t (slice_index x.token 0))) (counted x.plus before) before ≡ now
       of_right = by (n == x.node) refl
         where
           stays : changes (sum_in old x.node Right x.token) x.plus ≡ false → before ≡ now
@@ -104,13 +108,13 @@ module _ (nodes : List Node) (s : Stored) (x : Task) (fits : TaskFits nodes s x)
               (λ k. still (sum_in old) x (subst (λ d. changes (sum_in old x.node d x.token) x.plus ≡ false) (sym q) same) n Right (k ∷ []))
 
           by_change : (n == x.node) ≡ true → (c : Bool) → changes (sum_in old x.node Right x.token) x.plus ≡ c
-              → cond (c && joins_hold fits.node.joins (held_of s) t (slice_index x.token 0)) (counted x.plus before) before ≡ now
+              → cond (c && joins_hold its_node.0.joins (held_of s) t (slice_index x.token 0)) (counted x.plus before) before ≡ now
           by_change r true moved = ap (λ (z : Node). cond (joins_hold z.joins (held_of s) t (slice_index x.token 0)) (counted x.plus before) before) (node_is r) ∙ sym (moves_here r moved)
           by_change r false same = stays same
 
-          by : (b : Bool) → (n == x.node) ≡ b → cond (e.blocks && (b && joins_hold fits.node.joins (held_of s) t (slice_index x.token 0))) (counted x.plus before) before ≡ now
+          by : (b : Bool) → (n == x.node) ≡ b → cond (e.blocks && (b && joins_hold its_node.0.joins (held_of s) t (slice_index x.token 0))) (counted x.plus before) before ≡ now
           by true r =
-              ap (λ c. cond (c && joins_hold fits.node.joins (held_of s) t (slice_index x.token 0)) (counted x.plus before) before) (blocks_are r)
+              ap (λ c. cond (c && joins_hold its_node.0.joins (held_of s) t (slice_index x.token 0)) (counted x.plus before) before) (blocks_are r)
               ∙ by_change r (changes (sum_in old x.node Right x.token) x.plus) refl
           by false r =
               ap (λ c. cond c (counted x.plus before) before) (and_false e.blocks)
@@ -130,12 +134,12 @@ module _ (nodes : List Node) (s : Stored) (x : Task) (fits : TaskFits nodes s x)
           → cond (e.blocks && is_matched (slice_get nodes x.node) (held_of s) x n t) (counted x.plus (added n t)) (added n t) ≡ matching (held_of s) y.joins (after (sum_in old) x) n t
       by n y t at negated some Left q =
           let still_kept : e.blocks ≡ false =
-          effect.blocks fits.node fits.at ∙ (ap (λ d. is_negated fits.node.kind && (are_same_sides Right d && changes (sum_in old x.node x.side x.token) x.plus)) q ∙ and_false (is_negated fits.node.kind)) in
+          effect.blocks its_node.0 its_node.1 ∙ (ap (λ d. is_negated its_node.0.kind && (are_same_sides Right d && changes (sum_in old x.node x.side x.token) x.plus)) q ∙ and_false (is_negated its_node.0.kind)) in
           ap (λ b. cond (b && is_matched (slice_get nodes x.node) (held_of s) x n t) (counted x.plus (added n t)) (added n t)) still_kept ∙ of_left n y t at negated some q
       by n y t at negated some Right q =
           let unkept : added n t ≡ matching (held_of s) y.joins (sum_in old) n t =
           ap (λ b. cond b e.blockers (blockers_in old n t)) (ap (λ d. (n == x.node) && (are_same_sides Left d && bytes_eq t x.token)) q ∙ and_false (n == x.node)) ∙ kept_before n y t at negated some (not_mine n y t at negated some q small) in
-          ap₂ (λ o k. cond (e.blocks && is_matched o (held_of s) x n t) (counted x.plus k) k) fits.at unkept ∙ of_right n y t at negated some q small
+          ap₂ (λ o k. cond (e.blocks && is_matched o (held_of s) x n t) (counted x.plus k) k) its_node.1 unkept ∙ of_right n y t at negated some q small
 
 -- the same sums and the same numbers count the same
 pub counted_same : (nodes : List Node) (s : Stored) (old new : Line) → IsCounted nodes s old → ((n : ℕ) (side : Side) (t : List ℕ) → sum_in new n side t ≡ sum_in old n side t)
@@ -157,10 +161,13 @@ pub room_after : (nodes : List Node) (s : Stored) (x : Task) → TaskFits nodes 
     → e.blocks ≡ true → x.plus ≡ true → (t : List ℕ) → sum_in new x.node Left t ≢ pos 0 → blockers_in new x.node t < 2 ^ 64 - 1
 room_after nodes s x fits old e effect new sums numbers blocks more t some = by x.side refl
   where
+    its_node : (node : Node) × (slice_get nodes x.node ≡ Some node)
+    its_node = node_of nodes s x.node x.side x.token fits
+
     by : (d : Side) → x.side ≡ d → blockers_in new x.node t < 2 ^ 64 - 1
     by Left q =
         let bad : true ≡ false =
-        sym blocks ∙ (effect.blocks fits.node fits.at ∙ (ap (λ d. is_negated fits.node.kind && (are_same_sides Right d && changes (sum_in old x.node x.side x.token) x.plus)) q ∙ and_false (is_negated fits.node.kind))) in cc
+        sym blocks ∙ (effect.blocks its_node.0 its_node.1 ∙ (ap (λ d. is_negated its_node.0.kind && (are_same_sides Right d && changes (sum_in old x.node x.side x.token) x.plus)) q ∙ and_false (is_negated its_node.0.kind))) in cc
     by Right q =
         let kept : blockers_in new x.node t ≡ blockers_in old x.node t =
         numbers x.node t some ∙ ap (λ b. cond b e.blockers (blockers_in old x.node t)) (ap (λ d. (x.node == x.node) && (are_same_sides Left d && bytes_eq t x.token)) q ∙ and_false (x.node == x.node)) in

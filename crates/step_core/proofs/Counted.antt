@@ -1,5 +1,5 @@
 -- Which lines are counted: those with the sums and the numbers of a counted line, and those of the start.
-use Rattle.std.proofs.Common.{◌≡◌, ◌≢◌, ℕ, ◌%◌, ◌&&◌, ◌==◌, nat_lt, Bool, true, false, cond, List, pos, slice_get, Option, Some, None, IsSome, refl, sym, ap, subst, ◌∙◌}
+use Rattle.std.proofs.Common.{◌≡◌, ◌≢◌, ℕ, ◌%◌, ◌&&◌, ◌==◌, nat_lt, Bool, true, false, cond, List, [], pos, slice_get, Option, Some, None, IsSome, refl, sym, ap, subst, ◌∙◌}
 use Rattle.std.proofs.lemmas.List.Elements.{All-nil}
 use Rattle.work_store.specs.Stored.{Stored, held_of}
 use Rattle.net_base.specs.declared.nodes.Alpha.{Alpha}
@@ -12,6 +12,7 @@ use Rattle.net_base.specs.Sound.{IsSound, is_join, is_negated, left_width}
 use Rattle.token_line.specs.declared.line.Line.{Line}
 use Rattle.token_line.specs.Held.{Fits}
 use Rattle.token_line.specs.Lawful.{giver_of}
+use Rattle.token_line.proofs.Fitting.{fits_at, left_is_wide}
 use Rattle.token_line.specs.Lines.{blockers_in, sum_in}
 use Rattle.activation.specs.Acting.{IsCounted, matching}
 use Rattle.step_core.specs.Machine.{root_part}
@@ -34,7 +35,7 @@ root_fits : (nodes : List Node) (s : Stored) (n : ℕ) (side : Side) (t : List �
 root_fits nodes s n side t is =
     subst (λ d. Fits nodes s n d t) (sym is.left)
     (subst (Fits nodes s n Left) (sym is.empty)
-    (record { node = is.node; at = is.at; width = sym (ap (left_width nodes) is.parent); held = All-nil (λ tag. IsSome (held_of s tag)) }))
+    (fits_at nodes s n is.node is.at Left [] (left_is_wide nodes is.node [] (sym (ap (left_width nodes) is.parent))) (All-nil (λ tag. IsSome (held_of s tag)))))
 
 abbrev joins_in : Option Node → Bool
 joins_in None = false

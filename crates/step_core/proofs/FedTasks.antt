@@ -12,7 +12,8 @@ use Rattle.net_base.specs.declared.nodes.Alpha.{Alpha}
 use Rattle.net_base.specs.declared.tasks.Side.TheVariants.{Right}
 use Rattle.net_base.specs.declared.tasks.Task.{Task}
 use Rattle.net_base.specs.Sound.{is_terminal}
-use Rattle.token_line.specs.Held.{HasWidth, TaskFits}
+use Rattle.token_line.specs.Held.{TaskFits, is_wide}
+use Rattle.token_line.proofs.Fitting.{fits_at}
 use Rattle.step_core.specs.Machine.{passes_in, is_fed, task_at, tasks_below}
 use Rattle.step_core.proofs.Fed.{AllByRecursion-append}
 
@@ -44,20 +45,12 @@ module _ (s : Stored) (alphas : List Alpha) (nodes : List Node) (plus : Bool) (t
       tasks : Bool → List Task
       tasks b = cond b (record { node = i; side = Right; plus = plus; token = tag ∷ [] } ∷ []) []
 
-      if_passed : HasWidth nodes x Right (tag ∷ []) → (b : Bool) → AllByRecursion (TaskFits nodes s) (tasks b)
-      if_passed width true = (
-        record {
-          node = x;
-          at = at;
-          width = width;
-          held = All-cons (λ t. IsSome (held_of s t)) tag [] held (All-nil (λ t. IsSome (held_of s t)));
-        },
-        tt,
-      )
+      if_passed : is_wide nodes x Right (tag ∷ []) ≡ true → (b : Bool) → AllByRecursion (TaskFits nodes s) (tasks b)
+      if_passed width true = (fits_at nodes s i x at Right (tag ∷ []) width (All-cons (λ t. IsSome (held_of s t)) tag [] held (All-nil (λ t. IsSome (held_of s t)))), tt)
       if_passed width false = tt
 
-      width_of : (k : Kind) → x.kind ≡ k → HasWidth nodes (record x { kind = k }) Right (tag ∷ []) → HasWidth nodes x Right (tag ∷ [])
-      width_of k is = subst (λ z. HasWidth nodes (record x { kind = z }) Right (tag ∷ [])) (sym is)
+      width_of : (k : Kind) → x.kind ≡ k → is_wide nodes (record x { kind = k }) Right (tag ∷ []) ≡ true → is_wide nodes x Right (tag ∷ []) ≡ true
+      width_of k is = subst (λ z. is_wide nodes (record x { kind = z }) Right (tag ∷ []) ≡ true) (sym is)
 
       by : (k : Kind) → x.kind ≡ k → (b : Bool) → AllByRecursion (TaskFits nodes s) (tasks (not (is_terminal k) && b))
       by Join is b = if_passed (width_of Join is refl) b

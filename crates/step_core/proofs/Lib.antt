@@ -9,6 +9,8 @@ pub mod Results
 pub mod FedTasks
 pub mod RootTokens
 pub mod Counted
+pub mod ListPlaces
+pub mod WorkedLines
 pub mod Clearing
 pub mod Starting
 pub mod Started
@@ -24,3 +26,13 @@ pub mod Runs
 pub mod Bundle
 pub mod Terminals
 pub mod LawProofs
+pub mod Finding
+pub mod FoundSet
+pub mod Resting
+pub mod Changing
+pub mod Storing
+pub mod StartPlaced
+pub mod Settling
+pub mod AddingUp
+pub mod WhatMoved
+pub mod WorkedMoves

@@ -1,5 +1,5 @@
 -- A task that fits has its line by the elements that the store holds.
-use Rattle.std.proofs.Common.{◌≡◌, ℕ, ◌<◌, ◌%◌, Bool, true, false, cond, List, [], ◌∷◌, map, fold, length, refl, sym, ap, ap₂, subst, ◌∙◌, arith, slice_index, Option, Some, None, IsSome}
+use Rattle.std.proofs.Common.{◌≡◌, ℕ, ◌<◌, ◌%◌, Bool, true, false, cond, List, [], ◌∷◌, map, fold, length, refl, sym, ap, ap₂, subst, ◌∙◌, arith, slice_get, slice_index, Option, Some, None, IsSome}
 use Rattle.std.specs.List.{All, AllByRecursion}
 use Rattle.std.proofs.lemmas.List.Elements.{All-get_or, recursion_from_All}
 use Rattle.ops_base.specs.declared.elements.Element.{Element}
@@ -14,7 +14,8 @@ use Rattle.net_base.specs.declared.tasks.Side.TheVariants.{Left, Right}
 use Rattle.net_base.specs.declared.tasks.Task.{Task}
 use Rattle.net_base.specs.Sound.{IsSound}
 use Rattle.net_base.specs.Tokens.{Elements, field_in}
-use Rattle.token_line.specs.Held.{Agrees, HasWidth, TaskFits}
+use Rattle.token_line.specs.Held.{Agrees, TaskFits, is_wide}
+use Rattle.token_line.proofs.Fitting.{left_length, node_of, one_length}
 use Rattle.token_line.specs.Numbers.{value_code, mixed, is_equal, equalities, own_value, own_codes, codes_at, line_number}
 
 module _ (s : Stored) (elements : Elements) (agrees : Agrees s elements) where
@@ -47,22 +48,25 @@ module _ (s : Stored) (elements : Elements) (agrees : Agrees s elements) where
     right_codes [] some = refl
     right_codes (j ∷ js) some = ap₂ (λ a b. a ∷ b) (ap (λ e. value_code (field_in e j.field)) (at_place 0 some)) (right_codes js some)
 
-    own_codes_same : (nodes : List Node) (x : Node) (k : Kind) (side : Side) → HasWidth nodes (record x { kind = k }) side t → (HasWidth nodes (record x { kind = k }) Left t → AllByRecursion (λ j. j.place < length t) x.joins)
+    own_codes_same : (nodes : List Node) (x : Node) (k : Kind) (side : Side) → is_wide nodes (record x { kind = k }) side t ≡ true → (is_wide nodes (record x { kind = k }) Left t ≡ true → AllByRecursion (λ j. j.place < length t) x.joins)
         → own_codes elements k x.joins side t ≡ own_codes (held_of s) k x.joins side t
     own_codes_same nodes x Join Left width low = left_codes x.joins (low width)
-    own_codes_same nodes x Join Right width low = right_codes (equalities x.joins) (omega arith)
+    own_codes_same nodes x Join Right width low = right_codes (equalities x.joins) (omega (arith, one_length Join t width))
     own_codes_same nodes x Negated Left width low = left_codes x.joins (low width)
-    own_codes_same nodes x Negated Right width low = right_codes (equalities x.joins) (omega arith)
+    own_codes_same nodes x Negated Right width low = right_codes (equalities x.joins) (omega (arith, one_length Negated t width))
     own_codes_same nodes x (Terminal rule) side width low = refl
 
   pub one_place : (alphas : List Alpha) (nodes : List Node) → IsSound alphas nodes → (lines : ℕ) (x : Task) → TaskFits nodes s x
       → line_number elements nodes lines x.node x.side x.token ≡ line_number (held_of s) nodes lines x.node x.side x.token
   one_place alphas nodes sound lines x fits =
-      ap (λ o. fold mixed x.node (codes_at elements o x.side x.token) % lines) fits.at
-      ∙ (ap (λ codes. fold mixed x.node codes % lines) (own_codes_same x.token fits.held nodes fits.node fits.node.kind x.side fits.width low)
-      ∙ ap (λ o. fold mixed x.node (codes_at (held_of s) o x.side x.token) % lines) (sym fits.at))
+      ap (λ o. fold mixed x.node (codes_at elements o x.side x.token) % lines) its_node.1
+      ∙ (ap (λ codes. fold mixed x.node codes % lines) (own_codes_same x.token fits.held nodes its_node.0 its_node.0.kind x.side (fits.width its_node.0 its_node.1) low)
+      ∙ ap (λ o. fold mixed x.node (codes_at (held_of s) o x.side x.token) % lines) (sym its_node.1))
     where
-      low : HasWidth nodes fits.node Left x.token → AllByRecursion (λ j. j.place < length x.token) fits.node.joins
+      its_node : (node : Node) × (slice_get nodes x.node ≡ Some node)
+      its_node = node_of nodes s x.node x.side x.token fits
+
+      low : is_wide nodes its_node.0 Left x.token ≡ true → AllByRecursion (λ j. j.place < length x.token) its_node.0.joins
       low width =
-          subst (λ n. AllByRecursion (λ j. j.place < n) fits.node.joins) (sym width)
-          (recursion_from_All _ fits.node.joins (sound.each x.node fits.node fits.at).places)
+          subst (λ n. AllByRecursion (λ j. j.place < n) its_node.0.joins) (sym (left_length nodes its_node.0 x.token width))
+          (recursion_from_All _ its_node.0.joins (sound.each x.node its_node.0 its_node.1).places)

@@ -1,5 +1,5 @@
 -- What holds of a call's result.
-use Rattle.std.proofs.Common.{◌≡◌, List, IfOk, OnErr, Result, Ok, Err, Vec, Global, sym, subst}
+use Rattle.std.proofs.Common.{◌≡◌, List, IfOk, OnErr, OnOk, Result, Ok, Err, Vec, Global, sym, subst}
 use Rattle.ops_base.specs.declared.memory.OutOfMemory.{OutOfMemory}
 
 pub if_items : {X : Type 0} (P : List X → Type 0) (xs : List X) (r : Result (Vec X Global) OutOfMemory) → IfOk r (λ v. v.items ≡ xs) → P xs → IfOk r (λ v. P v.items)
@@ -9,3 +9,7 @@ if_items P xs (Err err) e h = tt
 pub on_err : {T E : Type 0} (P : Type 0) (r : Result T E) → P → OnErr r P
 on_err P (Ok x) p = tt
 on_err P (Err e) p = p
+
+pub on_ok : {T E : Type 0} (P Q : Type 0) (r : Result T E) → (P → Q) → OnOk r P → OnOk r Q
+on_ok P Q (Ok x) f p = f p
+on_ok P Q (Err e) f p = tt

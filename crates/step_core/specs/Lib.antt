@@ -4,6 +4,11 @@ pub mod Phases
 pub mod Laws
 pub mod Feeding
 pub mod Starts
-pub mod Clearing
+pub mod Worked
+pub mod Doing
 pub mod Worlds
+pub mod Working
 pub mod TwoJoins
+pub mod Found
+pub mod Settling
+pub mod Gathering

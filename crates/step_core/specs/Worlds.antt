@@ -1,19 +1,22 @@
 -- The world as code has it: what of it is the machine's, and what its steps ask for.
-use Rattle.std.specs.Prelude.{◌≡◌, ◌<◌, ℕ, List, length, map, slice_get, Some, All}
+use Rattle.std.specs.Prelude.{◌≡◌, ◌<◌, ◌++◌, ℕ, List, length, map, slice_get, Some, All}
 use Rattle.work_store.specs.Stored.{Stored}
 use Rattle.net_base.specs.declared.nodes.Node.{Node}
 use Rattle.net_base.specs.declared.nodes.Alpha.{Alpha}
+use Rattle.net_base.specs.declared.tasks.Task.{Task}
 use Rattle.net_base.specs.Tokens.{Elements}
 use Rattle.token_line.specs.declared.line.Entry.{Entry}
 use Rattle.token_line.specs.declared.line.Line.{Line}
 use Rattle.token_line.specs.Held.{Agrees, TaskFits}
+use Rattle.token_line.specs.Lawful.{IsLawful}
 use Rattle.token_line.specs.Lines.{sum_in}
 use Rattle.token_line.specs.Numbers.{line_number}
 use Rattle.activation.specs.Acting.{IsCounted}
 use Rattle.step_core.specs.declared.world.Step.{Step}
 use Rattle.step_core.specs.declared.world.Step.TheVariants.{Feed, Activate, Finish}
 use Rattle.step_core.specs.declared.world.World.{World}
-use Rattle.step_core.specs.Machine.{Placing, Seen, Steps}
+use Rattle.step_core.specs.Doing.{entry_of}
+use Rattle.step_core.specs.Machine.{Placing, Seen, Steps, add_entry, place_of, sums_at}
 use Rattle.step_core.specs.Machine
 use Rattle.step_core.specs.Feeding.{IsKnown}
 
@@ -25,7 +28,7 @@ seen l = record { sums = sum_in l; entries = l.entries.items }
 
 -- what is seen of a world
 abbrev pub world_of : World → Machine.World
-world_of w = record { lines = map seen w.lines.items; flight = w.flight.items; done = w.done.items; counter = w.counter }
+world_of w = record { lines = map seen w.lines.items; flight = w.flight.items; done = map entry_of w.done.items; counter = w.counter }
 
 abbrev pub step_of : Step → Machine.Step
 step_of (Feed change) = Machine.Feed change
@@ -41,6 +44,18 @@ abbrev pub Takes : List Alpha → List Node → Stored → World → Machine.Ste
 Takes alphas nodes s old step new =
     (elements : Elements) → Agrees s elements
     → Steps elements alphas nodes (placed elements nodes (length old.lines.items)) (world_of old) step (world_of new)
+
+-- ---- a task at work
+
+-- The task became an entry of its line, as the machine has it, over every choice of elements that has those of the store. The children of the entry fit,
+-- and came after the tasks that were there.
+pub record ActsOn (nodes : List Node) (s : Stored) (x : Task) (old new : List Line) (before now : List Task) : Type 0 where
+  pub entry : Entry
+  pub task : entry.task ≡ x
+  pub lawful : (elements : Elements) → Agrees s elements → IsLawful elements nodes (sums_at (place_of (placed elements nodes (length old)) x) (map seen old)) entry
+  pub joins : (elements : Elements) → Agrees s elements → map seen new ≡ add_entry (place_of (placed elements nodes (length old)) x) entry (map seen old)
+  pub fit : All (TaskFits nodes s) entry.children
+  pub given : now ≡ before ++ entry.children
 
 -- ---- lines
 
@@ -61,7 +76,7 @@ pub record EntryFits (nodes : List Node) (s : Stored) (e : Entry) : Type 0 where
 -- every task in flight fits, every entry that is done fits, and every line is counted
 pub record IsReady (nodes : List Node) (s : Stored) (w : World) : Type 0 where
   pub flight : All (TaskFits nodes s) w.flight.items
-  pub done : All (EntryFits nodes s) w.done.items
+  pub done : All (EntryFits nodes s) (map entry_of w.done.items)
   pub lines : All (IsCounted nodes s) w.lines.items
 
 -- the store holds the element of the change, there is such a task in flight, or such an entry that is done

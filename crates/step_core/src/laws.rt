@@ -1,5 +1,6 @@
 //! The laws of the match, each a clause of a function that does nothing.
 ghost use Rattle.step_core.specs.Laws.{StartLaw, CounterLaw, BalanceLaw, ZeroLaw, OnceLaw, TerminalLaw, InstLaw, TaskLaw, EntryLaw, PhaseLaw, SettleLaw, BundleLaw};
+ghost use Rattle.step_core.specs.Settling.{ChildLaw, EntryStartLaw, FoundLaw, FoundNoneLaw, FoundSetLaw, PlacedLaw, RestLaw, SettledLaw, StoreLaw};
 
 /// What every list of steps keeps, and what the lines hold where nothing is under way.
 pub fn match_laws()
@@ -15,4 +16,17 @@ pub fn match_laws()
     ensures phase { PhaseLaw }
     ensures settle { SettleLaw }
     ensures bundle { BundleLaw }
+{}
+
+/// What an engine finds, what stays where one store takes the place of another, and what a phase leaves.
+pub fn settle_laws()
+    ensures found { FoundLaw }
+    ensures set { FoundSetLaw }
+    ensures none { FoundNoneLaw }
+    ensures placed { PlacedLaw }
+    ensures children { ChildLaw }
+    ensures entry_start { EntryStartLaw }
+    ensures rest { RestLaw }
+    ensures store { StoreLaw }
+    ensures settled { SettledLaw }
 {}

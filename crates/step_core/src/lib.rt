@@ -2,11 +2,15 @@
 //! nothing is under way.
 #![tactic(auto)]
 
+mod done;
 mod feeding;
+mod gathering;
 pub mod laws;
 mod start;
 #[cfg(test)]
 mod tests;
+mod worked;
 pub mod world;
 
+pub use gathering::{Gathered, gather, gather_worked};
 pub use world::{Step, World};

@@ -195,6 +195,40 @@ fn settle(alloc: Global, net: &Net, store: &Store, world: &mut World) -> Result<
     Ok(())
 }
 
+// does the last task, as long as there is one
+fn work(alloc: Global, net: &Net, store: &Store, world: &mut World) -> Result<(), OutOfMemory>
+    requires net { net.now.nodes ≡ two_joins }
+    requires ready { IsReady net.now.nodes store.now world.old }
+    ensures { IsReady net.now.nodes store.now world.new }
+{
+    for _turn in 0..20 {
+        if world.in_flight() > 0 {
+            world.work(alloc, net, store)?;
+        }
+    }
+    Ok(())
+}
+
+// the line of the last task, if there is one
+fn next_line(net: &Net, store: &Store, world: &World) -> Option<usize>
+    requires { IsReady net.now.nodes store.now world.now }
+{
+    if world.in_flight() > 0 {
+        Some(world.line_of_last(net, store))
+    } else {
+        None
+    }
+}
+
+// how many lines have entries
+fn busy_lines(world: &World) -> usize {
+    let lines = world.lines();
+    lines
+        .iter()
+        .filter(|line| !line.entries().is_empty())
+        .count()
+}
+
 // how often the token of both elements stands at the terminal
 fn found(alloc: Global, net: &Net, store: &Store, world: &World) -> Result<i64, OutOfMemory> {
     let task = Task {
@@ -258,5 +292,27 @@ fn a_delete_before_its_insert_cancels(rt: HostRuntime) -> Result<(), Fail> {
         (world.counter(), found(rt.alloc(), &net, &store, &world)?),
         (0, 0)
     );
+    Ok(())
+}
+
+// The codes of the lines: 0 of the first join, 31 + 7 of the second one, and ((2 * 31) + 1) * 31 + 2 of the terminal.
+#[test]
+fn lines_with_entries_are_named(rt: HostRuntime) -> Result<(), Fail> {
+    let net = net_of_two_joins(rt.alloc())?;
+    let store = store_of_two(rt.alloc())?;
+    let mut world = first_world(rt.alloc(), &net, &store)?;
+    come(rt.alloc(), &net, &store, &mut world, 2, 1)?;
+    assert_eq!(rt; next_line(&net, &store, &world), Some(2));
+    work(rt.alloc(), &net, &store, &mut world)?;
+    assert_eq!(rt;
+        (world.counter(), found(rt.alloc(), &net, &store, &world)?),
+        (0, 1)
+    );
+    assert_eq!(rt; world.worked(), &[2, 0, 3][..]);
+    assert_eq!(rt; busy_lines(&world), 3);
+    if world.counter() == 0 {
+        world.clear_phase();
+    }
+    assert_eq!(rt; (world.worked().len(), busy_lines(&world)), (0, 0));
     Ok(())
 }

@@ -1,20 +1,19 @@
 //! The world of a match, and its steps: a change is fed, a task is activated, an entry is finished, the lines are cleared.
-ghost use Rattle.std.specs.Prelude.{◌≡◌, ◌≤◌, ◌<◌, ◌+◌, ◌∷◌, ◌++◌, [], length, remove, slice_get, Some, vec_len, vec_capacity};
-ghost use Rattle.std.specs.VecDeque.{deque_capacity, deque_len};
+ghost use Rattle.std.specs.Prelude.{◌≡◌, ◌≤◌, ◌<◌, ◌+◌, ◌-◌, length, remove, slice_get, Some};
 ghost use Rattle.net_base.specs.declared.tasks.Task.{Task};
-ghost use Rattle.step_core.specs.Clearing.{IsCleared};
+ghost use Rattle.step_core.specs.Worked.{AreWorked};
 
+use crate::done::{Done, deliver, move_to_done};
 use crate::feeding::fed_by;
 use crate::start::first_lines;
-use activation::activate;
+use crate::worked::{act_on, clear_worked};
 use net_base::net::Net;
 use net_base::tasks::Task;
 use ops_base::elements::Change;
-use ops_base::list::Listed;
 use ops_base::memory::OutOfMemory;
 use std::alloc::Global;
-use std::collections::VecDeque;
-use token_line::{Entry, Line, line_of};
+use token_line::laws::joined_tokens_have_one_line;
+use token_line::{Line, line_of};
 use work_store::Store;
 
 /// One step: a change, the place of a task in flight, or the place of an entry that is done.
@@ -26,52 +25,17 @@ pub enum Step {
 }
 
 /// The lines, the tasks in flight, the entries of the tasks that were activated and are not finished, and how many tasks and entries these
-/// are together.
+/// are together. The last task in flight is the one to be done next. It knows which lines have entries.
 #[derive(Drop)]
 pub struct World {
     lines: Vec<Line>,
-    flight: VecDeque<Task>,
-    done: Vec<Entry>,
+    flight: Vec<Task>,
+    done: Vec<Done>,
     counter: u64,
+    worked: Vec<usize>,
     ghost some: { 1 ≤ length lines.items },
     ghost counted: { counter ≡ length flight.items + length done.items },
-}
-
-/// Adds tasks at the end of those that have the room.
-fn deliver(flight: &mut VecDeque<Task>, tasks: Vec<Task>)
-    requires { deque_len flight.old + vec_len tasks ≤ deque_capacity flight.old }
-    ensures { flight.new.items ≡ flight.old.items ++ tasks.items }
-{
-    let _moved = flight.append(&mut VecDeque::from_vec(tasks));
-}
-
-/// The task at that place leaves the flight, and becomes an entry with these children, behind those that are done.
-fn move_to_done(
-    flight: &mut VecDeque<Task>,
-    index: usize,
-    children: Vec<Task>,
-    done: &mut Vec<Entry>,
-)
-    requires within { index < length flight.old.items }
-    requires room { vec_len done.old < vec_capacity done.old }
-    ensures flight { flight.new.items ≡ remove flight.old.items index }
-    ensures count { length flight.new.items + length done.new.items ≡ length flight.old.items + length done.old.items }
-    ensures done { (x : Task) → slice_get flight.old.items index ≡ Some x → done.new.items ≡ done.old.items ++ record { task = x; children = children.items } ∷ [] }
-{
-    match flight.remove(index) {
-        Some(task) => done.push_reserved(Entry {
-            task,
-            children: Listed::from_vec(children),
-        }),
-        None => unreachable!(),
-    }
-}
-
-/// Begins a phase on the line.
-fn clear(line: &mut Line)
-    ensures { IsCleared line.old line.new }
-{
-    line.clear_phase();
+    ghost told: { AreWorked lines.items worked.items },
 }
 
 impl World {
@@ -81,6 +45,10 @@ impl World {
     ghost use Rattle.net_base.specs.declared.nodes.Node.{Node};
     ghost use Rattle.net_base.specs.Tokens.{Elements};
     ghost use Rattle.step_core.specs.Machine.{Activate, Clear, Feed, Finishes, Placing, Steps, start};
+    ghost use Rattle.token_line.specs.Held.{Agrees};
+    ghost use Rattle.step_core.specs.Laws.{IsPlaced};
+    ghost use Rattle.step_core.specs.Machine.{place_of};
+    ghost use Rattle.step_core.specs.Working.{IsLast, IsWorked, but_last};
     ghost use Rattle.step_core.specs.Worlds.{AreNumbered, IsReady, IsWithin, Takes, numbers_of, placed, step_of, world_of};
 
     /// So many lines, with nothing under way. It makes each line and looks at each node.
@@ -89,13 +57,17 @@ impl World {
         ensures start { IfOk result (λ w. (elements : Elements) → world_of w ≡ start net.now.nodes (placed elements net.now.nodes lines) lines) }
         ensures ready { IfOk result (λ w. (s : Stored) → IsReady net.now.nodes s w) }
         ensures numbered { IfOk result (λ w. AreNumbered w.lines.items) }
+        ensures count { IfOk result (λ w. length w.lines.items ≡ lines) }
+        ensures placed { (elements : Elements) → IsPlaced elements net.now.alphas net.now.nodes (placed elements net.now.nodes lines) lines }
     {
+        joined_tokens_have_one_line();
         let lines = first_lines(alloc, net, lines)?;
         Ok(World {
             lines,
-            flight: VecDeque::new(alloc),
+            flight: Vec::new(alloc),
             done: Vec::new(alloc),
             counter: 0,
+            worked: Vec::new(alloc),
         })
     }
 
@@ -105,6 +77,13 @@ impl World {
         ensures some { 1 ≤ length self.now.lines.items }
     {
         self.lines.as_slice()
+    }
+
+    /// The places of the lines that have entries, each once, in the order in which work began on them. Takes no memory.
+    pub fn worked(&self) -> &[usize]
+        ensures { AreWorked self.now.lines.items result.now }
+    {
+        self.worked.as_slice()
     }
 
     /// How many tasks are in flight. Takes no memory.
@@ -129,6 +108,26 @@ impl World {
         self.counter
     }
 
+    /// The number of the line on which the task at that place is done, at the cost of `token_line::line_of`.
+    pub fn line_at(&self, net: &Net, store: &Store, index: usize) -> usize
+        requires ready { IsReady net.now.nodes store.now self.now }
+        requires within { index < length self.now.flight.items }
+        ensures placed { (elements : Elements) (x : Task) → Agrees store.now elements → slice_get self.now.flight.items index ≡ Some x → result ≡ place_of (placed elements net.now.nodes (length self.now.lines.items)) x }
+        ensures below { result < length self.now.lines.items }
+    {
+        line_of(net, store, &self.flight[index], self.lines.len())
+    }
+
+    /// The number of the line on which the last task in flight is done, at the cost of `token_line::line_of`.
+    pub fn line_of_last(&self, net: &Net, store: &Store) -> usize
+        requires ready { IsReady net.now.nodes store.now self.now }
+        requires some { 1 ≤ length self.now.flight.items }
+        ensures placed { (elements : Elements) (x : Task) → Agrees store.now elements → IsLast self.now x → result ≡ place_of (placed elements net.now.nodes (length self.now.lines.items)) x }
+        ensures below { result < length self.now.lines.items }
+    {
+        self.line_at(net, store, self.flight.len() - 1)
+    }
+
     /// Puts into flight one task for each node that takes the change's element. It looks at each node of the network. Where memory
     /// runs out nothing has changed.
     pub fn feed(
@@ -144,6 +143,7 @@ impl World {
         ensures ready { IsReady net.now.nodes store.now self.new }
         ensures err { OnErr result (world_of self.new ≡ world_of self.old) }
         ensures lines { numbers_of self.new ≡ numbers_of self.old }
+        ensures count { length self.new.lines.items ≡ length self.old.lines.items }
     {
         let tasks = fed_by(alloc, net, store, change)?;
         let added = tasks.len();
@@ -153,8 +153,8 @@ impl World {
         Ok(())
     }
 
-    /// Does the task at that place on its line, at the cost of `activation::activate`. Beside that it moves the tasks in flight on
-    /// the shorter side of the place, so the first and the last cost no more. Where memory runs out nothing has changed.
+    /// Does the task at that place on its line, at the cost of `activation::activate`. It also moves the tasks in flight after that
+    /// place, so the last one costs no more. Where memory runs out nothing has changed.
     pub fn activate(
         &mut self,
         alloc: Global,
@@ -168,16 +168,17 @@ impl World {
         ensures ready { IsReady net.now.nodes store.now self.new }
         ensures err { OnErr result (world_of self.new ≡ world_of self.old) }
         ensures lines { numbers_of self.new ≡ numbers_of self.old }
+        ensures count { length self.new.lines.items ≡ length self.old.lines.items }
     {
         self.done.reserve(1)?;
         let mut children = Vec::new(alloc);
         let task = &self.flight[index];
-        let number = line_of(net, store, task, self.lines.len());
-        activate(
+        act_on(
+            &mut self.lines,
+            &mut self.worked,
             alloc,
             net,
             store,
-            &mut self.lines[number],
             task,
             &mut children,
         )?;
@@ -185,7 +186,7 @@ impl World {
         Ok(())
     }
 
-    /// Puts the children of the entry at that place into flight, and lets the entry go. It moves these and the entries behind that
+    /// Puts the children of the entry at that place into flight, and lets the entry go. It moves these and the entries after that
     /// place. Where memory runs out nothing has changed.
     pub fn finish(&mut self, index: usize) -> Result<(), OutOfMemory>
         requires { index < length self.old.done.items }
@@ -193,13 +194,61 @@ impl World {
         ensures ready { (nodes : List Node) (s : Stored) → IsReady nodes s self.old → IsReady nodes s self.new }
         ensures err { OnErr result (world_of self.new ≡ world_of self.old) }
         ensures lines { numbers_of self.new ≡ numbers_of self.old }
+        ensures count { length self.new.lines.items ≡ length self.old.lines.items }
     {
         let added = self.done[index].children.len();
         self.flight.reserve(added)?;
-        let entry = self.done.remove(index);
-        deliver(&mut self.flight, entry.children.into_vec());
+        let finished = self.done.remove(index);
+        deliver(&mut self.flight, finished.children);
         self.counter = self.counter - 1 + added as u64;
         Ok(())
+    }
+
+    /// Does the task at that place and finishes it, at the cost of `activation::activate`: its children are made where they will be,
+    /// at the end of the flight. It also moves the tasks in flight after that place. Where memory runs out nothing has changed.
+    pub fn work_at(
+        &mut self,
+        alloc: Global,
+        net: &Net,
+        store: &Store,
+        index: usize,
+    ) -> Result<(), OutOfMemory>
+        requires ready { IsReady net.now.nodes store.now self.old }
+        requires within { index < length self.old.flight.items }
+        ensures worked { OnOk result (IsWorked net.now.alphas net.now.nodes store.now self.old index (remove self.old.flight.items index) self.new) }
+        ensures ready { IsReady net.now.nodes store.now self.new }
+        ensures err { OnErr result (world_of self.new ≡ world_of self.old) }
+        ensures lines { numbers_of self.new ≡ numbers_of self.old }
+        ensures count { length self.new.lines.items ≡ length self.old.lines.items }
+    {
+        let task = self.flight[index].copy(alloc)?;
+        act_on(
+            &mut self.lines,
+            &mut self.worked,
+            alloc,
+            net,
+            store,
+            &task,
+            &mut self.flight,
+        )?;
+        let _task = self.flight.remove(index);
+        self.counter = (self.flight.len() + self.done.len()) as u64;
+        Ok(())
+    }
+
+    /// Does the last task in flight and finishes it: its children take its place at the end of the flight. It costs what
+    /// `activation::activate` costs. Where memory runs out nothing has changed.
+    pub fn work(&mut self, alloc: Global, net: &Net, store: &Store) -> Result<(), OutOfMemory>
+        requires ready { IsReady net.now.nodes store.now self.old }
+        requires some { 1 ≤ length self.old.flight.items }
+        ensures worked { OnOk result (IsWorked net.now.alphas net.now.nodes store.now self.old (length self.old.flight.items - 1) (but_last self.old.flight.items) self.new) }
+        ensures ready { IsReady net.now.nodes store.now self.new }
+        ensures err { OnErr result (world_of self.new ≡ world_of self.old) }
+        ensures lines { numbers_of self.new ≡ numbers_of self.old }
+        ensures count { length self.new.lines.items ≡ length self.old.lines.items }
+    {
+        let last = self.flight.len() - 1;
+        self.work_at(alloc, net, store, last)
     }
 
     /// Takes one step, at the cost of its kind.
@@ -216,6 +265,7 @@ impl World {
         ensures ready { IsReady net.now.nodes store.now self.new }
         ensures err { OnErr result (world_of self.new ≡ world_of self.old) }
         ensures lines { numbers_of self.new ≡ numbers_of self.old }
+        ensures count { length self.new.lines.items ≡ length self.old.lines.items }
     {
         match step {
             Step::Feed(change) => self.feed(alloc, net, store, change),
@@ -224,15 +274,14 @@ impl World {
         }
     }
 
-    /// Begins a phase on each line, and lets their entries go. Takes no memory.
+    /// Begins a phase on each line, and lets their entries go. It looks at the lines that have entries alone, and takes no memory.
     pub fn clear_phase(&mut self)
         requires counter { self.old.counter ≡ 0 }
         ensures steps { (elements : Elements) (alphas : List Alpha) (nodes : List Node) (line : Placing) → Steps elements alphas nodes line (world_of self.old) Clear (world_of self.new) }
         ensures ready { (nodes : List Node) (s : Stored) → IsReady nodes s self.old → IsReady nodes s self.new }
         ensures lines { numbers_of self.new ≡ numbers_of self.old }
+        ensures count { length self.new.lines.items ≡ length self.old.lines.items }
     {
-        for line in self.lines.iter_mut() {
-            clear(line);
-        }
+        clear_worked(&mut self.lines, &mut self.worked);
     }
 }

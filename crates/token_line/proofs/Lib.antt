@@ -1,4 +1,5 @@
 pub mod Joined
+pub mod Fitting
 pub mod Kept
 pub mod Blocked
 pub mod Memories

@@ -1,5 +1,5 @@
 -- Which tasks and tokens fit a network and a store.
-use Rattle.std.specs.Prelude.{◌≡◌, ℕ, List, length, slice_get, Some, IsSome, All}
+use Rattle.std.specs.Prelude.{◌≡◌, ◌<◌, ◌==◌, ℕ, Bool, true, false, List, length, slice_get, Some, IsSome, All}
 use Rattle.work_store.specs.Stored.{Stored, held_of}
 use Rattle.ops_base.specs.declared.elements.Element.{Element}
 use Rattle.net_base.specs.declared.nodes.Kind.{Kind}
@@ -15,21 +15,22 @@ use Rattle.net_base.specs.Sound.{left_width}
 abbrev pub Agrees : Stored → Elements → Type 0
 Agrees s elements = (tag : ℕ) (e : Element) → held_of s tag ≡ Some e → elements tag ≡ Some e
 
--- how many tags a token of one side has: a right token is one element, and at a terminal there is none
-abbrev pub HasWidth : List Node → Node → Side → List ℕ → Type 0
-HasWidth nodes node Left t = length t ≡ left_width nodes node.parent
-HasWidth nodes node Right t = HasOne node.kind t
-  where
-    HasOne : Kind → List ℕ → Type 0
-    HasOne Join t = length t ≡ 1
-    HasOne Negated t = length t ≡ 1
-    HasOne (Terminal rule) t = ⊥
+-- a right token is one element, and at a terminal there is none
+abbrev pub is_one : Kind → List ℕ → Bool
+is_one Join t = length t == 1
+is_one Negated t = length t == 1
+is_one (Terminal rule) t = false
 
--- a token of one side of a node, all of whose elements the store holds
+-- the token has as many tags as those of one side of the node
+abbrev pub is_wide : List Node → Node → Side → List ℕ → Bool
+is_wide nodes node Left t = length t == left_width nodes node.parent
+is_wide nodes node Right t = is_one node.kind t
+
+-- A token of one side of a node, all of whose elements the store holds. Each part has one proof at most, so a type can keep this as its
+-- invariant.
 pub record Fits (nodes : List Node) (s : Stored) (n : ℕ) (side : Side) (t : List ℕ) : Type 0 where
-  pub node : Node
-  pub at : slice_get nodes n ≡ Some node
-  pub width : HasWidth nodes node side t
+  pub within : n < length nodes
+  pub width : (node : Node) → slice_get nodes n ≡ Some node → is_wide nodes node side t ≡ true
   pub held : All (λ tag. IsSome (held_of s tag)) t
 
 abbrev pub TaskFits : List Node → Stored → Task → Type 0

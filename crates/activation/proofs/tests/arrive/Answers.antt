@@ -8,6 +8,7 @@ use Rattle.net_base.specs.declared.tasks.Side.{Side}
 use Rattle.net_base.specs.declared.tasks.Side.TheVariants.{Left, Right}
 use Rattle.net_base.specs.declared.tasks.Task.{Task}
 use Rattle.token_line.specs.Held.{Fits, TaskFits}
+use Rattle.token_line.proofs.Fitting.{fits_at}
 use Rattle.activation.specs.OneJoin.{one_join}
 use Rattle.activation.proofs.tests.arrive.Goals as goal
 
@@ -15,10 +16,10 @@ abbrev join : Node
 join = record { kind = Join; parent = None; class = 0; alpha = 0; joins = []; children = 1 ∷ []; depth = 1 }
 
 left_fits : (s : Stored) → Fits one_join s 0 Left []
-left_fits s = record { node = join; at = refl; width = refl; held = All-nil (λ tag. IsSome (held_of s tag)) }
+left_fits s = fits_at one_join s 0 join refl Left [] refl (All-nil (λ tag. IsSome (held_of s tag)))
 
 right_fits : (s : Stored) → IsSome (held_of s 1) → Fits one_join s 0 Right (1 ∷ [])
-right_fits s held = record { node = join; at = refl; width = refl; held = All-cons (λ tag. IsSome (held_of s tag)) 1 [] held (All-nil (λ tag. IsSome (held_of s tag))) }
+right_fits s held = fits_at one_join s 0 join refl Right (1 ∷ []) refl (All-cons (λ tag. IsSome (held_of s tag)) 1 [] held (All-nil (λ tag. IsSome (held_of s tag))))
 
 task_fits : (nodes : List Node) (s : Stored) (x : Task) (side : Side) (plus : Bool) (t : List ℕ) → nodes ≡ one_join → x ≡ record { node = 0; side = side; plus = plus; token = t }
     → Fits one_join s 0 side t → TaskFits nodes s x

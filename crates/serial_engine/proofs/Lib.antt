@@ -1,0 +1,4 @@
+pub mod StepLemmas
+pub mod StartLemmas
+pub mod PhaseLemmas
+pub mod SettleLemmas

@@ -1,0 +1,14 @@
+-- Some of the changes are fed, and all that came of them is done.
+use Rattle.std.proofs.Common.{◌≡◌, [], length, take}
+use Rattle.step_core.specs.Worlds.{IsReady, numbers_of, world_of}
+use Rattle.serial_engine.specs.Running.{Went}
+use Rattle.serial_engine.proofs.phases.work_each.Given as goal
+
+abbrev pub invariant-loop-change : goal.invariant-loop-change
+invariant-loop-change g l = record {
+  went : Went l.net.alphas l.net.nodes l.store (length l.fn.world.lines.items) l.fn.world (take l.change-index l.changes) l.world;
+  flight : l.world.flight.items ≡ [];
+  done : (world_of l.world).done ≡ (world_of l.fn.world).done;
+  ready : IsReady l.net.nodes l.store l.world;
+  lines : numbers_of l.world ≡ numbers_of l.fn.world;
+}

@@ -1,0 +1,2 @@
+-- A phase on its way.
+pub mod Running

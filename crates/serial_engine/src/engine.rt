@@ -1,0 +1,198 @@
+//! The serial engine: a matcher over a network, which works one task after another.
+ghost use Rattle.std.specs.Prelude.{◌≡◌, ◌≤◌, All, IfOk, [], length, map};
+ghost use Rattle.work_store.specs.Stored.{held_of, nothing_stored};
+ghost use Rattle.activation.specs.Acting.{IsCounted};
+ghost use Rattle.step_core.specs.Laws.{AreEmpty};
+ghost use Rattle.step_core.specs.Phases.{HoldJust, now, sums_over};
+ghost use Rattle.step_core.specs.Worlds.{AreNumbered, placed, seen};
+
+use crate::phases::settle;
+use net_base::net::Net;
+use ops_base::elements::Change;
+use ops_base::memory::OutOfMemory;
+use ops_io::Gate;
+use std::alloc::Global;
+use step_core::laws::{match_laws, settle_laws};
+use step_core::{Gathered, World};
+use token_line::Line;
+use work_store::{Matcher, Settled, Store};
+
+/// A matcher over a network. Between two settles its lines hold just the tokens that stand at each node over its store, each once. The gate is
+/// called with worker 0 and the number of the line, just before each activation.
+#[derive(Drop)]
+pub struct SerialEngine<G> {
+    net: Net,
+    store: Store,
+    world: World,
+    gate: G,
+    // Nothing is under way.
+    ghost quiet: { world.counter ≡ 0 },
+    ghost numbered: { AreNumbered world.lines.items },
+    ghost counted: { All (IsCounted net.nodes store) world.lines.items },
+    ghost holds: { HoldJust (placed (held_of store) net.nodes (length world.lines.items)) (sums_over store.elements net.alphas net.nodes) (map now (map seen world.lines.items)) },
+}
+
+impl<G: Gate + Drop> SerialEngine<G> {
+    ghost use Rattle.ops_base.specs.WorkingMemory.{Lawful, done, last_after};
+    ghost use Rattle.work_store.specs.Settling.{IsSettled};
+    ghost use Rattle.work_store.specs.Stored.{HoldsAlso, added_by};
+    ghost use Rattle.step_core.specs.Found.{found_over};
+    ghost use Rattle.step_core.specs.Phases.{IsBundle};
+
+    /// An engine over the network with so many lines. Nothing is stored. It makes each line and looks at each node.
+    pub fn new(
+        alloc: Global,
+        net: Net,
+        lines: usize,
+        gate: G,
+    ) -> Result<SerialEngine<G>, OutOfMemory>
+        requires { 1 ≤ lines }
+        ensures net { IfOk result (λ e. e.net ≡ net) }
+        ensures empty { IfOk result (λ e. e.store ≡ nothing_stored) }
+        ensures lines { IfOk result (λ e. length e.world.lines.items ≡ lines) }
+        ensures entries { IfOk result (λ e. AreEmpty (map seen e.world.lines.items)) }
+    {
+        match_laws();
+        let world = World::start(alloc, &net, lines)?;
+        Ok(SerialEngine {
+            net,
+            store: Store::new(alloc),
+            world,
+            gate,
+        })
+    }
+
+    /// The network. Takes no memory.
+    pub fn net(&self) -> &Net
+        ensures { result.now ≡ self.now.net }
+    {
+        &self.net
+    }
+
+    /// The lines, in the order of their numbers, with the entries of the last settle. Takes no memory.
+    pub fn lines(&self) -> &[Line]
+        ensures lines { result.now ≡ self.now.world.lines.items }
+        ensures numbered { AreNumbered result.now }
+        // They hold just the tokens over the store.
+        ensures hold { HoldJust (placed (held_of self.now.store) self.now.net.nodes (length result.now)) (sums_over self.now.store.elements self.now.net.alphas self.now.net.nodes) (map now (map seen result.now)) }
+    {
+        self.world.lines()
+    }
+
+    /// As `settle`, with an order that a test can choose: all changes are fed at once, and the activation of each pick is that of the task at the
+    /// place that is the pick modulo the number of tasks in flight. The tasks that are fed stand in the order of the changes, and those of each change in that
+    /// of their nodes; the children of a task come behind all others. When the picks have ended the engine goes on with what is left.
+    pub fn settle_by(
+        self,
+        alloc: Global,
+        _hand: &mut (),
+        changes: &[Change],
+        picks: &[usize],
+    ) -> Result<Settled<SerialEngine<G>>, OutOfMemory>
+        requires { Lawful self.store.elements self.store.last changes.now }
+        ensures elements { IfOk result (λ s. s.matcher.store.elements ≡ done self.store.elements changes.now) }
+        ensures last { IfOk result (λ s. s.matcher.store.last ≡ last_after self.store.last changes.now) }
+        ensures settled { IfOk result (λ s. IsSettled (found_over self.net.alphas self.net.nodes self.store.elements) (found_over s.matcher.net.alphas s.matcher.net.nodes s.matcher.store.elements) s.gone.items s.come.items) }
+        ensures net { IfOk result (λ s. s.matcher.net ≡ self.net) }
+        ensures kept { IfOk result (λ s. HoldsAlso (record self.store { kept = [] }) s.matcher.store (added_by changes.now)) }
+        ensures bundle { IfOk result (λ s. IsBundle (held_of s.matcher.store) s.matcher.net.alphas s.matcher.net.nodes (placed (held_of s.matcher.store) s.matcher.net.nodes (length s.matcher.world.lines.items)) self.store.elements changes.now (map seen s.matcher.world.lines.items)) }
+        ensures lines { IfOk result (λ s. length s.matcher.world.lines.items ≡ length self.world.lines.items) }
+    {
+        let SerialEngine {
+            net,
+            mut store,
+            mut world,
+            gate,
+        } = self;
+        let enter = |line: usize| gate.enter(0, line);
+        let Gathered { come, gone } = settle(
+            alloc,
+            &net,
+            &mut store,
+            &enter,
+            &mut world,
+            changes,
+            Some(picks),
+        )?;
+        let matcher = SerialEngine {
+            net,
+            store,
+            world,
+            gate,
+        };
+        Ok(Settled {
+            matcher,
+            come,
+            gone,
+        })
+    }
+}
+
+impl<G: Gate + Drop> Matcher for SerialEngine<G> {
+    ghost use Rattle.std.specs.Prelude.{List};
+    ghost use Rattle.ops_base.specs.declared.rules.Rule.{Rule};
+    ghost use Rattle.ops_base.specs.WorkingMemory.{Lawful, done, last_after};
+    ghost use Rattle.work_store.specs.Settling.{IsSettled};
+    ghost use Rattle.work_store.specs.Stored.{HoldsAlso, added_by};
+    ghost use Rattle.net_base.specs.Network.{NetOf};
+    ghost use Rattle.step_core.specs.Phases.{IsBundle};
+    ghost use Rattle.step_core.specs.Found.{found_over};
+
+    ghost stored = { λ e. e.store };
+
+    ghost found = { λ e. found_over e.net.alphas e.net.nodes e.store.elements };
+
+    ghost stands_for = { λ e rules. NetOf e.net rules };
+
+    type Hand = ();
+
+    fn store(&self) -> &Store {
+        settle_laws();
+        let _last = self.store.last();
+        let _nodes = self.net.nodes();
+        &self.store
+    }
+
+    /// Does one change after another: it feeds its tasks, and does each with all that comes of it, down to the terminals, before the next. So
+    /// few tasks are in flight at a time.
+    fn settle(
+        self,
+        alloc: Global,
+        _hand: &mut (),
+        changes: &[Change],
+    ) -> Result<Settled<SerialEngine<G>>, OutOfMemory>
+        requires { Lawful self.store.elements self.store.last changes.now }
+        ensures elements { IfOk result (λ s. s.matcher.store.elements ≡ done self.store.elements changes.now) }
+        ensures last { IfOk result (λ s. s.matcher.store.last ≡ last_after self.store.last changes.now) }
+        ensures settled { IfOk result (λ s. IsSettled (found_over self.net.alphas self.net.nodes self.store.elements) (found_over s.matcher.net.alphas s.matcher.net.nodes s.matcher.store.elements) s.gone.items s.come.items) }
+        ensures stands { IfOk result (λ s. (rules : List Rule) → NetOf self.net rules → NetOf s.matcher.net rules) }
+        ensures net { IfOk result (λ s. s.matcher.net ≡ self.net) }
+        // What was removed stays kept: what was present or was added is held, and nothing else.
+        ensures kept { IfOk result (λ s. HoldsAlso (record self.store { kept = [] }) s.matcher.store (added_by changes.now)) }
+        // The lines with their entries are a bundle of the changes.
+        ensures bundle { IfOk result (λ s. IsBundle (held_of s.matcher.store) s.matcher.net.alphas s.matcher.net.nodes (placed (held_of s.matcher.store) s.matcher.net.nodes (length s.matcher.world.lines.items)) self.store.elements changes.now (map seen s.matcher.world.lines.items)) }
+        ensures lines { IfOk result (λ s. length s.matcher.world.lines.items ≡ length self.world.lines.items) }
+    {
+        let SerialEngine {
+            net,
+            mut store,
+            mut world,
+            gate,
+        } = self;
+        let enter = |line: usize| gate.enter(0, line);
+        let Gathered { come, gone } = settle(
+            alloc, &net, &mut store, &enter, &mut world, changes, None,
+        )?;
+        let matcher = SerialEngine {
+            net,
+            store,
+            world,
+            gate,
+        };
+        Ok(Settled {
+            matcher,
+            come,
+            gone,
+        })
+    }
+}

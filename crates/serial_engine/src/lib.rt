@@ -1,0 +1,9 @@
+//! The serial engine: a matcher over a network that works one task after another.
+#![tactic(auto)]
+
+mod engine;
+mod phases;
+#[cfg(test)]
+mod tests;
+
+pub use engine::SerialEngine;

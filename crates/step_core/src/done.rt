@@ -1,0 +1,38 @@
+//! What was done and is not finished yet.
+ghost use Rattle.std.specs.Prelude.{◌≡◌, ◌≤◌, ◌<◌, ◌+◌, ◌∷◌, ◌++◌, [], length, map, remove, slice_get, Some, vec_len, vec_capacity};
+ghost use Rattle.net_base.specs.declared.tasks.Task.{Task};
+ghost use Rattle.step_core.specs.Doing.{entry_of};
+
+use net_base::tasks::Task;
+
+/// A task that was done, and the tasks that it gave.
+#[derive(Drop)]
+pub(crate) struct Done {
+    pub(crate) task: Task,
+    pub(crate) children: Vec<Task>,
+}
+
+/// Adds tasks at the end of those that have the room.
+pub(crate) fn deliver(flight: &mut Vec<Task>, mut tasks: Vec<Task>)
+    requires { vec_len flight.old + vec_len tasks ≤ vec_capacity flight.old }
+    ensures { flight.new.items ≡ flight.old.items ++ tasks.items }
+{
+    let _moved = flight.append(&mut tasks);
+}
+
+/// The task at that place leaves the flight, and is done with these children, after those that were done before.
+pub(crate) fn move_to_done(
+    flight: &mut Vec<Task>,
+    index: usize,
+    children: Vec<Task>,
+    done: &mut Vec<Done>,
+)
+    requires within { index < length flight.old.items }
+    requires room { vec_len done.old < vec_capacity done.old }
+    ensures flight { flight.new.items ≡ remove flight.old.items index }
+    ensures count { length flight.new.items + length done.new.items ≡ length flight.old.items + length done.old.items }
+    ensures done { (x : Task) → slice_get flight.old.items index ≡ Some x → map entry_of done.new.items ≡ map entry_of done.old.items ++ record { task = x; children = children.items } ∷ [] }
+{
+    let task = flight.remove(index);
+    done.push_reserved(Done { task, children });
+}

@@ -1,0 +1,71 @@
+//! The lines at work: a task is done on its line, those that have entries are known by name, and they alone are cleared.
+ghost use Rattle.std.specs.Prelude.{◌≡◌, ◌≢◌, ◌≤◌, ◌<◌, ◌∷◌, ◌++◌, [], All, List, OnErr, OnOk, length, map, vec_capacity, vec_len};
+ghost use Rattle.work_store.specs.Stored.{Stored};
+ghost use Rattle.net_base.specs.declared.nodes.Node.{Node};
+ghost use Rattle.token_line.specs.Held.{TaskFits};
+ghost use Rattle.activation.specs.Acting.{IsCounted};
+ghost use Rattle.step_core.specs.Machine.{cleared};
+ghost use Rattle.step_core.specs.Worked.{AreWorked};
+ghost use Rattle.step_core.specs.Worlds.{ActsOn, seen};
+
+use activation::activate;
+use net_base::net::Net;
+use net_base::tasks::Task;
+use ops_base::memory::OutOfMemory;
+use std::alloc::Global;
+use token_line::{Line, line_of};
+use work_store::Store;
+
+/// Names the line, which has this place, after those that are named, if its only entry is the first one.
+fn name_worked(worked: &mut Vec<usize>, place: usize, line: &Line)
+    requires { vec_len worked.old < vec_capacity worked.old }
+    ensures first { length line.now.entries.items ≡ 1 → worked.new.items ≡ worked.old.items ++ place ∷ [] }
+    ensures later { length line.now.entries.items ≢ 1 → worked.new.items ≡ worked.old.items }
+{
+    if line.entries().len() == 1 {
+        worked.push_reserved(place);
+    }
+}
+
+/// Does the task on its line, whose children come at the end of `out`. Where memory runs out nothing has changed.
+pub(crate) fn act_on(
+    lines: &mut Vec<Line>,
+    worked: &mut Vec<usize>,
+    alloc: Global,
+    net: &Net,
+    store: &Store,
+    task: &Task,
+    out: &mut Vec<Task>,
+) -> Result<(), OutOfMemory>
+    requires some { 1 ≤ length lines.old.items }
+    requires told { AreWorked lines.old.items worked.old.items }
+    requires fits { TaskFits net.now.nodes store.now task.now }
+    requires counted { All (IsCounted net.now.nodes store.now) lines.old.items }
+    ensures acts { OnOk result (ActsOn net.now.nodes store.now task.now lines.old.items lines.new.items out.old.items out.new.items) }
+    ensures told { AreWorked lines.new.items worked.new.items }
+    ensures counted { All (IsCounted net.now.nodes store.now) lines.new.items }
+    ensures numbers { map (λ l. l.number) lines.new.items ≡ map (λ l. l.number) lines.old.items }
+    ensures count { length lines.new.items ≡ length lines.old.items }
+    ensures same_seen { OnErr result (map seen lines.new.items ≡ map seen lines.old.items) }
+    ensures same_out { OnErr result (out.new.items ≡ out.old.items) }
+{
+    worked.reserve(1)?;
+    let number = line_of(net, store, task, lines.len());
+    activate(alloc, net, store, &mut lines[number], task, out)?;
+    name_worked(worked, number, &lines[number]);
+    Ok(())
+}
+
+/// Begins a phase on the lines that have entries, which then have none.
+pub(crate) fn clear_worked(lines: &mut Vec<Line>, worked: &mut Vec<usize>)
+    requires { AreWorked lines.old.items worked.old.items }
+    ensures cleared { map seen lines.new.items ≡ map cleared (map seen lines.old.items) }
+    ensures told { AreWorked lines.new.items worked.new.items }
+    ensures counted { (nodes : List Node) (s : Stored) → All (IsCounted nodes s) lines.old.items → All (IsCounted nodes s) lines.new.items }
+    ensures numbers { map (λ l. l.number) lines.new.items ≡ map (λ l. l.number) lines.old.items }
+    ensures count { length lines.new.items ≡ length lines.old.items }
+{
+    while let Some(place) = worked.pop() {
+        lines[place].clear_phase();
+    }
+}
