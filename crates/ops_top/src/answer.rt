@@ -1,7 +1,8 @@
 //! The answer to a text.
-ghost use Rattle.std.specs.Prelude.{◌≡◌, ◌^◌, ◌<◌, ℕ, List, [], length, nat_lt, true, false, IsTrue};
+ghost use Rattle.std.specs.Prelude.{◌≡◌, ◌^◌, ◌<◌, ◌≤◌, ℕ, List, [], length, nat_lt, true, false, IsTrue};
 ghost use Rattle.std.specs.Io.KnownBytes.{prepend_known};
 ghost use Rattle.ops_base.specs.ConflictSet.{conflict_set};
+ghost use Rattle.ops_jobs.specs.Laws.{KeepsLimits};
 ghost use Rattle.ops_io.specs.Coming.{inlet};
 ghost use Rattle.ops_io.specs.Ports.{port};
 ghost use Rattle.ops_meaning.specs.Reads.{Read};
@@ -13,15 +14,17 @@ ghost use Rattle.ops_top.specs.Calls.{OfInput, TellsFailedInput, is_refused};
 ghost use Rattle.ops_top.specs.Told.{Delivers, status_after, CountsTold, TellsOn};
 
 use crate::saying::{refuse, say_network};
+use beta_net::compile;
 use direct_engine::DirectEngine;
 use ops_base::endings::Ending;
 use ops_base::programs::Program;
 use ops_base::symbols::Names;
 use ops_check::{ProgramFault, read_program};
-use ops_io::{Input, Out, Sink, Source, Stop};
-use ops_jobs::Job;
+use ops_io::{Gate, Input, Out, Sink, Source, Stop};
+use ops_jobs::{Engine, Job, Options};
 use ops_meaning::Status;
 use ops_print::put_fault;
+use serial_engine::SerialEngine;
 use session::run_session;
 use std::alloc::Global;
 use work_store::Matcher;
@@ -87,15 +90,20 @@ fn tell_session<M: Matcher, I: Source, K: Sink>(
     Ok(ending)
 }
 
-/// The answer to a program, whose session makes at most so many firings and reads from this source.
-fn answer_program<I: Source, K: Sink>(
+/// The answer to a program whose session runs over this matcher, makes at most so many firings and reads from this source.
+fn answer_over<M: Matcher, I: Source, K: Sink>(
     alloc: Global,
+    hand: &mut M::Hand,
     program: &Program,
     names: &mut Names,
+    matcher: M,
     limit: u64,
     source: &mut I,
     sink: &mut K,
 ) -> Result<Status, Stop>
+    requires stands { M.stands_for matcher program.now.rules }
+    requires elements { (M.stored matcher).elements ≡ [] }
+    requires last { (M.stored matcher).last ≡ 0 }
     requires faults { K.faults sink.old < 2 ^ 63 }
     requires reads { I.faults source.old < 2 ^ 63 }
     requires some { 0 < length names.old.held }
@@ -108,34 +116,64 @@ fn answer_program<I: Source, K: Sink>(
     ensures input { (got : List ℕ) × (I.left source.old ≡ prepend_known got (I.left source.new)) }
     ensures unrefused { is_refused (status_after result) ≡ false }
 {
-    let engine = DirectEngine::new(alloc, program)?;
     let mut input = Input::new(alloc)?;
     let mut out = Out::new(alloc)?;
     let ending = tell_session(
-        alloc,
-        &mut (),
-        program,
-        names,
-        engine,
-        limit,
-        &mut input,
-        source,
-        &mut out,
-        sink,
+        alloc, hand, program, names, matcher, limit, &mut input, source, &mut out, sink,
     )?;
     out.flush(sink)?;
     Ok(status_of(ending))
 }
 
+/// The answer to a program, whose session runs over the engine that the options ask for. The network is compiled only where
+/// that engine needs one.
+fn answer_program<I: Source, K: Sink, G: Gate>(
+    alloc: Global,
+    program: &Program,
+    names: &mut Names,
+    options: &Options,
+    source: &mut I,
+    sink: &mut K,
+    gate: &G,
+) -> Result<Status, Stop>
+    requires lines { 1 ≤ options.now.lines }
+    requires faults { K.faults sink.old < 2 ^ 63 }
+    requires reads { I.faults source.old < 2 ^ 63 }
+    requires some { 0 < length names.old.held }
+    requires held { IsTrue (is_held (length names.old.held) program.now.classes program.now.rules program.now.commands) }
+    ensures delivers { OfInput (I.left source.old) (I.left source.new) (nat_lt (I.faults source.old) (I.faults source.new))
+        (λ coming. Delivers result (told names.old program.now.rules
+        (session_of (setting_of program.now 0) options.now.limit program.now.commands names.old coming))
+        (K.taken sink.old) (K.faults sink.old) (K.taken sink.new) (K.faults sink.new)) }
+    ensures reads { TellsFailedInput (status_after result) (I.faults source.old) (I.faults source.new) }
+    ensures input { (got : List ℕ) × (I.left source.old ≡ prepend_known got (I.left source.new)) }
+    ensures unrefused { is_refused (status_after result) ≡ false }
+{
+    let limit = options.limit;
+    match options.engine {
+        Engine::Direct => {
+            let direct = DirectEngine::new(alloc, program)?;
+            answer_over(alloc, &mut (), program, names, direct, limit, source, sink)
+        }
+        Engine::Serial => {
+            let net = compile(alloc, program)?;
+            let serial = SerialEngine::new(alloc, net, options.lines, gate)?;
+            answer_over(alloc, &mut (), program, names, serial, limit, source, sink)
+        }
+    }
+}
+
 /// The answer to a program: what its session writes, or how large its network is.
-fn answer_job<I: Source, K: Sink>(
+fn answer_job<I: Source, K: Sink, G: Gate>(
     alloc: Global,
     program: &Program,
     names: &mut Names,
     job: &Job,
     source: &mut I,
     sink: &mut K,
+    gate: &G,
 ) -> Result<Status, Stop>
+    requires limits { KeepsLimits job.now }
     requires faults { K.faults sink.old < 2 ^ 63 }
     requires reads { I.faults source.old < 2 ^ 63 }
     requires some { 0 < length names.old.held }
@@ -151,20 +189,22 @@ fn answer_job<I: Source, K: Sink>(
 {
     match job {
         Job::Run { options, .. } => {
-            answer_program(alloc, program, names, options.limit, source, sink)
+            answer_program(alloc, program, names, options, source, sink, gate)
         }
         Job::Net { .. } => say_network(alloc, program, sink),
     }
 }
 
 /// The answer to a text: its fault, or what its session writes, or how large its network is.
-pub fn answer_text<I: Source, K: Sink>(
+pub fn answer_text<I: Source, K: Sink, G: Gate>(
     alloc: Global,
     text: Vec<u8>,
     job: &Job,
     input: &mut I,
     sink: &mut K,
+    gate: &G,
 ) -> Result<Status, Stop>
+    requires limits { KeepsLimits job.now }
     requires faults { K.faults sink.old < 2 ^ 63 }
     requires reads { I.faults input.old < 2 ^ 63 }
     ensures delivers { OfInput (I.left input.old) (I.left input.new) (nat_lt (I.faults input.old) (I.faults input.new))
@@ -176,7 +216,7 @@ pub fn answer_text<I: Source, K: Sink>(
     ensures refused { is_refused (status_after result) ≡ true → input.new ≡ input.old }
 {
     match read_program(alloc, text) {
-        Ok((program, mut names)) => answer_job(alloc, &program, &mut names, job, input, sink),
+        Ok((program, mut names)) => answer_job(alloc, &program, &mut names, job, input, sink, gate),
         Err(
             ProgramFault::At {
                 fault,

@@ -3,6 +3,8 @@
 
 mod answer;
 mod files;
+#[cfg(test)]
+mod gates;
 mod laws;
 mod lines;
 #[cfg(test)]

@@ -1,13 +1,13 @@
 //! Whole programs of one file through the top call.
 
-use crate::tests::{answer, answer_over};
+use crate::tests::{ENGINES, answer, answer_over};
 use ops_base::endings::{ActKind, Fault};
 use ops_io::{MemSink, MemSource};
 use ops_meaning::Status;
 use std::alloc::{AllocError, Global};
 use std::test::Fail;
 
-const HELLO: &[u8] =
+pub(crate) const HELLO: &[u8] =
     b"(literalize start)\n(p hello (start) --> (write Hello from OPS5 (crlf)) (remove 1))\n(make start)\n(run)\n";
 
 const PREDICATES: &[u8] = b"(literalize a n m)
@@ -237,13 +237,15 @@ const REFUSED: [(&[u8], Fault, u64, &[u8]); 5] = [
 #[test]
 fn rows(rt: HostRuntime) -> Result<(), Fail> {
     let alloc = rt.alloc();
-    for (text, status, written) in ROWS {
-        let mut sink = MemSink::new(alloc, 1_000, 1_000, Vec::new(alloc))?;
-        assert_eq!(rt;
-            answer(&rt, alloc, &["a"], &[("a", text)], &mut sink)?,
-            status
-        );
-        assert_eq!(rt; sink.written(), written);
+    for words in ENGINES {
+        for (text, status, written) in ROWS {
+            let mut sink = MemSink::new(alloc, 1_000, 1_000, Vec::new(alloc))?;
+            assert_eq!(rt;
+                answer(&rt, alloc, words, &[("a", text)], &mut sink)?,
+                status
+            );
+            assert_eq!(rt; sink.written(), written);
+        }
     }
     Ok(())
 }

@@ -30,7 +30,7 @@ const REFUSED: Status = Status::Refused {
 };
 
 /// Words, the text of the file `go`, the status that answers them and what is written.
-const SELECTED: [(&[&str], &[u8], Status, &[u8]); 13] = [
+const SELECTED: [(&[&str], &[u8], Status, &[u8]); 17] = [
     (
         &["goals", "go"],
         b"(cs) (strategy mea) (cs)",
@@ -105,6 +105,30 @@ const SELECTED: [(&[&str], &[u8], Status, &[u8]); 13] = [
         b"(run 3) (wm)",
         Status::Done,
         b"break -- run count\n4: (a ^n 3)\n",
+    ),
+    (
+        &["--match=serial", "goals", "go"],
+        b"(run) (make item) (run)",
+        Status::Done,
+        b"old\nnew\nend -- no production true\nold\nend -- no production true\n",
+    ),
+    (
+        &["--match=serial", "goals", "go", "--limit", "1"],
+        b"(run 1) (run)",
+        Status::Limit,
+        b"old\nbreak -- run count\nops: limit of 1 firings reached\n",
+    ),
+    (
+        &["closing", "go", "--match=serial", "--lines=1"],
+        b"(run 4)",
+        Status::Done,
+        b"close\nopen\nclose\nopen\nbreak -- run count\n",
+    ),
+    (
+        &["--match=serial", "closing", "none", "go"],
+        b"(make a ^q 1)",
+        REFUSED,
+        b"ops: 5:10: unknown attribute\n",
     ),
     (
         &["--", "--limit"],

@@ -3,7 +3,7 @@ ghost use Rattle.std.specs.Prelude.{◌≡◌, ◌^◌, ◌<◌, [], IfOk};
 
 use crate::top::{code, ops_run, still_run};
 use ops_base::endings::Fault;
-use ops_io::{MemShelf, MemSink, MemSource, OpenGate};
+use ops_io::{Gate, MemShelf, MemSink, MemSource, OpenGate};
 use ops_meaning::Status;
 use std::alloc::{AllocError, Global};
 use std::sync::Wait;
@@ -32,6 +32,24 @@ fn words_of(alloc: Global, words: &[&str]) -> Result<Vec<String>, AllocError> {
     Ok(owned)
 }
 
+/// What is answered to these words over these files and an input, past this gate.
+pub(crate) fn answer_past<R: Threads + Wait + Clone + Drop + Send + Sync, G: Gate>(
+    rt: &R,
+    alloc: Global,
+    words: &[&str],
+    files: &[(&str, &[u8])],
+    input: &mut MemSource,
+    sink: &mut MemSink,
+    gate: &G,
+) -> Result<Status, Fail>
+    requires input { input.old.faults < 2 ^ 63 }
+    requires sink { sink.old.faults < 2 ^ 63 }
+{
+    let mut shelf = shelf_of(alloc, files, &[])?;
+    let words = words_of(alloc, words)?;
+    Ok(ops_run(rt, alloc, &words, &mut shelf, input, sink, gate))
+}
+
 /// What is answered to these words over these files and an input.
 pub(crate) fn answer_over<R: Threads + Wait + Clone + Drop + Send + Sync>(
     rt: &R,
@@ -44,9 +62,7 @@ pub(crate) fn answer_over<R: Threads + Wait + Clone + Drop + Send + Sync>(
     requires input { input.old.faults < 2 ^ 63 }
     requires sink { sink.old.faults < 2 ^ 63 }
 {
-    let mut shelf = shelf_of(alloc, files, &[])?;
-    let words = words_of(alloc, words)?;
-    Ok(ops_run(rt, alloc, &words, &mut shelf, input, sink, &OpenGate))
+    answer_past(rt, alloc, words, files, input, sink, &OpenGate)
 }
 
 /// What is answered to these words over these files, where the input is empty.
@@ -63,11 +79,19 @@ pub(crate) fn answer<R: Threads + Wait + Clone + Drop + Send + Sync>(
     answer_over(rt, alloc, words, files, &mut input, sink)
 }
 
+/// Words that run the file `a`, with each engine.
+pub(crate) const ENGINES: [&[&str]; 4] = [
+    &["a"],
+    &["--match", "serial", "a"],
+    &["a", "--lines=1", "--match=serial"],
+    &["--match=serial", "--lines", "65536", "a"],
+];
+
 const USAGE: &[u8] =
     b"usage: ops [--match direct|serial|rounds|free] [--workers N] [--lines L] [--limit N] FILE.. | ops --gen SEED SIZE | ops --net FILE..\n";
 
 /// Words that don't fit.
-const UNFIT: [&[&str]; 9] = [
+const UNFIT: [&[&str]; 11] = [
     &[],
     &["-x", "f"],
     &["--net=1", "f"],
@@ -77,14 +101,17 @@ const UNFIT: [&[&str]; 9] = [
     &["--limit", "3", "--limit", "3", "f"],
     &["--workers", "65", "f"],
     &["--match=free", "f"],
+    &["--match=serial", "--lines=0", "f"],
+    &["--match=serial", "--lines=65537", "f"],
 ];
 
 /// Words that fit, each with what is written where no file is there.
-const FIT: [(&[&str], &[u8]); 5] = [
+const FIT: [(&[&str], &[u8]); 6] = [
     (&["f"], b"ops: cannot read f\n"),
     (&["-"], b"ops: cannot read -\n"),
     (&["--limit=3", "f", "g"], b"ops: cannot read f\n"),
     (&["f", "--workers", "7"], b"ops: cannot read f\n"),
+    (&["--match=serial", "f"], b"ops: cannot read f\n"),
     (
         &["--match", "direct", "--", "--limit"],
         b"ops: cannot read --limit\n",

@@ -31,7 +31,8 @@ pub fn code(status: &Status) -> u8
 }
 
 /// Runs the program on the words of its command line, or tells its network, without waiting for another thread. It answers a
-/// status for all words. The input is read where the program asks for an atom, and `rt` and `gate` are not used yet.
+/// status for all words. The input is read where the program asks for an atom. An engine over a network passes the gate before
+/// each activation. `rt` is not used yet.
 pub fn still_run<R: Threads + Clone + Drop + Send + Sync, H: Shelf, I: Source, K: Sink, G: Gate>(
     rt: &R,
     alloc: Global,
@@ -72,10 +73,11 @@ pub fn still_run<R: Threads + Clone + Drop + Send + Sync, H: Shelf, I: Source, K
         → H.faults shelf.new ≡ H.faults shelf.old → I.faults input.new ≡ I.faults input.old → K.faults sink.new ≡ K.faults sink.old
         → (status ≡ Status.Done) ⊎ (status ≡ Status.OutOfMemory)) }
 {
-    Some(status_after(run_words(alloc, words, shelf, input, sink)))
+    Some(status_after(run_words(alloc, words, shelf, input, sink, gate)))
 }
 
 /// Runs the program on the words of its command line, or tells its network. The input is read where the program asks for an atom.
+/// An engine over a network passes the gate before each activation.
 pub fn ops_run<
     R: Threads + Wait + Clone + Drop + Send + Sync,
     H: Shelf,

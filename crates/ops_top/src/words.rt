@@ -1,6 +1,7 @@
 //! The words of the command line, and the files that they name.
 ghost use Rattle.std.specs.Prelude.{◌≡◌, ◌^◌, ◌<◌, ℕ, List, [], length, nat_lt, true, false};
 ghost use Rattle.std.specs.Io.KnownBytes.{prepend_known};
+ghost use Rattle.ops_jobs.specs.Laws.{KeepsLimits};
 ghost use Rattle.ops_jobs.specs.Words.{word_bytes};
 ghost use Rattle.ops_top.specs.Whole.{answer_gathered, ask_for_run, gathered, is_run, readable, unread, whole, words_fit, files_in, files_of};
 ghost use Rattle.ops_top.specs.Calls.{OfContents, OfInput, broken_load, last_of, has_text, is_refused, TellsFailedRead, AskedFor, AskedForWords};
@@ -10,7 +11,7 @@ use crate::answer::answer_text;
 use crate::files::{FilesFault, load_files};
 use crate::saying::{refuse, say_unread, say_usage};
 use ops_base::endings::Fault;
-use ops_io::{Shelf, Sink, Source, Stop};
+use ops_io::{Gate, Shelf, Sink, Source, Stop};
 use ops_jobs::Job;
 use ops_meaning::Status;
 use ops_words::{WordsFault, read_words};
@@ -27,13 +28,15 @@ fn files_in(job: &Job) -> &[String]
 }
 
 /// Loads the files of a job and answers their text.
-fn run_files<H: Shelf, I: Source, K: Sink>(
+fn run_files<H: Shelf, I: Source, K: Sink, G: Gate>(
     alloc: Global,
     job: &Job,
     shelf: &mut H,
     input: &mut I,
     sink: &mut K,
+    gate: &G,
 ) -> Result<Status, Stop>
+    requires limits { KeepsLimits job.now }
     requires shelf { H.faults shelf.old < 2 ^ 63 }
     requires loads { length (H.names shelf.old) < 2 ^ 63 }
     requires reads { I.faults input.old < 2 ^ 63 }
@@ -54,20 +57,22 @@ fn run_files<H: Shelf, I: Source, K: Sink>(
     ensures told { (n : List ℕ) → H.told shelf.new n ≡ H.told shelf.old n }
 {
     match load_files(alloc, files_in(job), shelf) {
-        Ok(text) => answer_text(alloc, text, job, input, sink),
+        Ok(text) => answer_text(alloc, text, job, input, sink, gate),
         Err(FilesFault::Unread(name)) => say_unread(alloc, name.as_bytes(), sink),
         Err(FilesFault::TooLong) => refuse(alloc, Fault::TooLong, 1, 1, sink),
         Err(FilesFault::OutOfMemory) => Err(Stop::OutOfMemory),
     }
 }
 
-/// Answers the words. What they say of workers and lines has no effect, and where the network is asked for, no option has.
-pub fn run_words<H: Shelf, I: Source, K: Sink>(
+/// Answers the words. What they say of workers has no effect, what they say of lines has one on time and memory alone, and where
+/// the network is asked for, no option has.
+pub fn run_words<H: Shelf, I: Source, K: Sink, G: Gate>(
     alloc: Global,
     words: &[String],
     shelf: &mut H,
     input: &mut I,
     sink: &mut K,
+    gate: &G,
 ) -> Result<Status, Stop>
     requires shelf { H.faults shelf.old < 2 ^ 63 }
     requires loads { length (H.names shelf.old) < 2 ^ 63 }
@@ -90,7 +95,7 @@ pub fn run_words<H: Shelf, I: Source, K: Sink>(
     ensures told { (n : List ℕ) → H.told shelf.new n ≡ H.told shelf.old n }
 {
     match read_words(alloc, words) {
-        Ok(job) => run_files(alloc, &job, shelf, input, sink),
+        Ok(job) => run_files(alloc, &job, shelf, input, sink, gate),
         Err(WordsFault::Usage) => say_usage(alloc, sink),
         Err(WordsFault::OutOfMemory) => Err(Stop::OutOfMemory),
     }
