@@ -7,12 +7,12 @@ pub mod laws;
 pub mod line;
 pub mod memory;
 pub mod number;
-pub mod tokens;
 #[cfg(test)]
 mod tests;
+pub mod tokens;
 
-pub use joining::{joins, tag_at};
 pub use children::Children;
+pub use joining::{joins, tag_at};
 pub use line::{Entry, Line, Spot};
 pub use memory::Memory;
 pub use number::line_of;

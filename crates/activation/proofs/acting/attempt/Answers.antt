@@ -79,8 +79,8 @@ returns-clause-counted c =
     c.in_ok-done.ensures.room in
     let added : (n : ℕ) (t : List ℕ) → sum_in new n Left t ≢ pos 0 → blockers_in c.add_at.new.self n t ≡ cond (is_at n Left t x) e.blockers (blockers_in old n t) =
     λ n t some.
-        c.in_ok-add_at.ensures.blockers n t (λ z. some (c.count_blockers.ensures.sums n Left t ∙ z))
-        ∙ ap₂ (λ z k. cond (is_at n Left t z) k (blockers_in old n t)) c.in_ok-copy.ensures done.blockers in
+    c.in_ok-add_at.ensures.blockers n t (λ z. some (c.count_blockers.ensures.sums n Left t ∙ z))
+    ∙ ap₂ (λ z k. cond (is_at n Left t z) k (blockers_in old n t)) c.in_ok-copy.ensures done.blockers in
     counted_after nodes s x c.requires.fits old new c.requires.counted e is
     (λ n side t. c.count_blockers.ensures.sums n side t ∙ (c.in_ok-add_at.ensures.sums n side t ∙ ap (λ z. after (sum_in old) z n side t) c.in_ok-copy.ensures))
     c.tags_are_small.ensures

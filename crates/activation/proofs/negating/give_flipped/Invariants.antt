@@ -8,7 +8,7 @@ use Rattle.activation.proofs.negating.give_flipped.Given as goal
 abbrev pub invariant-loop-place : goal.invariant-loop-place
 invariant-loop-place l = record {
   made : l.out.items ++ children_of l.below.nodes.now l.below.plus (put_flipped l.tests (held_of l.store) l.tag l.plus (drop l.place l.left))
-  ≡ l.initial.out.items ++ children_of l.below.nodes.now l.below.plus (put_flipped l.tests (held_of l.store) l.tag l.plus l.left);
+      ≡ l.initial.out.items ++ children_of l.below.nodes.now l.below.plus (put_flipped l.tests (held_of l.store) l.tag l.plus l.left);
   room : all_have_room l.plus (drop l.place l.left) ≡ all_have_room l.plus l.left;
   grown : Grows l.initial.out.items l.out.items;
 }

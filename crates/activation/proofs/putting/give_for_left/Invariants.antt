@@ -8,6 +8,6 @@ use Rattle.activation.proofs.putting.give_for_left.Given as goal
 abbrev pub invariant-loop-place : goal.invariant-loop-place
 invariant-loop-place l = record {
   made : l.out.items ++ children_of l.below.nodes.now l.below.plus (put_for_left l.tests (held_of l.store) l.token (drop l.place l.right))
-  ≡ l.initial.out.items ++ children_of l.below.nodes.now l.below.plus (put_for_left l.tests (held_of l.store) l.token l.right);
+      ≡ l.initial.out.items ++ children_of l.below.nodes.now l.below.plus (put_for_left l.tests (held_of l.store) l.token l.right);
   grown : Grows l.initial.out.items l.out.items;
 }

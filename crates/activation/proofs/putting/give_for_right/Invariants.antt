@@ -8,6 +8,6 @@ use Rattle.activation.proofs.putting.give_for_right.Given as goal
 abbrev pub invariant-loop-place : goal.invariant-loop-place
 invariant-loop-place l = record {
   made : l.out.items ++ children_of l.below.nodes.now l.below.plus (put_for_right l.tests (held_of l.store) l.tag (drop l.place l.left))
-  ≡ l.initial.out.items ++ children_of l.below.nodes.now l.below.plus (put_for_right l.tests (held_of l.store) l.tag l.left);
+      ≡ l.initial.out.items ++ children_of l.below.nodes.now l.below.plus (put_for_right l.tests (held_of l.store) l.tag l.left);
   grown : Grows l.initial.out.items l.out.items;
 }
