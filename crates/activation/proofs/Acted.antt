@@ -19,9 +19,9 @@ use Rattle.token_line.specs.Held.{Agrees, TaskFits}
 use Rattle.token_line.specs.Lawful.{IsChildOf, IsLawful, giver_of, out_at}
 use Rattle.token_line.specs.Lines.{sum_in}
 use Rattle.token_line.proofs.Fitting.{fits_at, left_is_wide, node_of}
-use Rattle.activation.specs.declared.effects.Effect.{Effect}
-use Rattle.activation.specs.declared.putting.Put.{Put}
 use Rattle.activation.specs.Children.{child, children_at, children_of}
+use Rattle.activation.specs.Putting.{Put}
+use Rattle.activation.specs.Effects.{Effect}
 use Rattle.activation.specs.Acting.{Acts, IsEffect, IsOutOf}
 use Rattle.activation.proofs.Childhood.{IsChild, are_children, child_is, giver_is, times_among}
 use Rattle.activation.proofs.Signed.{all_children, child_signs, times_in}

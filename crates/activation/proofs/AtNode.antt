@@ -1,13 +1,11 @@
 -- The tokens of one node that a line keeps: their sums, and what fits there.
-use Rattle.std.proofs.Common.{◌≡◌, ◌≢◌, ℕ, ◌≤◌, ◌<◌, ◌==◌, Bool, true, false, cond, List, [], ◌∷◌, ◌++◌, ℤ, pos, refl, sym, ap, subst, ◌∙◌, arith, length, slice_get, slice_index, slice_index_or, bytes_eq, unwrap_or, Option, Some, None, IsSome}
+use Rattle.std.proofs.Common.{◌≡◌, ◌≢◌, ℕ, ◌≤◌, ◌<◌, ◌==◌, Bool, true, false, cond, List, [], ◌∷◌, ◌++◌, pos, refl, sym, ap, subst, ◌∙◌, arith, length, slice_get, slice_index, slice_index_or, bytes_eq, Option, Some, None, IsSome}
 use Rattle.std.specs.List.{All, AllByRecursion, IsDistinct}
 use Rattle.std.specs.Map.{lookup, keys_of}
 use Rattle.std.specs.Option.{ForSome, option_map_or}
 use Rattle.std.proofs.lemmas.Bool.Decides.{Decides-eqb}
-use Rattle.std.proofs.lemmas.Cmp.{nat_list_eq_equiv}
 use Rattle.std.proofs.lemmas.List.Elements.{All-get_or, All-nil, recursion_from_All}
 use Rattle.std.proofs.lemmas.List.Folds.{find-append}
-use Rattle.std.proofs.lemmas.Map.Entries.{hash_map_get_place}
 use Rattle.std.proofs.lemmas.Option.{slice_get-get_or}
 use Rattle.ops_base.specs.declared.elements.Element.{Element}
 use Rattle.ops_base.specs.WorkingMemory.{tags_of}
@@ -18,11 +16,14 @@ use Rattle.net_base.specs.declared.tasks.Side.TheVariants.{Left, Right}
 use Rattle.net_base.specs.Sound.{IsSound, left_width}
 use Rattle.net_base.specs.Tokens.{Elements, joins_hold}
 use Rattle.token_line.specs.declared.line.Line.{Line}
-use Rattle.token_line.specs.declared.memory.Cell.{Cell}
+use Rattle.token_line.specs.declared.tokens.Cell.{Cell}
 use Rattle.token_line.specs.declared.memory.Memory.{Memory}
 use Rattle.token_line.specs.Held.{Agrees, Fits}
 use Rattle.token_line.proofs.Fitting.{left_length, one_length}
-use Rattle.token_line.specs.Lines.{blockers_in, blockers_with, memory_at, sum_in, sum_of}
+use Rattle.token_line.specs.Lines.{blockers_in, memory_at, sum_in, tokens_of}
+use Rattle.token_line.specs.Pairs.{cell_of}
+use Rattle.token_line.specs.Sums.{blockers_of, kept_sum}
+use Rattle.token_line.proofs.PairLemmas.{cell_at as pair_found}
 use Rattle.activation.specs.Putting.{left_entries, right_entries}
 use Rattle.activation.specs.Acting.{AreKept, IsCounted}
 use Rattle.activation.proofs.Agreed.{IsHeld, joins_agree}
@@ -30,27 +31,23 @@ use Rattle.activation.proofs.PutNumbers.{left_of, right_of, sum_at}
 
 -- ---- sums and look-ups
 
+found_sum : (o : Option Cell) → option_map_or (λ c. c.sum) o (pos 0) ≡ sum_at (λ (c : Cell). c.sum) o
+found_sum None = refl
+found_sum (Some c) = refl
+
 pub right_sum_is : (line : Line) (n : ℕ) (k : List ℕ) → sum_in line n Right k ≡ right_of (right_entries (memory_at line n)) k
 right_sum_is line n k = by (memory_at line n)
   where
-    found : (o : Option ℤ) → unwrap_or o (pos 0) ≡ sum_at (λ v. v) o
-    found None = refl
-    found (Some v) = refl
-
-    by : (o : Option Memory) → sum_of o Right k ≡ right_of (right_entries o) k
+    by : (o : Option Memory) → kept_sum (tokens_of o Right) k ≡ right_of (right_entries o) k
     by None = refl
-    by (Some m) = found (lookup (bytes_eq k) m.right.entries)
+    by (Some m) = found_sum (cell_of m.right k)
 
 pub left_sum_is : (line : Line) (n : ℕ) (k : List ℕ) → sum_in line n Left k ≡ left_of (left_entries (memory_at line n)) k
 left_sum_is line n k = by (memory_at line n)
   where
-    found : (o : Option Cell) → option_map_or (λ c. c.sum) o (pos 0) ≡ sum_at (λ (c : Cell). c.sum) o
-    found None = refl
-    found (Some c) = refl
-
-    by : (o : Option Memory) → sum_of o Left k ≡ left_of (left_entries o) k
+    by : (o : Option Memory) → kept_sum (tokens_of o Left) k ≡ left_of (left_entries o) k
     by None = refl
-    by (Some m) = found (lookup (bytes_eq k) m.left.entries)
+    by (Some m) = found_sum (cell_of m.left k)
 
 -- ---- what is kept
 
@@ -61,31 +58,31 @@ Kept o = ForSome o AreKept
 pub right_distinct : (o : Option Memory) → Kept o → IsDistinct bytes_eq (keys_of (right_entries o))
 unfolding IsDistinct
 right_distinct None kept = tt
-right_distinct (Some m) kept = (kept m refl).right_unique
+right_distinct (Some m) kept = (kept m refl).right.apart
 
 pub left_distinct : (o : Option Memory) → Kept o → IsDistinct bytes_eq (keys_of (left_entries o))
 unfolding IsDistinct
 left_distinct None kept = tt
-left_distinct (Some m) kept = (kept m refl).left_unique
+left_distinct (Some m) kept = (kept m refl).left.apart
 
 module _ (nodes : List Node) (s : Stored) (line : Line) (counted : IsCounted nodes s line) (n : ℕ) where
   right_fits_in : (o : Option Memory) → memory_at line n ≡ o → Kept o → All (λ e. Fits nodes s n Right e.0) (right_entries o)
-  right_fits_in None mem kept i d within = All-nil (λ (e : List ℕ × ℤ). Fits nodes s n Right e.0) i d within
+  right_fits_in None mem kept i d within = All-nil (λ (e : List ℕ × Cell). Fits nodes s n Right e.0) i d within
   right_fits_in (Some m) mem kept i d within =
       let are = kept m refl in
-      let e = slice_index_or m.right.entries i d in
-      let found = hash_map_get_place nat_list_eq_equiv m.right i e.0 e.1 are.right_unique (slice_get-get_or m.right.entries i d within) in
-      let sum : sum_in line n Right e.0 ≡ e.1 = ap (λ o. sum_of o Right e.0) mem ∙ ap (λ o. unwrap_or o (pos 0)) found in
-      counted.fit n Right e.0 (λ z. are.right_some i d within (sym sum ∙ z))
+      let e = slice_index_or m.right i d in
+      let found = pair_found m.right are.right i e.0 e.1 (slice_get-get_or m.right i d within) in
+      let sum : sum_in line n Right e.0 ≡ e.1.sum = ap (λ o. kept_sum (tokens_of o Right) e.0) mem ∙ ap (λ o. option_map_or (λ (c : Cell). c.sum) o (pos 0)) found in
+      counted.fit n Right e.0 (λ z. are.right.some e.0 e.1 found (sym sum ∙ z))
 
   left_fits_in : (o : Option Memory) → memory_at line n ≡ o → Kept o → All (λ e. Fits nodes s n Left e.0) (left_entries o)
   left_fits_in None mem kept i d within = All-nil (λ (e : List ℕ × Cell). Fits nodes s n Left e.0) i d within
   left_fits_in (Some m) mem kept i d within =
       let are = kept m refl in
-      let e = slice_index_or m.left.entries i d in
-      let found = hash_map_get_place nat_list_eq_equiv m.left i e.0 e.1 are.left_unique (slice_get-get_or m.left.entries i d within) in
-      let sum : sum_in line n Left e.0 ≡ e.1.sum = ap (λ o. sum_of o Left e.0) mem ∙ ap (λ o. option_map_or (λ (c : Cell). c.sum) o (pos 0)) found in
-      counted.fit n Left e.0 (λ z. are.left_some i d within (sym sum ∙ z))
+      let e = slice_index_or m.left i d in
+      let found = pair_found m.left are.left i e.0 e.1 (slice_get-get_or m.left i d within) in
+      let sum : sum_in line n Left e.0 ≡ e.1.sum = ap (λ o. kept_sum (tokens_of o Left) e.0) mem ∙ ap (λ o. option_map_or (λ (c : Cell). c.sum) o (pos 0)) found in
+      counted.fit n Left e.0 (λ z. are.left.some e.0 e.1 found (sym sum ∙ z))
 
   pub right_fits : Kept (memory_at line n) → All (λ e. Fits nodes s n Right e.0) (right_entries (memory_at line n))
   right_fits kept = right_fits_in (memory_at line n) refl kept
@@ -101,15 +98,15 @@ pub record IsCell (line : Line) (n : ℕ) (t : List ℕ) (c : Cell) : Type 0 whe
   pub some : c.sum ≢ pos 0
   pub blockers : blockers_in line n t ≡ c.blockers
 
-pub cell_at : (line : Line) (n : ℕ) (t : List ℕ) (c : Cell) → lookup (bytes_eq t) (left_entries (memory_at line n)) ≡ Some c → IsCell line n t c
-cell_at line n t c = by (memory_at line n) refl
+pub cell_at : (line : Line) (n : ℕ) → Kept (memory_at line n) → (t : List ℕ) (c : Cell) → lookup (bytes_eq t) (left_entries (memory_at line n)) ≡ Some c → IsCell line n t c
+cell_at line n kept t c = by (memory_at line n) refl kept
   where
-    by : (o : Option Memory) → memory_at line n ≡ o → lookup (bytes_eq t) (left_entries o) ≡ Some c → IsCell line n t c
-    by None mem found = cc
-    by (Some m) mem found = record {
-      sum = ap (λ o. sum_of o Left t) mem ∙ ap (λ o. option_map_or (λ (d : Cell). d.sum) o (pos 0)) found;
-      some = m.no_left_zero t c found;
-      blockers = ap (λ o. blockers_with o t) mem ∙ ap (λ o. option_map_or (λ (d : Cell). d.blockers) o 0) found;
+    by : (o : Option Memory) → memory_at line n ≡ o → Kept o → lookup (bytes_eq t) (left_entries o) ≡ Some c → IsCell line n t c
+    by None mem are found = cc
+    by (Some m) mem are found = record {
+      sum = ap (λ o. kept_sum (tokens_of o Left) t) mem ∙ ap (λ o. option_map_or (λ (d : Cell). d.sum) o (pos 0)) found;
+      some = (are m refl).left.some t c found;
+      blockers = ap (λ o. blockers_of (tokens_of o Left) t) mem ∙ ap (λ o. option_map_or (λ (d : Cell). d.blockers) o 0) found;
     }
 
 -- ---- widths, and what is held

@@ -1,7 +1,9 @@
 -- What a task does at a join and at a negated node is its effect there.
-use Rattle.std.proofs.Common.{◌≡◌, ◌≢◌, ℕ, ◌-◌, ◌^◌, ◌<◌, ◌&&◌, Bool, true, false, not, List, [], pos, refl, sym, ap, ap₂, subst, ◌∙◌, slice_get, bytes_eq, Option, Some, None, IfSome}
+use Rattle.std.proofs.Common.{◌≡◌, ◌≢◌, ℕ, ◌-◌, ◌^◌, ◌<◌, ◌&&◌, Bool, true, false, not, List, [], pos, refl, sym, ap, ap₂, subst, ◌∙◌, slice_get, bytes_eq, Option, Some, None, IfSome, true≢false}
 use Rattle.std.specs.Map.{lookup}
+use Rattle.std.specs.Option.{option_map_or}
 use Rattle.std.proofs.lemmas.Bool.Decides.{Decides-ltb}
+use Rattle.std.proofs.lemmas.List.Elements.{All-nil}
 use Rattle.std.proofs.lemmas.List.Sums.{AllPass-from_list_all}
 use Rattle.std.proofs.lemmas.Map.Entries.{All-lookup}
 use Rattle.work_store.specs.Stored.{Stored, held_of}
@@ -9,19 +11,20 @@ use Rattle.net_base.specs.declared.nodes.Alpha.{Alpha}
 use Rattle.net_base.specs.declared.nodes.Kind.{Kind}
 use Rattle.net_base.specs.declared.nodes.Kind.TheVariants.{Join, Negated, Terminal}
 use Rattle.net_base.specs.declared.nodes.Node.{Node}
+use Rattle.net_base.specs.declared.tasks.Side.{Side}
 use Rattle.net_base.specs.declared.tasks.Side.TheVariants.{Left, Right}
 use Rattle.net_base.specs.declared.tasks.Task.{Task}
-use Rattle.net_base.specs.Sound.{IsSound, is_join, is_negated}
+use Rattle.net_base.specs.Sound.{IsSound, is_join, is_negated, is_terminal}
 use Rattle.token_line.specs.declared.line.Line.{Line}
-use Rattle.token_line.specs.declared.memory.Cell.{Cell}
+use Rattle.token_line.specs.declared.tokens.Cell.{Cell}
 use Rattle.token_line.specs.Bags.{are_same_sides}
 use Rattle.token_line.specs.Held.{TaskFits}
-use Rattle.token_line.specs.Lines.{blockers_in, memory_at, sum_in}
-use Rattle.activation.specs.declared.putting.Put.{Put}
-use Rattle.activation.specs.Acting.{IsCounted, IsEffect, matching}
-use Rattle.activation.specs.Effects.{join_effect, left_effect, right_effect}
+use Rattle.token_line.specs.declared.memory.Memory.{Memory}
+use Rattle.token_line.specs.Lines.{blockers_in, cell_among, memory_at, sum_in}
+use Rattle.activation.specs.Acting.{IsCounted, IsEffect, IsOutOf, matching}
+use Rattle.activation.specs.Effects.{effect_at, join_effect, left_effect, negated_effect, no_effect, right_effect}
 use Rattle.activation.specs.Negating.{all_have_room, has_room}
-use Rattle.activation.specs.Putting.{changes, left_entries}
+use Rattle.activation.specs.Putting.{Put, changes, left_entries}
 use Rattle.activation.proofs.Agreed.{IsHeld}
 use Rattle.activation.proofs.Arrived.{and_false}
 use Rattle.activation.proofs.AtNode.{Kept, cell_at, left_sum_is, same_node}
@@ -37,8 +40,8 @@ room_of : (c : Cell) → has_room true c ≡ true → c.blockers < 2 ^ 64 - 1
 room_of c e = (Decides-ltb c.blockers (2 ^ 64 - 1)).0 e
 
 -- where each left token that is kept has room, so has each with a sum other than 0
-room_at : (line : Line) (n : ℕ) → all_have_room true (left_entries (memory_at line n)) ≡ true → (t : List ℕ) → sum_in line n Left t ≢ pos 0 → blockers_in line n t < 2 ^ 64 - 1
-room_at line n room t some = by (lookup (bytes_eq t) left) refl
+room_at : (line : Line) (n : ℕ) → Kept (memory_at line n) → all_have_room true (left_entries (memory_at line n)) ≡ true → (t : List ℕ) → sum_in line n Left t ≢ pos 0 → blockers_in line n t < 2 ^ 64 - 1
+room_at line n kept room t some = by (lookup (bytes_eq t) left) refl
   where
     left : List (List ℕ × Cell)
     left = left_entries (memory_at line n)
@@ -50,7 +53,7 @@ room_at line n room t some = by (lookup (bytes_eq t) left) refl
     by None found = absurd (some (left_sum_is line n t ∙ ap (λ o. sum_at (λ (c : Cell). c.sum) o) found))
     by (Some c) found =
         let here : has_room true c ≡ true = subst (λ o. IfSome o (λ d. has_room true d ≡ true)) found each in
-        subst (λ k. k < 2 ^ 64 - 1) (sym (cell_at line n t c found).blockers) (room_of c here)
+        subst (λ k. k < 2 ^ 64 - 1) (sym (cell_at line n kept t c found).blockers) (room_of c here)
 
 join_blocks_not : (k : Kind) → is_join k ≡ true → (b : Bool) → false ≡ (is_negated k && b)
 join_blocks_not Join e b = refl
@@ -111,7 +114,7 @@ module _ (alphas : List Alpha) (nodes : List Node) (sound : IsSound alphas nodes
           had
           ∙ ap₂ (λ a b. a && (b && changes (sum_in line x.node x.side x.token) x.plus))
           (sym (ap (λ (z : Node). is_negated z.kind) (same_node other node (sym there ∙ at)) ∙ negated)) (sym (ap (λ d. are_same_sides Right d) e));
-      room = λ blocks more. room_at line x.node (subst (λ p. all_have_room p (left_entries (memory_at line x.node)) ≡ true) more (room blocks));
+      room = λ blocks more. room_at line x.node kept (subst (λ p. all_have_room p (left_entries (memory_at line x.node)) ≡ true) more (room blocks));
     }
 
     pub right_is : x.side ≡ Right → (moves : Bool) → moves ≡ changes (sum_in line x.node x.side x.token) x.plus
@@ -119,3 +122,52 @@ module _ (alphas : List Alpha) (nodes : List Node) (sound : IsSound alphas nodes
         → IsEffect nodes s line x (right_effect node.joins (held_of s) (memory_at line x.node) x moves)
     right_is e true had room = right_done e _ true had (right_change alphas nodes sound s line x fits counts node at negated (sym had) e small kept) room
     right_is e false had room = right_done e [] false had (unchanged nodes s line x (sym had) (not x.plus)) room
+
+  -- ---- at a terminal
+
+  terminal_not_negated : (k : Kind) → is_terminal k ≡ true → (b : Bool) → false ≡ (is_negated k && b)
+  terminal_not_negated Join e b = cc
+  terminal_not_negated Negated e b = cc
+  terminal_not_negated (Terminal rule) e b = refl
+
+  only_terminal : (k : Kind) → is_terminal k ≡ true → is_negated k ≡ true → ⊥
+  only_terminal Join e f = cc
+  only_terminal Negated e f = cc
+  only_terminal (Terminal rule) e f = cc
+
+  terminal_is : is_terminal node.kind ≡ true → IsEffect nodes s line x (no_effect x.plus)
+  terminal_is terminal = record {
+    fit = All-nil (λ (p : Put). IsOutOf nodes s x.node p.token);
+    change = λ other elements t there inner agrees.
+        absurd (true≢false (sym terminal ∙ (ap (λ (z : Node). is_terminal z.kind) (same_node node other (sym at ∙ there)) ∙ inner)));
+    blockers = λ other there negated e. absurd (only_terminal node.kind terminal (ap (λ (z : Node). is_negated z.kind) (same_node node other (sym at ∙ there)) ∙ negated));
+    blocks = λ other there.
+        terminal_not_negated other.kind (ap (λ (z : Node). is_terminal z.kind) (same_node other node (sym there ∙ at)) ∙ terminal)
+        (are_same_sides Right x.side && changes (sum_in line x.node x.side x.token) x.plus);
+    room = λ blocks. cc;
+  }
+
+  -- ---- by the kind of the node
+
+  pub effect_is : ((tag : ℕ) → IsHeld s tag → tag < 2 ^ 64) → (moves : Bool) → moves ≡ changes (sum_in line x.node x.side x.token) x.plus
+      → (node.kind ≡ Negated → x.side ≡ Right → moves ≡ true → all_have_room x.plus (left_entries (memory_at line x.node)) ≡ true)
+      → IsEffect nodes s line x (effect_at node.kind node.joins (held_of s) (memory_at line x.node) x moves)
+  effect_is small moves had room = by node.kind refl
+    where
+      by_side : node.kind ≡ Negated → (d : Side) → x.side ≡ d → IsEffect nodes s line x (negated_effect d node.joins (held_of s) (memory_at line x.node) x moves)
+      by_side q Left e = left_is (ap is_negated q) small e moves had
+      by_side q Right e = right_is (ap is_negated q) small e moves had (room q e)
+
+      by : (k : Kind) → node.kind ≡ k → IsEffect nodes s line x (effect_at k node.joins (held_of s) (memory_at line x.node) x moves)
+      by Join q = join_is (ap is_join q) moves had
+      by Negated q = by_side q x.side refl
+      by (Terminal rule) q = terminal_is (ap is_terminal q)
+
+  -- the same, of what was found on the line
+  pub done_effect : ((tag : ℕ) → IsHeld s tag → tag < 2 ^ 64) → (m : Option Memory) → m ≡ memory_at line x.node → (o : Option Cell) → o ≡ cell_among line.memories x.node x.side x.token
+      → (node.kind ≡ Negated → x.side ≡ Right → changes (option_map_or (λ (c : Cell). c.sum) o (pos 0)) x.plus ≡ true → all_have_room x.plus (left_entries m) ≡ true)
+      → IsEffect nodes s line x (effect_at node.kind node.joins (held_of s) m x (changes (option_map_or (λ (c : Cell). c.sum) o (pos 0)) x.plus))
+  done_effect small m is o kept_is room =
+      subst (λ k. IsEffect nodes s line x (effect_at node.kind node.joins (held_of s) k x (changes (option_map_or (λ (c : Cell). c.sum) o (pos 0)) x.plus))) (sym is)
+      (effect_is small (changes (option_map_or (λ (c : Cell). c.sum) o (pos 0)) x.plus) (ap (λ z. changes (option_map_or (λ (c : Cell). c.sum) z (pos 0)) x.plus) kept_is)
+      (λ q e moved. ap (λ k. all_have_room x.plus (left_entries k)) (sym is) ∙ room q e moved))

@@ -1,3 +1,4 @@
+pub mod Growth
 pub mod Signed
 pub mod Childhood
 pub mod Widths

@@ -1,5 +1,5 @@
 -- How often right tokens stand that match a left one: of the entries of a line, by any elements that agree with the store, and once a task has arrived.
-use Rattle.std.proofs.Common.{◌≡◌, ◌≢◌, ℕ, ◌^◌, ◌<◌, Bool, true, false, cond, List, [], ◌∷◌, ℤ, pos, ◌+ℤ◌, refl, sym, ap, subst, ◌∙◌, arith, length, slice_get, slice_index, slice_index_or, bytes_eq, Option, Some, None}
+use Rattle.std.proofs.Common.{◌≡◌, ◌≢◌, ℕ, ◌^◌, ◌<◌, Bool, true, false, cond, List, [], ◌∷◌, pos, ◌+ℤ◌, refl, sym, ap, subst, ◌∙◌, arith, length, slice_get, slice_index, slice_index_or, bytes_eq, Option, Some, None}
 use Rattle.std.specs.List.{AllByRecursion, IsDistinct}
 use Rattle.std.specs.Map.{lookup, keys_of}
 use Rattle.std.specs.Option.{option_map_or}
@@ -13,12 +13,12 @@ use Rattle.net_base.specs.declared.tasks.Task.{Task}
 use Rattle.net_base.specs.Sound.{IsSound, is_negated}
 use Rattle.net_base.specs.Tokens.{Elements, count_below, joins_hold}
 use Rattle.token_line.specs.declared.line.Line.{Line}
-use Rattle.token_line.specs.declared.memory.Cell.{Cell}
+use Rattle.token_line.specs.declared.tokens.Cell.{Cell}
 use Rattle.token_line.specs.declared.memory.Memory.{Memory}
 use Rattle.token_line.specs.Bags.{Bag, after, standing, standing_at}
 use Rattle.token_line.specs.Held.{Agrees, Fits}
-use Rattle.token_line.specs.Lines.{memory_at, sum_in, sum_of}
-use Rattle.token_line.specs.Sums.{counted}
+use Rattle.token_line.specs.Lines.{memory_at, sum_in, tokens_of}
+use Rattle.token_line.specs.Sums.{counted, kept_sum}
 use Rattle.activation.specs.Acting.{IsCounted, matching, signed}
 use Rattle.activation.specs.Negating.{blockers_for, number_matching}
 use Rattle.activation.specs.Putting.{changes, left_entries, right_entries}
@@ -37,7 +37,7 @@ lookup_none k [] all = refl
 lookup_none k (e ∷ es) all = ap (λ b. cond b (Some e.1) (lookup (bytes_eq k) es)) all.0 ∙ lookup_none k es all.1
 
 -- the number over entries of one tag each, all below the bound
-number_is : (n : ℕ) (tests : List JoinTest) (elements : Elements) (t : List ℕ) (es : List (List ℕ × ℤ)) → IsDistinct bytes_eq (keys_of es) → AllByRecursion (λ e. length e.0 ≡ 1) es
+number_is : (n : ℕ) (tests : List JoinTest) (elements : Elements) (t : List ℕ) (es : List (List ℕ × Cell)) → IsDistinct bytes_eq (keys_of es) → AllByRecursion (λ e. length e.0 ≡ 1) es
     → AllByRecursion (λ e. slice_index e.0 0 < n) es → number_matching tests elements t es ≡ count_below n (joins_hold tests elements t) (λ v. standing (right_of es v))
 unfolding IsDistinct
 number_is n tests elements t [] distinct one low = sym (count_none n (joins_hold tests elements t) (λ v. 0) (λ k. refl))
@@ -48,12 +48,12 @@ number_is n tests elements t (e ∷ es) distinct one low =
     let q : List ℕ → ℕ = λ v. standing (right_of (e ∷ es) v) in
     let key : e.0 ≡ tag ∷ [] = only_one e.0 one.0 in
     let same : (k : ℕ) → k ≢ tag → r (k ∷ []) ≡ q (k ∷ []) =
-    λ k ne. ap (λ b. standing (sum_at (λ (v : ℤ). v) (cond b (Some e.1) (lookup (bytes_eq (k ∷ [])) es)))) (sym (bytes_false (k ∷ []) e.0 (λ z. ne (first_tag k tag (z ∙ key))))) in
+    λ k ne. ap (λ b. standing (sum_at (λ (c : Cell). c.sum) (cond b (Some e.1) (lookup (bytes_eq (k ∷ [])) es)))) (sym (bytes_false (k ∷ []) e.0 (λ z. ne (first_tag k tag (z ∙ key))))) in
     let apart = subst (λ z. AllByRecursion (λ y. bytes_eq z y ≡ false) (keys_of es)) key distinct.0 in
-    let gone : r (tag ∷ []) ≡ 0 = ap (λ o. standing (sum_at (λ (v : ℤ). v) o)) (lookup_none (tag ∷ []) es apart) in
-    let here : q (tag ∷ []) ≡ standing e.1 = ap (λ b. standing (sum_at (λ (v : ℤ). v) (cond b (Some e.1) (lookup (bytes_eq (tag ∷ [])) es)))) (bytes_true (tag ∷ []) e.0 (sym key)) in
+    let gone : r (tag ∷ []) ≡ 0 = ap (λ o. standing (sum_at (λ (c : Cell). c.sum) o)) (lookup_none (tag ∷ []) es apart) in
+    let here : q (tag ∷ []) ≡ standing e.1.sum = ap (λ b. standing (sum_at (λ (c : Cell). c.sum) (cond b (Some e.1) (lookup (bytes_eq (tag ∷ [])) es)))) (bytes_true (tag ∷ []) e.0 (sym key)) in
     let before : cond (test tag) (r (tag ∷ [])) 0 ≡ 0 = ap (λ z. cond (test tag) z 0) gone ∙ nothing (test tag) in
-    let now : cond (test tag) (q (tag ∷ [])) 0 ≡ cond (test tag) (standing e.1) 0 = ap (λ z. cond (test tag) z 0) here in
+    let now : cond (test tag) (q (tag ∷ [])) 0 ≡ cond (test tag) (standing e.1.sum) 0 = ap (λ z. cond (test tag) z 0) here in
     omega (arith, number_is n tests elements t es distinct.1 one.1 low.1, count_one n tag test r q low.0 same, before, now)
 
 -- ---- over the sums of a line
@@ -83,17 +83,17 @@ module _ (nodes : List Node) (s : Stored) (line : Line) (counted : IsCounted nod
         ∙ count_same (2 ^ 64) (joins_hold node.joins (held_of s) t) (joins_hold node.joins (held_of s) t) (λ v. standing (right_of right v)) (standing_at (sum_in line) n Right)
         (λ k low. ap (λ z. cond (joins_hold node.joins (held_of s) t k) (standing z) 0) (sym (right_sum_is line n (k ∷ []))))
       where
-        right : List (List ℕ × ℤ)
+        right : List (List ℕ × Cell)
         right = right_entries (memory_at line n)
 
         ones : AllByRecursion (λ e. length e.0 ≡ 1) right
         ones =
-            recursion_from_All (λ (e : List ℕ × ℤ). length e.0 ≡ 1) right
+            recursion_from_All (λ (e : List ℕ × Cell). length e.0 ≡ 1) right
             (λ i d within. right_long nodes s n node at (slice_index_or right i d).0 (right_fits nodes s line counted n kept i d within))
 
         lows : AllByRecursion (λ e. slice_index e.0 0 < 2 ^ 64) right
         lows =
-            recursion_from_All (λ (e : List ℕ × ℤ). slice_index e.0 0 < 2 ^ 64) right
+            recursion_from_All (λ (e : List ℕ × Cell). slice_index e.0 0 < 2 ^ 64) right
             (λ i d within. small (slice_index (slice_index_or right i d).0 0) (held_at (slice_index_or right i d).0 (right_fits nodes s line counted n kept i d within)))
 
     -- what the line keeps with a left token, else counted
@@ -101,14 +101,14 @@ module _ (nodes : List Node) (s : Stored) (line : Line) (counted : IsCounted nod
     blockers_are = by (memory_at line n) refl
       where
         by : (o : Option Memory) → memory_at line n ≡ o → blockers_for node.joins (held_of s) o t ≡ matching (held_of s) node.joins (sum_in line) n t
-        by None mem = sym (count_none (2 ^ 64) (joins_hold node.joins (held_of s) t) (standing_at (sum_in line) n Right) (λ k. ap (λ o. standing (sum_of o Right (k ∷ []))) mem))
-        by (Some m) mem = of_cell (lookup (bytes_eq t) m.left.entries) refl
+        by None mem = sym (count_none (2 ^ 64) (joins_hold node.joins (held_of s) t) (standing_at (sum_in line) n Right) (λ k. ap (λ o. standing (kept_sum (tokens_of o Right) (k ∷ []))) mem))
+        by (Some m) mem = of_cell (lookup (bytes_eq t) m.left) refl
           where
-            of_cell : (o : Option Cell) → lookup (bytes_eq t) m.left.entries ≡ o
-                → option_map_or (λ (c : Cell). c.blockers) o (number_matching node.joins (held_of s) t m.right.entries) ≡ matching (held_of s) node.joins (sum_in line) n t
+            of_cell : (o : Option Cell) → lookup (bytes_eq t) m.left ≡ o
+                → option_map_or (λ (c : Cell). c.blockers) o (number_matching node.joins (held_of s) t m.right) ≡ matching (held_of s) node.joins (sum_in line) n t
             of_cell None found = ap (λ o. number_matching node.joins (held_of s) t (right_entries o)) (sym mem) ∙ number_over
             of_cell (Some c) found =
-                let is = cell_at line n t c (ap (λ o. lookup (bytes_eq t) (left_entries o)) mem ∙ found) in
+                let is = cell_at line n kept t c (ap (λ o. lookup (bytes_eq t) (left_entries o)) mem ∙ found) in
                 sym is.blockers ∙ counted.counts n node t at negated (λ z. is.some (sym is.sum ∙ z))
 
 -- ---- once a task has arrived

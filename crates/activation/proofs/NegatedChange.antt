@@ -16,16 +16,15 @@ use Rattle.net_base.specs.declared.tasks.Task.{Task}
 use Rattle.net_base.specs.Sound.{IsSound, added_tags, is_negated}
 use Rattle.net_base.specs.Tokens.{Elements, joins_hold}
 use Rattle.token_line.specs.declared.line.Line.{Line}
-use Rattle.token_line.specs.declared.memory.Cell.{Cell}
+use Rattle.token_line.specs.declared.tokens.Cell.{Cell}
 use Rattle.token_line.specs.Bags.{after, standing, standing_at}
 use Rattle.token_line.specs.Held.{Agrees, Fits, TaskFits}
 use Rattle.token_line.specs.Lawful.{out_at}
 use Rattle.token_line.specs.Lines.{memory_at, sum_in}
 use Rattle.token_line.specs.Sums.{counted}
-use Rattle.activation.specs.declared.putting.Put.{Put}
 use Rattle.activation.specs.Acting.{IsCounted, IsOutOf, matching, number_put, signed}
 use Rattle.activation.specs.Negating.{put_once, put_flipped, before_flip}
-use Rattle.activation.specs.Putting.{changes, left_entries}
+use Rattle.activation.specs.Putting.{Put, changes, left_entries}
 use Rattle.activation.proofs.Agreed.{IsHeld}
 use Rattle.activation.proofs.Arrived.{other_sum, own_sum}
 use Rattle.activation.proofs.AtNode.{Kept, both_agree, cell_at, left_distinct, left_fits, left_long, left_sum_is, only_one, right_held, right_long}
@@ -194,7 +193,7 @@ module _ (alphas : List Alpha) (nodes : List Node) (sound : IsSound alphas nodes
             (ap (λ n. cond (matching elements node.joins (sum_in line) x.node t == 0) n 0) none ∙ nothing (matching elements node.joins (sum_in line) x.node t == 0)
             ∙ sym (ap (λ n. cond (matching elements node.joins (after (sum_in line) x) x.node t == 0) n 0) none ∙ nothing (matching elements node.joins (after (sum_in line) x) x.node t == 0)))
         by (Some c) found =
-            let is = cell_at line x.node t c found in
+            let is = cell_at line x.node kept t c found in
             let some : sum_in line x.node Left t ≢ pos 0 = λ z. is.some (sym is.sum ∙ z) in
             let f = counts.fit x.node Left t some in
             let number : c.blockers ≡ matching elements node.joins (sum_in line) x.node t =

@@ -7,11 +7,10 @@ use Rattle.std.proofs.lemmas.List.{same_from_push}
 use Rattle.std.proofs.lemmas.Slice.Eq.{bytes_eq-Decides}
 use Rattle.net_base.specs.declared.nodes.JoinTest.{JoinTest}
 use Rattle.net_base.specs.Tokens.{Elements, joins_hold}
-use Rattle.token_line.specs.declared.memory.Cell.{Cell}
+use Rattle.token_line.specs.declared.tokens.Cell.{Cell}
 use Rattle.token_line.specs.Bags.{standing}
-use Rattle.activation.specs.declared.putting.Put.{Put}
 use Rattle.activation.specs.Negating.{put_flipped, before_flip}
-use Rattle.activation.specs.Putting.{put_if, put_for_left, put_for_right}
+use Rattle.activation.specs.Putting.{Put, put_if, put_for_left, put_for_right}
 use Rattle.activation.specs.Acting.{number_put}
 use Rattle.activation.proofs.Signed.{all_append}
 
@@ -110,11 +109,11 @@ by_sum join made sum k (Some v) = refl
 
 -- ---- for a left token
 
-abbrev pub right_of : List (List ℕ × ℤ) → List ℕ → ℤ
-right_of es k = sum_at (λ v. v) (lookup (bytes_eq k) es)
+abbrev pub right_of : List (List ℕ × Cell) → List ℕ → ℤ
+right_of es k = sum_at (λ (c : Cell). c.sum) (lookup (bytes_eq k) es)
 
 module _ (tests : List JoinTest) (elements : Elements) (t : List ℕ) where
-  by_keys : (k : ℕ) (es : List (List ℕ × ℤ)) → AllByRecursion (λ e. length e.0 ≡ 1) es
+  by_keys : (k : ℕ) (es : List (List ℕ × Cell)) → AllByRecursion (λ e. length e.0 ≡ 1) es
       → AllByRecursion (λ e. bytes_eq (t ++ k ∷ []) (t ++ slice_index e.0 0 ∷ []) ≡ bytes_eq (k ∷ []) e.0) es
   by_keys k [] all = tt
   by_keys k (e ∷ es) all = (by e.0 all.0, by_keys k es all.1)
@@ -127,22 +126,22 @@ module _ (tests : List JoinTest) (elements : Elements) (t : List ℕ) where
       by (x ∷ y ∷ ys) one = absurd (omega arith)
 
   -- it with the tag k behind it is put out as often as k stands, if they join
-  pub left_number : (k : ℕ) (es : List (List ℕ × ℤ)) → IsDistinct bytes_eq (keys_of es) → AllByRecursion (λ e. length e.0 ≡ 1) es
+  pub left_number : (k : ℕ) (es : List (List ℕ × Cell)) → IsDistinct bytes_eq (keys_of es) → AllByRecursion (λ e. length e.0 ≡ 1) es
       → number_put (t ++ k ∷ []) (put_for_left tests elements t es) ≡ cond (joins_hold tests elements t k) (standing (right_of es (k ∷ []))) 0
   left_number k es distinct one =
-      number_one (λ q v. joins_hold tests elements t (slice_index q 0)) (λ q. t ++ slice_index q 0 ∷ []) (λ (v : ℤ). v) (t ++ k ∷ []) (k ∷ []) es distinct (by_keys k es one)
-      ∙ by_sum (λ q. joins_hold tests elements t (slice_index q 0)) (λ q. t ++ slice_index q 0 ∷ []) (λ (v : ℤ). v) (k ∷ []) (lookup (bytes_eq (k ∷ [])) es)
+      number_one (λ q v. joins_hold tests elements t (slice_index q 0)) (λ q. t ++ slice_index q 0 ∷ []) (λ (c : Cell). c.sum) (t ++ k ∷ []) (k ∷ []) es distinct (by_keys k es one)
+      ∙ by_sum (λ q. joins_hold tests elements t (slice_index q 0)) (λ q. t ++ slice_index q 0 ∷ []) (λ (c : Cell). c.sum) (k ∷ []) (lookup (bytes_eq (k ∷ [])) es)
 
-  all_of : (u : List ℕ) → ((x : ℕ) → u ≢ t ++ x ∷ []) → (es : List (List ℕ × ℤ)) → AllByRecursion (λ e. bytes_eq u (t ++ slice_index e.0 0 ∷ []) ≡ false) es
+  all_of : (u : List ℕ) → ((x : ℕ) → u ≢ t ++ x ∷ []) → (es : List (List ℕ × Cell)) → AllByRecursion (λ e. bytes_eq u (t ++ slice_index e.0 0 ∷ []) ≡ false) es
   all_of u ne [] = tt
   all_of u ne (e ∷ es) = (bytes_false u (t ++ slice_index e.0 0 ∷ []) (ne (slice_index e.0 0)), all_of u ne es)
 
   -- a token that is not it with one tag more is not put out
-  pub left_none : (u : List ℕ) → ((x : ℕ) → u ≢ t ++ x ∷ []) → (es : List (List ℕ × ℤ)) → number_put u (put_for_left tests elements t es) ≡ 0
-  left_none u ne es = number_none (λ q v. joins_hold tests elements t (slice_index q 0)) (λ q. t ++ slice_index q 0 ∷ []) (λ (v : ℤ). v) u es (all_of u ne es)
+  pub left_none : (u : List ℕ) → ((x : ℕ) → u ≢ t ++ x ∷ []) → (es : List (List ℕ × Cell)) → number_put u (put_for_left tests elements t es) ≡ 0
+  left_none u ne es = number_none (λ q v. joins_hold tests elements t (slice_index q 0)) (λ q. t ++ slice_index q 0 ∷ []) (λ (c : Cell). c.sum) u es (all_of u ne es)
 
-  pub all_left : (P : List ℕ → Type 0) (es : List (List ℕ × ℤ)) → AllByRecursion (λ e. P (t ++ slice_index e.0 0 ∷ [])) es → AllByRecursion (λ p. P p.token) (put_for_left tests elements t es)
-  all_left P es all = all_puts (λ q v. joins_hold tests elements t (slice_index q 0)) (λ q. t ++ slice_index q 0 ∷ []) (λ (v : ℤ). v) P es all
+  pub all_left : (P : List ℕ → Type 0) (es : List (List ℕ × Cell)) → AllByRecursion (λ e. P (t ++ slice_index e.0 0 ∷ [])) es → AllByRecursion (λ p. P p.token) (put_for_left tests elements t es)
+  all_left P es all = all_puts (λ q v. joins_hold tests elements t (slice_index q 0)) (λ q. t ++ slice_index q 0 ∷ []) (λ (c : Cell). c.sum) P es all
 
 -- ---- for a right token
 

@@ -14,13 +14,12 @@ use Rattle.net_base.specs.declared.tasks.Task.{Task}
 use Rattle.net_base.specs.Sound.{IsSound, added_tags, is_join}
 use Rattle.net_base.specs.Tokens.{Elements, joins_hold, out_of_join}
 use Rattle.token_line.specs.declared.line.Line.{Line}
-use Rattle.token_line.specs.declared.memory.Cell.{Cell}
+use Rattle.token_line.specs.declared.tokens.Cell.{Cell}
 use Rattle.token_line.specs.Bags.{after, standing, standing_at}
 use Rattle.token_line.specs.Held.{Agrees, Fits, TaskFits}
 use Rattle.token_line.specs.Lawful.{out_at}
 use Rattle.token_line.specs.Lines.{memory_at, sum_in}
-use Rattle.activation.specs.declared.putting.Put.{Put}
-use Rattle.activation.specs.Putting.{changes, left_entries, put_for, put_for_left, put_for_right, right_entries}
+use Rattle.activation.specs.Putting.{Put, changes, left_entries, put_for, put_for_left, put_for_right, right_entries}
 use Rattle.activation.specs.Acting.{IsCounted, IsOutOf, number_put, signed}
 use Rattle.activation.proofs.Agreed.{IsHeld}
 use Rattle.activation.proofs.Arrived.{other_sum, own_sum}
@@ -58,7 +57,7 @@ module _ (alphas : List Alpha) (nodes : List Node) (sound : IsSound alphas nodes
   abbrev left : List (List ℕ × Cell)
   left = left_entries (memory_at line x.node)
 
-  abbrev right : List (List ℕ × ℤ)
+  abbrev right : List (List ℕ × Cell)
   right = right_entries (memory_at line x.node)
 
   held_at : (t : List ℕ) → Fits nodes s x.node Right t → IsHeld s (slice_index t 0)

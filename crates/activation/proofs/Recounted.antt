@@ -14,7 +14,7 @@ use Rattle.token_line.specs.Held.{Fits, TaskFits}
 use Rattle.token_line.specs.Lines.{blockers_in, sum_in}
 use Rattle.token_line.proofs.Fitting.{node_of}
 use Rattle.token_line.specs.Sums.{counted}
-use Rattle.activation.specs.declared.effects.Effect.{Effect}
+use Rattle.activation.specs.Effects.{Effect}
 use Rattle.activation.specs.Acting.{IsCounted, IsEffect, matching}
 use Rattle.activation.specs.Negating.{is_matched}
 use Rattle.activation.specs.Putting.{changes}

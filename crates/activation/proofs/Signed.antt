@@ -6,8 +6,8 @@ use Rattle.net_base.specs.declared.tasks.Side.{Side}
 use Rattle.net_base.specs.declared.tasks.Side.TheVariants.{Left}
 use Rattle.net_base.specs.declared.tasks.Task.{Task}
 use Rattle.token_line.specs.Bags.{is_at, sign_at, signs}
-use Rattle.activation.specs.declared.putting.Put.{Put}
 use Rattle.activation.specs.Children.{child, to_each, children_of}
+use Rattle.activation.specs.Putting.{Put}
 use Rattle.activation.specs.Acting.{signed, number_put}
 
 pub signed-zero : (plus : Bool) (k : ℕ) → k ≡ 0 → pos 0 ≡ signed plus k

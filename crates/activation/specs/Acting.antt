@@ -1,6 +1,5 @@
 -- What a task does on its line.
 use Rattle.std.specs.Prelude.{◌≡◌, ◌≢◌, ℕ, ◌+◌, ◌-◌, ◌^◌, ◌<◌, ◌&&◌, ℤ, pos, neg_ℤ, ◌+ℤ◌, Bool, true, false, List, [], ◌∷◌, ◌++◌, bytes_eq, length, slice_get, Some, IsSome, All, if◌then◌else◌}
-use Rattle.indexmap.specs.IndexMap.{IsUnique}
 use Rattle.work_store.specs.Stored.{Stored, held_of}
 use Rattle.net_base.specs.declared.nodes.JoinTest.{JoinTest}
 use Rattle.net_base.specs.declared.nodes.Node.{Node}
@@ -16,9 +15,9 @@ use Rattle.token_line.specs.Bags.{Bag, after, are_same_sides, standing_at}
 use Rattle.token_line.specs.Held.{Agrees, Fits, TaskFits}
 use Rattle.token_line.specs.Lawful.{IsLawful, out_at}
 use Rattle.token_line.specs.Lines.{blockers_in, sum_in}
-use Rattle.activation.specs.declared.effects.Effect.{Effect}
-use Rattle.activation.specs.declared.putting.Put.{Put}
-use Rattle.activation.specs.Putting.{changes}
+use Rattle.token_line.specs.Pairs.{ArePairs}
+use Rattle.activation.specs.Effects.{Effect}
+use Rattle.activation.specs.Putting.{Put, changes}
 
 -- ---- what is asked of a line
 
@@ -64,10 +63,8 @@ pub record IsEffect (nodes : List Node) (s : Stored) (line : Line) (x : Task) (e
 
 -- no token is kept twice on one side, and none with a sum of 0
 pub record AreKept (m : Memory) : Type 0 where
-  pub left_unique : IsUnique bytes_eq m.left
-  pub right_unique : IsUnique bytes_eq m.right
-  pub left_some : All (λ e. e.1.sum ≢ pos 0) m.left.entries
-  pub right_some : All (λ e. e.1 ≢ pos 0) m.right.entries
+  pub left : ArePairs m.left
+  pub right : ArePairs m.right
 
 -- ---- what a task does
 

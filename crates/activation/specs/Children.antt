@@ -1,10 +1,14 @@
 -- The tasks for the children of a node, of what the node puts out.
-use Rattle.std.specs.Prelude.{ℕ, Bool, List, [], replicate, Option, Some, None}
+use Rattle.std.specs.Prelude.{◌≡◌, ℕ, Bool, List, [], length, replicate, take, Option, Some, None}
 use Rattle.std.specs.List.{flat_map}
 use Rattle.net_base.specs.declared.nodes.Node.{Node}
 use Rattle.net_base.specs.declared.tasks.Side.TheVariants.{Left}
 use Rattle.net_base.specs.declared.tasks.Task.{Task}
-use Rattle.activation.specs.declared.putting.Put.{Put}
+use Rattle.activation.specs.Putting.{Put}
+
+-- the tasks that were there are still there, before any others
+abbrev pub Grows : List Task → List Task → Type 0
+Grows old new = take (length old) new ≡ old
 
 -- the token arrives at the left side of a node, or leaves it
 abbrev pub child : Bool → List ℕ → ℕ → Task

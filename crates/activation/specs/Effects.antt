@@ -1,12 +1,25 @@
 -- What a task does at its node, by the kind of the node, over the tokens of its line.
-use Rattle.std.specs.Prelude.{◌==◌, ◌&&◌, Bool, false, not, List, [], slice_index, Option, if◌then◌else◌}
+use Rattle.std.specs.Prelude.{◌≡◌, ◌==◌, ◌&&◌, ◌++◌, ℕ, Bool, false, not, List, [], slice_index, Option, if◌then◌else◌}
+use Rattle.net_base.specs.declared.nodes.Kind.{Kind}
+use Rattle.net_base.specs.declared.nodes.Kind.TheVariants.{Join, Negated, Terminal}
+use Rattle.net_base.specs.declared.tasks.Side.{Side}
+use Rattle.net_base.specs.declared.tasks.Side.TheVariants.{Left, Right}
 use Rattle.net_base.specs.declared.nodes.JoinTest.{JoinTest}
 use Rattle.net_base.specs.declared.tasks.Task.{Task}
 use Rattle.net_base.specs.Tokens.{Elements}
 use Rattle.token_line.specs.declared.memory.Memory.{Memory}
-use Rattle.activation.specs.declared.effects.Effect.{Effect}
-use Rattle.activation.specs.Putting.{left_entries, put_for}
+use Rattle.activation.specs.declared.effects.Done.{Done}
+use Rattle.activation.specs.Children.{children_of}
+use Rattle.activation.specs.Putting.{Put, left_entries, put_for}
 use Rattle.activation.specs.Negating.{blockers_for, put_once, put_flipped}
+
+-- What a task does at its node: what is put out below, to arrive there or to leave; how often right tokens stand that match the task's token, if that is
+-- a left one of a negated node, else 0; and whether the token is one blocker more, or one less, of the left tokens that it matches.
+pub record Effect : Type 0 where
+  pub plus : Bool
+  pub puts : List Put
+  pub blockers : ℕ
+  pub blocks : Bool
 
 -- nothing is put out, and nothing is counted
 abbrev pub no_effect : Bool → Effect
@@ -38,3 +51,19 @@ right_effect tests elements m x moves = record {
   blockers = 0;
   blocks = moves;
 }
+
+-- at a node of this kind
+abbrev pub negated_effect : Side → List JoinTest → Elements → Option Memory → Task → Bool → Effect
+negated_effect Left tests elements m x moves = left_effect tests elements m x moves
+negated_effect Right tests elements m x moves = right_effect tests elements m x moves
+
+abbrev pub effect_at : Kind → List JoinTest → Elements → Option Memory → Task → Bool → Effect
+effect_at Join tests elements m x moves = join_effect tests elements m x moves
+effect_at Negated tests elements m x moves = negated_effect x.side tests elements m x moves
+effect_at (Terminal rule) tests elements m x moves = no_effect x.plus
+
+-- What the effect puts out came behind the tasks that were there, for each of the nodes below, and the rest of it is told.
+pub record IsGiven (below : List ℕ) (e : Effect) (before now : List Task) (d : Done) : Type 0 where
+  pub given : now ≡ before ++ children_of below e.plus e.puts
+  pub blockers : d.blockers ≡ e.blockers
+  pub blocks : d.blocks ≡ e.blocks

@@ -1,30 +1,29 @@
 -- What a negated node puts out for a task, and how often right tokens stand that match a left one, over the tokens of its line.
-use Rattle.std.specs.Prelude.{ℕ, ◌+◌, ◌-◌, ◌^◌, ◌==◌, ◌&&◌, ℤ, Bool, true, false, List, [], ◌∷◌, bytes_eq, nat_lt, slice_index, Option, Some, None, if◌then◌else◌}
+use Rattle.std.specs.Prelude.{ℕ, ◌+◌, ◌-◌, ◌^◌, ◌==◌, ◌&&◌, Bool, true, false, List, [], ◌∷◌, nat_lt, slice_index, Option, Some, None, if◌then◌else◌}
 use Rattle.std.specs.List.{flat_map, list_all}
 use Rattle.std.specs.Option.{option_map_or}
-use Rattle.indexmap.specs.IndexMap.{get}
 use Rattle.net_base.specs.declared.nodes.JoinTest.{JoinTest}
 use Rattle.net_base.specs.declared.nodes.Node.{Node}
 use Rattle.net_base.specs.declared.tasks.Task.{Task}
 use Rattle.net_base.specs.Tokens.{Elements, joins_hold}
-use Rattle.token_line.specs.declared.memory.Cell.{Cell}
+use Rattle.token_line.specs.declared.tokens.Cell.{Cell}
 use Rattle.token_line.specs.declared.memory.Memory.{Memory}
 use Rattle.token_line.specs.Bags.{standing}
-use Rattle.activation.specs.declared.putting.Put.{Put}
-use Rattle.activation.specs.Putting.{put_if}
+use Rattle.token_line.specs.Pairs.{Pairs, cell_of}
+use Rattle.activation.specs.Putting.{Put, put_if}
 
 -- ---- how often right tokens stand that match a left one
 
 -- how often those of these stand that match the left token
-abbrev pub number_matching : List JoinTest → Elements → List ℕ → List (List ℕ × ℤ) → ℕ
+abbrev pub number_matching : List JoinTest → Elements → List ℕ → Pairs → ℕ
 number_matching tests elements t [] = 0
 number_matching tests elements t (e ∷ right) =
-    (if joins_hold tests elements t (slice_index e.0 0) then standing e.1 else 0) + number_matching tests elements t right
+    (if joins_hold tests elements t (slice_index e.0 0) then standing e.1.sum else 0) + number_matching tests elements t right
 
 -- what is kept with the left token; where it is not kept, what stands now
 abbrev pub blockers_for : List JoinTest → Elements → Option Memory → List ℕ → ℕ
 blockers_for tests elements None t = 0
-blockers_for tests elements (Some m) t = option_map_or (λ c. c.blockers) (get bytes_eq m.left t) (number_matching tests elements t m.right.entries)
+blockers_for tests elements (Some m) t = option_map_or (λ c. c.blockers) (cell_of m.left t) (number_matching tests elements t m.right)
 
 -- ---- what a negated node puts out
 
@@ -37,7 +36,7 @@ abbrev pub before_flip : Bool → ℕ
 before_flip plus = if plus then 0 else 1
 
 -- for one right token more or less: each left token that it matches and that it blocks first, or frees, as often as that one stands
-abbrev pub put_flipped : List JoinTest → Elements → ℕ → Bool → List (List ℕ × Cell) → List Put
+abbrev pub put_flipped : List JoinTest → Elements → ℕ → Bool → Pairs → List Put
 put_flipped tests elements tag plus left = flat_map (λ e. put_if ((e.1.blockers == before_flip plus) && joins_hold tests elements e.0 tag) e.0 e.1.sum) left
 
 -- ---- room for one blocker more
@@ -45,7 +44,7 @@ put_flipped tests elements tag plus left = flat_map (λ e. put_if ((e.1.blockers
 abbrev pub has_room : Bool → Cell → Bool
 has_room plus c = if plus then nat_lt c.blockers (2 ^ 64 - 1) else true
 
-abbrev pub all_have_room : Bool → List (List ℕ × Cell) → Bool
+abbrev pub all_have_room : Bool → Pairs → Bool
 all_have_room plus left = list_all (λ e. has_room plus e.1) left
 
 -- ---- which left tokens have one blocker more, or one less

@@ -5,10 +5,19 @@ use Rattle.net_base.specs.declared.nodes.JoinTest.{JoinTest}
 use Rattle.net_base.specs.declared.tasks.Side.{Side}
 use Rattle.net_base.specs.declared.tasks.Side.TheVariants.{Left, Right}
 use Rattle.net_base.specs.Tokens.{Elements, joins_hold}
-use Rattle.token_line.specs.declared.memory.Cell.{Cell}
 use Rattle.token_line.specs.declared.memory.Memory.{Memory}
 use Rattle.token_line.specs.Bags.{standing}
-use Rattle.activation.specs.declared.putting.Put.{Put}
+use Rattle.token_line.specs.Pairs.{Pairs}
+
+-- a token that a node puts out, and how often
+pub record Put : Type 0 where
+  pub token : List ℕ
+  pub times : ℕ
+
+-- the token, with the tag behind it where there is one
+abbrev pub tagged : List ℕ → Option ℕ → List ℕ
+tagged t None = t
+tagged t (Some tag) = t ++ tag ∷ []
 
 -- one insert or one delete more changes how often a token of this sum stands
 abbrev pub changes : ℤ → Bool → Bool
@@ -20,13 +29,13 @@ changes (negsuc n) false = false
 
 -- ---- the tokens of a node, none where no token of it ever came
 
-abbrev pub left_entries : Option Memory → List (List ℕ × Cell)
+abbrev pub left_entries : Option Memory → Pairs
 left_entries None = []
-left_entries (Some m) = m.left.entries
+left_entries (Some m) = m.left
 
-abbrev pub right_entries : Option Memory → List (List ℕ × ℤ)
+abbrev pub right_entries : Option Memory → Pairs
 right_entries None = []
-right_entries (Some m) = m.right.entries
+right_entries (Some m) = m.right
 
 -- ---- what a join puts out
 
@@ -35,11 +44,11 @@ abbrev pub put_if : Bool → List ℕ → ℤ → List Put
 put_if holds t sum = if holds then record { token = t; times = standing sum } ∷ [] else []
 
 -- for one left token more or less: it with each right token that joins it
-abbrev pub put_for_left : List JoinTest → Elements → List ℕ → List (List ℕ × ℤ) → List Put
-put_for_left tests elements t right = flat_map (λ e. put_if (joins_hold tests elements t (slice_index e.0 0)) (t ++ slice_index e.0 0 ∷ []) e.1) right
+abbrev pub put_for_left : List JoinTest → Elements → List ℕ → Pairs → List Put
+put_for_left tests elements t right = flat_map (λ e. put_if (joins_hold tests elements t (slice_index e.0 0)) (t ++ slice_index e.0 0 ∷ []) e.1.sum) right
 
 -- for one right token more or less: each left token that joins it, with its tag
-abbrev pub put_for_right : List JoinTest → Elements → ℕ → List (List ℕ × Cell) → List Put
+abbrev pub put_for_right : List JoinTest → Elements → ℕ → Pairs → List Put
 put_for_right tests elements tag left = flat_map (λ e. put_if (joins_hold tests elements e.0 tag) (e.0 ++ tag ∷ []) e.1.sum) left
 
 -- the same of a task that changes how often its token stands, by the side of the token

@@ -1,28 +1,49 @@
 //! The tasks for the children of a node, of what the node puts out.
-ghost use Rattle.std.specs.Prelude.{◌≡◌, ◌++◌, IfOk, OnOk, replicate, slice_get};
-ghost use Rattle.net_base.specs.Sound.{IsSound};
-ghost use Rattle.activation.specs.Children.{child, children_at, children_of, to_each};
+ghost use Rattle.std.specs.Prelude.{◌≡◌, ◌++◌, IfOk, OnOk, replicate};
+ghost use Rattle.token_line.specs.Bags.{standing};
+ghost use Rattle.activation.specs.Children.{Grows, child, children_of, to_each};
+ghost use Rattle.activation.specs.Putting.{put_if, tagged};
 
-use crate::effects::Effect;
-use crate::putting::{Put, node_at};
-use net_base::net::Net;
+use net_base::tags::Tags;
 use net_base::tasks::{Side, Task};
 use ops_base::memory::OutOfMemory;
 use std::alloc::Global;
+use token_line::Cell;
 
-/// Adds a task for one node, as often as the token is put out.
+/// The nodes to which a node gives, and whether what it puts out arrives there (`plus`) or leaves.
+#[derive(Clone, Copy)]
+pub(crate) struct Below<'a> {
+    pub(crate) nodes: &'a [usize],
+    pub(crate) plus: bool,
+}
+
+/// The token, with the tag behind it where there is one.
+fn lengthened(alloc: Global, token: &Tags, tag: Option<u64>) -> Result<Tags, OutOfMemory>
+    ensures { IfOk result (λ t. t ≡ tagged token.now tag) }
+{
+    let mut made = token.copy(alloc)?;
+    if let Some(tag) = tag {
+        made.push(tag)?;
+    }
+    Ok(made)
+}
+
+/// Adds a task for one node, as often as the token is put out. Where memory runs out, some may have been added.
 fn push_to(
     alloc: Global,
     node: usize,
     plus: bool,
-    put: &Put,
-    made: &mut Vec<Task>,
+    token: &Tags,
+    tag: Option<u64>,
+    times: u64,
+    out: &mut Vec<Task>,
 ) -> Result<(), OutOfMemory>
-    ensures { OnOk result (made.new.items ≡ made.old.items ++ replicate put.now.times (child plus put.now.token node)) }
+    ensures ok { OnOk result (out.new.items ≡ out.old.items ++ replicate times (child plus (tagged token.now tag) node)) }
+    ensures grown { Grows out.old.items out.new.items }
 {
-    for _time in 0..put.times {
-        let token = put.token.copy(alloc)?;
-        made.push(Task {
+    for _time in 0..times {
+        let token = lengthened(alloc, token, tag)?;
+        out.push(Task {
             node,
             side: Side::Left,
             plus,
@@ -32,51 +53,48 @@ fn push_to(
     Ok(())
 }
 
-/// Adds the tasks for each of these nodes.
-fn push_to_each(
+/// Adds the tasks for each node below, of a token that is put out so often. Where memory runs out, some may have been added.
+pub(crate) fn push_to_each(
     alloc: Global,
-    nodes: &[usize],
-    plus: bool,
-    put: &Put,
-    made: &mut Vec<Task>,
+    below: Below,
+    token: &Tags,
+    tag: Option<u64>,
+    times: u64,
+    out: &mut Vec<Task>,
 ) -> Result<(), OutOfMemory>
-    ensures { OnOk result (made.new.items ≡ made.old.items ++ to_each nodes.now plus put.now) }
+    ensures ok { OnOk result (out.new.items ≡ out.old.items ++ to_each below.entry.nodes.now below.entry.plus (record { token = tagged token.now tag; times = times })) }
+    ensures grown { Grows out.old.items out.new.items }
 {
+    let nodes = below.nodes;
     for node in nodes {
-        push_to(alloc, *node, plus, put, made)?;
+        push_to(alloc, *node, below.plus, token, tag, times, out)?;
     }
     Ok(())
 }
 
-/// The tasks for each of these nodes, of all that is put out.
-pub(crate) fn children_of(
-    alloc: Global,
-    nodes: &[usize],
-    plus: bool,
-    puts: &[Put],
-) -> Result<Vec<Task>, OutOfMemory>
-    ensures { IfOk result (λ v. v.items ≡ children_of nodes.now plus puts.now) }
+/// How often a token of this sum stands.
+pub(crate) fn standing(sum: i64) -> u64
+    ensures { result ≡ standing sum }
 {
-    let mut made = Vec::new(alloc);
-    for put in puts {
-        push_to_each(alloc, nodes, plus, put, &mut made)?;
-    }
-    Ok(made)
+    if sum > 0 { sum as u64 } else { 0 }
 }
 
-/// The tasks for the children of the node, of what is put out there.
-pub(crate) fn children_for(
+/// Adds the tasks for each node below, of a token that is put out as often as one stands of which this is kept, if `holds` says so. Where memory runs
+/// out, some may have been added.
+pub(crate) fn push_if(
     alloc: Global,
-    net: &Net,
-    node: usize,
-    effect: &Effect,
-) -> Result<Vec<Task>, OutOfMemory>
-    ensures children { IfOk result (λ v. v.items ≡ children_at (slice_get net.now.nodes node) effect.now.plus effect.now.puts) }
-    ensures sound { IsSound net.now.alphas net.now.nodes }
+    holds: bool,
+    below: Below,
+    token: &Tags,
+    tag: Option<u64>,
+    cell: Cell,
+    out: &mut Vec<Task>,
+) -> Result<(), OutOfMemory>
+    ensures ok { OnOk result (out.new.items ≡ out.old.items ++ children_of below.entry.nodes.now below.entry.plus (put_if holds (tagged token.now tag) cell.sum)) }
+    ensures grown { Grows out.old.items out.new.items }
 {
-    let puts = effect.puts.as_slice();
-    match node_at(net, node) {
-        Some(node) => children_of(alloc, node.children.as_slice(), effect.plus, puts),
-        None => Ok(Vec::new(alloc)),
+    if !holds {
+        return Ok(());
     }
+    push_to_each(alloc, below, token, tag, standing(cell.sum), out)
 }

@@ -1,4 +1,4 @@
--- Runs one behind the other, and the last task in flight.
+-- One run after another, and the last task in flight.
 use Rattle.std.proofs.Common.{inl, inr, ◌≡◌, ℕ, zero, suc, ◌+◌, ◌-◌, ◌<◌, ◌≤◌, List, [], ◌∷◌, ◌++◌, refl, sym, ap, ap₂, subst, ◌∙◌, arith, length, map, take, drop, remove, slice_get, Option, Some, None, length-append, append-nil}
 use Rattle.std.specs.List.{All}
 use Rattle.std.proofs.lemmas.Grind.{flat_map-append}
@@ -62,9 +62,9 @@ all_at P xs i x all at =
     let lt = slice_get_within xs i x at in
     subst P (get_or_from_slice_get xs i x x at) (All-get_or P xs i x lt all)
 
-get_behind : {X : Type 0} (xs ys : List X) (j : ℕ) → slice_get (xs ++ ys) (length xs + j) ≡ slice_get ys j
-get_behind [] ys j = ap (slice_get ys) (omega arith)
-get_behind (x ∷ xs) ys j = let e : length (x ∷ xs) + j ≡ suc (length xs + j) = omega arith in ap (slice_get (x ∷ (xs ++ ys))) e ∙ get_behind xs ys j
+get_after : {X : Type 0} (xs ys : List X) (j : ℕ) → slice_get (xs ++ ys) (length xs + j) ≡ slice_get ys j
+get_after [] ys j = ap (slice_get ys) (omega arith)
+get_after (x ∷ xs) ys j = let e : length (x ∷ xs) + j ≡ suc (length xs + j) = omega arith in ap (slice_get (x ∷ (xs ++ ys))) e ∙ get_after xs ys j
 
 get_taken : {X : Type 0} (m i : ℕ) (xs : List X) → i < m → slice_get (take m xs) i ≡ slice_get xs i
 get_taken zero i xs lt = absurd (omega (arith, lt))
@@ -72,21 +72,21 @@ get_taken (suc m) i [] lt = refl
 get_taken (suc m) zero (x ∷ xs) lt = refl
 get_taken (suc m) (suc i) (x ∷ xs) lt = get_taken m i xs (omega (arith, lt))
 
-module _ {X : Type 0} (front behind : List X) (m : ℕ) (low : length front < m) (high : m ≤ length (front ++ behind)) where
-  pub length_left : length (take m (front ++ behind)) ≡ m
-  length_left = length-take-le m (front ++ behind) high
+module _ {X : Type 0} (front after : List X) (m : ℕ) (low : length front < m) (high : m ≤ length (front ++ after)) where
+  pub length_left : length (take m (front ++ after)) ≡ m
+  length_left = length-take-le m (front ++ after) high
 
-  pub left_but_last : but_last (take m (front ++ behind)) ≡ take (m - 1) (front ++ behind)
-  left_but_last = ap (λ n. take (n - 1) (take m (front ++ behind))) length_left ∙ take-take (m - 1) m (front ++ behind) (omega arith)
+  pub left_but_last : but_last (take m (front ++ after)) ≡ take (m - 1) (front ++ after)
+  left_but_last = ap (λ n. take (n - 1) (take m (front ++ after))) length_left ∙ take-take (m - 1) m (front ++ after) (omega arith)
 
-  pub last_left : (P : X → Type 0) → All P behind → (x : X) → slice_get (take m (front ++ behind)) (length (take m (front ++ behind)) - 1) ≡ Some x → P x
+  pub last_left : (P : X → Type 0) → All P after → (x : X) → slice_get (take m (front ++ after)) (length (take m (front ++ after)) - 1) ≡ Some x → P x
   last_left P all x at =
       let i : ℕ = m - 1 - length front in
-      let a = ap (λ n. slice_get (take m (front ++ behind)) (n - 1)) length_left in
-      let b = get_taken m (m - 1) (front ++ behind) (omega (arith, low)) in
+      let a = ap (λ n. slice_get (take m (front ++ after)) (n - 1)) length_left in
+      let b = get_taken m (m - 1) (front ++ after) (omega (arith, low)) in
       let e : m - 1 ≡ length front + i = omega (arith, low) in
-      let d = ap (slice_get (front ++ behind)) e ∙ get_behind front behind i in
-      all_at P behind i x all (sym (sym at ∙ (a ∙ (b ∙ d))))
+      let d = ap (slice_get (front ++ after)) e ∙ get_after front after i in
+      all_at P after i x all (sym (sym at ∙ (a ∙ (b ∙ d))))
 
 -- a child is below its task
 module _ (child_law : ChildLaw) (alphas : List Alpha) (nodes : List Node) (sound : IsSound alphas nodes) (levels p : ℕ) (x : Task) (child : IsChildOf nodes p x) (deep : length nodes ≤ levels + p) where
@@ -99,15 +99,15 @@ module _ (child_law : ChildLaw) (alphas : List Alpha) (nodes : List Node) (sound
 pub same_count : (v w : Code.World) → numbers_of w ≡ numbers_of v → length w.lines.items ≡ length v.lines.items
 same_count v w same = sym (length-map w.lines.items (λ (l : Line). l.number)) ∙ (ap length same ∙ length-map v.lines.items (λ (l : Line). l.number))
 
-module _ {X : Type 0} (front behind : List X) (m : ℕ) (low : length front < m) (high : m ≤ length (front ++ behind)) (ws : List X) (is : ws ≡ take m (front ++ behind)) where
+module _ {X : Type 0} (front after : List X) (m : ℕ) (low : length front < m) (high : m ≤ length (front ++ after)) (ws : List X) (is : ws ≡ take m (front ++ after)) where
   pub some_left : 1 ≤ length ws
-  some_left = let e = ap length is ∙ length_left front behind m low high in omega (arith, e, low)
+  some_left = let e = ap length is ∙ length_left front after m low high in omega (arith, e, low)
 
-  pub one_less : but_last ws ≡ take (m - 1) (front ++ behind)
-  one_less = ap but_last is ∙ left_but_last front behind m low high
+  pub one_less : but_last ws ≡ take (m - 1) (front ++ after)
+  one_less = ap but_last is ∙ left_but_last front after m low high
 
-  pub last_is : (P : X → Type 0) → All P behind → (x : X) → slice_get ws (length ws - 1) ≡ Some x → P x
-  last_is P all x at = last_left front behind m low high P all x (sym (ap (λ us. slice_get us (length us - 1)) is) ∙ at)
+  pub last_is : (P : X → Type 0) → All P after → (x : X) → slice_get ws (length ws - 1) ≡ Some x → P x
+  last_is P all x at = last_left front after m low high P all x (sym (ap (λ us. slice_get us (length us - 1)) is) ∙ at)
 
   pub has_last : (x : X) × (slice_get ws (length ws - 1) ≡ Some x)
   has_last = elim (slice_get_cases ws (length ws - 1)).1 [ inl h ↦ (h.0, h.2) | inr h ↦ absurd (let a = some_left in omega (arith, h.0, a)) ]

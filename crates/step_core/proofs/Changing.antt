@@ -1,6 +1,5 @@
 -- What is gathered tells how what is found changed.
-use Rattle.std.proofs.Common.{◌≡◌, ℕ, zero, suc, ◌+◌, ◌<◌, ◌≤◌, List, pos, refl, sym, ap, subst, ◌∙◌, arith, map, slice_get, Some}
-use Rattle.std.specs.Prelude.{◌↔◌}
+use Rattle.std.proofs.Common.{List, ap, arith, map}
 use Rattle.std.specs.List.{Contains}
 use Rattle.ops_base.specs.declared.elements.Element.{Element}
 use Rattle.ops_base.specs.declared.rules.Inst.{Inst}
@@ -9,14 +8,13 @@ use Rattle.net_base.specs.declared.nodes.Node.{Node}
 use Rattle.net_base.specs.declared.nodes.Alpha.{Alpha}
 use Rattle.net_base.specs.declared.tasks.Side.TheVariants.{Left}
 use Rattle.net_base.specs.Sound.{IsSound}
-use Rattle.net_base.specs.Tokens.{left_tokens}
 use Rattle.token_line.specs.Bags.{Bag, standing}
 use Rattle.work_store.specs.Settling.{IsSettled}
 use Rattle.step_core.specs.Machine.{Placing, Seen}
 use Rattle.step_core.specs.Phases.{HoldJust, sums_over, now, before, total}
 use Rattle.step_core.proofs.Terminals.{once_law}
 use Rattle.step_core.specs.Found.{found_over}
-use Rattle.step_core.specs.Settling.{IsFound, Stands, IsGathered}
+use Rattle.step_core.specs.Settling.{Stands, IsGathered}
 use Rattle.step_core.proofs.Finding.{found_law}
 
 module _ (alphas : List Alpha) (nodes : List Node) (sound : IsSound alphas nodes) (wm : List Element) (rise : HasRisingTags wm) (line : Placing) (bags : List Bag) (hold : HoldJust line (sums_over wm alphas nodes) bags) where

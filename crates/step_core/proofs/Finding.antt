@@ -1,11 +1,11 @@
 -- What a network tells over a working memory stands in order, and is just what stands at its terminals.
-use Rattle.std.proofs.Common.{◌≡◌, ◌≢◌, ℕ, zero, suc, ◌+◌, ◌<◌, ◌≤◌, ◌==◌, Bool, true, false, cond, List, [], ◌∷◌, ◌++◌, map, filter, length, refl, sym, ap, ap₂, subst, ◌∙◌, arith, inl, inr, ◌⊎◌, slice_get, Option, Some, None}
-use Rattle.std.specs.List.{flat_map, AllByRecursion}
+use Rattle.std.proofs.Common.{◌≡◌, ◌≢◌, ℕ, zero, suc, ◌<◌, ◌==◌, Bool, true, false, cond, List, [], ◌∷◌, ◌++◌, map, filter, length, refl, sym, ap, subst, ◌∙◌, arith, inl, inr, slice_get, Option, Some, None}
+use Rattle.std.specs.List.{AllByRecursion}
 use Rattle.std.proofs.lemmas.Bool.Decides.{Decides-eqb}
 use Rattle.std.proofs.lemmas.Option.{slice_get_within}
 use Rattle.ops_base.specs.declared.elements.Element.{Element}
 use Rattle.ops_base.specs.declared.rules.Inst.{Inst}
-use Rattle.ops_base.specs.Instances.{TagsBefore, Before, IsInOrder}
+use Rattle.ops_base.specs.Instances.{TagsBefore, Before}
 use Rattle.ops_base.specs.WorkingMemory.{tags_of, HasRisingTags}
 use Rattle.ops_base.proofs.Members.{IsMember, member_cases, member_left, member_right, member-flat_map, map_member, member-map, member_from_contains, contains_from_member}
 use Rattle.ops_base.proofs.Filtered.{filter_member, member-filter, all_before-filter}

@@ -1,14 +1,12 @@
 -- What a network of rules tells is their conflict set, and nothing over nothing.
-use Rattle.std.proofs.Common.{◌≡◌, ◌≢◌, ℕ, zero, suc, ◌+◌, ◌<◌, ◌≤◌, ◌^◌, Bool, true, false, List, [], ◌∷◌, ◌++◌, length, refl, sym, ap, subst, ◌∙◌, arith, inl, inr, slice_get, Option, Some, None}
-use Rattle.std.specs.List.{AllByRecursion, Contains}
+use Rattle.std.proofs.Common.{◌≡◌, ℕ, zero, suc, ◌+◌, ◌<◌, ◌≤◌, ◌^◌, true, List, [], ◌∷◌, length, refl, sym, ap, subst, ◌∙◌, arith, inl, inr, slice_get, Option, Some, None}
+use Rattle.std.specs.List.{AllByRecursion}
 use Rattle.std.proofs.lemmas.Option.{slice_get_within, slice_get_cases}
 use Rattle.ops_base.specs.declared.elements.Element.{Element}
 use Rattle.ops_base.specs.declared.rules.Inst.{Inst}
 use Rattle.ops_base.specs.declared.rules.Rule.{Rule}
 use Rattle.ops_base.specs.Instances.{IsInst, IsConflictSet}
-use Rattle.std.proofs.lemmas.List.Elements.{All-from_recursion, recursion_from_All}
-use Rattle.work_store.specs.Stored.{Stored, IsStored}
-use Rattle.ops_base.specs.WorkingMemory.{HasRisingTags, tags_of}
+use Rattle.ops_base.specs.WorkingMemory.{HasRisingTags}
 use Rattle.ops_base.proofs.Members.{IsMember, contains_from_member}
 use Rattle.net_base.specs.declared.nodes.Kind.{Kind}
 use Rattle.net_base.specs.declared.nodes.Kind.TheVariants.{Join, Negated, Terminal}

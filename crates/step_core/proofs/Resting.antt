@@ -1,5 +1,5 @@
 -- Lines at rest are as well counted, and placed, for any other store that holds working memory.
-use Rattle.std.proofs.Common.{◌≡◌, ◌≢◌, ℕ, zero, suc, ◌+◌, ◌<◌, ◌≤◌, ◌^◌, ◌==◌, Bool, true, false, cond, List, [], ◌∷◌, length, map, ℤ, pos, negsuc, ◌+ℤ◌, refl, sym, ap, subst, ◌∙◌, arith, get_or, slice_get, slice_index, Option, Some, None, IsSome}
+use Rattle.std.proofs.Common.{◌≡◌, ◌≢◌, ℕ, zero, suc, ◌<◌, ◌^◌, ◌==◌, Bool, true, false, List, [], ◌∷◌, length, map, ℤ, pos, negsuc, refl, sym, ap, subst, ◌∙◌, arith, get_or, slice_get, Option, Some, None, IsSome}
 use Rattle.std.specs.List.{All, AllByRecursion}
 use Rattle.std.specs.Option.{option_map, option_or}
 use Rattle.std.proofs.lemmas.Int.{ints}
@@ -14,7 +14,7 @@ use Rattle.net_base.specs.declared.nodes.Kind.TheVariants.{Join, Negated, Termin
 use Rattle.net_base.specs.declared.nodes.Node.{Node}
 use Rattle.net_base.specs.declared.tasks.Side.{Side}
 use Rattle.net_base.specs.declared.tasks.Side.TheVariants.{Left, Right}
-use Rattle.net_base.specs.Sound.{IsSound, is_negated, left_width}
+use Rattle.net_base.specs.Sound.{IsSound, left_width}
 use Rattle.net_base.specs.Tokens.{given, given_in, giver_of_kind, left_giver, right_giver, memory_gives, tokens, joins_hold}
 use Rattle.token_line.specs.declared.line.Line.{Line}
 use Rattle.token_line.specs.Bags.{Bag, standing_at}

@@ -1,5 +1,5 @@
 -- From a bundle to what a settle leaves and answers.
-use Rattle.std.proofs.Common.{◌≡◌, ◌≢◌, ℕ, List, sym, ap, subst, ◌∙◌, map, slice_get, Some}
+use Rattle.std.proofs.Common.{◌≡◌, ◌≢◌, ℕ, sym, ap, subst, ◌∙◌, map, slice_get, Some}
 use Rattle.std.specs.Prelude.{option_map}
 use Rattle.std.specs.List.{Contains}
 use Rattle.std.proofs.lemmas.List.Elements.{recursion_from_All}
@@ -8,7 +8,7 @@ use Rattle.ops_base.proofs.Members.{member_from_contains, members_from_each}
 use Rattle.work_store.specs.Stored.{held_of}
 use Rattle.net_base.specs.declared.tasks.Task.{Task}
 use Rattle.step_core.specs.Machine.{Placing, Seen, place_of}
-use Rattle.step_core.specs.Phases.{HoldJust, before, now, sums_over, tasks_of}
+use Rattle.step_core.specs.Phases.{HoldJust, now, sums_over, tasks_of}
 use Rattle.step_core.specs.Settling.{HaveOwnLines, SettledLaw}
 use Rattle.step_core.specs.Worlds.{placed}
 use Rattle.step_core.proofs.Changing.{change_law}

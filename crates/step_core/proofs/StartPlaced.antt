@@ -1,16 +1,11 @@
 -- The line that a token's code gives is a placing, and a child's node comes after its parent's.
-use Rattle.std.proofs.Common.{inl, inr, ◌≡◌, ◌<◌, ◌≤◌, ◌%◌, ℕ, List, length, fold, sym, ap, ◌∙◌, arith, slice_get, Option, Some, None, mod-lt}
+use Rattle.std.proofs.Common.{inl, inr, ◌<◌, ℕ, List, length, sym, ap, ◌∙◌, arith}
 use Rattle.std.proofs.lemmas.Option.{slice_get_cases}
 use Rattle.net_base.specs.declared.nodes.Node.{Node}
-use Rattle.net_base.specs.declared.nodes.Alpha.{Alpha}
 use Rattle.net_base.specs.declared.tasks.Side.{Side}
 use Rattle.net_base.specs.declared.tasks.Task.{Task}
-use Rattle.net_base.specs.Sound.{IsSound}
-use Rattle.net_base.specs.Tokens.{Elements}
 use Rattle.token_line.specs.Lawful.{IsChildOf, giver_in}
-use Rattle.token_line.specs.Numbers.{mixed, codes_at, line_number}
 use Rattle.token_line.proofs.Joined.{joined_on_one_line}
-use Rattle.step_core.specs.Laws.{IsPlaced}
 use Rattle.step_core.specs.Settling.{ChildLaw, PlacedLaw}
 use Rattle.step_core.specs.Worlds.{placed}
 use Rattle.step_core.proofs.Settled.{giver_below}

@@ -1,18 +1,16 @@
 -- What a store holds once changes are done to it.
-use Rattle.std.proofs.Common.{inl, inr, ◌≡◌, ◌≢◌, ℕ, zero, suc, ◌+◌, ◌<◌, ◌≤◌, ◌==◌, Bool, true, false, cond, List, [], ◌∷◌, ◌++◌, refl, sym, ap, subst, ◌∙◌, arith, map, Option, Some, None, IsSome}
-use Rattle.std.specs.List.{All, AllByRecursion, Contains}
+use Rattle.std.proofs.Common.{inl, inr, ◌≡◌, ℕ, ◌<◌, ◌≤◌, ◌==◌, true, false, cond, List, [], ◌∷◌, ◌++◌, refl, sym, ap, subst, ◌∙◌, arith, Some, None, IsSome}
+use Rattle.std.specs.List.{AllByRecursion}
 use Rattle.std.specs.Option.{option_or}
 use Rattle.std.proofs.lemmas.Bool.Decides.{Decides-eqb, nat_tests}
 use Rattle.std.proofs.lemmas.List.Elements.{recursion_from_All, All-from_recursion}
 use Rattle.ops_base.specs.declared.elements.Element.{Element}
 use Rattle.ops_base.specs.declared.elements.Change.{Change}
 use Rattle.ops_base.specs.declared.elements.Change.TheVariants.{Add, Remove}
-use Rattle.ops_base.specs.WorkingMemory.{tags_of, without_tag, done, last_after, Lawful}
+use Rattle.ops_base.specs.WorkingMemory.{tags_of, without_tag, Lawful}
 use Rattle.ops_base.proofs.InOrder.{AllBefore, TagBelow, tags_in_order}
-use Rattle.ops_base.proofs.Members.{IsMember, member_from_contains, all_from_members}
-use Rattle.ops_base.proofs.Changes.{first_lawful, rest_lawful}
+use Rattle.ops_base.proofs.Members.{IsMember, member_from_contains}
 use Rattle.work_store.specs.Stored.{Stored, held_of, of_tag, added_by, HoldsAlso, IsStored}
-use Rattle.net_base.specs.Tokens.{Elements}
 use Rattle.step_core.specs.Feeding.{IsKnown}
 use Rattle.step_core.specs.Laws.{NamesAdded}
 use Rattle.step_core.proofs.Memory.{find_low, find_there, known_after, first_names, later_names, added_name}

@@ -1,15 +1,13 @@
 -- The totals of what the entries of lines moved tell what came and what went.
-use Rattle.std.proofs.Common.{◌≡◌, ◌≢◌, ℕ, zero, suc, ◌+◌, ◌<◌, ◌≤◌, ◌==◌, Bool, true, false, cond, ◌&&◌, nat_lt, List, [], ◌∷◌, ◌++◌, ℤ, pos, ◌+ℤ◌, ◌-ℤ◌, refl, sym, ap, ap₂, subst, ◌∙◌, arith, inl, inr, length, map, filter, fold, slice_get, Option, Some, None}
+use Rattle.std.proofs.Common.{◌≡◌, ℕ, zero, suc, ◌<◌, ◌==◌, Bool, true, false, cond, ◌&&◌, nat_lt, List, [], ◌∷◌, ℤ, pos, ◌+ℤ◌, ◌-ℤ◌, refl, sym, ap, ap₂, subst, ◌∙◌, arith, inl, inr, map, filter, fold, slice_get, Option, Some, None}
 use Rattle.std.specs.Prelude.{◌↔◌, ◌⊎◌, flat_map, option_map}
-use Rattle.std.specs.List.{AllPairs, Contains}
-use Rattle.std.specs.List.Sorted.{IsPermutation}
-use Rattle.std.specs.Ordering.{is_lt}
+use Rattle.std.specs.List.{Contains}
 use Rattle.std.proofs.lemmas.Int.{ints}
 use Rattle.std.proofs.lemmas.List.Sorted.{Contains-permutation, IsPermutation-sym}
 use Rattle.std.proofs.lemmas.Option.{slice_get-map}
 use Rattle.std.proofs.lemmas.Bool.Decides.{nat_tests, Decides-eqb}
 use Rattle.ops_base.specs.declared.rules.Inst.{Inst}
-use Rattle.ops_base.specs.Instances.{Before, IsInOrder, by_rule_and_tags}
+use Rattle.ops_base.specs.Instances.{Before, IsInOrder}
 use Rattle.ops_base.proofs.Filtered.{filter_member, member-filter, all_before-filter}
 use Rattle.ops_base.proofs.InOrder.{AllBefore, all_before-map, all_pairs_from_before}
 use Rattle.ops_base.proofs.Members.{IsMember, contains_from_member, member_from_contains, flat_map_member, map_member, member-map}
@@ -30,7 +28,7 @@ use Rattle.step_core.specs.Settling.{HaveOwnLines, IsGathered, Stands}
 use Rattle.step_core.specs.declared.gathering.Moved.{Moved}
 use Rattle.step_core.specs.declared.gathering.Total.{Total}
 use Rattle.step_core.specs.Gathering.{AreTold, added, has_come, has_gone, is_moved, is_same, moved_by, moved_on, moved_over, moved_to, rule_in}
-use Rattle.step_core.proofs.AddingUp.{AreTotals, ByInst, is_same-itself, is_same-true, member_got, moved_change, moved_change-append, moved_change-permutation, own_change, part_of, some_total, sorted_totals, total_change}
+use Rattle.step_core.proofs.AddingUp.{AreTotals, ByInst, is_same-itself, is_same-true, moved_change, moved_change-append, moved_change-permutation, own_change, some_total, sorted_totals, total_change}
 use Rattle.step_core.proofs.Resting.{only_here}
 
 -- ---- a token that moved

@@ -8,10 +8,9 @@ ghost use Rattle.step_core.specs.Starts.{AreBegun, AreUnused, root_task};
 use net_base::net::Net;
 use net_base::tags::Tags;
 use net_base::tasks::{Side, Task};
-use ops_base::list::Listed;
 use ops_base::memory::OutOfMemory;
 use std::alloc::Global;
-use token_line::{Entry, Line};
+use token_line::{Children, Entry, Line};
 
 /// So many lines with no tokens.
 fn bare_lines(alloc: Global, count: usize) -> Result<Vec<Line>, OutOfMemory>
@@ -36,7 +35,7 @@ fn give_root(alloc: Global, line: &mut Line, node: usize) -> Result<(), OutOfMem
         plus: true,
         token: Tags::new(alloc),
     };
-    let children = Listed::new(alloc);
+    let children = Children::none(alloc);
     line.add(alloc, Entry { task, children }, 0)?;
     line.clear_phase();
     Ok(())

@@ -1,5 +1,5 @@
 pub mod Joined
 pub mod Fitting
-pub mod Kept
+pub mod PairLemmas
+pub mod LineLemmas
 pub mod Blocked
-pub mod Memories

@@ -3,6 +3,8 @@ pub mod Bags
 pub mod Numbers
 pub mod Held
 pub mod OneLine
+pub mod Pairs
+pub mod Rooms
 pub mod Sums
 pub mod Lines
 pub mod Lawful

@@ -3,6 +3,7 @@ ghost use Rattle.std.specs.Prelude.{◌≡◌, ◌≢◌, IfOk, List, pos, ℕ};
 ghost use Rattle.net_base.specs.declared.tasks.Side.TheVariants.{Left};
 ghost use Rattle.token_line.specs.Lines.{blockers_in, sum_in};
 
+use crate::children::Children;
 use crate::joining::joins;
 use crate::line::{Entry, Line};
 use crate::number::{line_of, with_token};
@@ -18,17 +19,21 @@ use std::alloc::Global;
 use std::test::Fail;
 use work_store::Store;
 
-// a token arrives or leaves at node 3
-fn entry(alloc: Global, side: Side, plus: bool) -> Result<Entry, OutOfMemory> {
-    let token = Tags::from_slice(alloc, &[2])?;
+// the token of a tag arrives or leaves at node 3
+fn entry_of(alloc: Global, side: Side, plus: bool, tag: u64) -> Result<Entry, OutOfMemory> {
+    let token = Tags::from_slice(alloc, &[tag])?;
     let task = Task {
         node: 3,
         side,
         plus,
         token,
     };
-    let children = Listed::new(alloc);
+    let children = Children::none(alloc);
     Ok(Entry { task, children })
+}
+
+fn entry(alloc: Global, side: Side, plus: bool) -> Result<Entry, OutOfMemory> {
+    entry_of(alloc, side, plus, 2)
 }
 
 fn come(alloc: Global, line: &mut Line, side: Side, plus: bool) -> Result<(), OutOfMemory> {
@@ -88,6 +93,22 @@ fn tasks_come_to_a_line(rt: HostRuntime) -> Result<(), Fail> {
     Ok(())
 }
 
+#[test]
+fn many_tokens_come_and_go(rt: HostRuntime) -> Result<(), Fail> {
+    let mut line = Line::new(rt.alloc(), 7);
+    for tag in 0..12 {
+        let entry = entry_of(rt.alloc(), Side::Left, true, tag)?;
+        line.add(rt.alloc(), entry, 0)?;
+    }
+    assert_eq!(rt; kept(&line), Some((12, 0)));
+    for tag in 0..12 {
+        let entry = entry_of(rt.alloc(), Side::Left, false, tag)?;
+        line.add(rt.alloc(), entry, 0)?;
+    }
+    assert_eq!(rt; kept(&line), None);
+    Ok(())
+}
+
 // an element with one field
 fn element(alloc: Global, tag: u64, value: i64) -> Result<Element, OutOfMemory>
     ensures { IfOk result (λ e. e.tag ≡ tag) }
@@ -137,10 +158,8 @@ fn line_of_one(alloc: Global, blockers: u64) -> Result<Line, OutOfMemory>
 // the blockers of that token
 fn blockers(alloc: Global, line: &Line) -> Result<Option<u64>, OutOfMemory> {
     let token = Tags::from_slice(alloc, &[2])?;
-    match line.memory(3) {
-        Some(memory) => Ok(memory.left().get(&token).map(|cell| cell.blockers)),
-        None => Ok(None),
-    }
+    let (spot, _memory) = line.find(3, Side::Left, &token);
+    Ok(spot.kept().map(|cell| cell.blockers))
 }
 
 #[test]

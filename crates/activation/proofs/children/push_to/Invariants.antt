@@ -1,6 +1,8 @@
+-- So many tasks are there.
 use Rattle.std.proofs.Common.{◌≡◌, ◌++◌, replicate}
 use Rattle.activation.specs.Children.{child}
+use Rattle.activation.specs.Putting.{tagged}
 use Rattle.activation.proofs.children.push_to.Given as goal
 
 abbrev pub invariant-loop-time : goal.invariant-loop-time
-invariant-loop-time l = l.made.items ≡ l.fn.made.items ++ replicate l._time (child l.plus l.put.token l.node)
+invariant-loop-time l = l.out.items ≡ l.initial.out.items ++ replicate l._time (child l.plus (tagged l.token l.tag) l.node)

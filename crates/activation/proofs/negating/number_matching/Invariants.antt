@@ -1,8 +1,9 @@
-use Rattle.std.proofs.Common.{◌≡◌, ◌+◌}
+-- The right tokens before the place are counted.
+use Rattle.std.proofs.Common.{◌≡◌, ◌+◌, drop}
 use Rattle.work_store.specs.Stored.{held_of}
 use Rattle.activation.specs.Negating.{number_matching}
 use Rattle.activation.proofs.negating.number_matching.Given as goal
 
-abbrev pub invariant-loop-other : goal.invariant-loop-other
-invariant-loop-other l =
-    l.count + number_matching l.tests (held_of l.store) l.token l.other-iterator ≡ number_matching l.tests (held_of l.store) l.token l.right.entries
+abbrev pub invariant-loop-place : goal.invariant-loop-place
+invariant-loop-place l =
+    l.count + number_matching l.tests (held_of l.store) l.token (drop l.place l.right) ≡ number_matching l.tests (held_of l.store) l.token l.right

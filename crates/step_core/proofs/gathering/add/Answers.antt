@@ -1,11 +1,10 @@
 -- The last total counts one more.
-use Rattle.std.proofs.Common.{◌≡◌, ◌<◌, ◌-◌, ℕ, true, length, slice_get, slice_index_or, Some, sym, ap, ap₂, subst, ◌∙◌, arith, rules, ℤ, ◌+ℤ◌, to_z, of_z, w64, FitsSigned}
+use Rattle.std.proofs.Common.{◌≡◌, ◌<◌, ◌-◌, true, length, slice_get, slice_index_or, Some, sym, ap, ap₂, subst, ◌∙◌, rules, ℤ, ◌+ℤ◌, to_z, of_z, w64, FitsSigned}
 use Rattle.std.specs.Prelude.{slice_set}
 use Rattle.std.proofs.lemmas.Int.{to_z-of_z}
 use Rattle.std.proofs.lemmas.Option.{slice_get-get_or}
 use Rattle.token_line.specs.Bags.{sign}
-use Rattle.step_core.specs.declared.gathering.Total.{Total}
-use Rattle.step_core.specs.Gathering.{added, counted_in, ends_with}
+use Rattle.step_core.specs.Gathering.{ends_with}
 use Rattle.step_core.proofs.AddingUp.{counted_in_last, ends_within}
 use Rattle.step_core.proofs.gathering.add.Goals as goal
 

@@ -1,5 +1,5 @@
 -- What came and what went are all that came and went.
-use Rattle.std.proofs.Common.{◌≡◌, List, map, refl, subst}
+use Rattle.std.proofs.Common.{List, map, refl, subst}
 use Rattle.step_core.specs.Worlds.{seen}
 use Rattle.step_core.specs.declared.gathering.Moved.{Moved}
 use Rattle.step_core.specs.Gathering.{AreTold}

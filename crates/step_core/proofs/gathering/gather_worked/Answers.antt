@@ -1,5 +1,5 @@
 -- What the lines that have entries moved is all that moved.
-use Rattle.std.proofs.Common.{◌≡◌, List, map, subst}
+use Rattle.std.proofs.Common.{List, map, subst}
 use Rattle.step_core.specs.Worlds.{seen}
 use Rattle.step_core.specs.declared.gathering.Moved.{Moved}
 use Rattle.step_core.specs.Gathering.{AreTold, moved_at}

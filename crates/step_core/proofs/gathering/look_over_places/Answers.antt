@@ -1,5 +1,5 @@
 -- One line more is looked over.
-use Rattle.std.proofs.Common.{◌≡◌, ◌∙◌}
+use Rattle.std.proofs.Common.{◌∙◌}
 use Rattle.step_core.proofs.WorkedMoves.{moved_more}
 use Rattle.step_core.proofs.gathering.look_over_places.Goals as goal
 

@@ -1,5 +1,5 @@
 -- The totals of what moved, in order.
-use Rattle.std.proofs.Common.{◌≡◌, List, map, filter, ap, ◌∙◌}
+use Rattle.std.proofs.Common.{map, filter, ap, ◌∙◌}
 use Rattle.step_core.specs.declared.gathering.Total.{Total}
 use Rattle.step_core.specs.Gathering.{has_come, has_gone}
 use Rattle.step_core.proofs.gathering.tell.Goals as goal

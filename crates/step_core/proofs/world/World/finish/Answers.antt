@@ -1,10 +1,8 @@
 -- The entry that was done fits, and so do its children.
-use Rattle.std.proofs.Common.{◌≡◌, ◌++◌, ◌-◌, ◌+◌, ◌<◌, List, length, map, remove, slice_get, Some, refl, sym, ap, ap₂, subst, ◌∙◌, arith, vec_len}
+use Rattle.std.proofs.Common.{◌≡◌, ◌++◌, ◌-◌, ◌+◌, ◌<◌, length, map, remove, refl, sym, ap, ap₂, subst, ◌∙◌, arith, vec_len}
 use Rattle.std.specs.List.{All}
 use Rattle.std.proofs.lemmas.List.Elements.{All-append}
 use Rattle.std.proofs.lemmas.Option.{get_or_from_slice_get, slice_get_read}
-use Rattle.net_base.specs.declared.tasks.Task.{Task}
-use Rattle.token_line.specs.declared.line.Entry.{Entry}
 use Rattle.token_line.specs.Held.{TaskFits}
 use Rattle.step_core.specs.declared.done.Done.{Done}
 use Rattle.step_core.specs.Doing.{entry_of}

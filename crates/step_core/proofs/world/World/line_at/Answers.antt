@@ -1,5 +1,5 @@
 -- The task has its line by the elements that the store holds.
-use Rattle.std.proofs.Common.{◌≡◌, length, refl, sym, ap, subst, ◌∙◌}
+use Rattle.std.proofs.Common.{◌≡◌, length, sym, ap, ◌∙◌}
 use Rattle.std.proofs.lemmas.Option.{get_or_from_slice_get}
 use Rattle.net_base.specs.declared.tasks.Task.{Task}
 use Rattle.work_store.specs.Stored.{held_of}

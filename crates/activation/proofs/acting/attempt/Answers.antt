@@ -1,0 +1,87 @@
+-- What came after the tasks that were there is what the entry has; and the line counts what blocks its left tokens.
+use Rattle.std.proofs.Common.{◌≡◌, ◌≢◌, ℕ, ◌++◌, ◌&&◌, List, pos, cond, length, sym, ap, ap₂, subst, ◌∙◌, arith, slice_get}
+use Rattle.std.specs.Option.{option_copied, option_map_or}
+use Rattle.work_store.specs.Stored.{held_of}
+use Rattle.net_base.specs.declared.tasks.Side.TheVariants.{Left}
+use Rattle.token_line.specs.declared.line.Entry.{Entry}
+use Rattle.token_line.specs.declared.tokens.Cell.{Cell}
+use Rattle.token_line.specs.Bags.{after, is_at}
+use Rattle.token_line.specs.Lines.{blockers_in, sum_in}
+use Rattle.token_line.specs.Sums.{counted}
+use Rattle.activation.specs.Children.{children_at, children_of}
+use Rattle.activation.specs.Effects.{Effect, effect_at}
+use Rattle.activation.specs.Negating.{is_matched}
+use Rattle.activation.specs.Putting.{changes}
+use Rattle.activation.proofs.Acted.{acted}
+use Rattle.activation.proofs.AtNode.{Kept}
+use Rattle.activation.proofs.EffectLemmas.{done_effect}
+use Rattle.activation.proofs.Growth.{drop_grown}
+use Rattle.activation.proofs.Recounted.{counted_after, counted_same, room_after}
+use Rattle.activation.proofs.acting.attempt.Goals as goal
+
+pub returns-in_err-add_at-clause-counted : goal.returns-in_err-add_at-clause-counted
+returns-in_err-add_at-clause-counted c =
+    counted_same c.args.net.now.nodes c.args.store.now c.args.line.now c.add_at.new.self c.requires.counted c.in_err-add_at.ensures.same_sums c.in_err-add_at.ensures.same_blockers
+
+pub count_blockers-requires-clause-room : goal.count_blockers-requires-clause-room
+count_blockers-requires-clause-room c = λ blocks more t some.
+    let nodes = c.args.net.now.nodes in
+    let s = c.args.store.now in
+    let x = c.args.task.now in
+    let node = c.node_of-node.result.now in
+    let old = c.args.line.now in
+    let done = c.in_ok-done.ensures.ok in
+    let e : Effect = effect_at node.kind node.joins (held_of s) (option_copied c.find.result.1) x (changes (option_map_or (λ (k : Cell). k.sum) c.kept.result (pos 0)) x.plus) in
+    let is =
+    done_effect c.args.net.now.alphas nodes c.node_of-node.ensures.sound s old x c.requires.fits c.requires.counted node c.node_of-node.ensures.node
+    (subst Kept c.find.ensures.memory c.tokens_are_kept.ensures) c.tags_are_small.ensures (option_copied c.find.result.1) c.find.ensures.memory c.kept.result (c.kept.ensures ∙ c.find.ensures.spot.kept)
+    c.in_ok-done.ensures.room in
+    room_after nodes s x c.requires.fits old e is c.add_at.new.self
+    (λ n side v. c.in_ok-add_at.ensures.sums n side v ∙ ap (λ z. after (sum_in old) z n side v) c.in_ok-copy.ensures)
+    (λ n v here. c.in_ok-add_at.ensures.blockers n v here ∙ ap₂ (λ z k. cond (is_at n Left v z) k (blockers_in old n v)) c.in_ok-copy.ensures done.blockers)
+    (sym done.blocks ∙ blocks) more t some
+
+pub returns-clause-ok : goal.returns-clause-ok
+returns-clause-ok c =
+    let nodes = c.args.net.now.nodes in
+    let s = c.args.store.now in
+    let x = c.args.task.now in
+    let node = c.node_of-node.result.now in
+    let old = c.args.line.now in
+    let before = c.args.out.now.items in
+    let done = c.in_ok-done.ensures.ok in
+    let e : Effect = effect_at node.kind node.joins (held_of s) (option_copied c.find.result.1) x (changes (option_map_or (λ (k : Cell). k.sum) c.kept.result (pos 0)) x.plus) in
+    let is =
+    done_effect c.args.net.now.alphas nodes c.node_of-node.ensures.sound s old x c.requires.fits c.requires.counted node c.node_of-node.ensures.node
+    (subst Kept c.find.ensures.memory c.tokens_are_kept.ensures) c.tags_are_small.ensures (option_copied c.find.result.1) c.find.ensures.memory c.kept.result (c.kept.ensures ∙ c.find.ensures.spot.kept)
+    c.in_ok-done.ensures.room in
+    let entry : Entry = record { task = c.in_ok-copy.field-0; children = c.since.result } in
+    let len : c.len-before.result ≡ length before = omega (arith, c.len-before.ensures, c.args.out.now.ok.0) in
+    let kids : c.since.result ≡ children_of node.children e.plus e.puts = c.since.ensures ∙ drop_grown before c.do_at.new.out.items (children_of node.children e.plus e.puts) c.len-before.result len done.given in
+    acted c.args.net.now.alphas nodes c.node_of-node.ensures.sound s x c.requires.fits old c.count_blockers.new.line before c.do_at.new.out.items e entry is c.in_ok-copy.ensures
+    (kids ∙ ap (λ o. children_at o e.plus e.puts) (sym c.node_of-node.ensures.node))
+    (λ n side t. c.count_blockers.ensures.sums n side t ∙ (c.in_ok-add_at.ensures.sums n side t ∙ ap (λ z. after (sum_in old) z n side t) c.in_ok-copy.ensures))
+    (c.count_blockers.ensures.entries ∙ c.in_ok-add_at.ensures.entries) (done.given ∙ ap (λ ts. before ++ ts) (sym kids))
+
+pub returns-clause-counted : goal.returns-clause-counted
+returns-clause-counted c =
+    let nodes = c.args.net.now.nodes in
+    let s = c.args.store.now in
+    let x = c.args.task.now in
+    let node = c.node_of-node.result.now in
+    let old = c.args.line.now in
+    let new = c.count_blockers.new.line in
+    let done = c.in_ok-done.ensures.ok in
+    let e : Effect = effect_at node.kind node.joins (held_of s) (option_copied c.find.result.1) x (changes (option_map_or (λ (k : Cell). k.sum) c.kept.result (pos 0)) x.plus) in
+    let is =
+    done_effect c.args.net.now.alphas nodes c.node_of-node.ensures.sound s old x c.requires.fits c.requires.counted node c.node_of-node.ensures.node
+    (subst Kept c.find.ensures.memory c.tokens_are_kept.ensures) c.tags_are_small.ensures (option_copied c.find.result.1) c.find.ensures.memory c.kept.result (c.kept.ensures ∙ c.find.ensures.spot.kept)
+    c.in_ok-done.ensures.room in
+    let added : (n : ℕ) (t : List ℕ) → sum_in new n Left t ≢ pos 0 → blockers_in c.add_at.new.self n t ≡ cond (is_at n Left t x) e.blockers (blockers_in old n t) =
+    λ n t some.
+    c.in_ok-add_at.ensures.blockers n t (λ z. some (c.count_blockers.ensures.sums n Left t ∙ z))
+    ∙ ap₂ (λ z k. cond (is_at n Left t z) k (blockers_in old n t)) c.in_ok-copy.ensures done.blockers in
+    counted_after nodes s x c.requires.fits old new c.requires.counted e is
+    (λ n side t. c.count_blockers.ensures.sums n side t ∙ (c.in_ok-add_at.ensures.sums n side t ∙ ap (λ z. after (sum_in old) z n side t) c.in_ok-copy.ensures))
+    c.tags_are_small.ensures
+    (λ n t some. c.count_blockers.ensures.blockers n t some ∙ ap₂ (λ b k. cond (b && is_matched (slice_get nodes x.node) (held_of s) x n t) (counted x.plus k) k) done.blocks (added n t some))
