@@ -8,6 +8,7 @@ use std::sync::atomic::{AtomicU64, Ordering};
 use std::test::Fail;
 
 /// A gate that counts how often it is passed.
+#[derive(Drop)]
 struct Counting {
     calls: AtomicU64,
 }
