@@ -6,8 +6,6 @@ ghost use Rattle.activation.specs.OneJoin.{one_join};
 ghost use Rattle.activation.specs.OneNegated.{one_negated};
 
 use crate::activate;
-use crate::children::children_of;
-use crate::putting::{Put, put_by_join};
 use net_base::net::Net;
 use net_base::nodes::{Alpha, Kind, Node};
 use net_base::tags::Tags;
@@ -18,7 +16,7 @@ use ops_base::memory::OutOfMemory;
 use ops_base::values::Value;
 use std::alloc::Global;
 use std::test::Fail;
-use token_line::{Entry, Line};
+use token_line::Line;
 use work_store::Store;
 
 // an element with one field
@@ -50,44 +48,6 @@ fn task(
         plus,
         token,
     })
-}
-
-fn come(alloc: Global, line: &mut Line, side: Side, tag: u64) -> Result<(), OutOfMemory> {
-    let task = task(alloc, 0, side, true, &[tag])?;
-    let children = Listed::new(alloc);
-    line.add(alloc, Entry { task, children }, 0)
-}
-
-// the tokens that are put out for a task, where all join, and how often
-fn put(alloc: Global, line: &Line, side: Side, tag: u64) -> Result<Vec<Put>, OutOfMemory> {
-    let store = Store::new(alloc);
-    let task = task(alloc, 0, side, true, &[tag])?;
-    put_by_join(alloc, &store, &[], line.memory(0), &task)
-}
-
-#[test]
-fn a_token_is_put_out_with_each_partner(rt: HostRuntime) -> Result<(), Fail> {
-    let mut line = Line::new(rt.alloc(), 0);
-    come(rt.alloc(), &mut line, Side::Left, 7)?;
-    come(rt.alloc(), &mut line, Side::Right, 4)?;
-    come(rt.alloc(), &mut line, Side::Right, 4)?;
-    let by_left = put(rt.alloc(), &line, Side::Left, 9)?;
-    assert_eq!(rt; by_left.len(), 1);
-    assert_eq!(rt; by_left.as_slice().first().map(|p| p.times), Some(2));
-    let by_right = put(rt.alloc(), &line, Side::Right, 4)?;
-    assert_eq!(rt; by_right.len(), 1);
-    assert_eq!(rt; by_right.as_slice().first().map(|p| p.times), Some(1));
-    Ok(())
-}
-
-#[test]
-fn each_child_gets_a_token_as_often(rt: HostRuntime) -> Result<(), Fail> {
-    let token = Tags::from_slice(rt.alloc(), &[9, 4])?;
-    let tasks = children_of(rt.alloc(), &[5, 7], false, &[Put { token, times: 2 }])?;
-    let nodes: Vec<usize> = tasks.iter().map(|x| x.node).collect(rt.alloc())?;
-    assert_eq!(rt; nodes.as_slice(), [5, 5, 7, 7].as_slice());
-    assert!(rt; !tasks.iter().any(|x| x.plus));
-    Ok(())
 }
 
 // a join at the root, of elements of class 0, with a terminal below
