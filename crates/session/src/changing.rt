@@ -15,7 +15,7 @@ ghost use Rattle.session.specs.Deeds.{Does};
 ghost use Rattle.session.specs.Telling.{AreToldBy};
 
 use crate::making::fixed_element;
-use crate::session::{Session, settle};
+use crate::session::{Session, settle, settle_piece};
 use crate::telling::{tell, tell_made};
 use ops_base::commands::Fixed;
 use ops_base::elements::{Change, Element};
@@ -112,8 +112,8 @@ fn with_waiting<M: Matcher>(session: Session<M>, made: Element) -> Result<Sessio
     Ok(session)
 }
 
-/// The command `make`, which is one phase. Where no run was begun it waits, but is told at once.
-pub(crate) fn make_at_top<M: Matcher, K: Sink>(
+/// Makes an element, which is one phase. Where no run was begun it waits, but is told at once.
+fn make_one<M: Matcher, K: Sink>(
     alloc: Global,
     hand: &mut M::Hand,
     program: &Program,
@@ -141,6 +141,32 @@ pub(crate) fn make_at_top<M: Matcher, K: Sink>(
     }
     tell_made(out, sink, names, program, session.watch, &made)?;
     Ok(with_waiting(session, made)?)
+}
+
+/// The command `make`, which is one phase. Where no run was begun it waits, but is told at once; and once many wait, their phases
+/// are made before it.
+pub(crate) fn make_at_top<M: Matcher, K: Sink>(
+    alloc: Global,
+    hand: &mut M::Hand,
+    program: &Program,
+    names: &Names,
+    session: Session<M>,
+    class: usize,
+    puts: &Listed<Fixed>,
+    out: &mut Out,
+    sink: &mut K,
+) -> Result<Session<M>, Ending>
+    requires under_way { IsUnderWay M.stored M.stands_for program.now.rules session }
+    requires whole { IsTrue out.old.whole }
+    requires faults { K.faults sink.old < 2 ^ 63 }
+    ensures { Does M.stored M.stands_for program.now.rules names.now session result
+        (port (K.taken sink.old) (K.faults sink.old) out.old)
+        (port (K.taken sink.new) (K.faults sink.new) out.new)
+        (λ k. phase_done (setting_of program.now 0) out.old.column
+        (Change.Add (element_made program.now.classes class puts.now k.course) ∷ []) (k.course.last + 1) k) }
+{
+    let session = settle_piece(alloc, hand, program, session)?;
+    make_one(alloc, hand, program, names, session, class, puts, out, sink)
 }
 
 /// Whether an element of this tag is there.

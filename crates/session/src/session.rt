@@ -13,6 +13,11 @@ use ops_base::programs::Program;
 use std::alloc::Global;
 use work_store::Matcher;
 
+/// So many makes that wait are made as one phase, if working memory has no more elements than that. A network engine then
+/// holds the entries of so many changes at once and not those of all. The direct engine matches working memory anew in
+/// each phase: since working memory doubles at least from one such phase to the next, it does at most twice the work of one.
+const PIECE: usize = 1024;
+
 /// A session between two of its commands. Before the first run nothing is marked as fired, so that no mark can be lost: top-level makes wait
 /// there, and their phases are made in one, for which the conflict set is found once.
 #[derive(Drop)]
@@ -85,4 +90,23 @@ pub(crate) fn settle<M: Matcher>(
         pending: Listed::new(alloc),
         ..session
     })
+}
+
+/// Makes the phases that wait, as one, where so many wait that it is time to.
+pub(crate) fn settle_piece<M: Matcher>(
+    alloc: Global,
+    hand: &mut M::Hand,
+    program: &Program,
+    session: Session<M>,
+) -> Result<Session<M>, OutOfMemory>
+    requires { IsUnderWay M.stored M.stands_for program.now.rules session }
+    ensures meant { IfOk result (λ s.
+        (n : Spellings) (c : Coming) → meant_by M.stored s n c ≡ meant_by M.stored session n c) }
+    ensures under_way { IfOk result (IsUnderWay M.stored M.stands_for program.now.rules) }
+{
+    let waiting = session.pending.len();
+    if waiting < PIECE || waiting < session.state.store().len() {
+        return Ok(session);
+    }
+    settle(alloc, hand, program, session)
 }
