@@ -9,3 +9,5 @@ pub mod Expression
 pub mod ExpressionCode
 pub mod Valid
 pub mod Names
+pub mod FaultTexts
+pub mod Symbols

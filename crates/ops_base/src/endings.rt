@@ -1,5 +1,6 @@
 //! How a session ends, what a firing fails for, and the faults and limits of a program text.
 ghost use Rattle.std.specs.Prelude.{◌≡◌};
+ghost use Rattle.ops_base.specs.FaultTexts.{limit_text, fault_text};
 ghost use Rattle.ops_base.specs.declared.endings.Ending.TheVariants.{OutOfMemory as NoMemory};
 
 use crate::memory::OutOfMemory;
@@ -81,4 +82,41 @@ pub enum Fault {
     AmbiguousDesignator,
     LimitPassed { limit: Limit },
     TooLong,
+}
+
+/// What is printed of a fault.
+pub fn fault_text(fault: Fault) -> &'static str
+    ensures { result.now ≡ fault_text fault }
+{
+    match fault {
+        Fault::BadByte => "bad byte",
+        Fault::Unclosed => "unclosed",
+        Fault::Stray => "stray",
+        Fault::FractionNumber => "fraction",
+        Fault::NumberRange => "number out of range",
+        Fault::UnknownCommand => "unknown command",
+        Fault::BadForm => "bad form",
+        Fault::UnknownClass => "unknown class",
+        Fault::UnknownAttribute => "unknown attribute",
+        Fault::DeclaredTwice => "declared twice",
+        Fault::TwoVectors => "two vector attributes",
+        Fault::LateDeclaration => "late declaration",
+        Fault::LateProduction => "late production",
+        Fault::FirstNegated => "first condition negated",
+        Fault::UnboundVariable => "unbound variable",
+        Fault::BadDesignator => "bad designator",
+        Fault::AmbiguousDesignator => "ambiguous designator",
+        Fault::LimitPassed { limit } => limit_text(limit),
+        Fault::TooLong => "text too long",
+    }
+}
+
+fn limit_text(limit: Limit) -> &'static str
+    ensures { result.now ≡ limit_text limit }
+{
+    match limit {
+        Limit::Conditions => "limit passed: conditions",
+        Limit::Fields => "limit passed: fields",
+        Limit::Nesting => "limit passed: nesting",
+    }
 }

@@ -18,3 +18,16 @@ pub mod programs;
 pub mod rules;
 pub mod symbols;
 pub mod values;
+
+pub use actions::{Action, Item, Put, Term};
+pub use commands::{Command, Fixed, Strategy};
+pub use conditions::{Condition, Operand, Test};
+pub use elements::{Change, Class, Element};
+pub use endings::{ActKind, Ending, Fault, Limit};
+pub use expression::{Expr, Op, Step};
+pub use list::Listed;
+pub use memory::OutOfMemory;
+pub use programs::Program;
+pub use rules::{Inst, Rule};
+pub use symbols::Names;
+pub use values::{Pred, Sym, Value};

@@ -4,9 +4,9 @@ use Rattle.std.proofs.Math.ListN.{length-append}
 use Rattle.ops_base.specs.declared.actions.Action.{Action}
 use Rattle.ops_base.specs.declared.conditions.Condition.{Condition}
 use Rattle.ops_base.specs.Valid.{cells_of}
-use Rattle.ops_meaning.specs.declared.words.Named.{Named}
-use Rattle.ops_meaning.specs.declared.words.Word.{Word}
-use Rattle.ops_meaning.specs.Grammar.{State, Wanted, Actions, goes, left_begun, with_rule}
+use Rattle.ops_grammar.specs.declared.words.Named.{Named}
+use Rattle.ops_grammar.specs.declared.words.Word.{Word}
+use Rattle.ops_grammar.specs.Grammar.{State, Wanted, Actions, goes, left_begun, with_rule}
 use Rattle.ops_forms.specs.Sights.{cells_from}
 use Rattle.ops_forms.specs.Walking.{AreBehind}
 use Rattle.ops_lhs.specs.LeftSides.{left_read}

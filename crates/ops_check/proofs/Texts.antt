@@ -9,10 +9,10 @@ use Rattle.ops_base.specs.Names.{Spellings, only_nil}
 use Rattle.ops_tokens.specs.Tokens.{spelling}
 use Rattle.ops_tokens.specs.declared.token.Token.{Token}
 use Rattle.ops_tokens.specs.declared.token.LexFault.{LexFault}
-use Rattle.ops_meaning.specs.declared.words.Word.{Word}
-use Rattle.ops_meaning.specs.Words.{Lexed, lexed_at, words_from, names_from, names_with, word_of}
-use Rattle.ops_meaning.specs.Grammar.{Forms, State, Outcome, ends, step, goes, nothing_read}
-use Rattle.ops_meaning.specs.Reads.{Read, Placed, reads, is_numeric, fault_of, between_forms, cut_off}
+use Rattle.ops_grammar.specs.declared.words.Word.{Word}
+use Rattle.ops_grammar.specs.Words.{Lexed, lexed_at, words_from, names_from, names_with, word_of}
+use Rattle.ops_grammar.specs.Grammar.{Forms, State, Outcome, ends, step, goes, nothing_read}
+use Rattle.ops_grammar.specs.Reads.{Read, Placed, reads, is_numeric, fault_of, between_forms, cut_off}
 use Rattle.ops_forms.specs.Forms.{IsForm, IsStray, token, atom, led, none_by, opens, Ends}
 use Rattle.ops_forms.specs.declared.form.Form.{Form}
 use Rattle.ops_forms.specs.declared.form.FormEnd.{FormEnd}

@@ -2,11 +2,11 @@
 use Rattle.std.specs.Prelude.{◌≡◌, ℕ, List, [], ◌∷◌, length, Option, Some, None, Result, Ok, Err}
 use Rattle.ops_base.specs.Names.{Spellings}
 use Rattle.ops_tokens.specs.declared.token.LexFault.{LexFault}
-use Rattle.ops_meaning.specs.Words.{Lexed, lexed_at, words_from, names_from}
-use Rattle.ops_meaning.specs.Grammar.{State, Forms, goes}
-use Rattle.ops_meaning.specs.Places.{line_of, column_of}
-use Rattle.ops_meaning.specs.Reads.{Read, Placed, reads, verdict, cut_off}
-use Rattle.ops_meaning.specs.Standing.{Stands}
+use Rattle.ops_grammar.specs.Words.{Lexed, lexed_at, words_from, names_from}
+use Rattle.ops_grammar.specs.Grammar.{State, Forms, goes}
+use Rattle.ops_grammar.specs.Places.{line_of, column_of}
+use Rattle.ops_grammar.specs.Reads.{Read, Placed, reads, verdict, cut_off}
+use Rattle.ops_grammar.specs.Standing.{Stands}
 use Rattle.ops_forms.specs.Forms.{IsForm, none_by}
 use Rattle.ops_forms.specs.declared.form.Form.{Form}
 use Rattle.ops_forms.specs.declared.form.FormEnd.{FormEnd}

@@ -1,5 +1,5 @@
 //! The commands of one word, and those of one word and an argument.
-ghost use Rattle.ops_meaning.specs.Grammar.{Count, StrategyName, Level, Closes, EndsCs, EndsExit};
+ghost use Rattle.ops_grammar.specs.Grammar.{Count, StrategyName, Level, Closes, EndsCs, EndsExit};
 ghost use Rattle.ops_forms.specs.Going.{Reads, IsWithin};
 ghost use Rattle.ops_check.specs.Going.{view};
 
@@ -8,11 +8,11 @@ use ops_base::commands::Command;
 use ops_base::endings::Fault;
 use ops_forms::kinds::{count_of, is_right, level_of, strategy_of};
 use ops_forms::refusals::{Refusal, closing, first_of, refused};
-use ops_meaning::Word;
+use ops_grammar::Word;
 
 impl Draft {
     // [NAT] )
-    #[tactic(auto, unfolding(ops_meaning::specs::Grammar::goes, ops_meaning::specs::Grammar::step, ops_meaning::specs::Grammar::ends))]
+    #[tactic(auto, unfolding(ops_grammar::specs::Grammar::goes, ops_grammar::specs::Grammar::step, ops_grammar::specs::Grammar::ends))]
     pub fn run<'a>(&mut self, words: &'a [Word]) -> Result<&'a [Word], Refusal>
         ensures reads { Reads Count (view self.old) (view self.new) words.now result }
         ensures within { IsWithin words.now result }
@@ -31,7 +31,7 @@ impl Draft {
     }
 
     // ) | lex ) | mea )
-    #[tactic(auto, unfolding(ops_meaning::specs::Grammar::goes, ops_meaning::specs::Grammar::step, ops_meaning::specs::Grammar::ends))]
+    #[tactic(auto, unfolding(ops_grammar::specs::Grammar::goes, ops_grammar::specs::Grammar::step, ops_grammar::specs::Grammar::ends))]
     pub fn strategy<'a>(&mut self, words: &'a [Word]) -> Result<&'a [Word], Refusal>
         ensures reads { Reads StrategyName (view self.old) (view self.new) words.now result }
         ensures within { IsWithin words.now result }
@@ -50,7 +50,7 @@ impl Draft {
     }
 
     // ) | 0 ) | 1 ) | 2 )
-    #[tactic(auto, unfolding(ops_meaning::specs::Grammar::goes, ops_meaning::specs::Grammar::step, ops_meaning::specs::Grammar::ends))]
+    #[tactic(auto, unfolding(ops_grammar::specs::Grammar::goes, ops_grammar::specs::Grammar::step, ops_grammar::specs::Grammar::ends))]
     pub fn watch<'a>(&mut self, words: &'a [Word]) -> Result<&'a [Word], Refusal>
         ensures reads { Reads Level (view self.old) (view self.new) words.now result }
         ensures within { IsWithin words.now result }

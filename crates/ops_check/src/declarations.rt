@@ -1,6 +1,6 @@
 //! Declarations of classes.
 ghost use Rattle.std.specs.Prelude.{◌∷◌, ◌++◌};
-ghost use Rattle.ops_meaning.specs.Grammar.{goes, vector_name, VectorName, VectorNames, ClassDeclared, Attributes};
+ghost use Rattle.ops_grammar.specs.Grammar.{goes, vector_name, VectorName, VectorNames, ClassDeclared, Attributes};
 ghost use Rattle.ops_forms.specs.Going.{Goes, Reads, Acts, IsWithin};
 ghost use Rattle.ops_check.specs.Going.{view};
 
@@ -9,7 +9,7 @@ use ops_base::elements::MOST_FIELDS;
 use ops_base::endings::Fault;
 use ops_forms::kinds::{is_name, is_right};
 use ops_forms::refusals::{Refusal, fields_passed, first_of, refused};
-use ops_meaning::Word;
+use ops_grammar::Word;
 
 impl Draft {
     // NAME NAME* )
@@ -21,7 +21,7 @@ impl Draft {
         self.attributes(rest)
     }
 
-    #[tactic(auto, unfolding(ops_meaning::specs::Grammar::goes, ops_meaning::specs::Grammar::step, ops_meaning::specs::Grammar::ends))]
+    #[tactic(auto, unfolding(ops_grammar::specs::Grammar::goes, ops_grammar::specs::Grammar::step, ops_grammar::specs::Grammar::ends))]
     fn class_declared<'a>(&mut self, words: &'a [Word]) -> Result<&'a [Word], Refusal>
         ensures reads { Reads ClassDeclared (view self.old) (view self.new) words.now result }
         ensures within { IsWithin words.now result }
@@ -39,7 +39,7 @@ impl Draft {
     }
 
     // NAME* )
-    #[tactic(auto, unfolding(ops_meaning::specs::Grammar::goes, ops_meaning::specs::Grammar::step, ops_meaning::specs::Grammar::ends))]
+    #[tactic(auto, unfolding(ops_grammar::specs::Grammar::goes, ops_grammar::specs::Grammar::step, ops_grammar::specs::Grammar::ends))]
     fn attributes<'a>(&mut self, words: &'a [Word]) -> Result<&'a [Word], Refusal>
         ensures reads { Reads Attributes (view self.old) (view self.new) words.now result }
         ensures within { IsWithin words.now result }
@@ -71,7 +71,7 @@ impl Draft {
 
 impl Draft {
     // NAME NAME* )
-    #[tactic(auto, unfolding(ops_meaning::specs::Grammar::goes, ops_meaning::specs::Grammar::step, ops_meaning::specs::Grammar::ends))]
+    #[tactic(auto, unfolding(ops_grammar::specs::Grammar::goes, ops_grammar::specs::Grammar::step, ops_grammar::specs::Grammar::ends))]
     pub fn vector_declaration<'a>(&mut self, words: &'a [Word]) -> Result<&'a [Word], Refusal>
         ensures reads { Goes (λ more ws. goes (words.now ++ more) (VectorName ∷ VectorNames ∷ ws) (view self.old)) (view self.new) result }
         ensures within { IsWithin words.now result }
@@ -82,7 +82,7 @@ impl Draft {
     }
 
     // NAME* )
-    #[tactic(auto, unfolding(ops_meaning::specs::Grammar::goes, ops_meaning::specs::Grammar::step, ops_meaning::specs::Grammar::ends))]
+    #[tactic(auto, unfolding(ops_grammar::specs::Grammar::goes, ops_grammar::specs::Grammar::step, ops_grammar::specs::Grammar::ends))]
     fn vector_names<'a>(&mut self, words: &'a [Word]) -> Result<&'a [Word], Refusal>
         ensures reads { Reads VectorNames (view self.old) (view self.new) words.now result }
         ensures within { IsWithin words.now result }

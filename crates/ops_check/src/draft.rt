@@ -1,7 +1,7 @@
 //! What was read so far of a program, and how it grows.
 ghost use Rattle.std.specs.Prelude.{◌≡◌, ◌==◌, position, slice_get};
 ghost use Rattle.ops_base.specs.Valid.{class_of, is_vector};
-ghost use Rattle.ops_meaning.specs.Grammar.{nothing_read, is_class, is_rule, is_one_of, is_second, makes_second, may_declare, may_produce, with_class, with_vector, with_fixed, with_constant, with_command, attributes_of};
+ghost use Rattle.ops_grammar.specs.Grammar.{nothing_read, is_class, is_rule, is_one_of, is_second, makes_second, may_declare, may_produce, with_class, with_vector, with_fixed, with_constant, with_command, attributes_of};
 ghost use Rattle.ops_forms.specs.Going.{Becomes};
 ghost use Rattle.ops_check.specs.Going.{view, target_of};
 
@@ -45,7 +45,7 @@ pub enum ElementUse {
 }
 
 /// The classes, rules and commands that were read, and the parts of the form that is being read. The fields are those of the
-/// state of the definition's walk (`State` in the specs/Grammar.antt of ops_meaning), which hands values from one method to
+/// state of the definition's walk (`State` in the specs/Grammar.antt of ops_grammar), which hands values from one method to
 /// the next.
 #[derive(Drop)]
 pub struct Draft {

@@ -1,6 +1,6 @@
 //! The elements of commands: a class with attributes and values.
 ghost use Rattle.std.specs.Prelude.{false, [], ◌∷◌, ◌++◌};
-ghost use Rattle.ops_meaning.specs.Grammar.{goes, InFixed, Shown, ClassName, Terms, Attribute};
+ghost use Rattle.ops_grammar.specs.Grammar.{goes, InFixed, Shown, ClassName, Terms, Attribute};
 ghost use Rattle.ops_forms.specs.Going.{Goes, GoesToTerms, Reads, IsWithin};
 ghost use Rattle.ops_check.specs.Going.{view};
 
@@ -9,7 +9,7 @@ use ops_base::commands::Command;
 use ops_base::endings::Fault;
 use ops_forms::kinds::{is_caret, is_name, is_right};
 use ops_forms::refusals::{Refusal, first_of, refused};
-use ops_meaning::Word;
+use ops_grammar::Word;
 
 impl Draft {
     // CLASS fixed* )
@@ -23,7 +23,7 @@ impl Draft {
     }
 
     // CLASS fixed* ) | )
-    #[tactic(auto, unfolding(ops_meaning::specs::Grammar::goes, ops_meaning::specs::Grammar::step, ops_meaning::specs::Grammar::ends))]
+    #[tactic(auto, unfolding(ops_grammar::specs::Grammar::goes, ops_grammar::specs::Grammar::step, ops_grammar::specs::Grammar::ends))]
     pub fn ppwm<'a>(&mut self, words: &'a [Word]) -> Result<&'a [Word], Refusal>
         ensures reads { Reads Shown (view self.old) (view self.new) words.now result }
         ensures within { IsWithin words.now result }
@@ -48,7 +48,7 @@ impl Draft {
     }
 
     // CLASS
-    #[tactic(auto, unfolding(ops_meaning::specs::Grammar::goes, ops_meaning::specs::Grammar::step, ops_meaning::specs::Grammar::ends))]
+    #[tactic(auto, unfolding(ops_grammar::specs::Grammar::goes, ops_grammar::specs::Grammar::step, ops_grammar::specs::Grammar::ends))]
     fn class_name<'a>(&mut self, words: &'a [Word]) -> Result<&'a [Word], Refusal>
         ensures reads { Reads ClassName (view self.old) (view self.new) words.now result }
         ensures within { IsWithin words.now result }
@@ -65,7 +65,7 @@ impl Draft {
     }
 
     // fixed* )
-    #[tactic(auto, unfolding(ops_meaning::specs::Grammar::goes, ops_meaning::specs::Grammar::step, ops_meaning::specs::Grammar::ends))]
+    #[tactic(auto, unfolding(ops_grammar::specs::Grammar::goes, ops_grammar::specs::Grammar::step, ops_grammar::specs::Grammar::ends))]
     fn terms<'a>(&mut self, words: &'a [Word]) -> Result<&'a [Word], Refusal>
         ensures reads { Reads (Terms InFixed) (view self.old) (view self.new) words.now result }
         ensures within { IsWithin words.now result }
@@ -85,7 +85,7 @@ impl Draft {
     }
 
     // ATTR rconstant*
-    #[tactic(auto, unfolding(ops_meaning::specs::Grammar::goes, ops_meaning::specs::Grammar::step, ops_meaning::specs::Grammar::ends))]
+    #[tactic(auto, unfolding(ops_grammar::specs::Grammar::goes, ops_grammar::specs::Grammar::step, ops_grammar::specs::Grammar::ends))]
     fn attribute<'a>(&mut self, words: &'a [Word]) -> Result<&'a [Word], Refusal>
         ensures reads { GoesToTerms InFixed (λ more ws. goes (words.now ++ more) (Attribute InFixed ∷ ws) (view self.old)) (view self.new) result }
         ensures within { IsWithin words.now result }

@@ -1,7 +1,7 @@
 //! What ends while a text is read: values become a field of an element, its fields a command, and two sides a production.
 ghost use Rattle.std.specs.Prelude.{◌≡◌, ◌+◌, ◌++◌, List, ℕ, not, count_by, SomeIff, ◌<◌, ◌^◌};
 ghost use Rattle.ops_base.specs.Valid.{cells_of, specificity};
-ghost use Rattle.ops_meaning.specs.Grammar.{with_several, with_element, with_rule, fixed_command, InFixed};
+ghost use Rattle.ops_grammar.specs.Grammar.{with_several, with_element, with_rule, fixed_command, InFixed};
 ghost use Rattle.ops_forms.specs.Going.{Becomes};
 ghost use Rattle.ops_rhs.specs.RightSides.{right_read};
 ghost use Rattle.ops_check.specs.Going.{view, shows};

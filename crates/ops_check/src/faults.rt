@@ -1,12 +1,11 @@
 //! The faults of a text, where they stand, and how they are told.
 ghost use Rattle.std.specs.Prelude.{◌≡◌};
-ghost use Rattle.ops_meaning.specs.Reads.{fault_of, cut_off};
-ghost use Rattle.ops_meaning.specs.Layout.{limit_text, fault_text};
+ghost use Rattle.ops_grammar.specs.Reads.{fault_of, cut_off};
 ghost use Rattle.ops_check.specs.Answered.{stop_of, placed, fault_at};
 ghost use Rattle.ops_check.specs.declared.faults.ProgramFault.TheVariants.{OutOfMemory as WantOfMemory};
 ghost use Rattle.ops_check.specs.declared.faults.TextFault.TheVariants.{OutOfMemory as NoMemory};
 
-use ops_base::endings::{Fault, Limit};
+use ops_base::endings::{Fault, fault_text};
 use ops_base::memory::OutOfMemory;
 use ops_forms::FormEnd;
 use ops_forms::refusals::Refusal;
@@ -91,42 +90,5 @@ pub fn fault_at(refusal: Refusal, end: FormEnd, length: usize) -> TextFault
         },
         Refusal::At { word: None, .. } => cut_off(end, length),
         Refusal::OutOfMemory => TextFault::OutOfMemory,
-    }
-}
-
-/// What is told of a fault.
-pub fn fault_text(fault: Fault) -> &'static str
-    ensures { result.now ≡ fault_text fault }
-{
-    match fault {
-        Fault::BadByte => "bad byte",
-        Fault::Unclosed => "unclosed",
-        Fault::Stray => "stray",
-        Fault::FractionNumber => "fraction",
-        Fault::NumberRange => "number out of range",
-        Fault::UnknownCommand => "unknown command",
-        Fault::BadForm => "bad form",
-        Fault::UnknownClass => "unknown class",
-        Fault::UnknownAttribute => "unknown attribute",
-        Fault::DeclaredTwice => "declared twice",
-        Fault::TwoVectors => "two vector attributes",
-        Fault::LateDeclaration => "late declaration",
-        Fault::LateProduction => "late production",
-        Fault::FirstNegated => "first condition negated",
-        Fault::UnboundVariable => "unbound variable",
-        Fault::BadDesignator => "bad designator",
-        Fault::AmbiguousDesignator => "ambiguous designator",
-        Fault::LimitPassed { limit } => limit_text(limit),
-        Fault::TooLong => "text too long",
-    }
-}
-
-fn limit_text(limit: Limit) -> &'static str
-    ensures { result.now ≡ limit_text limit }
-{
-    match limit {
-        Limit::Conditions => "limit passed: conditions",
-        Limit::Fields => "limit passed: fields",
-        Limit::Nesting => "limit passed: nesting",
     }
 }

@@ -1,6 +1,6 @@
 //! The forms of a program text.
 ghost use Rattle.std.specs.Prelude.{◌≡◌, MatchOption, [], ◌∷◌};
-ghost use Rattle.ops_meaning.specs.Grammar.{Form};
+ghost use Rattle.ops_grammar.specs.Grammar.{Form};
 ghost use Rattle.ops_forms.specs.Going.{Reads, IsWithin};
 ghost use Rattle.ops_check.specs.Going.{view, ReadsAll};
 
@@ -8,11 +8,11 @@ use crate::draft::Draft;
 use ops_base::endings::Fault;
 use ops_forms::kinds::is_left;
 use ops_forms::refusals::{Refusal, first_of, refused};
-use ops_meaning::{Keyword, Word};
+use ops_grammar::{Keyword, Word};
 
 impl Draft {
     // form*
-    #[tactic(auto, unfolding(ops_meaning::specs::Grammar::goes, ops_meaning::specs::Grammar::step, ops_meaning::specs::Grammar::ends))]
+    #[tactic(auto, unfolding(ops_grammar::specs::Grammar::goes, ops_grammar::specs::Grammar::step, ops_grammar::specs::Grammar::ends))]
     pub fn forms(&mut self, words: &[Word]) -> Result<(), Refusal>
         ensures { ReadsAll (view self.old) (view self.new) words.now result }
     {
@@ -32,7 +32,7 @@ impl Draft {
     // literalize NAME NAME* ) | vector-attribute NAME NAME* ) | p NAME first condition* --> action* ) | make CLASS fixed* )
     // | remove NAT NAT* ) | remove * ) | run [NAT] ) | wm NAT* ) | ppwm ) | ppwm CLASS fixed* ) | cs ) | pm NAME NAME* )
     // | strategy ) | strategy lex ) | strategy mea ) | watch ) | watch 0 ) | watch 1 ) | watch 2 ) | pbreak NAME* ) | exit )
-    #[tactic(auto, unfolding(ops_meaning::specs::Grammar::goes, ops_meaning::specs::Grammar::step, ops_meaning::specs::Grammar::ends))]
+    #[tactic(auto, unfolding(ops_grammar::specs::Grammar::goes, ops_grammar::specs::Grammar::step, ops_grammar::specs::Grammar::ends))]
     fn form<'a>(&mut self, words: &'a [Word]) -> Result<&'a [Word], Refusal>
         ensures reads { Reads Form (view self.old) (view self.new) words.now result }
         ensures within { IsWithin words.now result }

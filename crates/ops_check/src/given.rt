@@ -1,7 +1,7 @@
 //! The commands that were read, and whether a declaration or a production would be late behind them.
 ghost use Rattle.std.specs.Prelude.{◌≡◌, ◌++◌, ◌∷◌, [], OnErr, OnOk};
 ghost use Rattle.std.specs.List.{list_all};
-ghost use Rattle.ops_meaning.specs.Grammar.{precedes_classes, precedes_rules};
+ghost use Rattle.ops_grammar.specs.Grammar.{precedes_classes, precedes_rules};
 
 use ops_base::commands::Command;
 use ops_base::memory::OutOfMemory;
@@ -22,7 +22,7 @@ impl Model for GivenCommands {
     ghost use Rattle.std.specs.Prelude.{◌≡◌, List};
     ghost use Rattle.std.specs.List.{list_all};
     ghost use Rattle.ops_base.specs.declared.commands.Command.{Command};
-    ghost use Rattle.ops_meaning.specs.Grammar.{precedes_classes, precedes_rules};
+    ghost use Rattle.ops_grammar.specs.Grammar.{precedes_classes, precedes_rules};
 
     ghost Value = { List Command };
 

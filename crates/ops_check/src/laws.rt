@@ -3,9 +3,9 @@ ghost use Rattle.std.specs.Prelude.{◌≡◌, true, List};
 ghost use Rattle.ops_base.specs.declared.elements.Class.{Class};
 ghost use Rattle.ops_base.specs.declared.rules.Rule.{Rule};
 ghost use Rattle.ops_base.specs.declared.commands.Command.{Command};
-ghost use Rattle.ops_meaning.specs.Derivation.{IsText};
-ghost use Rattle.ops_meaning.specs.Spelling.{is_plain, spelled_program};
-ghost use Rattle.ops_meaning.specs.Standing.{words_of, outcome_of, IsReadOrInForm, AreRead};
+ghost use Rattle.ops_grammar.specs.Derivation.{IsText};
+ghost use Rattle.ops_grammar.specs.Spelling.{is_plain, spelled_program};
+ghost use Rattle.ops_grammar.specs.Standing.{words_of, outcome_of, IsReadOrInForm, AreRead};
 
 /// The words of a text of the grammar are read, or one is refused in a form: for a name or a variable that it does not
 /// know, for one that it knows already, for its order or for a limit. None continues no form, and none lacks a bracket.

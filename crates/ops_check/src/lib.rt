@@ -26,6 +26,6 @@ mod tags;
 mod tests;
 mod values;
 
-pub use faults::{ProgramFault, fault_text};
+pub use faults::ProgramFault;
 pub use ops_base::endings::{Fault, Limit};
 pub use program::{LONGEST_TEXT, read_program};

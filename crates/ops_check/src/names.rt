@@ -1,6 +1,6 @@
 //! The commands that name productions, whether they are there or not.
 ghost use Rattle.std.specs.Prelude.{◌≡◌, [], ◌∷◌, ◌++◌};
-ghost use Rattle.ops_meaning.specs.Grammar.{goes, NamedRule, NamedRules, ToPrint, ToBreak, name_command, with_named};
+ghost use Rattle.ops_grammar.specs.Grammar.{goes, NamedRule, NamedRules, ToPrint, ToBreak, name_command, with_named};
 ghost use Rattle.ops_forms.specs.Going.{Goes, Reads, Becomes, IsWithin};
 ghost use Rattle.ops_check.specs.Going.{view, name_use_of};
 
@@ -11,12 +11,12 @@ use ops_base::list::Listed;
 use ops_base::values::Sym;
 use ops_forms::kinds::{is_name, is_right};
 use ops_forms::refusals::{Refusal, first_of, refused};
-use ops_meaning::Word;
+use ops_grammar::Word;
 use std::mem;
 
 impl Draft {
     // NAME NAME* )
-    #[tactic(auto, unfolding(ops_meaning::specs::Grammar::goes, ops_meaning::specs::Grammar::step, ops_meaning::specs::Grammar::ends))]
+    #[tactic(auto, unfolding(ops_grammar::specs::Grammar::goes, ops_grammar::specs::Grammar::step, ops_grammar::specs::Grammar::ends))]
     pub fn pm<'a>(&mut self, words: &'a [Word]) -> Result<&'a [Word], Refusal>
         ensures reads { Goes (λ more ws. goes (words.now ++ more) (NamedRule ∷ NamedRules ToPrint ∷ ws) (record (view self.old) { named = [] })) (view self.new) result }
         ensures within { IsWithin words.now result }
@@ -40,7 +40,7 @@ impl Draft {
     }
 
     // NAME* )
-    #[tactic(auto, unfolding(ops_meaning::specs::Grammar::goes, ops_meaning::specs::Grammar::step, ops_meaning::specs::Grammar::ends))]
+    #[tactic(auto, unfolding(ops_grammar::specs::Grammar::goes, ops_grammar::specs::Grammar::step, ops_grammar::specs::Grammar::ends))]
     fn names<'a>(&mut self, name_use: NameUse, words: &'a [Word]) -> Result<&'a [Word], Refusal>
         ensures reads { Reads (NamedRules (name_use_of name_use)) (view self.old) (view self.new) words.now result }
         ensures within { IsWithin words.now result }

@@ -1,7 +1,7 @@
 //! Productions.
 ghost use Rattle.std.specs.Prelude.{◌≡◌, ◌<◌, ◌-◌, ◌∷◌, ◌++◌, length, slice_get, Some, IfOk};
 ghost use Rattle.ops_base.specs.Valid.{cells_of};
-ghost use Rattle.ops_meaning.specs.Grammar.{goes, left_begun, RuleName, FirstPattern, Patterns, Actions};
+ghost use Rattle.ops_grammar.specs.Grammar.{goes, left_begun, RuleName, FirstPattern, Patterns, Actions};
 ghost use Rattle.ops_forms.specs.Going.{Goes, Reads, IsWithin};
 ghost use Rattle.ops_forms.specs.Sights.{cells_from};
 ghost use Rattle.ops_lhs.specs.LeftSides.{left_read};
@@ -13,8 +13,8 @@ use ops_base::endings::Fault;
 use ops_base::memory::OutOfMemory;
 use ops_forms::kinds::is_name;
 use ops_forms::refusals::{Refusal, first_of, refused};
+use ops_grammar::Word;
 use ops_lhs::{LeftSide, cells_of_conditions, classes_of_cells, left_side};
-use ops_meaning::Word;
 use ops_rhs::{Sight, right_side};
 use std::alloc::Global;
 
@@ -28,7 +28,7 @@ impl Draft {
         self.sides(rest)
     }
 
-    #[tactic(auto, unfolding(ops_meaning::specs::Grammar::goes, ops_meaning::specs::Grammar::step, ops_meaning::specs::Grammar::ends))]
+    #[tactic(auto, unfolding(ops_grammar::specs::Grammar::goes, ops_grammar::specs::Grammar::step, ops_grammar::specs::Grammar::ends))]
     fn rule_name<'a>(&mut self, words: &'a [Word]) -> Result<&'a [Word], Refusal>
         ensures reads { Reads RuleName (view self.old) (view self.new) words.now result }
         ensures begun { IfOk result (λ rest. view self.new ≡ left_begun (view self.new)) }

@@ -2,11 +2,12 @@
 ghost use Rattle.std.specs.Prelude.{◌≡◌, ◌≤◌, ℕ, length, All, IsTrue, IfOk, IfErr, Ok};
 ghost use Rattle.ops_base.specs.Valid.{is_valid};
 ghost use Rattle.ops_tokens.specs.Tokens.{LiesIn};
-ghost use Rattle.ops_meaning.specs.Derivation.{IsText};
-ghost use Rattle.ops_meaning.specs.Reads.{reads};
-ghost use Rattle.ops_meaning.specs.Spelling.{spelled_program};
-ghost use Rattle.ops_meaning.specs.Standing.{words_of, AreRead};
-ghost use Rattle.ops_meaning.specs.Symbols.{is_held, AreNamesOf};
+ghost use Rattle.ops_grammar.specs.Derivation.{IsText};
+ghost use Rattle.ops_grammar.specs.Reads.{reads};
+ghost use Rattle.ops_grammar.specs.Spelling.{spelled_program};
+ghost use Rattle.ops_grammar.specs.Standing.{words_of, AreRead};
+ghost use Rattle.ops_base.specs.Symbols.{is_held};
+ghost use Rattle.ops_grammar.specs.TextNames.{AreNamesOf};
 ghost use Rattle.ops_forms.specs.Forms.{IsForm};
 ghost use Rattle.ops_check.specs.Answered.{IsRefusal, IsStanding, IsAnswer, Comes, Continues, rest_of};
 ghost use Rattle.ops_check.specs.Going.{view};

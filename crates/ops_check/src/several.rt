@@ -1,7 +1,7 @@
 //! The values of the vector attribute of a command.
 ghost use Rattle.std.specs.Prelude.{◌≡◌, ◌+◌, ◌∷◌, ◌++◌, length, nat_lt};
 ghost use Rattle.ops_base.specs.Valid.{most_fields};
-ghost use Rattle.ops_meaning.specs.Grammar.{goes, value_for, within, ToConstants, InFixed, Several};
+ghost use Rattle.ops_grammar.specs.Grammar.{goes, value_for, within, ToConstants, InFixed, Several};
 ghost use Rattle.ops_forms.specs.Going.{GoesToTerms, Acts, IsWithin};
 ghost use Rattle.ops_check.specs.Going.{view, begins_value};
 
@@ -9,11 +9,11 @@ use crate::draft::{Draft, Target};
 use ops_base::elements::MOST_FIELDS;
 use ops_forms::kinds::{ends_values, is_literal, value_of};
 use ops_forms::refusals::{Refusal, fields_passed, first_of};
-use ops_meaning::Word;
+use ops_grammar::Word;
 
 impl Draft {
     // rconstant*, up to what is no more of them
-    #[tactic(auto, unfolding(ops_meaning::specs::Grammar::goes, ops_meaning::specs::Grammar::step, ops_meaning::specs::Grammar::ends))]
+    #[tactic(auto, unfolding(ops_grammar::specs::Grammar::goes, ops_grammar::specs::Grammar::step, ops_grammar::specs::Grammar::ends))]
     pub fn several_constants<'a>(
         &mut self,
         field: usize,

@@ -1,6 +1,6 @@
 //! The commands that name elements by their tags.
 ghost use Rattle.std.specs.Prelude.{◌≡◌, []};
-ghost use Rattle.ops_meaning.specs.Grammar.{TagOrAll, Tags, ToShow, tag_command, with_tags};
+ghost use Rattle.ops_grammar.specs.Grammar.{TagOrAll, Tags, ToShow, tag_command, with_tags};
 ghost use Rattle.ops_forms.specs.Going.{Reads, Becomes, IsWithin};
 ghost use Rattle.ops_check.specs.Going.{view, tag_use_of};
 
@@ -10,12 +10,12 @@ use ops_base::endings::Fault;
 use ops_base::list::Listed;
 use ops_forms::kinds::{count_of, is_all, is_right};
 use ops_forms::refusals::{Refusal, closing, first_of, refused};
-use ops_meaning::Word;
+use ops_grammar::Word;
 use std::mem;
 
 impl Draft {
     // NAT NAT* ) | * )
-    #[tactic(auto, unfolding(ops_meaning::specs::Grammar::goes, ops_meaning::specs::Grammar::step, ops_meaning::specs::Grammar::ends))]
+    #[tactic(auto, unfolding(ops_grammar::specs::Grammar::goes, ops_grammar::specs::Grammar::step, ops_grammar::specs::Grammar::ends))]
     pub fn remove<'a>(&mut self, words: &'a [Word]) -> Result<&'a [Word], Refusal>
         ensures reads { Reads TagOrAll (record (view self.old) { tags = [] }) (view self.new) words.now result }
         ensures within { IsWithin words.now result }
@@ -43,7 +43,7 @@ impl Draft {
     }
 
     // NAT* )
-    #[tactic(auto, unfolding(ops_meaning::specs::Grammar::goes, ops_meaning::specs::Grammar::step, ops_meaning::specs::Grammar::ends))]
+    #[tactic(auto, unfolding(ops_grammar::specs::Grammar::goes, ops_grammar::specs::Grammar::step, ops_grammar::specs::Grammar::ends))]
     fn read_tags<'a>(&mut self, tag_use: TagUse, words: &'a [Word]) -> Result<&'a [Word], Refusal>
         ensures reads { Reads (Tags (tag_use_of tag_use)) (view self.old) (view self.new) words.now result }
         ensures within { IsWithin words.now result }

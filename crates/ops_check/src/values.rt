@@ -1,5 +1,5 @@
 //! Constants where a value of a command stands.
-ghost use Rattle.ops_meaning.specs.Grammar.{goes, atom_of, value_for, Atom, ValueFor};
+ghost use Rattle.ops_grammar.specs.Grammar.{goes, atom_of, value_for, Atom, ValueFor};
 ghost use Rattle.ops_forms.specs.Going.{Reads, Acts, IsWithin};
 ghost use Rattle.ops_check.specs.Going.{view, target_of};
 
@@ -7,11 +7,11 @@ use crate::draft::{Draft, Target};
 use ops_base::endings::Fault;
 use ops_forms::kinds::{atom_of, is_literal, is_variable, value_of};
 use ops_forms::refusals::{Refusal, first_of, refused};
-use ops_meaning::Word;
+use ops_grammar::Word;
 
 impl Draft {
     // rconstant
-    #[tactic(auto, unfolding(ops_meaning::specs::Grammar::goes, ops_meaning::specs::Grammar::step, ops_meaning::specs::Grammar::ends))]
+    #[tactic(auto, unfolding(ops_grammar::specs::Grammar::goes, ops_grammar::specs::Grammar::step, ops_grammar::specs::Grammar::ends))]
     pub fn value<'a>(&mut self, target: Target, words: &'a [Word]) -> Result<&'a [Word], Refusal>
         ensures reads { Reads (ValueFor (target_of target)) (view self.old) (view self.new) words.now result }
         ensures within { IsWithin words.now result }
@@ -44,7 +44,7 @@ impl Draft {
     }
 
     // atom
-    #[tactic(auto, unfolding(ops_meaning::specs::Grammar::goes, ops_meaning::specs::Grammar::step, ops_meaning::specs::Grammar::ends))]
+    #[tactic(auto, unfolding(ops_grammar::specs::Grammar::goes, ops_grammar::specs::Grammar::step, ops_grammar::specs::Grammar::ends))]
     fn atom<'a>(&mut self, target: Target, words: &'a [Word]) -> Result<&'a [Word], Refusal>
         ensures reads { Reads (Atom (target_of target)) (view self.old) (view self.new) words.now result }
         ensures within { IsWithin words.now result }

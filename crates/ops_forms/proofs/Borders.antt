@@ -8,9 +8,9 @@ use Rattle.ops_base.specs.declared.endings.Fault.TheVariants as fault
 use Rattle.ops_base.specs.Names.{Spellings}
 use Rattle.ops_tokens.specs.declared.token.Token.{Token}
 use Rattle.ops_tokens.specs.Tokens.{spelling}
-use Rattle.ops_meaning.specs.declared.words.Word.{Word}
-use Rattle.ops_meaning.specs.Words.{keyword_of, names_with, words_from, names_from}
-use Rattle.ops_meaning.specs.Grammar.{Wanted, Forms, State, Step, Next, Refuses, Outcome, after, step, ends, goes}
+use Rattle.ops_grammar.specs.declared.words.Word.{Word}
+use Rattle.ops_grammar.specs.Words.{keyword_of, names_with, words_from, names_from}
+use Rattle.ops_grammar.specs.Grammar.{Wanted, Forms, State, Step, Next, Refuses, Outcome, after, step, ends, goes}
 use Rattle.ops_forms.specs.Forms.{past_last}
 use Rattle.ops_forms.specs.Walking.{AreBehind, IsBehind, words_of_scope}
 use Rattle.ops_forms.specs.declared.scope.Scope.{Scope}

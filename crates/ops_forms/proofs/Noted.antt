@@ -10,7 +10,7 @@ use Rattle.std.proofs.lemmas.Option.{get_or_from_slice_get}
 use Rattle.std.specs.List.{list_any}
 use Rattle.ops_base.specs.declared.values.Sym.{Sym}
 use Rattle.ops_base.specs.declared.elements.Class.{Class}
-use Rattle.ops_meaning.specs.Grammar.{arranged, is_one_of, makes_second, with_vector_last}
+use Rattle.ops_grammar.specs.Grammar.{arranged, is_one_of, makes_second, with_vector_last}
 use Rattle.ops_forms.specs.Noted.{has_number, places_from, places_with, is_this, is_last, with_place, without_place, attrs_at, is_vector_at, with_last, with_last_at, arranged_at, arranged_at_all}
 
 -- ---- lists

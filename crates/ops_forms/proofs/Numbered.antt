@@ -2,8 +2,8 @@
 use Rattle.std.proofs.Common.{◌≡◌, ℕ, zero, suc, ◌==◌, Bool, true, false, cond, List, [], ◌∷◌, ◌++◌, Option, Some, None, option_map, refl, ap, sym, ◌∙◌, position, slice_get, slice_set}
 use Rattle.std.proofs.lemmas.Bool.{eqb-true}
 use Rattle.ops_base.specs.declared.values.Sym.{Sym}
-use Rattle.ops_meaning.specs.declared.words.Named.{Named}
-use Rattle.ops_meaning.specs.Grammar.{number_of, renumbered}
+use Rattle.ops_grammar.specs.declared.words.Named.{Named}
+use Rattle.ops_grammar.specs.Grammar.{number_of, renumbered}
 use Rattle.ops_forms.proofs.Firsts.{position-cons}
 
 pub number_unnamed : (name : Sym) (ns : List Named) → position (λ n. n.name.0 == name.0) ns ≡ None → number_of name ns ≡ None

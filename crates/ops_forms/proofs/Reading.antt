@@ -10,9 +10,9 @@ use Rattle.ops_tokens.specs.declared.token.TokenKind.TheVariants as kind
 use Rattle.ops_tokens.specs.declared.token.LexFault.{LexFault}
 use Rattle.ops_tokens.specs.Tokens.{Next, token_at, LiesIn, StandsFrom}
 use Rattle.ops_tokens.proofs.Clauses.{token-place}
-use Rattle.ops_meaning.specs.Words.{Lexed, lexed_at, lexed_from, lexed_after, led_by}
-use Rattle.ops_meaning.specs.Grammar.{is_left}
-use Rattle.ops_meaning.specs.Reads.{is_numeric}
+use Rattle.ops_grammar.specs.Words.{Lexed, lexed_at, lexed_from, lexed_after, led_by}
+use Rattle.ops_grammar.specs.Grammar.{is_left}
+use Rattle.ops_grammar.specs.Reads.{is_numeric}
 use Rattle.ops_forms.specs.Forms.{open_behind, is_last, closes_last, stays_open, opens, led, none_by, past_last, Ends, IsForm, IsStray, IsNext, token, atom}
 use Rattle.ops_forms.specs.declared.form.FormFault.TheVariants as fault
 use Rattle.ops_forms.specs.declared.form.Form.{Form}

@@ -1,8 +1,8 @@
 -- Steps of a walk by places in words, in every state of a kind.
 use Rattle.std.proofs.Common.{◌≡◌, ℕ, List, [], ◌∷◌, None, Some, Result, Ok, Err, ◌∙◌}
 use Rattle.ops_base.specs.declared.endings.Fault.{Fault}
-use Rattle.ops_meaning.specs.declared.words.Word.{Word}
-use Rattle.ops_meaning.specs.Grammar.{Wanted, State}
+use Rattle.ops_grammar.specs.declared.words.Word.{Word}
+use Rattle.ops_grammar.specs.Grammar.{Wanted, State}
 use Rattle.ops_forms.specs.declared.refusals.Refusal.{Refusal}
 use Rattle.ops_forms.specs.declared.refusals.Refusal.TheVariants as refusal
 use Rattle.ops_forms.specs.Walking.{Way, Fails, GoesOn, FailsAmong, GoesAmong, GoesToAmong}

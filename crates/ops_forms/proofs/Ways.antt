@@ -5,8 +5,8 @@ use Rattle.ops_base.specs.declared.elements.Class.{Class}
 use Rattle.ops_base.specs.declared.values.Pred.{Pred}
 use Rattle.ops_base.specs.declared.endings.Fault.TheVariants as fault
 use Rattle.ops_base.specs.Valid.{is_vector}
-use Rattle.ops_meaning.specs.declared.words.Word.{Word}
-use Rattle.ops_meaning.specs.Grammar.{Use, Target, Wanted, VectorName, VectorNames, Patterns, Pattern, Braced, ElementName, ClosesBrace, Terms, ClassName, Attribute, Several, Cell, Cells, Items, ItemWord, Place, Tests, Tested, ValueFor, ToItem, State, Next, after, step, goes, is_left, is_right, is_right_brace, is_caret, is_arrow, is_name, behind_attribute, vector_name, more_patterns, element_name, place, test, tested, value_for, one_of_several, cell}
+use Rattle.ops_grammar.specs.declared.words.Word.{Word}
+use Rattle.ops_grammar.specs.Grammar.{Use, Target, Wanted, VectorName, VectorNames, Patterns, Pattern, Braced, ElementName, ClosesBrace, Terms, ClassName, Attribute, Several, Cell, Cells, Items, ItemWord, Place, Tests, Tested, ValueFor, ToItem, State, Next, after, step, goes, is_left, is_right, is_right_brace, is_caret, is_arrow, is_name, behind_attribute, vector_name, more_patterns, element_name, place, test, tested, value_for, one_of_several, cell}
 use Rattle.ops_forms.specs.declared.refusals.Refusal.{Refusal}
 use Rattle.ops_forms.specs.declared.refusals.Refusal.TheVariants as refusal
 use Rattle.ops_forms.specs.Going.{Way, Fails, Goes}

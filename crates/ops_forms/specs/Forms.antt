@@ -5,9 +5,9 @@ use Rattle.ops_tokens.specs.declared.token.TokenKind.{TokenKind}
 use Rattle.ops_tokens.specs.declared.token.TokenKind.TheVariants as kind
 use Rattle.ops_tokens.specs.declared.token.LexFault.{LexFault}
 use Rattle.ops_tokens.specs.Tokens.{LiesIn}
-use Rattle.ops_meaning.specs.Words.{Lexed, lexed_at}
-use Rattle.ops_meaning.specs.Grammar.{is_left}
-use Rattle.ops_meaning.specs.Reads.{is_numeric}
+use Rattle.ops_grammar.specs.Words.{Lexed, lexed_at}
+use Rattle.ops_grammar.specs.Grammar.{is_left}
+use Rattle.ops_grammar.specs.Reads.{is_numeric}
 use Rattle.ops_forms.specs.declared.form.Form.{Form}
 use Rattle.ops_forms.specs.declared.form.FormEnd.{FormEnd}
 use Rattle.ops_forms.specs.declared.form.FormEnd.TheVariants as end

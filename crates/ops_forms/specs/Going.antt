@@ -2,8 +2,8 @@
 use Rattle.std.specs.Prelude.{◌≡◌, ◌≤◌, List, [], ◌∷◌, ◌++◌, length, Some, None, Result, Ok, Err}
 use Rattle.std.specs.Borrow.{Bor}
 use Rattle.ops_base.specs.declared.endings.Fault.TheVariants as fault
-use Rattle.ops_meaning.specs.declared.words.Word.{Word}
-use Rattle.ops_meaning.specs.Grammar.{Use, Ends, Wanted, Terms, Closes, State, Step, Outcome, after, goes, ended}
+use Rattle.ops_grammar.specs.declared.words.Word.{Word}
+use Rattle.ops_grammar.specs.Grammar.{Use, Ends, Wanted, Terms, Closes, State, Step, Outcome, after, goes, ended}
 use Rattle.ops_forms.specs.declared.refusals.Refusal.{Refusal}
 use Rattle.ops_forms.specs.declared.refusals.Refusal.TheVariants as refusal
 

@@ -6,7 +6,7 @@ use Rattle.std.specs.Ordering.{nat_cmp}
 use Rattle.std.specs.declared.alloc.Global.{Global}
 use Rattle.ops_base.specs.declared.values.Sym.{Sym}
 use Rattle.ops_base.specs.declared.elements.Class.{Class}
-use Rattle.ops_meaning.specs.Grammar.{arranged}
+use Rattle.ops_grammar.specs.Grammar.{arranged}
 
 -- one of the attributes has this number
 abbrev pub has_number : ℕ → List Sym → Bool

@@ -2,9 +2,9 @@
 use Rattle.std.specs.Prelude.{◌≡◌, ℕ, ◌+◌, ◌≤◌, List, [], ◌∷◌, ◌++◌, drop, length, Some, None, Result, Ok, Err}
 use Rattle.ops_base.specs.declared.endings.Fault.TheVariants as fault
 use Rattle.ops_tokens.specs.declared.token.Token.{Token}
-use Rattle.ops_meaning.specs.declared.words.Word.{Word}
-use Rattle.ops_meaning.specs.Words.{words_from}
-use Rattle.ops_meaning.specs.Grammar.{Ends, Wanted, Closes, State, Outcome, goes, ended}
+use Rattle.ops_grammar.specs.declared.words.Word.{Word}
+use Rattle.ops_grammar.specs.Words.{words_from}
+use Rattle.ops_grammar.specs.Grammar.{Ends, Wanted, Closes, State, Outcome, goes, ended}
 use Rattle.ops_forms.specs.declared.refusals.Refusal.{Refusal}
 use Rattle.ops_forms.specs.declared.refusals.Refusal.TheVariants as refusal
 use Rattle.ops_forms.specs.declared.refusals.ReadFault.{ReadFault}

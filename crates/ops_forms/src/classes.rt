@@ -2,7 +2,7 @@
 ghost use Rattle.std.specs.Prelude.{◌≡◌, ◌==◌, ◌++◌, ◌∷◌, ℕ, List, [], true, filter, not, length, map, position, slice_get, OnErr, OnOk};
 ghost use Rattle.std.specs.List.{list_any};
 ghost use Rattle.std.specs.Option.{option_copied};
-ghost use Rattle.ops_meaning.specs.Grammar.{makes_second, with_vector_last};
+ghost use Rattle.ops_grammar.specs.Grammar.{makes_second, with_vector_last};
 ghost use Rattle.ops_forms.specs.Noted.{AreNoted, noted, has_number, with_place, without_place, attrs_at, is_vector_at, places_with, arranged_at, arranged_at_all};
 
 use crate::declared::Declared;

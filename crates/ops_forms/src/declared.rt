@@ -3,14 +3,14 @@ ghost use Rattle.std.specs.Prelude.{◌≡◌, ◌==◌, ◌++◌, ◌∷◌, �
 ghost use Rattle.std.specs.Option.{option_copied};
 ghost use Rattle.std.specs.BTreeMap.{get};
 ghost use Rattle.std.specs.Ordering.{nat_cmp};
-ghost use Rattle.ops_meaning.specs.Grammar.{number_of, renumbered};
+ghost use Rattle.ops_grammar.specs.Grammar.{number_of, renumbered};
 ghost use Rattle.ops_forms.specs.Firsts.{or_else, without, AreFirsts};
 
 use ops_base::elements::Class;
 use ops_base::memory::OutOfMemory;
 use ops_base::rules::Rule;
 use ops_base::values::Sym;
-use ops_meaning::Named;
+use ops_grammar::Named;
 use std::alloc::Global;
 use std::collections::BTreeMap;
 use std::marker::Model;

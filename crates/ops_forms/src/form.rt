@@ -2,8 +2,8 @@
 ghost use Rattle.std.specs.Prelude.{ℕ, ◌≡◌, ◌≤◌, ◌<◌, ◌^◌, length, true, if◌then◌else◌, IfOk, Ok, Some};
 ghost use Rattle.ops_tokens.specs.Program.{program_table};
 ghost use Rattle.ops_tokens.specs.Tokens.{token_at, LiesIn};
-ghost use Rattle.ops_meaning.specs.Grammar.{is_left};
-ghost use Rattle.ops_meaning.specs.Reads.{is_numeric};
+ghost use Rattle.ops_grammar.specs.Grammar.{is_left};
+ghost use Rattle.ops_grammar.specs.Reads.{is_numeric};
 ghost use Rattle.ops_forms.specs.Forms.{open_behind, IsForm, IsNext};
 ghost use Rattle.ops_forms.specs.declared.form.FormFault.TheVariants.{Lex as Bad, Stray as Astray, OutOfMemory as WantOfMemory};
 

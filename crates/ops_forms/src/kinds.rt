@@ -1,11 +1,11 @@
 //! What a word may be where something is wanted.
 ghost use Rattle.std.specs.Prelude.{◌≡◌, ◌||◌};
-ghost use Rattle.ops_meaning.specs.Grammar.{is_left, is_right, is_left_brace, is_right_brace, is_caret, is_name, is_variable, is_arrow, is_literal, is_minus, opens_choice, closes_choice, is_inf, is_compute, operation_of, pred_of, constant_of, atom_of, value_of, natural_of, small_of, count_of, strategy_of, is_all, level_of};
+ghost use Rattle.ops_grammar.specs.Grammar.{is_left, is_right, is_left_brace, is_right_brace, is_caret, is_name, is_variable, is_arrow, is_literal, is_minus, opens_choice, closes_choice, is_inf, is_compute, operation_of, pred_of, constant_of, atom_of, value_of, natural_of, small_of, count_of, strategy_of, is_all, level_of};
 
 use ops_base::commands::Strategy;
 use ops_base::expression::Op;
 use ops_base::values::{Pred, Sym, Value};
-use ops_meaning::Keyword;
+use ops_grammar::Keyword;
 use ops_tokens::TokenKind;
 
 /// Whether a word is an opening bracket.

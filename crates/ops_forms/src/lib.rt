@@ -18,7 +18,7 @@ pub mod words;
 pub use classes::Classes;
 pub use declared::{Declared, Titled, number_of};
 pub use form::{Form, FormEnd, FormFault, FormReader, read_form};
-pub use ops_meaning::Named;
+pub use ops_grammar::Named;
 pub use places::{Place, place_of};
 pub use refusals::{ReadFault, Refusal};
 pub use scope::Scope;

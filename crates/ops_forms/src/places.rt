@@ -1,6 +1,6 @@
 //! Lines and columns.
 ghost use Rattle.std.specs.Prelude.{◌≡◌, ◌≤◌, ◌+◌, ◌==◌, not, length, count_by, take_while, reverse};
-ghost use Rattle.ops_meaning.specs.Places.{line_of, column_of};
+ghost use Rattle.ops_grammar.specs.Places.{line_of, column_of};
 
 /// Where a byte of a text stands: its line and its column, counted from 1.
 #[derive(Clone, Copy, Debug, PartialEq, Eq)]

@@ -1,7 +1,7 @@
 //! Why words are not read.
 ghost use Rattle.std.specs.Prelude.{◌≡◌, ◌∷◌, Err, IfOk, Some, true};
-ghost use Rattle.ops_meaning.specs.Grammar.{is_right};
-ghost use Rattle.ops_meaning.specs.declared.words.Word.{Word};
+ghost use Rattle.ops_grammar.specs.Grammar.{is_right};
+ghost use Rattle.ops_grammar.specs.declared.words.Word.{Word};
 ghost use Rattle.ops_forms.specs.Going.{Takes, ReadsClosing, IsWithin};
 ghost use Rattle.ops_forms.specs.declared.refusals.Refusal.TheVariants.{OutOfMemory as WantOfMemory};
 ghost use Rattle.ops_forms.specs.declared.refusals.ReadFault.TheVariants.{OutOfMemory as NoMemory};
@@ -9,7 +9,7 @@ ghost use Rattle.ops_forms.specs.declared.refusals.ReadFault.TheVariants.{OutOfM
 use crate::kinds::is_right;
 use ops_base::endings::{Fault, Limit};
 use ops_base::memory::OutOfMemory;
-use ops_meaning::Word;
+use ops_grammar::Word;
 use std::alloc::{AllocError, AllocFailed};
 use thiserror::Error;
 
@@ -98,7 +98,7 @@ pub fn first_of(words: &[Word]) -> Result<(Word, &[Word]), Refusal>
 }
 
 // a closing bracket and the words after it
-#[tactic(auto, unfolding(ops_meaning::specs::Grammar::goes, ops_meaning::specs::Grammar::step, ops_meaning::specs::Grammar::ends))]
+#[tactic(auto, unfolding(ops_grammar::specs::Grammar::goes, ops_grammar::specs::Grammar::step, ops_grammar::specs::Grammar::ends))]
 pub fn closing(words: &[Word]) -> Result<&[Word], Refusal>
     ensures reads { ReadsClosing words.now result }
     ensures within { IsWithin words.now result }

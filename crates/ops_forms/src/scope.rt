@@ -7,7 +7,7 @@ use crate::declared::Declared;
 use ops_base::list::Listed;
 use ops_base::memory::OutOfMemory;
 use ops_base::symbols::Names;
-use ops_meaning::Named;
+use ops_grammar::Named;
 use std::alloc::Global;
 
 /// The text and its names, the classes that were declared, and what is in sight while the two sides of a production are

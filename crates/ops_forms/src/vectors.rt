@@ -1,6 +1,6 @@
 //! Vector attributes: each stands last in its class.
 ghost use Rattle.std.specs.Prelude.{◌≡◌, ◌++◌, not, filter, IfOk, OnOk};
-ghost use Rattle.ops_meaning.specs.Grammar.{is_one_of, arranged, has_vector};
+ghost use Rattle.ops_grammar.specs.Grammar.{is_one_of, arranged, has_vector};
 ghost use Rattle.ops_forms.specs.Noted.{with_last};
 
 use crate::declared::Declared;

@@ -1,14 +1,14 @@
 //! Steps of a walk by places in words.
 ghost use Rattle.std.specs.Prelude.{◌≡◌, ◌+◌, IfOk, Some, slice_get, true};
-ghost use Rattle.ops_meaning.specs.Grammar.{is_right};
-ghost use Rattle.ops_meaning.specs.declared.words.Word.{Word};
+ghost use Rattle.ops_grammar.specs.Grammar.{is_right};
+ghost use Rattle.ops_grammar.specs.declared.words.Word.{Word};
 ghost use Rattle.ops_forms.specs.Forms.{past_last};
 ghost use Rattle.ops_forms.specs.Walking.{Takes, ReadsClosing, IsFrom, fault_of};
 
 use crate::kinds::is_right;
 use crate::refusals::{ReadFault, Refusal, refused};
 use ops_base::endings::Fault;
-use ops_meaning::Word;
+use ops_grammar::Word;
 use ops_tokens::Token;
 
 /// The word at a place, and the place behind it.
@@ -25,7 +25,7 @@ pub fn first_of(words: &[Word], at: usize) -> Result<(Word, usize), Refusal>
 }
 
 /// A closing bracket at a place, and the place behind it.
-#[tactic(auto, unfolding(ops_meaning::specs::Grammar::goes, ops_meaning::specs::Grammar::step, ops_meaning::specs::Grammar::ends))]
+#[tactic(auto, unfolding(ops_grammar::specs::Grammar::goes, ops_grammar::specs::Grammar::step, ops_grammar::specs::Grammar::ends))]
 pub fn closing(words: &[Word], at: usize) -> Result<usize, Refusal>
     ensures reads { ReadsClosing words.now at result }
     ensures within { IsFrom at result }

@@ -1,12 +1,12 @@
 //! The words of a text.
 ghost use Rattle.std.specs.Prelude.{◌≡◌, bytes_eq, All, IfOk, OnOk};
 ghost use Rattle.ops_tokens.specs.Tokens.{spelling, LiesIn};
-ghost use Rattle.ops_meaning.specs.Words.{keyword_of, keyword_of_symbol, keyword_of_function, keyword_of_command, keyword_of_operator, has_name, names_with, name_in, word_of, words_from, names_from};
+ghost use Rattle.ops_grammar.specs.Words.{keyword_of, keyword_of_symbol, keyword_of_function, keyword_of_command, keyword_of_operator, has_name, names_with, name_in, word_of, words_from, names_from};
 
 use ops_base::memory::OutOfMemory;
 use ops_base::symbols::Names;
 use ops_base::values::{NIL, Sym};
-use ops_meaning::{Keyword, Word};
+use ops_grammar::{Keyword, Word};
 use ops_tokens::{Token, TokenKind, spelling_of};
 use std::alloc::Global;
 

@@ -1,9 +1,10 @@
 -- Known bytes that grow twice, and columns that are counted twice.
-use Rattle.std.proofs.Common.{◌≡◌, ℕ, List, [], ◌∷◌, ◌++◌, Option, Some, None, refl, ap, append_assoc, sym, ◌∙◌, take, drop, length, get_or, ◌+◌, ◌-◌, ◌<◌}
+use Rattle.std.proofs.Common.{◌≡◌, ℕ, List, [], ◌∷◌, ◌++◌, Option, Vec, Some, None, IfSome, refl, ap, append_assoc, sym, subst, ◌∙◌, take, drop, length, length-append, get_or, ◌+◌, ◌-◌, ◌<◌, ◌≤◌, arith}
 use Rattle.std.proofs.lemmas.List.{take_rest, drop_more, append-nil, take-append-drop}
 use Rattle.std.proofs.Math.Seq.{take-add}
-use Rattle.std.specs.Io.KnownBytes.{append_known}
-use Rattle.ops_io.specs.Outside.{GrewByPrefix}
+use Rattle.std.specs.Io.KnownBytes.{append_known, Consumes, IsAtEnd}
+use Rattle.std.specs.declared.alloc.Global.{Global}
+use Rattle.ops_io.specs.Outside.{GrewByPrefix, IsWhole}
 use Rattle.ops_io.specs.Output.{PutsOut, column_after, next_column}
 
 pub append_known-twice : (k : Option (List ℕ)) (a b : List ℕ) → append_known (append_known k a) b ≡ append_known k (a ++ b)
@@ -43,5 +44,24 @@ pub column_past_lf : (column : ℕ) (xs : List ℕ) (i at : ℕ) → at ≡ i + 
 column_past_lf column xs i at e lt lf =
     let split : take i xs ++ (10 ∷ drop (i + 1) xs) ≡ xs = ap (λ b. take i xs ++ (b ∷ drop (i + 1) xs)) (sym lf) ∙ ap (λ w. take i xs ++ w) (sym (drop_more xs i 0 lt)) ∙ take-append-drop i xs in
     ap (column_after column) (sym split) ∙ column-append column (take i xs) (10 ∷ drop (i + 1) xs) ∙ ap (λ n. column_after 0 (drop n xs)) (sym e)
+
+-- A reader that gave these bytes and is at its end had no others.
+pub whole_at_end : (a b d : Option (List ℕ)) (v : Vec ℕ Global) (n room : ℕ) (buf : List ℕ) → n ≡ 0 → Consumes a b v.items
+    → Consumes b d (take n buf) → IsAtEnd d → length v.items ≤ room → IfSome a (λ bytes. IsWhole bytes room (Some v))
+whole_at_end None b d v n room buf none p q e h = tt
+whole_at_end (Some x) None d v n room buf none p q e h = absurd p
+whole_at_end (Some x) (Some y) None v n room buf none p q e h = absurd q
+whole_at_end (Some x) (Some y) (Some z) v n room buf none p q e h =
+    let all : x ≡ v.items = p ∙ ap (λ w. v.items ++ w) (q ∙ ap (λ k. take k buf ++ z) none ∙ e) ∙ append-nil v.items in
+    (sym all, subst (λ w. length w ≤ room) (sym all) h)
+
+-- A reader that gave more than the room had more.
+pub more_than_room : (a b d : Option (List ℕ)) (text piece : List ℕ) (n room : ℕ) → n ≡ length piece → Consumes a b text → Consumes b d piece
+    → room - length text < n → length text ≤ room → IfSome a (λ bytes. IsWhole bytes room None)
+more_than_room None b d text piece n room long p q less h = tt
+more_than_room (Some x) None d text piece n room long p q less h = absurd p
+more_than_room (Some x) (Some y) None text piece n room long p q less h = absurd q
+more_than_room (Some x) (Some y) (Some z) text piece n room long p q less h =
+    omega (arith, ap length p, ap length q, length-append text y, length-append piece z, long, less, h)
 
 pub ruleset known = (append_known-twice, append_known-nothing, take-add, take-append-drop)

@@ -1,6 +1,7 @@
 -- What the calls of the outside leave, and how they count their failures.
-use Rattle.std.specs.Prelude.{◌≡◌, ℕ, ◌+◌, ◌<◌, ◌≤◌, List, [], ◌∷◌, ◌++◌, length, take, Option, Some, None, Result, Ok, Err, Bool, true, false, IfSome, ◌⊎◌, ◌↔◌}
+use Rattle.std.specs.Prelude.{◌≡◌, ℕ, ◌+◌, ◌<◌, ◌≤◌, List, [], ◌∷◌, ◌++◌, length, take, Option, Vec, Some, None, Result, Ok, Err, Bool, true, false, IfSome, ◌⊎◌, ◌↔◌}
 use Rattle.std.specs.Io.KnownBytes.{append_known, prepend_known}
+use Rattle.std.specs.declared.alloc.Global.{Global}
 use Rattle.ops_io.specs.declared.outside.LoadError.{LoadError}
 use Rattle.ops_io.specs.declared.outside.LoadError.TheVariants as load
 
@@ -56,8 +57,15 @@ GrewBy old new bytes = new ≡ append_known old bytes
 abbrev pub GrewByPrefix : Option (List ℕ) → Option (List ℕ) → List ℕ → Type 0
 GrewByPrefix old new bytes = (front back : List ℕ) × (bytes ≡ front ++ back) × GrewBy old new front
 
--- what is seen of a real input or output: how many of its calls have failed
+-- These bytes are all of a file and fit the room, or the file has more of them than that.
+abbrev pub IsWhole : List ℕ → ℕ → Option (Vec ℕ Global) → Type 0
+IsWhole bytes room (Some text) = (text.items ≡ bytes) × (length bytes ≤ room)
+IsWhole bytes room None = room < length bytes
+
+-- what is seen of a real input or output: the bytes that its reader has left or its writer holds, where the standard library knows them,
+-- and how many of its calls have failed
 pub record DeviceState : Type 0 where
+  pub known : Option (List ℕ)
   pub faults : ℕ
 
 -- what is seen of real files: the names that loads were given, and how many loads have failed

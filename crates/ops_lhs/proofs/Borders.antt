@@ -4,9 +4,9 @@ use Rattle.ops_base.specs.declared.conditions.Condition.{Condition}
 use Rattle.ops_base.specs.declared.endings.Fault.TheVariants as fault
 use Rattle.ops_base.specs.Valid.{cells_of}
 use Rattle.ops_tokens.specs.declared.token.Token.{Token}
-use Rattle.ops_meaning.specs.declared.words.Word.{Word}
-use Rattle.ops_meaning.specs.Words.{names_from}
-use Rattle.ops_meaning.specs.Grammar.{FirstPattern, Patterns, is_arrow, left_begun, nothing_read}
+use Rattle.ops_grammar.specs.declared.words.Word.{Word}
+use Rattle.ops_grammar.specs.Words.{names_from}
+use Rattle.ops_grammar.specs.Grammar.{FirstPattern, Patterns, is_arrow, left_begun, nothing_read}
 use Rattle.ops_forms.specs.Forms.{past_last}
 use Rattle.ops_forms.specs.Sights.{cells_from}
 use Rattle.ops_forms.specs.Walking.{words_of_scope, fault_of}

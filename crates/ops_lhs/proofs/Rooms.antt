@@ -6,8 +6,8 @@ use Rattle.ops_base.specs.declared.values.Pred.{Pred}
 use Rattle.ops_base.specs.declared.values.Pred.TheVariants as pred
 use Rattle.ops_base.specs.declared.endings.Fault.TheVariants as fault
 use Rattle.ops_base.specs.declared.endings.Limit.TheVariants as limit
-use Rattle.ops_meaning.specs.declared.words.Word.{Word}
-use Rattle.ops_meaning.specs.Grammar.{Wanted, State, Step, Next, Refuses, is_left_brace, is_literal, is_variable, opens_choice, pred_of, constant_of, number_of, variable_tested, constant_tested, tested, predicated, place, within}
+use Rattle.ops_grammar.specs.declared.words.Word.{Word}
+use Rattle.ops_grammar.specs.Grammar.{Wanted, State, Step, Next, Refuses, is_left_brace, is_literal, is_variable, opens_choice, pred_of, constant_of, number_of, variable_tested, constant_tested, tested, predicated, place, within}
 use Rattle.ops_lhs.specs.Taking.{begins_place}
 
 -- a word is taken, or refused as no part of the grammar

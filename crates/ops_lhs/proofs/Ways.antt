@@ -1,8 +1,8 @@
 -- Steps of the walk over a left side, in every state around it.
 use Rattle.std.proofs.Common.{◌≡◌, ℕ, List, ◌∷◌, Result, Ok, Err, ◌∙◌}
 use Rattle.ops_base.specs.declared.elements.Class.{Class}
-use Rattle.ops_meaning.specs.declared.words.Word.{Word}
-use Rattle.ops_meaning.specs.Grammar.{InPattern, Wanted, Terms, State}
+use Rattle.ops_grammar.specs.declared.words.Word.{Word}
+use Rattle.ops_grammar.specs.Grammar.{InPattern, Wanted, Terms, State}
 use Rattle.ops_forms.specs.declared.refusals.Refusal.{Refusal}
 use Rattle.ops_lhs.specs.declared.left.Left.{Left}
 use Rattle.ops_forms.specs.Walking.{Way, GoesOn}

@@ -7,10 +7,10 @@ use Rattle.ops_base.specs.declared.endings.Fault.TheVariants as fault
 use Rattle.ops_base.specs.Valid.{cells_of}
 use Rattle.ops_tokens.specs.declared.token.Token.{Token}
 use Rattle.ops_tokens.specs.Tokens.{spelling}
-use Rattle.ops_meaning.specs.declared.words.Word.{Word}
-use Rattle.ops_meaning.specs.declared.words.Named.{Named}
-use Rattle.ops_meaning.specs.Words.{keyword_of, names_from}
-use Rattle.ops_meaning.specs.Grammar.{State, Wanted, FirstPattern, Patterns, goes, is_arrow, left_begun, right_begun}
+use Rattle.ops_grammar.specs.declared.words.Word.{Word}
+use Rattle.ops_grammar.specs.declared.words.Named.{Named}
+use Rattle.ops_grammar.specs.Words.{keyword_of, names_from}
+use Rattle.ops_grammar.specs.Grammar.{State, Wanted, FirstPattern, Patterns, goes, is_arrow, left_begun, right_begun}
 use Rattle.ops_forms.specs.Forms.{past_last}
 use Rattle.ops_forms.specs.Going.{Way, Fails}
 use Rattle.ops_forms.specs.Sights.{cells_from}

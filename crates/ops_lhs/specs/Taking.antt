@@ -1,8 +1,8 @@
 -- How the walk over the words of a left side goes along with the definition's, by places in the words.
 use Rattle.std.specs.Prelude.{◌≡◌, ℕ, Bool, ◌||◌, is_some, List, [], ◌∷◌, ◌++◌, drop, Result, Ok, Err}
 use Rattle.ops_base.specs.declared.elements.Class.{Class}
-use Rattle.ops_meaning.specs.declared.words.Word.{Word}
-use Rattle.ops_meaning.specs.Grammar.{InPattern, Wanted, Terms, State, Step, after, goes, nothing_read, is_left_brace, is_variable, is_literal, opens_choice, pred_of, constant_of}
+use Rattle.ops_grammar.specs.declared.words.Word.{Word}
+use Rattle.ops_grammar.specs.Grammar.{InPattern, Wanted, Terms, State, Step, after, goes, nothing_read, is_left_brace, is_variable, is_literal, opens_choice, pred_of, constant_of}
 use Rattle.ops_forms.specs.declared.refusals.Refusal.{Refusal}
 use Rattle.ops_forms.specs.Walking.{Way, Fails, GoesOn, GoesAmong, GoesToAmong}
 use Rattle.ops_lhs.specs.declared.left.Left.{Left}

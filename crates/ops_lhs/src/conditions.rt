@@ -1,6 +1,6 @@
 //! Conditions up to the arrow.
 ghost use Rattle.std.specs.Prelude.{◌∷◌, ◌++◌, drop, IfOk};
-ghost use Rattle.ops_meaning.specs.Grammar.{goes, more_patterns, left_ended, right_begun, FirstPattern, Patterns};
+ghost use Rattle.ops_grammar.specs.Grammar.{goes, more_patterns, left_ended, right_begun, FirstPattern, Patterns};
 ghost use Rattle.ops_forms.specs.Walking.{GoesAmong, IsFrom, IsBehind};
 ghost use Rattle.ops_lhs.specs.LeftSides.{IsArrow};
 ghost use Rattle.ops_lhs.specs.Taking.{seen, ReadsAmong, ActsAmong, Among};
@@ -11,7 +11,7 @@ use ops_forms::kinds::{is_arrow, is_left, is_left_brace, is_minus};
 use ops_forms::refusals::refused;
 use ops_forms::walking::first_of;
 use ops_forms::{Classes, Refusal};
-use ops_meaning::Word;
+use ops_grammar::Word;
 
 /// How many conditions a production may have.
 const MOST_CONDITIONS: usize = 64;
@@ -32,7 +32,7 @@ impl Left {
     }
 
     // positive
-    #[tactic(auto, unfolding(ops_meaning::specs::Grammar::goes, ops_meaning::specs::Grammar::step, ops_meaning::specs::Grammar::ends))]
+    #[tactic(auto, unfolding(ops_grammar::specs::Grammar::goes, ops_grammar::specs::Grammar::step, ops_grammar::specs::Grammar::ends))]
     fn first_pattern(
         &mut self,
         classes: &Classes,
@@ -56,7 +56,7 @@ impl Left {
     }
 
     // condition* -->
-    #[tactic(auto, unfolding(ops_meaning::specs::Grammar::goes, ops_meaning::specs::Grammar::step, ops_meaning::specs::Grammar::ends))]
+    #[tactic(auto, unfolding(ops_grammar::specs::Grammar::goes, ops_grammar::specs::Grammar::step, ops_grammar::specs::Grammar::ends))]
     fn patterns(&mut self, classes: &Classes, words: &[Word], at: usize) -> Result<usize, Refusal>
         ensures reads { GoesAmong (Among classes.now) (λ more ws s. goes (drop at words.now ++ more) (Patterns ∷ ws) (seen s self.old)) words.now (λ s. right_begun (left_ended (seen s self.new))) result }
         ensures behind { IfOk result (λ next. IsBehind IsArrow words.now next) }

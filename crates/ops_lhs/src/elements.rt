@@ -1,6 +1,6 @@
 //! Element variables.
 ghost use Rattle.std.specs.Prelude.{◌∷◌, ◌++◌, drop};
-ghost use Rattle.ops_meaning.specs.Grammar.{goes, element_name, InPattern, Pattern, Braced, ElementName, ClosesBrace, ClassName, Terms};
+ghost use Rattle.ops_grammar.specs.Grammar.{goes, element_name, InPattern, Pattern, Braced, ElementName, ClosesBrace, ClassName, Terms};
 ghost use Rattle.ops_forms.specs.Walking.{GoesOn, GoesAmong, IsFrom};
 ghost use Rattle.ops_lhs.specs.Taking.{seen, Reads, Acts, ReadsAmong, ActsAmong, Among};
 
@@ -10,11 +10,11 @@ use ops_forms::kinds::{is_left, is_right_brace, is_variable};
 use ops_forms::refusals::refused;
 use ops_forms::walking::first_of;
 use ops_forms::{Classes, Refusal, number_of};
-use ops_meaning::Word;
+use ops_grammar::Word;
 
 impl Left {
     // VARIABLE pattern } | pattern VARIABLE }
-    #[tactic(auto, unfolding(ops_meaning::specs::Grammar::goes, ops_meaning::specs::Grammar::step, ops_meaning::specs::Grammar::ends))]
+    #[tactic(auto, unfolding(ops_grammar::specs::Grammar::goes, ops_grammar::specs::Grammar::step, ops_grammar::specs::Grammar::ends))]
     pub fn braced(&mut self, classes: &Classes, words: &[Word], at: usize) -> Result<usize, Refusal>
         ensures reads { ReadsAmong classes.now Braced self.old self.new words.now at result }
         ensures within { IsFrom at result }
@@ -70,7 +70,7 @@ impl Left {
     }
 
     // VARIABLE }
-    #[tactic(auto, unfolding(ops_meaning::specs::Grammar::goes, ops_meaning::specs::Grammar::step, ops_meaning::specs::Grammar::ends))]
+    #[tactic(auto, unfolding(ops_grammar::specs::Grammar::goes, ops_grammar::specs::Grammar::step, ops_grammar::specs::Grammar::ends))]
     fn name_and_brace(&mut self, words: &[Word], at: usize) -> Result<usize, Refusal>
         ensures reads { GoesOn (λ more ws s. goes (drop at words.now ++ more) (ElementName ∷ ClosesBrace ∷ ws) (seen s self.old)) words.now (λ s. seen s self.new) result }
         ensures within { IsFrom at result }
@@ -96,7 +96,7 @@ impl Left {
     }
 
     // }
-    #[tactic(auto, unfolding(ops_meaning::specs::Grammar::goes, ops_meaning::specs::Grammar::step, ops_meaning::specs::Grammar::ends))]
+    #[tactic(auto, unfolding(ops_grammar::specs::Grammar::goes, ops_grammar::specs::Grammar::step, ops_grammar::specs::Grammar::ends))]
     fn closing_brace(&mut self, words: &[Word], at: usize) -> Result<usize, Refusal>
         ensures reads { Reads ClosesBrace self.old self.new words.now at result }
         ensures within { IsFrom at result }

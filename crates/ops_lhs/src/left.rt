@@ -1,7 +1,7 @@
 //! What was read so far of a left side, and how it grows.
 ghost use Rattle.std.specs.Prelude.{◌≡◌, length};
 ghost use Rattle.ops_base.specs.Valid.{cells_of};
-ghost use Rattle.ops_meaning.specs.Grammar.{nothing_read, left_begun, with_test, with_bound, with_choice, with_condition, with_bound_element};
+ghost use Rattle.ops_grammar.specs.Grammar.{nothing_read, left_begun, with_test, with_bound, with_choice, with_condition, with_bound_element};
 ghost use Rattle.ops_forms.specs.Going.{Becomes};
 ghost use Rattle.ops_lhs.specs.Taking.{view};
 
@@ -13,7 +13,7 @@ use std::alloc::Global;
 use std::mem;
 
 /// What was read so far of a left side. Its fields are those of the state of the definition's walk (`State` in the
-/// specs/Grammar.antt of ops_meaning), which hands values from one method to the next.
+/// specs/Grammar.antt of ops_grammar), which hands values from one method to the next.
 #[derive(Drop)]
 pub struct Left {
     /// The class of the condition that is being read.

@@ -1,6 +1,6 @@
 //! Patterns: a class with attributes and tests.
 ghost use Rattle.std.specs.Prelude.{◌∷◌, ◌++◌, drop};
-ghost use Rattle.ops_meaning.specs.Grammar.{goes, InPattern, ClassName, Terms, Attribute, Pattern};
+ghost use Rattle.ops_grammar.specs.Grammar.{goes, InPattern, ClassName, Terms, Attribute, Pattern};
 ghost use Rattle.ops_forms.specs.Walking.{GoesAmong, IsFrom};
 ghost use Rattle.ops_lhs.specs.Taking.{seen, GoesToTermsAmong, ReadsAmong, Among};
 
@@ -10,11 +10,11 @@ use ops_forms::kinds::{is_caret, is_left, is_name, is_right};
 use ops_forms::refusals::refused;
 use ops_forms::walking::first_of;
 use ops_forms::{Classes, Refusal};
-use ops_meaning::Word;
+use ops_grammar::Word;
 
 impl Left {
     // ( CLASS term* )
-    #[tactic(auto, unfolding(ops_meaning::specs::Grammar::goes, ops_meaning::specs::Grammar::step, ops_meaning::specs::Grammar::ends))]
+    #[tactic(auto, unfolding(ops_grammar::specs::Grammar::goes, ops_grammar::specs::Grammar::step, ops_grammar::specs::Grammar::ends))]
     pub fn pattern(
         &mut self,
         classes: &Classes,
@@ -46,7 +46,7 @@ impl Left {
     }
 
     // CLASS
-    #[tactic(auto, unfolding(ops_meaning::specs::Grammar::goes, ops_meaning::specs::Grammar::step, ops_meaning::specs::Grammar::ends))]
+    #[tactic(auto, unfolding(ops_grammar::specs::Grammar::goes, ops_grammar::specs::Grammar::step, ops_grammar::specs::Grammar::ends))]
     fn class_name(&mut self, classes: &Classes, words: &[Word], at: usize) -> Result<usize, Refusal>
         ensures reads { ReadsAmong classes.now ClassName self.old self.new words.now at result }
         ensures within { IsFrom at result }
@@ -63,7 +63,7 @@ impl Left {
     }
 
     // term* )
-    #[tactic(auto, unfolding(ops_meaning::specs::Grammar::goes, ops_meaning::specs::Grammar::step, ops_meaning::specs::Grammar::ends))]
+    #[tactic(auto, unfolding(ops_grammar::specs::Grammar::goes, ops_grammar::specs::Grammar::step, ops_grammar::specs::Grammar::ends))]
     fn terms(&mut self, classes: &Classes, words: &[Word], at: usize) -> Result<usize, Refusal>
         ensures reads { ReadsAmong classes.now (Terms InPattern) self.old self.new words.now at result }
         ensures within { IsFrom at result }
@@ -83,7 +83,7 @@ impl Left {
     }
 
     // ATTR place*
-    #[tactic(auto, unfolding(ops_meaning::specs::Grammar::goes, ops_meaning::specs::Grammar::step, ops_meaning::specs::Grammar::ends))]
+    #[tactic(auto, unfolding(ops_grammar::specs::Grammar::goes, ops_grammar::specs::Grammar::step, ops_grammar::specs::Grammar::ends))]
     fn attribute(&mut self, classes: &Classes, words: &[Word], at: usize) -> Result<usize, Refusal>
         ensures reads { GoesToTermsAmong classes.now (λ more ws s. goes (drop at words.now ++ more) (Attribute InPattern ∷ ws) (seen s self.old)) words.now self.new result }
         ensures within { IsFrom at result }

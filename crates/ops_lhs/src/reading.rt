@@ -10,7 +10,7 @@ use crate::sight::show;
 use ops_base::conditions::Condition;
 use ops_forms::walking::fault_of;
 use ops_forms::{Classes, ReadFault, Refusal, Scope, words_of};
-use ops_meaning::Word;
+use ops_grammar::Word;
 use ops_tokens::Token;
 use std::alloc::Global;
 

@@ -1,7 +1,7 @@
 //! The places of a vector attribute.
 ghost use Rattle.std.specs.Prelude.{◌≡◌, ◌∷◌, ◌++◌, ◌||◌, drop, is_some, nat_lt};
 ghost use Rattle.ops_base.specs.Valid.{most_fields};
-ghost use Rattle.ops_meaning.specs.Grammar.{goes, is_literal, is_variable, constant_of, place, within, InPattern, Several};
+ghost use Rattle.ops_grammar.specs.Grammar.{goes, is_literal, is_variable, constant_of, place, within, InPattern, Several};
 ghost use Rattle.ops_forms.specs.Walking.{IsFrom};
 ghost use Rattle.ops_lhs.specs.Taking.{seen, GoesToTerms, Acts, begins_place};
 
@@ -13,11 +13,11 @@ use ops_forms::kinds::{
 };
 use ops_forms::refusals::fields_passed;
 use ops_forms::walking::first_of;
-use ops_meaning::Word;
+use ops_grammar::Word;
 
 impl Left {
     // place*
-    #[tactic(auto, unfolding(ops_meaning::specs::Grammar::goes, ops_meaning::specs::Grammar::step, ops_meaning::specs::Grammar::ends))]
+    #[tactic(auto, unfolding(ops_grammar::specs::Grammar::goes, ops_grammar::specs::Grammar::step, ops_grammar::specs::Grammar::ends))]
     pub fn places(&mut self, field: usize, words: &[Word], at: usize) -> Result<usize, Refusal>
         ensures reads { GoesToTerms (λ more ws s. goes (drop at words.now ++ more) (Several InPattern field ∷ ws) (seen s self.old)) words.now self.new result }
         ensures within { IsFrom at result }

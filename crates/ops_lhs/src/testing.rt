@@ -1,5 +1,5 @@
 //! Tests of a condition.
-ghost use Rattle.ops_meaning.specs.Grammar.{goes, number_of, place, test, tested, variable_tested, Place, Tests, Tested, Choice, Atom, ToTest};
+ghost use Rattle.ops_grammar.specs.Grammar.{goes, number_of, place, test, tested, variable_tested, Place, Tests, Tested, Choice, Atom, ToTest};
 ghost use Rattle.ops_forms.specs.Walking.{IsFrom};
 ghost use Rattle.ops_lhs.specs.Taking.{Reads, Acts};
 
@@ -14,11 +14,11 @@ use ops_forms::kinds::{
 use ops_forms::refusals::refused;
 use ops_forms::walking::first_of;
 use ops_forms::{Refusal, number_of};
-use ops_meaning::Word;
+use ops_grammar::Word;
 
 impl Left {
     // test | { test* }
-    #[tactic(auto, unfolding(ops_meaning::specs::Grammar::goes, ops_meaning::specs::Grammar::step, ops_meaning::specs::Grammar::ends))]
+    #[tactic(auto, unfolding(ops_grammar::specs::Grammar::goes, ops_grammar::specs::Grammar::step, ops_grammar::specs::Grammar::ends))]
     pub fn place(&mut self, field: usize, words: &[Word], at: usize) -> Result<usize, Refusal>
         ensures reads { Reads (Place field) self.old self.new words.now at result }
         ensures within { IsFrom at result }
@@ -45,7 +45,7 @@ impl Left {
     }
 
     // test* }
-    #[tactic(auto, unfolding(ops_meaning::specs::Grammar::goes, ops_meaning::specs::Grammar::step, ops_meaning::specs::Grammar::ends))]
+    #[tactic(auto, unfolding(ops_grammar::specs::Grammar::goes, ops_grammar::specs::Grammar::step, ops_grammar::specs::Grammar::ends))]
     fn conjunction(&mut self, field: usize, words: &[Word], at: usize) -> Result<usize, Refusal>
         ensures reads { Reads (Tests field) self.old self.new words.now at result }
         ensures within { IsFrom at result }
@@ -82,7 +82,7 @@ impl Left {
     }
 
     // constant | VARIABLE
-    #[tactic(auto, unfolding(ops_meaning::specs::Grammar::goes, ops_meaning::specs::Grammar::step, ops_meaning::specs::Grammar::ends))]
+    #[tactic(auto, unfolding(ops_grammar::specs::Grammar::goes, ops_grammar::specs::Grammar::step, ops_grammar::specs::Grammar::ends))]
     fn tested(
         &mut self,
         field: usize,
@@ -123,7 +123,7 @@ impl Left {
     }
 
     // atom
-    #[tactic(auto, unfolding(ops_meaning::specs::Grammar::goes, ops_meaning::specs::Grammar::step, ops_meaning::specs::Grammar::ends))]
+    #[tactic(auto, unfolding(ops_grammar::specs::Grammar::goes, ops_grammar::specs::Grammar::step, ops_grammar::specs::Grammar::ends))]
     fn atom(
         &mut self,
         field: usize,
@@ -168,7 +168,7 @@ impl Left {
     }
 
     // atom* >>
-    #[tactic(auto, unfolding(ops_meaning::specs::Grammar::goes, ops_meaning::specs::Grammar::step, ops_meaning::specs::Grammar::ends))]
+    #[tactic(auto, unfolding(ops_grammar::specs::Grammar::goes, ops_grammar::specs::Grammar::step, ops_grammar::specs::Grammar::ends))]
     fn disjunction(&mut self, field: usize, words: &[Word], at: usize) -> Result<usize, Refusal>
         ensures reads { Reads (Choice field) self.old self.new words.now at result }
         ensures within { IsFrom at result }

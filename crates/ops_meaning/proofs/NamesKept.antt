@@ -16,7 +16,7 @@ use Rattle.ops_tokens.specs.declared.accept.AcceptFault.{AcceptFault}
 use Rattle.ops_tokens.specs.declared.accept.AcceptFault.TheVariants as fault
 use Rattle.ops_meaning.specs.Kept.{KeepsNames}
 use Rattle.ops_meaning.specs.Layout.{rule_name, last_line}
-use Rattle.ops_meaning.specs.Symbols.{symbol_held, condition_held, action_held, rule_held}
+use Rattle.ops_base.specs.Symbols.{symbol_held, condition_held, action_held, rule_held}
 
 pub names_stay : (names : Spellings) → KeepsNames names names
 names_stay names i s h = h

@@ -15,13 +15,11 @@ use Rattle.ops_base.specs.declared.endings.ActKind.TheVariants as act_fault
 use Rattle.ops_base.specs.declared.endings.Ending.{Ending}
 use Rattle.ops_base.specs.declared.endings.Ending.TheVariants as ending
 use Rattle.ops_base.specs.declared.endings.Fault.{Fault}
-use Rattle.ops_base.specs.declared.endings.Fault.TheVariants as fault
-use Rattle.ops_base.specs.declared.endings.Limit.{Limit}
-use Rattle.ops_base.specs.declared.endings.Limit.TheVariants as limit
 use Rattle.ops_base.specs.Valid.{class_of, is_vector}
 use Rattle.ops_base.specs.Values.{nil, are_same}
 use Rattle.ops_base.specs.WorkingMemory.{field_of}
 use Rattle.ops_base.specs.Names.{Spellings, spelling_of}
+use Rattle.ops_base.specs.FaultTexts.{fault_text}
 use Rattle.ops_io.specs.Output.{column_after}
 use Rattle.ops_tokens.specs.declared.token.TokenKind.{TokenKind}
 use Rattle.ops_tokens.specs.declared.token.TokenKind.TheVariants as kind
@@ -224,32 +222,6 @@ abbrev pub unread_line : List ℕ → List ℕ
 unread_line name = codes "ops: cannot read " ++ name ++ 10 ∷ []
 
 -- ---- faults of a text
-
-abbrev pub limit_text : Limit → List ℕ
-limit_text limit.Conditions = codes "limit passed: conditions"
-limit_text limit.Fields = codes "limit passed: fields"
-limit_text limit.Nesting = codes "limit passed: nesting"
-
-abbrev pub fault_text : Fault → List ℕ
-fault_text fault.BadByte = codes "bad byte"
-fault_text fault.Unclosed = codes "unclosed"
-fault_text fault.Stray = codes "stray"
-fault_text fault.FractionNumber = codes "fraction"
-fault_text fault.NumberRange = codes "number out of range"
-fault_text fault.UnknownCommand = codes "unknown command"
-fault_text fault.BadForm = codes "bad form"
-fault_text fault.UnknownClass = codes "unknown class"
-fault_text fault.UnknownAttribute = codes "unknown attribute"
-fault_text fault.DeclaredTwice = codes "declared twice"
-fault_text fault.TwoVectors = codes "two vector attributes"
-fault_text fault.LateDeclaration = codes "late declaration"
-fault_text fault.LateProduction = codes "late production"
-fault_text fault.FirstNegated = codes "first condition negated"
-fault_text fault.UnboundVariable = codes "unbound variable"
-fault_text fault.BadDesignator = codes "bad designator"
-fault_text fault.AmbiguousDesignator = codes "ambiguous designator"
-fault_text (fault.LimitPassed l) = limit_text l
-fault_text fault.TooLong = codes "text too long"
 
 -- the line of a fault that stands at this line and column
 abbrev pub fault_line : Fault → ℕ → ℕ → List ℕ

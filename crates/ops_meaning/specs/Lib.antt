@@ -1,12 +1,3 @@
-pub mod Words
-pub mod Places
-pub mod Grammar
-pub mod Derivation
-pub mod Reads
-pub mod Reasons
-pub mod Standing
-pub mod Symbols
-pub mod Spelling
 pub mod Effects
 pub mod Layout
 pub mod Computing

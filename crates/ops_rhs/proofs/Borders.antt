@@ -4,9 +4,9 @@ use Rattle.std.proofs.lemmas.List.{take_all, length-drop}
 use Rattle.ops_base.specs.declared.elements.Class.{Class}
 use Rattle.ops_base.specs.declared.actions.Action.{Action}
 use Rattle.ops_tokens.specs.declared.token.Token.{Token}
-use Rattle.ops_meaning.specs.declared.words.Word.{Word}
-use Rattle.ops_meaning.specs.Words.{names_from}
-use Rattle.ops_meaning.specs.Grammar.{State, Wanted, Actions, goes, step, is_right, right_begun, nothing_read, with_rule}
+use Rattle.ops_grammar.specs.declared.words.Word.{Word}
+use Rattle.ops_grammar.specs.Words.{names_from}
+use Rattle.ops_grammar.specs.Grammar.{State, Wanted, Actions, goes, step, is_right, right_begun, nothing_read, with_rule}
 use Rattle.ops_forms.specs.Forms.{past_last}
 use Rattle.ops_forms.specs.Walking.{IsBehind, IsPlaced, words_of_scope, fault_of}
 use Rattle.ops_forms.specs.declared.refusals.Refusal.{Refusal}

@@ -6,7 +6,7 @@ use Rattle.std.proofs.lemmas.Bool.Decides.{nat_tests}
 use Rattle.ops_base.specs.declared.conditions.Condition.{Condition}
 use Rattle.ops_base.specs.declared.endings.Fault.{Fault}
 use Rattle.ops_base.specs.declared.endings.Fault.TheVariants as fault
-use Rattle.ops_meaning.specs.Grammar.{State, designated, numbered_cell}
+use Rattle.ops_grammar.specs.Grammar.{State, designated, numbered_cell}
 use Rattle.ops_forms.specs.Sights.{cells_from}
 use Rattle.ops_rhs.specs.Taking.{cell_by, numbered_by}
 

@@ -1,10 +1,10 @@
 -- Steps of the walk over a right side, in every state around it.
 use Rattle.std.proofs.Common.{◌≡◌, ℕ, ◌==◌, true, false, List, ◌∷◌, ◌++◌, position, None, Some, Err, refl}
 use Rattle.ops_base.specs.declared.endings.Fault.TheVariants as fault
-use Rattle.ops_meaning.specs.declared.words.Word.{Word}
-use Rattle.ops_meaning.specs.declared.words.Keyword.{Keyword}
-use Rattle.ops_meaning.specs.declared.words.Keyword.TheVariants as keyword
-use Rattle.ops_meaning.specs.Grammar.{Target, Wanted, SourceAttribute, SourceEnd, Function, ItemWord, BoundValue, Closes, EndsWhole, ToItem, ToBind, State, after, goes, step, is_name, is_right, function, item_word, value_for, source_class as class_read}
+use Rattle.ops_grammar.specs.declared.words.Word.{Word}
+use Rattle.ops_grammar.specs.declared.words.Keyword.{Keyword}
+use Rattle.ops_grammar.specs.declared.words.Keyword.TheVariants as keyword
+use Rattle.ops_grammar.specs.Grammar.{Target, Wanted, SourceAttribute, SourceEnd, Function, ItemWord, BoundValue, Closes, EndsWhole, ToItem, ToBind, State, after, goes, step, is_name, is_right, function, item_word, value_for, source_class as class_read}
 use Rattle.ops_rhs.specs.declared.right.Around.{Around}
 use Rattle.ops_rhs.specs.declared.right.Right.{Right}
 use Rattle.ops_rhs.specs.Taking.{seen, IsAround, source_class}

@@ -6,9 +6,9 @@ use Rattle.ops_base.specs.declared.endings.Fault.{Fault}
 use Rattle.ops_base.specs.declared.endings.Fault.TheVariants as fault
 use Rattle.ops_base.specs.Valid.{cells_of}
 use Rattle.ops_tokens.specs.declared.token.Token.{Token}
-use Rattle.ops_meaning.specs.declared.words.Word.{Word}
-use Rattle.ops_meaning.specs.Words.{names_from}
-use Rattle.ops_meaning.specs.Grammar.{State, Wanted, Actions, goes, is_right, right_begun, with_rule}
+use Rattle.ops_grammar.specs.declared.words.Word.{Word}
+use Rattle.ops_grammar.specs.Words.{names_from}
+use Rattle.ops_grammar.specs.Grammar.{State, Wanted, Actions, goes, is_right, right_begun, with_rule}
 use Rattle.ops_forms.specs.Forms.{past_last}
 use Rattle.ops_forms.specs.Going.{Way, Fails}
 use Rattle.ops_forms.specs.Sights.{cells_from}

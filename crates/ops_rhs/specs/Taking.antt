@@ -8,8 +8,8 @@ use Rattle.ops_base.specs.declared.endings.Fault.{Fault}
 use Rattle.ops_base.specs.declared.endings.Fault.TheVariants as fault
 use Rattle.ops_base.specs.Expression.{Formula}
 use Rattle.ops_base.specs.Valid.{class_of, cells_of}
-use Rattle.ops_meaning.specs.declared.words.Word.{Word}
-use Rattle.ops_meaning.specs.Grammar.{Target as Goal, ToPut, ToTerms, ToItem, ToBind, Column as Purpose, ToTab, ToRight, Wanted, State, Step, Waiting as Waits, Bracketed, ExpressionUnit, ExpressionRest, Next, Refuses, after, goes, nothing_read, no_formula, is_right, number_of, with_put, with_item, with_bind, with_formula}
+use Rattle.ops_grammar.specs.declared.words.Word.{Word}
+use Rattle.ops_grammar.specs.Grammar.{Target as Goal, ToPut, ToTerms, ToItem, ToBind, Column as Purpose, ToTab, ToRight, Wanted, State, Step, Waiting as Waits, Bracketed, ExpressionUnit, ExpressionRest, Next, Refuses, after, goes, nothing_read, no_formula, is_right, number_of, with_put, with_item, with_bind, with_formula}
 use Rattle.ops_forms.specs.Sights.{cells_from}
 use Rattle.ops_forms.specs.Walking.{Way, Fails, IsPlaced, GoesOn, GoesAmong, GoesToAmong}
 use Rattle.ops_forms.specs.declared.refusals.Refusal.{Refusal}

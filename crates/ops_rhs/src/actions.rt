@@ -1,6 +1,6 @@
 //! Actions up to the closing bracket of a production.
 ghost use Rattle.std.specs.Prelude.{◌∷◌, ◌++◌, drop, IfOk};
-ghost use Rattle.ops_meaning.specs.Grammar.{goes, Actions, ActionWord, Closes, EndsHalt};
+ghost use Rattle.ops_grammar.specs.Grammar.{goes, Actions, ActionWord, Closes, EndsHalt};
 ghost use Rattle.ops_forms.specs.Walking.{IsFrom};
 ghost use Rattle.ops_rhs.specs.Taking.{seen, Reads, GoesTo, IsClosing, ReadsAnywhere};
 
@@ -11,11 +11,11 @@ use ops_forms::Refusal;
 use ops_forms::kinds::{is_left, is_right};
 use ops_forms::refusals::refused;
 use ops_forms::walking::{closing, first_of};
-use ops_meaning::{Keyword, Word};
+use ops_grammar::{Keyword, Word};
 
 impl Right {
     // action*, up to the closing bracket, whose place is answered
-    #[tactic(auto, unfolding(ops_meaning::specs::Grammar::goes, ops_meaning::specs::Grammar::step, ops_meaning::specs::Grammar::ends))]
+    #[tactic(auto, unfolding(ops_grammar::specs::Grammar::goes, ops_grammar::specs::Grammar::step, ops_grammar::specs::Grammar::ends))]
     pub fn read_actions(
         &mut self,
         around: &Around,
@@ -41,7 +41,7 @@ impl Right {
 
     // make CLASS put* ) | modify DESIGNATOR put* ) | remove DESIGNATOR DESIGNATOR* ) | write item* ) | bind VARIABLE [value] )
     // | cbind VARIABLE ) | halt )
-    #[tactic(auto, unfolding(ops_meaning::specs::Grammar::goes, ops_meaning::specs::Grammar::step, ops_meaning::specs::Grammar::ends))]
+    #[tactic(auto, unfolding(ops_grammar::specs::Grammar::goes, ops_grammar::specs::Grammar::step, ops_grammar::specs::Grammar::ends))]
     fn action(&mut self, around: &Around, words: &[Word], at: usize) -> Result<usize, Refusal>
         ensures reads { Reads around.now ActionWord self.old self.new words.now at result }
         ensures within { IsFrom at result }

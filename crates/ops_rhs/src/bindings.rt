@@ -1,6 +1,6 @@
 //! The actions that bind a variable to a value or to a cell.
 ghost use Rattle.std.specs.Prelude.{◌∷◌, ◌++◌, drop};
-ghost use Rattle.ops_meaning.specs.Grammar.{goes, value_for, ToBind, BoundName, BoundValue, CellName, Closes, EndsWhole};
+ghost use Rattle.ops_grammar.specs.Grammar.{goes, value_for, ToBind, BoundName, BoundValue, CellName, Closes, EndsWhole};
 ghost use Rattle.ops_forms.specs.Walking.{GoesAmong, IsFrom};
 ghost use Rattle.ops_rhs.specs.Taking.{seen, IsAround, Reads, Acts, ReadsAnywhere};
 
@@ -11,7 +11,7 @@ use ops_forms::Refusal;
 use ops_forms::kinds::{is_right, is_variable};
 use ops_forms::refusals::refused;
 use ops_forms::walking::{closing, first_of};
-use ops_meaning::Word;
+use ops_grammar::Word;
 
 impl Right {
     // VARIABLE value ) | VARIABLE )
@@ -24,7 +24,7 @@ impl Right {
     }
 
     // VARIABLE
-    #[tactic(auto, unfolding(ops_meaning::specs::Grammar::goes, ops_meaning::specs::Grammar::step, ops_meaning::specs::Grammar::ends))]
+    #[tactic(auto, unfolding(ops_grammar::specs::Grammar::goes, ops_grammar::specs::Grammar::step, ops_grammar::specs::Grammar::ends))]
     fn bound_name(&mut self, words: &[Word], at: usize) -> Result<usize, Refusal>
         ensures reads { ReadsAnywhere BoundName self.old self.new words.now at result }
         ensures within { IsFrom at result }
@@ -38,7 +38,7 @@ impl Right {
     }
 
     // value ) | ), of which the value is a fresh atom
-    #[tactic(auto, unfolding(ops_meaning::specs::Grammar::goes, ops_meaning::specs::Grammar::step, ops_meaning::specs::Grammar::ends))]
+    #[tactic(auto, unfolding(ops_grammar::specs::Grammar::goes, ops_grammar::specs::Grammar::step, ops_grammar::specs::Grammar::ends))]
     fn bound_value(&mut self, around: &Around, words: &[Word], at: usize) -> Result<usize, Refusal>
         ensures reads { Reads around.now BoundValue self.old self.new words.now at result }
         ensures within { IsFrom at result }
@@ -78,7 +78,7 @@ impl Right {
     }
 
     // VARIABLE, for the element that was made last
-    #[tactic(auto, unfolding(ops_meaning::specs::Grammar::goes, ops_meaning::specs::Grammar::step, ops_meaning::specs::Grammar::ends))]
+    #[tactic(auto, unfolding(ops_grammar::specs::Grammar::goes, ops_grammar::specs::Grammar::step, ops_grammar::specs::Grammar::ends))]
     fn cell_name(&mut self, around: &Around, words: &[Word], at: usize) -> Result<usize, Refusal>
         ensures reads { Reads around.now CellName self.old self.new words.now at result }
         ensures within { IsFrom at result }

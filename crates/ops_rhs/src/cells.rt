@@ -1,6 +1,6 @@
 //! The cells of a right side: those of the positive conditions in order, and then those that `cbind` named.
 ghost use Rattle.std.specs.Prelude.{◌≡◌, ◌+◌, ◌++◌, length, slice_get, unwrap_or};
-ghost use Rattle.ops_meaning.specs.Grammar.{with_cell};
+ghost use Rattle.ops_grammar.specs.Grammar.{with_cell};
 ghost use Rattle.ops_rhs.specs.Taking.{seen, BecomesAmong};
 
 use crate::right::{Around, Right};

@@ -1,6 +1,6 @@
 //! The designators of the elements that a right side speaks of.
 ghost use Rattle.std.specs.Prelude.{◌≡◌, ◌∷◌, ◌++◌, drop, slice_get};
-ghost use Rattle.ops_meaning.specs.Grammar.{State, goes, cell, cell_of, named_cell, natural_of, number_of, InPut, Cell, Cells, Modified, Terms};
+ghost use Rattle.ops_grammar.specs.Grammar.{State, goes, cell, cell_of, named_cell, natural_of, number_of, InPut, Cell, Cells, Modified, Terms};
 ghost use Rattle.ops_forms.specs.Walking.{GoesAmong, IsFrom};
 ghost use Rattle.ops_rhs.specs.Taking.{seen, numbered_by, cell_by, IsAround, Reads, Acts};
 
@@ -11,12 +11,12 @@ use ops_forms::kinds::{is_right, natural_of};
 use ops_forms::refusals::refused;
 use ops_forms::walking::first_of;
 use ops_forms::{Refusal, number_of};
-use ops_meaning::Word;
+use ops_grammar::Word;
 use ops_tokens::TokenKind;
 
 impl Right {
     // DESIGNATOR DESIGNATOR* )
-    #[tactic(auto, unfolding(ops_meaning::specs::Grammar::goes, ops_meaning::specs::Grammar::step, ops_meaning::specs::Grammar::ends))]
+    #[tactic(auto, unfolding(ops_grammar::specs::Grammar::goes, ops_grammar::specs::Grammar::step, ops_grammar::specs::Grammar::ends))]
     pub fn remove(&mut self, around: &Around, words: &[Word], at: usize) -> Result<usize, Refusal>
         ensures reads { GoesAmong (IsAround around.now) (λ more ws s. goes (drop at words.now ++ more) (Cell ∷ Cells ∷ ws) (seen s self.old)) words.now (λ s. seen s self.new) result }
         ensures within { IsFrom at result }
@@ -27,7 +27,7 @@ impl Right {
     }
 
     // DESIGNATOR* )
-    #[tactic(auto, unfolding(ops_meaning::specs::Grammar::goes, ops_meaning::specs::Grammar::step, ops_meaning::specs::Grammar::ends))]
+    #[tactic(auto, unfolding(ops_grammar::specs::Grammar::goes, ops_grammar::specs::Grammar::step, ops_grammar::specs::Grammar::ends))]
     fn remove_cells(&mut self, around: &Around, words: &[Word], at: usize) -> Result<usize, Refusal>
         ensures reads { Reads around.now Cells self.old self.new words.now at result }
         ensures within { IsFrom at result }
@@ -75,7 +75,7 @@ impl Right {
     }
 
     // DESIGNATOR
-    #[tactic(auto, unfolding(ops_meaning::specs::Grammar::goes, ops_meaning::specs::Grammar::step, ops_meaning::specs::Grammar::ends))]
+    #[tactic(auto, unfolding(ops_grammar::specs::Grammar::goes, ops_grammar::specs::Grammar::step, ops_grammar::specs::Grammar::ends))]
     fn modified_cell(
         &mut self,
         around: &Around,

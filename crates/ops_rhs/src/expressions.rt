@@ -1,6 +1,6 @@
 //! The expressions of `compute`.
 ghost use Rattle.std.specs.Prelude.{◌≡◌, IfOk};
-ghost use Rattle.ops_meaning.specs.Grammar.{completed, bracket_at, unit_at, unit_bound, number_of, ExpressionUnit};
+ghost use Rattle.ops_grammar.specs.Grammar.{completed, bracket_at, unit_at, unit_bound, number_of, ExpressionUnit};
 ghost use Rattle.ops_forms.specs.Walking.{IsFrom};
 ghost use Rattle.ops_rhs.specs.Taking.{newest_first, ReadsOperand, ActsOperand, ReadsExpression, OpensExpression, IsOperand, IsFromOperand};
 
@@ -12,7 +12,7 @@ use ops_forms::kinds::{is_compute, is_left, is_right, operation_of};
 use ops_forms::refusals::refused;
 use ops_forms::walking::first_of;
 use ops_forms::{Refusal, number_of};
-use ops_meaning::Word;
+use ops_grammar::Word;
 use ops_tokens::TokenKind;
 
 // how many brackets may be open at once
@@ -31,7 +31,7 @@ pub struct Waiting {
 impl Right {
     // unit, or unit OP expr, and the closing bracket, where so many brackets are open
     #[cycle(expressions)]
-    #[tactic(auto, unfolding(ops_meaning::specs::Grammar::goes, ops_meaning::specs::Grammar::step, ops_meaning::specs::Grammar::ends))]
+    #[tactic(auto, unfolding(ops_grammar::specs::Grammar::goes, ops_grammar::specs::Grammar::step, ops_grammar::specs::Grammar::ends))]
     pub fn expression(
         &self,
         depth: usize,
@@ -60,7 +60,7 @@ impl Right {
 
     // WHOLE | VARIABLE | ( expr ) | ( compute expr )
     #[cycle(expressions)]
-    #[tactic(auto, unfolding(ops_meaning::specs::Grammar::goes, ops_meaning::specs::Grammar::step, ops_meaning::specs::Grammar::ends))]
+    #[tactic(auto, unfolding(ops_grammar::specs::Grammar::goes, ops_grammar::specs::Grammar::step, ops_grammar::specs::Grammar::ends))]
     fn unit(&self, depth: usize, words: &[Word], at: usize) -> Result<(Expr, usize), Refusal>
         ensures reads { ReadsOperand (ExpressionUnit depth) self.now words.now at result }
         ensures within { IsFromOperand at result }
@@ -121,7 +121,7 @@ impl Right {
 }
 
 // the place behind `compute`, where that stands there
-#[tactic(auto, unfolding(ops_meaning::specs::Grammar::goes, ops_meaning::specs::Grammar::step, ops_meaning::specs::Grammar::ends))]
+#[tactic(auto, unfolding(ops_grammar::specs::Grammar::goes, ops_grammar::specs::Grammar::step, ops_grammar::specs::Grammar::ends))]
 fn behind_compute(words: &[Word], at: usize) -> Result<usize, Refusal>
     ensures reads { OpensExpression words.now at result }
     ensures within { IsFrom at result }

@@ -1,6 +1,6 @@
 //! The functions that a value may be.
 ghost use Rattle.std.specs.Prelude.{◌∷◌, [], ◌++◌, drop, Some};
-ghost use Rattle.ops_meaning.specs.Grammar.{goes, function, function_depth, Function, ExpressionUnit, ExpressionRest, Closes, EndsWhole};
+ghost use Rattle.ops_grammar.specs.Grammar.{goes, function, function_depth, Function, ExpressionUnit, ExpressionRest, Closes, EndsWhole};
 ghost use Rattle.ops_forms.specs.Walking.{GoesOn, IsFrom};
 ghost use Rattle.ops_rhs.specs.Taking.{seen, target_of, with_term, Reads, Acts};
 
@@ -11,11 +11,11 @@ use ops_base::endings::Fault;
 use ops_forms::Refusal;
 use ops_forms::refusals::refused;
 use ops_forms::walking::{closing, first_of};
-use ops_meaning::{Keyword, Word};
+use ops_grammar::{Keyword, Word};
 
 impl Right {
     // compute expr ) | genatom ) | accept ) | substr VARIABLE ATTR ATTR ) | substr VARIABLE ATTR inf )
-    #[tactic(auto, unfolding(ops_meaning::specs::Grammar::goes, ops_meaning::specs::Grammar::step, ops_meaning::specs::Grammar::ends))]
+    #[tactic(auto, unfolding(ops_grammar::specs::Grammar::goes, ops_grammar::specs::Grammar::step, ops_grammar::specs::Grammar::ends))]
     pub fn function(
         &mut self,
         around: &Around,

@@ -1,6 +1,6 @@
 //! What `write` prints.
 ghost use Rattle.std.specs.Prelude.{◌≡◌, ◌∷◌, ◌++◌, drop, if◌then◌else◌};
-ghost use Rattle.ops_meaning.specs.Grammar.{goes, value_for, is_left, column_item, ToItem, Items, ItemWord, Columns, Closes, EndsCrlf, EndsWhole, Next};
+ghost use Rattle.ops_grammar.specs.Grammar.{goes, value_for, is_left, column_item, ToItem, Items, ItemWord, Columns, Closes, EndsCrlf, EndsWhole, Next};
 ghost use Rattle.ops_forms.specs.Walking.{GoesOn, IsFrom};
 ghost use Rattle.ops_rhs.specs.Taking.{seen, column_of, Reads, Acts, ReadsAnywhere};
 
@@ -11,11 +11,11 @@ use ops_forms::Refusal;
 use ops_forms::kinds::{is_left, is_right, small_of};
 use ops_forms::refusals::refused;
 use ops_forms::walking::{closing, first_of};
-use ops_meaning::{Keyword, Word};
+use ops_grammar::{Keyword, Word};
 
 impl Right {
     // item* )
-    #[tactic(auto, unfolding(ops_meaning::specs::Grammar::goes, ops_meaning::specs::Grammar::step, ops_meaning::specs::Grammar::ends))]
+    #[tactic(auto, unfolding(ops_grammar::specs::Grammar::goes, ops_grammar::specs::Grammar::step, ops_grammar::specs::Grammar::ends))]
     pub fn write(&mut self, around: &Around, words: &[Word], at: usize) -> Result<usize, Refusal>
         ensures reads { Reads around.now Items self.old self.new words.now at result }
         ensures within { IsFrom at result }
@@ -49,7 +49,7 @@ impl Right {
     }
 
     // crlf ) | tabto SMALL ) | rjust SMALL ) | function
-    #[tactic(auto, unfolding(ops_meaning::specs::Grammar::goes, ops_meaning::specs::Grammar::step, ops_meaning::specs::Grammar::ends))]
+    #[tactic(auto, unfolding(ops_grammar::specs::Grammar::goes, ops_grammar::specs::Grammar::step, ops_grammar::specs::Grammar::ends))]
     fn item_word(&mut self, around: &Around, words: &[Word], at: usize) -> Result<usize, Refusal>
         ensures reads { Reads around.now ItemWord self.old self.new words.now at result }
         ensures within { IsFrom at result }
@@ -83,7 +83,7 @@ impl Right {
     }
 
     // SMALL
-    #[tactic(auto, unfolding(ops_meaning::specs::Grammar::goes, ops_meaning::specs::Grammar::step, ops_meaning::specs::Grammar::ends))]
+    #[tactic(auto, unfolding(ops_grammar::specs::Grammar::goes, ops_grammar::specs::Grammar::step, ops_grammar::specs::Grammar::ends))]
     fn small(&mut self, column: Column, words: &[Word], at: usize) -> Result<usize, Refusal>
         ensures reads { ReadsAnywhere (Columns (column_of column)) self.old self.new words.now at result }
         ensures within { IsFrom at result }

@@ -1,6 +1,6 @@
 //! The elements that a right side makes: a class with attributes and values.
 ghost use Rattle.std.specs.Prelude.{◌∷◌, ◌++◌, drop};
-ghost use Rattle.ops_meaning.specs.Grammar.{goes, InPut, ClassName, Terms, Attribute, Several};
+ghost use Rattle.ops_grammar.specs.Grammar.{goes, InPut, ClassName, Terms, Attribute, Several};
 ghost use Rattle.ops_forms.specs.Walking.{GoesAmong, IsFrom};
 ghost use Rattle.ops_rhs.specs.Taking.{seen, IsAround, Reads, GoesTo};
 
@@ -10,7 +10,7 @@ use ops_forms::Refusal;
 use ops_forms::kinds::{ends_values, is_caret, is_name, is_right};
 use ops_forms::refusals::refused;
 use ops_forms::walking::first_of;
-use ops_meaning::Word;
+use ops_grammar::Word;
 
 impl Right {
     // CLASS put* )
@@ -23,7 +23,7 @@ impl Right {
     }
 
     // CLASS
-    #[tactic(auto, unfolding(ops_meaning::specs::Grammar::goes, ops_meaning::specs::Grammar::step, ops_meaning::specs::Grammar::ends))]
+    #[tactic(auto, unfolding(ops_grammar::specs::Grammar::goes, ops_grammar::specs::Grammar::step, ops_grammar::specs::Grammar::ends))]
     fn class_name(&mut self, around: &Around, words: &[Word], at: usize) -> Result<usize, Refusal>
         ensures reads { Reads around.now ClassName self.old self.new words.now at result }
         ensures within { IsFrom at result }
@@ -40,7 +40,7 @@ impl Right {
     }
 
     // put* )
-    #[tactic(auto, unfolding(ops_meaning::specs::Grammar::goes, ops_meaning::specs::Grammar::step, ops_meaning::specs::Grammar::ends))]
+    #[tactic(auto, unfolding(ops_grammar::specs::Grammar::goes, ops_grammar::specs::Grammar::step, ops_grammar::specs::Grammar::ends))]
     pub fn read_terms(
         &mut self,
         around: &Around,
@@ -65,7 +65,7 @@ impl Right {
     }
 
     // ATTR value*
-    #[tactic(auto, unfolding(ops_meaning::specs::Grammar::goes, ops_meaning::specs::Grammar::step, ops_meaning::specs::Grammar::ends))]
+    #[tactic(auto, unfolding(ops_grammar::specs::Grammar::goes, ops_grammar::specs::Grammar::step, ops_grammar::specs::Grammar::ends))]
     fn attribute(&mut self, around: &Around, words: &[Word], at: usize) -> Result<usize, Refusal>
         ensures reads { GoesTo around.now (Terms InPut) (λ more ws s. goes (drop at words.now ++ more) (Attribute InPut ∷ ws) (seen s self.old)) words.now self.new result }
         ensures within { IsFrom at result }
@@ -89,7 +89,7 @@ impl Right {
     }
 
     // value*, up to what is no more of them
-    #[tactic(auto, unfolding(ops_meaning::specs::Grammar::goes, ops_meaning::specs::Grammar::step, ops_meaning::specs::Grammar::ends))]
+    #[tactic(auto, unfolding(ops_grammar::specs::Grammar::goes, ops_grammar::specs::Grammar::step, ops_grammar::specs::Grammar::ends))]
     fn several(
         &mut self,
         around: &Around,

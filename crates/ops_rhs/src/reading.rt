@@ -10,7 +10,7 @@ use ops_base::actions::Action;
 use ops_base::list::Listed;
 use ops_forms::walking::fault_of;
 use ops_forms::{Classes, Declared, ReadFault, Refusal, Scope, words_of};
-use ops_meaning::Word;
+use ops_grammar::Word;
 use ops_tokens::Token;
 use std::alloc::{AllocError, Global};
 use std::mem;

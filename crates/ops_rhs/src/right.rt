@@ -1,6 +1,6 @@
 //! What was read so far of a right side, and how it grows.
 ghost use Rattle.std.specs.Prelude.{◌≡◌, None};
-ghost use Rattle.ops_meaning.specs.Grammar.{nothing_read, right_begun, number_of, with_action, with_item, with_put, with_bind, with_several, with_element, with_remove, with_write, put_action, InPut};
+ghost use Rattle.ops_grammar.specs.Grammar.{nothing_read, right_begun, number_of, with_action, with_item, with_put, with_bind, with_several, with_element, with_remove, with_write, put_action, InPut};
 ghost use Rattle.ops_forms.specs.Going.{Becomes};
 ghost use Rattle.ops_rhs.specs.Taking.{view, with_term};
 
@@ -37,7 +37,7 @@ pub enum Column {
 }
 
 /// What was read so far of a right side. Its fields are those of the state of the definition's walk (`State` in the
-/// specs/Grammar.antt of ops_meaning), which hands values from one method to the next.
+/// specs/Grammar.antt of ops_grammar), which hands values from one method to the next.
 #[derive(Drop)]
 pub struct Right {
     /// The class of the element that a `make` or a `modify` is about.

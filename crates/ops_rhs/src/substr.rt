@@ -1,7 +1,7 @@
 //! The function `substr`, which reads the values of a cell's element.
 ghost use Rattle.std.specs.Prelude.{◌≡◌, ◌∷◌, ◌++◌, ◌==◌, drop, position};
 ghost use Rattle.ops_base.specs.Valid.{is_vector};
-ghost use Rattle.ops_meaning.specs.Grammar.{goes, takes_several, SourceCell, SourceAttribute, SourceEnd, Closes, EndsWhole};
+ghost use Rattle.ops_grammar.specs.Grammar.{goes, takes_several, SourceCell, SourceAttribute, SourceEnd, Closes, EndsWhole};
 ghost use Rattle.ops_forms.specs.Walking.{GoesAmong, IsFrom};
 ghost use Rattle.ops_rhs.specs.Taking.{seen, target_of, source_class, IsAround, Reads, ReadsAnywhere};
 
@@ -13,7 +13,7 @@ use ops_forms::kinds::{is_inf, is_name, is_variable};
 use ops_forms::refusals::refused;
 use ops_forms::walking::{closing, first_of};
 use ops_forms::{Refusal, number_of};
-use ops_meaning::Word;
+use ops_grammar::Word;
 
 impl Right {
     // VARIABLE ATTR ATTR ) | VARIABLE ATTR inf )
@@ -32,7 +32,7 @@ impl Right {
     }
 
     // VARIABLE
-    #[tactic(auto, unfolding(ops_meaning::specs::Grammar::goes, ops_meaning::specs::Grammar::step, ops_meaning::specs::Grammar::ends))]
+    #[tactic(auto, unfolding(ops_grammar::specs::Grammar::goes, ops_grammar::specs::Grammar::step, ops_grammar::specs::Grammar::ends))]
     fn source_cell(&mut self, words: &[Word], at: usize) -> Result<usize, Refusal>
         ensures reads { ReadsAnywhere SourceCell self.old self.new words.now at result }
         ensures within { IsFrom at result }
@@ -49,7 +49,7 @@ impl Right {
     }
 
     // ATTR ATTR ) | ATTR inf )
-    #[tactic(auto, unfolding(ops_meaning::specs::Grammar::goes, ops_meaning::specs::Grammar::step, ops_meaning::specs::Grammar::ends))]
+    #[tactic(auto, unfolding(ops_grammar::specs::Grammar::goes, ops_grammar::specs::Grammar::step, ops_grammar::specs::Grammar::ends))]
     fn source_attribute(
         &mut self,
         around: &Around,
@@ -88,7 +88,7 @@ impl Right {
     }
 
     // ATTR | inf, behind this name
-    #[tactic(auto, unfolding(ops_meaning::specs::Grammar::goes, ops_meaning::specs::Grammar::step, ops_meaning::specs::Grammar::ends))]
+    #[tactic(auto, unfolding(ops_grammar::specs::Grammar::goes, ops_grammar::specs::Grammar::step, ops_grammar::specs::Grammar::ends))]
     fn source_end(
         &mut self,
         around: &Around,

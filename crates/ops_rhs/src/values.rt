@@ -1,5 +1,5 @@
 //! Values: constants, variables and functions.
-ghost use Rattle.ops_meaning.specs.Grammar.{goes, value_for, bound_at, number_of, Atom, ValueFor};
+ghost use Rattle.ops_grammar.specs.Grammar.{goes, value_for, bound_at, number_of, Atom, ValueFor};
 ghost use Rattle.ops_forms.specs.Walking.{IsFrom};
 ghost use Rattle.ops_rhs.specs.Taking.{target_of, Reads, Acts, ReadsAnywhere, ActsAnywhere};
 
@@ -10,11 +10,11 @@ use ops_forms::kinds::{atom_of, is_left, is_literal, is_variable, value_of};
 use ops_forms::refusals::refused;
 use ops_forms::walking::first_of;
 use ops_forms::{Refusal, number_of};
-use ops_meaning::Word;
+use ops_grammar::Word;
 
 impl Right {
     // rconstant | VARIABLE | ( function
-    #[tactic(auto, unfolding(ops_meaning::specs::Grammar::goes, ops_meaning::specs::Grammar::step, ops_meaning::specs::Grammar::ends))]
+    #[tactic(auto, unfolding(ops_grammar::specs::Grammar::goes, ops_grammar::specs::Grammar::step, ops_grammar::specs::Grammar::ends))]
     pub fn value(
         &mut self,
         around: &Around,
@@ -58,7 +58,7 @@ impl Right {
     }
 
     // atom
-    #[tactic(auto, unfolding(ops_meaning::specs::Grammar::goes, ops_meaning::specs::Grammar::step, ops_meaning::specs::Grammar::ends))]
+    #[tactic(auto, unfolding(ops_grammar::specs::Grammar::goes, ops_grammar::specs::Grammar::step, ops_grammar::specs::Grammar::ends))]
     fn atom(&mut self, target: Target, words: &[Word], at: usize) -> Result<usize, Refusal>
         ensures reads { ReadsAnywhere (Atom (target_of target)) self.old self.new words.now at result }
         ensures within { IsFrom at result }

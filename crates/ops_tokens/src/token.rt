@@ -2,6 +2,7 @@
 ghost use Rattle.std.specs.Prelude.{◌≡◌};
 ghost use Rattle.ops_tokens.specs.Tokens.{is_quoted, spelling, LiesIn};
 
+use ops_base::endings::{Fault, fault_text};
 use thiserror::Error;
 
 /// A byte that may stand in a comment alone stands outside one.
@@ -38,20 +39,21 @@ pub struct Token {
 
 /// Why no token stands at a place: `BAD_BYTE`, `UNCLOSED`, `FRACTION_NUMBER` or `NUMBER_RANGE`, and the byte to blame.
 #[derive(Clone, Copy, Debug, PartialEq, Eq, Error)]
-#[error("byte {at}: {}", fault_text(*number))]
+#[error("byte {at}: {}", text_of(*number))]
 pub struct LexFault {
     pub number: u8,
     pub at: usize,
 }
 
-// how the fault of a number is told
-fn fault_text(number: u8) -> &'static str {
-    match number {
-        BAD_BYTE => "bad byte",
-        UNCLOSED => "unclosed",
-        FRACTION_NUMBER => "fraction",
-        _ => "number out of range",
-    }
+// what is printed of the fault of a number
+fn text_of(number: u8) -> &'static str {
+    let fault = match number {
+        BAD_BYTE => Fault::BadByte,
+        UNCLOSED => Fault::Unclosed,
+        FRACTION_NUMBER => Fault::FractionNumber,
+        _ => Fault::NumberRange,
+    };
+    fault_text(fault)
 }
 
 fn is_quoted(kind: TokenKind) -> bool

@@ -13,7 +13,7 @@ use Rattle.ops_jobs.specs.declared.jobs.Job.{Job}
 use Rattle.ops_jobs.specs.declared.jobs.Job.TheVariants.{Run, Net}
 use Rattle.ops_meaning.specs.declared.statuses.Status.{Status}
 use Rattle.ops_meaning.specs.declared.statuses.Status.TheVariants as status
-use Rattle.ops_meaning.specs.Reads.{Read, Placed, reads}
+use Rattle.ops_grammar.specs.Reads.{Read, Placed, reads}
 use Rattle.ops_meaning.specs.Running.{Session, session_of, ending_of}
 use Rattle.ops_top.specs.Whole.{Reply, Answers, Gathered, Joined, Unread, Overlong, status_of, answer_program_by, answer_read, answer_to, answer_gathered, gathered, readable, setting_read, usage, files_in, whole_job, whole, words_fit, files_of}
 use Rattle.ops_top.specs.Calls.{OfContents, OfInput, TellsFailedWrite, TellsWords, RunsThrough, all_told, program_runs_through, text_runs_through, gathered_runs_through, job_runs_over, runs_over}

@@ -6,8 +6,8 @@ use Rattle.ops_base.specs.declared.endings.Fault.{Fault}
 use Rattle.ops_base.specs.declared.endings.Fault.TheVariants as fault
 use Rattle.ops_io.specs.Coming.{Coming}
 use Rattle.ops_jobs.specs.declared.jobs.Job.{Job}
-use Rattle.ops_meaning.specs.Places.{line_of}
-use Rattle.ops_meaning.specs.Reads.{reads}
+use Rattle.ops_grammar.specs.Places.{line_of}
+use Rattle.ops_grammar.specs.Reads.{reads}
 use Rattle.ops_top.specs.Whole.{refused_at, answer_read, answer_to}
 use Rattle.ops_check.specs.declared.faults.ProgramFault.TheVariants as refusal
 use Rattle.ops_check.specs.Answered.{IsRefusal}

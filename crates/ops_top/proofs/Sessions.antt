@@ -16,7 +16,7 @@ use Rattle.ops_meaning.specs.Effects.{Effect}
 use Rattle.ops_meaning.specs.Kept.{KeepsNames}
 use Rattle.ops_meaning.specs.Layout.{last_line}
 use Rattle.ops_meaning.specs.Running.{Session as Meant, ending_of}
-use Rattle.ops_meaning.specs.Symbols.{is_held, rule_held}
+use Rattle.ops_base.specs.Symbols.{is_held, rule_held}
 use Rattle.ops_top.specs.Whole.{told}
 use Rattle.ops_meaning.proofs.NamesKept.{last_line_kept}
 use Rattle.ops_top.specs.Told.{TellsOn}

@@ -8,7 +8,7 @@ use Rattle.ops_jobs.specs.declared.jobs.Job.{Job}
 use Rattle.ops_jobs.specs.declared.jobs.Job.TheVariants.{Run, Net}
 use Rattle.ops_meaning.specs.declared.statuses.Status.{Status}
 use Rattle.ops_meaning.specs.declared.statuses.Status.TheVariants as status
-use Rattle.ops_meaning.specs.Reads.{Read, Placed, reads}
+use Rattle.ops_grammar.specs.Reads.{Read, Placed, reads}
 use Rattle.ops_meaning.specs.Running.{Session, session_of, ending_of}
 use Rattle.ops_meaning.proofs.RisingTags.{KeptCourse, EndsSession, session_goes_on}
 use Rattle.ops_top.specs.Whole.{status_of, answer_program_by, answer_read, answer_to, setting_read}

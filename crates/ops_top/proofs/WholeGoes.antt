@@ -7,7 +7,7 @@ use Rattle.ops_jobs.specs.CommandLine.{job_of}
 use Rattle.ops_jobs.specs.declared.jobs.Job.{Job}
 use Rattle.ops_jobs.specs.declared.jobs.Job.TheVariants.{Run, Net}
 use Rattle.ops_meaning.specs.Kept.{FindsConflictSets}
-use Rattle.ops_meaning.specs.Reads.{Read, Placed, reads}
+use Rattle.ops_grammar.specs.Reads.{Read, Placed, reads}
 use Rattle.ops_meaning.proofs.RisingTags.{session_goes}
 use Rattle.ops_top.specs.Whole.{Find, Gathered, Joined, Unread, Overlong, gathered, readable, files_in, answer_program_by, answer_read, answer_read_by, answer_gathered, answer_gathered_by, whole_job, whole_job_by, told, setting_read, GoesByConflictSetsAlone}
 

@@ -18,8 +18,8 @@ use Rattle.ops_meaning.specs.declared.statuses.Status.{Status}
 use Rattle.ops_meaning.specs.declared.statuses.Status.TheVariants as status
 use Rattle.ops_meaning.specs.Effects.{Effect}
 use Rattle.ops_meaning.specs.Layout.{usage_line, unread_line, last_line, fault_line}
-use Rattle.ops_meaning.specs.Places.{line_of, column_of}
-use Rattle.ops_meaning.specs.Reads.{Read, Placed, reads}
+use Rattle.ops_grammar.specs.Places.{line_of, column_of}
+use Rattle.ops_grammar.specs.Reads.{Read, Placed, reads}
 use Rattle.ops_meaning.specs.Acting.{Setting}
 use Rattle.ops_meaning.specs.Running.{Finder, Session, session_by, ending_of}
 use Rattle.ops_meaning.specs.Kept.{FindsConflictSets}

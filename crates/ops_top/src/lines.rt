@@ -5,9 +5,8 @@ ghost use Rattle.ops_top.specs.NetLines.{count_line, net_lines};
 
 use itoa::Buffer;
 use net_base::counts::Counts;
-use ops_base::endings::Fault;
+use ops_base::endings::{Fault, fault_text};
 use ops_base::memory::OutOfMemory;
-use ops_check::fault_text;
 use std::alloc::Global;
 
 /// The line that answers words that don't fit.

@@ -1,12 +1,12 @@
 use Rattle.std.proofs.Common.{◌≡◌, ◌∙◌, sym, ap, Err}
-use Rattle.ops_meaning.proofs.ReadsValid.{reads-valid}
-use Rattle.ops_meaning.proofs.ReadsWithin.{reads-within}
-use Rattle.ops_meaning.proofs.ReadsHeld.{reads-held}
-use Rattle.ops_meaning.proofs.NamesOf.{reads-names}
-use Rattle.ops_meaning.proofs.Standing.{text-derived}
-use Rattle.ops_meaning.proofs.StandingEnd.{fault-stands}
-use Rattle.ops_meaning.proofs.PlainRead.{reads-again}
-use Rattle.ops_meaning.specs.Reads.{reads}
+use Rattle.ops_grammar.proofs.ReadsValid.{reads-valid}
+use Rattle.ops_grammar.proofs.ReadsWithin.{reads-within}
+use Rattle.ops_grammar.proofs.ReadsHeld.{reads-held}
+use Rattle.ops_grammar.proofs.NamesOf.{reads-names}
+use Rattle.ops_grammar.proofs.Standing.{text-derived}
+use Rattle.ops_grammar.proofs.StandingEnd.{fault-stands}
+use Rattle.ops_grammar.proofs.PlainRead.{reads-again}
+use Rattle.ops_grammar.specs.Reads.{reads}
 use Rattle.ops_check.specs.Answered.{read_of}
 use Rattle.ops_check.proofs.program.read_program.Goals as goal
 

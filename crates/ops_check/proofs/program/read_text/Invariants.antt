@@ -1,5 +1,5 @@
 use Rattle.std.proofs.Common.{◌≡◌, ◌≤◌, ◌-◌, length}
-use Rattle.ops_meaning.specs.Reads.{reads}
+use Rattle.ops_grammar.specs.Reads.{reads}
 use Rattle.ops_check.specs.Going.{view}
 use Rattle.ops_check.specs.Answered.{rest_of}
 use Rattle.ops_check.proofs.program.read_text.Given as goal

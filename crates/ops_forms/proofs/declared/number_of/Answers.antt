@@ -1,7 +1,7 @@
 use Rattle.std.proofs.Common.{◌<◌, ◌==◌, sym, ◌∙◌, length}
 use Rattle.std.proofs.lemmas.List.Quantifiers.{position-Some}
 use Rattle.std.proofs.lemmas.Option.{slice_get-get_or}
-use Rattle.ops_meaning.specs.declared.words.Named.{Named}
+use Rattle.ops_grammar.specs.declared.words.Named.{Named}
 use Rattle.ops_forms.proofs.Numbered.{number_unnamed, number_named}
 use Rattle.ops_forms.proofs.declared.number_of.Goals as goal
 

@@ -1,5 +1,5 @@
 use Rattle.std.proofs.Common.{◌≡◌, ◌++◌, filter, drop}
-use Rattle.ops_meaning.specs.Grammar.{is_one_of}
+use Rattle.ops_grammar.specs.Grammar.{is_one_of}
 use Rattle.ops_forms.proofs.vectors.add_vectors.Given as goal
 
 abbrev pub invariant-loop-attr : goal.invariant-loop-attr

@@ -1,5 +1,5 @@
 use Rattle.std.proofs.Common.{◌≡◌, ℕ, zero, suc, List, [], ◌∷◌, drop, slice_get, Some, ◌∙◌, sym}
-use Rattle.ops_meaning.specs.declared.words.Word.{Word}
+use Rattle.ops_grammar.specs.declared.words.Word.{Word}
 use Rattle.ops_forms.proofs.walking.closing.Goals as goal
 
 -- what stands first from a place on stands at that place

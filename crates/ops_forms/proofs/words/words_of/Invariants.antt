@@ -1,5 +1,5 @@
 use Rattle.std.proofs.Common.{◌≡◌, ◌++◌, drop}
-use Rattle.ops_meaning.specs.Words.{words_from, names_from}
+use Rattle.ops_grammar.specs.Words.{words_from, names_from}
 use Rattle.ops_forms.proofs.words.words_of.Given as goal
 
 abbrev pub invariant-loop-token : goal.invariant-loop-token

@@ -1,6 +1,6 @@
 use Rattle.std.proofs.Common.{◌-◌, ◌∙◌, sym, subst, refl, length, List, arith}
 use Rattle.ops_base.specs.declared.conditions.Condition.{Condition}
-use Rattle.ops_meaning.specs.declared.words.Word.{Word}
+use Rattle.ops_grammar.specs.declared.words.Word.{Word}
 use Rattle.ops_forms.specs.declared.scope.Scope.{Scope}
 use Rattle.ops_forms.specs.Walking.{words_of_scope}
 use Rattle.ops_forms.proofs.Borders.{words_made, names_made, counted}

@@ -1,5 +1,5 @@
 use Rattle.std.proofs.Common.{◌∙◌, ap}
-use Rattle.ops_meaning.specs.Grammar.{completed}
+use Rattle.ops_grammar.specs.Grammar.{completed}
 use Rattle.ops_rhs.specs.Taking.{newest_first}
 use Rattle.ops_rhs.proofs.Operands.{completed_once}
 use Rattle.ops_rhs.proofs.expressions.completed.Goals as goal

@@ -1,6 +1,6 @@
 use Rattle.std.proofs.Common.{◌≡◌, List, length, ◌∷◌, ◌++◌, ◌≤◌}
-use Rattle.ops_meaning.specs.declared.words.Word.{Word}
-use Rattle.ops_meaning.specs.Grammar.{Wanted, NamedRules, goes}
+use Rattle.ops_grammar.specs.declared.words.Word.{Word}
+use Rattle.ops_grammar.specs.Grammar.{Wanted, NamedRules, goes}
 use Rattle.ops_check.specs.Going.{view, name_use_of}
 use Rattle.ops_check.proofs.draft.Draft.names.Given as goal
 

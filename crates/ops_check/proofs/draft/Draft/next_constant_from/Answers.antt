@@ -1,7 +1,7 @@
 use Rattle.std.proofs.Common.{◌++◌, ◌+◌, ◌<◌, ◌∙◌, sym, ap, length, arith}
 use Rattle.std.proofs.lemmas.Bool.{lt-ltb}
 use Rattle.ops_base.specs.Valid.{most_fields}
-use Rattle.ops_meaning.specs.Grammar.{goes, after, value_for, within, ToConstants}
+use Rattle.ops_grammar.specs.Grammar.{goes, after, value_for, within, ToConstants}
 use Rattle.ops_check.specs.Going.{view}
 use Rattle.ops_forms.proofs.Ways.{goes_as}
 use Rattle.ops_check.proofs.Rooms.{no_value}

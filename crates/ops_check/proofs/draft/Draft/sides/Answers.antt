@@ -1,6 +1,6 @@
 use Rattle.std.proofs.Common.{◌∷◌, ◌++◌, ◌∙◌, ap, refl}
 use Rattle.std.proofs.lemmas.Result.{err_from_is_err_and}
-use Rattle.ops_meaning.specs.Grammar.{goes, FirstPattern, Patterns, Actions}
+use Rattle.ops_grammar.specs.Grammar.{goes, FirstPattern, Patterns, Actions}
 use Rattle.ops_lhs.specs.LeftSides.{left_way, left_read}
 use Rattle.ops_forms.proofs.Ways.{fails_as, fails_under, goes_as}
 use Rattle.ops_check.specs.Going.{view}

@@ -1,7 +1,7 @@
 use Rattle.std.proofs.Common.{ap, sym, ◌∙◌, ◌≡◌, [], map}
 use Rattle.std.proofs.lemmas.Result.{on_ok_weaker}
 use Rattle.std.specs.Option.{option_copied}
-use Rattle.ops_meaning.specs.Grammar.{with_vector_last}
+use Rattle.ops_grammar.specs.Grammar.{with_vector_last}
 use Rattle.ops_forms.specs.Noted.{places_of, places_with, arranged_at_all}
 use Rattle.ops_forms.proofs.Noted.{all_arranged}
 use Rattle.ops_forms.proofs.classes.Classes.make_vector.Goals as goal

@@ -1,7 +1,7 @@
 use Rattle.std.proofs.Common.{ap, sym, ◌∙◌, ◌≡◌, []}
 use Rattle.std.specs.Option.{option_copied}
 use Rattle.std.specs.List.{list_any}
-use Rattle.ops_meaning.specs.Grammar.{makes_second}
+use Rattle.ops_grammar.specs.Grammar.{makes_second}
 use Rattle.ops_forms.specs.Noted.{places_of, places_with, is_vector_at}
 use Rattle.ops_forms.proofs.Noted.{second_noted}
 use Rattle.ops_forms.proofs.classes.Classes.makes_second.Goals as goal

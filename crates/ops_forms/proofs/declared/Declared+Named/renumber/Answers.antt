@@ -2,7 +2,7 @@ use Rattle.std.proofs.Common.{◌==◌, sym, ◌∙◌}
 use Rattle.std.proofs.lemmas.Bool.{eqb-true}
 use Rattle.std.proofs.lemmas.List.Quantifiers.{position-Some}
 use Rattle.std.proofs.lemmas.Result.{on_ok_weaker}
-use Rattle.ops_meaning.specs.declared.words.Named.{Named}
+use Rattle.ops_grammar.specs.declared.words.Named.{Named}
 use Rattle.ops_forms.proofs.Numbered.{renumbered_at, renumbered_last}
 use Rattle.ops_forms.proofs.declared.Declared+Named.renumber.Goals as goal
 

@@ -1,7 +1,7 @@
 use Rattle.std.proofs.Common.{◌≡◌, ◌∷◌, ◌++◌, ◌∙◌, sym, ap, true, Some, drop, slice_get, List}
 use Rattle.ops_base.specs.declared.elements.Class.{Class}
 use Rattle.ops_base.specs.declared.endings.Fault.TheVariants as fault
-use Rattle.ops_meaning.specs.Grammar.{goes, is_name, InPattern, Place, Terms}
+use Rattle.ops_grammar.specs.Grammar.{goes, is_name, InPattern, Place, Terms}
 use Rattle.ops_lhs.specs.Taking.{seen, Among}
 use Rattle.ops_forms.proofs.Walks.{to_refused_among}
 use Rattle.ops_forms.proofs.Ways.{attribute_unknown, attribute_several, attribute_one}

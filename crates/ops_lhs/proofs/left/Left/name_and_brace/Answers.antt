@@ -1,6 +1,6 @@
 use Rattle.std.proofs.Common.{◌∷◌, ◌++◌, ◌∙◌, drop}
 use Rattle.std.proofs.lemmas.Result.{err_from_is_err_and}
-use Rattle.ops_meaning.specs.Grammar.{ClosesBrace, element_name, goes, after}
+use Rattle.ops_grammar.specs.Grammar.{ClosesBrace, element_name, goes, after}
 use Rattle.ops_forms.proofs.Ways.{element_first}
 use Rattle.ops_lhs.specs.Taking.{seen}
 use Rattle.ops_forms.proofs.Walks.{fails_as, fails_under}

@@ -1,7 +1,7 @@
 use Rattle.std.proofs.Common.{◌++◌, ◌∙◌, sym, ap, drop}
 use Rattle.std.proofs.lemmas.Bool.{lt-ltb}
 use Rattle.ops_base.specs.Valid.{most_fields}
-use Rattle.ops_meaning.specs.Grammar.{goes, after, place, within}
+use Rattle.ops_grammar.specs.Grammar.{goes, after, place, within}
 use Rattle.ops_lhs.specs.Taking.{seen}
 use Rattle.ops_forms.proofs.Walks.{goes_as}
 use Rattle.ops_lhs.proofs.Rooms.{no_place}

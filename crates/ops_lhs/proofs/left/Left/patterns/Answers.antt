@@ -1,6 +1,6 @@
 use Rattle.std.proofs.Common.{◌∷◌, ◌++◌, ◌∙◌, sym, drop}
 use Rattle.std.proofs.lemmas.Result.{err_from_is_err_and}
-use Rattle.ops_meaning.specs.Grammar.{goes, more_patterns, after, Patterns}
+use Rattle.ops_grammar.specs.Grammar.{goes, more_patterns, after, Patterns}
 use Rattle.ops_forms.proofs.Ways.{patterns_first}
 use Rattle.ops_lhs.specs.Taking.{seen, Among}
 use Rattle.ops_forms.proofs.Walks.{fails_as_among, fails_under_among}

@@ -1,7 +1,7 @@
 use Rattle.std.proofs.Common.{◌∷◌, ◌++◌, ◌∙◌, sym, ◌+◌, nat_lt, drop}
 use Rattle.std.proofs.lemmas.Result.{err_from_is_err_and}
 use Rattle.ops_base.specs.Valid.{most_fields}
-use Rattle.ops_meaning.specs.Grammar.{goes, after, InPattern, Several, within, place}
+use Rattle.ops_grammar.specs.Grammar.{goes, after, InPattern, Several, within, place}
 use Rattle.ops_forms.proofs.Ways.{several_first}
 use Rattle.ops_lhs.specs.Taking.{seen}
 use Rattle.ops_forms.proofs.Walks.{fails_as, fails_under}

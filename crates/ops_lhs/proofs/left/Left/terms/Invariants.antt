@@ -1,6 +1,6 @@
 use Rattle.std.proofs.Common.{◌≡◌, List, length, ◌∷◌, ◌++◌, ◌≤◌, ◌-◌, drop}
-use Rattle.ops_meaning.specs.declared.words.Word.{Word}
-use Rattle.ops_meaning.specs.Grammar.{State, Wanted, InPattern, Terms, goes}
+use Rattle.ops_grammar.specs.declared.words.Word.{Word}
+use Rattle.ops_grammar.specs.Grammar.{State, Wanted, InPattern, Terms, goes}
 use Rattle.ops_lhs.specs.Taking.{seen}
 use Rattle.ops_lhs.proofs.left.Left.terms.Given as goal
 

@@ -1,7 +1,7 @@
 use Rattle.std.proofs.Common.{◌≡◌, List, [], ◌∷◌, ◌++◌, length, drop, Option, ◌+◌, ◌-◌, ◌*◌, ◌≤◌}
 use Rattle.ops_base.specs.Expression.{Formula}
-use Rattle.ops_meaning.specs.declared.words.Word.{Word}
-use Rattle.ops_meaning.specs.Grammar.{State, Wanted, ExpressionUnit, ExpressionRest, goes, with_formula}
+use Rattle.ops_grammar.specs.declared.words.Word.{Word}
+use Rattle.ops_grammar.specs.Grammar.{State, Wanted, ExpressionUnit, ExpressionRest, goes, with_formula}
 use Rattle.ops_rhs.specs.declared.right.Target.{Target}
 use Rattle.ops_rhs.specs.Taking.{seen, into, newest_first}
 use Rattle.ops_rhs.proofs.right.Right.+expressions.Given as goal

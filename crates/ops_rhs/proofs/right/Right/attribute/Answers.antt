@@ -2,7 +2,7 @@ use Rattle.std.proofs.Common.{◌≡◌, ◌∷◌, ◌++◌, ◌∙◌, sym, ap
 use Rattle.ops_base.specs.declared.actions.Term.{Term}
 use Rattle.ops_base.specs.declared.elements.Class.{Class}
 use Rattle.ops_base.specs.declared.endings.Fault.TheVariants as fault
-use Rattle.ops_meaning.specs.Grammar.{goes, is_name, InPut, ToPut, Terms, Several, ValueFor}
+use Rattle.ops_grammar.specs.Grammar.{goes, is_name, InPut, ToPut, Terms, Several, ValueFor}
 use Rattle.ops_forms.proofs.Walks.{goes_to_as_among, to_refused_among, goes_to_among}
 use Rattle.ops_forms.proofs.Ways.{attribute_unknown, attribute_several, attribute_one}
 use Rattle.ops_rhs.specs.Taking.{seen, IsAround}

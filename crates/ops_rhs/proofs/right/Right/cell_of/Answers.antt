@@ -1,5 +1,5 @@
 use Rattle.std.proofs.Common.{◌≡◌, ◌∙◌, sym, ap, rules}
-use Rattle.ops_meaning.specs.Grammar.{natural_of}
+use Rattle.ops_grammar.specs.Grammar.{natural_of}
 use Rattle.ops_rhs.specs.Taking.{seen, numbered_by}
 use Rattle.ops_rhs.proofs.Designated.{numbered_is}
 use Rattle.ops_rhs.proofs.right.Right.cell_of.Goals as goal

@@ -1,7 +1,7 @@
 use Rattle.std.proofs.Common.{◌≡◌, ◌==◌, ◌∙◌, sym, ap, true, None, drop, position}
 use Rattle.ops_base.specs.declared.elements.Class.{Class}
 use Rattle.ops_base.specs.declared.endings.Fault.TheVariants as fault
-use Rattle.ops_meaning.specs.Grammar.{is_name}
+use Rattle.ops_grammar.specs.Grammar.{is_name}
 use Rattle.ops_forms.proofs.Walks.{refused_among}
 use Rattle.ops_forms.proofs.Ways.{class_unknown}
 use Rattle.ops_rhs.specs.Taking.{seen, IsAround}

@@ -1,7 +1,7 @@
 use Rattle.std.proofs.Common.{◌∙◌, ◌++◌, drop, Some, sym, ap}
 use Rattle.std.proofs.lemmas.Result.{err_from_is_err_and}
 use Rattle.ops_base.specs.declared.actions.Term.TheVariants as term
-use Rattle.ops_meaning.specs.Grammar.{State, goes, no_formula}
+use Rattle.ops_grammar.specs.Grammar.{State, goes, no_formula}
 use Rattle.ops_rhs.proofs.Operands.{added}
 use Rattle.ops_rhs.proofs.right.Right.compute.Goals as goal
 

@@ -1,6 +1,6 @@
 use Rattle.std.proofs.Common.{◌∷◌, ◌++◌, ◌∙◌, drop, ap}
 use Rattle.ops_base.specs.declared.actions.Term.TheVariants as term
-use Rattle.ops_meaning.specs.Grammar.{Closes, EndsWhole, after, function, goes}
+use Rattle.ops_grammar.specs.Grammar.{Closes, EndsWhole, after, function, goes}
 use Rattle.ops_rhs.specs.Taking.{seen, target_of, IsAround}
 use Rattle.ops_rhs.proofs.Operands.{goes_anywhere, term_goes}
 use Rattle.ops_rhs.proofs.right.Right.function_from.Goals as goal

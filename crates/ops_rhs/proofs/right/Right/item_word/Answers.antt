@@ -1,5 +1,5 @@
 use Rattle.std.proofs.Common.{◌∙◌, ◌++◌, ap, drop}
-use Rattle.ops_meaning.specs.Grammar.{after, goes}
+use Rattle.ops_grammar.specs.Grammar.{after, goes}
 use Rattle.ops_forms.proofs.Walks.{goes_as_among}
 use Rattle.ops_rhs.specs.Taking.{seen, IsAround}
 use Rattle.ops_rhs.proofs.Ways.{item_first, item_otherwise}

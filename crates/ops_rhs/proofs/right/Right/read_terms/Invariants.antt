@@ -1,6 +1,6 @@
 use Rattle.std.proofs.Common.{◌≡◌, List, length, ◌∷◌, ◌++◌, ◌≤◌, ◌-◌, drop}
-use Rattle.ops_meaning.specs.declared.words.Word.{Word}
-use Rattle.ops_meaning.specs.Grammar.{State, Wanted, InPut, Terms, goes}
+use Rattle.ops_grammar.specs.declared.words.Word.{Word}
+use Rattle.ops_grammar.specs.Grammar.{State, Wanted, InPut, Terms, goes}
 use Rattle.ops_rhs.specs.Taking.{seen, IsAround}
 use Rattle.ops_rhs.proofs.right.Right.read_terms.Given as goal
 

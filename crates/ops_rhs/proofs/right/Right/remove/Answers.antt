@@ -1,6 +1,6 @@
 use Rattle.std.proofs.Common.{◌∷◌, ◌++◌, ◌∙◌, drop}
 use Rattle.std.proofs.lemmas.Result.{err_from_is_err_and}
-use Rattle.ops_meaning.specs.Grammar.{Cells, cell, goes, after}
+use Rattle.ops_grammar.specs.Grammar.{Cells, cell, goes, after}
 use Rattle.ops_forms.proofs.Ways.{cell_first}
 use Rattle.ops_forms.proofs.Walks.{fails_as_among, fails_under_among, goes_as_among}
 use Rattle.ops_rhs.specs.Taking.{seen, IsAround}

@@ -1,6 +1,6 @@
 use Rattle.std.proofs.Common.{◌∷◌, ◌++◌, ◌∙◌, sym, drop}
 use Rattle.std.proofs.lemmas.Result.{err_from_is_err_and}
-use Rattle.ops_meaning.specs.Grammar.{goes, after, InPut, Several, ToTerms, value_for}
+use Rattle.ops_grammar.specs.Grammar.{goes, after, InPut, Several, ToTerms, value_for}
 use Rattle.ops_forms.proofs.Ways.{several_first}
 use Rattle.ops_forms.proofs.Walks.{fails_as_among, fails_under_among}
 use Rattle.ops_rhs.specs.Taking.{seen, IsAround}

@@ -1,7 +1,7 @@
 use Rattle.std.proofs.Common.{◌≡◌, ◌==◌, ◌∙◌, sym, ap, true, None, Some, drop, position}
 use Rattle.ops_base.specs.declared.elements.Class.{Class}
 use Rattle.ops_base.specs.declared.endings.Fault.TheVariants as fault
-use Rattle.ops_meaning.specs.Grammar.{is_name}
+use Rattle.ops_grammar.specs.Grammar.{is_name}
 use Rattle.ops_forms.proofs.Walks.{goes_as_among, refused_among}
 use Rattle.ops_rhs.specs.Taking.{seen, target_of, source_class, IsAround}
 use Rattle.ops_rhs.proofs.Ways.{source_is, source_unknown, source_found}

@@ -1,0 +1,377 @@
+-- What holds of what was read so far, so that it has a spelling.
+use Rattle.std.proofs.Common.{◌≡◌, ℕ, suc, ◌+◌, ◌<◌, ◌≤◌, Bool, true, false, not, ◌||◌, ◌==◌, cond, List, [], ◌∷◌, ◌++◌, length, take, map, refl, sym, ap, ◌∙◌, arith, Option, Some, None, nat_lt, true≢false}
+use Rattle.std.specs.List.{list_all, All}
+use Rattle.std.proofs.lemmas.Bool.{and_parts, and_from, or_left, or_right, eq-eqb, ltb-true, lt-ltb, cond_both}
+use Rattle.ops_base.specs.declared.values.Sym.{Sym}
+use Rattle.ops_base.specs.declared.values.Pred.{Pred}
+use Rattle.ops_base.specs.declared.elements.Class.{Class}
+use Rattle.ops_base.specs.declared.conditions.Test.{Test}
+use Rattle.ops_base.specs.declared.conditions.Condition.{Condition}
+use Rattle.ops_base.specs.declared.actions.Action.{Action}
+use Rattle.ops_base.specs.declared.rules.Rule.{Rule}
+use Rattle.ops_base.specs.declared.commands.Command.{Command}
+use Rattle.ops_base.specs.Valid.{most_fields, most_conditions, is_in, class_of, is_attribute, is_vector, is_field, is_natural, first_is_positive, cells_of, fixed_is_valid}
+use Rattle.ops_grammar.specs.declared.words.Named.{Named}
+use Rattle.ops_grammar.specs.Grammar.{Use, InPattern, InPut, InFixed, Target, ToTest, ToPut, ToFixed, ToTerms, ToConstants, ToItem, ToBind, EndsHalt, EndsCrlf, EndsCs, EndsExit, EndsWhole, Column, TagUse, NameUse, ToPrint, Wanted, Forms, Form, ClassDeclared, Attributes, VectorName, VectorNames, RuleName, FirstPattern, Patterns, Pattern, Braced, ElementName, ClosesBrace, ClassName, Terms, Attribute, Several, Place, Tests, Tested, Choice, Atom, ValueFor, Function, Waiting, ExpressionUnit, ExpressionRest, Bracketed, SourceCell, SourceAttribute, SourceEnd, Actions, ActionWord, Modified, BoundName, BoundValue, CellName, Cell, Cells, Items, ItemWord, Columns, Count, StrategyName, TagOrAll, Tags, Shown, NamedRule, NamedRules, Level, Closes, State, Step, Next, Refuses, number_of, renumbered, precedes_classes, is_of_action, most_brackets, function_depth, classes_of_cells, source_class}
+use Rattle.ops_grammar.specs.Spelling.{Numbered, nothing_numbered, test_is_plain, after_test, tests_are_plain, after_tests, after_condition, condition_is_plain, conditions_are_plain, after_conditions, InSight, at_arrow, class_of_cell, after_action, after_actions, term_is_plain, put_is_plain, item_is_plain, action_is_plain, actions_are_plain, rule_is_plain, command_is_plain}
+use Rattle.ops_grammar.proofs.Lists.{all_weaker}
+use Rattle.ops_grammar.proofs.Sound.{Braces, behind, behind_pattern, HasTags, HasNames}
+use Rattle.ops_grammar.proofs.PlainClasses.{IsArranged, IsAttributes}
+use Rattle.ops_grammar.proofs.PlainFormulas.{IsOperand, AreOperands, AreOpen}
+
+-- the forms that were read
+pub record IsBase (vectors : List Sym) (classes : List Class) (rules : List Rule) (commands : List Command) : Type 0 where
+  pub arranged : All (IsArranged vectors) classes
+  pub rules_plain : list_all (rule_is_plain classes) rules ≡ true
+  pub commands_plain : list_all (command_is_plain classes) commands ≡ true
+
+-- the numbers of these variables
+abbrev pub numbers_in : List Named → List ℕ
+numbers_in values = map (λ v. v.number) values
+
+-- these variables are in sight, and so many were given
+abbrev pub numbered_in : List Named → ℕ → Numbered
+numbered_in values variables = record { sight = numbers_in values; given = variables }
+
+-- the left side of a rule up to some tests of a condition
+pub record IsLeft (classes : List Class) (values elements : List Named) (variables : ℕ) (negated : Bool) (around : ℕ) (conditions : List Condition) (tests : List Test) : Type 0 where
+  pub plain : conditions_are_plain classes nothing_numbered conditions ≡ true
+  pub count : after_tests (after_conditions nothing_numbered conditions) tests ≡ numbered_in values variables
+  pub within : negated ≡ true → around ≤ length values
+  pub sight : negated ≡ true → numbers_in (take around values) ≡ (after_conditions nothing_numbered conditions).sight
+  pub cells : list_all (λ e. nat_lt e.number (length (cells_of conditions))) elements ≡ true
+
+-- the class of an element that was made, where one was
+abbrev pub made_is_class : List Class → Option ℕ → Bool
+made_is_class classes None = true
+made_is_class classes (Some class) = nat_lt class (length classes)
+
+-- a rule up to some actions, behind which so much is in sight
+pub record IsRight (classes : List Class) (conditions : List Condition) (k : InSight) (elements : List Named) (actions : List Action) : Type 0 where
+  pub positive : first_is_positive conditions ≡ true
+  pub few : length conditions ≤ most_conditions
+  pub left : conditions_are_plain classes nothing_numbered conditions ≡ true
+  pub plain : actions_are_plain classes (at_arrow conditions) actions ≡ true
+  pub sight : after_actions (at_arrow conditions) actions ≡ k
+  pub named : list_all (λ e. nat_lt e.number (length k.cells)) elements ≡ true
+  pub cells : list_all (λ c. nat_lt c (length classes)) k.cells ≡ true
+  pub made : made_is_class classes k.made ≡ true
+
+-- the first condition is positive, where this one stands behind those
+abbrev pub begins_positive : List Condition → Bool → Bool
+begins_positive [] negated = not negated
+begins_positive (c ∷ cs) negated = not c.negated
+
+abbrev pub Base : State → Type 0
+Base s = IsBase s.vectors s.classes s.rules s.commands
+
+abbrev pub Left : State → Type 0
+Left s = IsLeft s.classes s.values s.elements s.variables s.negated s.around s.conditions s.tests
+
+-- what is in sight in a right side
+abbrev pub in_sight : State → InSight
+in_sight s = record { variables = numbered_in s.values s.variables; cells = classes_of_cells s; made = s.made }
+
+abbrev pub Right : State → Type 0
+Right s = IsRight s.classes s.conditions (in_sight s) s.elements s.actions
+
+-- nothing was read that looks at the classes
+abbrev pub Declaring : State → Type 0
+Declaring s = Base s × (length s.rules ≡ 0) × (list_all precedes_classes s.commands ≡ true)
+
+abbrev pub Around : Use → State → Type 0
+Around InPattern s = Base s × Left s × (length s.conditions < most_conditions) × (begins_positive s.conditions s.negated ≡ true)
+Around InPut s = Base s × Right s
+Around InFixed s = Base s
+
+-- no attribute of an element was read, and of an action none but a `make`
+abbrev pub IsBegun : Use → State → Type 0
+IsBegun InPattern s = s.tests ≡ []
+IsBegun InPut s = (s.puts ≡ []) × (s.modified ≡ None)
+IsBegun InFixed s = s.fixed ≡ []
+
+-- the class of a `modify` is that of its cell
+abbrev pub IsOfCell : Option ℕ → InSight → ℕ → Type 0
+IsOfCell None k class = Unit {0}
+IsOfCell (Some cell) k class = (cell < length k.cells) × (class ≡ class_of_cell k cell)
+
+abbrev pub HasFields : Use → State → Type 0
+HasFields InPattern s = tests_are_plain (class_of s.classes s.class) (after_conditions nothing_numbered s.conditions) s.tests ≡ true
+HasFields InPut s = (list_all (put_is_plain s.classes (in_sight s) (class_of s.classes s.class)) s.puts ≡ true) × IsOfCell s.modified (in_sight s) s.class
+HasFields InFixed s = list_all (fixed_is_valid (class_of s.classes s.class)) s.fixed ≡ true
+
+pub record IsElement (u : Use) (s : State) : Type 0 where
+  pub around : Around u s
+  pub class : s.class < length s.classes
+  pub fields : HasFields u s
+
+abbrev pub HasCells : State → Type 0
+HasCells s = Base s × Right s × (list_all (λ c. nat_lt c (length (classes_of_cells s))) s.cells ≡ true)
+
+abbrev pub HasItems : State → Type 0
+HasItems s = Base s × Right s × (list_all (item_is_plain s.classes (in_sight s)) s.items ≡ true)
+
+-- the conditions of a rule up to the last of them
+abbrev pub Conditions : State → Type 0
+Conditions s =
+    Base s × Left s × (s.tests ≡ []) × (first_is_positive s.conditions ≡ true) × (length s.conditions ≤ most_conditions) × (s.negated ≡ false)
+
+-- a command up to its next tag, or to its next name
+abbrev pub AtTags : TagUse → State → Type 0
+AtTags u s = Base s × (list_all is_natural s.tags ≡ true) × HasTags u s.tags
+
+abbrev pub AtNames : NameUse → State → Type 0
+AtNames u s = Base s × HasNames u s.named
+
+-- an attribute of the element's class
+abbrev pub HasAttribute : State → ℕ → Type 0
+HasAttribute s f = is_attribute (class_of s.classes s.class) f ≡ true
+
+-- the vector attribute of the element's class
+abbrev pub IsVector : State → ℕ → Bool → Type 0
+IsVector s f b = is_vector (class_of s.classes s.class) f ≡ b
+
+-- a scalar attribute, or a place of the vector attribute
+abbrev pub HasField : State → ℕ → Type 0
+HasField s f = is_field (class_of s.classes s.class) f ≡ true
+
+-- a place more of the vector attribute may come
+abbrev pub HasMore : Option ℕ → State → Type 0
+HasMore None s = Unit {0}
+HasMore (Some f) s = (class_of s.classes s.class).vector ≡ true
+
+-- up to some of the places or values of the vector attribute
+abbrev pub HasSeveral : Use → ℕ → State → Type 0
+HasSeveral InPattern f s = IsElement InPattern s × HasMore (Some f) s
+HasSeveral InPut f s = IsElement InPut s × HasAttribute s f × IsVector s f true × (list_all (term_is_plain s.classes (in_sight s) true) s.terms ≡ true)
+HasSeveral InFixed f s = IsElement InFixed s × HasAttribute s f × IsVector s f true × (f + length s.constants ≤ most_fields)
+
+-- Where a test or a value stands: in an element in these braces, with this place of the vector attribute behind it, or none, and
+-- in a conjunction or alone; or among the values of the vector attribute, which is this field.
+pub record Spot : Type 0 where
+  pub braces : Braces
+  pub more : Option ℕ
+  pub among : Bool
+  pub vector : ℕ
+
+-- a place of a pattern, with another one behind it or none
+abbrev pub HasPlace : Option ℕ → ℕ → State → Type 0
+HasPlace more f s = IsElement InPattern s × HasField s f × HasMore more s
+
+-- where a constant goes
+abbrev pub HasTarget : Spot → Target → State → Type 0
+HasTarget p (ToTest f q) s = HasPlace p.more f s
+HasTarget p (ToPut f) s = IsElement InPut s × HasAttribute s f
+HasTarget p (ToFixed f) s = IsElement InFixed s × HasAttribute s f × IsVector s f false
+HasTarget p ToTerms s = HasSeveral InPut p.vector s
+HasTarget p ToConstants s = HasSeveral InFixed p.vector s × (p.vector + length s.constants < most_fields)
+HasTarget p ToItem s = HasItems s
+HasTarget p ToBind s = Base s × Right s
+
+-- the cell of a `substr` that is read
+abbrev pub IsSource : State → Type 0
+IsSource s = s.source < length (classes_of_cells s)
+
+-- what is wanted behind a place: another attribute, or another place of the vector attribute
+abbrev pub behind_place : Braces → Option ℕ → List Wanted
+behind_place b None = Terms InPattern ∷ behind b InPattern
+behind_place b (Some f) = Several InPattern f ∷ behind b InPattern
+
+-- what is wanted behind a test: more of the conjunction that it stands in, or what is wanted behind its place
+abbrev pub behind_test : Braces → Option ℕ → Bool → ℕ → List Wanted
+behind_test b more true f = Tests f ∷ behind_place b more
+behind_test b more false f = behind_place b more
+
+-- what is wanted after a constant
+abbrev pub behind_target : Spot → Target → List Wanted
+behind_target p (ToTest f q) = behind_test p.braces p.more p.among f
+behind_target p (ToPut f) = Terms InPut ∷ behind p.braces InPut
+behind_target p (ToFixed f) = Terms InFixed ∷ behind p.braces InFixed
+behind_target p ToTerms = Several InPut p.vector ∷ behind p.braces InPut
+behind_target p ToConstants = Several InFixed p.vector ∷ behind p.braces InFixed
+behind_target p ToItem = Items ∷ Actions ∷ Forms ∷ []
+behind_target p ToBind = Closes EndsWhole ∷ Actions ∷ Forms ∷ []
+
+-- what may be wanted, and what then holds
+pub data IsPlainly (s : State) : List Wanted → Type 0 where
+  at_forms : Base s → IsPlainly s (Forms ∷ [])
+  at_form : Base s → IsPlainly s (Form ∷ Forms ∷ [])
+  at_class_declared : Declaring s → IsPlainly s (ClassDeclared ∷ Attributes ∷ Forms ∷ [])
+  at_attributes : Declaring s × IsAttributes s.vectors s.attrs → IsPlainly s (Attributes ∷ Forms ∷ [])
+  at_vector_name : Declaring s → IsPlainly s (VectorName ∷ VectorNames ∷ Forms ∷ [])
+  at_vector_names : Declaring s → IsPlainly s (VectorNames ∷ Forms ∷ [])
+  at_rule_name : Base s → IsPlainly s (RuleName ∷ FirstPattern ∷ Patterns ∷ Actions ∷ Forms ∷ [])
+  at_first_pattern : Base s × Left s × (s.tests ≡ []) × (length s.conditions ≡ 0) × (s.negated ≡ false) → IsPlainly s (FirstPattern ∷ Patterns ∷ Actions ∷ Forms ∷ [])
+  at_patterns : Conditions s → IsPlainly s (Patterns ∷ Actions ∷ Forms ∷ [])
+  at_pattern : (b : Braces) → Around InPattern s × (s.tests ≡ []) → IsPlainly s (Pattern ∷ behind_pattern b)
+  at_braced : Around InPattern s × (s.tests ≡ []) → IsPlainly s (Braced ∷ Patterns ∷ Actions ∷ Forms ∷ [])
+  at_element_name : Conditions s → IsPlainly s (ElementName ∷ ClosesBrace ∷ Patterns ∷ Actions ∷ Forms ∷ [])
+  at_closes_brace : Conditions s → IsPlainly s (ClosesBrace ∷ Patterns ∷ Actions ∷ Forms ∷ [])
+  at_class_name : (b : Braces) → (u : Use) → Around u s × IsBegun u s → IsPlainly s (ClassName ∷ Terms u ∷ behind b u)
+  at_terms : (b : Braces) → (u : Use) → IsElement u s → IsPlainly s (Terms u ∷ behind b u)
+  at_attribute : (b : Braces) → (u : Use) → IsElement u s → IsPlainly s (Attribute u ∷ behind b u)
+  at_several : (b : Braces) → (u : Use) → (f : ℕ) → HasSeveral u f s → IsPlainly s (Several u f ∷ behind b u)
+  at_place : (b : Braces) → (more : Option ℕ) → (f : ℕ) → HasPlace more f s → IsPlainly s (Place f ∷ behind_place b more)
+  at_tests : (b : Braces) → (more : Option ℕ) → (f : ℕ) → HasPlace more f s → IsPlainly s (Tests f ∷ behind_place b more)
+  at_tested : (p : Spot) → (f : ℕ) → (q : Pred) → HasPlace p.more f s → IsPlainly s (Tested f q ∷ behind_test p.braces p.more p.among f)
+  at_choice : (p : Spot) → (f : ℕ) → HasPlace p.more f s → IsPlainly s (Choice f ∷ behind_test p.braces p.more p.among f)
+  at_atom : (p : Spot) → (t : Target) → HasTarget p t s → IsPlainly s (Atom t ∷ behind_target p t)
+  at_value : (p : Spot) → (t : Target) → HasTarget p t s → IsPlainly s (ValueFor t ∷ behind_target p t)
+  at_function : (p : Spot) → (t : Target) → HasTarget p t s → is_of_action t ≡ true → IsPlainly s (Function t ∷ behind_target p t)
+  at_expression_unit : (p : Spot) → (t : Target) → (d : ℕ) → (ws : List Wanted) → HasTarget p t s → is_of_action t ≡ true → AreOpen (numbers_in s.values) t (behind_target p t) d ws → IsPlainly s (ExpressionUnit d ∷ ws)
+  at_last_rest : (p : Spot) → (t : Target) → (waiting : List Waiting) → HasTarget p t s → is_of_action t ≡ true → IsOperand (numbers_in s.values) function_depth true s.formula → AreOperands (numbers_in s.values) function_depth waiting
+      → IsPlainly s (ExpressionRest function_depth waiting (Some t) ∷ behind_target p t)
+  at_bracketed_rest : (p : Spot) → (t : Target) → (d : ℕ) → (waiting : List Waiting) → (ws : List Wanted) → HasTarget p t s → is_of_action t ≡ true → IsOperand (numbers_in s.values) (suc d) true s.formula → nat_lt d most_brackets ≡ true
+      → AreOperands (numbers_in s.values) (suc d) waiting → AreOpen (numbers_in s.values) t (behind_target p t) d ws → IsPlainly s (ExpressionRest (suc d) waiting None ∷ ws)
+  at_bracketed : (p : Spot) → (t : Target) → (d : ℕ) → (ws : List Wanted) → HasTarget p t s → is_of_action t ≡ true → nat_lt d most_brackets ≡ true → AreOpen (numbers_in s.values) t (behind_target p t) d ws
+      → IsPlainly s (Bracketed (suc d) ∷ ws)
+  at_source_cell : (p : Spot) → (t : Target) → HasTarget p t s → is_of_action t ≡ true → IsPlainly s (SourceCell ∷ SourceAttribute t ∷ behind_target p t)
+  at_source_attribute : (p : Spot) → (t : Target) → HasTarget p t s → is_of_action t ≡ true → IsSource s → IsPlainly s (SourceAttribute t ∷ behind_target p t)
+  at_source_end : (p : Spot) → (t : Target) → (name : Sym) → HasTarget p t s → is_of_action t ≡ true → IsSource s → is_attribute (source_class s) s.source_field ≡ true
+      → IsPlainly s (SourceEnd t name ∷ Closes EndsWhole ∷ behind_target p t)
+  at_actions : Base s × Right s → IsPlainly s (Actions ∷ Forms ∷ [])
+  at_action_word : Base s × Right s → IsPlainly s (ActionWord ∷ Actions ∷ Forms ∷ [])
+  at_modified : Base s × Right s × (s.puts ≡ []) → IsPlainly s (Modified ∷ Terms InPut ∷ Actions ∷ Forms ∷ [])
+  at_bound_name : Base s × Right s → IsPlainly s (BoundName ∷ BoundValue ∷ Actions ∷ Forms ∷ [])
+  at_bound_value : Base s × Right s → IsPlainly s (BoundValue ∷ Actions ∷ Forms ∷ [])
+  at_cell_name : Base s × Right s → IsPlainly s (CellName ∷ Closes EndsWhole ∷ Actions ∷ Forms ∷ [])
+  at_cell : HasCells s → IsPlainly s (Cell ∷ Cells ∷ Actions ∷ Forms ∷ [])
+  at_cells : HasCells s × (0 < length s.cells) → IsPlainly s (Cells ∷ Actions ∷ Forms ∷ [])
+  at_items : HasItems s → IsPlainly s (Items ∷ Actions ∷ Forms ∷ [])
+  at_item_word : HasItems s → IsPlainly s (ItemWord ∷ Items ∷ Actions ∷ Forms ∷ [])
+  at_columns : (c : Column) → HasItems s → IsPlainly s (Columns c ∷ Closes EndsWhole ∷ Items ∷ Actions ∷ Forms ∷ [])
+  at_whole : (ws : List Wanted) → IsPlainly s ws → IsPlainly s (Closes EndsWhole ∷ ws)
+  at_crlf : HasItems s → IsPlainly s (Closes EndsCrlf ∷ Items ∷ Actions ∷ Forms ∷ [])
+  at_halt : Base s × Right s → IsPlainly s (Closes EndsHalt ∷ Actions ∷ Forms ∷ [])
+  at_count : Base s → IsPlainly s (Count ∷ Forms ∷ [])
+  at_strategy_name : Base s → IsPlainly s (StrategyName ∷ Forms ∷ [])
+  at_tag_or_all : Base s × (s.tags ≡ []) → IsPlainly s (TagOrAll ∷ Forms ∷ [])
+  at_tags : (u : TagUse) → AtTags u s → IsPlainly s (Tags u ∷ Forms ∷ [])
+  at_shown : Base s → IsPlainly s (Shown ∷ Forms ∷ [])
+  at_named_rule : Base s → IsPlainly s (NamedRule ∷ NamedRules ToPrint ∷ Forms ∷ [])
+  at_named_rules : (u : NameUse) → AtNames u s → IsPlainly s (NamedRules u ∷ Forms ∷ [])
+  at_level : Base s → IsPlainly s (Level ∷ Forms ∷ [])
+  at_cs : Base s → IsPlainly s (Closes EndsCs ∷ Forms ∷ [])
+  at_exit : Base s → IsPlainly s (Closes EndsExit ∷ Forms ∷ [])
+
+abbrev pub Keeps : Step → Type 0
+Keeps (Next ws s) = IsPlainly s ws
+Keeps (Refuses f) = Unit {0}
+
+-- ---- one more part at the end
+
+pub after_tests-push : (ts : List Test) (k : Numbered) (t : Test) → after_tests k (ts ++ t ∷ []) ≡ after_test (after_tests k ts) t
+after_tests-push [] k t = refl
+after_tests-push (x ∷ ts) k t = after_tests-push ts (after_test k x) t
+
+pub tests_push : (c : Class) (ts : List Test) (k : Numbered) (t : Test) → tests_are_plain c k ts ≡ true → test_is_plain c (after_tests k ts) t ≡ true → tests_are_plain c k (ts ++ t ∷ []) ≡ true
+tests_push c [] k t h e = and_from _ _ e refl
+tests_push c (x ∷ ts) k t h e =
+    let each = and_parts (test_is_plain c k x) (tests_are_plain c (after_test k x) ts) h in and_from _ _ each.0 (tests_push c ts (after_test k x) t each.1 e)
+
+pub after_conditions-push : (cs : List Condition) (k : Numbered) (c : Condition) → after_conditions k (cs ++ c ∷ []) ≡ after_condition (after_conditions k cs) c
+after_conditions-push [] k c = refl
+after_conditions-push (x ∷ cs) k c = after_conditions-push cs (after_condition k x) c
+
+pub conditions_push : (classes : List Class) (cs : List Condition) (k : Numbered) (c : Condition) → conditions_are_plain classes k cs ≡ true → condition_is_plain classes (after_conditions k cs) c ≡ true → conditions_are_plain classes k (cs ++ c ∷ []) ≡ true
+conditions_push classes [] k c h e = and_from _ _ e refl
+conditions_push classes (x ∷ cs) k c h e =
+    let each = and_parts (condition_is_plain classes k x) (conditions_are_plain classes (after_condition k x) cs) h in
+    and_from _ _ each.0 (conditions_push classes cs (after_condition k x) c each.1 e)
+
+pub after_actions-push : (xs : List Action) (k : InSight) (a : Action) → after_actions k (xs ++ a ∷ []) ≡ after_action (after_actions k xs) a
+after_actions-push [] k a = refl
+after_actions-push (x ∷ xs) k a = after_actions-push xs (after_action k x) a
+
+pub actions_push : (classes : List Class) (xs : List Action) (k : InSight) (a : Action) → actions_are_plain classes k xs ≡ true → action_is_plain classes (after_actions k xs) a ≡ true → actions_are_plain classes k (xs ++ a ∷ []) ≡ true
+actions_push classes [] k a h e = and_from _ _ e refl
+actions_push classes (x ∷ xs) k a h e =
+    let each = and_parts (action_is_plain classes k x) (actions_are_plain classes (after_action k x) xs) h in
+    and_from _ _ each.0 (actions_push classes xs (after_action k x) a each.1 e)
+
+-- what is in sight behind a condition
+pub condition_counted : (b : Bool) (around : ℕ) (k after : Numbered) (values : List Named) (variables : ℕ) → after ≡ numbered_in values variables → (b ≡ true → numbers_in (take around values) ≡ k.sight)
+    → cond b (record { sight = k.sight; given = after.given }) after ≡ numbered_in (cond b (take around values) values) variables
+condition_counted false around k after values variables count sight = count
+condition_counted true around k after values variables count sight =
+    ap (λ (ns : List ℕ). let n : Numbered = record { sight = ns; given = after.given } in n) (sym (sight refl)) ∙ ap (λ (m : Numbered). numbered_in (take around values) m.given) count
+
+-- ---- the first condition
+
+pub begun_positive : (cs : List Condition) (c : Condition) → begins_positive cs c.negated ≡ true → first_is_positive (cs ++ c ∷ []) ≡ true
+begun_positive [] c h = h
+begun_positive (x ∷ cs) c h = h
+
+pub begins_first : (cs : List Condition) (b : Bool) → length cs ≡ 0 → b ≡ false → begins_positive cs b ≡ true
+begins_first [] b none e = ap not e
+begins_first (x ∷ cs) b none e = absurd (omega (arith, none))
+
+pub begins_behind : (cs : List Condition) (b : Bool) → first_is_positive cs ≡ true → begins_positive cs b ≡ true
+begins_behind [] b h = absurd (true≢false (sym h))
+begins_behind (x ∷ cs) b h = h
+
+-- ---- the number of a variable
+
+number_by : (b : Bool) (m n : ℕ) (rest : Option ℕ) (ns : List ℕ) → cond b (Some m) rest ≡ Some n → (rest ≡ Some n → is_in n ns ≡ true) → ((m == n) || is_in n ns) ≡ true
+number_by true m n rest ns e ih = or_left _ _ (eq-eqb m n (cc))
+number_by false m n rest ns e ih = or_right _ _ (ih e)
+
+pub number_sighted : (name : Sym) (values : List Named) (n : ℕ) → number_of name values ≡ Some n → is_in n (numbers_in values) ≡ true
+number_sighted name [] n e = absurd (cc)
+number_sighted name (v ∷ vs) n e = number_by (v.name.0 == name.0) v.number n (number_of name vs) (numbers_in vs) e (number_sighted name vs n)
+
+-- ---- cells
+
+cells_by : (b : Bool) (c : ℕ) (xs ys : List ℕ) → length xs ≤ length ys → length (cond b xs (c ∷ xs)) ≤ length (cond b ys (c ∷ ys))
+cells_by true c xs ys le = le
+cells_by false c xs ys le = omega (arith, le)
+
+-- a condition more takes no cell away
+pub cells_more : (cs : List Condition) (c : Condition) → length (cells_of cs) ≤ length (cells_of (cs ++ c ∷ []))
+cells_more [] c = omega arith
+cells_more (x ∷ cs) c = cells_by x.negated x.class (cells_of cs) (cells_of (cs ++ c ∷ [])) (cells_more cs c)
+
+-- the first condition has a cell
+pub some_cell : (cs : List Condition) → first_is_positive cs ≡ true → 0 < length (cells_of cs)
+some_cell [] h = absurd (true≢false (sym h))
+some_cell (c ∷ cs) h = cond_both c.negated _ _ (λ (ns : List ℕ). 0 < length ns) (λ is. absurd (true≢false (sym h ∙ ap not is))) (λ _. omega arith)
+
+numbers_below : (b : Bool) (m n k : ℕ) (rest : Option ℕ) → cond b (Some m) rest ≡ Some n → nat_lt m k ≡ true → (rest ≡ Some n → nat_lt n k ≡ true) → nat_lt n k ≡ true
+numbers_below true m n k rest e lt ih = let same : m ≡ n = cc in ap (λ (i : ℕ). nat_lt i k) (sym same) ∙ lt
+numbers_below false m n k rest e lt ih = ih e
+
+-- an element variable names a cell
+pub number_below : (name : Sym) (elements : List Named) (n k : ℕ) → list_all (λ e. nat_lt e.number k) elements ≡ true → number_of name elements ≡ Some n → nat_lt n k ≡ true
+number_below name [] n k h e = absurd (cc)
+number_below name (v ∷ vs) n k h e =
+    let parts = and_parts (nat_lt v.number k) (list_all (λ e. nat_lt e.number k) vs) h in
+    numbers_below (v.name.0 == name.0) v.number n k (number_of name vs) e parts.0 (number_below name vs n k parts.1)
+
+-- and one of a number that is no less
+pub below_more : (elements : List Named) (m n : ℕ) → m ≤ n → list_all (λ e. nat_lt e.number m) elements ≡ true → list_all (λ e. nat_lt e.number n) elements ≡ true
+below_more elements m n le h =
+    all_weaker (λ e. nat_lt e.number m) (λ e. nat_lt e.number n) elements (λ e lt. let below : e.number < m = ltb-true e.number m lt in lt-ltb e.number n (omega (arith, below, le))) h
+
+renumbered_by : (b : Bool) (v : Named) (vs rest : List Named) (n k : ℕ) → nat_lt v.number k ≡ true → list_all (λ e. nat_lt e.number k) vs ≡ true → list_all (λ e. nat_lt e.number k) rest ≡ true → nat_lt n k ≡ true
+    → list_all (λ e. nat_lt e.number k) (cond b (record v { number = n } ∷ vs) (v ∷ rest)) ≡ true
+renumbered_by true v vs rest n k first h e lt = and_from _ _ lt h
+renumbered_by false v vs rest n k first h e lt = and_from _ _ first e
+
+-- and one that is named anew
+pub renumbered_below : (name : Sym) (n k : ℕ) (elements : List Named) → nat_lt n k ≡ true → list_all (λ e. nat_lt e.number k) elements ≡ true → list_all (λ e. nat_lt e.number k) (renumbered name n elements) ≡ true
+renumbered_below name n k [] lt h = and_from _ _ lt refl
+renumbered_below name n k (v ∷ vs) lt h =
+    let parts = and_parts (nat_lt v.number k) (list_all (λ e. nat_lt e.number k) vs) h in
+    renumbered_by (v.name.0 == name.0) v vs (renumbered name n vs) n k parts.0 parts.1 (renumbered_below name n k vs lt parts.1) lt
+
+-- the cells of conditions have classes
+cells_are_by : (b : Bool) (classes : List Class) (class : ℕ) (xs : List ℕ) → nat_lt class (length classes) ≡ true → list_all (λ c. nat_lt c (length classes)) xs ≡ true → list_all (λ c. nat_lt c (length classes)) (cond b xs (class ∷ xs)) ≡ true
+cells_are_by true classes class xs lt h = h
+cells_are_by false classes class xs lt h = and_from _ _ lt h
+
+pub cells_are : (classes : List Class) (cs : List Condition) (k : Numbered) → conditions_are_plain classes k cs ≡ true → list_all (λ c. nat_lt c (length classes)) (cells_of cs) ≡ true
+cells_are classes [] k h = refl
+cells_are classes (c ∷ cs) k h =
+    let each = and_parts (condition_is_plain classes k c) (conditions_are_plain classes (after_condition k c) cs) h in
+    let here = and_parts (nat_lt c.class (length classes)) (tests_are_plain (class_of classes c.class) k c.tests) each.0 in
+    cells_are_by c.negated classes c.class (cells_of cs) here.0 (cells_are classes cs (after_condition k c) each.1)

@@ -1,0 +1,332 @@
+-- What is read keeps its spelling where one more part of it stands at the end.
+use Rattle.std.proofs.Common.{◌≡◌, ℕ, suc, ◌+◌, ◌-◌, ◌<◌, ◌≤◌, nat_lt, Bool, true, false, true≢false, ◌&&◌, List, [], ◌∷◌, ◌++◌, length, refl, sym, ap, subst, ◌∙◌, arith, Option, Some, None, unwrap_or, append-nil, append_assoc, length-append}
+use Rattle.std.specs.Prelude.{is_some}
+use Rattle.std.specs.List.{list_all}
+use Rattle.std.proofs.lemmas.Bool.{and_from, and_parts, or_left, or_right, cond-true, cond-false, eq-eqb, le-leb, lt-ltb, ltb-true}
+use Rattle.std.proofs.lemmas.List.Elements.{All-get_or}
+use Rattle.std.proofs.lemmas.Option.{unwrap_or-slice_get}
+use Rattle.std.proofs.lemmas.List.{map-append, take-append-le, take_all}
+use Rattle.ops_base.specs.declared.values.Sym.{Sym}
+use Rattle.ops_base.specs.declared.values.Value.{Value}
+use Rattle.ops_base.specs.declared.values.Pred.{Pred}
+use Rattle.ops_base.specs.declared.values.Pred.TheVariants as pred
+use Rattle.ops_base.specs.declared.elements.Class.{Class}
+use Rattle.ops_base.specs.declared.conditions.Operand.{Operand}
+use Rattle.ops_base.specs.declared.conditions.Operand.TheVariants as operand
+use Rattle.ops_base.specs.declared.conditions.Test.{Test}
+use Rattle.ops_base.specs.declared.actions.Term.{Term}
+use Rattle.ops_base.specs.declared.actions.Term.TheVariants as term
+use Rattle.ops_base.specs.declared.conditions.Condition.{Condition}
+use Rattle.ops_base.specs.declared.actions.Action.{Action}
+use Rattle.ops_base.specs.declared.actions.Action.TheVariants as action
+use Rattle.ops_base.specs.declared.commands.Command.{Command}
+use Rattle.ops_base.specs.declared.commands.Command.TheVariants as command
+use Rattle.ops_base.specs.Valid.{most_fields, most_conditions, no_class, class_of, is_vector, is_in, first_is_positive, cells_of, specificity, fixed_is_valid}
+use Rattle.ops_grammar.specs.declared.words.Named.{Named}
+use Rattle.ops_grammar.specs.Grammar.{InPattern, InPut, InFixed, Use, State, number_of, precedes_classes, with_test, with_put, with_fixed, with_bound, with_bind, with_several, with_bound_element, classes_of_cells, put_action, with_element, with_cell, with_rule, left_ended, right_begun}
+use Rattle.ops_grammar.specs.Spelling.{Numbered, nothing_numbered, operand_is_plain, after_test, after_tests, after_conditions, InSight, at_arrow, after_action, term_is_plain, put_is_plain, action_is_plain, rule_is_plain, command_is_plain}
+use Rattle.ops_grammar.proofs.Lists.{all_push}
+use Rattle.ops_grammar.proofs.Numbering.{are_given, next_apart, after_conditions-given, after_actions-given}
+use Rattle.ops_grammar.proofs.PlainClasses.{IsArranged}
+use Rattle.ops_grammar.proofs.Plain.{numbers_in, numbered_in, made_is_class, in_sight, IsBase, IsRight, Base, Left, Right, Conditions, IsOfCell, IsElement, HasAttribute, IsVector, HasField, HasSeveral, after_tests-push, tests_push, after_actions-push, actions_push, number_sighted, some_cell, below_more, renumbered_below, cells_are}
+
+pub command_kept : (s : State) (c : Command) → Base s → command_is_plain s.classes c ≡ true → IsBase s.vectors s.classes s.rules (s.commands ++ c ∷ [])
+command_kept s c g plain = record { arranged = g.arranged; rules_plain = g.rules_plain; commands_plain = all_push (command_is_plain s.classes) s.commands c g.commands_plain plain }
+
+-- A command before declarations looks at no class.
+command_still : (classes more : List Class) (c : Command) → precedes_classes c ≡ true → command_is_plain classes c ≡ true → command_is_plain more c ≡ true
+command_still classes more (command.Make class puts) before plain = absurd (true≢false (sym before))
+command_still classes more (command.Run count) before plain = absurd (true≢false (sym before))
+command_still classes more (command.Ppwm pattern) before plain = absurd (true≢false (sym before))
+command_still classes more (command.Remove tags) before plain = plain
+command_still classes more (command.Wm tags) before plain = plain
+command_still classes more (command.Pm names) before plain = plain
+command_still classes more (command.Watch None) before plain = refl
+command_still classes more (command.Watch (Some n)) before plain = plain
+command_still classes more _ before plain = refl
+
+pub commands_still : (classes more : List Class) (cs : List Command) → list_all precedes_classes cs ≡ true → list_all (command_is_plain classes) cs ≡ true → list_all (command_is_plain more) cs ≡ true
+commands_still classes more [] before plain = refl
+commands_still classes more (c ∷ cs) before plain =
+    let b = and_parts (precedes_classes c) (list_all precedes_classes cs) before in
+    let p = and_parts (command_is_plain classes c) (list_all (command_is_plain classes) cs) plain in
+    and_from _ _ (command_still classes more c b.0 p.0) (commands_still classes more cs b.1 p.1)
+
+-- ---- left sides
+
+pub test_kept : (s : State) (f : ℕ) (p : Pred) (o : Operand) → IsElement InPattern s → HasField s f → operand_is_plain (numbered_in s.values s.variables) p false o ≡ true → IsElement InPattern (with_test s f p o false)
+test_kept s f p o g a plain =
+    let left = g.around.1 in
+    let t : Test = record { field = f; pred = p; operand = o; binds = false } in
+    record {
+      around = (
+        g.around.0,
+        record { plain = left.plain; count = after_tests-push s.tests (after_conditions nothing_numbered s.conditions) t ∙ left.count; within = left.within; sight = left.sight; cells = left.cells },
+        g.around.2,
+        g.around.3,
+      );
+      class = g.class;
+      fields = tests_push (class_of s.classes s.class) s.tests (after_conditions nothing_numbered s.conditions) t g.fields
+          (and_from _ _ a (subst (λ (k : Numbered). operand_is_plain k p false o ≡ true) (sym left.count) plain));
+    }
+
+bound_counted : (s : State) (f : ℕ) (name : Sym) → Left s → after_tests (after_conditions nothing_numbered s.conditions) (s.tests ++ record { field = f; pred = pred.Eq; operand = operand.Variable s.variables; binds = true } ∷ []) ≡ numbered_in (s.values ++ record { name = name; number = s.variables } ∷ []) (s.variables + 1)
+bound_counted s f name left =
+    let t : Test = record { field = f; pred = pred.Eq; operand = operand.Variable s.variables; binds = true } in
+    let v : Named = record { name = name; number = s.variables } in
+    let next : suc s.variables ≡ s.variables + 1 = omega arith in
+    after_tests-push s.tests (after_conditions nothing_numbered s.conditions) t
+    ∙ ap (λ (k : Numbered). after_test k t) left.count
+    ∙ ap (λ (ns : List ℕ). let k : Numbered = record { sight = ns; given = suc s.variables } in k) (sym (map-append (λ (v : Named). v.number) s.values (v ∷ [])))
+    ∙ ap (numbered_in (s.values ++ v ∷ [])) next
+
+pub test_bound : (s : State) (f : ℕ) (name : Sym) → IsElement InPattern s → HasField s f → IsElement InPattern (with_bound s f name)
+test_bound s f name g a =
+    let left = g.around.1 in
+    let t : Test = record { field = f; pred = pred.Eq; operand = operand.Variable s.variables; binds = true } in
+    let v : Named = record { name = name; number = s.variables } in
+    let more = length-append s.values (v ∷ []) in
+    record {
+      around = (
+        g.around.0,
+        record {
+          plain = left.plain;
+          count = bound_counted s f name left;
+          within = λ is. let le = left.within is in omega (arith, more, le);
+          sight = λ is. ap numbers_in (take-append-le s.around s.values (v ∷ []) (left.within is)) ∙ left.sight is;
+          cells = left.cells;
+        },
+        g.around.2,
+        g.around.3,
+      );
+      class = g.class;
+      fields = tests_push (class_of s.classes s.class) s.tests (after_conditions nothing_numbered s.conditions) t g.fields
+          (and_from _ _ a (eq-eqb s.variables _ (sym (ap (λ (k : Numbered). k.given) left.count))));
+    }
+
+-- The constants of a disjunction that is being read do not matter.
+pub choosing : (s : State) (vs : List Value) → IsElement InPattern s → IsElement InPattern (record s { choice = vs })
+choosing s vs g = record { around = g.around; class = g.class; fields = g.fields }
+
+-- ---- values
+
+-- a value that may stand alone may stand among others
+alone : (classes : List Class) (k : InSight) (several : Bool) (x : Term) → term_is_plain classes k false x ≡ true → term_is_plain classes k several x ≡ true
+alone classes k several (term.Constant v) plain = refl
+alone classes k several (term.Variable n) plain = plain
+alone classes k several (term.One cell field) plain = plain
+alone classes k several (term.Rest cell) plain = absurd (true≢false (sym plain))
+alone classes k several (term.Compute f) plain = plain
+alone classes k several term.Fresh plain = refl
+alone classes k several term.Accept plain = refl
+
+pub put_kept : (s : State) (f : ℕ) (t : Term) → IsElement InPut s → HasAttribute s f → term_is_plain s.classes (in_sight s) false t ≡ true → IsElement InPut (with_put s f t)
+put_kept s f t g a plain =
+    let c = class_of s.classes s.class in
+    record {
+      around = g.around;
+      class = g.class;
+      fields = (
+        all_push (put_is_plain s.classes (in_sight s) c) s.puts (record { field = f; terms = t ∷ [] }) g.fields.0
+            (and_from _ _ (and_from _ _ a (or_right _ _ refl)) (and_from _ _ (alone s.classes (in_sight s) (is_vector c f) t plain) refl)),
+        g.fields.1,
+      );
+    }
+
+pub fixed_kept : (s : State) (f : ℕ) (v : Value) → IsElement InFixed s → HasAttribute s f → IsVector s f false → IsElement InFixed (with_fixed s f v)
+fixed_kept s f v g a scalar =
+    record {
+      around = g.around;
+      class = g.class;
+      fields = all_push (fixed_is_valid (class_of s.classes s.class)) s.fixed (record { field = f; values = v ∷ [] }) g.fields (and_from _ _ a (cond-false (is_vector (class_of s.classes s.class) f) _ _ scalar));
+    }
+
+-- The values of a vector attribute that are being read do not matter.
+pub valuing : (u : Use) (s : State) (ts : List Term) (vs : List Value) → IsElement u s → IsElement u (record s { terms = ts; constants = vs })
+valuing InPattern s ts vs g = record { around = g.around; class = g.class; fields = g.fields }
+valuing InPut s ts vs g = record { around = g.around; class = g.class; fields = g.fields }
+valuing InFixed s ts vs g = record { around = g.around; class = g.class; fields = g.fields }
+
+-- the class of an element has no more attributes than an element has fields
+few_attributes : (s : State) → Base s → s.class < length s.classes → length (class_of s.classes s.class).attrs ≤ most_fields
+few_attributes s g lt =
+    subst (λ (c : Class). length c.attrs ≤ most_fields) (sym (unwrap_or-slice_get s.classes s.class no_class)) (All-get_or (IsArranged s.vectors) s.classes s.class no_class lt g.arranged).few
+
+-- the vector attribute, before its values
+pub several_begun : (u : Use) (s : State) (f : ℕ) → IsElement u s → HasAttribute s f → IsVector s f true → HasSeveral u f (record s { terms = []; constants = [] })
+several_begun InPattern s f g a v = (valuing InPattern s [] [] g, (and_parts (class_of s.classes s.class).vector _ v).0)
+several_begun InPut s f g a v = (valuing InPut s [] [] g, a, v, refl)
+several_begun InFixed s f g a v =
+    let few = few_attributes s g.around g.class in
+    let lt : f < length (class_of s.classes s.class).attrs = ltb-true _ _ a in (valuing InFixed s [] [] g, a, v, omega (arith, few, lt))
+
+-- its values end
+pub several_kept : (u : Use) (s : State) (f : ℕ) → HasSeveral u f s → IsElement u (with_several u f s)
+several_kept InPattern s f g = g.0
+several_kept InPut s f g =
+    record {
+      around = g.0.around;
+      class = g.0.class;
+      fields = (
+        all_push (put_is_plain s.classes (in_sight s) (class_of s.classes s.class)) s.puts (record { field = f; terms = s.terms }) g.0.fields.0
+            (and_from _ _ (and_from _ _ g.1 (or_left _ _ g.2)) (ap (λ (b : Bool). list_all (term_is_plain s.classes (in_sight s) b) s.terms) g.2 ∙ g.3)),
+        g.0.fields.1,
+      );
+    }
+several_kept InFixed s f g =
+    record {
+      around = g.0.around;
+      class = g.0.class;
+      fields = all_push (fixed_is_valid (class_of s.classes s.class)) s.fixed (record { field = f; values = s.constants }) g.0.fields
+          (and_from _ _ g.1 (cond-true (is_vector (class_of s.classes s.class) f) _ _ g.2 ∙ le-leb _ _ g.3));
+    }
+
+-- a value more
+pub term_pushed : (s : State) (f : ℕ) (t : Term) → HasSeveral InPut f s → term_is_plain s.classes (in_sight s) true t ≡ true → HasSeveral InPut f (record s { terms = s.terms ++ t ∷ [] })
+term_pushed s f t g plain = (valuing InPut s (s.terms ++ t ∷ []) s.constants g.0, g.1, g.2, all_push (term_is_plain s.classes (in_sight s) true) s.terms t g.3 plain)
+
+pub constant_pushed : (s : State) (f : ℕ) (v : Value) → HasSeveral InFixed f s → f + length s.constants < most_fields → HasSeveral InFixed f (record s { constants = s.constants ++ v ∷ [] })
+constant_pushed s f v g room =
+    let more = length-append s.constants (v ∷ []) in (valuing InFixed s s.terms (s.constants ++ v ∷ []) g.0, g.1, g.2, omega (arith, more, room))
+
+-- ---- productions
+
+-- what is in sight where no test of a condition was read
+counted_before : (s : State) → Left s → s.tests ≡ [] → after_conditions nothing_numbered s.conditions ≡ numbered_in s.values s.variables
+counted_before s left none =
+    subst (λ (ts : List Test). after_tests (after_conditions nothing_numbered s.conditions) ts ≡ numbered_in s.values s.variables) none left.count
+
+-- Nothing but what the conditions leave is in sight at the arrow.
+pub right_kept : (s : State) → Left s → s.tests ≡ [] → first_is_positive s.conditions ≡ true → length s.conditions ≤ most_conditions → Right (right_begun (left_ended s))
+right_kept s left none positive few =
+    let cells = cells_of s.conditions in
+    let whole : cells ≡ cells ++ [] = sym (append-nil cells) in
+    let from : Numbered → List ℕ → InSight = λ k xs. record { variables = k; cells = xs; made = None } in
+    record {
+      positive = positive;
+      few = few;
+      left = left.plain;
+      plain = refl;
+      sight = ap (λ (k : Numbered). from k cells) (counted_before s left none) ∙ ap (from (numbered_in s.values s.variables)) whole;
+      named = subst (λ (xs : List ℕ). list_all (λ e. nat_lt e.number (length xs)) s.elements ≡ true) whole left.cells;
+      cells = subst (λ (xs : List ℕ). list_all (λ c. nat_lt c (length s.classes)) xs ≡ true) whole (cells_are s.classes s.conditions nothing_numbered left.plain);
+      made = refl;
+    }
+
+-- the variables in sight before a negated condition are those around it
+pub negated_begun : (s : State) → Left s → s.tests ≡ [] → Left (record s { negated = true; around = length s.values })
+negated_begun s left none =
+    record {
+      plain = left.plain;
+      count = left.count;
+      within = λ _. omega arith;
+      sight = λ _. ap numbers_in (take_all (length s.values) s.values (omega arith)) ∙ sym (ap (λ (k : Numbered). k.sight) (counted_before s left none));
+      cells = left.cells;
+    }
+
+pub rule_kept : (s : State) (past : ℕ) → Base s → Right s → IsBase s.vectors s.classes (with_rule s past).rules s.commands
+rule_kept s past b g =
+    record {
+      arranged = b.arranged;
+      rules_plain = all_push (rule_is_plain s.classes) s.rules _ b.rules_plain
+          (and_from _ _ (and_from _ _ (and_from _ _ (and_from _ _ (and_from _ _ (and_from _ _ g.positive (le-leb _ _ g.few)) g.left) g.plain)
+          (eq-eqb s.variables _ (sym (ap (λ (k : InSight). k.variables.given) g.sight)))) (eq-eqb (specificity s.conditions) (specificity s.conditions) refl))
+          (eq-eqb (length (classes_of_cells s)) _ (sym (ap (λ (k : InSight). length k.cells) g.sight))));
+      commands_plain = b.commands_plain;
+    }
+
+-- ---- element variables
+
+-- the last condition has the last cell
+pub element_bound : (s : State) → Conditions s → Conditions (with_bound_element s)
+element_bound s g =
+    let some = some_cell s.conditions g.3 in
+    let left = g.1 in (
+      g.0,
+      record {
+        plain = left.plain;
+        count = left.count;
+        within = left.within;
+        sight = left.sight;
+        cells = all_push (λ e. nat_lt e.number (length (cells_of s.conditions))) s.elements (record { name = s.element; number = length (cells_of s.conditions) - 1 }) left.cells (lt-ltb _ _ (omega (arith, some)));
+      },
+      g.2,
+      g.3,
+      g.4,
+      g.5,
+    )
+
+-- ---- right sides
+
+-- an action more, behind which so much is in sight
+module _ (classes : List Class) (conditions : List Condition) (k to : InSight) (elements named : List Named) (actions : List Action) (a : Action) where
+  action_more : IsRight classes conditions k elements actions → action_is_plain classes k a ≡ true → after_action k a ≡ to → list_all (λ e. nat_lt e.number (length to.cells)) named ≡ true → list_all (λ c. nat_lt c (length classes)) to.cells ≡ true → made_is_class classes to.made ≡ true
+      → IsRight classes conditions to named (actions ++ a ∷ [])
+  action_more g plain leads below cells made =
+      record {
+        positive = g.positive;
+        few = g.few;
+        left = g.left;
+        plain = actions_push classes actions (at_arrow conditions) a g.plain (subst (λ (m : InSight). action_is_plain classes m a ≡ true) (sym g.sight) plain);
+        sight = after_actions-push actions (at_arrow conditions) a ∙ ap (λ (m : InSight). after_action m a) g.sight ∙ leads;
+        named = below;
+        cells = cells;
+        made = made;
+      }
+
+-- one that leaves what is in sight
+pub action_kept : (s : State) (a : Action) → Right s → action_is_plain s.classes (in_sight s) a ≡ true → after_action (in_sight s) a ≡ in_sight s → IsRight s.classes s.conditions (in_sight s) s.elements (s.actions ++ a ∷ [])
+action_kept s a g plain stays = action_more s.classes s.conditions (in_sight s) (in_sight s) s.elements s.elements s.actions a g plain stays g.named g.cells g.made
+
+-- a `make`, or a `modify` of a cell
+element_made : (m : Option ℕ) (s : State) → Right s → s.class < length s.classes → list_all (put_is_plain s.classes (in_sight s) (class_of s.classes s.class)) s.puts ≡ true → IsOfCell m (in_sight s) s.class
+    → IsRight s.classes s.conditions (record (in_sight s) { made = Some s.class }) s.elements (s.actions ++ put_action m s.class s.puts ∷ [])
+element_made None s g lt plain of_cell =
+    action_more s.classes s.conditions (in_sight s) (record (in_sight s) { made = Some s.class }) s.elements s.elements s.actions (action.Make s.class s.puts) g (and_from _ _ (lt-ltb _ _ lt) plain) refl g.named g.cells (lt-ltb _ _ lt)
+element_made (Some cell) s g lt plain of_cell =
+    let k = in_sight s in
+    let puts_plain : action_is_plain s.classes k (action.Modify cell s.puts) ≡ true =
+    subst (λ (c : ℕ). (nat_lt cell (length k.cells) && nat_lt c (length s.classes) && list_all (put_is_plain s.classes k (class_of s.classes c)) s.puts) ≡ true) of_cell.1
+    (and_from _ _ (and_from _ _ (lt-ltb _ _ of_cell.0) (lt-ltb _ _ lt)) plain) in
+    action_more s.classes s.conditions k (record k { made = Some s.class }) s.elements s.elements s.actions (action.Modify cell s.puts) g puts_plain
+    (ap (λ (c : ℕ). let m : InSight = record k { made = Some c } in m) (sym of_cell.1)) g.named g.cells (lt-ltb _ _ lt)
+
+pub element_kept : (s : State) → IsElement InPut s → Right (with_element InPut s)
+element_kept s g = element_made s.modified s g.around.1 g.class g.fields.0 g.fields.1
+
+-- a variable that is bound here has a number that was not given
+next_new : (s : State) → Right s → is_in s.variables (numbers_in s.values) ≡ false
+next_new s g =
+    next_apart (numbered_in s.values s.variables)
+    (subst (λ (k : InSight). are_given k.variables ≡ true) g.sight (after_actions-given s.actions (at_arrow s.conditions) (after_conditions-given s.conditions nothing_numbered refl)))
+
+pub bind_kept : (s : State) (t : Term) (o : Option ℕ) → number_of s.variable s.values ≡ o → Base s × Right s → term_is_plain s.classes (in_sight s) false t ≡ true → Base (with_bind o s t) × Right (with_bind o s t)
+bind_kept s t (Some n) e g plain =
+    let there = number_sighted s.variable s.values n e in
+    (g.0, action_kept s (action.Bind n t) g.1 (and_from _ _ (or_left _ _ there) plain) (cond-true (is_in n (numbers_in s.values)) _ _ there))
+bind_kept s t None e g plain =
+    let k = in_sight s in
+    let n = s.variables in
+    let v : Named = record { name = s.variable; number = n } in
+    let next : suc n ≡ n + 1 = omega arith in
+    let to : List ℕ → ℕ → InSight = λ ns m. record k { variables = record { sight = ns; given = m } } in (
+      g.0,
+      action_more s.classes s.conditions k (in_sight (with_bind None s t)) s.elements s.elements s.actions (action.Bind n t) g.1 (and_from _ _ (or_right _ _ (eq-eqb n n refl)) plain)
+          (cond-false (is_in n (numbers_in s.values)) _ _ (next_new s g.1)
+          ∙ ap (λ (ns : List ℕ). to ns (suc n)) (sym (map-append (λ (v : Named). v.number) s.values (v ∷ [])))
+          ∙ ap (λ (m : ℕ). to (numbers_in (s.values ++ v ∷ [])) m) next) g.1.named g.1.cells g.1.made,
+    )
+
+pub cell_kept : (s : State) (class : ℕ) (name : Sym) → s.made ≡ Some class → Right s → Right (with_cell s class name)
+cell_kept s class name e g =
+    let k = in_sight s in
+    let n = length k.cells in
+    let all : k.cells ++ class ∷ [] ≡ cells_of s.conditions ++ (s.further ++ class ∷ []) = append_assoc (cells_of s.conditions) s.further (class ∷ []) in
+    let more : length (k.cells ++ class ∷ []) ≡ suc n = omega (arith, length-append k.cells (class ∷ [])) in
+    let count : length (cells_of s.conditions ++ (s.further ++ class ∷ [])) ≡ suc n = ap (λ (xs : List ℕ). length xs) (sym all) ∙ more in
+    let to : List ℕ → InSight = λ xs. record k { cells = xs } in
+    action_more s.classes s.conditions k (in_sight (with_cell s class name)) s.elements (with_cell s class name).elements s.actions (action.Cbind n) g (and_from _ _ (ap is_some e) (eq-eqb n n refl))
+    (ap (λ (made : Option ℕ). to (k.cells ++ unwrap_or made 0 ∷ [])) e ∙ ap to all)
+    (renumbered_below name n _ s.elements (lt-ltb _ _ (omega (arith, count))) (below_more s.elements n _ (omega (arith, count)) g.named))
+    (subst (λ (xs : List ℕ). list_all (λ c. nat_lt c (length s.classes)) xs ≡ true) all (all_push (λ c. nat_lt c (length s.classes)) k.cells class g.cells (ap (made_is_class s.classes) (sym e) ∙ g.made)))
+    g.made

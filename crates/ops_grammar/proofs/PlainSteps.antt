@@ -1,0 +1,721 @@
+-- Each word leads from what has a spelling to what has one.
+use Rattle.std.proofs.Common.{◌≡◌, ℕ, suc, ◌+◌, ◌-◌, ◌<◌, Bool, true, false, ◌&&◌, ◌||◌, ◌==◌, cond, List, [], ◌∷◌, ◌++◌, length, take, refl, sym, ap, ◌∙◌, arith, Option, Some, None, Result, Ok, Err, nat_lt, nat_le, pos, unwrap_or, slice_get, position, get_or, length-append, subst, true≢false}
+use Rattle.std.specs.List.{list_all, list_any}
+use Rattle.std.proofs.lemmas.Bool.{cond_both, and_parts, and_from, or_left, or_right, eqb-true, lt-ltb, ltb-true}
+use Rattle.std.proofs.lemmas.List.Elements.{All-push}
+use Rattle.std.proofs.lemmas.List.Quantifiers.{position-Some}
+use Rattle.std.proofs.lemmas.Option.{slice_get-get_or}
+use Rattle.ops_base.specs.declared.values.Sym.{Sym}
+use Rattle.ops_base.specs.declared.values.Value.{Value}
+use Rattle.ops_base.specs.declared.values.Pred.{Pred}
+use Rattle.ops_base.specs.declared.values.Pred.TheVariants as pred
+use Rattle.ops_base.specs.declared.elements.Class.{Class}
+use Rattle.ops_base.specs.declared.conditions.Operand.{Operand}
+use Rattle.ops_base.specs.declared.conditions.Operand.TheVariants as operand
+use Rattle.ops_base.specs.declared.conditions.Condition.{Condition}
+use Rattle.ops_base.specs.declared.expression.Op.{Op}
+use Rattle.ops_base.specs.Expression.{Formula}
+use Rattle.ops_base.specs.Expression as formula
+use Rattle.ops_base.specs.declared.actions.Term.{Term}
+use Rattle.ops_base.specs.declared.actions.Term.TheVariants as term
+use Rattle.ops_base.specs.declared.actions.Item.{Item}
+use Rattle.ops_base.specs.declared.actions.Item.TheVariants as item
+use Rattle.ops_base.specs.declared.actions.Action.TheVariants as action
+use Rattle.ops_base.specs.declared.commands.Fixed.{Fixed}
+use Rattle.ops_base.specs.declared.commands.Command.{Command}
+use Rattle.ops_base.specs.declared.commands.Command.TheVariants as command
+use Rattle.ops_base.specs.declared.commands.Strategy.{Strategy}
+use Rattle.ops_base.specs.declared.endings.Fault.{Fault}
+use Rattle.ops_base.specs.declared.endings.Fault.TheVariants as fault
+use Rattle.ops_base.specs.Valid.{most_fields, most_conditions, no_class, class_of, is_attribute, is_vector, is_column, is_natural, cells_of, fixed_is_valid}
+use Rattle.ops_tokens.specs.declared.token.TokenKind.{TokenKind}
+use Rattle.ops_tokens.specs.declared.token.TokenKind.TheVariants as kind
+use Rattle.ops_grammar.specs.declared.words.Word.{Word}
+use Rattle.ops_grammar.specs.declared.words.Keyword.{Keyword}
+use Rattle.ops_grammar.specs.declared.words.Keyword.TheVariants as keyword
+use Rattle.ops_grammar.specs.Grammar.{Use, InPattern, InPut, InFixed, Target, ToTest, ToPut, ToFixed, ToTerms, ToConstants, ToItem, ToBind, EndsWhole, Column, ToTab, ToRight, TagUse, ToRemove, ToShow, NameUse, ToPrint, ToBreak, Wanted, Forms, Attributes, VectorNames, Patterns, Pattern, ClosesBrace, Terms, Several, Choice, ExpressionRest, SourceAttribute, Actions, Cells, Items, Tags, NamedRules, Closes, is_left, is_right, is_left_brace, is_right_brace, is_caret, is_name, is_variable, is_arrow, is_literal, is_minus, opens_choice, closes_choice, pred_of, constant_of, atom_of, value_of, natural_of, small_of, is_one_of, number_of, precedes_classes, may_declare, may_produce, is_class, is_rule, form, class_declared, is_second, attribute_declared, attributes, arranged, has_vector, makes_second, vector_declared, vector_name, class_at, class_name, attributes_of, behind_attribute, field_at, with_test, with_item, with_constant, with_bound, variable_tested, constant_tested, tested, predicated, test, with_choice, chosen, choice, atom_at, term_at, bound_at, constant_at, is_of_action, value_for, function, function_depth, most_brackets, no_formula, with_formula, Waiting, completed, is_compute, operation_of, unit_bound, unit_at, expression_unit, bracketed, operation_at, expression_rest, source_named, source_class, source_at, takes_several, is_inf, ends_at_inf, source_end, with_command, fixed_command, with_element, with_several, terms, within, one_of_several, several, place, one_more, patterns, element_at, element_name, action_word, classes_of_cells, designated, numbered_cell, named_cell, cell_of, with_designated, with_modified, bound_value, cell_bound, item_word, column_item, columns_at, count_of, counted, count, strategy_of, strategy_set, strategy_name, tag_at, is_all, tag_or_all, tag_command, tags, shown, named_rule, name_command, named_rules, level_of, level_set, level, State, Step, Next, Refuses, step}
+use Rattle.ops_grammar.specs.Spelling.{nothing_numbered, tests_are_plain, after_tests, after_conditions, InSight, cell_is_plain, term_is_plain, put_is_plain, item_is_plain, command_is_plain}
+use Rattle.ops_grammar.proofs.Lists.{all_push, all_none, all_at}
+use Rattle.ops_grammar.proofs.Parts.{has_cell}
+use Rattle.ops_grammar.proofs.Sound.{Braces, Bare, NamedBefore, NamedBehind, behind, HasTags, HasNames}
+use Rattle.ops_grammar.proofs.PlainClasses.{IsArranged, IsAttributes, class_arranged, classes_arranged, attributes_begun, attribute_pushed}
+use Rattle.ops_grammar.proofs.PlainFormulas.{IsOperand, AreOperands, AreOpen, outermost, bracket, operand_completed, operand_bracketed}
+use Rattle.ops_grammar.proofs.Plain.{numbers_in, in_sight, Base, Right, Declaring, Around, IsBegun, IsOfCell, IsElement, Conditions, HasCells, HasItems, AtTags, AtNames, HasAttribute, IsVector, HasMore, HasSeveral, IsSource, Spot, HasPlace, HasTarget, behind_place, behind_test, behind_target, IsPlainly, at_forms, at_form, at_class_declared, at_attributes, at_vector_name, at_vector_names, at_rule_name, at_first_pattern, at_patterns, at_pattern, at_braced, at_element_name, at_closes_brace, at_class_name, at_terms, at_attribute, at_several, at_place, at_tests, at_tested, at_choice, at_atom, at_value, at_function, at_expression_unit, at_last_rest, at_bracketed_rest, at_bracketed, at_source_cell, at_source_attribute, at_source_end, at_actions, at_action_word, at_modified, at_bound_name, at_bound_value, at_cell_name, at_cell, at_cells, at_items, at_item_word, at_columns, at_whole, at_crlf, at_halt, at_count, at_strategy_name, at_tag_or_all, at_tags, at_shown, at_named_rule, at_named_rules, at_level, at_cs, at_exit, Keeps, after_conditions-push, conditions_push, condition_counted, begun_positive, begins_first, begins_behind, number_sighted, cells_more, number_below, below_more}
+use Rattle.ops_grammar.proofs.PlainKept.{command_kept, commands_still, action_kept, element_kept, bind_kept, cell_kept, test_kept, test_bound, choosing, put_kept, fixed_kept, several_begun, several_kept, term_pushed, constant_pushed, right_kept, negated_begun, rule_kept, element_bound}
+
+-- ---- designators
+
+designated_by : (b m : Bool) (before c : ℕ) → (let r : Result ℕ Fault = cond b (Err fault.BadDesignator) (cond m (Err fault.AmbiguousDesignator) (Ok before)) in r ≡ Ok c) → (b ≡ false) × (m ≡ false) × (before ≡ c)
+designated_by true m before c e = absurd (cc)
+designated_by false true before c e = absurd (cc)
+designated_by false false before c e = (refl, refl, cc)
+
+designated_there : (s : State) (before : ℕ) (o : Option Condition) (c : ℕ) → slice_get s.conditions before ≡ o → designated before o s ≡ Ok c → c < length (classes_of_cells s)
+designated_there s before None c e found = absurd (cc)
+designated_there s before (Some d) c e found =
+    let parts = designated_by d.negated (list_any (λ c. c.negated) (take before s.conditions)) before c found in
+    let lt = has_cell s.conditions before d e parts.0 parts.1 in
+    let same = parts.2 in
+    omega (arith, length-append (cells_of s.conditions) s.further, lt, same)
+
+numbered_there : (s : State) (o : Option ℕ) (c : ℕ) → numbered_cell o s ≡ Ok c → c < length (classes_of_cells s)
+numbered_there s (Some m) c found = designated_there s (m - 1) (slice_get s.conditions (m - 1)) c refl found
+numbered_there s None c found = absurd (cc)
+
+named_there : (s : State) (name : Sym) (o : Option ℕ) (c : ℕ) → Right s → number_of name s.elements ≡ o → named_cell o ≡ Ok c → c < length (classes_of_cells s)
+named_there s name (Some n) c g e found =
+    let same : n ≡ c = cc in
+    let lt : n < length (classes_of_cells s) = ltb-true _ _ (number_below name s.elements n (length (classes_of_cells s)) g.named e) in omega (arith, lt, same)
+named_there s name None c g e found = absurd (cc)
+
+-- what a word designates is a cell
+cell_there : (s : State) (k : TokenKind) (name : Sym) (c : ℕ) → Right s → cell_of k name s ≡ Ok c → c < length (classes_of_cells s)
+cell_there s (kind.Whole z) name c g found = numbered_there s (natural_of z) c found
+cell_there s kind.Variable name c g found = named_there s name (number_of name s.elements) c g refl found
+cell_there s _ name c g found = absurd (cc)
+
+-- ---- columns, counts and trace levels
+
+-- a number that is taken where it passes does so
+passed_by : (f : ℕ → Bool) (b : Bool) (m n : ℕ) → f m ≡ b → (let o : Option ℕ = cond b (Some m) None in o ≡ Some n) → f n ≡ true
+passed_by f true m n is e = let same : m ≡ n = cc in ap f (sym same) ∙ is
+passed_by f false m n is e = absurd (cc)
+
+small_there : (k : TokenKind) (n : ℕ) → small_of k ≡ Some n → is_column n ≡ true
+small_there (kind.Whole (pos m)) n e = passed_by is_column (is_column m) m n refl e
+small_there _ n e = absurd (cc)
+
+count_there : (k : TokenKind) (n : ℕ) → count_of k ≡ Some n → is_natural n ≡ true
+count_there (kind.Whole (pos m)) n e = passed_by is_natural (is_natural m) m n refl e
+count_there _ n e = absurd (cc)
+
+level_there : (k : TokenKind) (n : ℕ) → level_of k ≡ Some n → nat_le n 2 ≡ true
+level_there (kind.Whole (pos m)) n e = passed_by (λ i. nat_le i 2) (nat_le m 2) m n refl e
+level_there _ n e = absurd (cc)
+
+column_plain : (classes : List Class) (k : InSight) (c : Column) (n : ℕ) → is_column n ≡ true → item_is_plain classes k (column_item c n) ≡ true
+column_plain classes k ToTab n is = is
+column_plain classes k ToRight n is = is
+
+-- ---- commands
+
+-- with one more tag or name there are enough
+tag_enough : (u : TagUse) (tags : List ℕ) (tag : ℕ) → HasTags u (tags ++ tag ∷ [])
+tag_enough ToRemove tags tag = omega (arith, length-append tags (tag ∷ []))
+tag_enough ToShow tags tag = tt
+
+name_enough : (u : NameUse) (names : List Sym) (name : Sym) → HasNames u (names ++ name ∷ [])
+name_enough ToPrint names name = omega (arith, length-append names (name ∷ []))
+name_enough ToBreak names name = tt
+
+tags_plain : (classes : List Class) (u : TagUse) (tags : List ℕ) → list_all is_natural tags ≡ true → HasTags u tags → command_is_plain classes (tag_command u tags) ≡ true
+tags_plain classes ToRemove tags natural enough = and_from _ _ (lt-ltb _ _ enough) natural
+tags_plain classes ToShow tags natural enough = natural
+
+names_plain : (classes : List Class) (u : NameUse) (names : List Sym) → HasNames u names → command_is_plain classes (name_command u names) ≡ true
+names_plain classes ToPrint names enough = lt-ltb _ _ enough
+names_plain classes ToBreak names enough = refl
+
+constants_plain : (classes : List Class) (shows : Bool) (class : ℕ) (puts : List Fixed) → class < length classes → list_all (fixed_is_valid (class_of classes class)) puts ≡ true → command_is_plain classes (fixed_command shows class puts) ≡ true
+constants_plain classes false class puts lt fields = and_from _ _ (lt-ltb _ _ lt) fields
+constants_plain classes true class puts lt fields = and_from _ _ (lt-ltb _ _ lt) fields
+
+-- ---- values of actions
+
+acting : (p : Spot) (t : Target) (s : State) → is_of_action t ≡ true → HasTarget p t s → Base s × Right s
+acting p (ToPut f) s is g = g.0.around
+acting p ToTerms s is g = g.0.around
+acting p ToItem s is g = (g.0, g.1)
+acting p ToBind s is g = g
+acting p _ s is g = absurd (true≢false (sym is))
+
+-- The cell and the field of a `substr` that is read do not matter.
+sourcing : (p : Spot) (t : Target) (s : State) (cell field : ℕ) → is_of_action t ≡ true → HasTarget p t s → HasTarget p t (record s { source = cell; source_field = field })
+sourcing p (ToPut f) s cell field is g = (record { around = g.0.around; class = g.0.class; fields = g.0.fields }, g.1)
+sourcing p ToTerms s cell field is g = (record { around = g.0.around; class = g.0.class; fields = g.0.fields }, g.1, g.2, g.3)
+sourcing p ToItem s cell field is g = g
+sourcing p ToBind s cell field is g = g
+sourcing p _ s cell field is g = absurd (true≢false (sym is))
+
+-- Nor does the operand that was read last.
+forming : (p : Spot) (t : Target) (s : State) (f : Formula) → is_of_action t ≡ true → HasTarget p t s → HasTarget p t (with_formula s f)
+forming p (ToPut f) s x is g = (record { around = g.0.around; class = g.0.class; fields = g.0.fields }, g.1)
+forming p ToTerms s x is g = (record { around = g.0.around; class = g.0.class; fields = g.0.fields }, g.1, g.2, g.3)
+forming p ToItem s x is g = g
+forming p ToBind s x is g = g
+forming p _ s x is g = absurd (true≢false (sym is))
+
+item_pushed : (s : State) (i : Item) → HasItems s → item_is_plain s.classes (in_sight s) i ≡ true → HasItems (with_item s i)
+item_pushed s i g plain = (g.0, g.1, all_push (item_is_plain s.classes (in_sight s)) s.items i g.2 plain)
+
+term_keeps : (p : Spot) (t : Target) (x : Term) (s : State) → HasTarget p t s → term_is_plain s.classes (in_sight s) (takes_several t) x ≡ true → Keeps (term_at t x (behind_target p t) s)
+term_keeps p (ToPut f) x s g plain = at_terms p.braces InPut (put_kept s f x g.0 g.1 plain)
+term_keeps p ToTerms x s g plain = at_several p.braces InPut p.vector (term_pushed s p.vector x g plain)
+term_keeps p ToItem x s g plain = at_items (item_pushed s (item.Print x) g plain)
+term_keeps p ToBind x s g plain = at_whole (Actions ∷ Forms ∷ []) (at_actions (bind_kept s x (number_of s.variable s.values) refl g plain))
+term_keeps p _ x s g plain = tt
+
+-- where a bracket is to be closed before
+closing_keeps : (t : Target) (x : Term) (ws : List Wanted) (s : State) → Keeps (term_at t x ws s) → Keeps (term_at t x (Closes EndsWhole ∷ ws) s)
+closing_keeps (ToPut f) x ws s h = at_whole ws h
+closing_keeps ToTerms x ws s h = at_whole ws h
+closing_keeps ToItem x ws s h = at_whole ws h
+closing_keeps ToBind x ws s h = at_whole ws h
+closing_keeps _ x ws s h = tt
+
+source_plain : (s : State) → Right s → IsSource s → cell_is_plain s.classes (in_sight s) s.source ≡ true
+source_plain s g lt = and_from _ _ (lt-ltb _ _ lt) (all_at (λ c. nat_lt c (length s.classes)) (classes_of_cells s) s.source 0 g.cells lt)
+
+module _ (w : Word) where
+  -- ---- declarations
+
+  declaring : (s : State) → Base s → may_declare s ≡ true → Declaring s
+  declaring s g e = let parts = and_parts (length s.rules == 0) (list_all precedes_classes s.commands) e in (g, eqb-true _ _ parts.0, parts.1)
+
+  form_keeps : (s : State) → Base s → (k : Keyword) → Keeps (form w k (Forms ∷ []) s)
+  form_keeps s g keyword.Literalize =
+      cond_both (may_declare s) _ _ Keeps
+      (λ e. at_class_declared (declaring s g e)) (λ _. tt)
+  form_keeps s g keyword.VectorAttribute =
+      cond_both (may_declare s) _ _ Keeps
+      (λ e. at_vector_name (declaring s g e)) (λ _. tt)
+  form_keeps s g keyword.Production = cond_both (may_produce s) _ _ Keeps (λ _. at_rule_name g) (λ _. tt)
+  form_keeps s g keyword.Make = at_class_name Bare InFixed (g, refl)
+  form_keeps s g keyword.Remove = at_tag_or_all (g, refl)
+  form_keeps s g keyword.Run = at_count g
+  form_keeps s g keyword.Wm = at_tags ToShow (g, refl, tt)
+  form_keeps s g keyword.Ppwm = at_shown g
+  form_keeps s g keyword.Cs = at_cs g
+  form_keeps s g keyword.Pm = at_named_rule g
+  form_keeps s g keyword.Strategy = at_strategy_name g
+  form_keeps s g keyword.Watch = at_level g
+  form_keeps s g keyword.Pbreak = at_named_rules ToBreak (g, tt)
+  form_keeps s g keyword.Exit = at_exit g
+  form_keeps s g _ = tt
+
+  class_declared_keeps : (s : State) → Declaring s → Keeps (class_declared w (Attributes ∷ Forms ∷ []) s)
+  class_declared_keeps s g = cond_both (is_name w.kind) _ _ Keeps (λ _. cond_both (is_class s w.name) _ _ Keeps (λ _. tt) (λ _. at_attributes (g, attributes_begun s.vectors))) (λ _. tt)
+
+  attribute_declared_keeps : (s : State) → Declaring s × IsAttributes s.vectors s.attrs → Keeps (attribute_declared w (Forms ∷ []) s)
+  attribute_declared_keeps s g =
+      cond_both (is_one_of w.name s.attrs) _ _ Keeps (λ _. tt)
+      (λ apart. cond_both (is_second w.name s) _ _ Keeps (λ _. tt)
+      (λ second. cond_both (nat_lt (length s.attrs) most_fields) _ _ Keeps
+      (λ room. at_attributes (g.0, attribute_pushed s.vectors s.attrs w.name g.1 apart second (ltb-true _ _ room))) (λ _. tt)))
+
+  attributes_keep : (s : State) → Declaring s × IsAttributes s.vectors s.attrs → Keeps (attributes w (Forms ∷ []) s)
+  attributes_keep s g =
+      cond_both (is_right w.kind) _ _ Keeps
+      (λ _. at_forms (record {
+        arranged = All-push (IsArranged s.vectors) s.classes (record { name = s.name; attrs = arranged s.vectors s.attrs; vector = has_vector s.vectors s.attrs }) g.0.0.arranged (class_arranged s.vectors s.name s.attrs g.1);
+        rules_plain = all_none _ s.rules g.0.1;
+        commands_plain = commands_still s.classes _ s.commands g.0.2 g.0.0.commands_plain;
+      }))
+      (λ _. cond_both (is_name w.kind) _ _ Keeps (λ _. attribute_declared_keeps s g) (λ _. tt))
+
+  vector_declared_keeps : (s : State) → Declaring s → Keeps (vector_declared w (VectorNames ∷ Forms ∷ []) s)
+  vector_declared_keeps s g =
+      cond_both (is_one_of w.name s.vectors) _ _ Keeps (λ _. at_vector_names g)
+      (λ _. cond_both (makes_second w.name s.classes) _ _ Keeps (λ _. tt)
+      (λ second. at_vector_names (
+        record {
+          arranged = classes_arranged s.vectors w.name s.classes g.0.arranged second;
+          rules_plain = all_none _ s.rules g.1;
+          commands_plain = commands_still s.classes _ s.commands g.2 g.0.commands_plain;
+        },
+        g.1,
+        g.2,
+      )))
+
+  vector_name_keeps : (s : State) → Declaring s → Keeps (vector_name w (VectorNames ∷ Forms ∷ []) s)
+  vector_name_keeps s g = cond_both (is_name w.kind) _ _ Keeps (λ _. vector_declared_keeps s g) (λ _. tt)
+
+  -- ---- elements
+
+  abbrev spot : Braces → Option ℕ → Bool → ℕ → Spot
+  spot b more among vector = record { braces = b; more = more; among = among; vector = vector }
+
+  element_named : (u : Use) (s : State) (c : ℕ) → Around u s × IsBegun u s → c < length s.classes → IsElement u (record s { class = c })
+  element_named InPattern s c h lt = record { around = h.0; class = lt; fields = ap (tests_are_plain (class_of s.classes c) (after_conditions nothing_numbered s.conditions)) h.1 }
+  element_named InPut s c h lt = record { around = h.0; class = lt; fields = (ap (list_all (put_is_plain s.classes (in_sight s) (class_of s.classes c))) h.1.0, subst (λ (m : Option ℕ). IsOfCell m (in_sight s) c) (sym h.1.1) tt) }
+  element_named InFixed s c h lt = record { around = h.0; class = lt; fields = ap (list_all (fixed_is_valid (class_of s.classes c))) h.1 }
+
+  class_at_keeps : (b : Braces) (u : Use) (s : State) → Around u s × IsBegun u s → (o : Option ℕ) → position (λ c. c.name.0 == w.name.0) s.classes ≡ o → Keeps (class_at o (Terms u ∷ behind b u) s)
+  class_at_keeps b u s g (Some c) e = at_terms b u (element_named u s c g (position-Some (λ c. c.name.0 == w.name.0) s.classes c no_class e).0)
+  class_at_keeps b u s g None e = tt
+
+  class_name_keeps : (b : Braces) (u : Use) (s : State) → Around u s × IsBegun u s → Keeps (class_name w (Terms u ∷ behind b u) s)
+  class_name_keeps b u s g = cond_both (is_name w.kind) _ _ Keeps (λ _. class_at_keeps b u s g (position (λ c. c.name.0 == w.name.0) s.classes) refl) (λ _. tt)
+
+  attribute_keeps : (b : Braces) (u : Use) (f : ℕ) (s : State) → IsElement u s → HasAttribute s f → IsVector s f false → Keeps (Next (behind_attribute u f ∷ Terms u ∷ behind b u) s)
+  attribute_keeps b InPattern f s g a v = at_place b None f (g, or_left _ _ a, tt)
+  attribute_keeps b InPut f s g a v = at_value (spot b None false f) (ToPut f) (g, a)
+  attribute_keeps b InFixed f s g a v = at_value (spot b None false f) (ToFixed f) (g, a, v)
+
+  field_keeps : (b : Braces) (u : Use) (f : ℕ) (s : State) → IsElement u s → HasAttribute s f → Keeps (field_at u (Some f) (behind b u) s)
+  field_keeps b u f s g a =
+      cond_both (is_vector (class_of s.classes s.class) f) _ _ Keeps (λ v. at_several b u f (several_begun u s f g a v)) (λ v. attribute_keeps b u f s g a v)
+
+  field_at_keeps : (b : Braces) (u : Use) (s : State) → IsElement u s → (o : Option ℕ) → position (λ a. a.0 == w.name.0) (attributes_of (slice_get s.classes s.class)) ≡ o → Keeps (field_at u o (behind b u) s)
+  field_at_keeps b u s g None e = tt
+  field_at_keeps b u s g (Some f) e =
+      let c = get_or s.classes s.class no_class in
+      let here : slice_get s.classes s.class ≡ Some c = slice_get-get_or s.classes s.class no_class g.class in
+      let lt : f < length c.attrs = (position-Some (λ a. a.0 == w.name.0) c.attrs f (record { 0 = 0 }) (rw here at e)).0 in
+      field_keeps b u f s g (ap (λ (o : Option Class). nat_lt f (length (unwrap_or o no_class).attrs)) here ∙ lt-ltb _ _ lt)
+
+  -- ---- tests
+
+  place_ends : (b : Braces) (more : Option ℕ) (s : State) → IsElement InPattern s → HasMore more s → Keeps (Next (behind_place b more) s)
+  place_ends b None s g m = at_terms b InPattern g
+  place_ends b (Some f) s g m = at_several b InPattern f (g, m)
+
+  test_goes_on : (b : Braces) (more : Option ℕ) (among : Bool) (f : ℕ) (s : State) → HasPlace more f s → Keeps (Next (behind_test b more among f) s)
+  test_goes_on b more true f s g = at_tests b more f g
+  test_goes_on b more false f s g = place_ends b more s g.0 g.2
+
+  more_tested : (more : Option ℕ) (s : State) (f : ℕ) (q : Pred) (o : Operand) (binds : Bool) → HasMore more s → HasMore more (with_test s f q o binds)
+  more_tested None s f q o binds m = tt
+  more_tested (Some g) s f q o binds m = m
+
+  more_bound : (more : Option ℕ) (s : State) (f : ℕ) (name : Sym) → HasMore more s → HasMore more (with_bound s f name)
+  more_bound None s f name m = tt
+  more_bound (Some g) s f name m = m
+
+  more_chosen : (more : Option ℕ) (s : State) (f : ℕ) → HasMore more s → HasMore more (with_choice s f)
+  more_chosen None s f m = tt
+  more_chosen (Some g) s f m = m
+
+  place_choosing : (more : Option ℕ) (f : ℕ) (s : State) (vs : List Value) → HasPlace more f s → HasPlace more f (record s { choice = vs })
+  place_choosing None f s vs g = (choosing s vs g.0, g.1, tt)
+  place_choosing (Some n) f s vs g = (choosing s vs g.0, g.1, g.2)
+
+  -- ---- values
+
+  constant_keeps : (p : Spot) (t : Target) (v : Value) (s : State) → HasTarget p t s → Keeps (Next (behind_target p t) (with_constant t s v))
+  constant_keeps p (ToTest f q) v s g = test_goes_on p.braces p.more p.among f (with_test s f q (operand.Constant v) false) (test_kept s f q (operand.Constant v) g.0 g.1 refl, g.1, more_tested p.more s f q (operand.Constant v) false g.2)
+  constant_keeps p (ToPut f) v s g = at_terms p.braces InPut (put_kept s f (term.Constant v) g.0 g.1 refl)
+  constant_keeps p (ToFixed f) v s g = at_terms p.braces InFixed (fixed_kept s f v g.0 g.1 g.2)
+  constant_keeps p ToTerms v s g = at_several p.braces InPut p.vector (term_pushed s p.vector (term.Constant v) g refl)
+  constant_keeps p ToConstants v s g = at_several p.braces InFixed p.vector (constant_pushed s p.vector v g.0 g.1)
+  constant_keeps p ToItem v s g = at_items (item_pushed s (item.Print (term.Constant v)) g refl)
+  constant_keeps p ToBind v s g = term_keeps p ToBind (term.Constant v) s g refl
+
+  bound_keeps : (p : Spot) (t : Target) (s : State) → HasTarget p t s → (o : Option ℕ) → number_of w.name s.values ≡ o → Keeps (bound_at t o (behind_target p t) s)
+  bound_keeps p t s g (Some n) e = term_keeps p t (term.Variable n) s g (number_sighted w.name s.values n e)
+  bound_keeps p t s g None e = tt
+
+  constant_at_keeps : (p : Spot) (t : Target) (s : State) → HasTarget p t s → (o : Option Value) → Keeps (constant_at t w o (behind_target p t) s)
+  constant_at_keeps p t s g (Some v) = constant_keeps p t v s g
+  constant_at_keeps p t s g None = cond_both (is_variable w.kind) _ _ Keeps (λ _. bound_keeps p t s g (number_of w.name s.values) refl) (λ _. tt)
+
+  value_keeps : (p : Spot) (t : Target) (s : State) → HasTarget p t s → Keeps (value_for t w (behind_target p t) s)
+  value_keeps p t s g =
+      cond_both (is_literal w.keyword) _ _ Keeps (λ _. at_atom p t g)
+      (λ _. cond_both (is_left w.kind && is_of_action t) _ _ Keeps (λ left. at_function p t g (and_parts (is_left w.kind) (is_of_action t) left).1)
+      (λ _. constant_at_keeps p t s g (value_of w.kind w.name)))
+
+  atom_keeps : (p : Spot) (t : Target) (s : State) → HasTarget p t s → (o : Option Value) → Keeps (atom_at t o (behind_target p t) s)
+  atom_keeps p t s g (Some v) = constant_keeps p t v s g
+  atom_keeps p t s g None = tt
+
+  -- ---- functions
+
+  function_keeps : (p : Spot) (t : Target) (s : State) → HasTarget p t s → is_of_action t ≡ true → (k : Keyword) → Keeps (function t k (behind_target p t) s)
+  function_keeps p t s g is keyword.Substr = at_source_cell p t g is
+  function_keeps p t s g is keyword.Compute = at_expression_unit p t function_depth (ExpressionRest function_depth [] (Some t) ∷ behind_target p t) g is (outermost [] tt)
+  function_keeps p t s g is keyword.Genatom = closing_keeps t term.Fresh (behind_target p t) s (term_keeps p t term.Fresh s g refl)
+  function_keeps p t s g is keyword.Accept = closing_keeps t term.Accept (behind_target p t) s (term_keeps p t term.Accept s g refl)
+  function_keeps p t s g is _ = tt
+
+  -- ---- compute
+
+  -- what is wanted behind a unit, where it is an operand
+  open_leads : (p : Spot) (t : Target) (s : State) (d : ℕ) (ws : List Wanted) → HasTarget p t s → is_of_action t ≡ true → IsOperand (numbers_in s.values) d true s.formula → AreOpen (numbers_in s.values) t (behind_target p t) d ws → IsPlainly s ws
+  open_leads p t s d ws g is f (outermost waiting waits) = at_last_rest p t waiting g is f waits
+  open_leads p t s d ws g is f (bracket outside waiting further lt waits brackets) = at_bracketed_rest p t outside waiting further g is f lt waits brackets
+
+  unit_bound_keeps : (p : Spot) (t : Target) (s : State) (d : ℕ) (ws : List Wanted) → HasTarget p t s → is_of_action t ≡ true → AreOpen (numbers_in s.values) t (behind_target p t) d ws → (name : Sym) (o : Option ℕ) → number_of name s.values ≡ o → Keeps (unit_bound o ws s)
+  unit_bound_keeps p t s d ws g is brackets name (Some n) e = open_leads p t (with_formula s (formula.variable n)) d ws (forming p t s (formula.variable n) is g) is (refl, number_sighted name s.values n e) brackets
+  unit_bound_keeps p t s d ws g is brackets name None e = tt
+
+  unit_keeps : (p : Spot) (t : Target) (s : State) (d : ℕ) (ws : List Wanted) → HasTarget p t s → is_of_action t ≡ true → AreOpen (numbers_in s.values) t (behind_target p t) d ws → (k : TokenKind) (name : Sym) → Keeps (unit_at k name ws s)
+  unit_keeps p t s d ws g is brackets (kind.Whole n) name = open_leads p t (with_formula s (formula.number n)) d ws (forming p t s (formula.number n) is g) is (refl, refl) brackets
+  unit_keeps p t s d ws g is brackets kind.Variable name = unit_bound_keeps p t s d ws g is brackets name (number_of name s.values) refl
+  unit_keeps p t s d ws g is brackets _ name = tt
+
+  expression_unit_keeps : (p : Spot) (t : Target) (s : State) (d : ℕ) (ws : List Wanted) → HasTarget p t s → is_of_action t ≡ true → AreOpen (numbers_in s.values) t (behind_target p t) d ws → Keeps (expression_unit d w ws s)
+  expression_unit_keeps p t s d ws g is brackets =
+      cond_both (is_left w.kind) _ _ Keeps (λ _. cond_both (nat_lt d most_brackets) _ _ Keeps (λ lt. at_bracketed p t d ws g is lt brackets) (λ _. tt))
+      (λ _. unit_keeps p t s d ws g is brackets w.kind w.name)
+
+  bracketed_keeps : (p : Spot) (t : Target) (s : State) (d : ℕ) (ws : List Wanted) → HasTarget p t s → is_of_action t ≡ true → nat_lt d most_brackets ≡ true → AreOpen (numbers_in s.values) t (behind_target p t) d ws → Keeps (bracketed (suc d) w ws s)
+  bracketed_keeps p t s d ws g is lt brackets =
+      let inside = ExpressionRest (suc d) [] None ∷ ws in
+      cond_both (is_compute w.keyword) _ _ Keeps (λ _. at_expression_unit p t (suc d) inside g is (bracket d [] ws lt tt brackets)) (λ _. expression_unit_keeps p t s (suc d) inside g is (bracket d [] ws lt tt brackets))
+
+  -- an operation, or the end of the expression of a function
+  last_operation_keeps : (p : Spot) (t : Target) (s : State) (waiting : List Waiting) → HasTarget p t s → is_of_action t ≡ true → IsOperand (numbers_in s.values) function_depth true s.formula → AreOperands (numbers_in s.values) function_depth waiting
+      → (o : Option Op) → Keeps (operation_at function_depth waiting (Some t) o (behind_target p t) s)
+  last_operation_keeps p t s waiting g is f waits (Some o) =
+      let more : List Waiting = record { left = s.formula; op = o } ∷ waiting in
+      at_expression_unit p t function_depth (ExpressionRest function_depth more (Some t) ∷ behind_target p t) g is (outermost more (f, waits))
+  last_operation_keeps p t s waiting g is f waits None = tt
+
+  last_rest_keeps : (p : Spot) (t : Target) (s : State) (waiting : List Waiting) → HasTarget p t s → is_of_action t ≡ true → IsOperand (numbers_in s.values) function_depth true s.formula → AreOperands (numbers_in s.values) function_depth waiting
+      → Keeps (expression_rest function_depth waiting (Some t) w (behind_target p t) s)
+  last_rest_keeps p t s waiting g is f waits =
+      let whole = operand_completed (numbers_in s.values) function_depth waiting s.formula f waits in
+      cond_both (is_right w.kind) _ _ Keeps
+      (λ _. term_keeps p t (term.Compute (completed s.formula waiting)) (with_formula s no_formula) (forming p t s no_formula is g) (and_from _ _ whole.0 whole.1))
+      (λ _. last_operation_keeps p t s waiting g is f waits (operation_of w.keyword))
+
+  -- an operation, or the end of an expression in brackets
+  module _ (p : Spot) (t : Target) (s : State) (d : ℕ) (waiting : List Waiting) (ws : List Wanted) (g : HasTarget p t s) (is : is_of_action t ≡ true) (f : IsOperand (numbers_in s.values) (suc d) true s.formula) (lt : nat_lt d most_brackets ≡ true)
+      (waits : AreOperands (numbers_in s.values) (suc d) waiting) (brackets : AreOpen (numbers_in s.values) t (behind_target p t) d ws) where
+    bracketed_operation_keeps : (o : Option Op) → Keeps (operation_at (suc d) waiting None o ws s)
+    bracketed_operation_keeps (Some o) =
+        let more : List Waiting = record { left = s.formula; op = o } ∷ waiting in
+        at_expression_unit p t (suc d) (ExpressionRest (suc d) more None ∷ ws) g is (bracket d more ws lt (f, waits) brackets)
+    bracketed_operation_keeps None = tt
+
+    bracketed_rest_keeps : Keeps (expression_rest (suc d) waiting None w ws s)
+    bracketed_rest_keeps =
+        let x = completed s.formula waiting in
+        let whole = operand_completed (numbers_in s.values) (suc d) waiting s.formula f waits in
+        cond_both (is_right w.kind) _ _ Keeps
+        (λ _. open_leads p t (with_formula s x) d ws (forming p t s x is g) is (operand_bracketed (numbers_in s.values) d x lt whole) brackets) (λ _. bracketed_operation_keeps (operation_of w.keyword))
+
+  -- ---- substr
+
+  source_named_keeps : (p : Spot) (t : Target) (s : State) → HasTarget p t s → is_of_action t ≡ true → (o : Option ℕ) → number_of w.name s.elements ≡ o → Keeps (source_named o (SourceAttribute t ∷ behind_target p t) s)
+  source_named_keeps p t s g is (Some c) e =
+      let right = (acting p t s is g).1 in
+      at_source_attribute p t (sourcing p t s c s.source_field is g) is (ltb-true _ _ (number_below w.name s.elements c (length (classes_of_cells s)) right.named e))
+  source_named_keeps p t s g is None e = tt
+
+  source_at_keeps : (p : Spot) (t : Target) (s : State) → HasTarget p t s → is_of_action t ≡ true → IsSource s → (o : Option ℕ) → position (λ a. a.0 == w.name.0) (source_class s).attrs ≡ o
+      → Keeps (source_at t w.name o (behind_target p t) s)
+  source_at_keeps p t s g is there (Some f) e =
+      let lt : f < length (source_class s).attrs = (position-Some (λ a. a.0 == w.name.0) (source_class s).attrs f (record { 0 = 0 }) e).0 in
+      at_source_end p t w.name (sourcing p t s s.source f is g) is there (lt-ltb _ _ lt)
+  source_at_keeps p t s g is there None e = tt
+
+  source_end_keeps : (p : Spot) (t : Target) (name : Sym) (s : State) → HasTarget p t s → is_of_action t ≡ true → IsSource s → is_attribute (source_class s) s.source_field ≡ true
+      → Keeps (source_end t name w (Closes EndsWhole ∷ behind_target p t) s)
+  source_end_keeps p t name s g is there has =
+      let plain = source_plain s (acting p t s is g).1 there in
+      let ends : (x : Term) → term_is_plain s.classes (in_sight s) (takes_several t) x ≡ true → Keeps (term_at t x (Closes EndsWhole ∷ behind_target p t) s) = λ x h. closing_keeps t x (behind_target p t) s (term_keeps p t x s g h) in
+      cond_both (ends_at_inf w s) _ _ Keeps
+      (λ inf. cond_both (takes_several t) _ _ Keeps
+      (λ several.
+      let vector = and_parts (is_inf w.keyword) (is_vector (source_class s) s.source_field) inf in
+      ends (term.Rest s.source) (and_from _ _ (and_from _ _ several plain) (and_parts (source_class s).vector _ vector.1).0)) (λ _. tt))
+      (λ _. cond_both (is_name w.kind && (w.name.0 == name.0)) _ _ Keeps (λ _. ends (term.One s.source s.source_field) (and_from _ _ plain has)) (λ _. tt))
+
+  -- ---- a test, in a conjunction or alone
+
+  -- what is wanted behind it
+  abbrev behind_it : Spot → ℕ → List Wanted
+  behind_it p f = behind_test p.braces p.more p.among f
+
+  variable_keeps : (p : Spot) (f : ℕ) (q : Pred) (s : State) → HasPlace p.more f s → (o : Option ℕ) → number_of w.name s.values ≡ o
+      → Keeps (variable_tested f q o w.name (behind_it p f) s)
+  variable_keeps p f q s g (Some n) e =
+      test_goes_on p.braces p.more p.among f (with_test s f q (operand.Variable n) false)
+      (test_kept s f q (operand.Variable n) g.0 g.1 (number_sighted w.name s.values n e), g.1, more_tested p.more s f q (operand.Variable n) false g.2)
+  variable_keeps p f pred.Eq s g None e = test_goes_on p.braces p.more p.among f (with_bound s f w.name) (test_bound s f w.name g.0 g.1, g.1, more_bound p.more s f w.name g.2)
+  variable_keeps p f _ s g None e = tt
+
+  operand_keeps : (p : Spot) (f : ℕ) (q : Pred) (s : State) → HasPlace p.more f s → (o : Option Value) → Keeps (constant_tested f q w o (behind_it p f) s)
+  operand_keeps p f q s g (Some v) = constant_keeps p (ToTest f q) v s g
+  operand_keeps p f q s g None = cond_both (is_variable w.kind) _ _ Keeps (λ _. variable_keeps p f q s g (number_of w.name s.values) refl) (λ _. tt)
+
+  tested_keeps : (p : Spot) (f : ℕ) (q : Pred) (s : State) → HasPlace p.more f s → Keeps (tested f q w (behind_it p f) s)
+  tested_keeps p f q s g = cond_both (is_literal w.keyword) _ _ Keeps (λ _. at_atom p (ToTest f q) g) (λ _. operand_keeps p f q s g (constant_of w.kind w.name))
+
+  predicated_keeps : (p : Spot) (f : ℕ) (s : State) → HasPlace p.more f s → (o : Option Pred) → Keeps (predicated f w o (behind_it p f) s)
+  predicated_keeps p f s g (Some q) = at_tested p f q g
+  predicated_keeps p f s g None = tested_keeps p f pred.Eq s g
+
+  test_keeps : (p : Spot) (f : ℕ) (s : State) → HasPlace p.more f s → Keeps (test f w (behind_it p f) s)
+  test_keeps p f s g = cond_both (opens_choice w.keyword) _ _ Keeps (λ _. at_choice p f (place_choosing p.more f s [] g)) (λ _. predicated_keeps p f s g (pred_of w.keyword))
+
+  place_keeps : (b : Braces) (more : Option ℕ) (f : ℕ) (s : State) → HasPlace more f s → Keeps (place f w (behind_place b more) s)
+  place_keeps b more f s g = cond_both (is_left_brace w.kind) _ _ Keeps (λ _. at_tests b more f g) (λ _. test_keeps (spot b more false f) f s g)
+
+  chosen_keeps : (p : Spot) (f : ℕ) (s : State) → HasPlace p.more f s → (o : Option Value) → Keeps (chosen o (Choice f ∷ behind_it p f) s)
+  chosen_keeps p f s g (Some v) = at_choice p f (place_choosing p.more f s (s.choice ++ v ∷ []) g)
+  chosen_keeps p f s g None = tt
+
+  choice_keeps : (p : Spot) (f : ℕ) (s : State) → HasPlace p.more f s → Keeps (choice f w (behind_it p f) s)
+  choice_keeps p f s g =
+      cond_both (closes_choice w.keyword) _ _ Keeps
+      (λ _. test_goes_on p.braces p.more p.among f (with_choice s f)
+      (choosing (with_test s f pred.Eq (operand.OneOf s.choice) false) [] (test_kept s f pred.Eq (operand.OneOf s.choice) g.0 g.1 refl), g.1, more_chosen p.more s f g.2))
+      (λ _. chosen_keeps p f s g (atom_of w.kind w.name))
+
+  -- ---- the end of an element
+
+  conditions_keep : (b : Braces) (s : State) → Conditions s → Keeps (Next (behind b InPattern) s)
+  conditions_keep Bare s g = at_patterns g
+  conditions_keep NamedBefore s g = at_closes_brace g
+  conditions_keep NamedBehind s g = at_element_name g
+
+  element_keeps : (b : Braces) (u : Use) (s : State) → IsElement u s → Keeps (Next (behind b u) (with_element u s))
+  element_keeps b InPattern s g =
+      let c : Condition = record { class = s.class; negated = s.negated; tests = s.tests } in
+      let k = after_conditions nothing_numbered s.conditions in
+      let left = g.around.1 in
+      let more = length-append s.conditions (c ∷ []) in
+      let room = g.around.2 in
+      conditions_keep b (with_element InPattern s) (
+        g.around.0,
+        record {
+          plain = conditions_push s.classes s.conditions nothing_numbered c left.plain (and_from _ _ (lt-ltb _ _ g.class) g.fields);
+          count = after_conditions-push s.conditions nothing_numbered c ∙ condition_counted s.negated s.around k (after_tests k s.tests) s.values s.variables left.count left.sight;
+          within = λ is. absurd (true≢false (sym is));
+          sight = λ is. absurd (true≢false (sym is));
+          cells = below_more s.elements (length (cells_of s.conditions)) (length (cells_of (s.conditions ++ c ∷ []))) (cells_more s.conditions c) left.cells;
+        },
+        refl,
+        begun_positive s.conditions c g.around.3,
+        omega (arith, more, room),
+        refl,
+      )
+  element_keeps b InPut s g = at_actions (g.around.0, element_kept s g)
+  element_keeps b InFixed s g = at_forms (command_kept s (fixed_command s.shows s.class s.fixed) g.around (constants_plain s.classes s.shows s.class s.fixed g.class g.fields))
+
+  terms_keep : (b : Braces) (u : Use) (s : State) → IsElement u s → Keeps (terms u w (behind b u) s)
+  terms_keep b u s g =
+      cond_both (is_right w.kind) _ _ Keeps (λ _. element_keeps b u s g) (λ _. cond_both (is_caret w.kind) _ _ Keeps (λ _. at_attribute b u g) (λ _. tt))
+
+  -- ---- the vector attribute
+
+  within_keeps : (b : Bool) (r : Step) → (b ≡ true → Keeps r) → Keeps (within b r)
+  within_keeps true r keeps = keeps refl
+  within_keeps false (Next ws s) keeps = tt
+  within_keeps false (Refuses f) keeps = tt
+
+  one_of_several_keeps : (b : Braces) (u : Use) (f : ℕ) (s : State) → HasSeveral u f s → Keeps (one_of_several u f w (behind b u) s)
+  one_of_several_keeps b InPattern f s g =
+      within_keeps (nat_lt f most_fields) (place f w (behind_place b (Some (f + 1))) s)
+      (λ room. place_keeps b (Some (f + 1)) f s (g.0, or_right _ _ (and_from _ _ g.1 room), g.1))
+  one_of_several_keeps b InPut f s g = value_keeps (spot b None false f) ToTerms s g
+  one_of_several_keeps b InFixed f s g =
+      within_keeps (nat_lt (f + length s.constants) most_fields) (value_for ToConstants w (Several InFixed f ∷ behind b InFixed) s)
+      (λ room. value_keeps (spot b None false f) ToConstants s (g, ltb-true _ _ room))
+
+  several_keep : (b : Braces) (u : Use) (f : ℕ) (s : State) → HasSeveral u f s → Keeps (several u f w (behind b u) s)
+  several_keep b u f s g =
+      cond_both (is_right w.kind || is_caret w.kind) _ _ Keeps (λ _. terms_keep b u (with_several u f s) (several_kept u s f g)) (λ _. one_of_several_keeps b u f s g)
+
+  -- ---- productions
+
+  -- one more condition
+  one_more_keeps : (ws : List Wanted) (s : State) → (length s.conditions < most_conditions → IsPlainly s ws) → Keeps (one_more ws s)
+  one_more_keeps ws s h = cond_both (nat_lt (length s.conditions) most_conditions) _ _ Keeps (λ lt. h (ltb-true _ _ lt)) (λ _. tt)
+
+  patterns_keep : (s : State) → Conditions s → Keeps (patterns w (Actions ∷ Forms ∷ []) s)
+  patterns_keep s g =
+      cond_both (is_arrow w.keyword) _ _ Keeps (λ _. at_actions (g.0, right_kept s g.1 g.2 g.3 g.4))
+      (λ _. cond_both (is_left w.kind) _ _ Keeps
+      (λ _. one_more_keeps _ s (λ lt. at_class_name Bare InPattern ((g.0, g.1, lt, begins_behind s.conditions s.negated g.3), g.2)))
+      (λ _. cond_both (is_left_brace w.kind) _ _ Keeps
+      (λ _. one_more_keeps _ s (λ lt. at_braced ((g.0, g.1, lt, begins_behind s.conditions s.negated g.3), g.2)))
+      (λ _. cond_both (is_minus w.keyword) _ _ Keeps
+      (λ _. one_more_keeps _ (record s { negated = true; around = length s.values }) (λ lt. at_pattern Bare ((g.0, negated_begun s g.1 g.2, lt, begins_behind s.conditions true g.3), g.2))) (λ _. tt))))
+
+  -- an element variable in front of what may follow
+  element_at_keeps : (ws : List Wanted) (s : State) → IsPlainly (record s { element = w.name }) ws → (o : Option ℕ) → Keeps (element_at o w.name ws s)
+  element_at_keeps ws s h (Some c) = tt
+  element_at_keeps ws s h None = h
+
+  element_name_keeps : (ws : List Wanted) (s : State) → IsPlainly (record s { element = w.name }) ws → Keeps (element_name w ws s)
+  element_name_keeps ws s h = cond_both (is_variable w.kind) _ _ Keeps (λ _. element_at_keeps ws s h (number_of w.name s.elements)) (λ _. tt)
+
+  action_word_keeps : (s : State) → Base s × Right s → (k : Keyword) → Keeps (action_word k (Actions ∷ Forms ∷ []) s)
+  action_word_keeps s g keyword.Make = at_class_name Bare InPut (g, (refl, refl))
+  action_word_keeps s g keyword.Modify = at_modified (g.0, g.1, refl)
+  action_word_keeps s g keyword.Remove = at_cell (g.0, g.1, refl)
+  action_word_keeps s g keyword.Write = at_items (g.0, g.1, refl)
+  action_word_keeps s g keyword.Bind = at_bound_name g
+  action_word_keeps s g keyword.Cbind = at_cell_name g
+  action_word_keeps s g keyword.Halt = at_halt g
+  action_word_keeps s g _ = tt
+
+  -- ---- designators
+
+  cell_keeps : (s : State) → HasCells s → (r : Result ℕ Fault) → cell_of w.kind w.name s ≡ r → Keeps (with_designated r (Cells ∷ Actions ∷ Forms ∷ []) s)
+  cell_keeps s g (Ok c) e =
+      let more = length-append s.cells (c ∷ []) in
+      let there = cell_there s w.kind w.name c g.1 e in
+      at_cells ((g.0, g.1, all_push (λ c. nat_lt c (length (classes_of_cells s))) s.cells c g.2 (lt-ltb _ _ there)), omega (arith, more))
+  cell_keeps s g (Err f) e = tt
+
+  modified_keeps : (s : State) → Base s × Right s × (s.puts ≡ []) → (r : Result ℕ Fault) → cell_of w.kind w.name s ≡ r → Keeps (with_modified r (Terms InPut ∷ Actions ∷ Forms ∷ []) s)
+  modified_keeps s g (Ok c) e =
+      let there = cell_there s w.kind w.name c g.1 e in
+      let class = unwrap_or (slice_get (classes_of_cells s) c) 0 in
+      at_terms Bare InPut (record {
+        around = (g.0, g.1);
+        class = ltb-true _ _ (all_at (λ c. nat_lt c (length s.classes)) (classes_of_cells s) c 0 g.1.cells there);
+        fields = (ap (list_all (put_is_plain s.classes (in_sight s) (class_of s.classes class))) g.2, (there, refl));
+      })
+  modified_keeps s g (Err f) e = tt
+
+  cell_bound_keeps : (s : State) → Base s × Right s → (o : Option ℕ) → s.made ≡ o → Keeps (cell_bound o w.name (Closes EndsWhole ∷ Actions ∷ Forms ∷ []) s)
+  cell_bound_keeps s g (Some class) e = at_whole (Actions ∷ Forms ∷ []) (at_actions (g.0, cell_kept s class w.name e g.1))
+  cell_bound_keeps s g None e = tt
+
+  bound_value_keeps : (s : State) → Base s × Right s → Keeps (bound_value w (Actions ∷ Forms ∷ []) s)
+  bound_value_keeps s g =
+      cond_both (is_right w.kind) _ _ Keeps (λ _. at_actions (bind_kept s term.Fresh (number_of s.variable s.values) refl g refl)) (λ _. value_keeps (spot Bare None false 0) ToBind s g)
+
+  -- ---- items
+
+  item_word_keeps : (s : State) → HasItems s → (k : Keyword) → Keeps (item_word k (Items ∷ Actions ∷ Forms ∷ []) s)
+  item_word_keeps s g keyword.Crlf = at_crlf g
+  item_word_keeps s g keyword.Tabto = at_columns ToTab g
+  item_word_keeps s g keyword.Rjust = at_columns ToRight g
+  item_word_keeps s g keyword.Substr = function_keeps (spot Bare None false 0) ToItem s g refl keyword.Substr
+  item_word_keeps s g keyword.Compute = function_keeps (spot Bare None false 0) ToItem s g refl keyword.Compute
+  item_word_keeps s g keyword.Genatom = function_keeps (spot Bare None false 0) ToItem s g refl keyword.Genatom
+  item_word_keeps s g keyword.Accept = function_keeps (spot Bare None false 0) ToItem s g refl keyword.Accept
+  item_word_keeps s g _ = tt
+
+  columns_keep : (s : State) → HasItems s → (c : Column) → (o : Option ℕ) → small_of w.kind ≡ o → Keeps (columns_at c o (Closes EndsWhole ∷ Items ∷ Actions ∷ Forms ∷ []) s)
+  columns_keep s g c (Some n) e = at_whole (Items ∷ Actions ∷ Forms ∷ []) (at_items (item_pushed s (column_item c n) g (column_plain s.classes (in_sight s) c n (small_there w.kind n e))))
+  columns_keep s g c None e = tt
+
+  -- ---- commands
+
+  -- a command more, and behind it the next form
+  command_keeps : (c : Command) (s : State) → Base s → command_is_plain s.classes c ≡ true → Keeps (Next (Forms ∷ []) (with_command s c))
+  command_keeps c s g plain = at_forms (command_kept s c g plain)
+
+  -- or its bracket
+  whole_command_keeps : (c : Command) (s : State) → Base s → command_is_plain s.classes c ≡ true → Keeps (Next (Closes EndsWhole ∷ Forms ∷ []) (with_command s c))
+  whole_command_keeps c s g plain = at_whole (Forms ∷ []) (at_forms (command_kept s c g plain))
+
+  counted_keeps : (s : State) → Base s → (o : Option ℕ) → count_of w.kind ≡ o → Keeps (counted o (Forms ∷ []) s)
+  counted_keeps s g (Some n) e = whole_command_keeps (command.Run (Some n)) s g (count_there w.kind n e)
+  counted_keeps s g None e = tt
+
+  count_keeps : (s : State) → Base s → Keeps (count w (Forms ∷ []) s)
+  count_keeps s g = cond_both (is_right w.kind) _ _ Keeps (λ _. command_keeps (command.Run None) s g refl) (λ _. counted_keeps s g (count_of w.kind) refl)
+
+  strategy_set_keeps : (s : State) → Base s → (o : Option Strategy) → Keeps (strategy_set o (Forms ∷ []) s)
+  strategy_set_keeps s g (Some set) = whole_command_keeps (command.Strategy (Some set)) s g refl
+  strategy_set_keeps s g None = tt
+
+  strategy_name_keeps : (s : State) → Base s → Keeps (strategy_name w (Forms ∷ []) s)
+  strategy_name_keeps s g =
+      cond_both (is_right w.kind) _ _ Keeps (λ _. command_keeps (command.Strategy None) s g refl) (λ _. strategy_set_keeps s g (strategy_of w.keyword))
+
+  level_set_keeps : (s : State) → Base s → (o : Option ℕ) → level_of w.kind ≡ o → Keeps (level_set o (Forms ∷ []) s)
+  level_set_keeps s g (Some n) e = whole_command_keeps (command.Watch (Some n)) s g (level_there w.kind n e)
+  level_set_keeps s g None e = tt
+
+  level_keeps : (s : State) → Base s → Keeps (level w (Forms ∷ []) s)
+  level_keeps s g = cond_both (is_right w.kind) _ _ Keeps (λ _. command_keeps (command.Watch None) s g refl) (λ _. level_set_keeps s g (level_of w.kind) refl)
+
+  tag_keeps : (u : TagUse) (s : State) → Base s → list_all is_natural s.tags ≡ true → (o : Option ℕ) → count_of w.kind ≡ o → Keeps (tag_at o (Tags u ∷ Forms ∷ []) s)
+  tag_keeps u s g natural (Some n) e = at_tags u (g, all_push is_natural s.tags n natural (count_there w.kind n e), tag_enough u s.tags n)
+  tag_keeps u s g natural None e = tt
+
+  tag_or_all_keeps : (s : State) → Base s × (s.tags ≡ []) → Keeps (tag_or_all w (Forms ∷ []) s)
+  tag_or_all_keeps s g =
+      cond_both (is_all w.keyword) _ _ Keeps (λ _. whole_command_keeps command.RemoveAll s g.0 refl)
+      (λ _. tag_keeps ToRemove s g.0 (ap (list_all is_natural) g.1) (count_of w.kind) refl)
+
+  tags_keep : (u : TagUse) (s : State) → AtTags u s → Keeps (tags u w (Forms ∷ []) s)
+  tags_keep u s g =
+      cond_both (is_right w.kind) _ _ Keeps (λ _. at_forms (command_kept s (tag_command u s.tags) g.0 (tags_plain s.classes u s.tags g.1 g.2)))
+      (λ _. tag_keeps u s g.0 g.1 (count_of w.kind) refl)
+
+  shown_keeps : (s : State) → Base s → Keeps (shown w (Forms ∷ []) s)
+  shown_keeps s g =
+      cond_both (is_right w.kind) _ _ Keeps (λ _. command_keeps (command.Ppwm None) s g refl) (λ _. class_name_keeps Bare InFixed (record s { fixed = []; shows = true }) (g, refl))
+
+  named_rule_keeps : (u : NameUse) (s : State) → Base s → Keeps (named_rule w (NamedRules u ∷ Forms ∷ []) s)
+  named_rule_keeps u s g = cond_both (is_name w.kind) _ _ Keeps (λ _. at_named_rules u (g, name_enough u s.named w.name)) (λ _. tt)
+
+  named_rules_keep : (u : NameUse) (s : State) → AtNames u s → Keeps (named_rules u w (Forms ∷ []) s)
+  named_rules_keep u s g =
+      cond_both (is_right w.kind) _ _ Keeps (λ _. at_forms (command_kept s (name_command u s.named) g.0 (names_plain s.classes u s.named g.1))) (λ _. named_rule_keeps u s g.0)
+
+  -- ---- a word
+
+  pub step_keeps : (s : State) (ws : List Wanted) → IsPlainly s ws → Keeps (step w ws s)
+  unfolding step
+  step_keeps s ws (at_forms g) = cond_both (is_left w.kind) _ _ Keeps (λ _. at_form g) (λ _. tt)
+  step_keeps s ws (at_form g) = form_keeps s g w.keyword
+  step_keeps s ws (at_class_declared g) = class_declared_keeps s g
+  step_keeps s ws (at_attributes g) = attributes_keep s g
+  step_keeps s ws (at_vector_name g) = vector_name_keeps s g
+  step_keeps s ws (at_vector_names g) = cond_both (is_right w.kind) _ _ Keeps (λ _. at_forms g.0) (λ _. vector_name_keeps s g)
+  step_keeps s ws (at_rule_name g) =
+      cond_both (is_name w.kind) _ _ Keeps
+      (λ _. cond_both (is_rule s w.name) _ _ Keeps (λ _. tt) (λ _. at_first_pattern (g, record { plain = refl; count = refl; within = λ is. absurd (true≢false (sym is)); sight = λ is. absurd (true≢false (sym is)); cells = refl }, refl, refl, refl))) (λ _. tt)
+  step_keeps s ws (at_first_pattern g) =
+      let none = g.3 in
+      cond_both (is_left w.kind) _ _ Keeps (λ _. at_class_name Bare InPattern ((g.0, g.1, omega (arith, none), begins_first s.conditions s.negated g.3 g.4), g.2))
+      (λ _. cond_both (is_left_brace w.kind) _ _ Keeps (λ _. at_braced ((g.0, g.1, omega (arith, none), begins_first s.conditions s.negated g.3 g.4), g.2))
+      (λ _. cond_both (is_minus w.keyword) _ _ Keeps (λ _. tt) (λ _. tt)))
+  step_keeps s ws (at_patterns g) = patterns_keep s g
+  step_keeps s ws (at_pattern b g) = cond_both (is_left w.kind) _ _ Keeps (λ _. at_class_name b InPattern g) (λ _. tt)
+  step_keeps s ws (at_braced g) =
+      cond_both (is_left w.kind) _ _ Keeps (λ _. at_class_name NamedBehind InPattern g)
+      (λ _. element_name_keeps (Pattern ∷ ClosesBrace ∷ Patterns ∷ Actions ∷ Forms ∷ []) s (at_pattern NamedBefore g))
+  step_keeps s ws (at_element_name g) = element_name_keeps (ClosesBrace ∷ Patterns ∷ Actions ∷ Forms ∷ []) s (at_closes_brace g)
+  step_keeps s ws (at_closes_brace g) = cond_both (is_right_brace w.kind) _ _ Keeps (λ _. at_patterns (element_bound s g)) (λ _. tt)
+  step_keeps s ws (at_class_name b u g) = class_name_keeps b u s g
+  step_keeps s ws (at_terms b u g) = terms_keep b u s g
+  step_keeps s ws (at_attribute b u g) =
+      cond_both (is_name w.kind) _ _ Keeps (λ _. field_at_keeps b u s g (position (λ a. a.0 == w.name.0) (attributes_of (slice_get s.classes s.class))) refl) (λ _. tt)
+  step_keeps s ws (at_several b u f g) = several_keep b u f s g
+  step_keeps s ws (at_place b more f g) = place_keeps b more f s g
+  step_keeps s ws (at_tests b more f g) = cond_both (is_right_brace w.kind) _ _ Keeps (λ _. place_ends b more s g.0 g.2) (λ _. test_keeps (spot b more true f) f s g)
+  step_keeps s ws (at_tested p f q g) = tested_keeps p f q s g
+  step_keeps s ws (at_choice p f g) = choice_keeps p f s g
+  step_keeps s ws (at_atom p t g) = atom_keeps p t s g (atom_of w.kind w.name)
+  step_keeps s ws (at_value p t g) = value_keeps p t s g
+  step_keeps s ws (at_function p t g is) = function_keeps p t s g is w.keyword
+  step_keeps s ws (at_expression_unit p t d further g is brackets) = expression_unit_keeps p t s d further g is brackets
+  step_keeps s ws (at_last_rest p t waiting g is f waits) = last_rest_keeps p t s waiting g is f waits
+  step_keeps s ws (at_bracketed_rest p t d waiting further g is f lt waits brackets) = bracketed_rest_keeps p t s d waiting further g is f lt waits brackets
+  step_keeps s ws (at_bracketed p t d further g is lt brackets) = bracketed_keeps p t s d further g is lt brackets
+  step_keeps s ws (at_source_cell p t g is) = cond_both (is_variable w.kind) _ _ Keeps (λ _. source_named_keeps p t s g is (number_of w.name s.elements) refl) (λ _. tt)
+  step_keeps s ws (at_source_attribute p t g is there) =
+      cond_both (is_name w.kind) _ _ Keeps (λ _. source_at_keeps p t s g is there (position (λ a. a.0 == w.name.0) (source_class s).attrs) refl) (λ _. tt)
+  step_keeps s ws (at_source_end p t name g is there has) = source_end_keeps p t name s g is there has
+  step_keeps s ws (at_actions g) =
+      cond_both (is_right w.kind) _ _ Keeps (λ _. at_forms (rule_kept s w.past g.0 g.1)) (λ _. cond_both (is_left w.kind) _ _ Keeps (λ _. at_action_word g) (λ _. tt))
+  step_keeps s ws (at_action_word g) = action_word_keeps s g w.keyword
+  step_keeps s ws (at_modified g) = modified_keeps s g (cell_of w.kind w.name s) refl
+  step_keeps s ws (at_bound_name g) = cond_both (is_variable w.kind) _ _ Keeps (λ _. at_bound_value g) (λ _. tt)
+  step_keeps s ws (at_bound_value g) = bound_value_keeps s g
+  step_keeps s ws (at_cell_name g) = cond_both (is_variable w.kind) _ _ Keeps (λ _. cell_bound_keeps s g s.made refl) (λ _. tt)
+  step_keeps s ws (at_cell g) = cell_keeps s g (cell_of w.kind w.name s) refl
+  step_keeps s ws (at_cells g) =
+      cond_both (is_right w.kind) _ _ Keeps
+      (λ _. at_actions (g.0.0, action_kept s (action.Remove s.cells) g.0.1 (and_from _ _ (lt-ltb _ _ g.1) g.0.2) refl)) (λ _. cell_keeps s g.0 (cell_of w.kind w.name s) refl)
+  step_keeps s ws (at_items g) =
+      cond_both (is_right w.kind) _ _ Keeps (λ _. at_actions (g.0, action_kept s (action.Write s.items) g.1 g.2 refl))
+      (λ _. cond_both (is_left w.kind) _ _ Keeps (λ _. at_item_word g) (λ _. value_keeps (spot Bare None false 0) ToItem s g))
+  step_keeps s ws (at_item_word g) = item_word_keeps s g w.keyword
+  step_keeps s ws (at_columns c g) = columns_keep s g c (small_of w.kind) refl
+  step_keeps s ws (at_whole behind g) = cond_both (is_right w.kind) _ _ Keeps (λ _. g) (λ _. tt)
+  step_keeps s ws (at_crlf g) = cond_both (is_right w.kind) _ _ Keeps (λ _. at_items (item_pushed s item.Crlf g refl)) (λ _. tt)
+  step_keeps s ws (at_halt g) = cond_both (is_right w.kind) _ _ Keeps (λ _. at_actions (g.0, action_kept s action.Halt g.1 refl refl)) (λ _. tt)
+  step_keeps s ws (at_count g) = count_keeps s g
+  step_keeps s ws (at_strategy_name g) = strategy_name_keeps s g
+  step_keeps s ws (at_tag_or_all g) = tag_or_all_keeps s g
+  step_keeps s ws (at_tags u g) = tags_keep u s g
+  step_keeps s ws (at_shown g) = shown_keeps s g
+  step_keeps s ws (at_named_rule g) = named_rule_keeps ToPrint s g
+  step_keeps s ws (at_named_rules u g) = named_rules_keep u s g
+  step_keeps s ws (at_level g) = level_keeps s g
+  step_keeps s ws (at_cs g) = cond_both (is_right w.kind) _ _ Keeps (λ _. command_keeps command.Cs s g refl) (λ _. tt)
+  step_keeps s ws (at_exit g) = cond_both (is_right w.kind) _ _ Keeps (λ _. command_keeps command.Exit s g refl) (λ _. tt)

@@ -1,0 +1,381 @@
+-- What holds of what was read so far, for each thing that may be wanted next.
+use Rattle.std.proofs.Common.{◌≡◌, ℕ, ◌+◌, ◌<◌, ◌≤◌, Bool, true, false, ◌==◌, List, [], ◌∷◌, ◌++◌, length, map, take, nat_lt, Option, Some, None, unwrap_or, slice_get}
+use Rattle.std.specs.List.{list_all, list_any}
+use Rattle.ops_base.specs.declared.values.Sym.{Sym}
+use Rattle.ops_base.specs.declared.values.Pred.{Pred}
+use Rattle.ops_base.specs.declared.elements.Class.{Class}
+use Rattle.ops_base.specs.declared.conditions.Test.{Test}
+use Rattle.ops_base.specs.declared.conditions.Condition.{Condition}
+use Rattle.ops_base.specs.declared.actions.Action.{Action}
+use Rattle.ops_base.specs.declared.rules.Rule.{Rule}
+use Rattle.ops_base.specs.declared.commands.Command.{Command}
+use Rattle.ops_base.specs.Expression.{Formula, all_variables}
+use Rattle.ops_base.specs.Valid.{most_fields, most_conditions, are_distinct, class_of, class_is_valid, is_attribute, is_vector, is_field, is_in, Sight, tests_are_valid, sight_after_tests, conditions_are_valid, sight_after_conditions, nothing_in_sight, first_is_positive, cells_of, known_of, is_cell, class_of_cell, is_natural, Known, known_after_actions, term_is_valid, put_is_valid, item_is_valid, actions_are_valid, rule_is_valid, fixed_is_valid, command_is_valid}
+use Rattle.ops_grammar.specs.declared.words.Named.{Named}
+use Rattle.ops_grammar.specs.Grammar.{Use, InPattern, InPut, InFixed, Target, ToTest, ToPut, ToFixed, ToTerms, ToConstants, ToItem, ToBind, EndsHalt, EndsCrlf, EndsCs, EndsExit, EndsWhole, Column, TagUse, ToRemove, ToShow, NameUse, ToPrint, ToBreak, Wanted, Forms, Form, ClassDeclared, Attributes, VectorName, VectorNames, RuleName, FirstPattern, Patterns, Pattern, Braced, ElementName, ClosesBrace, ClassName, Terms, Attribute, Several, Place, Tests, Tested, Choice, Atom, ValueFor, Function, Waiting, ExpressionUnit, ExpressionRest, Bracketed, SourceCell, SourceAttribute, SourceEnd, Actions, ActionWord, Modified, BoundName, BoundValue, CellName, Cell, Cells, Items, ItemWord, Columns, Count, StrategyName, TagOrAll, Tags, Shown, NamedRule, NamedRules, Level, Closes, precedes_classes, State, Step, Next, Refuses}
+
+-- the form that is read began before the first place, and no list is longer than that place, but those of attributes with values
+-- are not longer than the second
+abbrev pub IsShortBy : ℕ → ℕ → State → Type 0
+IsShortBy n m s =
+    (s.first ≤ n) × (length s.classes ≤ n) × (length s.rules ≤ n) × (length s.commands ≤ n) × (length s.tests ≤ n) × (length s.puts ≤ m)
+    × (length s.fixed ≤ m) × (length s.cells ≤ n) × (length s.items ≤ n) × (length s.actions ≤ n) × (length s.choice ≤ n)
+    × (length s.terms ≤ n) × (length s.tags ≤ n) × (length s.named ≤ n)
+
+-- the form that is read began before the place, and no list is longer than the place
+abbrev pub IsShort : ℕ → State → Type 0
+IsShort n s = IsShortBy n n s
+
+-- the forms that were read
+pub record IsProgram (text : ℕ) (classes : List Class) (rules : List Rule) (commands : List Command) : Type 0 where
+  pub classes_valid : list_all class_is_valid classes ≡ true
+  pub rules_valid : list_all (rule_is_valid classes text) rules ≡ true
+  pub commands_valid : list_all (command_is_valid classes) commands ≡ true
+  pub class_names : are_distinct (map (λ c. c.name.0) classes) ≡ true
+  pub rule_names : are_distinct (map (λ r. r.name.0) rules) ≡ true
+
+-- a class may come
+pub record IsDeclaring (text : ℕ) (classes : List Class) (rules : List Rule) (commands : List Command) : Type 0 where
+  pub program : IsProgram text classes rules commands
+  pub no_rules : length rules ≡ 0
+  pub commands_precede : list_all precedes_classes commands ≡ true
+
+-- a class of that name may have these attributes
+pub record IsClass (classes : List Class) (name : Sym) (attrs : List Sym) : Type 0 where
+  pub is_new : list_any (λ c. c.name.0 == name.0) classes ≡ false
+  pub few : length attrs ≤ most_fields
+  pub distinct : are_distinct (map (λ a. a.0) attrs) ≡ true
+
+abbrev pub numbers : List Named → List ℕ
+numbers values = map (λ n. n.number) values
+
+-- the variables of a rule that is read: those in sight, how many were given a number, whether its condition is negated, how many
+-- are in sight around that, and the element variables
+pub record Variables : Type 0 where
+  pub values : List Named
+  pub given : ℕ
+  pub negated : Bool
+  pub around : ℕ
+  pub elements : List Named
+
+-- what is in sight behind the conditions
+abbrev pub seen : List Condition → Sight
+seen conditions = sight_after_conditions nothing_in_sight conditions
+
+abbrev pub all_below : ℕ → List ℕ → Bool
+all_below k ns = list_all (λ n. nat_lt n k) ns
+
+-- the left side of a rule up to some tests of a condition
+pub record IsHead (text : ℕ) (classes : List Class) (rules : List Rule) (commands : List Command) (name : Sym) (v : Variables) (conditions : List Condition) (tests : List Test) : Type 0 where
+  pub program : IsProgram text classes rules commands
+  pub is_new : list_any (λ r. r.name.0 == name.0) rules ≡ false
+  pub few : length conditions ≤ most_conditions
+  pub valid : conditions_are_valid classes nothing_in_sight conditions ≡ true
+  pub first : 0 < length conditions → first_is_positive conditions ≡ true
+  pub bound : (sight_after_tests (seen conditions) tests).bound ≡ numbers v.values
+  pub below : all_below v.given (sight_after_tests (seen conditions) tests).given ≡ true
+  pub room : v.negated ≡ true → v.around ≤ length v.values
+  pub outside : v.negated ≡ true → (seen conditions).bound ≡ numbers (take v.around v.values)
+  pub counted : all_below v.given (numbers v.values) ≡ true
+  pub elements : all_below (length (cells_of conditions)) (numbers v.elements) ≡ true
+
+-- what the right side of a rule knows after some actions
+abbrev pub known : List Condition → List Action → Known
+known conditions actions = known_after_actions (known_of conditions) actions
+
+-- the class of the element that a right side made last, and the classes of the cells that it named
+pub record Side : Type 0 where
+  pub made : Option ℕ
+  pub further : List ℕ
+
+-- what is in sight is what the right side knows
+pub record Knows (k : Known) (v : Variables) (conditions : List Condition) (r : Side) : Type 0 where
+  pub bound : list_all (λ n. is_in n k.bound) (numbers v.values) ≡ true
+  pub given : all_below v.given k.given ≡ true
+  pub counted : all_below v.given (numbers v.values) ≡ true
+  pub cells : k.cells ≡ cells_of conditions ++ r.further
+  pub elements : all_below (length k.cells) (numbers v.elements) ≡ true
+  pub made : k.made ≡ r.made
+
+-- a rule up to some actions
+pub record IsBody (text : ℕ) (classes : List Class) (rules : List Rule) (commands : List Command) (name : Sym) (v : Variables) (conditions : List Condition) (r : Side) (actions : List Action) : Type 0 where
+  pub program : IsProgram text classes rules commands
+  pub is_new : list_any (λ r. r.name.0 == name.0) rules ≡ false
+  pub few : length conditions ≤ most_conditions
+  pub left : conditions_are_valid classes nothing_in_sight conditions ≡ true
+  pub some : first_is_positive conditions ≡ true
+  pub valid : actions_are_valid classes (known_of conditions) actions ≡ true
+  pub knows : Knows (known conditions actions) v conditions r
+
+abbrev pub variables_of : State → Variables
+variables_of s = record { values = s.values; given = s.variables; negated = s.negated; around = s.around; elements = s.elements }
+
+abbrev pub side_of : State → Side
+side_of s = record { made = s.made; further = s.further }
+
+abbrev pub Program : ℕ → State → Type 0
+Program text s = IsProgram text s.classes s.rules s.commands
+
+abbrev pub Declaring : ℕ → State → Type 0
+Declaring text s = IsDeclaring text s.classes s.rules s.commands
+
+abbrev pub Head : ℕ → State → Type 0
+Head text s = IsHead text s.classes s.rules s.commands s.name (variables_of s) s.conditions s.tests
+
+abbrev pub Body : ℕ → State → Type 0
+Body text s = IsBody text s.classes s.rules s.commands s.name (variables_of s) s.conditions (side_of s) s.actions
+
+-- what the right side of the rule that is read knows
+abbrev pub known_in : State → Known
+known_in s = known s.conditions s.actions
+
+-- where an element stands
+abbrev pub Around : Use → ℕ → State → Type 0
+Around InPattern text s = Head text s × (length s.conditions < most_conditions) × (length s.conditions ≡ 0 → s.negated ≡ false)
+Around InPut text s = Body text s
+Around InFixed text s = Program text s
+
+-- no attribute of it was read
+abbrev pub IsEmpty : Use → State → Type 0
+IsEmpty InPattern s = s.tests ≡ []
+IsEmpty InPut s = s.puts ≡ []
+IsEmpty InFixed s = s.fixed ≡ []
+
+-- what an action names: the class of a new element, or a cell, whose class that is
+abbrev pub IsNamed : List Class → Known → ℕ → Option ℕ → Type 0
+IsNamed classes k class None = class < length classes
+IsNamed classes k class (Some cell) = (is_cell k cell ≡ true) × (class ≡ unwrap_or (slice_get k.cells cell) 0)
+
+abbrev pub HasClass : Use → State → Type 0
+HasClass InPattern s = s.class < length s.classes
+HasClass InPut s = IsNamed s.classes (known_in s) s.class s.modified
+HasClass InFixed s = s.class < length s.classes
+
+-- an action names no cell
+abbrev pub IsOfClass : Use → State → Type 0
+IsOfClass InPattern s = Unit {0}
+IsOfClass InPut s = s.modified ≡ None
+IsOfClass InFixed s = Unit {0}
+
+-- the attributes that were read
+abbrev pub HasFields : Use → State → Type 0
+HasFields InPattern s = tests_are_valid (class_of s.classes s.class) (sight_after_conditions nothing_in_sight s.conditions) s.tests ≡ true
+HasFields InPut s = list_all (put_is_valid s.classes (known_in s) (class_of s.classes s.class)) s.puts ≡ true
+HasFields InFixed s = list_all (fixed_is_valid (class_of s.classes s.class)) s.fixed ≡ true
+
+pub record IsElement (u : Use) (text : ℕ) (s : State) : Type 0 where
+  pub around : Around u text s
+  pub class : HasClass u s
+  pub fields : HasFields u s
+
+-- what stands around a pattern of a left side: nothing, or braces with the element variable before it or behind it
+pub data Braces : Type 0 where
+  Bare : Braces
+  NamedBefore : Braces
+  NamedBehind : Braces
+
+-- what is wanted behind a pattern
+abbrev pub behind_pattern : Braces → List Wanted
+behind_pattern Bare = Patterns ∷ Actions ∷ Forms ∷ []
+behind_pattern NamedBefore = ClosesBrace ∷ Patterns ∷ Actions ∷ Forms ∷ []
+behind_pattern NamedBehind = ElementName ∷ ClosesBrace ∷ Patterns ∷ Actions ∷ Forms ∷ []
+
+-- what is wanted after an element
+abbrev pub behind : Braces → Use → List Wanted
+behind b InPattern = behind_pattern b
+behind b InPut = Actions ∷ Forms ∷ []
+behind b InFixed = Forms ∷ []
+
+-- what is wanted behind a place: more attributes, or more places of the vector attribute, the next of which is this field
+abbrev pub behind_place : Braces → Option ℕ → List Wanted
+behind_place b None = Terms InPattern ∷ behind b InPattern
+behind_place b (Some f) = Several InPattern f ∷ behind b InPattern
+
+-- what is wanted behind a test: more tests of a conjunction, or what is wanted behind its place
+abbrev pub behind_test : Braces → Option ℕ → ℕ → Bool → List Wanted
+behind_test b more f true = Tests f ∷ behind_place b more
+behind_test b more f false = behind_place b more
+
+-- an element that is read up to the value of an attribute
+abbrev pub AtField : Use → ℕ → State → ℕ → Type 0
+AtField u text s f = IsElement u text s × (is_attribute (class_of s.classes s.class) f ≡ true)
+
+-- behind the place more places may come
+abbrev pub HasMore : Option ℕ → Class → Type 0
+HasMore None c = Unit {0}
+HasMore (Some f) c = c.vector ≡ true
+
+-- a pattern that is read up to a place for this field
+abbrev pub AtPlace : Option ℕ → ℕ → State → ℕ → Type 0
+AtPlace more text s f = IsElement InPattern text s × (is_field (class_of s.classes s.class) f ≡ true) × HasMore more (class_of s.classes s.class)
+
+-- an element that is read up to some places or values of its vector attribute
+abbrev pub AtSeveral : Use → ℕ → State → ℕ → Type 0
+AtSeveral InPattern text s f = IsElement InPattern text s × ((class_of s.classes s.class).vector ≡ true)
+AtSeveral InPut text s f =
+    IsElement InPut text s × (is_vector (class_of s.classes s.class) f ≡ true) × (list_all (term_is_valid s.classes (known_in s) true) s.terms ≡ true)
+AtSeveral InFixed text s f = IsElement InFixed text s × (is_vector (class_of s.classes s.class) f ≡ true) × (f + length s.constants ≤ most_fields)
+
+-- a left side up to a pattern
+abbrev pub BeforePattern : ℕ → State → Type 0
+BeforePattern text s = Around InPattern text s × IsEmpty InPattern s
+
+-- a left side behind a pattern
+abbrev pub AfterPattern : ℕ → State → Type 0
+AfterPattern text s = Head text s × (s.tests ≡ []) × (0 < length s.conditions)
+
+-- a right side up to an action with some cells, or with some items
+abbrev pub HasCells : ℕ → State → Type 0
+HasCells text s = Body text s × (list_all (is_cell (known_in s)) s.cells ≡ true)
+
+abbrev pub HasItems : ℕ → State → Type 0
+HasItems text s = Body text s × (list_all (item_is_valid s.classes (known_in s)) s.items ≡ true)
+
+-- where a value of an action stands: behind a scalar attribute, among the values of the vector attribute, in `write`, or in `bind`
+pub data Slot : Type 0 where
+  InScalar : (field : ℕ) → Slot
+  InVector : (field : ℕ) → Slot
+  InWrite : Slot
+  InBind : Slot
+
+abbrev pub target_of : Slot → Target
+target_of (InScalar f) = ToPut f
+target_of (InVector f) = ToTerms
+target_of InWrite = ToItem
+target_of InBind = ToBind
+
+-- what is wanted behind the value
+abbrev pub behind_value : Slot → List Wanted
+behind_value (InScalar f) = Terms InPut ∷ Actions ∷ Forms ∷ []
+behind_value (InVector f) = Several InPut f ∷ Actions ∷ Forms ∷ []
+behind_value InWrite = Items ∷ Actions ∷ Forms ∷ []
+behind_value InBind = Closes EndsWhole ∷ Actions ∷ Forms ∷ []
+
+-- an action up to the value, or behind it
+abbrev pub AtValue : Slot → ℕ → State → Type 0
+AtValue (InScalar f) text s = AtField InPut text s f
+AtValue (InVector f) text s = AtSeveral InPut text s f
+AtValue InWrite text s = HasItems text s
+AtValue InBind text s = Body text s
+
+-- the variables of a formula are known
+abbrev pub formula_is_known : Known → Formula → Bool
+formula_is_known k f = all_variables (λ v. is_in v k.bound) f
+
+-- an expression that is open: the number of brackets that are open in it, and what waits there
+pub record Opened : Type 0 where
+  pub depth : ℕ
+  pub waiting : List Waiting
+
+-- the variables of all that waits in it are known
+abbrev pub opened_is_known : Known → Opened → Bool
+opened_is_known k o = list_all (λ w. formula_is_known k w.left) o.waiting
+
+-- where the value of an expression goes, inside of those that are open: into the innermost of them, or to where the function stands
+abbrev pub into_opened : Slot → List Opened → Option Target
+into_opened slot [] = Some (target_of slot)
+into_opened slot (o ∷ os) = None
+
+-- what is wanted behind an operand of expressions that are open, the innermost first
+abbrev pub behind_operand : Slot → List Opened → List Wanted
+behind_operand slot [] = behind_value slot
+behind_operand slot (o ∷ os) = ExpressionRest o.depth o.waiting (into_opened slot os) ∷ behind_operand slot os
+
+-- a `compute` up to an operand, where all that waits is known
+abbrev pub AtOperand : Slot → List Opened → ℕ → State → Type 0
+AtOperand slot os text s = AtValue slot text s × (list_all (opened_is_known (known_in s)) os ≡ true)
+
+-- one behind an operand, which is known too
+abbrev pub HasOperand : Slot → List Opened → ℕ → State → Type 0
+HasOperand slot os text s = AtOperand slot os text s × (formula_is_known (known_in s) s.formula ≡ true)
+
+-- a `substr` up to its first attribute, and up to what ends it
+abbrev pub HasSource : Slot → ℕ → State → Type 0
+HasSource slot text s = AtValue slot text s × (is_cell (known_in s) s.source ≡ true)
+
+abbrev pub HasSourceField : Slot → ℕ → State → Type 0
+HasSourceField slot text s = HasSource slot text s × (is_attribute (class_of_cell s.classes (known_in s) s.source) s.source_field ≡ true)
+
+-- so many tags, or names, as the command that they are for needs
+abbrev pub HasTags : TagUse → List ℕ → Type 0
+HasTags ToRemove tags = 0 < length tags
+HasTags ToShow tags = Unit {0}
+
+abbrev pub HasNames : NameUse → List Sym → Type 0
+HasNames ToPrint names = 0 < length names
+HasNames ToBreak names = Unit {0}
+
+-- a command up to its next tag, or to its next name
+abbrev pub AtTags : TagUse → ℕ → State → Type 0
+AtTags u text s = Program text s × (list_all is_natural s.tags ≡ true) × HasTags u s.tags
+
+abbrev pub AtNames : NameUse → ℕ → State → Type 0
+AtNames u text s = Program text s × HasNames u s.named
+
+-- what may be wanted, and what then holds
+pub data IsRead (text : ℕ) (s : State) : List Wanted → Type 0 where
+  at_forms : (Program text s) → IsRead text s (Forms ∷ [])
+  at_form : (Program text s) → IsRead text s (Form ∷ Forms ∷ [])
+  at_class_declared : (Declaring text s) → IsRead text s (ClassDeclared ∷ Attributes ∷ Forms ∷ [])
+  at_attributes : (Declaring text s × IsClass s.classes s.name s.attrs) → IsRead text s (Attributes ∷ Forms ∷ [])
+  at_vector_name : (Declaring text s) → IsRead text s (VectorName ∷ VectorNames ∷ Forms ∷ [])
+  at_vector_names : (Declaring text s) → IsRead text s (VectorNames ∷ Forms ∷ [])
+  at_rule_name : (Program text s) → IsRead text s (RuleName ∷ FirstPattern ∷ Patterns ∷ Actions ∷ Forms ∷ [])
+  at_first_pattern : (Head text s × (s.tests ≡ []) × (length s.conditions ≡ 0) × (s.negated ≡ false)) → IsRead text s (FirstPattern ∷ Patterns ∷ Actions ∷ Forms ∷ [])
+  at_patterns : (AfterPattern text s) → IsRead text s (Patterns ∷ Actions ∷ Forms ∷ [])
+  at_pattern : (b : Braces) → (BeforePattern text s) → IsRead text s (Pattern ∷ behind b InPattern)
+  at_braced : (BeforePattern text s) → IsRead text s (Braced ∷ Patterns ∷ Actions ∷ Forms ∷ [])
+  at_element_name : (AfterPattern text s) → IsRead text s (ElementName ∷ ClosesBrace ∷ Patterns ∷ Actions ∷ Forms ∷ [])
+  at_closes_brace : (AfterPattern text s) → IsRead text s (ClosesBrace ∷ Patterns ∷ Actions ∷ Forms ∷ [])
+  at_class_name : (b : Braces) → (u : Use) → (Around u text s × IsEmpty u s × IsOfClass u s) → IsRead text s (ClassName ∷ Terms u ∷ behind b u)
+  at_terms : (b : Braces) → (u : Use) → (IsElement u text s) → IsRead text s (Terms u ∷ behind b u)
+  at_attribute : (b : Braces) → (u : Use) → (IsElement u text s) → IsRead text s (Attribute u ∷ behind b u)
+  at_several : (b : Braces) → (u : Use) → (f : ℕ) → AtSeveral u text s f → IsRead text s (Several u f ∷ behind b u)
+  at_place : (b : Braces) → (more : Option ℕ) → (f : ℕ) → AtPlace more text s f → IsRead text s (Place f ∷ behind_place b more)
+  at_tests : (b : Braces) → (more : Option ℕ) → (f : ℕ) → AtPlace more text s f → IsRead text s (Tests f ∷ behind_place b more)
+  at_tested : (b : Braces) → (more : Option ℕ) → (f : ℕ) → (p : Pred) → (among : Bool) → AtPlace more text s f → IsRead text s (Tested f p ∷ behind_test b more f among)
+  at_choice : (b : Braces) → (more : Option ℕ) → (f : ℕ) → (among : Bool) → AtPlace more text s f → IsRead text s (Choice f ∷ behind_test b more f among)
+  at_test_atom : (b : Braces) → (more : Option ℕ) → (f : ℕ) → (p : Pred) → (among : Bool) → AtPlace more text s f → IsRead text s (Atom (ToTest f p) ∷ behind_test b more f among)
+  at_fixed_value : (f : ℕ) → AtField InFixed text s f → IsRead text s (ValueFor (ToFixed f) ∷ Terms InFixed ∷ behind Bare InFixed)
+  at_fixed_atom : (f : ℕ) → AtField InFixed text s f → IsRead text s (Atom (ToFixed f) ∷ Terms InFixed ∷ behind Bare InFixed)
+  at_constants_atom : (f : ℕ) → AtSeveral InFixed text s f → (f + length s.constants < most_fields) → IsRead text s (Atom ToConstants ∷ Several InFixed f ∷ behind Bare InFixed)
+  at_value : (slot : Slot) → AtValue slot text s → IsRead text s (ValueFor (target_of slot) ∷ behind_value slot)
+  at_atom : (slot : Slot) → AtValue slot text s → IsRead text s (Atom (target_of slot) ∷ behind_value slot)
+  at_function : (slot : Slot) → AtValue slot text s → IsRead text s (Function (target_of slot) ∷ behind_value slot)
+  at_expression_unit : (slot : Slot) → (depth : ℕ) → (o : Opened) → (os : List Opened) → AtOperand slot (o ∷ os) text s → IsRead text s (ExpressionUnit depth ∷ behind_operand slot (o ∷ os))
+  at_bracketed : (slot : Slot) → (depth : ℕ) → (o : Opened) → (os : List Opened) → AtOperand slot (o ∷ os) text s → IsRead text s (Bracketed depth ∷ behind_operand slot (o ∷ os))
+  at_expression_rest : (slot : Slot) → (o : Opened) → (os : List Opened) → HasOperand slot (o ∷ os) text s → IsRead text s (behind_operand slot (o ∷ os))
+  at_source_cell : (slot : Slot) → AtValue slot text s → IsRead text s (SourceCell ∷ SourceAttribute (target_of slot) ∷ behind_value slot)
+  at_source_attribute : (slot : Slot) → HasSource slot text s → IsRead text s (SourceAttribute (target_of slot) ∷ behind_value slot)
+  at_source_end : (slot : Slot) → (name : Sym) → HasSourceField slot text s → IsRead text s (SourceEnd (target_of slot) name ∷ Closes EndsWhole ∷ behind_value slot)
+  at_value_end : (slot : Slot) → AtValue slot text s → IsRead text s (Closes EndsWhole ∷ behind_value slot)
+  at_actions : (Body text s) → IsRead text s (Actions ∷ Forms ∷ [])
+  at_action_word : (Body text s) → IsRead text s (ActionWord ∷ Actions ∷ Forms ∷ [])
+  at_modified : (Body text s × (s.puts ≡ [])) → IsRead text s (Modified ∷ Terms InPut ∷ Actions ∷ Forms ∷ [])
+  at_bound_name : (Body text s) → IsRead text s (BoundName ∷ BoundValue ∷ Actions ∷ Forms ∷ [])
+  at_bound_value : (Body text s) → IsRead text s (BoundValue ∷ Actions ∷ Forms ∷ [])
+  at_cell_name : (Body text s) → IsRead text s (CellName ∷ Closes EndsWhole ∷ Actions ∷ Forms ∷ [])
+  at_action_end : (Body text s) → IsRead text s (Closes EndsWhole ∷ Actions ∷ Forms ∷ [])
+  at_cell : (HasCells text s) → IsRead text s (Cell ∷ Cells ∷ Actions ∷ Forms ∷ [])
+  at_cells : (HasCells text s × (0 < length s.cells)) → IsRead text s (Cells ∷ Actions ∷ Forms ∷ [])
+  at_items : (HasItems text s) → IsRead text s (Items ∷ Actions ∷ Forms ∷ [])
+  at_item_word : (HasItems text s) → IsRead text s (ItemWord ∷ Items ∷ Actions ∷ Forms ∷ [])
+  at_columns : (c : Column) → (HasItems text s) → IsRead text s (Columns c ∷ Closes EndsWhole ∷ Items ∷ Actions ∷ Forms ∷ [])
+  at_crlf : (HasItems text s) → IsRead text s (Closes EndsCrlf ∷ Items ∷ Actions ∷ Forms ∷ [])
+  at_halt : (Body text s) → IsRead text s (Closes EndsHalt ∷ Actions ∷ Forms ∷ [])
+  at_count : (Program text s) → IsRead text s (Count ∷ Forms ∷ [])
+  at_strategy_name : (Program text s) → IsRead text s (StrategyName ∷ Forms ∷ [])
+  at_tag_or_all : (Program text s × (s.tags ≡ [])) → IsRead text s (TagOrAll ∷ Forms ∷ [])
+  at_tags : (u : TagUse) → (AtTags u text s) → IsRead text s (Tags u ∷ Forms ∷ [])
+  at_shown : (Program text s) → IsRead text s (Shown ∷ Forms ∷ [])
+  at_named_rule : (Program text s) → IsRead text s (NamedRule ∷ NamedRules ToPrint ∷ Forms ∷ [])
+  at_named_rules : (u : NameUse) → (AtNames u text s) → IsRead text s (NamedRules u ∷ Forms ∷ [])
+  at_level : (Program text s) → IsRead text s (Level ∷ Forms ∷ [])
+  at_cs : (Program text s) → IsRead text s (Closes EndsCs ∷ Forms ∷ [])
+  at_exit : (Program text s) → IsRead text s (Closes EndsExit ∷ Forms ∷ [])
+  at_command_end : (Program text s) → IsRead text s (Closes EndsWhole ∷ Forms ∷ [])
+
+-- where a step leads, up to a place
+abbrev pub Leads : ℕ → ℕ → Step → Type 0
+Leads text n (Next ws s) = IsShort n s × IsRead text s ws
+Leads text n (Refuses f) = Unit {0}

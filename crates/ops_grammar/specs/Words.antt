@@ -1,0 +1,135 @@
+-- The words of a text.
+use Rattle.std.specs.Prelude.{ℕ, zero, suc, List, [], ◌∷◌, length, codes, bytes_eq, Bool, true, false, if◌then◌else◌, Option, Some, None, Ok, Err}
+use Rattle.ops_base.specs.Names.{Spellings, place_of, with_spelling}
+use Rattle.ops_tokens.specs.declared.token.Token.{Token}
+use Rattle.ops_tokens.specs.declared.token.TokenKind.{TokenKind}
+use Rattle.ops_tokens.specs.declared.token.TokenKind.TheVariants as kind
+use Rattle.ops_tokens.specs.declared.token.LexFault.{LexFault}
+use Rattle.ops_tokens.specs.Tokens.{Next, token_at, spelling}
+use Rattle.ops_grammar.specs.declared.words.Word.{Word}
+use Rattle.ops_grammar.specs.declared.words.Keyword.{Keyword}
+use Rattle.ops_grammar.specs.declared.words.Keyword.TheVariants as keyword
+
+-- the keyword of a plain symbol that stands in a command alone
+abbrev pub keyword_of_command : List ℕ → Keyword
+keyword_of_command s =
+    if bytes_eq s (codes "run") then keyword.Run
+    else if bytes_eq s (codes "strategy") then keyword.Strategy
+    else if bytes_eq s (codes "lex") then keyword.Lex
+    else if bytes_eq s (codes "mea") then keyword.Mea
+    else if bytes_eq s (codes "wm") then keyword.Wm
+    else if bytes_eq s (codes "ppwm") then keyword.Ppwm
+    else if bytes_eq s (codes "cs") then keyword.Cs
+    else if bytes_eq s (codes "pm") then keyword.Pm
+    else if bytes_eq s (codes "watch") then keyword.Watch
+    else if bytes_eq s (codes "pbreak") then keyword.Pbreak
+    else if bytes_eq s (codes "exit") then keyword.Exit
+    else keyword.Other
+
+-- the keyword of a plain symbol that names a function or an operation
+abbrev pub keyword_of_function : List ℕ → Keyword
+keyword_of_function s =
+    if bytes_eq s (codes "compute") then keyword.Compute
+    else if bytes_eq s (codes "genatom") then keyword.Genatom
+    else if bytes_eq s (codes "accept") then keyword.Accept
+    else if bytes_eq s (codes "+") then keyword.Plus
+    else if bytes_eq s (codes "*") then keyword.Times
+    else if bytes_eq s (codes "\\\\") then keyword.Remainder
+    else if bytes_eq s (codes "\\") then keyword.Remainder
+    else keyword_of_command s
+
+-- the keyword of a plain symbol
+abbrev pub keyword_of_symbol : List ℕ → Keyword
+keyword_of_symbol s =
+    if bytes_eq s (codes "literalize") then keyword.Literalize
+    else if bytes_eq s (codes "vector-attribute") then keyword.VectorAttribute
+    else if bytes_eq s (codes "p") then keyword.Production
+    else if bytes_eq s (codes "make") then keyword.Make
+    else if bytes_eq s (codes "remove") then keyword.Remove
+    else if bytes_eq s (codes "modify") then keyword.Modify
+    else if bytes_eq s (codes "write") then keyword.Write
+    else if bytes_eq s (codes "bind") then keyword.Bind
+    else if bytes_eq s (codes "cbind") then keyword.Cbind
+    else if bytes_eq s (codes "crlf") then keyword.Crlf
+    else if bytes_eq s (codes "tabto") then keyword.Tabto
+    else if bytes_eq s (codes "rjust") then keyword.Rjust
+    else if bytes_eq s (codes "substr") then keyword.Substr
+    else if bytes_eq s (codes "inf") then keyword.Inf
+    else if bytes_eq s (codes "halt") then keyword.Halt
+    else keyword_of_function s
+
+-- the keyword of an operator
+abbrev pub keyword_of_operator : List ℕ → Keyword
+keyword_of_operator s =
+    if bytes_eq s (codes "-->") then keyword.Arrow
+    else if bytes_eq s (codes "=") then keyword.Equal
+    else if bytes_eq s (codes "<>") then keyword.NotEqual
+    else if bytes_eq s (codes "<") then keyword.Less
+    else if bytes_eq s (codes "<=") then keyword.AtMost
+    else if bytes_eq s (codes ">") then keyword.Greater
+    else if bytes_eq s (codes ">=") then keyword.AtLeast
+    else if bytes_eq s (codes "<=>") then keyword.SameKind
+    else if bytes_eq s (codes "<<") then keyword.OpenChoice
+    else if bytes_eq s (codes ">>") then keyword.CloseChoice
+    else if bytes_eq s (codes "//") then keyword.Literal
+    else if bytes_eq s (codes "-") then keyword.Minus
+    else keyword.Other
+
+abbrev pub keyword_of : TokenKind → List ℕ → Keyword
+keyword_of kind.Symbol s = keyword_of_symbol s
+keyword_of kind.Operator s = keyword_of_operator s
+keyword_of _ s = keyword.Other
+
+-- its spelling is a symbol of the text
+abbrev pub has_name : TokenKind → Bool
+has_name kind.Symbol = true
+has_name kind.Quoted = true
+has_name kind.Variable = true
+has_name kind.Operator = true
+has_name _ = false
+
+-- the names with a token's spelling, if it has a name
+abbrev pub names_with : Spellings → TokenKind → List ℕ → Spellings
+names_with names k s = if has_name k then record names { held = with_spelling names.held s } else names
+
+abbrev pub name_in : Spellings → TokenKind → List ℕ → ℕ
+name_in names k s = if has_name k then place_of names.held s else 0
+
+abbrev pub word_of : Spellings → Token → List ℕ → Word
+word_of names t s =
+    record { kind = t.kind; keyword = keyword_of t.kind s; name = record { 0 = name_in names t.kind s }; first = t.first; past = t.past }
+
+-- the words of tokens of a text, where these names are held before them
+abbrev pub words_from : List ℕ → Spellings → List Token → List Word
+words_from text names [] = []
+words_from text names (t ∷ ts) = word_of names t (spelling text t) ∷ words_from text (names_with names t.kind (spelling text t)) ts
+
+-- the names that are held behind them
+abbrev pub names_from : List ℕ → Spellings → List Token → Spellings
+names_from text names [] = names
+names_from text names (t ∷ ts) = names_from text (names_with names t.kind (spelling text t)) ts
+
+-- the tokens of a text up to its end or its first lexical fault
+pub record Lexed : Type 0 where
+  pub tokens : List Token
+  pub stop : Option LexFault
+
+abbrev pub led_by : Token → Lexed → Lexed
+led_by t l = record { tokens = t ∷ l.tokens; stop = l.stop }
+
+abbrev pub lexed_after : (ℕ → Lexed) → Next → Lexed
+lexed_after rest (Ok None) = record { tokens = []; stop = None }
+lexed_after rest (Ok (Some t)) = led_by t (rest t.past)
+lexed_after rest (Err f) = record { tokens = []; stop = Some f }
+
+-- at most n tokens from a place on
+abbrev pub lexed_from : ℕ → List ℕ → ℕ → Lexed
+lexed_from zero text from = record { tokens = []; stop = None }
+lexed_from (suc n) text from = lexed_after (lexed_from n text) (token_at text from)
+
+-- all tokens from a place on: a text has no more of them than bytes
+abbrev pub lexed_at : List ℕ → ℕ → Lexed
+lexed_at text from = lexed_from (suc (length text)) text from
+
+abbrev pub lexed : List ℕ → Lexed
+lexed text = lexed_at text 0
