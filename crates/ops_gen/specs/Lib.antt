@@ -1,0 +1,2 @@
+-- The text of the generated workload.
+pub mod Workload
