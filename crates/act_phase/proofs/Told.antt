@@ -49,13 +49,13 @@ line_here names classes start cs i column next x within is at =
 pub all_traced : (watch column : ℕ) (lines : List (List ℕ)) → nat_le 2 watch ≡ true → traced watch column lines ≡ lines_at column lines
 all_traced watch column lines is = ap (λ b. cond b (lines_at column lines) []) is
 
--- ---- behind an action
+-- ---- after an action
 
 -- what tells the changes since these
 abbrev pub told : Setting → Changed → ℕ → Meant → Effect Missed Meant
 told s w column d = writes (traced s.watch column (change_lines d.names s.classes (memory_of w) (drop (length w.changes) d.changes))) d
 
--- the lines of the changes behind the first so many
+-- the lines of the changes, without this many from the front
 abbrev pub lines_since : Spellings → List Class → ℕ → Changed → List (List ℕ)
 lines_since names classes n w = change_lines names classes (done w.start (take n w.changes)) (drop n w.changes)
 

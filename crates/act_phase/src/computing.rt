@@ -126,7 +126,7 @@ fn put(stack: &mut Operands, given: Computed) -> Result<(), OutOfMemory>
     Ok(())
 }
 
-/// Does an operation on the two operands that were put last, the left one behind the right one.
+/// Does an operation on the two operands that were put last, the left one after the right one.
 fn operate(stack: &mut Operands, op: Op) -> Result<(), OutOfMemory>
     ensures { OnOk result (reverse stack.new.items ≡ operate (applied op) (reverse stack.old.items)) }
 {

@@ -49,7 +49,7 @@ fn no_fields(alloc: Global, classes: &[Class], class: usize) -> Result<Vec<Value
     }
 }
 
-/// Places a value at a field, or behind the last one.
+/// Places a value at a field, or after the last one.
 fn place_value(fields: &mut Vec<Value>, at: usize, value: Value) -> Result<(), OutOfMemory>
     requires { at < MOST_FIELDS }
     ensures { OnOk result (value_placed at value fields.old.items ≡ Some fields.new.items) }

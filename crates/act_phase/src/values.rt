@@ -64,7 +64,7 @@ fn scalar_count(classes: &[Class], class: usize) -> usize
     }
 }
 
-/// The values of the vector attribute, behind so many others.
+/// The values of the vector attribute, after this many others.
 fn rest(element: Option<&Element>, count: usize) -> &[Value]
     ensures { result.now ≡ drop count (unwrap_or (option_copied element.entry) no_element).fields }
 {

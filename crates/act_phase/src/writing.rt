@@ -49,7 +49,7 @@ fn put_led<K: Sink>(
     put_value(out, sink, names, value)
 }
 
-/// Puts values, the first behind this lead and the others apart.
+/// Puts values, the first after this lead and the others apart.
 fn put_values<K: Sink>(
     out: &mut Out,
     sink: &mut K,

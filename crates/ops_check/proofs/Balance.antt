@@ -290,7 +290,7 @@ module _ (w : Word) (quiet : (n : ℕ) → (w.keyword ≡ keyword.Other → ⊥)
   named : (ws : List Wanted) → is_name w.kind ≡ true → owed ws ≡ open_behind (owed ws) w.kind
   named ws e = sym (name_keeps w.kind (owed ws) e)
 
-  -- ---- what a step does behind its tests
+  -- ---- what a step does after its tests
 
   class_at_balanced : (o : Option ℕ) (ws : List Wanted) (s : State) → is_name w.kind ≡ true → stands ws ≡ true → B ws (class_at o ws s)
   class_at_balanced (Some c) ws s e h = (h, named ws e)

@@ -1,4 +1,4 @@
--- A right side behind its left side, up to the bracket that closes the production.
+-- A right side after its left side, up to the bracket that closes the production.
 use Rattle.std.proofs.Common.{◌≡◌, ℕ, ◌-◌, List, [], ◌∷◌, ◌++◌, length, slice_get, Some, refl, sym, ap, ◌∙◌, arith}
 use Rattle.std.proofs.Math.ListN.{length-append}
 use Rattle.ops_base.specs.declared.actions.Action.{Action}
@@ -28,12 +28,12 @@ some_is : (v w : Word) → Some v ≡ Some w → v ≡ w
 some_is v w e = cc
 
 module _ (s : State) (conditions : List Condition) (values elements : List Named) (variables : ℕ) where
-  -- what is in sight behind the left side
+  -- what is in sight after the left side
   abbrev pub sighted : Sight
   sighted =
       record { values = values; elements = elements; cells = cells_of conditions; conditions = cells_from 0 conditions; variables = variables }
 
-  -- the state behind it
+  -- the state after it
   abbrev behind : State
   behind = left_read s conditions values elements variables
 
@@ -49,7 +49,7 @@ module _ (s : State) (conditions : List Condition) (values elements : List Named
         conditions_are = refl;
       }
 
-  -- the right side is read behind it, and its bracket adds the rule
+  -- the right side is read after it, and its bracket adds the rule
   pub right_is_read : s ≡ left_begun s → (words rest : List Word) (actions : List Action) (sight : Sight) (r : ReadsRight s.classes sighted words rest actions sight) (new : State) (bracket : Word) → slice_get words (length words - length rest - 1) ≡ Some bracket → (items : List Condition) → items ≡ conditions → new ≡ with_rule (right_read (record s { conditions = items }) actions sight r.further) bracket.past → (more : List Word) (ws : List Wanted) → goes (words ++ more) (Actions ∷ ws) behind ≡ goes (rest ++ more) ws new
   right_is_read begun words rest actions sight r new bracket there items same ended more ws =
       let at : r.behind.last ≡ bracket = some_is _ _ (sym (bracket_at words rest r.behind) ∙ there) in

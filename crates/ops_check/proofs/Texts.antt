@@ -63,7 +63,7 @@ stray_fault text names from at s (atom f e numeric place) = rw place (rw numeric
 
 -- ---- a form
 
--- the text is read on from behind the tokens
+-- the text is read on from after the tokens
 led_reads : (text : List ℕ) (names : Spellings) (from : ℕ) (s new : State) (ts : List Token) (l : Lexed) → lexed_at text from ≡ led ts l → ((more : List Word) → goes (words_from text names ts ++ more) (Forms ∷ []) s ≡ goes more (Forms ∷ []) new) → rest_of text names from s ≡ rest_by text (names_from text names ts) new l
 led_reads text names from s new ts l e goes_on =
     ap (rest_by text names s) e ∙ rw (words_append text names ts l.tokens, names_append text names ts l.tokens, goes_on (words_from text (names_from text names ts) l.tokens)) refl
@@ -73,7 +73,7 @@ led_refused : (text : List ℕ) (names : Spellings) (from : ℕ) (s : State) (ts
 led_refused text names from s ts l f w e fails =
     ap (rest_by text names s) e ∙ rw (words_append text names ts l.tokens, fails (words_from text (names_from text names ts) l.tokens)) refl
 
--- the tokens are all, and the form is open behind them
+-- the tokens are all, and the form is open after them
 led_cut : (text : List ℕ) (names : Spellings) (from : ℕ) (s : State) (ts : List Token) (stop : Option LexFault) (f : Fault) → lexed_at text from ≡ led ts (none_by stop) → goes (words_from text names ts ++ []) (Forms ∷ []) s ≡ Err (f, None) → rest_of text names from s ≡ Err (cut_off (length text) stop)
 led_cut text names from s ts stop f e cut =
     ap (rest_by text names s) e ∙ rw (words_append text names ts [], cut) refl

@@ -1,4 +1,4 @@
--- Steps of the walk over the words of a command, with more words behind.
+-- Steps of the walk over the words of a command, with more words after.
 use Rattle.std.proofs.Common.{◌≡◌, false, true, List, [], ◌∷◌, ◌++◌, refl}
 use Rattle.ops_grammar.specs.declared.words.Word.{Word}
 use Rattle.ops_grammar.specs.Grammar.{InFixed, Wanted, Shown, ClassName, Terms, State, goes, step, is_right}

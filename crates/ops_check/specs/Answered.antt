@@ -44,7 +44,7 @@ IsAnswer read (Err answer.OutOfMemory) = Unit {0}
 abbrev pub placed : Placed → TextFault
 placed p = answer.At p.fault p.at
 
--- what stops the tokens behind a form
+-- what stops the tokens after a form
 abbrev pub stop_of : FormEnd → Option LexFault
 stop_of end.Closed = None
 stop_of (end.Fault f) = Some f

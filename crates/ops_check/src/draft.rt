@@ -105,14 +105,14 @@ impl Draft {
         }
     }
 
-    // whether a class may still be declared: no production was read, and no command behind which a declaration is late
+    // whether a class may still be declared: no production was read, and no command after which a declaration is late
     pub fn may_declare(&self) -> bool
         ensures { result ≡ may_declare (view self.now) }
     {
         self.rules.len() == 0 && self.commands.may_declare()
     }
 
-    // whether a production may still be read: no command was read behind which it is late
+    // whether a production may still be read: no command was read after which it is late
     pub fn may_produce(&self) -> bool
         ensures { result ≡ may_produce (view self.now) }
     {

@@ -1,4 +1,4 @@
-//! The commands that were read, and whether a declaration or a production would be late behind them.
+//! The commands that were read, and whether a declaration or a production would be late after them.
 ghost use Rattle.std.specs.Prelude.{◌≡◌, ◌++◌, ◌∷◌, [], OnErr, OnOk};
 ghost use Rattle.std.specs.List.{list_all};
 ghost use Rattle.ops_grammar.specs.Grammar.{precedes_classes, precedes_rules};
@@ -8,13 +8,13 @@ use ops_base::memory::OutOfMemory;
 use std::alloc::Global;
 use std::marker::Model;
 
-/// The commands that were read, in order. What may still stand behind them is kept, and told without a look through them.
+/// The commands that were read, in order. What may still stand after them is kept, and told without a look through them.
 #[derive(Drop)]
 pub struct GivenCommands {
     list: Vec<Command>,
-    /// Whether a declaration may stand behind each of them.
+    /// Whether a declaration may stand after each of them.
     before_classes: bool,
-    /// Whether a production may stand behind each of them.
+    /// Whether a production may stand after each of them.
     before_rules: bool,
 }
 
@@ -55,14 +55,14 @@ impl GivenCommands {
         Ok(())
     }
 
-    // whether a class may be declared behind each of the commands
+    // whether a class may be declared after each of the commands
     pub fn may_declare(&self) -> bool
         ensures { result ≡ list_all precedes_classes self.now }
     {
         self.before_classes
     }
 
-    // whether a production may stand behind each of them
+    // whether a production may stand after each of them
     pub fn may_produce(&self) -> bool
         ensures { result ≡ list_all precedes_rules self.now }
     {
@@ -76,7 +76,7 @@ impl GivenCommands {
     }
 }
 
-// whether a class may be declared behind this command
+// whether a class may be declared after this command
 fn precedes_classes(command: &Command) -> bool
     ensures { result ≡ precedes_classes command.now }
 {
@@ -86,7 +86,7 @@ fn precedes_classes(command: &Command) -> bool
     )
 }
 
-// whether a production may stand behind this command
+// whether a production may stand after this command
 fn precedes_rules(command: &Command) -> bool
     ensures { result ≡ precedes_rules command.now }
 {

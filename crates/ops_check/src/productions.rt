@@ -60,7 +60,7 @@ impl Draft {
         self.actions(left, rest)
     }
 
-    // action* ), behind this left side
+    // action* ), after this left side
     fn actions<'a>(&mut self, left: LeftSide, words: &'a [Word]) -> Result<&'a [Word], Refusal>
         requires begun { view self.old ≡ left_begun (view self.old) }
         ensures reads { Goes (λ more ws. goes (words.now ++ more) (Actions ∷ ws) (left_read (view self.old) left.conditions.items left.values left.elements left.variables)) (view self.new) result }

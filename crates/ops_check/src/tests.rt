@@ -493,7 +493,7 @@ fn a_fault_is_told(rt: HostRuntime) -> Result<(), Fail> {
     Ok(())
 }
 
-// a text that makes an element of a class with a vector attribute alone, with so many values
+// a text that makes an element of a class with a vector attribute alone, with this many values
 fn made_of(alloc: Global, values: usize) -> Result<Vec<u8>, OutOfMemory> {
     let head = b"(literalize a x) (vector-attribute x) (make a ^x";
     let mut text = Vec::from_slice(alloc, head)?;

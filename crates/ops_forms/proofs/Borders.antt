@@ -114,7 +114,7 @@ module _ (is_it : Word → Type 0) (scope : Scope) (tokens : List Token) (from :
   pub begins : from ≤ length tokens - length rest - 1
   begins = omega (arith, counted)
 
-  -- the words behind the place
+  -- the words after the place
   pub rest_is : drop (length tokens - length rest - 1 + 1 - from) (words_of_scope scope tokens from) ≡ rest
   rest_is =
       let next : length tokens - length rest - 1 + 1 - from ≡ length b.before + 1 = omega (arith, counted) in

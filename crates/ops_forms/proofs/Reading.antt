@@ -49,7 +49,7 @@ lexed_fault text from f is = ap (lexed_after (lexed_from (length text) text)) is
 led_more : (ts : List Token) (t : Token) (l : Lexed) → led ts (led_by t l) ≡ led (ts ++ t ∷ []) l
 led_more ts t l = ap (λ (tokens : List Token). record { tokens = tokens; stop = l.stop }) (sym (append_assoc ts (t ∷ []) l.tokens))
 
--- how many brackets are open behind the tokens
+-- how many brackets are open after the tokens
 abbrev pub depth_of : ℕ → List Token → ℕ
 depth_of n [] = n
 depth_of n (t ∷ ts) = depth_of (open_behind n t.kind) ts
@@ -128,7 +128,7 @@ begun_more text from ts at t b is =
       lie = All-append (λ t. LiesIn text t) ts (t ∷ []) b.lie (one_lies text t stands.lies);
     }
 
--- behind the bracket `left`, at each place from which it is the next token, these tokens leave so many brackets open
+-- after the bracket `left`, at each place from which it is the next token, these tokens leave this many brackets open
 pub record IsOpen (text : List ℕ) (left : Token) (tokens : List Token) (at depth : ℕ) : Type 0 where
   pub begun : (from : ℕ) → from ≤ length text → token_at text from ≡ Ok (Some left) → IsBegun text from tokens at
   pub stays : stays_open 0 tokens ≡ true

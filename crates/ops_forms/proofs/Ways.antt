@@ -1,4 +1,4 @@
--- Steps of the walk over words, with more words behind.
+-- Steps of the walk over words, with more words after.
 use Rattle.std.proofs.Common.{◌≡◌, ℕ, ◌==◌, true, false, slice_get, position, ◌||◌, List, [], ◌∷◌, ◌++◌, None, Some, Result, Ok, Err, refl, ◌∙◌, if◌then◌else◌}
 use Rattle.std.specs.Borrow.{Bor}
 use Rattle.ops_base.specs.declared.elements.Class.{Class}

@@ -14,7 +14,7 @@ use Rattle.ops_forms.specs.declared.form.FormEnd.TheVariants as end
 use Rattle.ops_forms.specs.declared.form.FormFault.{FormFault}
 use Rattle.ops_forms.specs.declared.form.FormFault.TheVariants as fault
 
--- how many brackets are open behind a token, where so many are open before it
+-- how many brackets are open after a token, where this many are open before it
 abbrev pub open_behind : ℕ → TokenKind → ℕ
 open_behind n kind.Left = n + 1
 open_behind n kind.Right = n - 1
@@ -29,7 +29,7 @@ abbrev pub closes_last : ℕ → List Token → Bool
 closes_last n [] = false
 closes_last n (t ∷ ts) = if open_behind n t.kind == 0 then is_last ts else closes_last (open_behind n t.kind) ts
 
--- a bracket is open behind each of the tokens
+-- a bracket is open after each of the tokens
 abbrev pub stays_open : ℕ → List Token → Bool
 stays_open n [] = true
 stays_open n (t ∷ ts) = not (open_behind n t.kind == 0) && stays_open (open_behind n t.kind) ts

@@ -7,11 +7,11 @@ use Rattle.ops_grammar.specs.Grammar.{Use, Ends, Wanted, Terms, Closes, State, S
 use Rattle.ops_forms.specs.declared.refusals.Refusal.{Refusal}
 use Rattle.ops_forms.specs.declared.refusals.Refusal.TheVariants as refusal
 
--- how it goes with more words behind and with more wanted afterwards
+-- how it goes with more words after and with more wanted afterwards
 abbrev pub Way : Type 0
 Way = List Word → List Wanted → Outcome
 
--- A refusal is the one that this ends in: at a word whatever stands behind it, and at none where none does.
+-- A refusal is the one that this ends in: at a word whatever stands after it, and at none where none does.
 abbrev pub Fails : Way → Refusal → Type 0
 Fails from refusal.OutOfMemory = Unit {0}
 Fails from (refusal.At f None) = (ws : List Wanted) → from [] ws ≡ Err (f, None)

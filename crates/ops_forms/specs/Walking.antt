@@ -11,11 +11,11 @@ use Rattle.ops_forms.specs.declared.refusals.ReadFault.{ReadFault}
 use Rattle.ops_forms.specs.declared.refusals.ReadFault.TheVariants as answer
 use Rattle.ops_forms.specs.declared.scope.Scope.{Scope}
 
--- how it goes with more words behind, with more wanted afterwards, and with that state around
+-- how it goes with more words after, with more wanted afterwards, and with that state around
 abbrev pub Way : Type 0
 Way = List Word → List Wanted → State → Outcome
 
--- A refusal is the one that this ends in: at a word whatever stands behind it, and at none where none does.
+-- A refusal is the one that this ends in: at a word whatever stands after it, and at none where none does.
 abbrev pub Fails : Way → Refusal → Type 0
 Fails from refusal.OutOfMemory = Unit {0}
 Fails from (refusal.At f None) = (ws : List Wanted) (s : State) → from [] ws s ≡ Err (f, None)
@@ -45,7 +45,7 @@ GoesToAmong holds w from words new (Err e) = FailsAmong holds from e
 
 -- ---- words
 
--- the word at a place, with the place behind it, or the refusal of a text that ends in a form
+-- the word at a place, with the place after it, or the refusal of a text that ends in a form
 abbrev pub Takes : List Word → ℕ → Result (Word × ℕ) Refusal → Type 0
 Takes words at (Ok x) = (drop at words ≡ x.0 ∷ drop x.1 words) × (x.1 ≡ at + 1) × (x.1 ≤ length words)
 Takes words at (Err e) = (drop at words ≡ []) × (e ≡ refusal.At fault.Unclosed None)
@@ -68,7 +68,7 @@ abbrev pub IsFrom : ℕ → Result ℕ Refusal → Type 0
 IsFrom at (Ok next) = at ≤ next
 IsFrom at (Err e) = IsPlaced e
 
--- these words stand behind a word of that kind in those
+-- these words stand after a word of that kind in those
 pub record AreBehind (is_it : Word → Type 0) (words rest : List Word) : Type 0 where
   pub before : List Word
   pub last : Word

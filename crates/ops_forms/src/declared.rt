@@ -134,7 +134,7 @@ impl<T: Titled + Drop> Declared<T> {
         }
     }
 
-    /// Leaves the first so many, or all where there are not more. Takes time for those that it drops.
+    /// Leaves this many from the front, or all where there are not more. Takes time for those that it drops.
     pub fn truncate(&mut self, len: usize)
         ensures { self.new ≡ take len self.old }
     {

@@ -18,9 +18,9 @@ use thiserror::Error;
 pub enum FormEnd {
     /// The last token closes the form.
     Closed,
-    /// No token stands behind them, by this fault, and the form is open.
+    /// No token stands after them, by this fault, and the form is open.
     Fault(LexFault),
-    /// The text ends behind them, and the form is open.
+    /// The text ends after them, and the form is open.
     Text,
 }
 
@@ -119,7 +119,7 @@ impl FormReader {
     }
 }
 
-/// How many brackets are open behind a token, where `depth` are open before it.
+/// How many brackets are open after a token, where `depth` are open before it.
 fn depth_behind(depth: usize, kind: TokenKind) -> usize
     requires inside { 0 < depth }
     requires fits { depth < 2 ^ 63 }

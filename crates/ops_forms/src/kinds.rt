@@ -92,21 +92,21 @@ pub fn opens_choice(keyword: Keyword) -> bool
     matches!(keyword, Keyword::OpenChoice)
 }
 
-/// Whether a word is `>>`, behind constants.
+/// Whether a word is `>>`, after constants.
 pub fn closes_choice(keyword: Keyword) -> bool
     ensures { result ≡ closes_choice keyword }
 {
     matches!(keyword, Keyword::CloseChoice)
 }
 
-/// Whether a word is `inf`, behind the vector attribute.
+/// Whether a word is `inf`, after the vector attribute.
 pub fn is_inf(keyword: Keyword) -> bool
     ensures { result ≡ is_inf keyword }
 {
     matches!(keyword, Keyword::Inf)
 }
 
-/// Whether a word is `compute`, behind a bracket.
+/// Whether a word is `compute`, after a bracket.
 pub fn is_compute(keyword: Keyword) -> bool
     ensures { result ≡ is_compute keyword }
 {

@@ -24,7 +24,7 @@ pub fn has_vector(vectors: &Declared<Sym>, attrs: &[Sym]) -> bool
     attrs.iter().any(|attr| is_one_of(*attr, vectors))
 }
 
-/// The attributes in their order, the vector attributes behind the others.
+/// The attributes in their order, the vector attributes after the others.
 pub fn arranged(
     alloc: Global,
     vectors: &Declared<Sym>,

@@ -11,7 +11,7 @@ use ops_base::endings::Fault;
 use ops_grammar::Word;
 use ops_tokens::Token;
 
-/// The word at a place, and the place behind it.
+/// The word at a place, and the place after it.
 pub fn first_of(words: &[Word], at: usize) -> Result<(Word, usize), Refusal>
     ensures { Takes words.now at result }
 {
@@ -24,7 +24,7 @@ pub fn first_of(words: &[Word], at: usize) -> Result<(Word, usize), Refusal>
     }
 }
 
-/// A closing bracket at a place, and the place behind it.
+/// A closing bracket at a place, and the place after it.
 #[tactic(auto, unfolding(ops_grammar::specs::Grammar::goes, ops_grammar::specs::Grammar::step, ops_grammar::specs::Grammar::ends))]
 pub fn closing(words: &[Word], at: usize) -> Result<usize, Refusal>
     ensures reads { ReadsClosing words.now at result }

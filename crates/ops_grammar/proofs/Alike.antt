@@ -121,7 +121,7 @@ pub spelling-alike : (spelling : List ℕ) (name : Sym) (first past : ℕ) (h : 
     → step (record { kind = kind.Symbol; keyword = keyword_of_symbol spelling; name = name; first = first; past = past }) (h ∷ ws) s ≡ step (spelled_name name) (h ∷ ws) s
 spelling-alike spelling name first past h ws s e = symbol-alike (keyword_of_symbol spelling) name first past h ws s (symbol_unmarked spelling) e
 
--- Behind the first attribute of a `substr` a plain symbol is read as the same name in bars, but for `inf`.
+-- After the first attribute of a `substr` a plain symbol is read as the same name in bars, but for `inf`.
 pub end-alike : (k : Keyword) (name : Sym) (first past : ℕ) (t : Target) (again : Sym) (ws : List Wanted) (s : State) → is_inf k ≡ false
     → step (record { kind = kind.Symbol; keyword = k; name = name; first = first; past = past }) (SourceEnd t again ∷ ws) s ≡ step (spelled_name name) (SourceEnd t again ∷ ws) s
 unfolding step
@@ -137,7 +137,7 @@ atom_named kind.Variable name e = refl
 atom_named kind.Operator name e = refl
 atom_named _ name e = absurd (true≢false (sym e))
 
--- Behind // each atom that is no number is read as the same name in bars, whatever it spells.
+-- After // each atom that is no number is read as the same name in bars, whatever it spells.
 pub literal-alike : (w : Word) (t : Target) (ws : List Wanted) (s : State) → has_name w.kind ≡ true → step w (Atom t ∷ ws) s ≡ step (spelled_name w.name) (Atom t ∷ ws) s
 unfolding step
 literal-alike w t ws s e = ap (λ (o : Option Value). atom_at t o ws s) (atom_named w.kind w.name e)
@@ -264,7 +264,7 @@ moved-alike w first past (Closes x) ws s e = refl
 
 -- ---- how many brackets are open
 
--- the same where so many are open
+-- the same where this many are open
 abbrev pub with_depth : ℕ → Wanted → Wanted
 with_depth d (ExpressionUnit e) = ExpressionUnit d
 with_depth d (ExpressionRest e waiting into) = ExpressionRest d waiting into

@@ -50,7 +50,7 @@ pub attribute_completed : (vs : List Sym) (u : Use) (ws : List Wanted) (w : Word
 attribute_completed vs u ws w true is e c = (closing ∷ c.0, a_vector_attribute 0 is e (no_more_of_several (no_term refl c.1)))
 attribute_completed vs u ws w false is e c = let k = scalar_completed vs u ws c in (k.0, a_scalar_attribute 0 is e k.1)
 
--- `( C )`, `( )` and the like behind a head
+-- `( C )`, `( )` and the like after a head
 complete : (vs : List Sym) (w : Wanted) (ws : List Wanted) → ((vs : List Sym) → Completed vs ws) → Completed vs (w ∷ ws)
 complete vs Forms ws c = ((c vs).0, no_form (c vs).1)
 complete vs Form ws c = (named keyword.Run ∷ closing ∷ (c vs).0, a_run refl (no_count refl (c vs).1))

@@ -22,7 +22,7 @@ use Rattle.ops_grammar.specs.Derivation.{is_whole, is_designator, is_operand, is
 use Rattle.ops_grammar.proofs.Completed.{completed, attribute_completed}
 use Rattle.ops_grammar.proofs.Arranged.{AreArranged, StayArranged, stays_arranged, kind_agrees}
 
--- forms are wanted only behind all else
+-- forms are wanted only after all else
 abbrev pub forms_last : List Wanted → Bool
 forms_last [] = true
 forms_last (Forms ∷ []) = true
@@ -33,7 +33,7 @@ forms_last (w ∷ ws) = forms_last ws
 abbrev pub Stays : List Wanted → List Wanted → Type 0
 Stays ws ws' = forms_last ws ≡ true → forms_last ws' ≡ true
 
--- The step continues what derives behind it, with the names of vector attributes that were read by then, or the word derives where
+-- The step continues what derives after it, with the names of vector attributes that were read by then, or the word derives where
 -- it is refused in a form.
 abbrev pub Continues : List Sym → List Wanted → Word → Step → Type 0
 Continues vs ws w (Next ws' s') = Stays ws ws' × ((ts : List Word) → Derives s'.vectors ws' ts → Derives vs ws (w ∷ ts))
@@ -100,14 +100,14 @@ atom_choice : (w : Word) (v : Value) → closes_choice w.keyword ≡ false → a
 atom_choice w v c e = and_from _ _ (ap not c) (ap (λ (o : Option Value). is_some o) e)
 
 module _ (w : Word) (ws : List Wanted) (s : State) where
-  -- with what is wanted behind it, the word derives
+  -- with what is wanted after it, the word derives
   behind_names : (vs : List Sym) (head : List Wanted) (ws' : List Wanted) → ((ts : List Word) → Derives vs ws' ts → Derives s.vectors head (w ∷ ts)) → (ts : List Word) × Derives s.vectors head (w ∷ ts)
   behind_names vs head ws' more = let c = completed vs ws' in (c.0, more c.0 c.1)
 
   behind : (head : List Wanted) (ws' : List Wanted) → ((ts : List Word) → Derives s.vectors ws' ts → Derives s.vectors head (w ∷ ts)) → (ts : List Word) × Derives s.vectors head (w ∷ ts)
   behind head ws' more = behind_names s.vectors head ws' more
 
-  -- the state behind the word may be another, with the same names
+  -- the state after the word may be another, with the same names
   kept : (s' : State) → s'.vectors ≡ s.vectors → (head ws' : List Wanted) → ((ts : List Word) → Derives s.vectors ws' ts → Derives s.vectors head (w ∷ ts)) → (ts : List Word) → Derives s'.vectors ws' ts → Derives s.vectors head (w ∷ ts)
   kept s' same head ws' more ts d = more ts (subst (λ (vs : List Sym). Derives vs ws' ts) same d)
 
@@ -152,7 +152,7 @@ module _ (w : Word) (ws : List Wanted) (s : State) where
       (λ _. cond_both (nat_lt (length s.attrs) most_fields) _ _ (Continues s.vectors (Attributes ∷ ws) w) (λ _. (λ h. h, λ ts d. an_attribute e d)) (λ _ _. one e))))
       (λ _ f. no_fault f))
 
-  -- the name of a vector attribute in front of those that may follow it, or of what is wanted behind it
+  -- the name of a vector attribute in front of those that may follow it, or of what is wanted after it
   vector_declared_continues : (head ws' : List Wanted) → Stays head ws' → ((ts : List Word) → Derives (with_name w.name s.vectors) ws' ts → Derives s.vectors head (w ∷ ts)) → Continues s.vectors head w (vector_declared w ws' s)
   vector_declared_continues head ws' stay more =
       let named : (b : Bool) → is_one_of w.name s.vectors ≡ b → cond b s.vectors (s.vectors ++ w.name ∷ []) ≡ with_name w.name s.vectors =
@@ -204,7 +204,7 @@ module _ (w : Word) (ws : List Wanted) (s : State) where
   pattern_continues =
       cond_both (is_left w.kind) _ _ (Continues s.vectors (Pattern ∷ ws) w) (λ e. (λ h. h, λ ts d. a_whole_pattern e d)) (λ _ f. no_fault f)
 
-  -- an element variable in front of what is wanted behind it
+  -- an element variable in front of what is wanted after it
   element_at_continues : (head ws' : List Wanted) → Stays head ws' → ((ts : List Word) → Derives s.vectors ws' ts → Derives s.vectors head (w ∷ ts)) → (o : Option ℕ) → Continues s.vectors head w (element_at o w.name ws' s)
   element_at_continues head ws' stay more (Some c) = λ _. behind head ws' more
   element_at_continues head ws' stay more None = (stay, more)
@@ -223,7 +223,7 @@ module _ (w : Word) (ws : List Wanted) (s : State) where
   closes_brace_continues =
       cond_both (is_right_brace w.kind) _ _ (Continues s.vectors (ClosesBrace ∷ ws) w) (λ e. (λ h. h, λ ts d. a_closed_brace e d)) (λ _ f. no_fault f)
 
-  -- a class in front of what is wanted behind it
+  -- a class in front of what is wanted after it
   class_at_continues : (head ws' : List Wanted) → Stays head ws' → ((ts : List Word) → Derives s.vectors ws' ts → Derives s.vectors head (w ∷ ts)) → (o : Option ℕ) → Continues s.vectors head w (class_at o ws' s)
   class_at_continues head ws' stay more (Some c) = (stay, more)
   class_at_continues head ws' stay more None = λ _. behind head ws' more
@@ -256,7 +256,7 @@ module _ (w : Word) (ws : List Wanted) (s : State) where
       cond_both (is_name w.kind) _ _ (Continues s.vectors (Attribute u ∷ ws) w)
       (λ e. field_at_continues u e (position (λ a. a.0 == w.name.0) (attributes_of (slice_get s.classes s.class))) (λ f at. kind_agrees (Attribute u ∷ ws) s w.name f a at)) (λ _ f. no_fault f)
 
-  -- an operand in front of what is wanted behind it
+  -- an operand in front of what is wanted after it
   module _ (head ws' : List Wanted) (stay : Stays head ws') where
     variable_tested_continues : ((ts : List Word) → Derives s.vectors ws' ts → Derives s.vectors head (w ∷ ts)) → (f : ℕ) (p : Pred) (o : Option ℕ) → Continues s.vectors head w (variable_tested f p o w.name ws' s)
     variable_tested_continues more f p (Some n) = (stay, more)
@@ -289,7 +289,7 @@ module _ (w : Word) (ws : List Wanted) (s : State) where
           cond_both (opens_choice w.keyword) _ _ (Continues s.vectors head w) (λ e. (stay, disjunction e))
           (λ _. predicated_continues (pred_of w.keyword) refl)
 
-    -- a term in front of what is wanted behind it
+    -- a term in front of what is wanted after it
     term_at_continues : ((ts : List Word) → Derives s.vectors ws' ts → Derives s.vectors head (w ∷ ts)) → (t : Target) (x : Term) → Continues s.vectors head w (term_at t x ws' s)
     term_at_continues more (ToPut f) x = (stay, more)
     term_at_continues more ToTerms x = (stay, more)
@@ -298,7 +298,7 @@ module _ (w : Word) (ws : List Wanted) (s : State) where
         let o : Option ℕ = number_of s.variable s.values in (stay, kept (with_bind o s x) (bind_vectors o s x) head ws' more)
     term_at_continues more _ x = λ _. behind head ws' more
 
-    -- a value in front of what is wanted behind it
+    -- a value in front of what is wanted after it
     module _ (t : Target) (more : is_value w ≡ true → (ts : List Word) → Derives s.vectors ws' ts → Derives s.vectors head (w ∷ ts))
         (literal : is_literal w.keyword ≡ true → (ts : List Word) → Derives s.vectors (Atom t ∷ ws') ts → Derives s.vectors head (w ∷ ts))
         (called : is_left w.kind ≡ true → is_of_action t ≡ true → (ts : List Word) → Derives s.vectors (Function t ∷ ws') ts → Derives s.vectors head (w ∷ ts)) where
@@ -330,7 +330,7 @@ module _ (w : Word) (ws : List Wanted) (s : State) where
   function_continues t keyword.Accept e = term_at_continues (Function t ∷ ws) (Closes EndsWhole ∷ ws) (λ h. h) (λ ts d. an_accept e d) t term.Accept
   function_continues t _ e = λ f. no_fault f
 
-  -- a unit in front of what is wanted behind it
+  -- a unit in front of what is wanted after it
   module _ (head ws' : List Wanted) (stay : Stays head ws') (unit : is_designator w.kind ≡ true → (ts : List Word) → Derives s.vectors ws' ts → Derives s.vectors head (w ∷ ts)) where
     unit_bound_continues : is_variable w.kind ≡ true → (o : Option ℕ) → Continues s.vectors head w (unit_bound o ws' s)
     unit_bound_continues e (Some n) = (stay, unit (or_right (is_whole w.kind) _ e))
@@ -443,7 +443,7 @@ module _ (w : Word) (ws : List Wanted) (s : State) where
   cell_of_designates kind.Variable e = whichever (ap is_designator e) (cell_of kind.Variable w.name s)
   cell_of_designates _ e = λ f. no_fault f
 
-  -- a cell in front of those that may follow it, or of what is wanted behind it
+  -- a cell in front of those that may follow it, or of what is wanted after it
   designated_continues : (head ws' : List Wanted) → Stays head ws' → (is_designator w.kind ≡ true → (ts : List Word) → Derives s.vectors ws' ts → Derives s.vectors head (w ∷ ts)) → (r : Result ℕ Fault) → IsDesignator r → Continues s.vectors head w (with_designated r ws' s)
   designated_continues head ws' last more (Ok c) is = (last, more is)
   designated_continues head ws' last more (Err f) is = λ e. behind head ws' (more (is e))
@@ -671,11 +671,11 @@ module _ (w : Word) (ws : List Wanted) (s : State) (arranged : AreArranged ws s)
   taken_continues : (ws' : List Wanted) (s' : State) → step w ws s ≡ Next ws' s' → Continues s.vectors ws w (Next ws' s')
   taken_continues ws' s' e = subst (Continues s.vectors ws w) e (step_continues w ws s arranged)
 
-  -- where a word is taken, what derives behind it derives with it
+  -- where a word is taken, what derives after it derives with it
   pub taken_derives : (ws' : List Wanted) (s' : State) → step w ws s ≡ Next ws' s' → (ts : List Word) → Derives s'.vectors ws' ts → Derives s.vectors ws (w ∷ ts)
   taken_derives ws' s' e = (taken_continues ws' s' e).1
 
-  -- forms stay behind all else
+  -- forms stay after all else
   pub taken_last : (ws' : List Wanted) (s' : State) → step w ws s ≡ Next ws' s' → forms_last ws ≡ true → forms_last ws' ≡ true
   taken_last ws' s' e = (taken_continues ws' s' e).0
 

@@ -213,7 +213,7 @@ module _ (w : Word) (ts : List Word) where
     class_goes (Some c) d = λ _. d
     class_goes None d = refl
 
-    -- the state behind the word may be another, with the same names
+    -- the state after the word may be another, with the same names
     same_names : (s' : State) → s'.vectors ≡ s.vectors → Derives s.vectors ws ts → Derives s'.vectors ws ts
     same_names s' same d = subst (λ (vs : List Sym). Derives vs ws ts) (sym same) d
 
@@ -356,7 +356,7 @@ module _ (w : Word) (ts : List Word) where
     inf_goes t name e several d =
         met (ends_at_inf w s) _ _ e (met (takes_several t) _ _ several (term_goes t (term.Rest s.source) d))
 
-    -- what stands behind a vector attribute
+    -- what stands after a vector attribute
     ended_goes : (u : Use) (s' : State) → ends_several w.kind ≡ true → ¬ (is_proper w ≡ true) → Went w ts (terms u w ws s')
     ended_goes u s' e improper =
         cond_both (is_right w.kind) _ _ (Went w ts) (λ _ proper. absurd (improper proper))
@@ -472,7 +472,7 @@ unfolding step
 function_item_more ws [] s go = tt
 function_item_more ws (w ∷ ts) s go = function_item_by w ts ws s w.keyword go
 
--- behind a vector attribute
+-- after a vector attribute
 place_more : (f : ℕ) (ws : List Wanted) (words : List Word) (s : State) → Derives s.vectors (Place f ∷ Several InPattern (suc f) ∷ ws) words
     → Goes words (Place f ∷ Several InPattern (suc f) ∷ ws) s → Goes words (Several InPattern f ∷ ws) s
 unfolding step
@@ -523,7 +523,7 @@ module _ (w : Word) (ts : List Word) (ws : List Wanted) (s : State) where
   agrees_at : (u : Use) → AreArranged (Attribute u ∷ ws) s → Agrees (position (λ a. a.0 == w.name.0) (attributes_of (slice_get s.classes s.class)))
   agrees_at u arranged g at = kind_agrees (Attribute u ∷ ws) s w.name g arranged at
 
--- What derives goes on behind its first word, or that is refused in a form.
+-- What derives goes on after its first word, or that is refused in a form.
 pub derived_goes : (ws : List Wanted) (words : List Word) (s : State) → AreArranged ws s → Derives s.vectors ws words → forms_last ws ≡ true → Goes words ws s
 unfolding step
 derived_goes ws words s a nothing last = tt
@@ -747,6 +747,6 @@ module _ (w : Word) (ws : List Wanted) (s : State) (arranged : AreArranged ws s)
   refused_in_no_form f e is ts d =
       let no : is_no_form f ≡ false = subst (Went w ts) e (derived_goes ws (w ∷ ts) s arranged d last) in true≢false (sym is ∙ no)
 
-  -- where a word is taken, a derivation goes on behind it
+  -- where a word is taken, a derivation goes on after it
   pub derived_behind : (ws' : List Wanted) (s' : State) → step w ws s ≡ Next ws' s' → is_proper w ≡ true → (ts : List Word) → Derives s.vectors ws (w ∷ ts) → Derives s'.vectors ws' ts
   derived_behind ws' s' e proper ts d = let go : Went w ts (Next ws' s') = subst (Went w ts) e (derived_goes ws (w ∷ ts) s arranged d last) in go proper

@@ -48,7 +48,7 @@ some_attribute : (b : Bool) (count : ℕ) → (b ≡ true → 0 < count) → (no
 some_attribute true count h = lt-ltb 0 count (h refl)
 some_attribute false count h = refl
 
--- a class whose attributes of some names are put behind the others
+-- a class whose attributes of some names are put after the others
 class_arranged : (vectors attrs : List Sym) (name : Sym) (vector : Bool) → length attrs ≤ most_fields → are_distinct (map (λ a. a.0) attrs) ≡ true → (vector ≡ true → 0 < length attrs)
     → class_is_valid (record { name = name; attrs = arranged vectors attrs; vector = vector }) ≡ true
 class_arranged vectors attrs name vector few distinct some =
@@ -57,7 +57,7 @@ class_arranged vectors attrs name vector few distinct some =
     (and_from _ _ (le-leb _ _ (omega (arith, same, few))) (parted_distinct (λ a. a.0) (λ a. is_one_of a vectors) attrs distinct))
     (some_attribute vector (length (arranged vectors attrs)) (λ v. let lt = some v in omega (arith, same, lt)))
 
--- a command behind which a class may be declared is valid whatever classes there are
+-- a command after which a class may be declared is valid whatever classes there are
 valid_anywhere : (classes others : List Class) (c : Command) → precedes_classes c ≡ true → command_is_valid classes c ≡ true
     → command_is_valid others c ≡ true
 valid_anywhere classes others (command.Make class puts) before h = absurd (true≢false (sym before))
@@ -182,7 +182,7 @@ all_within_itself (x ∷ xs) =
 abbrev pub with_one : Variables → Sym → Variables
 with_one v name = record v { values = v.values ++ record { name = name; number = v.given } ∷ []; given = v.given + 1 }
 
--- the variables behind a condition
+-- the variables after a condition
 abbrev pub behind_condition : Variables → Variables
 behind_condition v = record v { values = cond v.negated (take v.around v.values) v.values; negated = false }
 
@@ -236,7 +236,7 @@ module _ (text : ℕ) (classes : List Class) (rules : List Rule) (commands : Lis
   test_valid c conditions tests f p o binds fields field valid =
       tests_push c (seen conditions) tests (record { field = f; pred = p; operand = o; binds = binds }) fields (and_from _ _ field valid)
 
-  -- what is in sight behind the condition
+  -- what is in sight after the condition
   behind_bound : (b : Bool) (v : Variables) (conditions : List Condition) (tests : List Test) → v.negated ≡ b → IsHead text classes rules commands name v conditions tests
       → (cond b (record { bound = (seen conditions).bound; given = (sight_after_tests (seen conditions) tests).given }) (sight_after_tests (seen conditions) tests)).bound ≡ numbers (cond b (take v.around v.values) v.values)
   behind_bound true v conditions tests is h = h.outside is
@@ -366,7 +366,7 @@ value_known {k = k} {v = v} name n h e = all_in (λ m. is_in m k.bound) (numbers
 pub element_known : {k : Known} {v : Variables} {conditions : List Condition} {r : Side} (name : Sym) (n : ℕ) → Knows k v conditions r → number_of name v.elements ≡ Some n → is_cell k n ≡ true
 element_known {k = k} {v = v} name n h e = all_in (λ m. nat_lt m (length k.cells)) (numbers v.elements) n h.elements (number_in name v.elements n e)
 
--- what is known behind an action
+-- what is known after an action
 module _ (k : Known) (v : Variables) (conditions : List Condition) (r : Side) (h : Knows k v conditions r) where
   made_known : (o : Option ℕ) (class : ℕ) → o ≡ Some class → Knows (record k { made = o }) v conditions (record r { made = Some class })
   made_known o class e = record { bound = h.bound; given = h.given; counted = h.counted; cells = h.cells; elements = h.elements; made = e }

@@ -66,7 +66,7 @@ pub any_some : {X : Type 0} (p : X → Bool) (xs : List X) → list_any p xs ≡
 any_some p [] e = absurd (cc)
 any_some p (x ∷ xs) e = omega arith
 
--- ---- lists where what passes a test stands behind the others
+-- ---- lists where what passes a test stands after the others
 
 filter_absent : {X : Type 0} (f : X → ℕ) (p : X → Bool) (xs : List X) (k : ℕ) → is_in k (map f xs) ≡ false → is_in k (map f (filter p xs)) ≡ false
 filter_absent f p [] k e = refl

@@ -1,4 +1,4 @@
--- The place of an attribute does not matter for what derives behind it, nor does what waits in an expression.
+-- The place of an attribute does not matter for what derives after it, nor does what waits in an expression.
 use Rattle.std.proofs.Common.{◌≡◌, ℕ, suc, List, [], ◌∷◌, ◌∙◌, refl, ap, subst, Option, Some, None}
 use Rattle.ops_base.specs.declared.values.Sym.{Sym}
 use Rattle.ops_grammar.specs.declared.words.Word.{Word}

@@ -43,7 +43,7 @@ spelling_cases : (held : List (List ℕ)) (s t : List ℕ) → Contains (with_sp
 spelling_cases held s t =
     cond_both (nat_lt (place_of held s) (length held)) held (held ++ s ∷ []) (λ new. Contains new t → Contains held t ⊎ (s ≡ t)) (λ _ c. inl c) (λ _ c. Contains-push_cases held s t c)
 
--- ---- the names behind a token
+-- ---- the names after a token
 
 token_kept : (names : Spellings) (k : TokenKind) (s t : List ℕ) → Contains names.held t → Contains (names_with names k s).held t
 token_kept names k s t c =
@@ -61,7 +61,7 @@ named_by names s false e = absurd (cc)
 token_made : (names : Spellings) (k : TokenKind) (s : List ℕ) → (names_with names k s).made ≡ names.made
 token_made names k s = cond_both (has_name k) (record names { held = with_spelling names.held s }) names (λ new. new.made ≡ names.made) (λ _. refl) (λ _. refl)
 
--- ---- the names behind tokens
+-- ---- the names after tokens
 
 -- one of the tokens has a name that is spelled so
 abbrev IsNameOf : List ℕ → List Token → List ℕ → Type 0

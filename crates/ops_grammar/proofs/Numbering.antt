@@ -112,7 +112,7 @@ cell_more : (b : Bool) (c : ℕ) (cells all more : List ℕ) → all ≡ cells +
 cell_more true c cells all more e = e
 cell_more false c cells all more e = ap (λ (xs : List ℕ). c ∷ xs) e
 
--- the cells of conditions behind others
+-- the cells of conditions after others
 pub cells-append : (cs ds : List Condition) → cells_of (cs ++ ds) ≡ cells_of cs ++ cells_of ds
 cells-append [] ds = refl
 cells-append (c ∷ cs) ds = cell_more c.negated c.class (cells_of cs) (cells_of (cs ++ ds)) (cells_of ds) (cells-append cs ds)

@@ -38,12 +38,12 @@ pub known_push : (k : Known) (xs : List Action) (a : Action) → known_after_act
 known_push k [] a = refl
 known_push k (b ∷ xs) a = known_push (known_after k b) xs a
 
--- one more condition behind others leaves the first as it is
+-- one more condition after others leaves the first as it is
 pub first_push : (cs : List Condition) (c : Condition) → (0 < length cs → first_is_positive cs ≡ true) → (length cs ≡ 0 → c.negated ≡ false) → first_is_positive (cs ++ c ∷ []) ≡ true
 first_push [] c h e = not_from_false _ (e refl)
 first_push (d ∷ cs) c h e = h (omega arith)
 
--- a positive condition behind positive ones has the cell with its number
+-- a positive condition after positive ones has the cell with its number
 pub has_cell : (cs : List Condition) (k : ℕ) (c : Condition) → slice_get cs k ≡ Some c → c.negated ≡ false → list_any (λ d. d.negated) (take k cs) ≡ false → k < length (cells_of cs)
 has_cell [] k c at positive plain = absurd (cc)
 has_cell (d ∷ cs) zero c at positive plain =

@@ -51,7 +51,7 @@ pub number_there : (ks : List ℕ) (n : ℕ) → is_in n ks ≡ true → number_
 number_there [] n h = absurd (true≢false (sym h))
 number_there (k ∷ ks) n h = number_by (k == n) k n (is_in n ks) (number_of (record { 0 = n }) (numbered ks)) refl h (number_there ks n)
 
--- a variable that is none of these is put behind them
+-- a variable that is none of these is put after them
 pub renumbered-new : (ks : List ℕ) (n m : ℕ) → is_in n ks ≡ false → renumbered (record { 0 = n }) m (numbered ks) ≡ numbered ks ++ record { name = record { 0 = n }; number = m } ∷ []
 renumbered-new [] n m out = refl
 renumbered-new (k ∷ ks) n m out =

@@ -29,7 +29,7 @@ pub record IsBase (vectors : List Sym) (classes : List Class) (rules : List Rule
 abbrev pub numbers_in : List Named → List ℕ
 numbers_in values = map (λ v. v.number) values
 
--- these variables are in sight, and so many were given
+-- these variables are in sight, and this many were given
 abbrev pub numbered_in : List Named → ℕ → Numbered
 numbered_in values variables = record { sight = numbers_in values; given = variables }
 
@@ -46,7 +46,7 @@ abbrev pub made_is_class : List Class → Option ℕ → Bool
 made_is_class classes None = true
 made_is_class classes (Some class) = nat_lt class (length classes)
 
--- a rule up to some actions, behind which so much is in sight
+-- a rule up to some actions, after which so much is in sight
 pub record IsRight (classes : List Class) (conditions : List Condition) (k : InSight) (elements : List Named) (actions : List Action) : Type 0 where
   pub positive : first_is_positive conditions ≡ true
   pub few : length conditions ≤ most_conditions
@@ -57,7 +57,7 @@ pub record IsRight (classes : List Class) (conditions : List Condition) (k : InS
   pub cells : list_all (λ c. nat_lt c (length classes)) k.cells ≡ true
   pub made : made_is_class classes k.made ≡ true
 
--- the first condition is positive, where this one stands behind those
+-- the first condition is positive, where this one stands after those
 abbrev pub begins_positive : List Condition → Bool → Bool
 begins_positive [] negated = not negated
 begins_positive (c ∷ cs) negated = not c.negated
@@ -146,7 +146,7 @@ HasSeveral InPattern f s = IsElement InPattern s × HasMore (Some f) s
 HasSeveral InPut f s = IsElement InPut s × HasAttribute s f × IsVector s f true × (list_all (term_is_plain s.classes (in_sight s) true) s.terms ≡ true)
 HasSeveral InFixed f s = IsElement InFixed s × HasAttribute s f × IsVector s f true × (f + length s.constants ≤ most_fields)
 
--- Where a test or a value stands: in an element in these braces, with this place of the vector attribute behind it, or none, and
+-- Where a test or a value stands: in an element in these braces, with this place of the vector attribute after it, or none, and
 -- in a conjunction or alone; or among the values of the vector attribute, which is this field.
 pub record Spot : Type 0 where
   pub braces : Braces
@@ -154,7 +154,7 @@ pub record Spot : Type 0 where
   pub among : Bool
   pub vector : ℕ
 
--- a place of a pattern, with another one behind it or none
+-- a place of a pattern, with another one after it or none
 abbrev pub HasPlace : Option ℕ → ℕ → State → Type 0
 HasPlace more f s = IsElement InPattern s × HasField s f × HasMore more s
 
@@ -172,12 +172,12 @@ HasTarget p ToBind s = Base s × Right s
 abbrev pub IsSource : State → Type 0
 IsSource s = s.source < length (classes_of_cells s)
 
--- what is wanted behind a place: another attribute, or another place of the vector attribute
+-- what is wanted after a place: another attribute, or another place of the vector attribute
 abbrev pub behind_place : Braces → Option ℕ → List Wanted
 behind_place b None = Terms InPattern ∷ behind b InPattern
 behind_place b (Some f) = Several InPattern f ∷ behind b InPattern
 
--- what is wanted behind a test: more of the conjunction that it stands in, or what is wanted behind its place
+-- what is wanted after a test: more of the conjunction that it stands in, or what is wanted after its place
 abbrev pub behind_test : Braces → Option ℕ → Bool → ℕ → List Wanted
 behind_test b more true f = Tests f ∷ behind_place b more
 behind_test b more false f = behind_place b more
@@ -289,7 +289,7 @@ actions_push classes (x ∷ xs) k a h e =
     let each = and_parts (action_is_plain classes k x) (actions_are_plain classes (after_action k x) xs) h in
     and_from _ _ each.0 (actions_push classes xs (after_action k x) a each.1 e)
 
--- what is in sight behind a condition
+-- what is in sight after a condition
 pub condition_counted : (b : Bool) (around : ℕ) (k after : Numbered) (values : List Named) (variables : ℕ) → after ≡ numbered_in values variables → (b ≡ true → numbers_in (take around values) ≡ k.sight)
     → cond b (record { sight = k.sight; given = after.given }) after ≡ numbered_in (cond b (take around values) values) variables
 condition_counted false around k after values variables count sight = count

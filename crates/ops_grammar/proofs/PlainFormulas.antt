@@ -40,7 +40,7 @@ nests_bracketed (formula.apply o left right) d lt h =
 
 -- ---- operands
 
--- it nests within the limit where so many brackets are open, and its variables are in sight
+-- it nests within the limit where this many brackets are open, and its variables are in sight
 abbrev pub IsOperand : List ℕ → ℕ → Bool → Formula → Type 0
 IsOperand sight d is_left f = (nests_within d is_left f ≡ true) × (all_variables (λ n. is_in n sight) f ≡ true)
 

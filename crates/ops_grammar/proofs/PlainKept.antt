@@ -258,7 +258,7 @@ element_bound s g =
 
 -- ---- right sides
 
--- an action more, behind which so much is in sight
+-- an action more, after which so much is in sight
 module _ (classes : List Class) (conditions : List Condition) (k to : InSight) (elements named : List Named) (actions : List Action) (a : Action) where
   action_more : IsRight classes conditions k elements actions → action_is_plain classes k a ≡ true → after_action k a ≡ to → list_all (λ e. nat_lt e.number (length to.cells)) named ≡ true → list_all (λ c. nat_lt c (length classes)) to.cells ≡ true → made_is_class classes to.made ≡ true
       → IsRight classes conditions to named (actions ++ a ∷ [])

@@ -330,7 +330,7 @@ module _ (w : Word) where
 
   -- ---- compute
 
-  -- what is wanted behind a unit, where it is an operand
+  -- what is wanted after a unit, where it is an operand
   open_leads : (p : Spot) (t : Target) (s : State) (d : ℕ) (ws : List Wanted) → HasTarget p t s → is_of_action t ≡ true → IsOperand (numbers_in s.values) d true s.formula → AreOpen (numbers_in s.values) t (behind_target p t) d ws → IsPlainly s ws
   open_leads p t s d ws g is f (outermost waiting waits) = at_last_rest p t waiting g is f waits
   open_leads p t s d ws g is f (bracket outside waiting further lt waits brackets) = at_bracketed_rest p t outside waiting further g is f lt waits brackets
@@ -415,7 +415,7 @@ module _ (w : Word) where
 
   -- ---- a test, in a conjunction or alone
 
-  -- what is wanted behind it
+  -- what is wanted after it
   abbrev behind_it : Spot → ℕ → List Wanted
   behind_it p f = behind_test p.braces p.more p.among f
 
@@ -590,7 +590,7 @@ module _ (w : Word) where
 
   -- ---- commands
 
-  -- a command more, and behind it the next form
+  -- a command more, and after it the next form
   command_keeps : (c : Command) (s : State) → Base s → command_is_plain s.classes c ≡ true → Keeps (Next (Forms ∷ []) (with_command s c))
   command_keeps c s g plain = at_forms (command_kept s c g plain)
 

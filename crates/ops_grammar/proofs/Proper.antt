@@ -47,7 +47,7 @@ is_proper w = may_have w.kind w.keyword
 
 -- ---- the words of a text
 
--- the keyword of a spelling, or one of those behind it
+-- the keyword of a spelling, or one of those after it
 either : (k : TokenKind) (b : Bool) (x y : Keyword) → may_have k x ≡ true → may_have k y ≡ true → may_have k (cond b x y) ≡ true
 either k true x y ex ey = ex
 either k false x y ex ey = ey

@@ -1,4 +1,4 @@
--- Where the machine is behind some words, all of which it takes.
+-- Where the machine is after some words, all of which it takes.
 use Rattle.std.proofs.Common.{◌≡◌, true, List, [], ◌∷◌, ◌++◌, refl, sym, ap, subst, ◌∙◌, Option, Some, Err, unwrap_or}
 use Rattle.std.specs.List.{list_all}
 use Rattle.std.proofs.lemmas.Bool.{and_parts}
@@ -17,7 +17,7 @@ pub data Reached (to : List Wanted) (at : State) : List Word → List Wanted →
   at_once : Reached to at [] to at
   by_word : {w : Word} {words : List Word} {ws ws' : List Wanted} {s s' : State} → step w ws s ≡ Next ws' s' → Reached to at words ws' s' → Reached to at (w ∷ words) ws s
 
--- a word that is refused behind some words
+-- a word that is refused after some words
 pub record Stopped (words : List Word) (ws : List Wanted) (s : State) (f : Fault) (w : Word) : Type 0 where
   pub before : List Word
   pub behind : List Word
@@ -27,7 +27,7 @@ pub record Stopped (words : List Word) (ws : List Wanted) (s : State) (f : Fault
   pub reached : Reached to at before ws s
   pub refused : step w to at ≡ Refuses f
 
--- ---- what holds behind the words
+-- ---- what holds after the words
 
 module _ (to : List Wanted) (at : State) where
   pub goes_behind : (before : List Word) (ws : List Wanted) (s : State) → Reached to at before ws s → (more : List Word) → goes (before ++ more) ws s ≡ goes more to at

@@ -24,7 +24,7 @@ apart_at : {X : Type 0} (f : X → ℕ) (xs : List X) (x : X) (ys : List X) (n :
 apart_at f [] x ys n h = (or_parts (f x == n) (is_in n (map f ys)) h).0
 apart_at f (y ∷ xs) x ys n h = apart_at f xs x ys n (or_parts (f y == n) (is_in n (map f (xs ++ x ∷ ys))) h).1
 
--- a name that stands behind others is none of them
+-- a name that stands after others is none of them
 pub apart_before : {X : Type 0} (f : X → ℕ) (xs : List X) (x : X) (ys : List X) → are_distinct (map f (xs ++ x ∷ ys)) ≡ true → list_any (λ y. f y == f x) xs ≡ false
 apart_before f [] x ys h = refl
 apart_before f (y ∷ xs) x ys h =
@@ -48,7 +48,7 @@ are_scalars vectors attrs = list_all (λ a. not (is_one_of a vectors)) attrs
 abbrev are_vectors : List Sym → List Sym → Bool
 are_vectors vectors attrs = list_all (λ a. is_one_of a vectors) attrs
 
--- each of the attributes stands behind scalar ones
+-- each of the attributes stands after scalar ones
 abbrev Single : List Sym → List Sym → List Sym → Type 0
 Single vectors before [] = Unit {0}
 Single vectors before (a ∷ attrs) = (has_vector vectors before ≡ false) × Single vectors (before ++ a ∷ []) attrs
@@ -87,7 +87,7 @@ module _ (vectors : List Sym) where
       let next : has_vector vectors (before ++ a ∷ []) ≡ false = list_any-append (λ a. is_one_of a vectors) before (a ∷ []) ∙ or_from _ _ none (or_from _ _ (not-true _ each.0) refl) in
       (none, single_by_last attrs last (before ++ a ∷ []) each.1 next single)
 
--- the last of some names stands behind the others
+-- the last of some names stands after the others
 last_split : (attrs : List Sym) (n : ℕ) → length attrs ≡ suc n → take n attrs ++ unwrap_or (slice_get attrs n) unnamed ∷ [] ≡ attrs
 last_split [] n e = absurd (omega arith)
 last_split (a ∷ []) zero e = refl

@@ -60,11 +60,11 @@ module _ (u : Use) (f : ℕ) (values more : List Word) (ws : List Wanted) (s : S
       by_word caret (name ∷ values ++ more) (Terms u ∷ ws) (Attribute u ∷ ws) s s (caret_step u ws s)
       ∙ by_word name (values ++ more) (Attribute u ∷ ws) ws' s s' (attribute_found u f ws s names lt is ∙ leads)
 
-  -- up to what stands behind a scalar attribute
+  -- up to what stands after a scalar attribute
   pub scalar_read : is_vector (class_of s.classes s.class) f ≡ false → goes (spelled_attribute (class_of s.classes s.class) f values ++ more) (Terms u ∷ ws) s ≡ goes (values ++ more) (behind_attribute u f ∷ Terms u ∷ ws) s
   scalar_read scalar = attribute_read (behind_attribute u f ∷ Terms u ∷ ws) s (cond-false _ _ _ scalar)
 
-  -- up to what stands behind the vector attribute
+  -- up to what stands after the vector attribute
   pub vector_read : is_vector (class_of s.classes s.class) f ≡ true → goes (spelled_attribute (class_of s.classes s.class) f values ++ more) (Terms u ∷ ws) s ≡ goes (values ++ more) (Several u f ∷ ws) (settled s)
   vector_read vector = attribute_read (Several u f ∷ ws) (settled s) (cond-true _ _ _ vector)
 
@@ -152,7 +152,7 @@ pub element_closed : (u : Use) (words : List Word) (ws : List Wanted) (s : State
 unfolding goes step
 element_closed u words ws s = refl
 
--- behind the name of the class of a `make` or a `ppwm`
+-- after the name of the class of a `make` or a `ppwm`
 element_read : (shows : Bool) (class : ℕ) (puts : List Fixed) (more : List Word) (ws : List Wanted) (s : State) → AreNamed s.classes → class < length s.classes → list_all (fixed_is_valid (class_of s.classes class)) puts ≡ true
     → goes (spelled_each (spelled_fixed (class_of s.classes class)) puts ++ closing ∷ [] ++ more) (Terms InFixed ∷ ws) (settled (record s { first = 0; class = class; fixed = []; shows = shows }))
     ≡ goes more ws (settled (record s { first = 0; class = class; fixed = []; shows = shows; commands = s.commands ++ fixed_command shows class puts ∷ [] }))

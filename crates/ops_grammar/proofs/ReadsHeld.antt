@@ -62,7 +62,7 @@ all_map p f (x ∷ xs) kept h =
 
 -- ---- what was read so far
 
--- Each symbol of what was read so far is held among so many. Names of variables do not count, since no program keeps them.
+-- Each symbol of what was read so far is held among this many. Names of variables do not count, since no program keeps them.
 pub record AreHeld (n : ℕ) (s : State) : Type 0 where
   pub classes : list_all (class_held n) s.classes ≡ true
   pub rules : list_all (rule_held n) s.rules ≡ true
@@ -690,7 +690,7 @@ names_grow : (names : Spellings) (k : TokenKind) (s : List ℕ) → length names
 names_grow names k s =
     cond_both (has_name k) (record names { held = with_spelling names.held s }) names (λ new. length names.held ≤ length new.held) (λ _. spellings_grow names.held s) (λ _. omega arith)
 
--- the name of a word is held behind its token
+-- the name of a word is held after its token
 name_held : (names : Spellings) (b : Bool) (s : List ℕ) → 0 < length names.held → cond b (place_of names.held s) 0 < length (cond b (record names { held = with_spelling names.held s }) names).held
 name_held names true s some = name_placed names.held s
 name_held names false s some = some

@@ -23,7 +23,7 @@ use Rattle.ops_grammar.proofs.Numbering.{are_given, next_apart, after_test-given
 use Rattle.ops_grammar.proofs.ReadsBack.{by_word, class_parts}
 use Rattle.ops_grammar.proofs.ReadsFacts.{AreNamed, class_step, scalar_read, vector_read, EndValues, several_ended, element_closed}
 
--- with these variables in sight and so many given, behind these tests
+-- with these variables in sight and this many given, after these tests
 abbrev pub tests_at : State → Numbered → List Test → State
 tests_at s k ts = record s { values = numbered k.sight; variables = k.given; tests = ts; choice = []; terms = []; constants = [] }
 
@@ -251,7 +251,7 @@ around_kept k tests =
     ∙ ap (take (length (numbered k.sight))) (map-append (λ n. record { name = record { 0 = n }; number = n }) k.sight more.0)
     ∙ take_at (numbered k.sight) (numbered more.0) (length (numbered k.sight)) refl
 
--- behind a pattern, positive or negated
+-- after a pattern, positive or negated
 behind_pattern : (b : Bool) (class : ℕ) (tests : List Test) (k : Numbered) (s : State) → (b ≡ true → s.around ≡ length (numbered k.sight))
     → with_condition (tests_at (record s { class = class; negated = b }) (after_tests k tests) tests)
     ≡ record (tests_at s (after_condition k (record { class = class; negated = b; tests = tests })) []) { class = class; negated = false; conditions = s.conditions ++ record { class = class; negated = b; tests = tests } ∷ [] }

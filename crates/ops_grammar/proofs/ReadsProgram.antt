@@ -25,7 +25,7 @@ use Rattle.ops_grammar.proofs.ReadsFacts.{AreNamed, fact-read, shown-read, all_s
 use Rattle.ops_grammar.proofs.ReadsRight.{Trail, acted, actions-read}
 use Rattle.ops_grammar.proofs.ReadsRules.{Left, left_after, left_behind, matched, cells_behind, first-read, conditions-read}
 
--- what a form leaves behind that no later one looks at
+-- what a form leaves after that no later one looks at
 pub record Rest : Type 0 where
   pub name : Sym
   pub first : ℕ

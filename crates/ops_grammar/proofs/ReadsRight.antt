@@ -30,7 +30,7 @@ pub record Trail : Type 0 where
   pub source : ℕ
   pub source_field : ℕ
 
--- behind these actions, where so much is in sight
+-- after these actions, where so much is in sight
 abbrev pub acted : State → Trail → InSight → List Action → State
 acted s t k done =
     record s {
@@ -57,7 +57,7 @@ acted s t k done =
 abbrev pub AreCells : State → Trail → InSight → Type 0
 AreCells s t k = k.cells ≡ cells_of s.conditions ++ t.further
 
--- The words lead behind further actions, whatever these leave.
+-- The words lead after further actions, whatever these leave.
 abbrev pub ActsOn : List Word → List Word → List Wanted → State → Trail → InSight → List Action → InSight → List Action → Type 0
 ActsOn words more ws s t k done k' done' =
     (t' : Trail) × AreCells s t' k' × (goes (words ++ more) (Actions ∷ ws) (acted s t k done) ≡ goes more (Actions ∷ ws) (acted s t' k' done'))

@@ -39,7 +39,7 @@ abbrev pub left_behind : Left → Numbered → List Condition → Left
 left_behind l k [] = l
 left_behind l k (c ∷ cs) = left_behind (left_after l k c) (after_condition k c) cs
 
--- behind these conditions
+-- after these conditions
 abbrev pub matched : State → Left → Numbered → List Condition → State
 matched s l k done =
     record s {
@@ -154,7 +154,7 @@ module _ (class : ℕ) (tests : List Test) (more : List Word) (ws : List Wanted)
       ∙ braced_read cells plain
 
 module _ (class : ℕ) (tests : List Test) (more : List Word) (ws : List Wanted) (s : State) (l : Left) (k : Numbered) (done : List Condition) (names : AreNamed s.classes) (given : are_given k ≡ true) where
-  -- A condition behind the first is read back.
+  -- A condition after the first is read back.
   condition-read : (b : Bool) → length done < most_conditions → length (cells_of done) ≡ l.cell → condition_is_plain s.classes k (record { class = class; negated = b; tests = tests }) ≡ true
       → goes (spelled_condition s.classes l.cell (record { class = class; negated = b; tests = tests }) ++ more) (Patterns ∷ ws) (matched s l k done)
       ≡ goes more (Patterns ∷ ws) (matched s (left_after l k (record { class = class; negated = b; tests = tests })) (after_condition k (record { class = class; negated = b; tests = tests })) (done ++ record { class = class; negated = b; tests = tests } ∷ []))
@@ -166,7 +166,7 @@ module _ (class : ℕ) (tests : List Test) (more : List Word) (ws : List Wanted)
       ∙ ap (λ (x : List Word). goes x (Braced ∷ Patterns ∷ ws) (matched s l k done)) (append_assoc front (closing_brace ∷ []) more)
       ∙ braced_read class tests more (Patterns ∷ ws) s l k done names given cells plain
 
--- The conditions behind the first are read back.
+-- The conditions after the first are read back.
 pub conditions-read : (cs : List Condition) (more : List Word) (ws : List Wanted) (s : State) (l : Left) (k : Numbered) (done : List Condition) → AreNamed s.classes → are_given k ≡ true → length (cells_of done) ≡ l.cell → length (done ++ cs) ≤ most_conditions → conditions_are_plain s.classes k cs ≡ true
     → goes (spelled_conditions s.classes l.cell cs ++ more) (Patterns ∷ ws) (matched s l k done) ≡ goes more (Patterns ∷ ws) (matched s (left_behind l k cs) (after_conditions k cs) (done ++ cs))
 conditions-read [] more ws s l k done names given cells few plain = ap (λ (xs : List Condition). goes more (Patterns ∷ ws) (matched s l k xs)) (sym (append-nil done))

@@ -16,7 +16,7 @@ use Rattle.ops_grammar.proofs.Grown.{fits_below}
 use Rattle.ops_grammar.proofs.Sound.{IsShort, Program, IsRead, at_forms, Leads}
 use Rattle.ops_grammar.proofs.Steps.{step_leads}
 
--- the tokens stand in a text of this length from the place on, one behind the other
+-- the tokens stand in a text of this length from the place on, one after the other
 abbrev pub ArePlaced : ℕ → ℕ → List Token → Type 0
 ArePlaced text n [] = n ≤ text
 ArePlaced text n (t ∷ ts) = (n ≤ t.first) × (t.first < t.past) × (t.past ≤ text) × ArePlaced text t.past ts

@@ -82,7 +82,7 @@ module _ (w : Word) (ws : List Wanted) (s : State) where
 
   -- where no_form_fault is a bad form, and a variable with no number is not bound
   module _ (here behind : List Wanted) (bad : no_form_fault here ≡ fault.BadForm) (unbound : number_of w.name s.values ≡ None → is_bound here w.name s ≡ false) where
-    -- behind a predicate that is no equality a variable must be bound
+    -- after a predicate that is no equality a variable must be bound
     abbrev WantsBoundBehind : Pred → Type 0
     WantsBoundBehind p = not (is_equality p) ≡ true → wants_bound here ≡ true
 

@@ -74,7 +74,7 @@ module _ (text n : ℕ) (w : Word) (fit : text ≤ longest_list) (placed : IsPla
   numbered_is_cell s g None = tt
   numbered_is_cell s g (Some m) = designated_cell s g (m - 1) (slice_get s.conditions (m - 1)) refl
 
-  -- an element variable names the cell of a condition, or one that was named behind them
+  -- an element variable names the cell of a condition, or one that was named after them
   named_is_cell : (s : State) → Body text s → (o : Option ℕ) → number_of w.name s.elements ≡ o → IsCell s (named_cell o)
   named_is_cell s g None e = tt
   named_is_cell s g (Some c) e = element_known w.name c g.knows e

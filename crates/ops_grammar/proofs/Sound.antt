@@ -58,7 +58,7 @@ pub record Variables : Type 0 where
   pub around : ℕ
   pub elements : List Named
 
--- what is in sight behind the conditions
+-- what is in sight after the conditions
 abbrev pub seen : List Condition → Sight
 seen conditions = sight_after_conditions nothing_in_sight conditions
 
@@ -168,13 +168,13 @@ pub record IsElement (u : Use) (text : ℕ) (s : State) : Type 0 where
   pub class : HasClass u s
   pub fields : HasFields u s
 
--- what stands around a pattern of a left side: nothing, or braces with the element variable before it or behind it
+-- what stands around a pattern of a left side: nothing, or braces with the element variable before it or after it
 pub data Braces : Type 0 where
   Bare : Braces
   NamedBefore : Braces
   NamedBehind : Braces
 
--- what is wanted behind a pattern
+-- what is wanted after a pattern
 abbrev pub behind_pattern : Braces → List Wanted
 behind_pattern Bare = Patterns ∷ Actions ∷ Forms ∷ []
 behind_pattern NamedBefore = ClosesBrace ∷ Patterns ∷ Actions ∷ Forms ∷ []
@@ -186,12 +186,12 @@ behind b InPattern = behind_pattern b
 behind b InPut = Actions ∷ Forms ∷ []
 behind b InFixed = Forms ∷ []
 
--- what is wanted behind a place: more attributes, or more places of the vector attribute, the next of which is this field
+-- what is wanted after a place: more attributes, or more places of the vector attribute, the next of which is this field
 abbrev pub behind_place : Braces → Option ℕ → List Wanted
 behind_place b None = Terms InPattern ∷ behind b InPattern
 behind_place b (Some f) = Several InPattern f ∷ behind b InPattern
 
--- what is wanted behind a test: more tests of a conjunction, or what is wanted behind its place
+-- what is wanted after a test: more tests of a conjunction, or what is wanted after its place
 abbrev pub behind_test : Braces → Option ℕ → ℕ → Bool → List Wanted
 behind_test b more f true = Tests f ∷ behind_place b more
 behind_test b more f false = behind_place b more
@@ -200,7 +200,7 @@ behind_test b more f false = behind_place b more
 abbrev pub AtField : Use → ℕ → State → ℕ → Type 0
 AtField u text s f = IsElement u text s × (is_attribute (class_of s.classes s.class) f ≡ true)
 
--- behind the place more places may come
+-- after the place more places may come
 abbrev pub HasMore : Option ℕ → Class → Type 0
 HasMore None c = Unit {0}
 HasMore (Some f) c = c.vector ≡ true
@@ -220,7 +220,7 @@ AtSeveral InFixed text s f = IsElement InFixed text s × (is_vector (class_of s.
 abbrev pub BeforePattern : ℕ → State → Type 0
 BeforePattern text s = Around InPattern text s × IsEmpty InPattern s
 
--- a left side behind a pattern
+-- a left side after a pattern
 abbrev pub AfterPattern : ℕ → State → Type 0
 AfterPattern text s = Head text s × (s.tests ≡ []) × (0 < length s.conditions)
 
@@ -231,7 +231,7 @@ HasCells text s = Body text s × (list_all (is_cell (known_in s)) s.cells ≡ tr
 abbrev pub HasItems : ℕ → State → Type 0
 HasItems text s = Body text s × (list_all (item_is_valid s.classes (known_in s)) s.items ≡ true)
 
--- where a value of an action stands: behind a scalar attribute, among the values of the vector attribute, in `write`, or in `bind`
+-- where a value of an action stands: after a scalar attribute, among the values of the vector attribute, in `write`, or in `bind`
 pub data Slot : Type 0 where
   InScalar : (field : ℕ) → Slot
   InVector : (field : ℕ) → Slot
@@ -244,14 +244,14 @@ target_of (InVector f) = ToTerms
 target_of InWrite = ToItem
 target_of InBind = ToBind
 
--- what is wanted behind the value
+-- what is wanted after the value
 abbrev pub behind_value : Slot → List Wanted
 behind_value (InScalar f) = Terms InPut ∷ Actions ∷ Forms ∷ []
 behind_value (InVector f) = Several InPut f ∷ Actions ∷ Forms ∷ []
 behind_value InWrite = Items ∷ Actions ∷ Forms ∷ []
 behind_value InBind = Closes EndsWhole ∷ Actions ∷ Forms ∷ []
 
--- an action up to the value, or behind it
+-- an action up to the value, or after it
 abbrev pub AtValue : Slot → ℕ → State → Type 0
 AtValue (InScalar f) text s = AtField InPut text s f
 AtValue (InVector f) text s = AtSeveral InPut text s f
@@ -276,7 +276,7 @@ abbrev pub into_opened : Slot → List Opened → Option Target
 into_opened slot [] = Some (target_of slot)
 into_opened slot (o ∷ os) = None
 
--- what is wanted behind an operand of expressions that are open, the innermost first
+-- what is wanted after an operand of expressions that are open, the innermost first
 abbrev pub behind_operand : Slot → List Opened → List Wanted
 behind_operand slot [] = behind_value slot
 behind_operand slot (o ∷ os) = ExpressionRest o.depth o.waiting (into_opened slot os) ∷ behind_operand slot os
@@ -285,7 +285,7 @@ behind_operand slot (o ∷ os) = ExpressionRest o.depth o.waiting (into_opened s
 abbrev pub AtOperand : Slot → List Opened → ℕ → State → Type 0
 AtOperand slot os text s = AtValue slot text s × (list_all (opened_is_known (known_in s)) os ≡ true)
 
--- one behind an operand, which is known too
+-- one after an operand, which is known too
 abbrev pub HasOperand : Slot → List Opened → ℕ → State → Type 0
 HasOperand slot os text s = AtOperand slot os text s × (formula_is_known (known_in s) s.formula ≡ true)
 
@@ -296,7 +296,7 @@ HasSource slot text s = AtValue slot text s × (is_cell (known_in s) s.source �
 abbrev pub HasSourceField : Slot → ℕ → State → Type 0
 HasSourceField slot text s = HasSource slot text s × (is_attribute (class_of_cell s.classes (known_in s) s.source) s.source_field ≡ true)
 
--- so many tags, or names, as the command that they are for needs
+-- this many tags, or names, as the command that they are for needs
 abbrev pub HasTags : TagUse → List ℕ → Type 0
 HasTags ToRemove tags = 0 < length tags
 HasTags ToShow tags = Unit {0}

@@ -457,7 +457,7 @@ module _ (text n : ℕ) (w : Word) (fit : text ≤ longest_list) (placed : IsPla
       cond_both (is_left w.kind) _ _ (Leads text w.past) (λ _. (omega arith, at_class_name NamedBehind InPattern (g.0, g.1, tt)))
       (λ _. cond_both (is_variable w.kind) _ _ (Leads text w.past) (λ _. named_before_leads s short g (number_of w.name s.elements)) (λ _. tt))
 
-  -- one behind its pattern
+  -- one after its pattern
   named_behind_leads : (s : State) → IsShort n s → AfterPattern text s → (o : Option ℕ) → Leads text w.past (element_at o w.name (ClosesBrace ∷ Patterns ∷ Actions ∷ Forms ∷ []) s)
   named_behind_leads s short g (Some c) = tt
   named_behind_leads s short g None = (omega arith, at_closes_brace g)
@@ -472,7 +472,7 @@ module _ (text n : ℕ) (w : Word) (fit : text ≤ longest_list) (placed : IsPla
 
   -- ---- commands
 
-  -- a command more, and behind it the next form
+  -- a command more, and after it the next form
   command_leads : (c : Command) (s : State) → IsShort n s → Program text s → command_is_valid s.classes c ≡ true → Leads text w.past (Next (Forms ∷ []) (with_command s c))
   command_leads c s short g valid = (omega (arith, length-append {A = Command}), at_forms (command_added text s.classes s.rules s.commands c g valid))
 

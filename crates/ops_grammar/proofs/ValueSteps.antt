@@ -99,7 +99,7 @@ module _ (text n : ℕ) (w : Word) (fit : text ≤ longest_list) (placed : IsPla
   bind_leads t s ws short (Some m) next = (omega (arith, length-append {A = Action}), next)
   bind_leads t s ws short None next = (omega (arith, length-append {A = Action}), next)
 
-  -- a term more, and behind it what may be wanted there
+  -- a term more, and after it what may be wanted there
   term_leads : (slot : Slot) (t : Term) (s : State) (ws : List Wanted) → IsShort n s → AtValue slot text s → term_is_valid s.classes (known_in s) (takes_several (target_of slot)) t ≡ true
       → ((s' : State) → AtValue slot text s' → IsRead text s' ws) → Leads text w.past (term_at (target_of slot) t ws s)
   term_leads (InScalar f) t s ws short g valid next = (omega (arith, length-append {A = Put}), next _ (put_added text s f t g.0 g.1 valid, g.1))
@@ -143,7 +143,7 @@ module _ (text n : ℕ) (w : Word) (fit : text ≤ longest_list) (placed : IsPla
       (λ _. cond_both (is_left w.kind && is_of_action (target_of slot)) _ _ (Leads text w.past) (λ _. (omega arith, at_function slot g))
       (λ _. word_leads slot s short g (value_of w.kind w.name)))
 
-  -- behind a `bind` without a value its variable is bound to a fresh atom
+  -- after a `bind` without a value its variable is bound to a fresh atom
   pub bound_value_leads : (s : State) → IsShort n s → Body text s → Leads text w.past (bound_value w (Actions ∷ Forms ∷ []) s)
   bound_value_leads s short g =
       let o = number_of s.variable s.values in
@@ -243,7 +243,7 @@ module _ (text n : ℕ) (w : Word) (fit : text ≤ longest_list) (placed : IsPla
   source_attribute_leads slot s short g =
       cond_both (is_name w.kind) _ _ (Leads text w.past) (λ _. source_at_leads slot s short g (position (λ a. a.0 == w.name.0) (source_class s).attrs) refl) (λ _. tt)
 
-  -- `inf` stands behind the vector attribute alone
+  -- `inf` stands after the vector attribute alone
   rest_valid : (slot : Slot) (s : State) → HasSource slot text s → (several : Bool) → several ≡ true → ends_at_inf w s ≡ true → term_is_valid s.classes (known_in s) several (term.Rest s.source) ≡ true
   rest_valid slot s g several may inf =
       let vector = (vector_parts (source_class s) s.source_field (and_parts (is_inf w.keyword) _ inf).1).0 in

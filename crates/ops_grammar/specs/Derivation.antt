@@ -109,7 +109,7 @@ pub data Derives : List Sym → List Wanted → List Word → Type 0 where
   a_class_name : {vs : List Sym} {ws : List Wanted} {w : Word} {ts : List Word} → is_name w.kind ≡ true → Derives vs ws ts → Derives vs (ClassName ∷ ws) (w ∷ ts)
   a_term : {vs : List Sym} {u : Use} {ws : List Wanted} {w : Word} {ts : List Word} → is_caret w.kind ≡ true → Derives vs (Attribute u ∷ ws) ts → Derives vs (Terms u ∷ ws) (w ∷ ts)
   no_term : {vs : List Sym} {u : Use} {ws : List Wanted} {w : Word} {ts : List Word} → is_right w.kind ≡ true → Derives vs ws ts → Derives vs (Terms u ∷ ws) (w ∷ ts)
-  -- behind a scalar attribute one place or value, behind a vector attribute as many as come
+  -- after a scalar attribute one place or value, after a vector attribute as many as come
   a_scalar_attribute : {vs : List Sym} {u : Use} (f : ℕ) {ws : List Wanted} {w : Word} {ts : List Word} → is_name w.kind ≡ true → is_one_of w.name vs ≡ false → Derives vs (behind_attribute u f ∷ Terms u ∷ ws) ts → Derives vs (Attribute u ∷ ws) (w ∷ ts)
   a_vector_attribute : {vs : List Sym} {u : Use} (f : ℕ) {ws : List Wanted} {w : Word} {ts : List Word} → is_name w.kind ≡ true → is_one_of w.name vs ≡ true → Derives vs (Several u f ∷ ws) ts → Derives vs (Attribute u ∷ ws) (w ∷ ts)
   one_more_place : {vs : List Sym} {f : ℕ} {ws : List Wanted} {ts : List Word} → Derives vs (Place f ∷ Several InPattern (suc f) ∷ ws) ts → Derives vs (Several InPattern f ∷ ws) ts
@@ -130,7 +130,7 @@ pub data Derives : List Sym → List Wanted → List Word → Type 0 where
   a_bracketed_expression : {vs : List Sym} {d : ℕ} {ws : List Wanted} {ts : List Word} → Derives vs (ExpressionUnit d ∷ ExpressionRest d [] None ∷ ws) ts → Derives vs (Bracketed d ∷ ws) ts
   an_operation : {vs : List Sym} {d : ℕ} {waiting : List Waiting} (more : List Waiting) {into : Option Target} {ws : List Wanted} {w : Word} {ts : List Word} → is_some (operation_of w.keyword) ≡ true → Derives vs (ExpressionUnit d ∷ ExpressionRest d more into ∷ ws) ts → Derives vs (ExpressionRest d waiting into ∷ ws) (w ∷ ts)
   no_operation : {vs : List Sym} {d : ℕ} {waiting : List Waiting} {into : Option Target} {ws : List Wanted} {w : Word} {ts : List Word} → is_right w.kind ≡ true → Derives vs ws ts → Derives vs (ExpressionRest d waiting into ∷ ws) (w ∷ ts)
-  -- ( substr VARIABLE ATTR ATTR ) | ( substr VARIABLE ATTR inf ), the latter behind the vector attribute alone
+  -- ( substr VARIABLE ATTR ATTR ) | ( substr VARIABLE ATTR inf ), the latter after the vector attribute alone
   a_substr : {vs : List Sym} {t : Target} {ws : List Wanted} {w : Word} {ts : List Word} → w.keyword ≡ keyword.Substr → Derives vs (SourceCell ∷ SourceAttribute t ∷ ws) ts → Derives vs (Function t ∷ ws) (w ∷ ts)
   a_source : {vs : List Sym} {ws : List Wanted} {w : Word} {ts : List Word} → is_variable w.kind ≡ true → Derives vs ws ts → Derives vs (SourceCell ∷ ws) (w ∷ ts)
   a_source_attribute : {vs : List Sym} {t : Target} {ws : List Wanted} {w : Word} {ts : List Word} → is_name w.kind ≡ true → Derives vs (SourceEnd t w.name ∷ Closes EndsWhole ∷ ws) ts → Derives vs (SourceAttribute t ∷ ws) (w ∷ ts)
@@ -149,7 +149,7 @@ pub data Derives : List Sym → List Wanted → List Word → Type 0 where
   one_more_literal : {vs : List Sym} {f : ℕ} {ws : List Wanted} {w : Word} {ts : List Word} → is_literal w.keyword ≡ true → Derives vs (Atom (ToTest f pred.Eq) ∷ Tests f ∷ ws) ts → Derives vs (Tests f ∷ ws) (w ∷ ts)
   one_more_predicate : {vs : List Sym} {f : ℕ} {p : Pred} {ws : List Wanted} {w : Word} {ts : List Word} → pred_of w.keyword ≡ Some p → Derives vs (Tested f p ∷ Tests f ∷ ws) ts → Derives vs (Tests f ∷ ws) (w ∷ ts)
   one_more_disjunction : {vs : List Sym} {f : ℕ} {ws : List Wanted} {w : Word} {ts : List Word} → opens_choice w.keyword ≡ true → Derives vs (Choice f ∷ Tests f ∷ ws) ts → Derives vs (Tests f ∷ ws) (w ∷ ts)
-  -- constant | VARIABLE, behind a predicate
+  -- constant | VARIABLE, after a predicate
   a_tested_operand : {vs : List Sym} {f : ℕ} {p : Pred} {ws : List Wanted} {w : Word} {ts : List Word} → is_operand w ≡ true → Derives vs ws ts → Derives vs (Tested f p ∷ ws) (w ∷ ts)
   a_tested_literal : {vs : List Sym} {f : ℕ} {p : Pred} {ws : List Wanted} {w : Word} {ts : List Word} → is_literal w.keyword ≡ true → Derives vs (Atom (ToTest f p) ∷ ws) ts → Derives vs (Tested f p ∷ ws) (w ∷ ts)
   -- atom* >>

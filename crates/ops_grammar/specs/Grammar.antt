@@ -79,7 +79,7 @@ pub data NameUse : Type 0 where
   ToPrint : NameUse
   ToBreak : NameUse
 
--- an operand of `compute` and the operation behind it, which wait for what stands behind them
+-- an operand of `compute` and the operation after it, which wait for what stands after them
 pub record Waiting : Type 0 where
   pub left : Formula
   pub op : Op
@@ -120,7 +120,7 @@ pub data Wanted : Type 0 where
   Terms : (use_of : Use) → Wanted
   -- ATTR place* term* ), ATTR value* put* ) or ATTR value* fixed* )
   Attribute : (use_of : Use) → Wanted
-  -- place* term* ) behind the vector attribute, of which the next place is that field; or value* put* ) or value* fixed* ) behind
+  -- place* term* ) after the vector attribute, of which the next place is that field; or value* put* ) or value* fixed* ) after
   -- that attribute
   Several : (use_of : Use) → (field : ℕ) → Wanted
   -- test | { test* }
@@ -137,9 +137,9 @@ pub data Wanted : Type 0 where
   ValueFor : (target : Target) → Wanted
   -- compute expr ) | genatom ) | accept ) | substr VARIABLE ATTR ATTR ) | substr VARIABLE ATTR inf )
   Function : (target : Target) → Wanted
-  -- unit, where so many brackets are open
+  -- unit, where this many brackets are open
   ExpressionUnit : (depth : ℕ) → Wanted
-  -- OP expr ) | ), behind a unit and what waits for the rest; the value of a `compute` goes to its target
+  -- OP expr ) | ), after a unit and what waits for the rest; the value of a `compute` goes to its target
   ExpressionRest : (depth : ℕ) → (waiting : List Waiting) → (into : Option Target) → Wanted
   -- expr ) | compute expr )
   Bracketed : (depth : ℕ) → Wanted
@@ -147,7 +147,7 @@ pub data Wanted : Type 0 where
   SourceCell : Wanted
   -- ATTR ATTR ) | ATTR inf )
   SourceAttribute : (target : Target) → Wanted
-  -- ATTR | inf, behind this name
+  -- ATTR | inf, after this name
   SourceEnd : (target : Target) → (name : Sym) → Wanted
   -- action* )
   Actions : Wanted
@@ -293,17 +293,17 @@ abbrev pub opens_choice : Keyword → Bool
 opens_choice keyword.OpenChoice = true
 opens_choice _ = false
 
--- >> behind them
+-- >> after them
 abbrev pub closes_choice : Keyword → Bool
 closes_choice keyword.CloseChoice = true
 closes_choice _ = false
 
--- inf, behind the vector attribute
+-- inf, after the vector attribute
 abbrev pub is_inf : Keyword → Bool
 is_inf keyword.Inf = true
 is_inf _ = false
 
--- compute, behind a bracket
+-- compute, after a bracket
 abbrev pub is_compute : Keyword → Bool
 is_compute keyword.Compute = true
 is_compute _ = false
@@ -375,24 +375,24 @@ renumbered name number (n ∷ ns) = if n.name.0 == name.0 then record n { number
 
 -- ---- declarations
 
--- a class may be declared behind this command
+-- a class may be declared after this command
 abbrev pub precedes_classes : Command → Bool
 precedes_classes (command.Make class puts) = false
 precedes_classes (command.Run count) = false
 precedes_classes (command.Ppwm pattern) = false
 precedes_classes _ = true
 
--- a production may stand behind this command
+-- a production may stand after this command
 abbrev pub precedes_rules : Command → Bool
 precedes_rules (command.Make class puts) = false
 precedes_rules (command.Run count) = false
 precedes_rules _ = true
 
--- no production was read, and no command behind which a declaration is late
+-- no production was read, and no command after which a declaration is late
 abbrev pub may_declare : State → Bool
 may_declare s = (length s.rules == 0) && list_all precedes_classes s.commands
 
--- no command was read behind which a production is late
+-- no command was read after which a production is late
 abbrev pub may_produce : State → Bool
 may_produce s = list_all precedes_rules s.commands
 
@@ -426,7 +426,7 @@ class_declared w ws s =
     if is_name w.kind then (if is_class s w.name then Refuses fault.DeclaredTwice else Next ws (record s { name = w.name; attrs = [] }))
     else Refuses fault.BadForm
 
--- the attributes of a class, those of these names behind the others
+-- the attributes of a class, those of these names after the others
 abbrev pub arranged : List Sym → List Sym → List Sym
 arranged vectors attrs = filter (λ a. not (is_one_of a vectors)) attrs ++ filter (λ a. is_one_of a vectors) attrs
 
@@ -500,13 +500,13 @@ abbrev pub attributes_of : Option Class → List Sym
 attributes_of (Some c) = c.attrs
 attributes_of None = []
 
--- what stands behind the name of a scalar attribute
+-- what stands after the name of a scalar attribute
 abbrev pub behind_attribute : Use → ℕ → Wanted
 behind_attribute InPattern f = Place f
 behind_attribute InPut f = ValueFor (ToPut f)
 behind_attribute InFixed f = ValueFor (ToFixed f)
 
--- Behind a scalar attribute stands one place or value, and behind the vector attribute stand as many as come.
+-- After a scalar attribute stands one place or value, and after the vector attribute stand as many as come.
 abbrev pub field_at : Use → Option ℕ → List Wanted → State → Step
 field_at u (Some f) ws s =
     if is_vector (class_of s.classes s.class) f then Next (Several u f ∷ ws) (record s { terms = []; constants = [] })
@@ -569,7 +569,7 @@ constant_tested f p w (Some v) ws s = Next ws (with_constant (ToTest f p) s v)
 constant_tested f p w None ws s =
     if is_variable w.kind then variable_tested f p (number_of w.name s.values) w.name ws s else Refuses fault.BadForm
 
--- an operand behind a predicate, or where none is written
+-- an operand after a predicate, or where none is written
 abbrev pub tested : ℕ → Pred → Word → List Wanted → State → Step
 tested f p w ws s =
     if is_literal w.keyword then Next (Atom (ToTest f p) ∷ ws) s else constant_tested f p w (constant_of w.kind w.name) ws s
@@ -737,7 +737,7 @@ takes_several ToTerms = true
 takes_several ToItem = true
 takes_several _ = false
 
--- Behind the vector attribute `inf` stands for all its values, also where the attribute has this name.
+-- After the vector attribute `inf` stands for all its values, also where the attribute has this name.
 abbrev pub ends_at_inf : Word → State → Bool
 ends_at_inf w s = is_inf w.keyword && is_vector (source_class s) s.source_field
 
@@ -751,7 +751,7 @@ source_end t name w ws s =
 abbrev pub with_command : State → Command → State
 with_command s c = record s { commands = s.commands ++ c ∷ [] }
 
--- A condition ends. The variables of a negated one are out of sight behind it.
+-- A condition ends. The variables of a negated one are out of sight after it.
 abbrev pub with_condition : State → State
 with_condition s =
     record s {

@@ -107,7 +107,7 @@ abbrev pub wants_first : List Wanted → Bool
 wants_first (FirstPattern ∷ ws) = true
 wants_first ws = false
 
--- a variable that stands here must be bound: behind another predicate than an equality, and where a value is wanted
+-- a variable that stands here must be bound: after another predicate than an equality, and where a value is wanted
 abbrev pub wants_bound : List Wanted → Bool
 wants_bound (Tested f p ∷ ws) = not (is_equality p)
 wants_bound (ValueFor t ∷ ws) = true
@@ -145,7 +145,7 @@ abbrev pub is_unclear : State → Option ℕ → Bool
 is_unclear s (Some n) = list_any (λ c. c.negated) (take (n - 1) s.conditions)
 is_unclear s None = false
 
--- the number of a condition behind a negated one
+-- the number of a condition after a negated one
 abbrev pub designates_unclearly : TokenKind → State → Bool
 designates_unclearly (kind.Whole n) s = is_unclear s (natural_of n)
 designates_unclearly _ s = false

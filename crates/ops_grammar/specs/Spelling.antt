@@ -101,7 +101,7 @@ spelled_fixed c p = spelled_attribute c p.field (map spelled_value p.values)
 abbrev pub spelled_constants : Class → List Fixed → List Word
 spelled_constants c puts = spelled_name c.name ∷ spelled_each (spelled_fixed c) puts
 
--- a command of one word and what stands behind it
+-- a command of one word and what stands after it
 abbrev pub spelled_short : Keyword → List Word → List Word
 spelled_short k argument = opening ∷ spelled_keyword k ∷ argument ++ closing ∷ []
 
@@ -172,7 +172,7 @@ opening_brace = record { kind = kind.LeftBrace; keyword = keyword.Other; name = 
 abbrev pub closing_brace : Word
 closing_brace = record { kind = kind.RightBrace; keyword = keyword.Other; name = unnamed; first = 0; past = 0 }
 
--- so many places of a vector attribute that test nothing: { }
+-- this many places of a vector attribute that test nothing: { }
 abbrev pub untested : ℕ → List Word
 untested zero = []
 untested (suc n) = opening_brace ∷ closing_brace ∷ untested n
@@ -216,7 +216,7 @@ operand_is_plain k p binds (operand.OneOf vs) = not binds && is_equality p
 abbrev pub test_is_plain : Class → Numbered → Test → Bool
 test_is_plain c k t = is_field c t.field && operand_is_plain k t.pred t.binds t.operand
 
--- what is in sight behind it
+-- what is in sight after it
 abbrev pub after_test : Numbered → Test → Numbered
 after_test k t = if t.binds then record { sight = k.sight ++ k.given ∷ []; given = suc k.given } else k
 
@@ -228,7 +228,7 @@ abbrev pub after_tests : Numbered → List Test → Numbered
 after_tests k [] = k
 after_tests k (t ∷ ts) = after_tests (after_test k t) ts
 
--- What a negated condition binds is out of sight behind it, and its numbers are not given again.
+-- What a negated condition binds is out of sight after it, and its numbers are not given again.
 abbrev pub after_condition : Numbered → Condition → Numbered
 after_condition k c = if c.negated then record { sight = k.sight; given = (after_tests k c.tests).given } else after_tests k c.tests
 
@@ -254,7 +254,7 @@ pub record InSight : Type 0 where
   pub cells : List ℕ
   pub made : Option ℕ
 
--- behind the arrow
+-- after the arrow
 abbrev pub at_arrow : List Condition → InSight
 at_arrow conditions = record { variables = after_conditions nothing_numbered conditions; cells = cells_of conditions; made = None }
 
@@ -352,7 +352,7 @@ spelled_actions classes k (a ∷ rest) = spelled_action classes k a ++ spelled_a
 abbrev pub cell_is_plain : List Class → InSight → ℕ → Bool
 cell_is_plain classes k cell = nat_lt cell (length k.cells) && nat_lt (class_of_cell k cell) (length classes)
 
--- The brackets that are written round left operands are not too many, where so many are open.
+-- The brackets that are written round left operands are not too many, where this many are open.
 abbrev pub nests_within : ℕ → Bool → Formula → Bool
 nests_within depth is_left (formula.number n) = true
 nests_within depth is_left (formula.variable n) = true

@@ -22,7 +22,7 @@ words_of text = words_from text only_nil (lexed text).tokens
 abbrev pub outcome_of : List Word → Outcome
 outcome_of words = goes words (Forms ∷ []) nothing_read
 
--- none of the words is refused, though a form may be open behind them
+-- none of the words is refused, though a form may be open after them
 abbrev pub IsTaken : Outcome → Type 0
 IsTaken (Ok s) = Unit {0}
 IsTaken (Err (f, None)) = Unit {0}
@@ -36,7 +36,7 @@ LeadTo words ws s = (more : List Word) → outcome_of (words ++ more) ≡ goes m
 abbrev pub IsLowest : Fault → Word → List Wanted → State → Type 0
 IsLowest f w ws s = (g : Fault) → is_no_form g ≡ false → Because g w ws s → fault_number f ≤ fault_number g
 
--- The fault stands at this word behind those: they are taken, and the word is refused with it whatever stands behind it,
+-- The fault stands at this word after those: they are taken, and the word is refused with it whatever stands after it,
 -- for the reason that the fault names, and it is the lowest that has its reason there. Those before it go on to a text of the grammar. With the word they do so too, but
 -- where the fault says that it continues no form; there they don't.
 pub record StandsAt (f : Fault) (before : List Word) (w : Word) : Type 0 where

@@ -104,7 +104,7 @@ abbrev pub words_from : List ℕ → Spellings → List Token → List Word
 words_from text names [] = []
 words_from text names (t ∷ ts) = word_of names t (spelling text t) ∷ words_from text (names_with names t.kind (spelling text t)) ts
 
--- the names that are held behind them
+-- the names that are held after them
 abbrev pub names_from : List ℕ → Spellings → List Token → Spellings
 names_from text names [] = names
 names_from text names (t ∷ ts) = names_from text (names_with names t.kind (spelling text t)) ts

@@ -67,7 +67,7 @@ pub enum Keyword {
     Accept,
     /// `+`
     Plus,
-    /// `*`: a product in an expression, and all elements behind the command `remove`.
+    /// `*`: a product in an expression, and all elements after the command `remove`.
     Times,
     /// `\` or `\\`
     Remainder,

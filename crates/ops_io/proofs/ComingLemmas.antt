@@ -1,4 +1,4 @@
--- How takings of an input add up, and what may still come behind them: the laws that a caller's loop stands on.
+-- How takings of an input add up, and what may still come after them: the laws that a caller's loop stands on.
 use Rattle.std.proofs.Common.{◌≡◌, ℕ, ◌+◌, ◌<◌, Bool, true, false, List, [], ◌∷◌, ◌++◌, length, drop, Option, Some, None, IfSome, IsTrue, refl, sym, ap, ◌∙◌, subst, append_assoc, arith, inl, inr, ◌⊎◌}
 use Rattle.std.specs.Prelude.{nat_lt}
 use Rattle.std.specs.Io.KnownBytes.{prepend_known, IsAtEnd}
@@ -81,7 +81,7 @@ end_still old new none ended t = let k = t.closed ended in (sym t.bytes ∙ ap (
 
 -- ---- what may come
 
--- behind bytes that are behind bytes
+-- after bytes that are after bytes
 pub precede_twice : (a b : List ℕ) (c : Coming) → preceded_by a (preceded_by b c) ≡ preceded_by (a ++ b) c
 precede_twice a b c = ap (λ bytes. let d : Coming = record c { bytes = bytes } in d) (sym (append_assoc a b c.bytes))
 
@@ -103,7 +103,7 @@ behind_before false true false got more before now left ended closed h =
 behind_before false false false got more before now left ended closed h = left_before got more before now left h
 behind_before false false true got more before now left ended closed h = (h.0, left ∙ ap (prepend_known got) h.1 ∙ prepend_known-twice got more h.0)
 
--- What may come behind a taking may have come before it, behind what was taken.
+-- What may come after a taking may have come before it, after what was taken.
 pub may_come_before : (old mid : Inlet) (a : List ℕ) (c : Coming) → Took old mid a → MayCome mid c → MayCome old (preceded_by a c)
 may_come_before old mid a c t m = record {
   more = t.got ++ m.more;
@@ -133,7 +133,7 @@ comes_by true old new b c e t h =
       behind = failed_before old.buffer.ended old new t.got refl (ltb-true old.faults new.faults e) t.left (λ o. (t.closed o).2);
     })
 
--- What comes after a call may have come before it, behind what the call took.
+-- What comes after a call may have come before it, after what the call took.
 pub comes_before : (old new : Inlet) (b : List ℕ) (c : Coming) → Took old new b → ComesAfter old new c → MayCome old (preceded_by b c)
 comes_before old new b c t h = comes_by (nat_lt old.faults new.faults) old new b c refl t h
 

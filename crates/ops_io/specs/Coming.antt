@@ -3,7 +3,7 @@ use Rattle.std.specs.Prelude.{◌≡◌, ℕ, List, [], ◌++◌, Bool, true, fa
 use Rattle.std.specs.Io.KnownBytes.{prepend_known, IsAtEnd}
 use Rattle.ops_io.specs.Input.{InputState}
 
--- the bytes that are still to come, and whether the input fails behind them or ends there
+-- the bytes that are still to come, and whether the input fails after them or ends there
 pub record Coming : Type 0 where
   pub bytes : List ℕ
   pub fails : Bool
@@ -17,7 +17,7 @@ pub record Inlet : Type 0 where
 abbrev pub inlet : InputState → Option (List ℕ) → ℕ → Inlet
 inlet buffer left faults = record { buffer = buffer; left = left; faults = faults }
 
--- the same, behind these bytes
+-- the same, after these bytes
 abbrev pub preceded_by : List ℕ → Coming → Coming
 preceded_by bytes c = record c { bytes = bytes ++ c.bytes }
 
@@ -30,8 +30,8 @@ pub record Took (old new : Inlet) (taken : List ℕ) : Type 0 where
   pub ended : IsTrue new.buffer.ended → IsTrue old.buffer.ended ⊎ IsAtEnd new.left
   pub closed : IsTrue old.buffer.ended → (got ≡ []) × IsTrue new.buffer.ended × (new.faults ≡ old.faults)
 
--- What stands behind the bytes that are held: nothing where the end was seen, and otherwise all that the source has left, or a part of
--- that, behind which it fails.
+-- What stands after the bytes that are held: nothing where the end was seen, and otherwise all that the source has left, or a part of
+-- that, after which it fails.
 abbrev pub IsBehind : Bool → Bool → Option (List ℕ) → List ℕ → Type 0
 IsBehind true fails left more = (more ≡ []) × (fails ≡ false)
 IsBehind false false left more = IfSome left (λ bytes. bytes ≡ more)
@@ -43,7 +43,7 @@ pub record MayCome (i : Inlet) (c : Coming) : Type 0 where
   pub bytes : c.bytes ≡ i.buffer.held ++ more
   pub behind : IsBehind i.buffer.ended c.fails i.left more
 
--- what may come behind a call: where a read failed in it, nothing but that failure behind the bytes that are held
+-- what may come after a call: where a read failed in it, nothing but that failure after the bytes that are held
 abbrev pub ComesBehind : Bool → Inlet → Coming → Type 0
 ComesBehind true new c = c ≡ record { bytes = new.buffer.held; fails = true }
 ComesBehind false new c = MayCome new c

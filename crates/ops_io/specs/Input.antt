@@ -12,7 +12,7 @@ abbrev pub IsFirst : Option ℕ → List ℕ → Type 0
 IsFirst (Some byte) bytes = bytes ≡ byte ∷ drop 1 bytes
 IsFirst None bytes = bytes ≡ []
 
--- What is ahead stays so: the bytes that the source gave stand behind those that were held. The end is seen only where it
+-- What is ahead stays so: the bytes that the source gave stand after those that were held. The end is seen only where it
 -- gave none and has none left.
 pub record StaysAhead (old new : InputState) (before now : Option (List ℕ)) : Type 0 where
   pub got : List ℕ

@@ -11,7 +11,7 @@ use Rattle.ops_lhs.specs.Taking.{seen, GoesToTerms, Among, GoesToTermsAmong}
 
 -- ---- where these classes are declared
 
--- more of a pattern behind places
+-- more of a pattern after places
 pub terms_as_among : (classes : List Class) (from by : Way) → ((more : List Word) (ws : List Wanted) (s : State) → s.classes ≡ classes → from more ws s ≡ by more ws s) → (words : List Word) (new : Left) (r : Result ℕ Refusal) → GoesToTerms by words new r → GoesToTermsAmong classes from words new r
 terms_as_among classes from by same words new (Ok next) h = λ more ws s i. same more ws s i ∙ h more ws s
 terms_as_among classes from by same words new (Err e) h = fails_anywhere (Among classes) from by same e h

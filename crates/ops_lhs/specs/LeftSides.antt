@@ -27,13 +27,13 @@ use Rattle.ops_forms.specs.declared.scope.Scope.{Scope}
 abbrev pub left_way : List Word → State → Way
 left_way words s = λ more ws. goes (words ++ more) (FirstPattern ∷ Patterns ∷ ws) (left_begun s)
 
--- the state behind a left side: its conditions, the variables and element variables that they bind, how many numbers of
+-- the state after a left side: its conditions, the variables and element variables that they bind, how many numbers of
 -- variables they gave, and nothing else of it, nor of a right side
 abbrev pub left_read : State → List Condition → List Named → List Named → ℕ → State
 left_read s conditions values elements variables =
     record (right_begun (left_begun s)) { values = values; elements = elements; variables = variables; conditions = conditions }
 
--- Where these classes are declared, the words are read as this left side up to its arrow, and these are left behind it,
+-- Where these classes are declared, the words are read as this left side up to its arrow, and these are left after it,
 -- whatever else was read before and is wanted afterwards.
 abbrev pub ReadsLeft : List Class → List Word → List Word → List Condition → List Named → List Named → ℕ → Type 0
 ReadsLeft classes words rest conditions values elements variables =
@@ -46,7 +46,7 @@ RefusesLeft classes words e = (s : State) → s.classes ≡ classes → Fails (l
 abbrev pub IsArrow : Word → Type 0
 IsArrow w = is_arrow w.keyword ≡ true
 
--- these words stand behind an arrow in those
+-- these words stand after an arrow in those
 abbrev pub AreBehindArrow : List Word → List Word → Type 0
 AreBehindArrow words rest = AreBehind IsArrow words rest
 

@@ -94,7 +94,7 @@ impl Left {
         self.add_test(field, Pred::Eq, Operand::OneOf(values), false)
     }
 
-    // A condition ends. The variables of a negated one are out of sight behind it.
+    // A condition ends. The variables of a negated one are out of sight after it.
     pub fn end_condition(&mut self) -> Result<(), Refusal>
         ensures { Becomes (view self.new) (with_condition (view self.old)) result }
     {

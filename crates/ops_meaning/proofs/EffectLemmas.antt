@@ -22,7 +22,7 @@ pub performs_led : {X F E S : Type 0} (view : X → S) (failure : F → Failure 
 performs_led view failure (Ok x) a b c xs e p q = (q.0, put_then a b c xs e.bytes p q.1)
 performs_led view failure (Err f) a b c xs e p q = fails_led (failure f) a b c xs e p q
 
--- what follows a part that left something begins at the column behind its bytes
+-- what follows a part that left something begins at the column after its bytes
 and_then-ok : {E S T : Type 0} (a b : Port) (e : Effect E S) (s : S) (next : ℕ → S → Effect E T) → Leaves s a b e → led_by e.bytes (next b.out.column s) ≡ and_then a.out.column e next
 and_then-ok a b e s next p =
     ap (λ n. led_by e.bytes (next n s)) p.1.column ∙ ap (λ o. going_on e.bytes o (next (column_after a.out.column e.bytes))) (sym p.0)

@@ -10,7 +10,7 @@ use Rattle.ops_meaning.specs.Effects.{Effect, writes, led_by, and_then, told_as,
 use Rattle.ops_meaning.proofs.EffectLemmas.{Leaves, performs_led, performs_then, performs_nothing, fails_front, fails_behind, performs_puts, told_leaves, told_fails, told_performs, pending_start, pending_last, pending_step}
 
 -- What a call leaves that performs an effect with what is to come and went well, no read having failed: it took bytes, and whatever may come
--- behind them, all was put and this is left.
+-- after them, all was put and this is left.
 pub record LeavesOn {E S : Type 0} (s : Coming → S) (before now : Inlet) (old new : Port) (e : Coming → Effect E S) : Type 0 where
   pub taken : List ℕ
   pub took : Took before now taken

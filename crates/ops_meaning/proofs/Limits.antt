@@ -135,7 +135,7 @@ run_counted bound (suc left) s breaks column last (suc n) m is =
         goes_as (KeptActed m.wm m.last m.names m.coming.fails) (λ (t : Turned). t.course.firings ≡ m.firings + 1) (EndsActions m.coming.fails) Any (turned_of s.rules i m) (ended_in (m.firings + 1) i.rule) (acted s behind i (given_by m)).outcome
         (acted_kept s behind i (given_by m)) (λ a q. refl) (λ e q. tt)
 
--- a run with a number makes at most so many firings
+-- a run with a number makes at most this many firings
 pub run_is_counted : (left : ℕ) (s : Setting) (m : Course) → IsCounted left s m
 run_is_counted left s m breaks column n =
     ok_goes (AtMost (m.firings + n)) (AtMost (m.firings + n)) Any (run_on left s breaks column None (Some n) m).outcome (run_counted (m.firings + n) left s breaks column None n m refl) (λ k p. p)

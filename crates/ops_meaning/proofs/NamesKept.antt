@@ -33,7 +33,7 @@ spelling_keeps names t i s h =
 
 -- ---- what is accepted
 
--- What was accepted keeps the names, and the input fails behind it as it did; a read fails only where the input does.
+-- What was accepted keeps the names, and the input fails after it as it did; a read fails only where the input does.
 abbrev pub AcceptsWell : Spellings → Coming → Result Accepted AcceptFault → Type 0
 AcceptsWell names c (Ok a) = KeepsNames names a.names × (a.coming.fails ≡ c.fails)
 AcceptsWell names c (Err fault.TooLong) = Unit {0}

@@ -1,4 +1,4 @@
--- What is ranked is each of the instantiations once, the dominant one first, and at each place the one that so many of them dominate.
+-- What is ranked is each of the instantiations once, the dominant one first, and at each place the one that this many of them dominate.
 use Rattle.std.proofs.Common.{◌≡◌, ℕ, zero, suc, ◌+◌, ◌≤◌, List, [], ◌∷◌, map, length, drop, Bool, true, false, cond, not, Option, Some, None, option_map, unwrap_or, refl, ap, sym, ◌∙◌, subst, inl, inr, ◌⊎◌, arith}
 use Rattle.std.specs.Prelude.{◌≢◌, ◌↔◌, filter, count_by, slice_get, IsTrue, Contains, AllPairs}
 use Rattle.std.specs.Bool.{Decides}
@@ -113,7 +113,7 @@ got_member (x ∷ xs) (suc k) i e = inr (got_member xs k i e)
 
 -- ---- the ranking
 
--- The list has just these instantiations, as many as there are. Each dominates all behind it, and at each place stands the one that so many
+-- The list has just these instantiations, as many as there are. Each dominates all after it, and at each place stands the one that this many
 -- of them dominate.
 pub record IsRanking (strategy : Strategy) (rules : List Rule) (insts list : List Inst) : Type 0 where
   pub long : length list ≡ length insts
@@ -198,7 +198,7 @@ module _ (g : Strategy) (rules : List Rule) where
     led_at i m (inr n) =
         ap (slice_get (d ∷ rest)) (one_above i m n) ∙ r.at i ((other_member d i insts).1 (m, n))
 
-    -- the dominant one, and the others ranked behind it
+    -- the dominant one, and the others ranked after it
     ranks_led : Ranks insts (d ∷ rest)
     ranks_led = record {
       long = omega (arith, r.long, one_taken d insts apart there);
@@ -265,7 +265,7 @@ module _ {M : Type 0} (inst : M → Inst) (beats : M → M → Bool) (strategy :
       let one : count_by (λ x. beats x m) (x ∷ xs) ≡ tally (beats x m) + count_by (λ x. beats x m) xs = sum_by-cons (λ y. tally (beats y m)) x xs in
       omega (arith, first, one, count-cons (λ j. dominates strategy rules j (inst m)) (inst x) (map inst xs), count_through m xs (λ y k. h y (inr k)))
 
-  -- what so many of them beat stands at that place
+  -- what this many of them beat stands at that place
   pub ranked_at : (n k : ℕ) (m : M) → AreDistinct (map inst ms) → length ms ≤ n → Beats m → Contains ms m → length (filter (λ x. beats x m) ms) ≡ k
       → slice_get (ranked n strategy rules (map inst ms)) k ≡ Some (inst m)
   ranked_at n k m distinct within same h e =
@@ -285,7 +285,7 @@ module _ {M : Type 0} (inst : M → Inst) (beats : M → M → Bool) (strategy :
       drop_more list k (inst m) (slice_get_within list k (inst m) there)
       ∙ ap (λ i. i ∷ drop (k + 1) list) (get_or_from_slice_get list k (inst m) (inst m) there)
 
-  -- nothing is left behind as many as there are
+  -- nothing is left after as many as there are
   pub ranked_over : (n k : ℕ) → AreDistinct (map inst ms) → length ms ≤ n → length ms ≤ k → drop k (ranked n strategy rules (map inst ms)) ≡ []
   ranked_over n k distinct within past =
       let insts = map inst ms in

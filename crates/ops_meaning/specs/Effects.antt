@@ -82,14 +82,14 @@ pub record Pending {E S : Type 0} (start now : Port) (whole rest : Effect E S) :
 
 -- ---- with an input
 
--- What a call leaves that does this with what is still to come: it took bytes, and whatever may come behind them, it performs the effect on
+-- What a call leaves that does this with what is still to come: it took bytes, and whatever may come after them, it performs the effect on
 -- those and on that.
 pub record PerformsOn {X F E S : Type 0} (view : X → Coming → S) (failure : F → Failure E) (r : Result X F) (before now : Inlet) (old new : Port) (e : Coming → Effect E S) : Type 0 where
   pub taken : List ℕ
   pub took : Took before now taken
   pub performs : (c : Coming) → ComesAfter before now c → Performs (λ x. view x c) failure r old new (e (preceded_by taken c))
 
--- Of the whole this rest is still to come, whatever may come behind the bytes that were taken; no read has failed.
+-- Of the whole this rest is still to come, whatever may come after the bytes that were taken; no read has failed.
 pub record PendingOn {E S : Type 0} (before now : Inlet) (start at : Port) (whole rest : Coming → Effect E S) : Type 0 where
   pub taken : List ℕ
   pub took : Took before now taken

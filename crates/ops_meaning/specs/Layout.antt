@@ -32,8 +32,8 @@ value_text names (Whole n) = signed_decimal n
 
 -- ---- write
 
--- how a value stands behind the item before it: one space apart, but at column 0; close to it, behind a tab; or right-justified, so that
--- it ends so many bytes further
+-- how a value stands after the item before it: one space apart, but at column 0; close to it, after a tab; or right-justified, so that
+-- it ends this many bytes further
 pub data Lead : Type 0 where
   Apart : Lead
   Close : Lead
@@ -42,7 +42,7 @@ pub data Lead : Type 0 where
 abbrev pub spaces : ℕ → List ℕ
 spaces n = replicate n 32
 
--- the spaces before a value of so many bytes
+-- the spaces before a value of this many bytes
 abbrev pub lead_bytes : Lead → ℕ → ℕ → List ℕ
 lead_bytes Apart column long = if column == 0 then [] else 32 ∷ []
 lead_bytes Close column long = []
@@ -51,7 +51,7 @@ lead_bytes (RightIn width) column long = spaces (width - long)
 abbrev pub value_bytes : Spellings → Lead → ℕ → Value → List ℕ
 value_bytes names lead column v = lead_bytes lead column (length (value_text names v)) ++ value_text names v
 
--- values, of which those behind the first stand apart
+-- values, of which those after the first stand apart
 abbrev pub values_bytes : Spellings → Lead → ℕ → List Value → List ℕ
 values_bytes names lead column [] = []
 values_bytes names lead column (v ∷ vs) =

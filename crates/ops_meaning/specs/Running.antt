@@ -58,7 +58,7 @@ Finder = List Element → List Inst
 abbrev pub next_by : Finder → List Rule → Course → Option Inst
 next_by found rules m = dominant m.strategy rules (unfired (found m.wm) m.fired)
 
--- A phase ends, with these changes and so many firings: they are done, and a mark is forgotten where its instantiation is not found in the
+-- A phase ends, with these changes and this many firings: they are done, and a mark is forgotten where its instantiation is not found in the
 -- working memory that they leave.
 abbrev pub phase_by : Finder → List Change → ℕ → ℕ → Course → Course
 phase_by found changes firings last m =
@@ -109,7 +109,7 @@ abbrev pub line_of_count : Option ℕ → Option (List ℕ)
 line_of_count (Some zero) = Some counted_line
 line_of_count _ = None
 
--- The line of a run that pauses or ends whatever is next: behind a firing that did `halt`, behind one whose production has a break, and where it
+-- The line of a run that pauses or ends whatever is next: after a firing that did `halt`, after one whose production has a break, and where it
 -- has made all its firings.
 abbrev pub line_of_pause : Spellings → List Rule → List Bool → Option LastFiring → Option ℕ → Option (List ℕ)
 line_of_pause names rules breaks None count = line_of_count count
@@ -132,8 +132,8 @@ one_less count = option_map (λ n. n - 1) count
 abbrev pub last_of : Inst → Turned → Option LastFiring
 last_of i t = Some (record { rule = i.rule; halted = t.halted })
 
--- A run from here on, where so many firings are left to the session, these productions have a break, this was its last firing, if it made
--- one, and so many are left to it, if it has a number of them.
+-- A run from here on, where this many firings are left to the session, these productions have a break, this was its last firing, if it made
+-- one, and this many are left to it, if it has a number of them.
 abbrev pub run_by : Finder → ℕ → Setting → List Bool → ℕ → Option LastFiring → Option ℕ → Course → Effect Ending Course
 run_by found zero s breaks column last count m =
     turn column (line_of_pause m.names s.rules breaks last count) m (next_by found s.rules m) (λ i. ends_with (ending.Limit m.firings))
@@ -203,7 +203,7 @@ element_lines names classes es = map (tagged_text names classes) es
 abbrev pub without_inst : Inst → List Inst → List Inst
 without_inst i insts = filter (λ j. not (is_same_inst i j)) insts
 
--- at most so many of them, the dominant one first, and then the rest likewise
+-- at most this many of them, the dominant one first, and then the rest likewise
 abbrev pub ranked : ℕ → Strategy → List Rule → List Inst → List Inst
 ranked zero strategy rules insts = []
 ranked (suc n) strategy rules insts =
@@ -259,13 +259,13 @@ breaks_given s column [] k = lists column (break_lines k.course.names k.breaks 0
 breaks_given s column (n ∷ ns) k =
     writes (lines_at column (map (unknown_line k.course.names) (unknown_of s.rules (n ∷ ns)))) (record k { breaks = all_toggled s.rules (n ∷ ns) k.breaks })
 
--- A run, in a session that makes at most so many firings.
+-- A run, in a session that makes at most this many firings.
 abbrev pub run_given : Finder → Setting → ℕ → ℕ → Option ℕ → Session → Effect Ending Session
 run_given found s limit column count k =
     told_as (with_course k) (λ e. e)
     (run_by found (limit - k.course.firings) (record s { watch = k.watch }) k.breaks column None count k.course)
 
--- What one command does from a column on, in a session that makes at most so many firings. A top-level `make` is one phase, and so is a `remove`.
+-- What one command does from a column on, in a session that makes at most this many firings. A top-level `make` is one phase, and so is a `remove`.
 abbrev pub command_by : Finder → Setting → ℕ → ℕ → Command → Session → Effect Ending Session
 command_by found s limit column (command.Make class puts) k =
     phase_told found s column (change.Add (element_made s.classes class puts k.course) ∷ []) (k.course.last + 1) k
@@ -284,7 +284,7 @@ command_by found s limit column (command.Watch set) k = level_given column set k
 command_by found s limit column (command.Pbreak names) k = breaks_given s column names k
 command_by found s limit column command.Exit k = writes [] k
 
--- nothing behind it is done
+-- nothing after it is done
 abbrev pub is_exit : Command → Bool
 is_exit command.Exit = true
 is_exit _ = false
@@ -306,7 +306,7 @@ ending_of (Err e) = e
 abbrev pub begun : List Rule → Spellings → Coming → Session
 begun rules names coming = record { course = nothing_yet names coming; watch = 0; breaks = map (λ r. false) rules }
 
--- the whole session, from column 0 and nothing, where it makes at most so many firings, these names are in use and this input is to come
+-- the whole session, from column 0 and nothing, where it makes at most this many firings, these names are in use and this input is to come
 abbrev pub session_by : Finder → Setting → ℕ → List Command → Spellings → Coming → Effect Ending Session
 session_by found s limit commands names coming = commands_by found s limit 0 commands (begun s.rules names coming)
 

@@ -1,4 +1,4 @@
--- How a value stands behind what was printed before it.
+-- How a value stands after what was printed before it.
 use Rattle.ops_meaning.specs.Layout as layout
 use Rattle.ops_print.specs.declared.values.Lead.{Lead}
 use Rattle.ops_print.specs.declared.values.Lead.TheVariants.{Apart, Close, RightIn}

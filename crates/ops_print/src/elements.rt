@@ -52,7 +52,7 @@ fn put_spaced<K: Sink>(
     put_shown(out, sink, names, item)
 }
 
-/// Puts values, each behind a space.
+/// Puts values, each after a space.
 fn put_shown_values<K: Sink>(
     out: &mut Out,
     sink: &mut K,

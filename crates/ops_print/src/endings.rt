@@ -51,7 +51,7 @@ fn put_act_fault<K: Sink>(
     out.put(sink, act_fault_end(kind))
 }
 
-/// Puts the line that tells that so many firings were reached.
+/// Puts the line that tells that this many firings were reached.
 fn put_limit<K: Sink>(out: &mut Out, sink: &mut K, firings: u64) -> Result<(), WriteFailed>
     requires whole { IsTrue out.old.whole }
     requires faults { K.faults sink.old < 2 ^ 63 }

@@ -22,7 +22,7 @@ pub fn rule_name(rules: &[Rule], rule: usize) -> Sym
     }
 }
 
-/// Puts tags, each behind a space.
+/// Puts tags, each after a space.
 fn put_tags<K: Sink>(out: &mut Out, sink: &mut K, tags: &[u64]) -> Result<(), WriteFailed>
     requires whole { IsTrue out.old.whole }
     requires faults { K.faults sink.old < 2 ^ 63 }

@@ -54,7 +54,7 @@ fn some_spaces(count: usize) -> &'static [u8]
     &SPACES[..count]
 }
 
-/// Puts so many spaces, 64 at a time.
+/// Puts this many spaces, 64 at a time.
 pub fn put_spaces<K: Sink>(out: &mut Out, sink: &mut K, count: usize) -> Result<(), WriteFailed>
     requires whole { IsTrue out.old.whole }
     requires faults { K.faults sink.old < 2 ^ 63 }

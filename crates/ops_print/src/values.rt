@@ -1,4 +1,4 @@
-//! Values as `write` prints them, and how they stand behind what was printed before.
+//! Values as `write` prints them, and how they stand after what was printed before.
 ghost use Rattle.std.specs.Prelude.{◌≡◌, ◌^◌, ◌<◌, IsTrue, OnErr, false, length};
 ghost use Rattle.ops_io.specs.Ports.{port, PutsBytes};
 ghost use Rattle.ops_meaning.specs.Layout.{value_text, lead_bytes, tab_bytes};
@@ -10,14 +10,14 @@ use ops_base::symbols::Names;
 use ops_base::values::Value;
 use ops_io::{Out, Sink, WriteFailed};
 
-/// How a value stands behind what was printed before it.
+/// How a value stands after what was printed before it.
 #[derive(Clone, Copy, Debug, PartialEq, Eq)]
 pub enum Lead {
     /// One space apart, but at column 0.
     Apart,
     /// Close to it.
     Close,
-    /// Behind spaces, so that spaces and value have so many bytes.
+    /// After spaces, so that spaces and value have this many bytes.
     RightIn(usize),
 }
 

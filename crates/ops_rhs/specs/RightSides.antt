@@ -45,7 +45,7 @@ abbrev pub IsBracket : Word → Type 0
 IsBracket w = is_right w.kind ≡ true
 
 -- Where these classes are declared and the old sight is in sight, the words are read as these actions up to a closing bracket,
--- and the others are left behind it, whatever else was read before and is wanted afterwards. The bracket ends the production.
+-- and the others are left after it, whatever else was read before and is wanted afterwards. The bracket ends the production.
 pub record ReadsRight (classes : List Class) (old : Sight) (words rest : List Word) (actions : List Action) (new : Sight) : Type 0 where
   pub behind : AreBehind IsBracket words rest
   -- the classes of the cells that the right side named

@@ -128,7 +128,7 @@ abbrev pub ended_as : Option Target → State → Formula → State
 ended_as (Some t) s f = with_term t s (term.Compute f)
 ended_as None s f = with_formula s f
 
--- a call read an expression and the closing bracket behind it, wherever its value goes
+-- a call read an expression and the closing bracket after it, wherever its value goes
 abbrev pub ReadsExpression : ℕ → Right → List Word → ℕ → Result (Formula × ℕ) Refusal → Type 0
 ReadsExpression depth r words at (Ok x) = (t : Option Target) (f : Formula) (more : List Word) (ws : List Wanted) (s : State) → goes (drop at words ++ more) (ExpressionUnit depth ∷ ExpressionRest depth [] (into t) ∷ ws) (with_formula (seen s r) f) ≡ goes (drop x.1 words ++ more) ws (ended_as t (seen s r) x.0)
 ReadsExpression depth r words at (Err e) = (t : Option Target) (f : Formula) → Fails (λ more ws s. goes (drop at words ++ more) (ExpressionUnit depth ∷ ExpressionRest depth [] (into t) ∷ ws) (with_formula (seen s r) f)) e
@@ -138,7 +138,7 @@ abbrev pub OpensExpression : List Word → ℕ → Result ℕ Refusal → Type 0
 OpensExpression words at (Ok next) = (depth : ℕ) (more : List Word) (ws : List Wanted) (s : State) → goes (drop at words ++ more) (Bracketed depth ∷ ws) s ≡ goes (drop next words ++ more) (ExpressionUnit depth ∷ ExpressionRest depth [] None ∷ ws) s
 OpensExpression words at (Err e) = (depth : ℕ) → Fails (λ more ws s. goes (drop at words ++ more) (Bracketed depth ∷ ws) s) e
 
--- the place behind an operand is not before that one, or it is such a refusal
+-- the place after an operand is not before that one, or it is such a refusal
 abbrev pub IsFromOperand : ℕ → Result (Formula × ℕ) Refusal → Type 0
 IsFromOperand at (Ok x) = at ≤ x.1
 IsFromOperand at (Err e) = IsPlaced e
@@ -158,7 +158,7 @@ abbrev pub column_of : Column → Purpose
 column_of column.Tab = ToTab
 column_of column.Right = ToRight
 
--- the cell of the condition behind so many, where this is what is kept of it: its number, where no negated condition stands before it
+-- the cell of the condition after this many, where this is what is kept of it: its number, where no negated condition stands before it
 abbrev pub cell_by : ℕ → Option (Option ℕ) → Result ℕ Fault
 cell_by before (Some (Some cell)) = if cell == before then Ok before else Err fault.AmbiguousDesignator
 cell_by before (Some None) = Err fault.BadDesignator

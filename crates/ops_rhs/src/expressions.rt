@@ -21,7 +21,7 @@ const MOST_BRACKETS: usize = 32;
 // how many are open in a function: those of the production, of the action and its own
 pub const FUNCTION_DEPTH: usize = 3;
 
-// an operand and the operation behind it, which wait for what stands behind them
+// an operand and the operation after it, which wait for what stands after them
 #[derive(Drop)]
 pub struct Waiting {
     pub left: Expr,
@@ -29,7 +29,7 @@ pub struct Waiting {
 }
 
 impl Right {
-    // unit, or unit OP expr, and the closing bracket, where so many brackets are open
+    // unit, or unit OP expr, and the closing bracket, where this many brackets are open
     #[cycle(expressions)]
     #[tactic(auto, unfolding(ops_grammar::specs::Grammar::goes, ops_grammar::specs::Grammar::step, ops_grammar::specs::Grammar::ends))]
     pub fn expression(
@@ -72,7 +72,7 @@ impl Right {
         Ok((self.operand(word)?, rest))
     }
 
-    // expr ) | compute expr ), behind a bracket
+    // expr ) | compute expr ), after a bracket
     #[cycle(expressions)]
     fn bracket(
         &self,
@@ -120,7 +120,7 @@ impl Right {
     }
 }
 
-// the place behind `compute`, where that stands there
+// the place after `compute`, where that stands there
 #[tactic(auto, unfolding(ops_grammar::specs::Grammar::goes, ops_grammar::specs::Grammar::step, ops_grammar::specs::Grammar::ends))]
 fn behind_compute(words: &[Word], at: usize) -> Result<usize, Refusal>
     ensures reads { OpensExpression words.now at result }

@@ -61,7 +61,7 @@ impl Right {
         Ok(rest)
     }
 
-    // ), behind this term
+    // ), after this term
     fn term(
         &mut self,
         target: Target,

@@ -19,7 +19,7 @@ pub struct Sight {
     pub variables: usize,
 }
 
-/// The actions of a production, and what is in sight behind them.
+/// The actions of a production, and what is in sight after them.
 #[derive(Drop)]
 pub struct RightSide {
     pub actions: Vec<Action>,

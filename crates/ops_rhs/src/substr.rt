@@ -71,7 +71,7 @@ impl Right {
         self.source_ends(around, target, word.name, words, rest)
     }
 
-    // ATTR ) | inf ), behind this name
+    // ATTR ) | inf ), after this name
     fn source_ends(
         &mut self,
         around: &Around,
@@ -87,7 +87,7 @@ impl Right {
         closing(words, rest)
     }
 
-    // ATTR | inf, behind this name
+    // ATTR | inf, after this name
     #[tactic(auto, unfolding(ops_grammar::specs::Grammar::goes, ops_grammar::specs::Grammar::step, ops_grammar::specs::Grammar::ends))]
     fn source_end(
         &mut self,

@@ -119,7 +119,7 @@ fn actions_are_read(rt: HostRuntime) -> Result<(), ReadFault> {
     Ok(())
 }
 
-// the production that prints 1 in so many brackets
+// the production that prints 1 in this many brackets
 fn nested(alloc: Global, brackets: usize) -> Result<Vec<u8>, OutOfMemory> {
     let mut text = Vec::from_slice(alloc, b"(p r --> (write (compute ")?;
     for _ in 0..brackets {

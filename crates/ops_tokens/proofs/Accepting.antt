@@ -1,4 +1,4 @@
--- What is accepted of bytes whose front is known: white space, a run, or what stands behind a bar.
+-- What is accepted of bytes whose front is known: white space, a run, or what stands after a bar.
 use Rattle.std.proofs.Common.{◌≡◌, ℕ, ◌+◌, ◌<◌, ◌≤◌, Bool, true, false, not, cond, eqb, List, [], ◌∷◌, ◌++◌, length, drop, map, take_while, codes, Result, Ok, Err, refl, sym, ap, ◌∙◌, subst, arith, inl, inr, ◌⊎◌}
 use Rattle.std.specs.Prelude.{nat_lt, ◌&&◌, ◌||◌, ◌==◌}
 use Rattle.std.specs.List.{list_all, list_any}
@@ -46,7 +46,7 @@ same_length w y x =
 
 -- ---- what is accepted, by its parts
 
--- of so many bytes, where one more is asked for or not, before this rest
+-- of this many bytes, where one more is asked for or not, before this rest
 abbrev answer : ℕ → Bool → Spellings → Coming → Atom → Result Accepted AcceptFault
 answer size ask names rest atom =
     cond (nat_lt most_accepted size) (Err fault.TooLong) (cond ask (Err fault.Read) (Ok (accepted_as names rest atom)))
@@ -144,7 +144,7 @@ run_front : (b : ℕ) (r y : List ℕ) → list_all is_of_run (b ∷ r) ≡ true
 run_front b r y all =
     cond-false (is_bar b) _ _ (run_byte b (and_parts (is_of_run b) (list_all is_of_run r) all).0).1 ∙ take_while-append is_of_run (b ∷ r) y all
 
--- the first byte behind a run
+-- the first byte after a run
 abbrev pub EndsRun : Coming → Type 0
 EndsRun c = ((c.bytes ≡ []) × (c.fails ≡ false)) ⊎ ((b : ℕ) × (x : List ℕ) × (c.bytes ≡ b ∷ x) × (is_of_run b ≡ false))
 
@@ -174,7 +174,7 @@ accepted-run n names c b r le all end =
     ∙ ap (λ (s : List ℕ). Ok (accepted_as names (record c { bytes = s }) is)) (drop_front (b ∷ r) c.bytes)
     ∙ ap (λ (a : Atom). Ok (accepted_as names c a)) (cond-false (is_bar b) _ _ byte.1 ∙ ap atom_of_run spelled)
 
--- A failure behind a run.
+-- A failure after a run.
 pub run-read : (n : ℕ) (names : Spellings) (r : List ℕ) → n + length r ≤ most_accepted → list_all is_of_run r ≡ true → accepted_behind n names (preceded_by r (record { bytes = []; fails = true })) ≡ Err fault.Read
 run-read n names [] le all = nothing-read n names (omega arith)
 run-read n names (b ∷ r) le all =
@@ -243,7 +243,7 @@ accepted-unclosed n names c q le all none whole =
     ∙ ap (λ (s : List ℕ). Ok (accepted_as names (record c { bytes = s }) (Spelled (map shown (take_while no_bar (q ++ c.bytes)))))) (drop_front (124 ∷ q) c.bytes)
     ∙ ap (λ (s : List ℕ). Ok (accepted_as names c (Spelled (map shown s)))) spelled
 
--- A failure behind a bar.
+-- A failure after a bar.
 pub quoted-read : (n : ℕ) (names : Spellings) (q : List ℕ) → n + 1 + length q ≤ most_accepted → list_all no_bar q ≡ true → accepted_behind n names (preceded_by (124 ∷ q) (record { bytes = []; fails = true })) ≡ Err fault.Read
 quoted-read n names q le all =
     let front : take_through 124 (q ++ []) ≡ q ++ [] = through_front q [] all in
@@ -252,7 +252,7 @@ quoted-read n names q le all =
     accepted-short n names (record { bytes = 124 ∷ (q ++ []); fails = true }) 124 (q ++ []) (124 ∷ (q ++ [])) refl refl (ap (λ (w : List ℕ). 124 ∷ w) front) (omega (arith, ap length (append-nil q)))
     ∙ cond-true _ _ _ asks
 
--- An atom behind a bar that goes on past the limit.
+-- An atom after a bar that goes on past the limit.
 pub quoted-too_long : (n : ℕ) (names : Spellings) (c : Coming) (q : List ℕ) (b : ℕ) (x : List ℕ) → n + 1 + length q ≡ most_accepted → list_all no_bar q ≡ true → c.bytes ≡ b ∷ x → accepted_behind n names (preceded_by (124 ∷ q) c) ≡ Err fault.TooLong
 quoted-too_long n names c q b x size all e =
     let taken : List ℕ = 124 ∷ (q ++ take_through 124 c.bytes) in

@@ -55,7 +55,7 @@ only_end s (inr quoted) (inl end) = end
 only_end s (inr (a, first_a, bar)) (inr (b, first_b, other)) =
     absurd (both_ways (is_bar b) other (not-false (is_bar b) (subst (λ (x : ℕ). not (is_bar x) ≡ false) (same_first s.held a b first_a first_b) bar)))
 
--- ---- calls behind white space
+-- ---- calls after white space
 
 gives_behind : (n : ℕ) (r : Result Value AcceptFault) (before now : Spellings) (old new : Inlet) (taken : List ℕ) (atom : Atom) → Took old new taken → n + length taken ≤ most_accepted → new.faults ≡ old.faults → GivesAtom r before now atom
     → ((c : Coming) → MayCome new c → accepted_behind n before (preceded_by taken c) ≡ Ok (accepted_as before c atom)) → AcceptsBehind n r before now old new
@@ -64,7 +64,7 @@ gives_behind n (Err fault.OutOfMemory) before now old new taken atom took le fau
 gives_behind n (Err fault.TooLong) before now old new taken atom took le faults gives is = absurd gives
 gives_behind n (Err fault.Read) before now old new taken atom took le faults gives is = absurd gives
 
--- A call that is refused, behind bytes that it took: where that is too long, and where a read failed.
+-- A call that is refused, after bytes that it took: where that is too long, and where a read failed.
 refused_behind : (why : AcceptFault) (p : Part) (m n : ℕ) (names : Spellings) (old mid new : Inlet) (taken : List ℕ) → Took old new taken → n + length taken ≡ m → m ≤ most_accepted → mid.faults ≡ old.faults → Refuses why p m mid new
     → (m ≡ most_accepted → (c : Coming) (b : ℕ) (x : List ℕ) → c.bytes ≡ b ∷ x → is_of p b ≡ true → accepted_behind n names (preceded_by taken c) ≡ Err fault.TooLong)
     → (accepted_behind n names (preceded_by taken (record { bytes = []; fails = true })) ≡ Err fault.Read) → AcceptsBehind n (Err why) names names old new
@@ -124,7 +124,7 @@ gives_symbol r before now bytes spelling none e gives =
 pub shown_over : (bytes over : List ℕ) (n : ℕ) → over ≡ map shown bytes → n ≡ length bytes → take n (over ++ drop (length over) bytes) ≡ map shown bytes
 shown_over bytes over n e size = take_at over (drop (length over) bytes) n (ap length e ∙ length-map bytes shown ∙ sym size) ∙ e
 
--- ---- an atom behind a bar
+-- ---- an atom after a bar
 
 -- the bar was taken
 pub record Opened (n : ℕ) (old new : Inlet) : Type 0 where

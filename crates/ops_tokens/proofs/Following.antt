@@ -61,7 +61,7 @@ gap_stops : (s : List ℕ) (inside : Bool) → gap inside s < length s → IsSto
 gap_stops [] inside lt = absurd (omega arith)
 gap_stops (b ∷ s) inside lt = stop-byte inside (is_white b) (b == 59) (not (b == 10)) b s refl refl (gap_stops s) lt
 
--- ---- what stands behind it
+-- ---- what stands after it
 
 -- the token stands at the place, and reaches as far as its kind does
 record IsFollowing (text : List ℕ) (at : ℕ) (t : Token) : Type 0 where

@@ -76,7 +76,7 @@ plain-at s k lt e =
       | inr not_plain ↦ absurd (false≢true (sym (list_all_at is_plain s k 0 lt not_plain) ∙ e))
     ]
 
--- the byte behind plain ones is not plain where it makes them all not plain
+-- the byte after plain ones is not plain where it makes them all not plain
 plain-next : (s : List ℕ) (n : ℕ) → n < length s → list_all is_plain (take n s) ≡ true → list_all is_plain (take (n + 1) s) ≡ false → is_plain (get_or s n 0) ≡ false
 plain-next s n lt before after =
     let e : list_all is_plain (take (n + 1) s) ≡ (list_all is_plain (take n s) && is_plain (get_or s n 0)) = list_all_more is_plain s n 0 lt in

@@ -68,7 +68,7 @@ read_stopped why p before taken old mid new bytes n t one = taken_stopped why p 
 
 -- ---- white space, which is counted
 
--- so many bytes of white space were taken
+-- this many bytes of white space were taken
 abbrev pub Counted : ℕ → Inlet → Inlet → Type 0
 Counted count old new = (bytes : List ℕ) × (count ≡ length bytes) × Taken part.Space 0 old new bytes
 

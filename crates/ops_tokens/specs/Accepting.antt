@@ -43,7 +43,7 @@ abbrev pub is_closed : List ℕ → Bool
 is_closed [] = false
 is_closed (b ∷ bytes) = is_bar b && list_any is_bar bytes
 
--- A byte behind these is asked for: all of them are taken, and no second bar has closed the atom.
+-- A byte after these is asked for: all of them are taken, and no second bar has closed the atom.
 abbrev pub asks_further : List ℕ → Bool
 asks_further bytes = (length (bytes_taken bytes) == length bytes) && not (is_closed (behind_space bytes))
 
@@ -110,14 +110,14 @@ Counts (Err fault.TooLong) before now = now ≡ before
 Counts (Err fault.Read) before now = now ≡ before + 1
 Counts (Err fault.OutOfMemory) before now = now ≡ before
 
--- It took so many bytes at most, and exactly so many where one more would have been taken.
+-- It took this many bytes at most, and exactly this many where one more would have been taken.
 abbrev pub TakesAtMost : Result Value AcceptFault → ℕ → Type 0
 TakesAtMost (Ok v) n = n ≤ most_accepted
 TakesAtMost (Err fault.TooLong) n = n ≡ most_accepted
 TakesAtMost (Err fault.Read) n = n ≤ most_accepted
 TakesAtMost (Err fault.OutOfMemory) n = n ≤ most_accepted
 
--- The call took bytes, and however the source cut them it answers what is accepted of those and of what may come behind them.
+-- The call took bytes, and however the source cut them it answers what is accepted of those and of what may come after them.
 pub record Accepts (r : Result Value AcceptFault) (before now : Spellings) (old new : Inlet) : Type 0 where
   pub taken : List ℕ
   pub took : Took old new taken

@@ -50,27 +50,27 @@ abbrev pub IsHeld : TokenKind → Type 0
 IsHeld (kind.Whole value) = is_in_range value ≡ true
 IsHeld _ = Unit {0}
 
--- the token stands next: behind a gap, as far as its kind reaches, and spelled as its kind asks
+-- the token stands next: after a gap, as far as its kind reaches, and spelled as its kind asks
 pub record StandsNext (text : List ℕ) (from : ℕ) (t : Token) : Type 0 where
   pub gap : IsGapTo text from t.first
   pub reaches : Reaches t.kind text t.first t.past
   pub spelled : IsSpelled t.kind (spelling text t)
   pub held : IsHeld t.kind
 
--- what stands behind a gap there is no token, by this fault
+-- what stands after a gap there is no token, by this fault
 pub data IsFaultAt (text : List ℕ) (first : ℕ) : LexFault → Type 0 where
   -- a byte that may stand in a comment alone
   bad_byte : first < length text → is_bad (slice_index text first) ≡ true → IsFaultAt text first (record { number = BAD_BYTE; at = first })
   -- between two bars, the first such byte
   bad_between : (last at : ℕ) → AreBars text first last → first < at → at < last → AllPass is_quotable (slice_range text (first + 1) at) → is_bad (slice_index text at) ≡ true → IsFaultAt text first (record { number = BAD_BYTE; at = at })
-  -- a bar, and none behind it
+  -- a bar, and none after it
   unclosed : first < length text → is_bar (slice_index text first) ≡ true → AllPass (λ b. not (is_bar b)) (drop (first + 1) text) → IsFaultAt text first (record { number = UNCLOSED; at = first })
   -- the spelling of a number that is not whole
   fraction : (past : ℕ) → IsRunTo text first past → IsFraction (slice_range text first past) → IsFaultAt text first (record { number = FRACTION_NUMBER; at = first })
   -- a whole number of more than 64 bits
   range : (past : ℕ) → IsRunTo text first past → IsWhole (slice_range text first past) → is_in_range (whole_value (slice_range text first past)) ≡ false → IsFaultAt text first (record { number = NUMBER_RANGE; at = first })
 
--- the fault stands next, behind a gap
+-- the fault stands next, after a gap
 pub record FaultStandsNext (text : List ℕ) (from : ℕ) (f : LexFault) : Type 0 where
   pub first : ℕ
   pub gap : IsGapTo text from first

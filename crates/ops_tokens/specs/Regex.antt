@@ -11,7 +11,7 @@ pub data Regex : Type 0 where
   Or : (a c : Regex) → Regex
   Many : (a : Regex) → Regex
 
--- so many texts of P, one after the other
+-- this many texts of P, one after the other
 abbrev pub Repeats : (List ℕ → Type 0) → ℕ → List ℕ → Type 0
 Repeats P zero s = s ≡ []
 Repeats P (suc n) s = (x y : List ℕ) × (s ≡ x ++ y) × P x × Repeats P n y

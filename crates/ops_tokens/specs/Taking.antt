@@ -28,27 +28,27 @@ GoesOn p s = (b : ℕ) × IsFirst (Some b) s.held × (is_of p b ≡ true)
 abbrev pub Ends : Part → InputState → Type 0
 Ends p s = ((s.held ≡ []) × IsTrue s.ended) ⊎ ((b : ℕ) × IsFirst (Some b) s.held × (is_of p b ≡ false))
 
--- Why nothing more is taken of the part behind so many bytes: one more stands next and may not be taken, a read failed where
+-- Why nothing more is taken of the part after this many bytes: one more stands next and may not be taken, a read failed where
 -- nothing is held, or memory ran out.
 abbrev pub Refuses : AcceptFault → Part → ℕ → Inlet → Inlet → Type 0
 Refuses fault.TooLong p taken old new = (taken ≡ most_accepted) × GoesOn p new.buffer × (new.faults ≡ old.faults)
 Refuses fault.Read p taken old new = (new.buffer.held ≡ []) × (new.faults ≡ old.faults + 1)
 Refuses fault.OutOfMemory p taken old new = new.faults ≡ old.faults
 
--- One byte is taken where it is of the part and may be taken behind so many.
+-- One byte is taken where it is of the part and may be taken after this many.
 abbrev pub TakesOne : Part → ℕ → Result (Option ℕ) AcceptFault → Inlet → Inlet → Type 0
 TakesOne p taken (Ok (Some b)) old new = Took old new (b ∷ []) × (is_of p b ≡ true) × (taken < most_accepted) × (new.faults ≡ old.faults)
 TakesOne p taken (Ok None) old new = Took old new [] × Ends p new.buffer × (new.faults ≡ old.faults)
 TakesOne p taken (Err why) old new = Took old new [] × Refuses why p taken old new
 
--- These bytes of the part were taken, behind so many, and no read failed.
+-- These bytes of the part were taken, after this many, and no read failed.
 pub record Taken (p : Part) (before : ℕ) (old new : Inlet) (bytes : List ℕ) : Type 0 where
   pub took : Took old new bytes
   pub of_part : list_all (is_of p) bytes ≡ true
   pub within : before + length bytes ≤ most_accepted
   pub faults : new.faults ≡ old.faults
 
--- Bytes of the part were taken, behind so many, and then no more for this reason.
+-- Bytes of the part were taken, after this many, and then no more for this reason.
 pub record Stopped (why : AcceptFault) (p : Part) (before : ℕ) (old new : Inlet) : Type 0 where
   pub bytes : List ℕ
   pub took : Took old new bytes
@@ -56,7 +56,7 @@ pub record Stopped (why : AcceptFault) (p : Part) (before : ℕ) (old new : Inle
   pub within : before + length bytes ≤ most_accepted
   pub refuses : Refuses why p (before + length bytes) old new
 
--- All the white space is taken, of so many bytes.
+-- All the white space is taken, of this many bytes.
 abbrev pub SkipsSpace : Result ℕ AcceptFault → Inlet → Inlet → Type 0
 SkipsSpace (Ok count) old new = (bytes : List ℕ) × Taken part.Space 0 old new bytes × (count ≡ length bytes) × Ends part.Space new.buffer
 SkipsSpace (Err why) old new = Stopped why part.Space 0 old new
@@ -72,14 +72,14 @@ GivesAtom (Ok v) before now atom = (rest : Coming) → accepted_as before rest a
 GivesAtom (Err fault.OutOfMemory) before now atom = now ≡ before
 GivesAtom (Err _) before now atom = ⊥
 
--- What `accept` gives behind so many bytes of white space.
+-- What `accept` gives after this many bytes of white space.
 abbrev pub accepted_behind : ℕ → Spellings → Coming → Result Accepted AcceptFault
 accepted_behind before names c =
     if nat_lt most_accepted (before + length (bytes_taken c.bytes)) then Err fault.TooLong
     else if c.fails && asks_further c.bytes then Err fault.Read
     else Ok (accepted_as names (behind_atom c) (atom_at_front (behind_space c.bytes)))
 
--- A call that accepts the atom behind so many bytes of white space.
+-- A call that accepts the atom after this many bytes of white space.
 pub record AcceptsBehind (space : ℕ) (r : Result Value AcceptFault) (before now : Spellings) (old new : Inlet) : Type 0 where
   pub taken : List ℕ
   pub took : Took old new taken

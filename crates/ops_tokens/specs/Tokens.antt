@@ -28,7 +28,7 @@ gap inside (b ∷ bs) =
     else if b == 59 then suc (gap true bs)
     else 0
 
--- the place behind the white space and the comments that stand at `from`
+-- the place after the white space and the comments that stand at `from`
 abbrev pub gap_end : List ℕ → ℕ → ℕ
 gap_end text from = from + gap false (drop from text)
 
@@ -44,7 +44,7 @@ abbrev pub closed : ℕ → ℕ → Option ℕ → Next
 closed first n None = token kind.Quoted first (first + n + 2)
 closed first n (Some bad) = fault BAD_BYTE (first + 1 + bad)
 
--- what the bar at `first` begins, where the next bar among the bytes behind it is given
+-- what the bar at `first` begins, where the next bar among the bytes after it is given
 abbrev pub quoted : ℕ → List ℕ → Option ℕ → Next
 quoted first rest None = fault UNCLOSED first
 quoted first rest (Some n) = closed first n (position is_bad (take n rest))
@@ -96,7 +96,7 @@ pub record LiesIn (text : List ℕ) (t : Token) : Type 0 where
   pub within : t.past ≤ length text
   pub bars : is_quoted t.kind ≡ true → t.first + 2 ≤ t.past
 
--- the token stands in the text at `from` or behind it, on one byte or more
+-- the token stands in the text at `from` or after it, on one byte or more
 pub record StandsFrom (text : List ℕ) (from : ℕ) (t : Token) : Type 0 where
   pub begins : from ≤ t.first
   pub some : t.first < t.past

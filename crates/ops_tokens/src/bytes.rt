@@ -43,7 +43,7 @@ pub fn bad_in(bytes: &[u8]) -> Option<usize>
     bytes.iter().position(|byte| is_bad(*byte))
 }
 
-/// The place behind the white space and the comments that stand at `from`.
+/// The place after the white space and the comments that stand at `from`.
 pub fn gap_end(text: &[u8], from: usize) -> usize
     requires { from ≤ length text.now }
     ensures end { result ≡ gap_end text.now from }

@@ -36,7 +36,7 @@ fn is_of(part: Part, byte: u8) -> bool
     }
 }
 
-/// Takes the next byte where it is of the part, behind `taken` others, and answers it. `None` where another byte stands
+/// Takes the next byte where it is of the part, after `taken` others, and answers it. `None` where another byte stands
 /// there, or the end.
 pub fn take_of<I: Source>(
     part: Part,
@@ -75,7 +75,7 @@ pub fn skip_space<I: Source>(input: &mut Input, source: &mut I) -> Result<usize,
     Ok(count)
 }
 
-/// Takes all bytes of the part, behind `before` others.
+/// Takes all bytes of the part, after `before` others.
 pub fn read_part<I: Source>(
     alloc: Global,
     part: Part,

@@ -21,7 +21,7 @@ fn next(
     accept_atom(alloc, names, input, source)
 }
 
-/// How it is written here: a number with a dot behind it, a symbol between quotes, and a fault by its name.
+/// How it is written here: a number with a dot after it, a symbol between quotes, and a fault by its name.
 fn written(
     alloc: Global,
     names: &Names,

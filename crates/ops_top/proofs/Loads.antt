@@ -74,7 +74,7 @@ module _ (told : List ℕ → Option (Option (List ℕ))) (names : List (List �
       goes : (c : Option (List ℕ)) (more : List (Option (List ℕ))) → gathered [] names (p.contents ++ c ∷ more) ≡ gathered text (name ∷ drop (i + 1) names) (c ∷ more)
       goes c more = p.rest (c ∷ more) ∙ ap (λ ns. gathered text ns (c ∷ more)) rest_is
 
-      -- these are the contents of all, whatever those behind this one are
+      -- these are the contents of all, whatever those after this one are
       all_are : (c : Option (List ℕ)) → IsTold (told name) c → AreTold told names (p.contents ++ c ∷ (any_contents told (drop (i + 1) names)).0)
       all_are c a =
           let behind = any_contents told (drop (i + 1) names) in
@@ -126,7 +126,7 @@ one_broken old new names before now i rose asked within =
     let loads : length new - length old ≡ i + 1 = grind (arith, length-append {A = List ℕ}, length-take-le {A = List ℕ}, ap (λ (ns : List (List ℕ)). length ns) asked) in
     rw (lt-ltb before now (omega arith)) (ap Some loads)
 
--- ---- what stands behind a load of a file
+-- ---- what stands after a load of a file
 
 -- the name of an item
 pub name_is : {A : Type 0} (words : List (String A)) (i : ℕ) (item : String A) (name : List ℕ) → i < length words → item ≡ get_or words i item → name ≡ string_bytes item → name ≡ get_or (word_bytes words) i []

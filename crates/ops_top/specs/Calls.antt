@@ -26,7 +26,7 @@ OfContents told (name ∷ names) P = OfContent (told name) (λ content. OfConten
 abbrev pub broken_load : (old new : List (List ℕ)) → (before now : ℕ) → Option ℕ
 broken_load old new before now = if nat_lt before now then Some (length new - length old) else None
 
--- It holds for the input of a call: all that the source had left; or, where a read failed, the bytes that were taken from it, behind which it
+-- It holds for the input of a call: all that the source had left; or, where a read failed, the bytes that were taken from it, after which it
 -- fails. Where the source does not tell its bytes it holds for some input, which fails where a read did.
 abbrev pub OfInput : Option (List ℕ) → Option (List ℕ) → Bool → (Coming → Type 0) → Type 0
 OfInput None now failed P = (coming : Coming) × (coming.fails ≡ failed) × P coming

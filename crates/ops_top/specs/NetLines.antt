@@ -2,7 +2,7 @@
 use Rattle.std.specs.Prelude.{ℕ, List, [], ◌∷◌, ◌++◌, codes, decimal}
 use Rattle.net_base.specs.declared.counts.Counts.{Counts}
 
--- a number behind its name
+-- a number after its name
 abbrev pub count_line : List ℕ → ℕ → List ℕ
 count_line name n = name ++ codes " " ++ decimal n ++ 10 ∷ []
 

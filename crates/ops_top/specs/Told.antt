@@ -38,7 +38,7 @@ CountsTold (Ok ending.ReadFault) before now = now ≡ before + 1
 CountsTold (Err why) before now = (now ≡ before) ⊎ (now ≡ before + 1)
 CountsTold (Ok f) before now = now ≡ before
 
--- It took bytes of the input, and whatever may come behind them, it tells the session over those and that.
+-- It took bytes of the input, and whatever may come after them, it tells the session over those and that.
 pub record TellsOn (r : Result Ending Stop) (before now : Inlet) (old new : Port) (names : Spellings) (rules : List Rule) (e : Coming → Effect Ending Meant) : Type 0 where
   pub taken : List ℕ
   pub took : Took before now taken

@@ -99,7 +99,7 @@ Find = List Rule → Finder
 abbrev pub net_told : List Rule → Reply
 net_told rules = record { bytes = net_lines (shape_of rules); status = status.Done }
 
--- the answer to a program: its session with at most so many firings, or its network
+-- the answer to a program: its session with at most this many firings, or its network
 abbrev pub answer_program_by : Find → Job → Coming → List ℕ → Read → Reply
 answer_program_by find (Run options files) coming text p =
     told p.names p.rules (session_by (find p.rules) (setting_read text p) options.limit p.commands p.names coming)
@@ -124,7 +124,7 @@ pub data Gathered : Type 0 where
 abbrev pub joined : List ℕ → List ℕ → (List ℕ → Gathered) → Gathered
 joined sofar bytes rest = let text = sofar ++ text_of bytes in if nat_le (length text) longest_list then rest text else Overlong
 
--- The files of these names are taken in their order, behind this text. The contents are those of the files, none where one can't be read.
+-- The files of these names are taken in their order, after this text. The contents are those of the files, none where one can't be read.
 abbrev pub gathered : List ℕ → List (List ℕ) → List (Option (List ℕ)) → Gathered
 gathered sofar [] contents = Joined sofar
 gathered sofar (name ∷ names) (Some bytes ∷ contents) = joined sofar bytes (λ text. gathered text names contents)

@@ -90,7 +90,7 @@ fn tell_session<M: Matcher, I: Source, K: Sink>(
     Ok(ending)
 }
 
-/// The answer to a program whose session runs over this matcher, makes at most so many firings and reads from this source.
+/// The answer to a program whose session runs over this matcher, makes at most this many firings and reads from this source.
 fn answer_over<M: Matcher, I: Source, K: Sink>(
     alloc: Global,
     hand: &mut M::Hand,

@@ -47,7 +47,7 @@ fn end_line(text: &mut Vec<u8>, from: usize) -> Result<bool, OutOfMemory>
     Ok(true)
 }
 
-/// Loads a file behind a text, with an LF where its last line lacks it. It asks the shelf once, and takes memory in
+/// Loads a file after a text, with an LF where its last line lacks it. It asks the shelf once, and takes memory in
 /// proportion to what is added.
 fn add_file<'n, H: Shelf>(
     name: &'n str,

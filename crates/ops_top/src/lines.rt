@@ -46,7 +46,7 @@ pub fn fault_line(
     Ok(text)
 }
 
-/// Adds a number behind its name.
+/// Adds a number after its name.
 fn add_count(lines: &mut Vec<u8>, name: &[u8], count: usize) -> Result<(), OutOfMemory>
     ensures { OnOk result (lines.new.items ≡ lines.old.items ++ count_line name.now count) }
 {

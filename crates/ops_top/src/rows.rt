@@ -279,7 +279,7 @@ fn failing_sink(rt: HostRuntime) -> Result<(), Fail> {
     Ok(())
 }
 
-/// A text whose right side gives the vector attribute so many values.
+/// A text whose right side gives the vector attribute this many values.
 fn vector_of(alloc: Global, values: usize) -> Result<Vec<u8>, AllocError> {
     let head =
         b"(literalize v x) (vector-attribute x)\n(p |r s| (v) --> (write on (crlf)) (make v ^x";

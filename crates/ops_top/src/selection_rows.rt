@@ -49,7 +49,7 @@ const SELECTED: [(&[&str], &[u8], Status, &[u8]); 17] = [
         Status::Done,
         b"new\nold\nend -- no production true\n",
     ),
-    // A make behind a run is a phase, in which the marks stay.
+    // A make after a run is a phase, in which the marks stay.
     (
         &["goals", "go"],
         b"(run) (make item) (run)",

@@ -9,7 +9,7 @@ use Rattle.ops_tokens.proofs.accept.accept_atom.Given.{Over}
 use Rattle.ops_tokens.proofs.accept.accept_atom.Goals.{In_ok-next}
 use Rattle.ops_tokens.proofs.accept.accept_atom.Goals as goal
 
--- the white space was taken, and the byte behind it was looked at
+-- the white space was taken, and the byte after it was looked at
 still : (g : Over) (c : In_ok-next g) → Taken part.Space 0 (inlet c.args.input.now (g.I.Source.left c.args.source.now) (g.I.Source.faults c.args.source.now)) (inlet c.next.new.self (g.I.Source.left c.next.new.source) (g.I.Source.faults c.next.new.source)) c.in_ok-space.ensures.0
 still g c =
     space_still _ _ _ _ c.in_ok-space.ensures.1
