@@ -12,3 +12,4 @@ pub mod ValidRules
 pub mod Sames
 pub mod Counted
 pub mod ShapeOf
+pub mod FeedLemmas

@@ -4,3 +4,5 @@ pub mod Sound
 pub mod Shape
 pub mod Network
 pub mod Counting
+pub mod Lists
+pub mod Feeds

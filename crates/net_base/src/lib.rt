@@ -2,8 +2,10 @@
 //! memory, and the type of networks that are sound.
 #![tactic(auto)]
 
+mod alpha_index;
 pub mod counts;
 pub mod laws;
+mod lists;
 pub mod net;
 pub mod nodes;
 pub mod normal;
