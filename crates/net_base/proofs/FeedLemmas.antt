@@ -139,7 +139,7 @@ coded_found alphas index e n a c h at low class first has =
     member_right n (list_at index.plain e.class) (flat_map (found_at index e) (list_at index.fields e.class))
     (member-flat_map (found_at index e) n c.field (list_at index.fields e.class) known there)
 
-get_low : {X : Type 0} (xs : List X) (n : ℕ) (x : X) → slice_get xs n ≡ Some x → n < length xs
+pub get_low : {X : Type 0} (xs : List X) (n : ℕ) (x : X) → slice_get xs n ≡ Some x → n < length xs
 get_low [] n x e = cc
 get_low (y ∷ xs) zero x e = omega arith
 get_low (y ∷ xs) (suc n) x e = let h = get_low xs n x e in omega arith

@@ -7,6 +7,7 @@ pub mod Made
 pub mod Fed
 pub mod Results
 pub mod FedTasks
+pub mod Takers
 pub mod RootTokens
 pub mod Counted
 pub mod ListPlaces

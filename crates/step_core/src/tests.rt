@@ -90,7 +90,7 @@ fn net_of_two_joins(alloc: Global) -> Result<Net, OutOfMemory>
         alloc,
         [first_join(alloc)?, second_join(alloc)?, terminal(alloc)],
     )?;
-    Ok(Net::new(alphas, nodes))
+    Net::new(alloc, alphas, nodes)
 }
 
 // element 1 is of class 0, and element 2 of class 1
