@@ -1,6 +1,6 @@
 -- What is looked up: numbers of list items, the index of the alphas, and what an element finds in it.
-use Rattle.std.proofs.Common.{◌≡◌, ℕ, zero, suc, ◌+◌, ◌<◌, Bool, true, false, cond, ◌||◌, ◌==◌, List, [], ◌∷◌, ◌++◌, length, slice_get, Option, Some, None, refl, sym, ap, subst, ◌∙◌, arith, add-one, inl, inr}
-use Rattle.std.specs.List.{list_any, list_all, flat_map, All, Contains}
+use Rattle.std.proofs.Common.{◌≡◌, ◌≢◌, ℕ, zero, suc, ◌+◌, ◌<◌, Bool, true, false, cond, ◌||◌, ◌==◌, nat_eq, List, [], ◌∷◌, ◌++◌, length, slice_get, Option, Some, None, refl, sym, ap, subst, ◌∙◌, arith, add-one, inl, inr}
+use Rattle.std.specs.List.{list_any, list_all, flat_map, All, AllPairs, Contains}
 use Rattle.std.specs.Prelude.{IsTrue}
 use Rattle.std.proofs.lemmas.Bool.{eqb-true, eqb-false, and_parts, and_from}
 use Rattle.std.proofs.lemmas.Bool.Decides.{Decides-eqb}
@@ -14,11 +14,15 @@ use Rattle.ops_base.specs.Values.{are_same}
 use Rattle.ops_base.specs.WorkingMemory.{field_of}
 use Rattle.ops_base.proofs.Members.{IsMember, all_from_members, contains_from_member, member_left, member_right, member-flat_map, flat_map_member, member_cases}
 use Rattle.net_base.specs.declared.nodes.Alpha.{Alpha}
-use Rattle.net_base.specs.declared.alpha_index.Constant.{Constant}
+use Rattle.net_base.specs.declared.keys.Constant.{Constant}
+use Rattle.net_base.specs.declared.keys.Key.{Key}
 use Rattle.net_base.specs.declared.alpha_index.AlphaIndex.{AlphaIndex}
 use Rattle.net_base.specs.Tokens.{alpha_test_holds, passes_alpha}
 use Rattle.net_base.specs.Lists.{list_at}
-use Rattle.net_base.specs.Feeds.{number_if, numbers_below, constant_if, constant_of, constant_or, first_constant, constant_code, is_coded, wants_none, is_plain, has_code, has_field, IsIndexBelow, IsIndex, AddsAlpha, found_at, found_in}
+use Rattle.net_base.specs.Feeds.{number_if, numbers_below, constant_if, constant_of, constant_or, first_constant, has_constant, IsCandidate, key_of, has_key, has_field, IsIndexBelow, IsIndex, AddsAlpha, found_by, found_at, found_in}
+use Rattle.net_base.specs.Keys.{same_key}
+use Rattle.net_base.proofs.KeyLemmas.{key_Decides}
+use Rattle.net_base.proofs.Apart.{NoTwice, no_twice_append, no_twice-flat_map, pairs_from_no_twice, no_twice_from_pairs}
 use Rattle.net_base.proofs.Sames.{value_Decides}
 
 -- ---- one number more
@@ -29,9 +33,9 @@ numbers_more test xs i x at = ap (numbers_below test xs) (add-one i) ∙ ap (λ 
 -- one alpha more
 pub index_more : (alphas : List Alpha) (i : ℕ) (a : Alpha) (old new : AlphaIndex) → slice_get alphas i ≡ Some a → IsIndexBelow alphas i old → AddsAlpha old new i a → IsIndexBelow alphas (i + 1) new
 index_more alphas i a old new at h adds = record {
-  plain = λ class. (adds.plain class ∙ (ap (λ ns. ns ++ cond (is_plain class a) (i ∷ []) []) (h.plain class) ∙ sym (numbers_more (is_plain class) alphas i a at)));
-  coded = λ code. (adds.coded code ∙ (ap (λ ns. ns ++ cond (has_code code a) (i ∷ []) []) (h.coded code) ∙ sym (numbers_more (has_code code) alphas i a at)));
+  found = λ k. (adds.found k ∙ (ap (λ ns. ns ++ cond (has_key k a) (i ∷ []) []) (h.found k) ∙ sym (numbers_more (has_key k) alphas i a at)));
   fields = λ n b c low here first. by_place n b c low here first (n == i) refl;
+  once = adds.once h.once;
 }
   where
     by_place : (n : ℕ) (b : Alpha) (c : Constant) → n < i + 1 → slice_get alphas n ≡ Some b → first_constant b.tests ≡ Some c → (t : Bool) → (n == i) ≡ t → has_field new b.class c.field ≡ true
@@ -78,6 +82,29 @@ number_of test xs n (suc i) m = elim (member_cases n (numbers_below test xs i) (
   | inr b ↦ last_number test xs n i (slice_get xs i) refl b
 ]
 
+numbers_apart : {X : Type 0} (test : X → Bool) (xs : List X) (i : ℕ) → NoTwice (numbers_below test xs i)
+numbers_apart test xs zero = tt
+numbers_apart {X} test xs (suc i) =
+    no_twice_append (numbers_below test xs i) (number_if test (slice_get xs i) i) (numbers_apart test xs i) (by_item (slice_get xs i))
+    (λ n a b. (let low = (number_of test xs n i a).below in let is = is_last (slice_get xs i) n b in absurd (omega arith)))
+  where
+    by_test : (b : Bool) → NoTwice (cond b (i ∷ []) [])
+    by_test true = (λ m. absurd m, tt)
+    by_test false = tt
+
+    by_item : (o : Option X) → NoTwice (number_if test o i)
+    by_item None = tt
+    by_item (Some x) = by_test (test x)
+
+    is_in : (b : Bool) (n : ℕ) → IsMember n (cond b (i ∷ []) []) → n ≡ i
+    is_in true n (inl e) = e
+    is_in true n (inr m) = absurd m
+    is_in false n m = absurd m
+
+    is_last : (o : Option X) (n : ℕ) → IsMember n (number_if test o i) → n ≡ i
+    is_last None n m = absurd m
+    is_last (Some x) n m = is_in (test x) n m
+
 -- a number that a test finds in a list is a member
 found_member : (f : ℕ) (xs : List ℕ) → list_any (λ g. g == f) xs ≡ true → IsMember f xs
 found_member f [] e = cc
@@ -120,57 +147,100 @@ first_wants e c (t ∷ ts) is all = by_first (first_wants e c ts) (constant_of t
     by_first rest (Some d) q =
         one_wants e t c (q ∙ (ap (λ o. constant_or o (first_constant ts)) (sym q) ∙ is)) (and_parts (alpha_test_holds e t) (list_all (alpha_test_holds e) ts) all).0
 
--- ---- what an element finds
-
-plain_found : (alphas : List Alpha) (index : AlphaIndex) (e : Element) (n : ℕ) (a : Alpha) → IsIndex alphas index → slice_get alphas n ≡ Some a → n < length alphas → e.class ≡ a.class → first_constant a.tests ≡ None → IsMember n (found_in index e)
-plain_found alphas index e n a h at low class none =
-    let passes : is_plain e.class a ≡ true =
-    and_from (a.class == e.class) (wants_none (first_constant a.tests)) ((Decides-eqb a.class e.class).1 (sym class)) (ap wants_none none) in
-    member_left n (list_at index.plain e.class) (flat_map (found_at index e) (list_at index.fields e.class))
-    (subst (IsMember n) (sym (h.plain e.class)) (number_in (is_plain e.class) alphas n a at passes (length alphas) low))
-
-coded_found : (alphas : List Alpha) (index : AlphaIndex) (e : Element) (n : ℕ) (a : Alpha) (c : Constant) → IsIndex alphas index → slice_get alphas n ≡ Some a → n < length alphas → e.class ≡ a.class → first_constant a.tests ≡ Some c → field_of e c.field ≡ c.value → IsMember n (found_in index e)
-coded_found alphas index e n a c h at low class first has =
-    let code = constant_code e.class (record { field = c.field; value = field_of e c.field }) in
-    let same : constant_code a.class c ≡ code = ap (λ k. constant_code k c) (sym class) ∙ ap (λ v. constant_code e.class (record { field = c.field; value = v })) (sym has) in
-    let passes : has_code code a ≡ true = ap (is_coded code a.class) first ∙ (Decides-eqb (constant_code a.class c) code).1 same in
-    let there = subst (IsMember n) (sym (h.coded code)) (number_in (has_code code) alphas n a at passes (length alphas) low) in
-    let known = found_member c.field (list_at index.fields e.class) (ap (λ k. has_field index k c.field) class ∙ h.fields n a c low at first) in
-    member_right n (list_at index.plain e.class) (flat_map (found_at index e) (list_at index.fields e.class))
-    (member-flat_map (found_at index e) n c.field (list_at index.fields e.class) known there)
-
 pub get_low : {X : Type 0} (xs : List X) (n : ℕ) (x : X) → slice_get xs n ≡ Some x → n < length xs
 get_low [] n x e = cc
 get_low (y ∷ xs) zero x e = omega arith
 get_low (y ∷ xs) (suc n) x e = let h = get_low xs n x e in omega arith
 
-passed_found : (alphas : List Alpha) (index : AlphaIndex) (e : Element) (n : ℕ) (a : Alpha) → IsIndex alphas index → slice_get alphas n ≡ Some a → passes_alpha a e ≡ true → IsMember n (found_in index e)
-passed_found alphas index e n a h at passes = by_first (first_constant a.tests) refl
-  where
-    parts : ((e.class == a.class) ≡ true) × (list_all (alpha_test_holds e) a.tests ≡ true)
-    parts = and_parts (e.class == a.class) (list_all (alpha_test_holds e) a.tests) passes
+-- ---- what an element finds
 
-    by_first : (o : Option Constant) → first_constant a.tests ≡ o → IsMember n (found_in index e)
-    by_first None q = plain_found alphas index e n a h at (get_low alphas n a at) (eqb-true e.class a.class parts.0) q
-    by_first (Some c) q =
-        coded_found alphas index e n a c h at (get_low alphas n a at) (eqb-true e.class a.class parts.0) q
-        ((value_Decides (field_of e c.field) c.value).0 (first_wants e c a.tests q parts.1))
+module _ (alphas : List Alpha) (index : AlphaIndex) (h : IsIndex alphas index) where
+  -- an alpha is found by its key, and by no other
+  by_key : (n : ℕ) (a : Alpha) (k : Key) → slice_get alphas n ≡ Some a → key_of a ≡ k → IsMember n (list_at same_key index.alphas k)
+  by_key n a k at is = subst (IsMember n) (sym (h.found k)) (number_in (has_key k) alphas n a at ((key_Decides (key_of a) k).1 is) (length alphas) (get_low alphas n a at))
 
--- each alpha that the element passes is among those that it finds
-pub found_passed : (alphas : List Alpha) (index : AlphaIndex) (e : Element) (found : List ℕ) → IsIndex alphas index → found ≡ found_in index e → (n : ℕ) (a : Alpha) → slice_get alphas n ≡ Some a → IsTrue (passes_alpha a e) → Contains found n
-found_passed alphas index e found h is n a at passes =
-    subst (λ ns. Contains ns n) (sym is) (contains_from_member n (found_in index e) (passed_found alphas index e n a h at passes))
+  key_found : (n : ℕ) (k : Key) → IsMember n (list_at same_key index.alphas k) → (a : Alpha) × (slice_get alphas n ≡ Some a) × (key_of a ≡ k)
+  key_found n k m =
+      let r = number_of (has_key k) alphas n (length alphas) (subst (IsMember n) (h.found k) m) in
+      (r.item, r.at, (key_Decides (key_of r.item) k).0 r.passes)
 
-found_low : (alphas : List Alpha) (index : AlphaIndex) (e : Element) (n : ℕ) → IsIndex alphas index → IsMember n (found_in index e) → n < length alphas
-found_low alphas index e n h m = elim (member_cases n (list_at index.plain e.class) (flat_map (found_at index e) (list_at index.fields e.class)) m) [
-  | inl a ↦ (number_of (is_plain e.class) alphas n (length alphas) (subst (IsMember n) (h.plain e.class) a)).below
-  | inr b ↦
-      let r = flat_map_member (found_at index e) n (list_at index.fields e.class) b in
-      let code = constant_code e.class (record { field = r.0; value = field_of e r.0 }) in
-      (number_of (has_code code) alphas n (length alphas) (subst (IsMember n) (h.coded code) r.2)).below
-]
+  module _ (e : Element) where
+    passed_found : (n : ℕ) (a : Alpha) (o : Option Constant) → slice_get alphas n ≡ Some a → e.class ≡ a.class → first_constant a.tests ≡ o → has_constant e o ≡ true → IsMember n (found_in index e)
+    passed_found n a None at class first has =
+        member_left n (found_by index e.class None) (flat_map (found_at index e) (list_at nat_eq index.fields e.class))
+        (by_key n a (record { class = e.class; constant = None }) at (λ i. record { class = sym class i; constant = first i }))
+    passed_found n a (Some c) at class first has =
+        let value : field_of e c.field ≡ c.value = (value_Decides (field_of e c.field) c.value).0 has in
+        let wants : first_constant a.tests ≡ Some (record { field = c.field; value = field_of e c.field }) =
+        first ∙ ap (λ v. Some (record { field = c.field; value = v })) (sym value) in
+        let there = by_key n a (record { class = e.class; constant = Some (record { field = c.field; value = field_of e c.field }) }) at (λ i. record { class = sym class i; constant = wants i }) in
+        let known = found_member c.field (list_at nat_eq index.fields e.class) (ap (λ k. has_field index k c.field) class ∙ h.fields n a c (get_low alphas n a at) at first) in
+        member_right n (found_by index e.class None) (flat_map (found_at index e) (list_at nat_eq index.fields e.class))
+        (member-flat_map (found_at index e) n c.field (list_at nat_eq index.fields e.class) known there)
 
--- all that it finds are numbers of alphas
-pub found_within : (alphas : List Alpha) (index : AlphaIndex) (e : Element) (found : List ℕ) → IsIndex alphas index → found ≡ found_in index e → All (λ n. n < length alphas) found
-found_within alphas index e found h is =
-    subst (All (λ n. n < length alphas)) (sym is) (all_from_members (λ n. n < length alphas) (found_in index e) (λ n m. found_low alphas index e n h m))
+    wants_of : (a : Alpha) → list_all (alpha_test_holds e) a.tests ≡ true → (o : Option Constant) → first_constant a.tests ≡ o → has_constant e o ≡ true
+    wants_of a all None first = refl
+    wants_of a all (Some c) first = first_wants e c a.tests first all
+
+    -- each alpha that the element passes is among those that it finds
+    pub found_passed : (found : List ℕ) → found ≡ found_in index e → (n : ℕ) (a : Alpha) → slice_get alphas n ≡ Some a → IsTrue (passes_alpha a e) → Contains found n
+    found_passed found is n a at passes =
+        let parts = and_parts (e.class == a.class) (list_all (alpha_test_holds e) a.tests) passes in
+        subst (λ ns. Contains ns n) (sym is) (contains_from_member n (found_in index e)
+        (passed_found n a (first_constant a.tests) at (eqb-true e.class a.class parts.0) refl (wants_of a parts.1 (first_constant a.tests) refl)))
+
+    candidate : (n : ℕ) (a : Alpha) (o : Option Constant) → slice_get alphas n ≡ Some a → key_of a ≡ record { class = e.class; constant = o } → has_constant e o ≡ true → IsCandidate alphas e n
+    candidate n a o at is has = record {
+      alpha = a;
+      at = at;
+      able = and_from (e.class == a.class) (has_constant e (first_constant a.tests)) ((Decides-eqb e.class a.class).1 (sym (ap (λ (k : Key). k.class) is)))
+          (ap (λ (k : Key). has_constant e k.constant) is ∙ has);
+    }
+
+    found_able : (n : ℕ) → IsMember n (found_in index e) → IsCandidate alphas e n
+    found_able n m = elim (member_cases n (found_by index e.class None) (flat_map (found_at index e) (list_at nat_eq index.fields e.class)) m) [
+      | inl a ↦ (let r = key_found n (record { class = e.class; constant = None }) a in candidate n r.0 None r.1 r.2 refl)
+      | inr b ↦
+          let f = flat_map_member (found_at index e) n (list_at nat_eq index.fields e.class) b in
+          let c : Constant = record { field = f.0; value = field_of e f.0 } in
+          let r = key_found n (record { class = e.class; constant = Some c }) f.2 in
+          candidate n r.0 (Some c) r.1 r.2 ((value_Decides c.value c.value).1 refl)
+    ]
+
+    -- all that it finds are alphas that it can pass
+    pub all_able : (found : List ℕ) → found ≡ found_in index e → All (IsCandidate alphas e) found
+    all_able found is = subst (All (IsCandidate alphas e)) (sym is) (all_from_members (IsCandidate alphas e) (found_in index e) found_able)
+
+    same_alpha : (n : ℕ) (a b : Alpha) → slice_get alphas n ≡ Some a → slice_get alphas n ≡ Some b → a ≡ b
+    same_alpha n a b at here = let q : Some a ≡ Some b = sym at ∙ here in cc
+
+    one_key : (n : ℕ) (k q : Key) → IsMember n (list_at same_key index.alphas k) → IsMember n (list_at same_key index.alphas q) → k ≡ q
+    one_key n k q m l =
+        let r = key_found n k m in
+        let s = key_found n q l in
+        sym r.2 ∙ (ap key_of (same_alpha n r.0 s.0 r.1 s.1) ∙ s.2)
+
+    no_twice_by : (k : Key) → NoTwice (list_at same_key index.alphas k)
+    no_twice_by k = subst NoTwice (sym (h.found k)) (numbers_apart (has_key k) alphas (length alphas))
+
+    one_field : (f g n : ℕ) → IsMember n (found_at index e f) → IsMember n (found_at index e g) → f ≡ g
+    one_field f g n m l =
+        let c : Constant = record { field = f; value = field_of e f } in
+        let d : Constant = record { field = g; value = field_of e g } in
+        let q = ap (λ (k : Key). k.constant) (one_key n (record { class = e.class; constant = Some c }) (record { class = e.class; constant = Some d }) m l) in
+        let p : c ≡ d = cc in
+        ap (λ (z : Constant). z.field) p
+
+    apart_by : (n : ℕ) → IsMember n (found_by index e.class None) → IsMember n (flat_map (found_at index e) (list_at nat_eq index.fields e.class)) → ⊥
+    apart_by n m l =
+        let f = flat_map_member (found_at index e) n (list_at nat_eq index.fields e.class) l in
+        let c : Constant = record { field = f.0; value = field_of e f.0 } in
+        let q = ap (λ (k : Key). k.constant) (one_key n (record { class = e.class; constant = None }) (record { class = e.class; constant = Some c }) m f.2) in
+        cc
+
+    -- no alpha is found twice
+    pub found_once : (found : List ℕ) → found ≡ found_in index e → AllPairs (λ n m. n ≢ m) found
+    found_once found is = subst (AllPairs (λ n m. n ≢ m)) (sym is) (pairs_from_no_twice (found_in index e)
+        (no_twice_append (found_by index e.class None) (flat_map (found_at index e) (list_at nat_eq index.fields e.class)) (no_twice_by (record { class = e.class; constant = None }))
+        (no_twice-flat_map (found_at index e) (list_at nat_eq index.fields e.class) (no_twice_from_pairs (list_at nat_eq index.fields e.class) (h.once e.class))
+        (λ f. no_twice_by (record { class = e.class; constant = Some (record { field = f; value = field_of e f }) })) one_field) apart_by))

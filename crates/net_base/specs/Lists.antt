@@ -1,5 +1,5 @@
 -- Lists of numbers under keys.
-use Rattle.std.specs.Prelude.{◌≡◌, ◌==◌, ℕ, List, [], ◌∷◌, ◌++◌, Option, Some, None, nat_eq, if◌then◌else◌}
+use Rattle.std.specs.Prelude.{◌≡◌, ℕ, Bool, List, [], ◌∷◌, ◌++◌, Option, Some, None, if◌then◌else◌}
 use Rattle.std.specs.Global.{Vec}
 use Rattle.std.specs.HashMap.{get}
 use Rattle.net_base.specs.declared.lists.Lists.{Lists}
@@ -8,10 +8,11 @@ abbrev pub items_of : Option (Vec ℕ) → List ℕ
 items_of None = []
 items_of (Some v) = v.items
 
--- the list under this key
-abbrev pub list_at : Lists → ℕ → List ℕ
-list_at l key = items_of (get nat_eq l.lists key)
+module _ {K : Type 0} (eq : K → K → Bool) where
+  -- the list under this key
+  abbrev pub list_at : Lists K → K → List ℕ
+  list_at l key = items_of (get eq l.lists key)
 
--- the item stands at the end of the list under this key, and all else is as before
-abbrev pub AddsItem : Lists → Lists → ℕ → ℕ → Type 0
-AddsItem old new key item = (q : ℕ) → list_at new q ≡ list_at old q ++ (if key == q then item ∷ [] else [])
+  -- the item stands at the end of the list under this key, and all else is as before
+  abbrev pub AddsItem : Lists K → Lists K → K → ℕ → Type 0
+  AddsItem old new key item = (q : K) → list_at new q ≡ list_at old q ++ (if eq key q then item ∷ [] else [])

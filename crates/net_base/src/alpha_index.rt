@@ -1,33 +1,22 @@
 //! The alphas that an element can pass, found by its class and by the constants in its fields.
-ghost use Rattle.std.specs.Prelude.{◌≡◌, ℕ, [], IfOk, OnOk};
-ghost use Rattle.net_base.specs.Lists.{list_at};
-ghost use Rattle.net_base.specs.Feeds.{AddsAlpha, HasField, IsIndex, constant_code, constant_of, first_constant, found_in, mixed, value_code};
+ghost use Rattle.std.specs.Prelude.{◌≡◌, IfOk, OnOk};
+ghost use Rattle.net_base.specs.Feeds.{AddsAlpha, HasField, IsIndex, constant_of, first_constant, found_in, key_of};
 
+use crate::keys::{Constant, Key};
 use crate::lists::Lists;
 use crate::net::Numbers;
 use crate::nodes::Alpha;
 use ops_base::conditions::{Operand, Test};
 use ops_base::elements::Element;
 use ops_base::memory::OutOfMemory;
-use ops_base::values::{Pred, Value};
+use ops_base::values::Pred;
 use std::alloc::Global;
 
-const FACTOR: u64 = 6_364_136_223_846_793_005;
-
-/// A field and the constant that is to stand in it.
-#[derive(Clone, Copy)]
-pub(crate) struct Constant {
-    field: usize,
-    value: Value,
-}
-
-/// An alpha without a constant is found by its class alone. Any other is found by its class and the first constant that it wants. The
-/// fields of these constants are known for each class.
+/// The alphas by their keys, and for each class the fields in which its alphas first want a constant, each field once.
 #[derive(Drop)]
 pub(crate) struct AlphaIndex {
-    plain: Lists,
-    fields: Lists,
-    constants: Lists,
+    alphas: Lists<Key>,
+    fields: Lists<usize>,
 }
 
 /// The constant that the test wants in its field.
@@ -57,30 +46,13 @@ fn first_constant(tests: &[Test]) -> Option<Constant>
     None
 }
 
-#[tactic(auto, unfolding(crate::specs::Feeds::mixed))]
-fn mixed(code: u64, x: u64) -> u64
-    ensures { result ≡ mixed code x }
+fn key_of(alpha: &Alpha) -> Key
+    ensures { result ≡ key_of alpha.now }
 {
-    code.wrapping_mul(FACTOR).wrapping_add(x)
-}
-
-fn value_code(code: u64, value: Value) -> u64
-    ensures { result ≡ value_code code value }
-{
-    match value {
-        Value::Symbol(symbol) => mixed(mixed(code, 1), symbol.0),
-        Value::Whole(number) => mixed(mixed(code, 2), number.cast_unsigned()),
+    Key {
+        class: alpha.class,
+        constant: first_constant(alpha.tests.as_slice()),
     }
-}
-
-/// A code by which a class and a constant are looked up. The same ones have the same code, and different ones rarely do.
-fn constant_code(class: usize, constant: Constant) -> u64
-    ensures { result ≡ constant_code class constant }
-{
-    value_code(
-        mixed(mixed(1, class as u64), constant.field as u64),
-        constant.value,
-    )
 }
 
 impl AlphaIndex {
@@ -89,9 +61,8 @@ impl AlphaIndex {
         ensures { IfOk result (IsIndex alphas.now) }
     {
         let mut index = AlphaIndex {
-            plain: Lists::new(alloc),
+            alphas: Lists::new(alloc),
             fields: Lists::new(alloc),
-            constants: Lists::new(alloc),
         };
         for (number, alpha) in alphas.iter().enumerate() {
             index.add(alloc, number, alpha)?;
@@ -102,41 +73,42 @@ impl AlphaIndex {
     fn add_field(&mut self, alloc: Global, class: usize, field: usize) -> Result<(), OutOfMemory>
         ensures { OnOk result (HasField self.old self.new class field) }
     {
-        if self.fields.at(class as u64).contains(&field) {
+        if self.fields.at(class).contains(&field) {
             return Ok(());
         }
-        self.fields.add(alloc, class as u64, field)
+        self.fields.add(alloc, class, field)
     }
 
     fn add(&mut self, alloc: Global, number: usize, alpha: &Alpha) -> Result<(), OutOfMemory>
         ensures { OnOk result (AddsAlpha self.old self.new number alpha.now) }
     {
-        match first_constant(alpha.tests.as_slice()) {
-            None => self.plain.add(alloc, alpha.class as u64, number),
-            Some(constant) => {
-                self.add_field(alloc, alpha.class, constant.field)?;
-                let code = constant_code(alpha.class, constant);
-                self.constants.add(alloc, code, number)
-            }
+        let key = key_of(alpha);
+        if let Some(constant) = key.constant {
+            self.add_field(alloc, key.class, constant.field)?;
         }
+        self.alphas.add(alloc, key, number)
     }
 
     /// What is found by the class of the element, and by what it has in each field that matters in its class.
     pub(crate) fn found(&self, alloc: Global, element: &Element) -> Result<Numbers, OutOfMemory>
         ensures { IfOk result (λ v. v.items ≡ found_in self.now element.now) }
     {
-        let class = element.class as u64;
-        let mut found = Numbers::from_slice(alloc, self.plain.at(class))?;
+        let class = element.class;
+        let plain = Key {
+            class,
+            constant: None,
+        };
+        let mut found = Numbers::from_slice(alloc, self.alphas.at(plain))?;
         for field in self.fields.at(class) {
-            let value = element.field(*field);
-            let code = constant_code(
-                element.class,
-                Constant {
-                    field: *field,
-                    value,
-                },
-            );
-            found.extend_from_slice(self.constants.at(code))?;
+            let constant = Constant {
+                field: *field,
+                value: element.field(*field),
+            };
+            let key = Key {
+                class,
+                constant: Some(constant),
+            };
+            found.extend_from_slice(self.alphas.at(key))?;
         }
         Ok(found)
     }

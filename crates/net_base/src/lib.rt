@@ -4,6 +4,7 @@
 
 mod alpha_index;
 pub mod counts;
+mod keys;
 pub mod laws;
 mod lists;
 pub mod net;

@@ -1,21 +1,22 @@
-//! Lists of numbers, each found by a number.
-ghost use Rattle.std.specs.Prelude.{◌≡◌, [], ℕ, OnOk};
+//! Lists of numbers, each found by its key.
+ghost use Rattle.std.specs.Prelude.{◌≡◌, [], OnOk};
 ghost use Rattle.net_base.specs.Lists.{AddsItem, list_at};
 
 use ops_base::memory::OutOfMemory;
 use std::alloc::Global;
 use std::collections::HashMap;
+use std::hash::Hash;
 
 /// A list under each key, empty where nothing was added to it.
 #[derive(Drop)]
-pub(crate) struct Lists {
-    lists: HashMap<u64, Vec<usize>>,
+pub(crate) struct Lists<K: Eq + Hash> {
+    lists: HashMap<K, Vec<usize>>,
 }
 
-impl Lists {
+impl<K: Eq + Hash + Copy + Drop> Lists<K> {
     /// Takes no memory.
-    pub(crate) fn new(alloc: Global) -> Lists
-        ensures { (key : ℕ) → list_at result key ≡ [] }
+    pub(crate) fn new(alloc: Global) -> Lists<K>
+        ensures { (key : K) → list_at K.eq result key ≡ [] }
     {
         Lists {
             lists: HashMap::new(alloc),
@@ -23,8 +24,8 @@ impl Lists {
     }
 
     /// The list under this key. One look-up.
-    pub(crate) fn at(&self, key: u64) -> &[usize]
-        ensures { result.now ≡ list_at self.now key }
+    pub(crate) fn at(&self, key: K) -> &[usize]
+        ensures { result.now ≡ list_at K.eq self.now key }
     {
         match self.lists.get(&key) {
             Some(list) => list.as_slice(),
@@ -33,8 +34,8 @@ impl Lists {
     }
 
     /// Adds a number at the end of the list under this key.
-    pub(crate) fn add(&mut self, alloc: Global, key: u64, item: usize) -> Result<(), OutOfMemory>
-        ensures { OnOk result (AddsItem self.old self.new key item) }
+    pub(crate) fn add(&mut self, alloc: Global, key: K, item: usize) -> Result<(), OutOfMemory>
+        ensures { OnOk result (AddsItem K.eq self.old self.new key item) }
     {
         let mut list = match self.lists.remove(&key) {
             Some(list) => list,

@@ -1,11 +1,11 @@
 //! Networks, each sound by its type.
-ghost use Rattle.std.specs.Prelude.{◌≡◌, ◌<◌, ℕ, All, Contains, IfOk, IsTrue, Some, count_by, length, slice_get};
+ghost use Rattle.std.specs.Prelude.{◌≡◌, ◌≢◌, ℕ, All, AllPairs, Contains, IfOk, IsTrue, Some, count_by, nat_eq, slice_get};
 ghost use Rattle.net_base.specs.declared.nodes.Alpha.{Alpha};
 ghost use Rattle.net_base.specs.Sound.{IsSound, is_join, is_negated, is_terminal};
 ghost use Rattle.net_base.specs.Shape.{counts_of};
 ghost use Rattle.net_base.specs.Tokens.{passes_alpha};
 ghost use Rattle.net_base.specs.Lists.{list_at};
-ghost use Rattle.net_base.specs.Feeds.{IsIndex, takers_of};
+ghost use Rattle.net_base.specs.Feeds.{IsCandidate, IsIndex, takers_of};
 
 use crate::alpha_index::AlphaIndex;
 use crate::counts::Counts;
@@ -27,10 +27,10 @@ pub struct Net {
     alphas: Listed<Alpha>,
     nodes: Listed<Node>,
     index: AlphaIndex,
-    takers: Lists,
+    takers: Lists<usize>,
     ghost sound: { IsSound alphas nodes },
     ghost indexed: { IsIndex alphas index },
-    ghost fed: { (alpha : ℕ) → list_at takers alpha ≡ takers_of nodes alpha },
+    ghost fed: { (alpha : ℕ) → list_at nat_eq takers alpha ≡ takers_of nodes alpha },
 }
 
 fn is_join(kind: Kind) -> bool
@@ -82,13 +82,13 @@ fn terminals(nodes: &[Node]) -> usize
 }
 
 /// The nodes that take the elements of each alpha.
-fn takers(alloc: Global, nodes: &[Node]) -> Result<Lists, OutOfMemory>
-    ensures { IfOk result (λ l. (alpha : ℕ) → list_at l alpha ≡ takers_of nodes.now alpha) }
+fn takers(alloc: Global, nodes: &[Node]) -> Result<Lists<usize>, OutOfMemory>
+    ensures { IfOk result (λ l. (alpha : ℕ) → list_at nat_eq l alpha ≡ takers_of nodes.now alpha) }
 {
     let mut takers = Lists::new(alloc);
     for (number, node) in nodes.iter().enumerate() {
         if !is_terminal(node.kind) {
-            takers.add(alloc, node.alpha as u64, number)?;
+            takers.add(alloc, node.alpha, number)?;
         }
     }
     Ok(takers)
@@ -135,7 +135,8 @@ impl Net {
     pub fn candidates(&self, alloc: Global, element: &Element) -> Result<Numbers, OutOfMemory>
         ensures passed { IfOk result (λ v. (n : ℕ) (a : Alpha) → slice_get self.now.alphas n ≡ Some a
             → IsTrue (passes_alpha a element.now) → Contains v.items n) }
-        ensures within { IfOk result (λ v. All (λ n. n < length self.now.alphas) v.items) }
+        ensures able { IfOk result (λ v. All (IsCandidate self.now.alphas element.now) v.items) }
+        ensures once { IfOk result (λ v. AllPairs (λ n m. n ≢ m) v.items) }
     {
         self.index.found(alloc, element)
     }
@@ -144,7 +145,7 @@ impl Net {
     pub fn takers(&self, alpha: usize) -> &[usize]
         ensures { result.now ≡ takers_of self.now.nodes alpha }
     {
-        self.takers.at(alpha as u64)
+        self.takers.at(alpha)
     }
 
     /// How many alphas it has, and how many nodes of each kind. It looks at each node three times, and takes no memory.
