@@ -82,7 +82,7 @@ number_of test xs n (suc i) m = elim (member_cases n (numbers_below test xs i) (
   | inr b ↦ last_number test xs n i (slice_get xs i) refl b
 ]
 
-numbers_apart : {X : Type 0} (test : X → Bool) (xs : List X) (i : ℕ) → NoTwice (numbers_below test xs i)
+pub numbers_apart : {X : Type 0} (test : X → Bool) (xs : List X) (i : ℕ) → NoTwice (numbers_below test xs i)
 numbers_apart test xs zero = tt
 numbers_apart {X} test xs (suc i) =
     no_twice_append (numbers_below test xs i) (number_if test (slice_get xs i) i) (numbers_apart test xs i) (by_item (slice_get xs i))

@@ -1,6 +1,6 @@
 -- The nodes that take an element, found by the alphas that it can pass, and put in order.
-use Rattle.std.proofs.Common.{◌≡◌, ◌↔◌, ℕ, zero, suc, ◌+◌, ◌<◌, Bool, true, false, cond, not, ◌&&◌, ◌==◌, eqb, List, [], ◌∷◌, ◌++◌, length, map, get_or, slice_get, Option, Some, None, refl, sym, ap, ap₂, subst, ◌∙◌, arith, append-nil, inl, inr, ◌⊎◌, ◌≤◌, take, drop}
-use Rattle.std.specs.List.{flat_map, All, AllPairs, Contains, dedup, refill}
+use Rattle.std.proofs.Common.{◌≡◌, ◌≢◌, ◌↔◌, ℕ, zero, suc, ◌+◌, ◌<◌, Bool, true, false, cond, not, ◌&&◌, ◌==◌, eqb, List, [], ◌∷◌, ◌++◌, length, map, get_or, slice_get, Option, Some, None, refl, sym, ap, ap₂, subst, ◌∙◌, arith, append-nil, inl, inr, ◌⊎◌, ◌≤◌, take, drop}
+use Rattle.std.specs.List.{flat_map, All, AllPairs, Contains, refill}
 use Rattle.std.specs.List.Sorted.{IsPermutation, IsSorted, IsStrictlyIncreasing}
 use Rattle.std.specs.Prelude.{IsTrue}
 use Rattle.std.specs.Ordering.{nat_cmp}
@@ -8,9 +8,11 @@ use Rattle.std.proofs.lemmas.Bool.{eqb-true, and_parts, and_from}
 use Rattle.std.proofs.lemmas.Bool.Decides.{Decides-eqb}
 use Rattle.std.proofs.lemmas.List.{map-append, take_all, drop_all}
 use Rattle.std.proofs.lemmas.List.Elements.{recursion_from_All}
-use Rattle.std.proofs.lemmas.List.Kept.{AllPairs-from_increasing, Contains-dedup_nat, Contains-from_dedup}
-use Rattle.std.proofs.lemmas.List.Sorted.{Contains-permutation, IsPermutation-sym}
-use Rattle.std.proofs.lemmas.Map.Keys.{IsStrictlyIncreasing-dedup}
+use Rattle.std.proofs.lemmas.List.Kept.{AllPairs-from_increasing}
+use Rattle.std.proofs.lemmas.List.Sorted.{Contains-permutation, IsPermutation-sym, IsNonDecreasingBy-from_sort}
+use Rattle.std.proofs.lemmas.Map.Keys.{IsDistinct-IsPermutation, IsStrictlyIncreasing-from_distinct}
+use Rattle.std.proofs.lemmas.Map.Made.{IsDistinct-from_AllPairs}
+use Rattle.std.specs.Cmp.{nat_eq_equiv}
 use Rattle.ops_base.specs.declared.elements.Element.{Element}
 use Rattle.ops_base.proofs.Members.{IsMember, members_from_each, member_from_contains, contains_from_member, member_left, member_right, member_cases, member-flat_map, flat_map_member}
 use Rattle.net_base.specs.declared.nodes.Node.{Node}
@@ -19,7 +21,8 @@ use Rattle.net_base.specs.declared.tasks.Task.{Task}
 use Rattle.net_base.specs.Sound.{is_terminal}
 use Rattle.net_base.specs.Tokens.{passes_alpha}
 use Rattle.net_base.specs.Feeds.{number_if, numbers_below, takes_from, takers_of}
-use Rattle.net_base.proofs.FeedLemmas.{number_in, number_of, get_low}
+use Rattle.net_base.proofs.Apart.{NoTwice, no_twice-flat_map, pairs_from_no_twice, no_twice_from_pairs}
+use Rattle.net_base.proofs.FeedLemmas.{number_in, number_of, numbers_apart, get_low}
 use Rattle.step_core.specs.Machine.{passes_in, is_fed, task_at, tasks_below}
 use Rattle.step_core.specs.Feeding.{IsTaker, AreTakers, taken_by, right_task}
 
@@ -48,8 +51,27 @@ module _ (alphas : List Alpha) (nodes : List Node) (e : Element) where
   alpha_among candidates has n None at passes = cc
   alpha_among candidates has n (Some a) at passes = has n a at passes
 
-  pub are_takers : (candidates ns : List ℕ) → ((n : ℕ) (a : Alpha) → slice_get alphas n ≡ Some a → IsTrue (passes_alpha a e) → Contains candidates n) → ns ≡ flat_map (taken_by alphas nodes e) candidates → AreTakers alphas nodes e ns
-  are_takers candidates ns has is = record {
+  taken_once : (a : ℕ) (b : Bool) → NoTwice (cond b (takers_of nodes a) [])
+  taken_once a true = numbers_apart (takes_from a) nodes (length nodes)
+  taken_once a false = tt
+
+  alpha_of : (n a : ℕ) (b : Bool) → IsMember n (cond b (takers_of nodes a) []) → (x : Node) × (slice_get nodes n ≡ Some x) × (x.alpha ≡ a)
+  alpha_of n a true m =
+      let r = number_of (takes_from a) nodes n (length nodes) m in
+      (r.item, r.at, eqb-true r.item.alpha a (and_parts (not (is_terminal r.item.kind)) (r.item.alpha == a) r.passes).1)
+  alpha_of n a false m = absurd m
+
+  -- a node takes the elements of one alpha
+  one_alpha : (a b n : ℕ) → IsMember n (taken_by alphas nodes e a) → IsMember n (taken_by alphas nodes e b) → a ≡ b
+  one_alpha a b n m l =
+      let r = alpha_of n a (passes_in (slice_get alphas a) (Some e)) m in
+      let s = alpha_of n b (passes_in (slice_get alphas b) (Some e)) l in
+      let q : Some r.0 ≡ Some s.0 = sym r.1 ∙ s.1 in
+      let p : r.0 ≡ s.0 = cc in
+      sym r.2 ∙ (ap (λ (x : Node). x.alpha) p ∙ s.2)
+
+  pub are_takers : (candidates ns : List ℕ) → AllPairs (λ n m. n ≢ m) candidates → ((n : ℕ) (a : Alpha) → slice_get alphas n ≡ Some a → IsTrue (passes_alpha a e) → Contains candidates n) → ns ≡ flat_map (taken_by alphas nodes e) candidates → AreTakers alphas nodes e ns
+  are_takers candidates ns apart has is = record {
     each = λ n t.
         let parts = and_parts (not (is_terminal t.node.kind)) (passes_in (slice_get alphas t.node.alpha) (Some e)) t.fed in
         let among = member_from_contains t.node.alpha candidates (alpha_among candidates has t.node.alpha (slice_get alphas t.node.alpha) refl parts.1) in
@@ -58,6 +80,8 @@ module _ (alphas : List Alpha) (nodes : List Node) (e : Element) where
     only = λ n c.
         let r = flat_map_member (taken_by alphas nodes e) n candidates (member_from_contains n (flat_map (taken_by alphas nodes e) candidates) (subst (λ ms. Contains ms n) is c)) in
         taker_of n r.0 (passes_in (slice_get alphas r.0) (Some e)) refl r.2;
+    once = subst (AllPairs (λ n m. n ≢ m)) (sym is) (pairs_from_no_twice (flat_map (taken_by alphas nodes e) candidates)
+        (no_twice-flat_map (taken_by alphas nodes e) candidates (no_twice_from_pairs candidates apart) (λ a. taken_once a (passes_in (slice_get alphas a) (Some e))) one_alpha));
   }
 
 -- after the last of them nothing is left
@@ -67,21 +91,16 @@ all_added f ns xs i end h = sym (append-nil ns) ∙ (ap (λ ys. ns ++ flat_map f
 -- ---- in order
 
 -- a list that was written in whole
-refill_whole : (xs ys : List ℕ) → length ys ≡ length xs → refill (length xs) xs ys ≡ ys
-refill_whole xs ys long =
+pub refill_whole : (xs ys now : List ℕ) → now ≡ xs → length ys ≡ length now → refill (length xs) xs ys ≡ ys
+refill_whole xs ys now same long =
+    let equal : length ys ≡ length xs = long ∙ ap length same in
     ap (λ zs. take (length xs) (ys ++ zs)) (drop_all (length ys) xs (omega arith)) ∙ (ap (take (length xs)) (append-nil ys) ∙ take_all (length xs) ys (omega arith))
 
-pub sorted_list : (xs ys zs now : List ℕ) → now ≡ xs → length ys ≡ length now → zs ≡ dedup eqb (refill (length xs) xs ys) → zs ≡ dedup eqb ys
-sorted_list xs ys zs now same long is = is ∙ ap (dedup eqb) (refill_whole xs ys (long ∙ ap length same))
-
--- after a sort and a `dedup` each number that was there is there
-pub kept_in_order : (xs ys zs : List ℕ) → IsPermutation xs ys → zs ≡ dedup eqb ys → (n : ℕ) → Contains zs n ↔ Contains xs n
-kept_in_order xs ys zs moved is n =
-    (λ c. Contains-permutation ys xs n (IsPermutation-sym xs ys moved) (Contains-from_dedup eqb ys n (subst (λ ms. Contains ms n) is c)),
-     λ c. subst (λ ms. Contains ms n) (sym is) (Contains-dedup_nat ys n (Contains-permutation xs ys n moved c)))
-
-pub rising_in_order : (ys zs : List ℕ) → IsSorted nat_cmp ys → zs ≡ dedup eqb ys → IsStrictlyIncreasing zs
-rising_in_order ys zs sorted is = subst IsStrictlyIncreasing (sym is) (IsStrictlyIncreasing-dedup ys sorted)
+-- what is sorted and has no number twice rises
+rising_in_order : (xs ys : List ℕ) → AllPairs (λ n m. n ≢ m) xs → IsPermutation xs ys → IsSorted nat_cmp ys → IsStrictlyIncreasing ys
+rising_in_order xs ys apart moved sorted =
+    IsStrictlyIncreasing-from_distinct ys (IsNonDecreasingBy-from_sort (λ n. n) ys sorted)
+    (IsDistinct-IsPermutation eqb nat_eq_equiv.symm xs ys moved (IsDistinct-from_AllPairs Decides-eqb xs apart))
 
 -- each number is below all later ones
 abbrev Rises : List ℕ → Type 0
@@ -155,21 +174,20 @@ numbers_of_tasks alphas nodes plus tag e (suc i) =
     by_node (Some x) = by_test (is_fed alphas e x)
 
 -- the tasks of the takers in order are those of the nodes in order
-pub tasks_of_takers : (alphas : List Alpha) (nodes : List Node) (plus : Bool) (tag : ℕ) (e : Element) (found ns : List ℕ) → AreTakers alphas nodes e found → ((n : ℕ) → Contains ns n ↔ Contains found n) → IsStrictlyIncreasing ns
+pub tasks_of_takers : (alphas : List Alpha) (nodes : List Node) (plus : Bool) (tag : ℕ) (e : Element) (found ns : List ℕ) → AreTakers alphas nodes e found → IsPermutation found ns → IsSorted nat_cmp ns
     → map (right_task plus tag) ns ≡ tasks_below alphas nodes plus tag (Some e) (length nodes)
-tasks_of_takers alphas nodes plus tag e found ns takers same rising =
-    ap (map (right_task plus tag)) (same_rising ns fed (rises_from_pairs ns (AllPairs-from_increasing ns rising)) (numbers_rise (is_fed alphas (Some e)) nodes (length nodes)) to from)
+tasks_of_takers alphas nodes plus tag e found ns takers moved sorted =
+    ap (map (right_task plus tag))
+    (same_rising ns (numbers_below (is_fed alphas (Some e)) nodes (length nodes)) (rises_from_pairs ns (AllPairs-from_increasing ns (rising_in_order found ns takers.once moved sorted)))
+      (numbers_rise (is_fed alphas (Some e)) nodes (length nodes)) to from)
     ∙ sym (numbers_of_tasks alphas nodes plus tag (Some e) (length nodes))
   where
-    fed : List ℕ
-    fed = numbers_below (is_fed alphas (Some e)) nodes (length nodes)
-
     to : (n : ℕ) → IsMember n ns → IsMember n (numbers_below (is_fed alphas (Some e)) nodes (length nodes))
     to n m =
-        let t = takers.only n ((same n).0 (contains_from_member n ns m)) in
+        let t = takers.only n (Contains-permutation ns found n (IsPermutation-sym found ns moved) (contains_from_member n ns m)) in
         number_in (is_fed alphas (Some e)) nodes n t.node t.at t.fed (length nodes) (get_low nodes n t.node t.at)
 
     from : (n : ℕ) → IsMember n (numbers_below (is_fed alphas (Some e)) nodes (length nodes)) → IsMember n ns
     from n m =
         let r = number_of (is_fed alphas (Some e)) nodes n (length nodes) m in
-        member_from_contains n ns ((same n).1 (takers.each n (record { node = r.item; at = r.at; fed = r.passes })))
+        member_from_contains n ns (Contains-permutation found ns n moved (takers.each n (record { node = r.item; at = r.at; fed = r.passes })))

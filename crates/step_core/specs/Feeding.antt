@@ -1,5 +1,5 @@
 -- What is asked of a change that is fed, and the nodes that take its element.
-use Rattle.std.specs.Prelude.{◌≡◌, ℕ, Bool, true, List, [], ◌∷◌, slice_get, Some, IsSome, Contains, if◌then◌else◌}
+use Rattle.std.specs.Prelude.{◌≡◌, ◌≢◌, ℕ, Bool, true, List, [], ◌∷◌, slice_get, Some, IsSome, AllPairs, Contains, if◌then◌else◌}
 use Rattle.ops_base.specs.declared.elements.Element.{Element}
 use Rattle.work_store.specs.Stored.{Stored, held_of}
 use Rattle.ops_base.specs.declared.elements.Change.{Change}
@@ -26,10 +26,11 @@ pub record IsTaker (alphas : List Alpha) (nodes : List Node) (e : Element) (n : 
   pub at : slice_get nodes n ≡ Some node
   pub fed : is_fed alphas (Some e) node ≡ true
 
--- the numbers of the nodes that take the element, each there at least once
+-- the numbers of the nodes that take the element, each once
 pub record AreTakers (alphas : List Alpha) (nodes : List Node) (e : Element) (ns : List ℕ) : Type 0 where
   pub each : (n : ℕ) → IsTaker alphas nodes e n → Contains ns n
   pub only : (n : ℕ) → Contains ns n → IsTaker alphas nodes e n
+  pub once : AllPairs (λ n m. n ≢ m) ns
 
 -- what an alpha adds to them
 abbrev pub taken_by : List Alpha → List Node → Element → ℕ → List ℕ

@@ -1,6 +1,7 @@
 //! The tasks that a change feeds.
-ghost use Rattle.std.specs.Prelude.{◌≡◌, ◌↔◌, ℕ, All, Contains, IfOk, Some, length, map, slice_get};
-ghost use Rattle.std.specs.List.Sorted.{IsStrictlyIncreasing};
+ghost use Rattle.std.specs.Prelude.{◌≡◌, All, IfOk, Some, length, map, slice_get};
+ghost use Rattle.std.specs.List.Sorted.{IsPermutation, IsSorted};
+ghost use Rattle.std.specs.Ordering.{nat_cmp};
 ghost use Rattle.net_base.specs.Tokens.{Elements};
 ghost use Rattle.token_line.specs.Held.{Agrees, TaskFits};
 ghost use Rattle.step_core.specs.Machine.{fed_by, passes_in, tasks_below};
@@ -26,7 +27,7 @@ fn passes(alphas: &[Alpha], alpha: usize, element: &Element) -> bool
     }
 }
 
-/// The nodes that take the element, in no order. Each alpha that the element can pass is tested.
+/// The nodes that take the element, each once, in no order. Each alpha that the element can pass is tested once.
 fn takers(alloc: Global, net: &Net, element: &Element) -> Result<Numbers, OutOfMemory>
     ensures { IfOk result (λ v. AreTakers net.now.alphas net.now.nodes element.now v.items) }
 {
@@ -40,13 +41,11 @@ fn takers(alloc: Global, net: &Net, element: &Element) -> Result<Numbers, OutOfM
     Ok(nodes)
 }
 
-/// Sorts the numbers, and leaves each but once.
-fn put_in_order(numbers: &mut Numbers)
-    ensures rising { IsStrictlyIncreasing numbers.new.items }
-    ensures same { (n : ℕ) → Contains numbers.new.items n ↔ Contains numbers.old.items n }
+fn sort(numbers: &mut Numbers)
+    ensures moved { IsPermutation numbers.old.items numbers.new.items }
+    ensures sorted { IsSorted nat_cmp numbers.new.items }
 {
     numbers.as_mut_slice().sort_unstable();
-    numbers.dedup();
 }
 
 /// The task of that element for a node.
@@ -89,7 +88,7 @@ fn tasks_for(
     ensures { IfOk result (λ v. v.items ≡ tasks_below net.now.alphas net.now.nodes plus tag (Some element.now) (length net.now.nodes)) }
 {
     let mut nodes = takers(alloc, net, element)?;
-    put_in_order(&mut nodes);
+    sort(&mut nodes);
     tasks_at(alloc, nodes.as_slice(), plus, tag)
 }
 
