@@ -1,5 +1,5 @@
 -- The tasks of an element fit where the store holds the tag.
-use Rattle.std.proofs.Common.{◌≡◌, ℕ, zero, suc, ◌+◌, ◌<◌, Bool, true, false, cond, not, ◌&&◌, List, [], ◌∷◌, ◌++◌, refl, sym, ap, ap₂, subst, ◌∙◌, add-one, length, get_or, slice_get, append-nil, Option, Some, None, IsSome}
+use Rattle.std.proofs.Common.{◌≡◌, ℕ, zero, suc, ◌<◌, Bool, true, false, cond, not, ◌&&◌, List, [], ◌∷◌, refl, sym, ap, subst, ◌∙◌, length, get_or, slice_get, Option, Some, None, IsSome}
 use Rattle.std.specs.List.{All, AllByRecursion}
 use Rattle.std.proofs.lemmas.List.Elements.{All-cons, All-nil, All-from_recursion}
 use Rattle.std.proofs.lemmas.Option.{slice_get_read}
@@ -14,7 +14,7 @@ use Rattle.net_base.specs.declared.tasks.Task.{Task}
 use Rattle.net_base.specs.Sound.{is_terminal}
 use Rattle.token_line.specs.Held.{TaskFits, is_wide}
 use Rattle.token_line.proofs.Fitting.{fits_at}
-use Rattle.step_core.specs.Machine.{passes_in, is_fed, task_at, tasks_below}
+use Rattle.step_core.specs.Machine.{passes_in, task_at, tasks_below}
 use Rattle.step_core.proofs.Fed.{AllByRecursion-append}
 
 -- the node that a loop looks at

@@ -1,5 +1,5 @@
 -- The nodes that take an element, found by the alphas that it can pass, and put in order.
-use Rattle.std.proofs.Common.{◌≡◌, ◌≢◌, ◌↔◌, ℕ, zero, suc, ◌+◌, ◌<◌, Bool, true, false, cond, not, ◌&&◌, ◌==◌, eqb, List, [], ◌∷◌, ◌++◌, length, map, get_or, slice_get, Option, Some, None, refl, sym, ap, ap₂, subst, ◌∙◌, arith, append-nil, inl, inr, ◌⊎◌, ◌≤◌, take, drop}
+use Rattle.std.proofs.Common.{◌≡◌, ◌≢◌, ℕ, zero, suc, ◌<◌, Bool, true, false, cond, not, ◌==◌, eqb, List, [], ◌∷◌, ◌++◌, length, map, slice_get, Option, Some, None, refl, sym, ap, ap₂, subst, ◌∙◌, arith, append-nil, inl, inr, ◌≤◌, take, drop}
 use Rattle.std.specs.List.{flat_map, All, AllPairs, Contains, refill}
 use Rattle.std.specs.List.Sorted.{IsPermutation, IsSorted, IsStrictlyIncreasing}
 use Rattle.std.specs.Prelude.{IsTrue}
@@ -14,10 +14,9 @@ use Rattle.std.proofs.lemmas.Map.Keys.{IsDistinct-IsPermutation, IsStrictlyIncre
 use Rattle.std.proofs.lemmas.Map.Made.{IsDistinct-from_AllPairs}
 use Rattle.std.specs.Cmp.{nat_eq_equiv}
 use Rattle.ops_base.specs.declared.elements.Element.{Element}
-use Rattle.ops_base.proofs.Members.{IsMember, members_from_each, member_from_contains, contains_from_member, member_left, member_right, member_cases, member-flat_map, flat_map_member}
+use Rattle.ops_base.proofs.Members.{IsMember, members_from_each, member_from_contains, contains_from_member, member_cases, member-flat_map, flat_map_member}
 use Rattle.net_base.specs.declared.nodes.Node.{Node}
 use Rattle.net_base.specs.declared.nodes.Alpha.{Alpha}
-use Rattle.net_base.specs.declared.tasks.Task.{Task}
 use Rattle.net_base.specs.Sound.{is_terminal}
 use Rattle.net_base.specs.Tokens.{passes_alpha}
 use Rattle.net_base.specs.Feeds.{number_if, numbers_below, takes_from, takers_of}

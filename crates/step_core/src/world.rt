@@ -128,8 +128,8 @@ impl World {
         self.line_at(net, store, self.flight.len() - 1)
     }
 
-    /// Puts into flight one task for each node that takes the change's element. It looks at each node of the network. Where memory
-    /// runs out nothing has changed.
+    /// Puts into flight one task for each node that takes the change's element. It looks up the alphas that the element can pass, tests
+    /// these, and sorts the nodes that take it. Where memory runs out nothing has changed.
     pub fn feed(
         &mut self,
         alloc: Global,
