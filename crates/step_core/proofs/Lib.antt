@@ -12,6 +12,7 @@ pub mod RootTokens
 pub mod Counted
 pub mod ListPlaces
 pub mod WorkedLines
+pub mod Parted
 pub mod Clearing
 pub mod Starting
 pub mod Started
