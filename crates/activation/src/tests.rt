@@ -78,7 +78,7 @@ fn net_of_one_join(alloc: Global) -> Result<Net, OutOfMemory>
     };
     let alphas = Listed::from_array(alloc, [alpha])?;
     let nodes = Listed::from_array(alloc, [join, terminal])?;
-    Ok(Net::new(alphas, nodes))
+    Net::new(alloc, alphas, nodes)
 }
 
 fn store_of_one(alloc: Global) -> Result<Store, OutOfMemory>
@@ -211,7 +211,7 @@ fn net_of_one_negated(alloc: Global) -> Result<Net, OutOfMemory>
     };
     let alphas = Listed::from_array(alloc, [alpha])?;
     let nodes = Listed::from_array(alloc, [join, negated, terminal])?;
-    Ok(Net::new(alphas, nodes))
+    Net::new(alloc, alphas, nodes)
 }
 
 fn store_of_three(alloc: Global) -> Result<Store, OutOfMemory>

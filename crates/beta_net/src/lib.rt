@@ -52,5 +52,6 @@ pub fn compile(alloc: Global, program: &Program) -> Result<Net, OutOfMemory>
     let draft = draft_of(alloc, program.rules.as_slice())?;
     let alphas = Listed::from_vec(draft.alphas);
     let nodes = Listed::from_vec(draft.nodes);
-    Ok(Net::new(alphas, nodes))
+    let net = Net::new(alloc, alphas, nodes)?;
+    Ok(net)
 }

@@ -12,3 +12,6 @@ pub mod ValidRules
 pub mod Sames
 pub mod Counted
 pub mod ShapeOf
+pub mod KeyLemmas
+pub mod Apart
+pub mod FeedLemmas

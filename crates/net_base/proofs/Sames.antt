@@ -31,7 +31,7 @@ each_Decides {E} same xs ys = slice_eq-Decides same xs ys (pointwise E xs ys) re
 same_symbols : (a b : Sym) → a.0 ≡ b.0 → Symbol a ≡ Symbol b
 same_symbols a b e = λ k. Symbol (record { 0 = e k })
 
-value_Decides : (a b : Value) → Decides (are_same a b) (a ≡ b)
+pub value_Decides : (a b : Value) → Decides (are_same a b) (a ≡ b)
 value_Decides (Symbol a) (Symbol b) =
     (λ e. same_symbols a b ((Decides-eqb a.0 b.0).0 e), λ e. (let q : a ≡ b = cc in (Decides-eqb a.0 b.0).1 (ap (λ (s : Sym). s.0) q)))
 value_Decides (Symbol a) (Whole y) = (λ e. cc, λ e. cc)

@@ -4,3 +4,6 @@ pub mod Sound
 pub mod Shape
 pub mod Network
 pub mod Counting
+pub mod Keys
+pub mod Lists
+pub mod Feeds

@@ -2,8 +2,11 @@
 //! memory, and the type of networks that are sound.
 #![tactic(auto)]
 
+mod alpha_index;
 pub mod counts;
+mod keys;
 pub mod laws;
+mod lists;
 pub mod net;
 pub mod nodes;
 pub mod normal;

@@ -1,11 +1,24 @@
 //! Networks, each sound by its type.
-ghost use Rattle.std.specs.Prelude.{◌≡◌, count_by};
+ghost use Rattle.std.specs.Prelude.{◌≡◌, ◌≢◌, ℕ, All, AllPairs, Contains, IfOk, IsTrue, Some, count_by, nat_eq, slice_get};
+ghost use Rattle.net_base.specs.declared.nodes.Alpha.{Alpha};
 ghost use Rattle.net_base.specs.Sound.{IsSound, is_join, is_negated, is_terminal};
 ghost use Rattle.net_base.specs.Shape.{counts_of};
+ghost use Rattle.net_base.specs.Tokens.{passes_alpha};
+ghost use Rattle.net_base.specs.Lists.{list_at};
+ghost use Rattle.net_base.specs.Feeds.{IsCandidate, IsIndex, takers_of};
 
+use crate::alpha_index::AlphaIndex;
 use crate::counts::Counts;
+use crate::lists::Lists;
 use crate::nodes::{Alpha, Kind, Node};
+use ops_base::elements::Element;
 use ops_base::list::Listed;
+use ops_base::memory::OutOfMemory;
+use smallvec::SmallVec;
+use std::alloc::Global;
+
+/// Numbers of nodes or of alphas. Up to 16 take no memory.
+pub type Numbers = SmallVec<usize, 16>;
 
 /// A network. The parent of each node has a smaller number, all numbers of nodes, of alphas and of places in a left token are in
 /// range, and the children of a node are just the nodes that name it as parent.
@@ -13,7 +26,11 @@ use ops_base::list::Listed;
 pub struct Net {
     alphas: Listed<Alpha>,
     nodes: Listed<Node>,
+    index: AlphaIndex,
+    takers: Lists<usize>,
     ghost sound: { IsSound alphas nodes },
+    ghost indexed: { IsIndex alphas index },
+    ghost fed: { (alpha : ℕ) → list_at nat_eq takers alpha ≡ takers_of nodes alpha },
 }
 
 fn is_join(kind: Kind) -> bool
@@ -64,14 +81,38 @@ fn terminals(nodes: &[Node]) -> usize
     nodes.iter().filter(|x| is_terminal(x.kind)).count()
 }
 
+/// The nodes that take the elements of each alpha.
+fn takers(alloc: Global, nodes: &[Node]) -> Result<Lists<usize>, OutOfMemory>
+    ensures { IfOk result (λ l. (alpha : ℕ) → list_at nat_eq l alpha ≡ takers_of nodes.now alpha) }
+{
+    let mut takers = Lists::new(alloc);
+    for (number, node) in nodes.iter().enumerate() {
+        if !is_terminal(node.kind) {
+            takers.add(alloc, node.alpha, number)?;
+        }
+    }
+    Ok(takers)
+}
+
 impl Net {
-    /// Takes no memory.
-    pub fn new(alphas: Listed<Alpha>, nodes: Listed<Node>) -> Net
+    /// It looks at the tests of each alpha up to its first constant and at each node once. It takes memory for each alpha and each node.
+    pub fn new(
+        alloc: Global,
+        alphas: Listed<Alpha>,
+        nodes: Listed<Node>,
+    ) -> Result<Net, OutOfMemory>
         requires { IsSound alphas nodes }
-        ensures alphas { result.alphas ≡ alphas }
-        ensures nodes { result.nodes ≡ nodes }
+        ensures alphas { IfOk result (λ net. net.alphas ≡ alphas) }
+        ensures nodes { IfOk result (λ net. net.nodes ≡ nodes) }
     {
-        Net { alphas, nodes }
+        let index = AlphaIndex::of(alloc, alphas.as_slice())?;
+        let takers = takers(alloc, nodes.as_slice())?;
+        Ok(Net {
+            alphas,
+            nodes,
+            index,
+            takers,
+        })
     }
 
     /// Takes no memory.
@@ -87,6 +128,24 @@ impl Net {
         ensures sound { IsSound self.now.alphas self.now.nodes }
     {
         self.nodes.as_slice()
+    }
+
+    /// The alphas that the element can pass: those of its class that want no constant, and those whose first constant it has. There are
+    /// two look-ups for its class, and one for each field in which an alpha of its class first wants a constant. Up to 16 take no memory.
+    pub fn candidates(&self, alloc: Global, element: &Element) -> Result<Numbers, OutOfMemory>
+        ensures passed { IfOk result (λ v. (n : ℕ) (a : Alpha) → slice_get self.now.alphas n ≡ Some a
+            → IsTrue (passes_alpha a element.now) → Contains v.items n) }
+        ensures able { IfOk result (λ v. All (IsCandidate self.now.alphas element.now) v.items) }
+        ensures once { IfOk result (λ v. AllPairs (λ n m. n ≢ m) v.items) }
+    {
+        self.index.found(alloc, element)
+    }
+
+    /// The nodes whose right tokens are the elements that pass this alpha, in their order. One look-up, and no memory.
+    pub fn takers(&self, alpha: usize) -> &[usize]
+        ensures { result.now ≡ takers_of self.now.nodes alpha }
+    {
+        self.takers.at(alpha)
     }
 
     /// How many alphas it has, and how many nodes of each kind. It looks at each node three times, and takes no memory.

@@ -1,7 +1,15 @@
-//! Tokens and tasks with ample memory.
+//! Tokens, tasks and the alphas that an element can pass, with ample memory.
 
+use crate::net::Net;
+use crate::nodes::Alpha;
 use crate::tags::Tags;
 use crate::tasks::{Side, Task};
+use ops_base::conditions::{Operand, Test};
+use ops_base::elements::Element;
+use ops_base::list::Listed;
+use ops_base::memory::OutOfMemory;
+use ops_base::values::{Pred, Value};
+use std::alloc::Global;
 use std::test::Fail;
 
 #[test]
@@ -32,5 +40,48 @@ fn a_task_is_copied(rt: HostRuntime) -> Result<(), Fail> {
     let copy = task.copy(rt.alloc())?;
     assert_eq!(rt; (copy.node, copy.side, copy.plus), (3, Side::Right, true));
     assert_eq!(rt; copy.token.as_slice(), &[9, 8, 7, 6, 5, 4, 3, 2, 1][..]);
+    Ok(())
+}
+
+/// `(a)`, `(a ^n 5)` and `(a ^n > 3)`.
+fn net_of_alphas(alloc: Global) -> Result<Net, OutOfMemory> {
+    let five = Test {
+        field: 0,
+        pred: Pred::Eq,
+        operand: Operand::Constant(Value::Whole(5)),
+        binds: false,
+    };
+    let above = Test {
+        field: 0,
+        pred: Pred::Gt,
+        operand: Operand::Constant(Value::Whole(3)),
+        binds: false,
+    };
+    let tests = [
+        Listed::new(alloc),
+        Listed::from_array(alloc, [five])?,
+        Listed::from_array(alloc, [above])?,
+    ];
+    let mut alphas = Vec::new(alloc);
+    for tests in tests {
+        alphas.push(Alpha { class: 0, tests })?;
+    }
+    Net::new(alloc, Listed::from_vec(alphas), Listed::new(alloc))
+}
+
+#[test]
+fn an_element_finds_what_it_can_pass(rt: HostRuntime) -> Result<(), Fail> {
+    let net = net_of_alphas(rt.alloc())?;
+    let rows = [(0, 5, &[0, 2, 1][..]), (0, 7, &[0, 2][..]), (1, 5, &[][..])];
+    for (class, number, found) in rows {
+        let element = Element {
+            tag: 1,
+            class,
+            fields: Listed::from_array(rt.alloc(), [Value::Whole(number)])?,
+        };
+        let candidates = net.candidates(rt.alloc(), &element)?;
+        assert_eq!(rt; candidates.as_slice(), found);
+    }
+    assert_eq!(rt; net.takers(0).len(), 0);
     Ok(())
 }

@@ -81,7 +81,7 @@ fn twin(alloc: Global) -> Result<Net, OutOfMemory> {
     };
     let alphas = Listed::from_array(alloc, [alpha(alloc, 0)])?;
     let nodes = Listed::from_array(alloc, [first, second, terminal])?;
-    Ok(Net::new(alphas, nodes))
+    Net::new(alloc, alphas, nodes)
 }
 
 // `(p free (a) - (b) -->)`
@@ -115,7 +115,7 @@ fn free(alloc: Global) -> Result<Net, OutOfMemory> {
     };
     let alphas = Listed::from_array(alloc, [alpha(alloc, 0), alpha(alloc, 1)])?;
     let nodes = Listed::from_array(alloc, [first, negated, terminal])?;
-    Ok(Net::new(alphas, nodes))
+    Net::new(alloc, alphas, nodes)
 }
 
 // the element 1 comes and goes, in the order of the picks

@@ -1,5 +1,5 @@
--- The tasks of an element: one node after another, and they fit where the store holds the tag.
-use Rattle.std.proofs.Common.{◌≡◌, ℕ, zero, suc, ◌+◌, ◌<◌, Bool, true, false, cond, not, ◌&&◌, List, [], ◌∷◌, ◌++◌, refl, sym, ap, ap₂, subst, ◌∙◌, add-one, length, get_or, slice_get, append-nil, Option, Some, None, IsSome}
+-- The tasks of an element fit where the store holds the tag.
+use Rattle.std.proofs.Common.{◌≡◌, ℕ, zero, suc, ◌<◌, Bool, true, false, cond, not, ◌&&◌, List, [], ◌∷◌, refl, sym, ap, subst, ◌∙◌, length, get_or, slice_get, Option, Some, None, IsSome}
 use Rattle.std.specs.List.{All, AllByRecursion}
 use Rattle.std.proofs.lemmas.List.Elements.{All-cons, All-nil, All-from_recursion}
 use Rattle.std.proofs.lemmas.Option.{slice_get_read}
@@ -14,26 +14,12 @@ use Rattle.net_base.specs.declared.tasks.Task.{Task}
 use Rattle.net_base.specs.Sound.{is_terminal}
 use Rattle.token_line.specs.Held.{TaskFits, is_wide}
 use Rattle.token_line.proofs.Fitting.{fits_at}
-use Rattle.step_core.specs.Machine.{passes_in, is_fed, task_at, tasks_below}
+use Rattle.step_core.specs.Machine.{passes_in, task_at, tasks_below}
 use Rattle.step_core.proofs.Fed.{AllByRecursion-append}
 
 -- the node that a loop looks at
 pub node_at : (nodes seen : List Node) (i : ℕ) (x : Node) → seen ≡ nodes → i < length seen → x ≡ get_or seen i x → slice_get nodes i ≡ Some x
 node_at nodes seen i x same low is = ap (λ xs. slice_get xs i) (sym same) ∙ slice_get_read seen (length seen) i x refl low is
-
--- ---- one node more
-
-module _ (alphas : List Alpha) (nodes : List Node) (plus : Bool) (tag : ℕ) (e : Option Element) (i : ℕ) (x : Node) (at : slice_get nodes i ≡ Some x) (ts : List Task) (are : ts ≡ tasks_below alphas nodes plus tag e i) where
-  more : (b : Bool) → is_fed alphas e x ≡ b → ts ++ cond b (record { node = i; side = Right; plus = plus; token = tag ∷ [] } ∷ []) [] ≡ tasks_below alphas nodes plus tag e (i + 1)
-  more b is =
-      ap₂ (λ a c. a ++ c) are (ap (λ a. cond a (record { node = i; side = Right; plus = plus; token = tag ∷ [] } ∷ []) []) (sym is) ∙ ap (task_at alphas plus tag e i) (sym at))
-      ∙ ap (tasks_below alphas nodes plus tag e) (sym (add-one i))
-
-  pub fed_more : is_fed alphas e x ≡ true → ts ++ record { node = i; side = Right; plus = plus; token = tag ∷ [] } ∷ [] ≡ tasks_below alphas nodes plus tag e (i + 1)
-  fed_more is = more true is
-
-  pub not_fed_more : is_fed alphas e x ≡ false → ts ≡ tasks_below alphas nodes plus tag e (i + 1)
-  not_fed_more is = sym (append-nil ts) ∙ more false is
 
 -- ---- they fit
 

@@ -7,10 +7,12 @@ pub mod Made
 pub mod Fed
 pub mod Results
 pub mod FedTasks
+pub mod Takers
 pub mod RootTokens
 pub mod Counted
 pub mod ListPlaces
 pub mod WorkedLines
+pub mod Parted
 pub mod Clearing
 pub mod Starting
 pub mod Started

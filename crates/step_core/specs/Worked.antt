@@ -1,6 +1,9 @@
 -- Which lines have entries, told by their places among the lines.
-use Rattle.std.specs.Prelude.{◌≡◌, ◌≢◌, ◌<◌, ◌≤◌, ℕ, List, length, slice_get, Some}
+use Rattle.std.specs.Prelude.{◌≡◌, ◌≢◌, ◌<◌, ◌≤◌, ◌==◌, ℕ, Bool, not, List, length, slice_get, Some}
 use Rattle.token_line.specs.declared.line.Line.{Line}
+
+abbrev pub has_entries : Line → Bool
+has_entries l = not (length l.entries.items == 0)
 
 -- these are the places of the lines that have entries, each once
 pub record AreWorked (ls : List Line) (worked : List ℕ) : Type 0 where

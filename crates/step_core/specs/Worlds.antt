@@ -1,5 +1,5 @@
 -- The world as code has it: what of it is the machine's, and what its steps ask for.
-use Rattle.std.specs.Prelude.{◌≡◌, ◌<◌, ◌++◌, ℕ, List, length, map, slice_get, Some, All}
+use Rattle.std.specs.Prelude.{◌≡◌, ◌<◌, ◌++◌, ℕ, List, [], length, map, slice_get, Some, All}
 use Rattle.work_store.specs.Stored.{Stored}
 use Rattle.net_base.specs.declared.nodes.Node.{Node}
 use Rattle.net_base.specs.declared.nodes.Alpha.{Alpha}
@@ -15,6 +15,7 @@ use Rattle.activation.specs.Acting.{IsCounted}
 use Rattle.step_core.specs.declared.world.Step.{Step}
 use Rattle.step_core.specs.declared.world.Step.TheVariants.{Feed, Activate, Finish}
 use Rattle.step_core.specs.declared.world.World.{World}
+use Rattle.step_core.specs.declared.world.Parts.{Parts}
 use Rattle.step_core.specs.Doing.{entry_of}
 use Rattle.step_core.specs.Machine.{Placing, Seen, Steps, add_entry, place_of, sums_at}
 use Rattle.step_core.specs.Machine
@@ -78,6 +79,15 @@ pub record IsReady (nodes : List Node) (s : Stored) (w : World) : Type 0 where
   pub flight : All (TaskFits nodes s) w.flight.items
   pub done : All (EntryFits nodes s) (map entry_of w.done.items)
   pub lines : All (IsCounted nodes s) w.lines.items
+
+-- the machine's world of these lines and tasks, where no entry waits to be finished
+abbrev pub joined : List Seen → List Task → Machine.World
+joined lines flight = record { lines = lines; flight = flight; done = []; counter = length flight }
+
+-- every task in flight fits, and every line is counted
+pub record ArePartsReady (nodes : List Node) (s : Stored) (p : Parts) : Type 0 where
+  pub flight : All (TaskFits nodes s) p.flight.items
+  pub lines : All (IsCounted nodes s) p.lines.items
 
 -- the store holds the element of the change, there is such a task in flight, or such an entry that is done
 abbrev pub IsWithin : Stored → World → Step → Type 0

@@ -1,14 +1,15 @@
 //! The tasks that a change feeds.
-ghost use Rattle.std.specs.Prelude.{◌≡◌, ◌∷◌, [], All, IfOk, Some, length, slice_get};
-ghost use Rattle.net_base.specs.declared.tasks.Side.TheVariants.{Right};
+ghost use Rattle.std.specs.Prelude.{◌≡◌, All, IfOk, Some, length, map, slice_get};
+ghost use Rattle.std.specs.List.Sorted.{IsPermutation, IsSorted};
+ghost use Rattle.std.specs.Ordering.{nat_cmp};
 ghost use Rattle.net_base.specs.Tokens.{Elements};
 ghost use Rattle.token_line.specs.Held.{Agrees, TaskFits};
-ghost use Rattle.step_core.specs.Machine.{fed_by, is_fed, passes_in, tasks_below};
-ghost use Rattle.step_core.specs.Feeding.{HasItsClass, IsKnown};
+ghost use Rattle.step_core.specs.Machine.{fed_by, passes_in, tasks_below};
+ghost use Rattle.step_core.specs.Feeding.{AreTakers, IsKnown, right_task};
 
 use alpha_net::alpha::alpha_passes;
-use net_base::net::Net;
-use net_base::nodes::{Alpha, Kind, Node};
+use net_base::net::{Net, Numbers};
+use net_base::nodes::Alpha;
 use net_base::tags::Tags;
 use net_base::tasks::{Side, Task};
 use ops_base::elements::{Change, Element};
@@ -26,22 +27,30 @@ fn passes(alphas: &[Alpha], alpha: usize, element: &Element) -> bool
     }
 }
 
-/// Whether the node takes the element. It compares the classes before it looks at the alpha.
-fn is_fed(alphas: &[Alpha], element: &Element, node: &Node) -> bool
-    requires { HasItsClass alphas.now node.now }
-    ensures { result ≡ is_fed alphas.now (Some element.now) node.now }
+/// The nodes that take the element, each once, in no order. Each alpha that the element can pass is tested once.
+fn takers(alloc: Global, net: &Net, element: &Element) -> Result<Numbers, OutOfMemory>
+    ensures { IfOk result (λ v. AreTakers net.now.alphas net.now.nodes element.now v.items) }
 {
-    match node.kind {
-        Kind::Join | Kind::Negated => {
-            element.class == node.class && passes(alphas, node.alpha, element)
+    let candidates = net.candidates(alloc, element)?;
+    let mut nodes = Numbers::new(alloc);
+    for alpha in candidates.as_slice() {
+        if passes(net.alphas(), *alpha, element) {
+            nodes.extend_from_slice(net.takers(*alpha))?;
         }
-        Kind::Terminal { rule: _ } => false,
     }
+    Ok(nodes)
+}
+
+fn sort(numbers: &mut Numbers)
+    ensures moved { IsPermutation numbers.old.items numbers.new.items }
+    ensures sorted { IsSorted nat_cmp numbers.new.items }
+{
+    numbers.as_mut_slice().sort_unstable();
 }
 
 /// The task of that element for a node.
 fn task_for(alloc: Global, node: usize, plus: bool, tag: u64) -> Result<Task, OutOfMemory>
-    ensures { IfOk result (λ x. x ≡ record { node = node; side = Right; plus = plus; token = tag ∷ [] }) }
+    ensures { IfOk result (λ x. x ≡ right_task plus tag node) }
 {
     let token = Tags::from_slice(alloc, &[tag])?;
     Ok(Task {
@@ -52,7 +61,23 @@ fn task_for(alloc: Global, node: usize, plus: bool, tag: u64) -> Result<Task, Ou
     })
 }
 
-/// The tasks of that element, one for each node that takes it. It looks at each node.
+/// A task of that element for each of the nodes.
+fn tasks_at(
+    alloc: Global,
+    nodes: &[usize],
+    plus: bool,
+    tag: u64,
+) -> Result<Vec<Task>, OutOfMemory>
+    ensures { IfOk result (λ v. v.items ≡ map (right_task plus tag) nodes.now) }
+{
+    let mut tasks = Vec::with_capacity(alloc, nodes.len())?;
+    for node in nodes {
+        tasks.push(task_for(alloc, *node, plus, tag)?)?;
+    }
+    Ok(tasks)
+}
+
+/// The tasks of that element, one for each node that takes it.
 fn tasks_for(
     alloc: Global,
     net: &Net,
@@ -62,17 +87,13 @@ fn tasks_for(
 ) -> Result<Vec<Task>, OutOfMemory>
     ensures { IfOk result (λ v. v.items ≡ tasks_below net.now.alphas net.now.nodes plus tag (Some element.now) (length net.now.nodes)) }
 {
-    let alphas = net.alphas();
-    let mut tasks = Vec::new(alloc);
-    for (number, node) in net.nodes().iter().enumerate() {
-        if is_fed(alphas, element, node) {
-            tasks.push(task_for(alloc, number, plus, tag)?)?;
-        }
-    }
-    Ok(tasks)
+    let mut nodes = takers(alloc, net, element)?;
+    sort(&mut nodes);
+    tasks_at(alloc, nodes.as_slice(), plus, tag)
 }
 
-/// The tasks that a change feeds, in the order of their nodes. It looks at each node of the network.
+/// The tasks that a change feeds, in the order of their nodes. It looks up the alphas that the element can pass, tests these, and sorts
+/// the nodes that take it. Up to 16 alphas and 16 nodes take no memory but for the tasks.
 pub(crate) fn fed_by(
     alloc: Global,
     net: &Net,

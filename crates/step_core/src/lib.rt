@@ -13,4 +13,4 @@ mod worked;
 pub mod world;
 
 pub use gathering::{Gathered, gather, gather_worked};
-pub use world::{Step, World};
+pub use world::{Parts, Step, World};

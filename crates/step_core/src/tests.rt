@@ -90,7 +90,7 @@ fn net_of_two_joins(alloc: Global) -> Result<Net, OutOfMemory>
         alloc,
         [first_join(alloc)?, second_join(alloc)?, terminal(alloc)],
     )?;
-    Ok(Net::new(alphas, nodes))
+    Net::new(alloc, alphas, nodes)
 }
 
 // element 1 is of class 0, and element 2 of class 1
@@ -314,5 +314,23 @@ fn lines_with_entries_are_named(rt: HostRuntime) -> Result<(), Fail> {
         world.clear_phase();
     }
     assert_eq!(rt; (world.worked().len(), busy_lines(&world)), (0, 0));
+    Ok(())
+}
+
+#[test]
+fn a_world_is_put_together_of_its_parts(rt: HostRuntime) -> Result<(), Fail> {
+    let net = net_of_two_joins(rt.alloc())?;
+    let store = store_of_two(rt.alloc())?;
+    let mut world = first_world(rt.alloc(), &net, &store)?;
+    come(rt.alloc(), &net, &store, &mut world, 2, 1)?;
+    if world.in_flight() > 0 {
+        world.work(rt.alloc(), &net, &store)?;
+    }
+    assert_eq!(rt; world.done(), 0);
+    let parts = world.into_parts();
+    assert_eq!(rt; (parts.lines.len(), parts.flight.len()), (4, 1));
+    let world = World::from_parts(rt.alloc(), parts)?;
+    assert_eq!(rt; (world.counter(), world.done()), (1, 0));
+    assert_eq!(rt; world.worked(), &[2][..]);
     Ok(())
 }

@@ -1,5 +1,5 @@
 //! The lines at work: a task is done on its line, those that have entries are known by name, and they alone are cleared.
-ghost use Rattle.std.specs.Prelude.{◌≡◌, ◌≢◌, ◌≤◌, ◌<◌, ◌∷◌, ◌++◌, [], All, List, OnErr, OnOk, length, map, vec_capacity, vec_len};
+ghost use Rattle.std.specs.Prelude.{◌≡◌, ◌≢◌, ◌≤◌, ◌<◌, ◌∷◌, ◌++◌, [], All, IfOk, List, OnErr, OnOk, length, map, vec_capacity, vec_len};
 ghost use Rattle.work_store.specs.Stored.{Stored};
 ghost use Rattle.net_base.specs.declared.nodes.Node.{Node};
 ghost use Rattle.token_line.specs.Held.{TaskFits};
@@ -54,6 +54,19 @@ pub(crate) fn act_on(
     activate(alloc, net, store, &mut lines[number], task, out)?;
     name_worked(worked, number, &lines[number]);
     Ok(())
+}
+
+/// The places of the lines that have entries. It looks at each line.
+pub(crate) fn worked_lines(alloc: Global, lines: &[Line]) -> Result<Vec<usize>, OutOfMemory>
+    ensures { IfOk result (λ v. AreWorked lines.now v.items) }
+{
+    let mut worked = Vec::new(alloc);
+    for (place, line) in lines.iter().enumerate() {
+        if !line.entries().is_empty() {
+            worked.push(place)?;
+        }
+    }
+    Ok(worked)
 }
 
 /// Begins a phase on the lines that have entries, which then have none.

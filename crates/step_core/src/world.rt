@@ -6,7 +6,7 @@ ghost use Rattle.step_core.specs.Worked.{AreWorked};
 use crate::done::{Done, deliver, move_to_done};
 use crate::feeding::fed_by;
 use crate::start::first_lines;
-use crate::worked::{act_on, clear_worked};
+use crate::worked::{act_on, clear_worked, worked_lines};
 use net_base::net::Net;
 use net_base::tasks::Task;
 use ops_base::elements::Change;
@@ -38,8 +38,15 @@ pub struct World {
     ghost told: { AreWorked lines.items worked.items },
 }
 
+/// The lines of a world and its tasks in flight, which are all of it where no entry waits to be finished.
+#[derive(Drop)]
+pub struct Parts {
+    pub lines: Vec<Line>,
+    pub flight: Vec<Task>,
+}
+
 impl World {
-    ghost use Rattle.std.specs.Prelude.{IfOk, List, OnErr, OnOk, ℕ};
+    ghost use Rattle.std.specs.Prelude.{IfOk, List, OnErr, OnOk, map, ℕ};
     ghost use Rattle.work_store.specs.Stored.{Stored};
     ghost use Rattle.net_base.specs.declared.nodes.Alpha.{Alpha};
     ghost use Rattle.net_base.specs.declared.nodes.Node.{Node};
@@ -49,7 +56,7 @@ impl World {
     ghost use Rattle.step_core.specs.Laws.{IsPlaced};
     ghost use Rattle.step_core.specs.Machine.{place_of};
     ghost use Rattle.step_core.specs.Working.{IsLast, IsWorked, but_last};
-    ghost use Rattle.step_core.specs.Worlds.{AreNumbered, IsReady, IsWithin, Takes, numbers_of, placed, step_of, world_of};
+    ghost use Rattle.step_core.specs.Worlds.{AreNumbered, ArePartsReady, IsReady, IsWithin, Takes, joined, numbers_of, placed, seen, step_of, world_of};
 
     /// So many lines, with nothing under way. It makes each line and looks at each node.
     pub fn start(alloc: Global, net: &Net, lines: usize) -> Result<World, OutOfMemory>
@@ -68,6 +75,40 @@ impl World {
             done: Vec::new(alloc),
             counter: 0,
             worked: Vec::new(alloc),
+        })
+    }
+
+    /// Gives out the lines and the tasks in flight, for one who does such tasks by other means. Takes no memory.
+    pub fn into_parts(self) -> Parts
+        requires { length self.done.items ≡ 0 }
+        ensures lines { result.lines ≡ self.lines }
+        ensures flight { result.flight ≡ self.flight }
+        ensures some { 1 ≤ length result.lines.items }
+        ensures world { world_of self ≡ joined (map seen result.lines.items) result.flight.items }
+        ensures ready { (nodes : List Node) (s : Stored) → IsReady nodes s self → ArePartsReady nodes s result }
+    {
+        Parts {
+            lines: self.lines,
+            flight: self.flight,
+        }
+    }
+
+    /// The world of these lines and tasks in flight. It looks at each line, and takes memory for the places of those that have entries.
+    pub fn from_parts(alloc: Global, parts: Parts) -> Result<World, OutOfMemory>
+        requires { 1 ≤ length parts.lines.items }
+        ensures lines { IfOk result (λ w. w.lines ≡ parts.lines) }
+        ensures flight { IfOk result (λ w. w.flight ≡ parts.flight) }
+        ensures world { IfOk result (λ w. world_of w ≡ joined (map seen parts.lines.items) parts.flight.items) }
+        ensures ready { IfOk result (λ w. (nodes : List Node) (s : Stored) → ArePartsReady nodes s parts → IsReady nodes s w) }
+    {
+        let worked = worked_lines(alloc, parts.lines.as_slice())?;
+        let counter = parts.flight.len() as u64;
+        Ok(World {
+            lines: parts.lines,
+            flight: parts.flight,
+            done: Vec::new(alloc),
+            counter,
+            worked,
         })
     }
 
@@ -128,8 +169,8 @@ impl World {
         self.line_at(net, store, self.flight.len() - 1)
     }
 
-    /// Puts into flight one task for each node that takes the change's element. It looks at each node of the network. Where memory
-    /// runs out nothing has changed.
+    /// Puts into flight one task for each node that takes the change's element. It looks up the alphas that the element can pass, tests
+    /// these, and sorts the nodes that take it. Where memory runs out nothing has changed.
     pub fn feed(
         &mut self,
         alloc: Global,

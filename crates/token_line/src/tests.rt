@@ -202,13 +202,13 @@ fn equal_values_have_one_code(rt: HostRuntime) -> Result<(), Fail> {
     Ok(())
 }
 
-fn no_nodes(alloc: Global) -> Net {
-    Net::new(Listed::new(alloc), Listed::new(alloc))
+fn no_nodes(alloc: Global) -> Result<Net, OutOfMemory> {
+    Net::new(alloc, Listed::new(alloc), Listed::new(alloc))
 }
 
 #[test]
 fn a_line_has_a_number_within_bounds(rt: HostRuntime) -> Result<(), Fail> {
-    let net = no_nodes(rt.alloc());
+    let net = no_nodes(rt.alloc())?;
     let store = Store::new(rt.alloc());
     let task = entry(rt.alloc(), Side::Left, true)?.task;
     assert_eq!(rt; line_of(&net, &store, &task, 2), 1);

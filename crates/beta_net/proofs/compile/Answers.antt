@@ -17,7 +17,7 @@ returns-clause-network c =
     let valid = all_valid c.args.program.now.classes rules c.args.program.now.commands (length c.args.program.now.text) c.args.program.now.valid in
     let made = subst (λ (z : List Rule). IsCompiled z c.in_ok-draft.draft.alphas.items c.in_ok-draft.draft.nodes.items) c.as_slice.ensures c.in_ok-draft.ensures in
     let own = same_compiled rules c.in_ok-draft.draft.alphas.items c.from_vec-alphas.result c.in_ok-draft.draft.nodes.items c.from_vec-nodes.result c.from_vec-alphas.ensures c.from_vec-nodes.ensures made in
-    compiled_net rules c.new.result valid (same_compiled rules c.from_vec-alphas.result c.new.result.alphas c.from_vec-nodes.result c.new.result.nodes c.new.ensures.alphas c.new.ensures.nodes own)
+    compiled_net rules c.in_ok-net.net valid (same_compiled rules c.from_vec-alphas.result c.in_ok-net.net.alphas c.from_vec-nodes.result c.in_ok-net.net.nodes c.in_ok-net.ensures.alphas c.in_ok-net.ensures.nodes own)
 
 pub returns-clause-shape : goal.returns-clause-shape
 returns-clause-shape c =
@@ -25,4 +25,4 @@ returns-clause-shape c =
     let valid = all_valid c.args.program.now.classes rules c.args.program.now.commands (length c.args.program.now.text) c.args.program.now.valid in
     let made = subst (λ (z : List Rule). IsCompiled z c.in_ok-draft.draft.alphas.items c.in_ok-draft.draft.nodes.items) c.as_slice.ensures c.in_ok-draft.ensures in
     let own = same_compiled rules c.in_ok-draft.draft.alphas.items c.from_vec-alphas.result c.in_ok-draft.draft.nodes.items c.from_vec-nodes.result c.from_vec-alphas.ensures c.from_vec-nodes.ensures made in
-    compiled_shape rules c.new.result.alphas c.new.result.nodes valid (same_compiled rules c.from_vec-alphas.result c.new.result.alphas c.from_vec-nodes.result c.new.result.nodes c.new.ensures.alphas c.new.ensures.nodes own)
+    compiled_shape rules c.in_ok-net.net.alphas c.in_ok-net.net.nodes valid (same_compiled rules c.from_vec-alphas.result c.in_ok-net.net.alphas c.from_vec-nodes.result c.in_ok-net.net.nodes c.in_ok-net.ensures.alphas c.in_ok-net.ensures.nodes own)

@@ -1,0 +1,115 @@
+//! The alphas that an element can pass, found by its class and by the constants in its fields.
+ghost use Rattle.std.specs.Prelude.{◌≡◌, IfOk, OnOk};
+ghost use Rattle.net_base.specs.Feeds.{AddsAlpha, HasField, IsIndex, constant_of, first_constant, found_in, key_of};
+
+use crate::keys::{Constant, Key};
+use crate::lists::Lists;
+use crate::net::Numbers;
+use crate::nodes::Alpha;
+use ops_base::conditions::{Operand, Test};
+use ops_base::elements::Element;
+use ops_base::memory::OutOfMemory;
+use ops_base::values::Pred;
+use std::alloc::Global;
+
+/// The alphas by their keys, and for each class the fields in which its alphas first want a constant, each field once.
+#[derive(Drop)]
+pub(crate) struct AlphaIndex {
+    alphas: Lists<Key>,
+    fields: Lists<usize>,
+}
+
+/// The constant that the test wants in its field.
+fn constant_of(test: &Test) -> Option<Constant>
+    ensures { result ≡ constant_of test.now }
+{
+    if test.binds {
+        return None;
+    }
+    match (test.pred, &test.operand) {
+        (Pred::Eq, Operand::Constant(value)) => Some(Constant {
+            field: test.field,
+            value: *value,
+        }),
+        _ => None,
+    }
+}
+
+fn first_constant(tests: &[Test]) -> Option<Constant>
+    ensures { result ≡ first_constant tests.now }
+{
+    for test in tests {
+        if let Some(constant) = constant_of(test) {
+            return Some(constant);
+        }
+    }
+    None
+}
+
+fn key_of(alpha: &Alpha) -> Key
+    ensures { result ≡ key_of alpha.now }
+{
+    Key {
+        class: alpha.class,
+        constant: first_constant(alpha.tests.as_slice()),
+    }
+}
+
+impl AlphaIndex {
+    /// The index of these alphas.
+    pub(crate) fn of(alloc: Global, alphas: &[Alpha]) -> Result<AlphaIndex, OutOfMemory>
+        ensures { IfOk result (IsIndex alphas.now) }
+    {
+        let mut index = AlphaIndex {
+            alphas: Lists::new(alloc),
+            fields: Lists::new(alloc),
+        };
+        for (number, alpha) in alphas.iter().enumerate() {
+            index.add(alloc, number, alpha)?;
+        }
+        Ok(index)
+    }
+
+    fn add_field(&mut self, alloc: Global, class: usize, field: usize) -> Result<(), OutOfMemory>
+        ensures { OnOk result (HasField self.old self.new class field) }
+    {
+        if self.fields.at(class).contains(&field) {
+            return Ok(());
+        }
+        self.fields.add(alloc, class, field)
+    }
+
+    fn add(&mut self, alloc: Global, number: usize, alpha: &Alpha) -> Result<(), OutOfMemory>
+        ensures { OnOk result (AddsAlpha self.old self.new number alpha.now) }
+    {
+        let key = key_of(alpha);
+        if let Some(constant) = key.constant {
+            self.add_field(alloc, key.class, constant.field)?;
+        }
+        self.alphas.add(alloc, key, number)
+    }
+
+    /// What is found by the class of the element, and by what it has in each field that matters in its class.
+    pub(crate) fn found(&self, alloc: Global, element: &Element) -> Result<Numbers, OutOfMemory>
+        ensures { IfOk result (λ v. v.items ≡ found_in self.now element.now) }
+    {
+        let class = element.class;
+        let plain = Key {
+            class,
+            constant: None,
+        };
+        let mut found = Numbers::from_slice(alloc, self.alphas.at(plain))?;
+        for field in self.fields.at(class) {
+            let constant = Constant {
+                field: *field,
+                value: element.field(*field),
+            };
+            let key = Key {
+                class,
+                constant: Some(constant),
+            };
+            found.extend_from_slice(self.alphas.at(key))?;
+        }
+        Ok(found)
+    }
+}
