@@ -38,7 +38,7 @@ fn entry(alloc: Global, side: Side, plus: bool) -> Result<Entry, OutOfMemory> {
 
 fn come(alloc: Global, line: &mut Line, side: Side, plus: bool) -> Result<(), OutOfMemory> {
     let entry = entry(alloc, side, plus)?;
-    line.add(alloc, entry, 0)
+    line.add(alloc, 5, entry, 0)
 }
 
 // the sums of that token at a node
@@ -49,7 +49,7 @@ fn sums(alloc: Global, line: &Line, node: usize) -> Result<(i64, i64), OutOfMemo
 
 // how many tokens of node 3 are kept
 fn kept(line: &Line) -> Option<(usize, usize)> {
-    let memory = line.memory(3)?;
+    let memory = line.memory(3, 5)?;
     Some((memory.left().len(), memory.right().len()))
 }
 
@@ -98,12 +98,12 @@ fn many_tokens_come_and_go(rt: HostRuntime) -> Result<(), Fail> {
     let mut line = Line::new(rt.alloc(), 7);
     for tag in 0..12 {
         let entry = entry_of(rt.alloc(), Side::Left, true, tag)?;
-        line.add(rt.alloc(), entry, 0)?;
+        line.add(rt.alloc(), 5, entry, 0)?;
     }
     assert_eq!(rt; kept(&line), Some((12, 0)));
     for tag in 0..12 {
         let entry = entry_of(rt.alloc(), Side::Left, false, tag)?;
-        line.add(rt.alloc(), entry, 0)?;
+        line.add(rt.alloc(), 5, entry, 0)?;
     }
     assert_eq!(rt; kept(&line), None);
     Ok(())
@@ -151,14 +151,14 @@ fn line_of_one(alloc: Global, blockers: u64) -> Result<Line, OutOfMemory>
 {
     let mut line = Line::new(alloc, 7);
     let entry = entry(alloc, Side::Left, true)?;
-    line.add(alloc, entry, blockers)?;
+    line.add(alloc, 5, entry, blockers)?;
     Ok(line)
 }
 
 // the blockers of that token
 fn blockers(alloc: Global, line: &Line) -> Result<Option<u64>, OutOfMemory> {
     let token = Tags::from_slice(alloc, &[2])?;
-    let (spot, _memory) = line.find(3, Side::Left, &token);
+    let (spot, _memory) = line.find(3, 5, Side::Left, &token);
     Ok(spot.kept().map(|cell| cell.blockers))
 }
 
@@ -169,9 +169,9 @@ fn a_left_token_is_blocked_by_what_matches(rt: HostRuntime) -> Result<(), Fail> 
     store.add(element(rt.alloc(), 2, 40)?)?;
     let tests = [compare(Pred::Eq)];
     let mut line = line_of_one(rt.alloc(), 2)?;
-    line.block(&store, &tests, 3, 1, true);
+    line.block(&store, &tests, 3, 5, 1, true);
     assert_eq!(rt; blockers(rt.alloc(), &line)?, Some(3));
-    line.block(&store, &tests, 3, 1, false);
+    line.block(&store, &tests, 3, 5, 1, false);
     assert_eq!(rt; blockers(rt.alloc(), &line)?, Some(2));
     Ok(())
 }
