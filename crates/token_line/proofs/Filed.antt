@@ -8,11 +8,13 @@ use Rattle.indexmap.specs.IndexMap.{IndexMap, get}
 use Rattle.net_base.specs.declared.tasks.Side.{Side}
 use Rattle.net_base.specs.declared.tasks.Side.TheVariants.{Left}
 use Rattle.net_base.specs.declared.tasks.Task.{Task}
+use Rattle.token_line.specs.declared.line.Line.{Line}
 use Rattle.token_line.specs.declared.memory.Memory.{Memory}
 use Rattle.token_line.specs.declared.memories.Memories.{Memories}
 use Rattle.token_line.specs.declared.tokens.Cell.{Cell}
 use Rattle.token_line.specs.Bags.{are_same_sides, is_at}
 use Rattle.token_line.specs.Codes.{AreApart, cell_among, cell_blocked, cell_under, codes_among, codes_of, filed_among, first_some, memory_of, memory_under, tokens_of}
+use Rattle.token_line.specs.Lines.{IsFiled, filed_in, sum_in}
 use Rattle.token_line.specs.Pairs.{cell_of}
 use Rattle.token_line.specs.Sums.{blocked, blockers_kept, counted, side_of, sum_kept}
 use Rattle.token_line.proofs.LineLemmas.{at_task}
@@ -177,6 +179,16 @@ module _ {S : Type 0} (old : IndexMap ℕ Memories S) where
 
       pub same_apart : AreApart new
       same_apart n c d s t one other = apart n c d s t (same_codes n c s t one) (same_codes n d s t other)
+
+-- a token with a sum other than 0 is kept under some code
+pub kept_under : (line : Line) (n : ℕ) (s : Side) (t : List ℕ) → sum_in line n s t ≢ pos 0 → (c : ℕ) × IsFiled line n c s t
+kept_under line n s t ne = by (cell_among line.memories n s t) refl
+  where
+    by : (o : Option Cell) → cell_among line.memories n s t ≡ o → (c : ℕ) × IsFiled line n c s t
+    by None q = absurd (ne (ap sum_kept q))
+    by (Some k) q =
+        let own = some_first (λ c. filed_in line n c s t) (codes_among (get nat_eq line.memories n)) k q in
+        (own.0, subst IsSome (sym own.1) refl)
 
 -- ---- once something else is kept of the token of a task
 

@@ -272,7 +272,7 @@ impl Line {
         tag: u64,
         plus: bool,
     )
-        requires room { plus ≡ true → (t : List ℕ) → IsFiled self.old node code Left t → blockers_in self.old node t < 2 ^ 64 - 1 }
+        requires room { plus ≡ true → (t : List ℕ) → IsFiled self.old node code Left t → sum_in self.old node Left t ≢ pos 0 → blockers_in self.old node t < 2 ^ 64 - 1 }
         requires code { (t : List ℕ) → sum_in self.old node Left t ≢ pos 0 → joins_hold tests.now (held_of store.now) t tag ≡ true → IsFiled self.old node code Left t }
         ensures blockers { (n : ℕ) (t : List ℕ) → sum_in self.new n Left t ≢ pos 0 → blockers_in self.new n t ≡ (if (n == node) && joins_hold tests.now (held_of store.now) t tag then counted plus (blockers_in self.old n t) else blockers_in self.old n t) }
         ensures sums { (n : ℕ) (s : Side) (t : List ℕ) → sum_in self.new n s t ≡ sum_in self.old n s t }
