@@ -13,7 +13,7 @@ use Rattle.token_line.specs.Bags.{after, are_same_sides, is_at, standing}
 use Rattle.token_line.specs.Held.{Fits, TaskFits}
 use Rattle.token_line.specs.Lines.{IsFiled, KeepsCodes, blockers_in, sum_in}
 use Rattle.token_line.specs.Numbers.{code_of}
-use Rattle.token_line.proofs.Filed.{kept_under}
+use Rattle.token_line.proofs.Filed.{filed_stands, kept_under}
 use Rattle.token_line.proofs.Fitting.{node_of}
 use Rattle.token_line.proofs.Joined.{joined_with_one_code}
 use Rattle.token_line.proofs.LineLemmas.{at_task}
@@ -204,9 +204,9 @@ module _ (nodes : List Node) (s : Stored) (x : Task) (fits : TaskFits nodes s x)
 
   -- once a task is added, each left token with its code has the room that it had
   pub room_after : ((n : ℕ) (t : List ℕ) → sum_in new n Left t ≢ pos 0 → blockers_in new n t ≡ cond (is_at n Left t x) e.blockers (blockers_in old n t))
-      → x.plus ≡ true → (t : List ℕ) → IsFiled new x.node code Left t → sum_in new x.node Left t ≢ pos 0 → blockers_in new x.node t < 2 ^ 64 - 1
-  room_after numbers more t has some =
-      let kept : blockers_in new x.node t ≡ blockers_in old x.node t = numbers x.node t some ∙ ap (λ b. cond b e.blockers (blockers_in old x.node t)) (not_left t) in
+      → x.plus ≡ true → (t : List ℕ) → IsFiled new x.node code Left t → blockers_in new x.node t < 2 ^ 64 - 1
+  room_after numbers more t has =
+      let kept : blockers_in new x.node t ≡ blockers_in old x.node t = numbers x.node t (filed_stands new x.node code Left t has) ∙ ap (λ b. cond b e.blockers (blockers_in old x.node t)) (not_left t) in
       subst (λ k. k < 2 ^ 64 - 1) (sym kept) (effect.room blocks more t (was_filed code t has))
 
   -- each left token that it matches has its code

@@ -45,7 +45,7 @@ fn count_blockers(
     blocks: bool,
 )
     requires node { slice_get net.now.nodes task.now.node ≡ Some node.now }
-    requires room { blocks ≡ true → task.now.plus ≡ true → (t : List ℕ) → IsFiled line.old task.now.node code Left t → sum_in line.old task.now.node Left t ≢ pos 0 → blockers_in line.old task.now.node t < 2 ^ 64 - 1 }
+    requires room { blocks ≡ true → task.now.plus ≡ true → (t : List ℕ) → IsFiled line.old task.now.node code Left t → blockers_in line.old task.now.node t < 2 ^ 64 - 1 }
     requires code { blocks ≡ true → (t : List ℕ) → sum_in line.old task.now.node Left t ≢ pos 0 → joins_hold node.now.joins (held_of store.now) t (slice_index task.now.token 0) ≡ true → IsFiled line.old task.now.node code Left t }
     ensures blockers { (n : ℕ) (t : List ℕ) → sum_in line.new n Left t ≢ pos 0 → blockers_in line.new n t ≡ (if blocks && is_matched (slice_get net.now.nodes task.now.node) (held_of store.now) task.now n t then counted task.now.plus (blockers_in line.old n t) else blockers_in line.old n t) }
     ensures sums { (n : ℕ) (s : Side) (t : List ℕ) → sum_in line.new n s t ≡ sum_in line.old n s t }

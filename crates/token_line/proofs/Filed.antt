@@ -1,5 +1,5 @@
 -- Tokens that are kept under one code alone: what is kept of such a token is what is kept under that code.
-use Rattle.std.proofs.Common.{◌≡◌, ◌≢◌, ℕ, zero, suc, pos, Bool, true, false, cond, ◌&&◌, ◌==◌, ◌⊎◌, inl, inr, List, [], ◌∷◌, ◌++◌, bytes_eq, nat_eq, Option, Some, None, IsSome, refl, sym, ap, ap₂, subst, ◌∙◌, true≢false, arith}
+use Rattle.std.proofs.Common.{◌≡◌, ◌≢◌, ℕ, zero, suc, pos, Bool, true, false, cond, ◌&&◌, ◌==◌, ◌⊎◌, inl, inr, List, [], ◌∷◌, ◌++◌, bytes_eq, nat_eq, Option, Some, None, IsSome, IfSome, refl, sym, ap, ap₂, subst, ◌∙◌, true≢false, arith}
 use Rattle.std.specs.Map.{keys_of, lookup}
 use Rattle.std.specs.Option.{is_some, option_map, option_or}
 use Rattle.std.proofs.lemmas.Bool.{cases_eq, eqb-true}
@@ -13,7 +13,7 @@ use Rattle.token_line.specs.declared.memory.Memory.{Memory}
 use Rattle.token_line.specs.declared.memories.Memories.{Memories}
 use Rattle.token_line.specs.declared.tokens.Cell.{Cell}
 use Rattle.token_line.specs.Bags.{are_same_sides, is_at}
-use Rattle.token_line.specs.Codes.{AreApart, cell_among, cell_blocked, cell_under, codes_among, codes_of, filed_among, first_some, memory_of, memory_under, tokens_of}
+use Rattle.token_line.specs.Codes.{AreApart, HaveSums, cell_among, cell_blocked, cell_under, codes_among, codes_of, filed_among, first_some, memory_of, memory_under, tokens_of}
 use Rattle.token_line.specs.Lines.{IsFiled, filed_in, sum_in}
 use Rattle.token_line.specs.Pairs.{cell_of}
 use Rattle.token_line.specs.Sums.{blocked, blockers_kept, counted, side_of, sum_kept}
@@ -153,7 +153,7 @@ and_false : (b : Bool) → (b && false) ≡ false
 and_false true = refl
 and_false false = refl
 
-nothing : {X : Type 0} (o : Option X) → o ≡ None → IsSome o → ⊥
+pub nothing : {X : Type 0} (o : Option X) → o ≡ None → IsSome o → ⊥
 nothing o none some = true≢false (sym some ∙ ap is_some none)
 
 -- ---- all memories of a line
@@ -177,10 +177,18 @@ module _ {S : Type 0} (old : IndexMap ℕ Memories S) where
       pub same_codes : (n c : ℕ) (s : Side) (t : List ℕ) → IsSome (filed_among new n c s t) → IsSome (filed_among old n c s t)
       same_codes n c s t some = subst IsSome (same n c s t) some
 
+      pub same_sums : HaveSums old → HaveSums new
+      same_sums sums n c s t some = subst (λ o. sum_kept o ≢ pos 0) (sym (same n c s t)) (sums n c s t (same_codes n c s t some))
+
       pub same_apart : AreApart new
       same_apart n c d s t one other = apart n c d s t (same_codes n c s t one) (same_codes n d s t other)
 
--- a token with a sum other than 0 is kept under some code
+-- a token that is kept under a code has a sum other than 0
+pub filed_stands : (line : Line) (n c : ℕ) (s : Side) (t : List ℕ) → IsFiled line n c s t → sum_in line n s t ≢ pos 0
+filed_stands line n c s t some =
+    subst (λ o. sum_kept o ≢ pos 0) (sym (filed_cell line.memories line.apart n c s t some)) (line.some n c s t some)
+
+-- and one with such a sum is kept under some code
 pub kept_under : (line : Line) (n : ℕ) (s : Side) (t : List ℕ) → sum_in line n s t ≢ pos 0 → (c : ℕ) × IsFiled line n c s t
 kept_under line n s t ne = by (cell_among line.memories n s t) refl
   where
@@ -236,6 +244,19 @@ module _ {S : Type 0} (old new : IndexMap ℕ Memories S) (apart : AreApart old)
       by true q = inr (own_code n c s t q some, refl)
       by false q = inl (subst IsSome (elsewhere n c s t q) some)
 
+pub put_sums : {S : Type 0} (old new : IndexMap ℕ Memories S) (x : Task) (code : ℕ) (cell : Option Cell) → IfSome cell (λ c. c.sum ≢ pos 0) → HaveSums old
+    → ((n c : ℕ) (s : Side) (t : List ℕ) → filed_among new n c s t ≡ cond ((c == code) && is_at n s t x) cell (filed_among old n c s t)) → HaveSums new
+put_sums old new x code cell has sums written n c s t some =
+    subst (λ o. sum_kept o ≢ pos 0) (sym (written n c s t)) (by ((c == code) && is_at n s t x) (subst IsSome (written n c s t) some))
+  where
+    of_cell : (o : Option Cell) → IfSome o (λ c. c.sum ≢ pos 0) → IsSome o → sum_kept o ≢ pos 0
+    of_cell None has some = absurd (nothing {X = Cell} None refl some)
+    of_cell (Some k) has some = has
+
+    by : (b : Bool) → IsSome (cond b cell (filed_among old n c s t)) → sum_kept (cond b cell (filed_among old n c s t)) ≢ pos 0
+    by true some = of_cell cell has some
+    by false some = sums n c s t some
+
 -- ---- once a right token more or less has come
 
 pub kept_some : (o : Option Cell) → sum_kept o ≢ pos 0 → IsSome o
@@ -279,6 +300,11 @@ module _ (plus : Bool) where
 
     pub block_apart : AreApart new
     block_apart n c d s t one other = apart n c d s t (block_codes n c s t one) (block_codes n d s t other)
+
+    pub block_kept : HaveSums old → HaveSums new
+    block_kept sums n c s t some =
+        subst (λ o. sum_kept o ≢ pos 0) (sym (written n c s t))
+        (λ z. sums n c s t (block_codes n c s t some) (sym (same_sum (here n s t c) (matches t) (filed_among old n c s t)) ∙ z))
 
     some_kept : (o : Option Cell) → sum_kept o ≢ pos 0 → (c : Cell) × (o ≡ Some c)
     some_kept None ne = absurd (ne refl)

@@ -1,5 +1,5 @@
 -- The memories of one node by the codes of their tokens, and those of all nodes of a line.
-use Rattle.std.specs.Prelude.{◌≡◌, ◌==◌, ℕ, Bool, List, [], ◌∷◌, nat_eq, Option, Some, None, IsSome, if◌then◌else◌}
+use Rattle.std.specs.Prelude.{◌≡◌, ◌≢◌, ◌==◌, ℕ, pos, Bool, List, [], ◌∷◌, nat_eq, Option, Some, None, IsSome, if◌then◌else◌}
 use Rattle.std.specs.Map.{keys_of}
 use Rattle.std.specs.Option.{option_map, option_or}
 use Rattle.indexmap.specs.IndexMap.{IndexMap, get}
@@ -8,7 +8,7 @@ use Rattle.token_line.specs.declared.memory.Memory.{Memory}
 use Rattle.token_line.specs.declared.memories.Memories.{Memories}
 use Rattle.token_line.specs.declared.tokens.Cell.{Cell}
 use Rattle.token_line.specs.Pairs.{Pairs, cell_of}
-use Rattle.token_line.specs.Sums.{blocked, side_of}
+use Rattle.token_line.specs.Sums.{blocked, side_of, sum_kept}
 
 -- ---- memories by their codes
 
@@ -66,3 +66,7 @@ cell_among memories n s t = first_some (λ c. filed_among memories n c s t) (cod
 -- no token of one side of a node is kept under two codes
 abbrev pub AreApart : {S : Type 0} → IndexMap ℕ Memories S → Type 0
 AreApart memories = (n c d : ℕ) (s : Side) (t : List ℕ) → IsSome (filed_among memories n c s t) → IsSome (filed_among memories n d s t) → c ≡ d
+
+-- no token is kept with a sum of 0
+abbrev pub HaveSums : {S : Type 0} → IndexMap ℕ Memories S → Type 0
+HaveSums memories = (n c : ℕ) (s : Side) (t : List ℕ) → IsSome (filed_among memories n c s t) → sum_kept (filed_among memories n c s t) ≢ pos 0

@@ -6,7 +6,7 @@ ghost use Rattle.net_base.specs.declared.tasks.Side.{Side};
 ghost use Rattle.net_base.specs.declared.tasks.Side.TheVariants.{Left, Right};
 ghost use Rattle.net_base.specs.Tokens.{joins_hold};
 ghost use Rattle.token_line.specs.Bags.{after, are_same_sides, is_at, sign};
-ghost use Rattle.token_line.specs.Codes.{AreApart, cell_among, cell_blocked, filed_among};
+ghost use Rattle.token_line.specs.Codes.{AreApart, HaveSums, cell_among, cell_blocked, filed_among};
 ghost use Rattle.token_line.specs.Spots.{IsSpotAmong};
 ghost use Rattle.token_line.specs.Sums.{blockers_kept, counted, sum_kept};
 
@@ -37,6 +37,7 @@ pub struct Line {
     memories: IndexMap<usize, Memories>,
     entries: Vec<Entry>,
     ghost apart: { AreApart memories },
+    ghost some: { HaveSums memories },
 }
 
 /// The sum after one insert or delete more. One that would not fit is answered as want of memory.
@@ -272,7 +273,7 @@ impl Line {
         tag: u64,
         plus: bool,
     )
-        requires room { plus ≡ true → (t : List ℕ) → IsFiled self.old node code Left t → sum_in self.old node Left t ≢ pos 0 → blockers_in self.old node t < 2 ^ 64 - 1 }
+        requires room { plus ≡ true → (t : List ℕ) → IsFiled self.old node code Left t → blockers_in self.old node t < 2 ^ 64 - 1 }
         requires code { (t : List ℕ) → sum_in self.old node Left t ≢ pos 0 → joins_hold tests.now (held_of store.now) t tag ≡ true → IsFiled self.old node code Left t }
         ensures blockers { (n : ℕ) (t : List ℕ) → sum_in self.new n Left t ≢ pos 0 → blockers_in self.new n t ≡ (if (n == node) && joins_hold tests.now (held_of store.now) t tag then counted plus (blockers_in self.old n t) else blockers_in self.old n t) }
         ensures sums { (n : ℕ) (s : Side) (t : List ℕ) → sum_in self.new n s t ≡ sum_in self.old n s t }

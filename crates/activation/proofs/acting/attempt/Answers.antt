@@ -41,7 +41,7 @@ add_at-requires-clause-alone c =
     (is_alone c.args.net.now.nodes c.args.store.now old c.requires.counted x.node x.side x.token))
 
 pub count_blockers-requires-clause-room : goal.count_blockers-requires-clause-room
-count_blockers-requires-clause-room c = λ blocks more t has some.
+count_blockers-requires-clause-room c = λ blocks more t has.
     let nodes = c.args.net.now.nodes in
     let s = c.args.store.now in
     let x = c.args.task.now in
@@ -59,7 +59,7 @@ count_blockers-requires-clause-room c = λ blocks more t has some.
     (codes_but old c.add_at.new.self c.find.result.0.code (code_of (held_of s) nodes x.node x.side x.token) c.in_ok-copy.field-0 x (c.find.ensures.code ∙ c.code_of-code.ensures) c.in_ok-copy.ensures c.in_ok-add_at.ensures.filed)
     (sym done.blocks ∙ blocks)
     (λ n v here. c.in_ok-add_at.ensures.blockers n v here ∙ ap₂ (λ z k. cond (is_at n Left v z) k (blockers_in old n v)) c.in_ok-copy.ensures done.blockers)
-    more t (subst (λ k. IsFiled c.add_at.new.self x.node k Left t) c.code_of-code.ensures has) some
+    more t (subst (λ k. IsFiled c.add_at.new.self x.node k Left t) c.code_of-code.ensures has)
 
 pub count_blockers-requires-clause-code : goal.count_blockers-requires-clause-code
 count_blockers-requires-clause-code c = λ blocks t some joined.

@@ -7,7 +7,7 @@ use Rattle.net_base.specs.declared.tasks.Side.TheVariants.{Left}
 use Rattle.token_line.specs.Bags.{sign}
 use Rattle.token_line.specs.Codes.{cell_among, filed_among}
 use Rattle.token_line.specs.Sums.{blockers_kept, sum_kept}
-use Rattle.token_line.proofs.Filed.{alone_cell, put_apart, put_cells, put_codes, same_cells}
+use Rattle.token_line.proofs.Filed.{alone_cell, put_apart, put_cells, put_codes, put_sums, same_cells}
 use Rattle.token_line.proofs.LineLemmas.{add_blockers, add_sums, always_err}
 use Rattle.token_line.proofs.line.Line.add_at.Goals as goal
 
@@ -43,7 +43,10 @@ returns-clause-filed c =
 pub invariant_of-self-2 : goal.invariant_of-self-2
 invariant_of-self-2 c =
     let self = c.args.self.now in
-    record { apart = put_apart self.memories c.put.new.memories self.apart c.args.entry.task c.args.spot.now.code c.cell_with-cell.result c.requires.alone c.in_ok-put.ensures.ok }
+    record {
+      apart = put_apart self.memories c.put.new.memories self.apart c.args.entry.task c.args.spot.now.code c.cell_with-cell.result c.requires.alone c.in_ok-put.ensures.ok;
+      some = put_sums self.memories c.put.new.memories c.args.entry.task c.args.spot.now.code c.cell_with-cell.result c.cell_with-cell.ensures.some self.some c.in_ok-put.ensures.ok;
+    }
 
 pub returns-in_err-put-clause-same_sums : goal.returns-in_err-put-clause-same_sums
 returns-in_err-put-clause-same_sums c =

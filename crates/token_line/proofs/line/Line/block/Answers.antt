@@ -14,7 +14,7 @@ block-requires c = record {
       let memories = c.args.self.now.memories in
       let some = kept_some (filed_among memories c.args.node c.args.code Left t) ne in
       let is = filed_cell memories c.args.self.now.apart c.args.node c.args.code Left t some in
-      subst (λ o. blockers_kept o < 2 ^ 64 - 1) is (c.requires.room more t some (λ z. ne (ap sum_kept (sym is) ∙ z)));
+      subst (λ o. blockers_kept o < 2 ^ 64 - 1) is (c.requires.room more t some);
 }
 
 pub returns-clause-blockers : goal.returns-clause-blockers
