@@ -10,3 +10,4 @@ pub mod Codes
 pub mod Spots
 pub mod Lines
 pub mod Lawful
+pub mod Coded
