@@ -12,6 +12,7 @@ use Rattle.ops_base.specs.WorkingMemory.{tags_of}
 use Rattle.work_store.specs.Stored.{IsStored, Stored, held_of, of_tag}
 use Rattle.net_base.specs.declared.nodes.Alpha.{Alpha}
 use Rattle.net_base.specs.declared.nodes.Node.{Node}
+use Rattle.net_base.specs.declared.tasks.Side.{Side}
 use Rattle.net_base.specs.declared.tasks.Side.TheVariants.{Left, Right}
 use Rattle.net_base.specs.Sound.{IsSound, left_width}
 use Rattle.net_base.specs.Tokens.{Elements, joins_hold}
@@ -19,10 +20,15 @@ use Rattle.token_line.specs.declared.line.Line.{Line}
 use Rattle.token_line.specs.declared.tokens.Cell.{Cell}
 use Rattle.token_line.specs.declared.memory.Memory.{Memory}
 use Rattle.token_line.specs.Held.{Agrees, Fits}
+use Rattle.token_line.proofs.Filed.{alone_cell}
+use Rattle.token_line.proofs.Joined.{joined_with_one_code}
 use Rattle.token_line.proofs.Fitting.{left_length, one_length}
-use Rattle.token_line.specs.Lines.{blockers_in, memory_at, sum_in, tokens_of}
+use Rattle.token_line.specs.Bags.{standing}
+use Rattle.token_line.specs.Codes.{cell_among, tokens_of}
+use Rattle.token_line.specs.Lines.{IsAlone, IsFiled, blockers_in, filed_in, memory_at, sum_in}
+use Rattle.token_line.specs.Numbers.{code_of}
 use Rattle.token_line.specs.Pairs.{cell_of}
-use Rattle.token_line.specs.Sums.{blockers_of, kept_sum}
+use Rattle.token_line.specs.Sums.{blockers_kept, kept_sum, sum_kept}
 use Rattle.token_line.proofs.PairLemmas.{cell_at as pair_found}
 use Rattle.activation.specs.Putting.{left_entries, right_entries}
 use Rattle.activation.specs.Acting.{AreKept, IsCounted}
@@ -35,19 +41,62 @@ found_sum : (o : Option Cell) → option_map_or (λ c. c.sum) o (pos 0) ≡ sum_
 found_sum None = refl
 found_sum (Some c) = refl
 
-pub right_sum_is : (line : Line) (n : ℕ) (k : List ℕ) → sum_in line n Right k ≡ right_of (right_entries (memory_at line n)) k
-right_sum_is line n k = by (memory_at line n)
-  where
-    by : (o : Option Memory) → kept_sum (tokens_of o Right) k ≡ right_of (right_entries o) k
-    by None = refl
-    by (Some m) = found_sum (cell_of m.right k)
+pub right_kept : (o : Option Memory) (k : List ℕ) → kept_sum (tokens_of o Right) k ≡ right_of (right_entries o) k
+right_kept None k = refl
+right_kept (Some m) k = found_sum (cell_of m.right k)
 
-pub left_sum_is : (line : Line) (n : ℕ) (k : List ℕ) → sum_in line n Left k ≡ left_of (left_entries (memory_at line n)) k
-left_sum_is line n k = by (memory_at line n)
-  where
-    by : (o : Option Memory) → kept_sum (tokens_of o Left) k ≡ left_of (left_entries o) k
-    by None = refl
-    by (Some m) = found_sum (cell_of m.left k)
+pub left_kept : (o : Option Memory) (k : List ℕ) → kept_sum (tokens_of o Left) k ≡ left_of (left_entries o) k
+left_kept None k = refl
+left_kept (Some m) k = found_sum (cell_of m.left k)
+
+-- ---- codes
+
+module _ (nodes : List Node) (s : Stored) (line : Line) (counted : IsCounted nodes s line) (n : ℕ) where
+  -- a token is kept under no code but its own
+  pub is_alone : (side : Side) (t : List ℕ) → IsAlone line n (code_of (held_of s) nodes n side t) side t
+  is_alone side t d ne = by (filed_in line n d side t) refl
+    where
+      by : (o : Option Cell) → filed_in line n d side t ≡ o → o ≡ None
+      by None q = refl
+      by (Some k) q = absurd (ne (counted.filed n d side t (subst IsSome (sym q) refl)))
+
+  -- what is kept of it is what is kept under its code
+  pub cell_is : (c : ℕ) (side : Side) (t : List ℕ) → code_of (held_of s) nodes n side t ≡ c → cell_among line.memories n side t ≡ filed_in line n c side t
+  cell_is c side t own = alone_cell line.memories n c side t (subst (λ k. IsAlone line n k side t) own (is_alone side t))
+
+  pub filed_is : (c : ℕ) (side : Side) (t : List ℕ) → IsFiled line n c side t → cell_among line.memories n side t ≡ filed_in line n c side t
+  filed_is c side t some = cell_is c side t (sym (counted.filed n c side t some))
+
+  pub right_sum_is : (c : ℕ) (k : List ℕ) → code_of (held_of s) nodes n Right k ≡ c → sum_in line n Right k ≡ right_of (right_entries (memory_at line n c)) k
+  right_sum_is c k own = ap sum_kept (cell_is c Right k own) ∙ right_kept (memory_at line n c) k
+
+  pub left_sum_is : (c : ℕ) (k : List ℕ) → code_of (held_of s) nodes n Left k ≡ c → sum_in line n Left k ≡ left_of (left_entries (memory_at line n c)) k
+  left_sum_is c k own = ap sum_kept (cell_is c Left k own) ∙ left_kept (memory_at line n c) k
+
+  -- those that a token joins stand in the memory of its code
+  module _ (node : Node) (at : slice_get nodes n ≡ Some node) (c : ℕ) where
+    pub right_joined : (t : List ℕ) → code_of (held_of s) nodes n Left t ≡ c → (k : ℕ)
+        → cond (joins_hold node.joins (held_of s) t k) (standing (right_of (right_entries (memory_at line n c)) (k ∷ []))) 0
+        ≡ cond (joins_hold node.joins (held_of s) t k) (standing (sum_in line n Right (k ∷ []))) 0
+    right_joined t own k = by (joins_hold node.joins (held_of s) t k) refl
+      where
+        by : (b : Bool) → joins_hold node.joins (held_of s) t k ≡ b
+            → cond b (standing (right_of (right_entries (memory_at line n c)) (k ∷ []))) 0 ≡ cond b (standing (sum_in line n Right (k ∷ []))) 0
+        by true q = ap standing (sym (right_sum_is c (k ∷ []) (sym (joined_with_one_code (held_of s) nodes n node t k at q) ∙ own)))
+        by false q = refl
+
+    pub joined_code : (tag : ℕ) → code_of (held_of s) nodes n Right (tag ∷ []) ≡ c → (t : List ℕ) → joins_hold node.joins (held_of s) t tag ≡ true → code_of (held_of s) nodes n Left t ≡ c
+    joined_code tag own t q = joined_with_one_code (held_of s) nodes n node t tag at q ∙ own
+
+    pub left_joined : (tag : ℕ) → code_of (held_of s) nodes n Right (tag ∷ []) ≡ c → (t : List ℕ)
+        → cond (joins_hold node.joins (held_of s) t tag) (standing (left_of (left_entries (memory_at line n c)) t)) 0
+        ≡ cond (joins_hold node.joins (held_of s) t tag) (standing (sum_in line n Left t)) 0
+    left_joined tag own t = by (joins_hold node.joins (held_of s) t tag) refl
+      where
+        by : (b : Bool) → joins_hold node.joins (held_of s) t tag ≡ b
+            → cond b (standing (left_of (left_entries (memory_at line n c)) t)) 0 ≡ cond b (standing (sum_in line n Left t)) 0
+        by true q = ap standing (sym (left_sum_is c t (joined_code tag own t q)))
+        by false q = refl
 
 -- ---- what is kept
 
@@ -65,49 +114,51 @@ unfolding IsDistinct
 left_distinct None kept = tt
 left_distinct (Some m) kept = (kept m refl).left.apart
 
-module _ (nodes : List Node) (s : Stored) (line : Line) (counted : IsCounted nodes s line) (n : ℕ) where
-  right_fits_in : (o : Option Memory) → memory_at line n ≡ o → Kept o → All (λ e. Fits nodes s n Right e.0) (right_entries o)
+module _ (nodes : List Node) (s : Stored) (line : Line) (counted : IsCounted nodes s line) (n c : ℕ) where
+  -- what is found under the code is what the line keeps
+  found_is : (side : Side) (t : List ℕ) (k : Cell) → cell_of (tokens_of (memory_at line n c) side) t ≡ Some k → cell_among line.memories n side t ≡ Some k
+  found_is side t k found = filed_is nodes s line counted n c side t (subst IsSome (sym found) refl) ∙ found
+
+  right_fits_in : (o : Option Memory) → memory_at line n c ≡ o → Kept o → All (λ e. Fits nodes s n Right e.0) (right_entries o)
   right_fits_in None mem kept i d within = All-nil (λ (e : List ℕ × Cell). Fits nodes s n Right e.0) i d within
   right_fits_in (Some m) mem kept i d within =
       let are = kept m refl in
       let e = slice_index_or m.right i d in
       let found = pair_found m.right are.right i e.0 e.1 (slice_get-get_or m.right i d within) in
-      let sum : sum_in line n Right e.0 ≡ e.1.sum = ap (λ o. kept_sum (tokens_of o Right) e.0) mem ∙ ap (λ o. option_map_or (λ (c : Cell). c.sum) o (pos 0)) found in
+      let sum : sum_in line n Right e.0 ≡ e.1.sum = ap sum_kept (found_is Right e.0 e.1 (ap (λ o. cell_of (tokens_of o Right) e.0) mem ∙ found)) in
       counted.fit n Right e.0 (λ z. are.right.some e.0 e.1 found (sym sum ∙ z))
 
-  left_fits_in : (o : Option Memory) → memory_at line n ≡ o → Kept o → All (λ e. Fits nodes s n Left e.0) (left_entries o)
+  left_fits_in : (o : Option Memory) → memory_at line n c ≡ o → Kept o → All (λ e. Fits nodes s n Left e.0) (left_entries o)
   left_fits_in None mem kept i d within = All-nil (λ (e : List ℕ × Cell). Fits nodes s n Left e.0) i d within
   left_fits_in (Some m) mem kept i d within =
       let are = kept m refl in
       let e = slice_index_or m.left i d in
       let found = pair_found m.left are.left i e.0 e.1 (slice_get-get_or m.left i d within) in
-      let sum : sum_in line n Left e.0 ≡ e.1.sum = ap (λ o. kept_sum (tokens_of o Left) e.0) mem ∙ ap (λ o. option_map_or (λ (c : Cell). c.sum) o (pos 0)) found in
+      let sum : sum_in line n Left e.0 ≡ e.1.sum = ap sum_kept (found_is Left e.0 e.1 (ap (λ o. cell_of (tokens_of o Left) e.0) mem ∙ found)) in
       counted.fit n Left e.0 (λ z. are.left.some e.0 e.1 found (sym sum ∙ z))
 
-  pub right_fits : Kept (memory_at line n) → All (λ e. Fits nodes s n Right e.0) (right_entries (memory_at line n))
-  right_fits kept = right_fits_in (memory_at line n) refl kept
+  pub right_fits : Kept (memory_at line n c) → All (λ e. Fits nodes s n Right e.0) (right_entries (memory_at line n c))
+  right_fits kept = right_fits_in (memory_at line n c) refl kept
 
-  pub left_fits : Kept (memory_at line n) → All (λ e. Fits nodes s n Left e.0) (left_entries (memory_at line n))
-  left_fits kept = left_fits_in (memory_at line n) refl kept
+  pub left_fits : Kept (memory_at line n c) → All (λ e. Fits nodes s n Left e.0) (left_entries (memory_at line n c))
+  left_fits kept = left_fits_in (memory_at line n c) refl kept
 
--- ---- a left token that is kept
+  -- ---- a left token that is kept
 
--- what the line says of a left token of a node is what is kept of it
-pub record IsCell (line : Line) (n : ℕ) (t : List ℕ) (c : Cell) : Type 0 where
-  pub sum : sum_in line n Left t ≡ c.sum
-  pub some : c.sum ≢ pos 0
-  pub blockers : blockers_in line n t ≡ c.blockers
+  -- what the line says of a left token of a node is what is kept of it
+  pub record IsCell (t : List ℕ) (k : Cell) : Type 0 where
+    pub sum : sum_in line n Left t ≡ k.sum
+    pub some : k.sum ≢ pos 0
+    pub blockers : blockers_in line n t ≡ k.blockers
 
-pub cell_at : (line : Line) (n : ℕ) → Kept (memory_at line n) → (t : List ℕ) (c : Cell) → lookup (bytes_eq t) (left_entries (memory_at line n)) ≡ Some c → IsCell line n t c
-cell_at line n kept t c = by (memory_at line n) refl kept
-  where
-    by : (o : Option Memory) → memory_at line n ≡ o → Kept o → lookup (bytes_eq t) (left_entries o) ≡ Some c → IsCell line n t c
-    by None mem are found = cc
-    by (Some m) mem are found = record {
-      sum = ap (λ o. kept_sum (tokens_of o Left) t) mem ∙ ap (λ o. option_map_or (λ (d : Cell). d.sum) o (pos 0)) found;
-      some = (are m refl).left.some t c found;
-      blockers = ap (λ o. blockers_of (tokens_of o Left) t) mem ∙ ap (λ o. option_map_or (λ (d : Cell). d.blockers) o 0) found;
-    }
+  pub cell_at : Kept (memory_at line n c) → (t : List ℕ) (k : Cell) → lookup (bytes_eq t) (left_entries (memory_at line n c)) ≡ Some k → IsCell t k
+  cell_at kept t k = by (memory_at line n c) refl kept
+    where
+      by : (o : Option Memory) → memory_at line n c ≡ o → Kept o → lookup (bytes_eq t) (left_entries o) ≡ Some k → IsCell t k
+      by None mem are found = cc
+      by (Some m) mem are found =
+          let is = found_is Left t k (ap (λ o. cell_of (tokens_of o Left) t) mem ∙ found) in
+          record { sum = ap sum_kept is; some = (are m refl).left.some t k found; blockers = ap blockers_kept is }
 
 -- ---- widths, and what is held
 

@@ -1,5 +1,5 @@
 -- What a task does at a join and at a negated node is its effect there.
-use Rattle.std.proofs.Common.{◌≡◌, ◌≢◌, ℕ, ◌-◌, ◌^◌, ◌<◌, ◌&&◌, Bool, true, false, not, List, [], pos, refl, sym, ap, ap₂, subst, ◌∙◌, slice_get, bytes_eq, Option, Some, None, IfSome, true≢false}
+use Rattle.std.proofs.Common.{◌≡◌, ◌≢◌, ℕ, ◌-◌, ◌^◌, ◌<◌, ◌&&◌, Bool, true, false, not, List, [], pos, refl, sym, ap, ap₂, subst, ◌∙◌, slice_get, bytes_eq, Option, Some, None, IfSome, is_some, true≢false}
 use Rattle.std.specs.Map.{lookup}
 use Rattle.std.specs.Option.{option_map_or}
 use Rattle.std.proofs.lemmas.Bool.Decides.{Decides-ltb}
@@ -20,14 +20,17 @@ use Rattle.token_line.specs.declared.tokens.Cell.{Cell}
 use Rattle.token_line.specs.Bags.{are_same_sides}
 use Rattle.token_line.specs.Held.{TaskFits}
 use Rattle.token_line.specs.declared.memory.Memory.{Memory}
-use Rattle.token_line.specs.Lines.{blockers_in, cell_among, memory_at, sum_in}
+use Rattle.token_line.specs.Codes.{tokens_of}
+use Rattle.token_line.specs.Lines.{IsFiled, blockers_in, filed_in, memory_at, sum_in}
+use Rattle.token_line.specs.Numbers.{code_of}
+use Rattle.token_line.specs.Pairs.{cell_of}
 use Rattle.activation.specs.Acting.{IsCounted, IsEffect, IsOutOf, matching}
 use Rattle.activation.specs.Effects.{effect_at, join_effect, left_effect, negated_effect, no_effect, right_effect}
 use Rattle.activation.specs.Negating.{all_have_room, has_room}
 use Rattle.activation.specs.Putting.{Put, changes, left_entries}
 use Rattle.activation.proofs.Agreed.{IsHeld}
 use Rattle.activation.proofs.Arrived.{and_false}
-use Rattle.activation.proofs.AtNode.{Kept, cell_at, left_sum_is, same_node}
+use Rattle.activation.proofs.AtNode.{Kept, cell_at, cell_is, same_node}
 use Rattle.activation.proofs.Matching.{blockers_are}
 use Rattle.activation.proofs.NegatedChange.{left_change, right_change}
 use Rattle.activation.proofs.Outs.{IsChange, unchanged}
@@ -39,21 +42,26 @@ use Rattle.activation.proofs.PutOutLemmas.{put_by_join}
 room_of : (c : Cell) → has_room true c ≡ true → c.blockers < 2 ^ 64 - 1
 room_of c e = (Decides-ltb c.blockers (2 ^ 64 - 1)).0 e
 
--- where each left token that is kept has room, so has each with a sum other than 0
-room_at : (line : Line) (n : ℕ) → Kept (memory_at line n) → all_have_room true (left_entries (memory_at line n)) ≡ true → (t : List ℕ) → sum_in line n Left t ≢ pos 0 → blockers_in line n t < 2 ^ 64 - 1
-room_at line n kept room t some = by (lookup (bytes_eq t) left) refl
+-- where each left token that is kept under a code has room, so has each that the line keeps under it
+room_at : (nodes : List Node) (s : Stored) (line : Line) → IsCounted nodes s line → (n c : ℕ) → Kept (memory_at line n c) → all_have_room true (left_entries (memory_at line n c)) ≡ true
+    → (t : List ℕ) → IsFiled line n c Left t → blockers_in line n t < 2 ^ 64 - 1
+room_at nodes s line counted n c kept room t some = by (lookup (bytes_eq t) left) refl
   where
     left : List (List ℕ × Cell)
-    left = left_entries (memory_at line n)
+    left = left_entries (memory_at line n c)
 
     each : IfSome (lookup (bytes_eq t) left) (λ c. has_room true c ≡ true)
     each = All-lookup (λ (c : Cell). has_room true c ≡ true) (bytes_eq t) left (AllPass-from_list_all (λ (e : List ℕ × Cell). has_room true e.1) left room)
 
+    filed : (o : Option Memory) → lookup (bytes_eq t) (left_entries o) ≡ cell_of (tokens_of o Left) t
+    filed None = refl
+    filed (Some m) = refl
+
     by : (o : Option Cell) → lookup (bytes_eq t) left ≡ o → blockers_in line n t < 2 ^ 64 - 1
-    by None found = absurd (some (left_sum_is line n t ∙ ap (λ o. sum_at (λ (c : Cell). c.sum) o) found))
-    by (Some c) found =
-        let here : has_room true c ≡ true = subst (λ o. IfSome o (λ d. has_room true d ≡ true)) found each in
-        subst (λ k. k < 2 ^ 64 - 1) (sym (cell_at line n kept t c found).blockers) (room_of c here)
+    by None found = absurd (true≢false (sym some ∙ ap is_some (sym (filed (memory_at line n c)) ∙ found)))
+    by (Some k) found =
+        let here : has_room true k ≡ true = subst (λ o. IfSome o (λ d. has_room true d ≡ true)) found each in
+        subst (λ m. m < 2 ^ 64 - 1) (sym (cell_at nodes s line counted n c kept t k found).blockers) (room_of k here)
 
 join_blocks_not : (k : Kind) → is_join k ≡ true → (b : Bool) → false ≡ (is_negated k && b)
 join_blocks_not Join e b = refl
@@ -66,7 +74,7 @@ join_not_negated Negated e f = cc
 join_not_negated (Terminal rule) e f = cc
 
 module _ (alphas : List Alpha) (nodes : List Node) (sound : IsSound alphas nodes) (s : Stored) (line : Line) (x : Task) (fits : TaskFits nodes s x) (counts : IsCounted nodes s line)
-    (node : Node) (at : slice_get nodes x.node ≡ Some node) (kept : Kept (memory_at line x.node)) where
+    (node : Node) (at : slice_get nodes x.node ≡ Some node) (c : ℕ) (code : code_of (held_of s) nodes x.node x.side x.token ≡ c) (kept : Kept (memory_at line x.node c)) where
   -- ---- at a join
 
   join_done : is_join node.kind ≡ true → (puts : List Put) → IsChange nodes s line x x.plus puts → IsEffect nodes s line x (record { plus = x.plus; puts = puts; blockers = 0; blocks = false })
@@ -79,13 +87,16 @@ module _ (alphas : List Alpha) (nodes : List Node) (sound : IsSound alphas nodes
     room = λ blocks. cc;
   }
 
-  pub join_is : is_join node.kind ≡ true → (moves : Bool) → moves ≡ changes (sum_in line x.node x.side x.token) x.plus → IsEffect nodes s line x (join_effect node.joins (held_of s) (memory_at line x.node) x moves)
-  join_is join true e = join_done join _ (put_by_join alphas nodes sound s line x fits counts node at join kept (sym e))
+  pub join_is : is_join node.kind ≡ true → (moves : Bool) → moves ≡ changes (sum_in line x.node x.side x.token) x.plus → IsEffect nodes s line x (join_effect node.joins (held_of s) (memory_at line x.node c) x moves)
+  join_is join true e = join_done join _ (put_by_join alphas nodes sound s line x fits counts node at join c code kept (sym e))
   join_is join false e = join_done join [] (unchanged nodes s line x (sym e) x.plus)
 
   -- ---- at a negated node
 
   module _ (negated : is_negated node.kind ≡ true) (small : (tag : ℕ) → IsHeld s tag → tag < 2 ^ 64) where
+    left_code : x.side ≡ Left → code_of (held_of s) nodes x.node Left x.token ≡ c
+    left_code e = subst (λ d. code_of (held_of s) nodes x.node d x.token ≡ c) e code
+
     left_done : x.side ≡ Left → (puts : List Put) (k : ℕ) → k ≡ matching (held_of s) node.joins (sum_in line) x.node x.token → IsChange nodes s line x x.plus puts
         → IsEffect nodes s line x (record { plus = x.plus; puts = puts; blockers = k; blocks = false })
     left_done e puts k number is = record {
@@ -97,14 +108,14 @@ module _ (alphas : List Alpha) (nodes : List Node) (sound : IsSound alphas nodes
       room = λ blocks. cc;
     }
 
-    pub left_is : x.side ≡ Left → (moves : Bool) → moves ≡ changes (sum_in line x.node x.side x.token) x.plus → IsEffect nodes s line x (left_effect node.joins (held_of s) (memory_at line x.node) x moves)
+    pub left_is : x.side ≡ Left → (moves : Bool) → moves ≡ changes (sum_in line x.node x.side x.token) x.plus → IsEffect nodes s line x (left_effect node.joins (held_of s) (memory_at line x.node c) x moves)
     left_is e true had =
-        let number = blockers_are nodes s line counts x.node node at negated small kept x.token in
+        let number = blockers_are nodes s line counts x.node node at negated small c kept x.token (left_code e) in
         left_done e _ _ number (left_change alphas nodes sound s line x fits counts node at negated (sym had) e _ number)
-    left_is e false had = left_done e [] _ (blockers_are nodes s line counts x.node node at negated small kept x.token) (unchanged nodes s line x (sym had) x.plus)
+    left_is e false had = left_done e [] _ (blockers_are nodes s line counts x.node node at negated small c kept x.token (left_code e)) (unchanged nodes s line x (sym had) x.plus)
 
     right_done : x.side ≡ Right → (puts : List Put) (moves : Bool) → moves ≡ changes (sum_in line x.node x.side x.token) x.plus → IsChange nodes s line x (not x.plus) puts
-        → (moves ≡ true → all_have_room x.plus (left_entries (memory_at line x.node)) ≡ true)
+        → (moves ≡ true → all_have_room x.plus (left_entries (memory_at line x.node c)) ≡ true)
         → IsEffect nodes s line x (record { plus = not x.plus; puts = puts; blockers = 0; blocks = moves })
     right_done e puts moves had is room = record {
       fit = is.fit;
@@ -114,13 +125,15 @@ module _ (alphas : List Alpha) (nodes : List Node) (sound : IsSound alphas nodes
           had
           ∙ ap₂ (λ a b. a && (b && changes (sum_in line x.node x.side x.token) x.plus))
           (sym (ap (λ (z : Node). is_negated z.kind) (same_node other node (sym there ∙ at)) ∙ negated)) (sym (ap (λ d. are_same_sides Right d) e));
-      room = λ blocks more. room_at line x.node kept (subst (λ p. all_have_room p (left_entries (memory_at line x.node)) ≡ true) more (room blocks));
+      room = λ blocks more t some.
+          room_at nodes s line counts x.node c kept (subst (λ p. all_have_room p (left_entries (memory_at line x.node c)) ≡ true) more (room blocks)) t
+          (subst (λ k. IsFiled line x.node k Left t) code some);
     }
 
     pub right_is : x.side ≡ Right → (moves : Bool) → moves ≡ changes (sum_in line x.node x.side x.token) x.plus
-        → (moves ≡ true → all_have_room x.plus (left_entries (memory_at line x.node)) ≡ true)
-        → IsEffect nodes s line x (right_effect node.joins (held_of s) (memory_at line x.node) x moves)
-    right_is e true had room = right_done e _ true had (right_change alphas nodes sound s line x fits counts node at negated (sym had) e small kept) room
+        → (moves ≡ true → all_have_room x.plus (left_entries (memory_at line x.node c)) ≡ true)
+        → IsEffect nodes s line x (right_effect node.joins (held_of s) (memory_at line x.node c) x moves)
+    right_is e true had room = right_done e _ true had (right_change alphas nodes sound s line x fits counts node at negated (sym had) e small c code kept) room
     right_is e false had room = right_done e [] false had (unchanged nodes s line x (sym had) (not x.plus)) room
 
   -- ---- at a terminal
@@ -150,24 +163,24 @@ module _ (alphas : List Alpha) (nodes : List Node) (sound : IsSound alphas nodes
   -- ---- by the kind of the node
 
   pub effect_is : ((tag : ℕ) → IsHeld s tag → tag < 2 ^ 64) → (moves : Bool) → moves ≡ changes (sum_in line x.node x.side x.token) x.plus
-      → (node.kind ≡ Negated → x.side ≡ Right → moves ≡ true → all_have_room x.plus (left_entries (memory_at line x.node)) ≡ true)
-      → IsEffect nodes s line x (effect_at node.kind node.joins (held_of s) (memory_at line x.node) x moves)
+      → (node.kind ≡ Negated → x.side ≡ Right → moves ≡ true → all_have_room x.plus (left_entries (memory_at line x.node c)) ≡ true)
+      → IsEffect nodes s line x (effect_at node.kind node.joins (held_of s) (memory_at line x.node c) x moves)
   effect_is small moves had room = by node.kind refl
     where
-      by_side : node.kind ≡ Negated → (d : Side) → x.side ≡ d → IsEffect nodes s line x (negated_effect d node.joins (held_of s) (memory_at line x.node) x moves)
+      by_side : node.kind ≡ Negated → (d : Side) → x.side ≡ d → IsEffect nodes s line x (negated_effect d node.joins (held_of s) (memory_at line x.node c) x moves)
       by_side q Left e = left_is (ap is_negated q) small e moves had
       by_side q Right e = right_is (ap is_negated q) small e moves had (room q e)
 
-      by : (k : Kind) → node.kind ≡ k → IsEffect nodes s line x (effect_at k node.joins (held_of s) (memory_at line x.node) x moves)
+      by : (k : Kind) → node.kind ≡ k → IsEffect nodes s line x (effect_at k node.joins (held_of s) (memory_at line x.node c) x moves)
       by Join q = join_is (ap is_join q) moves had
       by Negated q = by_side q x.side refl
       by (Terminal rule) q = terminal_is (ap is_terminal q)
 
   -- the same, of what was found on the line
-  pub done_effect : ((tag : ℕ) → IsHeld s tag → tag < 2 ^ 64) → (m : Option Memory) → m ≡ memory_at line x.node → (o : Option Cell) → o ≡ cell_among line.memories x.node x.side x.token
+  pub done_effect : ((tag : ℕ) → IsHeld s tag → tag < 2 ^ 64) → (m : Option Memory) → m ≡ memory_at line x.node c → (o : Option Cell) → o ≡ filed_in line x.node c x.side x.token
       → (node.kind ≡ Negated → x.side ≡ Right → changes (option_map_or (λ (c : Cell). c.sum) o (pos 0)) x.plus ≡ true → all_have_room x.plus (left_entries m) ≡ true)
       → IsEffect nodes s line x (effect_at node.kind node.joins (held_of s) m x (changes (option_map_or (λ (c : Cell). c.sum) o (pos 0)) x.plus))
   done_effect small m is o kept_is room =
       subst (λ k. IsEffect nodes s line x (effect_at node.kind node.joins (held_of s) k x (changes (option_map_or (λ (c : Cell). c.sum) o (pos 0)) x.plus))) (sym is)
-      (effect_is small (changes (option_map_or (λ (c : Cell). c.sum) o (pos 0)) x.plus) (ap (λ z. changes (option_map_or (λ (c : Cell). c.sum) z (pos 0)) x.plus) kept_is)
+      (effect_is small (changes (option_map_or (λ (c : Cell). c.sum) o (pos 0)) x.plus) (ap (λ z. changes (option_map_or (λ (c : Cell). c.sum) z (pos 0)) x.plus) (kept_is ∙ sym (cell_is nodes s line counts x.node c x.side x.token code)))
       (λ q e moved. ap (λ k. all_have_room x.plus (left_entries k)) (sym is) ∙ room q e moved))

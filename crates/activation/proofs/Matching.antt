@@ -17,14 +17,15 @@ use Rattle.token_line.specs.declared.tokens.Cell.{Cell}
 use Rattle.token_line.specs.declared.memory.Memory.{Memory}
 use Rattle.token_line.specs.Bags.{Bag, after, standing, standing_at}
 use Rattle.token_line.specs.Held.{Agrees, Fits}
-use Rattle.token_line.specs.Lines.{memory_at, sum_in, tokens_of}
+use Rattle.token_line.specs.Lines.{memory_at, sum_in}
+use Rattle.token_line.specs.Numbers.{code_of}
 use Rattle.token_line.specs.Sums.{counted, kept_sum}
 use Rattle.activation.specs.Acting.{IsCounted, matching, signed}
 use Rattle.activation.specs.Negating.{blockers_for, number_matching}
 use Rattle.activation.specs.Putting.{changes, left_entries, right_entries}
 use Rattle.activation.proofs.Agreed.{IsHeld}
 use Rattle.activation.proofs.Arrived.{other_sum, own_sum}
-use Rattle.activation.proofs.AtNode.{Kept, both_agree, cell_at, only_one, right_distinct, right_fits, right_held, right_long, right_sum_is}
+use Rattle.activation.proofs.AtNode.{Kept, both_agree, cell_at, only_one, right_distinct, right_fits, right_held, right_joined, right_long}
 use Rattle.activation.proofs.CountBelow.{count_moves, count_none, count_one, count_same, one_stood}
 use Rattle.activation.proofs.JoinChange.{agreed, moves}
 use Rattle.activation.proofs.PutNumbers.{bytes_false, bytes_true, nothing, right_of, sum_at}
@@ -75,40 +76,40 @@ module _ (nodes : List Node) (s : Stored) (line : Line) (counted : IsCounted nod
       (λ k low. sym (agreed (joins_hold node.joins elements t k) (joins_hold node.joins (held_of s) t k) (standing_at (sum_in line) n Right (k ∷ []))
       (λ some. both_agree nodes s n node at alphas sound elements agrees t k f (held_at (k ∷ []) (counted.fit n Right (k ∷ []) (standing_some (sum_in line n Right (k ∷ [])) some))))))
 
-  module _ (small : (tag : ℕ) → IsHeld s tag → tag < 2 ^ 64) (kept : Kept (memory_at line n)) (t : List ℕ) where
+  module _ (small : (tag : ℕ) → IsHeld s tag → tag < 2 ^ 64) (c : ℕ) (kept : Kept (memory_at line n c)) (t : List ℕ) (own : code_of (held_of s) nodes n Left t ≡ c) where
     -- what a look at each right token finds
-    number_over : number_matching node.joins (held_of s) t (right_entries (memory_at line n)) ≡ matching (held_of s) node.joins (sum_in line) n t
+    number_over : number_matching node.joins (held_of s) t (right_entries (memory_at line n c)) ≡ matching (held_of s) node.joins (sum_in line) n t
     number_over =
-        number_is (2 ^ 64) node.joins (held_of s) t right (right_distinct (memory_at line n) kept) ones lows
+        number_is (2 ^ 64) node.joins (held_of s) t right (right_distinct (memory_at line n c) kept) ones lows
         ∙ count_same (2 ^ 64) (joins_hold node.joins (held_of s) t) (joins_hold node.joins (held_of s) t) (λ v. standing (right_of right v)) (standing_at (sum_in line) n Right)
-        (λ k low. ap (λ z. cond (joins_hold node.joins (held_of s) t k) (standing z) 0) (sym (right_sum_is line n (k ∷ []))))
+        (λ k low. right_joined nodes s line counted n node at c t own k)
       where
         right : List (List ℕ × Cell)
-        right = right_entries (memory_at line n)
+        right = right_entries (memory_at line n c)
 
         ones : AllByRecursion (λ e. length e.0 ≡ 1) right
         ones =
             recursion_from_All (λ (e : List ℕ × Cell). length e.0 ≡ 1) right
-            (λ i d within. right_long nodes s n node at (slice_index_or right i d).0 (right_fits nodes s line counted n kept i d within))
+            (λ i d within. right_long nodes s n node at (slice_index_or right i d).0 (right_fits nodes s line counted n c kept i d within))
 
         lows : AllByRecursion (λ e. slice_index e.0 0 < 2 ^ 64) right
         lows =
             recursion_from_All (λ (e : List ℕ × Cell). slice_index e.0 0 < 2 ^ 64) right
-            (λ i d within. small (slice_index (slice_index_or right i d).0 0) (held_at (slice_index_or right i d).0 (right_fits nodes s line counted n kept i d within)))
+            (λ i d within. small (slice_index (slice_index_or right i d).0 0) (held_at (slice_index_or right i d).0 (right_fits nodes s line counted n c kept i d within)))
 
     -- what the line keeps with a left token, else counted
-    pub blockers_are : blockers_for node.joins (held_of s) (memory_at line n) t ≡ matching (held_of s) node.joins (sum_in line) n t
-    blockers_are = by (memory_at line n) refl
+    pub blockers_are : blockers_for node.joins (held_of s) (memory_at line n c) t ≡ matching (held_of s) node.joins (sum_in line) n t
+    blockers_are = by (memory_at line n c) refl
       where
-        by : (o : Option Memory) → memory_at line n ≡ o → blockers_for node.joins (held_of s) o t ≡ matching (held_of s) node.joins (sum_in line) n t
-        by None mem = sym (count_none (2 ^ 64) (joins_hold node.joins (held_of s) t) (standing_at (sum_in line) n Right) (λ k. ap (λ o. standing (kept_sum (tokens_of o Right) (k ∷ []))) mem))
+        by : (o : Option Memory) → memory_at line n c ≡ o → blockers_for node.joins (held_of s) o t ≡ matching (held_of s) node.joins (sum_in line) n t
+        by None mem = ap (λ o. number_matching node.joins (held_of s) t (right_entries o)) (sym mem) ∙ number_over
         by (Some m) mem = of_cell (lookup (bytes_eq t) m.left) refl
           where
             of_cell : (o : Option Cell) → lookup (bytes_eq t) m.left ≡ o
                 → option_map_or (λ (c : Cell). c.blockers) o (number_matching node.joins (held_of s) t m.right) ≡ matching (held_of s) node.joins (sum_in line) n t
             of_cell None found = ap (λ o. number_matching node.joins (held_of s) t (right_entries o)) (sym mem) ∙ number_over
-            of_cell (Some c) found =
-                let is = cell_at line n kept t c (ap (λ o. lookup (bytes_eq t) (left_entries o)) mem ∙ found) in
+            of_cell (Some k) found =
+                let is = cell_at nodes s line counted n c kept t k (ap (λ o. lookup (bytes_eq t) (left_entries o)) mem ∙ found) in
                 sym is.blockers ∙ counted.counts n node t at negated (λ z. is.some (sym is.sum ∙ z))
 
 -- ---- once a task has arrived

@@ -1,5 +1,5 @@
 -- What a negated node puts out for a task is the change of what it puts out.
-use Rattle.std.proofs.Common.{◌≡◌, ◌≢◌, ℕ, ◌+◌, ◌-◌, ◌^◌, ◌<◌, ◌==◌, ◌&&◌, Bool, true, false, not, cond, List, [], ◌∷◌, pos, ◌+ℤ◌, refl, sym, ap, subst, ◌∙◌, arith, slice_get, slice_index, slice_index_or, bytes_eq, Option, Some, None}
+use Rattle.std.proofs.Common.{◌≡◌, ◌≢◌, ℕ, zero, suc, ◌+◌, ◌-◌, ◌^◌, ◌<◌, ◌==◌, ◌&&◌, Bool, true, false, not, cond, List, [], ◌∷◌, pos, ◌+ℤ◌, refl, sym, ap, subst, ◌∙◌, arith, slice_get, slice_index, slice_index_or, bytes_eq, Option, Some, None}
 use Rattle.std.specs.List.{All}
 use Rattle.std.specs.Map.{lookup}
 use Rattle.std.proofs.lemmas.Bool.Decides.{Decides-eqb}
@@ -21,13 +21,14 @@ use Rattle.token_line.specs.Bags.{after, standing, standing_at}
 use Rattle.token_line.specs.Held.{Agrees, Fits, TaskFits}
 use Rattle.token_line.specs.Lawful.{out_at}
 use Rattle.token_line.specs.Lines.{memory_at, sum_in}
+use Rattle.token_line.specs.Numbers.{code_of}
 use Rattle.token_line.specs.Sums.{counted}
 use Rattle.activation.specs.Acting.{IsCounted, IsOutOf, matching, number_put, signed}
 use Rattle.activation.specs.Negating.{put_once, put_flipped, before_flip}
 use Rattle.activation.specs.Putting.{Put, changes, left_entries}
 use Rattle.activation.proofs.Agreed.{IsHeld}
 use Rattle.activation.proofs.Arrived.{other_sum, own_sum}
-use Rattle.activation.proofs.AtNode.{Kept, both_agree, cell_at, left_distinct, left_fits, left_long, left_sum_is, only_one, right_held, right_long}
+use Rattle.activation.proofs.AtNode.{Kept, both_agree, cell_at, joined_code, left_distinct, left_fits, left_long, left_sum_is, only_one, right_held, right_long}
 use Rattle.activation.proofs.Childhood.{eqb-apart}
 use Rattle.activation.proofs.JoinChange.{moves, nothing_moves}
 use Rattle.activation.proofs.Matching.{left_matches, matching_agrees, one_matched, right_matches}
@@ -154,18 +155,21 @@ module _ (alphas : List Alpha) (nodes : List Node) (sound : IsSound alphas nodes
 
   -- ---- a right task
 
-  module _ (e : x.side ≡ Right) (small : (tag : ℕ) → IsHeld s tag → tag < 2 ^ 64) (kept : Kept (memory_at line x.node)) where
+  module _ (e : x.side ≡ Right) (small : (tag : ℕ) → IsHeld s tag → tag < 2 ^ 64) (c : ℕ) (code : code_of (held_of s) nodes x.node x.side x.token ≡ c) (kept : Kept (memory_at line x.node c)) where
     abbrev tag : ℕ
     tag = slice_index x.token 0
 
     abbrev left : List (List ℕ × Cell)
-    left = left_entries (memory_at line x.node)
+    left = left_entries (memory_at line x.node c)
 
     mine : Fits nodes s x.node Right x.token
     mine = subst (λ d. Fits nodes s x.node d x.token) e fits
 
     one : x.token ≡ tag ∷ []
     one = only_one x.token (right_long nodes s x.node node at x.token mine)
+
+    tag_code : code_of (held_of s) nodes x.node Right (tag ∷ []) ≡ c
+    tag_code = subst (λ t. code_of (held_of s) nodes x.node Right t ≡ c) one (subst (λ d. code_of (held_of s) nodes x.node d x.token ≡ c) e code)
 
     here : IsHeld s tag
     here = right_held nodes s x.node node at x.token mine
@@ -181,34 +185,53 @@ module _ (alphas : List Alpha) (nodes : List Node) (sound : IsSound alphas nodes
         ≡ pos (cond (matching elements node.joins (after (sum_in line) x) x.node t == 0) (standing_at (after (sum_in line) x) x.node Left t) 0)
     right_at elements t agrees =
         ap (λ n. signed (not x.plus) n +ℤ pos (cond (matching elements node.joins (sum_in line) x.node t == 0) (standing_at (sum_in line) x.node Left t) 0))
-        (flipped_number node.joins (held_of s) tag x.plus t left (left_distinct (memory_at line x.node) kept))
+        (flipped_number node.joins (held_of s) tag x.plus t left (left_distinct (memory_at line x.node c) kept))
         ∙ (by (lookup (bytes_eq t) left) refl ∙ ap (λ n. pos (cond (matching elements node.joins (after (sum_in line) x) x.node t == 0) n 0)) (sym (left_stays t)))
       where
         by : (o : Option Cell) → lookup (bytes_eq t) left ≡ o
             → signed (not x.plus) (flipped_at node.joins (held_of s) tag x.plus t o) +ℤ pos (cond (matching elements node.joins (sum_in line) x.node t == 0) (standing_at (sum_in line) x.node Left t) 0)
             ≡ pos (cond (matching elements node.joins (after (sum_in line) x) x.node t == 0) (standing_at (sum_in line) x.node Left t) 0)
-        by None found =
-            let none : standing_at (sum_in line) x.node Left t ≡ 0 = ap standing (left_sum_is line x.node t ∙ ap (λ o. sum_at (λ (c : Cell). c.sum) o) found) in
-            nothing_moves (not x.plus) 0 _ _ refl
-            (ap (λ n. cond (matching elements node.joins (sum_in line) x.node t == 0) n 0) none ∙ nothing (matching elements node.joins (sum_in line) x.node t == 0)
-            ∙ sym (ap (λ n. cond (matching elements node.joins (after (sum_in line) x) x.node t == 0) n 0) none ∙ nothing (matching elements node.joins (after (sum_in line) x) x.node t == 0)))
-        by (Some c) found =
-            let is = cell_at line x.node kept t c found in
+        by None found = of_joined (joins_hold node.joins (held_of s) t tag) refl (standing_at (sum_in line) x.node Left t) refl
+          where
+            unstood : standing_at (sum_in line) x.node Left t ≡ 0
+                → signed (not x.plus) 0 +ℤ pos (cond (matching elements node.joins (sum_in line) x.node t == 0) (standing_at (sum_in line) x.node Left t) 0)
+                ≡ pos (cond (matching elements node.joins (after (sum_in line) x) x.node t == 0) (standing_at (sum_in line) x.node Left t) 0)
+            unstood none =
+                nothing_moves (not x.plus) 0 _ _ refl
+                (ap (λ n. cond (matching elements node.joins (sum_in line) x.node t == 0) n 0) none ∙ nothing (matching elements node.joins (sum_in line) x.node t == 0)
+                ∙ sym (ap (λ n. cond (matching elements node.joins (after (sum_in line) x) x.node t == 0) n 0) none ∙ nothing (matching elements node.joins (after (sum_in line) x) x.node t == 0)))
+
+            -- one that joins would be found; one that does not stays as it is
+            of_joined : (b : Bool) → joins_hold node.joins (held_of s) t tag ≡ b → (k : ℕ) → standing_at (sum_in line) x.node Left t ≡ k
+                → signed (not x.plus) 0 +ℤ pos (cond (matching elements node.joins (sum_in line) x.node t == 0) (standing_at (sum_in line) x.node Left t) 0)
+                ≡ pos (cond (matching elements node.joins (after (sum_in line) x) x.node t == 0) (standing_at (sum_in line) x.node Left t) 0)
+            of_joined true q k r =
+                unstood (ap standing (left_sum_is nodes s line counts x.node c t (joined_code nodes s line counts x.node node at c tag tag_code t q) ∙ ap (λ o. sum_at (λ (k : Cell). k.sum) o) found))
+            of_joined false q zero r = unstood r
+            of_joined false q (suc k) r =
+                let f = counts.fit x.node Left t (λ z. let bad : ◌≡◌ {A = ℕ} 0 (suc k) = sym (ap standing z) ∙ r in absurd (omega (arith, bad))) in
+                let apart : joins_hold node.joins elements t tag ≡ false = both_agree nodes s x.node node at alphas sound elements agrees t tag f here ∙ q in
+                nothing_moves (not x.plus) 0 _ _ refl
+                (ap (λ m. cond (m == 0) (standing_at (sum_in line) x.node Left t) 0)
+                (sym (right_matches (sum_in line) x elements node.joins t e tag one (small tag here) moved
+                ∙ ap (λ j. cond j (counted x.plus (matching elements node.joins (sum_in line) x.node t)) (matching elements node.joins (sum_in line) x.node t)) apart)))
+        by (Some k) found =
+            let is = cell_at nodes s line counts x.node c kept t k found in
             let some : sum_in line x.node Left t ≢ pos 0 = λ z. is.some (sym is.sum ∙ z) in
             let f = counts.fit x.node Left t some in
-            let number : c.blockers ≡ matching elements node.joins (sum_in line) x.node t =
+            let number : k.blockers ≡ matching elements node.joins (sum_in line) x.node t =
             sym is.blockers ∙ (counts.counts x.node node t at negated some ∙ sym (matching_agrees nodes s line counts x.node node at negated alphas sound elements agrees t f)) in
             let joined : joins_hold node.joins (held_of s) t tag ≡ joins_hold node.joins elements t tag = sym (both_agree nodes s x.node node at alphas sound elements agrees t tag f here) in
-            let stands : standing c.sum ≡ standing_at (sum_in line) x.node Left t = ap standing (sym is.sum) in
-            let flip : flipped_at node.joins (held_of s) tag x.plus t (Some c)
+            let stands : standing k.sum ≡ standing_at (sum_in line) x.node Left t = ap standing (sym is.sum) in
+            let flip : flipped_at node.joins (held_of s) tag x.plus t (Some k)
             ≡ cond ((matching elements node.joins (sum_in line) x.node t == before_flip x.plus) && joins_hold node.joins elements t tag) (standing_at (sum_in line) x.node Left t) 0 =
-            ap (λ k. cond ((k == before_flip x.plus) && joins_hold node.joins (held_of s) t tag) (standing c.sum) 0) number
-            ∙ (ap (λ j. cond ((matching elements node.joins (sum_in line) x.node t == before_flip x.plus) && j) (standing c.sum) 0) joined
+            ap (λ m. cond ((m == before_flip x.plus) && joins_hold node.joins (held_of s) t tag) (standing k.sum) 0) number
+            ∙ (ap (λ j. cond ((matching elements node.joins (sum_in line) x.node t == before_flip x.plus) && j) (standing k.sum) 0) joined
             ∙ ap (λ n. cond ((matching elements node.joins (sum_in line) x.node t == before_flip x.plus) && joins_hold node.joins elements t tag) n 0) stands) in
             ap (λ n. signed (not x.plus) n +ℤ pos (cond (matching elements node.joins (sum_in line) x.node t == 0) (standing_at (sum_in line) x.node Left t) 0)) flip
             ∙ (flipped x.plus (joins_hold node.joins elements t tag) (matching elements node.joins (sum_in line) x.node t) (standing_at (sum_in line) x.node Left t)
             (one_matched (sum_in line) x elements node.joins t e tag one (small tag here) moved)
-            ∙ ap (λ k. pos (cond (k == 0) (standing_at (sum_in line) x.node Left t) 0)) (sym (right_matches (sum_in line) x elements node.joins t e tag one (small tag here) moved)))
+            ∙ ap (λ m. pos (cond (m == 0) (standing_at (sum_in line) x.node Left t) 0)) (sym (right_matches (sum_in line) x elements node.joins t e tag one (small tag here) moved)))
 
     pub right_change : IsChange nodes s line x (not x.plus) (put_flipped node.joins (held_of s) tag x.plus left)
     right_change = record {
@@ -216,6 +239,6 @@ module _ (alphas : List Alpha) (nodes : List Node) (sound : IsSound alphas nodes
           All-from_recursion (λ (p : Put). IsOutOf nodes s x.node p.token) (put_flipped node.joins (held_of s) tag x.plus left)
           (all_flipped node.joins (held_of s) tag x.plus (IsOutOf nodes s x.node) left
           (recursion_from_All (λ (l : List ℕ × Cell). IsOutOf nodes s x.node l.0) left
-          (λ i d within. own_out (slice_index_or left i d).0 (left_fits nodes s line counts x.node kept i d within))));
+          (λ i d within. own_out (slice_index_or left i d).0 (left_fits nodes s line counts x.node c kept i d within))));
       change = λ elements t agrees. change_over (not x.plus) (put_flipped node.joins (held_of s) tag x.plus left) elements t (right_at elements t agrees);
     }

@@ -19,11 +19,12 @@ use Rattle.token_line.specs.Bags.{after, standing, standing_at}
 use Rattle.token_line.specs.Held.{Agrees, Fits, TaskFits}
 use Rattle.token_line.specs.Lawful.{out_at}
 use Rattle.token_line.specs.Lines.{memory_at, sum_in}
+use Rattle.token_line.specs.Numbers.{code_of}
 use Rattle.activation.specs.Putting.{Put, changes, left_entries, put_for, put_for_left, put_for_right, right_entries}
 use Rattle.activation.specs.Acting.{IsCounted, IsOutOf, number_put, signed}
 use Rattle.activation.proofs.Agreed.{IsHeld}
 use Rattle.activation.proofs.Arrived.{other_sum, own_sum}
-use Rattle.activation.proofs.AtNode.{Kept, both_agree, left_distinct, left_fits, left_long, left_sum_is, only_one, right_distinct, right_fits, right_held, right_long, right_sum_is}
+use Rattle.activation.proofs.AtNode.{Kept, both_agree, left_distinct, left_fits, left_joined, left_long, only_one, right_distinct, right_fits, right_held, right_joined, right_long}
 use Rattle.activation.proofs.JoinChange.{left_change, moves, right_change}
 use Rattle.activation.proofs.Outs.{IsChange, join_out}
 use Rattle.activation.proofs.PutNumbers.{all_left, all_right, left_none, left_number, right_none, right_number}
@@ -53,12 +54,13 @@ change_over nodes line x puts node elements t at join moved =
     ∙ (moved ∙ ap pos (sym (join_out elements nodes (after (sum_in line) x) x.node node at join t)))
 
 module _ (alphas : List Alpha) (nodes : List Node) (sound : IsSound alphas nodes) (s : Stored) (line : Line) (x : Task) (fits : TaskFits nodes s x) (counted : IsCounted nodes s line)
-    (node : Node) (at : slice_get nodes x.node ≡ Some node) (join : is_join node.kind ≡ true) (kept : Kept (memory_at line x.node)) where
+    (node : Node) (at : slice_get nodes x.node ≡ Some node) (join : is_join node.kind ≡ true)
+    (c : ℕ) (code : code_of (held_of s) nodes x.node x.side x.token ≡ c) (kept : Kept (memory_at line x.node c)) where
   abbrev left : List (List ℕ × Cell)
-  left = left_entries (memory_at line x.node)
+  left = left_entries (memory_at line x.node c)
 
   abbrev right : List (List ℕ × Cell)
-  right = right_entries (memory_at line x.node)
+  right = right_entries (memory_at line x.node c)
 
   held_at : (t : List ℕ) → Fits nodes s x.node Right t → IsHeld s (slice_index t 0)
   held_at t f = right_held nodes s x.node node at t f
@@ -77,7 +79,7 @@ module _ (alphas : List Alpha) (nodes : List Node) (sound : IsSound alphas nodes
         All-from_recursion (λ (p : Put). IsOutOf nodes s x.node p.token) (put_for_left node.joins (held_of s) x.token right)
         (all_left node.joins (held_of s) x.token (IsOutOf nodes s x.node) right
         (recursion_from_All (λ r. IsOutOf nodes s x.node (x.token ++ slice_index r.0 0 ∷ [])) right
-        (λ i d within. let r = slice_index_or right i d in longer x.token (slice_index r.0 0) own (held_at r.0 (right_fits nodes s line counted x.node kept i d within)))));
+        (λ i d within. let r = slice_index_or right i d in longer x.token (slice_index r.0 0) own (held_at r.0 (right_fits nodes s line counted x.node c kept i d within)))));
     change = λ elements t agrees. change_over nodes line x (put_for_left node.joins (held_of s) x.token right) node elements t at join (over_tokens elements t agrees);
   }
     where
@@ -85,7 +87,7 @@ module _ (alphas : List Alpha) (nodes : List Node) (sound : IsSound alphas nodes
       own = subst (λ d. Fits nodes s x.node d x.token) e fits
 
       ones : AllByRecursion (λ r. length r.0 ≡ 1) right
-      ones = recursion_from_All (λ r. length r.0 ≡ 1) right (λ i d within. right_long nodes s x.node node at (slice_index_or right i d).0 (right_fits nodes s line counted x.node kept i d within))
+      ones = recursion_from_All (λ r. length r.0 ≡ 1) right (λ i d within. right_long nodes s x.node node at (slice_index_or right i d).0 (right_fits nodes s line counted x.node c kept i d within))
 
       had : changes (sum_in line x.node Left x.token) x.plus ≡ true
       had = subst (λ d. changes (sum_in line x.node d x.token) x.plus ≡ true) e moved
@@ -96,7 +98,7 @@ module _ (alphas : List Alpha) (nodes : List Node) (sound : IsSound alphas nodes
       over_tokens elements t agrees =
           left_change node.joins elements (standing_at (sum_in line) x.node Left) (standing_at (sum_in line) x.node Right) (standing_at (after (sum_in line) x) x.node Left) (standing_at (after (sum_in line) x) x.node Right)
           (held_of s) x.plus x.token (put_for_left node.joins (held_of s) x.token right)
-          (λ k. left_number node.joins (held_of s) x.token k right (right_distinct (memory_at line x.node) kept) ones ∙ ap (λ z. cond (joins_hold node.joins (held_of s) x.token k) (standing z) 0) (sym (right_sum_is line x.node (k ∷ []))))
+          (λ k. left_number node.joins (held_of s) x.token k right (right_distinct (memory_at line x.node c) kept) ones ∙ right_joined nodes s line counted x.node node at c x.token (subst (λ d. code_of (held_of s) nodes x.node d x.token ≡ c) e code) k)
           (λ u ne. left_none node.joins (held_of s) x.token u ne right)
           (λ k some. both_agree nodes s x.node node at alphas sound elements agrees x.token k own (held_at (k ∷ []) (counted.fit x.node Right (k ∷ []) (standing_some (sum_in line x.node Right (k ∷ [])) some))))
           (moves (sum_in line x.node Left x.token) x.plus had ∙ ap (λ z. pos (standing z)) (sym (own_sum (sum_in line) x Left e)))
@@ -111,7 +113,7 @@ module _ (alphas : List Alpha) (nodes : List Node) (sound : IsSound alphas nodes
         All-from_recursion (λ (p : Put). IsOutOf nodes s x.node p.token) (put_for_right node.joins (held_of s) tag left)
         (all_right node.joins (held_of s) tag (IsOutOf nodes s x.node) left
         (recursion_from_All (λ l. IsOutOf nodes s x.node (l.0 ++ tag ∷ [])) left
-        (λ i d within. let l = slice_index_or left i d in longer l.0 tag (left_fits nodes s line counted x.node kept i d within) (held_at x.token own))));
+        (λ i d within. let l = slice_index_or left i d in longer l.0 tag (left_fits nodes s line counted x.node c kept i d within) (held_at x.token own))));
     change = λ elements t agrees. change_over nodes line x (put_for_right node.joins (held_of s) tag left) node elements t at join (over_tokens elements t agrees);
   }
     where
@@ -124,6 +126,9 @@ module _ (alphas : List Alpha) (nodes : List Node) (sound : IsSound alphas nodes
       one : x.token ≡ tag ∷ []
       one = only_one x.token (right_long nodes s x.node node at x.token own)
 
+      tag_code : code_of (held_of s) nodes x.node Right (tag ∷ []) ≡ c
+      tag_code = subst (λ t. code_of (held_of s) nodes x.node Right t ≡ c) one (subst (λ d. code_of (held_of s) nodes x.node d x.token ≡ c) e code)
+
       had : changes (sum_in line x.node Right x.token) x.plus ≡ true
       had = subst (λ d. changes (sum_in line x.node d x.token) x.plus ≡ true) e moved
 
@@ -133,7 +138,7 @@ module _ (alphas : List Alpha) (nodes : List Node) (sound : IsSound alphas nodes
       over_tokens elements t agrees =
           right_change node.joins elements (standing_at (sum_in line) x.node Left) (standing_at (sum_in line) x.node Right) (standing_at (after (sum_in line) x) x.node Left) (standing_at (after (sum_in line) x) x.node Right)
           (held_of s) x.plus tag (put_for_right node.joins (held_of s) tag left)
-          (λ f. right_number node.joins (held_of s) tag f left (left_distinct (memory_at line x.node) kept) ∙ ap (λ z. cond (joins_hold node.joins (held_of s) f tag) (standing z) 0) (sym (left_sum_is line x.node f)))
+          (λ f. right_number node.joins (held_of s) tag f left (left_distinct (memory_at line x.node c) kept) ∙ left_joined nodes s line counted x.node node at c tag tag_code f)
           (λ u ne. right_none node.joins (held_of s) tag u ne left)
           (λ f some. both_agree nodes s x.node node at alphas sound elements agrees f tag (counted.fit x.node Left f (standing_some (sum_in line x.node Left f) some)) (held_at x.token own))
           (subst (λ z. signed x.plus 1 +ℤ pos (standing_at (sum_in line) x.node Right z) ≡ pos (standing_at (after (sum_in line) x) x.node Right z)) one
@@ -141,9 +146,9 @@ module _ (alphas : List Alpha) (nodes : List Node) (sound : IsSound alphas nodes
           (λ k ne. ap standing (sym (other_sum (sum_in line) x x.node Right (k ∷ []) (λ i. ne (first_tag k tag (i.token ∙ one))))))
           (λ v. ap standing (sym (other_sum (sum_in line) x x.node Left v (λ i. sides_differ (sym (i.side ∙ e)))))) t
 
-  pub put_by_join : changes (sum_in line x.node x.side x.token) x.plus ≡ true → IsChange nodes s line x x.plus (put_for node.joins (held_of s) (memory_at line x.node) x.side x.token)
+  pub put_by_join : changes (sum_in line x.node x.side x.token) x.plus ≡ true → IsChange nodes s line x x.plus (put_for node.joins (held_of s) (memory_at line x.node c) x.side x.token)
   put_by_join moved = by x.side refl
     where
-      by : (d : Side) → x.side ≡ d → IsChange nodes s line x x.plus (put_for node.joins (held_of s) (memory_at line x.node) d x.token)
+      by : (d : Side) → x.side ≡ d → IsChange nodes s line x x.plus (put_for node.joins (held_of s) (memory_at line x.node c) d x.token)
       by Left e = put_by_left e moved
       by Right e = put_by_right e moved

@@ -1,5 +1,5 @@
 -- A line is still counted once a task has arrived, with what blocks its left tokens counted anew.
-use Rattle.std.proofs.Common.{◌≡◌, ◌≢◌, ℕ, ◌-◌, ◌<◌, ◌^◌, ◌==◌, ◌&&◌, Bool, true, false, cond, List, [], ◌∷◌, pos, refl, sym, ap, ap₂, subst, ◌∙◌, length, slice_get, slice_index, bytes_eq, Some}
+use Rattle.std.proofs.Common.{◌≡◌, ◌≢◌, ℕ, ◌-◌, ◌<◌, ◌^◌, ◌==◌, ◌&&◌, Bool, true, false, cond, List, [], ◌∷◌, pos, refl, sym, ap, ap₂, subst, ◌∙◌, length, slice_get, slice_index, bytes_eq, Some, ◌⊎◌, inl, inr, true≢false}
 use Rattle.std.proofs.lemmas.Bool.Decides.{Decides-eqb}
 use Rattle.work_store.specs.Stored.{Stored, held_of}
 use Rattle.net_base.specs.declared.nodes.Node.{Node}
@@ -11,8 +11,12 @@ use Rattle.net_base.specs.Tokens.{joins_hold}
 use Rattle.token_line.specs.declared.line.Line.{Line}
 use Rattle.token_line.specs.Bags.{after, are_same_sides, is_at, standing}
 use Rattle.token_line.specs.Held.{Fits, TaskFits}
-use Rattle.token_line.specs.Lines.{blockers_in, sum_in}
+use Rattle.token_line.specs.Lines.{IsFiled, KeepsCodes, blockers_in, sum_in}
+use Rattle.token_line.specs.Numbers.{code_of}
+use Rattle.token_line.proofs.Filed.{filed_stands, kept_under}
 use Rattle.token_line.proofs.Fitting.{node_of}
+use Rattle.token_line.proofs.Joined.{joined_with_one_code}
+use Rattle.token_line.proofs.LineLemmas.{at_task}
 use Rattle.token_line.specs.Sums.{counted}
 use Rattle.activation.specs.Effects.{Effect}
 use Rattle.activation.specs.Acting.{IsCounted, IsEffect, matching}
@@ -127,9 +131,19 @@ module _ (nodes : List Node) (s : Stored) (x : Task) (fits : TaskFits nodes s x)
   pub counted_after : ((tag : ℕ) → IsHeld s tag → tag < 2 ^ 64)
       → ((n : ℕ) (t : List ℕ) → sum_in new n Left t ≢ pos 0
       → blockers_in new n t ≡ cond (e.blocks && is_matched (slice_get nodes x.node) (held_of s) x n t) (counted x.plus (added n t)) (added n t))
+      → ((n c : ℕ) (side : Side) (t : List ℕ) → IsFiled new n c side t → IsFiled old n c side t ⊎ ((c ≡ code_of (held_of s) nodes x.node x.side x.token) × (is_at n side t x ≡ true)))
       → IsCounted nodes s new
-  counted_after small numbers = record { fit = fits_after; counts = λ n y t at negated some. numbers n t some ∙ (by n y t at negated some x.side refl ∙ over_new n y t at negated some) }
+  counted_after small numbers filed = record {
+    fit = fits_after;
+    counts = λ n y t at negated some. numbers n t some ∙ (by n y t at negated some x.side refl ∙ over_new n y t at negated some);
+    filed = λ n c side t some. code_after n c side t (filed n c side t some);
+  }
     where
+      code_after : (n c : ℕ) (side : Side) (t : List ℕ) → IsFiled old n c side t ⊎ ((c ≡ code_of (held_of s) nodes x.node x.side x.token) × (is_at n side t x ≡ true))
+          → c ≡ code_of (held_of s) nodes n side t
+      code_after n c side t (inl some) = counts.filed n c side t some
+      code_after n c side t (inr own) = at_task (λ m d u. c ≡ code_of (held_of s) nodes m d u) x n side t own.1 own.0
+
       by : (n : ℕ) (y : Node) (t : List ℕ) (at : slice_get nodes n ≡ Some y) (negated : is_negated y.kind ≡ true) (some : sum_in new n Left t ≢ pos 0) → (d : Side) → x.side ≡ d
           → cond (e.blocks && is_matched (slice_get nodes x.node) (held_of s) x n t) (counted x.plus (added n t)) (added n t) ≡ matching (held_of s) y.joins (after (sum_in old) x) n t
       by n y t at negated some Left q =
@@ -143,33 +157,64 @@ module _ (nodes : List Node) (s : Stored) (x : Task) (fits : TaskFits nodes s x)
 
 -- the same sums and the same numbers count the same
 pub counted_same : (nodes : List Node) (s : Stored) (old new : Line) → IsCounted nodes s old → ((n : ℕ) (side : Side) (t : List ℕ) → sum_in new n side t ≡ sum_in old n side t)
-    → ((n : ℕ) (t : List ℕ) → blockers_in new n t ≡ blockers_in old n t) → IsCounted nodes s new
-counted_same nodes s old new counts same numbers = record {
+    → ((n : ℕ) (t : List ℕ) → blockers_in new n t ≡ blockers_in old n t) → KeepsCodes old new → IsCounted nodes s new
+counted_same nodes s old new counts same numbers codes = record {
   fit = λ n side t some. counts.fit n side t (λ z. some (same n side t ∙ z));
   counts = λ n y t at negated some.
       numbers n t
       ∙ (counts.counts n y t at negated (λ z. some (same n Left t ∙ z))
       ∙ sym (matching_same (held_of s) y.joins (sum_in new) (sum_in old) n t (λ k. ap standing (same n Right (k ∷ [])))));
+  filed = λ n c side t some. counts.filed n c side t (codes n c side t some);
 }
 
 -- ---- room
 
--- once a task is added, each left token of its node has the room that it had, where they are to be counted anew
-pub room_after : (nodes : List Node) (s : Stored) (x : Task) → TaskFits nodes s x → (old : Line) (e : Effect) → IsEffect nodes s old x e → (new : Line)
-    → ((n : ℕ) (side : Side) (t : List ℕ) → sum_in new n side t ≡ after (sum_in old) x n side t)
-    → ((n : ℕ) (t : List ℕ) → sum_in new n Left t ≢ pos 0 → blockers_in new n t ≡ cond (is_at n Left t x) e.blockers (blockers_in old n t))
-    → e.blocks ≡ true → x.plus ≡ true → (t : List ℕ) → sum_in new x.node Left t ≢ pos 0 → blockers_in new x.node t < 2 ^ 64 - 1
-room_after nodes s x fits old e effect new sums numbers blocks more t some = by x.side refl
-  where
-    its_node : (node : Node) × (slice_get nodes x.node ≡ Some node)
-    its_node = node_of nodes s x.node x.side x.token fits
+module _ (nodes : List Node) (s : Stored) (x : Task) (fits : TaskFits nodes s x) (old : Line) (counts : IsCounted nodes s old) (e : Effect) (effect : IsEffect nodes s old x e) (new : Line)
+    (filed : (n c : ℕ) (side : Side) (t : List ℕ) → IsFiled new n c side t → IsFiled old n c side t ⊎ ((c ≡ code_of (held_of s) nodes x.node x.side x.token) × (is_at n side t x ≡ true)))
+    (blocks : e.blocks ≡ true) where
+  this_node : (node : Node) × (slice_get nodes x.node ≡ Some node)
+  this_node = node_of nodes s x.node x.side x.token fits
 
-    by : (d : Side) → x.side ≡ d → blockers_in new x.node t < 2 ^ 64 - 1
-    by Left q =
-        let bad : true ≡ false =
-        sym blocks ∙ (effect.blocks its_node.0 its_node.1 ∙ (ap (λ d. is_negated its_node.0.kind && (are_same_sides Right d && changes (sum_in old x.node x.side x.token) x.plus)) q ∙ and_false (is_negated its_node.0.kind))) in cc
-    by Right q =
-        let kept : blockers_in new x.node t ≡ blockers_in old x.node t =
-        numbers x.node t some ∙ ap (λ b. cond b e.blockers (blockers_in old x.node t)) (ap (λ d. (x.node == x.node) && (are_same_sides Left d && bytes_eq t x.token)) q ∙ and_false (x.node == x.node)) in
-        subst (λ k. k < 2 ^ 64 - 1) (sym kept)
-        (effect.room blocks more t (λ z. some (sums x.node Left t ∙ (other_sum (sum_in old) x x.node Left t (λ i. let bad : Left ≡ Right = i.side ∙ q in cc) ∙ z))))
+  abbrev code : ℕ
+  code = code_of (held_of s) nodes x.node x.side x.token
+
+  -- the task is a right one
+  is_right : x.side ≡ Right
+  is_right = by x.side refl
+    where
+      by : (d : Side) → x.side ≡ d → x.side ≡ Right
+      by Right q = q
+      by Left q =
+          let bad : true ≡ false =
+          sym blocks
+          ∙ (effect.blocks this_node.0 this_node.1
+          ∙ (ap (λ d. is_negated this_node.0.kind && (are_same_sides Right d && changes (sum_in old x.node x.side x.token) x.plus)) q ∙ and_false (is_negated this_node.0.kind))) in
+          absurd (true≢false bad)
+
+  not_left : (t : List ℕ) → is_at x.node Left t x ≡ false
+  not_left t = ap (λ d. (x.node == x.node) && (are_same_sides Left d && bytes_eq t x.token)) is_right ∙ and_false (x.node == x.node)
+
+  -- a left token had the code before
+  was_filed : (c : ℕ) (t : List ℕ) → IsFiled new x.node c Left t → IsFiled old x.node c Left t
+  was_filed c t some = by (filed x.node c Left t some)
+    where
+      by : IsFiled old x.node c Left t ⊎ ((c ≡ code) × (is_at x.node Left t x ≡ true)) → IsFiled old x.node c Left t
+      by (inl before) = before
+      by (inr own) = absurd (true≢false (sym own.1 ∙ not_left t))
+
+  -- once a task is added, each left token with its code has the room that it had
+  pub room_after : ((n : ℕ) (t : List ℕ) → sum_in new n Left t ≢ pos 0 → blockers_in new n t ≡ cond (is_at n Left t x) e.blockers (blockers_in old n t))
+      → x.plus ≡ true → (t : List ℕ) → IsFiled new x.node code Left t → blockers_in new x.node t < 2 ^ 64 - 1
+  room_after numbers more t has =
+      let kept : blockers_in new x.node t ≡ blockers_in old x.node t = numbers x.node t (filed_stands new x.node code Left t has) ∙ ap (λ b. cond b e.blockers (blockers_in old x.node t)) (not_left t) in
+      subst (λ k. k < 2 ^ 64 - 1) (sym kept) (effect.room blocks more t (was_filed code t has))
+
+  -- each left token that it matches has its code
+  pub code_after : (node : Node) → slice_get nodes x.node ≡ Some node → (t : List ℕ) → sum_in new x.node Left t ≢ pos 0
+      → joins_hold node.joins (held_of s) t (slice_index x.token 0) ≡ true → IsFiled new x.node code Left t
+  code_after node at t some joined =
+      let kept = kept_under new x.node Left t some in
+      let own : code_of (held_of s) nodes x.node Left t ≡ code =
+      joined_with_one_code (held_of s) nodes x.node node t (slice_index x.token 0) at joined
+      ∙ ap₂ (λ d u. code_of (held_of s) nodes x.node d u) (sym is_right) (sym (only_one x.token (right_long nodes s x.node node at x.token (subst (λ d. Fits nodes s x.node d x.token) is_right fits)))) in
+      subst (λ c. IsFiled new x.node c Left t) (counts.filed x.node kept.0 Left t (was_filed kept.0 t kept.1) ∙ own) kept.1

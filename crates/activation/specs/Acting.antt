@@ -14,7 +14,8 @@ use Rattle.token_line.specs.declared.memory.Memory.{Memory}
 use Rattle.token_line.specs.Bags.{Bag, after, are_same_sides, standing_at}
 use Rattle.token_line.specs.Held.{Agrees, Fits, TaskFits}
 use Rattle.token_line.specs.Lawful.{IsLawful, out_at}
-use Rattle.token_line.specs.Lines.{blockers_in, sum_in}
+use Rattle.token_line.specs.Lines.{IsFiled, blockers_in, sum_in}
+use Rattle.token_line.specs.Numbers.{code_of}
 use Rattle.token_line.specs.Pairs.{ArePairs}
 use Rattle.activation.specs.Effects.{Effect}
 use Rattle.activation.specs.Putting.{Put, changes}
@@ -25,11 +26,13 @@ use Rattle.activation.specs.Putting.{Put, changes}
 abbrev pub matching : Elements → List JoinTest → Bag → ℕ → List ℕ → ℕ
 matching elements tests b n t = count_below (2 ^ 64) (joins_hold tests elements t) (standing_at b n Right)
 
--- Each token of the line that has a sum other than 0 fits, and with each left token of a negated node the line keeps how often right tokens stand that match it.
+-- Each token of the line that has a sum other than 0 fits, and the line keeps it under its code. With each left token of a negated node it keeps how often
+-- right tokens stand that match it.
 pub record IsCounted (nodes : List Node) (s : Stored) (line : Line) : Type 0 where
   pub fit : (n : ℕ) (side : Side) (t : List ℕ) → sum_in line n side t ≢ pos 0 → Fits nodes s n side t
   pub counts : (n : ℕ) (x : Node) (t : List ℕ) → slice_get nodes n ≡ Some x → is_negated x.kind ≡ true → sum_in line n Left t ≢ pos 0
       → blockers_in line n t ≡ matching (held_of s) x.joins (sum_in line) n t
+  pub filed : (n c : ℕ) (side : Side) (t : List ℕ) → IsFiled line n c side t → c ≡ code_of (held_of s) nodes n side t
 
 -- ---- what a node puts out for a task
 
@@ -50,7 +53,7 @@ pub record IsOutOf (nodes : List Node) (s : Stored) (n : ℕ) (t : List ℕ) : T
 
 -- What the task does at its node: what is put out, with the sign, is the change of what the node puts out, where the node can have children. At a negated
 -- node a left token is kept with how often right tokens stand that match it, and a right token is one blocker more, or one less, just where it stands once more
--- or once less; each left token has room for that.
+-- or once less; each left token with its code has room for that.
 pub record IsEffect (nodes : List Node) (s : Stored) (line : Line) (x : Task) (e : Effect) : Type 0 where
   pub fit : All (λ p. IsOutOf nodes s x.node p.token) e.puts
   pub change : (node : Node) (elements : Elements) (t : List ℕ) → slice_get nodes x.node ≡ Some node → is_terminal node.kind ≡ false → Agrees s elements
@@ -59,7 +62,8 @@ pub record IsEffect (nodes : List Node) (s : Stored) (line : Line) (x : Task) (e
       → e.blockers ≡ matching (held_of s) node.joins (sum_in line) x.node x.token
   pub blocks : (node : Node) → slice_get nodes x.node ≡ Some node
       → e.blocks ≡ (is_negated node.kind && (are_same_sides Right x.side && changes (sum_in line x.node x.side x.token) x.plus))
-  pub room : e.blocks ≡ true → x.plus ≡ true → (t : List ℕ) → sum_in line x.node Left t ≢ pos 0 → blockers_in line x.node t < 2 ^ 64 - 1
+  pub room : e.blocks ≡ true → x.plus ≡ true → (t : List ℕ) → IsFiled line x.node (code_of (held_of s) nodes x.node x.side x.token) Left t
+      → blockers_in line x.node t < 2 ^ 64 - 1
 
 -- no token is kept twice on one side, and none with a sum of 0
 pub record AreKept (m : Memory) : Type 0 where

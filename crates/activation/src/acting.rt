@@ -1,12 +1,13 @@
 //! One task, done on its line.
-ghost use Rattle.std.specs.Prelude.{◌≡◌, ◌≢◌, ◌<◌, ◌-◌, ◌^◌, ◌&&◌, List, OnErr, OnOk, Some, if◌then◌else◌, pos, slice_get, true, ℕ};
+ghost use Rattle.std.specs.Prelude.{◌≡◌, ◌≢◌, ◌<◌, ◌-◌, ◌^◌, ◌&&◌, List, OnErr, OnOk, Some, if◌then◌else◌, pos, slice_get, slice_index, true, ℕ};
 ghost use Rattle.std.specs.Option.{option_copied};
 ghost use Rattle.work_store.specs.Stored.{held_of};
 ghost use Rattle.net_base.specs.Sound.{IsSound};
+ghost use Rattle.net_base.specs.Tokens.{joins_hold};
 ghost use Rattle.net_base.specs.declared.tasks.Side.{Side};
 ghost use Rattle.net_base.specs.declared.tasks.Side.TheVariants.{Left};
 ghost use Rattle.token_line.specs.Held.{TaskFits};
-ghost use Rattle.token_line.specs.Lines.{blockers_in, sum_in};
+ghost use Rattle.token_line.specs.Lines.{IsFiled, KeepsCodes, blockers_in, sum_in};
 ghost use Rattle.token_line.specs.Sums.{counted};
 ghost use Rattle.activation.specs.Acting.{Acts, IsCounted};
 ghost use Rattle.activation.specs.Children.{Grows};
@@ -18,7 +19,7 @@ use net_base::nodes::Node;
 use net_base::tasks::Task;
 use ops_base::memory::OutOfMemory;
 use std::alloc::Global;
-use token_line::{Children, Entry, Line, tag_at};
+use token_line::{Children, Entry, Line, code_of, tag_at};
 use work_store::Store;
 
 /// The node of the task.
@@ -34,17 +35,28 @@ fn node_of<'a>(net: &'a Net, store: &Store, task: &Task) -> &'a Node
 }
 
 /// Counts the task's right token with the left tokens of its node that it matches, if `blocks` says so.
-fn count_blockers(net: &Net, store: &Store, line: &mut Line, node: &Node, task: &Task, blocks: bool)
+fn count_blockers(
+    net: &Net,
+    store: &Store,
+    line: &mut Line,
+    node: &Node,
+    task: &Task,
+    code: u64,
+    blocks: bool,
+)
     requires node { slice_get net.now.nodes task.now.node ≡ Some node.now }
-    requires room { blocks ≡ true → task.now.plus ≡ true → (t : List ℕ) → sum_in line.old task.now.node Left t ≢ pos 0 → blockers_in line.old task.now.node t < 2 ^ 64 - 1 }
+    requires room { blocks ≡ true → task.now.plus ≡ true → (t : List ℕ) → IsFiled line.old task.now.node code Left t → blockers_in line.old task.now.node t < 2 ^ 64 - 1 }
+    requires code { blocks ≡ true → (t : List ℕ) → sum_in line.old task.now.node Left t ≢ pos 0 → joins_hold node.now.joins (held_of store.now) t (slice_index task.now.token 0) ≡ true → IsFiled line.old task.now.node code Left t }
     ensures blockers { (n : ℕ) (t : List ℕ) → sum_in line.new n Left t ≢ pos 0 → blockers_in line.new n t ≡ (if blocks && is_matched (slice_get net.now.nodes task.now.node) (held_of store.now) task.now n t then counted task.now.plus (blockers_in line.old n t) else blockers_in line.old n t) }
     ensures sums { (n : ℕ) (s : Side) (t : List ℕ) → sum_in line.new n s t ≡ sum_in line.old n s t }
     ensures entries { line.new.entries.items ≡ line.old.entries.items }
     ensures number { line.new.number ≡ line.old.number }
+    ensures filed { KeepsCodes line.old line.new }
 {
     if blocks {
         let tag = tag_at(task.token.as_slice(), 0);
-        line.block(store, node.joins.as_slice(), task.node, tag, task.plus);
+        let tests = node.joins.as_slice();
+        line.block(store, tests, task.node, code, tag, task.plus);
     }
 }
 
@@ -68,7 +80,8 @@ fn attempt(
 {
     let node = node_of(net, store, task);
     let before = out.len();
-    let (spot, memory) = line.find(task.node, task.side, &task.token);
+    let code = code_of(net, store, task);
+    let (spot, memory) = line.find(task.node, code, task.side, &task.token);
     tokens_are_kept(memory);
     tags_are_small(store);
     let done = do_at(alloc, store, node, memory, spot.kept(), task, out)?;
@@ -77,14 +90,15 @@ fn attempt(
         children: Children::since(out, before),
     };
     line.add_at(alloc, &spot, entry, done.blockers)?;
-    count_blockers(net, store, line, node, task, done.blocks);
+    count_blockers(net, store, line, node, task, code, done.blocks);
     Ok(())
 }
 
 /// Does a task on this line, which its caller finds by `token_line::line_of`: its children go behind `out`, it becomes an entry of
-/// the line, and its token counts there. The node's memory and the token are looked for once. A join or a negated node looks at each
-/// token of the other side that it has on the line, but for a task that changes nothing and a left token that a negated node keeps
-/// already. Each child is made once. Where memory runs out, or a count does not fit, nothing has changed.
+/// the line, and its token counts there. The task's code is made once, and its memory and the token are looked for once. A join or a
+/// negated node looks at each token of the other side that it has on the line with the task's code, so at no other values at the equality
+/// tests unless their codes happen to be equal; but for a task that changes nothing and a left token that a negated node keeps already.
+/// Each child is made once. Where memory runs out, or a count does not fit, nothing has changed.
 pub fn activate(
     alloc: Global,
     net: &Net,

@@ -4,7 +4,7 @@ ghost use Rattle.std.specs.Option.{ForSome, option_copied, option_map_or};
 ghost use Rattle.work_store.specs.Stored.{held_of};
 ghost use Rattle.net_base.specs.declared.nodes.Kind.TheVariants.{Negated};
 ghost use Rattle.net_base.specs.declared.tasks.Side.TheVariants.{Right};
-ghost use Rattle.token_line.specs.Lines.{tokens_of};
+ghost use Rattle.token_line.specs.Codes.{tokens_of};
 ghost use Rattle.token_line.specs.Pairs.{cell_of};
 ghost use Rattle.activation.specs.Acting.{AreKept};
 ghost use Rattle.activation.specs.Children.{Grows};

@@ -1,4 +1,4 @@
--- Which lines are counted: those with the sums and the numbers of a counted line, and those of the start.
+-- Which lines are counted: those with the sums, the numbers and the codes of a counted line, and those of the start.
 use Rattle.std.proofs.Common.{◌≡◌, ◌≢◌, ℕ, ◌%◌, ◌&&◌, ◌==◌, nat_lt, Bool, true, false, cond, List, [], pos, slice_get, Option, Some, None, IsSome, refl, sym, ap, subst, ◌∙◌}
 use Rattle.std.proofs.lemmas.List.Elements.{All-nil}
 use Rattle.work_store.specs.Stored.{Stored, held_of}
@@ -13,22 +13,24 @@ use Rattle.token_line.specs.declared.line.Line.{Line}
 use Rattle.token_line.specs.Held.{Fits}
 use Rattle.token_line.specs.Lawful.{giver_of}
 use Rattle.token_line.proofs.Fitting.{fits_at, left_is_wide}
-use Rattle.token_line.specs.Lines.{blockers_in, sum_in}
+use Rattle.token_line.specs.Lines.{KeepsCodes, blockers_in, sum_in}
+use Rattle.token_line.proofs.Filed.{filed_stands}
 use Rattle.activation.specs.Acting.{IsCounted, matching}
 use Rattle.step_core.specs.Machine.{root_part}
 use Rattle.step_core.specs.Starts.{IsBegun}
 use Rattle.step_core.proofs.Adding.{bag_ext}
-use Rattle.step_core.proofs.RootTokens.{IsRootToken, root_token}
+use Rattle.step_core.proofs.RootTokens.{IsRootToken, root_code, root_token}
 
--- a line with the same sums and the same numbers
+-- a line with the same sums, the same numbers, and no other codes
 pub counted_same : (nodes : List Node) (s : Stored) (old new : Line) → IsCounted nodes s old → ((n : ℕ) (side : Side) (t : List ℕ) → sum_in new n side t ≡ sum_in old n side t)
-    → ((n : ℕ) (t : List ℕ) → blockers_in new n t ≡ blockers_in old n t) → IsCounted nodes s new
-counted_same nodes s old new counted same numbers = record {
+    → ((n : ℕ) (t : List ℕ) → blockers_in new n t ≡ blockers_in old n t) → KeepsCodes old new → IsCounted nodes s new
+counted_same nodes s old new counted same numbers codes = record {
   fit = λ n side t some. counted.fit n side t (λ z. some (same n side t ∙ z));
   counts = λ n x t at negated some.
       numbers n t
       ∙ (counted.counts n x t at negated (λ z. some (same n Left t ∙ z))
       ∙ sym (ap (λ b. matching (held_of s) x.joins b n t) (bag_ext (sum_in new) (sum_in old) same)));
+  filed = λ n c side t some. counted.filed n c side t (codes n c side t some);
 }
 
 root_fits : (nodes : List Node) (s : Stored) (n : ℕ) (side : Side) (t : List ℕ) → IsRootToken nodes n side t → Fits nodes s n side t
@@ -46,6 +48,7 @@ pub counted_begun : (alphas : List Alpha) (nodes : List Node) → IsSound alphas
 counted_begun alphas nodes sound s lines bound i l begun = record {
   fit = λ n side t some. root_fits nodes s n side t (token n side t some);
   counts = λ n x t at negated some. no_negated x.kind negated (at_join n x t at some);
+  filed = λ n c side t some. begun.filed n c side t some ∙ sym (root_code alphas nodes sound n side t (token n side t (filed_stands l n c side t some)) (held_of s));
 }
   where
     given : (n : ℕ) (side : Side) (t : List ℕ) (b : Bool) → cond b (pos (root_part (giver_of nodes n side) t)) (pos 0) ≢ pos 0 → pos (root_part (giver_of nodes n side) t) ≢ pos 0

@@ -16,7 +16,7 @@ use Rattle.net_base.specs.Sound.{IsSound}
 use Rattle.net_base.specs.Tokens.{Elements, field_in}
 use Rattle.token_line.specs.Held.{Agrees, TaskFits, is_wide}
 use Rattle.token_line.proofs.Fitting.{left_length, node_of, one_length}
-use Rattle.token_line.specs.Numbers.{value_code, mixed, is_equal, equalities, own_value, own_codes, codes_at, line_number}
+use Rattle.token_line.specs.Numbers.{value_code, mixed, is_equal, equalities, own_value, own_codes, codes_at, code_of, line_number, tested_at, tested_codes}
 
 module _ (s : Stored) (elements : Elements) (agrees : Agrees s elements) where
   pub same_element : (tag : ℕ) → IsSome (held_of s tag) → elements tag ≡ held_of s tag
@@ -56,17 +56,33 @@ module _ (s : Stored) (elements : Elements) (agrees : Agrees s elements) where
     own_codes_same nodes x Negated Right width low = right_codes (equalities x.joins) (omega (arith, one_length Negated t width))
     own_codes_same nodes x (Terminal rule) side width low = refl
 
+    tested_same : (nodes : List Node) (x : Node) (side : Side) → is_wide nodes x side t ≡ true → (is_wide nodes x Left t ≡ true → AllByRecursion (λ j. j.place < length t) x.joins)
+        → tested_codes elements x.joins side t ≡ tested_codes (held_of s) x.joins side t
+    tested_same nodes x Left width low = left_codes x.joins (low width)
+    tested_same nodes x Right width low = right_codes (equalities x.joins) (omega (arith, one_length x.kind t width))
+
+  module _ (alphas : List Alpha) (nodes : List Node) (sound : IsSound alphas nodes) (x : Task) (fits : TaskFits nodes s x) where
+    its_node : (node : Node) × (slice_get nodes x.node ≡ Some node)
+    its_node = node_of nodes s x.node x.side x.token fits
+
+    low : is_wide nodes its_node.0 Left x.token ≡ true → AllByRecursion (λ j. j.place < length x.token) its_node.0.joins
+    low width =
+        subst (λ n. AllByRecursion (λ j. j.place < n) its_node.0.joins) (sym (left_length nodes its_node.0 x.token width))
+        (recursion_from_All _ its_node.0.joins (sound.each x.node its_node.0 its_node.1).places)
+
+    -- its code is the same
+    pub one_code : code_of elements nodes x.node x.side x.token ≡ code_of (held_of s) nodes x.node x.side x.token
+    one_code =
+        ap (λ codes. fold mixed x.node codes)
+        (ap (λ o. tested_at elements o x.side x.token) its_node.1
+        ∙ (tested_same x.token fits.held nodes its_node.0 x.side (fits.width its_node.0 its_node.1) low ∙ ap (λ o. tested_at (held_of s) o x.side x.token) (sym its_node.1)))
+
+    place_at : (lines : ℕ) → line_number elements nodes lines x.node x.side x.token ≡ line_number (held_of s) nodes lines x.node x.side x.token
+    place_at lines =
+        ap (λ o. fold mixed x.node (codes_at elements o x.side x.token) % lines) its_node.1
+        ∙ (ap (λ codes. fold mixed x.node codes % lines) (own_codes_same x.token fits.held nodes its_node.0 its_node.0.kind x.side (fits.width its_node.0 its_node.1) low)
+        ∙ ap (λ o. fold mixed x.node (codes_at (held_of s) o x.side x.token) % lines) (sym its_node.1))
+
   pub one_place : (alphas : List Alpha) (nodes : List Node) → IsSound alphas nodes → (lines : ℕ) (x : Task) → TaskFits nodes s x
       → line_number elements nodes lines x.node x.side x.token ≡ line_number (held_of s) nodes lines x.node x.side x.token
-  one_place alphas nodes sound lines x fits =
-      ap (λ o. fold mixed x.node (codes_at elements o x.side x.token) % lines) its_node.1
-      ∙ (ap (λ codes. fold mixed x.node codes % lines) (own_codes_same x.token fits.held nodes its_node.0 its_node.0.kind x.side (fits.width its_node.0 its_node.1) low)
-      ∙ ap (λ o. fold mixed x.node (codes_at (held_of s) o x.side x.token) % lines) (sym its_node.1))
-    where
-      its_node : (node : Node) × (slice_get nodes x.node ≡ Some node)
-      its_node = node_of nodes s x.node x.side x.token fits
-
-      low : is_wide nodes its_node.0 Left x.token ≡ true → AllByRecursion (λ j. j.place < length x.token) its_node.0.joins
-      low width =
-          subst (λ n. AllByRecursion (λ j. j.place < n) its_node.0.joins) (sym (left_length nodes its_node.0 x.token width))
-          (recursion_from_All _ its_node.0.joins (sound.each x.node its_node.0 its_node.1).places)
+  one_place alphas nodes sound lines x fits = place_at alphas nodes sound x fits lines

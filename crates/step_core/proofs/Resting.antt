@@ -21,6 +21,8 @@ use Rattle.token_line.specs.Bags.{Bag, standing_at}
 use Rattle.token_line.specs.Held.{Agrees, Fits, is_one}
 use Rattle.token_line.proofs.Fitting.{fits_at, left_is_wide}
 use Rattle.token_line.specs.Lines.{sum_in}
+use Rattle.token_line.specs.Numbers.{code_of}
+use Rattle.token_line.proofs.Filed.{filed_stands}
 use Rattle.activation.specs.Acting.{IsCounted, matching}
 use Rattle.activation.proofs.Agreed.{IsHeld, joins_agree}
 use Rattle.activation.proofs.CountBelow.{count_same}
@@ -30,7 +32,7 @@ use Rattle.step_core.specs.Machine.{Placing}
 use Rattle.step_core.specs.Phases.{total, HoldJust, sums_over, now}
 use Rattle.step_core.specs.Worlds.{placed, seen}
 use Rattle.step_core.proofs.Named.{IsIn, IsToken, left_are_tokens, right_are_tokens}
-use Rattle.step_core.proofs.Placed.{one_place}
+use Rattle.step_core.proofs.Placed.{one_code, one_place}
 use Rattle.step_core.specs.Settling.{HoldsWm, RestLaw}
 
 -- ---- one line alone has what stands
@@ -140,6 +142,11 @@ module _ (alphas : List Alpha) (nodes : List Node) (wm : List Element) where
     places s holds lines n side t some =
         one_place alone (held_of s) (agrees s holds) alphas nodes sound lines (record { node = n; side = side; plus = true; token = t }) (fits_of alone alone_holds n side t some)
 
+    codes : (s : Stored) → HoldsWm wm s → (n : ℕ) (side : Side) (t : List ℕ) → sums_over wm alphas nodes n side t ≢ pos 0
+        → code_of (held_of s) nodes n side t ≡ code_of (held_of alone) nodes n side t
+    codes s holds n side t some =
+        one_code alone (held_of s) (agrees s holds) alphas nodes sound (record { node = n; side = side; plus = true; token = t }) (fits_of alone alone_holds n side t some)
+
     module _ (l : Line) (stand : (n : ℕ) (side : Side) (t : List ℕ) → sum_in l n side t ≢ pos 0 → sums_over wm alphas nodes n side t ≢ pos 0) where
       matches : (s : Stored) → HoldsWm wm s → (n : ℕ) (x : Node) (t : List ℕ) → slice_get nodes n ≡ Some x → sum_in l n Left t ≢ pos 0
           → matching (held_of s) x.joins (sum_in l) n t ≡ matching (held_of alone) x.joins (sum_in l) n t
@@ -158,6 +165,9 @@ module _ (alphas : List Alpha) (nodes : List Node) (wm : List Element) where
       counted_moves s s' holds holds' counted = record {
         fit = λ n side t some. fits_of s' holds' n side t (stand n side t some);
         counts = λ n x t at negated some. counted.counts n x t at negated some ∙ (matches s holds n x t at some ∙ sym (matches s' holds' n x t at some));
+        filed = λ n c side t has.
+            let some = stand n side t (filed_stands l n c side t has) in
+            counted.filed n c side t has ∙ (codes s holds n side t some ∙ sym (codes s' holds' n side t some));
       }
 
 pub rest_law : RestLaw

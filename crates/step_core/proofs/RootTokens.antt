@@ -1,13 +1,17 @@
 -- What the root gives: the empty token, to the left side of each of its children.
-use Rattle.std.proofs.Common.{◌≡◌, ◌≢◌, ℕ, true, List, [], ◌∷◌, pos, slice_get, Option, Some, None, refl}
+use Rattle.std.proofs.Common.{◌≡◌, ◌≢◌, ℕ, ◌<◌, true, List, [], ◌∷◌, pos, fold, slice_get, Option, Some, None, refl, ap, subst, ◌∙◌, arith}
+use Rattle.std.specs.List.{AllByRecursion}
+use Rattle.std.proofs.lemmas.List.Elements.{recursion_from_All}
 use Rattle.net_base.specs.declared.nodes.Alpha.{Alpha}
 use Rattle.net_base.specs.declared.nodes.Kind.{Kind}
 use Rattle.net_base.specs.declared.nodes.Kind.TheVariants.{Join, Negated, Terminal}
 use Rattle.net_base.specs.declared.nodes.Node.{Node}
 use Rattle.net_base.specs.declared.tasks.Side.{Side}
 use Rattle.net_base.specs.declared.tasks.Side.TheVariants.{Left, Right}
-use Rattle.net_base.specs.Sound.{IsSound, is_join}
-use Rattle.net_base.specs.Tokens.{giver_of_parent, giver_of_kind}
+use Rattle.net_base.specs.declared.nodes.JoinTest.{JoinTest}
+use Rattle.net_base.specs.Sound.{IsSound, is_join, left_width}
+use Rattle.net_base.specs.Tokens.{Elements, giver_of_parent, giver_of_kind}
+use Rattle.token_line.specs.Numbers.{code_of, mixed, tested_at, tested_codes}
 use Rattle.token_line.specs.Lawful.{giver_in, giver_of}
 use Rattle.step_core.specs.Machine.{root_part}
 
@@ -38,3 +42,20 @@ root_token alphas nodes sound n side t some = by (slice_get nodes n) refl side s
     by None at side some = absurd (some refl)
     by (Some x) at Left some = by_parent x at x.parent refl t some
     by (Some x) at Right some = by_kind x.kind Right some
+
+-- ---- its code
+
+pub no_tests : (tests : List JoinTest) → AllByRecursion (λ j. j.place < 0) tests → tests ≡ []
+no_tests [] low = refl
+no_tests (j ∷ js) low = absurd (omega arith)
+
+module _ (alphas : List Alpha) (nodes : List Node) (sound : IsSound alphas nodes) (n : ℕ) (side : Side) (t : List ℕ) (is : IsRootToken nodes n side t) where
+  -- a child of the root has no tests
+  pub root_tests : is.node.joins ≡ []
+  root_tests =
+      no_tests is.node.joins
+      (subst (λ w. AllByRecursion (λ j. j.place < w) is.node.joins) (ap (left_width nodes) is.parent) (recursion_from_All _ is.node.joins (sound.each n is.node is.at).places))
+
+  -- so its number is the code
+  pub root_code : (elements : Elements) → code_of elements nodes n side t ≡ n
+  root_code elements = ap (λ codes. fold mixed n codes) (ap (λ o. tested_at elements o side t) is.at ∙ ap (λ tests. tested_codes elements tests side t) root_tests)

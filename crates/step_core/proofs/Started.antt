@@ -28,13 +28,9 @@ use Rattle.step_core.specs.Starts.{AreBegun, IsBegun, given_below}
 use Rattle.step_core.specs.Worlds.{placed, seen}
 use Rattle.step_core.proofs.Adding.{bag_ext}
 use Rattle.step_core.proofs.Counted.{counted_begun}
-use Rattle.step_core.proofs.RootTokens.{IsRootToken, root_token}
+use Rattle.step_core.proofs.RootTokens.{IsRootToken, root_tests, root_token}
 
 -- ---- the line of the empty token at a child of the root
-
-no_tests : (tests : List JoinTest) → AllByRecursion (λ j. j.place < 0) tests → tests ≡ []
-no_tests [] low = refl
-no_tests (j ∷ js) low = absurd (omega arith)
 
 no_codes : (elements : Elements) (k : Kind) → own_codes elements k [] Left [] ≡ []
 no_codes elements Join = refl
@@ -45,10 +41,7 @@ module _ (alphas : List Alpha) (nodes : List Node) (sound : IsSound alphas nodes
   root_line : (n : ℕ) (s : Side) (t : List ℕ) → IsRootToken nodes n s t → placed elements nodes lines n s t ≡ n % lines
   root_line n s t is =
       ap₂ (λ d u. placed elements nodes lines n d u) is.left is.empty
-      ∙ ap (λ codes. fold mixed n codes % lines) (ap (λ o. codes_at elements o Left []) is.at ∙ (ap (λ tests. own_codes elements is.node.kind tests Left []) none ∙ no_codes elements is.node.kind))
-    where
-      none : is.node.joins ≡ []
-      none = no_tests is.node.joins (subst (λ w. AllByRecursion (λ j. j.place < w) is.node.joins) (ap (left_width nodes) is.parent) (recursion_from_All _ is.node.joins (sound.each n is.node is.at).places))
+      ∙ ap (λ codes. fold mixed n codes % lines) (ap (λ o. codes_at elements o Left []) is.at ∙ (ap (λ tests. own_codes elements is.node.kind tests Left []) (root_tests alphas nodes sound n s t is) ∙ no_codes elements is.node.kind))
 
   -- ---- what a line holds
 

@@ -1,5 +1,5 @@
 -- The lines at the start: with no tokens, and then with what the root gives to one node after another.
-use Rattle.std.proofs.Common.{◌≡◌, ◌≢◌, ℕ, zero, suc, ◌+◌, ◌%◌, Bool, true, false, cond, ◌&&◌, ◌==◌, nat_lt, List, [], ◌∷◌, ◌++◌, length, set, pos, ◌+ℤ◌, slice_get, Option, Some, None, refl, sym, ap, ap₂, subst, ◌∙◌, arith, bytes_eq, length-append, length-set, ℤ, ◌⊎◌, inl, inr}
+use Rattle.std.proofs.Common.{◌≡◌, ◌≢◌, ℕ, zero, suc, ◌+◌, ◌%◌, Bool, true, false, cond, ◌&&◌, ◌==◌, nat_lt, List, [], ◌∷◌, ◌++◌, length, set, pos, ◌+ℤ◌, slice_get, Option, Some, None, IsSome, refl, sym, ap, ap₂, subst, ◌∙◌, arith, bytes_eq, length-append, length-set, ℤ, ◌⊎◌, inl, inr}
 use Rattle.std.specs.Option.{is_some}
 use Rattle.std.proofs.lemmas.Int.{ints}
 use Rattle.std.proofs.lemmas.Bool.{cases_eq}
@@ -12,9 +12,12 @@ use Rattle.net_base.specs.declared.tasks.Side.{Side}
 use Rattle.net_base.specs.declared.tasks.Side.TheVariants.{Left, Right}
 use Rattle.net_base.specs.Tokens.{root_gives, giver_of_parent, giver_of_kind}
 use Rattle.token_line.specs.declared.line.Line.{Line}
-use Rattle.token_line.specs.Bags.{after, are_same_sides, sign_at}
+use Rattle.token_line.specs.declared.tokens.Cell.{Cell}
+use Rattle.token_line.specs.Bags.{after, are_same_sides, is_at, sign_at}
 use Rattle.token_line.specs.Lawful.{giver_in, giver_of}
-use Rattle.token_line.specs.Lines.{sum_in}
+use Rattle.token_line.specs.Lines.{IsAlone, IsFiled, KeepsCodesBut, filed_in, sum_in}
+use Rattle.token_line.proofs.Filed.{nothing}
+use Rattle.token_line.proofs.LineLemmas.{at_task}
 use Rattle.step_core.specs.Machine.{root_part}
 use Rattle.step_core.specs.Starts.{AreUnused, AreBegun, IsBegun, given_below, root_task}
 use Rattle.step_core.proofs.Signs.{sign_at-none}
@@ -42,24 +45,40 @@ unused_none = record {
   number = λ i l at. absurd (cc);
   entries = λ i l at. absurd (cc);
   sums = λ i l at n s t. absurd (cc);
+  filed = λ i l at n c s t. absurd (cc);
 }
 
-pub unused_more : (count : ℕ) (ls : List Line) (l : Line) → AreUnused count ls → l.number ≡ count → l.entries.items ≡ [] → ((n : ℕ) (s : Side) (t : List ℕ) → sum_in l n s t ≡ pos 0) → AreUnused (count + 1) (ls ++ l ∷ [])
-unused_more count ls l are number entries sums = record {
+pub unused_more : (count : ℕ) (ls : List Line) (l : Line) → AreUnused count ls → l.number ≡ count → l.entries.items ≡ [] → ((n : ℕ) (s : Side) (t : List ℕ) → sum_in l n s t ≡ pos 0)
+    → ((n c : ℕ) (s : Side) (t : List ℕ) → filed_in l n c s t ≡ None) → AreUnused (count + 1) (ls ++ l ∷ [])
+unused_more count ls l are number entries sums filed = record {
   count = omega (arith, length-append ls (l ∷ []), are.count);
   number = each_push (λ i x. x.number ≡ i) ls l are.number (number ∙ sym are.count);
   entries = each_push (λ i x. x.entries.items ≡ []) ls l are.entries entries;
   sums = each_push (λ i x. (n : ℕ) (s : Side) (t : List ℕ) → sum_in x n s t ≡ pos 0) ls l are.sums sums;
+  filed = each_push (λ i x. (n c : ℕ) (s : Side) (t : List ℕ) → filed_in x n c s t ≡ None) ls l are.filed filed;
 }
 
 pub unused_is_begun : (nodes : List Node) (lines : ℕ) (ls : List Line) → AreUnused lines ls → AreBegun nodes lines 0 ls
 unused_is_begun nodes lines ls are = record {
   count = are.count;
-  each = λ i l at. record { number = are.number i l at; entries = are.entries i l at; sums = λ n s t. are.sums i l at n s t ∙ none i n s t };
+  each = λ i l at. record {
+    number = are.number i l at;
+    entries = are.entries i l at;
+    sums = λ n s t. are.sums i l at n s t ∙ none i n s t;
+    filed = λ n c s t some. absurd (nothing (filed_in l n c s t) (are.filed i l at n c s t) some);
+  };
 }
   where
     none : (i n : ℕ) (s : Side) (t : List ℕ) → pos 0 ≡ given_below nodes lines 0 i n s t
     none i n s t = let no : nat_lt n 0 ≡ false = grind (arith, nat_tests) in ap (λ b. cond (b && (n % lines == i)) (pos (root_part (giver_of nodes n s) t)) (pos 0)) (sym no)
+
+-- a token on such a line is under no code but the number of its node
+pub begun_alone : (nodes : List Node) (lines bound i : ℕ) (l : Line) → IsBegun nodes lines bound i l → (n : ℕ) (s : Side) (t : List ℕ) → IsAlone l n n s t
+begun_alone nodes lines bound i l begun n s t d ne = by (filed_in l n d s t) refl
+  where
+    by : (o : Option Cell) → filed_in l n d s t ≡ o → o ≡ None
+    by None q = refl
+    by (Some c) q = absurd (ne (begun.filed n d s t (subst IsSome (sym q) refl)))
 
 -- ---- what the root gives to one node
 
@@ -142,12 +161,12 @@ module _ (nodes : List Node) (k : ℕ) (x : Node) (at : slice_get nodes k ≡ So
     count = are.count;
     each = λ i l e.
         let old = are.each i l e in
-        record { number = old.number; entries = old.entries; sums = λ n s t. old.sums n s t ∙ same_given lines i s t (nothing (k % lines == i) s t) n };
+        record { number = old.number; entries = old.entries; sums = λ n s t. old.sums n s t ∙ same_given lines i s t (none_given (k % lines == i) s t) n; filed = old.filed };
   }
     where
-      nothing : (b : Bool) (s : Side) (t : List ℕ) → cond b (pos (root_part (giver_of nodes k s) t)) (pos 0) ≡ pos 0
-      nothing true s t = ap pos (given_nothing p is s t)
-      nothing false s t = refl
+      none_given : (b : Bool) (s : Side) (t : List ℕ) → cond b (pos (root_part (giver_of nodes k s) t)) (pos 0) ≡ pos 0
+      none_given true s t = ap pos (given_nothing p is s t)
+      none_given false s t = refl
 
   pub not_at_root : is_some x.parent ≡ true → (lines : ℕ) (ls : List Line) → AreBegun nodes lines k ls → AreBegun nodes lines (k + 1) ls
   not_at_root some lines ls are = by x.parent refl some
@@ -158,21 +177,26 @@ module _ (nodes : List Node) (k : ℕ) (x : Node) (at : slice_get nodes k ≡ So
 
   pub root_given : is_some x.parent ≡ false → (lines : ℕ) (ls : List Line) (old new : Line) → AreBegun nodes lines k ls → slice_get ls (k % lines) ≡ Some old
       → new.number ≡ old.number → new.entries.items ≡ [] → ((n : ℕ) (s : Side) (t : List ℕ) → sum_in new n s t ≡ after (sum_in old) (root_task k) n s t)
-      → AreBegun nodes lines (k + 1) (set ls (k % lines) new)
-  root_given none lines ls old new are here number entries sums = record {
+      → KeepsCodesBut old new k (root_task k) → AreBegun nodes lines (k + 1) (set ls (k % lines) new)
+  root_given none lines ls old new are here number entries sums codes = record {
     count = length-set ls (k % lines) new ∙ are.count;
     each = each_set (IsBegun nodes lines (k + 1)) ls (k % lines) new
         (λ i l ne e.
         let was = are.each i l e in
-        record { number = was.number; entries = was.entries; sums = λ n s t. was.sums n s t ∙ same_given lines i s t (elsewhere i ne s t) n })
+        record { number = was.number; entries = was.entries; sums = λ n s t. was.sums n s t ∙ same_given lines i s t (elsewhere i ne s t) n; filed = was.filed })
         (let was = are.each (k % lines) old here in
         record {
           number = number ∙ was.number;
           entries = entries;
           sums = λ n s t. sums n s t ∙ (ap (λ z. z +ℤ sign_at n s t (root_task k)) (was.sums n s t) ∙ more_given lines (k % lines) s t (at_root x.parent none) refl n);
+          filed = λ n c s t some. coded (was.filed) n c s t (codes n c s t some);
         });
   }
     where
+      coded : ((n c : ℕ) (s : Side) (t : List ℕ) → IsFiled old n c s t → c ≡ n) → (n c : ℕ) (s : Side) (t : List ℕ) → IsFiled old n c s t ⊎ ((c ≡ k) × (is_at n s t (root_task k) ≡ true)) → c ≡ n
+      coded was n c s t (inl before) = was n c s t before
+      coded was n c s t (inr own) = at_task (λ m d u. c ≡ m) (root_task k) n s t own.1 own.0
+
       at_root : (o : Option ℕ) → is_some o ≡ false → o ≡ None
       at_root None e = refl
       at_root (Some p) e = absurd (cc)

@@ -1,5 +1,5 @@
 -- The lines at the start, as they get the empty token for one node after another.
-use Rattle.std.specs.Prelude.{◌≡◌, ℕ, ◌%◌, true, ◌&&◌, List, [], pos, length, slice_get, nat_lt, Some, ◌==◌, if◌then◌else◌}
+use Rattle.std.specs.Prelude.{◌≡◌, ℕ, ◌%◌, true, ◌&&◌, List, [], pos, length, slice_get, nat_lt, Some, None, ◌==◌, if◌then◌else◌}
 use Rattle.net_base.specs.declared.nodes.Node.{Node}
 use Rattle.net_base.specs.declared.tasks.Side.{Side}
 use Rattle.net_base.specs.declared.tasks.Side.TheVariants.{Left}
@@ -7,7 +7,7 @@ use Rattle.net_base.specs.declared.tasks.Task.{Task}
 use Rattle.token_line.specs.declared.line.Line.{Line}
 use Rattle.token_line.specs.Bags.{Bag}
 use Rattle.token_line.specs.Lawful.{giver_of}
-use Rattle.token_line.specs.Lines.{sum_in}
+use Rattle.token_line.specs.Lines.{IsFiled, filed_in, sum_in}
 use Rattle.step_core.specs.Machine.{root_part}
 
 -- so many lines, in the order of their numbers, with no tokens and no entries
@@ -16,6 +16,7 @@ pub record AreUnused (lines : ℕ) (ls : List Line) : Type 0 where
   pub number : (i : ℕ) (l : Line) → slice_get ls i ≡ Some l → l.number ≡ i
   pub entries : (i : ℕ) (l : Line) → slice_get ls i ≡ Some l → l.entries.items ≡ []
   pub sums : (i : ℕ) (l : Line) → slice_get ls i ≡ Some l → (n : ℕ) (s : Side) (t : List ℕ) → sum_in l n s t ≡ pos 0
+  pub filed : (i : ℕ) (l : Line) → slice_get ls i ≡ Some l → (n c : ℕ) (s : Side) (t : List ℕ) → filed_in l n c s t ≡ None
 
 -- the empty token arrives at the left side of a node
 abbrev pub root_task : ℕ → Task
@@ -26,11 +27,12 @@ abbrev pub given_below : List Node → ℕ → ℕ → ℕ → Bag
 given_below nodes lines bound i n s t =
     if nat_lt n bound && (n % lines == i) then pos (root_part (giver_of nodes n s) t) else pos 0
 
--- line i, which holds just this, with no entry
+-- line i, which holds just this, each token under the number of its node as its code, with no entry
 pub record IsBegun (nodes : List Node) (lines bound i : ℕ) (l : Line) : Type 0 where
   pub number : l.number ≡ i
   pub entries : l.entries.items ≡ []
   pub sums : (n : ℕ) (s : Side) (t : List ℕ) → sum_in l n s t ≡ given_below nodes lines bound i n s t
+  pub filed : (n c : ℕ) (s : Side) (t : List ℕ) → IsFiled l n c s t → c ≡ n
 
 -- so many lines, each of which is so
 pub record AreBegun (nodes : List Node) (lines bound : ℕ) (ls : List Line) : Type 0 where

@@ -1,8 +1,9 @@
 //! The lines at the start: the left side of each child of the root has the empty token.
 ghost use Rattle.std.specs.Prelude.{◌≡◌, ◌≤◌, IfOk, List, OnOk, [], length, ℕ};
 ghost use Rattle.net_base.specs.declared.tasks.Side.{Side};
+ghost use Rattle.net_base.specs.declared.tasks.Side.TheVariants.{Left};
 ghost use Rattle.token_line.specs.Bags.{after};
-ghost use Rattle.token_line.specs.Lines.{sum_in};
+ghost use Rattle.token_line.specs.Lines.{IsAlone, KeepsCodesBut, sum_in};
 ghost use Rattle.step_core.specs.Starts.{AreBegun, AreUnused, root_task};
 
 use net_base::net::Net;
@@ -23,11 +24,13 @@ fn bare_lines(alloc: Global, count: usize) -> Result<Vec<Line>, OutOfMemory>
     Ok(lines)
 }
 
-/// The left side of the node gets the empty token. No entry is left of it.
+/// The left side of the node, which has no tests, gets the empty token: the node's number is its code. No entry is left of it.
 fn give_root(alloc: Global, line: &mut Line, node: usize) -> Result<(), OutOfMemory>
+    requires { IsAlone line.old node node Left [] }
     ensures sums { OnOk result ((n : ℕ) (s : Side) (t : List ℕ) → sum_in line.new n s t ≡ after (sum_in line.old) (root_task node) n s t) }
     ensures entries { OnOk result (line.new.entries.items ≡ []) }
     ensures number { line.new.number ≡ line.old.number }
+    ensures filed { OnOk result (KeepsCodesBut line.old line.new node (root_task node)) }
 {
     let task = Task {
         node,
@@ -36,7 +39,7 @@ fn give_root(alloc: Global, line: &mut Line, node: usize) -> Result<(), OutOfMem
         token: Tags::new(alloc),
     };
     let children = Children::none(alloc);
-    line.add(alloc, Entry { task, children }, 0)?;
+    line.add(alloc, node as u64, Entry { task, children }, 0)?;
     line.clear_phase();
     Ok(())
 }

@@ -76,27 +76,8 @@ module _ (matches : List ℕ → Bool) (plus : Bool) where
       by rest false q = rest
 
   module _ (old new : Pairs) (is : new ≡ all_blocked old) where
-    found : (t : List ℕ) → cell_of new t ≡ option_map (blocked (matches t) plus) (cell_of old t)
+    pub found : (t : List ℕ) → cell_of new t ≡ option_map (blocked (matches t) plus) (cell_of old t)
     found t = ap (lookup (bytes_eq t)) is ∙ lookup_blocked t old
-
-    pub sum_blocked : (t : List ℕ) → kept_sum new t ≡ kept_sum old t
-    sum_blocked t = ap (λ o. option_map_or (λ (c : Cell). c.sum) o (pos 0)) (found t) ∙ by (cell_of old t)
-      where
-        by : (o : Option Cell) → option_map_or (λ (c : Cell). c.sum) (option_map (blocked (matches t) plus) o) (pos 0) ≡ option_map_or (λ (c : Cell). c.sum) o (pos 0)
-        by None = refl
-        by (Some c) = refl
-
-    abbrev Counts : List ℕ → Option Cell → Option Cell → Type 0
-    Counts t new old =
-        option_map_or (λ (c : Cell). c.sum) new (pos 0) ≢ pos 0
-        → option_map_or (λ (c : Cell). c.blockers) new 0 ≡ cond (matches t) (counted plus (option_map_or (λ (c : Cell). c.blockers) old 0)) (option_map_or (λ (c : Cell). c.blockers) old 0)
-
-    pub number_blocked : (t : List ℕ) → kept_sum new t ≢ pos 0 → blockers_of new t ≡ cond (matches t) (counted plus (blockers_of old t)) (blockers_of old t)
-    number_blocked t = subst (λ o. Counts t o (cell_of old t)) (sym (found t)) (by (cell_of old t))
-      where
-        by : (o : Option Cell) → Counts t (option_map (blocked (matches t) plus) o) o
-        by None = λ ne. absurd (ne refl)
-        by (Some c) = λ ne. refl
 
 -- ---- room
 

@@ -1,4 +1,4 @@
--- What a node can join has one line.
+-- What a node can join has one code, and one line.
 use Rattle.std.proofs.Common.{◌≡◌, ℕ, ◌%◌, true, false, List, [], ◌∷◌, map, fold, slice_index_or, refl, sym, ap, ap₂, ◌∙◌}
 use Rattle.std.specs.List.{AllByRecursion}
 use Rattle.std.proofs.lemmas.Bool.Decides.{Decides-eqb, Decides-int_eq}
@@ -16,8 +16,8 @@ use Rattle.net_base.specs.declared.nodes.JoinTest.{JoinTest}
 use Rattle.net_base.specs.declared.tasks.Side.TheVariants.{Left, Right}
 use Rattle.net_base.specs.Tokens.{Elements, join_test_holds, joins_hold}
 use Rattle.net_base.specs.Sound.{is_terminal}
-use Rattle.token_line.specs.Numbers.{value_code, mixed, is_equal, equalities, own_value, own_codes, codes_at}
-use Rattle.token_line.specs.OneLine.{HaveOneValue, OneLine, JoinedOnOneLine}
+use Rattle.token_line.specs.Numbers.{value_code, mixed, is_equal, equalities, own_value, own_codes, codes_at, tested_at}
+use Rattle.token_line.specs.OneLine.{HaveOneValue, OneLine, JoinedOnOneLine, JoinedWithOneCode}
 
 -- ---- values
 
@@ -75,3 +75,8 @@ one_line elements nodes lines n x t e at inner agree =
 pub joined_on_one_line : JoinedOnOneLine
 joined_on_one_line elements nodes lines n x t e at inner joined =
     one_line elements nodes lines n x t e at inner (joined_have_one_value elements x.joins t e joined)
+
+pub joined_with_one_code : JoinedWithOneCode
+joined_with_one_code elements nodes n x t e at joined =
+    ap (λ codes. fold mixed n codes)
+    (ap (λ o. tested_at elements o Left t) at ∙ (one_code elements x.joins t e (joined_have_one_value elements x.joins t e joined) ∙ sym (ap (λ o. tested_at elements o Right (e ∷ [])) at)))

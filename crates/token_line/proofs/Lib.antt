@@ -2,4 +2,5 @@ pub mod Joined
 pub mod Fitting
 pub mod PairLemmas
 pub mod LineLemmas
+pub mod Filed
 pub mod Blocked

@@ -1,7 +1,6 @@
--- What a line keeps once the memory of one node was written, or has left the line, and what follows for sums and blockers.
+-- Values by their nodes or codes once one of them was written, and what follows for sums and blockers.
 use Rattle.std.proofs.Common.{◌≡◌, ◌≢◌, ℕ, ℤ, pos, ◌+ℤ◌, Bool, true, false, cond, ◌&&◌, ◌==◌, List, [], nat_eq, zero, suc, ◌∷◌, bytes_eq, position, slice_get, slice_index_or, Option, Some, None, IfSome, Result, Ok, Err, OnErr, is_some, refl, sym, ap, subst, ◌∙◌, arith, true≢false}
 use Rattle.std.specs.Map.{keys_of, lookup, values_of}
-use Rattle.std.specs.Option.{option_map_or}
 use Rattle.std.proofs.lemmas.Bool.{eqb-true}
 use Rattle.std.proofs.lemmas.Bool.Decides.{Decides-eqb}
 use Rattle.std.proofs.lemmas.Int.{ints}
@@ -14,9 +13,7 @@ use Rattle.net_base.specs.declared.tasks.Task.{Task}
 use Rattle.token_line.specs.declared.memory.Memory.{Memory}
 use Rattle.token_line.specs.declared.tokens.Cell.{Cell}
 use Rattle.token_line.specs.Bags.{are_same_sides, is_at, sign, sign_at}
-use Rattle.token_line.specs.Lines.{tokens_of}
-use Rattle.token_line.specs.Pairs.{cell_of}
-use Rattle.token_line.specs.Sums.{side_of}
+use Rattle.token_line.specs.Sums.{blockers_kept, side_of, sum_kept}
 
 -- ---- memories by their nodes
 
@@ -55,49 +52,31 @@ pub always_err : {T E P : Type 0} (r : Result T E) → P → OnErr r P
 always_err (Ok x) p = tt
 always_err (Err e) p = p
 
-module _ (f g : ℕ → Option Memory) (n : ℕ) where
-  -- the memory of one node is as it was
-  pub same_cells : (old new : Memory) → ((m : ℕ) → g m ≡ cond (nat_eq n m) (Some new) (f m)) → f n ≡ Some old → new ≡ old
-      → (m : ℕ) (s : Side) (u : List ℕ) → cell_of (tokens_of (g m) s) u ≡ cell_of (tokens_of (f m) s) u
-  same_cells old new written at same m s u = ap (λ o. cell_of (tokens_of o s) u) (written m) ∙ by (nat_eq n m) refl
+pub bare : (m : Memory) → m.left ≡ [] → m.right ≡ [] → (s : Side) → side_of m s ≡ []
+bare m left right Left = left
+bare m left right Right = right
+
+module _ {V R : Type 0} (f g : ℕ → Option V) (n m : ℕ) (see : Option V → R) where
+  -- the value at one node looks as it did
+  pub same_seen : (old new : V) → g m ≡ cond (nat_eq n m) (Some new) (f m) → f n ≡ Some old → see (Some new) ≡ see (Some old) → see (g m) ≡ see (f m)
+  same_seen old new written at same = ap see written ∙ by (nat_eq n m) refl
     where
-      by : (a : Bool) → nat_eq n m ≡ a → cell_of (tokens_of (cond a (Some new) (f m)) s) u ≡ cell_of (tokens_of (f m) s) u
-      by true p = ap (λ o. cell_of (tokens_of o s) u) (ap Some same ∙ (sym at ∙ ap f (eqb-true n m p)))
+      by : (a : Bool) → nat_eq n m ≡ a → see (cond a (Some new) (f m)) ≡ see (f m)
+      by true p = same ∙ (ap see (sym at) ∙ ap (λ k. see (f k)) (eqb-true n m p))
       by false p = refl
 
-  -- the memory of one node is another
-  pub put_cells : (new : Memory) (side : Side) (token : List ℕ) (cell : Option Cell) → ((m : ℕ) → g m ≡ cond (nat_eq n m) (Some new) (f m))
-      → ((s : Side) (u : List ℕ) → cell_of (side_of new s) u ≡ cond (are_same_sides s side && bytes_eq u token) cell (cell_of (tokens_of (f n) s) u))
-      → (m : ℕ) (s : Side) (u : List ℕ) → cell_of (tokens_of (g m) s) u ≡ cond ((m == n) && (are_same_sides s side && bytes_eq u token)) cell (cell_of (tokens_of (f m) s) u)
-  put_cells new side token cell written each m s u = ap (λ o. cell_of (tokens_of o s) u) (written m) ∙ by (nat_eq n m) refl (m == n) refl
+  -- the value at one node looks different where `here` says so
+  pub put_seen : (new : V) (here : Bool) (r : R) → g m ≡ cond (nat_eq n m) (Some new) (f m) → see (Some new) ≡ cond here r (see (f n))
+      → see (g m) ≡ cond ((m == n) && here) r (see (f m))
+  put_seen new here r written each = ap see written ∙ by (nat_eq n m) refl (m == n) refl
     where
-      by : (a : Bool) → nat_eq n m ≡ a → (b : Bool) → (m == n) ≡ b
-          → cell_of (tokens_of (cond a (Some new) (f m)) s) u ≡ cond (b && (are_same_sides s side && bytes_eq u token)) cell (cell_of (tokens_of (f m) s) u)
-      by true p true q = each s u ∙ ap (λ k. cond (are_same_sides s side && bytes_eq u token) cell (cell_of (tokens_of (f k) s) u)) (sym (eqb-true m n q))
+      by : (a : Bool) → nat_eq n m ≡ a → (b : Bool) → (m == n) ≡ b → see (cond a (Some new) (f m)) ≡ cond (b && here) r (see (f m))
+      by true p true q = each ∙ ap (λ k. cond here r (see (f k))) (sym (eqb-true m n q))
       by true p false q = absurd (true≢false (sym ((Decides-eqb m n).1 (sym (eqb-true n m p))) ∙ q))
       by false p true q = absurd (true≢false (sym ((Decides-eqb n m).1 (sym (eqb-true m n q))) ∙ p))
       by false p false q = refl
 
-  -- a memory with no tokens is no memory
-  pub drop_cells : (old : Memory) → ((m : ℕ) → g m ≡ cond (nat_eq n m) None (f m)) → f n ≡ Some old → old.left ≡ [] → old.right ≡ []
-      → (m : ℕ) (s : Side) (u : List ℕ) → cell_of (tokens_of (g m) s) u ≡ cell_of (tokens_of (f m) s) u
-  drop_cells old gone at left right m s u = ap (λ o. cell_of (tokens_of o s) u) (gone m) ∙ by (nat_eq n m) refl
-    where
-      empty : (d : Side) → side_of old d ≡ []
-      empty Left = left
-      empty Right = right
-
-      by : (a : Bool) → nat_eq n m ≡ a → cell_of (tokens_of (cond a None (f m)) s) u ≡ cell_of (tokens_of (f m) s) u
-      by true p = sym (ap (λ k. cell_of (tokens_of (f k) s) u) (sym (eqb-true n m p)) ∙ (ap (λ o. cell_of (tokens_of o s) u) at ∙ ap (λ kept. cell_of kept u) (empty s)))
-      by false p = refl
-
 -- ---- sums and blockers
-
-abbrev pub sum_kept : Option Cell → ℤ
-sum_kept o = option_map_or (λ (c : Cell). c.sum) o (pos 0)
-
-abbrev pub blockers_kept : Option Cell → ℕ
-blockers_kept o = option_map_or (λ (c : Cell). c.blockers) o 0
 
 same_sides : (a b : Side) → are_same_sides a b ≡ true → a ≡ b
 same_sides Left Left e = refl
@@ -110,7 +89,7 @@ both true b e = (refl, e)
 both false b e = absurd (cc)
 
 -- what holds at the place of the task holds where the task is
-at_task : (P : ℕ → Side → List ℕ → Type 0) (x : Task) (n : ℕ) (s : Side) (t : List ℕ) → is_at n s t x ≡ true → P x.node x.side x.token → P n s t
+pub at_task : (P : ℕ → Side → List ℕ → Type 0) (x : Task) (n : ℕ) (s : Side) (t : List ℕ) → is_at n s t x ≡ true → P x.node x.side x.token → P n s t
 at_task P x n s t e here =
     let h = both (n == x.node) (are_same_sides s x.side && bytes_eq t x.token) e in
     let k = both (are_same_sides s x.side) (bytes_eq t x.token) h.1 in
@@ -136,8 +115,3 @@ module _ (old new : ℕ → Side → List ℕ → Option Cell) (x : Task) (cell 
       by : (b : Bool) → sum_kept (cond b cell (old n Left t)) ≢ pos 0 → blockers_kept (cond b cell (old n Left t)) ≡ cond b blockers (blockers_kept (old n Left t))
       by true ne = of_cell cell has ne
       by false ne = refl
-
--- where the same is kept of each token
-pub same_kept : (old new : ℕ → Side → List ℕ → Option Cell) → ((n : ℕ) (s : Side) (t : List ℕ) → new n s t ≡ old n s t)
-    → ((n : ℕ) (s : Side) (t : List ℕ) → sum_kept (new n s t) ≡ sum_kept (old n s t)) × ((n : ℕ) (t : List ℕ) → blockers_kept (new n Left t) ≡ blockers_kept (old n Left t))
-same_kept old new same = (λ n s t. ap sum_kept (same n s t), λ n t. ap blockers_kept (same n Left t))

@@ -6,5 +6,8 @@ pub mod OneLine
 pub mod Pairs
 pub mod Rooms
 pub mod Sums
+pub mod Codes
+pub mod Spots
 pub mod Lines
 pub mod Lawful
+pub mod Coded

@@ -1,4 +1,4 @@
--- The number of the line on which a token stands.
+-- The code of a token, and the number of the line on which it stands.
 use Rattle.std.specs.Prelude.{ℕ, ◌+◌, ◌*◌, ◌%◌, ◌^◌, Bool, true, false, List, [], map, filter, fold, slice_get, slice_index, Option, Some, None}
 use Rattle.std.specs.Int.{cast_unsigned, w64}
 use Rattle.ops_base.specs.declared.values.Value.{Value}
@@ -39,10 +39,14 @@ abbrev pub own_value : Elements → Side → List ℕ → JoinTest → Value
 own_value elements Left t j = field_in (elements (slice_index t j.place)) j.other
 own_value elements Right t j = field_in (elements (slice_index t 0)) j.field
 
+-- the codes of the values that a token of one side has at the equality tests of its node
+abbrev pub tested_codes : Elements → List JoinTest → Side → List ℕ → List ℕ
+tested_codes elements tests s t = map (λ j. value_code (own_value elements s t j)) (equalities tests)
+
 -- what a token's line goes by: its values at the equality tests; at a terminal, which has no test, its tags
 abbrev pub own_codes : Elements → Kind → List JoinTest → Side → List ℕ → List ℕ
-own_codes elements Join tests s t = map (λ j. value_code (own_value elements s t j)) (equalities tests)
-own_codes elements Negated tests s t = map (λ j. value_code (own_value elements s t j)) (equalities tests)
+own_codes elements Join tests s t = tested_codes elements tests s t
+own_codes elements Negated tests s t = tested_codes elements tests s t
 own_codes elements (Terminal rule) tests s t = t
 
 abbrev pub codes_at : Elements → Option Node → Side → List ℕ → List ℕ
@@ -52,3 +56,11 @@ codes_at elements (Some node) s t = own_codes elements node.kind node.joins s t
 -- the line of a token at one side of a node, where there are so many lines
 abbrev pub line_number : Elements → List Node → ℕ → ℕ → Side → List ℕ → ℕ
 line_number elements nodes lines n s t = fold mixed n (codes_at elements (slice_get nodes n) s t) % lines
+
+abbrev pub tested_at : Elements → Option Node → Side → List ℕ → List ℕ
+tested_at elements None s t = []
+tested_at elements (Some node) s t = tested_codes elements node.joins s t
+
+-- the code of a token at one side of a node: the node's number, with the token's values at the equality tests mixed in
+abbrev pub code_of : Elements → List Node → ℕ → Side → List ℕ → ℕ
+code_of elements nodes n s t = fold mixed n (tested_at elements (slice_get nodes n) s t)

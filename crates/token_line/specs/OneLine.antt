@@ -1,11 +1,11 @@
--- Tokens that a node can join stand on one line.
+-- Tokens that a node can join have one code, and stand on one line.
 use Rattle.std.specs.Prelude.{◌≡◌, ℕ, false, true, List, [], ◌∷◌, slice_get, Some, All}
 use Rattle.net_base.specs.declared.nodes.JoinTest.{JoinTest}
 use Rattle.net_base.specs.declared.nodes.Node.{Node}
 use Rattle.net_base.specs.declared.tasks.Side.TheVariants.{Left, Right}
 use Rattle.net_base.specs.Tokens.{Elements, joins_hold}
 use Rattle.net_base.specs.Sound.{is_terminal}
-use Rattle.token_line.specs.Numbers.{equalities, own_value, line_number}
+use Rattle.token_line.specs.Numbers.{code_of, equalities, own_value, line_number}
 
 -- at each test for equality the left token t and the element of the tag e have one value
 abbrev pub HaveOneValue : Elements → List JoinTest → List ℕ → ℕ → Type 0
@@ -23,3 +23,9 @@ abbrev pub JoinedOnOneLine : Type 0
 JoinedOnOneLine = (elements : Elements) (nodes : List Node) (lines n : ℕ) (x : Node) (t : List ℕ) (e : ℕ)
     → slice_get nodes n ≡ Some x → is_terminal x.kind ≡ false → joins_hold x.joins elements t e ≡ true
     → line_number elements nodes lines n Left t ≡ line_number elements nodes lines n Right (e ∷ [])
+
+-- a left token and a right element that all tests of their node join have one code
+abbrev pub JoinedWithOneCode : Type 0
+JoinedWithOneCode = (elements : Elements) (nodes : List Node) (n : ℕ) (x : Node) (t : List ℕ) (e : ℕ)
+    → slice_get nodes n ≡ Some x → joins_hold x.joins elements t e ≡ true
+    → code_of elements nodes n Left t ≡ code_of elements nodes n Right (e ∷ [])

@@ -1,5 +1,5 @@
 -- The sums that are kept of the tokens of one side of a node, and the numbers that are kept with its left tokens.
-use Rattle.std.specs.Prelude.{◌+◌, ◌-◌, Bool, List, ℕ, ℤ, pos, if◌then◌else◌}
+use Rattle.std.specs.Prelude.{◌+◌, ◌-◌, Bool, List, ℕ, ℤ, pos, Option, if◌then◌else◌}
 use Rattle.std.specs.Option.{option_map_or}
 use Rattle.net_base.specs.declared.tasks.Side.{Side}
 use Rattle.net_base.specs.declared.tasks.Side.TheVariants.{Left, Right}
@@ -7,13 +7,21 @@ use Rattle.token_line.specs.declared.memory.Memory.{Memory}
 use Rattle.token_line.specs.declared.tokens.Cell.{Cell}
 use Rattle.token_line.specs.Pairs.{Pairs, cell_of}
 
+-- the sum of a token of which this is kept, 0 where nothing is
+abbrev pub sum_kept : Option Cell → ℤ
+sum_kept o = option_map_or (λ (c : Cell). c.sum) o (pos 0)
+
+-- the number that is kept with it, 0 where nothing is
+abbrev pub blockers_kept : Option Cell → ℕ
+blockers_kept o = option_map_or (λ (c : Cell). c.blockers) o 0
+
 -- the sum of a token, 0 where it is not kept
 abbrev pub kept_sum : Pairs → List ℕ → ℤ
-kept_sum kept t = option_map_or (λ c. c.sum) (cell_of kept t) (pos 0)
+kept_sum kept t = sum_kept (cell_of kept t)
 
 -- the number that is kept with a token, 0 where the token is not kept
 abbrev pub blockers_of : Pairs → List ℕ → ℕ
-blockers_of kept t = option_map_or (λ c. c.blockers) (cell_of kept t) 0
+blockers_of kept t = blockers_kept (cell_of kept t)
 
 -- one more, or one less, if there is one
 abbrev pub counted : Bool → ℕ → ℕ

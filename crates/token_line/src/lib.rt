@@ -5,15 +5,18 @@ pub mod children;
 pub mod joining;
 pub mod laws;
 pub mod line;
+mod memories;
 pub mod memory;
 pub mod number;
+mod spot;
 #[cfg(test)]
 mod tests;
 pub mod tokens;
 
 pub use children::Children;
 pub use joining::{joins, tag_at};
-pub use line::{Entry, Line, Spot};
+pub use line::{Entry, Line};
 pub use memory::Memory;
-pub use number::line_of;
+pub use number::{code_of, line_of};
+pub use spot::Spot;
 pub use tokens::{Cell, Tokens};

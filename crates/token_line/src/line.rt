@@ -1,18 +1,19 @@
 //! A line: the tokens of every node that stand on it, and what was done there in this phase.
-ghost use Rattle.std.specs.Prelude.{◌≡◌, ◌≢◌, ◌<◌, ◌∷◌, ◌++◌, ◌==◌, ◌&&◌, ◌-◌, ◌^◌, ◌+ℤ◌, IfOk, IfSome, List, OnErr, OnOk, Some, [], bytes_eq, if◌then◌else◌, pos, slice_get, true, ℕ};
-ghost use Rattle.std.specs.Option.{option_copied, option_map_or};
-ghost use Rattle.indexmap.specs.IndexMap.{IsUnchanged, get};
+ghost use Rattle.std.specs.Prelude.{◌≡◌, ◌≢◌, ◌<◌, ◌∷◌, ◌++◌, ◌==◌, ◌&&◌, ◌-◌, ◌^◌, ◌+ℤ◌, IfOk, IfSome, List, None, OnErr, OnOk, [], if◌then◌else◌, pos, true, ℕ};
+ghost use Rattle.std.specs.Option.{option_copied};
 ghost use Rattle.work_store.specs.Stored.{held_of};
 ghost use Rattle.net_base.specs.declared.tasks.Side.{Side};
 ghost use Rattle.net_base.specs.declared.tasks.Side.TheVariants.{Left, Right};
 ghost use Rattle.net_base.specs.Tokens.{joins_hold};
 ghost use Rattle.token_line.specs.Bags.{after, are_same_sides, is_at, sign};
-ghost use Rattle.token_line.specs.Pairs.{cell_of, place_of};
-ghost use Rattle.token_line.specs.Sums.{counted, side_of};
-ghost use Rattle.token_line.specs.Lines.{IsSpot, IsSpotAmong, blockers_among, blockers_in, cell_among, memory_at, sum_among, sum_in};
+ghost use Rattle.token_line.specs.Codes.{AreApart, HaveSums, cell_among, cell_blocked, filed_among};
+ghost use Rattle.token_line.specs.Spots.{IsSpotAmong};
+ghost use Rattle.token_line.specs.Sums.{blockers_kept, counted, sum_kept};
 
 use crate::children::Children;
+use crate::memories::Memories;
 use crate::memory::Memory;
+use crate::spot::{Spot, spot_in, sum_of};
 use crate::tokens::Cell;
 use indexmap::IndexMap;
 use net_base::nodes::JoinTest;
@@ -29,55 +30,14 @@ pub struct Entry {
     pub children: Children,
 }
 
-/// The tokens that stand on one line, by their nodes, and what was done there since the phase began, in this order.
+/// The tokens that stand on one line, by their nodes and codes, and what was done there since the phase began, in this order.
 #[derive(Drop)]
 pub struct Line {
     number: usize,
-    memories: IndexMap<usize, Memory>,
+    memories: IndexMap<usize, Memories>,
     entries: Vec<Entry>,
-}
-
-/// Where a token is kept on a line: the place of its node's memory, the token's own place there, and what is kept of it. It tells
-/// nothing once the line has changed.
-#[derive(Clone, Copy)]
-pub struct Spot {
-    memory: Option<usize>,
-    token: Option<usize>,
-    kept: Option<Cell>,
-}
-
-impl Spot {
-    /// The sum of the token, 0 where it is not kept. Takes no memory.
-    pub fn sum(&self) -> i64
-        ensures { result ≡ option_map_or (λ c. c.sum) self.now.kept (pos 0) }
-    {
-        match self.kept {
-            Some(cell) => cell.sum,
-            None => 0,
-        }
-    }
-
-    /// What is kept of the token. Takes no memory.
-    pub fn kept(&self) -> Option<Cell>
-        ensures { result ≡ self.now.kept }
-    {
-        self.kept
-    }
-}
-
-/// The spot of a token in the memory at a place.
-fn spot_at(memory: &Memory, place: usize, side: Side, token: &Tags) -> Spot
-    ensures memory { result.memory ≡ Some place }
-    ensures token { result.token ≡ place_of (side_of memory.now side) token.now }
-    ensures kept { result.kept ≡ cell_of (side_of memory.now side) token.now }
-{
-    let tokens = memory.side(side);
-    let own = tokens.find(token);
-    Spot {
-        memory: Some(place),
-        token: own,
-        kept: tokens.kept(token, own),
-    }
+    ghost apart: { AreApart memories },
+    ghost some: { HaveSums memories },
 }
 
 /// The sum after one insert or delete more. One that would not fit is answered as want of memory.
@@ -97,7 +57,7 @@ fn stepped(sum: &i64, plus: bool) -> Result<i64, OutOfMemory>
 
 /// What is kept of a token with this sum.
 fn cell_with(sum: &i64, blockers: u64) -> Option<Cell>
-    ensures sum { option_map_or (λ c. c.sum) result (pos 0) ≡ sum.now }
+    ensures sum { sum_kept result ≡ sum.now }
     ensures some { IfSome result (λ c. c.sum ≢ pos 0) }
     ensures blockers { IfSome result (λ c. c.blockers ≡ blockers) }
 {
@@ -109,12 +69,12 @@ fn cell_with(sum: &i64, blockers: u64) -> Option<Cell>
     }
 }
 
-/// A memory that has become empty leaves the line.
-fn drop_if_empty(memories: &mut IndexMap<usize, Memory>, place: usize)
-    ensures { (n : ℕ) (s : Side) (t : List ℕ) → cell_among memories.new n s t ≡ cell_among memories.old n s t }
+/// A node with no token left leaves the line.
+fn drop_if_empty(memories: &mut IndexMap<usize, Memories>, place: usize)
+    ensures { (n c : ℕ) (s : Side) (t : List ℕ) → filed_among memories.new n c s t ≡ filed_among memories.old n c s t }
 {
-    if let Some((_node, memory)) = memories.get_index(place)
-        && memory.is_empty()
+    if let Some((_node, of_node)) = memories.get_index(place)
+        && of_node.is_empty()
     {
         memories.swap_remove_index(place);
     }
@@ -122,7 +82,7 @@ fn drop_if_empty(memories: &mut IndexMap<usize, Memory>, place: usize)
 
 /// Keeps something else of the token at the spot, or keeps it no more. Where memory runs out, nothing has changed.
 fn put(
-    memories: &mut IndexMap<usize, Memory>,
+    memories: &mut IndexMap<usize, Memories>,
     alloc: Global,
     spot: &Spot,
     task: &Task,
@@ -130,30 +90,51 @@ fn put(
 ) -> Result<(), OutOfMemory>
     requires spot { IsSpotAmong memories.old task.now.node task.now.side task.now.token spot.now }
     requires some { IfSome cell (λ c. c.sum ≢ pos 0) }
-    ensures ok { OnOk result ((n : ℕ) (s : Side) (t : List ℕ) → cell_among memories.new n s t ≡ (if is_at n s t task.now then cell else cell_among memories.old n s t)) }
-    ensures err { OnErr result ((n : ℕ) (s : Side) (t : List ℕ) → cell_among memories.new n s t ≡ cell_among memories.old n s t) }
+    ensures ok { OnOk result ((n c : ℕ) (s : Side) (t : List ℕ) → filed_among memories.new n c s t ≡ (if (c == spot.now.code) && is_at n s t task.now then cell else filed_among memories.old n c s t)) }
+    ensures err { OnErr result ((n c : ℕ) (s : Side) (t : List ℕ) → filed_among memories.new n c s t ≡ filed_among memories.old n c s t) }
 {
     let _unique = memories.len();
-    match spot.memory {
+    match spot.node {
         Some(place) => {
-            memories[place].put(alloc, task.side, spot.token, &task.token, cell)?;
+            memories[place].put(alloc, spot, task, cell)?;
             drop_if_empty(memories, place);
         }
         None => {
             let mut memory = Memory::new(alloc);
             memory.put(alloc, task.side, None, &task.token, cell)?;
-            memories.insert(task.node, memory)?;
+            memories.insert(task.node, Memories::with_first(alloc, spot.code, memory))?;
         }
     }
     Ok(())
 }
 
+/// One right token more, or one less, for each left token of the node with this code that it matches.
+fn block(
+    memories: &mut IndexMap<usize, Memories>,
+    store: &Store,
+    tests: &[JoinTest],
+    node: usize,
+    code: u64,
+    tag: u64,
+    plus: bool,
+)
+    requires room { plus ≡ true → (t : List ℕ) → sum_kept (filed_among memories.old node code Left t) ≢ pos 0 → blockers_kept (filed_among memories.old node code Left t) < 2 ^ 64 - 1 }
+    ensures { (n c : ℕ) (s : Side) (t : List ℕ) → filed_among memories.new n c s t ≡ cell_blocked ((n == node) && ((c == code) && are_same_sides s Left)) (joins_hold tests.now (held_of store.now) t tag) plus (filed_among memories.old n c s t) }
+{
+    if let Some(of_node) = memories.get_mut(&node) {
+        of_node.block(store, tests, code, tag, plus);
+    }
+}
+
 impl Line {
+    ghost use Rattle.token_line.specs.Lines.{IsAlone, IsFiled, IsSpot, KeepsCodes, KeepsCodesBut, blockers_in, filed_in, memory_at, sum_in};
+
     /// A line with no tokens, on which nothing was done. Takes no memory.
     pub fn new(alloc: Global, number: usize) -> Line
         ensures number { result.number ≡ number }
         ensures sums { (n : ℕ) (s : Side) (t : List ℕ) → sum_in result n s t ≡ pos 0 }
         ensures entries { result.entries.items ≡ [] }
+        ensures filed { (n c : ℕ) (s : Side) (t : List ℕ) → filed_in result n c s t ≡ None }
     {
         Line {
             number,
@@ -169,44 +150,54 @@ impl Line {
         self.number
     }
 
-    /// The tokens of a node, none where it has none. Takes no memory.
-    pub fn memory(&self, node: usize) -> Option<&Memory>
-        ensures { option_copied result ≡ memory_at self.now node }
+    /// The tokens of a node with this code, none where it has none. Takes no memory.
+    pub fn memory(&self, node: usize, code: u64) -> Option<&Memory>
+        ensures { option_copied result ≡ memory_at self.now node code }
     {
-        self.memories.get(&node)
+        match self.memories.get(&node) {
+            Some(of_node) => of_node.memory(code),
+            None => None,
+        }
     }
 
-    /// The sum of a left token of a node, 0 where it is not kept. It hashes the node, and looks for the token as `Tokens::find` does.
-    /// Takes no memory.
+    /// What is kept of a token of one side of a node, whatever its code.
+    fn cell(&self, node: usize, side: Side, token: &Tags) -> Option<Cell>
+        ensures { result ≡ cell_among self.now.memories node side token.now }
+    {
+        match self.memories.get(&node) {
+            Some(of_node) => of_node.cell(side, token),
+            None => None,
+        }
+    }
+
+    /// The sum of a left token of a node, 0 where it is not kept. It hashes the node, and looks for the token as `Tokens::find` does, under
+    /// one code after another: those of a terminal all have one. Takes no memory.
     pub fn left_sum(&self, node: usize, token: &Tags) -> i64
         ensures { result ≡ sum_in self.now node Left token.now }
     {
-        self.find(node, Side::Left, token).0.sum()
+        sum_of(self.cell(node, Side::Left, token))
     }
 
     /// The sum of a right token of a node, 0 where it is not kept, at the cost of `left_sum`. Takes no memory.
     pub fn right_sum(&self, node: usize, token: &Tags) -> i64
         ensures { result ≡ sum_in self.now node Right token.now }
     {
-        self.find(node, Side::Right, token).0.sum()
+        sum_of(self.cell(node, Side::Right, token))
     }
 
-    /// The spot of a token of one side of a node, and the memory of the node. It hashes the node once, and looks for the token once, as
-    /// `Tokens::find` does. Takes no memory.
-    pub fn find(&self, node: usize, side: Side, token: &Tags) -> (Spot, Option<&Memory>)
+    /// The spot of a token of one side of a node among those with its code, and the memory of these. It hashes the node once, the code
+    /// where the node has several on the line, and looks for the token once, as `Tokens::find` does. Takes no memory.
+    pub fn find(&self, node: usize, code: u64, side: Side, token: &Tags) -> (Spot, Option<&Memory>)
         ensures spot { IsSpot self.now node side token.now result.0 }
-        ensures memory { option_copied result.1 ≡ memory_at self.now node }
+        ensures code { result.0.code ≡ code }
+        ensures memory { option_copied result.1 ≡ memory_at self.now node code }
     {
         match self.memories.get_full(&node) {
-            Some((place, _node, memory)) => (spot_at(memory, place, side, token), Some(memory)),
-            None => {
-                let spot = Spot {
-                    memory: None,
-                    token: None,
-                    kept: None,
-                };
-                (spot, None)
+            Some((place, _node, of_node)) => {
+                let memory = of_node.memory(code);
+                (spot_in(memory, Some(place), code, side, token), memory)
             }
+            None => (spot_in(None, None, code, side, token), None),
         }
     }
 
@@ -219,7 +210,14 @@ impl Line {
 
     /// Adds the entry at the end, and its task to the sum of its token. A left token of the task is kept with so many blockers.
     /// It looks for the token once, as `find` does. Where memory runs out, or a sum would not fit, nothing has changed.
-    pub fn add(&mut self, alloc: Global, entry: Entry, blockers: u64) -> Result<(), OutOfMemory>
+    pub fn add(
+        &mut self,
+        alloc: Global,
+        code: u64,
+        entry: Entry,
+        blockers: u64,
+    ) -> Result<(), OutOfMemory>
+        requires { IsAlone self.old entry.task.node code entry.task.side entry.task.token }
         ensures sums { OnOk result ((n : ℕ) (s : Side) (t : List ℕ) → sum_in self.new n s t ≡ after (sum_in self.old) entry.task n s t) }
         ensures entries { OnOk result (self.new.entries.items ≡ self.old.entries.items ++ entry ∷ []) }
         ensures same_sums { OnErr result ((n : ℕ) (s : Side) (t : List ℕ) → sum_in self.new n s t ≡ sum_in self.old n s t) }
@@ -227,9 +225,11 @@ impl Line {
         ensures number { self.new.number ≡ self.old.number }
         ensures blockers { OnOk result ((n : ℕ) (t : List ℕ) → sum_in self.new n Left t ≢ pos 0 → blockers_in self.new n t ≡ (if is_at n Left t entry.task then blockers else blockers_in self.old n t)) }
         ensures same_blockers { OnErr result ((n : ℕ) (t : List ℕ) → blockers_in self.new n t ≡ blockers_in self.old n t) }
+        ensures filed { OnOk result (KeepsCodesBut self.old self.new code entry.task) }
+        ensures same_filed { OnErr result (KeepsCodes self.old self.new) }
     {
         let task = &entry.task;
-        let (spot, _memory) = self.find(task.node, task.side, &task.token);
+        let (spot, _memory) = self.find(task.node, code, task.side, &task.token);
         self.add_at(alloc, &spot, entry, blockers)
     }
 
@@ -241,7 +241,8 @@ impl Line {
         entry: Entry,
         blockers: u64,
     ) -> Result<(), OutOfMemory>
-        requires { IsSpot self.old entry.task.node entry.task.side entry.task.token spot.now }
+        requires spot { IsSpot self.old entry.task.node entry.task.side entry.task.token spot.now }
+        requires alone { IsAlone self.old entry.task.node spot.now.code entry.task.side entry.task.token }
         ensures sums { OnOk result ((n : ℕ) (s : Side) (t : List ℕ) → sum_in self.new n s t ≡ after (sum_in self.old) entry.task n s t) }
         ensures entries { OnOk result (self.new.entries.items ≡ self.old.entries.items ++ entry ∷ []) }
         ensures same_sums { OnErr result ((n : ℕ) (s : Side) (t : List ℕ) → sum_in self.new n s t ≡ sum_in self.old n s t) }
@@ -249,6 +250,8 @@ impl Line {
         ensures number { self.new.number ≡ self.old.number }
         ensures blockers { OnOk result ((n : ℕ) (t : List ℕ) → sum_in self.new n Left t ≢ pos 0 → blockers_in self.new n t ≡ (if is_at n Left t entry.task then blockers else blockers_in self.old n t)) }
         ensures same_blockers { OnErr result ((n : ℕ) (t : List ℕ) → blockers_in self.new n t ≡ blockers_in self.old n t) }
+        ensures filed { OnOk result (KeepsCodesBut self.old self.new spot.now.code entry.task) }
+        ensures same_filed { OnErr result (KeepsCodes self.old self.new) }
     {
         let had = spot.sum();
         let sum = stepped(&had, entry.task.plus)?;
@@ -259,18 +262,26 @@ impl Line {
         Ok(())
     }
 
-    /// One right token more, or one less, for each left token of the node that it matches. It looks at each left token of the node,
-    /// and takes no memory.
-    pub fn block(&mut self, store: &Store, tests: &[JoinTest], node: usize, tag: u64, plus: bool)
-        requires room { plus ≡ true → (t : List ℕ) → sum_in self.old node Left t ≢ pos 0 → blockers_in self.old node t < 2 ^ 64 - 1 }
+    /// One right token more, or one less, for each left token of the node that it matches: these have its code. It looks at each left
+    /// token of the node with this code, and takes no memory.
+    pub fn block(
+        &mut self,
+        store: &Store,
+        tests: &[JoinTest],
+        node: usize,
+        code: u64,
+        tag: u64,
+        plus: bool,
+    )
+        requires room { plus ≡ true → (t : List ℕ) → IsFiled self.old node code Left t → blockers_in self.old node t < 2 ^ 64 - 1 }
+        requires code { (t : List ℕ) → sum_in self.old node Left t ≢ pos 0 → joins_hold tests.now (held_of store.now) t tag ≡ true → IsFiled self.old node code Left t }
         ensures blockers { (n : ℕ) (t : List ℕ) → sum_in self.new n Left t ≢ pos 0 → blockers_in self.new n t ≡ (if (n == node) && joins_hold tests.now (held_of store.now) t tag then counted plus (blockers_in self.old n t) else blockers_in self.old n t) }
         ensures sums { (n : ℕ) (s : Side) (t : List ℕ) → sum_in self.new n s t ≡ sum_in self.old n s t }
         ensures entries { self.new.entries.items ≡ self.old.entries.items }
         ensures number { self.new.number ≡ self.old.number }
+        ensures filed { KeepsCodes self.old self.new }
     {
-        if let Some(memory) = self.memories.get_mut(&node) {
-            memory.block(store, tests, tag, plus);
-        }
+        block(&mut self.memories, store, tests, node, code, tag, plus);
     }
 
     /// Begins a phase: nothing was done. Takes no memory.
@@ -279,6 +290,7 @@ impl Line {
         ensures entries { self.new.entries.items ≡ [] }
         ensures number { self.new.number ≡ self.old.number }
         ensures blockers { (n : ℕ) (t : List ℕ) → blockers_in self.new n t ≡ blockers_in self.old n t }
+        ensures filed { KeepsCodes self.old self.new }
     {
         self.entries.clear();
     }

@@ -1,12 +1,13 @@
-//! The tokens of one node on one line, each with its sum: the inserts less the deletes that arrived. With each left token a number is
-//! kept: at a negated node, how often right tokens stand that match it.
+//! The tokens of one node with one code on one line, each with its sum: the inserts less the deletes that arrived. With each left token a
+//! number is kept: at a negated node, how often right tokens stand that match it.
 ghost use Rattle.std.specs.Prelude.{◌≡◌, ◌≢◌, ◌<◌, ◌&&◌, ◌-◌, ◌^◌, ◌↔◌, [], IfSome, IsTrue, List, OnErr, OnOk, bytes_eq, if◌then◌else◌, pos, true, ℕ};
+ghost use Rattle.std.specs.Option.{option_map};
 ghost use Rattle.work_store.specs.Stored.{held_of};
 ghost use Rattle.net_base.specs.declared.tasks.Side.{Side};
 ghost use Rattle.net_base.specs.Tokens.{joins_hold};
 ghost use Rattle.token_line.specs.Bags.{are_same_sides};
 ghost use Rattle.token_line.specs.Pairs.{ArePairs, cell_of, place_of};
-ghost use Rattle.token_line.specs.Sums.{blockers_of, counted, kept_sum, side_of};
+ghost use Rattle.token_line.specs.Sums.{blocked, blockers_of, kept_sum, side_of};
 
 use crate::tokens::{Cell, Tokens};
 use net_base::nodes::JoinTest;
@@ -16,7 +17,7 @@ use ops_base::memory::OutOfMemory;
 use std::alloc::Global;
 use work_store::Store;
 
-/// The tokens of one node on one line. A token whose sum is 0 is not kept.
+/// The tokens of one node on one line that have one code. A token whose sum is 0 is not kept.
 #[derive(Drop)]
 pub struct Memory {
     left: Tokens,
@@ -63,6 +64,14 @@ impl Memory {
         }
     }
 
+    /// What is kept of a token of one side. Takes no memory.
+    pub(crate) fn cell(&self, side: Side, token: &Tags) -> Option<Cell>
+        ensures { result ≡ cell_of (side_of self.now side) token.now }
+    {
+        let tokens = self.side(side);
+        tokens.kept(token, tokens.find(token))
+    }
+
     /// Whether no token is kept. Takes no memory.
     pub(crate) fn is_empty(&self) -> bool
         ensures { IsTrue result ↔ ((self.now.left ≡ []) × (self.now.right ≡ [])) }
@@ -93,8 +102,7 @@ impl Memory {
     /// One right token more, or one less, for each left token that it matches. Takes no memory.
     pub(crate) fn block(&mut self, store: &Store, tests: &[JoinTest], tag: u64, plus: bool)
         requires room { plus ≡ true → (t : List ℕ) → kept_sum self.old.left t ≢ pos 0 → blockers_of self.old.left t < 2 ^ 64 - 1 }
-        ensures blockers { (t : List ℕ) → kept_sum self.new.left t ≢ pos 0 → blockers_of self.new.left t ≡ (if joins_hold tests.now (held_of store.now) t tag then counted plus (blockers_of self.old.left t) else blockers_of self.old.left t) }
-        ensures sums { (t : List ℕ) → kept_sum self.new.left t ≡ kept_sum self.old.left t }
+        ensures left { (t : List ℕ) → cell_of self.new.left t ≡ option_map (blocked (joins_hold tests.now (held_of store.now) t tag) plus) (cell_of self.old.left t) }
         ensures right { self.new.right ≡ self.old.right }
     {
         self.left.block(store, tests, tag, plus);

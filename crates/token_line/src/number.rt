@@ -1,7 +1,7 @@
-//! The number of the line on which a token stands. Tokens that an equality test can join have one line.
+//! The code of a token, and the number of the line on which it stands. Tokens that a node can join have one code, and one line.
 ghost use Rattle.std.specs.Prelude.{◌≡◌, ◌<◌, ◌≤◌, fold, map};
 ghost use Rattle.work_store.specs.Stored.{held_of};
-ghost use Rattle.token_line.specs.Numbers.{equalities, is_equal, line_number, mixed, own_codes, own_value, value_code};
+ghost use Rattle.token_line.specs.Numbers.{code_of, equalities, is_equal, line_number, mixed, own_codes, own_value, value_code};
 
 use crate::joining::{field_of, tag_at};
 use net_base::net::Net;
@@ -65,6 +65,21 @@ pub(crate) fn with_token(store: &Store, node: &Node, side: Side, tags: &[u64], c
             with_values(store, side, tags, node.joins.as_slice(), code)
         }
         Kind::Terminal { rule: _ } => tags.iter().copied().fold(code, mixed),
+    }
+}
+
+/// The code of the task's token, which goes by its node and by its values at the equality tests. It looks at each test of the node, and
+/// takes no memory.
+pub fn code_of(net: &Net, store: &Store, task: &Task) -> u64
+    ensures { result ≡ code_of (held_of store.now) net.now.nodes task.now.node task.now.side task.now.token }
+{
+    let start = task.node as u64;
+    match net.nodes().get(task.node) {
+        Some(node) => {
+            let tests = node.joins.as_slice();
+            with_values(store, task.side, task.token.as_slice(), tests, start)
+        }
+        None => start,
     }
 }
 

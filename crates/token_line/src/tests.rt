@@ -1,12 +1,13 @@
 //! The numbers of lines, and a line to which tasks come, with ample memory.
-ghost use Rattle.std.specs.Prelude.{◌≡◌, ◌≢◌, IfOk, List, pos, ℕ};
+ghost use Rattle.std.specs.Prelude.{◌≡◌, ◌≢◌, ◌%◌, ◌∷◌, [], IfOk, List, pos, slice_index, ℕ};
 ghost use Rattle.net_base.specs.declared.tasks.Side.TheVariants.{Left};
+ghost use Rattle.token_line.specs.Coded.{HasCodes};
 ghost use Rattle.token_line.specs.Lines.{blockers_in, sum_in};
 
 use crate::children::Children;
 use crate::joining::joins;
 use crate::line::{Entry, Line};
-use crate::number::{line_of, with_token};
+use crate::number::{code_of, line_of, with_token};
 use net_base::net::Net;
 use net_base::nodes::{JoinTest, Kind, Node};
 use net_base::tags::Tags;
@@ -20,7 +21,9 @@ use std::test::Fail;
 use work_store::Store;
 
 // the token of a tag arrives or leaves at node 3
-fn entry_of(alloc: Global, side: Side, plus: bool, tag: u64) -> Result<Entry, OutOfMemory> {
+fn entry_of(alloc: Global, side: Side, plus: bool, tag: u64) -> Result<Entry, OutOfMemory>
+    ensures { IfOk result (λ e. e.task.token ≡ tag ∷ []) }
+{
     let token = Tags::from_slice(alloc, &[tag])?;
     let task = Task {
         node: 3,
@@ -32,13 +35,26 @@ fn entry_of(alloc: Global, side: Side, plus: bool, tag: u64) -> Result<Entry, Ou
     Ok(Entry { task, children })
 }
 
-fn entry(alloc: Global, side: Side, plus: bool) -> Result<Entry, OutOfMemory> {
-    entry_of(alloc, side, plus, 2)
+// the same on a line where every third tag has one code
+fn bring(
+    alloc: Global,
+    line: &mut Line,
+    side: Side,
+    plus: bool,
+    tag: u64,
+) -> Result<(), OutOfMemory>
+    requires { HasCodes (λ t. slice_index t 0 % 3) line.old }
+    ensures { HasCodes (λ t. slice_index t 0 % 3) line.new }
+{
+    let entry = entry_of(alloc, side, plus, tag)?;
+    line.add(alloc, tag % 3, entry, 0)
 }
 
-fn come(alloc: Global, line: &mut Line, side: Side, plus: bool) -> Result<(), OutOfMemory> {
-    let entry = entry(alloc, side, plus)?;
-    line.add(alloc, entry, 0)
+fn come(alloc: Global, line: &mut Line, side: Side, plus: bool) -> Result<(), OutOfMemory>
+    requires { HasCodes (λ t. slice_index t 0 % 3) line.old }
+    ensures { HasCodes (λ t. slice_index t 0 % 3) line.new }
+{
+    bring(alloc, line, side, plus, 2)
 }
 
 // the sums of that token at a node
@@ -47,9 +63,9 @@ fn sums(alloc: Global, line: &Line, node: usize) -> Result<(i64, i64), OutOfMemo
     Ok((line.left_sum(node, &token), line.right_sum(node, &token)))
 }
 
-// how many tokens of node 3 are kept
-fn kept(line: &Line) -> Option<(usize, usize)> {
-    let memory = line.memory(3)?;
+// how many tokens of node 3 are kept under a code
+fn kept(line: &Line, code: u64) -> Option<(usize, usize)> {
+    let memory = line.memory(3, code)?;
     Some((memory.left().len(), memory.right().len()))
 }
 
@@ -71,7 +87,7 @@ fn a_line_begins_with_nothing(rt: HostRuntime) -> Result<(), Fail> {
         (sums(rt.alloc(), &line, 3)?, done(&line)),
         ((0, 0), (0, 0))
     );
-    assert_eq!(rt; kept(&line), None);
+    assert_eq!(rt; kept(&line, 2), None);
     Ok(())
 }
 
@@ -84,7 +100,7 @@ fn tasks_come_to_a_line(rt: HostRuntime) -> Result<(), Fail> {
     assert_eq!(rt; sums(rt.alloc(), &line, 4)?, (0, 0));
 
     come(rt.alloc(), &mut line, Side::Left, true)?;
-    assert_eq!(rt; (kept(&line), done(&line)), (Some((0, 1)), (3, 2)));
+    assert_eq!(rt; (kept(&line, 2), done(&line)), (Some((0, 1)), (3, 2)));
     line.clear_phase();
     assert_eq!(rt;
         (sums(rt.alloc(), &line, 3)?, done(&line)),
@@ -93,19 +109,28 @@ fn tasks_come_to_a_line(rt: HostRuntime) -> Result<(), Fail> {
     Ok(())
 }
 
+// the token of each tag below a bound arrives at the left, or leaves
+fn bring_all(alloc: Global, line: &mut Line, plus: bool, bound: u64) -> Result<(), OutOfMemory>
+    requires { HasCodes (λ t. slice_index t 0 % 3) line.old }
+    ensures { HasCodes (λ t. slice_index t 0 % 3) line.new }
+{
+    for tag in 0..bound {
+        bring(alloc, line, Side::Left, plus, tag)?;
+    }
+    Ok(())
+}
+
 #[test]
-fn many_tokens_come_and_go(rt: HostRuntime) -> Result<(), Fail> {
+fn many_tokens_of_several_codes_come_and_go(rt: HostRuntime) -> Result<(), Fail> {
     let mut line = Line::new(rt.alloc(), 7);
-    for tag in 0..12 {
-        let entry = entry_of(rt.alloc(), Side::Left, true, tag)?;
-        line.add(rt.alloc(), entry, 0)?;
-    }
-    assert_eq!(rt; kept(&line), Some((12, 0)));
-    for tag in 0..12 {
-        let entry = entry_of(rt.alloc(), Side::Left, false, tag)?;
-        line.add(rt.alloc(), entry, 0)?;
-    }
-    assert_eq!(rt; kept(&line), None);
+    bring_all(rt.alloc(), &mut line, true, 30)?;
+    assert_eq!(rt; (kept(&line, 0), kept(&line, 1)), (Some((10, 0)), Some((10, 0))));
+    assert_eq!(rt; (kept(&line, 2), kept(&line, 3)), (Some((10, 0)), None));
+    assert_eq!(rt; (sums(rt.alloc(), &line, 3)?, sums(rt.alloc(), &line, 4)?), ((1, 0), (0, 0)));
+    bring_all(rt.alloc(), &mut line, false, 29)?;
+    assert_eq!(rt; (kept(&line, 1), kept(&line, 2)), (None, Some((1, 0))));
+    bring_all(rt.alloc(), &mut line, false, 30)?;
+    assert_eq!(rt; kept(&line, 0), Some((10, 0)));
     Ok(())
 }
 
@@ -147,18 +172,19 @@ fn elements_are_joined_by_their_values(rt: HostRuntime) -> Result<(), Fail> {
 // a line where that token is kept at the left of node 3, with so many blockers
 #[tactic(auto, unfolding(crate::specs::Bags::sign_at))]
 fn line_of_one(alloc: Global, blockers: u64) -> Result<Line, OutOfMemory>
-    ensures { IfOk result (λ line. (t : List ℕ) → sum_in line 3 Left t ≢ pos 0 → blockers_in line 3 t ≡ blockers) }
+    ensures blockers { IfOk result (λ line. (t : List ℕ) → sum_in line 3 Left t ≢ pos 0 → blockers_in line 3 t ≡ blockers) }
+    ensures codes { IfOk result (HasCodes (λ t. 5)) }
 {
     let mut line = Line::new(alloc, 7);
-    let entry = entry(alloc, Side::Left, true)?;
-    line.add(alloc, entry, blockers)?;
+    let entry = entry_of(alloc, Side::Left, true, 2)?;
+    line.add(alloc, 5, entry, blockers)?;
     Ok(line)
 }
 
 // the blockers of that token
 fn blockers(alloc: Global, line: &Line) -> Result<Option<u64>, OutOfMemory> {
     let token = Tags::from_slice(alloc, &[2])?;
-    let (spot, _memory) = line.find(3, Side::Left, &token);
+    let (spot, _memory) = line.find(3, 5, Side::Left, &token);
     Ok(spot.kept().map(|cell| cell.blockers))
 }
 
@@ -169,9 +195,9 @@ fn a_left_token_is_blocked_by_what_matches(rt: HostRuntime) -> Result<(), Fail> 
     store.add(element(rt.alloc(), 2, 40)?)?;
     let tests = [compare(Pred::Eq)];
     let mut line = line_of_one(rt.alloc(), 2)?;
-    line.block(&store, &tests, 3, 1, true);
+    line.block(&store, &tests, 3, 5, 1, true);
     assert_eq!(rt; blockers(rt.alloc(), &line)?, Some(3));
-    line.block(&store, &tests, 3, 1, false);
+    line.block(&store, &tests, 3, 5, 1, false);
     assert_eq!(rt; blockers(rt.alloc(), &line)?, Some(2));
     Ok(())
 }
@@ -210,7 +236,8 @@ fn no_nodes(alloc: Global) -> Result<Net, OutOfMemory> {
 fn a_line_has_a_number_within_bounds(rt: HostRuntime) -> Result<(), Fail> {
     let net = no_nodes(rt.alloc())?;
     let store = Store::new(rt.alloc());
-    let task = entry(rt.alloc(), Side::Left, true)?.task;
+    let task = entry_of(rt.alloc(), Side::Left, true, 2)?.task;
     assert_eq!(rt; line_of(&net, &store, &task, 2), 1);
+    assert_eq!(rt; code_of(&net, &store, &task), 3);
     Ok(())
 }

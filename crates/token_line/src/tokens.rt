@@ -1,7 +1,8 @@
-//! The tokens of one side of a node on one line, each with what is kept of it: a list while they are few, a map where they are many.
+//! The tokens of one side of a node that have one code, on one line, each with what is kept of it: a list while they are few, a map where they are many.
 ghost use Rattle.std.specs.Prelude.{◌≡◌, ◌≢◌, ◌<◌, ◌==◌, ◌-◌, ◌^◌, ◌++◌, ◌∷◌, ◌↔◌, [], IfOk, IfSome, IsTrue, List, None, OnErr, OnOk, Some, bytes_eq, if◌then◌else◌, length, pos, position, slice_get, true, ℕ};
 ghost use Rattle.std.specs.List.{IsDistinct, swap_remove};
 ghost use Rattle.std.specs.Map.{keys_of, lookup};
+ghost use Rattle.std.specs.Option.{option_map};
 ghost use Rattle.indexmap.specs.IndexMap.{set_value_at};
 ghost use Rattle.work_store.specs.Stored.{held_of};
 ghost use Rattle.net_base.specs.Tokens.{joins_hold};
@@ -325,8 +326,7 @@ impl Tokens {
     /// One right token more, or one less, for each left token that matches. Takes no memory.
     pub(crate) fn block(&mut self, store: &Store, tests: &[JoinTest], tag: u64, plus: bool)
         requires room { plus ≡ true → (t : List ℕ) → kept_sum self.old t ≢ pos 0 → blockers_of self.old t < 2 ^ 64 - 1 }
-        ensures sums { (t : List ℕ) → kept_sum self.new t ≡ kept_sum self.old t }
-        ensures blockers { (t : List ℕ) → kept_sum self.new t ≢ pos 0 → blockers_of self.new t ≡ (if joins_hold tests.now (held_of store.now) t tag then counted plus (blockers_of self.old t) else blockers_of self.old t) }
+        ensures { (t : List ℕ) → cell_of self.new t ≡ option_map (blocked (joins_hold tests.now (held_of store.now) t tag) plus) (cell_of self.old t) }
     {
         for place in 0..self.len() {
             self.block_at(place, store, tests, tag, plus);

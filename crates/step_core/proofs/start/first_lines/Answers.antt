@@ -1,5 +1,5 @@
 -- A child of the root gets the empty token on its line, and the lines of another node stay as they are.
-use Rattle.std.proofs.Common.{◌+◌, ◌%◌, ◌<◌, length, refl, sym, subst, arith}
+use Rattle.std.proofs.Common.{◌≡◌, ◌+◌, ◌%◌, ◌<◌, length, refl, sym, ap, subst, arith}
 use Rattle.std.proofs.lemmas.Option.{slice_get_read}
 use Rattle.step_core.specs.Starts.{AreBegun}
 use Rattle.step_core.proofs.FedTasks.{node_at}
@@ -23,7 +23,14 @@ loop-number-preserved c =
           let here = slice_get_read ls (length ls) (k % c.args.count) w.index_mut.result.now refl low w.index_mut.ensures.value in
           subst (λ v. AreBegun nodes c.args.count (k + 1) v.items) (sym w.lines-is)
           (root_given nodes k x at w.if-is_none.ensures c.args.count ls w.index_mut.result.now w.give_root.new.line c.loop-number.invariant here
-          w.in_ok-give_root.ensures.number w.in_ok-give_root.ensures.entries w.in_ok-give_root.ensures.sums)
+          w.in_ok-give_root.ensures.number w.in_ok-give_root.ensures.entries w.in_ok-give_root.ensures.sums w.in_ok-give_root.ensures.filed)
       | else-is_none w ↦
           subst (λ v. AreBegun nodes c.args.count (k + 1) v.items) (sym w.lines-is) (not_at_root nodes k x at w.if-is_none.ensures c.args.count ls c.loop-number.invariant)
     ]
+
+pub returns : goal.returns
+returns c =
+    let nodes = c.args.net.now.nodes in
+    let same : length c.nodes-node-items.result.now ≡ length nodes = ap length c.nodes-node-items.ensures.nodes in
+    let all : c.loop-number.number ≡ length nodes = omega (arith, same, c.loop-number.auto.number-end, c.loop-number-test.false) in
+    subst (λ n. AreBegun nodes c.args.count n c.loop-number.lines.items) all c.loop-number.invariant

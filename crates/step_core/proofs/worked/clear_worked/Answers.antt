@@ -26,7 +26,7 @@ loop-place-preserved c =
     record {
       kept =
           one_kept k c.args.lines.now.items ls c.index_mut.result.now line c.loop-place.invariant.kept low c.index_mut.ensures.value
-          (record { sums = c.clear_phase.ensures.sums; blockers = c.clear_phase.ensures.blockers; number = c.clear_phase.ensures.number });
+          (record { sums = c.clear_phase.ensures.sums; blockers = c.clear_phase.ensures.blockers; number = c.clear_phase.ensures.number; filed = c.clear_phase.ensures.filed });
       told = worked_less ls k line c.loop-place.worked.items c.pop.new.self.items named c.loop-place.invariant.told c.clear_phase.ensures.entries;
     }
 

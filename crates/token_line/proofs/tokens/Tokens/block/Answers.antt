@@ -2,7 +2,7 @@
 use Rattle.std.proofs.Common.{◌≡◌, ℕ, ◌<◌, ◌-◌, ◌^◌, List, length, ap, ◌∙◌, arith}
 use Rattle.net_base.specs.Tokens.{joins_hold}
 use Rattle.work_store.specs.Stored.{held_of}
-use Rattle.token_line.proofs.Blocked.{all_blocked, all_there, first_all, first_blocked, length-first_blocked, next_blocked, number_blocked, room_at_each, sum_blocked}
+use Rattle.token_line.proofs.Blocked.{all_blocked, all_there, first_all, first_blocked, length-first_blocked, found, next_blocked, room_at_each}
 use Rattle.token_line.proofs.PairLemmas.{Pair}
 use Rattle.token_line.proofs.tokens.Tokens.block.Goals as goal
 
@@ -26,16 +26,9 @@ loop-place-preserved c =
     next_blocked matches c.args.plus c.loop-place.place c.args.self.now c.loop-place.self c.block_at.new.self c.loop-place.invariant
     (omega (arith, c.len-place-end.ensures.len)) c.block_at.ensures
 
-pub returns-clause-sums : goal.returns-clause-sums
-returns-clause-sums c =
+pub returns : goal.returns
+returns c =
     let matches = λ (t : List ℕ). joins_hold c.args.tests.now (held_of c.args.store.now) t c.args.tag in
     let done : c.loop-place.self ≡ all_blocked matches c.args.plus c.args.self.now =
     c.loop-place.invariant ∙ (ap (λ i. first_blocked matches c.args.plus i c.args.self.now) (omega (arith, c.len-place-end.ensures.len)) ∙ first_all matches c.args.plus c.args.self.now) in
-    sum_blocked matches c.args.plus c.args.self.now c.loop-place.self done
-
-pub returns-clause-blockers : goal.returns-clause-blockers
-returns-clause-blockers c =
-    let matches = λ (t : List ℕ). joins_hold c.args.tests.now (held_of c.args.store.now) t c.args.tag in
-    let done : c.loop-place.self ≡ all_blocked matches c.args.plus c.args.self.now =
-    c.loop-place.invariant ∙ (ap (λ i. first_blocked matches c.args.plus i c.args.self.now) (omega (arith, c.len-place-end.ensures.len)) ∙ first_all matches c.args.plus c.args.self.now) in
-    number_blocked matches c.args.plus c.args.self.now c.loop-place.self done
+    found matches c.args.plus c.args.self.now c.loop-place.self done

@@ -1,0 +1,72 @@
+-- The memories of one node by the codes of their tokens, and those of all nodes of a line.
+use Rattle.std.specs.Prelude.{◌≡◌, ◌≢◌, ◌==◌, ℕ, pos, Bool, List, [], ◌∷◌, nat_eq, Option, Some, None, IsSome, if◌then◌else◌}
+use Rattle.std.specs.Map.{keys_of}
+use Rattle.std.specs.Option.{option_map, option_or}
+use Rattle.indexmap.specs.IndexMap.{IndexMap, get}
+use Rattle.net_base.specs.declared.tasks.Side.{Side}
+use Rattle.token_line.specs.declared.memory.Memory.{Memory}
+use Rattle.token_line.specs.declared.memories.Memories.{Memories}
+use Rattle.token_line.specs.declared.tokens.Cell.{Cell}
+use Rattle.token_line.specs.Pairs.{Pairs, cell_of}
+use Rattle.token_line.specs.Sums.{blocked, side_of, sum_kept}
+
+-- ---- memories by their codes
+
+-- the tokens of one side of a memory, none where there is no memory
+abbrev pub tokens_of : Option Memory → Side → Pairs
+tokens_of None s = []
+tokens_of (Some memory) s = side_of memory s
+
+-- what is kept of a token with this code
+abbrev pub kept_among : {S : Type 0} → IndexMap ℕ Memory S → ℕ → Side → List ℕ → Option Cell
+kept_among memories c s t = cell_of (tokens_of (get nat_eq memories c) s) t
+
+-- the memory of the tokens with this code, none where there are none
+abbrev pub memory_under : Memories → ℕ → Option Memory
+memory_under m c = if c == m.code then Some m.first else get nat_eq m.others c
+
+abbrev pub cell_under : Memories → ℕ → Side → List ℕ → Option Cell
+cell_under m c s t = cell_of (tokens_of (memory_under m c) s) t
+
+abbrev pub codes_of : Memories → List ℕ
+codes_of m = m.code ∷ keys_of m.others.entries
+
+-- what the first of these codes has, of those that have something
+abbrev pub first_some : {X : Type 0} → (ℕ → Option X) → List ℕ → Option X
+first_some f [] = None
+first_some f (c ∷ cs) = option_or (f c) (first_some f cs)
+
+-- what is kept of a token, whatever its code
+abbrev pub cell_in : Memories → Side → List ℕ → Option Cell
+cell_in m s t = first_some (λ c. cell_under m c s t) (codes_of m)
+
+-- what is kept of a token once one right token more or less has come: it counts where the token is one that it is for, if it matches
+abbrev pub cell_blocked : Bool → Bool → Bool → Option Cell → Option Cell
+cell_blocked here matches plus o = if here then option_map (blocked matches plus) o else o
+
+-- ---- the memories of all nodes
+
+-- none where the node has none
+abbrev pub memory_of : Option Memories → ℕ → Option Memory
+memory_of None c = None
+memory_of (Some m) c = memory_under m c
+
+abbrev pub codes_among : Option Memories → List ℕ
+codes_among None = []
+codes_among (Some m) = codes_of m
+
+-- what is kept of a token of one side of a node under a code
+abbrev pub filed_among : {S : Type 0} → IndexMap ℕ Memories S → ℕ → ℕ → Side → List ℕ → Option Cell
+filed_among memories n c s t = cell_of (tokens_of (memory_of (get nat_eq memories n) c) s) t
+
+-- the same, whatever the code
+abbrev pub cell_among : {S : Type 0} → IndexMap ℕ Memories S → ℕ → Side → List ℕ → Option Cell
+cell_among memories n s t = first_some (λ c. filed_among memories n c s t) (codes_among (get nat_eq memories n))
+
+-- no token of one side of a node is kept under two codes
+abbrev pub AreApart : {S : Type 0} → IndexMap ℕ Memories S → Type 0
+AreApart memories = (n c d : ℕ) (s : Side) (t : List ℕ) → IsSome (filed_among memories n c s t) → IsSome (filed_among memories n d s t) → c ≡ d
+
+-- no token is kept with a sum of 0
+abbrev pub HaveSums : {S : Type 0} → IndexMap ℕ Memories S → Type 0
+HaveSums memories = (n c : ℕ) (s : Side) (t : List ℕ) → IsSome (filed_among memories n c s t) → sum_kept (filed_among memories n c s t) ≢ pos 0
