@@ -109,18 +109,20 @@ Rises (x ∷ xs) = ((y : ℕ) → IsMember y xs → x < y) × Rises xs
 rises_from_pairs : (xs : List ℕ) → AllPairs (λ x y. x < y) xs → Rises xs
 rises_from_pairs [] h = tt
 rises_from_pairs (x ∷ xs) h =
-    let later : All (λ y. x < y) xs = λ k d low. h 0 (suc k) d (omega arith) (omega arith) in
-    (λ y m. members_from_each (λ z. x < z) xs (recursion_from_All (λ z. x < z) xs later) y m,
-     rises_from_pairs xs (λ i j d lt low. h (suc i) (suc j) d (omega arith) (omega arith)))
+    let later : All (λ y. x < y) xs = λ k d low. h 0 (suc k) d (omega arith) (omega arith) in (
+      λ y m. members_from_each (λ z. x < z) xs (recursion_from_All (λ z. x < z) xs later) y m,
+      rises_from_pairs xs (λ i j d lt low. h (suc i) (suc j) d (omega arith) (omega arith)),
+    )
 
 rises_push : (xs : List ℕ) (n : ℕ) → Rises xs → ((y : ℕ) → IsMember y xs → y < n) → Rises (xs ++ n ∷ [])
 rises_push [] n h low = (λ y m. absurd m, tt)
-rises_push (x ∷ xs) n h low =
-    (λ y m. elim (member_cases y xs (n ∷ []) m) [
-      | inl a ↦ h.0 y a
-      | inr b ↦ elim b [ inl e ↦ (let l = low x (inl refl) in omega arith) | inr no' ↦ absurd no' ]
-    ],
-     rises_push xs n h.1 (λ y m. low y (inr m)))
+rises_push (x ∷ xs) n h low = (
+  λ y m. elim (member_cases y xs (n ∷ []) m) [
+    | inl a ↦ h.0 y a
+    | inr b ↦ elim b [ inl e ↦ (let l = low x (inl refl) in omega arith) | inr no' ↦ absurd no' ]
+  ],
+  rises_push xs n h.1 (λ y m. low y (inr m)),
+)
 
 numbers_rise : {X : Type 0} (test : X → Bool) (xs : List X) (i : ℕ) → Rises (numbers_below test xs i)
 numbers_rise test xs zero = tt
@@ -178,7 +180,7 @@ pub tasks_of_takers : (alphas : List Alpha) (nodes : List Node) (plus : Bool) (t
 tasks_of_takers alphas nodes plus tag e found ns takers moved sorted =
     ap (map (right_task plus tag))
     (same_rising ns (numbers_below (is_fed alphas (Some e)) nodes (length nodes)) (rises_from_pairs ns (AllPairs-from_increasing ns (rising_in_order found ns takers.once moved sorted)))
-      (numbers_rise (is_fed alphas (Some e)) nodes (length nodes)) to from)
+    (numbers_rise (is_fed alphas (Some e)) nodes (length nodes)) to from)
     ∙ sym (numbers_of_tasks alphas nodes plus tag (Some e) (length nodes))
   where
     to : (n : ℕ) → IsMember n ns → IsMember n (numbers_below (is_fed alphas (Some e)) nodes (length nodes))

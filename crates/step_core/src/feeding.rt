@@ -62,12 +62,7 @@ fn task_for(alloc: Global, node: usize, plus: bool, tag: u64) -> Result<Task, Ou
 }
 
 /// A task of that element for each of the nodes.
-fn tasks_at(
-    alloc: Global,
-    nodes: &[usize],
-    plus: bool,
-    tag: u64,
-) -> Result<Vec<Task>, OutOfMemory>
+fn tasks_at(alloc: Global, nodes: &[usize], plus: bool, tag: u64) -> Result<Vec<Task>, OutOfMemory>
     ensures { IfOk result (λ v. v.items ≡ map (right_task plus tag) nodes.now) }
 {
     let mut tasks = Vec::with_capacity(alloc, nodes.len())?;

@@ -12,5 +12,5 @@ returns c =
     IfOk-weaker c.tasks_at.result (λ v. v.items ≡ map (right_task c.args.plus c.args.tag) c.as_slice.result.now)
     (λ v. v.items ≡ tasks_below net.alphas net.nodes c.args.plus c.args.tag (Some e) (length net.nodes))
     (λ v is. is ∙ (ap (map (right_task c.args.plus c.args.tag)) c.as_slice.ensures
-      ∙ tasks_of_takers net.alphas net.nodes c.args.plus c.args.tag e c.in_ok-nodes.nodes.items c.sort.new.numbers.items c.in_ok-nodes.ensures c.sort.ensures.moved c.sort.ensures.sorted))
+    ∙ tasks_of_takers net.alphas net.nodes c.args.plus c.args.tag e c.in_ok-nodes.nodes.items c.sort.new.numbers.items c.in_ok-nodes.ensures c.sort.ensures.moved c.sort.ensures.sorted))
     c.tasks_at.ensures
