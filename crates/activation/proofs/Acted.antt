@@ -87,7 +87,7 @@ module _ (alphas : List Alpha) (nodes : List Node) (sound : IsSound alphas nodes
       change = change_at elements agrees;
     }
 
--- the line after its new entry, and what came behind the tasks that were there
+-- the line after its new entry, and what came after the tasks that were there
 pub acted : (alphas : List Alpha) (nodes : List Node) → IsSound alphas nodes → (s : Stored) (x : Task) → TaskFits nodes s x
     → (old new : Line) (before now : List Task) (effect : Effect) (e : Entry) → IsEffect nodes s old x effect
     → e.task ≡ x → e.children ≡ children_at (slice_get nodes x.node) effect.plus effect.puts

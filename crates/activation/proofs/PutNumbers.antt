@@ -125,7 +125,7 @@ module _ (tests : List JoinTest) (elements : Elements) (t : List ℕ) where
           (λ e. ap (λ z. z ∷ []) (same_from_push t t k x e).1) (λ e. ap (λ z. t ++ z) e)
       by (x ∷ y ∷ ys) one = absurd (omega arith)
 
-  -- it with the tag k behind it is put out as often as k stands, if they join
+  -- it with the tag k after it is put out as often as k stands, if they join
   pub left_number : (k : ℕ) (es : List (List ℕ × Cell)) → IsDistinct bytes_eq (keys_of es) → AllByRecursion (λ e. length e.0 ≡ 1) es
       → number_put (t ++ k ∷ []) (put_for_left tests elements t es) ≡ cond (joins_hold tests elements t k) (standing (right_of es (k ∷ []))) 0
   left_number k es distinct one =
@@ -154,7 +154,7 @@ module _ (tests : List JoinTest) (elements : Elements) (tag : ℕ) where
   by_fronts f (e ∷ es) =
       (same_test (f ++ tag ∷ []) (e.0 ++ tag ∷ []) f e.0 (λ q. (same_from_push f e.0 tag tag q).0) (λ q. ap (λ z. z ++ tag ∷ []) q), by_fronts f es)
 
-  -- a left token with its tag behind it is put out as often as that token stands, if they join
+  -- a left token with its tag after it is put out as often as that token stands, if they join
   pub right_number : (f : List ℕ) (es : List (List ℕ × Cell)) → IsDistinct bytes_eq (keys_of es)
       → number_put (f ++ tag ∷ []) (put_for_right tests elements tag es) ≡ cond (joins_hold tests elements f tag) (standing (left_of es f)) 0
   right_number f es distinct =

@@ -36,7 +36,7 @@ pub record IsCounted (nodes : List Node) (s : Stored) (line : Line) : Type 0 whe
 
 -- ---- what a node puts out for a task
 
--- so many, with the sign
+-- this many, with the sign
 abbrev pub signed : Bool → ℕ → ℤ
 signed true k = pos k
 signed false k = neg_ℤ (pos k)
@@ -72,8 +72,8 @@ pub record AreKept (m : Memory) : Type 0 where
 
 -- ---- what a task does
 
--- The task became an entry of its line, behind those that were there, and counts in the sum of its token. The children of the entry follow the
--- change of what its node puts out, each fits, and they came behind the tasks that were there.
+-- The task became an entry of its line, after those that were there, and counts in the sum of its token. The children of the entry follow the
+-- change of what its node puts out, each fits, and they came after the tasks that were there.
 pub record Acts (nodes : List Node) (s : Stored) (x : Task) (old new : Line) (before now : List Task) : Type 0 where
   pub entry : Entry
   pub task : entry.task ≡ x

@@ -31,7 +31,7 @@ blockers_for tests elements (Some m) t = option_map_or (λ c. c.blockers) (cell_
 abbrev pub put_once : Bool → List ℕ → List Put
 put_once free t = if free then record { token = t; times = 1 } ∷ [] else []
 
--- with so many blockers a left token is free before one right token more that matches it, or after one less
+-- with this many blockers a left token is free before one right token more that matches it, or after one less
 abbrev pub before_flip : Bool → ℕ
 before_flip plus = if plus then 0 else 1
 

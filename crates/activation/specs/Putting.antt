@@ -14,7 +14,7 @@ pub record Put : Type 0 where
   pub token : List ℕ
   pub times : ℕ
 
--- the token, with the tag behind it where there is one
+-- the token, with the tag after it where there is one
 abbrev pub tagged : List ℕ → Option ℕ → List ℕ
 tagged t None = t
 tagged t (Some tag) = t ++ tag ∷ []

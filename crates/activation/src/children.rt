@@ -17,7 +17,7 @@ pub(crate) struct Below<'a> {
     pub(crate) plus: bool,
 }
 
-/// The token, with the tag behind it where there is one.
+/// The token, with the tag after it where there is one.
 fn lengthened(alloc: Global, token: &Tags, tag: Option<u64>) -> Result<Tags, OutOfMemory>
     ensures { IfOk result (λ t. t ≡ tagged token.now tag) }
 {

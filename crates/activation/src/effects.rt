@@ -87,7 +87,7 @@ fn at_join(
     })
 }
 
-/// What a left task does at a negated node, which so many right tokens match: its token is put out where none does.
+/// What a left task does at a negated node, which this many right tokens match: its token is put out where none does.
 fn at_left(
     alloc: Global,
     node: &Node,
@@ -143,7 +143,7 @@ fn at_right(
     })
 }
 
-/// What the task does at its node, which has this memory on the line and this of the task's token: its children go behind `out`. At a
+/// What the task does at its node, which has this memory on the line and this of the task's token: its children go after `out`. At a
 /// terminal there are none. Where memory runs out, some children may have been added.
 pub(crate) fn do_at(
     alloc: Global,

@@ -1,4 +1,4 @@
--- What a test binds comes behind what was bound before.
+-- What a test binds comes after what was bound before.
 use Rattle.std.proofs.Common.{◌≡◌, ◌≤◌, List, ◌++◌, length, take, ap, ◌∙◌, arith}
 use Rattle.std.proofs.lemmas.List.{length-take, take-append-le}
 use Rattle.ops_base.specs.declared.conditions.Operand.{Operand}
@@ -7,7 +7,7 @@ use Rattle.net_base.specs.declared.normal.Binder.{Binder}
 use Rattle.net_base.specs.declared.normal.Origin.{Origin}
 use Rattle.net_base.specs.Normal.{binders_with}
 
--- the first binders stay the first where more come behind them
+-- the first binders stay the first where more come after them
 first-append : (firsts binders more : List Binder) → take (length firsts) binders ≡ firsts → take (length firsts) (binders ++ more) ≡ firsts
 first-append firsts binders more h =
     let enough : length firsts ≤ length binders = omega (arith, length-take (length firsts) binders, ap length h) in

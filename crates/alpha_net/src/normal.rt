@@ -58,7 +58,7 @@ fn bind(binders: &mut Vec<Binder>, operand: &Operand, origin: Origin) -> Result<
     }
 }
 
-/// The tests that do not bind. What the others bind comes behind what was bound before, also where memory runs out.
+/// The tests that do not bind. What the others bind comes after what was bound before, also where memory runs out.
 #[tactic(auto, using(crate::proofs::Binding::still_first))]
 fn normal_tests(
     alloc: Global,
@@ -86,7 +86,7 @@ fn normal_tests(
     Ok(found)
 }
 
-/// The normal form of a condition with so many positive ones before it. What it binds is added to the binders. It looks back
+/// The normal form of a condition with this many positive ones before it. What it binds is added to the binders. It looks back
 /// over the binders for each test of a variable. Where memory runs out the binders are as before.
 pub fn normal_form(
     alloc: Global,

@@ -110,13 +110,13 @@ AreNodes links alphas nodes = (n : ℕ) (x : Node) → slice_get nodes n ≡ Som
 abbrev pub AreUsed : List Link → List Alpha → Type 0
 AreUsed links alphas = (m : ℕ) (a : Alpha) → slice_get alphas m ≡ Some a → (n : ℕ) × (l : Link) × (slice_get links n ≡ Some l) × IsAlphaOf l a
 
--- the node of a link, or behind those of all links the terminal of a rule
+-- the node of a link, or after those of all links the terminal of a rule
 abbrev pub IsNodeAt : List Link → List End → List Alpha → ℕ → Node → Type 0
 IsNodeAt links ends alphas n x =
     ((l : Link) × (slice_get links n ≡ Some l) × IsNodeOf alphas l x)
     ⊎ ((k : ℕ) × (e : End) × (n ≡ length links + k) × (slice_get ends k ≡ Some e) × IsTerminalNode k e x)
 
--- behind the nodes that there were, a terminal for each of the first ends
+-- after the nodes that there were, a terminal for each of the first ends
 pub record AddsTerminals (old new : List Node) (ends : List End) (bound : ℕ) : Type 0 where
   pub count : length new ≡ length old + bound
   pub each : (n : ℕ) (x : Node) → slice_get new n ≡ Some x

@@ -109,7 +109,7 @@ fn parent_code(parent: Option<usize>) -> u64
     }
 }
 
-/// The code of a condition behind this parent.
+/// The code of a condition after this parent.
 pub fn condition_code(parent: Option<usize>, condition: &NormalCondition) -> u64
     ensures { result ≡ condition_code parent condition.now }
 {

@@ -67,7 +67,7 @@ module _ (X : Type 0) (E : X → X → Bool) (same : (a b : X) → Decides (E a 
           (λ q. same_from_decides (is_member E h.all q) (is_member E k.all q) (is_member-Decides same h.all q)
           (Decides-like (is_member E k.all q) (λ c. h.complete q (k.sound q c)) (λ c. k.complete q (h.sound q c)) (is_member-Decides same k.all q)))
 
--- just so many numbers are below a number
+-- just this many numbers are below a number
 pub below_counted : (n : ℕ) → HasCount ℕ (λ k. k < n) n
 below_counted n = record {
   all = range_with_len 0 n;

@@ -88,7 +88,7 @@ count_each (suc n) p r h k lt t = by_same (λ g l. count_each n p r g k l t) (k 
 abbrev alpha_at : ℕ → Condition → List Binder → Alpha
 alpha_at m c bs = record { class = c.class; tests = alpha_tests m (normal_tests m c.tests bs) }
 
--- the condition's own step behind m positive ones
+-- the condition's own step after m positive ones
 abbrev own : ℕ → Condition → List Binder → Step
 own m c bs = record { negated = c.negated; alpha = Some (alpha_at m c bs); tests = join_tests m (normal_tests m c.tests bs) }
 

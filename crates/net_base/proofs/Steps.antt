@@ -62,7 +62,7 @@ abbrev pub steps_below : ℕ → List Alpha → List Node → ℕ → List Step
 steps_below zero alphas nodes n = []
 steps_below (suc k) alphas nodes n = steps_at (steps_below k alphas nodes) alphas (slice_get nodes n)
 
--- a normal condition behind so many positive ones
+-- a normal condition after this many positive ones
 abbrev pub step_of : ℕ → NormalCondition → Step
 step_of place c = record {
   negated = c.negated;

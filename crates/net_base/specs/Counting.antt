@@ -62,7 +62,7 @@ Prefix = List NormalCondition × NormalCondition
 abbrev pub are_same_prefixes : Prefix → Prefix → Bool
 are_same_prefixes p q = pointwise are_same_conditions p.0 q.0 && are_same_conditions p.1 q.1
 
--- the prefixes of conditions that come behind these
+-- the prefixes of conditions that come after these
 abbrev pub prefixes_behind : List NormalCondition → List NormalCondition → List Prefix
 prefixes_behind before [] = []
 prefixes_behind before (c ∷ cs) = (before, c) ∷ prefixes_behind (before ++ c ∷ []) cs

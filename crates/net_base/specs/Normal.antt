@@ -56,11 +56,11 @@ normal_tests place (t ∷ ts) binders =
     if t.binds then normal_tests place ts (binders_with binders t.operand (record { place = place; field = t.field }))
     else cons_option (normal_test t (normal_operand binders t.operand)) (normal_tests place ts binders)
 
--- a condition behind so many positive ones
+-- a condition after this many positive ones
 abbrev pub normal_of : ℕ → Condition → List Binder → NormalCondition
 normal_of place c binders = record { negated = c.negated; class = c.class; tests = normal_tests place c.tests binders }
 
--- The normal conditions of conditions behind so many positive ones. What a negated condition binds is out of sight after it.
+-- The normal conditions of conditions after this many positive ones. What a negated condition binds is out of sight after it.
 abbrev pub normal_conditions : ℕ → List Condition → List Binder → List NormalCondition
 normal_conditions place [] binders = []
 normal_conditions place (c ∷ cs) binders =

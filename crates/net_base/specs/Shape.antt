@@ -9,7 +9,7 @@ use Rattle.net_base.specs.declared.counts.Counts.{Counts}
 use Rattle.net_base.specs.Normal.{alpha_tests, normal_conditions}
 use Rattle.net_base.specs.Sound.{is_join, is_negated, is_terminal}
 
--- just so many things are so: they stand in a list of this length, each once
+-- just this many things are so: they stand in a list of this length, each once
 pub record HasCount (X : Type 0) (Is : X → Type 0) (n : ℕ) : Type 0 where
   pub all : List X
   pub count : length all ≡ n
@@ -21,7 +21,7 @@ pub record HasCount (X : Type 0) (Is : X → Type 0) (n : ℕ) : Type 0 where
 abbrev pub normal_form : Rule → List NormalCondition
 normal_form r = normal_conditions 0 r.conditions []
 
--- the normal condition c stands behind `before` in a list
+-- the normal condition c stands after `before` in a list
 abbrev pub StandsIn : List NormalCondition → List NormalCondition → NormalCondition → Type 0
 StandsIn all before c = (rest : List NormalCondition) × (all ≡ before ++ c ∷ rest)
 

@@ -39,7 +39,7 @@ impl<G: Gate + Drop> SerialEngine<G> {
     ghost use Rattle.step_core.specs.Found.{found_over};
     ghost use Rattle.step_core.specs.Phases.{IsBundle};
 
-    /// An engine over the network with so many lines. Nothing is stored. It makes each line and looks at each node.
+    /// An engine over the network with this many lines. Nothing is stored. It makes each line and looks at each node.
     pub fn new(
         alloc: Global,
         net: Net,

@@ -15,7 +15,7 @@ use Rattle.net_base.specs.Tokens.{Elements, Tokens, front, last, count_below, jo
 abbrev pub IsIn : List Element → ℕ → Type 0
 IsIn wm tag = (e : Element) × (elements_of wm tag ≡ Some e)
 
--- a token of so many tags, each of an element of working memory
+-- a token of this many tags, each of an element of working memory
 pub record IsToken (wm : List Element) (m : ℕ) (t : List ℕ) : Type 0 where
   pub long : length t ≡ m
   pub all : AllByRecursion (IsIn wm) t

@@ -169,7 +169,7 @@ sums_at_start nodes n s t = pos (root_part (giver_of nodes n s) t)
 abbrev pub on_line : Placing → ℕ → Bag → Bag
 on_line line i b n s t = if line n s t == i then b n s t else pos 0
 
--- so many lines
+-- this many lines
 abbrev pub lines_at_start : List Node → Placing → ℕ → List Seen
 lines_at_start nodes line zero = []
 lines_at_start nodes line (suc i) = lines_at_start nodes line i ++ record { sums = on_line line i (sums_at_start nodes); entries = [] } ∷ []

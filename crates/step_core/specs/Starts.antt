@@ -10,7 +10,7 @@ use Rattle.token_line.specs.Lawful.{giver_of}
 use Rattle.token_line.specs.Lines.{IsFiled, filed_in, sum_in}
 use Rattle.step_core.specs.Machine.{root_part}
 
--- so many lines, in the order of their numbers, with no tokens and no entries
+-- this many lines, in the order of their numbers, with no tokens and no entries
 pub record AreUnused (lines : ℕ) (ls : List Line) : Type 0 where
   pub count : length ls ≡ lines
   pub number : (i : ℕ) (l : Line) → slice_get ls i ≡ Some l → l.number ≡ i
@@ -22,7 +22,7 @@ pub record AreUnused (lines : ℕ) (ls : List Line) : Type 0 where
 abbrev pub root_task : ℕ → Task
 root_task n = record { node = n; side = Left; plus = true; token = [] }
 
--- what line i of so many holds once the nodes below the bound have got what the root gives them
+-- what line i of this many holds once the nodes below the bound have got what the root gives them
 abbrev pub given_below : List Node → ℕ → ℕ → ℕ → Bag
 given_below nodes lines bound i n s t =
     if nat_lt n bound && (n % lines == i) then pos (root_part (giver_of nodes n s) t) else pos 0
@@ -34,7 +34,7 @@ pub record IsBegun (nodes : List Node) (lines bound i : ℕ) (l : Line) : Type 0
   pub sums : (n : ℕ) (s : Side) (t : List ℕ) → sum_in l n s t ≡ given_below nodes lines bound i n s t
   pub filed : (n c : ℕ) (s : Side) (t : List ℕ) → IsFiled l n c s t → c ≡ n
 
--- so many lines, each of which is so
+-- this many lines, each of which is so
 pub record AreBegun (nodes : List Node) (lines bound : ℕ) (ls : List Line) : Type 0 where
   pub count : length ls ≡ lines
   pub each : (i : ℕ) (l : Line) → slice_get ls i ≡ Some l → IsBegun nodes lines bound i l

@@ -36,7 +36,7 @@ step_of (Feed change) = Machine.Feed change
 step_of (Activate i) = Machine.Activate i
 step_of (Finish j) = Machine.Finish j
 
--- each token on the line whose number its code gives, where there are so many lines
+-- each token on the line whose number its code gives, where there are this many lines
 abbrev pub placed : Elements → List Node → ℕ → Placing
 placed elements nodes lines n s t = line_number elements nodes lines n s t
 

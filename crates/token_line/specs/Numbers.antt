@@ -53,7 +53,7 @@ abbrev pub codes_at : Elements → Option Node → Side → List ℕ → List �
 codes_at elements None s t = []
 codes_at elements (Some node) s t = own_codes elements node.kind node.joins s t
 
--- the line of a token at one side of a node, where there are so many lines
+-- the line of a token at one side of a node, where there are this many lines
 abbrev pub line_number : Elements → List Node → ℕ → ℕ → Side → List ℕ → ℕ
 line_number elements nodes lines n s t = fold mixed n (codes_at elements (slice_get nodes n) s t) % lines
 

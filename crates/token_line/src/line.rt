@@ -208,7 +208,7 @@ impl Line {
         self.entries.as_slice()
     }
 
-    /// Adds the entry at the end, and its task to the sum of its token. A left token of the task is kept with so many blockers.
+    /// Adds the entry at the end, and its task to the sum of its token. A left token of the task is kept with this many blockers.
     /// It looks for the token once, as `find` does. Where memory runs out, or a sum would not fit, nothing has changed.
     pub fn add(
         &mut self,

@@ -83,7 +83,7 @@ pub fn code_of(net: &Net, store: &Store, task: &Task) -> u64
     }
 }
 
-/// The line of the task's token, where there are so many lines. Looks at each test of the node, and takes no memory.
+/// The line of the task's token, where there are this many lines. Looks at each test of the node, and takes no memory.
 pub fn line_of(net: &Net, store: &Store, task: &Task, lines: usize) -> usize
     requires { 1 ≤ lines }
     ensures number { result ≡ line_number (held_of store.now) net.now.nodes lines task.now.node task.now.side task.now.token }

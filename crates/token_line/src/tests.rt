@@ -124,9 +124,15 @@ fn bring_all(alloc: Global, line: &mut Line, plus: bool, bound: u64) -> Result<(
 fn many_tokens_of_several_codes_come_and_go(rt: HostRuntime) -> Result<(), Fail> {
     let mut line = Line::new(rt.alloc(), 7);
     bring_all(rt.alloc(), &mut line, true, 30)?;
-    assert_eq!(rt; (kept(&line, 0), kept(&line, 1)), (Some((10, 0)), Some((10, 0))));
+    assert_eq!(rt;
+        (kept(&line, 0), kept(&line, 1)),
+        (Some((10, 0)), Some((10, 0)))
+    );
     assert_eq!(rt; (kept(&line, 2), kept(&line, 3)), (Some((10, 0)), None));
-    assert_eq!(rt; (sums(rt.alloc(), &line, 3)?, sums(rt.alloc(), &line, 4)?), ((1, 0), (0, 0)));
+    assert_eq!(rt;
+        (sums(rt.alloc(), &line, 3)?, sums(rt.alloc(), &line, 4)?),
+        ((1, 0), (0, 0))
+    );
     bring_all(rt.alloc(), &mut line, false, 29)?;
     assert_eq!(rt; (kept(&line, 1), kept(&line, 2)), (None, Some((1, 0))));
     bring_all(rt.alloc(), &mut line, false, 30)?;
@@ -169,7 +175,7 @@ fn elements_are_joined_by_their_values(rt: HostRuntime) -> Result<(), Fail> {
     Ok(())
 }
 
-// a line where that token is kept at the left of node 3, with so many blockers
+// a line where that token is kept at the left of node 3, with this many blockers
 #[tactic(auto, unfolding(crate::specs::Bags::sign_at))]
 fn line_of_one(alloc: Global, blockers: u64) -> Result<Line, OutOfMemory>
     ensures blockers { IfOk result (λ line. (t : List ℕ) → sum_in line 3 Left t ≢ pos 0 → blockers_in line 3 t ≡ blockers) }

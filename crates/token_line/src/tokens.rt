@@ -176,7 +176,7 @@ impl Room {
         Ok(())
     }
 
-    /// Keeps a new token behind the others.
+    /// Keeps a new token after the others.
     fn push(&mut self, token: Tags, cell: Cell) -> Result<(), OutOfMemory>
         requires { lookup (bytes_eq token) (pairs_in self.old) ≡ None }
         ensures ok { OnOk result (pairs_in self.new ≡ pairs_in self.old ++ (token, cell) ∷ []) }
@@ -263,7 +263,7 @@ impl Tokens {
         self.room.remove(place);
     }
 
-    /// Keeps a new token behind the others. The ninth makes a map of the list. Where memory runs out, nothing has changed.
+    /// Keeps a new token after the others. The ninth makes a map of the list. Where memory runs out, nothing has changed.
     pub(crate) fn push(
         &mut self,
         alloc: Global,
