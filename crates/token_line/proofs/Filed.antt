@@ -338,7 +338,7 @@ module _ (plus : Bool) where
 
         by : (a : Bool) → (n == node) ≡ a → (b : Bool) → matches t ≡ b
             → blockers_kept (cell_blocked (a && ((both.0 == code) && true)) b plus (filed_among old n both.0 Left t))
-              ≡ cond (a && b) (counted plus (blockers_kept (filed_among old n both.0 Left t))) (blockers_kept (filed_among old n both.0 Left t))
+            ≡ cond (a && b) (counted plus (blockers_kept (filed_among old n both.0 Left t))) (blockers_kept (filed_among old n both.0 Left t))
         by false p b q = refl
         by true p false q = unmatched ((both.0 == code) && true) (filed_among old n both.0 Left t)
         by true p true q =

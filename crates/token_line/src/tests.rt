@@ -124,9 +124,15 @@ fn bring_all(alloc: Global, line: &mut Line, plus: bool, bound: u64) -> Result<(
 fn many_tokens_of_several_codes_come_and_go(rt: HostRuntime) -> Result<(), Fail> {
     let mut line = Line::new(rt.alloc(), 7);
     bring_all(rt.alloc(), &mut line, true, 30)?;
-    assert_eq!(rt; (kept(&line, 0), kept(&line, 1)), (Some((10, 0)), Some((10, 0))));
+    assert_eq!(rt;
+        (kept(&line, 0), kept(&line, 1)),
+        (Some((10, 0)), Some((10, 0)))
+    );
     assert_eq!(rt; (kept(&line, 2), kept(&line, 3)), (Some((10, 0)), None));
-    assert_eq!(rt; (sums(rt.alloc(), &line, 3)?, sums(rt.alloc(), &line, 4)?), ((1, 0), (0, 0)));
+    assert_eq!(rt;
+        (sums(rt.alloc(), &line, 3)?, sums(rt.alloc(), &line, 4)?),
+        ((1, 0), (0, 0))
+    );
     bring_all(rt.alloc(), &mut line, false, 29)?;
     assert_eq!(rt; (kept(&line, 1), kept(&line, 2)), (None, Some((1, 0))));
     bring_all(rt.alloc(), &mut line, false, 30)?;
