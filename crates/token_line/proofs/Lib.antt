@@ -3,4 +3,5 @@ pub mod Fitting
 pub mod PairLemmas
 pub mod LineLemmas
 pub mod Filed
+pub mod Coded
 pub mod Blocked
