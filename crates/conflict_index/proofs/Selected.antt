@@ -1,7 +1,7 @@
--- Going through the members with the best so far ends with the one that outranks all others that have not fired.
-use Rattle.std.proofs.Common.{◌≡◌, ◌≢◌, List, [], ◌∷◌, fold, Bool, true, false, cond, not, ◌&&◌, Option, Some, None, refl, sym, ◌∙◌, subst, inl, inr}
-use Rattle.std.specs.Prelude.{IsTrue, Contains}
-use Rattle.std.specs.Option.{MatchOption}
+-- A member that none outranks is the one that fires.
+use Rattle.std.proofs.Common.{◌≡◌, ◌≢◌, ◌≤◌, Bor, Option, None, slice_get, List, [], ◌∷◌, length, Bool, true, false, cond, not, Some, refl, sym, ◌∙◌, subst, inl, inr, arith}
+use Rattle.std.specs.Prelude.{IsTrue, Contains, filter}
+use Rattle.std.specs.Option.{MatchOption, option_copied}
 use Rattle.std.proofs.lemmas.List.Elements.{All-contains}
 use Rattle.ops_base.specs.declared.commands.Strategy.{Strategy}
 use Rattle.ops_base.specs.declared.rules.Inst.{Inst}
@@ -12,83 +12,14 @@ use Rattle.ops_base.proofs.DominanceLaws.{dominant_only}
 use Rattle.ops_base.proofs.Members.{IsMember, member_from_contains, contains_from_member, member-map, map_member}
 use Rattle.ops_base.proofs.Filtered.{filter_member, all_before-filter}
 use Rattle.conflict_index.specs.Indexed.{Member, insts_of, waiting, outranks, KeepsSpecificities}
-use Rattle.conflict_index.specs.Selecting.{IsFirst, higher}
+use Rattle.conflict_index.specs.Selecting.{IsFirst, IsAt}
 use Rattle.conflict_index.proofs.Members.{MemberBefore, InOrder, one_member}
-use Rattle.conflict_index.proofs.Ranks.{outranks_itself, none_outranks, outranked, other_outranks, outranks-dominates}
+use Rattle.conflict_index.proofs.Ranks.{other_outranks, outranks-dominates}
 
 -- it is one of these, and none of them outranks it
 pub record IsUnsurpassed (strategy : Strategy) (members : List Member) (m : Member) : Type 0 where
   pub member : IsMember m members
   pub none : (n : Member) → IsMember n members → outranks strategy n m ≡ false
-
-itself_unsurpassed : (strategy : Strategy) (m : Member) → IsUnsurpassed strategy (m ∷ []) m
-itself_unsurpassed strategy m = record { member = inl refl; none = none }
-  where
-    none : (n : Member) → IsMember n (m ∷ []) → outranks strategy n m ≡ false
-    none n (inl e) =
-        let P : Member → Type 0 = λ w. outranks strategy w m ≡ false in subst P (sym e) (outranks_itself strategy m)
-    none n (inr h) = absurd h
-
--- one more that the best so far is not below changes nothing
-still_unsurpassed : (strategy : Strategy) (best x m : Member) (members : List Member) → outranks strategy x best ≡ false → IsUnsurpassed strategy (best ∷ members) m
-    → IsUnsurpassed strategy (best ∷ x ∷ members) m
-still_unsurpassed strategy best x m members f u = record { member = member u.member; none = none }
-  where
-    member : IsMember m (best ∷ members) → IsMember m (best ∷ x ∷ members)
-    member (inl e) = inl e
-    member (inr h) = inr (inr h)
-
-    none : (n : Member) → IsMember n (best ∷ x ∷ members) → outranks strategy n m ≡ false
-    none n (inl e) = u.none n (inl e)
-    none n (inr (inl e)) =
-        let P : Member → Type 0 = λ w. outranks strategy w m ≡ false in
-        subst P (sym e) (none_outranks strategy x best m f (u.none best (inl refl)))
-    none n (inr (inr h)) = u.none n (inr h)
-
--- where one more outranks the best so far, it takes its place
-newly_unsurpassed : (strategy : Strategy) (best x m : Member) (members : List Member) → outranks strategy x best ≡ true → IsUnsurpassed strategy (x ∷ members) m
-    → IsUnsurpassed strategy (best ∷ x ∷ members) m
-newly_unsurpassed strategy best x m members t u = record { member = inr u.member; none = none }
-  where
-    none : (n : Member) → IsMember n (best ∷ x ∷ members) → outranks strategy n m ≡ false
-    none n (inl e) =
-        let P : Member → Type 0 = λ w. outranks strategy w m ≡ false in
-        subst P (sym e) (none_outranks strategy best x m (outranked strategy x best t) (u.none x (inl refl)))
-    none n (inr h) = u.none n h
-
-abbrev Found : Strategy → Option Member → List Member → Type 0
-Found strategy o members = (m : Member) × (o ≡ Some m) × IsUnsurpassed strategy members m
-
-found_from : (strategy : Strategy) (best : Member) (members : List Member) → Found strategy (fold (higher strategy) (Some best) members) (best ∷ waiting members)
-found_from strategy best [] = (best, refl, itself_unsurpassed strategy best)
-found_from strategy best (x ∷ members) =
-    by_tests x.fired (outranks strategy x best) refl (found_from strategy best members) (found_from strategy x members)
-  where
-    by_tests : (fired above : Bool) → outranks strategy x best ≡ above
-        → Found strategy (fold (higher strategy) (Some best) members) (best ∷ waiting members)
-        → Found strategy (fold (higher strategy) (Some x) members) (x ∷ waiting members)
-        → Found strategy (fold (higher strategy) (cond (not fired && above) (Some x) (Some best)) members) (best ∷ cond (not fired) (x ∷ waiting members) (waiting members))
-    by_tests true above e same other = same
-    by_tests false true e same other =
-        (other.0, other.1, newly_unsurpassed strategy best x other.0 (waiting members) e other.2)
-    by_tests false false e same other =
-        (same.0, same.1, still_unsurpassed strategy best x same.0 (waiting members) e same.2)
-
--- what going through the members finds
-pub highest_is : (strategy : Strategy) (members : List Member)
-    → MatchOption (fold (higher strategy) None members) (waiting members ≡ []) (λ m. IsUnsurpassed strategy (waiting members) m)
-highest_is strategy [] = refl
-highest_is strategy (x ∷ members) = by_mark x.fired (highest_is strategy members) (found_from strategy x members)
-  where
-    by_mark : (fired : Bool)
-        → MatchOption (fold (higher strategy) None members) (waiting members ≡ []) (λ m. IsUnsurpassed strategy (waiting members) m)
-        → Found strategy (fold (higher strategy) (Some x) members) (x ∷ waiting members)
-        → MatchOption (fold (higher strategy) (cond fired None (Some x)) members) (cond (not fired) (x ∷ waiting members) (waiting members) ≡ [])
-        (λ m. IsUnsurpassed strategy (cond (not fired) (x ∷ waiting members) (waiting members)) m)
-    by_mark true later found = later
-    by_mark false later found =
-        let P : Option Member → Type 0 = λ o. MatchOption o (x ∷ waiting members ≡ []) (λ m. IsUnsurpassed strategy (x ∷ waiting members) m) in
-        subst P (sym found.1) found.2
 
 abbrev waits : Member → Bool
 waits m = not m.fired
@@ -128,9 +59,52 @@ is_dominant strategy rules members b kept u =
         (sym (outranks-dominates strategy rules b f.0 (keeps b u.member) (keeps f.0 f.1))
         ∙ other_outranks strategy f.0 b (u.none f.0 f.1) (λ e. differ (f.2 ∙ e)))
 
--- what the answer of a selection is to say, once for all
-pub selected : (strategy : Strategy) (members : List Member) (o : Option Member) → o ≡ fold (higher strategy) None members
-    → MatchOption o (waiting members ≡ []) (λ m. IsUnsurpassed strategy (waiting members) m)
-selected strategy members o e =
-    let P : Option Member → Type 0 = λ w. MatchOption w (waiting members ≡ []) (λ m. IsUnsurpassed strategy (waiting members) m) in
-    subst P (sym e) (highest_is strategy members)
+none_of : (p : Member → Bool) (members : List Member) → length (filter p members) ≡ 0 → (m : Member) → IsMember m members → p m ≡ false
+none_of p [] e m h = absurd h
+none_of p (x ∷ members) e m h = by_test (p x) refl e h (λ f g. none_of p members f m g)
+  where
+    by_test : (b : Bool) → p x ≡ b → length (cond b (x ∷ filter p members) (filter p members)) ≡ 0 → IsMember m (x ∷ members)
+        → (length (filter p members) ≡ 0 → IsMember m members → p m ≡ false) → p m ≡ false
+    by_test true t e h later = absurd (omega (arith, e))
+    by_test false t e (inl same) later = (λ i. p (same i)) ∙ t
+    by_test false t e (inr g) later = later e g
+
+-- the member at the first place is outranked by none
+pub first_unsurpassed : (strategy : Strategy) (members : List Member) (i : Inst) → IsAt strategy members 0 i → (m : Member) × (m.inst ≡ i) × IsUnsurpassed strategy (waiting members) m
+first_unsurpassed strategy members i a = (
+  a.member.0,
+  a.member.2,
+  record {
+    member = member_from_contains a.member.0 (waiting members) a.member.1;
+    none = none_of (λ n. outranks strategy n a.member.0) (waiting members) a.member.3;
+  },
+)
+
+pub none_waits : (members : List Member) → length members ≤ 0 → members ≡ []
+none_waits [] l = refl
+none_waits (m ∷ members) l = absurd (omega (arith, l))
+
+abbrev Selects : Strategy → List Member → Option (Bor Inst) → Type 0
+Selects strategy members o =
+    MatchOption o (waiting members ≡ []) (λ i. (m : Member) × (m.inst ≡ i.now) × IsUnsurpassed strategy (waiting members) m)
+
+-- the first of those in the order of dominance
+pub selected : (strategy : Strategy) (members : List Member) (list rest : List Inst) (o : Option (Bor Inst)) → MatchOption o ((list ≡ []) × (rest ≡ [])) (λ x. list ≡ x.now ∷ rest)
+    → MatchOption (slice_get list 0) (length (waiting members) ≤ 0) (λ i. IsAt strategy members 0 i) → Selects strategy members o
+selected strategy members list rest None h a =
+    let P : List Inst → Type 0 = λ is. MatchOption (slice_get is 0) (length (waiting members) ≤ 0) (λ i. IsAt strategy members 0 i) in
+    none_waits (waiting members) (subst P h.0 a)
+selected strategy members list rest (Some x) h a =
+    let P : List Inst → Type 0 = λ is. MatchOption (slice_get is 0) (length (waiting members) ≤ 0) (λ i. IsAt strategy members 0 i) in
+    first_unsurpassed strategy members x.now (subst P h a)
+
+pub selects_first : (strategy : Strategy) (members : List Member) (o : Option (Bor Inst)) → InOrder members → Selects strategy members o
+    → MatchOption o (waiting members ≡ []) (λ i. IsFirst strategy members i.now)
+selects_first strategy members None order s = s
+selects_first strategy members (Some x) order s = subst (IsFirst strategy members) s.1 (is_first strategy members s.0 order s.2)
+
+pub selects_dominant : (strategy : Strategy) (rules : List Rule) (members : List Member) (o : Option (Bor Inst)) → KeepsSpecificities rules members → Selects strategy members o
+    → option_copied o ≡ dominant strategy rules (insts_of (waiting members))
+selects_dominant strategy rules members None kept s = sym (λ i. dominant strategy rules (insts_of (s i)))
+selects_dominant strategy rules members (Some x) kept s =
+    sym (is_dominant strategy rules members s.0 kept s.2 ∙ (λ i. Some (s.1 i)))

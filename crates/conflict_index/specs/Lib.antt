@@ -2,4 +2,5 @@
 pub mod Indexed
 pub mod Applying
 pub mod Selecting
-pub mod Merging
+pub mod Ranking
+pub mod Keeping

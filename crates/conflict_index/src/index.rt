@@ -1,93 +1,42 @@
 //! The index of the conflict set.
-ghost use Rattle.std.specs.Prelude.{◌≡◌, ◌≤◌, ℕ, List, [], length, find, fold, position, count_by, MatchOption, OnOk, OnErr, Contains, Some, None, not, ◌&&◌};
+ghost use Rattle.std.specs.Prelude.{◌≡◌, ◌≤◌, ℕ, List, [], length, slice_get, MatchOption, OnOk, OnErr, Contains};
 ghost use Rattle.std.specs.Option.{option_copied};
 ghost use Rattle.ops_base.specs.declared.rules.Rule.{Rule};
 ghost use Rattle.ops_base.specs.Instances.{IsInOrder, AreOf};
-ghost use Rattle.ops_base.specs.Refraction.{is_same_inst, dominant};
+ghost use Rattle.ops_base.specs.Refraction.{dominant};
 ghost use Rattle.conflict_index.specs.Indexed.{Indexed, nothing_indexed, insts_of, waiting, KeepsSpecificities};
 ghost use Rattle.conflict_index.specs.Applying.{IsApplied, IsPart, IsApart, marked};
-ghost use Rattle.conflict_index.specs.Selecting.{IsFirst, IsAt, higher, rank, stands_at};
+ghost use Rattle.conflict_index.specs.Selecting.{IsFirst, IsAt};
 
-use crate::entry::Entry;
-use crate::merge::{merge, newcomers};
+use crate::order::ByDominance;
+use crate::standing::{Fired, Waiting, add, is_last, mark_in_place, put, ranked, ranked_anew, ranks_of, remove_all};
 use ops_base::commands::Strategy;
 use ops_base::memory::OutOfMemory;
 use ops_base::programs::Program;
 use ops_base::rules::Inst;
 use std::alloc::Global;
+use std::collections::{BTreeMap, HashMap};
 use std::marker::Model;
-use std::mem;
 
-/// The conflict set. A member keeps its key, which is made once, and its mark for as long as it stays.
+/// The conflict set. A member keeps its key, which is made once, for as long as it stays.
 #[derive(Drop)]
 pub struct Index {
     alloc: Global,
     strategy: Strategy,
-    members: Vec<Entry>,
+    waiting: Waiting,
+    fired: Fired,
 }
 
 impl Model for Index {
-    ghost use Rattle.conflict_index.specs.Indexed.{Indexed, insts_of};
-    ghost use Rattle.ops_base.specs.Instances.{IsInOrder};
+    ghost use Rattle.std.specs.HashMap.{spare};
+    ghost use Rattle.conflict_index.specs.Indexed.{Indexed};
+    ghost use Rattle.conflict_index.specs.Keeping.{members_of, IsKept};
 
     ghost Value = { Indexed };
 
-    ghost view = { λ x. record { strategy = x.strategy; members = x.members.items } };
+    ghost view = { λ x. record { strategy = x.strategy; members = members_of x.waiting.entries x.fired.entries } };
 
-    ghost invariant = { λ x. IsInOrder (insts_of x.members.items) };
-}
-
-/// The one of two that outranks the other, where the second has not fired.
-fn higher<'a>(strategy: Strategy, best: Option<&'a Entry>, entry: &'a Entry) -> Option<&'a Entry>
-    ensures { option_copied result ≡ higher strategy (option_copied best.entry) entry.now }
-{
-    if entry.is_fired() {
-        return best;
-    }
-    match best {
-        None => Some(entry),
-        Some(other) => {
-            if entry.outranks(strategy, other) {
-                Some(entry)
-            } else {
-                best
-            }
-        }
-    }
-}
-
-/// Of those that have not fired, the one that outranks the others.
-fn highest(strategy: Strategy, members: &[Entry]) -> Option<&Entry>
-    ensures { option_copied result ≡ fold (higher strategy) None members.now }
-{
-    let mut best = None;
-    for entry in members {
-        best = higher(strategy, best, entry);
-    }
-    best
-}
-
-/// How many of those that have not fired outrank this one.
-fn rank(strategy: Strategy, members: &[Entry], entry: &Entry) -> usize
-    ensures { result ≡ rank strategy members.now entry.now }
-{
-    members
-        .iter()
-        .filter(|other| !other.is_fired() && other.outranks(strategy, entry))
-        .count()
-}
-
-/// The first that has not fired and that so many others outrank.
-fn at_place(strategy: Strategy, members: &[Entry], place: usize) -> Option<&Entry>
-    ensures { option_copied result ≡ find (stands_at strategy members.now place) members.now }
-{
-    members.iter().find(|entry| !entry.is_fired() && rank(strategy, members, entry) == place)
-}
-
-fn place_of(members: &[Entry], inst: &Inst) -> Option<usize>
-    ensures { result ≡ position (λ m. is_same_inst m.inst inst.now) members.now }
-{
-    members.iter().position(|entry| entry.is_of(inst))
+    ghost invariant = { λ x. IsKept x.strategy x.waiting.entries x.fired.entries (spare x.fired) };
 }
 
 impl Index {
@@ -98,7 +47,8 @@ impl Index {
         Index {
             alloc,
             strategy: Strategy::Lex,
-            members: Vec::new(alloc),
+            waiting: BTreeMap::new(alloc),
+            fired: HashMap::new(alloc),
         }
     }
 
@@ -111,9 +61,10 @@ impl Index {
 
     /// Takes those that are gone out, with their marks, and adds those that come. Where memory runs out nothing has changed.
     ///
-    /// However few change, it moves every member into a new list, which is made before the old one is let go. That takes two
-    /// comparisons for each member at most and one for each newcomer, by production and by tags up to the first that
-    /// differs. For each newcomer it copies the tags three times, and sorts one of the copies.
+    /// It costs what goes and what comes, and not what stays: for each a key is made, which copies the tags and sorts
+    /// the copy, and is looked for by a number of comparisons that grows with the logarithm of the number of members. For each
+    /// that comes the tags are copied once more. Only where room for more marks is made, or where memory runs out while
+    /// members are added, it goes over those that are there.
     pub fn apply(
         &mut self,
         program: &Program,
@@ -132,54 +83,71 @@ impl Index {
         ensures kept { OnOk result (KeepsSpecificities program.now.rules self.new.members) }
         ensures err { OnErr result (self.new ≡ self.old) }
     {
-        let fresh = newcomers(self.alloc, program, come)?;
-        let mut all = Vec::new(self.alloc);
-        all.reserve(self.members.len() + fresh.len())?;
-        let members = mem::replace(&mut self.members, all);
-        merge(members, gone, fresh, &mut self.members);
+        let leaving = ranks_of(self.alloc, self.strategy, program, gone)?;
+        let coming = ranked(self.alloc, self.strategy, program, come)?;
+        self.fired.reserve(self.waiting.len() + come.len())?;
+        add(&mut self.waiting, coming, come)?;
+        remove_all(&mut self.waiting, &mut self.fired, leaving.as_slice());
         Ok(())
     }
 
-    /// Marks a member as fired. Takes no memory. It looks for the member from the front, so it costs a comparison of
-    /// productions and tags for each member up to it.
+    /// Marks a member as fired. Takes no memory. Where it is the one that `select` answers, it costs a number of comparisons
+    /// that does not grow with the members. Where it is another it is looked for among those that have not fired, which
+    /// compares productions and tags with each up to it.
     pub fn mark(&mut self, inst: &Inst)
         requires { Contains (insts_of self.old.members) inst.now }
         ensures { self.new ≡ record self.old { members = marked inst.now self.old.members } }
     {
-        if let Some(place) = place_of(self.members.as_slice(), inst) {
-            self.members[place].mark();
+        if !is_last(&self.waiting, inst) {
+            mark_in_place(&mut self.waiting, inst);
+            return;
+        }
+        if let Some((rank, held)) = self.waiting.pop_last() {
+            put(&mut self.fired, rank.key, held.inst);
         }
     }
 
-    /// Lets another strategy decide what `select` and `nth` answer from now on. Members, keys and marks stay as they are, and
-    /// nothing is sorted anew. Takes no memory, and answers `Ok` always.
+    /// Lets another strategy decide what `select` and `nth` answer from now on. Members and marks stay as they are. Those that
+    /// have not fired are copied with their keys into a new order, so it costs their number times its logarithm. Where
+    /// memory runs out nothing has changed.
     pub fn set_strategy(&mut self, strategy: Strategy) -> Result<(), OutOfMemory>
         ensures ok { OnOk result (self.new ≡ record self.old { strategy = strategy }) }
         ensures err { OnErr result (self.new ≡ self.old) }
     {
+        self.waiting = ranked_anew(self.alloc, strategy, &self.waiting)?;
         self.strategy = strategy;
         Ok(())
     }
 
-    /// The dominant one of those that have not fired. Takes no memory, and goes once over the members, each of which is
-    /// compared once at most.
+    /// The dominant one of those that have not fired. Takes no memory, and a time that grows with the logarithm of their
+    /// number.
     pub fn select(&self) -> Option<&Inst>
         ensures first { MatchOption result (waiting self.now.members ≡ [])
             (λ i. IsFirst self.now.strategy self.now.members i.now) }
         ensures dominant { (rules : List Rule) → KeepsSpecificities rules self.now.members
             → option_copied result ≡ dominant self.now.strategy rules (insts_of (waiting self.now.members)) }
     {
-        let first = highest(self.strategy, self.members.as_slice())?;
-        Some(first.inst())
+        self.by_dominance().next()
     }
 
-    /// The one that has not fired at that place, from 0, in the order of dominance. Takes no memory, and compares each of those
-    /// that have not fired with each.
+    /// Those that have not fired, the dominant one first: at each place the one that `nth` answers. Takes no memory. All of
+    /// them together take a time in proportion to their number.
+    pub fn by_dominance(&self) -> ByDominance<'_>
+        ensures places { (place : ℕ) → MatchOption (slice_get result place) (length (waiting self.now.members) ≤ place)
+            (λ i. IsAt self.now.strategy self.now.members place i) }
+        ensures in_order { IsInOrder (insts_of self.now.members) }
+    {
+        ByDominance {
+            held: self.waiting.values(),
+        }
+    }
+
+    /// The one that has not fired at that place, from 0, in the order of dominance. Takes no memory, and walks there from the
+    /// dominant one: to see all of them take `by_dominance`.
     pub fn nth(&self, i: usize) -> Option<&Inst>
         ensures { MatchOption result (length (waiting self.now.members) ≤ i)
             (λ j. IsAt self.now.strategy self.now.members i j.now) }
     {
-        let entry = at_place(self.strategy, self.members.as_slice(), i)?;
-        Some(entry.inst())
+        self.by_dominance().nth(i)
     }
 }

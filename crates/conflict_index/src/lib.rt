@@ -1,13 +1,15 @@
-//! The conflict set as an index: its members in the order of rule and tags, each with its key and with the mark of those that
-//! have fired.
+//! The conflict set as an index: those of its members that have not fired in the order of dominance, and those that have.
 #![tactic(auto)]
 
-mod entry;
 mod index;
 mod laws;
-mod merge;
+mod order;
+mod rank;
+mod standing;
+
 #[cfg(test)]
 mod tests;
 
 pub use index::Index;
 pub use laws::outranking_is_dominance;
+pub use order::ByDominance;

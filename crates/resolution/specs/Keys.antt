@@ -1,8 +1,8 @@
 -- Which key an instantiation has, and how keys compare.
-use Rattle.std.specs.Prelude.{◌≡◌, List}
+use Rattle.std.specs.Prelude.{◌≡◌, List, Bool, nat_eq}
 use Rattle.std.specs.declared.cmp.Ordering.{Ordering}
-use Rattle.std.specs.Ordering.{nat_cmp, ordering_then}
-use Rattle.std.specs.Cmp.Lexicographic.{slice_cmp}
+use Rattle.std.specs.Ordering.{nat_cmp, ordering_then, on, eq_of_both}
+use Rattle.std.specs.Cmp.Lexicographic.{slice_cmp, pointwise}
 use Rattle.ops_base.specs.declared.commands.Strategy.{Strategy}
 use Rattle.ops_base.specs.declared.commands.Strategy.TheVariants.{Lex, Mea}
 use Rattle.ops_base.specs.declared.rules.Inst.{Inst}
@@ -18,13 +18,22 @@ pub record IsKey (rules : List Rule) (i : Inst) (k : Key) : Type 0 where
   pub rule_is : k.rule ≡ i.rule
   pub tags_is : k.tags ≡ i.tags
 
+-- what decides between keys with the same tags from the greatest down
+abbrev pub compare_keys_production : Key → Key → Ordering
+compare_keys_production a b =
+    ordering_then (nat_cmp a.specificity b.specificity)
+    (ordering_then (nat_cmp b.rule a.rule) (slice_cmp nat_cmp a.tags b.tags))
+
 abbrev pub compare_keys_lex : Key → Key → Ordering
-compare_keys_lex a b =
-    ordering_then (slice_cmp nat_cmp a.sorted b.sorted)
-    (ordering_then (nat_cmp a.specificity b.specificity)
-    (ordering_then (nat_cmp b.rule a.rule) (slice_cmp nat_cmp a.tags b.tags)))
+compare_keys_lex a b = ordering_then (slice_cmp nat_cmp a.sorted b.sorted) (compare_keys_production a b)
 
 -- keys compare as the instantiations that they are of
 abbrev pub compare_keys : Strategy → Key → Key → Ordering
 compare_keys Lex a b = compare_keys_lex a b
 compare_keys Mea a b = ordering_then (nat_cmp a.first b.first) (compare_keys_lex a b)
+
+-- the two keys have the same parts
+abbrev pub same_keys : Key → Key → Bool
+same_keys =
+    eq_of_both (on (λ k. k.rule) nat_eq) (eq_of_both (on (λ k. k.specificity) nat_eq) (eq_of_both (on (λ k. k.first) nat_eq)
+    (eq_of_both (on (λ k. k.sorted) (pointwise nat_eq)) (on (λ k. k.tags) (pointwise nat_eq)))))

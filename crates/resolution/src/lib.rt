@@ -8,9 +8,10 @@ ghost use Rattle.std.specs.Ordering.{MatchOrdering};
 ghost use Rattle.ops_base.specs.declared.rules.Inst.{Inst};
 ghost use Rattle.ops_base.specs.declared.rules.Rule.{Rule};
 ghost use Rattle.ops_base.specs.Dominance.{downwards, compare_insts, dominates};
-ghost use Rattle.resolution.specs.Keys.{IsKey, compare_keys, compare_keys_lex};
+ghost use Rattle.resolution.specs.Keys.{IsKey, compare_keys, compare_keys_lex, compare_keys_production};
 
 mod keys;
+mod sameness;
 
 pub use crate::keys::Key;
 use ops_base::commands::Strategy;
@@ -66,15 +67,27 @@ pub fn key(alloc: Global, program: &Program, inst: &Inst) -> Result<Key, OutOfMe
     key_of(alloc, inst.rule, rule.specificity, inst.tags.as_slice())
 }
 
+/// Decides between instantiations whose tags are the same from the greatest down.
+fn compare_by_production(a: &Key, b: &Key) -> Ordering
+    ensures { result ≡ compare_keys_production a.now b.now }
+{
+    match a.specificity.cmp(&b.specificity) {
+        Ordering::Equal => {}
+        decided => return decided,
+    }
+    match b.rule.cmp(&a.rule) {
+        Ordering::Equal => a.tags.as_slice().cmp(b.tags.as_slice()),
+        decided => decided,
+    }
+}
+
 fn compare_by_lex(a: &Key, b: &Key) -> Ordering
     ensures { result ≡ compare_keys_lex a.now b.now }
 {
-    a.sorted
-        .as_slice()
-        .cmp(b.sorted.as_slice())
-        .then(a.specificity.cmp(&b.specificity))
-        .then(b.rule.cmp(&a.rule))
-        .then_with(|| a.tags.as_slice().cmp(b.tags.as_slice()))
+    match a.sorted.as_slice().cmp(b.sorted.as_slice()) {
+        Ordering::Equal => compare_by_production(a, b),
+        decided => decided,
+    }
 }
 
 fn compare_by(strategy: Strategy, a: &Key, b: &Key) -> Ordering
@@ -82,12 +95,15 @@ fn compare_by(strategy: Strategy, a: &Key, b: &Key) -> Ordering
 {
     match strategy {
         Strategy::Lex => compare_by_lex(a, b),
-        Strategy::Mea => a.first.cmp(&b.first).then_with(|| compare_by_lex(a, b)),
+        Strategy::Mea => match a.first.cmp(&b.first) {
+            Ordering::Equal => compare_by_lex(a, b),
+            decided => decided,
+        },
     }
 }
 
 /// Compares the instantiations of two keys: greater where the first dominates, less where the second does. It takes no
-/// memory, and looks at no tag behind the first that differs.
+/// memory, and ends at the first part that decides: it looks at no tag after the first that differs.
 pub fn compare(strategy: Strategy, a: &Key, b: &Key) -> Ordering
     ensures dominance { (rules : List Rule) (i j : Inst)
         → IsKey rules i a.now → IsKey rules j b.now

@@ -4,7 +4,7 @@ use Rattle.ops_base.specs.declared.rules.Inst.{Inst}
 use Rattle.ops_base.specs.Instances.{AreOf}
 use Rattle.conflict_index.specs.Indexed.{Indexed, insts_of, KeepsSpecificities}
 use Rattle.conflict_index.proofs.AppliedInsts.{marked_keeps}
-use Rattle.conflict_index.proofs.Marks.{insts_of_marked}
+use Rattle.conflict_index.proofs.Marking.{insts_of_marked}
 use Rattle.conflict_index.proofs.tests.fire.Goals as goal
 
 pub returns-clause-members : goal.returns-clause-members

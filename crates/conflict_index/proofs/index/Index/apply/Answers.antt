@@ -1,46 +1,111 @@
-use Rattle.std.proofs.Common.{◌≡◌, List, sym, subst}
-use Rattle.ops_base.specs.Instances.{IsInOrder}
-use Rattle.conflict_index.specs.Indexed.{Member, Indexed, insts_of, KeepsSpecificities}
+use Rattle.std.proofs.Common.{◌≡◌, ◌+◌, ◌≤◌, List, map, length, ap, sym, ◌∙◌, subst, arith}
+use Rattle.std.specs.Prelude.{Contains}
+use Rattle.std.specs.Prelude.{Result, Ok, Err, OnErr}
+use Rattle.std.specs.HashMap.{spare}
+use Rattle.std.proofs.lemmas.List.{length-map}
+use Rattle.ops_base.specs.declared.rules.Inst.{Inst}
+use Rattle.resolution.specs.declared.keys.Key.{Key}
+use Rattle.conflict_index.specs.declared.rank.Held.{Held}
+use Rattle.conflict_index.specs.declared.rank.Rank.{Rank}
 use Rattle.conflict_index.specs.Applying.{IsApplied}
-use Rattle.conflict_index.proofs.Applied.{can_apply, applied, applied_from, applied_in_order, is_applied, applied_keeps}
+use Rattle.conflict_index.specs.Indexed.{Member, Indexed}
+use Rattle.conflict_index.specs.Keeping.{rank_in, arrival, AreToldApart, Gains, Loses, members_of}
+use Rattle.conflict_index.proofs.Kept.{same_from_permutation, moved_view, moved_kept}
+use Rattle.conflict_index.proofs.Applying.{CanApply, can_apply, come_apart, come_among, told_apart, IsChanged, changed_kept, changed_is, changed_keeps}
 use Rattle.conflict_index.proofs.index.Index.apply.Goals as goal
 
 pub invariant_of-self : goal.invariant_of-self
 invariant_of-self c =
-    let old : Indexed = record { strategy = c.self.inside.strategy; members = c.self.inside.members.items } in
+    moved_kept c.self.inside.strategy c.self.inside.waiting.entries c.self.inside.waiting.entries c.self.inside.fired.entries c.reserve.new.self.entries (spare c.self.inside.fired) (spare c.reserve.new.self)
+    c.self.invariant (λ i. c.self.inside.waiting.entries) (same_from_permutation c.self.inside.fired.entries c.reserve.new.self.entries c.reserve.ensures.entries.0)
+    c.reserve.ensures.unique c.reserve.ensures.spare
+
+pub add-requires-clause-told_apart : goal.add-requires-clause-told_apart
+add-requires-clause-told_apart c =
     let rules = c.args.program.now.rules in
-    let gone = c.args.gone.now in
     let come = c.args.come.now in
-    let can = can_apply gone come old c.args.self.now c.self.view_is c.self.invariant c.requires.part c.requires.apart c.requires.gone_in_order c.requires.come_in_order in
-    let all : c.merge.new.all.items ≡ applied rules gone come old.members =
-    applied_from rules gone come c.replace-members.new.dest.items c.replace-members.result.items c.in_ok-fresh.fresh.items c.merge.new.all.items old.members
-    c.merge.ensures (cc) (cc) c.in_ok-fresh.ensures in
-    let P : List Member → Type 0 = λ ms. IsInOrder (insts_of ms) in
-    subst P (sym all) (applied_in_order rules gone come old.members can)
+    let can = can_apply c.self.inside.strategy rules c.args.gone.now come c.self.inside.waiting.entries c.self.inside.fired.entries (spare c.self.inside.fired) c.args.self.now c.self.view_is c.self.invariant c.requires.part c.requires.apart c.requires.specificities in
+    let P : List (Rank × Held) → Type 0 = AreToldApart c.self.inside.waiting.entries in
+    subst P (sym c.in_ok-coming.ensures)
+    (told_apart c.self.inside.strategy rules c.args.gone.now come c.self.inside.waiting.entries c.self.inside.fired.entries (spare c.self.inside.fired) can)
+
+pub add-requires-clause-apart : goal.add-requires-clause-apart
+add-requires-clause-apart c =
+    let rules = c.args.program.now.rules in
+    let come = c.args.come.now in
+    let can = can_apply c.self.inside.strategy rules c.args.gone.now come c.self.inside.waiting.entries c.self.inside.fired.entries (spare c.self.inside.fired) c.args.self.now c.self.view_is c.self.invariant c.requires.part c.requires.apart c.requires.specificities in
+    come_apart c.self.inside.strategy rules c.args.gone.now come c.self.inside.waiting.entries c.self.inside.fired.entries (spare c.self.inside.fired) can
+
+pub add-requires-clause-among : goal.add-requires-clause-among
+add-requires-clause-among c =
+    let rules = c.args.program.now.rules in
+    let come = c.args.come.now in
+    let can = can_apply c.self.inside.strategy rules c.args.gone.now come c.self.inside.waiting.entries c.self.inside.fired.entries (spare c.self.inside.fired) c.args.self.now c.self.view_is c.self.invariant c.requires.part c.requires.apart c.requires.specificities in
+    let P : List (Rank × Held) → Type 0 = λ es. (e : Rank × Held) → Contains es e → Contains come e.1.inst in
+    subst P (sym c.in_ok-coming.ensures)
+    (come_among c.self.inside.strategy rules c.args.gone.now come c.self.inside.waiting.entries c.self.inside.fired.entries (spare c.self.inside.fired) can)
+
+pub invariant_of-self-in_err-add : goal.invariant_of-self-in_err-add
+invariant_of-self-in_err-add c =
+    moved_kept c.self.inside.strategy c.self.inside.waiting.entries c.add.new.waiting.entries c.self.inside.fired.entries c.reserve.new.self.entries (spare c.self.inside.fired) (spare c.reserve.new.self)
+    c.self.invariant c.in_err-add.ensures.err (same_from_permutation c.self.inside.fired.entries c.reserve.new.self.entries c.reserve.ensures.entries.0)
+    c.reserve.ensures.unique c.reserve.ensures.spare
+
+on_err : {T E : Type 0} (r : Result T E) (P : Type 0) → P → OnErr r P
+on_err (Ok x) P h = tt
+on_err (Err e) P h = h
+
+pub returns-in_err-add-clause-err : goal.returns-in_err-add-clause-err
+returns-in_err-add-clause-err c =
+    on_err c.from_residual-in_err-add.result _
+    (ap (λ (ms : List Member). record { strategy = c.self.inside.strategy; members = ms })
+    (moved_view c.self.inside.strategy c.self.inside.waiting.entries c.add.new.waiting.entries c.self.inside.fired.entries c.reserve.new.self.entries (spare c.self.inside.fired)
+    c.self.invariant c.in_err-add.ensures.err (same_from_permutation c.self.inside.fired.entries c.reserve.new.self.entries c.reserve.ensures.entries.0))
+    ∙ c.self.view_is)
+
+-- what was known at the call
+can : (c : goal.After-drop-leaving-2) → CanApply c.self.inside.strategy c.args.program.now.rules c.args.gone.now c.args.come.now c.self.inside.waiting.entries c.self.inside.fired.entries (spare c.self.inside.fired)
+can c =
+    can_apply c.self.inside.strategy c.args.program.now.rules c.args.gone.now c.args.come.now c.self.inside.waiting.entries c.self.inside.fired.entries (spare c.self.inside.fired)
+    c.args.self.now c.self.view_is c.self.invariant c.requires.part c.requires.apart c.requires.specificities
+
+-- what was done
+changed : (c : goal.After-drop-leaving-2)
+    → IsChanged c.self.inside.strategy c.args.program.now.rules c.args.gone.now c.args.come.now c.self.inside.waiting.entries c.add.new.waiting.entries c.remove_all.new.waiting.entries
+    c.self.inside.fired.entries c.reserve.new.self.entries c.remove_all.new.fired.entries
+changed c =
+    let G : List (Rank × Held) → Type 0 = λ es. Gains es c.self.inside.waiting.entries c.add.new.waiting.entries in
+    let L : List Rank → Type 0 = λ rs. Loses rs c.add.new.waiting.entries c.remove_all.new.waiting.entries in
+    let M : List Rank → Type 0 = λ rs. Loses (map (λ (r : Rank). r.key) rs) c.reserve.new.self.entries c.remove_all.new.fired.entries in
+    let ranks : c.as_slice.result.now ≡ map (rank_in c.self.inside.strategy c.args.program.now.rules) c.args.gone.now = c.as_slice.ensures.value ∙ c.in_ok-leaving.ensures in
+    record {
+      gains = subst G c.in_ok-coming.ensures c.in_ok-add.ensures.ok;
+      loses = subst L ranks c.remove_all.ensures.waiting;
+      same = same_from_permutation c.self.inside.fired.entries c.reserve.new.self.entries c.reserve.ensures.entries.0;
+      loses_marks = subst M ranks c.remove_all.ensures.fired;
+    }
+
+pub invariant_of-self-2 : goal.invariant_of-self-2
+invariant_of-self-2 c =
+    let rules = c.args.program.now.rules in
+    let come = c.args.come.now in
+    let number : length c.in_ok-coming.coming.items ≡ length come =
+    ap length c.in_ok-coming.ensures ∙ length-map come (arrival c.self.inside.strategy rules) in
+    changed_kept c.self.inside.strategy rules c.args.gone.now come c.self.inside.waiting.entries c.self.inside.fired.entries (spare c.self.inside.fired) (can c)
+    c.add.new.waiting.entries c.remove_all.new.waiting.entries c.reserve.new.self.entries c.remove_all.new.fired.entries (changed c) (spare c.remove_all.new.fired)
+    c.remove_all.ensures.ordered c.remove_all.ensures.unique
+    (omega (arith, number, c.in_ok-reserve.ensures.ok, c.len.ensures.len, c.add.ensures.number, c.remove_all.ensures.number, c.remove_all.ensures.spare))
 
 pub returns-clause-ok : goal.returns-clause-ok
 returns-clause-ok c =
-    let old : Indexed = record { strategy = c.self.inside.strategy; members = c.self.inside.members.items } in
     let rules = c.args.program.now.rules in
-    let gone = c.args.gone.now in
-    let come = c.args.come.now in
-    let can = can_apply gone come old c.args.self.now c.self.view_is c.self.invariant c.requires.part c.requires.apart c.requires.gone_in_order c.requires.come_in_order in
-    let all : c.merge.new.all.items ≡ applied rules gone come old.members =
-    applied_from rules gone come c.replace-members.new.dest.items c.replace-members.result.items c.in_ok-fresh.fresh.items c.merge.new.all.items old.members
-    c.merge.ensures (cc) (cc) c.in_ok-fresh.ensures in
-    let P : List Member → Type 0 = λ ms. IsApplied rules gone come old (record { strategy = old.strategy; members = ms }) in
-    let Q : Indexed → Type 0 = λ v. IsApplied rules gone come v (record { strategy = old.strategy; members = c.merge.new.all.items }) in
-    subst Q c.self.view_is (subst P (sym all) (is_applied rules gone come old can))
+    let next : Indexed = record { strategy = c.self.inside.strategy; members = members_of c.remove_all.new.waiting.entries c.remove_all.new.fired.entries } in
+    let Q : Indexed → Type 0 = λ v. IsApplied rules c.args.gone.now c.args.come.now v next in
+    subst Q c.self.view_is
+    (changed_is c.self.inside.strategy rules c.args.gone.now c.args.come.now c.self.inside.waiting.entries c.self.inside.fired.entries (spare c.self.inside.fired) (can c)
+    c.add.new.waiting.entries c.remove_all.new.waiting.entries c.reserve.new.self.entries c.remove_all.new.fired.entries (changed c))
 
 pub returns-clause-kept : goal.returns-clause-kept
 returns-clause-kept c =
-    let old : Indexed = record { strategy = c.self.inside.strategy; members = c.self.inside.members.items } in
-    let rules = c.args.program.now.rules in
-    let gone = c.args.gone.now in
-    let come = c.args.come.now in
-    let all : c.merge.new.all.items ≡ applied rules gone come old.members =
-    applied_from rules gone come c.replace-members.new.dest.items c.replace-members.result.items c.in_ok-fresh.fresh.items c.merge.new.all.items old.members
-    c.merge.ensures (cc) (cc) c.in_ok-fresh.ensures in
-    let P : List Member → Type 0 = KeepsSpecificities rules in
-    let Q : Indexed → Type 0 = λ v. KeepsSpecificities rules v.members in
-    subst P (sym all) (applied_keeps rules gone come old.members (subst Q (sym c.self.view_is) c.requires.specificities))
+    changed_keeps c.self.inside.strategy c.args.program.now.rules c.args.gone.now c.args.come.now c.self.inside.waiting.entries c.self.inside.fired.entries (spare c.self.inside.fired) (can c)
+    c.add.new.waiting.entries c.remove_all.new.waiting.entries c.reserve.new.self.entries c.remove_all.new.fired.entries (changed c)

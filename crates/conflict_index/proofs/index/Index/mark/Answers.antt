@@ -1,43 +1,47 @@
-use Rattle.std.proofs.Common.{◌≡◌, List, set, position, Some, None, ap, sym, ◌∙◌, subst}
-use Rattle.ops_base.specs.declared.rules.Inst.{Inst}
-use Rattle.ops_base.specs.Instances.{IsInOrder}
-use Rattle.ops_base.specs.Refraction.{is_same_inst}
-use Rattle.conflict_index.specs.Indexed.{Member, Indexed, insts_of}
+use Rattle.std.proofs.Common.{◌≡◌, ◌<◌, List, [], ◌∷◌, length, ap, sym, ◌∙◌, subst, inl}
+use Rattle.std.specs.Prelude.{is_some}
+use Rattle.std.proofs.lemmas.Bool.{false≢true}
+use Rattle.std.specs.HashMap.{spare}
+use Rattle.ops_base.proofs.Members.{IsMember, member_right}
+use Rattle.conflict_index.specs.declared.rank.Held.{Held}
+use Rattle.conflict_index.specs.declared.rank.Rank.{Rank}
+use Rattle.conflict_index.specs.Indexed.{Member, Indexed}
 use Rattle.conflict_index.specs.Applying.{marked}
-use Rattle.conflict_index.proofs.Members.{members_in_order}
-use Rattle.conflict_index.proofs.Marks.{with_mark, insts_of_marked, none_marked, found_marked}
+use Rattle.conflict_index.proofs.Marking.{marked_view, marked_kept, no_mark, moved_view, moved_kept}
 use Rattle.conflict_index.proofs.index.Index.mark.Goals as goal
 
 pub invariant_of-self : goal.invariant_of-self
 invariant_of-self c =
-    let members = c.self.inside.members.items in
-    let inst = c.args.inst.now in
-    let found : position (λ (m : Member). is_same_inst m.inst inst) members ≡ Some c.in-Some.place =
-    sym (ap (position (λ (m : Member). is_same_inst m.inst inst)) c.as_slice.ensures.value) ∙ sym c.place_of.ensures ∙ c.in-Some.is in
-    let all : set members c.in-Some.place c.mark.new.self ≡ marked inst members =
-    ap (set members c.in-Some.place) (c.mark.ensures ∙ ap with_mark c.index_mut.ensures.value)
-    ∙ found_marked inst members c.in-Some.place c.index_mut.result.now (members_in_order members c.self.invariant) found in
-    let P : List Inst → Type 0 = IsInOrder in
-    subst P (sym (ap insts_of all ∙ insts_of_marked inst members)) c.self.invariant
+    marked_kept c.self.inside.strategy c.args.inst.now c.self.inside.waiting.entries c.mark_in_place.new.waiting.entries c.self.inside.fired.entries (spare c.self.inside.fired) c.self.invariant
+    c.mark_in_place.ensures.entries c.mark_in_place.ensures.ordered
+
+pub returns-then-not-is_last : goal.returns-then-not-is_last
+returns-then-not-is_last c =
+    ap (λ (ms : List Member). record { strategy = c.self.inside.strategy; members = ms })
+    (marked_view c.args.inst.now c.self.inside.waiting.entries c.mark_in_place.new.waiting.entries c.self.inside.fired.entries c.mark_in_place.ensures.entries)
+    ∙ ap (λ (v : Indexed). record v { members = marked c.args.inst.now v.members }) c.self.view_is
+
+pub put-requires-clause-absent : goal.put-requires-clause-absent
+put-requires-clause-absent c =
+    let P : List (Rank × Held) → Type 0 = IsMember (c.in-Some.rank, c.in-Some.held) in
+    no_mark c.self.inside.strategy c.self.inside.waiting.entries c.self.inside.fired (spare c.self.inside.fired) c.self.invariant (c.in-Some.rank, c.in-Some.held)
+    (subst P (sym c.in-Some.ensures.removal)
+    (member_right (c.in-Some.rank, c.in-Some.held) c.pop_last.new.self.entries ((c.in-Some.rank, c.in-Some.held) ∷ []) (inl (λ i. (c.in-Some.rank, c.in-Some.held)))))
+
+pub invariant_of-self-in-Some : goal.invariant_of-self-in-Some
+invariant_of-self-in-Some c =
+    moved_kept c.self.inside.strategy c.args.inst.now c.self.inside.waiting.entries c.pop_last.new.self.entries (c.in-Some.rank, c.in-Some.held) c.self.inside.fired.entries c.put.new.fired.entries (spare c.self.inside.fired)
+    c.self.invariant c.in-Some.ensures.removal (c.is_last.ensures.last (c.in-Some.rank, c.in-Some.held) c.pop_last.new.self.entries c.if-not-is_last.false c.in-Some.ensures.removal) c.put.ensures.fired
+    (spare c.put.new.fired) c.pop_last.ensures.ordered c.put.ensures.unique c.put.ensures.spare
 
 pub returns-in-Some : goal.returns-in-Some
 returns-in-Some c =
-    let members = c.self.inside.members.items in
-    let inst = c.args.inst.now in
-    let found : position (λ (m : Member). is_same_inst m.inst inst) members ≡ Some c.in-Some.place =
-    sym (ap (position (λ (m : Member). is_same_inst m.inst inst)) c.as_slice.ensures.value) ∙ sym c.place_of.ensures ∙ c.in-Some.is in
-    let all : set members c.in-Some.place c.mark.new.self ≡ marked inst members =
-    ap (set members c.in-Some.place) (c.mark.ensures ∙ ap with_mark c.index_mut.ensures.value)
-    ∙ found_marked inst members c.in-Some.place c.index_mut.result.now (members_in_order members c.self.invariant) found in
-    ap (λ (ms : List Member). record { strategy = c.self.inside.strategy; members = ms }) all
-    ∙ ap (λ (v : Indexed). record v { members = marked inst v.members }) c.self.view_is
+    ap (λ (ms : List Member). record { strategy = c.self.inside.strategy; members = ms })
+    (moved_view c.self.inside.strategy c.args.inst.now c.self.inside.waiting.entries c.pop_last.new.self.entries (c.in-Some.rank, c.in-Some.held) c.self.inside.fired.entries c.put.new.fired.entries (spare c.self.inside.fired)
+    c.self.invariant c.in-Some.ensures.removal (c.is_last.ensures.last (c.in-Some.rank, c.in-Some.held) c.pop_last.new.self.entries c.if-not-is_last.false c.in-Some.ensures.removal) c.put.ensures.fired)
+    ∙ ap (λ (v : Indexed). record v { members = marked c.args.inst.now v.members }) c.self.view_is
 
 pub returns-in_default : goal.returns-in_default
 returns-in_default c =
-    let members = c.self.inside.members.items in
-    let inst = c.args.inst.now in
-    let found : position (λ (m : Member). is_same_inst m.inst inst) members ≡ None =
-    sym (ap (position (λ (m : Member). is_same_inst m.inst inst)) c.as_slice.ensures.value) ∙ sym c.place_of.ensures ∙ c.in_default.is in
-    sym c.self.view_is
-    ∙ ap (λ (ms : List Member). record { strategy = c.self.inside.strategy; members = ms }) (sym (none_marked inst members found))
-    ∙ ap (λ (v : Indexed). record v { members = marked inst v.members }) c.self.view_is
+    let some : 0 < length c.self.inside.waiting.entries = c.is_last.ensures.some c.if-not-is_last.false in
+    absurd (false≢true (sym (ap is_some c.in_default.is) ∙ c.pop_last.ensures.variant.1 some))

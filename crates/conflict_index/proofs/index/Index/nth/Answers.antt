@@ -1,27 +1,21 @@
-use Rattle.std.proofs.Common.{◌≡◌, find, Some, None, ap, sym, ◌∙◌, subst}
-use Rattle.std.specs.Option.{option_copied}
+use Rattle.std.proofs.Common.{◌≡◌, ◌≤◌, List, Option, Some, None, length, slice_get, subst, sym, refl, Bor}
+use Rattle.std.specs.Option.{MatchOption, option_map}
+use Rattle.std.proofs.lemmas.Iterator.Consumers.{nth_from_yields_List, YieldsList-from_first}
 use Rattle.ops_base.specs.declared.rules.Inst.{Inst}
-use Rattle.conflict_index.specs.Indexed.{Indexed}
-use Rattle.conflict_index.specs.Selecting.{IsAt, stands_at}
-use Rattle.conflict_index.proofs.Members.{members_in_order}
-use Rattle.conflict_index.proofs.Places.{place_found}
+use Rattle.conflict_index.specs.Indexed.{waiting}
+use Rattle.conflict_index.specs.Selecting.{IsAt}
 use Rattle.conflict_index.proofs.index.Index.nth.Goals as goal
 
-pub returns-in_err-entry : goal.returns-in_err-entry
-returns-in_err-entry c =
-    let strategy = c.self.inside.strategy in
-    let members = c.self.inside.members.items in
-    let found : None ≡ find (stands_at strategy members c.args.i) members =
-    sym (ap option_copied c.in_err-entry.was) ∙ c.at_place.ensures ∙ ap (λ ms. find (stands_at strategy ms c.args.i) ms) c.as_slice.ensures.value in
-    rw (c.from_residual.ensures, ← c.self.view_is) (place_found strategy members c.args.i (members_in_order members c.self.invariant) None found)
+shown : (A : Type 0) (P : Inst → Type 0) (o : Option (Bor Inst)) → MatchOption (option_map (λ (x : Bor Inst). x.now) o) A P → MatchOption o A (λ x. P x.now)
+shown A P None h = h
+shown A P (Some x) h = h
 
 pub returns : goal.returns
 returns c =
-    let strategy = c.self.inside.strategy in
-    let members = c.self.inside.members.items in
-    let entry = c.in_ok-entry.entry.now in
-    let found : Some entry ≡ find (stands_at strategy members c.args.i) members =
-    sym (ap option_copied c.in_ok-entry.was) ∙ c.at_place.ensures ∙ ap (λ ms. find (stands_at strategy ms c.args.i) ms) c.as_slice.ensures.value in
-    let P : Inst → Type 0 = IsAt strategy members c.args.i in
-    let Q : Indexed → Type 0 = λ v. IsAt v.strategy v.members c.args.i c.inst.result.now in
-    subst Q c.self.view_is (subst P (sym c.inst.ensures) (place_found strategy members c.args.i (members_in_order members c.self.invariant) (Some entry) found))
+    let list : List Inst = c.by_dominance.result in
+    let chain = YieldsList-from_first (λ (x : Bor Inst). x.now) (λ (left : List Inst). left) list (λ i. list) in
+    let item : option_map (λ (x : Bor Inst). x.now) c.nth.result ≡ slice_get list c.args.i =
+    nth_from_yields_List c.nth.result c.nth.new.self c.args.i c.nth.ensures.ran chain in
+    let P : Option Inst → Type 0 = λ o. MatchOption o (length (waiting c.args.self.now.members) ≤ c.args.i) (λ i. IsAt c.args.self.now.strategy c.args.self.now.members c.args.i i) in
+    shown (length (waiting c.args.self.now.members) ≤ c.args.i) (λ i. IsAt c.args.self.now.strategy c.args.self.now.members c.args.i i) c.nth.result
+    (subst P (sym item) (c.by_dominance.ensures.places c.args.i))

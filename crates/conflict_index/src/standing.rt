@@ -1,0 +1,216 @@
+//! The two maps of an index: members in the order of dominance, and those that have fired by their keys.
+ghost use Rattle.std.specs.Prelude.{◌≡◌, ◌+◌, ◌<◌, ◌≤◌, ◌++◌, ◌∷◌, [], List, IsTrue, map, filter, length, not, IfOk, OnOk, OnErr, Contains, None, ◌⊎◌};
+ghost use Rattle.std.specs.HashMap.{spare, get};
+ghost use Rattle.std.specs.List.Sorted.{IsStrictlySortedBy};
+ghost use Rattle.std.specs.List.{IsDistinct};
+ghost use Rattle.std.specs.Map.{keys_of};
+ghost use Rattle.ops_base.specs.Instances.{AreOf};
+ghost use Rattle.ops_base.specs.Refraction.{is_among, is_same_inst};
+ghost use Rattle.resolution.specs.Keys.{same_keys};
+ghost use Rattle.conflict_index.specs.Keeping.{rank_in, arrival, ranked_anew, AreToldApart, Gains, Loses, HasSame, marked_held};
+ghost use Rattle.conflict_index.specs.declared.rank.Rank.{Rank};
+ghost use Rattle.conflict_index.specs.declared.rank.Held.{Held};
+ghost use Rattle.ops_base.specs.declared.rules.Inst.{Inst};
+ghost use Rattle.conflict_index.specs.Ranking.{compare_ranks};
+
+use crate::rank::{Held, Rank};
+use ops_base::commands::Strategy;
+use ops_base::memory::OutOfMemory;
+use ops_base::programs::Program;
+use ops_base::rules::Inst;
+use resolution::{Key, key};
+use std::alloc::Global;
+use std::collections::{BTreeMap, HashMap};
+
+/// The members that have not fired while they were dominant, the dominant one last.
+pub(crate) type Waiting = BTreeMap<Rank, Held>;
+
+/// Those that fired when they were dominant.
+pub(crate) type Fired = HashMap<Key, Inst>;
+
+fn is_same(i: &Inst, j: &Inst) -> bool
+    ensures { result ≡ is_same_inst i.now j.now }
+{
+    i.rule == j.rule && i.tags.as_slice() == j.tags.as_slice()
+}
+
+fn is_among(insts: &[Inst], inst: &Inst) -> bool
+    ensures { result ≡ is_among insts.now inst.now }
+{
+    insts.iter().any(|other| is_same(inst, other))
+}
+
+fn rank_of(
+    alloc: Global,
+    strategy: Strategy,
+    program: &Program,
+    inst: &Inst,
+) -> Result<Rank, OutOfMemory>
+    requires { inst.now.rule < length program.now.rules }
+    ensures { IfOk result (λ r. r ≡ rank_in strategy program.now.rules inst.now) }
+{
+    let key = key(alloc, program, inst)?;
+    Ok(Rank { strategy, key })
+}
+
+/// The rank of each. Of each it copies the tags twice, and sorts one of the copies.
+pub(crate) fn ranks_of(
+    alloc: Global,
+    strategy: Strategy,
+    program: &Program,
+    insts: &[Inst],
+) -> Result<Vec<Rank>, OutOfMemory>
+    requires { AreOf program.now.rules insts.now }
+    ensures { IfOk result (λ v. v.items ≡ map (rank_in strategy program.now.rules) insts.now) }
+{
+    let mut ranks = Vec::with_capacity(alloc, insts.len())?;
+    for inst in insts {
+        let rank = rank_of(alloc, strategy, program, inst)?;
+        ranks.push(rank)?;
+    }
+    Ok(ranks)
+}
+
+/// A copy of each with its rank. Of each it copies the tags three times, and sorts one of the copies.
+pub(crate) fn ranked(
+    alloc: Global,
+    strategy: Strategy,
+    program: &Program,
+    insts: &[Inst],
+) -> Result<Vec<(Rank, Held)>, OutOfMemory>
+    requires { AreOf program.now.rules insts.now }
+    ensures { IfOk result (λ v. v.items ≡ map (arrival strategy program.now.rules) insts.now) }
+{
+    let mut ranked = Vec::with_capacity(alloc, insts.len())?;
+    for inst in insts {
+        let rank = rank_of(alloc, strategy, program, inst)?;
+        let inst = inst.copy(alloc)?;
+        ranked.push((rank, Held { inst, fired: false }))?;
+    }
+    Ok(ranked)
+}
+
+fn add_all(waiting: &mut Waiting, ranked: Vec<(Rank, Held)>) -> Result<(), OutOfMemory>
+    requires ordered { IsStrictlySortedBy compare_ranks (keys_of waiting.old.entries) }
+    requires told_apart { AreToldApart waiting.old.entries ranked.items }
+    ensures ok { OnOk result (Gains ranked.items waiting.old.entries waiting.new.entries) }
+    ensures ordered { IsStrictlySortedBy compare_ranks (keys_of waiting.new.entries) }
+    ensures kept { (e : Rank × Held) → Contains waiting.old.entries e → Contains waiting.new.entries e }
+    ensures no_other { (e : Rank × Held) → Contains waiting.new.entries e
+        → Contains waiting.old.entries e ⊎ Contains ranked.items e }
+    ensures number { length waiting.new.entries ≤ length waiting.old.entries + length ranked.items }
+{
+    for (rank, held) in ranked {
+        waiting.insert(rank, held)?;
+    }
+    Ok(())
+}
+
+/// Goes over all of them.
+fn take_back(waiting: &mut Waiting, insts: &[Inst])
+    ensures entries { waiting.new.entries ≡ filter (λ e. not (is_among insts.now e.1.inst)) waiting.old.entries }
+    ensures ordered { IsStrictlySortedBy compare_ranks (keys_of waiting.new.entries) }
+{
+    waiting.retain(|_, held| !is_among(insts, &held.inst));
+}
+
+/// Adds them all, or none where memory runs out. In that case alone it goes over those that were there.
+pub(crate) fn add(
+    waiting: &mut Waiting,
+    ranked: Vec<(Rank, Held)>,
+    insts: &[Inst],
+) -> Result<(), OutOfMemory>
+    requires ordered { IsStrictlySortedBy compare_ranks (keys_of waiting.old.entries) }
+    requires told_apart { AreToldApart waiting.old.entries ranked.items }
+    requires apart { (e : Rank × Held) → Contains waiting.old.entries e → ¬ Contains insts.now e.1.inst }
+    requires among { (e : Rank × Held) → Contains ranked.items e → Contains insts.now e.1.inst }
+    ensures ok { OnOk result (Gains ranked.items waiting.old.entries waiting.new.entries) }
+    ensures err { OnErr result (waiting.new.entries ≡ waiting.old.entries) }
+    ensures number { length waiting.new.entries ≤ length waiting.old.entries + length ranked.items }
+    ensures ordered { IsStrictlySortedBy compare_ranks (keys_of waiting.new.entries) }
+{
+    match add_all(waiting, ranked) {
+        Ok(()) => Ok(()),
+        Err(error) => {
+            take_back(waiting, insts);
+            Err(error)
+        }
+    }
+}
+
+/// Removes those of these ranks from where they stand. Takes no memory.
+pub(crate) fn remove_all(waiting: &mut Waiting, fired: &mut Fired, ranks: &[Rank])
+    requires ordered { IsStrictlySortedBy compare_ranks (keys_of waiting.old.entries) }
+    requires unique { IsDistinct same_keys (keys_of fired.old.entries) }
+    ensures waiting { Loses ranks.now waiting.old.entries waiting.new.entries }
+    ensures fired { Loses (map (λ r. r.key) ranks.now) fired.old.entries fired.new.entries }
+    ensures number { length waiting.new.entries ≤ length waiting.old.entries }
+    ensures spare { spare fired.old ≤ spare fired.new }
+    ensures ordered { IsStrictlySortedBy compare_ranks (keys_of waiting.new.entries) }
+    ensures unique { IsDistinct same_keys (keys_of fired.new.entries) }
+{
+    for rank in ranks {
+        let _waited = waiting.remove(rank);
+        let _had_fired = fired.remove(&rank.key);
+    }
+}
+
+/// Whether the one that stands last is of an instantiation.
+pub(crate) fn is_last(waiting: &Waiting, inst: &Inst) -> bool
+    ensures last { (p : Rank × Held) (front : List (Rank × Held))
+        → IsTrue result → waiting.now.entries ≡ front ++ p ∷ [] → p.1.inst ≡ inst.now }
+    ensures some { IsTrue result → 0 < length waiting.now.entries }
+{
+    match waiting.last_key_value() {
+        Some((_, last)) => is_same(&last.inst, inst),
+        None => false,
+    }
+}
+
+/// Marks the one of an instantiation where it stands. Takes no memory, and goes over all of them.
+pub(crate) fn mark_in_place(waiting: &mut Waiting, inst: &Inst)
+    ensures entries { waiting.new.entries ≡ map (λ e. (e.0, marked_held inst.now e.1)) waiting.old.entries }
+    ensures ordered { IsStrictlySortedBy compare_ranks (keys_of waiting.new.entries) }
+{
+    // `retain` keeps them all: of what it writes more is known than of what a loop over the values does
+    waiting.retain(|_, held| {
+        held.fired = held.fired || is_same(&held.inst, inst);
+        true
+    });
+}
+
+/// Puts a mark where there is room for it.
+pub(crate) fn put(fired: &mut Fired, key: Key, inst: Inst)
+    requires room { 0 < spare fired.old }
+    requires unique { IsDistinct same_keys (keys_of fired.old.entries) }
+    requires absent { get same_keys fired.old key ≡ None }
+    ensures fired { Gains ((key, inst) ∷ []) fired.old.entries fired.new.entries }
+    ensures spare { spare fired.old ≤ spare fired.new + 1 }
+    ensures unique { IsDistinct same_keys (keys_of fired.new.entries) }
+{
+    match fired.insert(key, inst) {
+        Ok(_) => {}
+        Err(_) => unreachable!(),
+    }
+}
+
+/// Copies of all of them, ranked under a strategy.
+pub(crate) fn ranked_anew(
+    alloc: Global,
+    strategy: Strategy,
+    waiting: &Waiting,
+) -> Result<Waiting, OutOfMemory>
+    requires { AreToldApart [] (ranked_anew strategy waiting.now.entries) }
+    ensures same { IfOk result (λ w. HasSame (ranked_anew strategy waiting.now.entries) w.entries) }
+    ensures number { IfOk result (λ w. length w.entries ≤ length waiting.now.entries) }
+    ensures ordered { IfOk result (λ w. IsStrictlySortedBy compare_ranks (keys_of w.entries)) }
+{
+    let mut ranked = BTreeMap::new(alloc);
+    for (rank, held) in waiting {
+        let key = rank.key.copy(alloc)?;
+        let inst = held.inst.copy(alloc)?;
+        let fired = held.fired;
+        ranked.insert(Rank { strategy, key }, Held { inst, fired })?;
+    }
+    Ok(ranked)
+}
