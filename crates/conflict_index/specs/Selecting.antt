@@ -10,7 +10,7 @@ pub record IsFirst (strategy : Strategy) (members : List Member) (i : Inst) : Ty
   pub above : (m n : Member)
       → Contains (waiting members) m → m.inst ≡ i → Contains (waiting members) n → n.inst ≢ i → IsTrue (outranks strategy m n)
 
--- it has not fired, and so many of those that have not outrank it
+-- it has not fired, and this many of those that have not outrank it
 pub record IsAt (strategy : Strategy) (members : List Member) (place : ℕ) (i : Inst) : Type 0 where
   pub member : (m : Member) × Contains (waiting members) m × (m.inst ≡ i)
       × (length (filter (λ n. outranks strategy n m) (waiting members)) ≡ place)

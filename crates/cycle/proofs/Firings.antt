@@ -63,7 +63,7 @@ module _ {M : Type 0} (stored : M → Stored) (s : Setting) (column : ℕ) (i : 
   abbrev acts : Coming → Effect Misdeed Meant
   acts = acts_over (stored h.matcher) i (stored h.matcher).last
 
-  -- a firing, behind its line
+  -- a firing, after its line
   abbrev fires_of : Coming → Effect Ending Turned
   fires_of z = told_as (turned_of s.rules i (state_course stored h names z)) (ended_in (h.firings + 1) i.rule) (acts z)
 
@@ -163,7 +163,7 @@ module _ {M : Type 0} (stored : M → Stored) (s : Setting) (column : ℕ) (i : 
           (subst P (sym (λ n z. tells z n)) (leaves_firing y new p q a b left well (subst C is there) next (subst A all (subst N (at ∙ ap marks is) phase))))
 
 module _ {M : Type 0} (stored : M → Stored) (s : Setting) (i : Inst) (h : Held M) (names : Spellings) where
-  -- a firing, its line and what is behind it
+  -- a firing, its line and what is after it
   abbrev whole_of : ℕ → Coming → Effect Ending Turned
   whole_of column z = firing s column i (state_course stored h names z)
 
@@ -195,7 +195,7 @@ module _ {M : Type 0} (stored : M → Stored) (s : Setting) (i : Inst) (h : Held
           (λ z. fails_stopped stop.Write (ends_so f) a b (whole_of a.out.column z) (ap ends_so refused)
           (stopped_more stop.Write a b line (fires_of stored s (column_after a.out.column line) i h names z).bytes (subst P (line_is a.out.column number w next is) stopped))))
 
-      -- a firing is its line, and what is behind it
+      -- a firing is its line, and what is after it
       pub behind_line : {q : Inlet} {c : Port} (r : Result X ActFault) → Put a b (line_of a.out.column number w) → PerformsOn view ends_so r p q b c (fires_of stored s b.out.column i h names) → PerformsOn view ends_so r p q a c (whole_of a.out.column)
       behind_line {q = q} {c = c} r put did =
           let line = line_of a.out.column (h.firings + 1) i in

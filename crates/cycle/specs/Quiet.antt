@@ -18,7 +18,7 @@ classes = record { name = record { 0 = 1 }; attrs = []; vector = false } ∷ rec
 abbrev pub left_side : List Condition
 left_side = record { class = 0; negated = false; tests = [] } ∷ record { class = 1; negated = true; tests = [] } ∷ []
 
--- a production with this left side, these actions and so many cells
+-- a production with this left side, these actions and this many cells
 abbrev pub production : List Action → ℕ → Rule
 production actions cells = record {
   name = record { 0 = 3 };

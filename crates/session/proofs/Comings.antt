@@ -14,7 +14,7 @@ some_may i =
     let behind = some_behind i.buffer.ended i.left in
     (record { bytes = i.buffer.held ++ behind.0; fails = false }, record { more = behind.0; bytes = refl; behind = behind.1 })
 
--- something may come behind a call, which fails where a read did
+-- something may come after a call, which fails where a read did
 pub some_failing : (old new : Inlet) → (z : Coming) × ComesAfter old new z × (z.fails ≡ nat_lt old.faults new.faults)
 unfolding some_may
 some_failing old new = by (nat_lt old.faults new.faults)
@@ -27,7 +27,7 @@ some_failing old new = by (nat_lt old.faults new.faults)
 pub pending_put : {E S : Type 0} (i j : Inlet) (a b : Port) (whole rest : Coming → Effect E S) → PendingOn i j a b whole rest → (xs : List ℕ) × Put a b xs
 pending_put i j a b whole rest p = let z = some_may j in let q = p.pending z.0 z.1 in (q.sofar, q.put)
 
--- what a call counts, behind calls in which no read failed
+-- what a call counts, after calls in which no read failed
 pub counts_behind : (failed : Bool) (before now new : ℕ) → now ≡ before → CountsReads failed now new → CountsReads failed before new
 counts_behind true before now new same p = cc
 counts_behind false before now new same p = p ∙ same

@@ -9,13 +9,13 @@ use Rattle.ops_io.proofs.Known.{column-append}
 use Rattle.ops_io.proofs.PortLemmas.{put_nothing, put_short, underway_step, underway_stop, underway_done}
 use Rattle.ops_meaning.specs.Layout.{fresh_line, line_at, lines_at}
 
--- behind a line the column is 0
+-- after a line the column is 0
 line_column : (column : ℕ) (text : List ℕ) → column_after column (line_at column text) ≡ 0
 line_column column text =
     ap (column_after column) (sym (append_assoc (fresh_line column) text (10 ∷ [])))
     ∙ column-append column (fresh_line column ++ text) (10 ∷ [])
 
--- lines, and more lines behind them
+-- lines, and more lines after them
 pub lines-append : (column : ℕ) (xs ys : List (List ℕ)) → lines_at column (xs ++ ys) ≡ lines_at column xs ++ lines_at (column_after column (lines_at column xs)) ys
 lines-append column [] ys = refl
 lines-append column (x ∷ xs) ys =
@@ -99,7 +99,7 @@ module _ {X : Type 0} (f : X → List ℕ) (xs : List X) (i : ℕ) (d x : X) (wi
   item_stop =
       line_stop start now next (map f xs) (map f (drop i xs)) (map f (drop (i + 1) xs)) (f x) left (map_here f xs i d x within is)
 
--- what passes a test of one item, and of those behind it
+-- what passes a test of one item, and of those after it
 filter_first : {X : Type 0} (p : X → Bool) (x : X) (xs : List X) → filter p (x ∷ xs) ≡ filter p (x ∷ []) ++ filter p xs
 filter_first p x xs = by (p x)
   where
@@ -107,7 +107,7 @@ filter_first p x xs = by (p x)
     by true = refl
     by false = refl
 
--- the lines of what passes a test, of one item and of those behind it
+-- the lines of what passes a test, of one item and of those after it
 pub filtered_first : {X : Type 0} (f : X → List ℕ) (p : X → Bool) (x : X) (xs : List X) → map f (filter p (x ∷ xs)) ≡ map f (filter p (x ∷ [])) ++ map f (filter p xs)
 filtered_first f p x xs = ap (map f) (filter_first p x xs) ∙ map-append f (filter p (x ∷ [])) (filter p xs)
 

@@ -49,7 +49,7 @@ module _ (rules : List Rule) (x : Indexed) (order : IsInOrder (insts_of x.member
       in_order_distinct (insts_of waits)
       (subst P (sym waits_are) (AllPairs-filter Before (λ i. not (is_among (fired_of x.members) i)) (insts_of x.members) order))
 
-  -- nothing stands behind as many as wait
+  -- nothing stands after as many as wait
   pub standing_over : (place : ℕ) → length waits ≤ place → drop place (standing_in rules x) ≡ []
   standing_over place past =
       ap (drop place) (sym ranking_is)

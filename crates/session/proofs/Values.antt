@@ -13,7 +13,7 @@ field_from : (e : Element) (field i : ℕ) → unwrap_or (slice_get (drop field 
 field_from e field i =
     unwrap_or-slice_get (drop field e.fields) i nil ∙ get_or-drop field e.fields i nil ∙ sym (unwrap_or-slice_get e.fields (field + i) nil)
 
--- the values from a place on stand there where the one there does and those behind it do
+-- the values from a place on stand there where the one there does and those after it do
 pub values_here : (e : Element) (field : ℕ) (fields values : List Value) (i : ℕ) (d v : Value) (same : Bool) → fields ≡ drop field e.fields → v ≡ unwrap_or (slice_get fields i) nil → same ≡ are_same v (get_or values i d) → i < length values
     → has_values e (field + i) (drop i values) ≡ (same && has_values e (field + (i + 1)) (drop (i + 1) values))
 values_here e field fields values i d v same from at test within =

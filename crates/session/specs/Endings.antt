@@ -24,7 +24,7 @@ abbrev pub EndsSession : Result Ending Stop → Port → Port → Spellings → 
 EndsSession (Ok f) old new names coming e = (f ≡ ending_of e.outcome) × Put old new e.bytes × Leaves e.outcome names coming
 EndsSession (Err why) old new names coming e = Stopped why old new e.bytes
 
--- It took bytes of the input, and whatever may come behind them, it ends so over those and that.
+-- It took bytes of the input, and whatever may come after them, it ends so over those and that.
 pub record EndsOn (r : Result Ending Stop) (before now : Inlet) (old new : Port) (names : Spellings) (e : Coming → Effect Ending Session) : Type 0 where
   pub taken : List ℕ
   pub took : Took before now taken

@@ -139,7 +139,7 @@ fn do_command<M: Matcher, I: Source, K: Sink>(
     }
 }
 
-/// Whether this is `exit`, behind which nothing is done.
+/// Whether this is `exit`, after which nothing is done.
 fn is_exit(command: &Command) -> bool
     ensures { result ≡ is_exit command.now }
 {

@@ -260,7 +260,7 @@ fn put_standing<K: Sink>(
         };
         put_inst_line(out, sink, names, program, inst)?;
     }
-    // no memory holds so many
+    // no memory holds this many
     Err(Ending::OutOfMemory)
 }
 

@@ -171,8 +171,8 @@ fn one_less(count: Option<u64>) -> Option<u64>
 }
 
 /// What the command `run` does: a run of at most `count` firings, if it has a number, until it ends or the session has made the last of its `limit`
-/// firings. It ends behind a firing that did `halt`, behind one whose production has a break, where it has made its number
-/// of firings, and where nothing is left to fire: these are looked at in this order, and the limit behind them.
+/// firings. It ends after a firing that did `halt`, after one whose production has a break, where it has made its number
+/// of firings, and where nothing is left to fire: these are looked at in this order, and the limit after them.
 pub(crate) fn run<M: Matcher, I: Source, K: Sink>(
     alloc: Global,
     hand: &mut M::Hand,

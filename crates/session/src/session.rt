@@ -14,7 +14,7 @@ use std::alloc::Global;
 use work_store::Matcher;
 
 /// So many makes that wait are made as one phase, if working memory has no more elements than that. A network engine then
-/// holds the entries of so many changes at once and not those of all. The direct engine matches working memory anew in
+/// holds the entries of this many changes at once and not those of all. The direct engine matches working memory anew in
 /// each phase: since working memory doubles at least from one such phase to the next, it does at most twice the work of one.
 const PIECE: usize = 1024;
 
@@ -23,7 +23,7 @@ const PIECE: usize = 1024;
 #[derive(Drop)]
 pub(crate) struct Session<M: Matcher> {
     pub(crate) state: State<M>,
-    /// Top-level makes of which no phase was made yet. There are none behind a run.
+    /// Top-level makes of which no phase was made yet. There are none after a run.
     pub(crate) pending: Listed<Change>,
     /// The last tag that was given, also to the makes that wait. `State::last_tag` does not count those.
     pub(crate) last_tag: u64,
@@ -92,7 +92,7 @@ pub(crate) fn settle<M: Matcher>(
     })
 }
 
-/// Makes the phases that wait, as one, where so many wait that it is time to.
+/// Makes the phases that wait, as one, where this many wait that it is time to.
 pub(crate) fn settle_piece<M: Matcher>(
     alloc: Global,
     hand: &mut M::Hand,
