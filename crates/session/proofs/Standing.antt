@@ -1,6 +1,7 @@
 -- The instantiations that have not fired, the dominant one first, found by their places.
-use Rattle.std.proofs.Common.{◌≡◌, ◌∙◌, ap, sym, subst, ℕ, ◌+◌, ◌≤◌, List, [], ◌∷◌, length, drop, not, true, arith}
+use Rattle.std.proofs.Common.{◌≡◌, ◌∙◌, ap, sym, subst, ℕ, ◌+◌, ◌≤◌, suc, List, [], ◌∷◌, length, slice_get, drop, not, true, Option, Some, None, arith}
 use Rattle.std.specs.Prelude.{Contains}
+use Rattle.std.specs.Option.{MatchOption}
 use Rattle.std.proofs.lemmas.List.{length-map}
 use Rattle.std.proofs.lemmas.List.Elements.{All-contains}
 use Rattle.std.proofs.lemmas.List.Kept.{AllPairs-filter}
@@ -26,6 +27,21 @@ pub standing_is : (rules : List Rule) (x : Indexed) (wm : List Element) → inst
     → standing_in rules x ≡ (let insts = unfired (conflict_set rules wm) (fired_of x.members) in ranked (length insts) x.strategy rules insts)
 standing_is rules x wm set =
     ap (λ found. let insts = unfired found (fired_of x.members) in ranked (length insts) x.strategy rules insts) set
+
+-- a list that has at each place what stands there among others is those others
+from_place_of : (all rest : List Inst) (k : ℕ) → ((j : ℕ) → MatchOption (slice_get rest j) (drop (k + j) all ≡ []) (λ i. drop (k + j) all ≡ i ∷ drop (k + j + 1) all)) → rest ≡ drop k all
+from_place_of all [] k h =
+    let here : k ≡ k + 0 = omega arith in sym (ap (λ n. drop n all) here ∙ h 0)
+from_place_of all (i ∷ rest) k h =
+    let here : k ≡ k + 0 = omega arith in
+    let next : k + 0 + 1 ≡ k + 1 = omega arith in
+    let first : drop k all ≡ i ∷ drop (k + 1) all = ap (λ n. drop n all) here ∙ h 0 ∙ ap (λ n. i ∷ drop n all) next in
+    let later : rest ≡ drop (k + 1) all =
+    from_place_of all rest (k + 1) (λ j.
+    let P : ℕ → Type 0 = λ n. MatchOption (slice_get rest j) (drop n all ≡ []) (λ i. drop n all ≡ i ∷ drop (n + 1) all) in
+    let same : k + suc j ≡ (k + 1) + j = omega arith in
+    subst P same (h (suc j))) in
+    sym (first ∙ ap (λ is. i ∷ is) (sym later))
 
 module _ (rules : List Rule) (x : Indexed) (order : IsInOrder (insts_of x.members)) where
   abbrev waits : List Member
@@ -71,3 +87,16 @@ module _ (rules : List Rule) (x : Indexed) (order : IsInOrder (insts_of x.member
         ∙ ranked_from (λ (m : Member). m.inst) (outranks x.strategy) x.strategy rules waits (length waits) place m distinct (omega arith) beats there at.member.3
         ∙ ap (λ j. j ∷ drop (place + 1) ranking) at.member.2
         ∙ ap (λ list. i ∷ drop (place + 1) list) ranking_is
+
+    -- a list that has at each place what the index has there is the ranking
+    pub standing_list : (list : List Inst) → ((place : ℕ) → MatchOption (slice_get list place) (length waits ≤ place) (λ i. IsAt x.strategy x.members place i)) → list ≡ standing_in rules x
+    standing_list list h =
+        from_place_of (standing_in rules x) list 0 (λ j.
+        let P : ℕ → Type 0 = λ n. MatchOption (slice_get list j) (drop n (standing_in rules x) ≡ []) (λ i. drop n (standing_in rules x) ≡ i ∷ drop (n + 1) (standing_in rules x)) in
+        let same : j ≡ 0 + j = omega arith in
+        subst P same (at_each (slice_get list j) j (h j)))
+      where
+        at_each : (o : Option Inst) (place : ℕ) → MatchOption o (length waits ≤ place) (λ i. IsAt x.strategy x.members place i)
+            → MatchOption o (drop place (standing_in rules x) ≡ []) (λ i. drop place (standing_in rules x) ≡ i ∷ drop (place + 1) (standing_in rules x))
+        at_each None place past = standing_over place past
+        at_each (Some i) place at = standing_here place i at

@@ -235,8 +235,8 @@ pub(crate) fn list_met<M: Matcher, K: Sink>(
     Ok(session)
 }
 
-/// Puts the lines of the instantiations that have not fired, the dominant one first. Takes no memory. Of n of them each is
-/// looked for by its place, for which each is compared with each: so it takes a time in proportion to the third power of n.
+/// Puts the lines of the instantiations that have not fired, the dominant one first. Takes no memory, and a time in proportion
+/// to their number.
 fn put_standing<K: Sink>(
     out: &mut Out,
     sink: &mut K,
@@ -252,16 +252,10 @@ fn put_standing<K: Sink>(
         (lists out.old.column (map (inst_text names.now program.now.rules) (standing_in program.now.rules index.now)) k) }
     ensures reads { ends_unread result ≡ false }
 {
-    // the index is looked at for what it keeps true
-    let _strategy = index.strategy();
-    for place in 0..usize::MAX {
-        let Some(inst) = index.nth(place) else {
-            return Ok(());
-        };
+    for inst in index.by_dominance() {
         put_inst_line(out, sink, names, program, inst)?;
     }
-    // no memory holds this many
-    Err(Ending::OutOfMemory)
+    Ok(())
 }
 
 /// The command `cs`: lists the instantiations that have not fired, the dominant one first.
