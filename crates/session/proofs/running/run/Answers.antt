@@ -7,6 +7,7 @@ use Rattle.ops_io.specs.Coming.{Coming}
 use Rattle.ops_io.proofs.PortLemmas.{put_nothing}
 use Rattle.ops_meaning.specs.Running.{Course}
 use Rattle.act_phase.specs.Outcomes.{setting_of}
+use Rattle.ops_meaning.proofs.InletLemmas.{pending_on_start}
 use Rattle.ops_meaning.proofs.NamesKept.{names_then}
 use Rattle.cycle.specs.States.{state_course, no_names, no_input}
 use Rattle.session.specs.Pauses.{meant_last, pause_line}
@@ -92,3 +93,16 @@ turns-preserved g c =
       names = names_then c.args.names.now c.turns.names c.fire.new.names c.turns.invariant.names c.in_ok-after.ensures.names;
       of = c.in_ok-after.ensures.of;
     }
+
+pub turns-init : goal.turns-init
+turns-init g c = record {
+  out = pending_on_start _ _ _ c.requires.whole;
+  whole = c.requires.whole;
+  faults = refl;
+  names = λ i s h. h;
+  of = c.requires.of;
+}
+
+pub returns-in_err-after-clause-names : goal.returns-in_err-after-clause-names
+returns-in_err-after-clause-names g c =
+    names_then c.args.names.now c.turns.names c.fire.new.names c.turns.invariant.names c.in_err-after.ensures.names
