@@ -161,11 +161,13 @@ module _ (strategy : Strategy) (rules : List Rule) (gone come : List Inst) (wait
       | inl e ↦ (
           let f = left_entry e.0 e.1 in
           let stays : ¬ Contains gone m.inst = λ g. f.1 (gone_rank e.0 (left_rank e.0 e.1) (subst (Contains gone) (ap inst_of e.2) g)) in
-          let P : Member → Type 0 = λ w. IsMember w (all_members waiting fired) in
-          (elim f.0 [
-            | inl o ↦ inl (subst P (sym e.2) (held_among waiting fired e.0 o))
-            | inr n ↦ inr (n.0, n.1, e.2 ∙ ap held_member n.2)
-          ], stays)
+          let P : Member → Type 0 = λ w. IsMember w (all_members waiting fired) in (
+            elim f.0 [
+              | inl o ↦ inl (subst P (sym e.2) (held_among waiting fired e.0 o))
+              | inr n ↦ inr (n.0, n.1, e.2 ∙ ap held_member n.2)
+            ],
+            stays,
+          )
           )
       | inr d ↦ (
           let f = left_mark d.0 d.1 in

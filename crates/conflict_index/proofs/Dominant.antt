@@ -244,11 +244,15 @@ module _ (strategy : Strategy) (es : List Entry) (fired : List Mark) (spare : �
 
   is_at : (place : ℕ) (i : Inst) → FromEnd (unfired es) place i → IsAt strategy (members_of es fired) place i
   is_at place i f = record {
-    member = (held_member f.one, contains_from_member (held_member f.one) (waiting (members_of es fired)) waits, f.of,
+    member = (
+      held_member f.one,
+      contains_from_member (held_member f.one) (waiting (members_of es fired)) waits,
+      f.of,
       count (above_it strategy (held_member f.one)) ∙ ap (λ ds. length (filter (above_it strategy (held_member f.one)) (map held_member ds))) f.is
-      ∙ ap (λ ms. length (filter (above_it strategy (held_member f.one)) ms)) (map-append held_member f.front (f.one ∷ f.back))
-      ∙ joined (above_it strategy (held_member f.one)) (map held_member f.front) (held_member f.one ∷ map held_member f.back)
-      ∙ sums (none_pass (above_it strategy (held_member f.one)) (map held_member f.front) fronts) (backs (outranks strategy (held_member f.one) (held_member f.one)) (outranks_itself strategy (held_member f.one))));
+          ∙ ap (λ ms. length (filter (above_it strategy (held_member f.one)) ms)) (map-append held_member f.front (f.one ∷ f.back))
+          ∙ joined (above_it strategy (held_member f.one)) (map held_member f.front) (held_member f.one ∷ map held_member f.back)
+          ∙ sums (none_pass (above_it strategy (held_member f.one)) (map held_member f.front) fronts) (backs (outranks strategy (held_member f.one) (held_member f.one)) (outranks_itself strategy (held_member f.one))),
+    );
   }
     where
       within : (e : Entry) → IsMember e (f.front ++ f.one ∷ f.back) → IsMember e es

@@ -9,7 +9,9 @@ ghost use Rattle.conflict_index.specs.Applying.{IsApplied, IsPart, IsApart, mark
 ghost use Rattle.conflict_index.specs.Selecting.{IsFirst, IsAt};
 
 use crate::order::ByDominance;
-use crate::standing::{Fired, Waiting, add, is_last, mark_in_place, put, ranked, ranked_anew, ranks_of, remove_all};
+use crate::standing::{
+    Fired, Waiting, add, is_last, mark_in_place, put, ranked, ranked_anew, ranks_of, remove_all,
+};
 use ops_base::commands::Strategy;
 use ops_base::memory::OutOfMemory;
 use ops_base::programs::Program;

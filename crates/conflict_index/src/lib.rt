@@ -6,7 +6,6 @@ mod laws;
 mod order;
 mod rank;
 mod standing;
-
 #[cfg(test)]
 mod tests;
 
