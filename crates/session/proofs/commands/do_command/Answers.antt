@@ -1,3 +1,5 @@
+use Rattle.std.proofs.Common.{refl}
+use Rattle.ops_io.proofs.PortLemmas.{put_nothing}
 use Rattle.act_phase.specs.Outcomes.{setting_of}
 use Rattle.session.proofs.Deeds.{commanded}
 use Rattle.session.proofs.commands.do_command.Goals as goal
@@ -71,3 +73,8 @@ pub returns-in-Watch-clause-under_way : goal.returns-in-Watch-clause-under_way
 returns-in-Watch-clause-under_way g c =
     let deed = c.give_level.ensures c.args.program.now.rules c.args.names.now c.requires.under_way in
     deed.under_way
+
+pub returns-in-Exit-clause-performs : goal.returns-in-Exit-clause-performs
+returns-in-Exit-clause-performs g c =
+    commanded g.M.Matcher.stored g.M.Matcher.stands_for c.args.program.now.rules c.args.names.now (setting_of c.args.program.now 0) c.args.limit c.args.command.now _ c.args.session _ _ _ _ c.in-Exit.is
+    (record { performs = λ z. (refl, put_nothing _ c.requires.whole); reads = refl; under_way = c.requires.under_way })

@@ -1,4 +1,4 @@
-use Rattle.std.proofs.Common.{ℕ, ◌<◌, ◌∙◌, sym, ap, option_map, Result, Err, refl, arith}
+use Rattle.std.proofs.Common.{◌≡◌, ◌-◌, ℕ, ◌<◌, ◌∙◌, sym, ap, option_map, Result, Err, refl, arith}
 use Rattle.std.specs.Option.{option_copied}
 use Rattle.std.proofs.lemmas.Result.{err_from_is_err_and}
 use Rattle.ops_base.specs.declared.endings.Ending.{Ending}
@@ -96,7 +96,10 @@ turns-preserved g c =
 
 pub turns-init : goal.turns-init
 turns-init g c = record {
-  out = pending_on_start _ _ _ c.requires.whole;
+  out = (
+      let left : c.saturating_sub-left.result ≡ c.args.limit - c.args.state.firings = omega arith in
+      rw left (pending_on_start _ _ _ c.requires.whole)
+      );
   whole = c.requires.whole;
   faults = refl;
   names = λ i s h. h;
