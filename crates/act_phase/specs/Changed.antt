@@ -51,8 +51,9 @@ last_added changes tag = fold (λ found c. option_or (added_by tag c) found) Non
 abbrev pub is_new : ℕ → ℕ → ℕ → Bool
 is_new first next tag = nat_le first tag && nat_lt tag next
 
--- Which tags are present after the changes: those of the start and the new ones, without those that are gone. A tag that is gone is
--- below the next one, and a tag of the start is below the first new one. The changes are lawful, and the next tag is free.
+-- Which tags are present after the changes: those of the start and the new ones, without those that are gone. A tag
+-- that is gone is below the next one, and a tag of the start is below the first new one. The changes are lawful, and
+-- the next tag is free.
 pub record AreCounted (start : List Element) (changes : List Change) (gone : ℕ → Bool) (first next : ℕ) : Type 0 where
   pub present : (t : ℕ) → has_tag (done start changes) t ≡ (not (gone t) && (has_tag start t || is_new first next t))
   pub positive : 0 < first

@@ -1,4 +1,5 @@
--- How often right tokens stand that match a left one: of the entries of a line, by any elements that agree with the store, and once a task has arrived.
+-- How often right tokens stand that match a left one: of the entries of a line, by any elements that agree with the
+-- store, and once a task has arrived.
 use Rattle.std.proofs.Common.{◌≡◌, ◌≢◌, ℕ, ◌^◌, ◌<◌, Bool, true, false, cond, List, [], ◌∷◌, pos, ◌+ℤ◌, refl, sym, ap, subst, ◌∙◌, arith, length, slice_get, slice_index, slice_index_or, bytes_eq, Option, Some, None}
 use Rattle.std.specs.List.{AllByRecursion, IsDistinct}
 use Rattle.std.specs.Map.{lookup, keys_of}

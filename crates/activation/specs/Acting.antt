@@ -26,8 +26,8 @@ use Rattle.activation.specs.Putting.{Put, changes}
 abbrev pub matching : Elements → List JoinTest → Bag → ℕ → List ℕ → ℕ
 matching elements tests b n t = count_below (2 ^ 64) (joins_hold tests elements t) (standing_at b n Right)
 
--- Each token of the line that has a sum other than 0 fits, and the line keeps it under its code. With each left token of a negated node it keeps how often
--- right tokens stand that match it.
+-- Each token of the line that has a sum other than 0 fits, and the line keeps it under its code. With each left token
+-- of a negated node it keeps how often right tokens stand that match it.
 pub record IsCounted (nodes : List Node) (s : Stored) (line : Line) : Type 0 where
   pub fit : (n : ℕ) (side : Side) (t : List ℕ) → sum_in line n side t ≢ pos 0 → Fits nodes s n side t
   pub counts : (n : ℕ) (x : Node) (t : List ℕ) → slice_get nodes n ≡ Some x → is_negated x.kind ≡ true → sum_in line n Left t ≢ pos 0
@@ -51,9 +51,10 @@ pub record IsOutOf (nodes : List Node) (s : Stored) (n : ℕ) (t : List ℕ) : T
   pub width : length t ≡ width nodes n
   pub held : All (λ tag. IsSome (held_of s tag)) t
 
--- What the task does at its node: what is put out, with the sign, is the change of what the node puts out, where the node can have children. At a negated
--- node a left token is kept with how often right tokens stand that match it, and a right token is one blocker more, or one less, just where it stands once more
--- or once less; each left token with its code has room for that.
+-- What the task does at its node: what is put out, with the sign, is the change of what the node puts out, where the
+-- node can have children. At a negated node a left token is kept with how often right tokens stand that match it, and a
+-- right token is one blocker more, or one less, just where it stands once more or once less; each left token with its
+-- code has room for that.
 pub record IsEffect (nodes : List Node) (s : Stored) (line : Line) (x : Task) (e : Effect) : Type 0 where
   pub fit : All (λ p. IsOutOf nodes s x.node p.token) e.puts
   pub change : (node : Node) (elements : Elements) (t : List ℕ) → slice_get nodes x.node ≡ Some node → is_terminal node.kind ≡ false → Agrees s elements
@@ -72,8 +73,8 @@ pub record AreKept (m : Memory) : Type 0 where
 
 -- ---- what a task does
 
--- The task became an entry of its line, after those that were there, and counts in the sum of its token. The children of the entry follow the
--- change of what its node puts out, each fits, and they came after the tasks that were there.
+-- The task became an entry of its line, after those that were there, and counts in the sum of its token. The children
+-- of the entry follow the change of what its node puts out, each fits, and they came after the tasks that were there.
 pub record Acts (nodes : List Node) (s : Stored) (x : Task) (old new : Line) (before now : List Task) : Type 0 where
   pub entry : Entry
   pub task : entry.task ≡ x

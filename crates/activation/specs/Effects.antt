@@ -13,8 +13,9 @@ use Rattle.activation.specs.Children.{children_of}
 use Rattle.activation.specs.Putting.{Put, left_entries, put_for}
 use Rattle.activation.specs.Negating.{blockers_for, put_once, put_flipped}
 
--- What a task does at its node: what is put out below, to arrive there or to leave; how often right tokens stand that match the task's token, if that is
--- a left one of a negated node, else 0; and whether the token is one blocker more, or one less, of the left tokens that it matches.
+-- What a task does at its node: what is put out below, to arrive there or to leave; how often right tokens stand that
+-- match the task's token, if that is a left one of a negated node, else 0; and whether the token is one blocker more,
+-- or one less, of the left tokens that it matches.
 pub record Effect : Type 0 where
   pub plus : Bool
   pub puts : List Put

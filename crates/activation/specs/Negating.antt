@@ -35,7 +35,8 @@ put_once free t = if free then record { token = t; times = 1 } ∷ [] else []
 abbrev pub before_flip : Bool → ℕ
 before_flip plus = if plus then 0 else 1
 
--- for one right token more or less: each left token that it matches and that it blocks first, or frees, as often as that one stands
+-- for one right token more or less: each left token that it matches and that it blocks first, or frees, as often as
+-- that one stands
 abbrev pub put_flipped : List JoinTest → Elements → ℕ → Bool → Pairs → List Put
 put_flipped tests elements tag plus left = flat_map (λ e. put_if ((e.1.blockers == before_flip plus) && joins_hold tests elements e.0 tag) e.0 e.1.sum) left
 

@@ -94,11 +94,12 @@ fn attempt(
     Ok(())
 }
 
-/// Does a task on this line, which its caller finds by `token_line::line_of`: its children go after `out`, it becomes an entry of
-/// the line, and its token counts there. The task's code is made once, and its memory and the token are looked for once. A join or a
-/// negated node looks at each token of the other side that it has on the line with the task's code, so at no other values at the equality
-/// tests unless their codes happen to be equal; but for a task that changes nothing and a left token that a negated node keeps already.
-/// Each child is made once. Where memory runs out, or a count does not fit, nothing has changed.
+/// Does a task on this line, which its caller finds by `token_line::line_of`: its children go after `out`, it becomes
+/// an entry of the line, and its token counts there. The task's code is made once, and its memory and the token are
+/// looked for once. A join or a negated node looks at each token of the other side that it has on the line with the
+/// task's code, so at no other values at the equality tests unless their codes happen to be equal; but for a task that
+/// changes nothing and a left token that a negated node keeps already. Each child is made once. Where memory runs out,
+/// or a count does not fit, nothing has changed.
 pub fn activate(
     alloc: Global,
     net: &Net,

@@ -79,8 +79,8 @@ pub(crate) fn standing(sum: i64) -> u64
     if sum > 0 { sum as u64 } else { 0 }
 }
 
-/// Adds the tasks for each node below, of a token that is put out as often as one stands of which this is kept, if `holds` says so. Where memory runs
-/// out, some may have been added.
+/// Adds the tasks for each node below, of a token that is put out as often as one stands of which this is kept, if
+/// `holds` says so. Where memory runs out, some may have been added.
 pub(crate) fn push_if(
     alloc: Global,
     holds: bool,

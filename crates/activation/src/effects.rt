@@ -27,8 +27,8 @@ use work_store::Store;
 pub(crate) struct Done {
     /// How often right tokens stand that match the task's token, if that is a left one of a negated node; else 0.
     pub(crate) blockers: u64,
-    /// Whether the task's token is one blocker more, or one less, of the left tokens that it matches: it is a right one of a negated
-    /// node, and stands once more or once less.
+    /// Whether the task's token is one blocker more, or one less, of the left tokens that it matches: it is a right one
+    /// of a negated node, and stands once more or once less.
     pub(crate) blocks: bool,
 }
 
@@ -113,8 +113,8 @@ fn at_left(
     })
 }
 
-/// What a right task does at a negated node, if it changes how often its token stands: an insert takes back what was put out, and a
-/// delete puts it out again.
+/// What a right task does at a negated node, if it changes how often its token stands: an insert takes back what was
+/// put out, and a delete puts it out again.
 fn at_right(
     alloc: Global,
     store: &Store,
@@ -143,8 +143,8 @@ fn at_right(
     })
 }
 
-/// What the task does at its node, which has this memory on the line and this of the task's token: its children go after `out`. At a
-/// terminal there are none. Where memory runs out, some children may have been added.
+/// What the task does at its node, which has this memory on the line and this of the task's token: its children go
+/// after `out`. At a terminal there are none. Where memory runs out, some children may have been added.
 pub(crate) fn do_at(
     alloc: Global,
     store: &Store,

@@ -1,4 +1,5 @@
-//! What a negated node puts out for a task, and how often right tokens stand that match a left one, over the tokens of its line.
+//! What a negated node puts out for a task, and how often right tokens stand that match a left one, over the tokens of
+//! its line.
 ghost use Rattle.std.specs.Prelude.{◌≡◌, ◌+◌, ◌==◌, ◌&&◌, ◌++◌, IfOk, OnOk, if◌then◌else◌, slice_index, true};
 ghost use Rattle.std.specs.Option.{option_copied, option_map_or};
 ghost use Rattle.work_store.specs.Stored.{held_of};
@@ -94,8 +95,8 @@ fn has_room(plus: bool, cell: Cell) -> bool
     !plus || cell.blockers < u64::MAX
 }
 
-/// The tasks by which a negated node takes back its left tokens for one right token more, or puts them out for one less: it looks at
-/// each left token. Where one has no room for another blocker, that is answered as want of memory.
+/// The tasks by which a negated node takes back its left tokens for one right token more, or puts them out for one
+/// less: it looks at each left token. Where one has no room for another blocker, that is answered as want of memory.
 fn give_flipped(
     alloc: Global,
     store: &Store,

@@ -14,8 +14,8 @@ use std::alloc::Global;
 use token_line::{Memory, Tokens, joins, tag_at};
 use work_store::Store;
 
-/// Whether one insert or delete more changes how often a token of this sum stands. A delete that comes before its insert does not,
-/// and nor does that insert.
+/// Whether one insert or delete more changes how often a token of this sum stands. A delete that comes before its
+/// insert does not, and nor does that insert.
 pub(crate) fn changes(sum: i64, plus: bool) -> bool
     ensures { result ≡ changes sum plus }
 {
@@ -65,7 +65,8 @@ fn give_for_right(
     Ok(())
 }
 
-/// The tasks that a join gives for a task that changes how often its token stands. Where memory runs out, some may have been added.
+/// The tasks that a join gives for a task that changes how often its token stands. Where memory runs out, some may have
+/// been added.
 pub(crate) fn give_by_join(
     alloc: Global,
     store: &Store,

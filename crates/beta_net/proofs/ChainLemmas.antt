@@ -67,8 +67,8 @@ chain_more entries new code n earlier f g h is at updates grown = subst (λ es. 
 
 -- ---- the walk along one chain
 
--- All numbers of this kind are below what o reaches, where each of them has this code, and o tells one of as many numbers as there are
--- codes.
+-- All numbers of this kind are below what o reaches, where each of them has this code, and o tells one of as many
+-- numbers as there are codes.
 pub record Covers (codes : List ℕ) (code count : ℕ) (Is : ℕ → Type 0) (o : Option ℕ) : Type 0 where
   pub below : (p : ℕ) → o ≡ Some p → p < length codes
   pub there : (p : ℕ) → o ≡ Some p → p < count

@@ -36,12 +36,12 @@ fn draft_of(alloc: Global, rules: &[Rule]) -> Result<Draft, OutOfMemory>
     Ok(draft)
 }
 
-/// The network of the program's productions. Two conditions share a node exactly where the same conditions stand before them and
-/// they have one sign, one class and the same tests that do not bind, in one order; and two nodes share an alpha where they have
-/// one class and the same tests of one element alone.
+/// The network of the program's productions. Two conditions share a node exactly where the same conditions stand before
+/// them and they have one sign, one class and the same tests that do not bind, in one order; and two nodes share an
+/// alpha where they have one class and the same tests of one element alone.
 ///
-/// Each condition is looked up by its code among those of the same code, and so is each alpha. A test of a variable looks back over
-/// the variables that the production binds.
+/// Each condition is looked up by its code among those of the same code, and so is each alpha. A test of a variable
+/// looks back over the variables that the production binds.
 pub fn compile(alloc: Global, program: &Program) -> Result<Net, OutOfMemory>
     ensures network { IfOk result (λ net. NetOf net program.now.rules) }
     ensures shape { IfOk result (λ net. IsShape program.now.rules (counts_of net.alphas net.nodes)) }

@@ -1,4 +1,5 @@
--- Outranking is a strict total order of members with different instantiations, and it is dominance where specificities are kept.
+-- Outranking is a strict total order of members with different instantiations, and it is dominance where specificities
+-- are kept.
 use Rattle.std.proofs.Common.{◌≡◌, ◌≢◌, List, true, false, refl, ap, sym, ◌∙◌}
 use Rattle.std.specs.Cmp.Lexicographic.{slice_cmp}
 use Rattle.std.specs.declared.cmp.Ordering.{Ordering}

@@ -95,7 +95,7 @@ impl Index {
 
     /// Marks a member as fired. Takes no memory. Where it is the one that `select` answers, it costs a number of comparisons
     /// that does not grow with the members. Where it is another it is looked for among those that have not fired, which
-    /// compares productions and tags with each up to it.
+    /// compares productions and tags with those of each, the dominant one last.
     pub fn mark(&mut self, inst: &Inst)
         requires { Contains (insts_of self.old.members) inst.now }
         ensures { self.new ≡ record self.old { members = marked inst.now self.old.members } }

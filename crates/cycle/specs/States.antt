@@ -46,8 +46,8 @@ no_input = record { bytes = []; fails = false }
 abbrev pub alone : {M : Type 0} → (M → Stored) → Held M → Course
 alone stored s = state_course stored s no_names no_input
 
--- The members of the index are what the matcher has found, in order, and the elements that it stores are well kept. What it has found is
--- the conflict set of each program that it stands for.
+-- The members of the index are what the matcher has found, in order, and the elements that it stores are well kept.
+-- What it has found is the conflict set of each program that it stands for.
 pub record Agree (stored : Stored) (found : List Inst) (stands_for : List Rule → Type 0) (members : List Member) : Type 0 where
   pub same : (i : Inst) → Contains (insts_of members) i ↔ Contains found i
   pub in_order : IsInOrder (insts_of members)

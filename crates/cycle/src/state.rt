@@ -156,7 +156,7 @@ impl<M: Matcher> State<M> {
         last_of(&self.matcher)
     }
 
-    /// The dominant one of those that have not fired. Takes no memory, and goes once over the conflict set.
+    /// The dominant one of those that have not fired. Takes no memory. It costs the logarithm of their number.
     pub fn next(&self) -> Option<&Inst>
         ensures waiting { MatchOption result (waiting self.now.index.members ≡ [])
             (λ i. Contains (insts_of (waiting self.now.index.members)) i.now) }
@@ -215,8 +215,8 @@ impl<M: Matcher> State<M> {
     }
 
     /// One firing: its line where firings are traced, the right side of what is next, which is marked, and then one phase. The
-    /// answer tells whether `halt` was done in it. The conflict set is gone over once to find what fires and up to it to mark
-    /// it. After a refusal the state is gone; what was put and read stays so, and names may have come.
+    /// answer tells whether `halt` was done in it. What fires is looked up in the conflict set, and marked where it stands.
+    /// After a refusal the state is gone; what was put and read stays so, and names may have come.
     pub fn fire<I: Source, K: Sink>(
         self,
         alloc: Global,
@@ -252,8 +252,7 @@ impl<M: Matcher> State<M> {
         ensures specificities { IfOk result (λ r. KeepsSpecificities program.now.rules r.0.index.members) }
     {
         let mut state = self;
-        // whoever asked for a firing has looked for what is next, and it is looked for here once more: each time the conflict set is
-        // gone over once
+        // whoever asked for a firing has looked for what is next, and it is looked up here once more
         let inst = copy_of(alloc, state.next())?;
         let firing = state.firings() + 1;
         put_trace(out, sink, names, program, watch, firing, &inst)?;
@@ -276,7 +275,8 @@ impl<M: Matcher> State<M> {
         Ok((state, acted.halted))
     }
 
-    /// The conflict set and its marks stay. Takes no memory, and never refuses.
+    /// The conflict set and its marks stay. Those that have not fired are copied into another order, which costs their number
+    /// times its logarithm. Where memory runs out nothing has changed.
     pub fn set_strategy(&mut self, strategy: Strategy) -> Result<(), OutOfMemory>
         ensures ok { OnOk result (self.new ≡ record self.old { index = record self.old.index { strategy = strategy } }) }
         ensures course { OnOk result ((names : Spellings) (coming : Coming) → state_course M.stored self.new names coming

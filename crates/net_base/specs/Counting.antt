@@ -80,8 +80,8 @@ are_same_alpha_lists a b = a.0 == b.0 && pointwise are_same_tests a.1 b.1
 
 -- ---- the numbers
 
--- the distinct pairs of a class and a list of alpha tests, the distinct prefixes that end in a positive condition and those that
--- end in a negated one, and the rules
+-- the distinct pairs of a class and a list of alpha tests, the distinct prefixes that end in a positive condition and
+-- those that end in a negated one, and the rules
 abbrev pub shape_of : List Rule → Counts
 shape_of rules = record {
   alpha = distinct_count are_same_alpha_lists (map alpha_list (prefixes_of rules));

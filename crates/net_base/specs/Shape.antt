@@ -43,8 +43,8 @@ abbrev pub IsAlphaList : List Rule → ℕ × List Test → Type 0
 IsAlphaList rules a =
     (before : List NormalCondition) × (c : NormalCondition) × IsPrefix rules before c × (a.0 ≡ c.class) × (a.1 ≡ alpha_tests (positives before) c.tests)
 
--- the distinct pairs of a class and a list of alpha tests, the distinct prefixes that end in a positive condition and those that
--- end in a negated one, and the rules
+-- the distinct pairs of a class and a list of alpha tests, the distinct prefixes that end in a positive condition and
+-- those that end in a negated one, and the rules
 pub record IsShape (rules : List Rule) (counts : Counts) : Type 0 where
   pub alpha : HasCount (ℕ × List Test) (IsAlphaList rules) counts.alpha
   pub join : HasCount (List NormalCondition × NormalCondition) (IsPrefixOfSign rules false) counts.join

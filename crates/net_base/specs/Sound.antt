@@ -87,7 +87,8 @@ pub record IsBare (x : Node) : Type 0 where
   pub class : x.class ≡ 0
   pub alpha : x.alpha ≡ 0
 
--- Node n is as it is to be. A node of a condition names an alpha, which has its class, and its tests look at places in its left tokens.
+-- Node n is as it is to be. A node of a condition names an alpha, which has its class, and its tests look at places in
+-- its left tokens.
 pub record IsSoundAt (alphas : List Alpha) (nodes : List Node) (n : ℕ) (x : Node) : Type 0 where
   pub parent : (p : ℕ) → x.parent ≡ Some p → p < n
   pub root : x.parent ≡ None → is_join x.kind ≡ true

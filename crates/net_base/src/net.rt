@@ -20,8 +20,8 @@ use std::alloc::Global;
 /// Numbers of nodes or of alphas. Up to 16 take no memory.
 pub type Numbers = SmallVec<usize, 16>;
 
-/// A network. The parent of each node has a smaller number, all numbers of nodes, of alphas and of places in a left token are in
-/// range, and the children of a node are just the nodes that name it as parent.
+/// A network. The parent of each node has a smaller number, all numbers of nodes, of alphas and of places in a left
+/// token are in range, and the children of a node are just the nodes that name it as parent.
 #[derive(Drop)]
 pub struct Net {
     alphas: Listed<Alpha>,
@@ -95,7 +95,8 @@ fn takers(alloc: Global, nodes: &[Node]) -> Result<Lists<usize>, OutOfMemory>
 }
 
 impl Net {
-    /// It looks at the tests of each alpha up to its first constant and at each node once. It takes memory for each alpha and each node.
+    /// It looks at the tests of each alpha up to its first constant and at each node once. It takes memory for each
+    /// alpha and each node.
     pub fn new(
         alloc: Global,
         alphas: Listed<Alpha>,
@@ -130,8 +131,9 @@ impl Net {
         self.nodes.as_slice()
     }
 
-    /// The alphas that the element can pass: those of its class that want no constant, and those whose first constant it has. There are
-    /// two look-ups for its class, and one for each field in which an alpha of its class first wants a constant. Up to 16 take no memory.
+    /// The alphas that the element can pass: those of its class that want no constant, and those whose first constant
+    /// it has. There are two look-ups for its class, and one for each field in which an alpha of its class first wants
+    /// a constant. Up to 16 take no memory.
     pub fn candidates(&self, alloc: Global, element: &Element) -> Result<Numbers, OutOfMemory>
         ensures passed { IfOk result (λ v. (n : ℕ) (a : Alpha) → slice_get self.now.alphas n ≡ Some a
             → IsTrue (passes_alpha a element.now) → Contains v.items n) }

@@ -21,7 +21,8 @@ is_among insts i = list_any (λ j. is_same_inst i j) insts
 abbrev pub unfired : List Inst → List Inst → List Inst
 unfired found fired = filter (λ i. not (is_among fired i)) found
 
--- A mark is forgotten where its instantiation is not found at the end of a phase. The marks stand in the order of what is found.
+-- A mark is forgotten where its instantiation is not found at the end of a phase. The marks stand in the order of what
+-- is found.
 abbrev pub still_fired : List Inst → List Inst → List Inst
 still_fired found fired = filter (λ i. is_among fired i) found
 

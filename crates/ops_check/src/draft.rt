@@ -218,8 +218,8 @@ impl Draft {
         }
     }
 
-    // whether the field is the vector attribute of the class that was named. The definition is total: the class was found by its
-    // name, so it is there.
+    // whether the field is the vector attribute of the class that was named. The definition is total: the class was
+    // found by its name, so it is there.
     pub fn is_vector(&self, field: usize) -> bool
         ensures { result ≡ is_vector (class_of (view self.now).classes (view self.now).class) field }
     {

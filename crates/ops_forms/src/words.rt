@@ -10,8 +10,8 @@ use ops_grammar::{Keyword, Word};
 use ops_tokens::{Token, TokenKind, spelling_of};
 use std::alloc::Global;
 
-/// The words of tokens of a text, whose names are held from then on. Where memory runs out, those of the first tokens may be held
-/// already. Takes time in proportion to the tokens' bytes.
+/// The words of tokens of a text, whose names are held from then on. Where memory runs out, those of the first tokens
+/// may be held already. Takes time in proportion to the tokens' bytes.
 pub fn words_of(
     alloc: Global,
     names: &mut Names,

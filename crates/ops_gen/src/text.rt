@@ -38,7 +38,8 @@ fn add_lines(
     Ok(())
 }
 
-/// The text of the workload of this seed, with this many items. It takes memory and time for each of its bytes: about 50 an item.
+/// The text of the workload of this seed, with this many items. It takes memory and time for each of its bytes: about
+/// 50 an item.
 pub fn gen_text(alloc: Global, seed: u64, size: u64) -> Result<Vec<u8>, OutOfMemory>
     requires seed { seed ≤ 1000000 }
     requires size { size ≤ 100000 }

@@ -44,9 +44,9 @@ functions_fit (w ∷ ws) = functions_fit ws
 abbrev pub Rests : List Wanted → State → Type 0
 Rests ws s = All (IsArranged s.vectors) s.classes × (s.attrs ≡ []) × (functions_fit ws ≡ true)
 
--- So it is whatever is wanted, but for two things: where attributes of a class are wanted, those that were read are arranged too; and
--- where the second attribute of a `substr` is wanted, the field of the first is the vector attribute exactly where its name is one of
--- a vector attribute.
+-- So it is whatever is wanted, but for two things: where attributes of a class are wanted, those that were read are
+-- arranged too; and where the second attribute of a `substr` is wanted, the field of the first is the vector attribute
+-- exactly where its name is one of a vector attribute.
 abbrev pub AreArranged : List Wanted → State → Type 0
 AreArranged (Attributes ∷ ws) s = All (IsArranged s.vectors) s.classes × IsAttributes s.vectors s.attrs × (functions_fit ws ≡ true)
 AreArranged (SourceEnd t name ∷ ws) s =

@@ -33,8 +33,8 @@ forms_last (w ∷ ws) = forms_last ws
 abbrev pub Stays : List Wanted → List Wanted → Type 0
 Stays ws ws' = forms_last ws ≡ true → forms_last ws' ≡ true
 
--- The step continues what derives after it, with the names of vector attributes that were read by then, or the word derives where
--- it is refused in a form.
+-- The step continues what derives after it, with the names of vector attributes that were read by then, or the word
+-- derives where it is refused in a form.
 abbrev pub Continues : List Sym → List Wanted → Word → Step → Type 0
 Continues vs ws w (Next ws' s') = Stays ws ws' × ((ts : List Word) → Derives s'.vectors ws' ts → Derives vs ws (w ∷ ts))
 Continues vs ws w (Refuses f) = is_no_form f ≡ false → (ts : List Word) × Derives vs ws (w ∷ ts)

@@ -52,8 +52,8 @@ least_at (Cells ∷ ws) = 16
 least_at (SourceCell ∷ ws) = 16
 least_at ws = 18
 
--- The reasons here exclude each other. Where they don't, an attribute may be declared twice, be a second vector attribute and pass
--- the limit, and a value of a command may be an unbound variable and pass the limit.
+-- The reasons here exclude each other. Where they don't, an attribute may be declared twice, be a second vector
+-- attribute and pass the limit, and a value of a command may be an unbound variable and pass the limit.
 abbrev is_single : List Wanted → Bool
 is_single (Attributes ∷ ws) = false
 is_single (Several InFixed f ∷ ws) = false

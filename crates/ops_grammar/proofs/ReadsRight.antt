@@ -20,8 +20,8 @@ use Rattle.ops_grammar.proofs.ReadsBack.{by_word}
 use Rattle.ops_grammar.proofs.ReadsFacts.{AreNamed, class_step, element_closed}
 use Rattle.ops_grammar.proofs.ReadsActions.{cell_found, IsSighted, sourced, whole_closed, puts_read, remove_read, items_read, bind_read}
 
--- what actions leave: the element of the last `make` or `modify`, the variable of the last `bind`, the classes of the cells of each
--- `cbind`, and the cell and the field of the last `substr`
+-- what actions leave: the element of the last `make` or `modify`, the variable of the last `bind`, the classes of the
+-- cells of each `cbind`, and the cell and the field of the last `substr`
 pub record Trail : Type 0 where
   pub class : ℕ
   pub modified : Option ℕ

@@ -14,8 +14,8 @@ use Rattle.ops_base.specs.Valid.{most_fields, most_conditions, are_distinct, cla
 use Rattle.ops_grammar.specs.declared.words.Named.{Named}
 use Rattle.ops_grammar.specs.Grammar.{Use, InPattern, InPut, InFixed, Target, ToTest, ToPut, ToFixed, ToTerms, ToConstants, ToItem, ToBind, EndsHalt, EndsCrlf, EndsCs, EndsExit, EndsWhole, Column, TagUse, ToRemove, ToShow, NameUse, ToPrint, ToBreak, Wanted, Forms, Form, ClassDeclared, Attributes, VectorName, VectorNames, RuleName, FirstPattern, Patterns, Pattern, Braced, ElementName, ClosesBrace, ClassName, Terms, Attribute, Several, Place, Tests, Tested, Choice, Atom, ValueFor, Function, Waiting, ExpressionUnit, ExpressionRest, Bracketed, SourceCell, SourceAttribute, SourceEnd, Actions, ActionWord, Modified, BoundName, BoundValue, CellName, Cell, Cells, Items, ItemWord, Columns, Count, StrategyName, TagOrAll, Tags, Shown, NamedRule, NamedRules, Level, Closes, precedes_classes, State, Step, Next, Refuses}
 
--- the form that is read began before the first place, and no list is longer than that place, but those of attributes with values
--- are not longer than the second
+-- the form that is read began before the first place, and no list is longer than that place, but those of attributes
+-- with values are not longer than the second
 abbrev pub IsShortBy : ℕ → ℕ → State → Type 0
 IsShortBy n m s =
     (s.first ≤ n) × (length s.classes ≤ n) × (length s.rules ≤ n) × (length s.commands ≤ n) × (length s.tests ≤ n) × (length s.puts ≤ m)
@@ -49,8 +49,8 @@ pub record IsClass (classes : List Class) (name : Sym) (attrs : List Sym) : Type
 abbrev pub numbers : List Named → List ℕ
 numbers values = map (λ n. n.number) values
 
--- the variables of a rule that is read: those in sight, how many were given a number, whether its condition is negated, how many
--- are in sight around that, and the element variables
+-- the variables of a rule that is read: those in sight, how many were given a number, whether its condition is negated,
+-- how many are in sight around that, and the element variables
 pub record Variables : Type 0 where
   pub values : List Named
   pub given : ℕ
@@ -231,7 +231,8 @@ HasCells text s = Body text s × (list_all (is_cell (known_in s)) s.cells ≡ tr
 abbrev pub HasItems : ℕ → State → Type 0
 HasItems text s = Body text s × (list_all (item_is_valid s.classes (known_in s)) s.items ≡ true)
 
--- where a value of an action stands: after a scalar attribute, among the values of the vector attribute, in `write`, or in `bind`
+-- where a value of an action stands: after a scalar attribute, among the values of the vector attribute, in `write`, or
+-- in `bind`
 pub data Slot : Type 0 where
   InScalar : (field : ℕ) → Slot
   InVector : (field : ℕ) → Slot
@@ -271,7 +272,8 @@ pub record Opened : Type 0 where
 abbrev pub opened_is_known : Known → Opened → Bool
 opened_is_known k o = list_all (λ w. formula_is_known k w.left) o.waiting
 
--- where the value of an expression goes, inside of those that are open: into the innermost of them, or to where the function stands
+-- where the value of an expression goes, inside of those that are open: into the innermost of them, or to where the
+-- function stands
 abbrev pub into_opened : Slot → List Opened → Option Target
 into_opened slot [] = Some (target_of slot)
 into_opened slot (o ∷ os) = None

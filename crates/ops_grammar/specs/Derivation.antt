@@ -40,8 +40,8 @@ is_choice w = not (closes_choice w.keyword) && is_atom w
 abbrev pub with_name : Sym → List Sym → List Sym
 with_name name names = if is_one_of name names then names else names ++ name ∷ []
 
--- The words derive from what is wanted, where these are the names of vector attributes: a case for each choice of each line of the
--- grammar.
+-- The words derive from what is wanted, where these are the names of vector attributes: a case for each choice of each
+-- line of the grammar.
 pub data Derives : List Sym → List Wanted → List Word → Type 0 where
   nothing : {vs : List Sym} → Derives vs [] []
   -- text = form*

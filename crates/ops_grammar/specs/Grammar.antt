@@ -45,8 +45,8 @@ pub data Use : Type 0 where
   InPut : Use
   InFixed : Use
 
--- where a value goes: into a test, to a scalar attribute of an action or of a command, among the values of the vector attribute of an
--- action or of a command, to `write`, or to `bind`
+-- where a value goes: into a test, to a scalar attribute of an action or of a command, among the values of the vector
+-- attribute of an action or of a command, to `write`, or to `bind`
 pub data Target : Type 0 where
   ToTest : (field : ℕ) → (p : Pred) → Target
   ToPut : (field : ℕ) → Target
@@ -133,7 +133,8 @@ pub data Wanted : Type 0 where
   Choice : (field : ℕ) → Wanted
   -- atom
   Atom : (target : Target) → Wanted
-  -- rconstant | VARIABLE | ( compute expr ) | ( genatom ) | ( accept ) | ( substr VARIABLE ATTR ATTR ) | ( substr VARIABLE ATTR inf )
+  -- rconstant | VARIABLE | ( compute expr ) | ( genatom ) | ( accept ) | ( substr VARIABLE ATTR ATTR ) | ( substr
+  -- VARIABLE ATTR inf )
   ValueFor : (target : Target) → Wanted
   -- compute expr ) | genatom ) | accept ) | substr VARIABLE ATTR ATTR ) | substr VARIABLE ATTR inf )
   Function : (target : Target) → Wanted
@@ -213,7 +214,8 @@ pub record State : Type 0 where
   pub fixed : List Fixed
   pub cells : List ℕ
   pub items : List Item
-  -- the variables in sight with their numbers, the element variables with their cells, and the one of the condition that is read
+  -- the variables in sight with their numbers, the element variables with their cells, and the one of the condition
+  -- that is read
   pub values : List Named
   pub elements : List Named
   pub element : Sym
@@ -223,9 +225,9 @@ pub record State : Type 0 where
   pub around : ℕ
   pub conditions : List Condition
   pub actions : List Action
-  -- the cell that a `modify` names, none in a `make`; the class of the element that this right side made last; the classes of the cells
-  -- that its `cbind` named; the variable of a `bind`; the cell and the field of a `substr`; and the operand of a `compute` that was read
-  -- last
+  -- the cell that a `modify` names, none in a `make`; the class of the element that this right side made last; the
+  -- classes of the cells that its `cbind` named; the variable of a `bind`; the cell and the field of a `substr`; and
+  -- the operand of a `compute` that was read last
   pub modified : Option ℕ
   pub made : Option ℕ
   pub further : List ℕ

@@ -157,7 +157,8 @@ wants_cell (Cell ∷ ws) = true
 wants_cell (Cells ∷ ws) = true
 wants_cell ws = false
 
--- the word designates no cell, it binds an element variable of a left side once more, or it is to name an element where none was made
+-- the word designates no cell, it binds an element variable of a left side once more, or it is to name an element where
+-- none was made
 abbrev pub is_bad_designator : List Wanted → Word → State → Bool
 is_bad_designator (Modified ∷ ws) w s = is_designator w.kind && not (designates w.kind w.name s)
 is_bad_designator (CellName ∷ ws) w s = is_variable w.kind && not (is_some s.made)

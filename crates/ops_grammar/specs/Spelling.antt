@@ -302,7 +302,8 @@ spelled_formula is_left (formula.apply o left right) = bracketed is_left (spelle
 abbrev pub spelled_call : Keyword → List Word
 spelled_call k = opening ∷ spelled_keyword k ∷ closing ∷ []
 
--- rconstant | VARIABLE | ( compute expr ) | ( genatom ) | ( accept ) | ( substr VARIABLE ATTR ATTR ) | ( substr VARIABLE ATTR inf )
+-- rconstant | VARIABLE | ( compute expr ) | ( genatom ) | ( accept ) | ( substr VARIABLE ATTR ATTR ) | ( substr
+-- VARIABLE ATTR inf )
 abbrev pub spelled_term : List Class → InSight → Term → List Word
 spelled_term classes k (term.Constant v) = spelled_value v ∷ []
 spelled_term classes k (term.Variable n) = spelled_variable n ∷ []
@@ -359,7 +360,8 @@ nests_within depth is_left (formula.variable n) = true
 nests_within depth true (formula.apply o left right) = nat_lt depth most_brackets && nests_within (suc depth) true left && nests_within (suc depth) false right
 nests_within depth false (formula.apply o left right) = nests_within depth true left && nests_within depth false right
 
--- a constant, a variable in sight, an expression of such, a fresh or an accepted atom, or what a cell's element has, where `several` tells that several values may stand there
+-- a constant, a variable in sight, an expression of such, a fresh or an accepted atom, or what a cell's element has,
+-- where `several` tells that several values may stand there
 abbrev pub term_is_plain : List Class → InSight → Bool → Term → Bool
 term_is_plain classes k several (term.Constant v) = true
 term_is_plain classes k several (term.Variable n) = is_in n k.variables.sight

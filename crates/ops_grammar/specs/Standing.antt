@@ -37,8 +37,8 @@ abbrev pub IsLowest : Fault → Word → List Wanted → State → Type 0
 IsLowest f w ws s = (g : Fault) → is_no_form g ≡ false → Because g w ws s → fault_number f ≤ fault_number g
 
 -- The fault stands at this word after those: they are taken, and the word is refused with it whatever stands after it,
--- for the reason that the fault names, and it is the lowest that has its reason there. Those before it go on to a text of the grammar. With the word they do so too, but
--- where the fault says that it continues no form; there they don't.
+-- for the reason that the fault names, and it is the lowest that has its reason there. Those before it go on to a text
+-- of the grammar. With the word they do so too, but where the fault says that it continues no form; there they don't.
 pub record StandsAt (f : Fault) (before : List Word) (w : Word) : Type 0 where
   pub taken : IsTaken (outcome_of before)
   pub refused : (more : List Word) → outcome_of (before ++ w ∷ more) ≡ Err (f, Some w)

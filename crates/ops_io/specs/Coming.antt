@@ -21,8 +21,8 @@ inlet buffer left faults = record { buffer = buffer; left = left; faults = fault
 abbrev pub preceded_by : List ℕ → Coming → Coming
 preceded_by bytes c = record c { bytes = bytes ++ c.bytes }
 
--- These bytes were taken: what was held and what the source gave are, in order, those and what is held now. The end is seen only
--- where nothing is left, and once it was seen nothing more is read.
+-- These bytes were taken: what was held and what the source gave are, in order, those and what is held now. The end is
+-- seen only where nothing is left, and once it was seen nothing more is read.
 pub record Took (old new : Inlet) (taken : List ℕ) : Type 0 where
   pub got : List ℕ
   pub bytes : old.buffer.held ++ got ≡ taken ++ new.buffer.held
@@ -30,8 +30,8 @@ pub record Took (old new : Inlet) (taken : List ℕ) : Type 0 where
   pub ended : IsTrue new.buffer.ended → IsTrue old.buffer.ended ⊎ IsAtEnd new.left
   pub closed : IsTrue old.buffer.ended → (got ≡ []) × IsTrue new.buffer.ended × (new.faults ≡ old.faults)
 
--- What stands after the bytes that are held: nothing where the end was seen, and otherwise all that the source has left, or a part of
--- that, after which it fails.
+-- What stands after the bytes that are held: nothing where the end was seen, and otherwise all that the source has
+-- left, or a part of that, after which it fails.
 abbrev pub IsBehind : Bool → Bool → Option (List ℕ) → List ℕ → Type 0
 IsBehind true fails left more = (more ≡ []) × (fails ≡ false)
 IsBehind false false left more = IfSome left (λ bytes. bytes ≡ more)

@@ -16,7 +16,8 @@ pub record SourceState : Type 0 where
   pub calls : ℕ
   pub faults : ℕ
 
--- the bytes that were taken, how many there is room for, the most that a write takes, the calls that fail, and how many writes were made and have failed
+-- the bytes that were taken, how many there is room for, the most that a write takes, the calls that fail, and how many
+-- writes were made and have failed
 pub record SinkState : Type 0 where
   pub written : List ℕ
   pub room : ℕ

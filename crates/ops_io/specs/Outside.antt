@@ -62,8 +62,8 @@ abbrev pub IsWhole : List ℕ → ℕ → Option (Vec ℕ Global) → Type 0
 IsWhole bytes room (Some text) = (text.items ≡ bytes) × (length bytes ≤ room)
 IsWhole bytes room None = room < length bytes
 
--- what is seen of a real input or output: the bytes that its reader has left or its writer holds, where the standard library knows them,
--- and how many of its calls have failed
+-- what is seen of a real input or output: the bytes that its reader has left or its writer holds, where the standard
+-- library knows them, and how many of its calls have failed
 pub record DeviceState : Type 0 where
   pub known : Option (List ℕ)
   pub faults : ℕ

@@ -1,5 +1,6 @@
-//! The real files, standard input and standard output as the outside. As shelf, source and sink they tell no bytes; their own clauses
-//! say what becomes of the bytes that a reader has left and that a writer holds, where the standard library knows these.
+//! The real files, standard input and standard output as the outside. As shelf, source and sink they tell no bytes;
+//! their own clauses say what becomes of the bytes that a reader has left and that a writer holds, where the standard
+//! library knows these.
 ghost use Rattle.std.specs.Prelude.{◌≡◌, ◌-◌, ◌<◌, ◌≤◌, ◌^◌, [], length, option_map, None, Some, IfOk, IfSome, IsErr, IsErrOf, OnErr};
 ghost use Rattle.std.specs.Io.{ReadsAtMost};
 ghost use Rattle.std.specs.Io.KnownBytes.{ReadConsumes, WriteAppends};
@@ -138,8 +139,8 @@ fn read_all<F: Read>(alloc: Global, file: &mut F, room: usize) -> Result<Option<
     }
 }
 
-/// Appends what is left of a file and answers true, or answers false where that is more than `room` bytes. It reads the file into
-/// memory of its own first, so that a refusal leaves `into` unchanged.
+/// Appends what is left of a file and answers true, or answers false where that is more than `room` bytes. It reads the
+/// file into memory of its own first, so that a refusal leaves `into` unchanged.
 fn append_all<F: Read>(file: &mut F, room: usize, into: &mut Vec<u8>) -> Result<bool, LoadError>
     ensures bytes { LoadGives (option_map Some (F.remaining file.old)) room result into.old.items into.new.items }
 {

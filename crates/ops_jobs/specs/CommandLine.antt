@@ -47,8 +47,8 @@ name_in word = before_first (λ b. b == 61) (drop 2 word)
 abbrev pub value_in : Word → Option Word
 value_in word = if list_any (λ b. b == 61) (drop 2 word) then Some (after_first (λ b. b == 61) (drop 2 word)) else None
 
--- What a word is where no option waits for its value: the word `--`, an option with its value, an option that takes the next word, a flag,
--- none of these but like one, or a name.
+-- What a word is where no option waits for its value: the word `--`, an option with its value, an option that takes the
+-- next word, a flag, none of these but like one, or a name.
 pub data Sort : Type 0 where
   ends_options : Sort
   gives : (option value : Word) → Sort
@@ -94,7 +94,8 @@ read_as (raises flag) word words rest = with_piece (flagged flag) (rest None)
 read_as unknown word words rest = None
 read_as names word words rest = with_piece (file word) (rest None)
 
--- An option that waits takes the next word. A dashed one is no value: a number has digits alone, and no engine's name is dashed.
+-- An option that waits takes the next word. A dashed one is no value: a number has digits alone, and no engine's name
+-- is dashed.
 unfoldable pub pieces_from : List Word → Option Word → Option (List Piece)
 pieces_from [] None = Some []
 pieces_from [] (Some option) = None

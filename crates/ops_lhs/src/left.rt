@@ -112,8 +112,8 @@ impl Left {
         Ok(())
     }
 
-    // The element variable names the cell of the condition that was read last. The definition is total: that condition is positive,
-    // so there is a cell.
+    // The element variable names the cell of the condition that was read last. The definition is total: that condition
+    // is positive, so there is a cell.
     pub fn bind_element(&mut self) -> Result<(), Refusal>
         ensures { Becomes (view self.new) (with_bound_element (view self.old)) result }
     {

@@ -37,8 +37,8 @@ pub fn left_side<'a>(
 }
 
 /// Reads the left side of a production, which begins at the token `from`, after the production's name. Answers its conditions
-/// and the place of its arrow, and leaves in the scope what they leave in sight; the names of all tokens from there on are held.
-/// After a refusal the scope holds its text and classes, and else nothing that could be relied on.
+/// and the place of its arrow, and leaves in the scope what they leave in sight; the names of all tokens from there on
+/// are held. After a refusal the scope holds its text and classes, and else nothing that could be relied on.
 pub fn read_lhs(
     alloc: Global,
     scope: &mut Scope,

@@ -60,8 +60,8 @@ EndsActions fails NoInput = fails ≡ true
 
 -- ---- a right side
 
--- From this working memory and this last tag the changes so far are lawful and lead to what is there now; the symbols keep their spellings, and
--- the input fails as it did.
+-- From this working memory and this last tag the changes so far are lawful and lead to what is there now; the symbols
+-- keep their spellings, and the input fails as it did.
 pub record KeptDoing (old : List Element) (given : ℕ) (names : Spellings) (fails : Bool) (d : Doing) : Type 0 where
   pub lawful : Lawful old given d.changes
   pub memory : done old d.changes ≡ d.wm

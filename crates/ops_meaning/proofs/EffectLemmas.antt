@@ -71,7 +71,8 @@ fails_stopped {E} why f a b e is p = let P : Failure E → Type 0 = λ g. Fails 
 
 -- ---- puts
 
--- a call that puts these bytes performs an effect that writes them and leaves this, where a refused write is no end of the effect's own
+-- a call that puts these bytes performs an effect that writes them and leaves this, where a refused write is no end of
+-- the effect's own
 pub performs_puts : {X W E S : Type 0} (s : S) (failure : W → Failure E) (r : Result X W) (a b : Port) (bytes : List ℕ) → ((w : W) → failure w ≡ OfPort stop.Write) → PutsBytes r a b bytes → Performs (λ _. s) failure r a b (writes bytes s)
 performs_puts s failure (Ok x) a b bytes is p = (refl, p)
 performs_puts s failure (Err w) a b bytes is p = fails_stopped stop.Write (failure w) a b (writes bytes s) (is w) p

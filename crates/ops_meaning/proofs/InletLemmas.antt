@@ -9,8 +9,8 @@ use Rattle.ops_io.proofs.ComingLemmas.{took_nothing, took_then, precede_twice, c
 use Rattle.ops_meaning.specs.Effects.{Effect, writes, led_by, and_then, told_as, Failure, OfPort, failure_as, Fails, Performs, Pending, PerformsOn, PendingOn}
 use Rattle.ops_meaning.proofs.EffectLemmas.{Leaves, performs_led, performs_then, performs_nothing, fails_front, fails_behind, performs_puts, told_leaves, told_fails, told_performs, pending_start, pending_last, pending_step}
 
--- What a call leaves that performs an effect with what is to come and went well, no read having failed: it took bytes, and whatever may come
--- after them, all was put and this is left.
+-- What a call leaves that performs an effect with what is to come and went well, no read having failed: it took bytes,
+-- and whatever may come after them, all was put and this is left.
 pub record LeavesOn {E S : Type 0} (s : Coming → S) (before now : Inlet) (old new : Port) (e : Coming → Effect E S) : Type 0 where
   pub taken : List ℕ
   pub took : Took before now taken
@@ -102,8 +102,8 @@ performs_after view failure r i j a b c e p q =
 
 -- ---- one part, and then the next
 
--- Of two calls, in the first of which no read failed, what holds after the second of what the first took, then the second, and then is to
--- come, holds after both.
+-- Of two calls, in the first of which no read failed, what holds after the second of what the first took, then the
+-- second, and then is to come, holds after both.
 behind : {E T : Type 0} (i j k : Inlet) (xs ys : List ℕ) (P : Coming → Effect E T → Type 0) (whole : Coming → Effect E T) → j.faults ≡ i.faults → Took j k ys
     → ((c : Coming) → ComesAfter j k c → MayCome j (preceded_by ys c) → P c (whole (preceded_by xs (preceded_by ys c)))) → (c : Coming) → ComesAfter i k c → P c (whole (preceded_by (xs ++ ys) c))
 behind i j k xs ys P whole steady took p c h =

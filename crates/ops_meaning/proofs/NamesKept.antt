@@ -1,5 +1,5 @@
--- Each symbol keeps its spelling where fresh atoms are made and atoms are accepted: so the line that tells an ending is the same with the
--- names as they were.
+-- Each symbol keeps its spelling where fresh atoms are made and atoms are accepted: so the line that tells an ending is
+-- the same with the names as they were.
 use Rattle.std.proofs.Common.{◌≡◌, ℕ, zero, suc, ◌<◌, Bool, true, false, ◌&&◌, List, ◌++◌, ◌∷◌, [], length, Some, Result, Ok, Err, refl, sym, ap, ◌∙◌, nat_lt, slice_get, unwrap_or}
 use Rattle.std.specs.List.{list_all}
 use Rattle.std.proofs.lemmas.Bool.{cond_both, ltb-true}

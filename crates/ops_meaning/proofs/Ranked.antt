@@ -1,4 +1,5 @@
--- What is ranked is each of the instantiations once, the dominant one first, and at each place the one that this many of them dominate.
+-- What is ranked is each of the instantiations once, the dominant one first, and at each place the one that this many
+-- of them dominate.
 use Rattle.std.proofs.Common.{◌≡◌, ℕ, zero, suc, ◌+◌, ◌≤◌, List, [], ◌∷◌, map, length, drop, Bool, true, false, cond, not, Option, Some, None, option_map, unwrap_or, refl, ap, sym, ◌∙◌, subst, inl, inr, ◌⊎◌, arith}
 use Rattle.std.specs.Prelude.{◌≢◌, ◌↔◌, filter, count_by, slice_get, IsTrue, Contains, AllPairs}
 use Rattle.std.specs.Bool.{Decides}
@@ -113,8 +114,8 @@ got_member (x ∷ xs) (suc k) i e = inr (got_member xs k i e)
 
 -- ---- the ranking
 
--- The list has just these instantiations, as many as there are. Each dominates all after it, and at each place stands the one that this many
--- of them dominate.
+-- The list has just these instantiations, as many as there are. Each dominates all after it, and at each place stands
+-- the one that this many of them dominate.
 pub record IsRanking (strategy : Strategy) (rules : List Rule) (insts list : List Inst) : Type 0 where
   pub long : length list ≡ length insts
   pub members : (i : Inst) → Contains list i ↔ Contains insts i

@@ -1,5 +1,6 @@
 -- A right side acts lawfully, and working memory holds its elements in the order of their tags through a whole session: so each
--- conflict set that the session looks at is the set of all instantiations. And what else a session keeps, and the ends that it comes to.
+-- conflict set that the session looks at is the set of all instantiations. And what else a session keeps, and the ends
+-- that it comes to.
 use Rattle.std.proofs.Common.{◌≡◌, ℕ, zero, suc, ◌+◌, ◌-◌, ◌≤◌, List, [], ◌∷◌, map, length, Bool, true, cond, Option, Some, None, Result, Ok, Err, IfOk, MatchResult, refl, ap, sym, ◌∙◌, arith}
 use Rattle.std.proofs.lemmas.Bool.{cond_both}
 use Rattle.std.proofs.lemmas.List.Elements.{All-nil}

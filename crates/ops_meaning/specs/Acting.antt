@@ -74,9 +74,9 @@ actions_of rules n = unwrap_or (option_map (λ r. r.actions) (slice_get rules n)
 
 -- ---- what a right side has done so far
 
--- working memory now and the changes that led to it, the last tag that was given, what the variables are bound to, the elements that
--- the cells hold, whether `halt` was done, the spellings in use with the number of the last fresh atom, and the input that is still to
--- come
+-- working memory now and the changes that led to it, the last tag that was given, what the variables are bound to, the
+-- elements that the cells hold, whether `halt` was done, the spellings in use with the number of the last fresh atom,
+-- and the input that is still to come
 pub record Doing : Type 0 where
   pub wm : List Element
   pub changes : List Change
@@ -182,8 +182,8 @@ terms_placed classes at (t ∷ ts) f =
 abbrev pub emptied : Class → ℕ → List Value → List Value
 emptied c field fields = if is_vector c field then take field fields else fields
 
--- `make` gives one attribute after another. Of two values for a scalar one the later counts, and the values of the vector attribute take
--- the place of those that it had.
+-- `make` gives one attribute after another. Of two values for a scalar one the later counts, and the values of the
+-- vector attribute take the place of those that it had.
 abbrev pub puts_made : List Class → Class → List Put → Filled → Result Filled Mishap
 puts_made classes c [] f = Ok f
 puts_made classes c (p ∷ ps) f =
@@ -192,7 +192,8 @@ puts_made classes c (p ∷ ps) f =
 abbrev pub made_fields : List Class → Class → List Put → Doing → Result Filled Mishap
 made_fields classes c puts d = puts_made classes c puts (record { fields = no_fields c; doing = d })
 
--- `modify` gives them to the fields that the element has. Values of the vector attribute go over those that it had, from the first on.
+-- `modify` gives them to the fields that the element has. Values of the vector attribute go over those that it had,
+-- from the first on.
 abbrev pub puts_over : List Class → List Put → Filled → Result Filled Mishap
 puts_over classes [] f = Ok f
 puts_over classes (p ∷ ps) f = followed_by (terms_placed classes p.field p.terms f) (puts_over classes ps)
@@ -281,8 +282,8 @@ changes_told s before column d =
 
 -- ---- actions
 
--- What an action does from a column on. All values of an element are placed before it is removed or made, and what is removed and made is told
--- in that order.
+-- What an action does from a column on. All values of an element are placed before it is removed or made, and what is
+-- removed and made is told in that order.
 abbrev pub action_done : Setting → ℕ → Action → Doing → Effect Mishap Doing
 action_done s column (action.Make class puts) d =
     and_then column (silent (followed_by (made_fields s.classes (class_of s.classes class) puts d) (λ f. Ok (added f.doing class f.fields)))) (changes_told s d)
@@ -310,8 +311,8 @@ pub record Given : Type 0 where
   pub names : Spellings
   pub coming : Coming
 
--- the changes to working memory, in order, the last tag that was given, whether `halt` was done, the spellings in use, and the input that
--- is still to come
+-- the changes to working memory, in order, the last tag that was given, whether `halt` was done, the spellings in use,
+-- and the input that is still to come
 pub record Acted : Type 0 where
   pub changes : List Change
   pub last : ℕ

@@ -82,8 +82,8 @@ pub record Pending {E S : Type 0} (start now : Port) (whole rest : Effect E S) :
 
 -- ---- with an input
 
--- What a call leaves that does this with what is still to come: it took bytes, and whatever may come after them, it performs the effect on
--- those and on that.
+-- What a call leaves that does this with what is still to come: it took bytes, and whatever may come after them, it
+-- performs the effect on those and on that.
 pub record PerformsOn {X F E S : Type 0} (view : X → Coming → S) (failure : F → Failure E) (r : Result X F) (before now : Inlet) (old new : Port) (e : Coming → Effect E S) : Type 0 where
   pub taken : List ℕ
   pub took : Took before now taken

@@ -1,5 +1,5 @@
--- What a session keeps of working memory and of the names, that its right sides act lawfully, and that its conflict sets are the sets of all
--- instantiations.
+-- What a session keeps of working memory and of the names, that its right sides act lawfully, and that its conflict
+-- sets are the sets of all instantiations.
 use Rattle.std.specs.Prelude.{◌≡◌, ℕ, ◌≤◌, ◌+◌, List, Bool, Result, IfOk, MatchResult, Some, None, slice_get}
 use Rattle.std.specs.List.{All}
 use Rattle.ops_base.specs.declared.elements.Element.{Element}
@@ -20,8 +20,8 @@ use Rattle.ops_meaning.specs.Running.{Finder, Course, Session, run_on, session_b
 abbrev pub WellKept : List Element → ℕ → Type 0
 WellKept wm last = HasRisingTags wm × All (λ t. t ≤ last) (tags_of wm)
 
--- The changes are lawful over this working memory, they leave it well kept, the last tag that was given is that of the element that was
--- added last, and it does not fall.
+-- The changes are lawful over this working memory, they leave it well kept, the last tag that was given is that of the
+-- element that was added last, and it does not fall.
 pub record IsLawfulOver (wm : List Element) (last : ℕ) (a : Acted) : Type 0 where
   pub changes : Lawful wm last a.changes
   pub last_tag : last_after last a.changes ≡ a.last

@@ -32,8 +32,8 @@ value_text names (Whole n) = signed_decimal n
 
 -- ---- write
 
--- how a value stands after the item before it: one space apart, but at column 0; close to it, after a tab; or right-justified, so that
--- it ends this many bytes further
+-- how a value stands after the item before it: one space apart, but at column 0; close to it, after a tab; or
+-- right-justified, so that it ends this many bytes further
 pub data Lead : Type 0 where
   Apart : Lead
   Close : Lead

@@ -28,8 +28,9 @@ use Rattle.ops_base.specs.Names.{Spellings}
 use Rattle.ops_io.specs.Coming.{Coming}
 use Rattle.ops_meaning.specs.Acting.{Setting, Misdeed, Bad, NoInput, Given, Acted, acted, emptied, first_of, element_of, has_tag, change_lines}
 
--- what a session has come to: working memory, the strategy, the instantiations that are marked as fired, how many firings were made, the
--- last tag that was given, the spellings in use with the number of the last fresh atom, and the input that is still to come
+-- what a session has come to: working memory, the strategy, the instantiations that are marked as fired, how many
+-- firings were made, the last tag that was given, the spellings in use with the number of the last fresh atom, and the
+-- input that is still to come
 pub record Course : Type 0 where
   pub wm : List Element
   pub strategy : Strategy
@@ -58,8 +59,8 @@ Finder = List Element → List Inst
 abbrev pub next_by : Finder → List Rule → Course → Option Inst
 next_by found rules m = dominant m.strategy rules (unfired (found m.wm) m.fired)
 
--- A phase ends, with these changes and this many firings: they are done, and a mark is forgotten where its instantiation is not found in the
--- working memory that they leave.
+-- A phase ends, with these changes and this many firings: they are done, and a mark is forgotten where its
+-- instantiation is not found in the working memory that they leave.
 abbrev pub phase_by : Finder → List Change → ℕ → ℕ → Course → Course
 phase_by found changes firings last m =
     let wm = done m.wm changes in record m { wm = wm; fired = still_fired (found wm) m.fired; firings = firings; last = last }
@@ -109,8 +110,8 @@ abbrev pub line_of_count : Option ℕ → Option (List ℕ)
 line_of_count (Some zero) = Some counted_line
 line_of_count _ = None
 
--- The line of a run that pauses or ends whatever is next: after a firing that did `halt`, after one whose production has a break, and where it
--- has made all its firings.
+-- The line of a run that pauses or ends whatever is next: after a firing that did `halt`, after one whose production
+-- has a break, and where it has made all its firings.
 abbrev pub line_of_pause : Spellings → List Rule → List Bool → Option LastFiring → Option ℕ → Option (List ℕ)
 line_of_pause names rules breaks None count = line_of_count count
 line_of_pause names rules breaks (Some last) count =
@@ -132,8 +133,8 @@ one_less count = option_map (λ n. n - 1) count
 abbrev pub last_of : Inst → Turned → Option LastFiring
 last_of i t = Some (record { rule = i.rule; halted = t.halted })
 
--- A run from here on, where this many firings are left to the session, these productions have a break, this was its last firing, if it made
--- one, and this many are left to it, if it has a number of them.
+-- A run from here on, where this many firings are left to the session, these productions have a break, this was its
+-- last firing, if it made one, and this many are left to it, if it has a number of them.
 abbrev pub run_by : Finder → ℕ → Setting → List Bool → ℕ → Option LastFiring → Option ℕ → Course → Effect Ending Course
 run_by found zero s breaks column last count m =
     turn column (line_of_pause m.names s.rules breaks last count) m (next_by found s.rules m) (λ i. ends_with (ending.Limit m.firings))
@@ -163,7 +164,8 @@ phase_told found s column changes last k =
     writes (traced k.watch column (change_lines k.course.names s.classes k.course.wm changes))
     (with_course k (phase_by found changes k.course.firings last k.course))
 
--- One attribute is given by a command: a scalar one the value, and the vector attribute all of them, in the place of those that it had.
+-- One attribute is given by a command: a scalar one the value, and the vector attribute all of them, in the place of
+-- those that it had.
 abbrev pub with_values : Class → List Value → ℕ → List Value → List Value
 with_values c fields field values =
     if is_vector c field then emptied c field fields ++ values else slice_set fields field (first_of values)
@@ -265,7 +267,8 @@ run_given found s limit column count k =
     told_as (with_course k) (λ e. e)
     (run_by found (limit - k.course.firings) (record s { watch = k.watch }) k.breaks column None count k.course)
 
--- What one command does from a column on, in a session that makes at most this many firings. A top-level `make` is one phase, and so is a `remove`.
+-- What one command does from a column on, in a session that makes at most this many firings. A top-level `make` is one
+-- phase, and so is a `remove`.
 abbrev pub command_by : Finder → Setting → ℕ → ℕ → Command → Session → Effect Ending Session
 command_by found s limit column (command.Make class puts) k =
     phase_told found s column (change.Add (element_made s.classes class puts k.course) ∷ []) (k.course.last + 1) k
@@ -306,7 +309,8 @@ ending_of (Err e) = e
 abbrev pub begun : List Rule → Spellings → Coming → Session
 begun rules names coming = record { course = nothing_yet names coming; watch = 0; breaks = map (λ r. false) rules }
 
--- the whole session, from column 0 and nothing, where it makes at most this many firings, these names are in use and this input is to come
+-- the whole session, from column 0 and nothing, where it makes at most this many firings, these names are in use and
+-- this input is to come
 abbrev pub session_by : Finder → Setting → ℕ → List Command → Spellings → Coming → Effect Ending Session
 session_by found s limit commands names coming = commands_by found s limit 0 commands (begun s.rules names coming)
 

@@ -98,8 +98,8 @@ with_term target.Bind s t = with_bind (number_of s.variable s.values) s t
 
 -- ---- expressions
 
--- How it goes, whichever operand was read before, is how it goes in the words from the next place on with this operand, or it is the
--- refusal. Memory may run out.
+-- How it goes, whichever operand was read before, is how it goes in the words from the next place on with this operand,
+-- or it is the refusal. Memory may run out.
 abbrev pub GoesToOperand : (Formula → Way) → Right → List Word → Result (Formula × ℕ) Refusal → Type 0
 GoesToOperand from r words (Ok x) = (f : Formula) (more : List Word) (ws : List Wanted) (s : State) → from f more ws s ≡ goes (drop x.1 words ++ more) ws (with_formula (seen s r) x.0)
 GoesToOperand from r words (Err e) = (f : Formula) → Fails (from f) e
@@ -158,7 +158,8 @@ abbrev pub column_of : Column → Purpose
 column_of column.Tab = ToTab
 column_of column.Right = ToRight
 
--- the cell of the condition after this many, where this is what is kept of it: its number, where no negated condition stands before it
+-- the cell of the condition after this many, where this is what is kept of it: its number, where no negated condition
+-- stands before it
 abbrev pub cell_by : ℕ → Option (Option ℕ) → Result ℕ Fault
 cell_by before (Some (Some cell)) = if cell == before then Ok before else Err fault.AmbiguousDesignator
 cell_by before (Some None) = Err fault.BadDesignator

@@ -127,8 +127,8 @@ fn numbered_cell(around: &Around, number: i64) -> Result<usize, Fault>
     }
 }
 
-// The cell of the condition that has this many conditions before it, if that condition is positive. Where one of those before it is
-// negated, its number and its cell differ, and the designator is ambiguous.
+// The cell of the condition that has this many conditions before it, if that condition is positive. Where one of those
+// before it is negated, its number and its cell differ, and the designator is ambiguous.
 fn designated(around: &Around, before: usize) -> Result<usize, Fault>
     ensures { result ≡ cell_by before (slice_get around.now.conditions.now before) }
 {

@@ -11,8 +11,8 @@ use ops_forms::{Classes, Declared, Named, Refusal, number_of};
 use std::alloc::Global;
 use std::mem;
 
-/// What stands around a right side: the declared classes, the class of the cell of each positive condition, and the cell of each
-/// condition, `None` for a negated one.
+/// What stands around a right side: the declared classes, the class of the cell of each positive condition, and the
+/// cell of each condition, `None` for a negated one.
 #[derive(Clone, Copy)]
 pub struct Around<'a> {
     pub classes: &'a Classes,

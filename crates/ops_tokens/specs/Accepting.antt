@@ -87,7 +87,8 @@ accepted_as names rest (Spelled s) =
 abbrev pub behind_atom : Coming → Coming
 behind_atom c = record c { bytes = drop (length (bytes_taken c.bytes)) c.bytes }
 
--- What `accept` gives: too many bytes would be taken, or a byte is asked for where the input fails, or it is the atom at the front.
+-- What `accept` gives: too many bytes would be taken, or a byte is asked for where the input fails, or it is the atom
+-- at the front.
 abbrev pub accepted : Spellings → Coming → Result Accepted AcceptFault
 accepted names c =
     if nat_lt most_accepted (length (bytes_taken c.bytes)) then Err fault.TooLong

@@ -14,7 +14,8 @@ pub const FRACTION_NUMBER: u8 = 4;
 /// A whole number is below -9223372036854775808 or above 9223372036854775807.
 pub const NUMBER_RANGE: u8 = 5;
 
-/// What a token is: a bracket, a caret, an operator, a variable, a whole number with its value, a plain symbol, or a quoted atom.
+/// What a token is: a bracket, a caret, an operator, a variable, a whole number with its value, a plain symbol, or a
+/// quoted atom.
 #[derive(Clone, Copy, Debug, PartialEq, Eq)]
 pub enum TokenKind {
     Left,

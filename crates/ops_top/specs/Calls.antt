@@ -17,7 +17,8 @@ abbrev pub OfContent : Option (Option (List ℕ)) → (Option (List ℕ) → Typ
 OfContent (Some content) P = P content
 OfContent None P = (content : Option (List ℕ)) × P content
 
--- It holds for contents of these files, in their order, each of which is the one that is told, or some content where none is told.
+-- It holds for contents of these files, in their order, each of which is the one that is told, or some content where
+-- none is told.
 abbrev pub OfContents : (List ℕ → Option (Option (List ℕ))) → List (List ℕ) → (List (Option (List ℕ)) → Type 0) → Type 0
 OfContents told [] P = P []
 OfContents told (name ∷ names) P = OfContent (told name) (λ content. OfContents told names (λ contents. P (content ∷ contents)))
@@ -26,8 +27,9 @@ OfContents told (name ∷ names) P = OfContent (told name) (λ content. OfConten
 abbrev pub broken_load : (old new : List (List ℕ)) → (before now : ℕ) → Option ℕ
 broken_load old new before now = if nat_lt before now then Some (length new - length old) else None
 
--- It holds for the input of a call: all that the source had left; or, where a read failed, the bytes that were taken from it, after which it
--- fails. Where the source does not tell its bytes it holds for some input, which fails where a read did.
+-- It holds for the input of a call: all that the source had left; or, where a read failed, the bytes that were taken
+-- from it, after which it fails. Where the source does not tell its bytes it holds for some input, which fails where a
+-- read did.
 abbrev pub OfInput : Option (List ℕ) → Option (List ℕ) → Bool → (Coming → Type 0) → Type 0
 OfInput None now failed P = (coming : Coming) × (coming.fails ≡ failed) × P coming
 OfInput (Some left) now false P = P (record { bytes = left; fails = false })
@@ -38,8 +40,8 @@ abbrev pub TellsFailedWrite : Status → ℕ → ℕ → Type 0
 TellsFailedWrite status.WriteFault before now = now ≡ before + 1
 TellsFailedWrite s before now = now ≡ before
 
--- A read fault is answered to a text only where a read of the input failed, and where one failed no other answer comes but those of a
--- write and of memory.
+-- A read fault is answered to a text only where a read of the input failed, and where one failed no other answer comes
+-- but those of a write and of memory.
 abbrev pub TellsFailedInput : Status → ℕ → ℕ → Type 0
 TellsFailedInput status.ReadFault before now = now ≡ before + 1
 TellsFailedInput status.WriteFault before now = (now ≡ before) ⊎ (now ≡ before + 1)
@@ -53,8 +55,8 @@ BothStay before now before2 now2 = (now ≡ before) × (now2 ≡ before2)
 abbrev pub OneRises : (before now before2 now2 : ℕ) → Type 0
 OneRises before now before2 now2 = ((now ≡ before + 1) × (now2 ≡ before2)) ⊎ ((now ≡ before) × (now2 ≡ before2 + 1))
 
--- A read fault is answered only where a load or a read of the input failed, and where one failed no other answer comes but those of a
--- write and of memory. The counts are those of the shelf and of the input.
+-- A read fault is answered only where a load or a read of the input failed, and where one failed no other answer comes
+-- but those of a write and of memory. The counts are those of the shelf and of the input.
 abbrev pub TellsFailedRead : Status → (loads now reads now2 : ℕ) → Type 0
 TellsFailedRead status.ReadFault loads now reads now2 = OneRises loads now reads now2
 TellsFailedRead status.WriteFault loads now reads now2 = BothStay loads now reads now2 ⊎ OneRises loads now reads now2
@@ -68,7 +70,8 @@ TellsWords status.WriteFault fit = Unit {0}
 TellsWords status.OutOfMemory fit = Unit {0}
 TellsWords s fit = fit ≡ true
 
--- The text of all files was had. (A text that is too long is that of files which do not fit, of which the last ones may not be asked for.)
+-- The text of all files was had. (A text that is too long is that of files which do not fit, of which the last ones may
+-- not be asked for.)
 abbrev pub has_text : Status → Bool
 has_text status.Done = true
 has_text (status.ActFault firing rule action kind) = true
@@ -116,8 +119,8 @@ abbrev pub job_runs_over : Option Job → List (Option (List ℕ)) → List ℕ 
 job_runs_over None contents left = false
 job_runs_over (Some job) contents left = gathered_runs_through job (record { bytes = left; fails = false }) (gathered [] (files_in job) contents)
 
--- The words fit, and the files of these contents are a program whose session comes to its end, within its limit, over an input of these
--- bytes, or whose network is asked for.
+-- The words fit, and the files of these contents are a program whose session comes to its end, within its limit, over
+-- an input of these bytes, or whose network is asked for.
 abbrev pub runs_over : List (List ℕ) → List (Option (List ℕ)) → List ℕ → Bool
 runs_over words contents left = job_runs_over (job_of words) contents left
 
@@ -126,8 +129,8 @@ abbrev pub all_told : (List ℕ → Option (Option (List ℕ))) → List (List �
 all_told told [] = Some []
 all_told told (name ∷ names) = option_and_then (λ content. option_map (λ contents. content ∷ contents) (all_told told names)) (told name)
 
--- The words fit, the files are there, and they are a program whose session comes to its end, within its limit, over the input that is
--- left, or whose network is asked for; where the source does not tell that, over every input that ends.
+-- The words fit, the files are there, and they are a program whose session comes to its end, within its limit, over the
+-- input that is left, or whose network is asked for; where the source does not tell that, over every input that ends.
 abbrev pub RunsThrough : List (List ℕ) → Option (List (Option (List ℕ))) → Option (List ℕ) → Type 0
 RunsThrough words (Some contents) (Some left) = runs_over words contents left ≡ true
 RunsThrough words (Some contents) None = (left : List ℕ) → runs_over words contents left ≡ true

@@ -32,7 +32,8 @@ abbrev pub TellsSession : Result Ending Stop → Port → Port → Spellings →
 TellsSession (Ok f) old new names rules e = (f ≡ ending_of e.outcome) × Put old new (told names rules e).bytes
 TellsSession (Err why) old new names rules e = Stopped why old new (told names rules e).bytes
 
--- A read of the input failed exactly where that is the ending. Where the call gave up one may have failed, as where the last line was refused.
+-- A read of the input failed exactly where that is the ending. Where the call gave up one may have failed, as where the
+-- last line was refused.
 abbrev pub CountsTold : Result Ending Stop → ℕ → ℕ → Type 0
 CountsTold (Ok ending.ReadFault) before now = now ≡ before + 1
 CountsTold (Err why) before now = (now ≡ before) ⊎ (now ≡ before + 1)

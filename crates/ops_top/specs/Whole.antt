@@ -124,7 +124,8 @@ pub data Gathered : Type 0 where
 abbrev pub joined : List ℕ → List ℕ → (List ℕ → Gathered) → Gathered
 joined sofar bytes rest = let text = sofar ++ text_of bytes in if nat_le (length text) longest_list then rest text else Overlong
 
--- The files of these names are taken in their order, after this text. The contents are those of the files, none where one can't be read.
+-- The files of these names are taken in their order, after this text. The contents are those of the files, none where
+-- one can't be read.
 abbrev pub gathered : List ℕ → List (List ℕ) → List (Option (List ℕ)) → Gathered
 gathered sofar [] contents = Joined sofar
 gathered sofar (name ∷ names) (Some bytes ∷ contents) = joined sofar bytes (λ text. gathered text names contents)
@@ -152,8 +153,8 @@ abbrev pub whole_job_by : Find → Option Job → List (Option (List ℕ)) → O
 whole_job_by find None contents broken coming = usage
 whole_job_by find (Some job) contents broken coming = answer_gathered_by find job coming (gathered [] (files_in job) (readable contents broken))
 
--- The words are those of the command line, the contents those of the files that they name, in their order, none where one is not there;
--- `broken` tells which load failed, counted from 1, if one did; and this input is to come.
+-- The words are those of the command line, the contents those of the files that they name, in their order, none where
+-- one is not there; `broken` tells which load failed, counted from 1, if one did; and this input is to come.
 abbrev pub whole_by : Find → List (List ℕ) → List (Option (List ℕ)) → Option ℕ → Coming → Reply
 whole_by find words contents broken coming = whole_job_by find (job_of words) contents broken coming
 
@@ -174,8 +175,8 @@ whole_job job contents broken coming = whole_job_by conflict_set job contents br
 abbrev pub whole : List (List ℕ) → List (Option (List ℕ)) → Option ℕ → Coming → Reply
 whole words contents broken coming = whole_by conflict_set words contents broken coming
 
--- The whole is the same whatever finds the instantiations, where it finds the conflict set of each working memory: all instantiations
--- of the rules, each once.
+-- The whole is the same whatever finds the instantiations, where it finds the conflict set of each working memory: all
+-- instantiations of the rules, each once.
 abbrev pub GoesByConflictSetsAlone : List (List ℕ) → Type 0
 GoesByConflictSetsAlone words =
     (find : Find) → ((rules : List Rule) → FindsConflictSets rules (find rules)) → (contents : List (Option (List ℕ))) (broken : Option ℕ) (coming : Coming) → whole words contents broken coming ≡ whole_by find words contents broken coming

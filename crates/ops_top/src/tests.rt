@@ -178,7 +178,8 @@ const TOO_LONG: Status = Status::Refused {
     column: 1,
 };
 
-/// Files, and how many letters there are in `x`. It is too long; it fits, and the LF that it lacks does not; or both fit, and the next file does not.
+/// Files, and how many letters there are in `x`. It is too long; it fits, and the LF that it lacks does not; or both
+/// fit, and the next file does not.
 const LONG: [(&[&str], usize); 3] = [
     (&["x"], 16_777_217),
     (&["x"], 16_777_216),

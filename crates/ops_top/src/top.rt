@@ -76,8 +76,8 @@ pub fn still_run<R: Threads + Clone + Drop + Send + Sync, H: Shelf, I: Source, K
     Some(status_after(run_words(alloc, words, shelf, input, sink, gate)))
 }
 
-/// Runs the program on the words of its command line, or tells its network. The input is read where the program asks for an atom.
-/// An engine over a network passes the gate before each activation.
+/// Runs the program on the words of its command line, or tells its network. The input is read where the program asks
+/// for an atom. An engine over a network passes the gate before each activation.
 pub fn ops_run<
     R: Threads + Wait + Clone + Drop + Send + Sync,
     H: Shelf,

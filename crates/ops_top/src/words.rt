@@ -64,8 +64,8 @@ fn run_files<H: Shelf, I: Source, K: Sink, G: Gate>(
     }
 }
 
-/// Answers the words. What they say of workers has no effect, what they say of lines has one on time and memory alone, and where
-/// the network is asked for, no option has.
+/// Answers the words. What they say of workers has no effect, what they say of lines has one on time and memory alone,
+/// and where the network is asked for, no option has.
 pub fn run_words<H: Shelf, I: Source, K: Sink, G: Gate>(
     alloc: Global,
     words: &[String],

@@ -79,7 +79,8 @@ twice pieces more piece name value v vs says some = go (is_complete ((pieces ++ 
 
 -- ---- a use of an option or of a flag
 
--- A use of the argument with these values is the piece: where the name has no row yet it gets the value, and where it has one the use fails.
+-- A use of the argument with these values is the piece: where the name has no row yet it gets the value, and where it
+-- has one the use fails.
 pub record IsUse (rule : Rule) (given_values : List Text) (piece : Piece) (name value : Text) : Type 0 where
   pub says : Says piece name value
   pub fresh : (rows : List Row) → row_of name rows ≡ None

@@ -12,7 +12,8 @@ abbrev pub fault_of : ErrorKind → WordsFault
 fault_of kind.OutOfMemory = OutOfMemory
 fault_of _ = Usage
 
--- The words are pieces that are complete, and the matches have the value of each option, whether each flag stands, and the files.
+-- The words are pieces that are complete, and the matches have the value of each option, whether each flag stands, and
+-- the files.
 pub record Finds (words : List Word) (m : ArgMatches) : Type 0 where
   pub pieces : List Piece
   pub are : pieces_of words ≡ Some pieces

@@ -17,8 +17,8 @@ use step_core::{Gathered, World};
 use token_line::Line;
 use work_store::{Matcher, Settled, Store};
 
-/// A matcher over a network. Between two settles its lines hold just the tokens that stand at each node over its store, each once. The gate is
-/// called with worker 0 and the number of the line, just before each activation.
+/// A matcher over a network. Between two settles its lines hold just the tokens that stand at each node over its store,
+/// each once. The gate is called with worker 0 and the number of the line, just before each activation.
 #[derive(Drop)]
 pub struct SerialEngine<G> {
     net: Net,
@@ -79,10 +79,10 @@ impl<G: Gate + Drop> SerialEngine<G> {
         self.world.lines()
     }
 
-    /// As `settle`, in an order that a test can choose. All changes are fed at once: their tasks stand in the order of the changes, those of one
-    /// change in that of their nodes. Then each pick in turn does one task in flight, that at the place that is the pick modulo the number of
-    /// these; its children come after all others. When the picks have ended the engine goes on with what is left. The tasks of all changes
-    /// are in flight together.
+    /// As `settle`, in an order that a test can choose. All changes are fed at once: their tasks stand in the order of
+    /// the changes, those of one change in that of their nodes. Then each pick in turn does one task in flight, that at
+    /// the place that is the pick modulo the number of these; its children come after all others. When the picks have
+    /// ended the engine goes on with what is left. The tasks of all changes are in flight together.
     pub fn settle_by(
         self,
         alloc: Global,
@@ -154,9 +154,10 @@ impl<G: Gate + Drop> Matcher for SerialEngine<G> {
         &self.store
     }
 
-    /// Does one change after another: it feeds the tasks of the change, and does each with all that comes of it, down to the terminals, before
-    /// the next. So few tasks are in flight at a time. It takes time for the tasks that it does, for the lines that they were done on, and
-    /// for the nodes that a change is fed to: `World::feed` and `World::work` say how much. What it removed is kept until the next settle.
+    /// Does one change after another: it feeds the tasks of the change, and does each with all that comes of it, down
+    /// to the terminals, before the next. So few tasks are in flight at a time. It takes time for the tasks that it
+    /// does, for the lines that they were done on, and for the nodes that a change is fed to: `World::feed` and
+    /// `World::work` say how much. What it removed is kept until the next settle.
     fn settle(
         self,
         alloc: Global,

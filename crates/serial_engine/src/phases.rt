@@ -21,8 +21,8 @@ use step_core::laws::{match_laws, settle_laws};
 use step_core::{Gathered, World, gather_worked};
 use work_store::Store;
 
-/// Does the last task in flight, and then all that comes of it, down to the terminals. `enter` gets the line of each task just before it is
-/// done.
+/// Does the last task in flight, and then all that comes of it, down to the terminals. `enter` gets the line of each
+/// task just before it is done.
 fn work_down<F: Fn(usize)>(
     alloc: Global,
     net: &Net,
@@ -122,7 +122,8 @@ fn feed_all(
     Ok(())
 }
 
-/// Does the task in flight at the place that is the pick modulo their number, if there is one. Its children come after the others.
+/// Does the task in flight at the place that is the pick modulo their number, if there is one. Its children come after
+/// the others.
 fn work_picked<F: Fn(usize)>(
     alloc: Global,
     net: &Net,
@@ -242,10 +243,10 @@ fn do_changes(alloc: Global, store: &mut Store, changes: &[Change]) -> Result<()
     Ok(())
 }
 
-/// Does the changes to the store, and their phase over lines that hold just the tokens over it. The lines then hold just the tokens over
-/// the store with the changes done, and their entries are a bundle of the changes. With picks all changes are fed at once, and a task is
-/// done for each pick; without them, and once they have ended, the last task in flight is next. `enter` gets the line of each task just
-/// before it is done.
+/// Does the changes to the store, and their phase over lines that hold just the tokens over it. The lines then hold
+/// just the tokens over the store with the changes done, and their entries are a bundle of the changes. With picks all
+/// changes are fed at once, and a task is done for each pick; without them, and once they have ended, the last task in
+/// flight is next. `enter` gets the line of each task just before it is done.
 pub(crate) fn settle<F: Fn(usize)>(
     alloc: Global,
     net: &Net,

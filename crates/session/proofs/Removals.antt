@@ -53,7 +53,8 @@ named_step true false true = refl
 named_step true false false = refl
 named_step false g b = refl
 
--- Some removals were found, and what is present after them is what was at the start, but for the tags that were named and were there.
+-- Some removals were found, and what is present after them is what was at the start, but for the tags that were named
+-- and were there.
 pub record AreFound (start : List Element) (named : ℕ → Bool) (all rest : List ℕ) (changes : List Change) : Type 0 where
   pub removed : changes ++ removals (done start changes) rest ≡ removals start all
   pub left : (t : ℕ) → has_tag (done start changes) t ≡ (has_tag start t && not (named t))

@@ -34,8 +34,8 @@ pub record IsOf {M : Type 0} (stands_for : M → List Rule → Type 0) (rules : 
   pub stands : stands_for s.matcher rules
   pub specificities : KeepsSpecificities rules s.index.members
 
--- Changes wait only before the first run, while no instantiation is marked. They are lawful, and the session knows the last tag that they
--- gave.
+-- Changes wait only before the first run, while no instantiation is marked. They are lawful, and the session knows the
+-- last tag that they gave.
 pub record IsUnderWay {M H : Type 0} (stored : M → Stored) (stands_for : M → List Rule → Type 0) (rules : List Rule) (s : Session M H) : Type 0 where
   pub state : IsOf stands_for rules s.state
   pub unmarked : s.ran ≡ false → (alone stored s.state).fired ≡ []

@@ -143,8 +143,8 @@ fn make_one<M: Matcher, K: Sink>(
     Ok(with_waiting(session, made)?)
 }
 
-/// The command `make`, which is one phase. Where no run was begun it waits, but is told at once; and once many wait, their phases
-/// are made before it.
+/// The command `make`, which is one phase. Where no run was begun it waits, but is told at once; and once many wait,
+/// their phases are made before it.
 pub(crate) fn make_at_top<M: Matcher, K: Sink>(
     alloc: Global,
     hand: &mut M::Hand,
@@ -184,7 +184,8 @@ fn is_left(store: &Store, named: &BTreeSet<u64>, tag: u64) -> bool
 }
 
 /// The removals of these tags in their order, where an absent one is none, and one that is named again neither. Each is
-/// looked up, so that it takes a time in proportion to the tags and to the logarithms of their number and of the number of elements.
+/// looked up, so that it takes a time in proportion to the tags and to the logarithms of their number and of the number
+/// of elements.
 fn removals(alloc: Global, store: &Store, tags: &[u64]) -> Result<Listed<Change>, OutOfMemory>
     ensures { IfOk result (λ changes. changes ≡ removals store.now.elements tags.now) }
 {

@@ -170,9 +170,10 @@ fn one_less(count: Option<u64>) -> Option<u64>
     Some(count?.saturating_sub(1))
 }
 
-/// What the command `run` does: a run of at most `count` firings, if it has a number, until it ends or the session has made the last of its `limit`
-/// firings. It ends after a firing that did `halt`, after one whose production has a break, where it has made its number
-/// of firings, and where nothing is left to fire: these are looked at in this order, and the limit after them.
+/// What the command `run` does: a run of at most `count` firings, if it has a number, until it ends or the session has
+/// made the last of its `limit` firings. It ends after a firing that did `halt`, after one whose production has a
+/// break, where it has made its number of firings, and where nothing is left to fire: these are looked at in this
+/// order, and the limit after them.
 pub(crate) fn run<M: Matcher, I: Source, K: Sink>(
     alloc: Global,
     hand: &mut M::Hand,
@@ -213,8 +214,7 @@ pub(crate) fn run<M: Matcher, I: Source, K: Sink>(
             put_pause(out, sink, names, pause)?;
             return Ok(state);
         }
-        // what is next is looked for here, for the end and for its production, and once more as it fires: a firing goes over the
-        // conflict set twice for that
+        // what is next is looked up here, for the end and for its production, and once more as it fires
         let Some(next) = state.next() else {
             put_line(out, sink, b"end -- no production true")?;
             return Ok(state);

@@ -18,8 +18,8 @@ use work_store::Matcher;
 /// each phase: since working memory doubles at least from one such phase to the next, it does at most twice the work of one.
 const PIECE: usize = 1024;
 
-/// A session between two of its commands. Before the first run nothing is marked as fired, so that no mark can be lost: top-level makes wait
-/// there, and their phases are made in one, for which the conflict set is found once.
+/// A session between two of its commands. Before the first run nothing is marked as fired, so that no mark can be lost:
+/// top-level makes wait there, and their phases are made in one, for which the conflict set is found once.
 #[derive(Drop)]
 pub(crate) struct Session<M: Matcher> {
     pub(crate) state: State<M>,

@@ -95,7 +95,8 @@ BalanceLaw =
     → IsPlaced elements alphas nodes line lines → Run elements alphas nodes line (start nodes line lines) ss w
     → IsBalanced elements nodes (λ n s t. signs n s t (fed_by_all elements alphas nodes (changes_of ss))) (total (map now w.lines)) (w.flight ++ children_of w.done)
 
--- where the changes are lawful from an empty working memory and the counter is 0, the lines hold just the tokens over working memory
+-- where the changes are lawful from an empty working memory and the counter is 0, the lines hold just the tokens over
+-- working memory
 abbrev pub ZeroLaw : Type 0
 ZeroLaw =
     (elements : Elements) (alphas : List Alpha) (nodes : List Node) (line : Placing) (lines : ℕ) (ss : List Step) (w : World) (last : ℕ)
@@ -135,8 +136,8 @@ InstLaw =
 
 -- ---- the laws of phases
 
--- All entries of the lines are those that are finished together with those that are done. Their tasks together with the tasks in flight are those
--- that were fed together with the children of the finished entries.
+-- All entries of the lines are those that are finished together with those that are done. Their tasks together with the
+-- tasks in flight are those that were fed together with the children of the finished entries.
 pub record IsTallied (fed : List Task) (finished : List Entry) (w : World) : Type 0 where
   pub entries : AreSame (entries_of w.lines) (finished ++ w.done)
   pub tasks : AreSame (tasks_of (entries_of w.lines) ++ w.flight) (fed ++ children_of finished)

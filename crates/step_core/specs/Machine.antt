@@ -96,7 +96,8 @@ pub data Step : Type 0 where
   Finish : ℕ → Step
   Clear : Step
 
--- Task i leaves the flight. Its entry, whose children follow the sums of the task's line, joins that line and those that are done.
+-- Task i leaves the flight. Its entry, whose children follow the sums of the task's line, joins that line and those
+-- that are done.
 pub record Activates (elements : Elements) (nodes : List Node) (line : Placing) (old : World) (i : ℕ) (new : World) : Type 0 where
   pub entry : Entry
   pub task : slice_get old.flight i ≡ Some entry.task

@@ -65,8 +65,9 @@ entries_of ls = flat_map (λ l. l.entries) ls
 abbrev pub AreSame : {X : Type 0} → List X → List X → Type 0
 AreSame {X = X} xs ys = (h : X → ℕ) → sum_by h xs ≡ sum_by h ys
 
--- The bundle of lawful changes. At the start the lines hold just the tokens over wm. Each line's phase is lawful. The tasks of all entries are
--- those that the changes feed together with the children of all entries. Between lines there is no order.
+-- The bundle of lawful changes. At the start the lines hold just the tokens over wm. Each line's phase is lawful. The
+-- tasks of all entries are those that the changes feed together with the children of all entries. Between lines there
+-- is no order.
 pub record IsBundle (elements : Elements) (alphas : List Alpha) (nodes : List Node) (line : Placing) (wm : List Element) (changes : List Change) (ls : List Seen) : Type 0 where
   pub start : HoldJust line (sums_over wm alphas nodes) (map before ls)
   pub phases : (i : ℕ) (l : Seen) → slice_get ls i ≡ Some l → IsPhase elements nodes line i l

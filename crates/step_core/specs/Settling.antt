@@ -1,4 +1,5 @@
--- The laws of a settle: what a network finds over a working memory, and what a phase from one working memory to the next leaves and changes.
+-- The laws of a settle: what a network finds over a working memory, and what a phase from one working memory to the
+-- next leaves and changes.
 use Rattle.std.specs.Prelude.{◌≡◌, ◌≢◌, ◌≤◌, ◌<◌, ◌↔◌, ℕ, List, [], length, map, pos, slice_get, Some, Contains, All}
 use Rattle.ops_base.specs.declared.elements.Element.{Element}
 use Rattle.ops_base.specs.declared.elements.Change.{Change}
@@ -119,8 +120,8 @@ HaveOwnLines ls =
     (i j : ℕ) (l m : Seen) → slice_get ls i ≡ Some l → slice_get ls j ≡ Some m → j ≢ i
     → (x : Task) → Contains (tasks_of l.entries) x → m.sums x.node x.side x.token ≡ pos 0
 
--- At the end of a phase the lines hold just the tokens over the store that has done the changes, no token that a task moved is on two of them, and what is
--- gathered from them tells how what is found changed.
+-- At the end of a phase the lines hold just the tokens over the store that has done the changes, no token that a task
+-- moved is on two of them, and what is gathered from them tells how what is found changed.
 pub record HasSettled (alphas : List Alpha) (nodes : List Node) (s s' : Stored) (lines : ℕ) (ls : List Seen) : Type 0 where
   pub holds : HoldJust (placed (held_of s') nodes lines) (sums_over s'.elements alphas nodes) (map now ls)
   pub own_lines : HaveOwnLines ls

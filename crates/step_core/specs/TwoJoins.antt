@@ -6,7 +6,8 @@ use Rattle.ops_base.specs.declared.values.Value.TheVariants.{Whole}
 use Rattle.net_base.specs.declared.nodes.Kind.TheVariants.{Join, Terminal}
 use Rattle.net_base.specs.declared.nodes.Node.{Node}
 
--- a join of the elements of class 0 at the root, one of those of class 1 with the same value below it, and a terminal below that
+-- a join of the elements of class 0 at the root, one of those of class 1 with the same value below it, and a terminal
+-- below that
 abbrev pub two_joins : List Node
 two_joins =
     record { kind = Join; parent = None; class = 0; alpha = 0; joins = []; children = 1 ∷ []; depth = 1 }

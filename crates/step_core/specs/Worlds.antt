@@ -48,8 +48,8 @@ Takes alphas nodes s old step new =
 
 -- ---- a task at work
 
--- The task became an entry of its line, as the machine has it, over every choice of elements that has those of the store. The children of the entry fit,
--- and came after the tasks that were there.
+-- The task became an entry of its line, as the machine has it, over every choice of elements that has those of the
+-- store. The children of the entry fit, and came after the tasks that were there.
 pub record ActsOn (nodes : List Node) (s : Stored) (x : Task) (old new : List Line) (before now : List Task) : Type 0 where
   pub entry : Entry
   pub task : entry.task ≡ x

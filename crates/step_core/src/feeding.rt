@@ -87,8 +87,8 @@ fn tasks_for(
     tasks_at(alloc, nodes.as_slice(), plus, tag)
 }
 
-/// The tasks that a change feeds, in the order of their nodes. It looks up the alphas that the element can pass, tests these, and sorts
-/// the nodes that take it. Up to 16 alphas and 16 nodes take no memory but for the tasks.
+/// The tasks that a change feeds, in the order of their nodes. It looks up the alphas that the element can pass, tests
+/// these, and sorts the nodes that take it. Up to 16 alphas and 16 nodes take no memory but for the tasks.
 pub(crate) fn fed_by(
     alloc: Global,
     net: &Net,

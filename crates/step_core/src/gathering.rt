@@ -229,9 +229,9 @@ fn tell(alloc: Global, moved: Vec<Moved>) -> Result<Gathered, OutOfMemory>
     Ok(gathered)
 }
 
-/// What came and what went in the phase of the lines: the instantiations that did not stand when it began and stand now, and those that
-/// stood and no longer do. It looks at each line and each entry once, and takes time for the entries at terminals alone: they are sorted.
-/// It takes no memory where there is none.
+/// What came and what went in the phase of the lines: the instantiations that did not stand when it began and stand
+/// now, and those that stood and no longer do. It looks at each line and each entry once, and takes time for the
+/// entries at terminals alone: they are sorted. It takes no memory where there is none.
 pub fn gather(alloc: Global, net: &Net, lines: &[Line]) -> Result<Gathered, OutOfMemory>
     requires { HaveOwnLines (map seen lines.now) }
     ensures { IfOk result (λ g. IsGathered net.now.nodes (total (map before (map seen lines.now))) (total (map now (map seen lines.now))) g.come.items g.gone.items) }

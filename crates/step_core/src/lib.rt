@@ -1,5 +1,5 @@
-//! The world of a parallel match and its steps, and the laws of these: what every list of steps keeps, and what the lines hold where
-//! nothing is under way.
+//! The world of a parallel match and its steps, and the laws of these: what every list of steps keeps, and what the
+//! lines hold where nothing is under way.
 #![tactic(auto)]
 
 mod done;

@@ -24,8 +24,9 @@ pub enum Step {
     Finish(usize),
 }
 
-/// The lines, the tasks in flight, the entries of the tasks that were activated and are not finished, and how many tasks and entries these
-/// are together. The last task in flight is the one to be done next. It knows which lines have entries.
+/// The lines, the tasks in flight, the entries of the tasks that were activated and are not finished, and how many
+/// tasks and entries these are together. The last task in flight is the one to be done next. It knows which lines have
+/// entries.
 #[derive(Drop)]
 pub struct World {
     lines: Vec<Line>,
@@ -93,7 +94,8 @@ impl World {
         }
     }
 
-    /// The world of these lines and tasks in flight. It looks at each line, and takes memory for the places of those that have entries.
+    /// The world of these lines and tasks in flight. It looks at each line, and takes memory for the places of those
+    /// that have entries.
     pub fn from_parts(alloc: Global, parts: Parts) -> Result<World, OutOfMemory>
         requires { 1 ≤ length parts.lines.items }
         ensures lines { IfOk result (λ w. w.lines ≡ parts.lines) }
@@ -169,8 +171,8 @@ impl World {
         self.line_at(net, store, self.flight.len() - 1)
     }
 
-    /// Puts into flight one task for each node that takes the change's element. It looks up the alphas that the element can pass, tests
-    /// these, and sorts the nodes that take it. Where memory runs out nothing has changed.
+    /// Puts into flight one task for each node that takes the change's element. It looks up the alphas that the element
+    /// can pass, tests these, and sorts the nodes that take it. Where memory runs out nothing has changed.
     pub fn feed(
         &mut self,
         alloc: Global,
@@ -194,8 +196,8 @@ impl World {
         Ok(())
     }
 
-    /// Does the task at that place on its line, at the cost of `activation::activate`. It also moves the tasks in flight after that
-    /// place, so the last one costs no more. Where memory runs out nothing has changed.
+    /// Does the task at that place on its line, at the cost of `activation::activate`. It also moves the tasks in
+    /// flight after that place, so the last one costs no more. Where memory runs out nothing has changed.
     pub fn activate(
         &mut self,
         alloc: Global,
@@ -227,8 +229,8 @@ impl World {
         Ok(())
     }
 
-    /// Puts the children of the entry at that place into flight, and lets the entry go. It moves these and the entries after that
-    /// place. Where memory runs out nothing has changed.
+    /// Puts the children of the entry at that place into flight, and lets the entry go. It moves these and the entries
+    /// after that place. Where memory runs out nothing has changed.
     pub fn finish(&mut self, index: usize) -> Result<(), OutOfMemory>
         requires { index < length self.old.done.items }
         ensures steps { OnOk result (Finishes (world_of self.old) index (world_of self.new)) }
@@ -245,8 +247,9 @@ impl World {
         Ok(())
     }
 
-    /// Does the task at that place and finishes it, at the cost of `activation::activate`: its children are made where they will be,
-    /// at the end of the flight. It also moves the tasks in flight after that place. Where memory runs out nothing has changed.
+    /// Does the task at that place and finishes it, at the cost of `activation::activate`: its children are made where
+    /// they will be, at the end of the flight. It also moves the tasks in flight after that place. Where memory runs
+    /// out nothing has changed.
     pub fn work_at(
         &mut self,
         alloc: Global,
@@ -315,7 +318,8 @@ impl World {
         }
     }
 
-    /// Begins a phase on each line, and lets their entries go. It looks at the lines that have entries alone, and takes no memory.
+    /// Begins a phase on each line, and lets their entries go. It looks at the lines that have entries alone, and takes
+    /// no memory.
     pub fn clear_phase(&mut self)
         requires counter { self.old.counter ≡ 0 }
         ensures steps { (elements : Elements) (alphas : List Alpha) (nodes : List Node) (line : Placing) → Steps elements alphas nodes line (world_of self.old) Clear (world_of self.new) }

@@ -26,8 +26,8 @@ abbrev pub is_wide : List Node → Node → Side → List ℕ → Bool
 is_wide nodes node Left t = length t == left_width nodes node.parent
 is_wide nodes node Right t = is_one node.kind t
 
--- A token of one side of a node, all of whose elements the store holds. Each part has one proof at most, so a type can keep this as its
--- invariant.
+-- A token of one side of a node, all of whose elements the store holds. Each part has one proof at most, so a type can
+-- keep this as its invariant.
 pub record Fits (nodes : List Node) (s : Stored) (n : ℕ) (side : Side) (t : List ℕ) : Type 0 where
   pub within : n < length nodes
   pub width : (node : Node) → slice_get nodes n ≡ Some node → is_wide nodes node side t ≡ true

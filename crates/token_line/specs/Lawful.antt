@@ -30,8 +30,8 @@ out_at elements nodes b n t = out_in elements (slice_get nodes n) (standing_at b
 abbrev pub IsChildOf : List Node → ℕ → Task → Type 0
 IsChildOf nodes p x = giver_of nodes x.node x.side ≡ Out p
 
--- The children of an entry go to the children of its node, and each gets what the node puts out once the task has arrived, less what it
--- put out before, over these sums.
+-- The children of an entry go to the children of its node, and each gets what the node puts out once the task has
+-- arrived, less what it put out before, over these sums.
 pub record IsLawful (elements : Elements) (nodes : List Node) (b : Bag) (e : Entry) : Type 0 where
   pub below : All (IsChildOf nodes e.task.node) e.children
   pub change : (n : ℕ) (s : Side) (t : List ℕ) → giver_of nodes n s ≡ Out e.task.node

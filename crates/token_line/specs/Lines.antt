@@ -1,4 +1,5 @@
--- What a line holds: a sum for each node, side and token, a number for each node and left token, and the code under which it keeps a token.
+-- What a line holds: a sum for each node, side and token, a number for each node and left token, and the code under
+-- which it keeps a token.
 use Rattle.std.specs.Prelude.{◌≡◌, ◌≢◌, ◌⊎◌, ℕ, true, List, nat_eq, Option, None, IsSome}
 use Rattle.indexmap.specs.IndexMap.{get}
 use Rattle.net_base.specs.declared.tasks.Side.{Side}

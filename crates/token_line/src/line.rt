@@ -170,8 +170,8 @@ impl Line {
         }
     }
 
-    /// The sum of a left token of a node, 0 where it is not kept. It hashes the node, and looks for the token as `Tokens::find` does, under
-    /// one code after another: those of a terminal all have one. Takes no memory.
+    /// The sum of a left token of a node, 0 where it is not kept. It hashes the node, and looks for the token as
+    /// `Tokens::find` does, under one code after another: those of a terminal all have one. Takes no memory.
     pub fn left_sum(&self, node: usize, token: &Tags) -> i64
         ensures { result ≡ sum_in self.now node Left token.now }
     {
@@ -185,8 +185,9 @@ impl Line {
         sum_of(self.cell(node, Side::Right, token))
     }
 
-    /// The spot of a token of one side of a node among those with its code, and the memory of these. It hashes the node once, the code
-    /// where the node has several on the line, and looks for the token once, as `Tokens::find` does. Takes no memory.
+    /// The spot of a token of one side of a node among those with its code, and the memory of these. It hashes the node
+    /// once, the code where the node has several on the line, and looks for the token once, as `Tokens::find` does.
+    /// Takes no memory.
     pub fn find(&self, node: usize, code: u64, side: Side, token: &Tags) -> (Spot, Option<&Memory>)
         ensures spot { IsSpot self.now node side token.now result.0 }
         ensures code { result.0.code ≡ code }
@@ -208,8 +209,9 @@ impl Line {
         self.entries.as_slice()
     }
 
-    /// Adds the entry at the end, and its task to the sum of its token. A left token of the task is kept with this many blockers.
-    /// It looks for the token once, as `find` does. Where memory runs out, or a sum would not fit, nothing has changed.
+    /// Adds the entry at the end, and its task to the sum of its token. A left token of the task is kept with this many
+    /// blockers. It looks for the token once, as `find` does. Where memory runs out, or a sum would not fit, nothing
+    /// has changed.
     pub fn add(
         &mut self,
         alloc: Global,
@@ -262,8 +264,8 @@ impl Line {
         Ok(())
     }
 
-    /// One right token more, or one less, for each left token of the node that it matches: these have its code. It looks at each left
-    /// token of the node with this code, and takes no memory.
+    /// One right token more, or one less, for each left token of the node that it matches: these have its code. It
+    /// looks at each left token of the node with this code, and takes no memory.
     pub fn block(
         &mut self,
         store: &Store,

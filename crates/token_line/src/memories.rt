@@ -22,8 +22,8 @@ use ops_base::memory::OutOfMemory;
 use std::alloc::Global;
 use work_store::Store;
 
-/// The memories of one node on one line, by the codes of their tokens. The one whose code came first stands apart from the others: where a
-/// line has tokens of one code alone, no map is made for them.
+/// The memories of one node on one line, by the codes of their tokens. The one whose code came first stands apart from
+/// the others: where a line has tokens of one code alone, no map is made for them.
 #[derive(Drop)]
 pub(crate) struct Memories {
     code: u64,

@@ -1,5 +1,5 @@
-//! The tokens of one node with one code on one line, each with its sum: the inserts less the deletes that arrived. With each left token a
-//! number is kept: at a negated node, how often right tokens stand that match it.
+//! The tokens of one node with one code on one line, each with its sum: the inserts less the deletes that arrived. With
+//! each left token a number is kept: at a negated node, how often right tokens stand that match it.
 ghost use Rattle.std.specs.Prelude.{◌≡◌, ◌≢◌, ◌<◌, ◌&&◌, ◌-◌, ◌^◌, ◌↔◌, [], IfSome, IsTrue, List, OnErr, OnOk, bytes_eq, if◌then◌else◌, pos, true, ℕ};
 ghost use Rattle.std.specs.Option.{option_map};
 ghost use Rattle.work_store.specs.Stored.{held_of};

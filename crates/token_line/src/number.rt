@@ -68,8 +68,8 @@ pub(crate) fn with_token(store: &Store, node: &Node, side: Side, tags: &[u64], c
     }
 }
 
-/// The code of the task's token, which goes by its node and by its values at the equality tests. It looks at each test of the node, and
-/// takes no memory.
+/// The code of the task's token, which goes by its node and by its values at the equality tests. It looks at each test
+/// of the node, and takes no memory.
 pub fn code_of(net: &Net, store: &Store, task: &Task) -> u64
     ensures { result ≡ code_of (held_of store.now) net.now.nodes task.now.node task.now.side task.now.token }
 {

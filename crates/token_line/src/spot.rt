@@ -10,8 +10,8 @@ use crate::tokens::Cell;
 use net_base::tags::Tags;
 use net_base::tasks::Side;
 
-/// Where a token is kept on a line: the place of its node, its code, its own place among the tokens with that code, and what is kept of
-/// it. It tells nothing once the line has changed.
+/// Where a token is kept on a line: the place of its node, its code, its own place among the tokens with that code, and
+/// what is kept of it. It tells nothing once the line has changed.
 #[derive(Clone, Copy)]
 pub struct Spot {
     pub(crate) node: Option<usize>,

@@ -1,4 +1,5 @@
-//! The tokens of one side of a node that have one code, on one line, each with what is kept of it: a list while they are few, a map where they are many.
+//! The tokens of one side of a node that have one code, on one line, each with what is kept of it: a list while they
+//! are few, a map where they are many.
 ghost use Rattle.std.specs.Prelude.{◌≡◌, ◌≢◌, ◌<◌, ◌==◌, ◌-◌, ◌^◌, ◌++◌, ◌∷◌, ◌↔◌, [], IfOk, IfSome, IsTrue, List, None, OnErr, OnOk, Some, bytes_eq, if◌then◌else◌, length, pos, position, slice_get, true, ℕ};
 ghost use Rattle.std.specs.List.{IsDistinct, swap_remove};
 ghost use Rattle.std.specs.Map.{keys_of, lookup};
@@ -22,8 +23,8 @@ use work_store::Store;
 /// So many tokens at most are kept as a list.
 const FEW: usize = 8;
 
-/// What is kept of a token: its sum, and a number of blockers. With a left token of a negated node that is how often right tokens
-/// stand that match it, which is for the caller to see to; with other tokens nothing goes by it.
+/// What is kept of a token: its sum, and a number of blockers. With a left token of a negated node that is how often
+/// right tokens stand that match it, which is for the caller to see to; with other tokens nothing goes by it.
 #[derive(Clone, Copy, Debug, PartialEq, Eq)]
 pub struct Cell {
     pub sum: i64,
@@ -226,7 +227,8 @@ impl Tokens {
         self.room.pair(place)
     }
 
-    /// The place of a token. It compares the token with each where they are few, and hashes it where they are many. Takes no memory.
+    /// The place of a token. It compares the token with each where they are few, and hashes it where they are many.
+    /// Takes no memory.
     pub fn find(&self, token: &Tags) -> Option<usize>
         ensures { result ≡ place_of self.now token.now }
     {

@@ -1,4 +1,5 @@
-//! Values behind turns: each cell has a value that one pass at a time may change, and all that was given to cells makes up one log.
+//! Values behind turns: each cell has a value that one pass at a time may change, and all that was given to cells makes
+//! up one log.
 #![tactic(auto)]
 
 mod cells;

@@ -24,8 +24,8 @@ of_tag elements tag = find (λ e. e.tag == tag) elements
 abbrev pub held_of : Stored → ℕ → Option Element
 held_of s tag = option_or (of_tag s.elements tag) (of_tag s.kept tag)
 
--- The present elements stand in the order of their tags, so do those that are kept, no tag is both present and kept, and none is
--- above the greatest that was added.
+-- The present elements stand in the order of their tags, so do those that are kept, no tag is both present and kept,
+-- and none is above the greatest that was added.
 pub record IsStored (s : Stored) : Type 0 where
   pub rising : HasRisingTags s.elements
   pub kept_rising : HasRisingTags s.kept
@@ -42,8 +42,8 @@ added_by [] = []
 added_by (Add e ∷ cs) = e ∷ added_by cs
 added_by (Remove tag ∷ cs) = added_by cs
 
--- The changes were done in their order: the present elements and the last tag are those after them, and what was held still is, beside
--- what they add.
+-- The changes were done in their order: the present elements and the last tag are those after them, and what was held
+-- still is, beside what they add.
 pub record AreDone (changes : List Change) (before now : Stored) : Type 0 where
   pub elements : now.elements ≡ done before.elements changes
   pub last : now.last ≡ last_after before.last changes

@@ -116,8 +116,8 @@ impl Store {
         }
     }
 
-    /// References to the present elements, by rising tag. None is copied. Takes a time in proportion to the number of those that
-    /// are present or kept.
+    /// References to the present elements, by rising tag. None is copied. Takes a time in proportion to the number of
+    /// those that are present or kept.
     pub fn present(&self, alloc: Global) -> Result<Vec<&Element>, OutOfMemory>
         ensures elements { IfOk result (λ v. shown v.items ≡ self.now.elements) }
         ensures rising { HasRisingTags self.now.elements }
