@@ -92,14 +92,14 @@ inst_law net rules elements line lines ss w last is placed run lawful names smal
 
 -- ---- phases
 
-empty_entries : (ls : List Seen) → AreEmpty ls → entries_of ls ≡ []
+pub empty_entries : (ls : List Seen) → AreEmpty ls → entries_of ls ≡ []
 empty_entries [] empty = refl
 empty_entries (l ∷ ls) empty = ap₂ (λ (xs : List Entry) (ys : List Entry). xs ++ ys) (empty 0 l refl) (empty_entries ls (λ i m at. empty (suc i) m at))
 
 empty-now : (l : Seen) → l.entries ≡ [] → before l ≡ now l
 empty-now l none = bag_ext (before l) (now l) (λ n s t. let a = ap (λ es. signs n s t (tasks_of es)) none in omega (arith, ints, a))
 
-empty_before : (ls : List Seen) → AreEmpty ls → map before ls ≡ map now ls
+pub empty_before : (ls : List Seen) → AreEmpty ls → map before ls ≡ map now ls
 empty_before [] empty = refl
 empty_before (l ∷ ls) empty = ap₂ (λ (b : Bag) (bs : List Bag). b ∷ bs) (empty-now l (empty 0 l refl)) (empty_before ls (λ i m at. empty (suc i) m at))
 

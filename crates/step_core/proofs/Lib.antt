@@ -28,6 +28,7 @@ pub mod Runs
 pub mod Bundle
 pub mod Terminals
 pub mod LawProofs
+pub mod RoundLemmas
 pub mod Finding
 pub mod FoundSet
 pub mod Resting

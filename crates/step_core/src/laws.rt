@@ -1,5 +1,6 @@
 //! The laws of the match, each a clause of a function that does nothing.
 ghost use Rattle.step_core.specs.Laws.{StartLaw, CounterLaw, BalanceLaw, ZeroLaw, OnceLaw, TerminalLaw, InstLaw, TaskLaw, EntryLaw, PhaseLaw, SettleLaw, BundleLaw};
+ghost use Rattle.step_core.specs.Rounds.{BeginLaw, EndLaw, NoneLaw, OneLaw, RoundLaw, ShardLaw, StepsLaw};
 ghost use Rattle.step_core.specs.Settling.{ChildLaw, EntryStartLaw, FoundLaw, FoundNoneLaw, FoundSetLaw, PlacedLaw, RestLaw, SettledLaw, StoreLaw};
 
 /// What every list of steps keeps, and what the lines hold where nothing is under way.
@@ -29,4 +30,15 @@ pub fn settle_laws()
     ensures rest { RestLaw }
     ensures store { StoreLaw }
     ensures settled { SettledLaw }
+{}
+
+/// What carries a phase on to its bundle: steps, and rounds, whose shards are each some lines that follow one another.
+pub fn round_laws()
+    ensures begin { BeginLaw }
+    ensures steps { StepsLaw }
+    ensures end { EndLaw }
+    ensures none { NoneLaw }
+    ensures one { OneLaw }
+    ensures shards { ShardLaw }
+    ensures round { RoundLaw }
 {}
