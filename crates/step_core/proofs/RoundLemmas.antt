@@ -1,5 +1,5 @@
 -- The laws of rounds, and of a phase on its way.
-use Rattle.std.proofs.Common.{◌≡◌, ◌≢◌, append_assoc, append-nil, ℕ, zero, suc, ◌+◌, ◌<◌, ◌≤◌, List, [], ◌∷◌, ◌++◌, length, map, remove, sum_by, refl, sym, ap, ap₂, subst, ◌∙◌, arith, length-append, slice_get, Some, None, Option}
+use Rattle.std.proofs.Common.{◌≡◌, append_assoc, append-nil, ℕ, zero, suc, ◌+◌, ◌<◌, List, [], ◌∷◌, ◌++◌, length, map, remove, sum_by, refl, sym, ap, subst, ◌∙◌, arith, length-append, slice_get, Some}
 use Rattle.std.specs.List.{All}
 use Rattle.std.proofs.lemmas.List.{map-append}
 use Rattle.std.proofs.lemmas.List.Elements.{All-from_recursion}
@@ -16,9 +16,9 @@ use Rattle.token_line.specs.Bags.{Bag}
 use Rattle.token_line.specs.declared.line.Entry.{Entry}
 use Rattle.token_line.specs.Lawful.{IsLawful}
 use Rattle.step_core.specs.Machine.{Placing, place_of, Seen, World, Step, Feed, Activate, Finish, Clear, Run, Steps, fed_by, fed_by_all, changes_of, sums_at, add_entry, with_entry}
-use Rattle.step_core.specs.Laws.{AreEmpty, NoClear}
-use Rattle.step_core.specs.Phases.{AreLawful, HoldJust, sums_over, tasks_of, children_of, before, now, entries_of, AreSame, IsPhase}
-use Rattle.step_core.specs.Rounds.{IsUnderWay, IsKept, HaveDone, BeginLaw, StepsLaw, EndLaw, NoneLaw, OneLaw, ShardLaw, RoundLaw}
+use Rattle.step_core.specs.Laws.{NoClear}
+use Rattle.step_core.specs.Phases.{AreLawful, HoldJust, sums_over, tasks_of, children_of, before, entries_of, IsPhase}
+use Rattle.step_core.specs.Rounds.{IsUnderWay, IsKept, BeginLaw, StepsLaw, EndLaw, NoneLaw, OneLaw, ShardLaw, RoundLaw}
 use Rattle.step_core.proofs.Adding.{bag_ext, before-push, entry_law, entries_of-add, length-add, remove_sum, tasks_weight, children_weight}
 use Rattle.step_core.proofs.LawProofs.{empty_entries, empty_before}
 
@@ -188,7 +188,7 @@ begin_law elements alphas nodes line wm ls empty holds = record {
 -- ---- steps
 
 -- what waits in a world
-waits : World → List Task
+abbrev waits : World → List Task
 waits w = w.flight ++ children_of w.done
 
 module _ (elements : Elements) (alphas : List Alpha) (nodes : List Node) (line : Placing) (wm : List Element) where
@@ -216,13 +216,15 @@ module _ (elements : Elements) (alphas : List Alpha) (nodes : List Node) (line :
       → IsUnderWay elements alphas nodes line wm changes w.lines (waits w) → IsUnderWay elements alphas nodes line wm changes w'.lines (waits w')
   way_activate changes i w w' room f way =
       let k = place_of line f.entry.task in
-      let one = one_law elements nodes line 0 w.lines w.lines [] [] k f.entry (none_law elements nodes line 0 w.lines) (room f.entry.task.node f.entry.task.side f.entry.task.token) refl f.lawful in
+      let one = one_law elements nodes line 0 w.lines w.lines [] [] k f.entry (none_law elements nodes line 0 w.lines) (room f.entry.task.node f.entry.task.side f.entry.task.token) (omega arith) f.lawful in
       let rest = remove w.flight i ++ children_of w.done in
-      let r = round_law elements alphas nodes line wm changes w.lines (add_entry k f.entry w.lines) (waits w) (f.entry.task ∷ []) f.entry.children rest way
+      let r = round_law elements alphas nodes line wm changes w.lines (add_entry k f.entry w.lines) (w.flight ++ children_of w.done) (f.entry.task ∷ []) f.entry.children rest way
       (λ h.
       let a = sum_by-append h w.flight (children_of w.done) in
       let b = remove_sum h w.flight i f.entry.task f.task in
-      let c = sum_by-append h (remove w.flight i) (children_of w.done) in omega (arith, a, b, c))
+      let c = sum_by-append h (remove w.flight i) (children_of w.done) in
+      let d = sum_by-append h (f.entry.task ∷ []) rest in
+      let e = sum_by-cons h f.entry.task [] in omega (arith, a, b, c, d, e))
       one in
       subst (λ (v : World). IsUnderWay elements alphas nodes line wm changes v.lines (waits v)) (sym f.becomes) (record {
         start = r.start;
