@@ -8,6 +8,7 @@ ghost use Rattle.net_base.specs.declared.tasks.Side.{Side};
 ghost use Rattle.net_base.specs.declared.tasks.Side.TheVariants.{Left};
 ghost use Rattle.token_line.specs.Held.{TaskFits};
 ghost use Rattle.token_line.specs.Lines.{IsFiled, KeepsCodes, blockers_in, sum_in};
+ghost use Rattle.token_line.specs.Numbers.{code_of};
 ghost use Rattle.token_line.specs.Sums.{counted};
 ghost use Rattle.activation.specs.Acting.{Acts, IsCounted};
 ghost use Rattle.activation.specs.Children.{Grows};
@@ -67,9 +68,11 @@ fn attempt(
     store: &Store,
     line: &mut Line,
     task: &Task,
+    code: u64,
     out: &mut Vec<Task>,
 ) -> Result<(), OutOfMemory>
     requires fits { TaskFits net.now.nodes store.now task.now }
+    requires code { code ≡ code_of (held_of store.now) net.now.nodes task.now.node task.now.side task.now.token }
     requires counted { IsCounted net.now.nodes store.now line.old }
     ensures ok { OnOk result (Acts net.now.nodes store.now task.now line.old line.new out.old.items out.new.items) }
     ensures counted { IsCounted net.now.nodes store.now line.new }
@@ -80,7 +83,6 @@ fn attempt(
 {
     let node = node_of(net, store, task);
     let before = out.len();
-    let code = code_of(net, store, task);
     let (spot, memory) = line.find(task.node, code, task.side, &task.token);
     tokens_are_kept(memory);
     tags_are_small(store);
@@ -117,8 +119,32 @@ pub fn activate(
     ensures same_entries { OnErr result (line.new.entries.items ≡ line.old.entries.items) }
     ensures same_out { OnErr result (out.new.items ≡ out.old.items) }
 {
+    let code = code_of(net, store, task);
+    activate_coded(alloc, net, store, line, task, code, out)
+}
+
+/// As `activate`, for one who knows the task's code, as `token_line::place_of` tells it with the line.
+pub fn activate_coded(
+    alloc: Global,
+    net: &Net,
+    store: &Store,
+    line: &mut Line,
+    task: &Task,
+    code: u64,
+    out: &mut Vec<Task>,
+) -> Result<(), OutOfMemory>
+    requires fits { TaskFits net.now.nodes store.now task.now }
+    requires code { code ≡ code_of (held_of store.now) net.now.nodes task.now.node task.now.side task.now.token }
+    requires counted { IsCounted net.now.nodes store.now line.old }
+    ensures ok { OnOk result (Acts net.now.nodes store.now task.now line.old line.new out.old.items out.new.items) }
+    ensures counted { IsCounted net.now.nodes store.now line.new }
+    ensures number { line.new.number ≡ line.old.number }
+    ensures same_sums { OnErr result ((n : ℕ) (s : Side) (t : List ℕ) → sum_in line.new n s t ≡ sum_in line.old n s t) }
+    ensures same_entries { OnErr result (line.new.entries.items ≡ line.old.entries.items) }
+    ensures same_out { OnErr result (out.new.items ≡ out.old.items) }
+{
     let before = out.len();
-    match attempt(alloc, net, store, line, task, out) {
+    match attempt(alloc, net, store, line, task, code, out) {
         Ok(()) => Ok(()),
         Err(failed) => {
             out.truncate(before);

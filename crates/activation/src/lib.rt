@@ -9,4 +9,4 @@ mod putting;
 #[cfg(test)]
 mod tests;
 
-pub use acting::activate;
+pub use acting::{activate, activate_coded};

@@ -43,8 +43,7 @@ fn work_down<F: Fn(usize)>(
 {
     settle_laws();
     let rest = world.in_flight() - 1;
-    enter(world.line_of_last(net, store));
-    world.work(alloc, net, store)?;
+    world.work(alloc, net, store, enter)?;
     let children = world.in_flight() - rest;
     for _child in 0..children {
         work_down(alloc, net, store, enter, world, levels - 1)?;
@@ -144,8 +143,7 @@ fn work_picked<F: Fn(usize)>(
         return Ok(());
     }
     let index = pick % tasks;
-    enter(world.line_at(net, store, index));
-    world.work_at(alloc, net, store, index)?;
+    world.work_at(alloc, net, store, enter, index)?;
     Ok(())
 }
 

@@ -203,7 +203,7 @@ fn work(alloc: Global, net: &Net, store: &Store, world: &mut World) -> Result<()
 {
     for _turn in 0..20 {
         if world.in_flight() > 0 {
-            world.work(alloc, net, store)?;
+            world.work(alloc, net, store, &|_line: usize| ())?;
         }
     }
     Ok(())
@@ -214,7 +214,7 @@ fn next_line(net: &Net, store: &Store, world: &World) -> Option<usize>
     requires { IsReady net.now.nodes store.now world.now }
 {
     if world.in_flight() > 0 {
-        Some(world.line_of_last(net, store))
+        Some(world.line_at(net, store, world.in_flight() - 1))
     } else {
         None
     }

@@ -8,12 +8,12 @@ ghost use Rattle.step_core.specs.Machine.{cleared};
 ghost use Rattle.step_core.specs.Worked.{AreWorked};
 ghost use Rattle.step_core.specs.Worlds.{ActsOn, seen};
 
-use activation::activate;
+use activation::activate_coded;
 use net_base::net::Net;
 use net_base::tasks::Task;
 use ops_base::memory::OutOfMemory;
 use std::alloc::Global;
-use token_line::{Line, line_of};
+use token_line::{Line, place_of};
 use work_store::Store;
 
 /// Names the line, which has this place, after those that are named, if its only entry is the first one.
@@ -27,16 +27,19 @@ fn name_worked(worked: &mut Vec<usize>, place: usize, line: &Line)
     }
 }
 
-/// Does the task on its line, whose children come at the end of `out`. Where memory runs out nothing has changed.
-pub(crate) fn act_on(
+/// Does the task on its line, whose children come at the end of `out`. `enter` gets the number of the line just before.
+/// Where memory runs out nothing has changed.
+pub(crate) fn act_on<F: Fn(usize)>(
     lines: &mut Vec<Line>,
     worked: &mut Vec<usize>,
     alloc: Global,
     net: &Net,
     store: &Store,
+    enter: &F,
     task: &Task,
     out: &mut Vec<Task>,
 ) -> Result<(), OutOfMemory>
+    requires enter { F.IsAlwaysCallable enter.now }
     requires some { 1 ≤ length lines.old.items }
     requires told { AreWorked lines.old.items worked.old.items }
     requires fits { TaskFits net.now.nodes store.now task.now }
@@ -50,9 +53,11 @@ pub(crate) fn act_on(
     ensures same_out { OnErr result (out.new.items ≡ out.old.items) }
 {
     worked.reserve(1)?;
-    let number = line_of(net, store, task, lines.len());
-    activate(alloc, net, store, &mut lines[number], task, out)?;
-    name_worked(worked, number, &lines[number]);
+    let place = place_of(net, store, task, lines.len());
+    enter(place.line);
+    let line = &mut lines[place.line];
+    activate_coded(alloc, net, store, line, task, place.code, out)?;
+    name_worked(worked, place.line, &lines[place.line]);
     Ok(())
 }
 

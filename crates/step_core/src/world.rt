@@ -56,7 +56,7 @@ impl World {
     ghost use Rattle.token_line.specs.Held.{Agrees};
     ghost use Rattle.step_core.specs.Laws.{IsPlaced};
     ghost use Rattle.step_core.specs.Machine.{place_of};
-    ghost use Rattle.step_core.specs.Working.{IsLast, IsWorked, but_last};
+    ghost use Rattle.step_core.specs.Working.{IsWorked, but_last};
     ghost use Rattle.step_core.specs.Worlds.{AreNumbered, ArePartsReady, IsReady, IsWithin, Takes, joined, numbers_of, placed, seen, step_of, world_of};
 
     /// So many lines, with nothing under way. It makes each line and looks at each node.
@@ -161,16 +161,6 @@ impl World {
         line_of(net, store, &self.flight[index], self.lines.len())
     }
 
-    /// The number of the line on which the last task in flight is done, at the cost of `token_line::line_of`.
-    pub fn line_of_last(&self, net: &Net, store: &Store) -> usize
-        requires ready { IsReady net.now.nodes store.now self.now }
-        requires some { 1 ≤ length self.now.flight.items }
-        ensures placed { (elements : Elements) (x : Task) → Agrees store.now elements → IsLast self.now x → result ≡ place_of (placed elements net.now.nodes (length self.now.lines.items)) x }
-        ensures below { result < length self.now.lines.items }
-    {
-        self.line_at(net, store, self.flight.len() - 1)
-    }
-
     /// Puts into flight one task for each node that takes the change's element. It looks up the alphas that the element
     /// can pass, tests these, and sorts the nodes that take it. Where memory runs out nothing has changed.
     pub fn feed(
@@ -222,6 +212,7 @@ impl World {
             alloc,
             net,
             store,
+            &|_line: usize| (),
             task,
             &mut children,
         )?;
@@ -248,15 +239,17 @@ impl World {
     }
 
     /// Does the task at that place and finishes it, at the cost of `activation::activate`: its children are made where
-    /// they will be, at the end of the flight. It also moves the tasks in flight after that place. Where memory runs
-    /// out nothing has changed.
-    pub fn work_at(
+    /// they will be, at the end of the flight. `enter` gets the number of the task's line just before. It also moves the
+    /// tasks in flight after that place. Where memory runs out nothing has changed.
+    pub fn work_at<F: Fn(usize)>(
         &mut self,
         alloc: Global,
         net: &Net,
         store: &Store,
+        enter: &F,
         index: usize,
     ) -> Result<(), OutOfMemory>
+        requires enter { F.IsAlwaysCallable enter.now }
         requires ready { IsReady net.now.nodes store.now self.old }
         requires within { index < length self.old.flight.items }
         ensures worked { OnOk result (IsWorked net.now.alphas net.now.nodes store.now self.old index (remove self.old.flight.items index) self.new) }
@@ -272,6 +265,7 @@ impl World {
             alloc,
             net,
             store,
+            enter,
             &task,
             &mut self.flight,
         )?;
@@ -280,9 +274,17 @@ impl World {
         Ok(())
     }
 
-    /// Does the last task in flight and finishes it: its children take its place at the end of the flight. It costs what
-    /// `activation::activate` costs. Where memory runs out nothing has changed.
-    pub fn work(&mut self, alloc: Global, net: &Net, store: &Store) -> Result<(), OutOfMemory>
+    /// Does the last task in flight and finishes it: its children take its place at the end of the flight. `enter` gets
+    /// the number of the task's line just before. It costs what `activation::activate` costs. Where memory runs out
+    /// nothing has changed.
+    pub fn work<F: Fn(usize)>(
+        &mut self,
+        alloc: Global,
+        net: &Net,
+        store: &Store,
+        enter: &F,
+    ) -> Result<(), OutOfMemory>
+        requires enter { F.IsAlwaysCallable enter.now }
         requires ready { IsReady net.now.nodes store.now self.old }
         requires some { 1 ≤ length self.old.flight.items }
         ensures worked { OnOk result (IsWorked net.now.alphas net.now.nodes store.now self.old (length self.old.flight.items - 1) (but_last self.old.flight.items) self.new) }
@@ -292,7 +294,7 @@ impl World {
         ensures count { length self.new.lines.items ≡ length self.old.lines.items }
     {
         let last = self.flight.len() - 1;
-        self.work_at(alloc, net, store, last)
+        self.work_at(alloc, net, store, enter, last)
     }
 
     /// Takes one step, at the cost of its kind.

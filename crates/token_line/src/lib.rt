@@ -17,6 +17,6 @@ pub use children::Children;
 pub use joining::{joins, tag_at};
 pub use line::{Entry, Line};
 pub use memory::Memory;
-pub use number::{code_of, line_of};
+pub use number::{Place, code_of, line_of, place_of};
 pub use spot::Spot;
 pub use tokens::{Cell, Tokens};

@@ -1,7 +1,7 @@
 //! The code of a token, and the number of the line on which it stands. Tokens that a node can join have one code, and one line.
 ghost use Rattle.std.specs.Prelude.{◌≡◌, ◌<◌, ◌≤◌, fold, map};
 ghost use Rattle.work_store.specs.Stored.{held_of};
-ghost use Rattle.token_line.specs.Numbers.{code_of, equalities, is_equal, line_number, mixed, own_codes, own_value, value_code};
+ghost use Rattle.token_line.specs.Numbers.{code_of, equalities, is_equal, line_number, mixed, own_codes, own_value, tested_codes, value_code};
 
 use crate::joining::{field_of, tag_at};
 use net_base::net::Net;
@@ -9,6 +9,13 @@ use net_base::nodes::{JoinTest, Kind, Node};
 use net_base::tasks::{Side, Task};
 use ops_base::values::{Pred, Value};
 use work_store::Store;
+
+/// Where a task is done: the number of its line, and the code under which the line keeps its token.
+#[derive(Clone, Copy, Debug, PartialEq, Eq)]
+pub struct Place {
+    pub line: usize,
+    pub code: u64,
+}
 
 fn value_code(value: Value) -> u64
     ensures { result ≡ value_code value }
@@ -95,4 +102,34 @@ pub fn line_of(net: &Net, store: &Store, task: &Task, lines: usize) -> usize
         None => start,
     };
     (code % lines as u64) as usize
+}
+
+/// What the token's line goes by, before the number of lines is known, and its code: two numbers from one look at the tests.
+fn both_codes(store: &Store, node: &Node, side: Side, tags: &[u64], start: u64) -> (u64, u64)
+    ensures number { result.0 ≡ fold mixed start (own_codes (held_of store.now) node.now.kind node.now.joins side tags.now) }
+    ensures code { result.1 ≡ fold mixed start (tested_codes (held_of store.now) node.now.joins side tags.now) }
+{
+    let code = with_values(store, side, tags, node.joins.as_slice(), start);
+    match node.kind {
+        Kind::Join | Kind::Negated => (code, code),
+        Kind::Terminal { rule: _ } => (tags.iter().copied().fold(start, mixed), code),
+    }
+}
+
+/// What `line_of` and `code_of` answer, for one look at each test of the node. Takes no memory.
+pub fn place_of(net: &Net, store: &Store, task: &Task, lines: usize) -> Place
+    requires { 1 ≤ lines }
+    ensures line { result.line ≡ line_number (held_of store.now) net.now.nodes lines task.now.node task.now.side task.now.token }
+    ensures code { result.code ≡ code_of (held_of store.now) net.now.nodes task.now.node task.now.side task.now.token }
+    ensures below { result.line < lines }
+{
+    let start = task.node as u64;
+    let (number, code) = match net.nodes().get(task.node) {
+        Some(node) => both_codes(store, node, task.side, task.token.as_slice(), start),
+        None => (start, start),
+    };
+    Place {
+        line: (number % lines as u64) as usize,
+        code,
+    }
 }

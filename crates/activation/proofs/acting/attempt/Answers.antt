@@ -37,7 +37,7 @@ add_at-requires-clause-alone c =
     let old = c.args.line.now in
     let x = c.args.task.now in
     subst (λ (y : Task). IsAlone old y.node c.find.result.0.code y.side y.token) (sym c.in_ok-copy.ensures)
-    (subst (λ k. IsAlone old x.node k x.side x.token) (sym (c.find.ensures.code ∙ c.code_of-code.ensures))
+    (subst (λ k. IsAlone old x.node k x.side x.token) (sym (c.find.ensures.code ∙ c.requires.code))
     (is_alone c.args.net.now.nodes c.args.store.now old c.requires.counted x.node x.side x.token))
 
 pub count_blockers-requires-clause-room : goal.count_blockers-requires-clause-room
@@ -51,15 +51,15 @@ count_blockers-requires-clause-room c = λ blocks more t has.
     let e : Effect = effect_at node.kind node.joins (held_of s) (option_copied c.find.result.1) x (changes (option_map_or (λ (k : Cell). k.sum) c.kept.result (pos 0)) x.plus) in
     let is =
     done_effect c.args.net.now.alphas nodes c.node_of-node.ensures.sound s old x c.requires.fits c.requires.counted node c.node_of-node.ensures.node
-    (c.code_of-code.result) (sym c.code_of-code.ensures)
+    (c.args.code) (sym c.requires.code)
     (subst Kept c.find.ensures.memory c.tokens_are_kept.ensures) c.tags_are_small.ensures (option_copied c.find.result.1) c.find.ensures.memory c.kept.result
     (c.kept.ensures ∙ (c.find.ensures.spot.kept ∙ ap (λ k. filed_in old x.node k x.side x.token) c.find.ensures.code))
     c.in_ok-done.ensures.room in
     room_after nodes s x c.requires.fits old c.requires.counted e is c.add_at.new.self
-    (codes_but old c.add_at.new.self c.find.result.0.code (code_of (held_of s) nodes x.node x.side x.token) c.in_ok-copy.field-0 x (c.find.ensures.code ∙ c.code_of-code.ensures) c.in_ok-copy.ensures c.in_ok-add_at.ensures.filed)
+    (codes_but old c.add_at.new.self c.find.result.0.code (code_of (held_of s) nodes x.node x.side x.token) c.in_ok-copy.field-0 x (c.find.ensures.code ∙ c.requires.code) c.in_ok-copy.ensures c.in_ok-add_at.ensures.filed)
     (sym done.blocks ∙ blocks)
     (λ n v here. c.in_ok-add_at.ensures.blockers n v here ∙ ap₂ (λ z k. cond (is_at n Left v z) k (blockers_in old n v)) c.in_ok-copy.ensures done.blockers)
-    more t (subst (λ k. IsFiled c.add_at.new.self x.node k Left t) c.code_of-code.ensures has)
+    more t (subst (λ k. IsFiled c.add_at.new.self x.node k Left t) c.requires.code has)
 
 pub count_blockers-requires-clause-code : goal.count_blockers-requires-clause-code
 count_blockers-requires-clause-code c = λ blocks t some joined.
@@ -72,13 +72,13 @@ count_blockers-requires-clause-code c = λ blocks t some joined.
     let e : Effect = effect_at node.kind node.joins (held_of s) (option_copied c.find.result.1) x (changes (option_map_or (λ (k : Cell). k.sum) c.kept.result (pos 0)) x.plus) in
     let is =
     done_effect c.args.net.now.alphas nodes c.node_of-node.ensures.sound s old x c.requires.fits c.requires.counted node c.node_of-node.ensures.node
-    (c.code_of-code.result) (sym c.code_of-code.ensures)
+    (c.args.code) (sym c.requires.code)
     (subst Kept c.find.ensures.memory c.tokens_are_kept.ensures) c.tags_are_small.ensures (option_copied c.find.result.1) c.find.ensures.memory c.kept.result
     (c.kept.ensures ∙ (c.find.ensures.spot.kept ∙ ap (λ k. filed_in old x.node k x.side x.token) c.find.ensures.code))
     c.in_ok-done.ensures.room in
-    subst (λ k. IsFiled c.add_at.new.self x.node k Left t) (sym c.code_of-code.ensures)
+    subst (λ k. IsFiled c.add_at.new.self x.node k Left t) (sym c.requires.code)
     (code_after nodes s x c.requires.fits old c.requires.counted e is c.add_at.new.self
-    (codes_but old c.add_at.new.self c.find.result.0.code (code_of (held_of s) nodes x.node x.side x.token) c.in_ok-copy.field-0 x (c.find.ensures.code ∙ c.code_of-code.ensures) c.in_ok-copy.ensures c.in_ok-add_at.ensures.filed)
+    (codes_but old c.add_at.new.self c.find.result.0.code (code_of (held_of s) nodes x.node x.side x.token) c.in_ok-copy.field-0 x (c.find.ensures.code ∙ c.requires.code) c.in_ok-copy.ensures c.in_ok-add_at.ensures.filed)
     (sym done.blocks ∙ blocks) node c.node_of-node.ensures.node t some joined)
 
 pub returns-clause-ok : goal.returns-clause-ok
@@ -93,7 +93,7 @@ returns-clause-ok c =
     let e : Effect = effect_at node.kind node.joins (held_of s) (option_copied c.find.result.1) x (changes (option_map_or (λ (k : Cell). k.sum) c.kept.result (pos 0)) x.plus) in
     let is =
     done_effect c.args.net.now.alphas nodes c.node_of-node.ensures.sound s old x c.requires.fits c.requires.counted node c.node_of-node.ensures.node
-    (c.code_of-code.result) (sym c.code_of-code.ensures)
+    (c.args.code) (sym c.requires.code)
     (subst Kept c.find.ensures.memory c.tokens_are_kept.ensures) c.tags_are_small.ensures (option_copied c.find.result.1) c.find.ensures.memory c.kept.result
     (c.kept.ensures ∙ (c.find.ensures.spot.kept ∙ ap (λ k. filed_in old x.node k x.side x.token) c.find.ensures.code))
     c.in_ok-done.ensures.room in
@@ -117,7 +117,7 @@ returns-clause-counted c =
     let e : Effect = effect_at node.kind node.joins (held_of s) (option_copied c.find.result.1) x (changes (option_map_or (λ (k : Cell). k.sum) c.kept.result (pos 0)) x.plus) in
     let is =
     done_effect c.args.net.now.alphas nodes c.node_of-node.ensures.sound s old x c.requires.fits c.requires.counted node c.node_of-node.ensures.node
-    (c.code_of-code.result) (sym c.code_of-code.ensures)
+    (c.args.code) (sym c.requires.code)
     (subst Kept c.find.ensures.memory c.tokens_are_kept.ensures) c.tags_are_small.ensures (option_copied c.find.result.1) c.find.ensures.memory c.kept.result
     (c.kept.ensures ∙ (c.find.ensures.spot.kept ∙ ap (λ k. filed_in old x.node k x.side x.token) c.find.ensures.code))
     c.in_ok-done.ensures.room in
@@ -126,7 +126,7 @@ returns-clause-counted c =
     c.in_ok-add_at.ensures.blockers n t (λ z. some (c.count_blockers.ensures.sums n Left t ∙ z))
     ∙ ap₂ (λ z k. cond (is_at n Left t z) k (blockers_in old n t)) c.in_ok-copy.ensures done.blockers in
     let filed =
-    codes_but old c.add_at.new.self c.find.result.0.code (code_of (held_of s) nodes x.node x.side x.token) c.in_ok-copy.field-0 x (c.find.ensures.code ∙ c.code_of-code.ensures) c.in_ok-copy.ensures c.in_ok-add_at.ensures.filed in
+    codes_but old c.add_at.new.self c.find.result.0.code (code_of (held_of s) nodes x.node x.side x.token) c.in_ok-copy.field-0 x (c.find.ensures.code ∙ c.requires.code) c.in_ok-copy.ensures c.in_ok-add_at.ensures.filed in
     counted_after nodes s x c.requires.fits old new c.requires.counted e is
     (λ n side t. c.count_blockers.ensures.sums n side t ∙ (c.in_ok-add_at.ensures.sums n side t ∙ ap (λ z. after (sum_in old) z n side t) c.in_ok-copy.ensures))
     c.tags_are_small.ensures

@@ -13,48 +13,48 @@ use Rattle.step_core.proofs.WorkedLines.{worked_more, worked_same}
 use Rattle.step_core.proofs.worked.act_on.Goals as goal
 
 pub returns-clause-acts : goal.returns-clause-acts
-returns-clause-acts c =
+returns-clause-acts g c =
     let net = c.args.net.now in
     let x = c.args.task.now in
     let lines = c.len.ensures ∙ c.args.lines.now.ok.0 in
-    let low : c.line_of-number.result < length c.args.lines.now.items = (let b = c.line_of-number.ensures.below in omega (arith, b, lines)) in
-    acts_on net.nodes c.args.store.now x c.requires.fits c.index_mut.result.now c.activate.new.line c.args.out.now.items c.activate.new.out.items c.in_ok-activate.ensures.ok net.alphas net.sound
-    c.args.lines.now.items c.line_of-number.result (c.line_of-number.ensures.number ∙ ap (λ n. line_number (held_of c.args.store.now) net.nodes n x.node x.side x.token) lines) low c.index_mut.ensures.value
+    let low : c.place_of-place.result.line < length c.args.lines.now.items = (let b = c.place_of-place.ensures.below in omega (arith, b, lines)) in
+    acts_on net.nodes c.args.store.now x c.requires.fits c.index_mut.result.now c.activate_coded.new.line c.args.out.now.items c.activate_coded.new.out.items c.in_ok-activate_coded.ensures.ok net.alphas net.sound
+    c.args.lines.now.items c.place_of-place.result.line (c.place_of-place.ensures.line ∙ ap (λ n. line_number (held_of c.args.store.now) net.nodes n x.node x.side x.token) lines) low c.index_mut.ensures.value
 
 pub returns-clause-told : goal.returns-clause-told
-returns-clause-told c =
+returns-clause-told g c =
     let ls = c.args.lines.now.items in
-    let k = c.line_of-number.result in
+    let k = c.place_of-place.result.line in
     let lines = c.len.ensures ∙ c.args.lines.now.ok.0 in
-    let low : k < length ls = (let b = c.line_of-number.ensures.below in omega (arith, b, lines)) in
-    let read : c.index.result.now ≡ c.activate.new.line = c.index.ensures ∙ get_or-set_same ls k c.activate.new.line c.index.result.now low in
+    let low : k < length ls = (let b = c.place_of-place.ensures.below in omega (arith, b, lines)) in
+    let read : c.index.result.now ≡ c.activate_coded.new.line = c.index.ensures ∙ get_or-set_same ls k c.activate_coded.new.line c.index.result.now low in
     let count = ap (λ (l : Line). length l.entries.items) read in
-    let acts = c.in_ok-activate.ensures.ok in
-    worked_more ls k c.index_mut.result.now c.activate.new.line c.args.worked.now.items c.requires.told low c.index_mut.ensures.value acts.entry acts.entries c.name_worked.new.worked.items
+    let acts = c.in_ok-activate_coded.ensures.ok in
+    worked_more ls k c.index_mut.result.now c.activate_coded.new.line c.args.worked.now.items c.requires.told low c.index_mut.ensures.value acts.entry acts.entries c.name_worked.new.worked.items
     (λ one. c.name_worked.ensures.first (count ∙ one) ∙ ap (λ w. w ++ k ∷ []) c.reserve.ensures.items) (λ many. c.name_worked.ensures.later (λ one. many (sym count ∙ one)) ∙ c.reserve.ensures.items)
 
-pub returns-in_err-activate-clause-told : goal.returns-in_err-activate-clause-told
-returns-in_err-activate-clause-told c =
+pub returns-in_err-activate_coded-clause-told : goal.returns-in_err-activate_coded-clause-told
+returns-in_err-activate_coded-clause-told g c =
     let ls = c.args.lines.now.items in
-    let k = c.line_of-number.result in
+    let k = c.place_of-place.result.line in
     let lines = c.len.ensures ∙ c.args.lines.now.ok.0 in
-    let low : k < length ls = (let b = c.line_of-number.ensures.below in omega (arith, b, lines)) in
+    let low : k < length ls = (let b = c.place_of-place.ensures.below in omega (arith, b, lines)) in
     subst (AreWorked _) (sym c.reserve.ensures.items)
-    (worked_same ls k c.index_mut.result.now c.activate.new.line c.args.worked.now.items c.requires.told low c.index_mut.ensures.value (ap length c.in_err-activate.ensures.same_entries))
+    (worked_same ls k c.index_mut.result.now c.activate_coded.new.line c.args.worked.now.items c.requires.told low c.index_mut.ensures.value (ap length c.in_err-activate_coded.ensures.same_entries))
 
 pub returns-clause-counted : goal.returns-clause-counted
-returns-clause-counted c = All-set (IsCounted c.args.net.now.nodes c.args.store.now) c.args.lines.now.items c.line_of-number.result c.activate.new.line c.activate.ensures.counted c.requires.counted
+returns-clause-counted g c = All-set (IsCounted c.args.net.now.nodes c.args.store.now) c.args.lines.now.items c.place_of-place.result.line c.activate_coded.new.line c.activate_coded.ensures.counted c.requires.counted
 
-pub returns-in_err-activate-clause-counted : goal.returns-in_err-activate-clause-counted
-returns-in_err-activate-clause-counted c = All-set (IsCounted c.args.net.now.nodes c.args.store.now) c.args.lines.now.items c.line_of-number.result c.activate.new.line c.activate.ensures.counted c.requires.counted
+pub returns-in_err-activate_coded-clause-counted : goal.returns-in_err-activate_coded-clause-counted
+returns-in_err-activate_coded-clause-counted g c = All-set (IsCounted c.args.net.now.nodes c.args.store.now) c.args.lines.now.items c.place_of-place.result.line c.activate_coded.new.line c.activate_coded.ensures.counted c.requires.counted
 
 pub returns-clause-numbers : goal.returns-clause-numbers
-returns-clause-numbers c = numbers_same c.args.lines.now.items c.line_of-number.result c.index_mut.result.now c.activate.new.line c.index_mut.ensures.value c.activate.ensures.number
+returns-clause-numbers g c = numbers_same c.args.lines.now.items c.place_of-place.result.line c.index_mut.result.now c.activate_coded.new.line c.index_mut.ensures.value c.activate_coded.ensures.number
 
-pub returns-in_err-activate-clause-numbers : goal.returns-in_err-activate-clause-numbers
-returns-in_err-activate-clause-numbers c = numbers_same c.args.lines.now.items c.line_of-number.result c.index_mut.result.now c.activate.new.line c.index_mut.ensures.value c.activate.ensures.number
+pub returns-in_err-activate_coded-clause-numbers : goal.returns-in_err-activate_coded-clause-numbers
+returns-in_err-activate_coded-clause-numbers g c = numbers_same c.args.lines.now.items c.place_of-place.result.line c.index_mut.result.now c.activate_coded.new.line c.index_mut.ensures.value c.activate_coded.ensures.number
 
-pub returns-in_err-activate-clause-same_seen : goal.returns-in_err-activate-clause-same_seen
-returns-in_err-activate-clause-same_seen c =
-    on_err _ c.from_residual-in_err-activate.result
-    (seen_same c.args.lines.now.items c.line_of-number.result c.index_mut.result.now c.activate.new.line c.index_mut.ensures.value c.in_err-activate.ensures.same_sums c.in_err-activate.ensures.same_entries)
+pub returns-in_err-activate_coded-clause-same_seen : goal.returns-in_err-activate_coded-clause-same_seen
+returns-in_err-activate_coded-clause-same_seen g c =
+    on_err _ c.from_residual-in_err-activate_coded.result
+    (seen_same c.args.lines.now.items c.place_of-place.result.line c.index_mut.result.now c.activate_coded.new.line c.index_mut.ensures.value c.in_err-activate_coded.ensures.same_sums c.in_err-activate_coded.ensures.same_entries)

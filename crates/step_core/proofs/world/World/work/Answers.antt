@@ -6,7 +6,7 @@ use Rattle.step_core.proofs.Results.{on_ok}
 use Rattle.step_core.proofs.world.World.work.Goals as goal
 
 pub returns-clause-worked : goal.returns-clause-worked
-returns-clause-worked c =
+returns-clause-worked g c =
     let old = c.args.self.now in
     let net = c.args.net.now in
     let s = c.args.store.now in

@@ -13,14 +13,14 @@ use Rattle.step_core.proofs.ListPlaces.{all_at}
 use Rattle.step_core.proofs.world.World.work_at.Goals as goal
 
 pub act_on-requires-clause-fits : goal.act_on-requires-clause-fits
-act_on-requires-clause-fits c =
+act_on-requires-clause-fits g c =
     let flight = c.args.self.now.flight.items in
     let x = c.in_ok-task.task in
     let task = slice_get_read flight (length flight) c.args.index c.index.result.now refl c.requires.within c.index.ensures ∙ ap (λ y. Some y) (sym c.in_ok-task.ensures) in
     all_at (TaskFits c.args.net.now.nodes c.args.store.now) flight c.args.index x c.requires.ready.flight task
 
 pub returns-clause-worked : goal.returns-clause-worked
-returns-clause-worked c =
+returns-clause-worked g c =
     let old = c.args.self.now in
     let nodes = c.args.net.now.nodes in
     let s = c.args.store.now in
@@ -52,7 +52,7 @@ returns-clause-worked c =
     }
 
 pub returns-clause-ready : goal.returns-clause-ready
-returns-clause-ready c =
+returns-clause-ready g c =
     let nodes = c.args.net.now.nodes in
     let s = c.args.store.now in
     let flight = c.args.self.now.flight.items in
