@@ -55,7 +55,7 @@ module _ (alphas : List Alpha) (nodes : List Node) (s : Stored) (sound : IsSound
   pub flight_stays : mid.flight.items ≡ []
   flight_stays = ap (λ w. w.flight) step.1 ∙ none_in_flight old quiet
 
-  at_rest : (wm : List Element) → HoldJust line (sums_over wm alphas nodes) (map now (map seen old.lines.items)) → IsAtRest line (sums_over wm alphas nodes) (world_of mid)
+  pub at_rest : (wm : List Element) → HoldJust line (sums_over wm alphas nodes) (map now (map seen old.lines.items)) → IsAtRest line (sums_over wm alphas nodes) (world_of mid)
   at_rest wm holds = record {
     counter = ap (λ w. w.counter) step.1 ∙ quiet;
     flight = flight_stays;

@@ -1,5 +1,5 @@
 //! A phase at work: changes are fed, and tasks are done, each with all that comes of it.
-ghost use Rattle.std.specs.Prelude.{◌≡◌, ◌≤◌, ◌<◌, ◌+◌, ◌-◌, ℕ, IfOk, OnOk, [], length, map, remove, All};
+ghost use Rattle.std.specs.Prelude.{◌≡◌, ◌≤◌, ◌<◌, ◌+◌, ◌-◌, ℕ, IfOk, OnOk, [], false, length, map, remove, All, None};
 ghost use Rattle.ops_base.specs.WorkingMemory.{HasRisingTags, Lawful, done, last_after};
 ghost use Rattle.work_store.specs.Settling.{IsSettled};
 ghost use Rattle.work_store.specs.Stored.{HoldsAlso, added_by, held_of};
@@ -11,7 +11,7 @@ ghost use Rattle.step_core.specs.Phases.{HoldJust, IsBundle, now, sums_over};
 ghost use Rattle.step_core.specs.Settling.{HoldsPhase};
 ghost use Rattle.step_core.specs.Working.{IsLast, but_last};
 ghost use Rattle.step_core.specs.Worlds.{IsReady, numbers_of, placed, seen, world_of};
-ghost use Rattle.serial_engine.specs.Running.{IsBundleOf, Went};
+ghost use Rattle.serial_engine.specs.Running.{IsBundleOf, Went, is_full};
 
 use net_base::net::Net;
 use ops_base::elements::Change;
@@ -21,14 +21,25 @@ use step_core::laws::{match_laws, settle_laws};
 use step_core::{Gathered, World, gather_worked};
 use work_store::Store;
 
-/// Does the last task in flight, and then all that comes of it, down to the terminals. `enter` gets the line of each
-/// task just before it is done.
+/// Whether this many tasks are in flight, where a number is asked for.
+fn is_full(world: &World, most: Option<usize>) -> bool
+    ensures { result ≡ is_full most (length world.now.flight.items) }
+{
+    match most {
+        Some(most) => most <= world.in_flight(),
+        None => false,
+    }
+}
+
+/// Does the last task in flight, and then all that comes of it, down to the terminals; or until as many are in flight as
+/// are asked for. `enter` gets the line of each task just before it is done.
 fn work_down<F: Fn(usize)>(
     alloc: Global,
     net: &Net,
     store: &Store,
     enter: &F,
     world: &mut World,
+    most: Option<usize>,
     levels: usize,
 ) -> Result<(), OutOfMemory>
     requires enter { F.IsAlwaysCallable enter.now }
@@ -36,7 +47,7 @@ fn work_down<F: Fn(usize)>(
     requires some { 1 ≤ length world.old.flight.items }
     requires deep { (x : Task) → IsLast world.old x → length net.now.nodes ≤ levels + x.node }
     ensures went { OnOk result (Went net.now.alphas net.now.nodes store.now (length world.old.lines.items) world.old [] world.new) }
-    ensures flight { OnOk result (world.new.flight.items ≡ but_last world.old.flight.items) }
+    ensures flight { OnOk result (is_full most (length world.new.flight.items) ≡ false → world.new.flight.items ≡ but_last world.old.flight.items) }
     ensures done { OnOk result ((world_of world.new).done ≡ (world_of world.old).done) }
     ensures ready { IsReady net.now.nodes store.now world.new }
     ensures lines { numbers_of world.new ≡ numbers_of world.old }
@@ -46,30 +57,38 @@ fn work_down<F: Fn(usize)>(
     world.work(alloc, net, store, enter)?;
     let children = world.in_flight() - rest;
     for _child in 0..children {
-        work_down(alloc, net, store, enter, world, levels - 1)?;
+        if is_full(world, most) {
+            return Ok(());
+        }
+        work_down(alloc, net, store, enter, world, most, levels - 1)?;
     }
     Ok(())
 }
 
-/// Does all tasks in flight and all that comes of them, from the last on.
-fn work_all<F: Fn(usize)>(
+/// Does all tasks in flight and all that comes of them, from the last on; or stops where as many are in flight as are
+/// asked for. It costs what its tasks cost. `enter` gets the line of each task just before it is done.
+pub fn work_all<F: Fn(usize)>(
     alloc: Global,
     net: &Net,
     store: &Store,
     enter: &F,
     world: &mut World,
+    most: Option<usize>,
 ) -> Result<(), OutOfMemory>
     requires enter { F.IsAlwaysCallable enter.now }
     requires ready { IsReady net.now.nodes store.now world.old }
     ensures went { OnOk result (Went net.now.alphas net.now.nodes store.now (length world.old.lines.items) world.old [] world.new) }
-    ensures flight { OnOk result (world.new.flight.items ≡ []) }
+    ensures flight { OnOk result (is_full most (length world.new.flight.items) ≡ false → world.new.flight.items ≡ []) }
     ensures done { OnOk result ((world_of world.new).done ≡ (world_of world.old).done) }
     ensures ready { IsReady net.now.nodes store.now world.new }
     ensures lines { numbers_of world.new ≡ numbers_of world.old }
 {
     let levels = net.nodes().len();
     for _task in 0..world.in_flight() {
-        work_down(alloc, net, store, enter, world, levels)?;
+        if is_full(world, most) {
+            return Ok(());
+        }
+        work_down(alloc, net, store, enter, world, most, levels)?;
     }
     Ok(())
 }
@@ -95,13 +114,13 @@ fn work_each<F: Fn(usize)>(
 {
     for change in changes {
         world.feed(alloc, net, store, change)?;
-        work_all(alloc, net, store, enter, world)?;
+        work_all(alloc, net, store, enter, world, None)?;
     }
     Ok(())
 }
 
 /// Puts the tasks of all changes into flight, in the order of the changes.
-fn feed_all(
+pub fn feed_all(
     alloc: Global,
     net: &Net,
     store: &Store,
@@ -194,7 +213,7 @@ fn work_changes<F: Fn(usize)>(
     };
     feed_all(alloc, net, store, world, changes)?;
     work_picks(alloc, net, store, enter, world, picks)?;
-    work_all(alloc, net, store, enter, world)?;
+    work_all(alloc, net, store, enter, world, None)?;
     Ok(())
 }
 
@@ -225,7 +244,7 @@ fn run_phase<F: Fn(usize)>(
 }
 
 /// Does the changes to the store. What it kept before goes, and what the changes remove is kept.
-fn do_changes(alloc: Global, store: &mut Store, changes: &[Change]) -> Result<(), OutOfMemory>
+pub fn do_changes(alloc: Global, store: &mut Store, changes: &[Change]) -> Result<(), OutOfMemory>
     requires { Lawful store.old.elements store.old.last changes.now }
     ensures elements { OnOk result (store.new.elements ≡ done store.old.elements changes.now) }
     ensures last { OnOk result (store.new.last ≡ last_after store.old.last changes.now) }

@@ -1,5 +1,5 @@
 -- One change more is fed, and all that comes of it is done.
-use Rattle.std.proofs.Common.{◌≡◌, ◌+◌, suc, ℕ, List, ◌∷◌, [], ◌++◌, length, take, sym, ap, subst, ◌∙◌, arith, append-nil}
+use Rattle.std.proofs.Common.{◌≡◌, ◌+◌, suc, ℕ, List, ◌∷◌, [], ◌++◌, length, take, sym, ap, subst, ◌∙◌, arith, append-nil, refl}
 use Rattle.std.proofs.Math.Seq.{take-suc}
 use Rattle.ops_base.specs.declared.elements.Change.{Change}
 use Rattle.work_store.specs.Stored.{held_of}
@@ -29,7 +29,7 @@ loop-change-preserved g c =
     record {
       went = subst (λ cs. Went net.alphas net.nodes s (length old.lines.items) old cs new) (append-nil (take k changes ++ x ∷ []) ∙ is)
           (went_on net.alphas net.nodes s old fed new (take k changes ++ x ∷ []) [] begun same c.in_ok-work_all.ensures.went);
-      flight = c.in_ok-work_all.ensures.flight;
+      flight = c.in_ok-work_all.ensures.flight refl;
       done = c.in_ok-work_all.ensures.done ∙ (ap (λ w. w.done) step ∙ c.loop-change.invariant.done);
       ready = c.work_all.ensures.ready;
       lines = c.work_all.ensures.lines ∙ same;
