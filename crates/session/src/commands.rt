@@ -1,5 +1,5 @@
 //! The commands of a program, in the order of the text.
-ghost use Rattle.std.specs.Prelude.{◌≡◌, ◌^◌, ◌<◌, ◌-◌, [], None, true, IsTrue, IfOk};
+ghost use Rattle.std.specs.Prelude.{◌≡◌, ◌^◌, ◌<◌, ◌-◌, [], None, true, IsTrue, IfOk, OnOk};
 ghost use Rattle.ops_io.specs.Coming.{inlet};
 ghost use Rattle.ops_io.specs.Ports.{port};
 ghost use Rattle.ops_meaning.specs.Effects.{PerformsOn, CountsReads, of_ending};
@@ -149,7 +149,8 @@ fn is_exit(command: &Command) -> bool
     }
 }
 
-/// Does the commands of a program in order, up to the first `exit`.
+/// Does the commands of a program in order, up to the first `exit`. After each of them what was put is written out: one
+/// call of the sink or more, and none where the command put nothing.
 fn do_each<M: Matcher, I: Source, K: Sink>(
     alloc: Global,
     hand: &mut M::Hand,
@@ -177,6 +178,7 @@ fn do_each<M: Matcher, I: Source, K: Sink>(
     ensures written { ends_unread result ≡ true → out.new.held ≡ [] }
     ensures names { KeepsNames names.old names.new }
     ensures under_way { IfOk result (IsUnderWay M.stored M.stands_for program.now.rules) }
+    ensures flushed { out.old.held ≡ [] → OnOk result (out.new.held ≡ []) }
 {
     let mut session = session;
     for command in program.commands.as_slice() {
@@ -186,6 +188,7 @@ fn do_each<M: Matcher, I: Source, K: Sink>(
         session = do_command(
             alloc, hand, program, names, session, limit, command, input, source, out, sink,
         )?;
+        out.flush(sink)?;
     }
     Ok(session)
 }
@@ -221,6 +224,7 @@ pub(crate) fn do_commands<M: Matcher, I: Source, K: Sink>(
     ensures names { KeepsNames names.old names.new }
     ensures none_waits { IfOk result (λ s. s.pending ≡ []) }
     ensures kept { IfOk result (λ s. WellKept (M.stored s.state.matcher).elements (M.stored s.state.matcher).last) }
+    ensures flushed { out.old.held ≡ [] → OnOk result (out.new.held ≡ []) }
 {
     let session = started(alloc, program, matcher)?;
     let session = do_each(

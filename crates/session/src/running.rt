@@ -1,9 +1,9 @@
 //! A run: one firing after another, until it ends.
-ghost use Rattle.std.specs.Prelude.{◌≡◌, ◌^◌, ◌<◌, ◌-◌, [], true, IsTrue, IfOk, Some, None, option_map};
+ghost use Rattle.std.specs.Prelude.{◌≡◌, ◌^◌, ◌<◌, ◌-◌, [], ◌⊎◌, true, IsTrue, IsOk, IfOk, Some, None, option_map};
 ghost use Rattle.ops_base.specs.Names.{Spellings};
 ghost use Rattle.ops_base.specs.declared.rules.Inst.{Inst};
 ghost use Rattle.ops_io.specs.Coming.{inlet};
-ghost use Rattle.ops_io.specs.Ports.{port, PutsBytes};
+ghost use Rattle.ops_io.specs.Ports.{port, FlushesAll, PutsBytes};
 ghost use Rattle.ops_meaning.specs.Effects.{PerformsOn, CountsReads, failure_as, of_ending};
 ghost use Rattle.ops_meaning.specs.Kept.{KeepsNames};
 ghost use Rattle.ops_meaning.specs.Layout.{line_at};
@@ -170,10 +170,25 @@ fn one_less(count: Option<u64>) -> Option<u64>
     Some(count?.saturating_sub(1))
 }
 
+/// Writes out what was put, where someone reads along. Where nothing is held, no call of the sink is made.
+fn show<K: Sink>(out: &mut Out, sink: &mut K) -> Result<(), WriteFailed>
+    requires whole { IsTrue out.old.whole }
+    requires faults { K.faults sink.old < 2 ^ 63 }
+    ensures shows { FlushesAll result (port (K.taken sink.old) (K.faults sink.old) out.old)
+        (port (K.taken sink.new) (K.faults sink.new) out.new)
+        ⊎ (IsOk result × (out.new ≡ out.old) × (sink.new ≡ sink.old)) }
+    ensures unwritten { out.old.held ≡ [] → (sink.new ≡ sink.old) × IsOk result }
+{
+    if sink.is_read_along() {
+        return out.flush(sink);
+    }
+    Ok(())
+}
+
 /// What the command `run` does: a run of at most `count` firings, if it has a number, until it ends or the session has
 /// made the last of its `limit` firings. It ends after a firing that did `halt`, after one whose production has a
 /// break, where it has made its number of firings, and where nothing is left to fire: these are looked at in this
-/// order, and the limit after them.
+/// order, and the limit after them. Where someone reads along, what a firing put is written out after it.
 pub(crate) fn run<M: Matcher, I: Source, K: Sink>(
     alloc: Global,
     hand: &mut M::Hand,
@@ -230,6 +245,7 @@ pub(crate) fn run<M: Matcher, I: Source, K: Sink>(
         let (after, halted) = fire(
             alloc, hand, program, names, state, watch, rule, input, source, out, sink,
         )?;
+        show(out, sink)?;
         state = after;
         last = Some(LastFiring { rule, halted });
     }

@@ -1,5 +1,5 @@
 //! A whole session, and what is told of it.
-ghost use Rattle.std.specs.Prelude.{◌≡◌, ◌^◌, ◌<◌, [], Ok, IsTrue};
+ghost use Rattle.std.specs.Prelude.{◌≡◌, ℕ, ◌^◌, ◌<◌, [], Ok, IsTrue};
 ghost use Rattle.ops_io.specs.Coming.{inlet};
 ghost use Rattle.ops_io.specs.Ports.{port};
 ghost use Rattle.ops_meaning.specs.Kept.{KeepsNames, GoesByConflictSets};
@@ -63,6 +63,8 @@ pub fn run_session<M: Matcher, I: Source, K: Sink>(
         (λ c. session_of (setting_of program.now 0) limit program.now.commands names.old c) }
     ensures reads { CountsReadFault result (I.faults source.old) (I.faults source.new) }
     ensures written { result ≡ Ok Ending.ReadFault → out.new.held ≡ [] }
+    ensures flushed { out.old.held ≡ [] → (firings elements last_tag : ℕ)
+        → result ≡ Ok (Ending.Done firings elements last_tag) → out.new.held ≡ [] }
     ensures names { KeepsNames names.old names.new }
     ensures sets { GoesByConflictSets (setting_of program.now 0) limit program.now.commands names.old }
 {
