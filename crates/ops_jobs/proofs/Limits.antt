@@ -1,5 +1,5 @@
--- What a job keeps: the limits of its numbers, that no value is dashed, that a network has no options, and that a workload
--- is of two numbers.
+-- What a job keeps: the limits of its numbers, that no value is dashed, that a network has no options, and that a
+-- workload is of two numbers.
 use Rattle.std.proofs.Common.{◌≡◌, ◌∙◌, ◌≢◌, ◌≤◌, ℕ, Bool, cond, true, false, List, [], ◌∷◌, length, codes, Option, Some, None, is_some, option_map, refl, sym, ap, subst, arith}
 use Rattle.std.specs.Prelude.{slice_index, option_and_then}
 use Rattle.std.specs.List.{list_all}

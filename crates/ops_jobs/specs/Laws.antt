@@ -40,8 +40,8 @@ KeepsLimits (Run options files) = IsWithinLimits options × (1 ≤ length files)
 KeepsLimits (Net files) = 1 ≤ length files
 KeepsLimits (Gen options seed size) = IsWithinLimits options × (seed ≤ GREATEST_SEED) × (1 ≤ size) × (size ≤ GREATEST_SIZE)
 
--- The pieces have two names, which spell a seed and a size, and the job is the workload of these, with the options of the
--- pieces.
+-- The pieces have two names, which spell a seed and a size, and the job is the workload of these, with the options of
+-- the pieces.
 pub record IsWorkload (pieces : List Piece) (job : Job) : Type 0 where
   pub options : Options
   pub seed : Word

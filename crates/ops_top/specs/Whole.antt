@@ -175,8 +175,8 @@ abbrev pub whole_job_by : Find → Option Job → List (Option (List ℕ)) → O
 whole_job_by find None contents broken coming = usage
 whole_job_by find (Some job) contents broken coming = answer_gathered_by find job coming (gathered_for job (readable contents broken))
 
--- The words are those of the command line, the contents those of the files that they ask for, in their order, none where
--- one is not there; `broken` tells which load failed, counted from 1, if one did; and this input is to come.
+-- The words are those of the command line, the contents those of the files that they ask for, in their order, none
+-- where one is not there; `broken` tells which load failed, counted from 1, if one did; and this input is to come.
 abbrev pub whole_by : Find → List (List ℕ) → List (Option (List ℕ)) → Option ℕ → Coming → Reply
 whole_by find words contents broken coming = whole_job_by find (job_of words) contents broken coming
 

@@ -54,8 +54,8 @@ fn status_of(ending: Ending) -> Status
     }
 }
 
-/// Runs the session of a program over a matcher that stands for it, and puts the line after it. The symbols of the program
-/// keep their spellings in it, so that the line is told with the names as they were.
+/// Runs the session of a program over a matcher that stands for it, and puts the line after it. The symbols of the
+/// program keep their spellings in it, so that the line is told with the names as they were.
 fn tell_session<M: Matcher, I: Source, K: Sink>(
     alloc: Global,
     hand: &mut M::Hand,
@@ -92,8 +92,8 @@ fn tell_session<M: Matcher, I: Source, K: Sink>(
     Ok(ending)
 }
 
-/// The answer to a program whose session runs over this matcher, makes at most this many firings, is summed up or not, and
-/// reads from this source.
+/// The answer to a program whose session runs over this matcher, makes at most this many firings, is summed up or not,
+/// and reads from this source.
 fn answer_over<M: Matcher, I: Source, K: Sink>(
     alloc: Global,
     hand: &mut M::Hand,
@@ -129,8 +129,48 @@ fn answer_over<M: Matcher, I: Source, K: Sink>(
     Ok(status_of(ending))
 }
 
+/// The answer to a program, whose session runs over the serial engine and is summed up or not. The network is compiled.
+fn answer_serially<I: Source, K: Sink, G: Gate>(
+    alloc: Global,
+    program: &Program,
+    names: &mut Names,
+    options: &Options,
+    is_summed: bool,
+    source: &mut I,
+    sink: &mut K,
+    gate: &G,
+) -> Result<Status, Stop>
+    requires lines { 1 ≤ options.now.lines }
+    requires faults { K.faults sink.old < 2 ^ 63 }
+    requires reads { I.faults source.old < 2 ^ 63 }
+    requires some { 0 < length names.old.held }
+    requires held { IsTrue (is_held (length names.old.held) program.now.classes program.now.rules program.now.commands) }
+    ensures delivers { OfInput (I.left source.old) (I.left source.new) (nat_lt (I.faults source.old) (I.faults source.new))
+        (λ coming. Delivers result (told is_summed names.old program.now.rules
+        (session_of (setting_of program.now 0) options.now.limit program.now.commands names.old coming))
+        (K.taken sink.old) (K.faults sink.old) (K.taken sink.new) (K.faults sink.new)) }
+    ensures reads { TellsFailedInput (status_after result) (I.faults source.old) (I.faults source.new) }
+    ensures input { (got : List ℕ) × (I.left source.old ≡ prepend_known got (I.left source.new)) }
+    ensures unrefused { is_refused (status_after result) ≡ false }
+{
+    let net = compile(alloc, program)?;
+    let serial = SerialEngine::new(alloc, net, options.lines, gate)?;
+    answer_over(
+        alloc,
+        &mut (),
+        program,
+        names,
+        serial,
+        options.limit,
+        is_summed,
+        source,
+        sink,
+    )
+}
+
 /// The answer to a program, whose session runs over the engine that the options ask for, and is summed up or not. The
-/// network is compiled only where that engine needs one. Rounds run on the serial engine for now, and `rt` is not used yet.
+/// network is compiled only where that engine needs one. Rounds run on the serial engine for now, and `rt` is not used
+/// yet.
 fn answer_program<R: Threads + Clone + Drop + Send + Sync, I: Source, K: Sink, G: Gate>(
     rt: &R,
     alloc: Global,
@@ -171,19 +211,14 @@ fn answer_program<R: Threads + Clone + Drop + Send + Sync, I: Source, K: Sink, G
                 sink,
             )
         }
-        Engine::Serial | Engine::Rounds => {
-            let net = compile(alloc, program)?;
-            let serial = SerialEngine::new(alloc, net, options.lines, gate)?;
-            answer_over(
-                alloc,
-                &mut (),
-                program,
-                names,
-                serial,
-                limit,
-                is_summed,
-                source,
-                sink,
+        Engine::Serial => {
+            answer_serially(
+                alloc, program, names, options, is_summed, source, sink, gate,
+            )
+        }
+        Engine::Rounds => {
+            answer_serially(
+                alloc, program, names, options, is_summed, source, sink, gate,
             )
         }
     }

@@ -45,8 +45,8 @@ fn activations_counted(rt: HostRuntime) -> Result<(), Fail> {
     Ok(())
 }
 
-/// Words that run a workload, each with the least number of activations and one that is too large. Direct matching makes none,
-/// and takes too long for a test on more items.
+/// Words that run a workload, each with the least number of activations and one that is too large. Direct matching makes
+/// none, and takes too long for a test on more items.
 const MANY: [(&[&str], u64, u64); 2] = [
     (&["--gen", "7", "400", "--match", "serial"], 1_001, 20_000),
     (&["--gen", "7", "20", "--match", "direct"], 0, 1),

@@ -450,8 +450,8 @@ fn networks(rt: HostRuntime) -> Result<(), Fail> {
     Ok(())
 }
 
-/// Words that run a workload, each with the end of what is written. Of the moves of its items and the ten blocks each makes a
-/// firing; the roads and the items are left; and each move gives a tag more.
+/// Words that run a workload, each with the end of what is written. Each move of an item and each of the ten blocks makes
+/// a firing. The 59 roads and the items are left, and each move takes a tag more.
 const WORKLOADS: [(&[&str], &[u8]); 5] = [
     (&["--gen", "7", "1"], ONE_ITEM),
     (&["7", "1", "--gen", "--match=serial"], ONE_ITEM),
