@@ -1,0 +1,3 @@
+-- How the lines are shared, and a phase on its way.
+pub mod Sharing
+pub mod Carrying
