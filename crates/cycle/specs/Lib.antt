@@ -1,3 +1,4 @@
 -- What the contracts of the recognise-act cycle cite.
+pub mod Settles
 pub mod States
 pub mod Quiet

@@ -6,16 +6,18 @@ ghost use Rattle.ops_base.specs.declared.rules.Rule.{Rule};
 ghost use Rattle.ops_base.specs.ConflictSet.{conflict_set};
 ghost use Rattle.ops_base.specs.Instances.{IsConflictSet};
 ghost use Rattle.ops_base.specs.Names.{Spellings};
-ghost use Rattle.ops_base.specs.WorkingMemory.{Lawful, last_after};
+ghost use Rattle.ops_base.specs.WorkingMemory.{Lawful, done, last_after};
 ghost use Rattle.ops_io.specs.Coming.{Coming, inlet};
 ghost use Rattle.ops_io.specs.Ports.{port, PutsBytes};
 ghost use Rattle.ops_meaning.specs.Effects.{PerformsOn, CountsReads, failure_as};
 ghost use Rattle.ops_meaning.specs.Kept.{KeepsNames, WellKept};
 ghost use Rattle.ops_meaning.specs.Layout.{firing_bytes};
 ghost use Rattle.ops_meaning.specs.Running.{ended_in, firing, next_to_fire, nothing_yet, phase_by};
+ghost use Rattle.work_store.specs.Settling.{IsSettled};
 ghost use Rattle.act_phase.specs.Outcomes.{failure_of, is_unread, setting_of};
 ghost use Rattle.conflict_index.specs.Applying.{marked};
 ghost use Rattle.conflict_index.specs.Indexed.{insts_of, nothing_indexed, waiting, KeepsSpecificities};
+ghost use Rattle.cycle.specs.Settles.{Settles};
 ghost use Rattle.cycle.specs.States.{alone, state_course};
 
 use act_phase::{ActFault, act, traces_firings};
@@ -94,6 +96,22 @@ fn put_trace<K: Sink>(
     Ok(put_firing(out, sink, names, program, firing, inst)?)
 }
 
+/// Settles a matcher by what its caller lends.
+fn settled_by<M: Matcher, H: Fn(M, &[Change]) -> Result<Settled<M>, OutOfMemory>>(
+    hand: &H,
+    matcher: M,
+    changes: &[Change],
+) -> Result<Settled<M>, OutOfMemory>
+    requires settles { Settles M.stored M.found M.stands_for (λ m cs. H.pre hand.now m cs) (λ m cs r. H.post hand.now m cs r) }
+    requires lawful { Lawful (M.stored matcher).elements (M.stored matcher).last changes.now }
+    ensures elements { IfOk result (λ s. (M.stored s.matcher).elements ≡ done (M.stored matcher).elements changes.now) }
+    ensures last { IfOk result (λ s. (M.stored s.matcher).last ≡ last_after (M.stored matcher).last changes.now) }
+    ensures settled { IfOk result (λ s. IsSettled (M.found matcher) (M.found s.matcher) s.gone.items s.come.items) }
+    ensures stands { IfOk result (λ s. (rules : List Rule) → M.stands_for matcher rules → M.stands_for s.matcher rules) }
+{
+    hand(matcher, changes)
+}
+
 impl<M: Matcher> State<M> {
     /// These as one state.
     fn of(matcher: M, index: Index, firings: u64) -> State<M>
@@ -169,13 +187,13 @@ impl<M: Matcher> State<M> {
 
     /// Does changes in their order, which is one phase: the matcher settles once, and the index takes in what that tells.
     /// After a refusal the state is gone.
-    pub fn change(
+    pub fn change<H: Fn(M, &[Change]) -> Result<Settled<M>, OutOfMemory>>(
         self,
-        alloc: Global,
-        hand: &mut M::Hand,
+        hand: &H,
         program: &Program,
         changes: &[Change],
     ) -> Result<State<M>, OutOfMemory>
+        requires settles { Settles M.stored M.found M.stands_for (λ m cs. H.pre hand.now m cs) (λ m cs r. H.post hand.now m cs r) }
         requires stands { M.stands_for self.matcher program.now.rules }
         requires specificities { KeepsSpecificities program.now.rules self.index.members }
         requires lawful { Lawful (M.stored self.matcher).elements (M.stored self.matcher).last changes.now }
@@ -193,7 +211,7 @@ impl<M: Matcher> State<M> {
             matcher,
             come,
             gone,
-        } = matcher.settle(alloc, hand, changes)?;
+        } = settled_by(hand, matcher, changes)?;
         // the matcher is looked at for what it keeps true
         let _last = last_of(&matcher);
         let mut index = index;
@@ -217,10 +235,10 @@ impl<M: Matcher> State<M> {
     /// One firing: its line where firings are traced, the right side of what is next, which is marked, and then one phase. The
     /// answer tells whether `halt` was done in it. What fires is looked up in the conflict set, and marked where it stands.
     /// After a refusal the state is gone; what was put and read stays so, and names may have come.
-    pub fn fire<I: Source, K: Sink>(
+    pub fn fire<H: Fn(M, &[Change]) -> Result<Settled<M>, OutOfMemory>, I: Source, K: Sink>(
         self,
         alloc: Global,
-        hand: &mut M::Hand,
+        hand: &H,
         program: &Program,
         names: &mut Names,
         watch: u8,
@@ -229,6 +247,7 @@ impl<M: Matcher> State<M> {
         out: &mut Out,
         sink: &mut K,
     ) -> Result<(State<M>, bool), ActFault>
+        requires settles { Settles M.stored M.found M.stands_for (λ m cs. H.pre hand.now m cs) (λ m cs r. H.post hand.now m cs r) }
         requires stands { M.stands_for self.matcher program.now.rules }
         requires specificities { KeepsSpecificities program.now.rules self.index.members }
         requires whole { IsTrue out.old.whole }
@@ -271,7 +290,7 @@ impl<M: Matcher> State<M> {
             sink,
         )?;
         state.mark(&inst);
-        let state = state.change(alloc, hand, program, acted.changes.as_slice())?;
+        let state = state.change(hand, program, acted.changes.as_slice())?;
         Ok((state, acted.halted))
     }
 

@@ -1,6 +1,7 @@
 //! Phases and firings over a matcher that is made for them.
 ghost use Rattle.std.specs.Prelude.{◌≡◌, ◌∷◌, [], false, IfOk, IsTrue};
 ghost use Rattle.ops_base.specs.Valid.{is_valid};
+ghost use Rattle.ops_base.specs.WorkingMemory.{Lawful};
 ghost use Rattle.cycle.specs.Quiet.{Goes, classes, production};
 
 use crate::State;
@@ -19,7 +20,7 @@ use ops_base::values::Sym;
 use ops_io::{Input, MemSink, MemSource, Out};
 use std::alloc::Global;
 use std::test::Fail;
-use work_store::Store;
+use work_store::{Matcher, Settled, Store};
 
 fn one<T: Drop>(alloc: Global, item: T) -> Result<Listed<T>, OutOfMemory>
     ensures { IfOk result (λ l. l ≡ item ∷ []) }
@@ -137,7 +138,10 @@ fn make(
         fields: Listed::new(alloc),
     };
     let changes = [Change::Add(element)];
-    state.change(alloc, &mut (), program, &changes)
+    let settle = |fake: Fake, changes: &[Change]| -> Result<Settled<Fake>, OutOfMemory>
+        requires { Lawful fake.store.elements fake.store.last changes.now }
+    { fake.settle(alloc, &mut (), changes) };
+    state.change(&settle, program, &changes)
 }
 
 /// A top-level `remove` of an element that may be there.
@@ -154,7 +158,10 @@ fn remove(
         return Ok(state);
     }
     let changes = [Change::Remove(tag)];
-    state.change(alloc, &mut (), program, &changes)
+    let settle = |fake: Fake, changes: &[Change]| -> Result<Settled<Fake>, OutOfMemory>
+        requires { Lawful fake.store.elements fake.store.last changes.now }
+    { fake.settle(alloc, &mut (), changes) };
+    state.change(&settle, program, &changes)
 }
 
 /// A firing of a state in which one can be made.
@@ -174,9 +181,12 @@ fn fire(
     let mut source = MemSource::new(Vec::new(alloc), 1, Vec::new(alloc));
     let mut out = Out::new(alloc)?;
     let mut sink = MemSink::new(alloc, 9, 9, Vec::new(alloc))?;
+    let settle = |fake: Fake, changes: &[Change]| -> Result<Settled<Fake>, OutOfMemory>
+        requires { Lawful fake.store.elements fake.store.last changes.now }
+    { fake.settle(alloc, &mut (), changes) };
     state.fire(
         alloc,
-        &mut (),
+        &settle,
         program,
         &mut names,
         0,

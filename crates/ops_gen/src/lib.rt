@@ -6,4 +6,4 @@ mod lines;
 mod tests;
 mod text;
 
-pub use text::{GREATEST_SEED, GREATEST_SIZE, gen_text};
+pub use text::gen_text;

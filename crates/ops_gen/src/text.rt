@@ -6,12 +6,6 @@ use crate::lines::{Lines, line_of};
 use ops_base::memory::OutOfMemory;
 use std::alloc::Global;
 
-/// The greatest number that a text may be generated from.
-pub const GREATEST_SEED: u64 = 1_000_000;
-
-/// The most items that a text may have.
-pub const GREATEST_SIZE: u64 = 100_000;
-
 const DECLARATIONS: &[u8] =
     b"(literalize item id at left)\n(literalize road from to)\n(literalize block at)\n";
 

@@ -250,4 +250,9 @@ impl Sink for MemSink {
             Err(_) => unreachable!(),
         }
     }
+
+    /// No one does.
+    fn is_read_along(&self) -> bool {
+        false
+    }
 }

@@ -100,6 +100,9 @@ pub trait Sink {
         ensures bound { IfOk result (λ n. (0 < n) × (n ≤ length piece.now)) }
         ensures bytes { WriteGives (taken self.old) (taken self.new) result piece.now }
         ensures cause { CountsFailure (faults self.old) (faults self.new) result };
+
+    /// Whether someone reads along as it is written, as at a terminal.
+    fn is_read_along(&self) -> bool;
 }
 
 /// What an engine calls before each activation. It may count, or hold a worker up, and has no other meaning.

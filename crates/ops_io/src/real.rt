@@ -68,6 +68,7 @@ impl<R: Read> Source for StdSource<R> {
 #[derive(Drop)]
 pub struct StdSink<W: Write> {
     inner: W,
+    read_along: bool,
     faults: u64,
 }
 
@@ -80,11 +81,15 @@ impl<W: Write> Model for StdSink<W> {
 }
 
 impl<W: Write> StdSink<W> {
-    /// Writes to this writer.
-    pub fn new(inner: W) -> StdSink<W>
+    /// Writes to this writer. Whoever makes it tells whether someone reads along.
+    pub fn new(inner: W, read_along: bool) -> StdSink<W>
         ensures { result ≡ record { known = W.contents inner; faults = 0 } }
     {
-        StdSink { inner, faults: 0 }
+        StdSink {
+            inner,
+            read_along,
+            faults: 0,
+        }
     }
 }
 
@@ -112,6 +117,11 @@ impl<W: Write> Sink for StdSink<W> {
                 Err(Failed)
             }
         }
+    }
+
+    /// As it was told.
+    fn is_read_along(&self) -> bool {
+        self.read_along
     }
 }
 

@@ -67,6 +67,7 @@ fn sink_in_memory(rt: HostRuntime) -> Result<(), Fail> {
     assert_eq!(rt; sink.write(b"cd")?, 1);
     assert_eq!(rt; sink.write(b"d"), Err(Failed));
     assert_eq!(rt; sink.written(), b"abc".as_slice());
+    assert_eq!(rt; sink.is_read_along(), false);
     Ok(())
 }
 
@@ -186,16 +187,18 @@ fn real_source(rt: HostRuntime) -> Result<(), Fail> {
 
 #[test]
 fn real_sink(rt: HostRuntime) -> Result<(), Fail> {
-    let mut sink = StdSink::new(fs::create(&rt, "ops_io_sink.txt")?);
+    let mut sink = StdSink::new(fs::create(&rt, "ops_io_sink.txt")?, false);
     assert_eq!(rt; sink.write(b"abc"), Ok(3));
+    assert_eq!(rt; sink.is_read_along(), false);
     assert_eq!(rt;
         fs::read(&rt, "ops_io_sink.txt")?.as_slice(),
         b"abc".as_slice()
     );
 
     // A file that is open for reading alone takes nothing.
-    let mut refusing = StdSink::new(fs::open(&rt, "ops_io_sink.txt")?);
+    let mut refusing = StdSink::new(fs::open(&rt, "ops_io_sink.txt")?, true);
     assert_eq!(rt; refusing.write(b"abc"), Err(Failed));
+    assert_eq!(rt; refusing.is_read_along(), true);
     fs::remove_file(&rt, "ops_io_sink.txt")?;
     Ok(())
 }

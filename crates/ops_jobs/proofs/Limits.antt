@@ -1,4 +1,5 @@
--- What a job keeps: the limits of its numbers, that no value is dashed, and that a network has no options.
+-- What a job keeps: the limits of its numbers, that no value is dashed, that a network has no options, and that a workload
+-- is of two numbers.
 use Rattle.std.proofs.Common.{◌≡◌, ◌∙◌, ◌≢◌, ◌≤◌, ℕ, Bool, cond, true, false, List, [], ◌∷◌, length, codes, Option, Some, None, is_some, option_map, refl, sym, ap, subst, arith}
 use Rattle.std.specs.Prelude.{slice_index, option_and_then}
 use Rattle.std.specs.List.{list_all}
@@ -7,50 +8,54 @@ use Rattle.std.specs.Str.{bytes_eq}
 use Rattle.std.specs.Str.Parse.{digits_value}
 use Rattle.std.proofs.lemmas.Bool.{and_parts, leb-true, true≢false}
 use Rattle.std.proofs.lemmas.Slice.Eq.{bytes_eq-Decides}
-use Rattle.ops_jobs.specs.declared.jobs.TheConstants.{DEFAULT_WORKERS, DEFAULT_LINES, DEFAULT_LIMIT, GREATEST_WORKERS, GREATEST_LINES, GREATEST_LIMIT}
+use Rattle.ops_jobs.specs.declared.jobs.TheConstants.{DEFAULT_WORKERS, DEFAULT_LINES, DEFAULT_LIMIT, GREATEST_WORKERS, GREATEST_LINES, GREATEST_LIMIT, GREATEST_SEED, GREATEST_SIZE}
 use Rattle.ops_jobs.specs.declared.jobs.Engine.{Engine}
-use Rattle.ops_jobs.specs.declared.jobs.Engine.TheVariants.{Direct, Serial}
+use Rattle.ops_jobs.specs.declared.jobs.Engine.TheVariants.{Direct, Serial, Rounds}
 use Rattle.ops_jobs.specs.declared.jobs.Options.{Options}
 use Rattle.ops_jobs.specs.declared.jobs.Job.{Job}
-use Rattle.ops_jobs.specs.declared.jobs.Job.TheVariants.{Net}
-use Rattle.ops_jobs.specs.CommandLine.{Piece, Word, engine_from, files_of, is_complete, is_number, is_option, is_raised, job_for, job_from, job_of, number_from, options_of, pieces_of, value_of}
-use Rattle.ops_jobs.specs.Laws.{IsWithinLimits, KeepsLimits}
+use Rattle.ops_jobs.specs.declared.jobs.Job.TheVariants.{Run, Net, Gen}
+use Rattle.ops_jobs.specs.CommandLine.{Piece, Word, engine_from, files_of, is_complete, is_number, is_option, is_raised, job_by, job_from, job_of, number_from, number_of, options_of, pieces_of, value_of, workload_of}
+use Rattle.ops_jobs.specs.Laws.{IsWithinLimits, IsWorkload, KeepsLimits}
 use Rattle.ops_jobs.proofs.EachOption.{each_option}
 
 -- ---- a number
 
 -- what a word that spells a number is
-record IsNumber (greatest : ℕ) (word : Word) : Type 0 where
+record IsNumber (least greatest : ℕ) (word : Word) : Type 0 where
   digits : list_all is_ascii_digit word ≡ true
-  least : 1 ≤ digits_value 10 word
-  most : digits_value 10 word ≤ greatest
+  low : least ≤ digits_value 10 word
+  high : digits_value 10 word ≤ greatest
 
-number_parts : (greatest : ℕ) (word : Word) → is_number greatest word ≡ true → IsNumber greatest word
-number_parts greatest word is =
+number_parts : (least greatest : ℕ) (word : Word) → is_number least greatest word ≡ true → IsNumber least greatest word
+number_parts least greatest word is =
     let four = and_parts _ _ is in
     let three = and_parts _ _ four.0 in
     let two = and_parts _ _ three.0 in
     let one = and_parts _ _ two.0 in
-    record { digits = one.0; least = leb-true 1 (digits_value 10 word) three.1; most = leb-true (digits_value 10 word) greatest four.1 }
+    record { digits = one.0; low = leb-true least (digits_value 10 word) three.1; high = leb-true (digits_value 10 word) greatest four.1 }
 
-number_is : (greatest : ℕ) (word : Word) (n : ℕ) → number_from 0 greatest (Some word) ≡ Some n → (is_number greatest word ≡ true) × (digits_value 10 word ≡ n)
-number_is greatest word n e = go (is_number greatest word) refl e
+number_is : (least greatest : ℕ) (word : Word) (n : ℕ) → number_of least greatest word ≡ Some n → (is_number least greatest word ≡ true) × (digits_value 10 word ≡ n)
+number_is least greatest word n e = go (is_number least greatest word) refl e
   where
-    go : (t : Bool) → is_number greatest word ≡ t → cond t (Some (digits_value 10 word)) None ≡ Some n → (is_number greatest word ≡ true) × (digits_value 10 word ≡ n)
+    go : (t : Bool) → is_number least greatest word ≡ t → cond t (Some (digits_value 10 word)) None ≡ Some n
+        → (is_number least greatest word ≡ true) × (digits_value 10 word ≡ n)
     go true is same = (is, (cc))
     go false is none = absurd (true≢false (sym (ap is_some none)))
+
+spelled_within : (least greatest : ℕ) (word : Word) (n : ℕ) → number_of least greatest word ≡ Some n → (least ≤ n) × (n ≤ greatest)
+spelled_within least greatest word n e =
+    let is = number_is least greatest word n e in
+    let parts = number_parts least greatest word is.0 in
+    let low = parts.low in
+    let high = parts.high in
+    let same = is.1 in
+    (omega arith, omega arith)
 
 number_within : (usual greatest : ℕ) (word : Option Word) (n : ℕ) → 1 ≤ usual → usual ≤ greatest → number_from usual greatest word ≡ Some n → (1 ≤ n) × (n ≤ greatest)
 number_within usual greatest None n least most e =
     let same : usual ≡ n = cc in
     (omega arith, omega arith)
-number_within usual greatest (Some word) n least most e =
-    let is = number_is greatest word n e in
-    let parts = number_parts greatest word is.0 in
-    let low = parts.least in
-    let high = parts.most in
-    let same = is.1 in
-    (omega arith, omega arith)
+number_within usual greatest (Some word) n least most e = spelled_within 1 greatest word n e
 
 -- ---- the options
 
@@ -84,16 +89,17 @@ record IsJobOf (pieces : List Piece) (job : Job) : Type 0 where
   options : Options
   complete : is_complete pieces ≡ true
   from : options_of pieces ≡ Some options
-  job_is : job ≡ job_for (is_raised (codes "net") pieces) options (files_of pieces)
+  job_is : job_by (is_raised (codes "gen") pieces) (is_raised (codes "net") pieces) options (files_of pieces) ≡ Some job
 
 job_parts : (pieces : List Piece) (job : Job) → job_from pieces ≡ Some job → IsJobOf pieces job
 job_parts pieces job e = go (is_complete pieces) refl (options_of pieces) refl e
   where
     go : (t : Bool) → is_complete pieces ≡ t → (o : Option Options) → options_of pieces ≡ o
-        → cond t (option_map (λ options. job_for (is_raised (codes "net") pieces) options (files_of pieces)) o) None ≡ Some job → IsJobOf pieces job
+        → cond t (option_and_then (λ options. job_by (is_raised (codes "gen") pieces) (is_raised (codes "net") pieces) options (files_of pieces)) o) None ≡ Some job
+        → IsJobOf pieces job
     go false incomplete o from none = absurd (true≢false (sym (ap is_some none)))
     go true complete None from none = absurd (true≢false (sym (ap is_some none)))
-    go true complete (Some options) from same = record { options = options; complete = complete; from = from; job_is = sym (cc) }
+    go true complete (Some options) from same = record { options = options; complete = complete; from = from; job_is = same }
 
 of_words : (words : List Word) (job : Job) → job_of words ≡ Some job → (pieces : List Piece) × (pieces_of words ≡ Some pieces) × IsJobOf pieces job
 of_words words job e = go (pieces_of words) refl e
@@ -103,8 +109,8 @@ of_words words job e = go (pieces_of words) refl e
     go None are none = absurd (true≢false (sym (ap is_some none)))
     go (Some pieces) are same = (pieces, are, job_parts pieces job same)
 
-options_within : (pieces : List Piece) (options : Options) → is_complete pieces ≡ true → options_of pieces ≡ Some options → IsWithinLimits options (files_of pieces)
-options_within pieces o complete from =
+options_within : (pieces : List Piece) (options : Options) → options_of pieces ≡ Some options → IsWithinLimits options
+options_within pieces o from =
     let all = from_all _ _ _ _ o from in
     let workers = number_within DEFAULT_WORKERS GREATEST_WORKERS (value_of (codes "workers") pieces) o.workers (omega arith) (omega arith) all.workers_are in
     let lines = number_within DEFAULT_LINES GREATEST_LINES (value_of (codes "lines") pieces) o.lines (omega arith) (omega arith) all.lines_are in
@@ -116,19 +122,61 @@ options_within pieces o complete from =
       few_lines = lines.1;
       some_firings = limit.0;
       few_firings = limit.1;
-      some_files = leb-true 1 (length (files_of pieces)) (and_parts _ _ complete).1;
     }
 
--- whether it is a network or not
-job_keeps : (t : Bool) (options : Options) (files : List Word) → IsWithinLimits options files → KeepsLimits (job_for t options files)
-job_keeps true options files within = within.some_files
-job_keeps false options files within = within
+-- a workload with the words that its numbers are spelled by
+record IsSpelled (options : Options) (names : List Word) (job : Job) : Type 0 where
+  seed : Word
+  size : Word
+  names_are : names ≡ seed ∷ size ∷ []
+  job_is : job ≡ Gen options (digits_value 10 seed) (digits_value 10 size)
+  few_seeds : digits_value 10 seed ≤ GREATEST_SEED
+  some_items : 1 ≤ digits_value 10 size
+  few_items : digits_value 10 size ≤ GREATEST_SIZE
+
+workload_parts : (options : Options) (names : List Word) (job : Job) → workload_of options names ≡ Some job → IsSpelled options names job
+workload_parts options [] job e = absurd (true≢false (sym (ap is_some e)))
+workload_parts options (seed ∷ []) job e = absurd (true≢false (sym (ap is_some e)))
+workload_parts options (seed ∷ size ∷ other ∷ names) job e = absurd (true≢false (sym (ap is_some e)))
+workload_parts options (seed ∷ size ∷ []) job e = go (number_of 0 GREATEST_SEED seed) refl (number_of 1 GREATEST_SIZE size) refl e
+  where
+    go : (s : Option ℕ) → number_of 0 GREATEST_SEED seed ≡ s → (n : Option ℕ) → number_of 1 GREATEST_SIZE size ≡ n
+        → option_and_then (λ from. option_map (Gen options from) n) s ≡ Some job → IsSpelled options (seed ∷ size ∷ []) job
+    go None seed_is n size_is none = absurd (true≢false (sym (ap is_some none)))
+    go (Some s) seed_is None size_is none = absurd (true≢false (sym (ap is_some none)))
+    go (Some s) seed_is (Some n) size_is some =
+        let first = number_is 0 GREATEST_SEED seed s seed_is in
+        let second = number_is 1 GREATEST_SIZE size n size_is in
+        let same : Gen options s n ≡ job = cc in
+        record {
+          seed = seed;
+          size = size;
+          names_are = refl;
+          job_is = rw (first.1, second.1) (sym same);
+          few_seeds = (number_parts 0 GREATEST_SEED seed first.0).high;
+          some_items = (number_parts 1 GREATEST_SIZE size second.0).low;
+          few_items = (number_parts 1 GREATEST_SIZE size second.0).high;
+        }
+
+-- whatever the job is
+job_keeps : (gen net : Bool) (options : Options) (names : List Word) (job : Job) → job_by gen net options names ≡ Some job
+    → IsWithinLimits options → 1 ≤ length names → KeepsLimits job
+job_keeps false false options names job e within some =
+    let same : Run options names ≡ job = cc in
+    subst KeepsLimits same (within, some)
+job_keeps false true options names job e within some =
+    let same : Net names ≡ job = cc in
+    subst KeepsLimits same some
+job_keeps true false options names job e within some =
+    let is = workload_parts options names job e in
+    subst KeepsLimits (sym is.job_is) (within, is.few_seeds, is.some_items, is.few_items)
+job_keeps true true options names job e within some = absurd (true≢false (sym (ap is_some e)))
 
 pub job_within : (words : List Word) (job : Job) → job_of words ≡ Some job → KeepsLimits job
 job_within words job e =
     let of = of_words words job e in
-    subst KeepsLimits (sym of.2.job_is)
-    (job_keeps (is_raised (codes "net") of.0) of.2.options (files_of of.0) (options_within of.0 of.2.options of.2.complete of.2.from))
+    job_keeps (is_raised (codes "gen") of.0) (is_raised (codes "net") of.0) of.2.options (files_of of.0) job of.2.job_is
+    (options_within of.0 of.2.options of.2.from) (leb-true 1 (length (files_of of.0)) (and_parts _ _ of.2.complete).1)
 
 -- ---- no value is dashed
 
@@ -140,23 +188,27 @@ digits_not_dashed (b ∷ bs) all is =
     absurd (omega arith)
 
 number_not_dashed : (usual greatest : ℕ) (word : Word) (n : ℕ) → number_from usual greatest (Some word) ≡ Some n → slice_index word 0 ≢ 45
-number_not_dashed usual greatest word n e = digits_not_dashed word (number_parts greatest word (number_is greatest word n e).0).digits
+number_not_dashed usual greatest word n e = digits_not_dashed word (number_parts 1 greatest word (number_is 1 greatest word n e).0).digits
 
 engine_not_dashed : (word : Word) (engine : Engine) → engine_from (Some word) ≡ Some engine → slice_index word 0 ≢ 45
-engine_not_dashed word engine e = go (bytes_eq word (codes "direct")) (bytes_eq word (codes "serial")) refl refl e
+engine_not_dashed word engine e =
+    go (bytes_eq word (codes "direct")) (bytes_eq word (codes "serial")) (bytes_eq word (codes "rounds")) refl refl refl e
   where
     begins_with : (name : Word) (first : ℕ) → bytes_eq word name ≡ true → slice_index name 0 ≡ first → slice_index word 0 ≡ first
     begins_with name first is begins = ap (λ (w : Word). slice_index w 0) ((bytes_eq-Decides word name).0 is) ∙ begins
 
-    go : (s t : Bool) → bytes_eq word (codes "direct") ≡ s → bytes_eq word (codes "serial") ≡ t
-        → cond s (Some Direct) (cond t (Some Serial) None) ≡ Some engine → slice_index word 0 ≢ 45
-    go true t is other same dashed =
+    go : (s t u : Bool) → bytes_eq word (codes "direct") ≡ s → bytes_eq word (codes "serial") ≡ t → bytes_eq word (codes "rounds") ≡ u
+        → cond s (Some Direct) (cond t (Some Serial) (cond u (Some Rounds) None)) ≡ Some engine → slice_index word 0 ≢ 45
+    go true t u is other third same dashed =
         let bad : 100 ≡ 45 = sym (begins_with (codes "direct") 100 is refl) ∙ dashed in
         omega (arith, bad)
-    go false true other is same dashed =
+    go false true u other is third same dashed =
         let bad : 115 ≡ 45 = sym (begins_with (codes "serial") 115 is refl) ∙ dashed in
         omega (arith, bad)
-    go false false d s none dashed = absurd (true≢false (sym (ap is_some none)))
+    go false false true other another is same dashed =
+        let bad : 114 ≡ 45 = sym (begins_with (codes "rounds") 114 is refl) ∙ dashed in
+        omega (arith, bad)
+    go false false false d s r none dashed = absurd (true≢false (sym (ap is_some none)))
 
 value_not_dashed : (pieces : List Piece) (o : Options) → options_of pieces ≡ Some o → (option : Word) → is_option option ≡ true → (value : Word) → value_of option pieces ≡ Some value
     → slice_index value 0 ≢ 45
@@ -175,7 +227,15 @@ no_dashed_value words job pieces option value e are known is =
     let same : of.0 ≡ pieces = cc in
     value_not_dashed of.0 of.2.options of.2.from option known value (rw same is)
 
--- ---- a network
+-- ---- a network, and a workload
+
+network_is : (gen : Bool) (options : Options) (names : List Word) (job : Job) → job_by gen true options names ≡ Some job → job ≡ Net names
+network_is false options names job e = sym (cc)
+network_is true options names job e = absurd (true≢false (sym (ap is_some e)))
+
+workload_is : (net : Bool) (options : Options) (names : List Word) (job : Job) → job_by true net options names ≡ Some job → IsSpelled options names job
+workload_is false options names job e = workload_parts options names job e
+workload_is true options names job e = absurd (true≢false (sym (ap is_some e)))
 
 pub network_of_files : (words : List Word) (job : Job) (pieces : List Piece) → job_of words ≡ Some job → pieces_of words ≡ Some pieces
     → is_raised (codes "net") pieces ≡ true → job ≡ Net (files_of pieces)
@@ -183,4 +243,18 @@ network_of_files words job pieces e are raised =
     let of = of_words words job e in
     let same : of.0 ≡ pieces = cc in
     let is : is_raised (codes "net") of.0 ≡ true = ap (is_raised (codes "net")) same ∙ raised in
-    of.2.job_is ∙ (ap (λ t. job_for t of.2.options (files_of of.0)) is ∙ ap (λ (ps : List Piece). Net (files_of ps)) same)
+    let job_is : job_by (is_raised (codes "gen") of.0) true of.2.options (files_of of.0) ≡ Some job =
+    sym (ap (λ t. job_by (is_raised (codes "gen") of.0) t of.2.options (files_of of.0)) is) ∙ of.2.job_is in
+    network_is (is_raised (codes "gen") of.0) of.2.options (files_of of.0) job job_is ∙ ap (λ (ps : List Piece). Net (files_of ps)) same
+
+pub workload_of_numbers : (words : List Word) (job : Job) (pieces : List Piece) → job_of words ≡ Some job → pieces_of words ≡ Some pieces
+    → is_raised (codes "gen") pieces ≡ true → IsWorkload pieces job
+workload_of_numbers words job pieces e are raised =
+    let of = of_words words job e in
+    let same : of.0 ≡ pieces = cc in
+    let is : is_raised (codes "gen") of.0 ≡ true = ap (is_raised (codes "gen")) same ∙ raised in
+    let job_is : job_by true (is_raised (codes "net") of.0) of.2.options (files_of of.0) ≡ Some job =
+    sym (ap (λ t. job_by t (is_raised (codes "net") of.0) of.2.options (files_of of.0)) is) ∙ of.2.job_is in
+    let parts = workload_is (is_raised (codes "net") of.0) of.2.options (files_of of.0) job job_is in
+    subst (λ ps. IsWorkload ps job) same
+    (record { options = of.2.options; seed = parts.seed; size = parts.size; from = of.2.from; names = parts.names_are; is = parts.job_is })

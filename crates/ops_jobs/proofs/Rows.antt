@@ -1,9 +1,9 @@
 -- Rows of words with what they ask for, which the definition computes.
 use Rattle.std.proofs.Common.{◌≡◌, [], ◌∷◌, Some, None, codes, refl}
 use Rattle.ops_jobs.specs.CommandLine.{Word, job_of, pieces_from}
-use Rattle.ops_jobs.specs.declared.jobs.Engine.TheVariants.{Direct, Serial}
+use Rattle.ops_jobs.specs.declared.jobs.Engine.TheVariants.{Direct, Serial, Rounds}
 use Rattle.ops_jobs.specs.declared.jobs.Options.{Options}
-use Rattle.ops_jobs.specs.declared.jobs.Job.TheVariants.{Net, Run}
+use Rattle.ops_jobs.specs.declared.jobs.Job.TheVariants.{Gen, Net, Run}
 
 abbrev usual : Options
 usual = record { engine = Direct; workers = 4; lines = 1024; limit = 1000000 }
@@ -76,7 +76,7 @@ another_engine : job_of (codes "--match=free" ∷ codes "f" ∷ []) ≡ None
 unfolding pieces_from
 another_engine = refl
 
-rounds : job_of (codes "--match=rounds" ∷ codes "f" ∷ []) ≡ None
+rounds : job_of (codes "--match=rounds" ∷ codes "f" ∷ []) ≡ Some (Run (record usual { engine = Rounds }) (codes "f" ∷ []))
 unfolding pieces_from
 rounds = refl
 
@@ -164,9 +164,57 @@ help : job_of (codes "--help" ∷ []) ≡ None
 unfolding pieces_from
 help = refl
 
-a_flag_that_generates : job_of (codes "--gen" ∷ codes "1" ∷ codes "2" ∷ []) ≡ None
+a_workload : job_of (codes "--gen" ∷ codes "7" ∷ codes "1" ∷ []) ≡ Some (Gen usual 7 1)
 unfolding pieces_from
-a_flag_that_generates = refl
+a_workload = refl
+
+a_workload_with_a_limit : job_of (codes "--gen" ∷ codes "--limit" ∷ codes "3" ∷ codes "--" ∷ codes "0" ∷ codes "100000" ∷ []) ≡ Some (Gen (record usual { limit = 3 }) 0 100000)
+unfolding pieces_from
+a_workload_with_a_limit = refl
+
+a_workload_behind_its_numbers : job_of (codes "1000000" ∷ codes "0000000001" ∷ codes "--gen" ∷ []) ≡ Some (Gen usual 1000000 1)
+unfolding pieces_from
+a_workload_behind_its_numbers = refl
+
+a_workload_of_nothing : job_of (codes "--gen" ∷ []) ≡ None
+unfolding pieces_from
+a_workload_of_nothing = refl
+
+a_workload_without_a_size : job_of (codes "--gen" ∷ codes "7" ∷ []) ≡ None
+unfolding pieces_from
+a_workload_without_a_size = refl
+
+a_workload_and_more : job_of (codes "--gen" ∷ codes "7" ∷ codes "1" ∷ codes "2" ∷ []) ≡ None
+unfolding pieces_from
+a_workload_and_more = refl
+
+a_workload_of_no_size : job_of (codes "--gen" ∷ codes "7" ∷ codes "0" ∷ []) ≡ None
+unfolding pieces_from
+a_workload_of_no_size = refl
+
+a_seed_past_the_greatest : job_of (codes "--gen" ∷ codes "1000001" ∷ codes "1" ∷ []) ≡ None
+unfolding pieces_from
+a_seed_past_the_greatest = refl
+
+a_size_past_the_greatest : job_of (codes "--gen" ∷ codes "7" ∷ codes "100001" ∷ []) ≡ None
+unfolding pieces_from
+a_size_past_the_greatest = refl
+
+a_seed_that_is_a_name : job_of (codes "--gen" ∷ codes "f" ∷ codes "1" ∷ []) ≡ None
+unfolding pieces_from
+a_seed_that_is_a_name = refl
+
+a_network_of_a_workload : job_of (codes "--gen" ∷ codes "--net" ∷ codes "7" ∷ codes "1" ∷ []) ≡ None
+unfolding pieces_from
+a_network_of_a_workload = refl
+
+a_workload_with_a_value : job_of (codes "--gen=1" ∷ codes "7" ∷ codes "1" ∷ []) ≡ None
+unfolding pieces_from
+a_workload_with_a_value = refl
+
+two_workloads : job_of (codes "--gen" ∷ codes "--gen" ∷ codes "7" ∷ codes "1" ∷ []) ≡ None
+unfolding pieces_from
+two_workloads = refl
 
 a_network : job_of (codes "--net" ∷ codes "f" ∷ []) ≡ Some (Net (codes "f" ∷ []))
 unfolding pieces_from

@@ -4,12 +4,12 @@ use Rattle.std.specs.Prelude.{Option, Some, None, option_map, option_and_then}
 use Rattle.std.specs.List.{list_all, list_any, before_first, after_first}
 use Rattle.std.specs.Char.{is_ascii_digit}
 use Rattle.std.specs.Str.Parse.{digits_value}
-use Rattle.ops_jobs.specs.declared.jobs.TheConstants.{DEFAULT_WORKERS, DEFAULT_LINES, DEFAULT_LIMIT, GREATEST_WORKERS, GREATEST_LINES, GREATEST_LIMIT}
+use Rattle.ops_jobs.specs.declared.jobs.TheConstants.{DEFAULT_WORKERS, DEFAULT_LINES, DEFAULT_LIMIT, GREATEST_WORKERS, GREATEST_LINES, GREATEST_LIMIT, GREATEST_SEED, GREATEST_SIZE}
 use Rattle.ops_jobs.specs.declared.jobs.Engine.{Engine}
-use Rattle.ops_jobs.specs.declared.jobs.Engine.TheVariants.{Direct, Serial}
+use Rattle.ops_jobs.specs.declared.jobs.Engine.TheVariants.{Direct, Serial, Rounds}
 use Rattle.ops_jobs.specs.declared.jobs.Options.{Options}
 use Rattle.ops_jobs.specs.declared.jobs.Job.{Job}
-use Rattle.ops_jobs.specs.declared.jobs.Job.TheVariants.{Run, Net}
+use Rattle.ops_jobs.specs.declared.jobs.Job.TheVariants.{Run, Net, Gen}
 
 abbrev pub Word : Type 0
 Word = List ℕ
@@ -24,7 +24,7 @@ is_option name = list_any (λ option. bytes_eq option name) option_names
 
 -- flags take no value
 abbrev pub flag_names : List Word
-flag_names = codes "net" ∷ []
+flag_names = codes "gen" ∷ codes "net" ∷ []
 
 abbrev pub is_flag : Word → Bool
 is_flag name = list_any (λ flag. bytes_eq flag name) flag_names
@@ -131,19 +131,27 @@ is_complete pieces = is_once pieces && nat_le 1 (length (files_of pieces))
 abbrev pub value_of : Word → List Piece → Option Word
 value_of option pieces = slice_get (values_of option pieces) 0
 
--- one to ten decimal digits that spell a number from 1 to this one
-abbrev pub is_number : ℕ → Word → Bool
-is_number greatest word =
-    list_all is_ascii_digit word && nat_le 1 (length word) && nat_le (length word) 10 && nat_le 1 (digits_value 10 word) && nat_le (digits_value 10 word) greatest
+-- one to ten decimal digits that spell a number from the least to the greatest
+abbrev pub is_number : (least greatest : ℕ) → Word → Bool
+is_number least greatest word =
+    list_all is_ascii_digit word && nat_le 1 (length word) && nat_le (length word) 10 && nat_le least (digits_value 10 word) && nat_le (digits_value 10 word) greatest
+
+-- the number that a word spells
+abbrev pub number_of : (least greatest : ℕ) → Word → Option ℕ
+number_of least greatest word = if is_number least greatest word then Some (digits_value 10 word) else None
 
 -- the number that an option was given, or the usual one
-abbrev pub number_from : ℕ → ℕ → Option Word → Option ℕ
+abbrev pub number_from : (usual greatest : ℕ) → Option Word → Option ℕ
 number_from usual greatest None = Some usual
-number_from usual greatest (Some word) = if is_number greatest word then Some (digits_value 10 word) else None
+number_from usual greatest (Some word) = number_of 1 greatest word
 
 -- the engine of this name
 abbrev pub engine_named : Word → Option Engine
-engine_named word = if bytes_eq word (codes "direct") then Some Direct else if bytes_eq word (codes "serial") then Some Serial else None
+engine_named word =
+    if bytes_eq word (codes "direct") then Some Direct
+    else if bytes_eq word (codes "serial") then Some Serial
+    else if bytes_eq word (codes "rounds") then Some Rounds
+    else None
 
 -- the engine that `--match` was given, or the usual one
 abbrev pub engine_from : Option Word → Option Engine
@@ -166,14 +174,25 @@ options_of pieces = options_from (value_of (codes "match") pieces) (value_of (co
 abbrev pub is_raised : Word → List Piece → Bool
 is_raised flag pieces = nat_le 1 (length (values_of flag pieces))
 
--- The options have no effect where the network is asked for.
-abbrev pub job_for : Bool → Options → List Word → Job
-job_for false options files = Run options files
-job_for true options files = Net files
+-- a seed and a size, and nothing else
+abbrev pub workload_of : Options → List Word → Option Job
+workload_of options (seed ∷ size ∷ []) =
+    option_and_then (λ from. option_map (Gen options from) (number_of 1 GREATEST_SIZE size)) (number_of 0 GREATEST_SEED seed)
+workload_of options _ = None
+
+-- The names are those of files, or with `--gen` a seed and a size. The options have no effect with `--net`, and both
+-- flags together ask for nothing.
+abbrev pub job_by : (gen net : Bool) → Options → List Word → Option Job
+job_by false false options words = Some (Run options words)
+job_by false true options words = Some (Net words)
+job_by true false options words = workload_of options words
+job_by true true options words = None
 
 abbrev pub job_from : List Piece → Option Job
 job_from pieces =
-    if is_complete pieces then option_map (λ options. job_for (is_raised (codes "net") pieces) options (files_of pieces)) (options_of pieces) else None
+    if is_complete pieces
+    then option_and_then (λ options. job_by (is_raised (codes "gen") pieces) (is_raised (codes "net") pieces) options (files_of pieces)) (options_of pieces)
+    else None
 
 -- the job that the words ask for, where they fit
 abbrev pub job_of : List Word → Option Job

@@ -1,10 +1,11 @@
 -- What holds of the words of the command line, said apart from how they are read.
-use Rattle.std.specs.Prelude.{◌≡◌, ◌≤◌, List, [], ◌∷◌, ◌++◌, length, map, true, false, codes}
-use Rattle.ops_jobs.specs.CommandLine.{Word, Piece, given, flagged, file, files_of, is_dashed, is_flag, is_option, values_of}
-use Rattle.ops_jobs.specs.declared.jobs.TheConstants.{GREATEST_WORKERS, GREATEST_LINES, GREATEST_LIMIT}
+use Rattle.std.specs.Prelude.{◌≡◌, ◌≤◌, List, [], ◌∷◌, ◌++◌, length, map, true, false, codes, Some}
+use Rattle.std.specs.Str.Parse.{digits_value}
+use Rattle.ops_jobs.specs.CommandLine.{Word, Piece, given, flagged, file, files_of, is_dashed, is_flag, is_option, options_of, values_of}
+use Rattle.ops_jobs.specs.declared.jobs.TheConstants.{GREATEST_WORKERS, GREATEST_LINES, GREATEST_LIMIT, GREATEST_SEED, GREATEST_SIZE}
 use Rattle.ops_jobs.specs.declared.jobs.Options.{Options}
 use Rattle.ops_jobs.specs.declared.jobs.Job.{Job}
-use Rattle.ops_jobs.specs.declared.jobs.Job.TheVariants.{Run, Net}
+use Rattle.ops_jobs.specs.declared.jobs.Job.TheVariants.{Run, Net, Gen}
 
 -- The words spell the pieces: `--OPTION=VALUE`, or `--OPTION` and `VALUE`, for an option with its value, `--FLAG` for a
 -- flag, a word that is not dashed for a file, and behind `--` each word for a file.
@@ -24,16 +25,27 @@ pub record SayTheSame (ps qs : List Piece) : Type 0 where
   pub values : (name : Word) → values_of name ps ≡ values_of name qs
   pub files : files_of ps ≡ files_of qs
 
--- each number is in its range, and there is a file
-pub record IsWithinLimits (options : Options) (files : List Word) : Type 0 where
+-- each number of the options is in its range
+pub record IsWithinLimits (options : Options) : Type 0 where
   pub some_workers : 1 ≤ options.workers
   pub few_workers : options.workers ≤ GREATEST_WORKERS
   pub some_lines : 1 ≤ options.lines
   pub few_lines : options.lines ≤ GREATEST_LINES
   pub some_firings : 1 ≤ options.limit
   pub few_firings : options.limit ≤ GREATEST_LIMIT
-  pub some_files : 1 ≤ length files
 
+-- so are the numbers of a job, and it has a file, or an item
 abbrev pub KeepsLimits : Job → Type 0
-KeepsLimits (Run options files) = IsWithinLimits options files
+KeepsLimits (Run options files) = IsWithinLimits options × (1 ≤ length files)
 KeepsLimits (Net files) = 1 ≤ length files
+KeepsLimits (Gen options seed size) = IsWithinLimits options × (seed ≤ GREATEST_SEED) × (1 ≤ size) × (size ≤ GREATEST_SIZE)
+
+-- The pieces have two names, which spell a seed and a size, and the job is the workload of these, with the options of the
+-- pieces.
+pub record IsWorkload (pieces : List Piece) (job : Job) : Type 0 where
+  pub options : Options
+  pub seed : Word
+  pub size : Word
+  pub from : options_of pieces ≡ Some options
+  pub names : files_of pieces ≡ seed ∷ size ∷ []
+  pub is : job ≡ Gen options (digits_value 10 seed) (digits_value 10 size)

@@ -20,6 +20,12 @@ pub const GREATEST_LINES: usize = 65_536;
 /// The greatest limit that `--limit` may set.
 pub const GREATEST_LIMIT: u64 = 1_000_000_000;
 
+/// The greatest number that a workload may be generated from.
+pub const GREATEST_SEED: u64 = 1_000_000;
+
+/// The most items that a workload may have.
+pub const GREATEST_SIZE: u64 = 100_000;
+
 /// What finds the instantiations.
 #[derive(Clone, Copy, Debug, PartialEq, Eq)]
 pub enum Engine {
@@ -27,6 +33,8 @@ pub enum Engine {
     Direct,
     /// A network that the productions share takes the changes, one task after another.
     Serial,
+    /// That network takes the changes in rounds: all tasks of a round, and then those that they make.
+    Rounds,
 }
 
 /// What the options of the command line say.
@@ -43,7 +51,18 @@ pub struct Options {
 #[derive(Debug, Drop)]
 pub enum Job {
     /// To run the program that the files hold, in their order.
-    Run { options: Options, files: FileList },
+    Run {
+        options: Options,
+        files: FileList,
+    },
     /// To tell how large the network of that program is. The options are checked and have no effect.
-    Net { files: FileList },
+    Net {
+        files: FileList,
+    },
+    /// To run the generated workload of this size.
+    Gen {
+        options: Options,
+        seed: u64,
+        size: u64,
+    },
 }

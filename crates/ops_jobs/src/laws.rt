@@ -1,7 +1,7 @@
 //! Laws of the words that hold of the definitions alone: the contracts of functions that do nothing.
 ghost use Rattle.std.specs.Prelude.{◌≡◌, ◌↔◌, ◌≢◌, List, Some, true, codes, slice_index};
 ghost use Rattle.ops_jobs.specs.CommandLine.{Word, Piece, files_of, is_option, is_raised, job_of, pieces_of, value_of};
-ghost use Rattle.ops_jobs.specs.Laws.{KeepsLimits, SayTheSame, Spells};
+ghost use Rattle.ops_jobs.specs.Laws.{IsWorkload, KeepsLimits, SayTheSame, Spells};
 ghost use Rattle.ops_jobs.specs.declared.jobs.Job.{Job};
 ghost use Rattle.ops_jobs.specs.declared.jobs.Job.TheVariants.{Net};
 
@@ -31,4 +31,10 @@ pub fn no_value_is_dashed()
 pub fn networks_have_no_options()
     ensures { (words : List Word) (job : Job) (pieces : List Piece) → job_of words ≡ Some job → pieces_of words ≡ Some pieces
         → is_raised (codes "net") pieces ≡ true → job ≡ Net (files_of pieces) }
+{}
+
+/// Where `--gen` stands, the job is the workload of the seed and the size that the two names spell.
+pub fn workloads_are_of_two_numbers()
+    ensures { (words : List Word) (job : Job) (pieces : List Piece) → job_of words ≡ Some job → pieces_of words ≡ Some pieces
+        → is_raised (codes "gen") pieces ≡ true → IsWorkload pieces job }
 {}

@@ -8,9 +8,9 @@ mod laws;
 pub use file_list::FileList;
 pub use jobs::{
     DEFAULT_LIMIT, DEFAULT_LINES, DEFAULT_WORKERS, Engine, GREATEST_LIMIT, GREATEST_LINES,
-    GREATEST_WORKERS, Job, Options,
+    GREATEST_SEED, GREATEST_SIZE, GREATEST_WORKERS, Job, Options,
 };
 pub use laws::{
     jobs_keep_limits, networks_have_no_options, no_value_is_dashed, options_stand_anywhere,
-    words_spell_their_pieces,
+    words_spell_their_pieces, workloads_are_of_two_numbers,
 };

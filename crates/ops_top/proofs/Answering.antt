@@ -10,12 +10,12 @@ use Rattle.ops_io.specs.declared.stop.Stop.{Stop}
 use Rattle.ops_io.specs.declared.stop.Stop.TheVariants as stop
 use Rattle.ops_jobs.specs.CommandLine.{job_of}
 use Rattle.ops_jobs.specs.declared.jobs.Job.{Job}
-use Rattle.ops_jobs.specs.declared.jobs.Job.TheVariants.{Run, Net}
+use Rattle.ops_jobs.specs.declared.jobs.Job.TheVariants.{Run, Net, Gen}
 use Rattle.ops_meaning.specs.declared.statuses.Status.{Status}
 use Rattle.ops_meaning.specs.declared.statuses.Status.TheVariants as status
 use Rattle.ops_grammar.specs.Reads.{Read, Placed, reads}
 use Rattle.ops_meaning.specs.Running.{Session, session_of, ending_of}
-use Rattle.ops_top.specs.Whole.{Reply, Answers, Gathered, Joined, Unread, Overlong, status_of, answer_program_by, answer_read, answer_to, answer_gathered, gathered, readable, setting_read, usage, files_in, whole_job, whole, words_fit, files_of}
+use Rattle.ops_top.specs.Whole.{Reply, Answers, Gathered, Joined, Unread, Overlong, status_of, answer_program_by, answer_read, answer_to, answer_gathered, gathered_for, readable, setting_read, usage, whole_job, whole, words_fit, files_of}
 use Rattle.ops_top.specs.Calls.{OfContents, OfInput, TellsFailedWrite, TellsWords, RunsThrough, all_told, program_runs_through, text_runs_through, gathered_runs_through, job_runs_over, runs_over}
 use Rattle.ops_top.specs.Told.{Delivers, status_after}
 use Rattle.ops_top.proofs.StatusesOfText.{IsOfText, answer_to_of_text}
@@ -75,7 +75,7 @@ whole_is_plain : (ws : List (List ℕ)) (contents : List (Option (List ℕ))) (b
 whole_is_plain ws contents broken z = by (job_of ws)
   where
     by : (asked : Option Job) → IsPlain (whole_job asked contents broken z).status
-    by (Some job) = gathered_is_plain job z (gathered [] (files_in job) (readable contents broken))
+    by (Some job) = gathered_is_plain job z (gathered_for job (readable contents broken))
     by None = tt
 
 plain_tells : (s : Status) (before now : ℕ) → IsPlain s → now ≡ before → TellsFailedWrite s before now
@@ -112,7 +112,7 @@ whole_tells_words : (ws : List (List ℕ)) (contents : List (Option (List ℕ)))
 whole_tells_words ws contents broken z = by (job_of ws)
   where
     by : (asked : Option Job) → TellsWords (whole_job asked contents broken z).status (is_some asked)
-    by (Some job) = gathered_fits job z (gathered [] (files_in job) (readable contents broken))
+    by (Some job) = gathered_fits job z (gathered_for job (readable contents broken))
     by None = refl
 
 tells_words : (r : Result Status Stop) (o : Reply) (fit : Bool) (k n : Option (List ℕ)) (b a : ℕ) → TellsWords o.status fit → Delivers r o k b n a → TellsWords (status_after r) fit
@@ -171,6 +171,7 @@ done_session (Err f) h = absurd (cc)
 done_program : (job : Job) (z : Coming) (text : List ℕ) (p : Read) → program_runs_through job z text p ≡ true → (answer_program_by conflict_set job z text p).status ≡ status.Done
 done_program (Run options files) z text p h = done_session (session_of (setting_read text p) options.limit p.commands p.names z).outcome h
 done_program (Net files) z text p h = refl
+done_program (Gen options seed size) z text p h = done_session (session_of (setting_read text p) options.limit p.commands p.names z).outcome h
 
 done_text : (job : Job) (z : Coming) (text : List ℕ) (r : Result Read Placed) → text_runs_through job z text r ≡ true → (answer_read job z text r).status ≡ status.Done
 done_text job z text (Err p) h = absurd (cc)
@@ -185,7 +186,7 @@ done_whole : (left : List ℕ) (ws : List (List ℕ)) (contents : List (Option (
 done_whole left ws contents runs = by (job_of ws) runs
   where
     by : (asked : Option Job) → job_runs_over asked contents left ≡ true → (whole_job asked contents None (record { bytes = left; fails = false })).status ≡ status.Done
-    by (Some job) runs = done_gathered job (record { bytes = left; fails = false }) (gathered [] (files_in job) contents) runs
+    by (Some job) runs = done_gathered job (record { bytes = left; fails = false }) (gathered_for job contents) runs
     by None runs = absurd (cc)
 
 done_or_short : (s : Status) (o : Reply) (k n : Option (List ℕ)) (b a : ℕ) → o.status ≡ status.Done → Answers s o k n → TellsFailedWrite s b a → a ≡ b → (s ≡ status.Done) ⊎ (s ≡ status.OutOfMemory)

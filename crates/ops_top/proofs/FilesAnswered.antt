@@ -3,32 +3,32 @@ use Rattle.std.proofs.Common.{◌≡◌, ℕ, List, [], Bool, Option, Some, None
 use Rattle.ops_io.specs.Coming.{Coming}
 use Rattle.ops_jobs.specs.CommandLine.{job_of}
 use Rattle.ops_jobs.specs.declared.jobs.Job.{Job}
-use Rattle.ops_top.specs.Whole.{Reply, Gathered, gathered, readable, answer_gathered, usage, files_in, whole_job, whole, files_of}
+use Rattle.ops_top.specs.Whole.{Reply, Gathered, gathered_for, readable, answer_gathered, usage, files_in, whole_job, whole, files_of}
 use Rattle.ops_top.specs.Calls.{OfContents, OfInput}
 use Rattle.ops_top.proofs.Contents.{contents_map, contents_any}
 use Rattle.ops_top.proofs.Inputs.{input_untouched}
 
--- what files of these names come to is answered
-pub gathered_deliver : (I : (Coming → Type 0) → Type 0) (D : Reply → Type 0) (job : Job) (told : List ℕ → Option (Option (List ℕ))) (names files : List (List ℕ)) (broken : Option ℕ) (g : Gathered) → names ≡ files
-    → OfContents told names (λ cs. gathered [] names (readable cs broken) ≡ g) → I (λ z. D (answer_gathered job z g)) → OfContents told files (λ cs. I (λ z. D (answer_gathered job z (gathered [] files (readable cs broken)))))
-gathered_deliver I D job told names files broken g same p d =
+-- what the text of a job comes to is answered
+pub gathered_deliver : (I : (Coming → Type 0) → Type 0) (D : Reply → Type 0) (job : Job) (told : List ℕ → Option (Option (List ℕ))) (files : List (List ℕ)) (broken : Option ℕ) (g : Gathered)
+    → OfContents told files (λ cs. gathered_for job (readable cs broken) ≡ g) → I (λ z. D (answer_gathered job z g))
+    → OfContents told files (λ cs. I (λ z. D (answer_gathered job z (gathered_for job (readable cs broken)))))
+gathered_deliver I D job told files broken g p d =
     let R : Gathered → Type 0 = λ g. I (λ z. D (answer_gathered job z g)) in
-    let P : List (List ℕ) → Type 0 = λ fs. OfContents told fs (λ cs. gathered [] fs (readable cs broken) ≡ g) in
-    contents_map told files (λ cs. gathered [] files (readable cs broken) ≡ g) (λ cs. R (gathered [] files (readable cs broken))) (λ cs e. subst R (sym e) d) (subst P same p)
+    contents_map told files (λ cs. gathered_for job (readable cs broken) ≡ g) (λ cs. R (gathered_for job (readable cs broken))) (λ cs e. subst R (sym e) d) p
 
--- what they come to is answered, and the input is not touched
-pub said_deliver : (left : Option (List ℕ)) (failed : Bool) (D : Reply → Type 0) (job : Job) (told : List ℕ → Option (Option (List ℕ))) (names files : List (List ℕ)) (broken : Option ℕ) (g : Gathered) → names ≡ files
-    → OfContents told names (λ cs. gathered [] names (readable cs broken) ≡ g)
-    → ((z : Coming) → D (answer_gathered job z g)) → OfContents told files (λ cs. OfInput left left failed (λ z. D (answer_gathered job z (gathered [] files (readable cs broken)))))
-said_deliver left failed D job told names files broken g same p d =
-    gathered_deliver (OfInput left left failed) D job told names files broken g same p (input_untouched left failed (λ z. D (answer_gathered job z g)) d)
+-- what it comes to is answered, and the input is not touched
+pub said_deliver : (left : Option (List ℕ)) (failed : Bool) (D : Reply → Type 0) (job : Job) (told : List ℕ → Option (Option (List ℕ))) (files : List (List ℕ)) (broken : Option ℕ) (g : Gathered)
+    → OfContents told files (λ cs. gathered_for job (readable cs broken) ≡ g) → ((z : Coming) → D (answer_gathered job z g))
+    → OfContents told files (λ cs. OfInput left left failed (λ z. D (answer_gathered job z (gathered_for job (readable cs broken)))))
+said_deliver left failed D job told files broken g p d =
+    gathered_deliver (OfInput left left failed) D job told files broken g p (input_untouched left failed (λ z. D (answer_gathered job z g)) d)
 
--- whatever the files come to is answered
+-- whatever it comes to is answered
 pub any_deliver : (left : Option (List ℕ)) (failed : Bool) (D : Reply → Type 0) (job : Job) (told : List ℕ → Option (Option (List ℕ))) (names : List (List ℕ)) (broken : Option ℕ) → ((o : Reply) → D o)
-    → OfContents told names (λ cs. OfInput left left failed (λ z. D (answer_gathered job z (gathered [] names (readable cs broken)))))
+    → OfContents told names (λ cs. OfInput left left failed (λ z. D (answer_gathered job z (gathered_for job (readable cs broken)))))
 any_deliver left failed D job told names broken d =
-    contents_any told names (λ cs. OfInput left left failed (λ z. D (answer_gathered job z (gathered [] names (readable cs broken)))))
-    (λ cs. input_untouched left failed (λ z. D (answer_gathered job z (gathered [] names (readable cs broken)))) (λ z. d (answer_gathered job z (gathered [] names (readable cs broken)))))
+    contents_any told names (λ cs. OfInput left left failed (λ z. D (answer_gathered job z (gathered_for job (readable cs broken)))))
+    (λ cs. input_untouched left failed (λ z. D (answer_gathered job z (gathered_for job (readable cs broken)))) (λ z. d (answer_gathered job z (gathered_for job (readable cs broken)))))
 
 module _ (ws : List (List ℕ)) (told : List ℕ → Option (Option (List ℕ))) (broken : Option ℕ) where
   abbrev Answered : ((Coming → Type 0) → Type 0) → (Reply → Type 0) → Option Job → Type 0
@@ -36,7 +36,7 @@ module _ (ws : List (List ℕ)) (told : List ℕ → Option (Option (List ℕ)))
 
   -- the words fit
   pub words_deliver : (I : (Coming → Type 0) → Type 0) (D : Reply → Type 0) (job : Job) → job_of ws ≡ Some job
-      → OfContents told (files_in job) (λ cs. I (λ z. D (answer_gathered job z (gathered [] (files_in job) (readable cs broken))))) → OfContents told (files_of ws) (λ cs. I (λ z. D (whole ws cs broken z)))
+      → OfContents told (files_in job) (λ cs. I (λ z. D (answer_gathered job z (gathered_for job (readable cs broken))))) → OfContents told (files_of ws) (λ cs. I (λ z. D (whole ws cs broken z)))
   words_deliver I D job is p = subst (Answered I D) (sym is) p
 
   -- they don't

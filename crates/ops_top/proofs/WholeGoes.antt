@@ -1,21 +1,25 @@
 -- The whole is the same whatever finds the conflict sets.
-use Rattle.std.proofs.Common.{◌≡◌, ℕ, List, [], Option, Some, None, Result, Ok, Err, refl, ap}
+use Rattle.std.proofs.Common.{◌≡◌, ℕ, List, Bool, true, false, Option, Some, None, Result, Ok, Err, refl, ap}
 use Rattle.ops_base.specs.ConflictSet.{conflict_set}
 use Rattle.ops_base.specs.declared.rules.Rule.{Rule}
 use Rattle.ops_io.specs.Coming.{Coming}
 use Rattle.ops_jobs.specs.CommandLine.{job_of}
 use Rattle.ops_jobs.specs.declared.jobs.Job.{Job}
-use Rattle.ops_jobs.specs.declared.jobs.Job.TheVariants.{Run, Net}
+use Rattle.ops_jobs.specs.declared.jobs.Job.TheVariants.{Run, Net, Gen}
 use Rattle.ops_meaning.specs.Kept.{FindsConflictSets}
 use Rattle.ops_grammar.specs.Reads.{Read, Placed, reads}
 use Rattle.ops_meaning.proofs.RisingTags.{session_goes}
-use Rattle.ops_top.specs.Whole.{Find, Gathered, Joined, Unread, Overlong, gathered, readable, files_in, answer_program_by, answer_read, answer_read_by, answer_gathered, answer_gathered_by, whole_job, whole_job_by, told, setting_read, GoesByConflictSetsAlone}
+use Rattle.ops_top.specs.Whole.{Find, Gathered, Joined, Unread, Overlong, gathered_for, readable, answer_program_by, answer_read, answer_read_by, answer_gathered, answer_gathered_by, whole_job, whole_job_by, session_told, told, setting_read, GoesByConflictSetsAlone}
 
 module _ (find : Find) (finds : (rules : List Rule) → FindsConflictSets rules (find rules)) (coming : Coming) where
+  session_is : (summed : Bool) (limit : ℕ) (text : List ℕ) (p : Read) → session_told conflict_set summed limit coming text p ≡ session_told find summed limit coming text p
+  session_is summed limit text p =
+      ap (told summed p.names p.rules) (session_goes (setting_read text p) limit p.commands p.names (find p.rules) (finds p.rules) coming)
+
   program_is : (job : Job) (text : List ℕ) (p : Read) → answer_program_by conflict_set job coming text p ≡ answer_program_by find job coming text p
-  program_is (Run options files) text p =
-      ap (told p.names p.rules) (session_goes (setting_read text p) options.limit p.commands p.names (find p.rules) (finds p.rules) coming)
+  program_is (Run options files) text p = session_is false options.limit text p
   program_is (Net files) text p = refl
+  program_is (Gen options seed size) text p = session_is true options.limit text p
 
   answer_is : (job : Job) (text : List ℕ) (r : Result Read Placed) → answer_read job coming text r ≡ answer_read_by find job coming text r
   answer_is job text (Err p) = refl
@@ -28,7 +32,7 @@ module _ (find : Find) (finds : (rules : List Rule) → FindsConflictSets rules 
 
   job_is : (job : Option Job) (contents : List (Option (List ℕ))) (broken : Option ℕ) → whole_job job contents broken coming ≡ whole_job_by find job contents broken coming
   job_is None contents broken = refl
-  job_is (Some job) contents broken = gathered_is job (gathered [] (files_in job) (readable contents broken))
+  job_is (Some job) contents broken = gathered_is job (gathered_for job (readable contents broken))
 
 -- the whole goes by the conflict sets alone
 pub whole_goes : (words : List (List ℕ)) → GoesByConflictSetsAlone words

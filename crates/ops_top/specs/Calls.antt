@@ -9,8 +9,8 @@ use Rattle.ops_grammar.specs.Reads.{Read, Placed, reads}
 use Rattle.ops_meaning.specs.Running.{session_of}
 use Rattle.ops_jobs.specs.CommandLine.{job_of}
 use Rattle.ops_jobs.specs.declared.jobs.Job.{Job}
-use Rattle.ops_jobs.specs.declared.jobs.Job.TheVariants.{Run, Net}
-use Rattle.ops_top.specs.Whole.{Gathered, Joined, gathered, files_in, files_of, setting_read}
+use Rattle.ops_jobs.specs.declared.jobs.Job.TheVariants.{Run, Net, Gen}
+use Rattle.ops_top.specs.Whole.{Gathered, Joined, gathered_for, files_of, setting_read}
 
 -- It holds for the content that is told of a file, or for some content where none is told.
 abbrev pub OfContent : Option (Option (List ℕ)) → (Option (List ℕ) → Type 0) → Type 0
@@ -91,7 +91,7 @@ pub record AskedFor (all : Bool) (files old new : List (List ℕ)) : Type 0 wher
   pub names : new ≡ old ++ take loads files
   pub all_of_them : all ≡ true → loads ≡ length files
 
--- The files that the words name were asked for where they fit, all where their text was had, and none was otherwise.
+-- The files that the words ask for were asked for where they fit, all where their text was had, and none was otherwise.
 abbrev pub AskedForWords : Status → List (List ℕ) → Bool → List (List ℕ) → List (List ℕ) → Type 0
 AskedForWords s words true old new = AskedFor (has_text s) (files_of words) old new
 AskedForWords s words false old new = new ≡ old
@@ -104,23 +104,24 @@ last_of names = slice_index_or names (length names - 1) []
 abbrev pub program_runs_through : Job → Coming → List ℕ → Read → Bool
 program_runs_through (Run options files) coming text p = is_ok (session_of (setting_read text p) options.limit p.commands p.names coming).outcome
 program_runs_through (Net files) coming text p = true
+program_runs_through (Gen options seed size) coming text p = is_ok (session_of (setting_read text p) options.limit p.commands p.names coming).outcome
 
 -- The text is such a program.
 abbrev pub text_runs_through : Job → Coming → List ℕ → Result Read Placed → Bool
 text_runs_through job coming text (Err p) = false
 text_runs_through job coming text (Ok p) = program_runs_through job coming text p
 
--- So is what the files come to.
+-- So is what the text of a job comes to.
 abbrev pub gathered_runs_through : Job → Coming → Gathered → Bool
 gathered_runs_through job coming (Joined text) = text_runs_through job coming text (reads text)
 gathered_runs_through job coming g = false
 
 abbrev pub job_runs_over : Option Job → List (Option (List ℕ)) → List ℕ → Bool
 job_runs_over None contents left = false
-job_runs_over (Some job) contents left = gathered_runs_through job (record { bytes = left; fails = false }) (gathered [] (files_in job) contents)
+job_runs_over (Some job) contents left = gathered_runs_through job (record { bytes = left; fails = false }) (gathered_for job contents)
 
--- The words fit, and the files of these contents are a program whose session comes to its end, within its limit, over
--- an input of these bytes, or whose network is asked for.
+-- The words fit, and the files of these contents, or the workload, are a program whose session comes to its end, within
+-- its limit, over an input of these bytes, or whose network is asked for.
 abbrev pub runs_over : List (List ℕ) → List (Option (List ℕ)) → List ℕ → Bool
 runs_over words contents left = job_runs_over (job_of words) contents left
 

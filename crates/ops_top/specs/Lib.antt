@@ -1,4 +1,5 @@
 pub mod NetLines
+pub mod Summary
 pub mod Whole
 pub mod Codes
 pub mod Told

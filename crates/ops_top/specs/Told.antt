@@ -1,5 +1,5 @@
 -- How a part of a run tells its outcome, or gives up.
-use Rattle.std.specs.Prelude.{◌≡◌, ℕ, ◌+◌, List, Option, Result, Ok, Err, ◌⊎◌}
+use Rattle.std.specs.Prelude.{◌≡◌, ℕ, ◌+◌, List, Bool, Option, Result, Ok, Err, ◌⊎◌}
 use Rattle.ops_base.specs.declared.endings.Ending.{Ending}
 use Rattle.ops_base.specs.declared.endings.Ending.TheVariants as ending
 use Rattle.ops_io.specs.Outside.{GrewBy, GrewByPrefix}
@@ -27,10 +27,15 @@ status_after (Ok s) = s
 status_after (Err stop.Write) = status.WriteFault
 status_after (Err stop.OutOfMemory) = status.OutOfMemory
 
--- The bytes of a session and its last line were put, and this is its ending; or the call gave up.
-abbrev pub TellsSession : Result Ending Stop → Port → Port → Spellings → List Rule → Effect Ending Meant → Type 0
-TellsSession (Ok f) old new names rules e = (f ≡ ending_of e.outcome) × Put old new (told names rules e).bytes
-TellsSession (Err why) old new names rules e = Stopped why old new (told names rules e).bytes
+-- The bytes were put, or the call gave up.
+abbrev pub PutsOrStops : {T : Type 0} → Result T Stop → Port → Port → List ℕ → Type 0
+PutsOrStops (Ok x) old new bytes = Put old new bytes
+PutsOrStops (Err why) old new bytes = Stopped why old new bytes
+
+-- The bytes of a session and the line after it were put, and this is its ending; or the call gave up.
+abbrev pub TellsSession : Result Ending Stop → Port → Port → Bool → Spellings → List Rule → Effect Ending Meant → Type 0
+TellsSession (Ok f) old new summed names rules e = (f ≡ ending_of e.outcome) × Put old new (told summed names rules e).bytes
+TellsSession (Err why) old new summed names rules e = Stopped why old new (told summed names rules e).bytes
 
 -- A read of the input failed exactly where that is the ending. Where the call gave up one may have failed, as where the
 -- last line was refused.
@@ -40,7 +45,7 @@ CountsTold (Err why) before now = (now ≡ before) ⊎ (now ≡ before + 1)
 CountsTold (Ok f) before now = now ≡ before
 
 -- It took bytes of the input, and whatever may come after them, it tells the session over those and that.
-pub record TellsOn (r : Result Ending Stop) (before now : Inlet) (old new : Port) (names : Spellings) (rules : List Rule) (e : Coming → Effect Ending Meant) : Type 0 where
+pub record TellsOn (r : Result Ending Stop) (before now : Inlet) (old new : Port) (summed : Bool) (names : Spellings) (rules : List Rule) (e : Coming → Effect Ending Meant) : Type 0 where
   pub taken : List ℕ
   pub took : Took before now taken
-  pub tells : (c : Coming) → ComesAfter before now c → TellsSession r old new names rules (e (preceded_by taken c))
+  pub tells : (c : Coming) → ComesAfter before now c → TellsSession r old new summed names rules (e (preceded_by taken c))

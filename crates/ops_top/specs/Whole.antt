@@ -2,7 +2,7 @@
 use Rattle.std.specs.Prelude.{◌≡◌, ℕ, ◌-◌, List, [], ◌∷◌, ◌++◌, length, slice_set, Bool, true, false, ◌==◌, nat_le, if◌then◌else◌, Option, Some, None, is_some, option_map, unwrap_or, Result, Ok, Err}
 use Rattle.ops_jobs.specs.CommandLine.{job_of}
 use Rattle.ops_jobs.specs.declared.jobs.Job.{Job}
-use Rattle.ops_jobs.specs.declared.jobs.Job.TheVariants.{Run, Net}
+use Rattle.ops_jobs.specs.declared.jobs.Job.TheVariants.{Run, Net, Gen}
 use Rattle.ops_base.specs.declared.rules.Rule.{Rule}
 use Rattle.ops_base.specs.ConflictSet.{conflict_set}
 use Rattle.ops_base.specs.Valid.{longest_list}
@@ -17,14 +17,16 @@ use Rattle.ops_io.specs.Output.{column_after}
 use Rattle.ops_meaning.specs.declared.statuses.Status.{Status}
 use Rattle.ops_meaning.specs.declared.statuses.Status.TheVariants as status
 use Rattle.ops_meaning.specs.Effects.{Effect}
-use Rattle.ops_meaning.specs.Layout.{usage_line, unread_line, last_line, fault_line}
+use Rattle.ops_meaning.specs.Layout.{usage_line, unread_line, last_line, line_at, fault_line}
 use Rattle.ops_grammar.specs.Places.{line_of, column_of}
 use Rattle.ops_grammar.specs.Reads.{Read, Placed, reads}
 use Rattle.ops_meaning.specs.Acting.{Setting}
 use Rattle.ops_meaning.specs.Running.{Finder, Session, session_by, ending_of}
 use Rattle.ops_meaning.specs.Kept.{FindsConflictSets}
 use Rattle.net_base.specs.Counting.{shape_of}
+use Rattle.ops_gen.specs.Workload.{workload}
 use Rattle.ops_top.specs.NetLines.{net_lines}
+use Rattle.ops_top.specs.Summary.{summary_line}
 
 -- the bytes that are written, and the status
 pub record Reply : Type 0 where
@@ -39,10 +41,12 @@ words_fit words = is_some (job_of words)
 abbrev pub files_in : Job → List (List ℕ)
 files_in (Run options files) = files
 files_in (Net files) = files
+files_in (Gen options seed size) = []
 
 abbrev pub is_run : Job → Bool
 is_run (Run options files) = true
 is_run (Net files) = false
+is_run (Gen options seed size) = true
 
 -- the words fit, and ask for a session
 abbrev pub ask_for_run : List (List ℕ) → Bool
@@ -79,11 +83,18 @@ status_of ending.ReadFault = status.ReadFault
 status_of ending.WriteFault = status.WriteFault
 status_of ending.OutOfMemory = status.OutOfMemory
 
--- the bytes of a session, and the last line of its ending, with the names of the program
-abbrev pub told : Spellings → List Rule → Effect Ending Session → Reply
-told names rules e =
+-- The line after a session: the one that tells its ending, or, where it came to its end and is to be summed up, its
+-- summary.
+abbrev pub closing : Bool → Spellings → List Rule → ℕ → Ending → List ℕ
+closing summed names rules column (ending.Done firings elements last_tag) =
+    if summed then line_at column (summary_line firings elements last_tag) else []
+closing summed names rules column e = last_line names rules column e
+
+-- the bytes of a session, and the line after it, with the names of the program
+abbrev pub told : Bool → Spellings → List Rule → Effect Ending Session → Reply
+told summed names rules e =
     record {
-      bytes = e.bytes ++ last_line names rules (column_after 0 e.bytes) (ending_of e.outcome);
+      bytes = e.bytes ++ closing summed names rules (column_after 0 e.bytes) (ending_of e.outcome);
       status = status_of (ending_of e.outcome);
     }
 
@@ -99,11 +110,16 @@ Find = List Rule → Finder
 abbrev pub net_told : List Rule → Reply
 net_told rules = record { bytes = net_lines (shape_of rules); status = status.Done }
 
--- the answer to a program: its session with at most this many firings, or its network
+-- what the session of a program tells, with at most this many firings
+abbrev pub session_told : Find → Bool → ℕ → Coming → List ℕ → Read → Reply
+session_told find summed limit coming text p =
+    told summed p.names p.rules (session_by (find p.rules) (setting_read text p) limit p.commands p.names coming)
+
+-- the answer to a program: its session, or its network; the session of a workload is summed up
 abbrev pub answer_program_by : Find → Job → Coming → List ℕ → Read → Reply
-answer_program_by find (Run options files) coming text p =
-    told p.names p.rules (session_by (find p.rules) (setting_read text p) options.limit p.commands p.names coming)
+answer_program_by find (Run options files) coming text p = session_told find false options.limit coming text p
 answer_program_by find (Net files) coming text p = net_told p.rules
+answer_program_by find (Gen options seed size) coming text p = session_told find true options.limit coming text p
 
 abbrev pub answer_read_by : Find → Job → Coming → List ℕ → Result Read Placed → Reply
 answer_read_by find job coming text (Err p) = refused text p
@@ -131,6 +147,12 @@ gathered sofar [] contents = Joined sofar
 gathered sofar (name ∷ names) (Some bytes ∷ contents) = joined sofar bytes (λ text. gathered text names contents)
 gathered sofar (name ∷ names) contents = Unread name
 
+-- what the text of a job comes to: that of its files, with these contents, or that of a workload
+abbrev pub gathered_for : Job → List (Option (List ℕ)) → Gathered
+gathered_for (Run options files) contents = gathered [] files contents
+gathered_for (Net files) contents = gathered [] files contents
+gathered_for (Gen options seed size) contents = Joined (workload seed size)
+
 -- the contents, where the load with this number failed, counted from 1: its file can't be read
 abbrev pub readable : List (Option (List ℕ)) → Option ℕ → List (Option (List ℕ))
 readable contents None = contents
@@ -151,9 +173,9 @@ answer_gathered_by find job coming Overlong = refused_at fault.TooLong 1 1
 
 abbrev pub whole_job_by : Find → Option Job → List (Option (List ℕ)) → Option ℕ → Coming → Reply
 whole_job_by find None contents broken coming = usage
-whole_job_by find (Some job) contents broken coming = answer_gathered_by find job coming (gathered [] (files_in job) (readable contents broken))
+whole_job_by find (Some job) contents broken coming = answer_gathered_by find job coming (gathered_for job (readable contents broken))
 
--- The words are those of the command line, the contents those of the files that they name, in their order, none where
+-- The words are those of the command line, the contents those of the files that they ask for, in their order, none where
 -- one is not there; `broken` tells which load failed, counted from 1, if one did; and this input is to come.
 abbrev pub whole_by : Find → List (List ℕ) → List (Option (List ℕ)) → Option ℕ → Coming → Reply
 whole_by find words contents broken coming = whole_job_by find (job_of words) contents broken coming

@@ -13,6 +13,7 @@ ghost use Rattle.act_phase.specs.Outcomes.{setting_of};
 ghost use Rattle.ops_top.specs.Calls.{OfInput, TellsFailedInput, is_refused};
 ghost use Rattle.ops_top.specs.Told.{Delivers, status_after, CountsTold, TellsOn};
 
+use crate::closing::put_closing;
 use crate::saying::{refuse, say_network};
 use beta_net::compile;
 use direct_engine::DirectEngine;
@@ -23,10 +24,10 @@ use ops_check::{ProgramFault, read_program};
 use ops_io::{Gate, Input, Out, Sink, Source, Stop};
 use ops_jobs::{Engine, Job, Options};
 use ops_meaning::Status;
-use ops_print::put_fault;
 use serial_engine::SerialEngine;
 use session::run_session;
 use std::alloc::Global;
+use std::thread::Threads;
 use work_store::Matcher;
 
 fn status_of(ending: Ending) -> Status
@@ -53,8 +54,8 @@ fn status_of(ending: Ending) -> Status
     }
 }
 
-/// Runs the session of a program over a matcher that stands for it, and puts its last line. The symbols of the program keep
-/// their spellings in it, so that the line is told with the names as they were.
+/// Runs the session of a program over a matcher that stands for it, and puts the line after it. The symbols of the program
+/// keep their spellings in it, so that the line is told with the names as they were.
 fn tell_session<M: Matcher, I: Source, K: Sink>(
     alloc: Global,
     hand: &mut M::Hand,
@@ -62,6 +63,7 @@ fn tell_session<M: Matcher, I: Source, K: Sink>(
     names: &mut Names,
     matcher: M,
     limit: u64,
+    is_summed: bool,
     input: &mut Input,
     source: &mut I,
     out: &mut Out,
@@ -80,17 +82,18 @@ fn tell_session<M: Matcher, I: Source, K: Sink>(
         (inlet input.new (I.left source.new) (I.faults source.new))
         (port (K.taken sink.old) (K.faults sink.old) out.old)
         (port (K.taken sink.new) (K.faults sink.new) out.new)
-        names.old program.now.rules (λ c. session_of (setting_of program.now 0) limit program.now.commands names.old c) }
+        is_summed names.old program.now.rules (λ c. session_of (setting_of program.now 0) limit program.now.commands names.old c) }
     ensures reads { CountsTold result (I.faults source.old) (I.faults source.new) }
 {
     let ending = run_session(
         alloc, hand, program, names, matcher, limit, input, source, out, sink,
     )?;
-    put_fault(out, sink, names, program, &ending)?;
+    put_closing(alloc, program, names, &ending, is_summed, out, sink)?;
     Ok(ending)
 }
 
-/// The answer to a program whose session runs over this matcher, makes at most this many firings and reads from this source.
+/// The answer to a program whose session runs over this matcher, makes at most this many firings, is summed up or not, and
+/// reads from this source.
 fn answer_over<M: Matcher, I: Source, K: Sink>(
     alloc: Global,
     hand: &mut M::Hand,
@@ -98,6 +101,7 @@ fn answer_over<M: Matcher, I: Source, K: Sink>(
     names: &mut Names,
     matcher: M,
     limit: u64,
+    is_summed: bool,
     source: &mut I,
     sink: &mut K,
 ) -> Result<Status, Stop>
@@ -109,7 +113,7 @@ fn answer_over<M: Matcher, I: Source, K: Sink>(
     requires some { 0 < length names.old.held }
     requires held { IsTrue (is_held (length names.old.held) program.now.classes program.now.rules program.now.commands) }
     ensures delivers { OfInput (I.left source.old) (I.left source.new) (nat_lt (I.faults source.old) (I.faults source.new))
-        (λ coming. Delivers result (told names.old program.now.rules
+        (λ coming. Delivers result (told is_summed names.old program.now.rules
         (session_of (setting_of program.now 0) limit program.now.commands names.old coming))
         (K.taken sink.old) (K.faults sink.old) (K.taken sink.new) (K.faults sink.new)) }
     ensures reads { TellsFailedInput (status_after result) (I.faults source.old) (I.faults source.new) }
@@ -119,19 +123,21 @@ fn answer_over<M: Matcher, I: Source, K: Sink>(
     let mut input = Input::new(alloc)?;
     let mut out = Out::new(alloc)?;
     let ending = tell_session(
-        alloc, hand, program, names, matcher, limit, &mut input, source, &mut out, sink,
+        alloc, hand, program, names, matcher, limit, is_summed, &mut input, source, &mut out, sink,
     )?;
     out.flush(sink)?;
     Ok(status_of(ending))
 }
 
-/// The answer to a program, whose session runs over the engine that the options ask for. The network is compiled only where
-/// that engine needs one.
-fn answer_program<I: Source, K: Sink, G: Gate>(
+/// The answer to a program, whose session runs over the engine that the options ask for, and is summed up or not. The
+/// network is compiled only where that engine needs one. Rounds run on the serial engine for now, and `rt` is not used yet.
+fn answer_program<R: Threads + Clone + Drop + Send + Sync, I: Source, K: Sink, G: Gate>(
+    rt: &R,
     alloc: Global,
     program: &Program,
     names: &mut Names,
     options: &Options,
+    is_summed: bool,
     source: &mut I,
     sink: &mut K,
     gate: &G,
@@ -142,7 +148,7 @@ fn answer_program<I: Source, K: Sink, G: Gate>(
     requires some { 0 < length names.old.held }
     requires held { IsTrue (is_held (length names.old.held) program.now.classes program.now.rules program.now.commands) }
     ensures delivers { OfInput (I.left source.old) (I.left source.new) (nat_lt (I.faults source.old) (I.faults source.new))
-        (λ coming. Delivers result (told names.old program.now.rules
+        (λ coming. Delivers result (told is_summed names.old program.now.rules
         (session_of (setting_of program.now 0) options.now.limit program.now.commands names.old coming))
         (K.taken sink.old) (K.faults sink.old) (K.taken sink.new) (K.faults sink.new)) }
     ensures reads { TellsFailedInput (status_after result) (I.faults source.old) (I.faults source.new) }
@@ -153,18 +159,39 @@ fn answer_program<I: Source, K: Sink, G: Gate>(
     match options.engine {
         Engine::Direct => {
             let direct = DirectEngine::new(alloc, program)?;
-            answer_over(alloc, &mut (), program, names, direct, limit, source, sink)
+            answer_over(
+                alloc,
+                &mut (),
+                program,
+                names,
+                direct,
+                limit,
+                is_summed,
+                source,
+                sink,
+            )
         }
-        Engine::Serial => {
+        Engine::Serial | Engine::Rounds => {
             let net = compile(alloc, program)?;
             let serial = SerialEngine::new(alloc, net, options.lines, gate)?;
-            answer_over(alloc, &mut (), program, names, serial, limit, source, sink)
+            answer_over(
+                alloc,
+                &mut (),
+                program,
+                names,
+                serial,
+                limit,
+                is_summed,
+                source,
+                sink,
+            )
         }
     }
 }
 
 /// The answer to a program: what its session writes, or how large its network is.
-fn answer_job<I: Source, K: Sink, G: Gate>(
+fn answer_job<R: Threads + Clone + Drop + Send + Sync, I: Source, K: Sink, G: Gate>(
+    rt: &R,
     alloc: Global,
     program: &Program,
     names: &mut Names,
@@ -189,14 +216,20 @@ fn answer_job<I: Source, K: Sink, G: Gate>(
 {
     match job {
         Job::Run { options, .. } => {
-            answer_program(alloc, program, names, options, source, sink, gate)
+            answer_program(
+                rt, alloc, program, names, options, false, source, sink, gate,
+            )
         }
         Job::Net { .. } => say_network(alloc, program, sink),
+        Job::Gen { options, .. } => {
+            answer_program(rt, alloc, program, names, options, true, source, sink, gate)
+        }
     }
 }
 
 /// The answer to a text: its fault, or what its session writes, or how large its network is.
-pub fn answer_text<I: Source, K: Sink, G: Gate>(
+pub fn answer_text<R: Threads + Clone + Drop + Send + Sync, I: Source, K: Sink, G: Gate>(
+    rt: &R,
     alloc: Global,
     text: Vec<u8>,
     job: &Job,
@@ -216,7 +249,9 @@ pub fn answer_text<I: Source, K: Sink, G: Gate>(
     ensures refused { is_refused (status_after result) ≡ true → input.new ≡ input.old }
 {
     match read_program(alloc, text) {
-        Ok((program, mut names)) => answer_job(alloc, &program, &mut names, job, input, sink, gate),
+        Ok((program, mut names)) => answer_job(
+            rt, alloc, &program, &mut names, job, input, sink, gate,
+        ),
         Err(
             ProgramFault::At {
                 fault,

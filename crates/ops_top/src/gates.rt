@@ -44,3 +44,27 @@ fn activations_counted(rt: HostRuntime) -> Result<(), Fail> {
     }
     Ok(())
 }
+
+/// Words that run a workload, each with the least number of activations and one that is too large. Direct matching makes none,
+/// and takes too long for a test on more items.
+const MANY: [(&[&str], u64, u64); 2] = [
+    (&["--gen", "7", "400", "--match", "serial"], 1_001, 20_000),
+    (&["--gen", "7", "20", "--match", "direct"], 0, 1),
+];
+
+#[test]
+fn activations_of_a_workload(rt: HostRuntime) -> Result<(), Fail> {
+    let alloc = rt.alloc();
+    for (words, least, past) in MANY {
+        let gate = Counting {
+            calls: AtomicU64::new(0),
+        };
+        let mut input = MemSource::new(Vec::new(alloc), 1, Vec::new(alloc));
+        let mut sink = MemSink::new(alloc, 1_000, 1_000, Vec::new(alloc))?;
+        let status = answer_past(&rt, alloc, words, &[], &mut input, &mut sink, &gate)?;
+        assert_eq!(rt; status, Status::Done);
+        let calls = gate.calls.load(Ordering::SeqCst);
+        assert_eq!(rt; least <= calls && calls < past, true);
+    }
+    Ok(())
+}

@@ -2,6 +2,7 @@
 #![tactic(auto)]
 
 mod answer;
+mod closing;
 mod files;
 #[cfg(test)]
 mod gates;

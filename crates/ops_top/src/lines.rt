@@ -2,6 +2,7 @@
 ghost use Rattle.std.specs.Prelude.{◌≡◌, ◌++◌, IfOk, OnOk};
 ghost use Rattle.ops_meaning.specs.Layout.{usage_line, unread_line, fault_line};
 ghost use Rattle.ops_top.specs.NetLines.{count_line, net_lines};
+ghost use Rattle.ops_top.specs.Summary.{summary_line};
 
 use itoa::Buffer;
 use net_base::counts::Counts;
@@ -43,6 +44,25 @@ pub fn fault_line(
     text.extend_from_slice(b": ")?;
     text.extend_from_slice(fault_text(fault).as_bytes())?;
     text.push(b'\n')?;
+    Ok(text)
+}
+
+/// The line that sums up a session that came to its end, without its LF.
+pub fn summary_line(
+    alloc: Global,
+    firings: u64,
+    elements: u64,
+    last_tag: u64,
+) -> Result<Vec<u8>, OutOfMemory>
+    ensures { IfOk result (λ v. v.items ≡ summary_line firings elements last_tag) }
+{
+    let mut buffer = Buffer::new();
+    let mut text = Vec::from_slice(alloc, b"summary: firings ")?;
+    text.extend_from_slice(buffer.format(firings).as_bytes())?;
+    text.extend_from_slice(b" elements ")?;
+    text.extend_from_slice(buffer.format(elements).as_bytes())?;
+    text.extend_from_slice(b" last-tag ")?;
+    text.extend_from_slice(buffer.format(last_tag).as_bytes())?;
     Ok(text)
 }
 

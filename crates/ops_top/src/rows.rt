@@ -449,3 +449,45 @@ fn networks(rt: HostRuntime) -> Result<(), Fail> {
     }
     Ok(())
 }
+
+/// Words that run a workload, each with the end of what is written. Of the moves of its items and the ten blocks each makes a
+/// firing; the roads and the items are left; and each move gives a tag more.
+const WORKLOADS: [(&[&str], &[u8]); 5] = [
+    (&["--gen", "7", "1"], ONE_ITEM),
+    (&["7", "1", "--gen", "--match=serial"], ONE_ITEM),
+    (&["--match", "rounds", "--gen", "7", "1"], ONE_ITEM),
+    (
+        &["--gen", "7", "20"],
+        b"\nsummary: firings 31 elements 79 last-tag 110\n",
+    ),
+    (
+        &["--gen", "--match=serial", "--lines=1", "7", "20"],
+        b"\nsummary: firings 31 elements 79 last-tag 110\n",
+    ),
+];
+
+const ONE_ITEM: &[u8] =
+    b"end -- no production true\n71: (item ^id 1 ^at 9 ^left 0)\nsummary: firings 11 elements 60 last-tag 71\n";
+
+#[test]
+fn workloads(rt: HostRuntime) -> Result<(), Fail> {
+    let alloc = rt.alloc();
+    for (words, ending) in WORKLOADS {
+        let mut sink = MemSink::new(alloc, 1_000, 1_000, Vec::new(alloc))?;
+        assert_eq!(rt; answer(&rt, alloc, words, &[], &mut sink)?, Status::Done);
+        assert_eq!(rt; sink.written().ends_with(ending), true);
+    }
+    Ok(())
+}
+
+/// A session that does not come to its end has no summary.
+#[test]
+fn limited_workload(rt: HostRuntime) -> Result<(), Fail> {
+    let alloc = rt.alloc();
+    let mut sink = MemSink::new(alloc, 1_000, 1_000, Vec::new(alloc))?;
+    let words = ["--gen", "--limit=3", "7", "1"];
+    assert_eq!(rt; answer(&rt, alloc, &words, &[], &mut sink)?, Status::Limit);
+    let expected = b"ops: limit of 3 firings reached\n".as_slice();
+    assert_eq!(rt; sink.written(), expected);
+    Ok(())
+}

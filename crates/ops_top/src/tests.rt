@@ -91,7 +91,7 @@ const USAGE: &[u8] =
     b"usage: ops [--match direct|serial|rounds|free] [--workers N] [--lines L] [--limit N] FILE.. | ops --gen SEED SIZE | ops --net FILE..\n";
 
 /// Words that don't fit.
-const UNFIT: [&[&str]; 11] = [
+const UNFIT: [&[&str]; 13] = [
     &[],
     &["-x", "f"],
     &["--net=1", "f"],
@@ -101,6 +101,8 @@ const UNFIT: [&[&str]; 11] = [
     &["--limit", "3", "--limit", "3", "f"],
     &["--workers", "65", "f"],
     &["--match=free", "f"],
+    &["--gen", "7", "0"],
+    &["--gen", "--net", "7", "1"],
     &["--match=serial", "--lines=0", "f"],
     &["--match=serial", "--lines=65537", "f"],
 ];

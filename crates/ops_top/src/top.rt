@@ -73,7 +73,7 @@ pub fn still_run<R: Threads + Clone + Drop + Send + Sync, H: Shelf, I: Source, K
         → H.faults shelf.new ≡ H.faults shelf.old → I.faults input.new ≡ I.faults input.old → K.faults sink.new ≡ K.faults sink.old
         → (status ≡ Status.Done) ⊎ (status ≡ Status.OutOfMemory)) }
 {
-    Some(status_after(run_words(alloc, words, shelf, input, sink, gate)))
+    Some(status_after(run_words(rt, alloc, words, shelf, input, sink, gate)))
 }
 
 /// Runs the program on the words of its command line, or tells its network. The input is read where the program asks

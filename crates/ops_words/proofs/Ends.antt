@@ -1,18 +1,19 @@
--- The rows at the end of the words, where the flag has its default if it does not stand.
-use Rattle.std.proofs.Common.{◌≡◌, ◌∙◌, Bool, cond, true, false, List, [], ◌∷◌, ◌++◌, Some, None, codes, refl, sym, ap, subst, fold}
-use Rattle.std.specs.Prelude.{unwrap_or}
+-- The rows at the end of the words, where each flag has its default if it does not stand.
+use Rattle.std.proofs.Common.{◌≡◌, ◌∙◌, ◌||◌, Bool, cond, true, false, List, [], ◌∷◌, ◌++◌, Some, None, codes, refl, sym, ap, subst, fold}
+use Rattle.std.specs.Prelude.{option_and_then, slice_get, unwrap_or}
 use Rattle.std.specs.List.{list_all}
 use Rattle.std.specs.Str.{bytes_eq}
-use Rattle.std.proofs.lemmas.Bool.{and_parts}
+use Rattle.std.proofs.lemmas.Bool.{and_parts, true≢false}
 use Rattle.std.proofs.lemmas.List.Folds.{find-append}
-use Rattle.clap.specs.Walk.{Held, Row, Rule, Text, finished, has_row, is_empty, more_values, one_of, settled, with_default}
+use Rattle.clap.specs.Walk.{Held, Row, Rule, Text, finished, has_row, is_empty, more_values, one_of, row_text, settled, with_default}
 use Rattle.clap.specs.Faults.{default_fault, defaults_fault, given_default_fault}
 use Rattle.clap.specs.declared.builder.value_parser.Reading.TheVariants.{AsWritten}
 use Rattle.clap.specs.declared.parser.matches.ValueSource.TheVariants.{DefaultValue}
 use Rattle.clap.proofs.SimpleLemmas.{is_nil}
-use Rattle.ops_jobs.specs.CommandLine.{Piece, value_of, values_of}
+use Rattle.ops_jobs.specs.CommandLine.{Piece, is_flag, value_of, values_of}
+use Rattle.ops_jobs.proofs.EachOption.{each_flag}
 use Rattle.ops_words.proofs.Lookups.{built_files, built_flag, options, top}
-use Rattle.ops_words.proofs.FoundRows.{Shows, at_row-none, new_row, row_of, row_with, said, there_or_not}
+use Rattle.ops_words.proofs.FoundRows.{Shows, at_row-none, new_row, row_of, row_with, said, text_is_itself, there_or_not}
 
 -- ---- the defaults
 
@@ -39,19 +40,19 @@ no_defaults (a ∷ rs) rows e =
     let stays : with_default rows a ≡ rows = rw none (either (has_row a.id rows) rows) in
     rw stays (no_defaults rs rows parts.1)
 
--- and the flag has one
+-- and the flags have one
 abbrev defaulted : List Row → List Row
-defaulted rows = with_default rows (built_flag (codes "net"))
+defaulted rows = with_default (with_default rows (built_flag (codes "gen"))) (built_flag (codes "net"))
 
 finished_rows : (h : Held) → finished top.rules h ≡ defaulted (settled top.rules h).rows
 finished_rows h =
-    ap (λ rows. fold with_default rows (built_flag (codes "net") ∷ built_files ∷ [])) (no_defaults options (settled top.rules h).rows refl)
+    ap (λ rows. fold with_default rows (built_flag (codes "gen") ∷ built_flag (codes "net") ∷ built_files ∷ [])) (no_defaults options (settled top.rules h).rows refl)
     ∙ no_defaults (built_files ∷ []) (defaulted (settled top.rules h).rows) refl
 
--- ---- the rows
+-- ---- the rows after the default of one flag
 
-abbrev flag_row : Row
-flag_row = record { id = codes "net"; values = codes "false" ∷ []; count = None; source = Some DefaultValue; reading = AsWritten }
+abbrev flag_row : Text → Row
+flag_row name = record { id = name; values = codes "false" ∷ []; count = None; source = Some DefaultValue; reading = AsWritten }
 
 row_behind : (id : Text) (rows : List Row) (r : Row) → bytes_eq r.id id ≡ false → row_of id (rows ++ r ∷ []) ≡ row_of id rows
 row_behind id [] r differs = rw differs refl
@@ -60,32 +61,49 @@ row_behind id (x ∷ rows) r differs = ap (λ o. cond (bytes_eq x.id id) (Some x
 row_last : (id : Text) (rows : List Row) (r : Row) → row_of id rows ≡ None → row_of id (rows ++ r ∷ []) ≡ row_of id (r ∷ [])
 row_last id rows r none = find-append (λ x. bytes_eq x.id id) rows (r ∷ []) ∙ rw none refl
 
--- the rows are those of the pieces, and the flag that does not stand has `false`
+-- the rows of other names stay, and the flag has its first value, or `false`
+record Defaults (name : Text) (values : List Text) (before after : List Row) : Type 0 where
+  other : (id : Text) → bytes_eq name id ≡ false → row_of id after ≡ row_of id before
+  value : one_of name after ≡ Some (unwrap_or (slice_get values 0) (codes "false"))
+
+defaults : (name : Text) (values : List Text) (rows : List Row) → row_of name rows ≡ row_with name values
+    → Defaults name values rows (with_default rows (built_flag name))
+defaults name [] rows row =
+    let absent : has_row name rows ≡ false = there_or_not name rows None row in
+    let more : with_default rows (built_flag name) ≡ rows ++ flag_row name ∷ [] =
+    rw absent (at_row-none name (more_values DefaultValue (codes "false" ∷ [])) (flag_row name ∷ []) rows row) in
+    let itself : row_of name (flag_row name ∷ []) ≡ Some (flag_row name) = rw (text_is_itself name) refl in
+    let last : row_of name (rows ++ flag_row name ∷ []) ≡ Some (flag_row name) = row_last name rows (flag_row name) row ∙ itself in
+    subst (Defaults name [] rows) (sym more) (record { other = λ id differs. row_behind id rows (flag_row name) differs; value = rw last refl })
+defaults name (v ∷ vs) rows row =
+    let there : has_row name rows ≡ true = there_or_not name rows (Some (new_row name (v ∷ vs))) row in
+    let same : with_default rows (built_flag name) ≡ rows = rw there refl in
+    subst (Defaults name (v ∷ vs) rows) (sym same) (record { other = λ id differs. refl; value = rw row refl })
+
+-- ---- the rows after all defaults
+
+-- the rows are those of the pieces, and each flag that does not stand has `false`
 pub record Ends (pieces : List Piece) (rows : List Row) : Type 0 where
-  pub row : (id : Text) → bytes_eq (codes "net") id ≡ false → row_of id rows ≡ row_with id (said id pieces)
-  pub flag : one_of (codes "net") rows ≡ Some (unwrap_or (value_of (codes "net") pieces) (codes "false"))
+  pub row : (id : Text) → is_flag id ≡ false → row_of id rows ≡ row_with id (said id pieces)
+  pub flag : (name : Text) → is_flag name ≡ true → one_of name rows ≡ Some (unwrap_or (value_of name pieces) (codes "false"))
+
+neither : (s t : Bool) → (s || (t || false)) ≡ false → (s ≡ false) × (t ≡ false)
+neither true t e = absurd (true≢false e)
+neither false true e = absurd (true≢false e)
+neither false false e = (refl, refl)
 
 ends : (pieces : List Piece) (rows : List Row) → Shows pieces rows → Ends pieces (defaulted rows)
-ends pieces rows shows = go (values_of (codes "net") pieces) refl
-  where
-    go : (values : List Text) → values_of (codes "net") pieces ≡ values → Ends pieces (defaulted rows)
-    go [] none =
-        let row : row_of (codes "net") rows ≡ None = shows.row (codes "net") ∙ ap (row_with (codes "net")) none in
-        let absent : has_row (codes "net") rows ≡ false = there_or_not (codes "net") rows None row in
-        let more : defaulted rows ≡ rows ++ flag_row ∷ [] = rw absent (at_row-none (codes "net") (more_values DefaultValue (codes "false" ∷ [])) (flag_row ∷ []) rows row) in
-        let last : row_of (codes "net") (rows ++ flag_row ∷ []) ≡ Some flag_row = row_last (codes "net") rows flag_row row in
-        subst (Ends pieces) (sym more) (record {
-          row = λ id other. row_behind id rows flag_row other ∙ shows.row id;
-          flag = rw (last, none) refl;
-        })
-    go (v ∷ vs) some =
-        let row : row_of (codes "net") rows ≡ Some (new_row (codes "net") (v ∷ vs)) = shows.row (codes "net") ∙ ap (row_with (codes "net")) some in
-        let there : has_row (codes "net") rows ≡ true = there_or_not (codes "net") rows (Some (new_row (codes "net") (v ∷ vs))) row in
-        let same : defaulted rows ≡ rows = rw there refl in
-        subst (Ends pieces) (sym same) (record {
-          row = λ id other. shows.row id;
-          flag = rw (row, some) refl;
-        })
+ends pieces rows shows =
+    let first = defaults (codes "gen") (values_of (codes "gen") pieces) rows (shows.row (codes "gen")) in
+    let next = with_default rows (built_flag (codes "gen")) in
+    let second = defaults (codes "net") (values_of (codes "net") pieces) next (first.other (codes "net") refl ∙ shows.row (codes "net")) in
+    record {
+      row = λ id none.
+          let apart = neither (bytes_eq (codes "gen") id) (bytes_eq (codes "net") id) none in
+          second.other id apart.1 ∙ (first.other id apart.0 ∙ shows.row id);
+      flag = each_flag (λ name. one_of name (defaulted rows) ≡ Some (unwrap_or (value_of name pieces) (codes "false")))
+          (ap (option_and_then row_text) (second.other (codes "gen") refl) ∙ first.value) second.value;
+    }
 
 pub finished_ends : (pieces : List Piece) (h : Held) → Shows pieces (settled top.rules h).rows → Ends pieces (finished top.rules h)
 finished_ends pieces h shows = subst (Ends pieces) (sym (finished_rows h)) (ends pieces (settled top.rules h).rows shows)

@@ -1,9 +1,9 @@
 -- What `clap` finds, and when it refuses, by the pieces of the words.
 use Rattle.std.proofs.Common.{◌≡◌, ◌∙◌, Bool, true, false, List, [], ◌∷◌, length, Option, Some, None, String, codes, inl, inr, refl, sym, ap, subst, option_map}
-use Rattle.std.specs.Prelude.{if◌then◌else◌, nat_le, option_and_then, slice_get}
+use Rattle.std.specs.Prelude.{nat_le, option_and_then, slice_get}
 use Rattle.std.proofs.lemmas.Bool.{and_parts, true≢false}
 use Rattle.std.proofs.lemmas.Str.{IsUtf8-string_bytes}
-use Rattle.clap.specs.Matches.{found_of, one_text}
+use Rattle.clap.specs.Matches.{found_of}
 use Rattle.clap.specs.Values.{kind_of}
 use Rattle.clap.specs.Walk.{Row, Text, rows_of}
 use Rattle.clap.specs.Simple.{App, HasMatchesOf, is_simple, matches_of}
@@ -13,14 +13,13 @@ use Rattle.clap.specs.declared.error.Error.{Error}
 use Rattle.clap.specs.declared.error.kind.ErrorKind.{ErrorKind}
 use Rattle.clap.specs.declared.parser.matches.ArgMatches.{ArgMatches}
 use Rattle.clap.proofs.WalkLemmas.{first_value-rows, one_text-rows, raw_values-rows}
-use Rattle.ops_jobs.specs.CommandLine.{Piece, Word, files_of, is_complete, is_raised, pieces_of, values_of}
+use Rattle.ops_jobs.specs.CommandLine.{Piece, Word, files_of, is_complete, pieces_of, values_of}
 use Rattle.ops_jobs.specs.Words.{word_bytes}
-use Rattle.ops_jobs.proofs.EachOption.{each_flag}
 use Rattle.ops_jobs.proofs.Flags.{flag_is_true}
 use Rattle.ops_words.specs.Command.{app}
 use Rattle.ops_words.specs.Found.{Finds, FindsNothing, fault_of}
 use Rattle.ops_words.specs.declared.faults.WordsFault.TheVariants.{Usage, OutOfMemory}
-use Rattle.ops_words.proofs.Lookups.{not_files, not_net}
+use Rattle.ops_words.proofs.Lookups.{not_files, not_flag}
 use Rattle.ops_words.proofs.FoundRows.{row_of, row_with}
 use Rattle.ops_words.proofs.Ends.{Ends}
 use Rattle.ops_words.proofs.Endings.{does_fail}
@@ -47,10 +46,9 @@ finds_pieces words pieces m are complete ends = record {
   are = are;
   complete = complete;
   values = λ name known.
-      let row : row_of name (rows_of (found_of m)) ≡ row_with name (values_of name pieces) = ends.row name (not_net name known) ∙ rw (not_files name known) refl in
+      let row : row_of name (rows_of (found_of m)) ≡ row_with name (values_of name pieces) = ends.row name (not_flag name known) ∙ rw (not_files name known) refl in
       first_value-rows (found_of m) name ∙ (ap (option_and_then (λ (r : Row). slice_get r.values 0)) row ∙ first_in_row name (values_of name pieces));
-  flags = each_flag (λ flag. one_text (found_of m) flag ≡ Some (if is_raised flag pieces then codes "true" else codes "false"))
-      (one_text-rows (found_of m) (codes "net") ∙ (ends.flag ∙ ap Some (flag_is_true words pieces are)));
+  flags = λ flag known. one_text-rows (found_of m) flag ∙ (ends.flag flag known ∙ ap Some (flag_is_true flag known words pieces are));
   files = raw_values-rows (found_of m) (codes "file")
       ∙ (ap (option_map (λ (r : Row). r.values)) (ends.row (codes "file") refl) ∙ all_in_row (codes "file") (files_of pieces) (and_parts _ _ complete).1);
 }

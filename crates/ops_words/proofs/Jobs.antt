@@ -4,7 +4,7 @@ use Rattle.std.specs.Prelude.{if◌then◌else◌, unwrap_or}
 use Rattle.clap.specs.Matches.{first_value, found_of, matched_of, one_text, raw_values}
 use Rattle.clap.specs.declared.parser.matches.ArgMatches.{ArgMatches}
 use Rattle.ops_jobs.specs.declared.jobs.Options.{Options}
-use Rattle.ops_jobs.specs.CommandLine.{Word, files_of, is_raised, job_for, job_of, options_from, options_of}
+use Rattle.ops_jobs.specs.CommandLine.{Word, files_of, is_flag, is_raised, job_by, job_of, options_from, options_of}
 use Rattle.ops_words.specs.Found.{Finds}
 
 -- the options that `clap` found
@@ -20,21 +20,22 @@ options-pieces : (words : List Word) (m : ArgMatches) (found : Finds words m) �
 options-pieces words m found =
     rw (found.values (codes "match") refl, found.values (codes "workers") refl, found.values (codes "lines") refl, found.values (codes "limit") refl) refl
 
--- whether the flag stands, as `get_flag` reads it
-abbrev pub IsFlagFound : ArgMatches → Bool → Type 0
-IsFlagFound m flag = (one_text (found_of m) (codes "net") ≡ Some (codes "true") → flag ≡ true) × (one_text (found_of m) (codes "net") ≡ Some (codes "false") → flag ≡ false)
+-- whether the flag of this name stands, as `get_flag` reads it
+abbrev pub IsFlagFound : ArgMatches → Word → Bool → Type 0
+IsFlagFound m name flag = (one_text (found_of m) name ≡ Some (codes "true") → flag ≡ true) × (one_text (found_of m) name ≡ Some (codes "false") → flag ≡ false)
 
-flag-pieces : (words : List Word) (m : ArgMatches) (flag : Bool) (found : Finds words m) → IsFlagFound m flag → is_raised (codes "net") found.pieces ≡ flag
-flag-pieces words m flag found is = go (is_raised (codes "net") found.pieces) (found.flags (codes "net") refl)
+flag-pieces : (words : List Word) (m : ArgMatches) (name : Word) (flag : Bool) (found : Finds words m) → is_flag name ≡ true → IsFlagFound m name flag
+    → is_raised name found.pieces ≡ flag
+flag-pieces words m name flag found known is = go (is_raised name found.pieces) (found.flags name known)
   where
-    go : (t : Bool) → one_text (found_of m) (codes "net") ≡ Some (if t then codes "true" else codes "false") → t ≡ flag
+    go : (t : Bool) → one_text (found_of m) name ≡ Some (if t then codes "true" else codes "false") → t ≡ flag
     go true e = sym (is.0 e)
     go false e = sym (is.1 e)
 
 -- they are the job that the words ask for
-pub job_found : (words : List Word) (m : ArgMatches) (options : Options) (flag : Bool) (files : List Word) → Finds words m → options_found m ≡ Some options
-    → IsFlagFound m flag → files ≡ files_found m → job_of words ≡ Some (job_for flag options files)
-job_found words m options flag files found from is are =
+pub job_found : (words : List Word) (m : ArgMatches) (options : Options) (gen net : Bool) (files : List Word) → Finds words m → options_found m ≡ Some options
+    → IsFlagFound m (codes "gen") gen → IsFlagFound m (codes "net") net → files ≡ files_found m → job_of words ≡ job_by gen net options files
+job_found words m options gen net files found from generated network are =
     let same : options_of found.pieces ≡ Some options = sym (options-pieces words m found) ∙ from in
     let all : files_of found.pieces ≡ files = sym (are ∙ ap (λ o. unwrap_or o []) found.files) in
-    rw (found.are, found.complete, same, flag-pieces words m flag found is, all) refl
+    rw (found.are, found.complete, same, flag-pieces words m (codes "gen") gen found refl generated, flag-pieces words m (codes "net") net found refl network, all) refl

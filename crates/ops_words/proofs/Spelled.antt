@@ -11,10 +11,10 @@ own : IsNumeralModel (λ digits. list_all is_ascii_digit digits ≡ true) (digit
 own = numerals_by_value _ (search rules)
 
 -- a word that can't be parsed spells none
-pub not_parsed : {E : Type 0} (greatest : ℕ) (word : Word) (e : E) → greatest < 2 ^ 64 → ParsesUnsigned 64 10 word (Err e) → is_number greatest word ≡ false
-not_parsed greatest word e fits h = go (is_number greatest word) refl
+pub not_parsed : {E : Type 0} (least greatest : ℕ) (word : Word) (e : E) → greatest < 2 ^ 64 → ParsesUnsigned 64 10 word (Err e) → is_number least greatest word ≡ false
+not_parsed least greatest word e fits h = go (is_number least greatest word) refl
   where
-    go : (t : Bool) → is_number greatest word ≡ t → is_number greatest word ≡ false
+    go : (t : Bool) → is_number least greatest word ≡ t → is_number least greatest word ≡ false
     go false is = is
     go true is =
         let four = and_parts _ _ is in

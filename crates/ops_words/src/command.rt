@@ -1,5 +1,5 @@
 //! The command line as `clap` is told of it, and what it finds in words.
-ghost use Rattle.std.specs.Prelude.{◌≡◌, false, None, Err, IfOk, codes};
+ghost use Rattle.std.specs.Prelude.{◌≡◌, false, None, Err, IfOk};
 ghost use Rattle.clap.specs.Words.{app_of, rule_of};
 ghost use Rattle.ops_jobs.specs.Words.{word_bytes};
 ghost use Rattle.ops_words.specs.Command.{app, files_rule, flag_rule, option_rule};
@@ -18,17 +18,15 @@ fn option_named<'a>(alloc: Global, name: &'a str) -> Arg<'a>
     Arg::new(alloc, name).long(name)
 }
 
-/// The flag that asks for the network. It takes no value and stands at most once.
-fn network_flag<'a>(alloc: Global) -> Arg<'a>
-    ensures rule { rule_of result ≡ flag_rule (codes "net") }
+/// A flag that takes no value and stands at most once.
+fn flag_named<'a>(alloc: Global, name: &'a str) -> Arg<'a>
+    ensures rule { rule_of result ≡ flag_rule name.entry.now }
     ensures local { result.global ≡ false }
 {
-    Arg::new(alloc, "net")
-        .long("net")
-        .action(ArgAction::SetTrue)
+    Arg::new(alloc, name).action(ArgAction::SetTrue).long(name)
 }
 
-/// The files, of which there is at least one.
+/// The names, of which there is at least one.
 fn files<'a>(alloc: Global) -> Arg<'a>
     ensures rule { rule_of result ≡ files_rule }
     ensures local { result.global ≡ false }
@@ -48,7 +46,8 @@ fn command_line<'a>(alloc: Global) -> Result<Command<'a>, AllocError>
         .arg(option_named(alloc, "workers"))?
         .arg(option_named(alloc, "lines"))?
         .arg(option_named(alloc, "limit"))?
-        .arg(network_flag(alloc))?
+        .arg(flag_named(alloc, "gen"))?
+        .arg(flag_named(alloc, "net"))?
         .arg(files(alloc))
 }
 

@@ -1,10 +1,9 @@
 //! The values of the options.
-ghost use Rattle.std.specs.Prelude.{◌≡◌, Some, None, option_map, codes, if◌then◌else◌};
+ghost use Rattle.std.specs.Prelude.{◌≡◌, option_map, codes};
 ghost use Rattle.std.specs.List.{list_all};
 ghost use Rattle.std.specs.Char.{is_ascii_digit};
-ghost use Rattle.std.specs.Str.Parse.{digits_value};
 ghost use Rattle.clap.specs.Words.{first_value, found_of};
-ghost use Rattle.ops_jobs.specs.CommandLine.{engine_from, engine_named, is_number, number_from, options_from};
+ghost use Rattle.ops_jobs.specs.CommandLine.{engine_from, engine_named, number_from, number_of, options_from};
 
 use clap::ArgMatches;
 use ops_jobs::{
@@ -21,15 +20,15 @@ fn are_digits(bytes: &[u8]) -> bool
     bytes.iter().all(|byte| byte.is_ascii_digit())
 }
 
-/// The number from 1 to the greatest that the word spells, in one to ten digits.
-fn spelled_number(word: &str, greatest: u64) -> Option<u64>
-    ensures { result ≡ (if is_number greatest word.now then Some (digits_value 10 word.now) else None) }
+/// The number from the least to the greatest that the word spells, in one to ten digits.
+pub fn number_of(word: &str, least: u64, greatest: u64) -> Option<u64>
+    ensures { result ≡ number_of least greatest word.now }
 {
     if word.len() > MOST_DIGITS || !are_digits(word.as_bytes()) {
         return None;
     }
     match word.parse::<u64>() {
-        Ok(number) if 1 <= number && number <= greatest => Some(number),
+        Ok(number) if least <= number && number <= greatest => Some(number),
         Ok(_) => None,
         Err(_) => None,
     }
@@ -41,7 +40,7 @@ fn number_from(word: Option<&str>, usual: u64, greatest: u64) -> Option<u64>
 {
     match word {
         None => Some(usual),
-        Some(word) => spelled_number(word, greatest),
+        Some(word) => number_of(word, 1, greatest),
     }
 }
 
@@ -51,6 +50,7 @@ fn engine_named(word: &str) -> Option<Engine>
     match word {
         "direct" => Some(Engine::Direct),
         "serial" => Some(Engine::Serial),
+        "rounds" => Some(Engine::Rounds),
         _ => None,
     }
 }

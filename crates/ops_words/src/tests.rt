@@ -30,7 +30,7 @@ const SERIAL: Options = Options {
 };
 
 /// Words that fit, with the options that they set, and with their files.
-const FIT: [(&[&str], Options, &[&str]); 12] = [
+const FIT: [(&[&str], Options, &[&str]); 13] = [
     (&["f"], USUAL, &["f"]),
     (
         &["--limit=3", "a", "b"],
@@ -82,6 +82,15 @@ const FIT: [(&[&str], Options, &[&str]); 12] = [
         &["f"],
     ),
     (&["--match=serial", "--", "serial"], SERIAL, &["serial"]),
+    (
+        &["--match=rounds", "f", "--workers=2"],
+        Options {
+            engine: Engine::Rounds,
+            workers: 2,
+            ..USUAL
+        },
+        &["f"],
+    ),
 ];
 
 /// Words that ask for the network, with their files.
@@ -91,13 +100,38 @@ const NETWORKS: [(&[&str], &[&str]); 3] = [
     (&["--net", "--", "--net"], &["--net"]),
 ];
 
+/// Words that ask for a workload, with the options, the seed and the size that they set.
+const WORKLOADS: [(&[&str], Options, u64, u64); 4] = [
+    (&["--gen", "7", "1"], USUAL, 7, 1),
+    (
+        &["--gen", "--limit", "3", "--", "0", "100000"],
+        Options { limit: 3, ..USUAL },
+        0,
+        100_000,
+    ),
+    (
+        &["1000000", "--match=serial", "0000000020", "--gen"],
+        SERIAL,
+        1_000_000,
+        20,
+    ),
+    (
+        &["7", "--gen", "2", "--match", "rounds"],
+        Options {
+            engine: Engine::Rounds,
+            ..USUAL
+        },
+        7,
+        2,
+    ),
+];
+
 /// Words that do not fit.
-const UNFIT: [&[&str]; 31] = [
+const UNFIT: [&[&str]; 42] = [
     &[],
     &["--"],
     &["--limit=3"],
     &["--match=free", "f"],
-    &["--match=rounds", "f"],
     &["--match", "Serial", "f"],
     &["--match=", "f"],
     &["--match", "--workers", "7", "f"],
@@ -118,7 +152,19 @@ const UNFIT: [&[&str]; 31] = [
     &["-x", "f"],
     &["-é", "f"],
     &["--help"],
-    &["--gen", "1", "2"],
+    &["--gen"],
+    &["--gen", "7"],
+    &["--gen", "7", "1", "2"],
+    &["--gen", "7", "0"],
+    &["--gen", "1000001", "1"],
+    &["--gen", "7", "100001"],
+    &["--gen", "00000000007", "1"],
+    &["--gen", "7", "f"],
+    &["--gen", "7", "+1"],
+    &["--gen", "--net", "7", "1"],
+    &["--gen=1", "7", "1"],
+    &["--gen", "--gen", "7", "1"],
+    &["--gen", "--limit=0", "7", "1"],
     &["--net"],
     &["--net=1", "f"],
     &["--net", "--net", "f"],
@@ -130,7 +176,7 @@ const UNFIT: [&[&str]; 31] = [
 fn words_that_fit(rt: HostRuntime) -> Result<(), Fail> {
     for (words, wanted, names) in FIT {
         let Job::Run { options, files } = read(rt.alloc(), words)? else {
-            panic!(rt; "a network");
+            panic!(rt; "no files to run");
         };
         assert_eq!(rt; options, wanted);
         assert_eq!(rt; files.len(), names.len());
@@ -151,6 +197,24 @@ fn networks(rt: HostRuntime) -> Result<(), Fail> {
         for (file, name) in files.as_slice().iter().zip(names) {
             assert_eq!(rt; file.as_str(), *name);
         }
+    }
+    Ok(())
+}
+
+#[test]
+fn workloads(rt: HostRuntime) -> Result<(), Fail> {
+    for (words, wanted, from, items) in WORKLOADS {
+        let Job::Gen {
+            options,
+            seed,
+            size,
+        } = read(rt.alloc(), words)?
+        else {
+            panic!(rt; "no workload");
+        };
+        assert_eq!(rt; options, wanted);
+        assert_eq!(rt; seed, from);
+        assert_eq!(rt; size, items);
     }
     Ok(())
 }

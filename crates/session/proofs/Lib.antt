@@ -1,5 +1,6 @@
 pub mod Comings
 pub mod Seen
+pub mod Flushes
 pub mod Turns
 pub mod Lines
 pub mod Told
@@ -14,4 +15,5 @@ pub mod Phases
 pub mod Deeds
 pub mod Runs
 pub mod Sequence
+pub mod Early
 pub mod SessionEnds

@@ -1,5 +1,5 @@
 -- How what the commands of a session leave ends it.
-use Rattle.std.proofs.Common.{◌≡◌, ◌∙◌, ap, sym, subst, refl, ℕ, [], length, true, Result, Ok, Err, IfOk}
+use Rattle.std.proofs.Common.{◌≡◌, ◌∙◌, ap, sym, subst, refl, ℕ, [], length, true, Result, Ok, Err, IfOk, OnOk}
 use Rattle.ops_base.specs.Names.{Spellings}
 use Rattle.ops_base.specs.declared.endings.Ending.{Ending}
 use Rattle.ops_base.specs.declared.endings.Ending.TheVariants as ending
@@ -12,6 +12,8 @@ use Rattle.work_store.specs.Stored.{Stored}
 use Rattle.session.specs.Courses.{meant_by, ended, ends_unread}
 use Rattle.session.specs.Endings.{Leaves, EndsSession, EndsOn, CountsReadFault}
 use Rattle.session.specs.declared.session.Session.{Session}
+use Rattle.session.proofs.Comings.{some_failing}
+use Rattle.session.proofs.Early.{EndsEarly}
 use Rattle.session.proofs.UnderWay.{nothing_waits}
 
 module _ {M : Type 0} (H : Type 0) (stored : M → Stored) where
@@ -62,3 +64,18 @@ module _ {M : Type 0} (H : Type 0) (stored : M → Stored) where
   ended_unread (Err (ending.Act f r n k)) e = cc
   ended_unread (Err (ending.Limit f)) e = cc
   ended_unread (Err ending.ReadFault) e = refl
+
+  -- it is told as done only where its commands came to their end
+  pub ended_done : (new : Spellings) (r : Result (Session M H) Ending) (i j : Inlet) (a b : Port) (e : Coming → Effect Ending Meant) (P : Type 0) (f n t : ℕ) → ((z : Coming) → EndsEarly (e z).outcome)
+      → PerformsOn (λ s z. meant_by stored s new z) of_ending r i j a b e → OnOk r P → told r ≡ Ok (ending.Done f n t) → P
+  ended_done new (Ok s) i j a b e P f n t early p h is = h
+  ended_done new (Err ending.WriteFault) i j a b e P f n t early p h is = absurd (let no = is in cc)
+  ended_done new (Err ending.OutOfMemory) i j a b e P f n t early p h is = absurd (let no = is in cc)
+  ended_done new (Err (ending.Done g m u)) i j a b e P f n t early p h is =
+      let z = some_failing i j in
+      let k = preceded_by p.taken z.0 in
+      let Q : Result Meant Ending → Type 0 = EndsEarly in
+      absurd (subst Q (p.performs z.0 z.1).0 (early k))
+  ended_done new (Err (ending.Act g r m u)) i j a b e P f n t early p h is = absurd (let no = is in cc)
+  ended_done new (Err (ending.Limit g)) i j a b e P f n t early p h is = absurd (let no = is in cc)
+  ended_done new (Err ending.ReadFault) i j a b e P f n t early p h is = absurd (let no = is in cc)

@@ -10,6 +10,7 @@ ghost use Rattle.ops_io.specs.Ports.{port};
 ghost use Rattle.ops_meaning.specs.Acting.{has_tag};
 ghost use Rattle.ops_meaning.specs.Running.{element_made, phase_by, phase_done, removals, with_course};
 ghost use Rattle.act_phase.specs.Outcomes.{setting_of};
+ghost use Rattle.cycle.specs.Settles.{Settles};
 ghost use Rattle.session.specs.Courses.{IsUnderWay, meant_by};
 ghost use Rattle.session.specs.Deeds.{Does};
 ghost use Rattle.session.specs.Telling.{AreToldBy};
@@ -27,7 +28,7 @@ use ops_base::symbols::Names;
 use ops_io::{Out, Sink};
 use std::alloc::Global;
 use std::collections::BTreeSet;
-use work_store::{Matcher, Store};
+use work_store::{Matcher, Settled, Store};
 
 /// No tag is above this one. A session is over long before.
 const LAST_TAG: u64 = 1 << 63;
@@ -44,13 +45,14 @@ fn next_tag(last: u64) -> Result<u64, OutOfMemory>
 }
 
 /// Does changes in their order, which is one phase.
-fn change<M: Matcher>(
+fn change<M: Matcher, H: Fn(M, &[Change]) -> Result<Settled<M>, OutOfMemory>>(
     alloc: Global,
-    hand: &mut M::Hand,
+    hand: &H,
     program: &Program,
     session: Session<M>,
     changes: &[Change],
 ) -> Result<Session<M>, OutOfMemory>
+    requires settles { Settles M.stored M.found M.stands_for (λ m cs. H.pre hand.now m cs) (λ m cs r. H.post hand.now m cs r) }
     requires under_way { IsUnderWay M.stored M.stands_for program.now.rules session }
     requires settled { session.pending ≡ [] }
     requires lawful { Lawful (M.stored session.state.matcher).elements (M.stored session.state.matcher).last changes.now }
@@ -59,7 +61,7 @@ fn change<M: Matcher>(
         (phase_by (conflict_set program.now.rules) changes.now k.course.firings (last_after k.course.last changes.now) k.course))) }
     ensures under_way { IfOk result (IsUnderWay M.stored M.stands_for program.now.rules) }
 {
-    let state = session.state.change(alloc, hand, program, changes)?;
+    let state = session.state.change(hand, program, changes)?;
     let last_tag = state.last_tag();
     Ok(Session {
         state,
@@ -69,9 +71,9 @@ fn change<M: Matcher>(
 }
 
 /// One phase, whose changes are told first.
-fn phase<M: Matcher, K: Sink>(
+fn phase<M: Matcher, H: Fn(M, &[Change]) -> Result<Settled<M>, OutOfMemory>, K: Sink>(
     alloc: Global,
-    hand: &mut M::Hand,
+    hand: &H,
     program: &Program,
     names: &Names,
     session: Session<M>,
@@ -79,6 +81,7 @@ fn phase<M: Matcher, K: Sink>(
     out: &mut Out,
     sink: &mut K,
 ) -> Result<Session<M>, Ending>
+    requires settles { Settles M.stored M.found M.stands_for (λ m cs. H.pre hand.now m cs) (λ m cs r. H.post hand.now m cs r) }
     requires under_way { IsUnderWay M.stored M.stands_for program.now.rules session }
     requires settled { session.pending ≡ [] }
     requires lawful { Lawful (M.stored session.state.matcher).elements (M.stored session.state.matcher).last changes.now }
@@ -113,9 +116,9 @@ fn with_waiting<M: Matcher>(session: Session<M>, made: Element) -> Result<Sessio
 }
 
 /// Makes an element, which is one phase. Where no run was begun it waits, but is told at once.
-fn make_one<M: Matcher, K: Sink>(
+fn make_one<M: Matcher, H: Fn(M, &[Change]) -> Result<Settled<M>, OutOfMemory>, K: Sink>(
     alloc: Global,
-    hand: &mut M::Hand,
+    hand: &H,
     program: &Program,
     names: &Names,
     session: Session<M>,
@@ -124,6 +127,7 @@ fn make_one<M: Matcher, K: Sink>(
     out: &mut Out,
     sink: &mut K,
 ) -> Result<Session<M>, Ending>
+    requires settles { Settles M.stored M.found M.stands_for (λ m cs. H.pre hand.now m cs) (λ m cs r. H.post hand.now m cs r) }
     requires under_way { IsUnderWay M.stored M.stands_for program.now.rules session }
     requires whole { IsTrue out.old.whole }
     requires faults { K.faults sink.old < 2 ^ 63 }
@@ -145,9 +149,9 @@ fn make_one<M: Matcher, K: Sink>(
 
 /// The command `make`, which is one phase. Where no run was begun it waits, but is told at once; and once many wait,
 /// their phases are made before it.
-pub(crate) fn make_at_top<M: Matcher, K: Sink>(
+pub(crate) fn make_at_top<M: Matcher, H: Fn(M, &[Change]) -> Result<Settled<M>, OutOfMemory>, K: Sink>(
     alloc: Global,
-    hand: &mut M::Hand,
+    hand: &H,
     program: &Program,
     names: &Names,
     session: Session<M>,
@@ -156,6 +160,7 @@ pub(crate) fn make_at_top<M: Matcher, K: Sink>(
     out: &mut Out,
     sink: &mut K,
 ) -> Result<Session<M>, Ending>
+    requires settles { Settles M.stored M.found M.stands_for (λ m cs. H.pre hand.now m cs) (λ m cs r. H.post hand.now m cs r) }
     requires under_way { IsUnderWay M.stored M.stands_for program.now.rules session }
     requires whole { IsTrue out.old.whole }
     requires faults { K.faults sink.old < 2 ^ 63 }
@@ -216,9 +221,9 @@ fn all_removals(alloc: Global, store: &Store) -> Result<Listed<Change>, OutOfMem
 }
 
 /// The command `remove` with tags: removes their elements, which is one phase.
-pub(crate) fn remove<M: Matcher, K: Sink>(
+pub(crate) fn remove<M: Matcher, H: Fn(M, &[Change]) -> Result<Settled<M>, OutOfMemory>, K: Sink>(
     alloc: Global,
-    hand: &mut M::Hand,
+    hand: &H,
     program: &Program,
     names: &Names,
     session: Session<M>,
@@ -226,6 +231,7 @@ pub(crate) fn remove<M: Matcher, K: Sink>(
     out: &mut Out,
     sink: &mut K,
 ) -> Result<Session<M>, Ending>
+    requires settles { Settles M.stored M.found M.stands_for (λ m cs. H.pre hand.now m cs) (λ m cs r. H.post hand.now m cs r) }
     requires under_way { IsUnderWay M.stored M.stands_for program.now.rules session }
     requires whole { IsTrue out.old.whole }
     requires faults { K.faults sink.old < 2 ^ 63 }
@@ -249,15 +255,16 @@ pub(crate) fn remove<M: Matcher, K: Sink>(
 }
 
 /// The command `remove *`: removes all elements, which is one phase.
-pub(crate) fn remove_all<M: Matcher, K: Sink>(
+pub(crate) fn remove_all<M: Matcher, H: Fn(M, &[Change]) -> Result<Settled<M>, OutOfMemory>, K: Sink>(
     alloc: Global,
-    hand: &mut M::Hand,
+    hand: &H,
     program: &Program,
     names: &Names,
     session: Session<M>,
     out: &mut Out,
     sink: &mut K,
 ) -> Result<Session<M>, Ending>
+    requires settles { Settles M.stored M.found M.stands_for (λ m cs. H.pre hand.now m cs) (λ m cs r. H.post hand.now m cs r) }
     requires under_way { IsUnderWay M.stored M.stands_for program.now.rules session }
     requires whole { IsTrue out.old.whole }
     requires faults { K.faults sink.old < 2 ^ 63 }

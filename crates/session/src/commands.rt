@@ -1,5 +1,5 @@
 //! The commands of a program, in the order of the text.
-ghost use Rattle.std.specs.Prelude.{◌≡◌, ◌^◌, ◌<◌, ◌-◌, [], None, true, IsTrue, IfOk};
+ghost use Rattle.std.specs.Prelude.{◌≡◌, ◌^◌, ◌<◌, ◌-◌, [], None, true, IsTrue, IfOk, OnOk};
 ghost use Rattle.ops_io.specs.Coming.{inlet};
 ghost use Rattle.ops_io.specs.Ports.{port};
 ghost use Rattle.ops_meaning.specs.Effects.{PerformsOn, CountsReads, of_ending};
@@ -7,6 +7,7 @@ ghost use Rattle.ops_meaning.specs.Kept.{KeepsNames, WellKept};
 ghost use Rattle.ops_meaning.specs.Running.{command_done, commands_done, is_exit, run_given, session_of};
 ghost use Rattle.ops_base.specs.ConflictSet.{conflict_set};
 ghost use Rattle.act_phase.specs.Outcomes.{setting_of};
+ghost use Rattle.cycle.specs.Settles.{Settles};
 ghost use Rattle.session.specs.Courses.{IsUnderWay, meant_by, ends_unread};
 
 use crate::changing::{make_at_top, remove, remove_all};
@@ -16,17 +17,19 @@ use crate::running::run;
 use crate::session::{Session, settle, started};
 use crate::setting::{give_level, give_strategy};
 use ops_base::commands::Command;
+use ops_base::elements::Change;
 use ops_base::endings::Ending;
+use ops_base::memory::OutOfMemory;
 use ops_base::programs::Program;
 use ops_base::symbols::Names;
 use ops_io::{Input, Out, Sink, Source};
 use std::alloc::Global;
-use work_store::Matcher;
+use work_store::{Matcher, Settled};
 
 /// The command `run`, for which nothing waits any longer.
-fn run_from<M: Matcher, I: Source, K: Sink>(
+fn run_from<M: Matcher, H: Fn(M, &[Change]) -> Result<Settled<M>, OutOfMemory>, I: Source, K: Sink>(
     alloc: Global,
-    hand: &mut M::Hand,
+    hand: &H,
     program: &Program,
     names: &mut Names,
     session: Session<M>,
@@ -37,6 +40,7 @@ fn run_from<M: Matcher, I: Source, K: Sink>(
     out: &mut Out,
     sink: &mut K,
 ) -> Result<Session<M>, Ending>
+    requires settles { Settles M.stored M.found M.stands_for (λ m cs. H.pre hand.now m cs) (λ m cs r. H.post hand.now m cs r) }
     requires under_way { IsUnderWay M.stored M.stands_for program.now.rules session }
     requires whole { IsTrue out.old.whole }
     requires faults { K.faults sink.old < 2 ^ 63 }
@@ -79,9 +83,9 @@ fn run_from<M: Matcher, I: Source, K: Sink>(
 }
 
 /// Does one command.
-fn do_command<M: Matcher, I: Source, K: Sink>(
+fn do_command<M: Matcher, H: Fn(M, &[Change]) -> Result<Settled<M>, OutOfMemory>, I: Source, K: Sink>(
     alloc: Global,
-    hand: &mut M::Hand,
+    hand: &H,
     program: &Program,
     names: &mut Names,
     session: Session<M>,
@@ -92,6 +96,7 @@ fn do_command<M: Matcher, I: Source, K: Sink>(
     out: &mut Out,
     sink: &mut K,
 ) -> Result<Session<M>, Ending>
+    requires settles { Settles M.stored M.found M.stands_for (λ m cs. H.pre hand.now m cs) (λ m cs r. H.post hand.now m cs r) }
     requires under_way { IsUnderWay M.stored M.stands_for program.now.rules session }
     requires whole { IsTrue out.old.whole }
     requires faults { K.faults sink.old < 2 ^ 63 }
@@ -149,10 +154,11 @@ fn is_exit(command: &Command) -> bool
     }
 }
 
-/// Does the commands of a program in order, up to the first `exit`.
-fn do_each<M: Matcher, I: Source, K: Sink>(
+/// Does the commands of a program in order, up to the first `exit`. After each of them what was put is written out: one
+/// call of the sink or more, and none where the command put nothing.
+fn do_each<M: Matcher, H: Fn(M, &[Change]) -> Result<Settled<M>, OutOfMemory>, I: Source, K: Sink>(
     alloc: Global,
-    hand: &mut M::Hand,
+    hand: &H,
     program: &Program,
     names: &mut Names,
     session: Session<M>,
@@ -162,6 +168,7 @@ fn do_each<M: Matcher, I: Source, K: Sink>(
     out: &mut Out,
     sink: &mut K,
 ) -> Result<Session<M>, Ending>
+    requires settles { Settles M.stored M.found M.stands_for (λ m cs. H.pre hand.now m cs) (λ m cs r. H.post hand.now m cs r) }
     requires under_way { IsUnderWay M.stored M.stands_for program.now.rules session }
     requires whole { IsTrue out.old.whole }
     requires faults { K.faults sink.old < 2 ^ 63 }
@@ -177,6 +184,7 @@ fn do_each<M: Matcher, I: Source, K: Sink>(
     ensures written { ends_unread result ≡ true → out.new.held ≡ [] }
     ensures names { KeepsNames names.old names.new }
     ensures under_way { IfOk result (IsUnderWay M.stored M.stands_for program.now.rules) }
+    ensures flushed { out.old.held ≡ [] → OnOk result (out.new.held ≡ []) }
 {
     let mut session = session;
     for command in program.commands.as_slice() {
@@ -186,14 +194,15 @@ fn do_each<M: Matcher, I: Source, K: Sink>(
         session = do_command(
             alloc, hand, program, names, session, limit, command, input, source, out, sink,
         )?;
+        out.flush(sink)?;
     }
     Ok(session)
 }
 
 /// Does the commands of a program from nothing. Working memory is left in the order of its tags, and nothing waits.
-pub(crate) fn do_commands<M: Matcher, I: Source, K: Sink>(
+pub(crate) fn do_commands<M: Matcher, H: Fn(M, &[Change]) -> Result<Settled<M>, OutOfMemory>, I: Source, K: Sink>(
     alloc: Global,
-    hand: &mut M::Hand,
+    hand: &H,
     program: &Program,
     names: &mut Names,
     matcher: M,
@@ -203,6 +212,7 @@ pub(crate) fn do_commands<M: Matcher, I: Source, K: Sink>(
     out: &mut Out,
     sink: &mut K,
 ) -> Result<Session<M>, Ending>
+    requires settles { Settles M.stored M.found M.stands_for (λ m cs. H.pre hand.now m cs) (λ m cs r. H.post hand.now m cs r) }
     requires stands { M.stands_for matcher program.now.rules }
     requires elements { (M.stored matcher).elements ≡ [] }
     requires last { (M.stored matcher).last ≡ 0 }
@@ -221,6 +231,7 @@ pub(crate) fn do_commands<M: Matcher, I: Source, K: Sink>(
     ensures names { KeepsNames names.old names.new }
     ensures none_waits { IfOk result (λ s. s.pending ≡ []) }
     ensures kept { IfOk result (λ s. WellKept (M.stored s.state.matcher).elements (M.stored s.state.matcher).last) }
+    ensures flushed { out.old.held ≡ [] → OnOk result (out.new.held ≡ []) }
 {
     let session = started(alloc, program, matcher)?;
     let session = do_each(

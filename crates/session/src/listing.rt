@@ -9,22 +9,24 @@ ghost use Rattle.ops_meaning.specs.Layout.{inst_text, lines_at};
 ghost use Rattle.ops_meaning.specs.Running.{Session as Meant, element_lines, elements_listed, has_values, lists, meets, standing_by};
 ghost use Rattle.ops_base.specs.ConflictSet.{conflict_set};
 ghost use Rattle.conflict_index.specs.Indexed.{KeepsSpecificities};
+ghost use Rattle.cycle.specs.Settles.{Settles};
 ghost use Rattle.session.specs.Courses.{IsUnderWay, ends_unread, standing_in};
 ghost use Rattle.session.specs.Deeds.{Does};
 
 use crate::session::{Session, settle};
 use conflict_index::Index;
 use ops_base::commands::Fixed;
-use ops_base::elements::Element;
+use ops_base::elements::{Change, Element};
 use ops_base::endings::Ending;
 use ops_base::list::Listed;
+use ops_base::memory::OutOfMemory;
 use ops_base::programs::Program;
 use ops_base::symbols::Names;
 use ops_base::values::{NOTHING, Value};
 use ops_io::{Out, Sink, WriteFailed};
 use ops_print::{put_element_line, put_inst_line};
 use std::alloc::Global;
-use work_store::{Matcher, Store};
+use work_store::{Matcher, Settled, Store};
 
 /// Puts the lines of all elements, by rising tag. Takes no memory.
 fn put_all<K: Sink>(
@@ -92,9 +94,9 @@ fn put_elements<K: Sink>(
 }
 
 /// The command `wm`: lists the elements of these tags, or all where no tag is given.
-pub(crate) fn list_elements<M: Matcher, K: Sink>(
+pub(crate) fn list_elements<M: Matcher, H: Fn(M, &[Change]) -> Result<Settled<M>, OutOfMemory>, K: Sink>(
     alloc: Global,
-    hand: &mut M::Hand,
+    hand: &H,
     program: &Program,
     names: &Names,
     session: Session<M>,
@@ -102,6 +104,7 @@ pub(crate) fn list_elements<M: Matcher, K: Sink>(
     out: &mut Out,
     sink: &mut K,
 ) -> Result<Session<M>, Ending>
+    requires settles { Settles M.stored M.found M.stands_for (λ m cs. H.pre hand.now m cs) (λ m cs r. H.post hand.now m cs r) }
     requires under_way { IsUnderWay M.stored M.stands_for program.now.rules session }
     requires whole { IsTrue out.old.whole }
     requires faults { K.faults sink.old < 2 ^ 63 }
@@ -212,9 +215,9 @@ fn put_met<K: Sink>(
 }
 
 /// The command `ppwm`: lists the elements that meet a pattern.
-pub(crate) fn list_met<M: Matcher, K: Sink>(
+pub(crate) fn list_met<M: Matcher, H: Fn(M, &[Change]) -> Result<Settled<M>, OutOfMemory>, K: Sink>(
     alloc: Global,
-    hand: &mut M::Hand,
+    hand: &H,
     program: &Program,
     names: &Names,
     session: Session<M>,
@@ -222,6 +225,7 @@ pub(crate) fn list_met<M: Matcher, K: Sink>(
     out: &mut Out,
     sink: &mut K,
 ) -> Result<Session<M>, Ending>
+    requires settles { Settles M.stored M.found M.stands_for (λ m cs. H.pre hand.now m cs) (λ m cs r. H.post hand.now m cs r) }
     requires under_way { IsUnderWay M.stored M.stands_for program.now.rules session }
     requires whole { IsTrue out.old.whole }
     requires faults { K.faults sink.old < 2 ^ 63 }
@@ -259,15 +263,16 @@ fn put_standing<K: Sink>(
 }
 
 /// The command `cs`: lists the instantiations that have not fired, the dominant one first.
-pub(crate) fn list_standing<M: Matcher, K: Sink>(
+pub(crate) fn list_standing<M: Matcher, H: Fn(M, &[Change]) -> Result<Settled<M>, OutOfMemory>, K: Sink>(
     alloc: Global,
-    hand: &mut M::Hand,
+    hand: &H,
     program: &Program,
     names: &Names,
     session: Session<M>,
     out: &mut Out,
     sink: &mut K,
 ) -> Result<Session<M>, Ending>
+    requires settles { Settles M.stored M.found M.stands_for (λ m cs. H.pre hand.now m cs) (λ m cs r. H.post hand.now m cs r) }
     requires under_way { IsUnderWay M.stored M.stands_for program.now.rules session }
     requires whole { IsTrue out.old.whole }
     requires faults { K.faults sink.old < 2 ^ 63 }

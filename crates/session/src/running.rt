@@ -1,28 +1,31 @@
 //! A run: one firing after another, until it ends.
-ghost use Rattle.std.specs.Prelude.{◌≡◌, ◌^◌, ◌<◌, ◌-◌, [], true, IsTrue, IfOk, Some, None, option_map};
+ghost use Rattle.std.specs.Prelude.{◌≡◌, ◌^◌, ◌<◌, ◌-◌, [], ◌⊎◌, true, IsTrue, IsOk, IfOk, Some, None, option_map};
 ghost use Rattle.ops_base.specs.Names.{Spellings};
 ghost use Rattle.ops_base.specs.declared.rules.Inst.{Inst};
 ghost use Rattle.ops_io.specs.Coming.{inlet};
-ghost use Rattle.ops_io.specs.Ports.{port, PutsBytes};
+ghost use Rattle.ops_io.specs.Ports.{port, FlushesAll, PutsBytes};
 ghost use Rattle.ops_meaning.specs.Effects.{PerformsOn, CountsReads, failure_as, of_ending};
 ghost use Rattle.ops_meaning.specs.Kept.{KeepsNames};
 ghost use Rattle.ops_meaning.specs.Layout.{line_at};
 ghost use Rattle.ops_meaning.specs.Running.{ended_in, firing, has_break, line_of_count, line_of_pause, next_to_fire, one_less, run_on};
 ghost use Rattle.act_phase.specs.Outcomes.{failure_of, setting_of};
+ghost use Rattle.cycle.specs.Settles.{Settles};
 ghost use Rattle.cycle.specs.States.{alone, state_course};
 ghost use Rattle.session.specs.Courses.{IsOf, ends_unread};
 ghost use Rattle.session.specs.Pauses.{meant_last, pause_line};
 
 use act_phase::ActFault;
 use cycle::State;
+use ops_base::elements::Change;
 use ops_base::endings::Ending;
+use ops_base::memory::OutOfMemory;
 use ops_base::programs::Program;
 use ops_base::symbols::Names;
 use ops_base::values::Sym;
 use ops_io::{Input, Out, Sink, Source, WriteFailed};
 use ops_print::{put_line, put_name_line, rule_name};
 use std::alloc::Global;
-use work_store::Matcher;
+use work_store::{Matcher, Settled};
 
 /// No tag and no number of a firing reaches this. A session is over long before.
 const UNREACHED: u64 = 1 << 63;
@@ -45,9 +48,9 @@ fn ended_in(firing: u64, rule: usize, fault: ActFault) -> Ending
 }
 
 /// The firing of the dominant instantiation, which is of this production.
-fn fire<M: Matcher, I: Source, K: Sink>(
+fn fire<M: Matcher, H: Fn(M, &[Change]) -> Result<Settled<M>, OutOfMemory>, I: Source, K: Sink>(
     alloc: Global,
-    hand: &mut M::Hand,
+    hand: &H,
     program: &Program,
     names: &mut Names,
     state: State<M>,
@@ -58,6 +61,7 @@ fn fire<M: Matcher, I: Source, K: Sink>(
     out: &mut Out,
     sink: &mut K,
 ) -> Result<(State<M>, bool), Ending>
+    requires settles { Settles M.stored M.found M.stands_for (λ m cs. H.pre hand.now m cs) (λ m cs r. H.post hand.now m cs r) }
     requires whole { IsTrue out.old.whole }
     requires faults { K.faults sink.old < 2 ^ 63 }
     requires reads { I.faults source.old < 2 ^ 63 }
@@ -170,13 +174,28 @@ fn one_less(count: Option<u64>) -> Option<u64>
     Some(count?.saturating_sub(1))
 }
 
+/// Writes out what was put, where someone reads along. Where nothing is held, no call of the sink is made.
+fn show<K: Sink>(out: &mut Out, sink: &mut K) -> Result<(), WriteFailed>
+    requires whole { IsTrue out.old.whole }
+    requires faults { K.faults sink.old < 2 ^ 63 }
+    ensures shows { FlushesAll result (port (K.taken sink.old) (K.faults sink.old) out.old)
+        (port (K.taken sink.new) (K.faults sink.new) out.new)
+        ⊎ (IsOk result × (out.new ≡ out.old) × (sink.new ≡ sink.old)) }
+    ensures unwritten { out.old.held ≡ [] → (sink.new ≡ sink.old) × IsOk result }
+{
+    if sink.is_read_along() {
+        return out.flush(sink);
+    }
+    Ok(())
+}
+
 /// What the command `run` does: a run of at most `count` firings, if it has a number, until it ends or the session has
 /// made the last of its `limit` firings. It ends after a firing that did `halt`, after one whose production has a
 /// break, where it has made its number of firings, and where nothing is left to fire: these are looked at in this
-/// order, and the limit after them.
-pub(crate) fn run<M: Matcher, I: Source, K: Sink>(
+/// order, and the limit after them. Where someone reads along, what a firing put is written out after it.
+pub(crate) fn run<M: Matcher, H: Fn(M, &[Change]) -> Result<Settled<M>, OutOfMemory>, I: Source, K: Sink>(
     alloc: Global,
-    hand: &mut M::Hand,
+    hand: &H,
     program: &Program,
     names: &mut Names,
     state: State<M>,
@@ -189,6 +208,7 @@ pub(crate) fn run<M: Matcher, I: Source, K: Sink>(
     out: &mut Out,
     sink: &mut K,
 ) -> Result<State<M>, Ending>
+    requires settles { Settles M.stored M.found M.stands_for (λ m cs. H.pre hand.now m cs) (λ m cs r. H.post hand.now m cs r) }
     requires whole { IsTrue out.old.whole }
     requires faults { K.faults sink.old < 2 ^ 63 }
     requires reads { I.faults source.old < 2 ^ 63 }
@@ -230,6 +250,7 @@ pub(crate) fn run<M: Matcher, I: Source, K: Sink>(
         let (after, halted) = fire(
             alloc, hand, program, names, state, watch, rule, input, source, out, sink,
         )?;
+        show(out, sink)?;
         state = after;
         last = Some(LastFiring { rule, halted });
     }

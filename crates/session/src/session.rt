@@ -3,6 +3,7 @@ ghost use Rattle.std.specs.Prelude.{◌≡◌, [], length, replicate, false, IfO
 ghost use Rattle.ops_base.specs.Names.{Spellings};
 ghost use Rattle.ops_io.specs.Coming.{Coming};
 ghost use Rattle.ops_meaning.specs.Running.{begun};
+ghost use Rattle.cycle.specs.Settles.{Settles};
 ghost use Rattle.session.specs.Courses.{IsUnderWay, meant_by};
 
 use cycle::State;
@@ -11,7 +12,7 @@ use ops_base::list::Listed;
 use ops_base::memory::OutOfMemory;
 use ops_base::programs::Program;
 use std::alloc::Global;
-use work_store::Matcher;
+use work_store::{Matcher, Settled};
 
 /// So many makes that wait are made as one phase, if working memory has no more elements than that. A network engine then
 /// holds the entries of this many changes at once and not those of all. The direct engine matches working memory anew in
@@ -67,13 +68,14 @@ pub(crate) fn started<M: Matcher>(
 }
 
 /// Makes the phases that wait, as one.
-pub(crate) fn settle<M: Matcher>(
+pub(crate) fn settle<M: Matcher, H: Fn(M, &[Change]) -> Result<Settled<M>, OutOfMemory>>(
     alloc: Global,
-    hand: &mut M::Hand,
+    hand: &H,
     program: &Program,
     session: Session<M>,
 ) -> Result<Session<M>, OutOfMemory>
-    requires { IsUnderWay M.stored M.stands_for program.now.rules session }
+    requires settles { Settles M.stored M.found M.stands_for (λ m cs. H.pre hand.now m cs) (λ m cs r. H.post hand.now m cs r) }
+    requires under_way { IsUnderWay M.stored M.stands_for program.now.rules session }
     ensures meant { IfOk result (λ s.
         (n : Spellings) (c : Coming) → meant_by M.stored s n c ≡ meant_by M.stored session n c) }
     ensures under_way { IfOk result (IsUnderWay M.stored M.stands_for program.now.rules) }
@@ -84,7 +86,7 @@ pub(crate) fn settle<M: Matcher>(
     }
     let state = session
         .state
-        .change(alloc, hand, program, session.pending.as_slice())?;
+        .change(hand, program, session.pending.as_slice())?;
     Ok(Session {
         state,
         pending: Listed::new(alloc),
@@ -93,13 +95,14 @@ pub(crate) fn settle<M: Matcher>(
 }
 
 /// Makes the phases that wait, as one, where this many wait that it is time to.
-pub(crate) fn settle_piece<M: Matcher>(
+pub(crate) fn settle_piece<M: Matcher, H: Fn(M, &[Change]) -> Result<Settled<M>, OutOfMemory>>(
     alloc: Global,
-    hand: &mut M::Hand,
+    hand: &H,
     program: &Program,
     session: Session<M>,
 ) -> Result<Session<M>, OutOfMemory>
-    requires { IsUnderWay M.stored M.stands_for program.now.rules session }
+    requires settles { Settles M.stored M.found M.stands_for (λ m cs. H.pre hand.now m cs) (λ m cs r. H.post hand.now m cs r) }
+    requires under_way { IsUnderWay M.stored M.stands_for program.now.rules session }
     ensures meant { IfOk result (λ s.
         (n : Spellings) (c : Coming) → meant_by M.stored s n c ≡ meant_by M.stored session n c) }
     ensures under_way { IfOk result (IsUnderWay M.stored M.stands_for program.now.rules) }

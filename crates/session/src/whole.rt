@@ -1,21 +1,24 @@
 //! A whole session, and what is told of it.
-ghost use Rattle.std.specs.Prelude.{◌≡◌, ◌^◌, ◌<◌, [], Ok, IsTrue};
+ghost use Rattle.std.specs.Prelude.{◌≡◌, ℕ, ◌^◌, ◌<◌, [], Ok, IsTrue};
 ghost use Rattle.ops_io.specs.Coming.{inlet};
 ghost use Rattle.ops_io.specs.Ports.{port};
 ghost use Rattle.ops_meaning.specs.Kept.{KeepsNames, GoesByConflictSets};
 ghost use Rattle.ops_meaning.specs.Running.{session_of};
 ghost use Rattle.act_phase.specs.Outcomes.{setting_of};
+ghost use Rattle.cycle.specs.Settles.{Settles};
 ghost use Rattle.session.specs.Courses.{ended};
 ghost use Rattle.session.specs.Endings.{EndsOn, CountsReadFault};
 
 use crate::commands::do_commands;
 use crate::session::Session;
+use ops_base::elements::Change;
 use ops_base::endings::Ending;
+use ops_base::memory::OutOfMemory;
 use ops_base::programs::Program;
 use ops_base::symbols::Names;
 use ops_io::{Input, Out, Sink, Source, Stop};
 use std::alloc::Global;
-use work_store::Matcher;
+use work_store::{Matcher, Settled};
 
 /// What is told of a session once its commands are done.
 fn ended<M: Matcher>(done: Result<Session<M>, Ending>) -> Result<Ending, Stop>
@@ -35,9 +38,9 @@ fn ended<M: Matcher>(done: Result<Session<M>, Ending>) -> Result<Ending, Stop>
 
 /// Does the commands of a program in order, from nothing. Each symbol keeps its spelling, and wherever the session looks for
 /// instantiations it looks at the conflict set. Where a read fails, all that was put before is written out.
-pub fn run_session<M: Matcher, I: Source, K: Sink>(
+pub fn run_session<M: Matcher, H: Fn(M, &[Change]) -> Result<Settled<M>, OutOfMemory>, I: Source, K: Sink>(
     alloc: Global,
-    hand: &mut M::Hand,
+    hand: &H,
     program: &Program,
     names: &mut Names,
     matcher: M,
@@ -47,6 +50,7 @@ pub fn run_session<M: Matcher, I: Source, K: Sink>(
     out: &mut Out,
     sink: &mut K,
 ) -> Result<Ending, Stop>
+    requires settles { Settles M.stored M.found M.stands_for (λ m cs. H.pre hand.now m cs) (λ m cs r. H.post hand.now m cs r) }
     requires stands { M.stands_for matcher program.now.rules }
     requires elements { (M.stored matcher).elements ≡ [] }
     requires last { (M.stored matcher).last ≡ 0 }
@@ -63,6 +67,8 @@ pub fn run_session<M: Matcher, I: Source, K: Sink>(
         (λ c. session_of (setting_of program.now 0) limit program.now.commands names.old c) }
     ensures reads { CountsReadFault result (I.faults source.old) (I.faults source.new) }
     ensures written { result ≡ Ok Ending.ReadFault → out.new.held ≡ [] }
+    ensures flushed { out.old.held ≡ [] → (firings elements last_tag : ℕ)
+        → result ≡ Ok (Ending.Done firings elements last_tag) → out.new.held ≡ [] }
     ensures names { KeepsNames names.old names.new }
     ensures sets { GoesByConflictSets (setting_of program.now 0) limit program.now.commands names.old }
 {

@@ -13,13 +13,13 @@ use Rattle.ops_top.proofs.answer.answer_over.Goals as goal
 pub returns-in_err-input-clause-delivers : goal.returns-in_err-input-clause-delivers
 returns-in_err-input-clause-delivers g c =
     let p = err_from_is_err_and c.from_residual.result c.from_residual.ensures.1 in
-    let o : Coming → Reply = λ z. told c.args.names.now c.args.program.now.rules (session_of (setting_of c.args.program.now 0) c.args.limit c.args.program.now.commands c.args.names.now z) in
+    let o : Coming → Reply = λ z. told c.args.is_summed c.args.names.now c.args.program.now.rules (session_of (setting_of c.args.program.now 0) c.args.limit c.args.program.now.commands c.args.names.now z) in
     rw (p.1, p.2) (input_untouched _ _ _ (λ z. untold (o z) _ _))
 
 pub returns-in_err-out-clause-delivers : goal.returns-in_err-out-clause-delivers
 returns-in_err-out-clause-delivers g c =
     let p = err_from_is_err_and c.from_residual-in_err-out.result c.from_residual-in_err-out.ensures.1 in
-    let o : Coming → Reply = λ z. told c.args.names.now c.args.program.now.rules (session_of (setting_of c.args.program.now 0) c.args.limit c.args.program.now.commands c.args.names.now z) in
+    let o : Coming → Reply = λ z. told c.args.is_summed c.args.names.now c.args.program.now.rules (session_of (setting_of c.args.program.now 0) c.args.limit c.args.program.now.commands c.args.names.now z) in
     rw (p.1, p.2) (input_untouched _ _ _ (λ z. untold (o z) _ _))
 
 pub returns-in_err-ending-clause-delivers : goal.returns-in_err-ending-clause-delivers

@@ -10,17 +10,17 @@ use Rattle.ops_top.proofs.answer.answer_program.Goals as goal
 pub returns-in_err-direct-in-Direct-clause-delivers : goal.returns-in_err-direct-in-Direct-clause-delivers
 returns-in_err-direct-in-Direct-clause-delivers g c =
     let p = err_from_is_err_and c.from_residual.result c.from_residual.ensures.1 in
-    let o : Coming → Reply = λ z. told c.args.names.now c.args.program.now.rules (session_of (setting_of c.args.program.now 0) c.args.options.now.limit c.args.program.now.commands c.args.names.now z) in
+    let o : Coming → Reply = λ z. told c.args.is_summed c.args.names.now c.args.program.now.rules (session_of (setting_of c.args.program.now 0) c.args.options.now.limit c.args.program.now.commands c.args.names.now z) in
     rw (p.1, p.2) (input_untouched _ _ _ (λ z. untold (o z) _ _))
 
 pub returns-in_err-net-in-Serial-clause-delivers : goal.returns-in_err-net-in-Serial-clause-delivers
 returns-in_err-net-in-Serial-clause-delivers g c =
     let p = err_from_is_err_and c.from_residual-in_err-net-in-Serial.result c.from_residual-in_err-net-in-Serial.ensures.1 in
-    let o : Coming → Reply = λ z. told c.args.names.now c.args.program.now.rules (session_of (setting_of c.args.program.now 0) c.args.options.now.limit c.args.program.now.commands c.args.names.now z) in
+    let o : Coming → Reply = λ z. told c.args.is_summed c.args.names.now c.args.program.now.rules (session_of (setting_of c.args.program.now 0) c.args.options.now.limit c.args.program.now.commands c.args.names.now z) in
     rw (p.1, p.2) (input_untouched _ _ _ (λ z. untold (o z) _ _))
 
 pub returns-in_err-serial-in-Serial-clause-delivers : goal.returns-in_err-serial-in-Serial-clause-delivers
 returns-in_err-serial-in-Serial-clause-delivers g c =
     let p = err_from_is_err_and c.from_residual-in_err-serial-in-Serial.result c.from_residual-in_err-serial-in-Serial.ensures.1 in
-    let o : Coming → Reply = λ z. told c.args.names.now c.args.program.now.rules (session_of (setting_of c.args.program.now 0) c.args.options.now.limit c.args.program.now.commands c.args.names.now z) in
+    let o : Coming → Reply = λ z. told c.args.is_summed c.args.names.now c.args.program.now.rules (session_of (setting_of c.args.program.now 0) c.args.options.now.limit c.args.program.now.commands c.args.names.now z) in
     rw (p.1, p.2) (input_untouched _ _ _ (λ z. untold (o z) _ _))

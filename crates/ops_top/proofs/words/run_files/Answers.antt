@@ -1,7 +1,6 @@
 use Rattle.std.proofs.Common.{ℕ, List, nat_lt, Err, subst}
 use Rattle.ops_io.specs.Coming.{Coming}
 use Rattle.ops_io.specs.declared.stop.Stop.TheVariants as stop
-use Rattle.ops_jobs.specs.Words.{word_bytes}
 use Rattle.ops_top.specs.Whole.{Reply, Joined, Unread, Overlong, files_in, unread}
 use Rattle.ops_top.specs.Calls.{OfInput}
 use Rattle.ops_top.specs.Told.{Delivers}
@@ -13,20 +12,20 @@ pub returns-in-Ok-clause-delivers : goal.returns-in-Ok-clause-delivers
 returns-in-Ok-clause-delivers g c =
     let I : (Coming → Type 0) → Type 0 = OfInput (g.I.Source.left c.args.input.now) (g.I.Source.left c.answer_text.new.input) (nat_lt (g.I.Source.faults c.args.input.now) (g.I.Source.faults c.answer_text.new.input)) in
     let D : Reply → Type 0 = λ o. Delivers c.answer_text.result o (g.K.Sink.taken c.args.sink.now) (g.K.Sink.faults c.args.sink.now) (g.K.Sink.taken c.answer_text.new.sink) (g.K.Sink.faults c.answer_text.new.sink) in
-    gathered_deliver I D c.args.job.now (g.H.Shelf.told c.args.shelf.now) (word_bytes c.files_in.result.now) _ _ (Joined c.in-Ok.text.items) c.files_in.ensures c.in-Ok.ensures.text c.answer_text.ensures.delivers
+    gathered_deliver I D c.args.job.now (g.H.Shelf.told c.args.shelf.now) (files_in c.args.job.now) _ (Joined c.in-Ok.text.items) c.in-Ok.ensures.text c.answer_text.ensures.delivers
 
 pub returns-in-Err-Unread-clause-delivers : goal.returns-in-Err-Unread-clause-delivers
 returns-in-Err-Unread-clause-delivers g c =
     let D : Reply → Type 0 = λ o. Delivers c.say_unread.result o (g.K.Sink.taken c.args.sink.now) (g.K.Sink.faults c.args.sink.now) (g.K.Sink.taken c.say_unread.new.sink) (g.K.Sink.faults c.say_unread.new.sink) in
     let U : List ℕ → Type 0 = λ name. D (unread name) in
     let comes = rw c.in-Err-Unread.field-0-is at c.in-Err-Unread.ensures.fault in
-    said_deliver _ _ D c.args.job.now (g.H.Shelf.told c.args.shelf.now) (word_bytes c.files_in.result.now) _ _ (Unread c.in-Err-Unread.name.now) c.files_in.ensures comes (λ z. subst U c.as_bytes.ensures.value c.say_unread.ensures.delivers)
+    said_deliver _ _ D c.args.job.now (g.H.Shelf.told c.args.shelf.now) (files_in c.args.job.now) _ (Unread c.in-Err-Unread.name.now) comes (λ z. subst U c.as_bytes.ensures.value c.say_unread.ensures.delivers)
 
 pub returns-in-Err-TooLong-clause-delivers : goal.returns-in-Err-TooLong-clause-delivers
 returns-in-Err-TooLong-clause-delivers g c =
     let D : Reply → Type 0 = λ o. Delivers c.refuse.result o (g.K.Sink.taken c.args.sink.now) (g.K.Sink.faults c.args.sink.now) (g.K.Sink.taken c.refuse.new.sink) (g.K.Sink.faults c.refuse.new.sink) in
     let comes = rw c.in-Err-TooLong.field-0-is at c.in-Err-TooLong.ensures.fault in
-    said_deliver _ _ D c.args.job.now (g.H.Shelf.told c.args.shelf.now) (word_bytes c.files_in.result.now) _ _ Overlong c.files_in.ensures comes (λ z. c.refuse.ensures.delivers)
+    said_deliver _ _ D c.args.job.now (g.H.Shelf.told c.args.shelf.now) (files_in c.args.job.now) _ Overlong comes (λ z. c.refuse.ensures.delivers)
 
 pub returns-in-Err-OutOfMemory-clause-delivers : goal.returns-in-Err-OutOfMemory-clause-delivers
 returns-in-Err-OutOfMemory-clause-delivers g c =

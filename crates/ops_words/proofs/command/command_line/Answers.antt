@@ -15,5 +15,6 @@ returns c =
     let second = with_argument c.in_ok-arg.field-0 c.in_ok-arg-2.field-0 c.option_named-2.result _ (option_rule (codes "workers")) c.in_ok-arg-2.ensures c.option_named-2.ensures.local first c.option_named-2.ensures.rule in
     let third = with_argument c.in_ok-arg-2.field-0 c.in_ok-arg-3.field-0 c.option_named-3.result _ (option_rule (codes "lines")) c.in_ok-arg-3.ensures c.option_named-3.ensures.local second c.option_named-3.ensures.rule in
     let fourth = with_argument c.in_ok-arg-3.field-0 c.in_ok-arg-4.field-0 c.option_named-4.result _ (option_rule (codes "limit")) c.in_ok-arg-4.ensures c.option_named-4.ensures.local third c.option_named-4.ensures.rule in
-    let fifth = with_argument c.in_ok-arg-4.field-0 c.in_ok-arg-5.field-0 c.network_flag.result _ (flag_rule (codes "net")) c.in_ok-arg-5.ensures c.network_flag.ensures.local fourth c.network_flag.ensures.rule in
-    IfOk-weaker c.arg-6.result _ _ (λ r adds. with_argument c.in_ok-arg-5.field-0 r c.files.result _ files_rule adds c.files.ensures.local fifth c.files.ensures.rule) c.arg-6.ensures
+    let fifth = with_argument c.in_ok-arg-4.field-0 c.in_ok-arg-5.field-0 c.flag_named.result _ (flag_rule (codes "gen")) c.in_ok-arg-5.ensures c.flag_named.ensures.local fourth c.flag_named.ensures.rule in
+    let sixth = with_argument c.in_ok-arg-5.field-0 c.in_ok-arg-6.field-0 c.flag_named-2.result _ (flag_rule (codes "net")) c.in_ok-arg-6.ensures c.flag_named-2.ensures.local fifth c.flag_named-2.ensures.rule in
+    IfOk-weaker c.arg-7.result _ _ (λ r adds. with_argument c.in_ok-arg-6.field-0 r c.files.result _ files_rule adds c.files.ensures.local sixth c.files.ensures.rule) c.arg-7.ensures

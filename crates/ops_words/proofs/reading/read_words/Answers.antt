@@ -1,12 +1,24 @@
-use Rattle.std.proofs.Common.{◌∙◌, false, refl, sym}
-use Rattle.ops_jobs.specs.declared.jobs.Job.TheVariants.{Run}
+use Rattle.std.proofs.Common.{◌∙◌, sym}
 use Rattle.ops_jobs.specs.Words.{word_bytes}
 use Rattle.ops_jobs.proofs.Limits.{job_within}
 use Rattle.ops_words.proofs.Jobs.{job_found}
 use Rattle.ops_words.proofs.reading.read_words.Goals as goal
 
-pub returns-clause-limits : goal.returns-clause-limits
-returns-clause-limits c =
-    job_within (word_bytes c.args.words.now) (Run c.in-Some.options c.in_ok-files.files)
-    (job_found (word_bytes c.args.words.now) c.in_ok-matches.matches c.in-Some.options false c.in_ok-files.files c.in_ok-matches.ensures.found (sym c.in-Some.ensures)
-    (λ e. sym c.if-get_flag.false ∙ c.get_flag.ensures.value e, λ e. refl) c.in_ok-files.ensures)
+pub returns-in-Some-job_by-clause-fits : goal.returns-in-Some-job_by-clause-fits
+returns-in-Some-job_by-clause-fits c =
+    job_found (word_bytes c.args.words.now) c.in_ok-matches.matches c.in-Some.options c.get_flag.result c.get_flag-2.result c.in_ok-names.names c.in_ok-matches.ensures.found
+    (sym c.in-Some.ensures) (c.get_flag.ensures.value, c.get_flag.ensures.other) (c.get_flag-2.ensures.value, c.get_flag-2.ensures.other) c.in_ok-names.ensures
+    ∙ sym c.in-Some-job_by.ensures
+
+pub returns-in-Some-job_by-clause-limits : goal.returns-in-Some-job_by-clause-limits
+returns-in-Some-job_by-clause-limits c =
+    job_within (word_bytes c.args.words.now) c.in-Some-job_by.job
+    (job_found (word_bytes c.args.words.now) c.in_ok-matches.matches c.in-Some.options c.get_flag.result c.get_flag-2.result c.in_ok-names.names c.in_ok-matches.ensures.found
+    (sym c.in-Some.ensures) (c.get_flag.ensures.value, c.get_flag.ensures.other) (c.get_flag-2.ensures.value, c.get_flag-2.ensures.other) c.in_ok-names.ensures
+    ∙ sym c.in-Some-job_by.ensures)
+
+pub returns-clause-usage : goal.returns-clause-usage
+returns-clause-usage c = λ same.
+    job_found (word_bytes c.args.words.now) c.in_ok-matches.matches c.in-Some.options c.get_flag.result c.get_flag-2.result c.in_ok-names.names c.in_ok-matches.ensures.found
+    (sym c.in-Some.ensures) (c.get_flag.ensures.value, c.get_flag.ensures.other) (c.get_flag-2.ensures.value, c.get_flag-2.ensures.other) c.in_ok-names.ensures
+    ∙ sym c.in-None.ensures

@@ -1,9 +1,14 @@
-use Rattle.std.proofs.Common.{◌≤◌, ◌∙◌, sym, length, arith, refl}
+use Rattle.std.proofs.Common.{◌≤◌, ◌∙◌, ap, sym, length, arith, refl}
 use Rattle.std.proofs.lemmas.Result.{err_from_is_err_and}
+use Rattle.ops_base.specs.declared.endings.Ending.TheVariants as ending
+use Rattle.ops_io.specs.Output.{OutState}
+use Rattle.ops_io.proofs.PortLemmas.{flushed_put}
+use Rattle.ops_meaning.specs.Effects.{of_ending}
 use Rattle.act_phase.specs.Outcomes.{setting_of}
 use Rattle.ops_meaning.proofs.NamesKept.{names_stay, names_then}
 use Rattle.session.specs.Courses.{meant_by}
-use Rattle.session.proofs.Comings.{pending_put}
+use Rattle.session.proofs.Comings.{pending_put, performed_put}
+use Rattle.session.proofs.Flushes.{performs_still, performs_refused}
 use Rattle.session.proofs.Sequence.{exits, none_left, commands_begin, commands_end, one_command, last_command}
 use Rattle.session.proofs.commands.do_each.Goals as goal
 
@@ -14,6 +19,7 @@ loop-command-init g c = record {
   faults = refl;
   names = names_stay c.args.names.now;
   under_way = c.requires.under_way;
+  flushed = λ e. e;
 }
 
 pub returns-then-is_exit-clause-performs : goal.returns-then-is_exit-clause-performs
@@ -42,10 +48,37 @@ pub returns-in_err-session-clause-names : goal.returns-in_err-session-clause-nam
 returns-in_err-session-clause-names g c =
     names_then c.args.names.now c.loop-command.names c.do_command.new.names c.loop-command.invariant.names c.in_err-session.ensures.names
 
+pub flush-requires-clause-whole : goal.flush-requires-clause-whole
+flush-requires-clause-whole g c = (performed_put c.in_ok-session.ensures.performs).1.whole
+
+pub flush-requires-clause-faults : goal.flush-requires-clause-faults
+flush-requires-clause-faults g c =
+    let same = (performed_put c.in_ok-session.ensures.performs).1.faults in
+    rw (same, c.loop-command.invariant.faults) c.requires.faults
+
+pub returns-in_err-flush-clause-performs : goal.returns-in_err-flush-clause-performs
+returns-in_err-flush-clause-performs g c =
+    let p = err_from_is_err_and c.from_residual-in_err-flush.result c.from_residual-in_err-flush.ensures.1 in
+    rw (p.1, p.2)
+    (last_command (setting_of c.args.program.now 0) c.args.limit c.as_slice-command-items.result.now c.loop-command.command-index (λ z. meant_by g.M.Matcher.stored c.loop-command.session c.loop-command.names z) c.loop-command.invariant.out c.command-item.result c.loop-command-test.true c.command-item.is
+    (sym c.is_exit.ensures ∙ c.if-is_exit.false) ending.WriteFault
+    (performs_refused c.in_ok-session.ensures.performs of_ending ending.WriteFault refl c.in_err-flush.ensures.flushes))
+
+pub returns-in_err-flush-clause-reads : goal.returns-in_err-flush-clause-reads
+returns-in_err-flush-clause-reads g c =
+    let p = err_from_is_err_and c.from_residual-in_err-flush.result c.from_residual-in_err-flush.ensures.1 in
+    rw (p.1, p.2) (c.in_ok-session.ensures.reads ∙ c.loop-command.invariant.out.steady)
+
+pub returns-in_err-flush-clause-names : goal.returns-in_err-flush-clause-names
+returns-in_err-flush-clause-names g c =
+    names_then c.args.names.now c.loop-command.names c.do_command.new.names c.loop-command.invariant.names c.in_ok-session.ensures.names
+
 pub loop-command-preserved : goal.loop-command-preserved
 loop-command-preserved g c =
+    let whole = (performed_put c.in_ok-session.ensures.performs).1.whole in
+    let written = c.in_ok-flush.ensures.flushes in
     let out = one_command (setting_of c.args.program.now 0) c.args.limit c.as_slice-command-items.result.now c.loop-command.command-index (λ z. meant_by g.M.Matcher.stored c.loop-command.session c.loop-command.names z) c.loop-command.invariant.out c.command-item.result c.loop-command-test.true c.command-item.is
-    (sym c.is_exit.ensures ∙ c.if-is_exit.false) c.in_ok-session.session c.in_ok-session.ensures.reads c.in_ok-session.ensures.performs in
+    (sym c.is_exit.ensures ∙ c.if-is_exit.false) c.in_ok-session.session c.in_ok-session.ensures.reads (performs_still c.in_ok-session.ensures.performs (flushed_put _ _ whole written)) in
     let put = pending_put _ _ _ _ _ _ out in
     record {
       out = out;
@@ -53,6 +86,7 @@ loop-command-preserved g c =
       faults = put.1.faults;
       names = names_then c.args.names.now c.loop-command.names c.do_command.new.names c.loop-command.invariant.names c.in_ok-session.ensures.names;
       under_way = c.in_ok-session.ensures.under_way;
+      flushed = λ _. ap (λ (o : OutState). o.held) written.out;
     }
 
 pub returns-clause-performs : goal.returns-clause-performs

@@ -1,4 +1,4 @@
-use Rattle.std.proofs.Common.{◌≡◌, drop, IsTrue}
+use Rattle.std.proofs.Common.{◌≡◌, [], drop, IsTrue}
 use Rattle.ops_io.specs.Coming.{inlet}
 use Rattle.ops_io.specs.Ports.{port}
 use Rattle.ops_meaning.specs.Effects.{PendingOn}
@@ -20,4 +20,5 @@ invariant-loop-command g l = record {
   faults : g.K.Sink.faults l.sink ≡ g.K.Sink.faults l.fn.sink;
   names : KeepsNames l.fn.names l.names;
   under_way : IsUnderWay g.M.Matcher.stored g.M.Matcher.stands_for l.program.rules l.session;
+  flushed : l.fn.out.held ≡ [] → l.out.held ≡ [];
 }

@@ -1,6 +1,5 @@
-use Rattle.std.proofs.Common.{◌∙◌, List, ap, sym, map, refl}
+use Rattle.std.proofs.Common.{◌∙◌, ap, sym, map, refl}
 use Rattle.std.proofs.lemmas.Result.{err_from_is_err_and}
-use Rattle.ops_base.specs.declared.rules.Inst.{Inst}
 use Rattle.ops_meaning.specs.Layout.{inst_text}
 use Rattle.session.specs.Courses.{standing_in}
 use Rattle.session.proofs.Lines.{lines_begin, line_step, line_stop, lines_end}

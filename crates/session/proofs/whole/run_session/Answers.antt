@@ -1,7 +1,8 @@
 use Rattle.std.proofs.Common.{◌∙◌, sym}
 use Rattle.ops_meaning.proofs.RisingTags.{session_goes}
 use Rattle.act_phase.specs.Outcomes.{setting_of}
-use Rattle.session.proofs.SessionEnds.{ends_on, ended_reads, ended_unread}
+use Rattle.session.proofs.Early.{session_early}
+use Rattle.session.proofs.SessionEnds.{ends_on, ended_reads, ended_unread, ended_done}
 use Rattle.session.proofs.whole.run_session.Goals as goal
 
 pub returns-clause-ends : goal.returns-clause-ends
@@ -16,6 +17,12 @@ returns-clause-reads g c =
 pub returns-clause-written : goal.returns-clause-written
 returns-clause-written g c = λ is.
     c.do_commands-done.ensures.written (ended_unread _ g.M.Matcher.stored c.do_commands-done.result (sym c.ended.ensures ∙ is))
+
+pub returns-clause-flushed : goal.returns-clause-flushed
+returns-clause-flushed g c = λ empty firings elements last_tag is.
+    ended_done _ g.M.Matcher.stored c.do_commands-done.new.names c.do_commands-done.result _ _ _ _ _ _ firings elements last_tag
+    (session_early (setting_of c.args.program.now 0) c.args.limit c.args.program.now.commands c.args.names.now) c.do_commands-done.ensures.performs
+    (c.do_commands-done.ensures.flushed empty) (sym c.ended.ensures ∙ is)
 
 pub returns-clause-sets : goal.returns-clause-sets
 returns-clause-sets g c = session_goes (setting_of c.args.program.now 0) c.args.limit c.args.program.now.commands c.args.names.now
