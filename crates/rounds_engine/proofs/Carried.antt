@@ -1,7 +1,7 @@
 -- A phase that begins is carried on by steps and by rounds to its bundle.
-use Rattle.std.proofs.Common.{◌≡◌, ◌≤◌, ◌<◌, ◌+◌, ◌-◌, ℕ, List, [], ◌∷◌, ◌++◌, refl, sym, ap, subst, ◌∙◌, arith, length, map, sum_by, append-nil}
+use Rattle.std.proofs.Common.{◌≡◌, ◌≤◌, ◌<◌, ◌+◌, ◌-◌, ℕ, List, [], ◌∷◌, ◌++◌, refl, sym, ap, subst, ◌∙◌, arith, length, map, take, drop, sum_by, append-nil}
 use Rattle.std.specs.List.{All, AllByRecursion}
-use Rattle.std.proofs.lemmas.List.{length-map}
+use Rattle.std.proofs.lemmas.List.{drop_all, length-map, take_all}
 use Rattle.std.proofs.lemmas.List.Sums.{sum_by-cons}
 use Rattle.std.proofs.lemmas.List.Elements.{All-from_recursion, recursion_from_All}
 use Rattle.ops_base.specs.declared.elements.Change.{Change}
@@ -87,12 +87,21 @@ module _ (alphas : List Alpha) (nodes : List Node) (s : Stored) (sound : IsSound
 
 -- ---- tasks below all nodes
 
-pub none_left : (nodes : List Node) (s : Stored) (lines : ℕ) (ps : List Placed) → All (IsPlacedAt nodes s lines) ps → All (λ (x : Task). length nodes ≤ x.node) (tasks_in ps) → ps ≡ []
-none_left nodes s lines [] placed deep = refl
-none_left nodes s lines (p ∷ ps) placed deep =
+pub none_left : (nodes : List Node) (s : Stored) (lines level : ℕ) (ps : List Placed) → length nodes ≤ level → All (IsPlacedAt nodes s lines) ps → All (λ (x : Task). level ≤ x.node) (tasks_in ps) → ps ≡ []
+none_left nodes s lines level [] low placed deep = refl
+none_left nodes s lines level (p ∷ ps) low placed deep =
     let a = (recursion_from_All (IsPlacedAt nodes s lines) (p ∷ ps) placed).0 in
-    let b = (recursion_from_All (λ (x : Task). length nodes ≤ x.node) (p.task ∷ tasks_in ps) deep).0 in
-    absurd (let c = a.fits.within in omega (arith, b, c))
+    let b = (recursion_from_All (λ (x : Task). level ≤ x.node) (p.task ∷ tasks_in ps) deep).0 in
+    absurd (let c = a.fits.within in omega (arith, b, c, low))
+
+pub same_length : (ls ms : List Line) → map (λ (l : Line). l.number) ms ≡ map (λ (l : Line). l.number) ls → length ms ≡ length ls
+same_length ls ms same = sym (length-map ms (λ (l : Line). l.number)) ∙ (ap length same ∙ length-map ls (λ (l : Line). l.number))
+
+-- a vector of which all was lent, and as much came back
+pub came_back : (n : ℕ) (old new : List Line) → length new ≡ length old → n ≡ length old → take n (new ++ drop (length new) old) ≡ new
+came_back n old new same count =
+    ap (λ rest. take n (new ++ rest)) (drop_all (length new) old (omega (arith, same)))
+    ∙ (ap (take n) (append-nil new) ∙ take_all n new (omega (arith, same, count)))
 
 -- ---- tasks of a level
 

@@ -1,3 +1,3 @@
--- How the lines are shared, and a phase on its way.
+-- Tasks dealt to shards, a round of these, and a phase that rounds carry on.
 pub mod Sharing
 pub mod Carrying

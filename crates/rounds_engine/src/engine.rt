@@ -11,8 +11,8 @@ use net_base::net::Net;
 use ops_base::elements::Change;
 use ops_base::memory::OutOfMemory;
 use ops_io::Gate;
+use serial_engine::settle as settle_alone;
 use std::alloc::Global;
-use std::marker::PhantomData;
 use std::thread::Threads;
 use step_core::laws::{match_laws, settle_laws};
 use step_core::{Gathered, World};
@@ -23,13 +23,12 @@ use work_store::{Matcher, Settled, Store};
 /// each once. There are as many shards as the lesser of the workers and the lines. The gate is called just before each
 /// activation, with the number of the shard, or with worker 0 on the calling thread, and with the number of the line.
 #[derive(Drop)]
-pub struct RoundsEngine<R, G> {
+pub struct RoundsEngine<G> {
     net: Net,
     store: Store,
     world: World,
     gate: G,
     sharing: Sharing,
-    handle: PhantomData<R>,
     // There is a line at least for each shard.
     ghost some: { 1 ≤ sharing.shards },
     ghost few: { sharing.shards ≤ length world.lines.items },
@@ -40,7 +39,16 @@ pub struct RoundsEngine<R, G> {
     ghost holds: { HoldJust (placed (held_of store) net.nodes (length world.lines.items)) (sums_over store.elements net.alphas net.nodes) (map now (map seen world.lines.items)) },
 }
 
-impl<R, G: Gate + Sync + Drop> RoundsEngine<R, G> {
+impl<G: Gate + Drop> RoundsEngine<G> {
+    ghost use Rattle.std.specs.Prelude.{List};
+    ghost use Rattle.ops_base.specs.declared.rules.Rule.{Rule};
+    ghost use Rattle.ops_base.specs.WorkingMemory.{Lawful, done, last_after};
+    ghost use Rattle.work_store.specs.Settling.{IsSettled};
+    ghost use Rattle.work_store.specs.Stored.{HoldsAlso, added_by};
+    ghost use Rattle.net_base.specs.Network.{NetOf};
+    ghost use Rattle.step_core.specs.Phases.{IsBundle};
+    ghost use Rattle.step_core.specs.Found.{found_over};
+
     /// An engine over the network with this many lines and workers. Nothing is stored. It makes each line and looks at
     /// each node, and starts no thread.
     pub fn new(
@@ -49,7 +57,7 @@ impl<R, G: Gate + Sync + Drop> RoundsEngine<R, G> {
         lines: usize,
         workers: usize,
         gate: G,
-    ) -> Result<RoundsEngine<R, G>, OutOfMemory>
+    ) -> Result<RoundsEngine<G>, OutOfMemory>
         requires lines { 1 ≤ lines }
         requires workers { 1 ≤ workers }
         requires few { workers ≤ 2 ^ 32 }
@@ -69,7 +77,6 @@ impl<R, G: Gate + Sync + Drop> RoundsEngine<R, G> {
                 shards: workers.min(lines),
                 shared: false,
             },
-            handle: PhantomData,
         })
     }
 
@@ -89,43 +96,17 @@ impl<R, G: Gate + Sync + Drop> RoundsEngine<R, G> {
     {
         self.world.lines()
     }
-}
-
-impl<R: Threads + Sync, G: Gate + Sync + Drop> Matcher for RoundsEngine<R, G> {
-    ghost use Rattle.std.specs.Prelude.{List};
-    ghost use Rattle.ops_base.specs.declared.rules.Rule.{Rule};
-    ghost use Rattle.ops_base.specs.WorkingMemory.{Lawful, done, last_after};
-    ghost use Rattle.work_store.specs.Settling.{IsSettled};
-    ghost use Rattle.work_store.specs.Stored.{HoldsAlso, added_by};
-    ghost use Rattle.net_base.specs.Network.{NetOf};
-    ghost use Rattle.step_core.specs.Phases.{IsBundle};
-    ghost use Rattle.step_core.specs.Found.{found_over};
-
-    ghost stored = { λ e. e.store };
-
-    ghost found = { λ e. found_over e.net.alphas e.net.nodes e.store.elements };
-
-    ghost stands_for = { λ e rules. NetOf e.net rules };
-
-    type Hand = R;
-
-    fn store(&self) -> &Store {
-        settle_laws();
-        let _last = self.store.last();
-        let _nodes = self.net.nodes();
-        &self.store
-    }
 
     /// Feeds all changes, and does their tasks and all that comes of them: on the calling thread as long as few are in
     /// flight, and then in rounds, each of which does all tasks in hand. It takes time for the tasks that it does, for
     /// the lines that they were done on, and for the nodes that a change is fed to. Where there were rounds it also looks
     /// at each line once. What it removed is kept until the next settle.
-    fn settle(
+    pub fn settle_in_rounds<R: Threads + Sync>(
         self,
+        rt: &R,
         alloc: Global,
-        hand: &mut R,
         changes: &[Change],
-    ) -> Result<Settled<RoundsEngine<R, G>>, OutOfMemory>
+    ) -> Result<Settled<RoundsEngine<G>>, OutOfMemory>
         requires { Lawful self.store.elements self.store.last changes.now }
         ensures elements { IfOk result (λ s. s.matcher.store.elements ≡ done self.store.elements changes.now) }
         ensures last { IfOk result (λ s. s.matcher.store.last ≡ last_after self.store.last changes.now) }
@@ -144,11 +125,10 @@ impl<R: Threads + Sync, G: Gate + Sync + Drop> Matcher for RoundsEngine<R, G> {
             world,
             gate,
             sharing,
-            handle,
         } = self;
         let mut sharing = sharing;
         let (world, gathered) = settle(
-            hand,
+            rt,
             alloc,
             &net,
             &mut store,
@@ -164,7 +144,58 @@ impl<R: Threads + Sync, G: Gate + Sync + Drop> Matcher for RoundsEngine<R, G> {
             world,
             gate,
             sharing,
-            handle,
+        };
+        Ok(Settled {
+            matcher,
+            come,
+            gone,
+        })
+    }
+}
+
+impl<G: Gate + Drop> Matcher for RoundsEngine<G> {
+    ghost use Rattle.net_base.specs.Network.{NetOf};
+    ghost use Rattle.step_core.specs.Found.{found_over};
+
+    ghost stored = { λ e. e.store };
+
+    ghost found = { λ e. found_over e.net.alphas e.net.nodes e.store.elements };
+
+    ghost stands_for = { λ e rules. NetOf e.net rules };
+
+    type Hand = ();
+
+    fn store(&self) -> &Store {
+        settle_laws();
+        let _last = self.store.last();
+        let _nodes = self.net.nodes();
+        &self.store
+    }
+
+    /// As `settle_in_rounds`, on the calling thread alone, as the serial engine settles.
+    fn settle(
+        self,
+        alloc: Global,
+        _hand: &mut (),
+        changes: &[Change],
+    ) -> Result<Settled<RoundsEngine<G>>, OutOfMemory> {
+        let RoundsEngine {
+            net,
+            mut store,
+            mut world,
+            gate,
+            sharing,
+        } = self;
+        let enter = |line: usize| gate.enter(0, line);
+        let Gathered { come, gone } = settle_alone(
+            alloc, &net, &mut store, &enter, &mut world, changes, None,
+        )?;
+        let matcher = RoundsEngine {
+            net,
+            store,
+            world,
+            gate,
+            sharing,
         };
         Ok(Settled {
             matcher,

@@ -10,7 +10,7 @@ ghost use Rattle.step_core.specs.Phases.{HoldJust, IsBundle, now, sums_over};
 ghost use Rattle.step_core.specs.Worlds.{IsReady, numbers_of, placed, seen, world_of};
 ghost use Rattle.serial_engine.specs.Running.{IsBundleOf, Went};
 ghost use Rattle.rounds_engine.specs.Carrying.{CarriesOn};
-ghost use Rattle.rounds_engine.specs.Sharing.{IsPlacedAt, tasks_in};
+ghost use Rattle.rounds_engine.specs.Sharing.{AreDeeper, IsPlacedAt, tasks_in};
 
 use crate::rounds::do_shards;
 use crate::shards::{Placed, deal, pays, place_all, shard_of};
@@ -50,7 +50,8 @@ fn most_alone(sharing: Sharing) -> Option<usize> {
 /// Whether two tasks in flight have lines in different shards. It looks at the tasks up to the first that has another
 /// shard than the first one.
 fn are_apart(net: &Net, store: &Store, world: &World, shards: usize) -> bool
-    requires { IsReady net.now.nodes store.now world.now }
+    requires some { 1 ≤ shards }
+    requires ready { IsReady net.now.nodes store.now world.now }
 {
     let lines = world.lines().len();
     for index in 1..world.in_flight() {
@@ -64,7 +65,7 @@ fn are_apart(net: &Net, store: &Store, world: &World, shards: usize) -> bool
 
 /// Does tasks in flight on the calling thread, from the last on, and all that comes of them, until none is left or many
 /// are in flight. It does none where a round can be shared for the first time.
-fn work_alone<G: Gate + Sync>(
+fn work_alone<G: Gate>(
     alloc: Global,
     net: &Net,
     store: &Store,
@@ -72,6 +73,7 @@ fn work_alone<G: Gate + Sync>(
     world: &mut World,
     sharing: Sharing,
 ) -> Result<(), OutOfMemory>
+    requires some { 1 ≤ sharing.shards }
     requires ready { IsReady net.now.nodes store.now world.old }
     ensures went { OnOk result (Went net.now.alphas net.now.nodes store.now (length world.old.lines.items) world.old [] world.new) }
     ensures done { OnOk result ((world_of world.new).done ≡ (world_of world.old).done) }
@@ -87,7 +89,7 @@ fn work_alone<G: Gate + Sync>(
 
 /// Does these tasks on their lines, in one round, which is shared among threads where that pays, and answers their
 /// children. It moves each task once, beside what its activation costs.
-fn work_round<R: Threads + Sync, G: Gate + Sync>(
+fn work_round<R: Threads + Sync, G: Gate>(
     rt: &R,
     alloc: Global,
     net: &Net,
@@ -95,32 +97,41 @@ fn work_round<R: Threads + Sync, G: Gate + Sync>(
     gate: &G,
     tasks: Vec<Placed>,
     sharing: &mut Sharing,
-    lines: &mut Vec<Line>,
+    lines: &mut [Line],
 ) -> Result<Vec<Placed>, OutOfMemory>
     requires some { 1 ≤ sharing.old.shards }
-    requires few { sharing.old.shards ≤ length lines.old.items }
-    requires placed { All (IsPlacedAt net.now.nodes store.now (length lines.old.items)) tasks.items }
-    requires counted { All (IsCounted net.now.nodes store.now) lines.old.items }
-    ensures carries { IfOk result (λ made. CarriesOn net.now.alphas net.now.nodes store.now lines.old.items (tasks_in tasks.items) lines.new.items (tasks_in made.items)) }
-    ensures placed { IfOk result (λ made. All (IsPlacedAt net.now.nodes store.now (length lines.old.items)) made.items) }
-    ensures deeper { (level : ℕ) → All (λ x. level ≤ x.node) (tasks_in tasks.items) → IfOk result (λ made. All (λ x. level + 1 ≤ x.node) (tasks_in made.items)) }
-    ensures counted { OnOk result (All (IsCounted net.now.nodes store.now) lines.new.items) }
-    ensures numbers { OnOk result (map (λ l. l.number) lines.new.items ≡ map (λ l. l.number) lines.old.items) }
+    requires few { sharing.old.shards ≤ length lines.old }
+    requires placed { All (IsPlacedAt net.now.nodes store.now (length lines.old)) tasks.items }
+    requires counted { All (IsCounted net.now.nodes store.now) lines.old }
+    ensures carries { IfOk result (λ made. CarriesOn net.now.alphas net.now.nodes store.now lines.old (tasks_in tasks.items) lines.new (tasks_in made.items)) }
+    ensures placed { IfOk result (λ made. All (IsPlacedAt net.now.nodes store.now (length lines.old)) made.items) }
+    ensures deeper { IfOk result (λ made. AreDeeper (tasks_in tasks.items) (tasks_in made.items)) }
+    ensures counted { OnOk result (All (IsCounted net.now.nodes store.now) lines.new) }
+    ensures numbers { OnOk result (map (λ l. l.number) lines.new ≡ map (λ l. l.number) lines.old) }
     ensures shards { OnOk result (sharing.new.shards ≡ sharing.old.shards) }
 {
     round_laws();
     let total = lines.len();
-    let shards = deal(alloc, net, store, tasks, sharing.shards, total)?;
-    let apart = pays(&shards, sharing.shared);
+    let shards = deal(alloc, tasks, sharing.shards, total)?;
+    let apart = pays(shards.as_slice(), sharing.shared);
     sharing.shared = sharing.shared || apart;
     let made = do_shards(
-        rt, alloc, net, store, gate, total, 0, apart, &shards, 0, lines,
+        rt,
+        alloc,
+        net,
+        store,
+        gate,
+        total,
+        0,
+        apart,
+        shards.as_slice(),
+        lines,
     )?;
     Ok(made)
 }
 
 /// Does these tasks on their lines, and all that comes of them, in rounds, of which there are no more than nodes.
-fn work_rounds<R: Threads + Sync, G: Gate + Sync>(
+fn work_rounds<R: Threads + Sync, G: Gate>(
     rt: &R,
     alloc: Global,
     net: &Net,
@@ -128,21 +139,21 @@ fn work_rounds<R: Threads + Sync, G: Gate + Sync>(
     gate: &G,
     tasks: Vec<Placed>,
     sharing: &mut Sharing,
-    lines: &mut Vec<Line>,
+    lines: &mut [Line],
 ) -> Result<(), OutOfMemory>
     requires some { 1 ≤ sharing.old.shards }
-    requires few { sharing.old.shards ≤ length lines.old.items }
-    requires placed { All (IsPlacedAt net.now.nodes store.now (length lines.old.items)) tasks.items }
-    requires counted { All (IsCounted net.now.nodes store.now) lines.old.items }
-    ensures carries { OnOk result (CarriesOn net.now.alphas net.now.nodes store.now lines.old.items (tasks_in tasks.items) lines.new.items []) }
-    ensures counted { OnOk result (All (IsCounted net.now.nodes store.now) lines.new.items) }
-    ensures numbers { OnOk result (map (λ l. l.number) lines.new.items ≡ map (λ l. l.number) lines.old.items) }
+    requires few { sharing.old.shards ≤ length lines.old }
+    requires placed { All (IsPlacedAt net.now.nodes store.now (length lines.old)) tasks.items }
+    requires counted { All (IsCounted net.now.nodes store.now) lines.old }
+    ensures carries { OnOk result (CarriesOn net.now.alphas net.now.nodes store.now lines.old (tasks_in tasks.items) lines.new []) }
+    ensures counted { OnOk result (All (IsCounted net.now.nodes store.now) lines.new) }
+    ensures numbers { OnOk result (map (λ l. l.number) lines.new ≡ map (λ l. l.number) lines.old) }
     ensures shards { OnOk result (sharing.new.shards ≡ sharing.old.shards) }
 {
     let mut tasks = tasks;
     for _round in 0..net.nodes().len() {
         if tasks.is_empty() {
-            break;
+            return Ok(());
         }
         tasks = work_round(rt, alloc, net, store, gate, tasks, sharing, lines)?;
     }
@@ -151,7 +162,7 @@ fn work_rounds<R: Threads + Sync, G: Gate + Sync>(
 
 /// Does the tasks in flight, and all that comes of them, in rounds. Where none is in flight it does nothing; otherwise it
 /// also looks at each line once.
-fn work_in_rounds<R: Threads + Sync, G: Gate + Sync>(
+fn work_in_rounds<R: Threads + Sync, G: Gate>(
     rt: &R,
     alloc: Global,
     net: &Net,
@@ -175,7 +186,16 @@ fn work_in_rounds<R: Threads + Sync, G: Gate + Sync>(
     }
     let Parts { mut lines, flight } = world.into_parts();
     let tasks = place_all(alloc, net, store, flight, lines.len())?;
-    work_rounds(rt, alloc, net, store, gate, tasks, sharing, &mut lines)?;
+    work_rounds(
+        rt,
+        alloc,
+        net,
+        store,
+        gate,
+        tasks,
+        sharing,
+        lines.as_mut_slice(),
+    )?;
     let parts = Parts {
         lines,
         flight: Vec::new(alloc),
@@ -184,7 +204,7 @@ fn work_in_rounds<R: Threads + Sync, G: Gate + Sync>(
 }
 
 /// Does the phase of these changes, which the store has done. The lines begin it.
-fn run_phase<R: Threads + Sync, G: Gate + Sync>(
+fn run_phase<R: Threads + Sync, G: Gate>(
     rt: &R,
     alloc: Global,
     net: &Net,
@@ -216,7 +236,7 @@ fn run_phase<R: Threads + Sync, G: Gate + Sync>(
 
 /// Does the changes to the store, and their phase over lines that hold just the tokens over it. The lines then hold
 /// just the tokens over the store with the changes done, and their entries are a bundle of the changes.
-pub(crate) fn settle<R: Threads + Sync, G: Gate + Sync>(
+pub(crate) fn settle<R: Threads + Sync, G: Gate>(
     rt: &R,
     alloc: Global,
     net: &Net,
