@@ -7,4 +7,4 @@ mod phases;
 mod tests;
 
 pub use engine::SerialEngine;
-pub use phases::{do_changes, feed_all, work_all};
+pub use phases::{do_changes, feed_all, settle, work_all};

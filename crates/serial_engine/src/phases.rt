@@ -264,7 +264,7 @@ pub fn do_changes(alloc: Global, store: &mut Store, changes: &[Change]) -> Resul
 /// just the tokens over the store with the changes done, and their entries are a bundle of the changes. With picks all
 /// changes are fed at once, and a task is done for each pick; without them, and once they have ended, the last task in
 /// flight is next. `enter` gets the line of each task just before it is done.
-pub(crate) fn settle<F: Fn(usize)>(
+pub fn settle<F: Fn(usize)>(
     alloc: Global,
     net: &Net,
     store: &mut Store,

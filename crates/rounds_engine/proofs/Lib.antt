@@ -1,0 +1,7 @@
+pub mod Crossing
+pub mod Boundaries
+pub mod Dealing
+pub mod Halving
+pub mod Results
+pub mod Sharing
+pub mod Carried

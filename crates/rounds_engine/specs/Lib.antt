@@ -1,0 +1,3 @@
+-- Tasks dealt to shards, a round of these, and a phase that rounds carry on.
+pub mod Sharing
+pub mod Carrying

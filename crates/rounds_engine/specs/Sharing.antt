@@ -1,0 +1,119 @@
+-- Tasks dealt to shards, each of which is some lines that follow one another, and what shards do of a round.
+use Rattle.std.specs.Prelude.{◌≡◌, ◌≤◌, ◌<◌, ◌+◌, ◌*◌, ◌/◌, ◌^◌, ◌++◌, ◌↔◌, ℕ, All, List, [], ◌∷◌, Ok, Result, Some, Vec, flat_map, length, map, slice_get, sum_by}
+use Rattle.std.specs.declared.alloc.Global.{Global}
+use Rattle.ops_base.specs.declared.memory.OutOfMemory.{OutOfMemory}
+use Rattle.work_store.specs.Stored.{Stored, held_of}
+use Rattle.net_base.specs.declared.nodes.Node.{Node}
+use Rattle.net_base.specs.declared.tasks.Task.{Task}
+use Rattle.token_line.specs.declared.line.Entry.{Entry}
+use Rattle.token_line.specs.declared.line.Line.{Line}
+use Rattle.token_line.specs.Held.{TaskFits}
+use Rattle.token_line.specs.Lawful.{IsLawful}
+use Rattle.activation.specs.Acting.{IsCounted}
+use Rattle.step_core.specs.Machine.{add_entry, place_of, sums_at}
+use Rattle.step_core.specs.Rounds.{HaveDone}
+use Rattle.step_core.specs.Worlds.{placed, seen}
+use Rattle.rounds_engine.specs.declared.shards.Placed.{Placed}
+use Rattle.rounds_engine.specs.declared.shards.Shard.{Shard}
+
+-- ---- tasks with their lines
+
+abbrev pub tasks_in : List Placed → List Task
+tasks_in ps = map (λ p. p.task) ps
+
+-- the task fits, and this is its line, where there are so many
+pub record IsPlacedAt (nodes : List Node) (s : Stored) (lines : ℕ) (p : Placed) : Type 0 where
+  pub fits : TaskFits nodes s p.task
+  pub line : p.line ≡ place_of (placed (held_of s) nodes lines) p.task
+  pub below : p.line < lines
+
+-- ---- shards
+
+-- their tasks, joined in order
+abbrev pub tasks_of_shards : List Shard → List Task
+tasks_of_shards xs = flat_map (λ x. tasks_in x.tasks.items) xs
+
+-- how many lines they have
+abbrev pub lines_of : List Shard → ℕ
+lines_of xs = sum_by (λ x. x.count) xs
+
+-- the first line of the first of them
+abbrev pub first_of : List Shard → ℕ
+first_of [] = 0
+first_of (x ∷ xs) = x.first
+
+-- line i is one of the shard's
+abbrev pub HasLine : Shard → ℕ → Type 0
+HasLine x i = (x.first ≤ i) × (i < x.first + x.count)
+
+-- each task of the shard has its line, which is one of the shard's
+pub record HasOwn (nodes : List Node) (s : Stored) (lines : ℕ) (x : Shard) : Type 0 where
+  pub placed : All (IsPlacedAt nodes s lines) x.tasks.items
+  pub own : All (λ p. HasLine x p.line) x.tasks.items
+
+-- the first of them begins at line i, and each other one where the one before it ends
+abbrev pub FollowOn : ℕ → List Shard → Type 0
+FollowOn i [] = Unit {0}
+FollowOn i (x ∷ xs) = (x.first ≡ i) × FollowOn (i + x.count) xs
+
+-- shards that follow one another from line `first` on, each with tasks of its own lines
+pub record AreShards (nodes : List Node) (s : Stored) (lines first : ℕ) (xs : List Shard) : Type 0 where
+  pub follow : FollowOn first xs
+  pub own : All (HasOwn nodes s lines) xs
+
+-- ---- the dealing
+
+-- the shard to which line i is dealt
+abbrev pub shard_of : (shards lines i : ℕ) → ℕ
+shard_of shards lines i = i * shards / lines
+
+-- line `first` and those after it are just the lines that are dealt to shard k or a later one
+abbrev pub IsFirstLine : (shards lines k first : ℕ) → Type 0
+IsFirstLine shards lines k first = (i : ℕ) → (first ≤ i) ↔ (k ≤ shard_of shards lines i)
+
+-- shard k has just the lines that are dealt to it
+abbrev pub AreDealt : (shards lines : ℕ) → List Shard → Type 0
+AreDealt shards lines xs = (k i : ℕ) (x : Shard) → slice_get xs k ≡ Some x → HasLine x i ↔ (shard_of shards lines i ≡ k)
+
+-- ---- a round
+
+-- The task became an entry of line k. Its children fit, and came after the tasks that were there.
+pub record ActsAt (nodes : List Node) (s : Stored) (k : ℕ) (x : Task) (old new : List Line) (before now : List Task) : Type 0 where
+  pub entry : Entry
+  pub task : entry.task ≡ x
+  pub lawful : IsLawful (held_of s) nodes (sums_at k (map seen old)) entry
+  pub joins : map seen new ≡ add_entry k entry (map seen old)
+  pub fit : All (TaskFits nodes s) entry.children
+  pub given : now ≡ before ++ entry.children
+
+-- the lines stay counted, and keep their numbers
+pub record AreKept (nodes : List Node) (s : Stored) (old new : List Line) : Type 0 where
+  pub counted : All (IsCounted nodes s) new
+  pub numbers : map (λ l. l.number) new ≡ map (λ l. l.number) old
+
+-- each child has a node that comes after the least node of the tasks
+abbrev pub AreDeeper : (todo made : List Task) → Type 0
+AreDeeper todo made = (level : ℕ) → All (λ x. level ≤ x.node) todo → All (λ x. level + 1 ≤ x.node) made
+
+-- The shards did their tasks on their lines. The children have their lines, and nodes further down.
+pub record HaveShared (nodes : List Node) (s : Stored) (lines : ℕ) (xs : List Shard) (old new : List Line) (made : List Placed) : Type 0 where
+  pub did : HaveDone (held_of s) nodes (placed (held_of s) nodes lines) (first_of xs) (map seen old) (map seen new) (tasks_of_shards xs) (tasks_in made)
+  pub placed : All (IsPlacedAt nodes s lines) made
+  pub deeper : AreDeeper (tasks_of_shards xs) (tasks_in made)
+
+-- these shards can do a round on these lines, the first of them as this worker
+pub record CanShare (nodes : List Node) (s : Stored) (lines worker : ℕ) (xs : List Shard) (ls : List Line) : Type 0 where
+  pub total : 1 ≤ lines
+  pub some : 1 ≤ length xs
+  pub shards : AreShards nodes s lines (first_of xs) xs
+  pub count : lines_of xs ≡ length ls
+  pub counted : All (IsCounted nodes s) ls
+  pub workers : worker + length xs < 2 ^ 64
+
+-- two calls were answered, and these are the placed tasks of the one with those of the other after them
+pub record AreJoined (low high : Result (Vec Placed Global) OutOfMemory) (made : List Placed) : Type 0 where
+  pub front : Vec Placed Global
+  pub back : Vec Placed Global
+  pub low_is : low ≡ Ok front
+  pub high_is : high ≡ Ok back
+  pub made_is : made ≡ front.items ++ back.items

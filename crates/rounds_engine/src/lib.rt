@@ -1,0 +1,11 @@
+//! The engine of rounds: a matcher over a network whose shards of lines work at the same time.
+#![tactic(auto)]
+
+mod engine;
+mod phases;
+mod rounds;
+mod shards;
+#[cfg(test)]
+mod tests;
+
+pub use engine::RoundsEngine;
