@@ -9,26 +9,27 @@ ghost use Rattle.ops_grammar.specs.Reads.{Read};
 ghost use Rattle.ops_meaning.specs.Running.{session_of};
 ghost use Rattle.ops_base.specs.Symbols.{is_held};
 ghost use Rattle.ops_top.specs.Whole.{status_of, told, answer_program_by, answer_to, is_run};
+ghost use Rattle.cycle.specs.Settles.{Settles};
 ghost use Rattle.act_phase.specs.Outcomes.{setting_of};
 ghost use Rattle.ops_top.specs.Calls.{OfInput, TellsFailedInput, is_refused};
 ghost use Rattle.ops_top.specs.Told.{Delivers, status_after, CountsTold, TellsOn};
 
 use crate::closing::put_closing;
+use crate::engines::answer_program;
 use crate::saying::{refuse, say_network};
-use beta_net::compile;
-use direct_engine::DirectEngine;
+use ops_base::elements::Change;
 use ops_base::endings::Ending;
+use ops_base::memory::OutOfMemory;
 use ops_base::programs::Program;
 use ops_base::symbols::Names;
 use ops_check::{ProgramFault, read_program};
 use ops_io::{Gate, Input, Out, Sink, Source, Stop};
-use ops_jobs::{Engine, Job, Options};
+use ops_jobs::Job;
 use ops_meaning::Status;
-use serial_engine::SerialEngine;
 use session::run_session;
 use std::alloc::Global;
 use std::thread::Threads;
-use work_store::Matcher;
+use work_store::{Matcher, Settled};
 
 fn status_of(ending: Ending) -> Status
     ensures is { result ≡ status_of ending }
@@ -56,9 +57,14 @@ fn status_of(ending: Ending) -> Status
 
 /// Runs the session of a program over a matcher that stands for it, and puts the line after it. The symbols of the
 /// program keep their spellings in it, so that the line is told with the names as they were.
-fn tell_session<M: Matcher, I: Source, K: Sink>(
+fn tell_session<
+    M: Matcher,
+    H: Fn(M, &[Change]) -> Result<Settled<M>, OutOfMemory>,
+    I: Source,
+    K: Sink,
+>(
     alloc: Global,
-    hand: &mut M::Hand,
+    hand: &H,
     program: &Program,
     names: &mut Names,
     matcher: M,
@@ -69,6 +75,7 @@ fn tell_session<M: Matcher, I: Source, K: Sink>(
     out: &mut Out,
     sink: &mut K,
 ) -> Result<Ending, Stop>
+    requires settles { Settles M.stored M.found M.stands_for (λ m cs. H.pre hand.now m cs) (λ m cs r. H.post hand.now m cs r) }
     requires stands { M.stands_for matcher program.now.rules }
     requires elements { (M.stored matcher).elements ≡ [] }
     requires last { (M.stored matcher).last ≡ 0 }
@@ -94,9 +101,14 @@ fn tell_session<M: Matcher, I: Source, K: Sink>(
 
 /// The answer to a program whose session runs over this matcher, makes at most this many firings, is summed up or not,
 /// and reads from this source.
-fn answer_over<M: Matcher, I: Source, K: Sink>(
+pub(crate) fn answer_over<
+    M: Matcher,
+    H: Fn(M, &[Change]) -> Result<Settled<M>, OutOfMemory>,
+    I: Source,
+    K: Sink,
+>(
     alloc: Global,
-    hand: &mut M::Hand,
+    hand: &H,
     program: &Program,
     names: &mut Names,
     matcher: M,
@@ -105,6 +117,7 @@ fn answer_over<M: Matcher, I: Source, K: Sink>(
     source: &mut I,
     sink: &mut K,
 ) -> Result<Status, Stop>
+    requires settles { Settles M.stored M.found M.stands_for (λ m cs. H.pre hand.now m cs) (λ m cs r. H.post hand.now m cs r) }
     requires stands { M.stands_for matcher program.now.rules }
     requires elements { (M.stored matcher).elements ≡ [] }
     requires last { (M.stored matcher).last ≡ 0 }
@@ -127,101 +140,6 @@ fn answer_over<M: Matcher, I: Source, K: Sink>(
     )?;
     out.flush(sink)?;
     Ok(status_of(ending))
-}
-
-/// The answer to a program, whose session runs over the serial engine and is summed up or not. The network is compiled.
-fn answer_serially<I: Source, K: Sink, G: Gate>(
-    alloc: Global,
-    program: &Program,
-    names: &mut Names,
-    options: &Options,
-    is_summed: bool,
-    source: &mut I,
-    sink: &mut K,
-    gate: &G,
-) -> Result<Status, Stop>
-    requires lines { 1 ≤ options.now.lines }
-    requires faults { K.faults sink.old < 2 ^ 63 }
-    requires reads { I.faults source.old < 2 ^ 63 }
-    requires some { 0 < length names.old.held }
-    requires held { IsTrue (is_held (length names.old.held) program.now.classes program.now.rules program.now.commands) }
-    ensures delivers { OfInput (I.left source.old) (I.left source.new) (nat_lt (I.faults source.old) (I.faults source.new))
-        (λ coming. Delivers result (told is_summed names.old program.now.rules
-        (session_of (setting_of program.now 0) options.now.limit program.now.commands names.old coming))
-        (K.taken sink.old) (K.faults sink.old) (K.taken sink.new) (K.faults sink.new)) }
-    ensures reads { TellsFailedInput (status_after result) (I.faults source.old) (I.faults source.new) }
-    ensures input { (got : List ℕ) × (I.left source.old ≡ prepend_known got (I.left source.new)) }
-    ensures unrefused { is_refused (status_after result) ≡ false }
-{
-    let net = compile(alloc, program)?;
-    let serial = SerialEngine::new(alloc, net, options.lines, gate)?;
-    answer_over(
-        alloc,
-        &mut (),
-        program,
-        names,
-        serial,
-        options.limit,
-        is_summed,
-        source,
-        sink,
-    )
-}
-
-/// The answer to a program, whose session runs over the engine that the options ask for, and is summed up or not. The
-/// network is compiled only where that engine needs one. Rounds run on the serial engine for now, and `rt` is not used
-/// yet.
-fn answer_program<R: Threads + Clone + Drop + Send + Sync, I: Source, K: Sink, G: Gate>(
-    rt: &R,
-    alloc: Global,
-    program: &Program,
-    names: &mut Names,
-    options: &Options,
-    is_summed: bool,
-    source: &mut I,
-    sink: &mut K,
-    gate: &G,
-) -> Result<Status, Stop>
-    requires lines { 1 ≤ options.now.lines }
-    requires faults { K.faults sink.old < 2 ^ 63 }
-    requires reads { I.faults source.old < 2 ^ 63 }
-    requires some { 0 < length names.old.held }
-    requires held { IsTrue (is_held (length names.old.held) program.now.classes program.now.rules program.now.commands) }
-    ensures delivers { OfInput (I.left source.old) (I.left source.new) (nat_lt (I.faults source.old) (I.faults source.new))
-        (λ coming. Delivers result (told is_summed names.old program.now.rules
-        (session_of (setting_of program.now 0) options.now.limit program.now.commands names.old coming))
-        (K.taken sink.old) (K.faults sink.old) (K.taken sink.new) (K.faults sink.new)) }
-    ensures reads { TellsFailedInput (status_after result) (I.faults source.old) (I.faults source.new) }
-    ensures input { (got : List ℕ) × (I.left source.old ≡ prepend_known got (I.left source.new)) }
-    ensures unrefused { is_refused (status_after result) ≡ false }
-{
-    let limit = options.limit;
-    match options.engine {
-        Engine::Direct => {
-            let direct = DirectEngine::new(alloc, program)?;
-            answer_over(
-                alloc,
-                &mut (),
-                program,
-                names,
-                direct,
-                limit,
-                is_summed,
-                source,
-                sink,
-            )
-        }
-        Engine::Serial => {
-            answer_serially(
-                alloc, program, names, options, is_summed, source, sink, gate,
-            )
-        }
-        Engine::Rounds => {
-            answer_serially(
-                alloc, program, names, options, is_summed, source, sink, gate,
-            )
-        }
-    }
 }
 
 /// The answer to a program: what its session writes, or how large its network is.

@@ -3,6 +3,7 @@
 
 mod answer;
 mod closing;
+mod engines;
 mod files;
 #[cfg(test)]
 mod gates;

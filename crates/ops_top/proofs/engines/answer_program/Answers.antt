@@ -5,7 +5,7 @@ use Rattle.ops_top.specs.Whole.{Reply, told}
 use Rattle.act_phase.specs.Outcomes.{setting_of}
 use Rattle.ops_top.proofs.Deliveries.{untold}
 use Rattle.ops_top.proofs.Inputs.{input_untouched}
-use Rattle.ops_top.proofs.answer.answer_program.Goals as goal
+use Rattle.ops_top.proofs.engines.answer_program.Goals as goal
 
 pub returns-in_err-direct-in-Direct-clause-delivers : goal.returns-in_err-direct-in-Direct-clause-delivers
 returns-in_err-direct-in-Direct-clause-delivers g c =
