@@ -80,11 +80,14 @@ pub(crate) fn answer<R: Threads + Wait + Clone + Drop + Send + Sync>(
 }
 
 /// Words that run the file `a`, with each engine.
-pub(crate) const ENGINES: [&[&str]; 4] = [
+pub(crate) const ENGINES: [&[&str]; 7] = [
     &["a"],
     &["--match", "serial", "a"],
     &["a", "--lines=1", "--match=serial"],
     &["--match=serial", "--lines", "65536", "a"],
+    &["--match", "rounds", "a", "--workers=1"],
+    &["--match=rounds", "--workers", "2", "a"],
+    &["a", "--match=rounds", "--workers=7", "--lines=9"],
 ];
 
 const USAGE: &[u8] =
