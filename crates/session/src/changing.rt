@@ -149,7 +149,11 @@ fn make_one<M: Matcher, H: Fn(M, &[Change]) -> Result<Settled<M>, OutOfMemory>, 
 
 /// The command `make`, which is one phase. Where no run was begun it waits, but is told at once; and once many wait,
 /// their phases are made before it.
-pub(crate) fn make_at_top<M: Matcher, H: Fn(M, &[Change]) -> Result<Settled<M>, OutOfMemory>, K: Sink>(
+pub(crate) fn make_at_top<
+    M: Matcher,
+    H: Fn(M, &[Change]) -> Result<Settled<M>, OutOfMemory>,
+    K: Sink,
+>(
     alloc: Global,
     hand: &H,
     program: &Program,
@@ -255,7 +259,11 @@ pub(crate) fn remove<M: Matcher, H: Fn(M, &[Change]) -> Result<Settled<M>, OutOf
 }
 
 /// The command `remove *`: removes all elements, which is one phase.
-pub(crate) fn remove_all<M: Matcher, H: Fn(M, &[Change]) -> Result<Settled<M>, OutOfMemory>, K: Sink>(
+pub(crate) fn remove_all<
+    M: Matcher,
+    H: Fn(M, &[Change]) -> Result<Settled<M>, OutOfMemory>,
+    K: Sink,
+>(
     alloc: Global,
     hand: &H,
     program: &Program,

@@ -83,7 +83,12 @@ fn run_from<M: Matcher, H: Fn(M, &[Change]) -> Result<Settled<M>, OutOfMemory>, 
 }
 
 /// Does one command.
-fn do_command<M: Matcher, H: Fn(M, &[Change]) -> Result<Settled<M>, OutOfMemory>, I: Source, K: Sink>(
+fn do_command<
+    M: Matcher,
+    H: Fn(M, &[Change]) -> Result<Settled<M>, OutOfMemory>,
+    I: Source,
+    K: Sink,
+>(
     alloc: Global,
     hand: &H,
     program: &Program,
@@ -200,7 +205,12 @@ fn do_each<M: Matcher, H: Fn(M, &[Change]) -> Result<Settled<M>, OutOfMemory>, I
 }
 
 /// Does the commands of a program from nothing. Working memory is left in the order of its tags, and nothing waits.
-pub(crate) fn do_commands<M: Matcher, H: Fn(M, &[Change]) -> Result<Settled<M>, OutOfMemory>, I: Source, K: Sink>(
+pub(crate) fn do_commands<
+    M: Matcher,
+    H: Fn(M, &[Change]) -> Result<Settled<M>, OutOfMemory>,
+    I: Source,
+    K: Sink,
+>(
     alloc: Global,
     hand: &H,
     program: &Program,

@@ -94,7 +94,11 @@ fn put_elements<K: Sink>(
 }
 
 /// The command `wm`: lists the elements of these tags, or all where no tag is given.
-pub(crate) fn list_elements<M: Matcher, H: Fn(M, &[Change]) -> Result<Settled<M>, OutOfMemory>, K: Sink>(
+pub(crate) fn list_elements<
+    M: Matcher,
+    H: Fn(M, &[Change]) -> Result<Settled<M>, OutOfMemory>,
+    K: Sink,
+>(
     alloc: Global,
     hand: &H,
     program: &Program,
@@ -263,7 +267,11 @@ fn put_standing<K: Sink>(
 }
 
 /// The command `cs`: lists the instantiations that have not fired, the dominant one first.
-pub(crate) fn list_standing<M: Matcher, H: Fn(M, &[Change]) -> Result<Settled<M>, OutOfMemory>, K: Sink>(
+pub(crate) fn list_standing<
+    M: Matcher,
+    H: Fn(M, &[Change]) -> Result<Settled<M>, OutOfMemory>,
+    K: Sink,
+>(
     alloc: Global,
     hand: &H,
     program: &Program,

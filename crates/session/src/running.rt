@@ -193,7 +193,12 @@ fn show<K: Sink>(out: &mut Out, sink: &mut K) -> Result<(), WriteFailed>
 /// made the last of its `limit` firings. It ends after a firing that did `halt`, after one whose production has a
 /// break, where it has made its number of firings, and where nothing is left to fire: these are looked at in this
 /// order, and the limit after them. Where someone reads along, what a firing put is written out after it.
-pub(crate) fn run<M: Matcher, H: Fn(M, &[Change]) -> Result<Settled<M>, OutOfMemory>, I: Source, K: Sink>(
+pub(crate) fn run<
+    M: Matcher,
+    H: Fn(M, &[Change]) -> Result<Settled<M>, OutOfMemory>,
+    I: Source,
+    K: Sink,
+>(
     alloc: Global,
     hand: &H,
     program: &Program,

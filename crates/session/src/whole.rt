@@ -38,7 +38,12 @@ fn ended<M: Matcher>(done: Result<Session<M>, Ending>) -> Result<Ending, Stop>
 
 /// Does the commands of a program in order, from nothing. Each symbol keeps its spelling, and wherever the session looks for
 /// instantiations it looks at the conflict set. Where a read fails, all that was put before is written out.
-pub fn run_session<M: Matcher, H: Fn(M, &[Change]) -> Result<Settled<M>, OutOfMemory>, I: Source, K: Sink>(
+pub fn run_session<
+    M: Matcher,
+    H: Fn(M, &[Change]) -> Result<Settled<M>, OutOfMemory>,
+    I: Source,
+    K: Sink,
+>(
     alloc: Global,
     hand: &H,
     program: &Program,
