@@ -324,7 +324,7 @@ fn a_world_is_put_together_of_its_parts(rt: HostRuntime) -> Result<(), Fail> {
     let mut world = first_world(rt.alloc(), &net, &store)?;
     come(rt.alloc(), &net, &store, &mut world, 2, 1)?;
     if world.in_flight() > 0 {
-        world.work(rt.alloc(), &net, &store)?;
+        world.work(rt.alloc(), &net, &store, &|_line: usize| ())?;
     }
     assert_eq!(rt; world.done(), 0);
     let parts = world.into_parts();
