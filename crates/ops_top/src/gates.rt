@@ -120,12 +120,13 @@ impl Gate for Meeting {
     }
 }
 
-/// The shards, of two, in which the tasks of element 1 for the network's joins have their lines, where there are this many.
-fn shards_of(alloc: Global, net: &Net, lines: usize) -> Result<Vec<usize>, OutOfMemory>
+/// Whether the tasks of element 1 for the network's joins have their lines in the upper one of two shards, where there
+/// are this many lines.
+fn are_upper(alloc: Global, net: &Net, lines: usize) -> Result<Vec<bool>, OutOfMemory>
     requires { 1 ≤ lines }
 {
     let store = Store::new(alloc);
-    let mut shards = Vec::new(alloc);
+    let mut upper = Vec::new(alloc);
     for (node, kind) in net.nodes().iter().map(|node| node.kind).enumerate() {
         if kind == Kind::Join {
             let task = Task {
@@ -135,17 +136,17 @@ fn shards_of(alloc: Global, net: &Net, lines: usize) -> Result<Vec<usize>, OutOf
                 token: Tags::from_slice(alloc, &[1])?,
             };
             let line = line_of(net, &store, &task, lines);
-            shards.push((line as u128 * 2 / lines as u128) as usize)?;
+            upper.push(line >= lines - line)?;
         }
     }
-    Ok(shards)
+    Ok(upper)
 }
 
 /// The least number of lines, from 2 on, with which these tasks are in different shards.
 fn lines_apart(alloc: Global, net: &Net) -> Result<usize, Fail> {
     for lines in 2..100 {
-        let shards = shards_of(alloc, net, lines)?;
-        if shards.first() != shards.last() {
+        let upper = are_upper(alloc, net, lines)?;
+        if upper.first() != upper.last() {
             return Ok(lines);
         }
     }
