@@ -17,6 +17,7 @@ use Rattle.token_line.specs.Bags.{Bag, after}
 use Rattle.token_line.specs.Held.{TaskFits}
 use Rattle.token_line.specs.Lawful.{IsChildOf, IsLawful}
 use Rattle.token_line.specs.Lines.{sum_in}
+use Rattle.token_line.specs.Numbers.{code_of}
 use Rattle.activation.specs.Acting.{Acts, IsCounted}
 use Rattle.step_core.specs.Machine.{Placing, Seen, add_entry, place_of, sums_at, with_entry}
 use Rattle.step_core.specs.Rounds.{HaveDone, NoneLaw, OneLaw}
@@ -138,9 +139,10 @@ shard_shared nodes s lines x old new made ps have is all = record {
 -- ---- tasks with their lines
 
 pub all_placed : (nodes : List Node) (s : Stored) (lines : ℕ) (ps : List Placed) (ts : List Task) → tasks_in ps ≡ ts → All (TaskFits nodes s) ts
-    → All (λ (p : Placed). (p.line ≡ place_of (placed (held_of s) nodes lines) p.task) × (p.line < lines)) ps → All (IsPlacedAt nodes s lines) ps
+    → All (λ (p : Placed). (p.line ≡ place_of (placed (held_of s) nodes lines) p.task) × ((p.line < lines) × (p.code ≡ code_of (held_of s) nodes p.task.node p.task.side p.task.token))) ps → All (IsPlacedAt nodes s lines) ps
 all_placed nodes s lines ps ts is fit all = λ k d low. record {
   fits = subst (TaskFits nodes s) (get_or-map (λ (q : Placed). q.task) ps k d) (All-get_or (TaskFits nodes s) (tasks_in ps) k d.task (omega (arith, low, length-map ps (λ (q : Placed). q.task))) (subst (All (TaskFits nodes s)) (sym is) fit));
   line = (all k d low).0;
-  below = (all k d low).1;
+  below = (all k d low).1.0;
+  code = (all k d low).1.1;
 }

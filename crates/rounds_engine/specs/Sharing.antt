@@ -9,6 +9,7 @@ use Rattle.token_line.specs.declared.line.Entry.{Entry}
 use Rattle.token_line.specs.declared.line.Line.{Line}
 use Rattle.token_line.specs.Held.{TaskFits}
 use Rattle.token_line.specs.Lawful.{IsLawful}
+use Rattle.token_line.specs.Numbers.{code_of}
 use Rattle.activation.specs.Acting.{IsCounted}
 use Rattle.step_core.specs.Machine.{add_entry, place_of, sums_at}
 use Rattle.step_core.specs.Rounds.{HaveDone}
@@ -21,11 +22,12 @@ use Rattle.rounds_engine.specs.declared.shards.Shard.{Shard}
 abbrev pub tasks_in : List Placed → List Task
 tasks_in ps = map (λ p. p.task) ps
 
--- the task fits, and this is its line, where there are so many
+-- the task fits, and this is its line, where there are this many, and its code
 pub record IsPlacedAt (nodes : List Node) (s : Stored) (lines : ℕ) (p : Placed) : Type 0 where
   pub fits : TaskFits nodes s p.task
   pub line : p.line ≡ place_of (placed (held_of s) nodes lines) p.task
   pub below : p.line < lines
+  pub code : p.code ≡ code_of (held_of s) nodes p.task.node p.task.side p.task.token
 
 -- ---- shards
 

@@ -47,15 +47,19 @@ fn most_alone(sharing: Sharing) -> Option<usize> {
     }
 }
 
-/// Whether two tasks in flight have lines in different shards. It looks at the tasks up to the first that has another
-/// shard than the first one.
+/// Whether two tasks in flight have lines in different shards. It looks up the lines of the tasks, up to the first that
+/// has another shard than the first one, and none where there is one shard.
 fn are_apart(net: &Net, store: &Store, world: &World, shards: usize) -> bool
     requires some { 1 ≤ shards }
     requires ready { IsReady net.now.nodes store.now world.now }
 {
+    let tasks = world.in_flight();
+    if shards < 2 || tasks < 2 {
+        return false;
+    }
     let lines = world.lines().len();
-    for index in 1..world.in_flight() {
-        let first = shard_of(world.line_at(net, store, 0), shards, lines);
+    let first = shard_of(world.line_at(net, store, 0), shards, lines);
+    for index in 1..tasks {
         if shard_of(world.line_at(net, store, index), shards, lines) != first {
             return true;
         }

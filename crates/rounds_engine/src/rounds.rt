@@ -3,13 +3,14 @@ ghost use Rattle.std.specs.Prelude.{◌≡◌, ◌≤◌, ◌<◌, ◌+◌, ◌-
 ghost use Rattle.std.specs.Thread.{IsSync};
 ghost use Rattle.work_store.specs.Stored.{held_of};
 ghost use Rattle.token_line.specs.Held.{TaskFits};
+ghost use Rattle.token_line.specs.Numbers.{code_of};
 ghost use Rattle.activation.specs.Acting.{IsCounted};
 ghost use Rattle.step_core.specs.Rounds.{HaveDone};
 ghost use Rattle.step_core.specs.Worlds.{placed, seen};
 ghost use Rattle.rounds_engine.specs.Sharing.{ActsAt, AreDeeper, AreJoined, AreKept, AreShards, CanShare, HasOwn, HaveShared, IsPlacedAt, first_of, lines_of, tasks_in, tasks_of_shards};
 
 use crate::shards::{Placed, Shard, place_all};
-use activation::activate;
+use activation::activate_coded;
 use net_base::net::Net;
 use net_base::tasks::Task;
 use ops_base::memory::OutOfMemory;
@@ -21,7 +22,7 @@ use token_line::Line;
 use work_store::Store;
 
 /// Does the task on its line, which is one of these; they are those from line `first` on. It costs what
-/// `activation::activate` costs. Where memory runs out nothing has changed.
+/// `activation::activate_coded` costs. Where memory runs out nothing has changed.
 fn do_task(
     alloc: Global,
     net: &Net,
@@ -32,14 +33,15 @@ fn do_task(
     made: &mut Vec<Task>,
 ) -> Result<(), OutOfMemory>
     requires fits { TaskFits net.now.nodes store.now placed.now.task }
+    requires code { placed.now.code ≡ code_of (held_of store.now) net.now.nodes placed.now.task.node placed.now.task.side placed.now.task.token }
     requires from { first ≤ placed.now.line }
     requires below { placed.now.line < first + length lines.old }
     requires counted { All (IsCounted net.now.nodes store.now) lines.old }
     ensures acts { OnOk result (ActsAt net.now.nodes store.now (placed.now.line - first) placed.now.task lines.old lines.new made.old.items made.new.items) }
     ensures kept { AreKept net.now.nodes store.now lines.old lines.new }
 {
-    let place = placed.line - first;
-    activate(alloc, net, store, &mut lines[place], &placed.task, made)
+    let line = &mut lines[placed.line - first];
+    activate_coded(alloc, net, store, line, &placed.task, placed.code, made)
 }
 
 /// Does the tasks of one shard on its lines, and answers their children, with their lines, in the order in which they

@@ -10,16 +10,17 @@ use net_base::net::Net;
 use net_base::tasks::Task;
 use ops_base::memory::OutOfMemory;
 use std::alloc::Global;
-use token_line::line_of;
+use token_line::{Place, place_of};
 use work_store::Store;
 
 /// How many tasks a further shard must take off the largest one to be worth a thread.
 const FEWEST: usize = 64;
 
-/// A task with the number of its line.
+/// A task with the number of its line, and its code.
 #[derive(Drop)]
 pub(crate) struct Placed {
     pub(crate) line: usize,
+    pub(crate) code: u64,
     pub(crate) task: Task,
 }
 
@@ -43,7 +44,8 @@ impl Shard {
     }
 }
 
-/// Each task with its line, where there are this many, in order. It costs what `token_line::line_of` costs for each task.
+/// Each task with its line, where there are this many, and its code, in order. It costs what `token_line::place_of` costs
+/// for each task.
 pub(crate) fn place_all(
     alloc: Global,
     net: &Net,
@@ -59,8 +61,8 @@ pub(crate) fn place_all(
     let mut all = Vec::new(alloc);
     all.reserve(tasks.len())?;
     for task in tasks {
-        let line = line_of(net, store, &task, lines);
-        all.push(Placed { line, task })?;
+        let Place { line, code } = place_of(net, store, &task, lines);
+        all.push(Placed { line, code, task })?;
     }
     Ok(all)
 }

@@ -101,7 +101,11 @@ fn placed(alloc: Global, line: usize) -> Result<Placed, OutOfMemory>
         plus: true,
         token: Tags::from_slice(alloc, &[1])?,
     };
-    Ok(Placed { line, task })
+    Ok(Placed {
+        line,
+        code: 0,
+        task,
+    })
 }
 
 // tasks of the lines 4, 0, 2 and 3 of five, dealt to two shards

@@ -12,15 +12,15 @@ returns-clause-acts c =
     let x = c.args.placed.now.task in
     let ls = c.args.lines.now in
     let k = c.args.placed.now.line - c.args.first in
-    let old = get_or ls k c.index-lines-place.result in
+    let old = get_or ls k c.index-lines-placed.result in
     let before = c.args.made.now.items in
-    let now = c.activate.new.out.items in
+    let now = c.activate_coded.new.out.items in
     let low : c.args.placed.now.line - c.args.first < length ls = (let a = c.requires.from in let b = c.requires.below in omega (arith, a, b)) in
-    on_ok _ _ c.activate.result (λ (acts : Acts nodes s x old c.activate.new.line before now). acts_at nodes s x old c.activate.new.line before now acts ls k low (ap (get_or ls k) c.index-lines-place.is)) c.activate.ensures.ok
+    on_ok _ _ c.activate_coded.result (λ (acts : Acts nodes s x old c.activate_coded.new.line before now). acts_at nodes s x old c.activate_coded.new.line before now acts ls k low (ap (get_or ls k) c.index-lines-placed.is)) c.activate_coded.ensures.ok
 
 pub returns-clause-kept : goal.returns-clause-kept
 returns-clause-kept c =
     let ls = c.args.lines.now in
     let k = c.args.placed.now.line - c.args.first in
-    let old = get_or ls k c.index-lines-place.result in
-    kept_set c.args.net.now.nodes c.args.store.now ls k old c.activate.new.line c.requires.counted (ap (get_or ls k) c.index-lines-place.is) c.activate.ensures.counted c.activate.ensures.number
+    let old = get_or ls k c.index-lines-placed.result in
+    kept_set c.args.net.now.nodes c.args.store.now ls k old c.activate_coded.new.line c.requires.counted (ap (get_or ls k) c.index-lines-placed.is) c.activate_coded.ensures.counted c.activate_coded.ensures.number
