@@ -1,5 +1,5 @@
 -- The steps of a phase from lines at rest to a counter of 0 are a bundle.
-use Rattle.std.proofs.Common.{◌≡◌, ℕ, zero, suc, ◌+◌, ◌<◌, ◌≤◌, List, [], ◌∷◌, ◌++◌, refl, sym, ap, ap₂, subst, ◌∙◌, arith, length, map, slice_get, Some, append-nil}
+use Rattle.std.proofs.Common.{◌≡◌, zero, suc, List, [], ◌∷◌, refl, sym, ap, subst, ◌∙◌, arith, length, map}
 use Rattle.std.proofs.lemmas.List.{length-map}
 use Rattle.ops_base.specs.declared.elements.Change.{Change}
 use Rattle.ops_base.specs.declared.elements.Element.{Element}
@@ -7,16 +7,15 @@ use Rattle.work_store.specs.Stored.{Stored, held_of}
 use Rattle.net_base.specs.declared.nodes.Node.{Node}
 use Rattle.net_base.specs.declared.nodes.Alpha.{Alpha}
 use Rattle.net_base.specs.Sound.{IsSound}
-use Rattle.net_base.specs.Tokens.{Elements}
 use Rattle.step_core.specs.declared.world.World.{World}
-use Rattle.step_core.specs.Machine.{Placing, Seen, Steps, Clear, cleared, changes_of}
+use Rattle.step_core.specs.Machine.{Placing, Seen, Steps, Clear, cleared}
 use Rattle.step_core.specs.Phases.{HoldJust, sums_over, now, IsBundle}
 use Rattle.step_core.specs.Laws.{AreEmpty, IsAtRest, SettleLaw}
 use Rattle.step_core.specs.Settling.{PlacedLaw}
 use Rattle.step_core.specs.Doing.{entry_of}
-use Rattle.step_core.specs.Worlds.{placed, seen, world_of, numbers_of, IsReady}
+use Rattle.step_core.specs.Worlds.{placed, seen, world_of, numbers_of}
 use Rattle.serial_engine.specs.Running.{HasRun, Went, IsBundleOf}
-use Rattle.serial_engine.proofs.StepLemmas.{same_count, went_on}
+use Rattle.serial_engine.proofs.StepLemmas.{same_count}
 
 empty_cleared : (ls : List Seen) → AreEmpty (map cleared ls)
 empty_cleared [] i l at = absurd (cc)

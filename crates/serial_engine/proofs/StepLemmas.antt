@@ -1,8 +1,8 @@
 -- One run after another, and the last task in flight.
-use Rattle.std.proofs.Common.{inl, inr, ◌≡◌, ℕ, zero, suc, ◌+◌, ◌-◌, ◌<◌, ◌≤◌, List, [], ◌∷◌, ◌++◌, refl, sym, ap, ap₂, subst, ◌∙◌, arith, length, map, take, drop, remove, slice_get, Option, Some, None, length-append, append-nil}
+use Rattle.std.proofs.Common.{inl, inr, ◌≡◌, ℕ, zero, suc, ◌+◌, ◌-◌, ◌<◌, ◌≤◌, List, [], ◌∷◌, ◌++◌, refl, sym, ap, ap₂, subst, ◌∙◌, arith, length, take, slice_get, Some}
 use Rattle.std.specs.List.{All}
 use Rattle.std.proofs.lemmas.Grind.{flat_map-append}
-use Rattle.std.proofs.lemmas.List.{drop_all, take-take, length-take-le}
+use Rattle.std.proofs.lemmas.List.{take-take, length-take-le}
 use Rattle.std.proofs.lemmas.List.Elements.{All-get_or}
 use Rattle.std.proofs.lemmas.Option.{slice_get_within, get_or_from_slice_get, slice_get_cases}
 use Rattle.std.proofs.lemmas.List.{length-map}
@@ -18,7 +18,7 @@ use Rattle.net_base.specs.declared.nodes.Node.{Node}
 use Rattle.net_base.specs.declared.nodes.Alpha.{Alpha}
 use Rattle.net_base.specs.declared.tasks.Task.{Task}
 use Rattle.net_base.specs.Tokens.{Elements}
-use Rattle.step_core.specs.Machine.{Placing, World, Step, Feed, Activate, Finish, Clear, Steps, Run, change_in, changes_of, Activates, Finishes}
+use Rattle.step_core.specs.Machine.{Placing, World, Step, Feed, Activate, Finish, Clear, Steps, Run, change_in}
 use Rattle.step_core.specs.Laws.{NoClear}
 use Rattle.step_core.specs.Settling.{ChildLaw}
 use Rattle.serial_engine.specs.Running.{HasRun, Went}

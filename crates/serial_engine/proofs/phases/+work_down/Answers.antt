@@ -1,7 +1,6 @@
 -- The last task in flight is a child as long as one is left, so its node stands after that of the task.
 use Rattle.std.proofs.Common.{◌≡◌, ◌≤◌, ◌<◌, ◌+◌, ◌-◌, ℕ, [], ◌++◌, length, length-append, map, take, sym, ap, ◌∙◌, arith}
 use Rattle.std.proofs.lemmas.List.{take_all}
-use Rattle.net_base.specs.declared.tasks.Task.{Task}
 use Rattle.token_line.specs.Lawful.{IsChildOf}
 use Rattle.step_core.specs.Doing.{entry_of}
 use Rattle.step_core.specs.Working.{but_last}

@@ -1,5 +1,5 @@
 -- Nothing is under way where the phase begins and where it ends.
-use Rattle.std.proofs.Common.{[], length, map, sym, ap, subst, ◌∙◌}
+use Rattle.std.proofs.Common.{length, map, sym, ap, subst, ◌∙◌}
 use Rattle.std.specs.List.{All}
 use Rattle.std.proofs.lemmas.List.Elements.{All-nil}
 use Rattle.work_store.specs.Stored.{held_of}

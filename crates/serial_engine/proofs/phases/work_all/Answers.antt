@@ -1,6 +1,5 @@
 -- One task less is left.
-use Rattle.std.proofs.Common.{◌≡◌, ◌≤◌, ◌<◌, ◌+◌, ◌-◌, ℕ, [], ◌++◌, length, take, sym, ap, ◌∙◌, arith}
-use Rattle.std.proofs.lemmas.List.{take_all}
+use Rattle.std.proofs.Common.{◌≡◌, ◌+◌, ◌-◌, ℕ, [], length, take, sym, ap, ◌∙◌, arith}
 use Rattle.serial_engine.proofs.StepLemmas.{one_less, went_on}
 use Rattle.serial_engine.proofs.phases.work_all.Goals as goal
 

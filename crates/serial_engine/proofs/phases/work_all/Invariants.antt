@@ -1,5 +1,5 @@
 -- Some of the tasks are left, the others are done with all that came of them.
-use Rattle.std.proofs.Common.{◌≡◌, ◌+◌, ◌-◌, ℕ, [], false, length, take}
+use Rattle.std.proofs.Common.{◌≡◌, ◌-◌, [], false, length, take}
 use Rattle.step_core.specs.Worlds.{IsReady, numbers_of, world_of}
 use Rattle.serial_engine.specs.Running.{Went, is_full}
 use Rattle.serial_engine.proofs.phases.work_all.Given as goal
