@@ -8,3 +8,7 @@ pub mod Holding
 pub mod WorkerRounds
 pub mod Ending
 pub mod Opened
+pub mod Joined
+pub mod LinesBack
+pub mod SharedLines
+pub mod Results

@@ -8,3 +8,4 @@ pub mod Counts
 pub mod Turns
 pub mod Ends
 pub mod Openings
+pub mod Teams

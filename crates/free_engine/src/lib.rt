@@ -3,8 +3,10 @@
 
 pub mod acts;
 pub mod cells;
+pub mod closing;
 pub mod laws;
 pub mod opening;
 pub mod slots;
+pub mod team;
 pub mod turns;
 pub mod working;
