@@ -7,6 +7,7 @@ pub mod closing;
 pub mod laws;
 pub mod opening;
 pub mod slots;
+pub mod starting;
 pub mod team;
 pub mod turns;
 pub mod working;
