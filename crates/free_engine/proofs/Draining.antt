@@ -1,9 +1,9 @@
 -- Where all is done that waited, and all that came of it, nothing waits.
-use Rattle.std.proofs.Common.{◌≡◌, ℕ, ◌+◌, List, [], ◌∷◌, ◌++◌, map, sum_by, sym, subst, arith}
+use Rattle.std.proofs.Common.{[], ◌++◌, sym, subst, arith}
 use Rattle.std.proofs.lemmas.List.Sums.{sum_by-append}
 use Rattle.step_core.specs.Machine.{fed_by_all}
 use Rattle.step_core.specs.Phases.{HoldJust, sums_over, tasks_of, children_of, entries_of}
-use Rattle.free_engine.specs.Drained.{AreDrained, DrainLaw}
+use Rattle.free_engine.specs.Drained.{DrainLaw}
 
 pub drain_law : DrainLaw
 drain_law elements alphas nodes line wm changes old new waiting way did = record {

@@ -1,16 +1,15 @@
 -- From the cells as they are set up to closed lines, at which nothing waits.
-use Rattle.std.proofs.Common.{◌≡◌, ℕ, zero, suc, ◌+◌, List, [], ◌∷◌, length, sym, ap, subst, ◌∙◌, refl, arith}
+use Rattle.std.proofs.Common.{◌≡◌, ℕ, suc, ◌+◌, List, [], ◌∷◌, length, ap, ◌∙◌, refl, arith}
 use lib.ListN.{get_elem?}
 use Rattle.work_store.specs.Stored.{Stored, held_of}
 use Rattle.net_base.specs.declared.net.Net.{Net}
 use Rattle.net_base.specs.declared.tasks.Task.{Task}
 use Rattle.step_core.specs.Worlds.{placed}
-use Rattle.turn_table.specs.Log.{IsAt}
 use Rattle.turn_table.proofs.Lists.{at-slice_get}
 use Rattle.free_engine.specs.declared.slots.Slot.{Slot}
 use Rattle.free_engine.specs.declared.slots.Slot.TheVariants.{Queue, Row as OfRow}
 use Rattle.free_engine.specs.Tables.{BeganWith, IsRowOf, lines_in}
-use Rattle.free_engine.specs.Turns.{HasPool, HasRow, IsSetUp}
+use Rattle.free_engine.specs.Turns.{HasPool, HasRow}
 use Rattle.free_engine.specs.Ends.{SetUpLaw, EndLaw}
 use Rattle.free_engine.proofs.Draining.{drain_law}
 use Rattle.free_engine.proofs.Shared.{share_law}

@@ -1,7 +1,6 @@
 -- What a claim tells of a slot, and of what the worker holds.
-use Rattle.std.proofs.Common.{◌≡◌, ◌≢◌, ℕ, zero, suc, ◌+◌, ◌<◌, ◌^◌, eqb, eq-eqb, ne_eqb, Bool, true, false, List, [], ◌∷◌, ◌++◌, map, length, drop, refl, sym, ap, subst, ◌∙◌, arith, append-nil}
+use Rattle.std.proofs.Common.{◌≡◌, ◌≢◌, ℕ, ◌+◌, ◌<◌, ◌^◌, eq-eqb, ne_eqb, Bool, true, false, List, [], ◌∷◌, ◌++◌, map, length, refl, sym, ap, subst, ◌∙◌, arith, append-nil}
 use mathlib.Core.Logic.{dite}
-use mathlib.Core.Option.{some}
 use native.Mathlib.Decide.{ℕ_discrete}
 use Rattle.turn_table.proofs.Bounds.{length-map}
 use Rattle.work_store.specs.Stored.{Stored, held_of}
@@ -12,10 +11,8 @@ use Rattle.net_base.specs.declared.tasks.Task.{Task}
 use Rattle.turn_table.specs.declared.views.Row.{Row}
 use Rattle.turn_table.specs.declared.views.Sight.{Sight}
 use Rattle.turn_table.specs.declared.views.View.{View}
-use Rattle.turn_table.specs.Log.{IsAt, given_to, signed_by, as_rows}
+use Rattle.turn_table.specs.Log.{IsAt, given_to, signed_by}
 use Rattle.turn_table.specs.Steps.{Comes}
-use Rattle.turn_table.specs.Views.{after_claim, after_turn}
-use Rattle.turn_table.proofs.Lists.{at-slice_get}
 use Rattle.turn_table.proofs.Rows.{given_to-append}
 use Rattle.task_pool.specs.declared.pool.PoolEntry.{PoolEntry}
 use Rattle.task_pool.specs.declared.pool.PoolEntry.TheVariants.{Take, Finish, Stop}
@@ -24,7 +21,6 @@ use Rattle.free_engine.specs.declared.slots.Slot.{Slot}
 use Rattle.free_engine.specs.declared.slots.Slot.TheVariants.{Queue, Row as OfRow}
 use Rattle.free_engine.specs.declared.slots.SlotEntry.{SlotEntry}
 use Rattle.free_engine.specs.declared.slots.SlotEntry.TheVariants.{OfPool, OfLine}
-use Rattle.free_engine.specs.declared.slots.SlotName.{SlotName}
 use Rattle.free_engine.specs.Slots.{entries, name, signature, worker_of, pool_list, IsPool, IsSlotFor, workers_in, nodes_in, store_in, first_in}
 use Rattle.free_engine.specs.Turns.{HasPool, HasRow, IsSetUp, holds_slots, has_taken, a_row}
 use Rattle.free_engine.specs.Counts.{SawQuiet}

@@ -7,7 +7,6 @@ use lib.ListN.{get_elem?}
 use Rattle.net_base.specs.declared.tasks.Task.{Task}
 use Rattle.turn_table.specs.declared.views.Share.{Share}
 use Rattle.turn_table.specs.declared.views.Sight.{Sight}
-use Rattle.turn_table.specs.Log.{IsAt}
 use Rattle.free_engine.specs.declared.slots.SlotEntry.{SlotEntry}
 use Rattle.free_engine.specs.Counts.{HasWorked, SawQuiet}
 use Rattle.free_engine.specs.Teams.{AllJoined}

@@ -1,5 +1,5 @@
 -- Cells that are made one after another, and lines that are taken out of them.
-use Rattle.std.proofs.Common.{◌≡◌, ℕ, List, [], ◌∷◌, ◌++◌, refl, sym, ap, ◌∙◌}
+use Rattle.std.proofs.Common.{◌≡◌, ℕ, List, [], ◌∷◌, ◌++◌, refl, ap, ◌∙◌}
 use Rattle.work_store.specs.Stored.{Stored}
 use Rattle.net_base.specs.declared.net.Net.{Net}
 use Rattle.net_base.specs.declared.tasks.Task.{Task}

@@ -1,5 +1,5 @@
 -- What all workers did together.
-use Rattle.std.proofs.Common.{◌≡◌, ℕ, ◌+◌, ◌<◌, ◌≤◌, List, [], ◌∷◌, ◌++◌, length, map, sum_by, refl, sym, ap, ap₂, ◌∙◌, subst, suc, zero, arith, append-nil, slice_get, Some, option_map}
+use Rattle.std.proofs.Common.{◌≡◌, ℕ, ◌+◌, ◌<◌, List, [], ◌∷◌, ◌++◌, length, map, sum_by, refl, sym, ap, ap₂, ◌∙◌, subst, suc, zero, arith, append-nil, slice_get, Some, option_map}
 use Rattle.std.proofs.lemmas.Option.{slice_get-map}
 use Rattle.std.proofs.lemmas.List.Sums.{sum_by-append}
 use mathlib.Core.Option.{some, some-injective, some-ne-none}
@@ -7,7 +7,7 @@ use lib.ListN.{get_elem?}
 use Rattle.work_store.specs.Stored.{Stored, held_of}
 use Rattle.net_base.specs.declared.nodes.Node.{Node}
 use Rattle.net_base.specs.declared.tasks.Task.{Task}
-use Rattle.step_core.specs.Machine.{Placing, Seen}
+use Rattle.step_core.specs.Machine.{Seen}
 use Rattle.step_core.specs.Phases.{tasks_of, children_of, before, entries_of, IsPhase}
 use Rattle.step_core.specs.Worlds.{placed, seen}
 use Rattle.step_core.proofs.Adding.{bag_ext}
@@ -19,16 +19,15 @@ use Rattle.turn_table.specs.Log.{IsAt, Begins, given_to, rows_of, weigh, sum_bel
 use Rattle.turn_table.specs.Ends.{Accounts}
 use Rattle.turn_table.proofs.Lists.{all_at}
 use Rattle.task_pool.specs.declared.pool.PoolEntry.{PoolEntry}
-use Rattle.task_pool.specs.Pools.{IsRun, begun, played, taken_in, given_in, IsQuiet}
+use Rattle.task_pool.specs.Pools.{IsRun, begun, played, IsQuiet}
 use Rattle.task_pool.proofs.PoolLaws.{balance, quiet_law}
 use Rattle.free_engine.specs.declared.slots.Slot.{Slot}
 use Rattle.free_engine.specs.declared.slots.Slot.TheVariants.{Queue, Row as OfRow}
 use Rattle.free_engine.specs.declared.slots.SlotEntry.{SlotEntry}
 use Rattle.free_engine.specs.declared.slots.SlotEntry.TheVariants.{OfPool}
-use Rattle.free_engine.specs.declared.slots.SlotName.{SlotName}
 use Rattle.free_engine.specs.Slots.{IsFresh, entries, name, signature}
 use Rattle.free_engine.specs.Phased.{KeepsPhase}
-use Rattle.free_engine.specs.Tables.{IsLineOf, IsRowOf, BeganWith, seen_in, lines_in, IsTable}
+use Rattle.free_engine.specs.Tables.{IsRowOf, BeganWith, seen_in, lines_in, IsTable}
 use Rattle.free_engine.specs.Counts.{HasWorked, HaveWorked, SawQuiet, AreFresh, ShareLaw}
 use Rattle.free_engine.specs.Drained.{AreDrained}
 use Rattle.free_engine.proofs.Weights.{entered, made, taken, given, at, spread, pool_taken, pool_given, lines_entered, lines_made, one_cell, many_cells, rounds_entered, rounds_made}

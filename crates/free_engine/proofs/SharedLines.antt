@@ -6,7 +6,7 @@ use Rattle.net_base.specs.declared.net.Net.{Net}
 use Rattle.net_base.specs.declared.tasks.Task.{Task}
 use Rattle.token_line.specs.declared.line.Line.{Line}
 use Rattle.activation.specs.Acting.{IsCounted}
-use Rattle.step_core.specs.Worlds.{AreNumbered, placed, seen}
+use Rattle.step_core.specs.Worlds.{AreNumbered, placed}
 use Rattle.step_core.specs.Rounds.{IsUnderWay}
 use Rattle.rounds_engine.specs.Carrying.{CarriesOn}
 use Rattle.turn_table.specs.declared.views.Row.{Row}

@@ -1,5 +1,5 @@
 -- What is taken fits, and what still waits fits.
-use Rattle.std.proofs.Common.{◌≡◌, List, [], ◌∷◌, zero, subst, arith, sym}
+use Rattle.std.proofs.Common.{List, zero, subst, arith, sym}
 use Rattle.std.specs.List.{All}
 use Rattle.work_store.specs.Stored.{Stored}
 use Rattle.net_base.specs.declared.nodes.Node.{Node}

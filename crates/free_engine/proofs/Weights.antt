@@ -1,5 +1,5 @@
 -- Weights of rows, by cell and by worker.
-use Rattle.std.proofs.Common.{◌≡◌, ℕ, ◌+◌, ◌<◌, ◌≤◌, ◌≢◌, eq-eqb, ne_eqb, List, [], ◌∷◌, ◌++◌, length, map, sum_by, refl, sym, ap, ◌∙◌, suc, zero, arith}
+use Rattle.std.proofs.Common.{◌≡◌, ℕ, ◌+◌, ◌<◌, ◌≤◌, ◌≢◌, eq-eqb, ne_eqb, List, [], ◌∷◌, ◌++◌, length, map, sum_by, refl, ap, ◌∙◌, suc, zero, arith}
 use Rattle.std.specs.Prelude.{if◌then◌else◌, ◌==◌}
 use Rattle.std.proofs.lemmas.List.Sums.{sum_by-append, sum_by-cons}
 use mathlib.Core.Logic.{dite}
@@ -8,7 +8,6 @@ use mathlib.Core.Option.{some}
 use lib.ListN.{get_elem?}
 use Rattle.net_base.specs.declared.tasks.Task.{Task}
 use Rattle.token_line.specs.declared.line.Entry.{Entry}
-use Rattle.step_core.specs.Machine.{Seen}
 use Rattle.step_core.specs.Phases.{tasks_of, children_of, entries_of}
 use Rattle.step_core.proofs.Adding.{tasks_weight, children_weight}
 use Rattle.turn_table.specs.declared.views.Row.{Row}

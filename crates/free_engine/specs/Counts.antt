@@ -17,7 +17,6 @@ use Rattle.task_pool.specs.Pools.{IsQuiet}
 use Rattle.free_engine.specs.declared.slots.Slot.{Slot}
 use Rattle.free_engine.specs.declared.slots.SlotEntry.{SlotEntry}
 use Rattle.free_engine.specs.declared.slots.SlotEntry.TheVariants.{OfPool, OfLine}
-use Rattle.free_engine.specs.declared.slots.SlotName.{SlotName}
 use Rattle.free_engine.specs.Slots.{IsFresh, entries, name, signature}
 use Rattle.free_engine.specs.Tables.{IsTable, lines_in}
 use Rattle.free_engine.specs.Drained.{AreDrained}

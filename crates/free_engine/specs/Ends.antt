@@ -9,7 +9,6 @@ use Rattle.net_base.specs.declared.nodes.Node.{Node}
 use Rattle.net_base.specs.declared.tasks.Task.{Task}
 use Rattle.step_core.specs.Worlds.{placed}
 use Rattle.turn_table.specs.declared.views.Row.{Row}
-use Rattle.turn_table.specs.Log.{IsAt}
 use Rattle.turn_table.specs.Ends.{Accounts}
 use Rattle.free_engine.specs.Slots.{entries, name, signature}
 use Rattle.free_engine.specs.Tables.{IsTable, lines_in}

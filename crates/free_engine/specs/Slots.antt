@@ -1,7 +1,6 @@
 -- What a slot stands for: the pool or a line.
-use Rattle.std.specs.Prelude.{◌≡◌, ℕ, ◌+◌, List, [], ◌∷◌, ◌++◌, Option, Some, None, map, length}
+use Rattle.std.specs.Prelude.{◌≡◌, ℕ, ◌+◌, List, [], ◌∷◌, ◌++◌, Option, Some, None, map}
 use Rattle.net_base.specs.declared.tasks.Task.{Task}
-use Rattle.token_line.specs.declared.line.Entry.{Entry}
 use Rattle.token_line.specs.Numbers.{line_number}
 use Rattle.task_pool.specs.declared.pool.PoolEntry.{PoolEntry}
 use Rattle.task_pool.specs.declared.pool.PoolEntry.TheVariants.{Take, Finish, Stop}

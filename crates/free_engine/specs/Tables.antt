@@ -1,12 +1,11 @@
 -- Cells in which a pool and lines stand.
-use Rattle.std.specs.Prelude.{◌≡◌, ℕ, ◌+◌, List, [], ◌∷◌, pos, map, length, slice_get, Some}
+use Rattle.std.specs.Prelude.{◌≡◌, ℕ, List, [], ◌∷◌, pos, map, length, slice_get, Some}
 use Rattle.work_store.specs.Stored.{Stored}
 use Rattle.net_base.specs.declared.nodes.Node.{Node}
 use Rattle.net_base.specs.declared.tasks.Task.{Task}
 use Rattle.step_core.specs.Machine.{Seen}
 use Rattle.step_core.specs.Worlds.{seen}
 use Rattle.free_engine.specs.declared.cells.LineCell.{LineCell}
-use Rattle.free_engine.specs.declared.cells.PoolCell.{PoolCell}
 use Rattle.free_engine.specs.declared.slots.Slot.{Slot}
 use Rattle.free_engine.specs.declared.slots.Slot.TheVariants.{Queue, Row}
 

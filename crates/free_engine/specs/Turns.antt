@@ -1,9 +1,8 @@
 -- What turns of a worker add to its rows.
-use Rattle.std.specs.Prelude.{◌≡◌, ℕ, ◌+◌, Bool, true, false, List, [], ◌∷◌, ◌++◌, length}
-use Rattle.work_store.specs.Stored.{Stored, held_of}
+use Rattle.std.specs.Prelude.{◌≡◌, ℕ, ◌+◌, Bool, false, List, [], ◌∷◌, ◌++◌, length}
+use Rattle.work_store.specs.Stored.{Stored}
 use Rattle.net_base.specs.declared.net.Net.{Net}
 use Rattle.net_base.specs.declared.tasks.Task.{Task}
-use Rattle.token_line.specs.declared.line.Entry.{Entry}
 use Rattle.turn_table.specs.declared.views.Row.{Row as ARow}
 use Rattle.turn_table.specs.declared.views.View.{View}
 use Rattle.turn_table.specs.Log.{IsAt, given_to}
@@ -17,7 +16,7 @@ use Rattle.free_engine.specs.declared.slots.Slot.{Slot}
 use Rattle.free_engine.specs.declared.slots.Slot.TheVariants.{Queue, Row}
 use Rattle.free_engine.specs.declared.slots.SlotEntry.{SlotEntry}
 use Rattle.free_engine.specs.declared.slots.SlotEntry.TheVariants.{OfPool, OfLine}
-use Rattle.free_engine.specs.Counts.{Round, rows_of_round, SawQuiet}
+use Rattle.free_engine.specs.Counts.{SawQuiet}
 
 -- ---- the cells of a phase
 

@@ -1,5 +1,5 @@
 -- The closed cells account for all that the workers did.
-use Rattle.std.proofs.Common.{◌≡◌, ◌∙◌, [], List, length, map, sym, subst}
+use Rattle.std.proofs.Common.{◌≡◌, ◌∙◌, [], List, map, sym, subst}
 use Rattle.std.specs.List.{All}
 use Rattle.token_line.specs.declared.line.Line.{Line}
 use Rattle.activation.specs.Acting.{IsCounted}

@@ -1,5 +1,5 @@
 -- A line more, or the pool, which has none.
-use Rattle.std.proofs.Common.{◌≡◌, List, [], ◌∷◌, ◌++◌, ap, ◌∙◌, sym, append-nil}
+use Rattle.std.proofs.Common.{List, [], ◌∷◌, ◌++◌, ap, ◌∙◌, sym, append-nil}
 use Rattle.token_line.specs.declared.line.Line.{Line}
 use Rattle.free_engine.specs.declared.slots.Slot.{Slot}
 use Rattle.free_engine.specs.Openings.{rows_in}

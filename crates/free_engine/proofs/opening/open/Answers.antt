@@ -1,5 +1,5 @@
 -- The pool stands first, and each line after those before it.
-use Rattle.std.proofs.Common.{◌≡◌, [], ◌∷◌, ◌++◌, ap, ◌∙◌}
+use Rattle.std.proofs.Common.{[], ◌∷◌, ◌++◌, ap, ◌∙◌}
 use Rattle.free_engine.proofs.Opened.{one_more_row}
 use Rattle.free_engine.proofs.opening.open.Goals as goal
 

@@ -1,5 +1,5 @@
 -- One pass more is joined.
-use Rattle.std.proofs.Common.{rules, arith, ◌≡◌, ℕ, ◌+◌, ◌<◌, List, [], ◌∷◌, ◌++◌, length, length-append, get_or, IsTrue, ap, ap₂, ◌∙◌, sym, subst, refl, suc, true, false}
+use Rattle.std.proofs.Common.{rules, arith, ◌≡◌, ℕ, ◌+◌, List, [], ◌∷◌, ◌++◌, length, length-append, get_or, IsTrue, ap, ap₂, ◌∙◌, sym, subst, refl, suc}
 use Rattle.std.specs.Vec.Iter.{into_iter_items, into_iter_len}
 use Rattle.std.specs.Prelude.{Bool}
 use Rattle.turn_table.specs.Turns.{knows}

@@ -1,5 +1,5 @@
 -- Some passes are joined.
-use Rattle.std.proofs.Common.{◌≡◌, ℕ, ◌+◌, ◌<◌, [], length, get_or, IsTrue}
+use Rattle.std.proofs.Common.{◌≡◌, ℕ, ◌+◌, ◌<◌, length, get_or, IsTrue}
 use Rattle.std.specs.Vec.Iter.{into_iter_items, into_iter_len}
 use Rattle.turn_table.specs.Turns.{knows}
 use Rattle.free_engine.specs.Counts.{SawQuiet}

@@ -1,6 +1,6 @@
 -- The worker's number is one below that of its pass.
-use Rattle.std.proofs.Common.{◌≡◌, ℕ, ◌+◌, ◌-◌, ◌∙◌, subst, sym, arith}
-use Rattle.turn_table.specs.Turns.{knows, number}
+use Rattle.std.proofs.Common.{◌≡◌, ◌-◌, subst, arith}
+use Rattle.turn_table.specs.Turns.{knows}
 use Rattle.free_engine.specs.Counts.{HasWorked}
 use Rattle.free_engine.proofs.team.work_with.Goals as goal
 

@@ -1,12 +1,7 @@
-use Rattle.std.proofs.Common.{rules, ◌≡◌, ◌<◌, ◌+◌, ℕ, List, sym, ap, subst, ◌∙◌, true, false, arith}
-use Rattle.std.specs.List.{All}
-use Rattle.net_base.specs.declared.tasks.Task.{Task}
-use Rattle.turn_table.specs.Turns.{first_values, knows, turn_knows}
-use Rattle.turn_table.specs.Log.{signed_by, given_to}
-use Rattle.task_pool.specs.Pools.{holds}
-use Rattle.free_engine.specs.Slots.{entries, signature, IsPool, IsSlotFor, pool_list, nodes_in, store_in}
-use Rattle.token_line.specs.Held.{TaskFits}
-use Rattle.free_engine.proofs.Holding.{comes_pool, comes_row, is_pool, is_slot, comes_holds, pool_facts, few}
+use Rattle.std.proofs.Common.{ℕ, sym, subst}
+use Rattle.turn_table.specs.Turns.{first_values, knows}
+use Rattle.free_engine.specs.Slots.{IsSlotFor}
+use Rattle.free_engine.proofs.Holding.{comes_row, is_slot, few}
 use Rattle.free_engine.proofs.turns.enter_one.Goals as goal
 
 pub activate_in-requires-clause-line : goal.activate_in-requires-clause-line

@@ -1,4 +1,4 @@
-use Rattle.std.proofs.Common.{rules, ◌≡◌, ◌<◌, ◌+◌, ℕ, List, sym, ap, subst, ◌∙◌, false}
+use Rattle.std.proofs.Common.{◌≡◌, ◌<◌, ℕ, List, sym, ap, subst, ◌∙◌, false}
 use Rattle.net_base.specs.declared.tasks.Task.{Task}
 use Rattle.turn_table.specs.Turns.{first_values, knows, turn_knows}
 use Rattle.turn_table.specs.Log.{signed_by, given_to}

@@ -1,4 +1,4 @@
-use Rattle.std.proofs.Common.{rules, ◌≡◌, ◌+◌, ◌++◌, ℕ, sym, ap, subst, ◌∙◌, true}
+use Rattle.std.proofs.Common.{◌≡◌, ◌++◌, ℕ, ap, subst, ◌∙◌}
 use Rattle.work_store.specs.Stored.{held_of}
 use Rattle.token_line.specs.Numbers.{line_number}
 use Rattle.turn_table.specs.Turns.{knows}

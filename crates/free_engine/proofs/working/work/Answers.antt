@@ -1,4 +1,4 @@
-use Rattle.std.proofs.Common.{◌≡◌, ℕ, subst}
+use Rattle.std.proofs.Common.{ℕ, subst}
 use Rattle.turn_table.specs.Turns.{knows}
 use Rattle.free_engine.specs.Ends.{RoundDone}
 use Rattle.free_engine.proofs.WorkerRounds.{one_more, round_free}

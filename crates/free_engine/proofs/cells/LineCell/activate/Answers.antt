@@ -1,5 +1,5 @@
 -- The line has an entry more, or is as it was.
-use Rattle.std.proofs.Common.{◌≡◌, ◌++◌, ◌∷◌, [], ℕ, List, sym, ap, subst, ◌∙◌}
+use Rattle.std.proofs.Common.{◌≡◌, ◌++◌, ℕ, List, sym, ap, subst, ◌∙◌}
 use Rattle.std.specs.List.{All}
 use Rattle.net_base.specs.declared.tasks.Side.{Side}
 use Rattle.token_line.specs.Held.{TaskFits}
