@@ -1,11 +1,11 @@
 -- One entry more.
-use Rattle.std.proofs.Common.{◌≡◌, ℕ, ◌+◌, ◌-◌, ◌<◌, List, [], ◌∷◌, ◌++◌, length, true, false, sym, ap, ◌∙◌, refl, subst, arith}
+use Rattle.std.proofs.Common.{◌≡◌, ℕ, ◌+◌, ◌-◌, ◌<◌, List, [], ◌∷◌, ◌++◌, length, true, false, sym, ap, ◌∙◌, refl, arith}
 use Rattle.std.specs.Prelude.{Option, Some, None}
 use Rattle.std.specs.Option.{is_some}
 use Rattle.net_base.specs.declared.tasks.Task.{Task}
 use Rattle.task_pool.specs.declared.pool.PoolEntry.{PoolEntry}
 use Rattle.task_pool.specs.declared.pool.PoolEntry.TheVariants.{Take, Finish, Stop}
-use Rattle.task_pool.specs.Pools.{PoolState, is_in, rest, after_entry, MayCome, IsRun, begun, played, first_stop, holds, HasPlayed, IsQuiet}
+use Rattle.task_pool.specs.Pools.{is_in, rest, after_entry, MayCome, begun, played, first_stop, holds, HasPlayed, IsQuiet}
 use Rattle.task_pool.proofs.PoolLaws.{after-append, run-append, fewer, holders_law}
 
 abbrev pub stop_at : Option ℕ → PoolEntry → Option ℕ

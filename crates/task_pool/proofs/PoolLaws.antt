@@ -1,13 +1,13 @@
 -- Laws of lists of a pool's entries.
-use Rattle.std.proofs.Common.{◌≡◌, ℕ, ◌+◌, ◌<◌, List, [], ◌∷◌, ◌++◌, length, eqb, eq-eqb, ne_eqb, ◌≢◌, Bool, true, false, sum_by, refl, sym, ap, ◌∙◌, subst, arith, append-nil}
-use Rattle.std.specs.Prelude.{Option, Some, None, ◌==◌, if◌then◌else◌}
+use Rattle.std.proofs.Common.{◌≡◌, ℕ, ◌+◌, List, [], ◌∷◌, ◌++◌, length, eq-eqb, ne_eqb, ◌≢◌, Bool, true, false, sum_by, refl, sym, ap, ◌∙◌, subst, arith}
+use Rattle.std.specs.Prelude.{◌==◌, if◌then◌else◌}
 use Rattle.std.proofs.lemmas.List.Sums.{sum_by-append, sum_by-cons}
 use mathlib.Core.Logic.{dite}
 use native.Mathlib.Decide.{ℕ_discrete}
 use Rattle.net_base.specs.declared.tasks.Task.{Task}
 use Rattle.task_pool.specs.declared.pool.PoolEntry.{PoolEntry}
 use Rattle.task_pool.specs.declared.pool.PoolEntry.TheVariants.{Take, Finish, Stop}
-use Rattle.task_pool.specs.Pools.{PoolState, is_in, without, rest, after_entry, MayCome, after, IsRun, begun, played, first_stop, holds_after, holds_from, holds, IsQuiet, taken_in, given_in, BalanceLaw, QuietLaw, HoldersLaw}
+use Rattle.task_pool.specs.Pools.{PoolState, is_in, without, rest, after_entry, MayCome, after, IsRun, begun, played, holds_after, holds_from, taken_in, given_in, BalanceLaw, QuietLaw, HoldersLaw}
 
 pub after-append : (p : PoolState) (es fs : List PoolEntry) → after p (es ++ fs) ≡ after (after p es) fs
 after-append p [] fs = refl

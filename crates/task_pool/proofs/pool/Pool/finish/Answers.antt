@@ -1,4 +1,4 @@
-use Rattle.std.proofs.Common.{◌≡◌, ◌-◌, ◌++◌, [], ◌∷◌, List, Some, sym, ap, subst, ◌∙◌, arith, rules}
+use Rattle.std.proofs.Common.{◌≡◌, ◌-◌, ◌++◌, [], ◌∷◌, sym, ap, subst, arith, rules}
 use Rattle.std.specs.Prelude.{Option}
 use Rattle.task_pool.specs.declared.pool.PoolEntry.TheVariants.{Finish}
 use Rattle.task_pool.specs.Pools.{HasPlayed}

@@ -1,6 +1,5 @@
-use Rattle.std.proofs.Common.{◌≡◌, ◌-◌, ◌++◌, [], ◌∷◌, List, Some, sym, ap, subst, ◌∙◌, arith, rules}
+use Rattle.std.proofs.Common.{◌-◌, sym, subst, arith, rules}
 use Rattle.std.specs.Prelude.{Option}
-use Rattle.task_pool.specs.declared.pool.PoolEntry.{PoolEntry}
 use Rattle.task_pool.specs.declared.pool.PoolEntry.TheVariants.{Stop}
 use Rattle.task_pool.specs.Pools.{HasPlayed}
 use Rattle.task_pool.proofs.Plays.{some_busy, stops, stop_at, stop_none, stop_some}

@@ -1,4 +1,4 @@
-use Rattle.std.proofs.Common.{◌≡◌, ◌+◌, ◌++◌, [], ◌∷◌, List, None, Some, sym, ap, subst, ◌∙◌, arith, rules}
+use Rattle.std.proofs.Common.{◌≡◌, ◌+◌, ◌++◌, [], ◌∷◌, None, sym, subst, rules}
 use Rattle.std.specs.Prelude.{Option}
 use Rattle.task_pool.specs.declared.pool.PoolEntry.TheVariants.{Take}
 use Rattle.task_pool.specs.Pools.{HasPlayed}
