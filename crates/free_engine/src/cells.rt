@@ -46,8 +46,8 @@ pub struct PoolCell {
 }
 
 impl LineCell {
-    /// Does a task whose line this is and whose code this is: it becomes an entry with the children that are put out. It
-    /// costs what `activation::activate_coded` costs. Where memory runs out nothing has changed.
+    /// Does a task whose line this is and whose code this is: it becomes an entry with the children that are put out.
+    /// It costs what `activation::activate_coded` costs. Where memory runs out nothing has changed.
     pub fn activate(
         &mut self,
         alloc: Global,

@@ -62,8 +62,8 @@ fn line_slot(
     Ok(Slot::Row(Box::new(alloc, cell)?))
 }
 
-/// The pool of the tasks in flight, and then the lines. It moves each line, and takes memory for each. Where memory runs
-/// out the lines are let go.
+/// The pool of the tasks in flight, and then the lines. It moves each line, and takes memory for each. Where memory
+/// runs out the lines are let go.
 pub fn open(
     alloc: Global,
     net: &Net,

@@ -150,8 +150,8 @@ pub fn stop_one<R: Wait>(
     cells.give(turn)
 }
 
-/// How a round of a worker ended: a task is done and finished; no task waits now; none ever will; or memory ran out, here
-/// or at another worker.
+/// How a round of a worker ended: a task is done and finished; no task waits now; none ever will; or memory ran out,
+/// here or at another worker.
 #[derive(Clone, Copy)]
 pub enum RoundEnd {
     Done,

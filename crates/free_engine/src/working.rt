@@ -18,7 +18,8 @@ use task_pool::Taken;
 use turn_table::{Cells, Pass};
 use work_store::Store;
 
-/// One round: a take, the line's entry, a finish. It claims three cells where there is a task, and one where there is none.
+/// One round: a take, the line's entry, a finish. It claims three cells where there is a task, and one where there is
+/// none.
 fn do_round<R: Wait, G: Gate>(
     rt: &R,
     alloc: Global,

@@ -113,7 +113,8 @@ given_in (Take w t ∷ es) = given_in es
 given_in (Finish w cs ∷ es) = cs ++ given_in es
 given_in (Stop w ∷ es) = given_in es
 
--- what was taken together with what waits is, each as often, what there was first together with the children of all finishes
+-- what was taken together with what waits is, each as often, what there was first together with the children of all
+-- finishes
 abbrev pub BalanceLaw : Type 0
 BalanceLaw = (first : List Task) (es : List PoolEntry) → IsRun (begun first) es → (h : Task → ℕ)
     → sum_by h (taken_in es ++ (played first es).queue) ≡ sum_by h (first ++ given_in es)
