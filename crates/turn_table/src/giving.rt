@@ -42,7 +42,7 @@ impl<T: Kept> Cells<T> {
     pub fn give(&self, turn: Turn<T>) -> Pass<T>
         requires turn { IsTurnOf T.entries self.now turn }
         requires name { T.name (value turn) ≡ T.name (claimed_value turn) }
-        requires room { length (T.entries (value turn)) < 2 ^ 62 }
+        requires room { length (T.entries (value turn)) < 2 ^ 63 }
         requires entry { (new : T.Entry) × (T.entries (value turn) ≡ T.entries (claimed_value turn) ++ new ∷ []) × MaySign T.signature (turn_number turn) new }
         ensures pass { IsPassOf self.now result }
         ensures number { number result ≡ turn_number turn }

@@ -15,7 +15,7 @@ use std::snapshot::Snapshot;
 
 // The first word of each cell.
 fn words_of<T: Kept>(alloc: Global, values: &Vec<T>) -> Result<Vec<u64>, OutOfMemory>
-    requires { All (λ value. length (T.entries value) < 2 ^ 62) values.now.items }
+    requires { All (λ value. length (T.entries value) < 2 ^ 63) values.now.items }
     ensures len { IfOk result (λ words. vec_len words ≡ vec_len values.now) }
     ensures each { IfOk result (λ words. (cell : ℕ) (value : T) → IsAt values.now.items cell value → slice_index words.items cell ≡ 2 * length (T.entries value)) }
 {
@@ -39,7 +39,7 @@ impl<T: Kept> Cells<T> {
     pub fn new(alloc: Global, values: Vec<T>) -> Result<(Cells<T>, Pass<T>), OutOfMemory>
         requires some { 0 < vec_len values }
         requires unsigned { All (λ value. All (λ entry. T.signature entry ≡ None) (T.entries value)) values.items }
-        requires room { All (λ value. length (T.entries value) < 2 ^ 62) values.items }
+        requires room { All (λ value. length (T.entries value) < 2 ^ 63) values.items }
         ensures cells { IfOk result (λ made. first_values made.0 ≡ values.items) }
         ensures first { IfOk result (λ made. IsFirstOf made.0 made.1) }
         ensures knows { IfOk result (λ made. knows made.1 ≡ opened values.items) }

@@ -10,7 +10,7 @@ pub overflow_mul-count : goal.overflow_mul-count
 overflow_mul-count g c =
     let at = ap (λ l. get_elem? l c.loop-value.value-index) (sym c.deref-value-items.ensures.value)
     ∙ at_index _ c.loop-value.value-index c.value-item.result c.loop-value-test.true c.value-item.is in
-    let room = all_at (λ value. length (g.T.Kept.entries value) < 2 ^ 62) c.args.values.now.items c.loop-value.value-index c.value-item.result c.requires at in let n = c.count.ensures in let small : c.count.result < 2 ^ 62 = omega arith in omega arith
+    let room = all_at (λ value. length (g.T.Kept.entries value) < 2 ^ 63) c.args.values.now.items c.loop-value.value-index c.value-item.result c.requires at in let n = c.count.ensures in let small : c.count.result < 2 ^ 63 = omega arith in omega arith
 
 pub loop-value-preserved : goal.loop-value-preserved
 loop-value-preserved g c =

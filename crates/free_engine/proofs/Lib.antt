@@ -1,0 +1,14 @@
+pub mod Draining
+pub mod Fresh
+pub mod Weights
+pub mod Shared
+pub mod Lined
+pub mod Takes
+pub mod Holding
+pub mod WorkerRounds
+pub mod Ending
+pub mod Opened
+pub mod Joined
+pub mod LinesBack
+pub mod SharedLines
+pub mod Results

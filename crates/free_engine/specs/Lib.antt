@@ -1,0 +1,11 @@
+-- What workers do with the pool and the lines, and what comes of it.
+pub mod Fitting
+pub mod Phased
+pub mod Drained
+pub mod Slots
+pub mod Tables
+pub mod Counts
+pub mod Turns
+pub mod Ends
+pub mod Openings
+pub mod Teams

@@ -1,0 +1,91 @@
+-- What a slot stands for: the pool or a line.
+use Rattle.std.specs.Prelude.{◌≡◌, ℕ, ◌+◌, List, [], ◌∷◌, ◌++◌, Option, Some, None, map}
+use Rattle.net_base.specs.declared.tasks.Task.{Task}
+use Rattle.token_line.specs.Numbers.{line_number}
+use Rattle.task_pool.specs.declared.pool.PoolEntry.{PoolEntry}
+use Rattle.task_pool.specs.declared.pool.PoolEntry.TheVariants.{Take, Finish, Stop}
+use Rattle.work_store.specs.Stored.{Stored, held_of}
+use Rattle.net_base.specs.declared.net.Net.{Net}
+use Rattle.net_base.specs.declared.nodes.Node.{Node}
+use Rattle.task_pool.specs.declared.pool.Taken.{Taken}
+use Rattle.task_pool.specs.declared.pool.Taken.TheVariants.{Task as ATask, Again, Quiet, Stopped}
+use Rattle.task_pool.specs.Pools.{IsQuiet}
+use Rattle.free_engine.specs.declared.cells.LineCell.{LineCell}
+use Rattle.free_engine.specs.declared.slots.Slot.{Slot}
+use Rattle.free_engine.specs.declared.slots.Slot.TheVariants.{Queue, Row}
+use Rattle.free_engine.specs.declared.slots.SlotEntry.{SlotEntry}
+use Rattle.free_engine.specs.declared.slots.SlotEntry.TheVariants.{OfPool, OfLine}
+use Rattle.free_engine.specs.declared.slots.SlotName.{SlotName}
+use Rattle.free_engine.specs.declared.slots.SlotName.TheVariants.{PoolName, LineName}
+
+-- the entries of a slot, of one type
+abbrev pub entries : Slot → List SlotEntry
+entries (Queue q) = map OfPool q.value.pool.entries.items
+entries (Row l) = map OfLine l.value.line.entries.items
+
+-- what no turn changes
+abbrev pub name : Slot → SlotName
+name (Queue q) = PoolName q.value.pool.first q.value.pool.workers q.value.net q.value.store
+name (Row l) = LineName l.value.line.number l.value.lines l.value.first l.value.net l.value.store
+
+-- the worker of a pool's entry
+abbrev pub worker_of : PoolEntry → ℕ
+worker_of (Take w t) = w
+worker_of (Finish w cs) = w
+worker_of (Stop w) = w
+
+-- a pool's entry is signed with the number of its worker's pass, and a line's is not
+abbrev pub signature : SlotEntry → Option ℕ
+signature (OfPool e) = Some (worker_of e + 1)
+signature (OfLine e) = None
+
+-- the pool stands in the slot
+abbrev pub IsPool : Slot → Type 0
+IsPool (Queue q) = Unit {0}
+IsPool (Row l) = ⊥
+
+-- a pool that has no entry yet, or a line that stands as when its cell was made
+abbrev pub IsFresh : Slot → Type 0
+IsFresh (Queue q) = q.value.pool.entries.items ≡ []
+IsFresh (Row l) = l.value.first.value ≡ l.value.line
+
+-- ---- what turns do
+
+-- the entries of the pool in the slot, and what else of the slot no turn changes
+abbrev pub pool_list : Slot → List PoolEntry
+pool_list (Queue q) = q.value.pool.entries.items
+pool_list (Row l) = []
+
+abbrev pub first_in : Slot → List Task
+first_in (Queue q) = q.value.pool.first.value.items
+first_in (Row l) = []
+
+abbrev pub workers_in : Slot → ℕ
+workers_in (Queue q) = q.value.pool.workers.value
+workers_in (Row l) = 0
+
+abbrev pub nodes_in : Slot → List Node
+nodes_in (Queue q) = q.value.net.value.nodes
+nodes_in (Row l) = l.value.net.value.nodes
+
+abbrev pub store_in : Slot → Stored
+store_in (Queue q) = q.value.store.value
+store_in (Row l) = l.value.store.value
+
+-- this task has the line in the slot, over this network and store
+pub record IsLineFor (net : Net) (s : Stored) (x : Task) (c : LineCell) : Type 0 where
+  pub has_net : c.net.value ≡ net
+  pub has_store : c.store.value ≡ s
+  pub here : line_number (held_of s) net.nodes c.lines x.node x.side x.token ≡ c.line.number
+
+-- the same of a slot
+abbrev pub IsSlotFor : Net → Stored → Task → Slot → Type 0
+IsSlotFor net s x (Queue q) = ⊥
+IsSlotFor net s x (Row l) = IsLineFor net s x l.value
+
+-- what a take did to the entries
+abbrev pub SlotTakes : ℕ → List Task → List SlotEntry → List SlotEntry → Taken → Type 0
+SlotTakes w first old new (ATask t) = new ≡ old ++ OfPool (Take w t) ∷ []
+SlotTakes w first old new (Again n) = new ≡ old
+SlotTakes w first old new Quiet = (new ≡ old) × ((list : List PoolEntry) × (old ≡ map OfPool list) × IsQuiet first list)
+SlotTakes w first old new (Stopped by) = new ≡ old

@@ -1,0 +1,50 @@
+-- Cells in which a pool and lines stand.
+use Rattle.std.specs.Prelude.{◌≡◌, ℕ, List, [], ◌∷◌, pos, map, length, slice_get, Some}
+use Rattle.work_store.specs.Stored.{Stored}
+use Rattle.net_base.specs.declared.nodes.Node.{Node}
+use Rattle.net_base.specs.declared.tasks.Task.{Task}
+use Rattle.step_core.specs.Machine.{Seen}
+use Rattle.step_core.specs.Worlds.{seen}
+use Rattle.free_engine.specs.declared.cells.LineCell.{LineCell}
+use Rattle.free_engine.specs.declared.slots.Slot.{Slot}
+use Rattle.free_engine.specs.declared.slots.Slot.TheVariants.{Queue, Row}
+
+-- line i of so many, over this network and store
+pub record IsLineOf (nodes : List Node) (s : Stored) (lines i : ℕ) (c : LineCell) : Type 0 where
+  pub has_nodes : c.net.value.nodes ≡ nodes
+  pub has_store : c.store.value ≡ s
+  pub of_lines : c.lines ≡ lines
+  pub number : c.line.number ≡ i
+
+-- the same of a slot
+abbrev pub IsRowOf : List Node → Stored → ℕ → ℕ → Slot → Type 0
+IsRowOf nodes s lines i (Queue q) = ⊥
+IsRowOf nodes s lines i (Row l) = IsLineOf nodes s lines i l.value
+
+-- a pool that began with these tasks
+abbrev pub BeganWith : List Task → Slot → Type 0
+BeganWith first (Queue q) = q.value.pool.first.value.items ≡ first
+BeganWith first (Row l) = ⊥
+
+-- a line on which nothing stands
+abbrev pub nothing_seen : Seen
+nothing_seen = record { sums = λ n s t. pos 0; entries = [] }
+
+-- what is seen of the line in a slot
+abbrev pub seen_in : Slot → Seen
+seen_in (Queue q) = nothing_seen
+seen_in (Row l) = seen l.value.line
+
+-- what is seen of the lines behind the pool
+abbrev pub lines_in : List Slot → List Seen
+lines_in [] = []
+lines_in (x ∷ xs) = map seen_in xs
+
+-- a pool that began with these tasks, and so many lines
+pub record IsTable (nodes : List Node) (s : Stored) (lines : ℕ) (first : List Task) (values : List Slot) : Type 0 where
+  pub pool : Slot
+  pub rows : List Slot
+  pub is : values ≡ pool ∷ rows
+  pub began : BeganWith first pool
+  pub count : length rows ≡ lines
+  pub each : (i : ℕ) (x : Slot) → slice_get rows i ≡ Some x → IsRowOf nodes s lines i x

@@ -1,0 +1,3 @@
+-- What a pool's entries say.
+pub mod Pools
+pub mod Facts

@@ -1,0 +1,9 @@
+//! What holds of the entries of every pool.
+ghost use Rattle.task_pool.specs.Pools.{BalanceLaw, HoldersLaw, QuietLaw};
+
+/// The laws of a pool's entries. It does nothing when it runs.
+pub fn pool_laws()
+    ensures balance { BalanceLaw }
+    ensures quiet { QuietLaw }
+    ensures holders { HoldersLaw }
+{}

@@ -1,0 +1,11 @@
+//! The queue of tasks of a phase, with an entry for all that was taken from it and given to it.
+#![tactic(auto)]
+
+pub mod laws;
+pub mod pool;
+mod taken_task;
+#[cfg(test)]
+mod tests;
+
+pub use pool::{Pool, PoolEntry, Taken};
+pub use taken_task::TakenTask;
