@@ -1,3 +1,4 @@
+pub mod Asking
 pub mod Atoms
 pub mod Computed
 pub mod Counts
@@ -5,6 +6,8 @@ pub mod Deeds
 pub mod Evaluating
 pub mod Following
 pub mod Found
+pub mod Held
+pub mod HeldDoings
 pub mod Items
 pub mod Placing
 pub mod States

@@ -1,12 +1,14 @@
 -- One action more of a right side, and a right side as a whole.
-use Rattle.std.proofs.Common.{◌≡◌, ℕ, suc, ◌+◌, ◌-◌, ◌<◌, ◌≤◌, List, [], ◌∷◌, ◌++◌, length, drop, get_or, Bool, Result, Ok, Err, IfOk, refl, ap, sym, ◌∙◌, IsTrue, subst, arith}
+use Rattle.std.proofs.Common.{◌≡◌, ℕ, suc, ◌+◌, ◌-◌, ◌<◌, ◌≤◌, List, [], ◌∷◌, ◌++◌, length, drop, get_or, Bool, true, Result, MatchResult, Ok, Err, IfOk, refl, ap, sym, ◌∙◌, IsTrue, subst, arith}
 use Rattle.std.specs.Prelude.{Contains, IsErrAnd}
+use Rattle.std.specs.List.{list_all}
 use Rattle.std.proofs.lemmas.List.{append-nil, drop_more, map-append}
 use Rattle.std.proofs.lemmas.List.Elements.{All-contains, All-contains_itself, Contains-append_left}
 use Rattle.ops_base.specs.declared.actions.Action.{Action}
 use Rattle.ops_base.specs.declared.elements.Element.{Element}
 use Rattle.ops_base.specs.declared.rules.Inst.{Inst}
 use Rattle.ops_base.specs.Names.{Spellings}
+use Rattle.ops_base.specs.Symbols.{rule_held}
 use Rattle.ops_base.specs.WorkingMemory.{tags_of, Lawful}
 use Rattle.ops_io.specs.Coming.{Coming, preceded_by}
 use Rattle.ops_io.proofs.ComingLemmas.{may_end, steady_comes}
@@ -17,6 +19,7 @@ use Rattle.ops_meaning.proofs.InletLemmas.{FailsOn, leaves_on, fails_on, on_ok, 
 use Rattle.ops_meaning.proofs.RisingTags.{acts_lawfully}
 use Rattle.work_store.specs.Stored.{Stored, IsStored}
 use Rattle.act_phase.specs.Deeds.{Scene, Does, Acts, StillDoes}
+use Rattle.act_phase.specs.Held.{element_held, change_held}
 use Rattle.act_phase.specs.Outcomes.{acted_of, failure_of, mishap_of, is_read, is_read_mishap}
 use Rattle.act_phase.specs.State.{doing_of}
 use Rattle.act_phase.specs.declared.doing.Doing.{Doing}
@@ -25,6 +28,7 @@ use Rattle.act_phase.specs.declared.outcome.ActFault.{ActFault}
 use Rattle.act_phase.specs.declared.outcome.ActFault.TheVariants as fault
 use Rattle.act_phase.specs.declared.outcome.Mishap.{Mishap}
 use Rattle.act_phase.specs.declared.outcome.Mishap.TheVariants as mishap
+use Rattle.act_phase.proofs.HeldDoings.{HeldActed, Any, acted_held}
 use Rattle.act_phase.proofs.Deeds.{does_nothing, still_all, still_then, still_fails, still_done, still_short, silent_step, silent_fails}
 
 -- ---- what follows from evaluated values
@@ -154,3 +158,14 @@ module _ (s : Setting) (inst : Inst) (wm : List Element) (last : ℕ) (a : Scene
       let answer = (p.performs.performs end.0 (steady_comes a.inlet b.inlet end.0 p.reads end.1)).0 in
       let lawful = subst P answer (acts_lawfully s a.port.out.column inst given well) in
       (lawful.changes, lawful.risen)
+
+  -- What was made is held, where the rest was.
+  pub whole_held : {b : Scene} (r : Acted) → Does (λ r d. acted_of r b.names d) failure_of is_read (Ok r) a b right_side → 0 < length a.names.held → list_all (rule_held (length a.names.held)) s.rules ≡ true
+      → list_all (element_held (length a.names.held)) wm ≡ true → list_all (change_held (length b.names.held)) r.changes ≡ true
+  whole_held {b = b} r p some rules memory =
+      let end = may_end b.inlet in
+      let all = preceded_by p.performs.taken end.0 in
+      let given : Given = record { wm = wm; last = last; names = a.names; coming = all } in
+      let P : Result Done Misdeed → Type 0 = λ o. MatchResult o (HeldActed (length a.names.held)) Any in
+      let answer = (p.performs.performs end.0 (steady_comes a.inlet b.inlet end.0 p.reads end.1)).0 in
+      (subst P answer (acted_held s a.port.out.column inst given some rules memory)).changes

@@ -1,5 +1,7 @@
 -- What the contracts of right sides cite.
+pub mod Asking
 pub mod Changed
 pub mod Deeds
+pub mod Held
 pub mod Outcomes
 pub mod State

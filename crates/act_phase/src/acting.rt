@@ -1,5 +1,6 @@
 //! `act`, which does a right side: its actions in order, and each kind of action with what it puts and reads.
-ghost use Rattle.std.specs.Prelude.{◌≡◌, ◌^◌, ◌<◌, ◌-◌, ◌≤◌, [], true, IsTrue, IfOk, OnOk, fold};
+ghost use Rattle.std.specs.Prelude.{◌≡◌, ◌^◌, ◌<◌, ◌-◌, ◌≤◌, [], true, IsTrue, IfOk, OnOk, fold, false};
+ghost use Rattle.std.specs.List.{list_any};
 ghost use Rattle.ops_base.specs.Names.{Spellings};
 ghost use Rattle.ops_base.specs.Valid.{class_of};
 ghost use Rattle.ops_base.specs.WorkingMemory.{Lawful};
@@ -8,8 +9,10 @@ ghost use Rattle.ops_io.specs.Ports.{port};
 ghost use Rattle.ops_meaning.specs.Acting.{cell_of, removed, added, modified, bound, first_of, evaluated, made_fields, modified_fields, action_done, actions_done, in_action, acted, actions_of, conditions_of};
 ghost use Rattle.ops_meaning.specs.Effects.{PerformsOn, CountsReads, told_as, silent, followed_by};
 ghost use Rattle.ops_meaning.specs.Kept.{KeepsNames};
+ghost use Rattle.act_phase.specs.Asking.{action_asks, put_asks, right_side_asks, term_asks};
 ghost use Rattle.act_phase.specs.Changed.{GoesOnTo};
 ghost use Rattle.act_phase.specs.Deeds.{Acts, Does, scene};
+ghost use Rattle.act_phase.specs.Held.{HoldsProgram, HoldsElements, HoldsMade};
 ghost use Rattle.act_phase.specs.Outcomes.{setting_of, acted_of, failure_of, fails_by, is_read, is_read_mishap, is_unread};
 ghost use Rattle.act_phase.specs.State.{doing_of};
 
@@ -52,6 +55,7 @@ fn make<I: Source, K: Sink>(
         (λ c. silent (followed_by (made_fields classes.now (class_of classes.now class) puts.now (doing_of doing.old names.old c))
         (λ f. Ok (added f.doing class f.fields)))) }
     ensures written { fails_by is_read_mishap result ≡ true → out.new.held ≡ [] }
+    ensures untouched { list_any put_asks puts.now ≡ false → (input.new ≡ input.old) × (source.new ≡ source.old) }
     ensures goes_on { OnOk result (GoesOnTo doing.old.working doing.new.working) }
 {
     let fields = made_fields(
@@ -82,6 +86,7 @@ fn modify<I: Source, K: Sink>(
         (λ c. silent (followed_by (modified_fields classes.now puts.now cell (doing_of doing.old names.old c))
         (λ f. Ok (modified f.doing cell f.fields)))) }
     ensures written { fails_by is_read_mishap result ≡ true → out.new.held ≡ [] }
+    ensures untouched { list_any put_asks puts.now ≡ false → (input.new ≡ input.old) × (source.new ≡ source.old) }
     ensures goes_on { OnOk result (GoesOnTo doing.old.working doing.new.working) }
 {
     let fields = modified_fields(
@@ -112,6 +117,7 @@ fn bind<I: Source, K: Sink>(
         (λ c. silent (followed_by (evaluated classes.now term.now (doing_of doing.old names.old c))
         (λ v. Ok (bound v.doing variable (first_of v.values))))) }
     ensures written { fails_by is_read_mishap result ≡ true → out.new.held ≡ [] }
+    ensures untouched { term_asks term.now ≡ false → (input.new ≡ input.old) × (source.new ≡ source.old) }
 {
     let values = evaluate(alloc, classes, names, doing, term, input, source, out, sink)?;
     let value = values.first();
@@ -152,6 +158,7 @@ fn make_and_tell<I: Source, K: Sink>(
         (scene names.new input.new (I.left source.new) (I.faults source.new) (K.taken sink.new) (K.faults sink.new) out.new)
         (λ c. action_done (setting_of program.now watch) out.old.column (Action.Make class puts.now) (doing_of doing.old names.old c)) }
     ensures written { fails_by is_read_mishap result ≡ true → out.new.held ≡ [] }
+    ensures untouched { list_any put_asks puts.now ≡ false → (input.new ≡ input.old) × (source.new ≡ source.old) }
 {
     let since = doing.working.changes().len();
     let classes = program.classes.as_slice();
@@ -183,6 +190,7 @@ fn modify_and_tell<I: Source, K: Sink>(
         (scene names.new input.new (I.left source.new) (I.faults source.new) (K.taken sink.new) (K.faults sink.new) out.new)
         (λ c. action_done (setting_of program.now watch) out.old.column (Action.Modify cell puts.now) (doing_of doing.old names.old c)) }
     ensures written { fails_by is_read_mishap result ≡ true → out.new.held ≡ [] }
+    ensures untouched { list_any put_asks puts.now ≡ false → (input.new ≡ input.old) × (source.new ≡ source.old) }
 {
     let since = doing.working.changes().len();
     let classes = program.classes.as_slice();
@@ -213,6 +221,7 @@ fn act_one<I: Source, K: Sink>(
         (scene names.new input.new (I.left source.new) (I.faults source.new) (K.taken sink.new) (K.faults sink.new) out.new)
         (λ c. action_done (setting_of program.now watch) out.old.column action.now (doing_of doing.old names.old c)) }
     ensures written { fails_by is_read_mishap result ≡ true → out.new.held ≡ [] }
+    ensures untouched { action_asks action.now ≡ false → (input.new ≡ input.old) × (source.new ≡ source.old) }
 {
     let classes = program.classes.as_slice();
     match action {
@@ -272,6 +281,7 @@ fn act_at<I: Source, K: Sink>(
         (scene names.new input.new (I.left source.new) (I.faults source.new) (K.taken sink.new) (K.faults sink.new) out.new)
         (λ c. told_as (λ d. d) (in_action number) (action_done (setting_of program.now watch) out.old.column action.now (doing_of doing.old names.old c))) }
     ensures written { is_unread result ≡ true → out.new.held ≡ [] }
+    ensures untouched { action_asks action.now ≡ false → (input.new ≡ input.old) × (source.new ≡ source.old) }
 {
     match act_one(
         alloc, program, names, doing, watch, action, input, source, out, sink,
@@ -320,6 +330,7 @@ fn act_all<I: Source, K: Sink>(
         (scene names.new input.new (I.left source.new) (I.faults source.new) (K.taken sink.new) (K.faults sink.new) out.new)
         (λ c. actions_done (setting_of program.now watch) out.old.column 1 actions.now (doing_of doing.old names.old c)) }
     ensures written { is_unread result ≡ true → out.new.held ≡ [] }
+    ensures untouched { list_any action_asks actions.now ≡ false → (input.new ≡ input.old) × (source.new ≡ source.old) }
 {
     for (before, action) in actions.iter().enumerate() {
         let number = before + 1;
@@ -366,8 +377,16 @@ pub fn act<I: Source, K: Sink>(
     // Where a read fails, all that was put before is written out.
     ensures written { is_unread result ≡ true → out.new.held ≡ [] }
 
+    // Where no `accept` stands in it, the input is left as it was.
+    ensures untouched { right_side_asks program.now.rules inst.now.rule ≡ false → (input.new ≡ input.old) × (source.new ≡ source.old) }
+
     // Each symbol keeps its spelling, also after a fault.
     ensures names { KeepsNames names.old names.new }
+
+    // Where the names hold each symbol of the program and of the store, they hold after it also those of what the
+    // changes make. So no symbol is printed that has no spelling.
+    ensures held { HoldsProgram names.old program.now → HoldsElements names.old store.now.elements
+        → HoldsProgram names.new program.now × HoldsElements names.new store.now.elements × IfOk result (λ a. HoldsMade names.new a.changes) }
 {
     // only the proof needs this: the store is looked at for what it keeps true
     let last = store.last();

@@ -1,9 +1,11 @@
 //! The fields of the elements that a right side makes.
-ghost use Rattle.std.specs.Prelude.{◌≡◌, ◌^◌, ◌<◌, [], true, IfOk, OnOk, Some, IsTrue};
+ghost use Rattle.std.specs.Prelude.{◌≡◌, ◌^◌, ◌<◌, [], true, IfOk, OnOk, Some, IsTrue, false};
+ghost use Rattle.std.specs.List.{list_any};
 ghost use Rattle.ops_base.specs.Valid.{class_of, is_vector};
 ghost use Rattle.ops_base.specs.WorkingMemory.{no_fields};
 ghost use Rattle.ops_meaning.specs.Acting.{value_placed, values_placed, emptied, terms_placed, made_fields, modified_fields};
 ghost use Rattle.ops_meaning.specs.Effects.{silent};
+ghost use Rattle.act_phase.specs.Asking.{put_asks};
 ghost use Rattle.act_phase.specs.Deeds.{Acts, Gives, scene, fields_found};
 ghost use Rattle.act_phase.specs.Outcomes.{fails_by, is_read_mishap};
 ghost use Rattle.act_phase.specs.State.{doing_of, held_in, filled_of};
@@ -98,6 +100,7 @@ fn place_put<I: Source, K: Sink>(
         (scene names.new input.new (I.left source.new) (I.faults source.new) (K.taken sink.new) (K.faults sink.new) out.new)
         (λ c. silent (terms_placed classes.now put.now.field put.now.terms (filled_of fields.old.items (doing_of doing.now names.old c)))) }
     ensures written { fails_by is_read_mishap result ≡ true → out.new.held ≡ [] }
+    ensures untouched { put_asks put.now ≡ false → (input.new ≡ input.old) × (source.new ≡ source.old) }
 {
     let mut at = put.field;
     for term in put.terms.as_slice() {
@@ -129,6 +132,7 @@ pub(crate) fn made_fields<I: Source, K: Sink>(
         (scene names.new input.new (I.left source.new) (I.faults source.new) (K.taken sink.new) (K.faults sink.new) out.new)
         (λ c. silent (made_fields classes.now (class_of classes.now class) puts.now (doing_of doing.now names.old c))) }
     ensures written { fails_by is_read_mishap result ≡ true → out.new.held ≡ [] }
+    ensures untouched { list_any put_asks puts.now ≡ false → (input.new ≡ input.old) × (source.new ≡ source.old) }
 {
     let mut fields = no_fields(alloc, classes, class)?;
     for put in puts {
@@ -181,6 +185,7 @@ pub(crate) fn modified_fields<I: Source, K: Sink>(
         (scene names.new input.new (I.left source.new) (I.faults source.new) (K.taken sink.new) (K.faults sink.new) out.new)
         (λ c. silent (modified_fields classes.now puts.now cell (doing_of doing.now names.old c))) }
     ensures written { fails_by is_read_mishap result ≡ true → out.new.held ≡ [] }
+    ensures untouched { list_any put_asks puts.now ≡ false → (input.new ≡ input.old) × (source.new ≡ source.old) }
 {
     let mut fields = fields_of(alloc, doing, cell)?;
     for put in puts {

@@ -1,5 +1,5 @@
 //! What the terms of a right side give.
-ghost use Rattle.std.specs.Prelude.{◌≡◌, ◌^◌, ◌<◌, [], true, IsTrue, drop, unwrap_or};
+ghost use Rattle.std.specs.Prelude.{◌≡◌, ◌^◌, ◌<◌, [], true, IsTrue, drop, unwrap_or, false};
 ghost use Rattle.std.specs.Option.{option_copied};
 ghost use Rattle.ops_base.specs.Matching.{value_of};
 ghost use Rattle.ops_base.specs.Valid.{class_of};
@@ -8,6 +8,7 @@ ghost use Rattle.ops_base.specs.WorkingMemory.{field_of, scalar_count};
 ghost use Rattle.ops_meaning.specs.Acting.{no_element, first_of, evaluated};
 ghost use Rattle.ops_meaning.specs.Computing.{computed};
 ghost use Rattle.ops_meaning.specs.Effects.{silent};
+ghost use Rattle.act_phase.specs.Asking.{term_asks};
 ghost use Rattle.act_phase.specs.Deeds.{Acts, Gives, scene, value_found};
 ghost use Rattle.act_phase.specs.Outcomes.{fails_by, is_read_mishap};
 ghost use Rattle.act_phase.specs.State.{doing_of, held_in, values_in, valued_of};
@@ -137,6 +138,7 @@ pub(crate) fn evaluate<'d, I: Source, K: Sink>(
         (scene names.new input.new (I.left source.new) (I.faults source.new) (K.taken sink.new) (K.faults sink.new) out.new)
         (λ c. silent (evaluated classes.now term.now (doing_of doing.now names.old c))) }
     ensures written { fails_by is_read_mishap result ≡ true → out.new.held ≡ [] }
+    ensures untouched { term_asks term.now ≡ false → (input.new ≡ input.old) × (source.new ≡ source.old) }
 {
     match term {
         Term::Constant(value) => Ok(Values::One(*value)),

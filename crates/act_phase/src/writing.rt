@@ -1,10 +1,12 @@
 //! What `write` puts.
 ghost use Rattle.std.specs.Prelude.{◌≡◌, ◌^◌, ◌<◌, ℕ, [], true, IsTrue, OnErr, false, length};
 ghost use Rattle.ops_io.specs.Ports.{port, PutsBytes};
+ghost use Rattle.std.specs.List.{list_any};
 ghost use Rattle.ops_base.specs.declared.actions.Item.TheVariants as item;
 ghost use Rattle.ops_meaning.specs.Acting.{lead_after, item_done, items_done};
 ghost use Rattle.ops_meaning.specs.Layout.{value_text, value_bytes, values_bytes, lead_bytes, Apart};
 ghost use Rattle.ops_print.specs.Leads.{lead_of};
+ghost use Rattle.act_phase.specs.Asking.{item_asks, term_asks};
 ghost use Rattle.act_phase.specs.Deeds.{Acts, scene};
 ghost use Rattle.act_phase.specs.Outcomes.{fails_by, is_read_mishap};
 ghost use Rattle.act_phase.specs.State.{doing_of};
@@ -103,6 +105,7 @@ fn print<I: Source, K: Sink>(
         (scene names.new input.new (I.left source.new) (I.faults source.new) (K.taken sink.new) (K.faults sink.new) out.new)
         (λ c. item_done classes.now (lead_of lead) out.old.column (item.Print term.now) (doing_of doing.now names.old c)) }
     ensures written { fails_by is_read_mishap result ≡ true → out.new.held ≡ [] }
+    ensures untouched { term_asks term.now ≡ false → (input.new ≡ input.old) × (source.new ≡ source.old) }
 {
     let values = evaluate(alloc, classes, names, doing, term, input, source, out, sink)?;
     Ok(put_values(out, sink, names, lead, values.as_slice())?)
@@ -129,6 +132,7 @@ fn put_item<I: Source, K: Sink>(
         (scene names.new input.new (I.left source.new) (I.faults source.new) (K.taken sink.new) (K.faults sink.new) out.new)
         (λ c. item_done classes.now (lead_of lead) out.old.column item.now (doing_of doing.now names.old c)) }
     ensures written { fails_by is_read_mishap result ≡ true → out.new.held ≡ [] }
+    ensures untouched { item_asks item.now ≡ false → (input.new ≡ input.old) × (source.new ≡ source.old) }
 {
     match item {
         Item::Print(term) => print(
@@ -160,6 +164,7 @@ pub(crate) fn put_items<I: Source, K: Sink>(
         (scene names.new input.new (I.left source.new) (I.faults source.new) (K.taken sink.new) (K.faults sink.new) out.new)
         (λ c. items_done classes.now Apart out.old.column items.now (doing_of doing.now names.old c)) }
     ensures written { fails_by is_read_mishap result ≡ true → out.new.held ≡ [] }
+    ensures untouched { list_any item_asks items.now ≡ false → (input.new ≡ input.old) × (source.new ≡ source.old) }
 {
     let mut lead = Lead::Apart;
     for item in items {

@@ -1,5 +1,5 @@
 //! A state of the cycle, its phases and its firings.
-ghost use Rattle.std.specs.Prelude.{◌≡◌, ◌↔◌, ◌<◌, ◌+◌, ◌^◌, List, [], true, Some, IsSome, IsTrue, Contains, MatchOption, OnOk, OnErr, IfOk, IfErr};
+ghost use Rattle.std.specs.Prelude.{◌≡◌, ◌↔◌, ◌<◌, ◌+◌, ◌^◌, List, [], true, false, Some, IsSome, IsTrue, Contains, MatchOption, OnOk, OnErr, IfOk, IfErr};
 ghost use Rattle.std.specs.Option.{option_copied};
 ghost use Rattle.ops_base.specs.declared.rules.Inst.{Inst};
 ghost use Rattle.ops_base.specs.declared.rules.Rule.{Rule};
@@ -14,9 +14,12 @@ ghost use Rattle.ops_meaning.specs.Kept.{KeepsNames, WellKept};
 ghost use Rattle.ops_meaning.specs.Layout.{firing_bytes};
 ghost use Rattle.ops_meaning.specs.Running.{ended_in, firing, next_to_fire, nothing_yet, phase_by};
 ghost use Rattle.work_store.specs.Settling.{IsSettled};
+ghost use Rattle.act_phase.specs.Asking.{right_side_asks};
+ghost use Rattle.act_phase.specs.Held.{HoldsProgram, HoldsElements};
 ghost use Rattle.act_phase.specs.Outcomes.{failure_of, is_unread, setting_of};
 ghost use Rattle.conflict_index.specs.Applying.{marked};
 ghost use Rattle.conflict_index.specs.Indexed.{insts_of, nothing_indexed, waiting, KeepsSpecificities};
+ghost use Rattle.conflict_index.specs.Selecting.{IsFirst};
 ghost use Rattle.cycle.specs.Settles.{Settles};
 ghost use Rattle.cycle.specs.States.{alone, state_course};
 
@@ -34,7 +37,8 @@ use std::alloc::Global;
 use std::marker::Model;
 use work_store::{Matcher, Settled, Store};
 
-/// A matcher, the conflict set that it has found with the marks of those that have fired, and how many firings were made.
+/// A matcher, the conflict set that it has found with the marks of those that have fired, and how many firings were
+/// made.
 #[derive(Drop)]
 pub struct State<M: Matcher> {
     matcher: M,
@@ -178,6 +182,8 @@ impl<M: Matcher> State<M> {
     pub fn next(&self) -> Option<&Inst>
         ensures waiting { MatchOption result (waiting self.now.index.members ≡ [])
             (λ i. Contains (insts_of (waiting self.now.index.members)) i.now) }
+        ensures first { MatchOption result (waiting self.now.index.members ≡ [])
+            (λ i. IsFirst self.now.index.strategy self.now.index.members i.now) }
         ensures dominant { (rules : List Rule) (names : Spellings) (coming : Coming)
             → M.stands_for self.now.matcher rules → KeepsSpecificities rules self.now.index.members
             → option_copied result ≡ next_to_fire rules (state_course M.stored self.now names coming) }
@@ -185,8 +191,8 @@ impl<M: Matcher> State<M> {
         self.index.select()
     }
 
-    /// Does changes in their order, which is one phase: the matcher settles once, and the index takes in what that tells.
-    /// After a refusal the state is gone.
+    /// Does changes in their order, which is one phase: the matcher settles once, and the index takes in what that
+    /// tells. After a refusal the state is gone.
     pub fn change<H: Fn(M, &[Change]) -> Result<Settled<M>, OutOfMemory>>(
         self,
         hand: &H,
@@ -232,9 +238,9 @@ impl<M: Matcher> State<M> {
         self.firings += 1;
     }
 
-    /// One firing: its line where firings are traced, the right side of what is next, which is marked, and then one phase. The
-    /// answer tells whether `halt` was done in it. What fires is looked up in the conflict set, and marked where it stands.
-    /// After a refusal the state is gone; what was put and read stays so, and names may have come.
+    /// One firing: its line where firings are traced, the right side of what is next, which is marked, and then one
+    /// phase. The answer tells whether `halt` was done in it. What fires is looked up in the conflict set, and marked
+    /// where it stands. After a refusal the state is gone; what was put and read stays so, and names may have come.
     pub fn fire<H: Fn(M, &[Change]) -> Result<Settled<M>, OutOfMemory>, I: Source, K: Sink>(
         self,
         alloc: Global,
@@ -266,7 +272,17 @@ impl<M: Matcher> State<M> {
             (λ c. firing (setting_of program.now watch) out.old.column i (state_course M.stored self names.old c)) }
         ensures reads { CountsReads (is_unread result) (I.faults source.old) (I.faults source.new) }
         ensures written { is_unread result ≡ true → out.new.held ≡ [] }
+
+        // Where no `accept` stands in its right side, the input is left as it was.
+        ensures untouched { (i : Inst) → next_to_fire program.now.rules (alone M.stored self) ≡ Some i
+            → right_side_asks program.now.rules i.rule ≡ false → (input.new ≡ input.old) × (source.new ≡ source.old) }
         ensures names { KeepsNames names.old names.new }
+
+        // Where the names hold each symbol of the program and of working memory, they hold after it those of the
+        // program and of the new working memory. So no symbol is printed that has no spelling.
+        ensures held { HoldsProgram names.old program.now → HoldsElements names.old (M.stored self.matcher).elements
+            → HoldsProgram names.new program.now × HoldsElements names.new (M.stored self.matcher).elements
+            × IfOk result (λ r. HoldsElements names.new (M.stored r.0.matcher).elements) }
         ensures stands { IfOk result (λ r. M.stands_for r.0.matcher program.now.rules) }
         ensures specificities { IfOk result (λ r. KeepsSpecificities program.now.rules r.0.index.members) }
     {
@@ -294,8 +310,8 @@ impl<M: Matcher> State<M> {
         Ok((state, acted.halted))
     }
 
-    /// The conflict set and its marks stay. Those that have not fired are copied into another order, which costs their number
-    /// times its logarithm. Where memory runs out nothing has changed.
+    /// The conflict set and its marks stay. Those that have not fired are copied into another order, which costs their
+    /// number times its logarithm. Where memory runs out nothing has changed.
     pub fn set_strategy(&mut self, strategy: Strategy) -> Result<(), OutOfMemory>
         ensures ok { OnOk result (self.new ≡ record self.old { index = record self.old.index { strategy = strategy } }) }
         ensures course { OnOk result ((names : Spellings) (coming : Coming) → state_course M.stored self.new names coming

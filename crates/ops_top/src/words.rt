@@ -90,8 +90,8 @@ fn run_files<R: Threads + Clone + Drop + Send + Sync, H: Shelf, I: Source, K: Si
     }
 }
 
-/// Answers the words. What they say of workers has no effect, what they say of lines has one on time and memory alone,
-/// and where the network is asked for, no option has.
+/// Answers the words. What they say of workers and of lines has an effect on time and memory alone, and where the
+/// network is asked for, no option has one.
 pub fn run_words<R: Threads + Clone + Drop + Send + Sync, H: Shelf, I: Source, K: Sink, G: Gate>(
     rt: &R,
     alloc: Global,

@@ -107,13 +107,7 @@ impl<G: Gate + Drop> SerialEngine<G> {
         } = self;
         let enter = |line: usize| gate.enter(0, line);
         let Gathered { come, gone } = settle(
-            alloc,
-            &net,
-            &mut store,
-            &enter,
-            &mut world,
-            changes,
-            Some(picks),
+            alloc, &net, &mut store, &enter, &mut world, changes, picks,
         )?;
         let matcher = SerialEngine {
             net,
@@ -154,10 +148,13 @@ impl<G: Gate + Drop> Matcher for SerialEngine<G> {
         &self.store
     }
 
-    /// Does one change after another: it feeds the tasks of the change, and does each with all that comes of it, down
-    /// to the terminals, before the next. So few tasks are in flight at a time. It takes time for the tasks that it
-    /// does, for the lines that they were done on, and for the nodes that a change is fed to: `World::feed` and
-    /// `World::work` say how much. What it removed is kept until the next settle.
+    /// Feeds the tasks of all changes, and then does the last task in flight with all that comes of it, down to the
+    /// terminals, before the one that was fed before it. So beside the fed tasks few are in flight at a time, and the
+    /// changes are worked from the last to the first. A modification removes the old element and then adds the new
+    /// one, so here the new one comes before the old one goes: a negated node that both block puts nothing out in
+    /// between. It takes time for the tasks that it does, for the lines that they were done on, and for the nodes
+    /// that a change is fed to: `World::feed` and `World::work` say how much. What it removed is kept until the next
+    /// settle.
     fn settle(
         self,
         alloc: Global,
@@ -184,7 +181,13 @@ impl<G: Gate + Drop> Matcher for SerialEngine<G> {
         } = self;
         let enter = |line: usize| gate.enter(0, line);
         let Gathered { come, gone } = settle(
-            alloc, &net, &mut store, &enter, &mut world, changes, None,
+            alloc,
+            &net,
+            &mut store,
+            &enter,
+            &mut world,
+            changes,
+            &[],
         )?;
         let matcher = SerialEngine {
             net,

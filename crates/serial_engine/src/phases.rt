@@ -93,32 +93,6 @@ pub fn work_all<F: Fn(usize)>(
     Ok(())
 }
 
-/// Feeds one change after another, and does all that comes of it before the next.
-fn work_each<F: Fn(usize)>(
-    alloc: Global,
-    net: &Net,
-    store: &Store,
-    enter: &F,
-    world: &mut World,
-    changes: &[Change],
-) -> Result<(), OutOfMemory>
-    requires enter { F.IsAlwaysCallable enter.now }
-    requires ready { IsReady net.now.nodes store.now world.old }
-    requires flight { world.old.flight.items ≡ [] }
-    requires known { All (IsKnown store.now) changes.now }
-    ensures went { OnOk result (Went net.now.alphas net.now.nodes store.now (length world.old.lines.items) world.old changes.now world.new) }
-    ensures flight { OnOk result (world.new.flight.items ≡ []) }
-    ensures done { OnOk result ((world_of world.new).done ≡ (world_of world.old).done) }
-    ensures ready { IsReady net.now.nodes store.now world.new }
-    ensures lines { numbers_of world.new ≡ numbers_of world.old }
-{
-    for change in changes {
-        world.feed(alloc, net, store, change)?;
-        work_all(alloc, net, store, enter, world, None)?;
-    }
-    Ok(())
-}
-
 /// Puts the tasks of all changes into flight, in the order of the changes.
 pub fn feed_all(
     alloc: Global,
@@ -188,7 +162,8 @@ fn work_picks<F: Fn(usize)>(
     Ok(())
 }
 
-/// Does all that the changes feed: by the picks, where there are any, and otherwise each change by itself.
+/// Does all that the changes feed: all of them are fed first, then a task is done for each pick, and then the last task
+/// in flight is next.
 fn work_changes<F: Fn(usize)>(
     alloc: Global,
     net: &Net,
@@ -196,7 +171,7 @@ fn work_changes<F: Fn(usize)>(
     enter: &F,
     world: &mut World,
     changes: &[Change],
-    picks: Option<&[usize]>,
+    picks: &[usize],
 ) -> Result<(), OutOfMemory>
     requires enter { F.IsAlwaysCallable enter.now }
     requires ready { IsReady net.now.nodes store.now world.old }
@@ -208,9 +183,6 @@ fn work_changes<F: Fn(usize)>(
     ensures ready { IsReady net.now.nodes store.now world.new }
     ensures lines { numbers_of world.new ≡ numbers_of world.old }
 {
-    let Some(picks) = picks else {
-        return work_each(alloc, net, store, enter, world, changes);
-    };
     feed_all(alloc, net, store, world, changes)?;
     work_picks(alloc, net, store, enter, world, picks)?;
     work_all(alloc, net, store, enter, world, None)?;
@@ -225,7 +197,7 @@ fn run_phase<F: Fn(usize)>(
     enter: &F,
     world: &mut World,
     changes: &[Change],
-    picks: Option<&[usize]>,
+    picks: &[usize],
 ) -> Result<(), OutOfMemory>
     requires enter { F.IsAlwaysCallable enter.now }
     requires quiet { world.old.counter ≡ 0 }
@@ -261,9 +233,9 @@ pub fn do_changes(alloc: Global, store: &mut Store, changes: &[Change]) -> Resul
 }
 
 /// Does the changes to the store, and their phase over lines that hold just the tokens over it. The lines then hold
-/// just the tokens over the store with the changes done, and their entries are a bundle of the changes. With picks all
-/// changes are fed at once, and a task is done for each pick; without them, and once they have ended, the last task in
-/// flight is next. `enter` gets the line of each task just before it is done.
+/// just the tokens over the store with the changes done, and their entries are a bundle of the changes. All changes are
+/// fed at once, and a task is done for each pick; once the picks have ended, the last task in flight is next. `enter`
+/// gets the line of each task just before it is done.
 pub fn settle<F: Fn(usize)>(
     alloc: Global,
     net: &Net,
@@ -271,7 +243,7 @@ pub fn settle<F: Fn(usize)>(
     enter: &F,
     world: &mut World,
     changes: &[Change],
-    picks: Option<&[usize]>,
+    picks: &[usize],
 ) -> Result<Gathered, OutOfMemory>
     requires enter { F.IsAlwaysCallable enter.now }
     requires lawful { Lawful store.old.elements store.old.last changes.now }

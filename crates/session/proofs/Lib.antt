@@ -2,6 +2,7 @@ pub mod Comings
 pub mod Seen
 pub mod Flushes
 pub mod Turns
+pub mod HeldSession
 pub mod Lines
 pub mod Told
 pub mod Removals

@@ -1,11 +1,12 @@
 //! The commands of a program, in the order of the text.
-ghost use Rattle.std.specs.Prelude.{◌≡◌, ◌^◌, ◌<◌, ◌-◌, [], None, true, IsTrue, IfOk, OnOk};
+ghost use Rattle.std.specs.Prelude.{◌≡◌, ◌^◌, ◌<◌, ◌-◌, [], None, true, IsTrue, IfOk, OnOk, false};
 ghost use Rattle.ops_io.specs.Coming.{inlet};
 ghost use Rattle.ops_io.specs.Ports.{port};
 ghost use Rattle.ops_meaning.specs.Effects.{PerformsOn, CountsReads, of_ending};
 ghost use Rattle.ops_meaning.specs.Kept.{KeepsNames, WellKept};
 ghost use Rattle.ops_meaning.specs.Running.{command_done, commands_done, is_exit, run_given, session_of};
 ghost use Rattle.ops_base.specs.ConflictSet.{conflict_set};
+ghost use Rattle.act_phase.specs.Asking.{program_asks};
 ghost use Rattle.act_phase.specs.Outcomes.{setting_of};
 ghost use Rattle.cycle.specs.Settles.{Settles};
 ghost use Rattle.session.specs.Courses.{IsUnderWay, meant_by, ends_unread};
@@ -54,6 +55,7 @@ fn run_from<M: Matcher, H: Fn(M, &[Change]) -> Result<Settled<M>, OutOfMemory>, 
         (meant_by M.stored session names.old c)) }
     ensures reads { CountsReads (ends_unread result) (I.faults source.old) (I.faults source.new) }
     ensures written { ends_unread result ≡ true → out.new.held ≡ [] }
+    ensures untouched { program_asks program.now.rules ≡ false → (input.new ≡ input.old) × (source.new ≡ source.old) }
     ensures names { KeepsNames names.old names.new }
     ensures under_way { IfOk result (IsUnderWay M.stored M.stands_for program.now.rules) }
 {
@@ -115,6 +117,7 @@ fn do_command<
         (meant_by M.stored session names.old c)) }
     ensures reads { CountsReads (ends_unread result) (I.faults source.old) (I.faults source.new) }
     ensures written { ends_unread result ≡ true → out.new.held ≡ [] }
+    ensures untouched { program_asks program.now.rules ≡ false → (input.new ≡ input.old) × (source.new ≡ source.old) }
     ensures names { KeepsNames names.old names.new }
     ensures under_way { IfOk result (IsUnderWay M.stored M.stands_for program.now.rules) }
 {
@@ -187,6 +190,7 @@ fn do_each<M: Matcher, H: Fn(M, &[Change]) -> Result<Settled<M>, OutOfMemory>, I
         (meant_by M.stored session names.old c)) }
     ensures reads { CountsReads (ends_unread result) (I.faults source.old) (I.faults source.new) }
     ensures written { ends_unread result ≡ true → out.new.held ≡ [] }
+    ensures untouched { program_asks program.now.rules ≡ false → (input.new ≡ input.old) × (source.new ≡ source.old) }
     ensures names { KeepsNames names.old names.new }
     ensures under_way { IfOk result (IsUnderWay M.stored M.stands_for program.now.rules) }
     ensures flushed { out.old.held ≡ [] → OnOk result (out.new.held ≡ []) }
@@ -238,6 +242,7 @@ pub(crate) fn do_commands<
         (λ c. session_of (setting_of program.now 0) limit program.now.commands names.old c) }
     ensures reads { CountsReads (ends_unread result) (I.faults source.old) (I.faults source.new) }
     ensures written { ends_unread result ≡ true → out.new.held ≡ [] }
+    ensures untouched { program_asks program.now.rules ≡ false → (input.new ≡ input.old) × (source.new ≡ source.old) }
     ensures names { KeepsNames names.old names.new }
     ensures none_waits { IfOk result (λ s. s.pending ≡ []) }
     ensures kept { IfOk result (λ s. WellKept (M.stored s.state.matcher).elements (M.stored s.state.matcher).last) }

@@ -1,5 +1,5 @@
 //! A run: one firing after another, until it ends.
-ghost use Rattle.std.specs.Prelude.{◌≡◌, ◌^◌, ◌<◌, ◌-◌, [], ◌⊎◌, true, IsTrue, IsOk, IfOk, Some, None, option_map};
+ghost use Rattle.std.specs.Prelude.{◌≡◌, ◌^◌, ◌<◌, ◌-◌, [], ◌⊎◌, true, IsTrue, IsOk, IfOk, Some, None, option_map, false};
 ghost use Rattle.ops_base.specs.Names.{Spellings};
 ghost use Rattle.ops_base.specs.declared.rules.Inst.{Inst};
 ghost use Rattle.ops_io.specs.Coming.{inlet};
@@ -8,6 +8,7 @@ ghost use Rattle.ops_meaning.specs.Effects.{PerformsOn, CountsReads, failure_as,
 ghost use Rattle.ops_meaning.specs.Kept.{KeepsNames};
 ghost use Rattle.ops_meaning.specs.Layout.{line_at};
 ghost use Rattle.ops_meaning.specs.Running.{ended_in, firing, has_break, line_of_count, line_of_pause, next_to_fire, one_less, run_on};
+ghost use Rattle.act_phase.specs.Asking.{program_asks};
 ghost use Rattle.act_phase.specs.Outcomes.{failure_of, setting_of};
 ghost use Rattle.cycle.specs.Settles.{Settles};
 ghost use Rattle.cycle.specs.States.{alone, state_course};
@@ -76,6 +77,7 @@ fn fire<M: Matcher, H: Fn(M, &[Change]) -> Result<Settled<M>, OutOfMemory>, I: S
         (λ c. firing (setting_of program.now watch) out.old.column i (state_course M.stored state names.old c)) }
     ensures reads { CountsReads (ends_unread result) (I.faults source.old) (I.faults source.new) }
     ensures written { ends_unread result ≡ true → out.new.held ≡ [] }
+    ensures untouched { program_asks program.now.rules ≡ false → (input.new ≡ input.old) × (source.new ≡ source.old) }
     ensures names { KeepsNames names.old names.new }
     ensures of { IfOk result (λ r. IsOf M.stands_for program.now.rules r.0) }
 {
@@ -227,6 +229,7 @@ pub(crate) fn run<
         (state_course M.stored state names.old c)) }
     ensures reads { CountsReads (ends_unread result) (I.faults source.old) (I.faults source.new) }
     ensures written { ends_unread result ≡ true → out.new.held ≡ [] }
+    ensures untouched { program_asks program.now.rules ≡ false → (input.new ≡ input.old) × (source.new ≡ source.old) }
     ensures names { KeepsNames names.old names.new }
     ensures of { IfOk result (λ s. IsOf M.stands_for program.now.rules s) }
 {

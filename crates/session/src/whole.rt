@@ -1,13 +1,16 @@
 //! A whole session, and what is told of it.
-ghost use Rattle.std.specs.Prelude.{◌≡◌, ℕ, ◌^◌, ◌<◌, [], Ok, IsTrue};
+ghost use Rattle.std.specs.Prelude.{◌≡◌, ℕ, ◌^◌, ◌<◌, [], Ok, IsTrue, false};
 ghost use Rattle.ops_io.specs.Coming.{inlet};
 ghost use Rattle.ops_io.specs.Ports.{port};
 ghost use Rattle.ops_meaning.specs.Kept.{KeepsNames, GoesByConflictSets};
 ghost use Rattle.ops_meaning.specs.Running.{session_of};
+ghost use Rattle.act_phase.specs.Asking.{program_asks};
+ghost use Rattle.act_phase.specs.Held.{HoldsProgram};
 ghost use Rattle.act_phase.specs.Outcomes.{setting_of};
 ghost use Rattle.cycle.specs.Settles.{Settles};
 ghost use Rattle.session.specs.Courses.{ended};
 ghost use Rattle.session.specs.Endings.{EndsOn, CountsReadFault};
+ghost use Rattle.session.specs.Holding.{EndsHeld};
 
 use crate::commands::do_commands;
 use crate::session::Session;
@@ -72,9 +75,15 @@ pub fn run_session<
         (λ c. session_of (setting_of program.now 0) limit program.now.commands names.old c) }
     ensures reads { CountsReadFault result (I.faults source.old) (I.faults source.new) }
     ensures written { result ≡ Ok Ending.ReadFault → out.new.held ≡ [] }
+
+    // Where no `accept` stands in the program, the input is left as it was.
+    ensures untouched { program_asks program.now.rules ≡ false → (input.new ≡ input.old) × (source.new ≡ source.old) }
     ensures flushed { out.old.held ≡ [] → (firings elements last_tag : ℕ)
         → result ≡ Ok (Ending.Done firings elements last_tag) → out.new.held ≡ [] }
     ensures names { KeepsNames names.old names.new }
+
+    // Where the names hold each symbol of the program, they hold at the end those of the program and of working memory.
+    ensures held { HoldsProgram names.old program.now → HoldsProgram names.new program.now × EndsHeld program.now limit names.old }
     ensures sets { GoesByConflictSets (setting_of program.now 0) limit program.now.commands names.old }
 {
     let done = do_commands(

@@ -1,10 +1,13 @@
-use Rattle.std.proofs.Common.{◌-◌, arith, rules}
+use Rattle.std.proofs.Common.{◌-◌, refl, ap, ◌∙◌, arith, rules}
+use Rattle.std.specs.List.{list_any}
 use Rattle.ops_io.specs.Coming.{Coming}
+use Rattle.act_phase.specs.Asking.{action_asks}
 use Rattle.act_phase.specs.Deeds.{scene}
 use Rattle.act_phase.specs.Outcomes.{setting_of, acted_of, is_read}
 use Rattle.act_phase.specs.declared.outcome.Acted.{Acted}
 use Rattle.act_phase.proofs.Deeds.{handed_on}
-use Rattle.act_phase.proofs.Steps.{well_kept, whole_short, whole_ok, whole_err, whole_lawful}
+use Rattle.act_phase.proofs.Held.{holds_program, holds_elements, rules_of_program}
+use Rattle.act_phase.proofs.Steps.{whole_held, well_kept, whole_short, whole_ok, whole_err, whole_lawful}
 use Rattle.act_phase.proofs.acting.act.Goals as goal
 
 pub returns-in_err-doing : goal.returns-in_err-doing
@@ -17,7 +20,9 @@ returns-in_err-doing g c =
       tag = search rules;
       reads = p.reads;
       written = handed_on is_read c.from_residual.result _ c.from_residual.ensures.1 (λ is. absurd (cc));
+      untouched = λ _. (refl, refl);
       names = p.names;
+      held = λ h e. (h, e, search rules);
     }
 
 pub returns-in_err-act_all : goal.returns-in_err-act_all
@@ -32,7 +37,9 @@ returns-in_err-act_all g c =
       tag = search rules;
       reads = p.reads;
       written = handed_on is_read c.from_residual-in_err-act_all.result _ c.from_residual-in_err-act_all.ensures.1 c.in_err-act_all.ensures.written;
+      untouched = λ none. c.in_err-act_all.ensures.untouched (ap (list_any action_asks) c.actions_of-actions.ensures ∙ none);
       names = p.names;
+      held = λ h e. (holds_program c.args.names.now c.act_all.new.names c.args.program.now p.names h, holds_elements c.args.names.now c.act_all.new.names c.args.store.now.elements p.names e, search rules);
     }
 
 pub returns : goal.returns
@@ -49,5 +56,7 @@ returns g c =
       tag = omega (arith, kept.1, c.finish.ensures.positive);
       reads = p.reads;
       written = search rules;
+      untouched = λ none. c.in_ok-act_all.ensures.untouched (ap (list_any action_asks) c.actions_of-actions.ensures ∙ none);
       names = p.names;
+      held = λ h e. (holds_program c.args.names.now c.act_all.new.names c.args.program.now p.names h, holds_elements c.args.names.now c.act_all.new.names c.args.store.now.elements p.names e, whole_held (setting_of c.args.program.now c.args.watch) c.args.inst.now c.args.store.now.elements (c.args.next_tag - 1) old c.finish.result p h.nil (rules_of_program _ c.args.program.now h.symbols) e);
     }

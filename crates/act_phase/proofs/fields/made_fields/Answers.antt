@@ -7,6 +7,8 @@ use Rattle.act_phase.specs.State.{doing_of, filled_of}
 use Rattle.act_phase.specs.declared.outcome.Mishap.TheVariants as mishap
 use Rattle.act_phase.proofs.Deeds.{still_all, still_same, still_short}
 use Rattle.act_phase.proofs.Placing.{put_ok, put_err}
+use Rattle.act_phase.specs.Asking.{put_asks}
+use Rattle.act_phase.proofs.Asking.{none_at, both_then}
 use Rattle.act_phase.proofs.fields.made_fields.Goals as goal
 
 pub returns-in_err-fields-clause-does : goal.returns-in_err-fields-clause-does
@@ -16,8 +18,12 @@ pub loop-put-init : goal.loop-put-init
 loop-put-init g c =
     let classes = c.args.classes.now in
     let class = class_of classes c.args.class in
-    still_same _ (still_all _ _ c.requires.whole)
-    (λ d. ap (λ fields. silent (puts_made classes class c.args.puts.now (filled_of fields (doing_of c.args.doing.now c.args.names.now d)))) (sym c.in_ok-fields.ensures))
+    record {
+      does =
+          still_same _ (still_all _ _ c.requires.whole)
+          (λ d. ap (λ fields. silent (puts_made classes class c.args.puts.now (filled_of fields (doing_of c.args.doing.now c.args.names.now d)))) (sym c.in_ok-fields.ensures));
+      untouched = λ _. (refl, refl);
+    }
 
 pub returns-in_err-place_put-clause-does : goal.returns-in_err-place_put-clause-does
 returns-in_err-place_put-clause-does g c =
@@ -25,7 +31,7 @@ returns-in_err-place_put-clause-does g c =
     let classes = c.args.classes.now in
     let class = class_of classes c.args.class in
     put_err (puts_made classes class) (λ (p : Put) (f : Filled). terms_placed classes p.field p.terms (record f { fields = emptied class p.field f.fields })) (λ p ps f. refl)
-    c.args.doing.now c.args.puts.now l.put-index c.put-item.result l.fields.items c.loop-put-test.true c.put-item.is l.invariant
+    c.args.doing.now c.args.puts.now l.put-index c.put-item.result l.fields.items c.loop-put-test.true c.put-item.is l.invariant.does
     (λ d. ap (λ fields. terms_placed classes c.put-item.result.field c.put-item.result.terms (filled_of fields (doing_of c.args.doing.now l.names d))) (sym c.empty_vector.ensures))
     _ _ c.in_err-place_put.field-0.0 c.from_residual-in_err-place_put.ensures.1 c.in_err-place_put.ensures.does
 
@@ -34,7 +40,16 @@ loop-put-preserved g c =
     let l = c.loop-put in
     let classes = c.args.classes.now in
     let class = class_of classes c.args.class in
-    put_ok (puts_made classes class) (λ (p : Put) (f : Filled). terms_placed classes p.field p.terms (record f { fields = emptied class p.field f.fields })) (λ p ps f. refl)
-    c.args.doing.now c.args.puts.now l.put-index c.put-item.result l.fields.items c.loop-put-test.true c.put-item.is l.invariant
-    (λ d. ap (λ fields. terms_placed classes c.put-item.result.field c.put-item.result.terms (filled_of fields (doing_of c.args.doing.now l.names d))) (sym c.empty_vector.ensures))
-    c.place_put.new.fields.items c.in_ok-place_put.ensures.does
+    record {
+      does =
+          put_ok (puts_made classes class) (λ (p : Put) (f : Filled). terms_placed classes p.field p.terms (record f { fields = emptied class p.field f.fields })) (λ p ps f. refl)
+          c.args.doing.now c.args.puts.now l.put-index c.put-item.result l.fields.items c.loop-put-test.true c.put-item.is l.invariant.does
+          (λ d. ap (λ fields. terms_placed classes c.put-item.result.field c.put-item.result.terms (filled_of fields (doing_of c.args.doing.now l.names d))) (sym c.empty_vector.ensures))
+          c.place_put.new.fields.items c.in_ok-place_put.ensures.does;
+      untouched = λ none. both_then (l.invariant.untouched none) (c.in_ok-place_put.ensures.untouched (none_at put_asks c.args.puts.now l.put-index c.put-item.result c.loop-put-test.true c.put-item.is none));
+    }
+
+pub returns-in_err-place_put-clause-untouched : goal.returns-in_err-place_put-clause-untouched
+returns-in_err-place_put-clause-untouched g c =
+    let l = c.loop-put in
+    λ none. both_then (l.invariant.untouched none) (c.in_err-place_put.ensures.untouched (none_at put_asks c.args.puts.now l.put-index c.put-item.result c.loop-put-test.true c.put-item.is none))

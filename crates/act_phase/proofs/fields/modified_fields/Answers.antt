@@ -6,6 +6,8 @@ use Rattle.act_phase.specs.State.{doing_of, filled_of}
 use Rattle.act_phase.specs.declared.outcome.Mishap.TheVariants as mishap
 use Rattle.act_phase.proofs.Deeds.{still_all, still_same, still_short}
 use Rattle.act_phase.proofs.Placing.{put_ok, put_err}
+use Rattle.act_phase.specs.Asking.{put_asks}
+use Rattle.act_phase.proofs.Asking.{none_at, both_then}
 use Rattle.act_phase.proofs.fields.modified_fields.Goals as goal
 
 pub returns-in_err-fields-clause-does : goal.returns-in_err-fields-clause-does
@@ -13,19 +15,32 @@ returns-in_err-fields-clause-does g c = still_short _ mishap.OutOfMemory c.from_
 
 pub loop-put-init : goal.loop-put-init
 loop-put-init g c =
-    still_same _ (still_all _ _ c.requires.whole)
-    (λ d. ap (λ fields. silent (puts_over c.args.classes.now c.args.puts.now (filled_of fields (doing_of c.args.doing.now c.args.names.now d)))) (sym c.in_ok-fields.ensures))
+    record {
+      does =
+          still_same _ (still_all _ _ c.requires.whole)
+          (λ d. ap (λ fields. silent (puts_over c.args.classes.now c.args.puts.now (filled_of fields (doing_of c.args.doing.now c.args.names.now d)))) (sym c.in_ok-fields.ensures));
+      untouched = λ _. (refl, refl);
+    }
 
 pub returns-in_err-place_put-clause-does : goal.returns-in_err-place_put-clause-does
 returns-in_err-place_put-clause-does g c =
     let l = c.loop-put in
     put_err (puts_over c.args.classes.now) (λ (p : Put) (f : Filled). terms_placed c.args.classes.now p.field p.terms f) (λ p ps f. refl)
-    c.args.doing.now c.args.puts.now l.put-index c.put-item.result l.fields.items c.loop-put-test.true c.put-item.is l.invariant (λ d. refl)
+    c.args.doing.now c.args.puts.now l.put-index c.put-item.result l.fields.items c.loop-put-test.true c.put-item.is l.invariant.does (λ d. refl)
     _ _ c.in_err-place_put.field-0.0 c.from_residual-in_err-place_put.ensures.1 c.in_err-place_put.ensures.does
 
 pub loop-put-preserved : goal.loop-put-preserved
 loop-put-preserved g c =
     let l = c.loop-put in
-    put_ok (puts_over c.args.classes.now) (λ (p : Put) (f : Filled). terms_placed c.args.classes.now p.field p.terms f) (λ p ps f. refl)
-    c.args.doing.now c.args.puts.now l.put-index c.put-item.result l.fields.items c.loop-put-test.true c.put-item.is l.invariant (λ d. refl)
-    c.place_put.new.fields.items c.in_ok-place_put.ensures.does
+    record {
+      does =
+          put_ok (puts_over c.args.classes.now) (λ (p : Put) (f : Filled). terms_placed c.args.classes.now p.field p.terms f) (λ p ps f. refl)
+          c.args.doing.now c.args.puts.now l.put-index c.put-item.result l.fields.items c.loop-put-test.true c.put-item.is l.invariant.does (λ d. refl)
+          c.place_put.new.fields.items c.in_ok-place_put.ensures.does;
+      untouched = λ none. both_then (l.invariant.untouched none) (c.in_ok-place_put.ensures.untouched (none_at put_asks c.args.puts.now l.put-index c.put-item.result c.loop-put-test.true c.put-item.is none));
+    }
+
+pub returns-in_err-place_put-clause-untouched : goal.returns-in_err-place_put-clause-untouched
+returns-in_err-place_put-clause-untouched g c =
+    let l = c.loop-put in
+    λ none. both_then (l.invariant.untouched none) (c.in_err-place_put.ensures.untouched (none_at put_asks c.args.puts.now l.put-index c.put-item.result c.loop-put-test.true c.put-item.is none))

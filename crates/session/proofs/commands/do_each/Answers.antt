@@ -10,6 +10,7 @@ use Rattle.session.specs.Courses.{meant_by}
 use Rattle.session.proofs.Comings.{pending_put, performed_put}
 use Rattle.session.proofs.Flushes.{performs_still, performs_refused}
 use Rattle.session.proofs.Sequence.{exits, none_left, commands_begin, commands_end, one_command, last_command}
+use Rattle.act_phase.proofs.Asking.{both_then}
 use Rattle.session.proofs.commands.do_each.Goals as goal
 
 pub loop-command-init : goal.loop-command-init
@@ -17,6 +18,7 @@ loop-command-init g c = record {
   out = commands_begin (setting_of c.args.program.now 0) c.args.limit c.args.program.now.commands c.as_slice-command-items.result.now (λ z. meant_by g.M.Matcher.stored c.args.session c.args.names.now z) _ _ c.requires.whole c.as_slice-command-items.ensures;
   whole = c.requires.whole;
   faults = refl;
+  untouched = λ _. (refl, refl);
   names = names_stay c.args.names.now;
   under_way = c.requires.under_way;
   flushed = λ e. e;
@@ -84,6 +86,7 @@ loop-command-preserved g c =
       out = out;
       whole = put.1.whole;
       faults = put.1.faults;
+      untouched = λ none. both_then (c.loop-command.invariant.untouched none) (c.in_ok-session.ensures.untouched none);
       names = names_then c.args.names.now c.loop-command.names c.do_command.new.names c.loop-command.invariant.names c.in_ok-session.ensures.names;
       under_way = c.in_ok-session.ensures.under_way;
       flushed = λ _. ap (λ (o : OutState). o.held) written.out;
@@ -95,3 +98,9 @@ returns-clause-performs g c =
     let past : length all ≤ c.loop-command.command-index = omega (arith, c.loop-command-test.false) in
     commands_end (setting_of c.args.program.now 0) c.args.limit all c.loop-command.command-index (λ z. meant_by g.M.Matcher.stored c.loop-command.session c.loop-command.names z) c.loop-command.invariant.out c.loop-command.session
     (λ z. none_left (setting_of c.args.program.now 0) c.args.limit c.loop-command.out.column all c.loop-command.command-index (meant_by g.M.Matcher.stored c.loop-command.session c.loop-command.names z) past) c.loop-command.invariant.whole
+
+pub returns-in_err-session-clause-untouched : goal.returns-in_err-session-clause-untouched
+returns-in_err-session-clause-untouched g c = λ none. both_then (c.loop-command.invariant.untouched none) (c.in_err-session.ensures.untouched none)
+
+pub returns-in_err-flush-clause-untouched : goal.returns-in_err-flush-clause-untouched
+returns-in_err-flush-clause-untouched g c = λ none. both_then (c.loop-command.invariant.untouched none) (c.in_ok-session.ensures.untouched none)

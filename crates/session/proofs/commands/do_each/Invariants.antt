@@ -1,9 +1,10 @@
-use Rattle.std.proofs.Common.{◌≡◌, [], drop, IsTrue}
+use Rattle.std.proofs.Common.{◌≡◌, false, [], drop, IsTrue}
 use Rattle.ops_io.specs.Coming.{inlet}
 use Rattle.ops_io.specs.Ports.{port}
 use Rattle.ops_meaning.specs.Effects.{PendingOn}
 use Rattle.ops_meaning.specs.Kept.{KeepsNames}
 use Rattle.ops_meaning.specs.Running.{commands_done}
+use Rattle.act_phase.specs.Asking.{program_asks}
 use Rattle.act_phase.specs.Outcomes.{setting_of}
 use Rattle.session.specs.Courses.{IsUnderWay, meant_by}
 use Rattle.session.proofs.commands.do_each.Given as goal
@@ -18,6 +19,7 @@ invariant-loop-command g l = record {
       (λ z. commands_done (setting_of l.program 0) l.limit l.out.column (drop l.command-index l.command-items) (meant_by g.M.Matcher.stored l.session l.names z));
   whole : IsTrue l.out.whole;
   faults : g.K.Sink.faults l.sink ≡ g.K.Sink.faults l.fn.sink;
+  untouched : program_asks l.program.rules ≡ false → (l.input ≡ l.fn.input) × (l.source ≡ l.fn.source);
   names : KeepsNames l.fn.names l.names;
   under_way : IsUnderWay g.M.Matcher.stored g.M.Matcher.stands_for l.program.rules l.session;
   flushed : l.fn.out.held ≡ [] → l.out.held ≡ [];

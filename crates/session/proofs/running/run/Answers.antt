@@ -15,6 +15,7 @@ use Rattle.session.specs.Pauses.{meant_last, pause_line}
 use Rattle.session.proofs.Comings.{pending_put, performed_put}
 use Rattle.session.proofs.Flushes.{shown_put, shown_refused, performs_still, performs_refused}
 use Rattle.session.proofs.Turns.{ends_paused, ends_over, ends_limited, ends_firing, one_firing}
+use Rattle.act_phase.proofs.Asking.{both_then}
 use Rattle.session.proofs.running.run.Goals as goal
 
 pub returns-in_err-put_pause-clause-performs : goal.returns-in_err-put_pause-clause-performs
@@ -132,6 +133,7 @@ turns-preserved g c =
       out = out;
       whole = put.1.whole;
       faults = put.1.faults;
+      untouched = λ none. both_then (c.turns.invariant.untouched none) (c.in_ok-after.ensures.untouched none);
       names = names_then c.args.names.now c.turns.names c.fire.new.names c.turns.invariant.names c.in_ok-after.ensures.names;
       of = c.in_ok-after.ensures.of;
     }
@@ -144,6 +146,7 @@ turns-init g c = record {
       );
   whole = c.requires.whole;
   faults = refl;
+  untouched = λ _. (refl, refl);
   names = λ i s h. h;
   of = c.requires.of;
 }
@@ -151,3 +154,9 @@ turns-init g c = record {
 pub returns-in_err-after-clause-names : goal.returns-in_err-after-clause-names
 returns-in_err-after-clause-names g c =
     names_then c.args.names.now c.turns.names c.fire.new.names c.turns.invariant.names c.in_err-after.ensures.names
+
+pub returns-in_err-after-clause-untouched : goal.returns-in_err-after-clause-untouched
+returns-in_err-after-clause-untouched g c = λ none. both_then (c.turns.invariant.untouched none) (c.in_err-after.ensures.untouched none)
+
+pub returns-in_err-show-clause-untouched : goal.returns-in_err-show-clause-untouched
+returns-in_err-show-clause-untouched g c = λ none. both_then (c.turns.invariant.untouched none) (c.in_ok-after.ensures.untouched none)

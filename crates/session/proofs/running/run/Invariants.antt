@@ -1,9 +1,10 @@
-use Rattle.std.proofs.Common.{◌≡◌, ◌-◌, None, IsTrue}
+use Rattle.std.proofs.Common.{◌≡◌, false, ◌-◌, None, IsTrue}
 use Rattle.ops_io.specs.Coming.{inlet}
 use Rattle.ops_io.specs.Ports.{port}
 use Rattle.ops_meaning.specs.Effects.{PendingOn}
 use Rattle.ops_meaning.specs.Kept.{KeepsNames}
 use Rattle.ops_meaning.specs.Running.{run_on}
+use Rattle.act_phase.specs.Asking.{program_asks}
 use Rattle.act_phase.specs.Outcomes.{setting_of}
 use Rattle.cycle.specs.States.{state_course}
 use Rattle.session.specs.Courses.{IsOf}
@@ -20,6 +21,7 @@ invariant-turns g l = record {
       (λ z. run_on l.left (setting_of l.program l.watch) l.breaks l.out.column (meant_last l.last) l.count (state_course g.M.Matcher.stored l.state l.names z));
   whole : IsTrue l.out.whole;
   faults : g.K.Sink.faults l.sink ≡ g.K.Sink.faults l.fn.sink;
+  untouched : program_asks l.program.rules ≡ false → (l.input ≡ l.fn.input) × (l.source ≡ l.fn.source);
   names : KeepsNames l.fn.names l.names;
   of : IsOf g.M.Matcher.stands_for l.program.rules l.state;
 }

@@ -1,7 +1,9 @@
 use Rattle.std.proofs.Common.{◌∙◌, sym}
 use Rattle.ops_meaning.proofs.RisingTags.{session_goes}
 use Rattle.act_phase.specs.Outcomes.{setting_of}
+use Rattle.act_phase.proofs.Held.{holds_program}
 use Rattle.session.proofs.Early.{session_early}
+use Rattle.session.proofs.HeldSession.{session_held}
 use Rattle.session.proofs.SessionEnds.{ends_on, ended_reads, ended_unread, ended_done}
 use Rattle.session.proofs.whole.run_session.Goals as goal
 
@@ -26,3 +28,7 @@ returns-clause-flushed g c = λ empty firings elements last_tag is.
 
 pub returns-clause-sets : goal.returns-clause-sets
 returns-clause-sets g c = session_goes (setting_of c.args.program.now 0) c.args.limit c.args.program.now.commands c.args.names.now
+
+pub returns-clause-held : goal.returns-clause-held
+returns-clause-held g c = λ h.
+    (holds_program c.args.names.now c.do_commands-done.new.names c.args.program.now c.do_commands-done.ensures.names h, session_held c.args.program.now c.args.limit c.args.names.now h)

@@ -1,9 +1,13 @@
-use Rattle.std.proofs.Common.{◌+◌, ap, refl, subst, sym, List, Ok, Err}
+use Rattle.std.proofs.Common.{◌+◌, ◌∙◌, ap, refl, subst, sym, List, Ok, Err}
 use Rattle.std.proofs.lemmas.Result.{err_from_is_err_and}
+use Rattle.ops_base.specs.declared.rules.Inst.{Inst}
+use Rattle.ops_meaning.specs.Running.{Course}
+use Rattle.act_phase.specs.Asking.{right_side_asks}
 use Rattle.act_phase.specs.Outcomes.{setting_of}
 use Rattle.act_phase.specs.declared.outcome.ActFault.TheVariants as fault
 use Rattle.conflict_index.specs.Indexed.{Member, KeepsSpecificities}
 use Rattle.cycle.specs.States.{no_names, no_input, state_course}
+use Rattle.cycle.proofs.HeldAfter.{nothing_left, held_after}
 use Rattle.cycle.proofs.Marks.{some_copied, next_member, marked_specificities}
 use Rattle.cycle.proofs.Firings.{same_next, fires_not, fires_unseen, behind_line, fires_badly, fires_short, fires}
 use Rattle.cycle.proofs.state.State.fire.Goals as goal
@@ -64,3 +68,41 @@ returns-clause-performs g c = λ i is.
     _ c.last_tag-tag.ensures.kept (next_member c.args.self.index.members c.next.result c.in_ok-inst.inst c.next.ensures.waiting c.in_ok-inst.ensures)
     c.mark.new.self c.mark.ensures c.as_slice.result.now c.as_slice.ensures (λ z. state_course g.M.Matcher.stored c.in_ok-state.state c.act.new.names z) (λ z. c.in_ok-state.ensures.course c.act.new.names z)
     (λ z. refl))
+
+pub returns-in_err-acted-clause-untouched : goal.returns-in_err-acted-clause-untouched
+returns-in_err-acted-clause-untouched g c = λ i is none.
+    let same = same_next _ _ c.in_ok-inst.inst i (c.next.ensures.dominant c.args.program.now.rules no_names no_input c.requires.stands c.requires.specificities) c.in_ok-inst.ensures is in
+    c.in_err-acted.ensures.untouched (ap (λ (j : Inst). right_side_asks c.args.program.now.rules j.rule) same ∙ none)
+
+pub returns-in_err-state-clause-untouched : goal.returns-in_err-state-clause-untouched
+returns-in_err-state-clause-untouched g c = λ i is none.
+    let same = same_next _ _ c.in_ok-inst.inst i (c.next.ensures.dominant c.args.program.now.rules no_names no_input c.requires.stands c.requires.specificities) c.in_ok-inst.ensures is in
+    c.in_ok-acted.ensures.untouched (ap (λ (j : Inst). right_side_asks c.args.program.now.rules j.rule) same ∙ none)
+
+pub returns-clause-untouched : goal.returns-clause-untouched
+returns-clause-untouched g c = λ i is none.
+    let same = same_next _ _ c.in_ok-inst.inst i (c.next.ensures.dominant c.args.program.now.rules no_names no_input c.requires.stands c.requires.specificities) c.in_ok-inst.ensures is in
+    c.in_ok-acted.ensures.untouched (ap (λ (j : Inst). right_side_asks c.args.program.now.rules j.rule) same ∙ none)
+
+pub returns-in_err-inst-clause-held : goal.returns-in_err-inst-clause-held
+returns-in_err-inst-clause-held g c = λ h e. (h, e, nothing_left _ _ c.from_residual.result c.from_residual.ensures.1)
+
+pub returns-in_err-put_trace-clause-held : goal.returns-in_err-put_trace-clause-held
+returns-in_err-put_trace-clause-held g c = λ h e. (h, e, nothing_left _ _ c.from_residual-in_err-put_trace.result c.from_residual-in_err-put_trace.ensures.1)
+
+pub returns-in_err-acted-clause-held : goal.returns-in_err-acted-clause-held
+returns-in_err-acted-clause-held g c = λ h e.
+    let held = c.in_err-acted.ensures.held h (rw c.store.ensures e) in
+    (held.0, rw c.store.ensures at held.1, nothing_left _ _ c.from_residual-in_err-acted.result c.from_residual-in_err-acted.ensures.1)
+
+pub returns-in_err-state-clause-held : goal.returns-in_err-state-clause-held
+returns-in_err-state-clause-held g c = λ h e.
+    let held = c.in_ok-acted.ensures.held h (rw c.store.ensures e) in
+    (held.0, rw c.store.ensures at held.1, nothing_left _ _ c.from_residual-in_err-state.result c.from_residual-in_err-state.ensures.1)
+
+pub returns-clause-held : goal.returns-clause-held
+returns-clause-held g c = λ h e.
+    let held = c.in_ok-acted.ensures.held h (rw c.store.ensures e) in
+    let before = rw c.store.ensures at held.1 in
+    let is = ap (λ (m : Course). m.wm) (c.in_ok-state.ensures.course c.act.new.names no_input) in
+    (held.0, before, held_after c.act.new.names _ _ c.as_slice.result.now (rw c.mark.ensures before) (rw c.as_slice.ensures held.2) is)

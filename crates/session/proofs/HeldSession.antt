@@ -1,0 +1,168 @@
+-- What a session makes is held by its names, as what its right sides make is.
+use Rattle.std.proofs.Common.{◌≡◌, ℕ, zero, suc, ◌+◌, ◌-◌, ◌<◌, ◌≤◌, List, [], ◌∷◌, ◌++◌, length, map, fold, Bool, true, ◌&&◌, Option, Some, None, MatchResult, refl, arith}
+use Rattle.std.specs.Prelude.{slice_set}
+use Rattle.std.specs.List.{list_all}
+use Rattle.std.proofs.lemmas.Bool.{and_parts, and_from, cond_both}
+use Rattle.ops_base.specs.declared.commands.Command.{Command}
+use Rattle.ops_base.specs.declared.commands.Command.TheVariants as command
+use Rattle.ops_base.specs.declared.commands.Fixed.{Fixed}
+use Rattle.ops_base.specs.declared.commands.Strategy.{Strategy}
+use Rattle.ops_base.specs.declared.elements.Change.TheVariants as change
+use Rattle.ops_base.specs.declared.elements.Class.{Class}
+use Rattle.ops_base.specs.declared.elements.Element.{Element}
+use Rattle.ops_base.specs.declared.endings.Ending.{Ending}
+use Rattle.ops_base.specs.declared.programs.Program.{Program}
+use Rattle.ops_base.specs.declared.rules.Inst.{Inst}
+use Rattle.ops_base.specs.declared.values.Sym.{Sym}
+use Rattle.ops_base.specs.declared.values.Value.{Value}
+use Rattle.ops_base.specs.Names.{Spellings}
+use Rattle.ops_base.specs.Symbols.{value_held, class_held, rule_held, fixed_held, command_held}
+use Rattle.ops_base.specs.Valid.{class_of, is_vector}
+use Rattle.ops_base.specs.WorkingMemory.{no_fields, tags_of, without_tag}
+use Rattle.ops_io.specs.Output.{column_after}
+use Rattle.ops_meaning.specs.Acting.{Setting, acted, emptied, first_of, has_tag}
+use Rattle.ops_meaning.specs.Effects.{Effect, writes, and_then}
+use Rattle.ops_meaning.specs.Layout.{firing_bytes}
+use Rattle.ops_meaning.specs.Running.{Course, Turned, Session, LastFiring, begun, turn, line_of_pause, last_of, one_less, given_by, ended_in, with_course, with_values, fixed_fields, element_made, removals, turned_of, firing, run_on, next_to_fire, command_done, commands_done, is_exit, strategy_given, level_given, breaks_given, session_of}
+use Rattle.ops_meaning.proofs.Doings.{goes_on, goes_as, ok_goes}
+use Rattle.act_phase.specs.Held.{element_held, change_held, HoldsProgram, HoldsElements}
+use Rattle.act_phase.specs.Outcomes.{setting_of}
+use Rattle.act_phase.proofs.Held.{all_set, all_both, elements_more, command_more, rules_more, program_more, rules_of_program, done_held}
+use Rattle.act_phase.proofs.HeldDoings.{Any, HeldActed, acted_held, first_held, emptied_held, no_fields_held}
+use Rattle.session.specs.Holding.{EndsHeld}
+
+-- ---- what commands make and remove
+
+module _ (n : ℕ) (some : 0 < n) where
+  values_held : (c : Class) (fields : List Value) (f : ℕ) (vs : List Value) → list_all (value_held n) fields ≡ true → list_all (value_held n) vs ≡ true → list_all (value_held n) (with_values c fields f vs) ≡ true
+  values_held c fields f vs h e =
+      cond_both (is_vector c f) (emptied c f fields ++ vs) (slice_set fields f (first_of vs)) (λ fs. list_all (value_held n) fs ≡ true)
+      (λ _. all_both (value_held n) (emptied c f fields) vs (emptied_held n some c f fields h) e)
+      (λ _. all_set (value_held n) fields f (first_of vs) h (first_held n some vs e))
+
+  each_fixed : (c : Class) (puts : List Fixed) (fields : List Value) → list_all (fixed_held n) puts ≡ true → list_all (value_held n) fields ≡ true
+      → list_all (value_held n) (fold (λ fields (p : Fixed). with_values c fields p.field p.values) fields puts) ≡ true
+  each_fixed c [] fields e h = h
+  each_fixed c (p ∷ puts) fields e h =
+      let parts = and_parts (fixed_held n p) (list_all (fixed_held n) puts) e in
+      each_fixed c puts (with_values c fields p.field p.values) parts.1 (values_held c fields p.field p.values h parts.0)
+
+  fixed_fields_held : (c : Class) (puts : List Fixed) → list_all (fixed_held n) puts ≡ true → list_all (value_held n) (fixed_fields c puts) ≡ true
+  fixed_fields_held c puts e = each_fixed c puts (no_fields c) e (no_fields_held n some c)
+
+removals_held : (n : ℕ) (wm : List Element) (tags : List ℕ) → list_all (change_held n) (removals wm tags) ≡ true
+removals_held n wm [] = refl
+removals_held n wm (t ∷ ts) =
+    cond_both (has_tag wm t) (change.Remove t ∷ removals (without_tag t wm) ts) (removals wm ts) (λ cs. list_all (change_held n) cs ≡ true)
+    (λ _. removals_held n (without_tag t wm) ts) (λ _. removals_held n wm ts)
+
+clearing_held : (n : ℕ) (tags : List ℕ) → list_all (change_held n) (map change.Remove tags) ≡ true
+clearing_held n [] = refl
+clearing_held n (t ∷ ts) = clearing_held n ts
+
+-- ---- a session
+
+-- At least so many symbols are held, and each of working memory.
+pub record HeldCourse (n : ℕ) (m : Course) : Type 0 where
+  pub more : n ≤ length m.names.held
+  pub memory : list_all (element_held (length m.names.held)) m.wm ≡ true
+
+module _ (n : ℕ) (some : 0 < n) where
+  abbrev Held : Course → Type 0
+  Held m = HeldCourse n m
+
+  abbrev HeldTurned : Turned → Type 0
+  HeldTurned t = Held t.course
+
+  abbrev HeldSession : Session → Type 0
+  HeldSession k = Held k.course
+
+  firing_held : (s : Setting) (column : ℕ) (i : Inst) (m : Course) → list_all (rule_held n) s.rules ≡ true → Held m → MatchResult (firing s column i m).outcome HeldTurned Any
+  firing_held s column i m h p =
+      let behind = column_after column (firing_bytes s.watch column m.names s.rules (m.firings + 1) i) in
+      let now = length m.names.held in
+      goes_as (HeldActed now) HeldTurned Any Any (turned_of s.rules i m) (ended_in (m.firings + 1) i.rule) (acted s behind i (given_by m)).outcome
+      (acted_held s behind i (given_by m) (omega (arith, some, p.more)) (rules_more n now p.more s.rules h) p.memory)
+      (λ a q. record {
+        more = omega (arith, p.more, q.more);
+        memory = done_held (length a.names.held) m.wm a.changes (elements_more now (length a.names.held) q.more m.wm p.memory) q.changes;
+      })
+      (λ e q. tt)
+
+  -- what every turn leaves of a run whose end it does not come to
+  turn_leaves : (column : ℕ) (line : Option (List ℕ)) (m : Course) (next : Option Inst) (go_on : Inst → Effect Ending Course) → Held m
+      → ((i : Inst) → MatchResult (go_on i).outcome Held Any) → MatchResult (turn column line m next go_on).outcome Held Any
+  turn_leaves column (Some line) m next go_on p q = p
+  turn_leaves column None m None go_on p q = p
+  turn_leaves column None m (Some i) go_on p q = q i
+
+  run_held : (left : ℕ) (s : Setting) (breaks : List Bool) (column : ℕ) (last : Option LastFiring) (count : Option ℕ) (m : Course) → list_all (rule_held n) s.rules ≡ true → Held m
+      → MatchResult (run_on left s breaks column last count m).outcome Held Any
+  run_held zero s breaks column last count m h p =
+      turn_leaves column (line_of_pause m.names s.rules breaks last count) m (next_to_fire s.rules m) _ p (λ i. tt)
+  run_held (suc left) s breaks column last count m h p =
+      turn_leaves column (line_of_pause m.names s.rules breaks last count) m (next_to_fire s.rules m) _ p
+      (λ i. let e = firing s column i m in
+      goes_on HeldTurned Held Any e.bytes e.outcome (λ t. run_on left s breaks (column_after column e.bytes) (last_of i t) (one_less count) t.course) (firing_held s column i m h p)
+      (λ t q. run_held left s breaks (column_after column e.bytes) (last_of i t) (one_less count) t.course h q))
+
+  strategy_held : (column : ℕ) (set : Option Strategy) (k : Session) → HeldSession k → MatchResult (strategy_given column set k).outcome HeldSession Any
+  strategy_held column None k p = p
+  strategy_held column (Some g) k p = record { more = p.more; memory = p.memory }
+
+  level_held : (column : ℕ) (set : Option ℕ) (k : Session) → HeldSession k → MatchResult (level_given column set k).outcome HeldSession Any
+  level_held column None k p = p
+  level_held column (Some l) k p = p
+
+  breaks_held : (s : Setting) (column : ℕ) (names : List Sym) (k : Session) → HeldSession k → MatchResult (breaks_given s column names k).outcome HeldSession Any
+  breaks_held s column [] k p = p
+  breaks_held s column (x ∷ xs) k p = p
+
+  command_kept : (s : Setting) (limit column : ℕ) (c : Command) (k : Session) → list_all (rule_held n) s.rules ≡ true → command_held n c ≡ true → HeldSession k → MatchResult (command_done s limit column c k).outcome HeldSession Any
+  command_kept s limit column (command.Make class puts) k h e p =
+      let now = length k.course.names.held in
+      let made = element_made s.classes class puts k.course in
+      record {
+        more = p.more;
+        memory = done_held now k.course.wm (change.Add made ∷ []) p.memory (and_from _ _ (fixed_fields_held now (omega (arith, some, p.more)) (class_of s.classes class) puts (command_more n now p.more (command.Make class puts) e)) refl);
+      }
+  command_kept s limit column (command.Remove tags) k h e p =
+      let now = length k.course.names.held in
+      record { more = p.more; memory = done_held now k.course.wm (removals k.course.wm tags) p.memory (removals_held now k.course.wm tags) }
+  command_kept s limit column command.RemoveAll k h e p =
+      let now = length k.course.names.held in
+      record { more = p.more; memory = done_held now k.course.wm (map change.Remove (tags_of k.course.wm)) p.memory (clearing_held now (tags_of k.course.wm)) }
+  command_kept s limit column (command.Run count) k h e p =
+      let at : Setting = record s { watch = k.watch } in
+      let left = limit - k.course.firings in
+      goes_as Held HeldSession Any Any (with_course k) (λ e. e) (run_on left at k.breaks column None count k.course).outcome (run_held left at k.breaks column None count k.course h p) (λ m q. q) (λ e q. q)
+  command_kept s limit column (command.Wm tags) k h e p = p
+  command_kept s limit column (command.Ppwm pattern) k h e p = p
+  command_kept s limit column command.Cs k h e p = p
+  command_kept s limit column (command.Pm names) k h e p = p
+  command_kept s limit column (command.Strategy set) k h e p = strategy_held column set k p
+  command_kept s limit column (command.Watch set) k h e p = level_held column set k p
+  command_kept s limit column (command.Pbreak names) k h e p = breaks_held s column names k p
+  command_kept s limit column command.Exit k h e p = p
+
+  commands_kept : (s : Setting) (limit column : ℕ) (commands : List Command) (k : Session) → list_all (rule_held n) s.rules ≡ true → list_all (command_held n) commands ≡ true → HeldSession k
+      → MatchResult (commands_done s limit column commands k).outcome HeldSession Any
+  commands_kept s limit column [] k h e p = p
+  commands_kept s limit column (c ∷ rest) k h e p =
+      let parts = and_parts (command_held n c) (list_all (command_held n) rest) e in
+      let f = command_done s limit column c k in
+      let go_on : ℕ → Session → Effect Ending Session = λ next k. commands_done s limit next rest k in
+      cond_both (is_exit c) (writes [] k) (and_then column f go_on) (λ f. MatchResult f.outcome HeldSession Any) (λ _. p)
+      (λ _. goes_on HeldSession HeldSession Any f.bytes f.outcome (go_on (column_after column f.bytes)) (command_kept s limit column c k h parts.0 p)
+      (λ k q. commands_kept s limit (column_after column f.bytes) rest k h parts.1 q))
+
+-- a session ends with names that hold what it has come to
+pub session_held : (p : Program) (limit : ℕ) (names : Spellings) → HoldsProgram names p → EndsHeld p limit names
+session_held p limit names h coming =
+    let n = length names.held in
+    let whole = and_parts (list_all (class_held n) p.classes && list_all (rule_held n) p.rules) (list_all (command_held n) p.commands) h.symbols in
+    ok_goes (λ (k : Session). HeldCourse n k.course) (λ k. HoldsProgram k.course.names p × HoldsElements k.course.names k.course.wm) Any
+    (session_of (setting_of p 0) limit p.commands names coming).outcome
+    (commands_kept n h.nil (setting_of p 0) limit 0 p.commands (begun p.rules names coming) (rules_of_program n p h.symbols) whole.1 (record { more = omega arith; memory = refl }))
+    (λ k q. let now = length k.course.names.held in
+    (record { nil = omega (arith, h.nil, q.more); symbols = program_more n now q.more p.classes p.rules p.commands h.symbols }, q.memory))
