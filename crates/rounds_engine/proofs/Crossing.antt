@@ -91,29 +91,29 @@ memories_send = search (memory_send, sendable, crosses) depth 80 fits 20000
 pub line_send : IsSend Line.the_row
 line_send = search (memories_send, entry_send, sendable, crosses) depth 80 fits 20000
 
-pub ground_sync : IsSync Ground.the_row
-ground_sync = search (net_sync, store_sync, sendable, crosses) depth 80
+pub ground_sync : (a : NamedLft) → IsSync (Ground.the_row a)
+ground_sync a = search (net_sync, store_sync, sendable, crosses) depth 80
 
 -- ---- all that a round lends to another thread
 
 -- of a closure over the handle, what the round works over, the gate, shards and lines
-abbrev lent : (R G : RattleType) (a b c d e : NamedLft) → List RattleType
-lent R G a b c d e =
+abbrev lent : (R G : RattleType) (a b c d e f : NamedLft) → List RattleType
+lent R G a b c d e f =
     (shr_ref_field a (param 0 R) tt).row
-    ∷ (shr_ref_field b Ground.the_row tt).row
-    ∷ (shr_ref_field c (param 1 G) tt).row
-    ∷ (shr_slice_field d Shard.the_row tt).row
-    ∷ (mut_slice_field e Line.the_row tt).row
+    ∷ (shr_ref_field b (Ground.the_row c) tt).row
+    ∷ (shr_ref_field d (param 1 G) tt).row
+    ∷ (shr_slice_field e Shard.the_row tt).row
+    ∷ (mut_slice_field f Line.the_row tt).row
     ∷ []
 
 param_lent : (n : ℕ) (a : NamedLft) (R : RattleType) → IsSync R → IsSend (ShrRef a.mir a.lft (param n R))
 param_lent n a R ys = shr_send a.mir a.lft (param n R) (param_sync n R ys)
 
-pub round_send : (R G : RattleType) → IsSync R → IsSync G → (name : Sym) (a b c d e : NamedLft) → IsSend (TupleAt name (lent R G a b c d e))
-round_send R G ys zs name a b c d e = declared_send (type_at name (lent R G a b c d e)) (
+pub round_send : (R G : RattleType) → IsSync R → IsSync G → (name : Sym) (a b c d e f : NamedLft) → IsSend (TupleAt name (lent R G a b c d e f))
+round_send R G ys zs name a b c d e f = declared_send (type_at name (lent R G a b c d e f)) (
   as_row_send (row_field (ShrRef a.mir a.lft (param 0 R))) (param_lent 0 a R ys),
   (
-    search (ground_sync, sendable) depth 80,
-    (as_row_send (row_field (ShrRef c.mir c.lft (param 1 G))) (param_lent 1 c G zs), (search (shard_sync, sendable) depth 80, (search (line_send, sendable) depth 80, tt))),
+    search (ground_sync c, sendable) depth 80,
+    (as_row_send (row_field (ShrRef d.mir d.lft (param 1 G))) (param_lent 1 d G zs), (search (shard_sync, sendable) depth 80, (search (line_send, sendable) depth 80, tt))),
   ),
 )

@@ -11,7 +11,7 @@ use Rattle.rounds_engine.proofs.phases.work_rounds.Goals as goal
 pub work_round-requires-clause-dealt : goal.work_round-requires-clause-dealt
 work_round-requires-clause-dealt g c κs within =
     let ground = c.args.ground.now in
-    subst (AreAllShards ground.net.now.nodes ground.store.now ground.lines ground.shards) (sym c.as_slice-2.ensures.value) c.loop-round.invariant.dealt
+    subst (AreAllShards ground.net.now.nodes ground.store.now ground.lines ground.shards) (sym c.as_slice-in-loop-round.ensures.value) c.loop-round.invariant.dealt
 
 pub loop-round-preserved : goal.loop-round-preserved
 loop-round-preserved g c =
@@ -25,7 +25,7 @@ loop-round-preserved g c =
     let now = c.in_ok-shards.ensures in
     let before = tasks_of_shards c.loop-round.shards.items in
     let made = tasks_of_shards c.in_ok-shards.shards.items in
-    let e = ap tasks_of_shards c.as_slice-2.ensures.value in
+    let e = ap tasks_of_shards c.as_slice-in-loop-round.ensures.value in
     record {
       carries = by_both net.alphas net.nodes s old mid new (tasks_of_shards c.args.shards.items) before made was.count was.carries (subst (λ (ts : List Task). CarriesOn net.alphas net.nodes s mid ts new made) e now.carries);
       dealt = now.dealt;

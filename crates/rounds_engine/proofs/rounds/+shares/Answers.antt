@@ -1,8 +1,8 @@
 -- A round of one shard, and of two halves put together.
-use Rattle.std.proofs.Common.{rules, ◌/◌, IfOk, ◌∷◌, [], length, sym, subst, ◌∙◌, arith}
+use Rattle.std.proofs.Common.{rules, ◌/◌, IfOk, ◌∷◌, ◌++◌, [], length, sym, subst, ◌∙◌, arith}
 use denote.Param.Send.{IsSync, sendable}
 use Rattle.std.proofs.lemmas.List.Elements.{All-get_or}
-use Rattle.rounds_engine.specs.Sharing.{HasOwn, HaveShared}
+use Rattle.rounds_engine.specs.Sharing.{AreKept, HasOwn, HaveShared}
 use Rattle.rounds_engine.proofs.Crossing.{round_send}
 use Rattle.rounds_engine.proofs.Halving.{both_kept, in_parts, joined_shared, one_shard, only_lines}
 use Rattle.rounds_engine.proofs.rounds.+shares.Goals as goal
@@ -60,4 +60,6 @@ do_apart-returns-clause-shared g t c =
 
 pub do_apart-returns-clause-kept : goal.do_apart-returns-clause-kept
 do_apart-returns-clause-kept g t c =
-    both_kept c.args.ground.now.net.now.nodes c.args.ground.now.store.now c.split_at_mut-front.result.0.now c.do_halves-lower.new.front c.split_at_mut-front.result.1.now c.do_halves-lower.new.back c.do_halves-lower.ensures.front_kept c.do_halves-lower.ensures.back_kept
+    let ground = c.args.ground.now in
+    subst (λ ls. AreKept ground.net.now.nodes ground.store.now ls (c.do_halves-lower.new.front ++ c.do_halves-lower.new.back)) (sym c.split_at_mut-front.ensures.value)
+    (both_kept ground.net.now.nodes ground.store.now c.split_at_mut-front.result.0.now c.do_halves-lower.new.front c.split_at_mut-front.result.1.now c.do_halves-lower.new.back c.do_halves-lower.ensures.front_kept c.do_halves-lower.ensures.back_kept)
