@@ -188,7 +188,13 @@ impl<G: Gate + Drop> Matcher for RoundsEngine<G> {
         } = self;
         let enter = |line: usize| gate.enter(0, line);
         let Gathered { come, gone } = settle_alone(
-            alloc, &net, &mut store, &enter, &mut world, changes, &[],
+            alloc,
+            &net,
+            &mut store,
+            &enter,
+            &mut world,
+            changes,
+            &[],
         )?;
         let matcher = RoundsEngine {
             net,

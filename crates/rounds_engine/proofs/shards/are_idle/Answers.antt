@@ -16,7 +16,7 @@ loop-shard-preserved c =
     let x = c.shard-item.result in
     let low : i < length xs = (let a = c.loop-shard-test.true in omega (arith, a)) in
     let more : take i xs ++ x ∷ [] ≡ take (i + 1) xs = ap (λ (y : Shard). take i xs ++ y ∷ []) c.shard-item.is ∙ sym (take_more xs i x low) in
-    let empty : (vec_len x.tasks == 0) ≡ true = grind (arith, c.is_empty.ensures, c.if-not.false) in
+    let empty : (vec_len x.tasks == 0) ≡ true = grind (arith, c.is_empty.ensures, c.if-not-is_empty.false) in
     let none : x.tasks.items ≡ [] = nil_from_length x.tasks.items (sym x.tasks.ok.0 ∙ grind (arith, nat_tests, empty)) in
     ap tasks_of_shards (sym more)
     ∙ (flat_map-append (λ (y : Shard). tasks_in y.tasks.items) (take i xs) (x ∷ [])

@@ -19,7 +19,7 @@ pub returns : goal.returns
 returns c =
     let ms = c.in_ok-front.front.items in
     let ns = c.in_ok-back.back.items in
-    let both = YieldsList-from_zip {s = c.zip-shard-items.result} (YieldsList-from_vec {s = zip_first c.zip-shard-items.result} ms (search rules) (search rules)) (YieldsList-from_vec {s = zip_second c.zip-shard-items.result} ns (search rules) (search rules)) in
+    let both = YieldsList-from_zip {s = c.into_iter-shard-iterator.result} (YieldsList-from_vec {s = zip_first c.into_iter-shard-iterator.result} ms (search rules) (search rules)) (YieldsList-from_vec {s = zip_second c.into_iter-shard-iterator.result} ns (search rules) (search rules)) in
     let end = YieldsList-end both c.loop-shard.yielded c.loop-shard.shard-iterator c.loop-shard.yielded_by c.next.result c.next.new.self c.in-None.is c.next.ensures.steps in
     record {
       front = c.in_ok-front.front;
