@@ -2,7 +2,7 @@
 use Rattle.std.proofs.Common.{◌≡◌, ◌≤◌, ◌<◌, ◌+◌, ◌-◌, ℕ, List, [], ◌∷◌, ◌++◌, refl, sym, ap, subst, ◌∙◌, arith, length, map, take, drop, sum_by, append-nil}
 use Rattle.std.specs.List.{All, AllByRecursion}
 use Rattle.std.proofs.lemmas.List.{drop_all, length-map, take_all}
-use Rattle.std.proofs.lemmas.List.Sums.{sum_by-cons}
+use Rattle.std.proofs.lemmas.List.Sums.{sum_by-append, sum_by-cons}
 use Rattle.std.proofs.lemmas.List.Elements.{All-from_recursion, recursion_from_All}
 use Rattle.ops_base.specs.declared.elements.Change.{Change}
 use Rattle.ops_base.specs.declared.elements.Element.{Element}
@@ -11,20 +11,19 @@ use Rattle.net_base.specs.declared.nodes.Node.{Node}
 use Rattle.net_base.specs.declared.nodes.Alpha.{Alpha}
 use Rattle.net_base.specs.declared.tasks.Task.{Task}
 use Rattle.net_base.specs.Sound.{IsSound}
+use Rattle.token_line.specs.Held.{TaskFits}
 use Rattle.token_line.specs.declared.line.Entry.{Entry}
 use Rattle.token_line.specs.declared.line.Line.{Line}
 use Rattle.step_core.specs.declared.world.World.{World}
 use Rattle.step_core.specs.Machine.{Clear, Steps, changes_of}
-use Rattle.step_core.specs.Phases.{AreSame, HoldJust, children_of, now, sums_over}
+use Rattle.step_core.specs.Phases.{AreSame, HoldJust, children_of, entries_of, now, sums_over, tasks_of}
 use Rattle.step_core.specs.Rounds.{BeginLaw, EndLaw, HaveDone, IsUnderWay, RoundLaw, StepsLaw}
 use Rattle.step_core.specs.Settling.{PlacedLaw}
 use Rattle.step_core.specs.Worlds.{numbers_of, placed, seen, world_of}
 use Rattle.serial_engine.specs.Running.{IsBundleOf, Went}
 use Rattle.serial_engine.proofs.PhaseLemmas.{at_rest, done_stays, flight_stays}
 use Rattle.serial_engine.proofs.StepLemmas.{same_count}
-use Rattle.rounds_engine.specs.declared.shards.Placed.{Placed}
 use Rattle.rounds_engine.specs.Carrying.{CarriesOn}
-use Rattle.rounds_engine.specs.Sharing.{IsPlacedAt, tasks_in}
 
 module _ (alphas : List Alpha) (nodes : List Node) (s : Stored) where
   abbrev way : ℕ → List Element → List Change → List Line → List Task → Type 0
@@ -45,6 +44,19 @@ module _ (alphas : List Alpha) (nodes : List Node) (s : Stored) where
   pub by_both : (old mid new : List Line) (a b c : List Task) → length mid ≡ length old → CarriesOn alphas nodes s old a mid b → CarriesOn alphas nodes s mid b new c → CarriesOn alphas nodes s old a new c
   by_both old mid new a b c same first second wm changes on =
       subst (λ n. way n wm changes new c) same (second wm changes (subst (λ n. way n wm changes mid b) (sym same) (first wm changes on)))
+
+  -- those that wait, in another order
+  pub by_order : (old new : List Line) (waiting dealt rest : List Task) → AreSame waiting dealt → CarriesOn alphas nodes s old dealt new rest → CarriesOn alphas nodes s old waiting new rest
+  by_order old new waiting dealt rest same carries wm changes on =
+      carries wm changes (record {
+        start = on.start;
+        phases = on.phases;
+        tasks = λ h.
+            let a = on.tasks h in
+            let b = sum_by-append h (tasks_of (entries_of (map seen old))) waiting in
+            let c = sum_by-append h (tasks_of (entries_of (map seen old))) dealt in
+            let d = same h in omega (arith, a, b, c, d);
+      })
 
   -- ---- steps
 
@@ -87,12 +99,12 @@ module _ (alphas : List Alpha) (nodes : List Node) (s : Stored) (sound : IsSound
 
 -- ---- tasks below all nodes
 
-pub none_left : (nodes : List Node) (s : Stored) (lines level : ℕ) (ps : List Placed) → length nodes ≤ level → All (IsPlacedAt nodes s lines) ps → All (λ (x : Task). level ≤ x.node) (tasks_in ps) → ps ≡ []
-none_left nodes s lines level [] low placed deep = refl
-none_left nodes s lines level (p ∷ ps) low placed deep =
-    let a = (recursion_from_All (IsPlacedAt nodes s lines) (p ∷ ps) placed).0 in
-    let b = (recursion_from_All (λ (x : Task). level ≤ x.node) (p.task ∷ tasks_in ps) deep).0 in
-    absurd (let c = a.fits.within in omega (arith, b, c, low))
+pub none_left : (nodes : List Node) (s : Stored) (level : ℕ) (xs : List Task) → length nodes ≤ level → All (TaskFits nodes s) xs → All (λ (x : Task). level ≤ x.node) xs → xs ≡ []
+none_left nodes s level [] low fit deep = refl
+none_left nodes s level (x ∷ xs) low fit deep =
+    let a = (recursion_from_All (TaskFits nodes s) (x ∷ xs) fit).0 in
+    let b = (recursion_from_All (λ (y : Task). level ≤ y.node) (x ∷ xs) deep).0 in
+    absurd (let c = a.within in omega (arith, b, c, low))
 
 pub same_length : (ls ms : List Line) → map (λ (l : Line). l.number) ms ≡ map (λ (l : Line). l.number) ls → length ms ≡ length ls
 same_length ls ms same = sym (length-map ms (λ (l : Line). l.number)) ∙ (ap length same ∙ length-map ls (λ (l : Line). l.number))

@@ -27,6 +27,7 @@ use Rattle.token_line.specs.contracts.line.Line as Line
 use Rattle.token_line.specs.contracts.memories.Memories as Memories
 use Rattle.token_line.specs.contracts.memory.Memory as Memory
 use Rattle.token_line.specs.contracts.tokens.Tokens as Tokens
+use Rattle.rounds_engine.specs.contracts.ground.Ground as Ground
 use Rattle.rounds_engine.specs.contracts.shards.Shard as Shard
 use Rattle.rounds_engine.specs.contracts.shards.Placed as Placed
 
@@ -90,39 +91,29 @@ memories_send = search (memory_send, sendable, crosses) depth 80 fits 20000
 pub line_send : IsSend Line.the_row
 line_send = search (memories_send, entry_send, sendable, crosses) depth 80 fits 20000
 
+pub ground_sync : (a : NamedLft) → IsSync (Ground.the_row a)
+ground_sync a = search (net_sync, store_sync, sendable, crosses) depth 80
+
 -- ---- all that a round lends to another thread
 
--- of a closure over the handle, the allocator, the network, the store, the gate, two numbers, shards and lines
-abbrev lent : (R G : RattleType) (a b c d e f g h i : NamedLft) → List RattleType
-lent R G a b c d e f g h i =
+-- of a closure over the handle, what the round works over, the gate, shards and lines
+abbrev lent : (R G : RattleType) (a b c d e f : NamedLft) → List RattleType
+lent R G a b c d e f =
     (shr_ref_field a (param 0 R) tt).row
-    ∷ (shr_ref_field b Global.the_row tt).row
-    ∷ (shr_ref_field c Net.the_row tt).row
-    ∷ (shr_ref_field d Store.the_row tt).row
-    ∷ (shr_ref_field e (param 1 G) tt).row
-    ∷ (shr_ref_field f u64-field.row tt).row
-    ∷ (shr_ref_field g u64-field.row tt).row
-    ∷ (shr_slice_field h Shard.the_row tt).row
-    ∷ (mut_slice_field i Line.the_row tt).row
+    ∷ (shr_ref_field b (Ground.the_row c) tt).row
+    ∷ (shr_ref_field d (param 1 G) tt).row
+    ∷ (shr_slice_field e Shard.the_row tt).row
+    ∷ (mut_slice_field f Line.the_row tt).row
     ∷ []
 
 param_lent : (n : ℕ) (a : NamedLft) (R : RattleType) → IsSync R → IsSend (ShrRef a.mir a.lft (param n R))
 param_lent n a R ys = shr_send a.mir a.lft (param n R) (param_sync n R ys)
 
-pub round_send : (R G : RattleType) → IsSync R → IsSync G → (name : Sym) (a b c d e f g h i : NamedLft) → IsSend (TupleAt name (lent R G a b c d e f g h i))
-round_send R G ys zs name a b c d e f g h i = declared_send (type_at name (lent R G a b c d e f g h i)) (
+pub round_send : (R G : RattleType) → IsSync R → IsSync G → (name : Sym) (a b c d e f : NamedLft) → IsSend (TupleAt name (lent R G a b c d e f))
+round_send R G ys zs name a b c d e f = declared_send (type_at name (lent R G a b c d e f)) (
   as_row_send (row_field (ShrRef a.mir a.lft (param 0 R))) (param_lent 0 a R ys),
   (
-    search (sendable, crosses) depth 80,
-    (
-      search (net_sync, sendable) depth 80,
-      (
-        search (store_sync, sendable) depth 80,
-        (
-          as_row_send (row_field (ShrRef e.mir e.lft (param 1 G))) (param_lent 1 e G zs),
-          (search sendable depth 80, (search sendable depth 80, (search (shard_sync, sendable) depth 80, (search (line_send, sendable) depth 80, tt)))),
-        ),
-      ),
-    ),
+    search (ground_sync c, sendable) depth 80,
+    (as_row_send (row_field (ShrRef d.mir d.lft (param 1 G))) (param_lent 1 d G zs), (search (shard_sync, sendable) depth 80, (search (line_send, sendable) depth 80, tt))),
   ),
 )

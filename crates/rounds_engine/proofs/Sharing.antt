@@ -1,9 +1,9 @@
 -- What a shard did: one task after another.
 use Rattle.std.proofs.Common.{◌≡◌, append-nil, ℕ, zero, suc, ◌+◌, ◌-◌, ◌<◌, ◌≤◌, List, [], ◌∷◌, ◌++◌, All, get_or, length, map, set, ap, ap₂, subst, sym, ◌∙◌, arith}
 use Rattle.std.proofs.Math.Seq.{map-set_same}
-use Rattle.std.proofs.Math.ListN.{get_or-map}
 use Rattle.std.proofs.lemmas.List.{length-map, map-append}
-use Rattle.std.proofs.lemmas.List.Elements.{All-append, All-get_or, All-head, All-nil, All-set, All-tail, All-weaker}
+use Rattle.std.proofs.lemmas.List.Elements.{All-append, All-cons, All-head, All-nil, All-set, All-tail, All-weaker}
+use Rattle.std.proofs.lemmas.List.Sums.{sum_by-append}
 use Rattle.work_store.specs.Stored.{Stored, held_of}
 use Rattle.net_base.specs.declared.nodes.Alpha.{Alpha}
 use Rattle.net_base.specs.declared.nodes.Node.{Node}
@@ -17,15 +17,16 @@ use Rattle.token_line.specs.Bags.{Bag, after}
 use Rattle.token_line.specs.Held.{TaskFits}
 use Rattle.token_line.specs.Lawful.{IsChildOf, IsLawful}
 use Rattle.token_line.specs.Lines.{sum_in}
-use Rattle.token_line.specs.Numbers.{code_of}
 use Rattle.activation.specs.Acting.{Acts, IsCounted}
 use Rattle.step_core.specs.Machine.{Placing, Seen, add_entry, place_of, sums_at, with_entry}
+use Rattle.step_core.specs.Phases.{AreSame, children_of, entries_of}
 use Rattle.step_core.specs.Rounds.{HaveDone, NoneLaw, OneLaw}
 use Rattle.step_core.specs.Settling.{ChildLaw}
 use Rattle.step_core.specs.Worlds.{placed, seen}
 use Rattle.rounds_engine.specs.declared.shards.Placed.{Placed}
 use Rattle.rounds_engine.specs.declared.shards.Shard.{Shard}
-use Rattle.rounds_engine.specs.Sharing.{ActsAt, AreDeeper, AreKept, HaveShared, IsPlacedAt, tasks_in}
+use Rattle.rounds_engine.specs.Sharing.{ActsAt, AreAllShards, AreDeeper, AreKept, HasOwn, HaveShared, IsPlacedAt, tasks_in, tasks_of_shards}
+use Rattle.rounds_engine.proofs.Carried.{same_level}
 use mathlib.Core.Path.{fun_ext}
 
 -- ---- one line in the place of another
@@ -127,22 +128,41 @@ one_worked one child nodes alphas s lines first todo old mid new p made now soun
 
 -- ---- all tasks of a shard
 
-pub shard_shared : (nodes : List Node) (s : Stored) (lines : ℕ) (x : Shard) (old new : List Line) (made : List Task) (ps : List Placed)
-    → HaveWorked nodes s lines x.first x.tasks.items old new made → tasks_in ps ≡ made → All (IsPlacedAt nodes s lines) ps → HaveShared nodes s lines (x ∷ []) old new ps
-shard_shared nodes s lines x old new made ps have is all = record {
-  did = subst (λ ts. HaveDone (held_of s) nodes (placed (held_of s) nodes lines) x.first (map seen old) (map seen new) ts (tasks_in ps)) (sym (append-nil (tasks_in x.tasks.items)))
-      (subst (HaveDone (held_of s) nodes (placed (held_of s) nodes lines) x.first (map seen old) (map seen new) (tasks_in x.tasks.items)) (sym is) have.did);
-  placed = all;
-  deeper = subst (λ ts. AreDeeper ts (tasks_in ps)) (sym (append-nil (tasks_in x.tasks.items))) (subst (AreDeeper (tasks_in x.tasks.items)) (sym is) have.deeper);
+-- children in another order are as good
+pub same_made : (elements : Elements) (nodes : List Node) (line : Placing) (first : ℕ) (old new : List Seen) (todo made dealt : List Task)
+    → HaveDone elements nodes line first old new todo made → AreSame made dealt → HaveDone elements nodes line first old new todo dealt
+same_made elements nodes line first old new todo made dealt did same = record {
+  count = did.count;
+  begins = did.begins;
+  phases = did.phases;
+  tasks = did.tasks;
+  children = λ h.
+      let a = did.children h in
+      let b = sum_by-append h (children_of (entries_of old)) made in
+      let c = sum_by-append h (children_of (entries_of old)) dealt in
+      let d = same h in omega (arith, a, b, c, d);
 }
 
--- ---- tasks with their lines
+pub same_deeper : (todo made dealt : List Task) → AreDeeper todo made → AreSame made dealt → AreDeeper todo dealt
+same_deeper todo made dealt deeper same level all = same_level (level + 1) made dealt same (deeper level all)
 
-pub all_placed : (nodes : List Node) (s : Stored) (lines : ℕ) (ps : List Placed) (ts : List Task) → tasks_in ps ≡ ts → All (TaskFits nodes s) ts
-    → All (λ (p : Placed). (p.line ≡ place_of (placed (held_of s) nodes lines) p.task) × ((p.line < lines) × (p.code ≡ code_of (held_of s) nodes p.task.node p.task.side p.task.token))) ps → All (IsPlacedAt nodes s lines) ps
-all_placed nodes s lines ps ts is fit all = λ k d low. record {
-  fits = subst (TaskFits nodes s) (get_or-map (λ (q : Placed). q.task) ps k d) (All-get_or (TaskFits nodes s) (tasks_in ps) k d.task (omega (arith, low, length-map ps (λ (q : Placed). q.task))) (subst (All (TaskFits nodes s)) (sym is) fit));
-  line = (all k d low).0;
-  below = (all k d low).1.0;
-  code = (all k d low).1.1;
+pub shard_shared : (nodes : List Node) (s : Stored) (lines shards : ℕ) (x : Shard) (old new : List Line) (made : List Task) (xs : List Shard)
+    → HaveWorked nodes s lines x.first x.tasks.items old new made → AreSame made (tasks_of_shards xs) → AreAllShards nodes s lines shards xs → HaveShared nodes s lines shards (x ∷ []) old new xs
+shard_shared nodes s lines shards x old new made xs have same all = record {
+  did = subst (λ ts. HaveDone (held_of s) nodes (placed (held_of s) nodes lines) x.first (map seen old) (map seen new) ts (tasks_of_shards xs)) (sym (append-nil (tasks_in x.tasks.items)))
+      (same_made (held_of s) nodes (placed (held_of s) nodes lines) x.first (map seen old) (map seen new) (tasks_in x.tasks.items) made (tasks_of_shards xs) have.did same);
+  deeper = subst (λ ts. AreDeeper ts (tasks_of_shards xs)) (sym (append-nil (tasks_in x.tasks.items))) (same_deeper (tasks_in x.tasks.items) made (tasks_of_shards xs) have.deeper same);
+  dealt = all;
 }
+
+-- ---- what is known of all shards
+
+pub fit_all : (nodes : List Node) (s : Stored) (lines : ℕ) (xs : List Shard) → All (HasOwn nodes s lines) xs → All (TaskFits nodes s) (tasks_of_shards xs)
+fit_all nodes s lines [] own = All-nil (TaskFits nodes s)
+fit_all nodes s lines (x ∷ xs) own =
+    All-append (TaskFits nodes s) (tasks_in x.tasks.items) (tasks_of_shards xs)
+    (fit_in x.tasks.items (All-head (HasOwn nodes s lines) x xs own).placed) (fit_all nodes s lines xs (All-tail (HasOwn nodes s lines) x xs own))
+  where
+    fit_in : (ps : List Placed) → All (IsPlacedAt nodes s lines) ps → All (TaskFits nodes s) (tasks_in ps)
+    fit_in [] all = All-nil (TaskFits nodes s)
+    fit_in (p ∷ ps) all = All-cons (TaskFits nodes s) p.task (tasks_in ps) (All-head (IsPlacedAt nodes s lines) p ps all).fits (fit_in ps (All-tail (IsPlacedAt nodes s lines) p ps all))

@@ -1,5 +1,6 @@
 -- Tasks dealt to shards, each of which is some lines that follow one another, and what shards do of a round.
 use Rattle.std.specs.Prelude.{◌≡◌, ◌≤◌, ◌<◌, ◌+◌, ◌*◌, ◌/◌, ◌^◌, ◌++◌, ◌↔◌, ℕ, All, List, [], ◌∷◌, Ok, Result, Some, Vec, flat_map, length, map, slice_get, sum_by}
+use Rattle.std.specs.List.{zip}
 use Rattle.std.specs.declared.alloc.Global.{Global}
 use Rattle.ops_base.specs.declared.memory.OutOfMemory.{OutOfMemory}
 use Rattle.work_store.specs.Stored.{Stored, held_of}
@@ -77,6 +78,33 @@ IsFirstLine shards lines k first = (i : ℕ) → (first ≤ i) ↔ (k ≤ shard_
 abbrev pub AreDealt : (shards lines : ℕ) → List Shard → Type 0
 AreDealt shards lines xs = (k i : ℕ) (x : Shard) → slice_get xs k ≡ Some x → HasLine x i ↔ (shard_of shards lines i ≡ k)
 
+-- this many shards, which have all lines, each those that are dealt to it, and tasks of its own lines
+pub record AreAllShards (nodes : List Node) (s : Stored) (lines shards : ℕ) (xs : List Shard) : Type 0 where
+  pub count : length xs ≡ shards
+  pub whole : lines_of xs ≡ lines
+  pub dealt : AreDealt shards lines xs
+  pub each : AreShards nodes s lines 0 xs
+
+-- the shard has the lines of the first one, and the tasks of the other one after its own
+pub record IsBoth (x y z : Shard) : Type 0 where
+  pub first : z.first ≡ x.first
+  pub count : z.count ≡ x.count
+  pub tasks : z.tasks.items ≡ x.tasks.items ++ y.tasks.items
+
+-- each shard is both of its pair
+abbrev pub AreBoth : List (Shard × Shard) → List Shard → Type 0
+AreBoth [] zs = zs ≡ []
+AreBoth (p ∷ ps) [] = ⊥
+AreBoth (p ∷ ps) (z ∷ zs) = IsBoth p.0 p.1 z × AreBoth ps zs
+
+-- two calls were answered, and these are the shards of the one with the tasks of those of the other
+pub record AreJoined (low high : Result (Vec Shard Global) OutOfMemory) (made : List Shard) : Type 0 where
+  pub front : Vec Shard Global
+  pub back : Vec Shard Global
+  pub low_is : low ≡ Ok front
+  pub high_is : high ≡ Ok back
+  pub both : AreBoth (zip front.items back.items) made
+
 -- ---- a round
 
 -- The task became an entry of line k. Its children fit, and came after the tasks that were there.
@@ -97,25 +125,15 @@ pub record AreKept (nodes : List Node) (s : Stored) (old new : List Line) : Type
 abbrev pub AreDeeper : (todo made : List Task) → Type 0
 AreDeeper todo made = (level : ℕ) → All (λ x. level ≤ x.node) todo → All (λ x. level + 1 ≤ x.node) made
 
--- The shards did their tasks on their lines. The children have their lines, and nodes further down.
-pub record HaveShared (nodes : List Node) (s : Stored) (lines : ℕ) (xs : List Shard) (old new : List Line) (made : List Placed) : Type 0 where
-  pub did : HaveDone (held_of s) nodes (placed (held_of s) nodes lines) (first_of xs) (map seen old) (map seen new) (tasks_of_shards xs) (tasks_in made)
-  pub placed : All (IsPlacedAt nodes s lines) made
-  pub deeper : AreDeeper (tasks_of_shards xs) (tasks_in made)
-
--- these shards can do a round on these lines, the first of them as this worker
-pub record CanShare (nodes : List Node) (s : Stored) (lines worker : ℕ) (xs : List Shard) (ls : List Line) : Type 0 where
-  pub total : 1 ≤ lines
+-- these shards can do a round on these lines
+pub record CanShare (nodes : List Node) (s : Stored) (lines : ℕ) (xs : List Shard) (ls : List Line) : Type 0 where
   pub some : 1 ≤ length xs
   pub shards : AreShards nodes s lines (first_of xs) xs
   pub count : lines_of xs ≡ length ls
   pub counted : All (IsCounted nodes s) ls
-  pub workers : worker + length xs < 2 ^ 64
 
--- two calls were answered, and these are the placed tasks of the one with those of the other after them
-pub record AreJoined (low high : Result (Vec Placed Global) OutOfMemory) (made : List Placed) : Type 0 where
-  pub front : Vec Placed Global
-  pub back : Vec Placed Global
-  pub low_is : low ≡ Ok front
-  pub high_is : high ≡ Ok back
-  pub made_is : made ≡ front.items ++ back.items
+-- The shards did their tasks on their lines. The children have nodes further down, and are dealt to all shards.
+pub record HaveShared (nodes : List Node) (s : Stored) (lines shards : ℕ) (xs : List Shard) (old new : List Line) (made : List Shard) : Type 0 where
+  pub did : HaveDone (held_of s) nodes (placed (held_of s) nodes lines) (first_of xs) (map seen old) (map seen new) (tasks_of_shards xs) (tasks_of_shards made)
+  pub deeper : AreDeeper (tasks_of_shards xs) (tasks_of_shards made)
+  pub dealt : AreAllShards nodes s lines shards made

@@ -2,6 +2,7 @@
 #![tactic(auto)]
 
 mod engine;
+mod ground;
 mod phases;
 mod rounds;
 mod shards;

@@ -1,5 +1,5 @@
 //! A phase at work: on the calling thread as long as few tasks are in flight, and then in rounds.
-ghost use Rattle.std.specs.Prelude.{◌≡◌, ◌≤◌, ◌+◌, ℕ, All, IfOk, OnOk, [], length, map};
+ghost use Rattle.std.specs.Prelude.{◌≡◌, ◌<◌, ◌≤◌, ◌+◌, ℕ, All, IfOk, OnOk, [], length, map};
 ghost use Rattle.ops_base.specs.WorkingMemory.{Lawful, done, last_after};
 ghost use Rattle.work_store.specs.Settling.{IsSettled};
 ghost use Rattle.work_store.specs.Stored.{HoldsAlso, added_by, held_of};
@@ -10,10 +10,11 @@ ghost use Rattle.step_core.specs.Phases.{HoldJust, IsBundle, now, sums_over};
 ghost use Rattle.step_core.specs.Worlds.{IsReady, numbers_of, placed, seen, world_of};
 ghost use Rattle.serial_engine.specs.Running.{IsBundleOf, Went};
 ghost use Rattle.rounds_engine.specs.Carrying.{CarriesOn};
-ghost use Rattle.rounds_engine.specs.Sharing.{AreDeeper, IsPlacedAt, tasks_in};
+ghost use Rattle.rounds_engine.specs.Sharing.{AreAllShards, AreDeeper, AreKept, tasks_of_shards};
 
+use crate::ground::Ground;
 use crate::rounds::do_shards;
-use crate::shards::{Placed, deal, pays, place_all, shard_of};
+use crate::shards::{Shard, are_idle, deal, pays, shard_of};
 use net_base::net::Net;
 use ops_base::elements::Change;
 use ops_base::memory::OutOfMemory;
@@ -39,28 +40,33 @@ pub(crate) struct Sharing {
 const MANY: usize = 256;
 
 /// How many tasks in flight end the work on the calling thread, if rounds can be shared at all.
-fn most_alone(sharing: Sharing) -> Option<usize> {
-    if sharing.shards == 1 {
-        None
-    } else {
-        Some(MANY)
-    }
+fn most_alone(shards: usize) -> Option<usize> {
+    if shards == 1 { None } else { Some(MANY) }
+}
+
+/// The shard of the line of the task in flight at that place, at the cost of `World::line_at`.
+fn shard_at(ground: &Ground<'_>, world: &World, index: usize) -> usize
+    requires ready { IsReady ground.now.net.now.nodes ground.now.store.now world.now }
+    requires lines { length world.now.lines.items ≡ ground.now.lines }
+    requires within { index < length world.now.flight.items }
+{
+    let line = world.line_at(ground.net, ground.store, index);
+    shard_of(line, ground.shards, ground.lines)
 }
 
 /// Whether two tasks in flight have lines in different shards. It looks up the lines of the tasks, up to the first that
 /// has another shard than the first one, and none where there is one shard.
-fn are_apart(net: &Net, store: &Store, world: &World, shards: usize) -> bool
-    requires some { 1 ≤ shards }
-    requires ready { IsReady net.now.nodes store.now world.now }
+fn are_apart(ground: &Ground<'_>, world: &World) -> bool
+    requires ready { IsReady ground.now.net.now.nodes ground.now.store.now world.now }
+    requires lines { length world.now.lines.items ≡ ground.now.lines }
 {
     let tasks = world.in_flight();
-    if shards < 2 || tasks < 2 {
+    if ground.shards < 2 || tasks < 2 {
         return false;
     }
-    let lines = world.lines().len();
-    let first = shard_of(world.line_at(net, store, 0), shards, lines);
+    let first = shard_at(ground, world, 0);
     for index in 1..tasks {
-        if shard_of(world.line_at(net, store, index), shards, lines) != first {
+        if shard_at(ground, world, index) != first {
             return true;
         }
     }
@@ -70,96 +76,73 @@ fn are_apart(net: &Net, store: &Store, world: &World, shards: usize) -> bool
 /// Does tasks in flight on the calling thread, from the last on, and all that comes of them, until none is left or many
 /// are in flight. It does none where a round can be shared for the first time.
 fn work_alone<G: Gate>(
-    alloc: Global,
-    net: &Net,
-    store: &Store,
+    ground: &Ground<'_>,
     gate: &G,
     world: &mut World,
-    sharing: Sharing,
+    shared: bool,
 ) -> Result<(), OutOfMemory>
-    requires some { 1 ≤ sharing.shards }
-    requires ready { IsReady net.now.nodes store.now world.old }
-    ensures went { OnOk result (Went net.now.alphas net.now.nodes store.now (length world.old.lines.items) world.old [] world.new) }
+    requires ready { IsReady ground.now.net.now.nodes ground.now.store.now world.old }
+    requires lines { length world.old.lines.items ≡ ground.now.lines }
+    ensures went { OnOk result (Went ground.now.net.now.alphas ground.now.net.now.nodes ground.now.store.now (length world.old.lines.items) world.old [] world.new) }
     ensures done { OnOk result ((world_of world.new).done ≡ (world_of world.old).done) }
-    ensures ready { IsReady net.now.nodes store.now world.new }
+    ensures ready { IsReady ground.now.net.now.nodes ground.now.store.now world.new }
     ensures lines { numbers_of world.new ≡ numbers_of world.old }
 {
-    if !sharing.shared && are_apart(net, store, world, sharing.shards) {
+    if !shared && are_apart(ground, world) {
         return Ok(());
     }
     let enter = |line: usize| gate.enter(0, line);
-    work_all(alloc, net, store, &enter, world, most_alone(sharing))
+    let most = most_alone(ground.shards);
+    work_all(ground.alloc, ground.net, ground.store, &enter, world, most)
 }
 
-/// Does these tasks on their lines, in one round, which is shared among threads where that pays, and answers their
-/// children. It moves each task once, beside what its activation costs.
+/// Does the tasks of these shards on the lines, in one round, which is shared among threads where that pays, and answers
+/// the shards of the next round. Beside what `do_shards` costs it looks at each shard.
 fn work_round<R: Threads + Sync, G: Gate>(
     rt: &R,
-    alloc: Global,
-    net: &Net,
-    store: &Store,
+    ground: &Ground<'_>,
     gate: &G,
-    tasks: Vec<Placed>,
-    sharing: &mut Sharing,
+    shared: &mut bool,
+    shards: &[Shard],
     lines: &mut [Line],
-) -> Result<Vec<Placed>, OutOfMemory>
-    requires some { 1 ≤ sharing.old.shards }
-    requires few { sharing.old.shards ≤ length lines.old }
-    requires placed { All (IsPlacedAt net.now.nodes store.now (length lines.old)) tasks.items }
-    requires counted { All (IsCounted net.now.nodes store.now) lines.old }
-    ensures carries { IfOk result (λ made. CarriesOn net.now.alphas net.now.nodes store.now lines.old (tasks_in tasks.items) lines.new (tasks_in made.items)) }
-    ensures placed { IfOk result (λ made. All (IsPlacedAt net.now.nodes store.now (length lines.old)) made.items) }
-    ensures deeper { IfOk result (λ made. AreDeeper (tasks_in tasks.items) (tasks_in made.items)) }
-    ensures counted { OnOk result (All (IsCounted net.now.nodes store.now) lines.new) }
-    ensures numbers { OnOk result (map (λ l. l.number) lines.new ≡ map (λ l. l.number) lines.old) }
-    ensures shards { OnOk result (sharing.new.shards ≡ sharing.old.shards) }
+) -> Result<Vec<Shard>, OutOfMemory>
+    requires lines { length lines.old ≡ ground.now.lines }
+    requires dealt { AreAllShards ground.now.net.now.nodes ground.now.store.now ground.now.lines ground.now.shards shards.now }
+    requires counted { All (IsCounted ground.now.net.now.nodes ground.now.store.now) lines.old }
+    ensures carries { IfOk result (λ made. CarriesOn ground.now.net.now.alphas ground.now.net.now.nodes ground.now.store.now lines.old (tasks_of_shards shards.now) lines.new (tasks_of_shards made.items)) }
+    ensures dealt { IfOk result (λ made. AreAllShards ground.now.net.now.nodes ground.now.store.now ground.now.lines ground.now.shards made.items) }
+    ensures deeper { IfOk result (λ made. AreDeeper (tasks_of_shards shards.now) (tasks_of_shards made.items)) }
+    ensures kept { AreKept ground.now.net.now.nodes ground.now.store.now lines.old lines.new }
 {
     round_laws();
-    let total = lines.len();
-    let shards = deal(alloc, tasks, sharing.shards, total)?;
-    let apart = pays(shards.as_slice(), sharing.shared);
-    sharing.shared = sharing.shared || apart;
-    let made = do_shards(
-        rt,
-        alloc,
-        net,
-        store,
-        gate,
-        total,
-        0,
-        apart,
-        shards.as_slice(),
-        lines,
-    )?;
-    Ok(made)
+    let apart = pays(shards, *shared);
+    *shared = *shared || apart;
+    do_shards(rt, ground, gate, apart, shards, lines)
 }
 
-/// Does these tasks on their lines, and all that comes of them, in rounds, of which there are no more than nodes.
+/// Does the tasks of these shards on the lines, and all that comes of them, in rounds, of which there are no more than
+/// nodes.
 fn work_rounds<R: Threads + Sync, G: Gate>(
     rt: &R,
-    alloc: Global,
-    net: &Net,
-    store: &Store,
+    ground: &Ground<'_>,
     gate: &G,
-    tasks: Vec<Placed>,
-    sharing: &mut Sharing,
+    shared: &mut bool,
+    shards: Vec<Shard>,
     lines: &mut [Line],
 ) -> Result<(), OutOfMemory>
-    requires some { 1 ≤ sharing.old.shards }
-    requires few { sharing.old.shards ≤ length lines.old }
-    requires placed { All (IsPlacedAt net.now.nodes store.now (length lines.old)) tasks.items }
-    requires counted { All (IsCounted net.now.nodes store.now) lines.old }
-    ensures carries { OnOk result (CarriesOn net.now.alphas net.now.nodes store.now lines.old (tasks_in tasks.items) lines.new []) }
-    ensures counted { OnOk result (All (IsCounted net.now.nodes store.now) lines.new) }
-    ensures numbers { OnOk result (map (λ l. l.number) lines.new ≡ map (λ l. l.number) lines.old) }
-    ensures shards { OnOk result (sharing.new.shards ≡ sharing.old.shards) }
+    requires lines { length lines.old ≡ ground.now.lines }
+    requires dealt { AreAllShards ground.now.net.now.nodes ground.now.store.now ground.now.lines ground.now.shards shards.items }
+    requires counted { All (IsCounted ground.now.net.now.nodes ground.now.store.now) lines.old }
+    ensures carries { OnOk result (CarriesOn ground.now.net.now.alphas ground.now.net.now.nodes ground.now.store.now lines.old (tasks_of_shards shards.items) lines.new []) }
+    ensures kept { AreKept ground.now.net.now.nodes ground.now.store.now lines.old lines.new }
 {
-    let mut tasks = tasks;
+    let net = ground.net;
+    let mut shards = shards;
     for _round in 0..net.nodes().len() {
-        if tasks.is_empty() {
+        if are_idle(shards.as_slice()) {
             return Ok(());
         }
-        tasks = work_round(rt, alloc, net, store, gate, tasks, sharing, lines)?;
+        shards = work_round(rt, ground, gate, shared, shards.as_slice(), lines)?;
     }
     Ok(())
 }
@@ -168,74 +151,59 @@ fn work_rounds<R: Threads + Sync, G: Gate>(
 /// also looks at each line once.
 fn work_in_rounds<R: Threads + Sync, G: Gate>(
     rt: &R,
-    alloc: Global,
-    net: &Net,
-    store: &Store,
+    ground: &Ground<'_>,
     gate: &G,
+    shared: &mut bool,
     world: World,
-    sharing: &mut Sharing,
 ) -> Result<World, OutOfMemory>
-    requires some { 1 ≤ sharing.old.shards }
-    requires few { sharing.old.shards ≤ length world.lines.items }
-    requires ready { IsReady net.now.nodes store.now world }
+    requires lines { length world.lines.items ≡ ground.now.lines }
+    requires ready { IsReady ground.now.net.now.nodes ground.now.store.now world }
     requires done { length world.done.items ≡ 0 }
-    ensures carries { IfOk result (λ w. CarriesOn net.now.alphas net.now.nodes store.now world.lines.items world.flight.items w.lines.items []) }
+    ensures carries { IfOk result (λ w. CarriesOn ground.now.net.now.alphas ground.now.net.now.nodes ground.now.store.now world.lines.items world.flight.items w.lines.items []) }
     ensures quiet { IfOk result (λ w. w.counter ≡ 0) }
-    ensures counted { IfOk result (λ w. All (IsCounted net.now.nodes store.now) w.lines.items) }
+    ensures counted { IfOk result (λ w. All (IsCounted ground.now.net.now.nodes ground.now.store.now) w.lines.items) }
     ensures numbers { IfOk result (λ w. numbers_of w ≡ numbers_of world) }
-    ensures shards { OnOk result (sharing.new.shards ≡ sharing.old.shards) }
 {
     if world.in_flight() == 0 {
         return Ok(world);
     }
     let Parts { mut lines, flight } = world.into_parts();
-    let tasks = place_all(alloc, net, store, flight, lines.len())?;
-    work_rounds(
-        rt,
-        alloc,
-        net,
-        store,
-        gate,
-        tasks,
-        sharing,
-        lines.as_mut_slice(),
-    )?;
+    let shards = deal(ground, flight)?;
+    work_rounds(rt, ground, gate, shared, shards, lines.as_mut_slice())?;
     let parts = Parts {
         lines,
-        flight: Vec::new(alloc),
+        flight: Vec::new(ground.alloc),
     };
-    World::from_parts(alloc, parts)
+    World::from_parts(ground.alloc, parts)
 }
 
 /// Does the phase of these changes, which the store has done. The lines begin it.
 fn run_phase<R: Threads + Sync, G: Gate>(
     rt: &R,
-    alloc: Global,
-    net: &Net,
-    store: &Store,
+    ground: &Ground<'_>,
     gate: &G,
+    shared: &mut bool,
     world: World,
-    sharing: &mut Sharing,
     changes: &[Change],
 ) -> Result<World, OutOfMemory>
-    requires some { 1 ≤ sharing.old.shards }
-    requires few { sharing.old.shards ≤ length world.lines.items }
+    requires all { length world.lines.items ≡ ground.now.lines }
     requires quiet { world.counter ≡ 0 }
-    requires counted { All (IsCounted net.now.nodes store.now) world.lines.items }
-    requires known { All (IsKnown store.now) changes.now }
+    requires counted { All (IsCounted ground.now.net.now.nodes ground.now.store.now) world.lines.items }
+    requires known { All (IsKnown ground.now.store.now) changes.now }
     ensures quiet { IfOk result (λ w. w.counter ≡ 0) }
-    ensures counted { IfOk result (λ w. All (IsCounted net.now.nodes store.now) w.lines.items) }
+    ensures counted { IfOk result (λ w. All (IsCounted ground.now.net.now.nodes ground.now.store.now) w.lines.items) }
     ensures lines { IfOk result (λ w. numbers_of w ≡ numbers_of world) }
-    ensures bundle { IfOk result (λ w. IsBundleOf net.now.alphas net.now.nodes store.now changes.now world w) }
-    ensures shards { OnOk result (sharing.new.shards ≡ sharing.old.shards) }
+    ensures bundle { IfOk result (λ w. IsBundleOf ground.now.net.now.alphas ground.now.net.now.nodes ground.now.store.now changes.now world w) }
 {
     settle_laws();
     round_laws();
+    let net = ground.net;
+    let _nodes = net.nodes();
     let mut world = world;
     world.clear_phase();
-    feed_all(alloc, net, store, &mut world, changes)?;
-    work_alone(alloc, net, store, gate, &mut world, *sharing)?;
-    work_in_rounds(rt, alloc, net, store, gate, world, sharing)
+    feed_all(ground.alloc, net, ground.store, &mut world, changes)?;
+    work_alone(ground, gate, &mut world, *shared)?;
+    work_in_rounds(rt, ground, gate, shared, world)
 }
 
 /// Does the changes to the store, and their phase over lines that hold just the tokens over it. The lines then hold
@@ -269,7 +237,14 @@ pub(crate) fn settle<R: Threads + Sync, G: Gate>(
 {
     settle_laws();
     do_changes(alloc, store, changes)?;
-    let world = run_phase(rt, alloc, net, store, gate, world, sharing, changes)?;
+    let ground = Ground {
+        alloc,
+        net,
+        store: &*store,
+        lines: world.lines().len(),
+        shards: sharing.shards,
+    };
+    let world = run_phase(rt, &ground, gate, &mut sharing.shared, world, changes)?;
     let gathered = gather_worked(alloc, net, world.lines(), world.worked())?;
     Ok((world, gathered))
 }

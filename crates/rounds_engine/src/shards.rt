@@ -1,17 +1,14 @@
 //! Tasks with their lines, and the shards to which lines and tasks are dealt.
-ghost use Rattle.std.specs.Prelude.{◌≡◌, ◌≤◌, ◌<◌, ◌++◌, ◌∷◌, [], All, IfOk, List, OnOk, length};
-ghost use Rattle.work_store.specs.Stored.{Stored};
-ghost use Rattle.net_base.specs.declared.nodes.Node.{Node};
+ghost use Rattle.std.specs.Prelude.{◌≡◌, ◌≤◌, ◌<◌, ◌++◌, ◌∷◌, [], true, All, IfOk, OnOk, length};
 ghost use Rattle.token_line.specs.Held.{TaskFits};
 ghost use Rattle.step_core.specs.Phases.{AreSame};
-ghost use Rattle.rounds_engine.specs.Sharing.{AreDealt, AreShards, FollowOn, IsFirstLine, IsPlacedAt, first_of, lines_of, shard_of, tasks_in, tasks_of_shards};
+ghost use Rattle.rounds_engine.specs.Sharing.{AreAllShards, AreDealt, AreJoined, FollowOn, IsFirstLine, lines_of, shard_of, tasks_of_shards};
 
-use net_base::net::Net;
+use crate::ground::Ground;
 use net_base::tasks::Task;
 use ops_base::memory::OutOfMemory;
 use std::alloc::Global;
 use token_line::{Place, place_of};
-use work_store::Store;
 
 /// How many tasks a further shard must take off the largest one to be worth a thread.
 const FEWEST: usize = 64;
@@ -24,9 +21,10 @@ pub(crate) struct Placed {
     pub(crate) task: Task,
 }
 
-/// The tasks of `count` lines, from line `first` on.
+/// A shard, which has this number: the tasks of `count` lines, from line `first` on.
 #[derive(Drop)]
 pub(crate) struct Shard {
+    pub(crate) number: usize,
     pub(crate) first: usize,
     pub(crate) count: usize,
     pub(crate) tasks: Vec<Placed>,
@@ -42,29 +40,18 @@ impl Shard {
         self.tasks.push(placed)?;
         Ok(())
     }
-}
 
-/// Each task with its line, where there are this many, and its code, in order. It costs what `token_line::place_of` costs
-/// for each task.
-pub(crate) fn place_all(
-    alloc: Global,
-    net: &Net,
-    store: &Store,
-    tasks: Vec<Task>,
-    lines: usize,
-) -> Result<Vec<Placed>, OutOfMemory>
-    requires some { 1 ≤ lines }
-    requires fit { All (TaskFits net.now.nodes store.now) tasks.items }
-    ensures tasks { IfOk result (λ v. tasks_in v.items ≡ tasks.items) }
-    ensures placed { IfOk result (λ v. All (IsPlacedAt net.now.nodes store.now lines) v.items) }
-{
-    let mut all = Vec::new(alloc);
-    all.reserve(tasks.len())?;
-    for task in tasks {
-        let Place { line, code } = place_of(net, store, &task, lines);
-        all.push(Placed { line, code, task })?;
+    /// The shard with the tasks of another one after its own. It moves those.
+    fn with(self, other: Shard) -> Result<Shard, OutOfMemory>
+        ensures first { IfOk result (λ s. s.first ≡ self.first) }
+        ensures count { IfOk result (λ s. s.count ≡ self.count) }
+        ensures tasks { IfOk result (λ s. s.tasks.items ≡ self.tasks.items ++ other.tasks.items) }
+    {
+        let mut shard = self;
+        let mut more = other.tasks;
+        shard.tasks.append(&mut more)?;
+        Ok(shard)
     }
-    Ok(all)
 }
 
 /// The shard of a line, where this many lines are dealt to this many shards.
@@ -103,6 +90,7 @@ fn bare_shards(alloc: Global, shards: usize, lines: usize) -> Result<Vec<Shard>,
     for shard in 0..shards {
         let next = first_line(shard + 1, shards, lines);
         bare.push(Shard {
+            number: shard,
             first,
             count: next - first,
             tasks: Vec::new(alloc),
@@ -112,30 +100,51 @@ fn bare_shards(alloc: Global, shards: usize, lines: usize) -> Result<Vec<Shard>,
     Ok(bare)
 }
 
-/// The shards in order, each with the tasks of its lines. Line i is dealt to shard i · shards / lines, rounded down, so
-/// the lines of a shard follow one another, and each shard has one. It moves each task once.
-pub(crate) fn deal(
-    alloc: Global,
-    tasks: Vec<Placed>,
-    shards: usize,
-    lines: usize,
-) -> Result<Vec<Shard>, OutOfMemory>
-    requires some { 1 ≤ shards }
-    requires room { shards ≤ lines }
-    requires below { All (λ p. p.line < lines) tasks.items }
-    ensures count { IfOk result (λ v. length v.items ≡ shards) }
-    ensures lines { IfOk result (λ v. lines_of v.items ≡ lines) }
-    ensures first { IfOk result (λ v. first_of v.items ≡ 0) }
-    ensures dealt { IfOk result (λ v. AreDealt shards lines v.items) }
-    ensures tasks { IfOk result (λ v. AreSame (tasks_in tasks.items) (tasks_of_shards v.items)) }
-    ensures shards { IfOk result (λ v. (nodes : List Node) (s : Stored) → All (IsPlacedAt nodes s lines) tasks.items → AreShards nodes s lines 0 v.items) }
+/// All shards in order, each with those of the tasks that have its lines. Line i is dealt to shard i · shards / lines,
+/// rounded down, so the lines of a shard follow one another, and each shard has one. It makes each shard, and costs what
+/// `token_line::place_of` costs for each task, which it moves once.
+pub(crate) fn deal(ground: &Ground<'_>, tasks: Vec<Task>) -> Result<Vec<Shard>, OutOfMemory>
+    requires fit { All (TaskFits ground.now.net.now.nodes ground.now.store.now) tasks.items }
+    ensures tasks { IfOk result (λ v. AreSame tasks.items (tasks_of_shards v.items)) }
+    ensures dealt { IfOk result (λ v. AreAllShards ground.now.net.now.nodes ground.now.store.now ground.now.lines ground.now.shards v.items) }
 {
-    let mut dealt = bare_shards(alloc, shards, lines)?;
-    for placed in tasks {
-        let shard = shard_of(placed.line, shards, lines);
-        dealt[shard].take(placed)?;
+    let mut dealt = bare_shards(ground.alloc, ground.shards, ground.lines)?;
+    for task in tasks {
+        let Place { line, code } = place_of(ground.net, ground.store, &task, ground.lines);
+        let shard = shard_of(line, ground.shards, ground.lines);
+        dealt[shard].take(Placed { line, code, task })?;
     }
     Ok(dealt)
+}
+
+/// The shards of the first answer, each with the tasks of the same shard of the second answer after its own. It moves the
+/// tasks of the second answer.
+pub(crate) fn joined(
+    alloc: Global,
+    low: Result<Vec<Shard>, OutOfMemory>,
+    high: Result<Vec<Shard>, OutOfMemory>,
+) -> Result<Vec<Shard>, OutOfMemory>
+    ensures { IfOk result (λ v. AreJoined low high v.items) }
+{
+    let front = low?;
+    let back = high?;
+    let mut all = Vec::new(alloc);
+    for (shard, other) in front.into_iter().zip(back) {
+        all.push(shard.with(other)?)?;
+    }
+    Ok(all)
+}
+
+/// Whether no shard has a task. It looks at the shards up to the first that has one.
+pub(crate) fn are_idle(shards: &[Shard]) -> bool
+    ensures { result ≡ true → tasks_of_shards shards.now ≡ [] }
+{
+    for shard in shards {
+        if !shard.tasks.is_empty() {
+            return false;
+        }
+    }
+    true
 }
 
 /// Whether a round of these shards is worth threads. Two shards must have tasks. The first such round is, so that

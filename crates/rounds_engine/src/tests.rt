@@ -4,12 +4,11 @@ ghost use Rattle.ops_base.specs.declared.values.Value.TheVariants.{Whole};
 ghost use Rattle.work_store.specs.Stored.{held_of};
 ghost use Rattle.step_core.specs.Worlds.{ArePartsReady, IsReady};
 
+use crate::ground::Ground;
 use crate::rounds::do_shards;
-use crate::shards::{Placed, Shard, deal, pays, place_all};
+use crate::shards::{Shard, deal, pays};
 use net_base::net::Net;
 use net_base::nodes::{Alpha, JoinTest, Kind, Node};
-use net_base::tags::Tags;
-use net_base::tasks::{Side, Task};
 use ops_base::elements::{Change, Element};
 use ops_base::list::Listed;
 use ops_base::memory::OutOfMemory;
@@ -92,45 +91,6 @@ fn pair(alloc: Global) -> Result<Net, OutOfMemory> {
     Net::new(alloc, alphas, nodes)
 }
 
-fn placed(alloc: Global, line: usize) -> Result<Placed, OutOfMemory>
-    ensures { IfOk result (λ p. p.line ≡ line) }
-{
-    let task = Task {
-        node: line,
-        side: Side::Left,
-        plus: true,
-        token: Tags::from_slice(alloc, &[1])?,
-    };
-    Ok(Placed {
-        line,
-        code: 0,
-        task,
-    })
-}
-
-// tasks of the lines 4, 0, 2 and 3 of five, dealt to two shards
-fn dealt(alloc: Global) -> Result<Vec<Shard>, OutOfMemory> {
-    let mut tasks = Vec::new(alloc);
-    tasks.push(placed(alloc, 4)?)?;
-    tasks.push(placed(alloc, 0)?)?;
-    tasks.push(placed(alloc, 2)?)?;
-    tasks.push(placed(alloc, 3)?)?;
-    deal(alloc, tasks, 2, 5)
-}
-
-#[test]
-fn lines_are_dealt(rt: HostRuntime) -> Result<(), Fail> {
-    let shards = dealt(rt.alloc())?;
-    assert_eq!(rt; shards.len(), 2);
-    if let [low, high] = shards.as_slice() {
-        assert_eq!(rt; (low.first, low.count, low.tasks.len()), (0, 3, 2));
-        assert_eq!(rt; (high.first, high.count, high.tasks.len()), (3, 2, 2));
-    }
-    assert_eq!(rt; pays(shards.as_slice(), false), true);
-    assert_eq!(rt; pays(shards.as_slice(), true), false);
-    Ok(())
-}
-
 // element 1 is of the first class, and element 2 of the second
 fn store_of_two(alloc: Global) -> Result<Store, OutOfMemory>
     ensures first { IfOk result (λ s. held_of s 1 ≡ Some (record { tag = 1; class = 0; fields = Whole (pos 7) ∷ [] })) }
@@ -156,34 +116,27 @@ fn begun(alloc: Global, net: &Net, store: &Store) -> Result<World, OutOfMemory>
     Ok(world)
 }
 
-// a round of two shards on two threads
+// The tasks in flight, dealt, and their children after a round on two threads.
 fn round<R: Threads + Sync>(
     rt: &R,
-    alloc: Global,
-    net: &Net,
-    store: &Store,
+    ground: &Ground<'_>,
     gate: &Counting,
     parts: Parts,
-) -> Result<Vec<Placed>, OutOfMemory>
-    requires ready { ArePartsReady net.now.nodes store.now parts }
-    requires room { 2 ≤ length parts.lines.items }
+) -> Result<(Vec<Shard>, Vec<Shard>), OutOfMemory>
+    requires ready { ArePartsReady ground.now.net.now.nodes ground.now.store.now parts }
+    requires lines { length parts.lines.items ≡ ground.now.lines }
 {
     let Parts { mut lines, flight } = parts;
-    let total = lines.len();
-    let tasks = place_all(alloc, net, store, flight, total)?;
-    let shards = deal(alloc, tasks, 2, total)?;
-    do_shards(
+    let dealt = deal(ground, flight)?;
+    let made = do_shards(
         rt,
-        alloc,
-        net,
-        store,
+        ground,
         gate,
-        total,
-        0,
         true,
-        shards.as_slice(),
+        dealt.as_slice(),
         lines.as_mut_slice(),
-    )
+    )?;
+    Ok((dealt, made))
 }
 
 #[test]
@@ -195,12 +148,29 @@ fn two_shards_do_a_round(rt: HostRuntime) -> Result<(), Fail> {
     let gate = Counting {
         calls: AtomicU64::new(0),
     };
-    assert_eq!(rt; world.in_flight(), 2);
-    if world.done() == 0 && world.lines().len() > 1 {
-        let made = round(&rt, alloc, &net, &store, &gate, world.into_parts())?;
-        assert_eq!(rt; made.len(), 1);
-        if let [child] = made.as_slice() {
-            assert_eq!(rt; (child.line, child.task.node), (2, 1));
+    let lines = world.lines().len();
+    assert_eq!(rt; (lines, world.in_flight()), (4, 2));
+    if world.done() == 0 && lines > 1 {
+        let ground = Ground {
+            alloc,
+            net: &net,
+            store: &store,
+            lines,
+            shards: 2,
+        };
+        let (dealt, made) = round(&rt, &ground, &gate, world.into_parts())?;
+        assert_eq!(rt; pays(dealt.as_slice(), false), true);
+        assert_eq!(rt; pays(dealt.as_slice(), true), false);
+        assert_eq!(rt; (dealt.len(), made.len()), (2, 2));
+        if let [low, high] = dealt.as_slice() {
+            assert_eq!(rt; (low.first, low.count, low.tasks.len()), (0, 2, 1));
+            assert_eq!(rt; (high.first, high.count, high.tasks.len()), (2, 2, 1));
+        }
+        if let [low, high] = made.as_slice() {
+            assert_eq!(rt; (low.tasks.len(), high.tasks.len()), (0, 1));
+            if let [child] = high.tasks.as_slice() {
+                assert_eq!(rt; (child.line, child.task.node), (2, 1));
+            }
         }
     }
     assert_eq!(rt; gate.calls.load(Ordering::SeqCst), 101);

@@ -15,8 +15,8 @@ use Rattle.rounds_engine.proofs.phases.run_phase.Goals as goal
 
 pub feed_all-requires-clause-ready : goal.feed_all-requires-clause-ready
 feed_all-requires-clause-ready g c =
-    let nodes = c.args.net.now.nodes in
-    let s = c.args.store.now in
+    let nodes = c.args.ground.now.net.now.nodes in
+    let s = c.args.ground.now.store.now in
     let old = c.args.world in
     c.clear_phase.ensures.ready nodes s (record {
       flight = subst (All (TaskFits nodes s)) (sym (none_in_flight old c.requires.quiet)) (All-nil (TaskFits nodes s));
@@ -24,17 +24,23 @@ feed_all-requires-clause-ready g c =
       lines = c.requires.counted;
     })
 
-pub work_in_rounds-requires-clause-few : goal.work_in_rounds-requires-clause-few
-work_in_rounds-requires-clause-few g c κs within =
+pub work_alone-requires-clause-lines : goal.work_alone-requires-clause-lines
+work_alone-requires-clause-lines g c =
+    let a = same_count c.args.world c.clear_phase.new.self c.clear_phase.ensures.lines in
+    let b = same_count c.clear_phase.new.self c.feed_all.new.world c.feed_all.ensures.lines in
+    let all = c.requires.all in omega (arith, a, b, all)
+
+pub work_in_rounds-requires-clause-lines : goal.work_in_rounds-requires-clause-lines
+work_in_rounds-requires-clause-lines g c κs within =
     let a = same_count c.args.world c.clear_phase.new.self c.clear_phase.ensures.lines in
     let b = same_count c.clear_phase.new.self c.feed_all.new.world c.feed_all.ensures.lines in
     let d = same_count c.feed_all.new.world c.work_alone.new.world c.work_alone.ensures.lines in
-    let few = c.requires.few in omega (arith, a, b, d, few)
+    let all = c.requires.all in omega (arith, a, b, d, all)
 
 pub work_in_rounds-requires-clause-done : goal.work_in_rounds-requires-clause-done
 work_in_rounds-requires-clause-done g c κs within =
-    let net = c.args.net.now in
-    let s = c.args.store.now in
+    let net = c.args.ground.now.net.now in
+    let s = c.args.ground.now.store.now in
     let old = c.args.world in
     let cleared = c.clear_phase.ensures.steps (held_of s) net.alphas net.nodes (placed (held_of s) net.nodes (length old.lines.items)) in
     let none = done_stays net.alphas net.nodes s net.sound old c.clear_phase.new.self c.requires.quiet cleared in
@@ -48,8 +54,8 @@ returns-clause-lines g c =
 
 pub returns-clause-bundle : goal.returns-clause-bundle
 returns-clause-bundle g c =
-    let net = c.args.net.now in
-    let s = c.args.store.now in
+    let net = c.args.ground.now.net.now in
+    let s = c.args.ground.now.store.now in
     let old = c.args.world in
     let cleared = c.clear_phase.ensures.steps (held_of s) net.alphas net.nodes (placed (held_of s) net.nodes (length old.lines.items)) in
     if_ok _ _ c.work_in_rounds.result

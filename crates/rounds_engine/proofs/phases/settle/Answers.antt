@@ -16,11 +16,11 @@ pub run_phase-requires-clause-known : goal.run_phase-requires-clause-known
 run_phase-requires-clause-known g c κs within = c.in_ok-do_changes.ensures.phase.known
 
 pub gather_worked-requires-clause-worked : goal.gather_worked-requires-clause-worked
-gather_worked-requires-clause-worked g c = subst (λ (ls : List Line). AreWorked ls c.worked.result.now) (sym c.lines.ensures.lines) c.worked.ensures
+gather_worked-requires-clause-worked g c = subst (λ (ls : List Line). AreWorked ls c.worked.result.now) (sym c.lines-2.ensures.lines) c.worked.ensures
 
 pub gather_worked-requires-clause-own : goal.gather_worked-requires-clause-own
 gather_worked-requires-clause-own g c =
-    subst (λ (ls : List Line). HaveOwnLines (map seen ls)) (sym c.lines.ensures.lines)
+    subst (λ (ls : List Line). HaveOwnLines (map seen ls)) (sym c.lines-2.ensures.lines)
     (has_settled c.args.net.now c.args.store.now c.do_changes.new.store c.args.world c.args.changes.now c.in_ok-do_changes.ensures.phase c.requires.counted c.requires.holds
     c.settle_laws.ensures.rest c.in_ok-world.world c.in_ok-world.ensures.lines c.in_ok-world.ensures.bundle
     c.settle_laws.ensures.settled c.in_ok-do_changes.ensures.rising.0 c.in_ok-do_changes.ensures.rising.1 c.requires.lawful c.in_ok-do_changes.ensures.elements).own_lines
@@ -44,4 +44,4 @@ returns-clause-settled g c =
     (has_settled c.args.net.now c.args.store.now c.do_changes.new.store c.args.world c.args.changes.now c.in_ok-do_changes.ensures.phase c.requires.counted c.requires.holds
     c.settle_laws.ensures.rest c.in_ok-world.world c.in_ok-world.ensures.lines c.in_ok-world.ensures.bundle
     c.settle_laws.ensures.settled c.in_ok-do_changes.ensures.rising.0 c.in_ok-do_changes.ensures.rising.1 c.requires.lawful c.in_ok-do_changes.ensures.elements).settled come gone
-    (subst (λ (ls : List Line). IsGathered net.nodes (total (map before (map seen ls))) (total (map now (map seen ls))) come gone) c.lines.ensures.lines c.in_ok-gathered.ensures)
+    (subst (λ (ls : List Line). IsGathered net.nodes (total (map before (map seen ls))) (total (map now (map seen ls))) come gone) c.lines-2.ensures.lines c.in_ok-gathered.ensures)

@@ -2,8 +2,8 @@
 use Rattle.std.proofs.Common.{◌+◌, ◌-◌, ◌*◌, length}
 use Rattle.rounds_engine.proofs.rounds.+shares.Given as goal
 
-abbrev pub decreases-do_shards : goal.decreases-do_shards
-decreases-do_shards g l = 4 * length l.shards.now
+abbrev pub decreases-do_apart : goal.decreases-do_apart
+decreases-do_apart g l = 4 * length l.shards.now
 
 abbrev pub decreases-do_halves : goal.decreases-do_halves
 decreases-do_halves g l = 4 * (length l.low.now + length l.high.now) - 1

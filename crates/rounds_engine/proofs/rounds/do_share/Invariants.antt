@@ -6,6 +6,6 @@ use Rattle.rounds_engine.proofs.rounds.do_share.Given as goal
 
 abbrev pub invariant-loop-placed : goal.invariant-loop-placed
 invariant-loop-placed g l = record {
-  worked : HaveWorked l.net.nodes l.store l.total l.shard.first (take l.placed-index l.shard.tasks.items) l.fn.lines l.lines l.made.items;
-  kept : AreKept l.net.nodes l.store l.fn.lines l.lines;
+  worked : HaveWorked l.ground.net.now.nodes l.ground.store.now l.ground.lines l.shard.first (take l.placed-index l.shard.tasks.items) l.fn.lines l.lines l.made.items;
+  kept : AreKept l.ground.net.now.nodes l.ground.store.now l.fn.lines l.lines;
 }

@@ -7,8 +7,8 @@ use Rattle.rounds_engine.proofs.rounds.do_task.Goals as goal
 
 pub returns-clause-acts : goal.returns-clause-acts
 returns-clause-acts c =
-    let nodes = c.args.net.now.nodes in
-    let s = c.args.store.now in
+    let nodes = c.args.ground.now.net.now.nodes in
+    let s = c.args.ground.now.store.now in
     let x = c.args.placed.now.task in
     let ls = c.args.lines.now in
     let k = c.args.placed.now.line - c.args.first in
@@ -23,4 +23,4 @@ returns-clause-kept c =
     let ls = c.args.lines.now in
     let k = c.args.placed.now.line - c.args.first in
     let old = get_or ls k c.index-lines-placed.result in
-    kept_set c.args.net.now.nodes c.args.store.now ls k old c.activate_coded.new.line c.requires.counted (ap (get_or ls k) c.index-lines-placed.is) c.activate_coded.ensures.counted c.activate_coded.ensures.number
+    kept_set c.args.ground.now.net.now.nodes c.args.ground.now.store.now ls k old c.activate_coded.new.line c.requires.counted (ap (get_or ls k) c.index-lines-placed.is) c.activate_coded.ensures.counted c.activate_coded.ensures.number

@@ -13,7 +13,7 @@ loop-shard-init c = no_lines c.args.shards c.args.lines c.new-bare.result.items 
 
 pub loop-shard-preserved : goal.loop-shard-preserved
 loop-shard-preserved c =
-    let y : Shard = record { first = c.loop-shard.first; count = c.first_line-next.result - c.loop-shard.first; tasks = c.new.result } in
+    let y : Shard = record { number = c.loop-shard.shard; first = c.loop-shard.first; count = c.first_line-next.result - c.loop-shard.first; tasks = c.new.result } in
     more_lines c.args.shards c.args.lines c.loop-shard.shard c.loop-shard.first c.first_line-next.result c.loop-shard.bare.items c.push.new.self.items y c.loop-shard.invariant c.first_line-next.ensures refl refl c.new.ensures.items
     c.in_ok-push.ensures.items
 

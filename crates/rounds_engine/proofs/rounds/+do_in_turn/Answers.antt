@@ -1,0 +1,58 @@
+-- A round of one shard, and of two halves put together.
+use Rattle.std.proofs.Common.{◌/◌, IfOk, ◌∷◌, ◌++◌, [], length, sym, subst, ◌∙◌, arith}
+use Rattle.std.proofs.lemmas.List.Elements.{All-get_or}
+use Rattle.rounds_engine.specs.Sharing.{AreKept, HasOwn, HaveShared}
+use Rattle.rounds_engine.proofs.Halving.{both_kept, in_parts, joined_shared, one_shard, only_lines}
+use Rattle.rounds_engine.proofs.rounds.+do_in_turn.Goals as goal
+
+pub do_share-requires-clause-own : goal.do_share-requires-clause-own
+do_share-requires-clause-own g t c κs within =
+    let ground = c.args.ground.now in
+    let P = HasOwn ground.net.now.nodes ground.store.now ground.lines in
+    subst P (sym c.index-shards-0.is) (All-get_or P c.args.shards.now 0 c.index-shards-0.result (let a = c.requires.can.some in omega (arith, a)) c.requires.can.shards.own)
+
+pub do_share-requires-clause-count : goal.do_share-requires-clause-count
+do_share-requires-clause-count g t c κs within =
+    let one = one_shard c.args.shards.now c.index-shards-0.result c.if-shards-eq1.true c.index-shards-0.is in
+    only_lines c.args.shards.now c.index-shards-0.result one ∙ c.requires.can.count
+
+pub returns-then-shards-eq1-clause-shared : goal.returns-then-shards-eq1-clause-shared
+returns-then-shards-eq1-clause-shared g t c =
+    let ground = c.args.ground.now in
+    let one = one_shard c.args.shards.now c.index-shards-0.result c.if-shards-eq1.true c.index-shards-0.is in
+    subst (λ xs. IfOk c.do_share.result (λ v. HaveShared ground.net.now.nodes ground.store.now ground.lines ground.shards xs c.args.lines.now c.do_share.new.lines v.items)) one c.do_share.ensures.shared
+
+pub do_in_turn-lower-requires-clause-can : goal.do_in_turn-lower-requires-clause-can
+do_in_turn-lower-requires-clause-can g t c κs within =
+    let ground = c.args.ground.now in
+    let some = c.requires.can.some in
+    let two = c.if-shards-eq1.false in
+    let parts = in_parts ground.net.now.nodes ground.store.now ground.lines (length c.args.shards.now / 2) c.args.shards.now c.split_at.result.0.now c.split_at.result.1.now c.args.lines.now c.split_at_mut-front.result.0.now
+    c.split_at_mut-front.result.1.now c.requires.can c.split_at.ensures.by_index.0 c.split_at.ensures.front_len (omega (arith, some, two)) (omega (arith, some, two)) c.split_at_mut-front.ensures.value (c.split_at_mut-front.ensures.front_len ∙ c.count_lines.ensures) in
+    parts.low
+
+pub do_in_turn-upper-requires-clause-can : goal.do_in_turn-upper-requires-clause-can
+do_in_turn-upper-requires-clause-can g t c κs within =
+    let ground = c.args.ground.now in
+    let some = c.requires.can.some in
+    let two = c.if-shards-eq1.false in
+    let parts = in_parts ground.net.now.nodes ground.store.now ground.lines (length c.args.shards.now / 2) c.args.shards.now c.split_at.result.0.now c.split_at.result.1.now c.args.lines.now c.split_at_mut-front.result.0.now
+    c.split_at_mut-front.result.1.now c.requires.can c.split_at.ensures.by_index.0 c.split_at.ensures.front_len (omega (arith, some, two)) (omega (arith, some, two)) c.split_at_mut-front.ensures.value (c.split_at_mut-front.ensures.front_len ∙ c.count_lines.ensures) in
+    parts.high
+
+pub returns-clause-shared : goal.returns-clause-shared
+returns-clause-shared g t c =
+    let ground = c.args.ground.now in
+    let some = c.requires.can.some in
+    let two = c.if-shards-eq1.false in
+    let parts = in_parts ground.net.now.nodes ground.store.now ground.lines (length c.args.shards.now / 2) c.args.shards.now c.split_at.result.0.now c.split_at.result.1.now c.args.lines.now c.split_at_mut-front.result.0.now
+    c.split_at_mut-front.result.1.now c.requires.can c.split_at.ensures.by_index.0 c.split_at.ensures.front_len (omega (arith, some, two)) (omega (arith, some, two)) c.split_at_mut-front.ensures.value (c.split_at_mut-front.ensures.front_len ∙ c.count_lines.ensures) in
+    joined_shared c.round_laws.ensures.shards ground.net.now.nodes ground.store.now ground.lines ground.shards c.args.shards.now c.split_at.result.0.now c.split_at.result.1.now c.args.lines.now
+    c.split_at_mut-front.result.0.now c.do_in_turn-lower.new.lines c.split_at_mut-front.result.1.now c.do_in_turn-upper.new.lines c.do_in_turn-lower.result c.do_in_turn-upper.result c.joined.result parts.low.some parts.follow c.split_at.ensures.by_index.0 c.split_at_mut-front.ensures.value
+    c.do_in_turn-lower.ensures.shared c.do_in_turn-upper.ensures.shared c.joined.ensures
+
+pub returns-clause-kept : goal.returns-clause-kept
+returns-clause-kept g t c =
+    let ground = c.args.ground.now in
+    subst (λ ls. AreKept ground.net.now.nodes ground.store.now ls (c.do_in_turn-lower.new.lines ++ c.do_in_turn-upper.new.lines)) (sym c.split_at_mut-front.ensures.value)
+    (both_kept ground.net.now.nodes ground.store.now c.split_at_mut-front.result.0.now c.do_in_turn-lower.new.lines c.split_at_mut-front.result.1.now c.do_in_turn-upper.new.lines c.do_in_turn-lower.ensures.kept c.do_in_turn-upper.ensures.kept)
