@@ -166,7 +166,7 @@ fn begun(alloc: Global, gate: &Counting) -> Result<Settled<SerialEngine<&Countin
     engine.settle(alloc, &mut (), changes.as_slice())
 }
 
-// an element of the second class comes and goes
+// An element of the second class comes, which takes the instantiation away, and then goes.
 fn blocked_for_a_moment<'a>(
     alloc: Global,
     engine: SerialEngine<&'a Counting>,
@@ -175,7 +175,7 @@ fn blocked_for_a_moment<'a>(
     requires last { engine.store.last ≡ 1 }
 {
     let changes = [Change::Add(element(alloc, 2, 1)?), Change::Remove(2)];
-    engine.settle(alloc, &mut (), changes.as_slice())
+    engine.settle_by(alloc, &mut (), changes.as_slice(), &[0, 1])
 }
 
 // what left and came back within one phase is in neither list

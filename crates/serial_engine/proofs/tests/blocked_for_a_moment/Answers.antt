@@ -1,4 +1,6 @@
 use Rattle.std.proofs.Common.{◌≡◌, ℕ, List, [], ◌∷◌, ◌++◌, ap, sym, subst, inl, inr, arith}
+use denote.Param.Send.{sendable}
+use Rattle.std.proofs.Crossing.{crosses}
 use Rattle.std.specs.Prelude.{Contains}
 use Rattle.ops_base.specs.declared.elements.Element.{Element}
 use Rattle.ops_base.specs.declared.elements.Change.{Change}
@@ -15,6 +17,8 @@ second_comes_and_goes wm e f last cs only is tag changes =
     subst P (sym changes)
     (omega (arith, is, tag), (subst Q (sym only) (contains_from_member 2 (e.tag ∷ f.tag ∷ []) (inr (inl (sym tag)))), tt))
 
-pub settle-requires : goal.settle-requires
-settle-requires c =
-    second_comes_and_goes _ _ _ _ _ c.requires.elements c.requires.last (ap (λ (e : Element). e.tag) c.in_ok-element.ensures) c.as_slice.ensures
+pub settle_by-requires : goal.settle_by-requires
+settle_by-requires c = λ k. (
+  search (sendable, crosses) depth 80,
+  second_comes_and_goes _ _ _ _ _ c.requires.elements c.requires.last (ap (λ (e : Element). e.tag) c.in_ok-element.ensures) c.as_slice.ensures,
+)
