@@ -1,3 +1,4 @@
+pub mod Crossing
 pub mod Draining
 pub mod Fresh
 pub mod Weights

@@ -4,10 +4,17 @@
 pub mod acts;
 pub mod cells;
 pub mod closing;
+mod engine;
 pub mod laws;
 pub mod opening;
+mod phases;
+mod sharing;
 pub mod slots;
 pub mod starting;
 pub mod team;
+#[cfg(test)]
+mod tests;
 pub mod turns;
 pub mod working;
+
+pub use engine::FreeEngine;

@@ -1,8 +1,9 @@
-//! The workers of a shared phase: each gets a pass, works with it, and is joined.
+//! The workers of a shared phase: each gets a pass and a thread, and all are joined.
 ghost use Rattle.std.specs.Prelude.{◌≡◌, ◌<◌, ◌≤◌, [], IfOk, IsTrue, OnOk, length};
-ghost use Rattle.turn_table.specs.Turns.{knows, number};
+ghost use Rattle.turn_table.specs.Turns.{first_values, knows, number};
 ghost use Rattle.free_engine.specs.Counts.{SawQuiet};
 ghost use Rattle.free_engine.specs.Teams.{AllEnded, AllJoined, AreReady, CanWork, HasEnded, Leads};
+ghost use Rattle.free_engine.specs.Turns.{IsSetUp};
 
 use crate::slots::Slot;
 use crate::turns::Crew;
@@ -14,6 +15,7 @@ use ops_io::Gate;
 use std::alloc::Global;
 use std::snapshot::Snapshot;
 use std::sync::Wait;
+use std::thread::{Threads, map_vec};
 use turn_table::{Cells, Pass};
 use work_store::Store;
 
@@ -59,6 +61,37 @@ pub fn work_with<R: Wait, G: Gate>(
         rt, alloc, cells, pass, net, store, gate, first, crew, worker,
     );
     (pass, whole)
+}
+
+/// All workers at once, each with its pass in a thread of its own, and one of them on the calling thread. Where a
+/// thread can't be started, its work is done on the thread that wanted to start it. It waits for all of them.
+pub fn work_all<R: Threads + Wait + Sync, G: Gate>(
+    rt: &R,
+    alloc: Global,
+    cells: &Cells<Slot>,
+    passes: Vec<Pass<Slot>>,
+    net: &Net,
+    store: &Store,
+    gate: &G,
+    first: &Snapshot<Vec<Task>>,
+    crew: Crew,
+) -> Result<Vec<(Pass<Slot>, bool)>, OutOfMemory>
+    requires ready { AreReady cells.now passes.items }
+    requires count { length passes.items ≡ crew.workers }
+    requires cells { IsSetUp net.now store.now crew.lines crew.workers first.now.value.items (first_values cells.now) }
+    requires lines { 0 < crew.lines }
+    ensures count { IfOk result (λ v. length v.items ≡ length passes.items) }
+    ensures each { IfOk result (λ v. AllEnded crew.lines first.now.value.items cells.now v.items) }
+{
+    let ended = map_vec(
+        rt,
+        passes,
+        &|pass: Pass<Slot>| -> (Pass<Slot>, bool)
+            requires { CanWork net.now store.now crew.lines crew.workers first.now.value.items cells.now pass }
+            ensures { HasEnded crew.lines first.entry.now.value.items cells.entry.now (number pass) result }
+        { work_with(rt, alloc, cells, pass, net, store, gate, first, crew) },
+    )?;
+    Ok(ended)
 }
 
 /// Joins all. True where each did whole rounds until the pool was quiet.

@@ -1,0 +1,117 @@
+-- What goes to a worker's thread may cross, and what workers share may be shared.
+use denote.RattleType.{RattleType}
+use denote.Ref.{NamedLft, ShrRef}
+use denote.Param.{param}
+use denote.Hole.{as_row}
+use denote.Struct.Field.{row_field, shr_ref_field}
+use denote.Struct.Tuple.{TupleAt, type_at}
+use denote.Param.Send.{IsSend, IsSync, param_sync, sendable, shr_sync}
+use denote.Param.SendFields.{as_row_send, as_row_sync, declared_send, declared_sync}
+use mathlib.Core.List.{List, [], ◌∷◌}
+use mir.Syntax.{Sym}
+use Rattle.std.proofs.Crossing.{crosses}
+use Rattle.std.specs.contracts.alloc.Global as Global
+use Rattle.std.specs.contracts.snapshot.Snapshot as Snapshot
+use Rattle.net_base.specs.contracts.net.Net as Net
+use Rattle.net_base.proofs.net.Net.TheSendSync as NetCrosses
+use Rattle.work_store.specs.contracts.store.Store as Store
+use Rattle.work_store.proofs.store.Store.TheSendSync as StoreCrosses
+use Rattle.token_line.specs.contracts.line.Line as Line
+use Rattle.task_pool.specs.contracts.taken_task.TakenTask as TakenTask
+use Rattle.task_pool.specs.contracts.pool.PoolEntry as PoolEntry
+use Rattle.task_pool.specs.contracts.pool.Pool as Pool
+use Rattle.turn_table.specs.contracts.passes.Pass as Pass
+use Rattle.turn_table.proofs.passes.Pass.TheSendSync as PassCrosses
+use Rattle.turn_table.specs.contracts.cells.Cells as Cells
+use Rattle.turn_table.proofs.cells.Cells.TheSendSync as CellsCross
+use Rattle.free_engine.specs.contracts.cells.LineCell as LineCell
+use Rattle.free_engine.specs.contracts.cells.PoolCell as PoolCell
+use Rattle.free_engine.specs.contracts.slots.Slot as Slot
+use Rattle.free_engine.specs.contracts.slots.SlotEntry as SlotEntry
+use Rattle.free_engine.specs.contracts.slots.SlotName as SlotName
+use Rattle.free_engine.specs.contracts.slots.SlotKept.TheImpl.{ghosts}
+use Rattle.free_engine.specs.contracts.turns.Crew as Crew
+use Rattle.rounds_engine.proofs.Crossing.{children_send, line_send, task_send}
+
+snapshot_send : (Y : RattleType) → IsSend (Snapshot.the_row Y)
+snapshot_send Y = search crosses depth 20
+
+snapshot_sync : (Y : RattleType) → IsSync (Snapshot.the_row Y)
+snapshot_sync Y = search crosses depth 20
+
+taken_task_send : IsSend TakenTask.the_row
+taken_task_send = search (sendable, crosses) depth 80
+
+pool_entry_send : IsSend PoolEntry.the_row
+pool_entry_send = search (taken_task_send, children_send, sendable, crosses) depth 80
+
+pool_send : IsSend Pool.the_row
+pool_send = search (task_send, pool_entry_send, sendable, crosses) depth 80
+
+pool_cell_send : IsSend PoolCell.the_row
+pool_cell_send = search (pool_send, sendable, crosses) depth 80 fits 20000
+
+line_cell_send : IsSend LineCell.the_row
+line_cell_send = declared_send LineCell.the_type (
+  line_send,
+  (
+    search sendable depth 20,
+    (
+      as_row_send (Snapshot.the_field Line.the_row) (snapshot_send Line.the_row),
+      (as_row_send (Snapshot.the_field Net.the_row) (snapshot_send Net.the_row), (as_row_send (Snapshot.the_field Store.the_row) (snapshot_send Store.the_row), tt)),
+    ),
+  ),
+)
+
+slot_send : IsSend Slot.the_row
+slot_send = search (pool_cell_send, line_cell_send, sendable, crosses) depth 80 fits 20000
+
+pub pass_send : IsSend (Pass.the_row Slot.the_row SlotEntry.the_row SlotName.the_row)
+pass_send = PassCrosses.the_send Slot.the_row SlotEntry.the_row SlotName.the_row slot_send
+
+-- ---- all that workers share
+
+cells_sync : IsSync (Cells.the_row Slot.the_row SlotEntry.the_row SlotName.the_row ghosts)
+cells_sync = CellsCross.the_sync Slot.the_row SlotEntry.the_row SlotName.the_row ghosts slot_send
+
+-- a reference that may be copied to another thread
+abbrev ref_to : NamedLft → RattleType → RattleType
+ref_to a R = ShrRef a.mir a.lft R
+
+ref_sync : (a : NamedLft) (R : RattleType) → IsSync R → IsSync (as_row (row_field (ref_to a R)))
+ref_sync a R s = as_row_sync (row_field (ref_to a R)) (shr_sync a.mir a.lft R s)
+
+-- of a closure over the handle, the allocator, cells, the network, the store, the gate, the first tasks and the crew
+abbrev lent : (R G Y : RattleType) (a b d e f h i j : NamedLft) → List RattleType
+lent R G Y a b d e f h i j =
+    (shr_ref_field a (param 0 R) tt).row
+    ∷ (shr_ref_field b Global.the_row tt).row
+    ∷ (shr_ref_field d (Cells.the_row Slot.the_row SlotEntry.the_row SlotName.the_row ghosts) tt).row
+    ∷ (shr_ref_field e Net.the_row tt).row
+    ∷ (shr_ref_field f Store.the_row tt).row
+    ∷ (shr_ref_field h (param 1 G) tt).row
+    ∷ (shr_ref_field i (Snapshot.the_row Y) tt).row
+    ∷ (shr_ref_field j Crew.the_row tt).row
+    ∷ []
+
+pub work_sync : (R G : RattleType) → IsSync R → IsSync G → (Y : RattleType) (name : Sym) (a b d e f h i j : NamedLft) → IsSync (TupleAt name (lent R G Y a b d e f h i j))
+work_sync R G ys zs Y name a b d e f h i j =
+    let alloc : IsSync Global.the_row = search (sendable, crosses) depth 20 in
+    let crew : IsSync Crew.the_row = search (sendable, crosses) depth 20 in
+    let cells = Cells.the_row Slot.the_row SlotEntry.the_row SlotName.the_row ghosts in
+    declared_sync (type_at name (lent R G Y a b d e f h i j)) (
+      ref_sync a (param 0 R) (param_sync 0 R ys),
+      (
+        ref_sync b Global.the_row alloc,
+        (
+          ref_sync d cells cells_sync,
+          (
+            ref_sync e Net.the_row NetCrosses.the_sync,
+            (
+              ref_sync f Store.the_row StoreCrosses.the_sync,
+              (ref_sync h (param 1 G) (param_sync 1 G zs), (ref_sync i (Snapshot.the_row Y) (snapshot_sync Y), (ref_sync j Crew.the_row crew, tt))),
+            ),
+          ),
+        ),
+      ),
+    )

@@ -1,0 +1,214 @@
+//! The engine of free workers: a matcher over a network whose tasks are done by several threads in any order.
+ghost use Rattle.std.specs.Prelude.{◌≡◌, ◌≤◌, ◌^◌, All, IfOk, [], length, map};
+ghost use Rattle.work_store.specs.Stored.{held_of, nothing_stored};
+ghost use Rattle.activation.specs.Acting.{IsCounted};
+ghost use Rattle.step_core.specs.Laws.{AreEmpty};
+ghost use Rattle.step_core.specs.Phases.{HoldJust, now, sums_over};
+ghost use Rattle.step_core.specs.Worlds.{AreNumbered, placed, seen};
+
+use crate::phases::{Sharing, settle};
+use net_base::net::Net;
+use ops_base::elements::Change;
+use ops_base::memory::OutOfMemory;
+use ops_io::Gate;
+use serial_engine::settle as settle_alone;
+use std::alloc::Global;
+use std::sync::Wait;
+use std::thread::Threads;
+use step_core::laws::{match_laws, settle_laws};
+use step_core::{Gathered, World};
+use token_line::Line;
+use work_store::{Matcher, Settled, Store};
+
+/// A matcher over a network. Between two settles its lines hold just the tokens that stand at each node over its store,
+/// each once. The gate is called just before each activation, with the number of the worker, or with worker 0 on the
+/// calling thread, and with the number of the line.
+#[derive(Drop)]
+pub struct FreeEngine<G> {
+    net: Net,
+    store: Store,
+    world: World,
+    gate: G,
+    sharing: Sharing,
+    // There is a worker at least, and there are not too many.
+    ghost some: { 1 ≤ sharing.workers },
+    ghost few: { sharing.workers ≤ 2 ^ 32 },
+    // Nothing is under way.
+    ghost quiet: { world.counter ≡ 0 },
+    ghost numbered: { AreNumbered world.lines.items },
+    ghost counted: { All (IsCounted net.nodes store) world.lines.items },
+    ghost holds: { HoldJust (placed (held_of store) net.nodes (length world.lines.items)) (sums_over store.elements net.alphas net.nodes) (map now (map seen world.lines.items)) },
+}
+
+impl<G: Gate + Drop> FreeEngine<G> {
+    ghost use Rattle.std.specs.Prelude.{List};
+    ghost use Rattle.ops_base.specs.declared.rules.Rule.{Rule};
+    ghost use Rattle.ops_base.specs.WorkingMemory.{Lawful, done, last_after};
+    ghost use Rattle.work_store.specs.Settling.{IsSettled};
+    ghost use Rattle.work_store.specs.Stored.{HoldsAlso, added_by};
+    ghost use Rattle.net_base.specs.Network.{NetOf};
+    ghost use Rattle.step_core.specs.Phases.{IsBundle};
+    ghost use Rattle.step_core.specs.Found.{found_over};
+
+    /// An engine over the network with this many lines and workers. Nothing is stored. It makes each line and looks at
+    /// each node, and starts no thread.
+    pub fn new(
+        alloc: Global,
+        net: Net,
+        lines: usize,
+        workers: usize,
+        gate: G,
+    ) -> Result<FreeEngine<G>, OutOfMemory>
+        requires lines { 1 ≤ lines }
+        requires workers { 1 ≤ workers }
+        requires few { workers ≤ 2 ^ 32 }
+        ensures net { IfOk result (λ e. e.net ≡ net) }
+        ensures empty { IfOk result (λ e. e.store ≡ nothing_stored) }
+        ensures lines { IfOk result (λ e. length e.world.lines.items ≡ lines) }
+        ensures entries { IfOk result (λ e. AreEmpty (map seen e.world.lines.items)) }
+    {
+        match_laws();
+        let world = World::start(alloc, &net, lines)?;
+        Ok(FreeEngine {
+            net,
+            store: Store::new(alloc),
+            world,
+            gate,
+            sharing: Sharing {
+                workers,
+                shared: false,
+            },
+        })
+    }
+
+    /// The network. Takes no memory.
+    pub fn net(&self) -> &Net
+        ensures { result.now ≡ self.now.net }
+    {
+        &self.net
+    }
+
+    /// The lines, in the order of their numbers, with the entries of the last settle. Takes no memory.
+    pub fn lines(&self) -> &[Line]
+        ensures lines { result.now ≡ self.now.world.lines.items }
+        ensures numbered { AreNumbered result.now }
+        // They hold just the tokens over the store.
+        ensures hold { HoldJust (placed (held_of self.now.store) self.now.net.nodes (length result.now)) (sums_over self.now.store.elements self.now.net.alphas self.now.net.nodes) (map now (map seen result.now)) }
+    {
+        self.world.lines()
+    }
+
+    /// Feeds all changes, and does their tasks and all that comes of them: on the calling thread as long as few are in
+    /// flight, and then by several workers, each of which takes a task from a pool and gives back its children. It
+    /// takes time for the tasks that it does, for the lines that they were done on, and for the nodes that a change is
+    /// fed to. Where the work was shared it also moves each line. It may wait for other threads, and it is not promised
+    /// that their turns come. What it removed is kept until the next settle.
+    pub fn settle_freely<R: Threads + Wait + Sync>(
+        self,
+        rt: &R,
+        alloc: Global,
+        changes: &[Change],
+    ) -> Result<Settled<FreeEngine<G>>, OutOfMemory>
+        requires { Lawful self.store.elements self.store.last changes.now }
+        ensures elements { IfOk result (λ s. s.matcher.store.elements ≡ done self.store.elements changes.now) }
+        ensures last { IfOk result (λ s. s.matcher.store.last ≡ last_after self.store.last changes.now) }
+        ensures settled { IfOk result (λ s. IsSettled (found_over self.net.alphas self.net.nodes self.store.elements) (found_over s.matcher.net.alphas s.matcher.net.nodes s.matcher.store.elements) s.gone.items s.come.items) }
+        ensures stands { IfOk result (λ s. (rules : List Rule) → NetOf self.net rules → NetOf s.matcher.net rules) }
+        ensures net { IfOk result (λ s. s.matcher.net ≡ self.net) }
+        // What was removed stays kept: what was present or was added is held, and nothing else.
+        ensures kept { IfOk result (λ s. HoldsAlso (record self.store { kept = [] }) s.matcher.store (added_by changes.now)) }
+        // The lines with their entries are a bundle of the changes.
+        ensures bundle { IfOk result (λ s. IsBundle (held_of s.matcher.store) s.matcher.net.alphas s.matcher.net.nodes (placed (held_of s.matcher.store) s.matcher.net.nodes (length s.matcher.world.lines.items)) self.store.elements changes.now (map seen s.matcher.world.lines.items)) }
+        ensures lines { IfOk result (λ s. length s.matcher.world.lines.items ≡ length self.world.lines.items) }
+    {
+        let FreeEngine {
+            net,
+            mut store,
+            world,
+            gate,
+            sharing,
+        } = self;
+        let mut sharing = sharing;
+        let (world, gathered) = settle(
+            rt,
+            alloc,
+            &net,
+            &mut store,
+            &gate,
+            world,
+            &mut sharing,
+            changes,
+        )?;
+        let Gathered { come, gone } = gathered;
+        let matcher = FreeEngine {
+            net,
+            store,
+            world,
+            gate,
+            sharing,
+        };
+        Ok(Settled {
+            matcher,
+            come,
+            gone,
+        })
+    }
+}
+
+impl<G: Gate + Drop> Matcher for FreeEngine<G> {
+    ghost use Rattle.net_base.specs.Network.{NetOf};
+    ghost use Rattle.step_core.specs.Found.{found_over};
+
+    ghost stored = { λ e. e.store };
+
+    ghost found = { λ e. found_over e.net.alphas e.net.nodes e.store.elements };
+
+    ghost stands_for = { λ e rules. NetOf e.net rules };
+
+    type Hand = ();
+
+    fn store(&self) -> &Store {
+        settle_laws();
+        let _last = self.store.last();
+        let _nodes = self.net.nodes();
+        &self.store
+    }
+
+    /// As `settle_freely`, on the calling thread alone, as the serial engine settles.
+    fn settle(
+        self,
+        alloc: Global,
+        _hand: &mut (),
+        changes: &[Change],
+    ) -> Result<Settled<FreeEngine<G>>, OutOfMemory> {
+        let FreeEngine {
+            net,
+            mut store,
+            mut world,
+            gate,
+            sharing,
+        } = self;
+        let enter = |line: usize| gate.enter(0, line);
+        let Gathered { come, gone } = settle_alone(
+            alloc,
+            &net,
+            &mut store,
+            &enter,
+            &mut world,
+            changes,
+            &[],
+        )?;
+        let matcher = FreeEngine {
+            net,
+            store,
+            world,
+            gate,
+            sharing,
+        };
+        Ok(Settled {
+            matcher,
+            come,
+            gone,
+        })
+    }
+}

@@ -1,0 +1,186 @@
+//! A phase at work: on the calling thread as long as few tasks are in flight, and then by several workers.
+ghost use Rattle.std.specs.Prelude.{◌≡◌, ◌≤◌, ◌^◌, All, IfOk, OnOk, [], length, map};
+ghost use Rattle.ops_base.specs.WorkingMemory.{Lawful, done, last_after};
+ghost use Rattle.work_store.specs.Settling.{IsSettled};
+ghost use Rattle.work_store.specs.Stored.{HoldsAlso, added_by, held_of};
+ghost use Rattle.activation.specs.Acting.{IsCounted};
+ghost use Rattle.step_core.specs.Feeding.{IsKnown};
+ghost use Rattle.step_core.specs.Found.{found_over};
+ghost use Rattle.step_core.specs.Phases.{HoldJust, IsBundle, now, sums_over};
+ghost use Rattle.step_core.specs.Worlds.{AreNumbered, IsReady, numbers_of, placed, seen, world_of};
+ghost use Rattle.serial_engine.specs.Running.{IsBundleOf, Went};
+ghost use Rattle.rounds_engine.specs.Carrying.{CarriesOn};
+
+use crate::sharing::share;
+use net_base::net::Net;
+use ops_base::elements::Change;
+use ops_base::memory::OutOfMemory;
+use ops_io::Gate;
+use serial_engine::{do_changes, feed_all, work_all};
+use std::alloc::Global;
+use std::sync::Wait;
+use std::thread::Threads;
+use step_core::laws::{round_laws, settle_laws};
+use step_core::{Gathered, Parts, World, gather_worked};
+use work_store::Store;
+
+/// How the tasks of a phase are shared.
+#[derive(Clone, Copy)]
+pub(crate) struct Sharing {
+    /// How many workers there may be, at least 1.
+    pub(crate) workers: usize,
+    /// Whether a phase was shared before.
+    pub(crate) shared: bool,
+}
+
+/// How many tasks in flight end the work on the calling thread.
+const MANY: usize = 256;
+
+/// How many tasks in flight are worth a worker more.
+const FEWEST: usize = 64;
+
+/// How many tasks in flight end the work on the calling thread, if they can be shared at all.
+fn most_alone(sharing: Sharing) -> Option<usize> {
+    if sharing.workers == 1 {
+        None
+    } else {
+        Some(MANY)
+    }
+}
+
+/// How many workers share this many tasks: two at least where there are two, and one more for each 64 tasks.
+fn team_size(tasks: usize, workers: usize) -> usize
+    requires some { 1 ≤ workers }
+    ensures some { 1 ≤ result }
+    ensures few { result ≤ workers }
+{
+    let wanted = (tasks / FEWEST).saturating_add(1).max(2);
+    if wanted < workers { wanted } else { workers }
+}
+
+/// Does tasks in flight on the calling thread, from the last on, and all that comes of them, until none is left or many
+/// are in flight. It does none where tasks can be shared for the first time.
+fn work_alone<G: Gate>(
+    alloc: Global,
+    net: &Net,
+    store: &Store,
+    gate: &G,
+    world: &mut World,
+    sharing: Sharing,
+) -> Result<(), OutOfMemory>
+    requires ready { IsReady net.now.nodes store.now world.old }
+    ensures went { OnOk result (Went net.now.alphas net.now.nodes store.now (length world.old.lines.items) world.old [] world.new) }
+    ensures done { OnOk result ((world_of world.new).done ≡ (world_of world.old).done) }
+    ensures ready { IsReady net.now.nodes store.now world.new }
+    ensures lines { numbers_of world.new ≡ numbers_of world.old }
+{
+    if sharing.workers > 1 && !sharing.shared && world.in_flight() > 1 {
+        return Ok(());
+    }
+    let enter = |line: usize| gate.enter(0, line);
+    work_all(alloc, net, store, &enter, world, most_alone(sharing))
+}
+
+/// Does the tasks in flight, and all that comes of them, by several workers. Where none is in flight it does nothing;
+/// otherwise it also moves each line.
+fn work_freely<R: Threads + Wait + Sync, G: Gate>(
+    rt: &R,
+    alloc: Global,
+    net: &Net,
+    store: &Store,
+    gate: &G,
+    world: World,
+    sharing: &mut Sharing,
+) -> Result<World, OutOfMemory>
+    requires some { 1 ≤ sharing.old.workers }
+    requires few { sharing.old.workers ≤ 2 ^ 32 }
+    requires numbered { AreNumbered world.lines.items }
+    requires ready { IsReady net.now.nodes store.now world }
+    requires done { length world.done.items ≡ 0 }
+    ensures carries { IfOk result (λ w. CarriesOn net.now.alphas net.now.nodes store.now world.lines.items world.flight.items w.lines.items []) }
+    ensures quiet { IfOk result (λ w. w.counter ≡ 0) }
+    ensures counted { IfOk result (λ w. All (IsCounted net.now.nodes store.now) w.lines.items) }
+    ensures numbers { IfOk result (λ w. numbers_of w ≡ numbers_of world) }
+    ensures workers { OnOk result (sharing.new.workers ≡ sharing.old.workers) }
+{
+    if world.in_flight() == 0 {
+        return Ok(world);
+    }
+    let team = team_size(world.in_flight(), sharing.workers);
+    sharing.shared = true;
+    let lines = share(rt, alloc, net, store, gate, world.into_parts(), team)?;
+    let parts = Parts {
+        lines,
+        flight: Vec::new(alloc),
+    };
+    World::from_parts(alloc, parts)
+}
+
+/// Does the phase of these changes, which the store has done. The lines begin it.
+fn run_phase<R: Threads + Wait + Sync, G: Gate>(
+    rt: &R,
+    alloc: Global,
+    net: &Net,
+    store: &Store,
+    gate: &G,
+    world: World,
+    sharing: &mut Sharing,
+    changes: &[Change],
+) -> Result<World, OutOfMemory>
+    requires some { 1 ≤ sharing.old.workers }
+    requires few { sharing.old.workers ≤ 2 ^ 32 }
+    requires numbered { AreNumbered world.lines.items }
+    requires quiet { world.counter ≡ 0 }
+    requires counted { All (IsCounted net.now.nodes store.now) world.lines.items }
+    requires known { All (IsKnown store.now) changes.now }
+    ensures quiet { IfOk result (λ w. w.counter ≡ 0) }
+    ensures counted { IfOk result (λ w. All (IsCounted net.now.nodes store.now) w.lines.items) }
+    ensures lines { IfOk result (λ w. numbers_of w ≡ numbers_of world) }
+    ensures bundle { IfOk result (λ w. IsBundleOf net.now.alphas net.now.nodes store.now changes.now world w) }
+    ensures workers { OnOk result (sharing.new.workers ≡ sharing.old.workers) }
+{
+    settle_laws();
+    round_laws();
+    let mut world = world;
+    world.clear_phase();
+    feed_all(alloc, net, store, &mut world, changes)?;
+    work_alone(alloc, net, store, gate, &mut world, *sharing)?;
+    work_freely(rt, alloc, net, store, gate, world, sharing)
+}
+
+/// Does the changes to the store, and their phase over lines that hold just the tokens over it. The lines then hold
+/// just the tokens over the store with the changes done, and their entries are a bundle of the changes.
+pub(crate) fn settle<R: Threads + Wait + Sync, G: Gate>(
+    rt: &R,
+    alloc: Global,
+    net: &Net,
+    store: &mut Store,
+    gate: &G,
+    world: World,
+    sharing: &mut Sharing,
+    changes: &[Change],
+) -> Result<(World, Gathered), OutOfMemory>
+    requires some { 1 ≤ sharing.old.workers }
+    requires few { sharing.old.workers ≤ 2 ^ 32 }
+    requires numbered { AreNumbered world.lines.items }
+    requires lawful { Lawful store.old.elements store.old.last changes.now }
+    requires quiet { world.counter ≡ 0 }
+    requires counted { All (IsCounted net.now.nodes store.old) world.lines.items }
+    requires holds { HoldJust (placed (held_of store.old) net.now.nodes (length world.lines.items)) (sums_over store.old.elements net.now.alphas net.now.nodes) (map now (map seen world.lines.items)) }
+    ensures elements { OnOk result (store.new.elements ≡ done store.old.elements changes.now) }
+    ensures last { OnOk result (store.new.last ≡ last_after store.old.last changes.now) }
+    ensures kept { OnOk result (HoldsAlso (record store.old { kept = [] }) store.new (added_by changes.now)) }
+    ensures quiet { IfOk result (λ r. r.0.counter ≡ 0) }
+    ensures counted { IfOk result (λ r. All (IsCounted net.now.nodes store.new) r.0.lines.items) }
+    ensures holds { IfOk result (λ r. HoldJust (placed (held_of store.new) net.now.nodes (length r.0.lines.items)) (sums_over store.new.elements net.now.alphas net.now.nodes) (map now (map seen r.0.lines.items))) }
+    ensures lines { IfOk result (λ r. numbers_of r.0 ≡ numbers_of world) }
+    ensures bundle { IfOk result (λ r. IsBundle (held_of store.new) net.now.alphas net.now.nodes (placed (held_of store.new) net.now.nodes (length r.0.lines.items)) store.old.elements changes.now (map seen r.0.lines.items)) }
+    ensures settled { IfOk result (λ r. IsSettled (found_over net.now.alphas net.now.nodes store.old.elements) (found_over net.now.alphas net.now.nodes store.new.elements) r.1.gone.items r.1.come.items) }
+    ensures workers { OnOk result (sharing.new.workers ≡ sharing.old.workers) }
+{
+    settle_laws();
+    do_changes(alloc, store, changes)?;
+    let world = run_phase(rt, alloc, net, store, gate, world, sharing, changes)?;
+    let gathered = gather_worked(alloc, net, world.lines(), world.worked())?;
+    Ok((world, gathered))
+}
