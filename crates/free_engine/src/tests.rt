@@ -39,23 +39,13 @@ fn element(alloc: Global, tag: u64) -> Result<Element, OutOfMemory>
     })
 }
 
-// a join of the first class, below which stands one node
-fn join(
-    alloc: Global,
-    parent: Option<usize>,
-    joins: Listed<JoinTest>,
-    child: usize,
-    depth: usize,
-) -> Result<Node, OutOfMemory> {
-    Ok(Node {
-        kind: Kind::Join,
-        parent,
-        class: 0,
-        alpha: 0,
-        joins,
-        children: Listed::from_array(alloc, [child])?,
-        depth,
-    })
+fn alpha(alloc: Global, class: usize) -> Alpha
+    ensures { result ≡ record { class = class; tests = [] } }
+{
+    Alpha {
+        class,
+        tests: Listed::new(alloc),
+    }
 }
 
 // `(p twin (a ^n <x>) (a ^n <x>) -->)`
@@ -66,8 +56,24 @@ fn twin(alloc: Global) -> Result<Net, OutOfMemory> {
         place: 0,
         other: 0,
     };
-    let first = join(alloc, None, Listed::new(alloc), 1, 1)?;
-    let second = join(alloc, Some(0), Listed::from_array(alloc, [same])?, 2, 2)?;
+    let first = Node {
+        kind: Kind::Join,
+        parent: None,
+        class: 0,
+        alpha: 0,
+        joins: Listed::new(alloc),
+        children: Listed::from_array(alloc, [1])?,
+        depth: 1,
+    };
+    let second = Node {
+        kind: Kind::Join,
+        parent: Some(0),
+        class: 0,
+        alpha: 0,
+        joins: Listed::from_array(alloc, [same])?,
+        children: Listed::from_array(alloc, [2])?,
+        depth: 2,
+    };
     let terminal = Node {
         kind: Kind::Terminal { rule: 0 },
         parent: Some(1),
@@ -77,11 +83,7 @@ fn twin(alloc: Global) -> Result<Net, OutOfMemory> {
         children: Listed::new(alloc),
         depth: 3,
     };
-    let alpha = Alpha {
-        class: 0,
-        tests: Listed::new(alloc),
-    };
-    let alphas = Listed::from_array(alloc, [alpha])?;
+    let alphas = Listed::from_array(alloc, [alpha(alloc, 0)])?;
     let nodes = Listed::from_array(alloc, [first, second, terminal])?;
     Net::new(alloc, alphas, nodes)
 }
