@@ -13,3 +13,4 @@ pub mod Joined
 pub mod LinesBack
 pub mod SharedLines
 pub mod Results
+pub mod Stepped

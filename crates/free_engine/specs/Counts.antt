@@ -38,7 +38,7 @@ abbrev pub rows_of_rounds : ℕ → List Round → List (Row SlotEntry)
 rows_of_rounds worker [] = []
 rows_of_rounds worker (x ∷ xs) = rows_of_round worker x ++ rows_of_rounds worker xs
 
--- each round has one of so many lines
+-- each round has one of this many lines
 abbrev pub AreInside : ℕ → List Round → Type 0
 AreInside lines [] = Unit {0}
 AreInside lines (x ∷ xs) = (x.line < lines) × AreInside lines xs

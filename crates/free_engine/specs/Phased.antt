@@ -11,7 +11,7 @@ use Rattle.step_core.specs.Phases.{AreLawful, IsPhase, before}
 use Rattle.step_core.specs.Machine.{Placing, Seen}
 use Rattle.step_core.specs.Worlds.{placed, seen}
 
--- where the phase of the line was lawful when it stood so, as line `number` of so many, it is lawful now
+-- where the phase of the line was lawful when it stood so, as line `number` of this many, it is lawful now
 abbrev pub KeepsPhase : List Node → Stored → ℕ → ℕ → Line → Line → Type 0
 KeepsPhase nodes s lines number was now =
     IsPhase (held_of s) nodes (placed (held_of s) nodes lines) number (seen was) → IsPhase (held_of s) nodes (placed (held_of s) nodes lines) number (seen now)

@@ -9,7 +9,7 @@ use Rattle.free_engine.specs.declared.cells.LineCell.{LineCell}
 use Rattle.free_engine.specs.declared.slots.Slot.{Slot}
 use Rattle.free_engine.specs.declared.slots.Slot.TheVariants.{Queue, Row}
 
--- line i of so many, over this network and store
+-- line i of this many, over this network and store
 pub record IsLineOf (nodes : List Node) (s : Stored) (lines i : ℕ) (c : LineCell) : Type 0 where
   pub has_nodes : c.net.value.nodes ≡ nodes
   pub has_store : c.store.value ≡ s
@@ -40,7 +40,7 @@ abbrev pub lines_in : List Slot → List Seen
 lines_in [] = []
 lines_in (x ∷ xs) = map seen_in xs
 
--- a pool that began with these tasks, and so many lines
+-- a pool that began with these tasks, and this many lines
 pub record IsTable (nodes : List Node) (s : Stored) (lines : ℕ) (first : List Task) (values : List Slot) : Type 0 where
   pub pool : Slot
   pub rows : List Slot

@@ -21,7 +21,7 @@ SlotCells = Cells Slot SlotEntry SlotName
 abbrev pub SlotPass : Type 0
 SlotPass = Pass Slot SlotEntry SlotName
 
--- it is the first pass, which made nothing itself; so many were split from it, and so many of these are not joined
+-- it is the first pass, which made nothing itself; this many were split from it, and this many of these are not joined
 pub record Leads (cells : SlotCells) (split apart : ℕ) (p : SlotPass) : Type 0 where
   pub first : IsFirstOf cells p
   pub own : (knows p).own ≡ []

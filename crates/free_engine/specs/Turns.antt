@@ -20,14 +20,14 @@ use Rattle.free_engine.specs.Counts.{SawQuiet}
 
 -- ---- the cells of a phase
 
--- a pool that began with these tasks for so many workers, over this network and store
+-- a pool that began with these tasks for this many workers, over this network and store
 pub record IsPoolFor (net : Net) (s : Stored) (workers : ℕ) (first : List Task) (c : PoolCell) : Type 0 where
   pub has_net : c.net.value ≡ net
   pub has_store : c.store.value ≡ s
   pub of_workers : c.pool.workers.value ≡ workers
   pub began : c.pool.first.value.items ≡ first
 
--- line i of so many, over this network and store
+-- line i of this many, over this network and store
 pub record IsRowFor (net : Net) (s : Stored) (lines i : ℕ) (c : LineCell) : Type 0 where
   pub has_net : c.net.value ≡ net
   pub has_store : c.store.value ≡ s

@@ -19,7 +19,7 @@ use token_line::Line;
 use turn_table::{Cells, Pass};
 use work_store::Store;
 
-/// The lines, once each of so many workers was joined, and each did whole rounds until the pool was quiet. Each phase
+/// The lines, once each of this many workers was joined, and each did whole rounds until the pool was quiet. Each phase
 /// that was on its way in the lines that were opened is on its way in these, and no task waits. It moves each line
 /// twice, and waits for nothing. Where memory runs out the lines are let go.
 pub fn close(

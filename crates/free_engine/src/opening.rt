@@ -19,7 +19,7 @@ use task_pool::Pool;
 use token_line::Line;
 use work_store::Store;
 
-/// A pool of these tasks for so many workers.
+/// A pool of these tasks for this many workers.
 fn pool_slot(
     alloc: Global,
     net: &Net,
@@ -40,7 +40,7 @@ fn pool_slot(
     Ok(Slot::Queue(Box::new(alloc, cell)?))
 }
 
-/// One of so many lines. It moves the line.
+/// One of this many lines. It moves the line.
 fn line_slot(
     alloc: Global,
     net: &Net,

@@ -7,12 +7,13 @@ ghost use Rattle.activation.specs.Acting.{IsCounted};
 ghost use Rattle.step_core.specs.Feeding.{IsKnown};
 ghost use Rattle.step_core.specs.Found.{found_over};
 ghost use Rattle.step_core.specs.Phases.{HoldJust, IsBundle, now, sums_over};
-ghost use Rattle.step_core.specs.Worlds.{AreNumbered, IsReady, numbers_of, placed, seen, world_of};
+ghost use Rattle.step_core.specs.Worlds.{AreNumbered, ArePartsReady, IsReady, numbers_of, placed, seen, world_of};
 ghost use Rattle.serial_engine.specs.Running.{IsBundleOf, Went};
 ghost use Rattle.rounds_engine.specs.Carrying.{CarriesOn};
 
 use crate::sharing::share;
 use net_base::net::Net;
+use net_base::tasks::{Side, Task};
 use ops_base::elements::Change;
 use ops_base::memory::OutOfMemory;
 use ops_io::Gate;
@@ -22,6 +23,7 @@ use std::sync::Wait;
 use std::thread::Threads;
 use step_core::laws::{round_laws, settle_laws};
 use step_core::{Gathered, Parts, World, gather_worked};
+use token_line::{Line, place_of};
 use work_store::Store;
 
 /// How the tasks of a phase are shared.
@@ -48,6 +50,12 @@ fn most_alone(sharing: Sharing) -> Option<usize> {
     }
 }
 
+/// Of how many tasks in flight, from the last one on, the partners are counted.
+const SAMPLE: usize = 16;
+
+/// How many partners these have at least, all together, where it pays to share the work.
+const PARTNERS: usize = 128;
+
 /// How many workers share this many tasks: two at least where there are two, and one more for each 64 tasks.
 fn team_size(tasks: usize, workers: usize) -> usize
     requires some { 1 ≤ workers }
@@ -58,8 +66,32 @@ fn team_size(tasks: usize, workers: usize) -> usize
     if wanted < workers { wanted } else { workers }
 }
 
+/// How many partners a task looks at: the tokens on the other side of its node that have its code. Takes no memory.
+fn partners_of(net: &Net, store: &Store, lines: &[Line], task: &Task) -> usize
+    requires { 1 ≤ length lines.now }
+{
+    let place = place_of(net, store, task, lines.len());
+    match (lines[place.line].memory(task.node, place.code), task.side) {
+        (Some(memory), Side::Left) => memory.right().len(),
+        (Some(memory), Side::Right) => memory.left().len(),
+        (None, _) => 0,
+    }
+}
+
+/// Whether the last tasks in flight have so many partners that it pays to share the work: a turn costs as much as a look
+/// at some of them. It looks up 16 tasks, and takes no memory.
+fn are_worth_it(net: &Net, store: &Store, lines: &[Line], flight: &[Task]) -> bool
+    requires { 1 ≤ length lines.now }
+{
+    let mut partners = 0usize;
+    for task in flight.iter().rev().take(SAMPLE) {
+        partners = partners.saturating_add(partners_of(net, store, lines, task));
+    }
+    partners >= PARTNERS
+}
+
 /// Does tasks in flight on the calling thread, from the last on, and all that comes of them, until none is left or many
-/// are in flight. It does none where tasks can be shared for the first time.
+/// are in flight. It does none where a few tasks can be shared for the first time.
 fn work_alone<G: Gate>(
     alloc: Global,
     net: &Net,
@@ -81,8 +113,31 @@ fn work_alone<G: Gate>(
     work_all(alloc, net, store, &enter, world, most_alone(sharing))
 }
 
-/// Does the tasks in flight, and all that comes of them, by several workers. Where none is in flight it does nothing;
-/// otherwise it also moves each line.
+/// Does these tasks, and all that comes of them, on the calling thread.
+fn finish_alone<G: Gate>(
+    alloc: Global,
+    net: &Net,
+    store: &Store,
+    gate: &G,
+    parts: Parts,
+) -> Result<World, OutOfMemory>
+    requires some { 1 ≤ length parts.lines.items }
+    requires ready { ArePartsReady net.now.nodes store.now parts }
+    ensures carries { IfOk result (λ w. CarriesOn net.now.alphas net.now.nodes store.now parts.lines.items parts.flight.items w.lines.items []) }
+    ensures quiet { IfOk result (λ w. w.counter ≡ 0) }
+    ensures counted { IfOk result (λ w. All (IsCounted net.now.nodes store.now) w.lines.items) }
+    ensures numbers { IfOk result (λ w. numbers_of w ≡ map (λ l. l.number) parts.lines.items) }
+{
+    settle_laws();
+    round_laws();
+    let mut world = World::from_parts(alloc, parts)?;
+    let enter = |line: usize| gate.enter(0, line);
+    work_all(alloc, net, store, &enter, &mut world, None)?;
+    Ok(world)
+}
+
+/// Does the tasks in flight, and all that comes of them, by several workers where that pays. Where none is in flight it
+/// does nothing; otherwise it also moves or looks at each line.
 fn work_freely<R: Threads + Wait + Sync, G: Gate>(
     rt: &R,
     alloc: Global,
@@ -107,8 +162,13 @@ fn work_freely<R: Threads + Wait + Sync, G: Gate>(
         return Ok(world);
     }
     let team = team_size(world.in_flight(), sharing.workers);
+    let is_first = !sharing.shared && world.in_flight() < MANY;
+    let parts = world.into_parts();
+    if !is_first && !are_worth_it(net, store, &parts.lines, &parts.flight) {
+        return finish_alone(alloc, net, store, gate, parts);
+    }
     sharing.shared = true;
-    let lines = share(rt, alloc, net, store, gate, world.into_parts(), team)?;
+    let lines = share(rt, alloc, net, store, gate, parts, team)?;
     let parts = Parts {
         lines,
         flight: Vec::new(alloc),

@@ -109,6 +109,7 @@ pub fn join_all(
     ensures joined { IsTrue result → AllJoined lines (length ended.items) (knows first.new).joined }
     ensures saw { IsTrue result → 0 < length ended.items → SawQuiet tasks.now.value.items (knows first.new).seen }
 {
+    // Contracts alone look at these.
     let _tasks = tasks;
     let _lines = lines;
     let mut whole = true;

@@ -1,12 +1,12 @@
 -- Rows of words with what they ask for, which the definition computes.
 use Rattle.std.proofs.Common.{◌≡◌, [], ◌∷◌, Some, None, codes, refl}
 use Rattle.ops_jobs.specs.CommandLine.{Word, job_of, pieces_from}
-use Rattle.ops_jobs.specs.declared.jobs.Engine.TheVariants.{Direct, Serial, Rounds}
+use Rattle.ops_jobs.specs.declared.jobs.Engine.TheVariants.{Direct, Serial, Rounds, Free}
 use Rattle.ops_jobs.specs.declared.jobs.Options.{Options}
 use Rattle.ops_jobs.specs.declared.jobs.Job.TheVariants.{Gen, Net, Run}
 
 abbrev usual : Options
-usual = record { engine = Direct; workers = 4; lines = 1024; limit = 1000000 }
+usual = record { engine = Free; workers = 4; lines = 1024; limit = 1000000 }
 
 -- a word of no bytes
 abbrev empty : Word
@@ -44,9 +44,13 @@ an_empty_word_is_a_name : job_of (empty ∷ []) ≡ Some (Run usual (empty ∷ [
 unfolding pieces_from
 an_empty_word_is_a_name = refl
 
-an_engine : job_of (codes "--match=direct" ∷ codes "f" ∷ []) ≡ Some (Run usual (codes "f" ∷ []))
+an_engine : job_of (codes "--match=direct" ∷ codes "f" ∷ []) ≡ Some (Run (record usual { engine = Direct }) (codes "f" ∷ []))
 unfolding pieces_from
 an_engine = refl
+
+the_usual_engine : job_of (codes "--match=free" ∷ codes "f" ∷ []) ≡ Some (Run usual (codes "f" ∷ []))
+unfolding pieces_from
+the_usual_engine = refl
 
 serial_over_one_line : job_of (codes "--match" ∷ codes "serial" ∷ codes "f" ∷ codes "--lines=1" ∷ []) ≡ Some (Run (record usual { engine = Serial; lines = 1 }) (codes "f" ∷ []))
 unfolding pieces_from
@@ -72,7 +76,7 @@ no_file_behind_a_close : job_of (codes "--" ∷ []) ≡ None
 unfolding pieces_from
 no_file_behind_a_close = refl
 
-another_engine : job_of (codes "--match=free" ∷ codes "f" ∷ []) ≡ None
+another_engine : job_of (codes "--match=steal" ∷ codes "f" ∷ []) ≡ None
 unfolding pieces_from
 another_engine = refl
 

@@ -6,7 +6,7 @@ use Rattle.std.specs.Char.{is_ascii_digit}
 use Rattle.std.specs.Str.Parse.{digits_value}
 use Rattle.ops_jobs.specs.declared.jobs.TheConstants.{DEFAULT_WORKERS, DEFAULT_LINES, DEFAULT_LIMIT, GREATEST_WORKERS, GREATEST_LINES, GREATEST_LIMIT, GREATEST_SEED, GREATEST_SIZE}
 use Rattle.ops_jobs.specs.declared.jobs.Engine.{Engine}
-use Rattle.ops_jobs.specs.declared.jobs.Engine.TheVariants.{Direct, Serial, Rounds}
+use Rattle.ops_jobs.specs.declared.jobs.Engine.TheVariants.{Direct, Serial, Rounds, Free}
 use Rattle.ops_jobs.specs.declared.jobs.Options.{Options}
 use Rattle.ops_jobs.specs.declared.jobs.Job.{Job}
 use Rattle.ops_jobs.specs.declared.jobs.Job.TheVariants.{Run, Net, Gen}
@@ -151,11 +151,12 @@ engine_named word =
     if bytes_eq word (codes "direct") then Some Direct
     else if bytes_eq word (codes "serial") then Some Serial
     else if bytes_eq word (codes "rounds") then Some Rounds
+    else if bytes_eq word (codes "free") then Some Free
     else None
 
 -- the engine that `--match` was given, or the usual one
 abbrev pub engine_from : Option Word → Option Engine
-engine_from None = Some Direct
+engine_from None = Some Free
 engine_from (Some word) = engine_named word
 
 -- the options, by the values that they were given

@@ -35,6 +35,8 @@ pub enum Engine {
     Serial,
     /// That network takes the changes in rounds: all tasks of a round, and then those that they make.
     Rounds,
+    /// That network's tasks wait in a pool, from which each worker takes one after another.
+    Free,
 }
 
 /// What the options of the command line say.

@@ -1,10 +1,11 @@
 -- What is answered to files is answered to the words that name them.
-use Rattle.std.proofs.Common.{◌≡◌, ℕ, List, [], Bool, Option, Some, None, option_map, unwrap_or, sym, subst}
+use Rattle.std.proofs.Common.{◌≡◌, ℕ, List, [], Bool, false, Option, Some, None, option_map, unwrap_or, sym, subst}
 use Rattle.ops_io.specs.Coming.{Coming}
 use Rattle.ops_jobs.specs.CommandLine.{job_of}
 use Rattle.ops_jobs.specs.declared.jobs.Job.{Job}
 use Rattle.ops_top.specs.Whole.{Reply, Gathered, gathered_for, readable, answer_gathered, usage, files_in, whole_job, whole, files_of}
 use Rattle.ops_top.specs.Calls.{OfContents, OfInput}
+use Rattle.ops_top.specs.Quiet.{gathered_asks, words_ask}
 use Rattle.ops_top.proofs.Contents.{contents_map, contents_any}
 use Rattle.ops_top.proofs.Inputs.{input_untouched}
 
@@ -30,6 +31,18 @@ any_deliver left failed D job told names broken d =
     contents_any told names (λ cs. OfInput left left failed (λ z. D (answer_gathered job z (gathered_for job (readable cs broken)))))
     (λ cs. input_untouched left failed (λ z. D (answer_gathered job z (gathered_for job (readable cs broken)))) (λ z. d (answer_gathered job z (gathered_for job (readable cs broken)))))
 
+-- what holds of the input where the text of a job asks for no atom
+pub gathered_quiet : (Q : Type 0) (job : Job) (told : List ℕ → Option (Option (List ℕ))) (files : List (List ℕ)) (broken : Option ℕ) (g : Gathered)
+    → OfContents told files (λ cs. gathered_for job (readable cs broken) ≡ g) → (gathered_asks g ≡ false → Q)
+    → OfContents told files (λ cs. gathered_asks (gathered_for job (readable cs broken)) ≡ false → Q)
+gathered_quiet Q job told files broken g p q =
+    let R : Gathered → Type 0 = λ g. gathered_asks g ≡ false → Q in
+    contents_map told files (λ cs. gathered_for job (readable cs broken) ≡ g) (λ cs. R (gathered_for job (readable cs broken))) (λ cs e. subst R (sym e) q) p
+
+-- and what holds in any case
+pub any_quiet : (Q : Type 0) (P : List (Option (List ℕ)) → Type 0) (told : List ℕ → Option (Option (List ℕ))) (files : List (List ℕ)) → Q → OfContents told files (λ cs. P cs → Q)
+any_quiet Q P told files q = contents_any told files (λ cs. P cs → Q) (λ cs asks. q)
+
 module _ (ws : List (List ℕ)) (told : List ℕ → Option (Option (List ℕ))) (broken : Option ℕ) where
   abbrev Answered : ((Coming → Type 0) → Type 0) → (Reply → Type 0) → Option Job → Type 0
   Answered I D asked = OfContents told (unwrap_or (option_map files_in asked) []) (λ cs. I (λ z. D (whole_job asked cs broken z)))
@@ -49,3 +62,12 @@ module _ (ws : List (List ℕ)) (told : List ℕ → Option (Option (List ℕ)))
   short_deliver left failed D d =
       contents_any told (files_of ws) (λ cs. OfInput left left failed (λ z. D (whole ws cs broken z)))
       (λ cs. input_untouched left failed (λ z. D (whole ws cs broken z)) (λ z. d (whole ws cs broken z)))
+
+  abbrev Quiet : Type 0 → Option Job → Type 0
+  Quiet Q asked =
+      OfContents told (unwrap_or (option_map files_in asked) []) (λ cs. unwrap_or (option_map (λ job. gathered_asks (gathered_for job (readable cs broken))) asked) false ≡ false → Q)
+
+  -- where the words fit, they ask for an atom as their job does
+  pub words_quiet : (Q : Type 0) (job : Job) → job_of ws ≡ Some job → OfContents told (files_in job) (λ cs. gathered_asks (gathered_for job (readable cs broken)) ≡ false → Q)
+      → OfContents told (files_of ws) (λ cs. words_ask ws cs broken ≡ false → Q)
+  words_quiet Q job is p = subst (Quiet Q) (sym is) p

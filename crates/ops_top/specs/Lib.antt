@@ -5,3 +5,5 @@ pub mod Codes
 pub mod Told
 pub mod Calls
 pub mod Loads
+pub mod Freely
+pub mod Quiet

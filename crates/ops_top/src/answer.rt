@@ -5,18 +5,22 @@ ghost use Rattle.ops_base.specs.ConflictSet.{conflict_set};
 ghost use Rattle.ops_jobs.specs.Laws.{KeepsLimits};
 ghost use Rattle.ops_io.specs.Coming.{inlet};
 ghost use Rattle.ops_io.specs.Ports.{port};
-ghost use Rattle.ops_grammar.specs.Reads.{Read};
+ghost use Rattle.ops_grammar.specs.Reads.{Read, reads};
 ghost use Rattle.ops_meaning.specs.Running.{session_of};
 ghost use Rattle.ops_base.specs.Symbols.{is_held};
+ghost use Rattle.ops_top.specs.Freely.{SettlesFreely};
 ghost use Rattle.ops_top.specs.Whole.{status_of, told, answer_program_by, answer_to, is_run};
 ghost use Rattle.cycle.specs.Settles.{Settles};
+ghost use Rattle.act_phase.specs.Asking.{program_asks};
 ghost use Rattle.act_phase.specs.Outcomes.{setting_of};
+ghost use Rattle.ops_top.specs.Quiet.{text_asks};
 ghost use Rattle.ops_top.specs.Calls.{OfInput, TellsFailedInput, is_refused};
 ghost use Rattle.ops_top.specs.Told.{Delivers, status_after, CountsTold, TellsOn};
 
 use crate::closing::put_closing;
 use crate::engines::answer_program;
 use crate::saying::{refuse, say_network};
+use free_engine::FreeEngine;
 use ops_base::elements::Change;
 use ops_base::endings::Ending;
 use ops_base::memory::OutOfMemory;
@@ -91,6 +95,7 @@ fn tell_session<
         (port (K.taken sink.new) (K.faults sink.new) out.new)
         is_summed names.old program.now.rules (λ c. session_of (setting_of program.now 0) limit program.now.commands names.old c) }
     ensures reads { CountsTold result (I.faults source.old) (I.faults source.new) }
+    ensures quiet { program_asks program.now.rules ≡ false → source.new ≡ source.old }
 {
     let ending = run_session(
         alloc, hand, program, names, matcher, limit, input, source, out, sink,
@@ -130,6 +135,7 @@ pub(crate) fn answer_over<
         (session_of (setting_of program.now 0) limit program.now.commands names.old coming))
         (K.taken sink.old) (K.faults sink.old) (K.taken sink.new) (K.faults sink.new)) }
     ensures reads { TellsFailedInput (status_after result) (I.faults source.old) (I.faults source.new) }
+    ensures quiet { program_asks program.now.rules ≡ false → source.new ≡ source.old }
     ensures input { (got : List ℕ) × (I.left source.old ≡ prepend_known got (I.left source.new)) }
     ensures unrefused { is_refused (status_after result) ≡ false }
 {
@@ -143,16 +149,24 @@ pub(crate) fn answer_over<
 }
 
 /// The answer to a program: what its session writes, or how large its network is.
-fn answer_job<R: Threads + Clone + Drop + Send + Sync, I: Source, K: Sink, G: Gate>(
+fn answer_job<
+    R: Threads + Clone + Drop + Send + Sync,
+    I: Source,
+    K: Sink,
+    G: Gate + Drop,
+    F: Fn(FreeEngine<G>, &[Change]) -> Result<Settled<FreeEngine<G>>, OutOfMemory>,
+>(
     rt: &R,
     alloc: Global,
+    hand: &F,
     program: &Program,
     names: &mut Names,
     job: &Job,
     source: &mut I,
     sink: &mut K,
-    gate: &G,
+    gate: G,
 ) -> Result<Status, Stop>
+    requires settles { SettlesFreely (λ m cs. F.pre hand.now m cs) (λ m cs r. F.post hand.now m cs r) }
     requires limits { KeepsLimits job.now }
     requires faults { K.faults sink.old < 2 ^ 63 }
     requires reads { I.faults source.old < 2 ^ 63 }
@@ -164,32 +178,43 @@ fn answer_job<R: Threads + Clone + Drop + Send + Sync, I: Source, K: Sink, G: Ga
         (K.taken sink.old) (K.faults sink.old) (K.taken sink.new) (K.faults sink.new)) }
     ensures reads { TellsFailedInput (status_after result) (I.faults source.old) (I.faults source.new) }
     ensures input { (got : List ℕ) × (I.left source.old ≡ prepend_known got (I.left source.new)) }
+    ensures quiet { program_asks program.now.rules ≡ false → source.new ≡ source.old }
     ensures untouched { is_run job.now ≡ false → source.new ≡ source.old }
     ensures unrefused { is_refused (status_after result) ≡ false }
 {
     match job {
         Job::Run { options, .. } => {
             answer_program(
-                rt, alloc, program, names, options, false, source, sink, gate,
+                rt, alloc, hand, program, names, options, false, source, sink, gate,
             )
         }
         Job::Net { .. } => say_network(alloc, program, sink),
         Job::Gen { options, .. } => {
-            answer_program(rt, alloc, program, names, options, true, source, sink, gate)
+            answer_program(
+                rt, alloc, hand, program, names, options, true, source, sink, gate,
+            )
         }
     }
 }
 
 /// The answer to a text: its fault, or what its session writes, or how large its network is.
-pub fn answer_text<R: Threads + Clone + Drop + Send + Sync, I: Source, K: Sink, G: Gate>(
+pub fn answer_text<
+    R: Threads + Clone + Drop + Send + Sync,
+    I: Source,
+    K: Sink,
+    G: Gate + Drop,
+    F: Fn(FreeEngine<G>, &[Change]) -> Result<Settled<FreeEngine<G>>, OutOfMemory>,
+>(
     rt: &R,
     alloc: Global,
+    hand: &F,
     text: Vec<u8>,
     job: &Job,
     input: &mut I,
     sink: &mut K,
-    gate: &G,
+    gate: G,
 ) -> Result<Status, Stop>
+    requires settles { SettlesFreely (λ m cs. F.pre hand.now m cs) (λ m cs r. F.post hand.now m cs r) }
     requires limits { KeepsLimits job.now }
     requires faults { K.faults sink.old < 2 ^ 63 }
     requires reads { I.faults input.old < 2 ^ 63 }
@@ -198,12 +223,13 @@ pub fn answer_text<R: Threads + Clone + Drop + Send + Sync, I: Source, K: Sink, 
         (K.taken sink.old) (K.faults sink.old) (K.taken sink.new) (K.faults sink.new)) }
     ensures reads { TellsFailedInput (status_after result) (I.faults input.old) (I.faults input.new) }
     ensures input { (got : List ℕ) × (I.left input.old ≡ prepend_known got (I.left input.new)) }
+    ensures quiet { text_asks (reads text.items) ≡ false → input.new ≡ input.old }
     ensures untouched { is_run job.now ≡ false → input.new ≡ input.old }
     ensures refused { is_refused (status_after result) ≡ true → input.new ≡ input.old }
 {
     match read_program(alloc, text) {
         Ok((program, mut names)) => answer_job(
-            rt, alloc, &program, &mut names, job, input, sink, gate,
+            rt, alloc, hand, &program, &mut names, job, input, sink, gate,
         ),
         Err(
             ProgramFault::At {

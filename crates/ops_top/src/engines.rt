@@ -5,10 +5,12 @@ ghost use Rattle.ops_base.specs.declared.rules.Rule.{Rule};
 ghost use Rattle.ops_base.specs.Symbols.{is_held};
 ghost use Rattle.ops_base.specs.WorkingMemory.{Lawful, done, last_after};
 ghost use Rattle.ops_meaning.specs.Running.{session_of};
+ghost use Rattle.act_phase.specs.Asking.{program_asks};
 ghost use Rattle.act_phase.specs.Outcomes.{setting_of};
 ghost use Rattle.work_store.specs.Settling.{IsSettled};
 ghost use Rattle.net_base.specs.Network.{NetOf};
 ghost use Rattle.step_core.specs.Found.{found_over};
+ghost use Rattle.ops_top.specs.Freely.{SettlesFreely};
 ghost use Rattle.ops_top.specs.Whole.{told};
 ghost use Rattle.ops_top.specs.Calls.{OfInput, TellsFailedInput, is_refused};
 ghost use Rattle.ops_top.specs.Told.{Delivers, status_after};
@@ -16,6 +18,7 @@ ghost use Rattle.ops_top.specs.Told.{Delivers, status_after};
 use crate::answer::answer_over;
 use beta_net::compile;
 use direct_engine::DirectEngine;
+use free_engine::FreeEngine;
 use ops_base::elements::Change;
 use ops_base::memory::OutOfMemory;
 use ops_base::programs::Program;
@@ -52,6 +55,7 @@ fn answer_alone<M: Matcher<Hand = ()>, I: Source, K: Sink>(
         (session_of (setting_of program.now 0) limit program.now.commands names.old coming))
         (K.taken sink.old) (K.faults sink.old) (K.taken sink.new) (K.faults sink.new)) }
     ensures reads { TellsFailedInput (status_after result) (I.faults source.old) (I.faults source.new) }
+    ensures quiet { program_asks program.now.rules ≡ false → source.new ≡ source.old }
     ensures input { (got : List ℕ) × (I.left source.old ≡ prepend_known got (I.left source.new)) }
     ensures unrefused { is_refused (status_after result) ≡ false }
 {
@@ -91,6 +95,7 @@ fn answer_apart<R: Threads + Sync, I: Source, K: Sink, G: Gate + Drop>(
         (session_of (setting_of program.now 0) limit program.now.commands names.old coming))
         (K.taken sink.old) (K.faults sink.old) (K.taken sink.new) (K.faults sink.new)) }
     ensures reads { TellsFailedInput (status_after result) (I.faults source.old) (I.faults source.new) }
+    ensures quiet { program_asks program.now.rules ≡ false → source.new ≡ source.old }
     ensures input { (got : List ℕ) × (I.left source.old ≡ prepend_known got (I.left source.new)) }
     ensures unrefused { is_refused (status_after result) ≡ false }
 {
@@ -110,7 +115,7 @@ fn answer_apart<R: Threads + Sync, I: Source, K: Sink, G: Gate + Drop>(
 }
 
 /// The answer to a program, whose session runs over the serial engine and is summed up or not. The network is compiled.
-fn answer_serially<I: Source, K: Sink, G: Gate>(
+fn answer_serially<I: Source, K: Sink, G: Gate + Drop>(
     alloc: Global,
     program: &Program,
     names: &mut Names,
@@ -118,7 +123,7 @@ fn answer_serially<I: Source, K: Sink, G: Gate>(
     is_summed: bool,
     source: &mut I,
     sink: &mut K,
-    gate: &G,
+    gate: G,
 ) -> Result<Status, Stop>
     requires lines { 1 ≤ options.now.lines }
     requires faults { K.faults sink.old < 2 ^ 63 }
@@ -130,6 +135,7 @@ fn answer_serially<I: Source, K: Sink, G: Gate>(
         (session_of (setting_of program.now 0) options.now.limit program.now.commands names.old coming))
         (K.taken sink.old) (K.faults sink.old) (K.taken sink.new) (K.faults sink.new)) }
     ensures reads { TellsFailedInput (status_after result) (I.faults source.old) (I.faults source.new) }
+    ensures quiet { program_asks program.now.rules ≡ false → source.new ≡ source.old }
     ensures input { (got : List ℕ) × (I.left source.old ≡ prepend_known got (I.left source.new)) }
     ensures unrefused { is_refused (status_after result) ≡ false }
 {
@@ -148,7 +154,7 @@ fn answer_serially<I: Source, K: Sink, G: Gate>(
 }
 
 /// The answer to a program, whose session runs over the engine of rounds and is summed up or not. The network is compiled.
-fn answer_in_rounds<R: Threads + Sync, I: Source, K: Sink, G: Gate>(
+fn answer_in_rounds<R: Threads + Sync, I: Source, K: Sink, G: Gate + Drop>(
     rt: &R,
     alloc: Global,
     program: &Program,
@@ -157,7 +163,7 @@ fn answer_in_rounds<R: Threads + Sync, I: Source, K: Sink, G: Gate>(
     is_summed: bool,
     source: &mut I,
     sink: &mut K,
-    gate: &G,
+    gate: G,
 ) -> Result<Status, Stop>
     requires lines { 1 ≤ options.now.lines }
     requires workers { 1 ≤ options.now.workers }
@@ -171,6 +177,7 @@ fn answer_in_rounds<R: Threads + Sync, I: Source, K: Sink, G: Gate>(
         (session_of (setting_of program.now 0) options.now.limit program.now.commands names.old coming))
         (K.taken sink.old) (K.faults sink.old) (K.taken sink.new) (K.faults sink.new)) }
     ensures reads { TellsFailedInput (status_after result) (I.faults source.old) (I.faults source.new) }
+    ensures quiet { program_asks program.now.rules ≡ false → source.new ≡ source.old }
     ensures input { (got : List ℕ) × (I.left source.old ≡ prepend_known got (I.left source.new)) }
     ensures unrefused { is_refused (status_after result) ≡ false }
 {
@@ -189,19 +196,25 @@ fn answer_in_rounds<R: Threads + Sync, I: Source, K: Sink, G: Gate>(
     )
 }
 
-/// The answer to a program, whose session runs over the engine that the options ask for, and is summed up or not. The
-/// network is compiled only where that engine needs one.
-pub(crate) fn answer_program<R: Threads + Clone + Drop + Send + Sync, I: Source, K: Sink, G: Gate>(
-    rt: &R,
+/// The answer to a program, whose session runs over the engine of free workers and is summed up or not. The network is
+/// compiled. `hand` settles that engine.
+fn answer_freely<
+    I: Source,
+    K: Sink,
+    G: Gate + Drop,
+    F: Fn(FreeEngine<G>, &[Change]) -> Result<Settled<FreeEngine<G>>, OutOfMemory>,
+>(
     alloc: Global,
+    hand: &F,
     program: &Program,
     names: &mut Names,
     options: &Options,
     is_summed: bool,
     source: &mut I,
     sink: &mut K,
-    gate: &G,
+    gate: G,
 ) -> Result<Status, Stop>
+    requires settles { SettlesFreely (λ m cs. F.pre hand.now m cs) (λ m cs r. F.post hand.now m cs r) }
     requires lines { 1 ≤ options.now.lines }
     requires workers { 1 ≤ options.now.workers }
     requires few { options.now.workers ≤ 2 ^ 32 }
@@ -214,6 +227,59 @@ pub(crate) fn answer_program<R: Threads + Clone + Drop + Send + Sync, I: Source,
         (session_of (setting_of program.now 0) options.now.limit program.now.commands names.old coming))
         (K.taken sink.old) (K.faults sink.old) (K.taken sink.new) (K.faults sink.new)) }
     ensures reads { TellsFailedInput (status_after result) (I.faults source.old) (I.faults source.new) }
+    ensures quiet { program_asks program.now.rules ≡ false → source.new ≡ source.old }
+    ensures input { (got : List ℕ) × (I.left source.old ≡ prepend_known got (I.left source.new)) }
+    ensures unrefused { is_refused (status_after result) ≡ false }
+{
+    let net = compile(alloc, program)?;
+    let free = FreeEngine::new(alloc, net, options.lines, options.workers, gate)?;
+    answer_over(
+        alloc,
+        hand,
+        program,
+        names,
+        free,
+        options.limit,
+        is_summed,
+        source,
+        sink,
+    )
+}
+
+/// The answer to a program, whose session runs over the engine that the options ask for, and is summed up or not. The
+/// network is compiled only where that engine needs one. `hand` settles the engine of free workers.
+pub(crate) fn answer_program<
+    R: Threads + Clone + Drop + Send + Sync,
+    I: Source,
+    K: Sink,
+    G: Gate + Drop,
+    F: Fn(FreeEngine<G>, &[Change]) -> Result<Settled<FreeEngine<G>>, OutOfMemory>,
+>(
+    rt: &R,
+    alloc: Global,
+    hand: &F,
+    program: &Program,
+    names: &mut Names,
+    options: &Options,
+    is_summed: bool,
+    source: &mut I,
+    sink: &mut K,
+    gate: G,
+) -> Result<Status, Stop>
+    requires settles { SettlesFreely (λ m cs. F.pre hand.now m cs) (λ m cs r. F.post hand.now m cs r) }
+    requires lines { 1 ≤ options.now.lines }
+    requires workers { 1 ≤ options.now.workers }
+    requires few { options.now.workers ≤ 2 ^ 32 }
+    requires faults { K.faults sink.old < 2 ^ 63 }
+    requires reads { I.faults source.old < 2 ^ 63 }
+    requires some { 0 < length names.old.held }
+    requires held { IsTrue (is_held (length names.old.held) program.now.classes program.now.rules program.now.commands) }
+    ensures delivers { OfInput (I.left source.old) (I.left source.new) (nat_lt (I.faults source.old) (I.faults source.new))
+        (λ coming. Delivers result (told is_summed names.old program.now.rules
+        (session_of (setting_of program.now 0) options.now.limit program.now.commands names.old coming))
+        (K.taken sink.old) (K.faults sink.old) (K.taken sink.new) (K.faults sink.new)) }
+    ensures reads { TellsFailedInput (status_after result) (I.faults source.old) (I.faults source.new) }
+    ensures quiet { program_asks program.now.rules ≡ false → source.new ≡ source.old }
     ensures input { (got : List ℕ) × (I.left source.old ≡ prepend_known got (I.left source.new)) }
     ensures unrefused { is_refused (status_after result) ≡ false }
 {
@@ -233,5 +299,10 @@ pub(crate) fn answer_program<R: Threads + Clone + Drop + Send + Sync, I: Source,
         Engine::Rounds => answer_in_rounds(
             rt, alloc, program, names, options, is_summed, source, sink, gate,
         ),
+        Engine::Free => {
+            answer_freely(
+                alloc, hand, program, names, options, is_summed, source, sink, gate,
+            )
+        }
     }
 }

@@ -15,8 +15,10 @@ use ops_check::read_program;
 use ops_io::{Gate, MemSink, MemSource};
 use ops_meaning::Status;
 use std::alloc::Global;
+use std::sync::Wait;
 use std::sync::atomic::{AtomicU64, Ordering};
 use std::test::Fail;
+use std::thread::Threads;
 use token_line::line_of;
 use work_store::Store;
 
@@ -34,13 +36,15 @@ impl Gate for Counting {
 
 /// Words, each with how many activations the program `hello` makes over the engine that they ask for. Its element comes to
 /// its one condition and then to its terminal, and leaves them in the same way.
-const CALLS: [(&[&str], u64); 6] = [
-    (&["hello"], 0),
+const CALLS: [(&[&str], u64); 8] = [
+    (&["hello"], 4),
     (&["--match=direct", "hello"], 0),
     (&["--match=serial", "hello"], 4),
     (&["--match=serial", "--lines=1", "hello"], 4),
     (&["--match=rounds", "hello"], 4),
     (&["--match=rounds", "--lines=1", "hello"], 4),
+    (&["--match=free", "--workers=1", "hello"], 4),
+    (&["--match=free", "--lines=1", "hello"], 4),
 ];
 
 #[test]
@@ -62,9 +66,10 @@ fn activations_counted(rt: HostRuntime) -> Result<(), Fail> {
 
 /// Words that run a workload, each with the least number of activations and one that is too large. Direct matching makes
 /// none, and takes too long for a test on more items.
-const MANY: [(&[&str], u64, u64); 3] = [
+const MANY: [(&[&str], u64, u64); 4] = [
     (&["--gen", "7", "400", "--match", "serial"], 1_001, 20_000),
     (&["--gen", "7", "400", "--match", "rounds"], 1_001, 20_000),
+    (&["--gen", "7", "400", "--match", "free"], 1_001, 20_000),
     (&["--gen", "7", "20", "--match", "direct"], 0, 1),
 ];
 
@@ -92,87 +97,151 @@ const TWO: &[u8] =
 /// How many turns the first call waits at most.
 const TURNS: u64 = 1_000_000;
 
-/// A gate that holds the first call until a call of another worker has come.
+/// A gate that holds the first call until this many calls of another worker have come.
 #[derive(Drop)]
 struct Meeting {
-    calls: AtomicU64,
+    wanted: u64,
+    /// The worker of the first call, or `NOBODY`.
     first: AtomicU64,
-    met: AtomicU64,
+    others: AtomicU64,
+}
+
+const NOBODY: u64 = u64::MAX;
+
+impl Meeting {
+    fn of(wanted: u64) -> Meeting {
+        Meeting {
+            wanted,
+            first: AtomicU64::new(NOBODY),
+            others: AtomicU64::new(0),
+        }
+    }
 }
 
 impl Gate for Meeting {
     fn enter(&self, worker: usize, _line: usize) {
         let me = worker as u64;
-        if self.calls.fetch_add(1, Ordering::SeqCst) > 0 {
-            if self.first.load(Ordering::SeqCst) != me {
-                self.met.store(1, Ordering::SeqCst);
+        match self
+            .first
+            .compare_exchange(NOBODY, me, Ordering::SeqCst, Ordering::SeqCst)
+        {
+            Ok(_nobody) => {
+                let backoff = Backoff::new();
+                for _turn in 0..TURNS {
+                    if self.others.load(Ordering::SeqCst) >= self.wanted {
+                        return;
+                    }
+                    backoff.snooze();
+                }
             }
-            return;
-        }
-        self.first.store(me, Ordering::SeqCst);
-        let backoff = Backoff::new();
-        for _turn in 0..TURNS {
-            if self.met.load(Ordering::SeqCst) == 1 {
-                return;
+            Err(first) => {
+                if first != me {
+                    self.others.fetch_add(1, Ordering::SeqCst);
+                }
             }
-            backoff.snooze();
         }
     }
 }
 
-/// Whether the tasks of element 1 for the network's joins have their lines in the upper one of two shards, where there
-/// are this many lines.
-fn are_upper(alloc: Global, net: &Net, lines: usize) -> Result<Vec<bool>, OutOfMemory>
+/// The lines of the tasks that element 1 makes: from the right for the joins, from the left for the terminals.
+fn lines_of(alloc: Global, net: &Net, side: Side, lines: usize) -> Result<Vec<usize>, OutOfMemory>
     requires { 1 ≤ lines }
 {
     let store = Store::new(alloc);
-    let mut upper = Vec::new(alloc);
+    let mut found = Vec::new(alloc);
     for (node, kind) in net.nodes().iter().map(|node| node.kind).enumerate() {
-        if kind == Kind::Join {
+        let is_fed = match side {
+            Side::Right => kind == Kind::Join,
+            Side::Left => matches!(kind, Kind::Terminal { .. }),
+        };
+        if is_fed {
             let task = Task {
                 node,
-                side: Side::Right,
+                side,
                 plus: true,
                 token: Tags::from_slice(alloc, &[1])?,
             };
-            let line = line_of(net, &store, &task, lines);
-            upper.push(line >= lines - line)?;
+            found.push(line_of(net, &store, &task, lines))?;
         }
     }
-    Ok(upper)
+    Ok(found)
 }
 
-/// The least number of lines, from 2 on, with which these tasks are in different shards.
-fn lines_apart(alloc: Global, net: &Net) -> Result<usize, Fail> {
-    for lines in 2..100 {
-        let upper = are_upper(alloc, net, lines)?;
-        if upper.first() != upper.last() {
-            return Ok(lines);
-        }
+/// Whether the tasks for the joins are in different ones of two shards, where there are this many lines.
+fn are_in_two_shards(alloc: Global, net: &Net, lines: usize) -> Result<bool, OutOfMemory>
+    requires { 1 ≤ lines }
+{
+    let joins = lines_of(alloc, net, Side::Right, lines)?;
+    let mut upper = Vec::new(alloc);
+    for line in joins {
+        upper.push(line >= lines.saturating_sub(line))?;
     }
-    Ok(2)
+    Ok(upper.first() != upper.last())
 }
 
-// two shards work at the same time
-#[test]
-fn two_shards_meet(rt: HostRuntime) -> Result<(), Fail> {
-    let alloc = rt.alloc();
-    let text = Vec::from_slice(alloc, TWO)?;
-    let (program, _names) = read_program(alloc, text)?;
-    let net = compile(alloc, &program)?;
-    let lines = lines_apart(alloc, &net)?;
+/// Whether the tasks for the joins and for the terminals are on different lines, where there are this many.
+fn are_on_four_lines(alloc: Global, net: &Net, lines: usize) -> Result<bool, OutOfMemory>
+    requires { 1 ≤ lines }
+{
+    let mut found = lines_of(alloc, net, Side::Right, lines)?;
+    found.extend_from_slice(&lines_of(alloc, net, Side::Left, lines)?)?;
+    found.sort()?;
+    Ok(found.windows(2).all(|pair| pair.first() != pair.last()))
+}
+
+/// What is answered to the program `TWO` over this engine, with two workers and this many lines.
+fn answer_to_two<R: Threads + Wait + Clone + Drop + Send + Sync>(
+    rt: &R,
+    alloc: Global,
+    engine: &str,
+    lines: usize,
+    gate: &Meeting,
+) -> Result<Status, Fail> {
     let lines = format!(in alloc; "--lines={lines}")?;
-    let gate = Meeting {
-        calls: AtomicU64::new(0),
-        first: AtomicU64::new(0),
-        met: AtomicU64::new(0),
-    };
-    let words = ["--match=rounds", "--workers=2", lines.as_str(), "two"];
+    let words = ["--match", engine, "--workers=2", lines.as_str(), "two"];
     let mut input = MemSource::new(Vec::new(alloc), 1, Vec::new(alloc));
     let mut sink = MemSink::new(alloc, 1_000, 1_000, Vec::new(alloc))?;
     let files: [(&str, &[u8]); 1] = [("two", TWO)];
-    let status = answer_past(&rt, alloc, &words, &files, &mut input, &mut sink, &gate)?;
-    assert_eq!(rt; status, Status::Done);
-    assert_eq!(rt; gate.met.load(Ordering::SeqCst), 1);
-    Ok(())
+    answer_past(rt, alloc, &words, &files, &mut input, &mut sink, gate)
+}
+
+/// The network of the program `TWO`.
+fn net_of_two(alloc: Global) -> Result<Net, Fail> {
+    let text = Vec::from_slice(alloc, TWO)?;
+    let (program, _names) = read_program(alloc, text)?;
+    Ok(compile(alloc, &program)?)
+}
+
+/// Two shards work at the same time.
+#[test]
+fn two_shards_meet(rt: HostRuntime) -> Result<(), Fail> {
+    let alloc = rt.alloc();
+    let net = net_of_two(alloc)?;
+    for lines in 2..100 {
+        if are_in_two_shards(alloc, &net, lines)? {
+            let gate = Meeting::of(1);
+            let status = answer_to_two(&rt, alloc, "rounds", lines, &gate)?;
+            assert_eq!(rt; status, Status::Done);
+            assert_eq!(rt; gate.others.load(Ordering::SeqCst) >= 1, true);
+            return Ok(());
+        }
+    }
+    panic!(rt; "no number of lines has them in two shards");
+}
+
+/// A worker does an activation and its child while another is held in one: no order of rounds has that.
+#[test]
+fn two_activations_meet(rt: HostRuntime) -> Result<(), Fail> {
+    let alloc = rt.alloc();
+    let net = net_of_two(alloc)?;
+    for lines in 2..100 {
+        if are_on_four_lines(alloc, &net, lines)? {
+            let gate = Meeting::of(2);
+            let status = answer_to_two(&rt, alloc, "free", lines, &gate)?;
+            assert_eq!(rt; status, Status::Done);
+            assert_eq!(rt; gate.others.load(Ordering::SeqCst) >= 2, true);
+            return Ok(());
+        }
+    }
+    panic!(rt; "no number of lines has them on four lines");
 }

@@ -7,6 +7,7 @@ mod engines;
 mod files;
 #[cfg(test)]
 mod gates;
+mod hands;
 mod laws;
 mod lines;
 #[cfg(test)]

@@ -375,7 +375,13 @@ const COUNTER: &[u8] = b"(literalize n)
 fn limit(rt: HostRuntime) -> Result<(), Fail> {
     let alloc = rt.alloc();
     let mut sink = MemSink::new(alloc, 1_000, 1_000, Vec::new(alloc))?;
-    let status = answer(&rt, alloc, &["a"], &[("a", COUNTER)], &mut sink)?;
+    let status = answer(
+        &rt,
+        alloc,
+        &["--match=direct", "a"],
+        &[("a", COUNTER)],
+        &mut sink,
+    )?;
     assert_eq!(rt; status, Status::Limit);
     let expected = b"ops: limit of 1000000 firings reached\n".as_slice();
     assert_eq!(rt; sink.written(), expected);

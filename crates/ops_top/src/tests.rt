@@ -80,14 +80,18 @@ pub(crate) fn answer<R: Threads + Wait + Clone + Drop + Send + Sync>(
 }
 
 /// Words that run the file `a`, with each engine.
-pub(crate) const ENGINES: [&[&str]; 7] = [
+pub(crate) const ENGINES: [&[&str]; 11] = [
     &["a"],
+    &["--match=direct", "a"],
     &["--match", "serial", "a"],
     &["a", "--lines=1", "--match=serial"],
     &["--match=serial", "--lines", "65536", "a"],
     &["--match", "rounds", "a", "--workers=1"],
     &["--match=rounds", "--workers", "2", "a"],
     &["a", "--match=rounds", "--workers=7", "--lines=9"],
+    &["--match=free", "a", "--workers=1"],
+    &["--match=free", "--workers", "2", "a"],
+    &["a", "--match=free", "--workers=7", "--lines=9"],
 ];
 
 const USAGE: &[u8] =
@@ -103,7 +107,7 @@ const UNFIT: [&[&str]; 13] = [
     &["--limit", "0", "f"],
     &["--limit", "3", "--limit", "3", "f"],
     &["--workers", "65", "f"],
-    &["--match=free", "f"],
+    &["--match=steal", "f"],
     &["--gen", "7", "0"],
     &["--gen", "--net", "7", "1"],
     &["--match=serial", "--lines=0", "f"],
@@ -161,12 +165,28 @@ fn words_that_fit(rt: HostRuntime) -> Result<(), Fail> {
     Ok(())
 }
 
+/// A call that does not wait leaves words to the one that does, where they ask for it.
+#[test]
+fn left_to_the_call_that_waits(rt: HostRuntime) -> Result<(), Fail> {
+    let alloc = rt.alloc();
+    let mut shelf = shelf_of(alloc, &[("f", b"(write 1)")], &[])?;
+    let words = words_of(alloc, &["f"])?;
+    let mut input = MemSource::new(Vec::new(alloc), 1, Vec::new(alloc));
+    let mut sink = MemSink::new(alloc, 1_000, 1_000, Vec::new(alloc))?;
+    let status = still_run(
+        &rt, alloc, &words, &mut shelf, &mut input, &mut sink, &OpenGate,
+    );
+    assert_eq!(rt; status, None);
+    assert_eq!(rt; sink.written(), b"".as_slice());
+    Ok(())
+}
+
 /// The second load fails.
 #[test]
 fn failing_load(rt: HostRuntime) -> Result<(), Fail> {
     let alloc = rt.alloc();
     let mut shelf = shelf_of(alloc, &[("f", b""), ("g", b"")], &[2])?;
-    let words = words_of(alloc, &["f", "g"])?;
+    let words = words_of(alloc, &["--match=serial", "f", "g"])?;
     let mut input = MemSource::new(Vec::new(alloc), 1, Vec::new(alloc));
     let mut sink = MemSink::new(alloc, 1_000, 1_000, Vec::new(alloc))?;
     let status = still_run(

@@ -1,15 +1,19 @@
 //! The top calls.
-ghost use Rattle.std.specs.Prelude.{◌≡◌, ◌^◌, ◌<◌, ◌⊎◌, ℕ, List, length, nat_lt, true, false, IfSome, IsSome};
+ghost use Rattle.std.specs.Prelude.{◌≡◌, ◌^◌, ◌<◌, ◌⊎◌, ℕ, List, None, length, nat_lt, true, false, IfOk, IfSome};
 ghost use Rattle.std.specs.Io.KnownBytes.{prepend_known};
 ghost use Rattle.ops_jobs.specs.Words.{word_bytes};
-ghost use Rattle.ops_top.specs.Whole.{whole, unread, usage, Answers, GoesByConflictSetsAlone, ask_for_run, words_fit, files_of};
+ghost use Rattle.ops_top.specs.Whole.{whole, unread, usage, Answers, GoesByConflictSetsAlone, ask_for_run, ask_to_wait, words_fit, files_of};
+ghost use Rattle.ops_top.specs.Quiet.{words_ask};
 ghost use Rattle.ops_top.specs.Calls.{OfContents, OfInput, broken_load, last_of, all_told, TellsFailedWrite, TellsFailedRead, TellsWords, AskedForWords, RunsThrough, is_refused};
 ghost use Rattle.ops_top.specs.Codes.{code_of};
 
+use crate::hands::{run_alone, run_apart};
 use crate::saying::status_after;
-use crate::words::run_words;
+use ops_base::memory::OutOfMemory;
 use ops_io::{Gate, Shelf, Sink, Source};
+use ops_jobs::{Engine, Job};
 use ops_meaning::Status;
+use ops_words::{WordsFault, read_words};
 use std::alloc::Global;
 use std::sync::Wait;
 use std::thread::Threads;
@@ -30,9 +34,22 @@ pub fn code(status: &Status) -> u8
     }
 }
 
-/// Runs the program on the words of its command line, or tells its network, without waiting for another thread. It answers a
-/// status for all words. The input is read where the program asks for an atom. An engine over a network passes the gate before
-/// each activation. `rt` is not used yet.
+/// Whether the words fit and ask for a session over the engine of free workers, whose workers wait for each other.
+fn do_wait(alloc: Global, words: &[String]) -> Result<bool, OutOfMemory>
+    ensures { IfOk result (λ b. b ≡ ask_to_wait (word_bytes words.now)) }
+{
+    match read_words(alloc, words) {
+        Ok(Job::Run { options, .. }) => Ok(options.engine == Engine::Free),
+        Ok(Job::Net { .. }) => Ok(false),
+        Ok(Job::Gen { options, .. }) => Ok(options.engine == Engine::Free),
+        Err(WordsFault::Usage) => Ok(false),
+        Err(WordsFault::OutOfMemory) => Err(OutOfMemory),
+    }
+}
+
+/// Runs the program on the words of its command line, or tells its network, without waiting for another thread. It
+/// answers None where the words ask for a session over the engine of free workers, and has then done nothing. The input
+/// is read where the program asks for an atom. An engine over a network passes the gate before each activation.
 pub fn still_run<R: Threads + Clone + Drop + Send + Sync, H: Shelf, I: Source, K: Sink, G: Gate>(
     rt: &R,
     alloc: Global,
@@ -46,7 +63,9 @@ pub fn still_run<R: Threads + Clone + Drop + Send + Sync, H: Shelf, I: Source, K
     requires loads { length (H.names shelf.old) < 2 ^ 63 }
     requires input { I.faults input.old < 2 ^ 63 }
     requires sink { K.faults sink.old < 2 ^ 63 }
-    ensures some { IsSome result }
+    ensures none { result ≡ None → ask_to_wait (word_bytes words.now) ≡ true }
+    ensures some { IfSome result (λ status. ask_to_wait (word_bytes words.now) ≡ true → status ≡ Status.OutOfMemory) }
+    ensures nothing { result ≡ None → (shelf.new ≡ shelf.old) × (input.new ≡ input.old) × (sink.new ≡ sink.old) }
     ensures answers { IfSome result (λ status. OfContents (H.told shelf.old) (files_of (word_bytes words.now)) (λ contents.
         OfInput (I.left input.old) (I.left input.new) (nat_lt (I.faults input.old) (I.faults input.new)) (λ coming.
         Answers status (whole (word_bytes words.now) contents
@@ -65,6 +84,10 @@ pub fn still_run<R: Threads + Clone + Drop + Send + Sync, H: Shelf, I: Source, K
     ensures unasked { words_fit (word_bytes words.now) ≡ false → H.faults shelf.new ≡ H.faults shelf.old }
     ensures told { (n : List ℕ) → H.told shelf.new n ≡ H.told shelf.old n }
     ensures input { (got : List ℕ) × (I.left input.old ≡ prepend_known got (I.left input.new)) }
+    ensures quiet { IfSome result (λ status. OfContents (H.told shelf.old) (files_of (word_bytes words.now)) (λ contents.
+        words_ask (word_bytes words.now) contents
+        (broken_load (H.names shelf.old) (H.names shelf.new) (H.faults shelf.old) (H.faults shelf.new)) ≡ false
+        → input.new ≡ input.old)) }
     ensures untouched { ask_for_run (word_bytes words.now) ≡ false → input.new ≡ input.old }
     ensures refused { IfSome result (λ status. is_refused status ≡ true → input.new ≡ input.old) }
     ensures unloaded { H.faults shelf.old < H.faults shelf.new → input.new ≡ input.old }
@@ -73,7 +96,14 @@ pub fn still_run<R: Threads + Clone + Drop + Send + Sync, H: Shelf, I: Source, K
         → H.faults shelf.new ≡ H.faults shelf.old → I.faults input.new ≡ I.faults input.old → K.faults sink.new ≡ K.faults sink.old
         → (status ≡ Status.Done) ⊎ (status ≡ Status.OutOfMemory)) }
 {
-    Some(status_after(run_words(rt, alloc, words, shelf, input, sink, gate)))
+    match do_wait(alloc, words) {
+        Ok(true) => None,
+        Ok(false) => {
+            let told = run_alone(rt, alloc, words, shelf, input, sink, gate);
+            Some(status_after(told))
+        }
+        Err(OutOfMemory) => Some(Status::OutOfMemory),
+    }
 }
 
 /// Runs the program on the words of its command line, or tells its network. The input is read where the program asks
@@ -113,6 +143,10 @@ pub fn ops_run<
     ensures unasked { words_fit (word_bytes words.now) ≡ false → H.faults shelf.new ≡ H.faults shelf.old }
     ensures told { (n : List ℕ) → H.told shelf.new n ≡ H.told shelf.old n }
     ensures input { (got : List ℕ) × (I.left input.old ≡ prepend_known got (I.left input.new)) }
+    ensures quiet { OfContents (H.told shelf.old) (files_of (word_bytes words.now)) (λ contents.
+        words_ask (word_bytes words.now) contents
+        (broken_load (H.names shelf.old) (H.names shelf.new) (H.faults shelf.old) (H.faults shelf.new)) ≡ false
+        → input.new ≡ input.old) }
     ensures untouched { ask_for_run (word_bytes words.now) ≡ false → input.new ≡ input.old }
     ensures refused { is_refused result ≡ true → input.new ≡ input.old }
     ensures unloaded { H.faults shelf.old < H.faults shelf.new → input.new ≡ input.old }
@@ -120,8 +154,6 @@ pub fn ops_run<
         → H.faults shelf.new ≡ H.faults shelf.old → I.faults input.new ≡ I.faults input.old → K.faults sink.new ≡ K.faults sink.old
         → (result ≡ Status.Done) ⊎ (result ≡ Status.OutOfMemory) }
 {
-    match still_run(rt, alloc, words, shelf, input, sink, gate) {
-        Some(status) => status,
-        None => unreachable!(),
-    }
+    let answered = run_apart(rt, alloc, words, shelf, input, sink, gate);
+    status_after(answered)
 }

@@ -51,6 +51,7 @@ fn engine_named(word: &str) -> Option<Engine>
         "direct" => Some(Engine::Direct),
         "serial" => Some(Engine::Serial),
         "rounds" => Some(Engine::Rounds),
+        "free" => Some(Engine::Free),
         _ => None,
     }
 }
@@ -59,7 +60,7 @@ fn engine_from(word: Option<&str>) -> Option<Engine>
     ensures { result ≡ engine_from (option_map (λ w. w.now) word.entry) }
 {
     match word {
-        None => Some(Engine::Direct),
+        None => Some(Engine::Free),
         Some(word) => engine_named(word),
     }
 }

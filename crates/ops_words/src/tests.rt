@@ -18,7 +18,7 @@ fn read(alloc: Global, words: &[&str]) -> Result<Job, WordsFault> {
 }
 
 const USUAL: Options = Options {
-    engine: Engine::Direct,
+    engine: Engine::Free,
     workers: 4,
     lines: 1_024,
     limit: 1_000_000,
@@ -30,7 +30,7 @@ const SERIAL: Options = Options {
 };
 
 /// Words that fit, with the options that they set, and with their files.
-const FIT: [(&[&str], Options, &[&str]); 13] = [
+const FIT: [(&[&str], Options, &[&str]); 14] = [
     (&["f"], USUAL, &["f"]),
     (
         &["--limit=3", "a", "b"],
@@ -47,7 +47,15 @@ const FIT: [(&[&str], Options, &[&str]); 13] = [
     ),
     (&["--", "--limit"], USUAL, &["--limit"]),
     (&["a", "--", "-b", "--"], USUAL, &["a", "-b", "--"]),
-    (&["-", "--match=direct", ""], USUAL, &["-", ""]),
+    (
+        &["-", "--match=direct", ""],
+        Options {
+            engine: Engine::Direct,
+            ..USUAL
+        },
+        &["-", ""],
+    ),
+    (&["--match=free", "f"], USUAL, &["f"]),
     (
         &["--lines", "1", "a", "--limit=1000000000"],
         Options {
@@ -131,7 +139,7 @@ const UNFIT: [&[&str]; 42] = [
     &[],
     &["--"],
     &["--limit=3"],
-    &["--match=free", "f"],
+    &["--match=steal", "f"],
     &["--match", "Serial", "f"],
     &["--match=", "f"],
     &["--match", "--workers", "7", "f"],

@@ -73,7 +73,7 @@ holds w es = holds_from w false es
 
 -- ---- a pool
 
--- the entries led from the first tasks to those that wait, with so many unfinished ones and this first stop
+-- the entries led from the first tasks to those that wait, with this many unfinished ones and this first stop
 pub record HasPlayed (first queue : List Task) (es : List PoolEntry) (unfinished : ℕ) (stopped : Option ℕ) : Type 0 where
   pub run : IsRun (begun first) es
   pub queue_is : (played first es).queue ≡ queue

@@ -19,7 +19,7 @@ use token_line::Children;
 pub enum Taken {
     /// The first task that waits.
     Task(Task),
-    /// No task waits, and so many are taken and not finished.
+    /// No task waits, and this many are taken and not finished.
     Again { unfinished: usize },
     /// No task waits, and none is unfinished.
     Quiet,
@@ -60,7 +60,7 @@ fn deliver(queue: &mut VecDeque<Task>, tasks: Vec<Task>)
 }
 
 impl Pool {
-    /// These tasks wait, and so many workers may take them. It reserves room for the entries of each task's take and of
+    /// These tasks wait, and this many workers may take them. It reserves room for the entries of each task's take and of
     /// as many stops, and copies nothing.
     pub fn new(alloc: Global, tasks: Vec<Task>, workers: usize) -> Result<Pool, OutOfMemory>
         ensures first { IfOk result (λ p. p.first.value.items ≡ tasks.items) }

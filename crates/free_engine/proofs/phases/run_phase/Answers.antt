@@ -1,5 +1,5 @@
 -- Nothing is under way where the phase begins and where it ends, and steps and rounds carry it from the one to the other.
-use Rattle.std.proofs.Common.{[], length, map, sym, ap, subst, ◌∙◌, arith}
+use Rattle.std.proofs.Common.{length, map, sym, ap, subst, ◌∙◌}
 use Rattle.std.specs.List.{All}
 use Rattle.std.proofs.lemmas.List.{length-map}
 use Rattle.std.proofs.lemmas.List.Elements.{All-nil}

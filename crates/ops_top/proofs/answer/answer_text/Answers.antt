@@ -12,5 +12,5 @@ returns-in-Err-At-clause-delivers g c =
     let fault = rw c.in-Err-At.field-0-is at c.in-Err-At.ensures.fault in
     input_untouched _ _ _ (λ z. subst D (refusal_is c.args.text.items c.in-Err-At.fault c.in-Err-At.line c.in-Err-At.column c.args.job.now z fault) c.refuse.ensures.delivers)
 
-pub returns-in-Err-OutOfMemory-clause-delivers : goal.returns-in-Err-OutOfMemory-clause-delivers
-returns-in-Err-OutOfMemory-clause-delivers g c = input_untouched _ _ _ (λ z. untold (answer_to c.args.job.now z c.args.text.items) _ _)
+pub returns-clause-delivers : goal.returns-clause-delivers
+returns-clause-delivers g c = input_untouched _ _ _ (λ z. untold (answer_to c.args.job.now z c.args.text.items) _ _)

@@ -1,11 +1,11 @@
-use Rattle.std.proofs.Common.{ℕ, List, nat_lt, Err, subst}
+use Rattle.std.proofs.Common.{ℕ, List, nat_lt, Err, refl, subst}
 use Rattle.ops_io.specs.Coming.{Coming}
 use Rattle.ops_io.specs.declared.stop.Stop.TheVariants as stop
 use Rattle.ops_top.specs.Whole.{Reply, Joined, Unread, Overlong, files_in, unread}
 use Rattle.ops_top.specs.Calls.{OfInput}
 use Rattle.ops_top.specs.Told.{Delivers}
 use Rattle.ops_top.proofs.Deliveries.{untold}
-use Rattle.ops_top.proofs.FilesAnswered.{gathered_deliver, said_deliver, any_deliver}
+use Rattle.ops_top.proofs.FilesAnswered.{gathered_deliver, said_deliver, any_deliver, gathered_quiet, any_quiet}
 use Rattle.ops_top.proofs.words.run_files.Goals as goal
 
 pub returns-in-Ok-clause-delivers : goal.returns-in-Ok-clause-delivers
@@ -27,7 +27,20 @@ returns-in-Err-TooLong-clause-delivers g c =
     let comes = rw c.in-Err-TooLong.field-0-is at c.in-Err-TooLong.ensures.fault in
     said_deliver _ _ D c.args.job.now (g.H.Shelf.told c.args.shelf.now) (files_in c.args.job.now) _ Overlong comes (λ z. c.refuse.ensures.delivers)
 
-pub returns-in-Err-OutOfMemory-clause-delivers : goal.returns-in-Err-OutOfMemory-clause-delivers
-returns-in-Err-OutOfMemory-clause-delivers g c =
+pub returns-clause-delivers : goal.returns-clause-delivers
+returns-clause-delivers g c =
     let D : Reply → Type 0 = λ o. Delivers (Err stop.OutOfMemory) o (g.K.Sink.taken c.args.sink.now) (g.K.Sink.faults c.args.sink.now) (g.K.Sink.taken c.args.sink.now) (g.K.Sink.faults c.args.sink.now) in
     any_deliver _ _ D c.args.job.now (g.H.Shelf.told c.args.shelf.now) (files_in c.args.job.now) _ (λ o. untold o (g.K.Sink.taken c.args.sink.now) (g.K.Sink.faults c.args.sink.now))
+
+pub returns-in-Ok-clause-quiet : goal.returns-in-Ok-clause-quiet
+returns-in-Ok-clause-quiet g c =
+    gathered_quiet _ c.args.job.now (g.H.Shelf.told c.args.shelf.now) (files_in c.args.job.now) _ (Joined c.in-Ok.text.items) c.in-Ok.ensures.text c.answer_text.ensures.quiet
+
+pub returns-in-Err-Unread-clause-quiet : goal.returns-in-Err-Unread-clause-quiet
+returns-in-Err-Unread-clause-quiet g c = any_quiet _ _ (g.H.Shelf.told c.args.shelf.now) (files_in c.args.job.now) refl
+
+pub returns-in-Err-TooLong-clause-quiet : goal.returns-in-Err-TooLong-clause-quiet
+returns-in-Err-TooLong-clause-quiet g c = any_quiet _ _ (g.H.Shelf.told c.args.shelf.now) (files_in c.args.job.now) refl
+
+pub returns-clause-quiet : goal.returns-clause-quiet
+returns-clause-quiet g c = any_quiet _ _ (g.H.Shelf.told c.args.shelf.now) (files_in c.args.job.now) refl

@@ -2,11 +2,11 @@ use Rattle.std.proofs.Common.{nat_lt, Err, refl}
 use Rattle.ops_io.specs.Coming.{Coming}
 use Rattle.ops_io.specs.declared.stop.Stop.TheVariants as stop
 use Rattle.ops_jobs.specs.Words.{word_bytes}
-use Rattle.ops_top.specs.Whole.{Reply}
+use Rattle.ops_top.specs.Whole.{Reply, files_of}
 use Rattle.ops_top.specs.Calls.{OfInput}
 use Rattle.ops_top.specs.Told.{Delivers}
 use Rattle.ops_top.proofs.Deliveries.{untold}
-use Rattle.ops_top.proofs.FilesAnswered.{words_deliver, unfit_deliver, short_deliver}
+use Rattle.ops_top.proofs.FilesAnswered.{words_deliver, unfit_deliver, short_deliver, words_quiet, any_quiet}
 use Rattle.ops_top.proofs.words.run_words.Goals as goal
 
 pub returns-in-Ok-clause-delivers : goal.returns-in-Ok-clause-delivers
@@ -21,7 +21,14 @@ returns-in-Err-Usage-clause-delivers g c =
     let unfit = rw c.in-Err-Usage.field-0-is at c.in-Err-Usage.ensures.usage in
     unfit_deliver (word_bytes c.args.words.now) (g.H.Shelf.told c.args.shelf.now) _ _ _ D (unfit refl) c.say_usage.ensures
 
-pub returns-in-Err-OutOfMemory-clause-delivers : goal.returns-in-Err-OutOfMemory-clause-delivers
-returns-in-Err-OutOfMemory-clause-delivers g c =
+pub returns-clause-delivers : goal.returns-clause-delivers
+returns-clause-delivers g c =
     let D : Reply → Type 0 = λ o. Delivers (Err stop.OutOfMemory) o (g.K.Sink.taken c.args.sink.now) (g.K.Sink.faults c.args.sink.now) (g.K.Sink.taken c.args.sink.now) (g.K.Sink.faults c.args.sink.now) in
     short_deliver (word_bytes c.args.words.now) (g.H.Shelf.told c.args.shelf.now) _ _ _ D (λ o. untold o (g.K.Sink.taken c.args.sink.now) (g.K.Sink.faults c.args.sink.now))
+
+pub returns-in-Ok-clause-quiet : goal.returns-in-Ok-clause-quiet
+returns-in-Ok-clause-quiet g c =
+    words_quiet (word_bytes c.args.words.now) (g.H.Shelf.told c.args.shelf.now) _ _ c.in-Ok.job c.in-Ok.ensures.fits c.run_files.ensures.quiet
+
+pub returns-clause-quiet : goal.returns-clause-quiet
+returns-clause-quiet g c = any_quiet _ _ (g.H.Shelf.told c.args.shelf.now) (files_of (word_bytes c.args.words.now)) refl

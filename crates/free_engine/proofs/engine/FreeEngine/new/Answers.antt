@@ -1,8 +1,8 @@
 -- The start is settled over an empty working memory.
-use Rattle.std.proofs.Common.{◌≡◌, List, [], length, map, sym, ap, subst, ◌∙◌}
+use Rattle.std.proofs.Common.{length, map, sym, ap, subst}
 use Rattle.work_store.specs.Stored.{Stored, nothing_stored, held_of}
 use Rattle.step_core.specs.Phases.{HoldJust, sums_over, now}
-use Rattle.step_core.specs.Worlds.{placed, seen, world_of}
+use Rattle.step_core.specs.Worlds.{placed, seen}
 use Rattle.serial_engine.proofs.StartLemmas.{start_empty, start_holds}
 use Rattle.free_engine.proofs.engine.FreeEngine.new.Goals as goal
 

@@ -1,5 +1,5 @@
 -- What the network finds is the conflict set.
-use Rattle.std.proofs.Common.{◌≡◌, ◌<◌, ◌^◌, [], ap, subst, ◌∙◌, arith}
+use Rattle.std.proofs.Common.{ap, ◌∙◌, arith}
 use Rattle.step_core.specs.Found.{found_over}
 use Rattle.serial_engine.proofs.SettleLemmas.{stored_wm}
 use Rattle.free_engine.proofs.engine.FreeEngineMatcher.store.Goals as goal
