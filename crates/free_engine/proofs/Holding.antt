@@ -1,5 +1,5 @@
 -- What a claim tells of a slot, and of what the worker holds.
-use Rattle.std.proofs.Common.{◌≡◌, ◌≢◌, ℕ, ◌+◌, ◌<◌, ◌^◌, eq-eqb, ne_eqb, Bool, true, false, List, [], ◌∷◌, ◌++◌, map, length, refl, sym, ap, subst, ◌∙◌, arith, append-nil}
+use Rattle.std.proofs.Common.{◌≡◌, ◌≢◌, ℕ, ◌+◌, ◌<◌, ◌^◌, eq-eqb, ne_eqb, Bool, true, false, List, [], ◌∷◌, ◌++◌, map, length, Some, refl, sym, ap, subst, ◌∙◌, arith, append-nil}
 use mathlib.Core.Logic.{dite}
 use native.Mathlib.Decide.{ℕ_discrete}
 use Rattle.turn_table.proofs.Bounds.{length-map}
@@ -16,14 +16,14 @@ use Rattle.turn_table.specs.Steps.{Comes}
 use Rattle.turn_table.proofs.Rows.{given_to-append}
 use Rattle.task_pool.specs.declared.pool.PoolEntry.{PoolEntry}
 use Rattle.task_pool.specs.declared.pool.PoolEntry.TheVariants.{Take, Finish, Stop}
-use Rattle.task_pool.specs.Pools.{holds_after, holds_from, holds, IsQuiet}
+use Rattle.task_pool.specs.Pools.{holds_after, holds_from, holds, IsQuiet, first_stop}
 use Rattle.free_engine.specs.declared.slots.Slot.{Slot}
 use Rattle.free_engine.specs.declared.slots.Slot.TheVariants.{Queue, Row as OfRow}
 use Rattle.free_engine.specs.declared.slots.SlotEntry.{SlotEntry}
 use Rattle.free_engine.specs.declared.slots.SlotEntry.TheVariants.{OfPool, OfLine}
 use Rattle.free_engine.specs.Slots.{entries, name, signature, worker_of, pool_list, IsPool, IsSlotFor, workers_in, nodes_in, store_in, first_in}
 use Rattle.free_engine.specs.Turns.{HasPool, HasRow, IsSetUp, holds_slots, has_taken, a_row}
-use Rattle.free_engine.specs.Counts.{SawQuiet}
+use Rattle.free_engine.specs.Counts.{SawQuiet, SawStop}
 
 -- ---- who holds a task
 
@@ -129,6 +129,18 @@ few (OfRow l) = let v = l.value.line.entries in let a = v.ok.0 in let b = v.ok.1
 at_end : {A : Type 0} (xs : List A) (x : A) → IsAt (xs ++ x ∷ []) (length xs) x
 at_end [] x = refl
 at_end (y ∷ ys) x = at_end ys x
+
+pub saw_stop_now : (by : ℕ) (before seen : List (Sight SlotEntry)) (c : ℕ) (es : List SlotEntry) → seen ≡ before ++ record { cell = c; list = es } ∷ [] → c ≡ 0
+    → (list : List PoolEntry) → es ≡ map OfPool list → first_stop list ≡ Some by → SawStop by seen
+saw_stop_now by before seen c es is here list are stopped = record {
+  place = length before;
+  sight = record { cell = c; list = es };
+  at = subst (λ l. IsAt l (length before) (record { cell = c; list = es })) (sym is) (at_end before (record { cell = c; list = es }));
+  cell = here;
+  list = list;
+  list_is = are;
+  stopped = stopped;
+}
 
 pub saw_now : (first : List Task) (before seen : List (Sight SlotEntry)) (c : ℕ) (es : List SlotEntry) → seen ≡ before ++ record { cell = c; list = es } ∷ [] → c ≡ 0
     → (list : List PoolEntry) → es ≡ map OfPool list → IsQuiet first list → SawQuiet first seen

@@ -1,5 +1,5 @@
 -- What workers promise, and what all of them did together.
-use Rattle.std.specs.Prelude.{◌≡◌, ◌<◌, ℕ, ◌+◌, List, [], ◌∷◌, ◌++◌, map}
+use Rattle.std.specs.Prelude.{◌≡◌, ◌<◌, ℕ, ◌+◌, List, [], ◌∷◌, ◌++◌, map, Some}
 use Rattle.work_store.specs.Stored.{Stored, held_of}
 use Rattle.net_base.specs.declared.nodes.Node.{Node}
 use Rattle.net_base.specs.declared.tasks.Task.{Task}
@@ -13,7 +13,7 @@ use Rattle.turn_table.specs.Log.{IsAt}
 use Rattle.turn_table.specs.Ends.{Accounts}
 use Rattle.task_pool.specs.declared.pool.PoolEntry.{PoolEntry}
 use Rattle.task_pool.specs.declared.pool.PoolEntry.TheVariants.{Take, Finish}
-use Rattle.task_pool.specs.Pools.{IsQuiet}
+use Rattle.task_pool.specs.Pools.{IsQuiet, first_stop}
 use Rattle.free_engine.specs.declared.slots.Slot.{Slot}
 use Rattle.free_engine.specs.declared.slots.SlotEntry.{SlotEntry}
 use Rattle.free_engine.specs.declared.slots.SlotEntry.TheVariants.{OfPool, OfLine}
@@ -64,6 +64,16 @@ pub record SawQuiet (first : List Task) (seen : List (Sight SlotEntry)) : Type 0
   pub list : List PoolEntry
   pub list_is : sight.list ≡ map OfPool list
   pub quiet : IsQuiet first list
+
+-- someone saw that this worker had stopped
+pub record SawStop (by : ℕ) (seen : List (Sight SlotEntry)) : Type 0 where
+  pub place : ℕ
+  pub sight : Sight SlotEntry
+  pub at : IsAt seen place sight
+  pub cell : sight.cell ≡ 0
+  pub list : List PoolEntry
+  pub list_is : sight.list ≡ map OfPool list
+  pub stopped : first_stop list ≡ Some by
 
 -- each slot is as when the cells were made
 abbrev pub AreFresh : List Slot → Type 0

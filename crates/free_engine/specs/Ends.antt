@@ -1,5 +1,5 @@
 -- What a round of a worker adds to its rows, and how a shared phase ends.
-use Rattle.std.specs.Prelude.{◌≡◌, ◌<◌, ℕ, List, [], ◌++◌}
+use Rattle.std.specs.Prelude.{◌≡◌, ◌<◌, ℕ, List, [], ◌++◌, ◌⊎◌}
 use Rattle.ops_base.specs.declared.elements.Element.{Element}
 use Rattle.ops_base.specs.declared.elements.Change.{Change}
 use Rattle.work_store.specs.Stored.{Stored, held_of}
@@ -12,21 +12,27 @@ use Rattle.turn_table.specs.declared.views.Row.{Row}
 use Rattle.turn_table.specs.Ends.{Accounts}
 use Rattle.free_engine.specs.Slots.{entries, name, signature}
 use Rattle.free_engine.specs.Tables.{IsTable, lines_in}
-use Rattle.free_engine.specs.Turns.{IsSetUp}
+use Rattle.free_engine.specs.Turns.{IsSetUp, a_row}
+use Rattle.task_pool.specs.declared.pool.PoolEntry.TheVariants.{Stop}
+use Rattle.free_engine.specs.declared.slots.SlotEntry.TheVariants.{OfPool}
 use Rattle.step_core.specs.Rounds.{IsUnderWay}
 use Rattle.turn_table.specs.declared.views.View.{View}
 use Rattle.free_engine.specs.declared.slots.Slot.{Slot}
 use Rattle.free_engine.specs.declared.slots.SlotEntry.{SlotEntry}
 use Rattle.free_engine.specs.declared.turns.RoundEnd.{RoundEnd}
 use Rattle.free_engine.specs.declared.turns.RoundEnd.TheVariants.{Done, Nothing, Quiet, Broken}
-use Rattle.free_engine.specs.Counts.{Round, rows_of_round, SawQuiet, HaveWorked, AreFresh}
+use Rattle.free_engine.specs.Counts.{Round, rows_of_round, SawQuiet, SawStop, HaveWorked, AreFresh}
+
+-- the worker stopped, or saw that another one had
+abbrev pub HasEndedEarly : ℕ → View Slot SlotEntry → Type 0
+HasEndedEarly w q = ((rows : List (Row SlotEntry)) × (q.own ≡ rows ++ a_row w 0 (OfPool (Stop w)))) ⊎ ((by : ℕ) × SawStop by q.seen)
 
 -- what a round adds to the rows of the worker
 abbrev pub RoundDone : ℕ → ℕ → List Task → View Slot SlotEntry → View Slot SlotEntry → RoundEnd → Type 0
 RoundDone lines w first p q Done = (x : Round) × (x.line < lines) × (q.own ≡ p.own ++ rows_of_round w x)
 RoundDone lines w first p q Nothing = q.own ≡ p.own
 RoundDone lines w first p q Quiet = (q.own ≡ p.own) × SawQuiet first q.seen
-RoundDone lines w first p q Broken = Unit {0}
+RoundDone lines w first p q Broken = HasEndedEarly w q
 
 -- the cells as they are set up are a table
 abbrev pub SetUpLaw : Type 0

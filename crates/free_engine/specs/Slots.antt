@@ -9,7 +9,7 @@ use Rattle.net_base.specs.declared.net.Net.{Net}
 use Rattle.net_base.specs.declared.nodes.Node.{Node}
 use Rattle.task_pool.specs.declared.pool.Taken.{Taken}
 use Rattle.task_pool.specs.declared.pool.Taken.TheVariants.{Task as ATask, Again, Quiet, Stopped}
-use Rattle.task_pool.specs.Pools.{IsQuiet}
+use Rattle.task_pool.specs.Pools.{IsQuiet, first_stop}
 use Rattle.free_engine.specs.declared.cells.LineCell.{LineCell}
 use Rattle.free_engine.specs.declared.slots.Slot.{Slot}
 use Rattle.free_engine.specs.declared.slots.Slot.TheVariants.{Queue, Row}
@@ -88,4 +88,4 @@ abbrev pub SlotTakes : ℕ → List Task → List SlotEntry → List SlotEntry �
 SlotTakes w first old new (ATask t) = new ≡ old ++ OfPool (Take w t) ∷ []
 SlotTakes w first old new (Again n) = new ≡ old
 SlotTakes w first old new Quiet = (new ≡ old) × ((list : List PoolEntry) × (old ≡ map OfPool list) × IsQuiet first list)
-SlotTakes w first old new (Stopped by) = new ≡ old
+SlotTakes w first old new (Stopped by) = (new ≡ old) × ((list : List PoolEntry) × (old ≡ map OfPool list) × (first_stop list ≡ Some by))

@@ -35,7 +35,7 @@ abbrev pub seen_in : Slot → Seen
 seen_in (Queue q) = nothing_seen
 seen_in (Row l) = seen l.value.line
 
--- what is seen of the lines behind the pool
+-- what is seen of the lines, which stand in the cells after the pool's
 abbrev pub lines_in : List Slot → List Seen
 lines_in [] = []
 lines_in (x ∷ xs) = map seen_in xs

@@ -16,7 +16,7 @@ use Rattle.free_engine.specs.declared.slots.Slot.{Slot}
 use Rattle.free_engine.specs.declared.slots.Slot.TheVariants.{Queue, Row}
 use Rattle.free_engine.specs.declared.slots.SlotEntry.{SlotEntry}
 use Rattle.free_engine.specs.declared.slots.SlotEntry.TheVariants.{OfPool, OfLine}
-use Rattle.free_engine.specs.Counts.{SawQuiet}
+use Rattle.free_engine.specs.Counts.{SawQuiet, SawStop}
 
 -- ---- the cells of a phase
 
@@ -71,4 +71,4 @@ abbrev pub PassTakes : ℕ → List Task → View Slot SlotEntry → View Slot S
 PassTakes w first p q (ATask t) = q.own ≡ p.own ++ a_row w 0 (OfPool (Take w t))
 PassTakes w first p q (Again n) = q.own ≡ p.own
 PassTakes w first p q Quiet = (q.own ≡ p.own) × SawQuiet first q.seen
-PassTakes w first p q (Stopped by) = q.own ≡ p.own
+PassTakes w first p q (Stopped by) = (q.own ≡ p.own) × SawStop by q.seen

@@ -56,7 +56,8 @@ const SAMPLE: usize = 16;
 /// How many partners these have at least, all together, where it pays to share the work.
 const PARTNERS: usize = 128;
 
-/// How many workers share this many tasks: two at least where there are two, and one more for each 64 tasks.
+/// How many workers share this many tasks: one, and one more for each 64 tasks, but two at least, and no more than
+/// there may be.
 fn team_size(tasks: usize, workers: usize) -> usize
     requires some { 1 ≤ workers }
     ensures some { 1 ≤ result }

@@ -2,7 +2,7 @@
 ghost use Rattle.std.specs.Prelude.{◌≡◌, ℕ, ◌+◌, ◌<◌, ◌++◌, [], All, List, true, false, IsTrue};
 ghost use Rattle.net_base.specs.declared.tasks.Task.{Task};
 ghost use Rattle.turn_table.specs.Turns.{IsPassOf, first_values, knows, number};
-ghost use Rattle.task_pool.specs.declared.pool.PoolEntry.TheVariants.{Finish as FinishEntry};
+ghost use Rattle.task_pool.specs.declared.pool.PoolEntry.TheVariants.{Finish as FinishEntry, Stop as StopEntry};
 ghost use Rattle.free_engine.specs.declared.slots.SlotEntry.TheVariants.{OfPool, OfLine};
 ghost use Rattle.token_line.specs.Held.{TaskFits};
 ghost use Rattle.free_engine.specs.Fitting.{TakenFits};
@@ -144,6 +144,7 @@ pub fn stop_one<R: Wait>(
     requires holds { has_taken worker (knows pass).own ≡ true }
     ensures pass { IsPassOf cells.now result }
     ensures number { number result ≡ worker + 1 }
+    ensures own { (knows result).own ≡ (knows pass).own ++ a_row worker 0 (OfPool (StopEntry worker)) }
 {
     let mut turn = cells.claim(rt, pass, 0);
     stop_in(turn.value(), worker);

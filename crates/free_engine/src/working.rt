@@ -3,7 +3,7 @@ ghost use Rattle.std.specs.Prelude.{◌≡◌, ℕ, ◌+◌, ◌<◌, [], true, 
 ghost use Rattle.turn_table.specs.Turns.{IsPassOf, first_values, knows, number};
 ghost use Rattle.free_engine.specs.Counts.{HasWorked, SawQuiet};
 ghost use Rattle.free_engine.specs.Turns.{IsSetUp, has_taken};
-ghost use Rattle.free_engine.specs.Ends.{RoundDone};
+ghost use Rattle.free_engine.specs.Ends.{HasEndedEarly, RoundDone};
 
 use crate::slots::Slot;
 use crate::turns::{Crew, RoundEnd, enter_one, finish_one, stop_one, take_one};
@@ -102,6 +102,7 @@ pub fn work<R: Wait, G: Gate>(
     ensures number { number result.pass ≡ worker + 1 }
     ensures worked { IsTrue result.whole → HasWorked crew.lines worker (knows result.pass).own }
     ensures saw { IsTrue result.whole → SawQuiet first.now.value.items (knows result.pass).seen }
+    ensures early { result.whole ≡ false → HasEndedEarly worker (knows result.pass) }
 {
     let backoff = Backoff::new();
     let mut pass = pass;

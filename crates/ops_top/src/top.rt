@@ -47,9 +47,10 @@ fn do_wait(alloc: Global, words: &[String]) -> Result<bool, OutOfMemory>
     }
 }
 
-/// Runs the program on the words of its command line, or tells its network, without waiting for another thread. It
-/// answers None where the words ask for a session over the engine of free workers, and has then done nothing. The input
-/// is read where the program asks for an atom. An engine over a network passes the gate before each activation.
+/// Runs the program on the words of its command line, or tells its network, without waiting for the turns of another
+/// thread. (Rounds wait for the end of the threads that they start.) It answers None where the words ask for a session
+/// over the engine of free workers, and has then done nothing. The input is read where the program asks for an atom. An
+/// engine over a network passes the gate before each activation.
 pub fn still_run<R: Threads + Clone + Drop + Send + Sync, H: Shelf, I: Source, K: Sink, G: Gate>(
     rt: &R,
     alloc: Global,

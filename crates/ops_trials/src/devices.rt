@@ -95,14 +95,19 @@ fn inputs_that_fail(rt: HostRuntime) -> Result<(), Fail> {
     Ok(())
 }
 
+/// Two files of which one can't be loaded: its number, and what is written.
+const LOADS: [(u64, &[u8]); 2] = [(1, b"ops: cannot read f\n"), (2, b"ops: cannot read g\n")];
+
 #[test]
-fn second_file_fails(rt: HostRuntime) -> Result<(), Fail> {
+fn files_that_fail(rt: HostRuntime) -> Result<(), Fail> {
     let alloc = rt.alloc();
-    let mut shelf = shelf_of(alloc, &[("f", b""), ("g", b"")], &[2])?;
-    let mut input = MemSource::new(Vec::new(alloc), 1, Vec::new(alloc));
-    let mut sink = MemSink::new(alloc, 1_000, 1_000, Vec::new(alloc))?;
-    let status = answer_on(&rt, alloc, &["f", "g"], &mut shelf, &mut input, &mut sink)?;
-    assert_eq!(rt; status, Status::ReadFault);
-    assert_eq!(rt; sink.written(), b"ops: cannot read g\n".as_slice());
+    for (load, told) in LOADS {
+        let mut shelf = shelf_of(alloc, &[("f", b""), ("g", b"")], &[load])?;
+        let mut input = MemSource::new(Vec::new(alloc), 1, Vec::new(alloc));
+        let mut sink = MemSink::new(alloc, 1_000, 1_000, Vec::new(alloc))?;
+        let status = answer_on(&rt, alloc, &["f", "g"], &mut shelf, &mut input, &mut sink)?;
+        assert_eq!(rt; status, Status::ReadFault);
+        assert_eq!(rt; sink.written(), told);
+    }
     Ok(())
 }

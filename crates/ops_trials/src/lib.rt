@@ -8,4 +8,6 @@ mod limits;
 #[cfg(test)]
 mod runs;
 #[cfg(test)]
+mod still;
+#[cfg(test)]
 mod texts;

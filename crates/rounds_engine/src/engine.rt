@@ -1,5 +1,5 @@
 //! The engine of rounds: a matcher over a network whose shards of lines work at once.
-ghost use Rattle.std.specs.Prelude.{◌≡◌, ◌≤◌, ◌^◌, All, IfOk, [], length, map};
+ghost use Rattle.std.specs.Prelude.{◌≡◌, ◌≤◌, ◌^◌, All, IfOk, [], length, map, min};
 ghost use Rattle.work_store.specs.Stored.{held_of, nothing_stored};
 ghost use Rattle.activation.specs.Acting.{IsCounted};
 ghost use Rattle.step_core.specs.Laws.{AreEmpty};
@@ -64,6 +64,8 @@ impl<G: Gate + Drop> RoundsEngine<G> {
         ensures net { IfOk result (λ e. e.net ≡ net) }
         ensures empty { IfOk result (λ e. e.store ≡ nothing_stored) }
         ensures lines { IfOk result (λ e. length e.world.lines.items ≡ lines) }
+        // As many shards as the lesser of the workers and the lines.
+        ensures shards { IfOk result (λ e. e.sharing.shards ≡ min workers lines) }
         ensures entries { IfOk result (λ e. AreEmpty (map seen e.world.lines.items)) }
     {
         match_laws();
@@ -118,6 +120,7 @@ impl<G: Gate + Drop> RoundsEngine<G> {
         // The lines with their entries are a bundle of the changes.
         ensures bundle { IfOk result (λ s. IsBundle (held_of s.matcher.store) s.matcher.net.alphas s.matcher.net.nodes (placed (held_of s.matcher.store) s.matcher.net.nodes (length s.matcher.world.lines.items)) self.store.elements changes.now (map seen s.matcher.world.lines.items)) }
         ensures lines { IfOk result (λ s. length s.matcher.world.lines.items ≡ length self.world.lines.items) }
+        ensures shards { IfOk result (λ s. s.matcher.sharing.shards ≡ self.sharing.shards) }
     {
         let RoundsEngine {
             net,
@@ -154,7 +157,13 @@ impl<G: Gate + Drop> RoundsEngine<G> {
 }
 
 impl<G: Gate + Drop> Matcher for RoundsEngine<G> {
+    ghost use Rattle.std.specs.Prelude.{List};
+    ghost use Rattle.ops_base.specs.declared.rules.Rule.{Rule};
+    ghost use Rattle.ops_base.specs.WorkingMemory.{Lawful, done, last_after};
+    ghost use Rattle.work_store.specs.Settling.{IsSettled};
+    ghost use Rattle.work_store.specs.Stored.{HoldsAlso, added_by};
     ghost use Rattle.net_base.specs.Network.{NetOf};
+    ghost use Rattle.step_core.specs.Phases.{IsBundle};
     ghost use Rattle.step_core.specs.Found.{found_over};
 
     ghost stored = { λ e. e.store };
@@ -178,7 +187,20 @@ impl<G: Gate + Drop> Matcher for RoundsEngine<G> {
         alloc: Global,
         _hand: &mut (),
         changes: &[Change],
-    ) -> Result<Settled<RoundsEngine<G>>, OutOfMemory> {
+    ) -> Result<Settled<RoundsEngine<G>>, OutOfMemory>
+        requires { Lawful self.store.elements self.store.last changes.now }
+        ensures elements { IfOk result (λ s. s.matcher.store.elements ≡ done self.store.elements changes.now) }
+        ensures last { IfOk result (λ s. s.matcher.store.last ≡ last_after self.store.last changes.now) }
+        ensures settled { IfOk result (λ s. IsSettled (found_over self.net.alphas self.net.nodes self.store.elements) (found_over s.matcher.net.alphas s.matcher.net.nodes s.matcher.store.elements) s.gone.items s.come.items) }
+        ensures stands { IfOk result (λ s. (rules : List Rule) → NetOf self.net rules → NetOf s.matcher.net rules) }
+        ensures net { IfOk result (λ s. s.matcher.net ≡ self.net) }
+        // What was removed stays kept: what was present or was added is held, and nothing else.
+        ensures kept { IfOk result (λ s. HoldsAlso (record self.store { kept = [] }) s.matcher.store (added_by changes.now)) }
+        // The lines with their entries are a bundle of the changes.
+        ensures bundle { IfOk result (λ s. IsBundle (held_of s.matcher.store) s.matcher.net.alphas s.matcher.net.nodes (placed (held_of s.matcher.store) s.matcher.net.nodes (length s.matcher.world.lines.items)) self.store.elements changes.now (map seen s.matcher.world.lines.items)) }
+        ensures lines { IfOk result (λ s. length s.matcher.world.lines.items ≡ length self.world.lines.items) }
+        ensures shards { IfOk result (λ s. s.matcher.sharing.shards ≡ self.sharing.shards) }
+    {
         let RoundsEngine {
             net,
             mut store,

@@ -5,7 +5,7 @@ use Rattle.turn_table.specs.Log.{signed_by, given_to}
 use Rattle.task_pool.specs.Pools.{holds, IsQuiet}
 use Rattle.free_engine.specs.Slots.{entries, signature, IsPool, pool_list, workers_in, nodes_in, store_in, first_in}
 use Rattle.token_line.specs.Held.{TaskFits}
-use Rattle.free_engine.proofs.Holding.{comes_pool, is_pool, comes_holds, pool_facts, few, saw_now}
+use Rattle.free_engine.proofs.Holding.{comes_pool, is_pool, comes_holds, pool_facts, few, saw_now, saw_stop_now}
 use Rattle.free_engine.proofs.turns.take_one.Goals as goal
 
 pub take_in-requires-clause-pool : goal.take_in-requires-clause-pool
@@ -44,4 +44,12 @@ returns-in-Quiet-clause-own g c = let a = c.args in let y = c.claim-turn.result.
       c.give_back-in-Quiet.ensures.none_made ∙ ap (λ v. v.own) c.claim-turn.ensures.knows,
       saw_now a.first.now.value.items (turn_knows c.claim-turn.result).seen (knows c.give_back-in-Quiet.result).seen c.claim-turn.result.cell (entries c.take_in.new.slot)
           (ap (λ v. v.seen) c.give_back-in-Quiet.ensures.knows) c.claim-turn.ensures.cell e.1.0 (e.0 ∙ e.1.1) (subst (λ (l : List Task). IsQuiet l e.1.0) began e.1.2),
+    )
+
+pub returns-in-Stopped-clause-own : goal.returns-in-Stopped-clause-own
+returns-in-Stopped-clause-own g c =
+    let e = c.in-Stopped.ensures.entries in (
+      c.give_back-in-Stopped.ensures.none_made ∙ ap (λ v. v.own) c.claim-turn.ensures.knows,
+      saw_stop_now c.in-Stopped.by (turn_knows c.claim-turn.result).seen (knows c.give_back-in-Stopped.result).seen c.claim-turn.result.cell (entries c.take_in.new.slot)
+          (ap (λ v. v.seen) c.give_back-in-Stopped.ensures.knows) c.claim-turn.ensures.cell e.1.0 (e.0 ∙ e.1.1) e.1.2,
     )

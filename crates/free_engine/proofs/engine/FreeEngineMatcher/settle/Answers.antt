@@ -1,6 +1,10 @@
 -- The lines keep their numbers.
 use Rattle.serial_engine.proofs.StartLemmas.{numbers_stay}
+use Rattle.serial_engine.proofs.StepLemmas.{same_count}
 use Rattle.free_engine.proofs.engine.FreeEngineMatcher.settle.Goals as goal
 
 pub invariant_of-matcher-clause-numbered : goal.invariant_of-matcher-clause-numbered
 invariant_of-matcher-clause-numbered g c = numbers_stay c.args.self.world.lines.items c.settle.new.world.lines.items c.args.self.numbered c.in_ok-come.ensures.lines
+
+pub returns-clause-lines : goal.returns-clause-lines
+returns-clause-lines g c = same_count c.args.self.world c.settle.new.world c.in_ok-come.ensures.lines

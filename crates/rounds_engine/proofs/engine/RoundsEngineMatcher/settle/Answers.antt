@@ -9,3 +9,6 @@ invariant_of-matcher-clause-numbered g c = numbers_stay c.args.self.world.lines.
 
 pub invariant_of-matcher-clause-few : goal.invariant_of-matcher-clause-few
 invariant_of-matcher-clause-few g c = let few = c.args.self.few in let same = same_count c.args.self.world c.settle.new.world c.in_ok-come.ensures.lines in omega (arith, few, same)
+
+pub returns-clause-lines : goal.returns-clause-lines
+returns-clause-lines g c = same_count c.args.self.world c.settle.new.world c.in_ok-come.ensures.lines
