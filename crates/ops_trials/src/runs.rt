@@ -10,7 +10,7 @@ use std::test::Fail;
 use std::thread::Threads;
 
 /// The words of each engine.
-pub(crate) const ENGINES: [&[&str]; 4] = [
+pub(super) const ENGINES: [&[&str]; 4] = [
     &["--match=direct"],
     &["--match=serial"],
     &["--match=rounds", "--workers=2"],
@@ -18,16 +18,16 @@ pub(crate) const ENGINES: [&[&str]; 4] = [
 ];
 
 /// It asks for a name and tells it.
-pub(crate) const ASK: &[u8] = b"(literalize s)
+pub(super) const ASK: &[u8] = b"(literalize s)
 (p ask (s) --> (write |name?|) (bind <n> (accept)) (write <n> (crlf)) (remove 1))
 (make s)
 (run)
 ";
 
-pub(crate) const NAMED_ANN: &[u8] = b"name? Ann\nend -- no production true\n";
+pub(super) const NAMED_ANN: &[u8] = b"name? Ann\nend -- no production true\n";
 
 /// Layout on a line, and commands that list.
-pub(crate) const LAYOUT: &[u8] = b"(literalize a n)
+pub(super) const LAYOUT: &[u8] = b"(literalize a n)
 (p r (a ^n <x>) --> (write <x> (tabto 5) x (rjust 4) 12 (crlf)))
 (make a ^n |b c|)
 (pbreak r q) (pbreak)
@@ -36,7 +36,7 @@ pub(crate) const LAYOUT: &[u8] = b"(literalize a n)
 (remove *) (wm)
 ";
 
-pub(crate) const LAID_OUT: &[u8] = b"no production q
+pub(super) const LAID_OUT: &[u8] = b"no production q
 break r
 b c x  12
 break -- production r
@@ -47,7 +47,7 @@ watch 0
 ";
 
 /// It puts one block on another, and clears what is in the way.
-pub(crate) const BLOCKS: &[u8] = b"(literalize block name on)
+pub(super) const BLOCKS: &[u8] = b"(literalize block name on)
 (literalize goal kind what where)
 (strategy mea)
 (watch 1)
@@ -69,7 +69,7 @@ pub(crate) const BLOCKS: &[u8] = b"(literalize block name on)
 (wm)
 ";
 
-pub(crate) const PUT: &[u8] = b"1. clear-what 4 1 2
+pub(super) const PUT: &[u8] = b"1. clear-what 4 1 2
 2. clear-what 5 2 3
 3. move 6 3
 move c to table
@@ -90,7 +90,7 @@ end -- no production true
 ";
 
 /// A shelf with these files, of which the loads of these numbers fail.
-pub(crate) fn shelf_of(
+pub(super) fn shelf_of(
     alloc: Global,
     files: &[(&str, &[u8])],
     failing: &[u64],
@@ -108,7 +108,7 @@ pub(crate) fn shelf_of(
 }
 
 /// What is answered to these words, and then to this name, over this shelf, input and output.
-pub(crate) fn answer_on<R: Threads + Wait + Clone + Drop + Send + Sync>(
+pub(super) fn answer_on<R: Threads + Wait + Clone + Drop + Send + Sync>(
     rt: &R,
     alloc: Global,
     words: &[&str],
@@ -129,7 +129,7 @@ pub(crate) fn answer_on<R: Threads + Wait + Clone + Drop + Send + Sync>(
 }
 
 /// What is answered to a file of this text, with the words of an engine, over this input and output.
-pub(crate) fn answer<R: Threads + Wait + Clone + Drop + Send + Sync>(
+pub(super) fn answer<R: Threads + Wait + Clone + Drop + Send + Sync>(
     rt: &R,
     alloc: Global,
     engine: &[&str],
