@@ -5,18 +5,10 @@ mod answer;
 mod closing;
 mod engines;
 mod files;
-#[cfg(test)]
-mod gates;
 mod hands;
 mod laws;
 mod lines;
-#[cfg(test)]
-mod rows;
 mod saying;
-#[cfg(test)]
-mod selection_rows;
-#[cfg(test)]
-mod tests;
 mod top;
 mod words;
 

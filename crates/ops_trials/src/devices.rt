@@ -2,7 +2,7 @@
 ghost use Rattle.std.specs.Prelude.{◌<◌};
 
 use crate::runs::{
-    ASK, BLOCKS, ENGINES, LAID_OUT, LAYOUT, NAMED_ANN, PUT, answer, answer_on, shelf_of,
+    ASK, BLOCKS, ENGINES, LAID_OUT, LAYOUT, NAMED_ANN, PUT, answer_on, answer_to, shelf_of,
 };
 use ops_io::{MemSink, MemSource};
 use ops_meaning::Status;
@@ -34,7 +34,7 @@ fn is_written_past<R: Threads + Wait + Clone + Drop + Send + Sync>(
     let (text, whole) = program;
     let mut input = MemSource::new(Vec::from_slice(alloc, b"Ann")?, 1, Vec::new(alloc));
     let mut sink = MemSink::new(alloc, 1_000, piece, vec![in alloc; call]?)?;
-    match answer(rt, alloc, engine, text, &mut input, &mut sink)? {
+    match answer_to(rt, alloc, engine, text, &mut input, &mut sink)? {
         Status::Done => Ok(sink.written() == whole),
         Status::WriteFault => {
             if !whole.starts_with(sink.written()) {
@@ -78,7 +78,7 @@ fn inputs_that_fail(rt: HostRuntime) -> Result<(), Fail> {
                 vec![in alloc; call]?,
             );
             let mut sink = MemSink::new(alloc, 1_000, 8_192, Vec::new(alloc))?;
-            let status = answer(&rt, alloc, engine, ASK, &mut input, &mut sink)?;
+            let status = answer_to(&rt, alloc, engine, ASK, &mut input, &mut sink)?;
             // three bytes, and the end
             if call <= 4 {
                 assert_eq!(rt; status, Status::ReadFault);

@@ -1,6 +1,6 @@
 //! Inputs, texts and conflict sets at the limit, and past it.
 
-use crate::runs::{ASK, ENGINES, answer, answer_on, shelf_of};
+use crate::runs::{ASK, ENGINES, answer_on, answer_to, shelf_of};
 use ops_base::endings::Fault;
 use ops_io::{MemSink, MemSource};
 use ops_meaning::Status;
@@ -52,7 +52,7 @@ fn inputs_at_the_limit(rt: HostRuntime) -> Result<(), Fail> {
         let whole = named(alloc, &bytes)?;
         let mut input = MemSource::new(bytes, 8_192, Vec::new(alloc));
         let mut sink = MemSink::new(alloc, LONGEST_ATOM + 1_000, 8_192, Vec::new(alloc))?;
-        let status = answer(&rt, alloc, &["--match=serial"], ASK, &mut input, &mut sink)?;
+        let status = answer_to(&rt, alloc, &["--match=serial"], ASK, &mut input, &mut sink)?;
         assert_eq!(rt; status, wanted);
         let written = match told {
             Some(told) => sink.written() == told,
@@ -90,7 +90,7 @@ fn texts_at_the_limit(rt: HostRuntime) -> Result<(), Fail> {
         text.resize(length, byte)?;
         let mut input = MemSource::new(Vec::new(alloc), 1, Vec::new(alloc));
         let mut sink = MemSink::new(alloc, 1_000, 1_000, Vec::new(alloc))?;
-        let status = answer(
+        let status = answer_to(
             &rt,
             alloc,
             &["--match=serial"],
@@ -125,7 +125,7 @@ fn large_conflict_set(rt: HostRuntime) -> Result<(), Fail> {
     for engine in ENGINES {
         let mut input = MemSource::new(Vec::new(alloc), 1, Vec::new(alloc));
         let mut sink = MemSink::new(alloc, 1_000, 1_000, Vec::new(alloc))?;
-        let status = answer(&rt, alloc, engine, CROSS, &mut input, &mut sink)?;
+        let status = answer_to(&rt, alloc, engine, CROSS, &mut input, &mut sink)?;
         assert_eq!(rt; status, Status::Done);
         assert_eq!(rt;
             sink.written(),

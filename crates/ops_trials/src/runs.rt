@@ -1,7 +1,7 @@
 //! A run of the top call over files, an input and an output in memory, and the programs that are run.
 ghost use Rattle.std.specs.Prelude.{◌≡◌, ◌^◌, ◌<◌, [], IfOk};
 
-use ops_io::{MemShelf, MemSink, MemSource, OpenGate};
+use ops_io::{Gate, MemShelf, MemSink, MemSource, OpenGate};
 use ops_meaning::Status;
 use ops_top::ops_run;
 use std::alloc::{AllocError, Global};
@@ -15,6 +15,21 @@ pub(super) const ENGINES: [&[&str]; 4] = [
     &["--match=serial"],
     &["--match=rounds", "--workers=2"],
     &["--match=free", "--workers=2"],
+];
+
+/// Words that run the file `a`, with each engine.
+pub(super) const RUNS: [&[&str]; 11] = [
+    &["a"],
+    &["--match=direct", "a"],
+    &["--match", "serial", "a"],
+    &["a", "--lines=1", "--match=serial"],
+    &["--match=serial", "--lines", "65536", "a"],
+    &["--match", "rounds", "a", "--workers=1"],
+    &["--match=rounds", "--workers", "2", "a"],
+    &["a", "--match=rounds", "--workers=7", "--lines=9"],
+    &["--match=free", "a", "--workers=1"],
+    &["--match=free", "--workers", "2", "a"],
+    &["a", "--match=free", "--workers=7", "--lines=9"],
 ];
 
 /// It asks for a name and tells it.
@@ -107,7 +122,63 @@ pub(super) fn shelf_of(
     Ok(MemShelf::new(alloc, owned, failing))
 }
 
-/// What is answered to these words, and then to this name, over this shelf, input and output.
+/// The words as those of a command line.
+pub(super) fn words_of(alloc: Global, words: &[&str]) -> Result<Vec<String>, AllocError> {
+    let mut owned = Vec::new(alloc);
+    for word in words {
+        owned.push(String::from_str(alloc, word)?)?;
+    }
+    Ok(owned)
+}
+
+/// What is answered to these words over these files and an input, past this gate.
+pub(super) fn answer_past<R: Threads + Wait + Clone + Drop + Send + Sync, G: Gate>(
+    rt: &R,
+    alloc: Global,
+    words: &[&str],
+    files: &[(&str, &[u8])],
+    input: &mut MemSource,
+    sink: &mut MemSink,
+    gate: &G,
+) -> Result<Status, Fail>
+    requires input { input.old.faults < 2 ^ 63 }
+    requires sink { sink.old.faults < 2 ^ 63 }
+{
+    let mut shelf = shelf_of(alloc, files, &[])?;
+    let words = words_of(alloc, words)?;
+    Ok(ops_run(rt, alloc, &words, &mut shelf, input, sink, gate))
+}
+
+/// What is answered to these words over these files and an input.
+pub(super) fn answer_over<R: Threads + Wait + Clone + Drop + Send + Sync>(
+    rt: &R,
+    alloc: Global,
+    words: &[&str],
+    files: &[(&str, &[u8])],
+    input: &mut MemSource,
+    sink: &mut MemSink,
+) -> Result<Status, Fail>
+    requires input { input.old.faults < 2 ^ 63 }
+    requires sink { sink.old.faults < 2 ^ 63 }
+{
+    answer_past(rt, alloc, words, files, input, sink, &OpenGate)
+}
+
+/// What is answered to these words over these files, where the input is empty.
+pub(super) fn answer<R: Threads + Wait + Clone + Drop + Send + Sync>(
+    rt: &R,
+    alloc: Global,
+    words: &[&str],
+    files: &[(&str, &[u8])],
+    sink: &mut MemSink,
+) -> Result<Status, Fail>
+    requires { sink.old.faults < 2 ^ 63 }
+{
+    let mut input = MemSource::new(Vec::new(alloc), 1, Vec::new(alloc));
+    answer_over(rt, alloc, words, files, &mut input, sink)
+}
+
+/// What is answered to these words over this shelf, input and output.
 pub(super) fn answer_on<R: Threads + Wait + Clone + Drop + Send + Sync>(
     rt: &R,
     alloc: Global,
@@ -121,15 +192,12 @@ pub(super) fn answer_on<R: Threads + Wait + Clone + Drop + Send + Sync>(
     requires input { input.old.faults < 2 ^ 63 }
     requires sink { sink.old.faults < 2 ^ 63 }
 {
-    let mut owned = Vec::new(alloc);
-    for word in words {
-        owned.push(String::from_str(alloc, word)?)?;
-    }
-    Ok(ops_run(rt, alloc, &owned, shelf, input, sink, &OpenGate))
+    let words = words_of(alloc, words)?;
+    Ok(ops_run(rt, alloc, &words, shelf, input, sink, &OpenGate))
 }
 
 /// What is answered to a file of this text, with the words of an engine, over this input and output.
-pub(super) fn answer<R: Threads + Wait + Clone + Drop + Send + Sync>(
+pub(super) fn answer_to<R: Threads + Wait + Clone + Drop + Send + Sync>(
     rt: &R,
     alloc: Global,
     engine: &[&str],

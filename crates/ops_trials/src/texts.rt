@@ -1,6 +1,6 @@
 //! A text that is cut after each of its bytes.
 
-use crate::runs::{BLOCKS, ENGINES, answer};
+use crate::runs::{BLOCKS, ENGINES, answer_to};
 use ops_io::{MemSink, MemSource};
 use ops_meaning::Status;
 use std::test::Fail;
@@ -30,7 +30,7 @@ fn cut_after_each_byte(rt: HostRuntime) -> Result<(), Fail> {
         for engine in ENGINES {
             let mut input = MemSource::new(Vec::new(alloc), 1, Vec::new(alloc));
             let mut sink = MemSink::new(alloc, 1_000, 1_000, Vec::new(alloc))?;
-            let status = answer(&rt, alloc, engine, text, &mut input, &mut sink)?;
+            let status = answer_to(&rt, alloc, engine, text, &mut input, &mut sink)?;
             let is_right = match status {
                 Status::Done => true,
                 Status::Refused { line, column, .. } => is_place_of(text, line, column),

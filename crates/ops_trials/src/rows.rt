@@ -1,13 +1,13 @@
 //! Whole programs of one file through the top call.
 
-use crate::tests::{ENGINES, answer, answer_over};
+use crate::runs::{ASK, RUNS, answer, answer_over};
 use ops_base::endings::{ActKind, Fault};
 use ops_io::{MemSink, MemSource};
 use ops_meaning::Status;
 use std::alloc::{AllocError, Global};
 use std::test::Fail;
 
-pub(crate) const HELLO: &[u8] =
+pub(super) const HELLO: &[u8] =
     b"(literalize start)\n(p hello (start) --> (write Hello from OPS5 (crlf)) (remove 1))\n(make start)\n(run)\n";
 
 const PREDICATES: &[u8] = b"(literalize a n m)
@@ -237,7 +237,7 @@ const REFUSED: [(&[u8], Fault, u64, &[u8]); 5] = [
 #[test]
 fn rows(rt: HostRuntime) -> Result<(), Fail> {
     let alloc = rt.alloc();
-    for words in ENGINES {
+    for words in RUNS {
         for (text, status, written) in ROWS {
             let mut sink = MemSink::new(alloc, 1_000, 1_000, Vec::new(alloc))?;
             assert_eq!(rt;
@@ -312,12 +312,6 @@ fn too_many_fields(rt: HostRuntime) -> Result<(), Fail> {
     assert_eq!(rt; sink.written(), expected);
     Ok(())
 }
-
-const ASK: &[u8] = b"(literalize s)
-(p ask (s) --> (write |name?|) (bind <n> (accept)) (write <n> (crlf)) (remove 1))
-(make s)
-(run)
-";
 
 const ATOMS: &[u8] = b"(literalize a n m)
 (p r (a) --> (make a ^n (accept) ^m (accept)) (make a ^n (accept) ^m (accept)) (halt))

@@ -1,98 +1,10 @@
-//! Each public call once, on words and files that need no program.
-ghost use Rattle.std.specs.Prelude.{◌≡◌, ◌^◌, ◌<◌, [], IfOk};
-
-use crate::top::{code, ops_run, still_run};
+//! Words that fit and words that don't, and files that need no program.
+use crate::runs::{answer, shelf_of, words_of};
 use ops_base::endings::Fault;
-use ops_io::{Gate, MemShelf, MemSink, MemSource, OpenGate};
+use ops_io::{MemSink, MemSource, OpenGate};
 use ops_meaning::Status;
-use std::alloc::{AllocError, Global};
-use std::sync::Wait;
+use ops_top::{code, still_run};
 use std::test::Fail;
-use std::thread::Threads;
-
-/// A shelf with these files, of which the loads of these numbers fail.
-fn shelf_of(alloc: Global, files: &[(&str, &[u8])], failing: &[u64]) -> Result<MemShelf, AllocError>
-    ensures { IfOk result (λ shelf. (shelf.names ≡ []) × (shelf.faults ≡ 0)) }
-{
-    let mut owned = Vec::new(alloc);
-    for (name, bytes) in files {
-        let name = String::from_str(alloc, name)?;
-        let bytes = Vec::from_slice(alloc, bytes)?;
-        owned.push((name, bytes))?;
-    }
-    let failing = Vec::from_slice(alloc, failing)?;
-    Ok(MemShelf::new(alloc, owned, failing))
-}
-
-fn words_of(alloc: Global, words: &[&str]) -> Result<Vec<String>, AllocError> {
-    let mut owned = Vec::new(alloc);
-    for word in words {
-        owned.push(String::from_str(alloc, word)?)?;
-    }
-    Ok(owned)
-}
-
-/// What is answered to these words over these files and an input, past this gate.
-pub(crate) fn answer_past<R: Threads + Wait + Clone + Drop + Send + Sync, G: Gate>(
-    rt: &R,
-    alloc: Global,
-    words: &[&str],
-    files: &[(&str, &[u8])],
-    input: &mut MemSource,
-    sink: &mut MemSink,
-    gate: &G,
-) -> Result<Status, Fail>
-    requires input { input.old.faults < 2 ^ 63 }
-    requires sink { sink.old.faults < 2 ^ 63 }
-{
-    let mut shelf = shelf_of(alloc, files, &[])?;
-    let words = words_of(alloc, words)?;
-    Ok(ops_run(rt, alloc, &words, &mut shelf, input, sink, gate))
-}
-
-/// What is answered to these words over these files and an input.
-pub(crate) fn answer_over<R: Threads + Wait + Clone + Drop + Send + Sync>(
-    rt: &R,
-    alloc: Global,
-    words: &[&str],
-    files: &[(&str, &[u8])],
-    input: &mut MemSource,
-    sink: &mut MemSink,
-) -> Result<Status, Fail>
-    requires input { input.old.faults < 2 ^ 63 }
-    requires sink { sink.old.faults < 2 ^ 63 }
-{
-    answer_past(rt, alloc, words, files, input, sink, &OpenGate)
-}
-
-/// What is answered to these words over these files, where the input is empty.
-pub(crate) fn answer<R: Threads + Wait + Clone + Drop + Send + Sync>(
-    rt: &R,
-    alloc: Global,
-    words: &[&str],
-    files: &[(&str, &[u8])],
-    sink: &mut MemSink,
-) -> Result<Status, Fail>
-    requires { sink.old.faults < 2 ^ 63 }
-{
-    let mut input = MemSource::new(Vec::new(alloc), 1, Vec::new(alloc));
-    answer_over(rt, alloc, words, files, &mut input, sink)
-}
-
-/// Words that run the file `a`, with each engine.
-pub(crate) const ENGINES: [&[&str]; 11] = [
-    &["a"],
-    &["--match=direct", "a"],
-    &["--match", "serial", "a"],
-    &["a", "--lines=1", "--match=serial"],
-    &["--match=serial", "--lines", "65536", "a"],
-    &["--match", "rounds", "a", "--workers=1"],
-    &["--match=rounds", "--workers", "2", "a"],
-    &["a", "--match=rounds", "--workers=7", "--lines=9"],
-    &["--match=free", "a", "--workers=1"],
-    &["--match=free", "--workers", "2", "a"],
-    &["a", "--match=free", "--workers=7", "--lines=9"],
-];
 
 const USAGE: &[u8] =
     b"usage: ops [--match direct|serial|rounds|free] [--workers N] [--lines L] [--limit N] FILE.. | ops --gen SEED SIZE | ops --net FILE..\n";
@@ -178,22 +90,6 @@ fn left_to_the_call_that_waits(rt: HostRuntime) -> Result<(), Fail> {
     );
     assert_eq!(rt; status, None);
     assert_eq!(rt; sink.written(), b"".as_slice());
-    Ok(())
-}
-
-/// The second load fails.
-#[test]
-fn failing_load(rt: HostRuntime) -> Result<(), Fail> {
-    let alloc = rt.alloc();
-    let mut shelf = shelf_of(alloc, &[("f", b""), ("g", b"")], &[2])?;
-    let words = words_of(alloc, &["--match=serial", "f", "g"])?;
-    let mut input = MemSource::new(Vec::new(alloc), 1, Vec::new(alloc));
-    let mut sink = MemSink::new(alloc, 1_000, 1_000, Vec::new(alloc))?;
-    let status = still_run(
-        &rt, alloc, &words, &mut shelf, &mut input, &mut sink, &OpenGate,
-    );
-    assert_eq!(rt; status, Some(Status::ReadFault));
-    assert_eq!(rt; sink.written(), b"ops: cannot read g\n".as_slice());
     Ok(())
 }
 

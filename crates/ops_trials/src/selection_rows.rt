@@ -1,6 +1,6 @@
 //! Programs of several files, which show which instantiation fires and how runs and sessions are limited.
 
-use crate::tests::answer;
+use crate::runs::answer;
 use ops_base::endings::Fault;
 use ops_io::MemSink;
 use ops_meaning::Status;

@@ -3,7 +3,7 @@
 ghost use Rattle.std.specs.Prelude.{◌≤◌};
 
 use crate::rows::HELLO;
-use crate::tests::answer_past;
+use crate::runs::answer_past;
 use beta_net::compile;
 use crossbeam_utils::Backoff;
 use net_base::net::Net;
