@@ -1,6 +1,6 @@
 //! Whole programs of one file through the top call.
 
-use crate::runs::{ASK, RUNS, answer, answer_over};
+use crate::runs::{ASK, BLOCKS, LAID_OUT, LAYOUT, PUT, RUNS, answer, answer_over};
 use ops_base::endings::{ActKind, Fault};
 use ops_io::{MemSink, MemSource};
 use ops_meaning::Status;
@@ -83,59 +83,6 @@ const DIVIDED: &[u8] = b"(literalize s)
 (make s) (run)
 ";
 
-const LAYOUT: &[u8] = b"(literalize a n)
-(p r (a ^n <x>) --> (write <x> (tabto 5) x (rjust 4) 12 (crlf)))
-(make a ^n |b c|)
-(pbreak r q) (pbreak)
-(run)
-(pm r) (strategy) (watch) (wm)
-(remove *) (wm)
-";
-
-const BLOCKS: &[u8] = b"; put one block on another, clearing what is in the way
-(literalize block name on)
-(literalize goal kind what where)
-(strategy mea)
-(watch 1)
-
-(p done
-    { <g> (goal ^kind put ^what <b> ^where <t>) }
-    (block ^name <b> ^on <t>)
-  -->
-    (write <b> is on <t> (crlf))
-    (remove <g>))
-
-(p clear-what
-    (goal ^kind put ^what <b> ^where <t>)
-    (block ^name <b> ^on <> <t>)
-    (block ^name <c> ^on <b>)
-  -->
-    (make goal ^kind put ^what <c> ^where table))
-
-(p clear-where
-    (goal ^kind put ^what <b> ^where <t>)
-    (block ^name <b> ^on <> <t>)
-    (block ^name <c> ^on { <t> <> table })
-  -->
-    (make goal ^kind put ^what <c> ^where table))
-
-(p move
-    (goal ^kind put ^what <b> ^where <t>)
-    { <k> (block ^name <b> ^on <> <t>) }
-    - (block ^on <b>)
-    - (block ^on { <t> <> table })
-  -->
-    (modify <k> ^on <t>)
-    (write move <b> to <t> (crlf)))
-
-(make block ^name a ^on table)
-(make block ^name b ^on a)
-(make block ^name c ^on b)
-(make goal ^kind put ^what a ^where c)
-(run)
-(wm)
-";
-
 const DIVIDED_BY_ZERO: Status = Status::ActFault {
     firing: 1,
     rule: 0,
@@ -193,16 +140,8 @@ const ROWS: [(&[u8], Status, &[u8]); 14] = [
         DIVIDED_BY_ZERO,
         b"14 -3 -1\nops: firing 1: c: action 2: zero divisor\n",
     ),
-    (
-        LAYOUT,
-        Status::Done,
-        b"no production q\nbreak r\nb c x  12\nbreak -- production r\n(p r (a ^n <x>) --> (write <x> (tabto 5) x (rjust 4) 12 (crlf)))\nstrategy lex\nwatch 0\n1: (a ^n |b c|)\n",
-    ),
-    (
-        BLOCKS,
-        Status::Done,
-        b"1. clear-what 4 1 2\n2. clear-what 5 2 3\n3. move 6 3\nmove c to table\n4. done 6 7\nc is on table\n5. move 5 2\nmove b to table\n6. done 5 8\nb is on table\n7. move 4 1\nmove a to c\n8. done 4 9\na is on c\nend -- no production true\n7: (block ^name c ^on table)\n8: (block ^name b ^on table)\n9: (block ^name a ^on c)\n",
-    ),
+    (LAYOUT, Status::Done, LAID_OUT),
+    (BLOCKS, Status::Done, PUT),
 ];
 
 /// Texts that are refused on their first line, each with its fault, the column and the line that is written.

@@ -39,6 +39,7 @@ pub(super) const ASK: &[u8] = b"(literalize s)
 (run)
 ";
 
+/// What that writes where `Ann` is the input.
 pub(super) const NAMED_ANN: &[u8] = b"name? Ann\nend -- no production true\n";
 
 /// Layout on a line, and commands that list.
@@ -51,6 +52,7 @@ pub(super) const LAYOUT: &[u8] = b"(literalize a n)
 (remove *) (wm)
 ";
 
+/// What that writes.
 pub(super) const LAID_OUT: &[u8] = b"no production q
 break r
 b c x  12
@@ -62,20 +64,42 @@ watch 0
 ";
 
 /// It puts one block on another, and clears what is in the way.
-pub(super) const BLOCKS: &[u8] = b"(literalize block name on)
+pub(super) const BLOCKS: &[u8] = b"; put one block on another, clearing what is in the way
+(literalize block name on)
 (literalize goal kind what where)
 (strategy mea)
 (watch 1)
-(p done { <g> (goal ^kind put ^what <b> ^where <t>) } (block ^name <b> ^on <t>)
-  --> (write <b> is on <t> (crlf)) (remove <g>))
-(p clear-what (goal ^kind put ^what <b> ^where <t>) (block ^name <b> ^on <> <t>) (block ^name <c> ^on <b>)
-  --> (make goal ^kind put ^what <c> ^where table))
-(p clear-where (goal ^kind put ^what <b> ^where <t>) (block ^name <b> ^on <> <t>)
+
+(p done
+    { <g> (goal ^kind put ^what <b> ^where <t>) }
+    (block ^name <b> ^on <t>)
+  -->
+    (write <b> is on <t> (crlf))
+    (remove <g>))
+
+(p clear-what
+    (goal ^kind put ^what <b> ^where <t>)
+    (block ^name <b> ^on <> <t>)
+    (block ^name <c> ^on <b>)
+  -->
+    (make goal ^kind put ^what <c> ^where table))
+
+(p clear-where
+    (goal ^kind put ^what <b> ^where <t>)
+    (block ^name <b> ^on <> <t>)
     (block ^name <c> ^on { <t> <> table })
-  --> (make goal ^kind put ^what <c> ^where table))
-(p move (goal ^kind put ^what <b> ^where <t>) { <k> (block ^name <b> ^on <> <t>) }
-    - (block ^on <b>) - (block ^on { <t> <> table })
-  --> (modify <k> ^on <t>) (write move <b> to <t> (crlf)))
+  -->
+    (make goal ^kind put ^what <c> ^where table))
+
+(p move
+    (goal ^kind put ^what <b> ^where <t>)
+    { <k> (block ^name <b> ^on <> <t>) }
+    - (block ^on <b>)
+    - (block ^on { <t> <> table })
+  -->
+    (modify <k> ^on <t>)
+    (write move <b> to <t> (crlf)))
+
 (make block ^name a ^on table)
 (make block ^name b ^on a)
 (make block ^name c ^on b)
@@ -84,6 +108,7 @@ pub(super) const BLOCKS: &[u8] = b"(literalize block name on)
 (wm)
 ";
 
+/// What that writes.
 pub(super) const PUT: &[u8] = b"1. clear-what 4 1 2
 2. clear-what 5 2 3
 3. move 6 3

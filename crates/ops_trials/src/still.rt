@@ -1,6 +1,6 @@
 //! The call that does not wait for turns, over each engine that it takes.
 
-use crate::runs::{LAID_OUT, LAYOUT, shelf_of};
+use crate::runs::{LAID_OUT, LAYOUT, shelf_of, words_of};
 use ops_io::{MemSink, MemSource, OpenGate};
 use ops_meaning::Status;
 use ops_top::still_run;
@@ -13,9 +13,7 @@ const ENGINES: [&str; 3] = ["--match=direct", "--match=serial", "--match=rounds"
 fn sessions_without_turns(rt: HostRuntime) -> Result<(), Fail> {
     let alloc = rt.alloc();
     for engine in ENGINES {
-        let mut words = Vec::new(alloc);
-        words.push(String::from_str(alloc, engine)?)?;
-        words.push(String::from_str(alloc, "a")?)?;
+        let words = words_of(alloc, &[engine, "a"])?;
         let mut shelf = shelf_of(alloc, &[("a", LAYOUT)], &[])?;
         let mut input = MemSource::new(Vec::new(alloc), 1, Vec::new(alloc));
         let mut sink = MemSink::new(alloc, 1_000, 1_000, Vec::new(alloc))?;
