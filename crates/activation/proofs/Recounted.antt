@@ -1,13 +1,19 @@
 -- A line is still counted once a task has arrived, with what blocks its left tokens counted anew.
-use Rattle.std.proofs.Common.{◌≡◌, ◌≢◌, ℕ, ◌-◌, ◌<◌, ◌^◌, ◌==◌, ◌&&◌, Bool, true, false, cond, List, [], ◌∷◌, pos, refl, sym, ap, ap₂, subst, ◌∙◌, length, slice_get, slice_index, bytes_eq, Some, ◌⊎◌, inl, inr, true≢false}
+use Rattle.std.proofs.Common.{◌≡◌, ◌≢◌, ℕ, ◌-◌, ◌<◌, ◌^◌, ◌==◌, ◌&&◌, Bool, true, false, cond, List, [], ◌∷◌, ◌++◌, pos, refl, sym, ap, ap₂, subst, ◌∙◌, length, slice_get, slice_index, bytes_eq, Some, ◌⊎◌, inl, inr, true≢false}
 use Rattle.std.proofs.lemmas.Bool.Decides.{Decides-eqb}
+use Rattle.std.proofs.lemmas.List.{map-append}
+use Rattle.std.proofs.lemmas.List.Elements.{filter-append}
+use Rattle.std.specs.List.{filter}
+use Rattle.std.specs.Prelude.{map}
+use Rattle.std.specs.Option.{option_map_or}
 use Rattle.work_store.specs.Stored.{Stored, held_of}
 use Rattle.net_base.specs.declared.nodes.Node.{Node}
 use Rattle.net_base.specs.declared.tasks.Side.{Side}
 use Rattle.net_base.specs.declared.tasks.Side.TheVariants.{Left, Right}
 use Rattle.net_base.specs.declared.tasks.Task.{Task}
-use Rattle.net_base.specs.Sound.{is_negated}
+use Rattle.net_base.specs.Sound.{is_negated, is_terminal}
 use Rattle.net_base.specs.Tokens.{joins_hold}
+use Rattle.token_line.specs.declared.line.Entry.{Entry}
 use Rattle.token_line.specs.declared.line.Line.{Line}
 use Rattle.token_line.specs.Bags.{after, are_same_sides, is_at, standing}
 use Rattle.token_line.specs.Held.{Fits, TaskFits}
@@ -19,7 +25,7 @@ use Rattle.token_line.proofs.Joined.{joined_with_one_code}
 use Rattle.token_line.proofs.LineLemmas.{at_task}
 use Rattle.token_line.specs.Sums.{counted}
 use Rattle.activation.specs.Effects.{Effect}
-use Rattle.activation.specs.Acting.{IsCounted, IsEffect, matching}
+use Rattle.activation.specs.Acting.{IsCounted, IsEffect, is_last, lasts_of, matching}
 use Rattle.activation.specs.Negating.{is_matched}
 use Rattle.activation.specs.Putting.{changes}
 use Rattle.activation.proofs.Agreed.{IsHeld}
@@ -132,9 +138,11 @@ module _ (nodes : List Node) (s : Stored) (x : Task) (fits : TaskFits nodes s x)
       → ((n : ℕ) (t : List ℕ) → sum_in new n Left t ≢ pos 0
       → blockers_in new n t ≡ cond (e.blocks && is_matched (slice_get nodes x.node) (held_of s) x n t) (counted x.plus (added n t)) (added n t))
       → ((n c : ℕ) (side : Side) (t : List ℕ) → IsFiled new n c side t → IsFiled old n c side t ⊎ ((c ≡ code_of (held_of s) nodes x.node x.side x.token) × (is_at n side t x ≡ true)))
+      → new.told.items ≡ lasts_of nodes new.entries.items
       → IsCounted nodes s new
-  counted_after small numbers filed = record {
+  counted_after small numbers filed told = record {
     fit = fits_after;
+    told = told;
     counts = λ n y t at negated some. numbers n t some ∙ (by n y t at negated some x.side refl ∙ over_new n y t at negated some);
     filed = λ n c side t some. code_after n c side t (filed n c side t some);
   }
@@ -157,8 +165,10 @@ module _ (nodes : List Node) (s : Stored) (x : Task) (fits : TaskFits nodes s x)
 
 -- the same sums and the same numbers count the same
 pub counted_same : (nodes : List Node) (s : Stored) (old new : Line) → IsCounted nodes s old → ((n : ℕ) (side : Side) (t : List ℕ) → sum_in new n side t ≡ sum_in old n side t)
-    → ((n : ℕ) (t : List ℕ) → blockers_in new n t ≡ blockers_in old n t) → KeepsCodes old new → IsCounted nodes s new
-counted_same nodes s old new counts same numbers codes = record {
+    → ((n : ℕ) (t : List ℕ) → blockers_in new n t ≡ blockers_in old n t) → KeepsCodes old new
+    → new.told.items ≡ old.told.items → new.entries.items ≡ old.entries.items → IsCounted nodes s new
+counted_same nodes s old new counts same numbers codes told entries = record {
+  told = told ∙ counts.told ∙ ap (lasts_of nodes) (sym entries);
   fit = λ n side t some. counts.fit n side t (λ z. some (same n side t ∙ z));
   counts = λ n y t at negated some.
       numbers n t
@@ -166,6 +176,16 @@ counted_same nodes s old new counts same numbers codes = record {
       ∙ sym (matching_same (held_of s) y.joins (sum_in new) (sum_in old) n t (λ k. ap standing (same n Right (k ∷ [])))));
   filed = λ n c side t some. counts.filed n c side t (codes n c side t some);
 }
+
+-- once a task is an entry the line tells of it, where it came to a terminal
+pub told_after : (nodes : List Node) (x : Task) (node : Node) → slice_get nodes x.node ≡ Some node → (b : Bool) → b ≡ is_terminal node.kind → (old : Line) {s : Stored} → IsCounted nodes s old → (new : Line) (kids : List Task)
+    → new.told.items ≡ old.told.items ++ cond b (x ∷ []) [] → new.entries.items ≡ old.entries.items ++ record { task = x; children = kids } ∷ [] → new.told.items ≡ lasts_of nodes new.entries.items
+told_after nodes x node at b is old counts new kids told entries =
+    told
+    ∙ (ap₂ (λ xs c. xs ++ cond c (x ∷ []) []) counts.told (is ∙ sym (ap (λ o. option_map_or (λ (n : Node). is_terminal n.kind) o false) at))
+    ∙ (sym (filter-append (is_last nodes) (map (λ e. e.task) old.entries.items) (x ∷ []))
+    ∙ (ap (filter (is_last nodes)) (sym (map-append (λ (e : Entry). e.task) old.entries.items (record { task = x; children = kids } ∷ [])))
+    ∙ ap (lasts_of nodes) (sym entries))))
 
 -- ---- room
 

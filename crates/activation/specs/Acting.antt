@@ -1,5 +1,6 @@
 -- What a task does on its line.
-use Rattle.std.specs.Prelude.{◌≡◌, ◌≢◌, ℕ, ◌+◌, ◌-◌, ◌^◌, ◌<◌, ◌&&◌, ℤ, pos, neg_ℤ, ◌+ℤ◌, Bool, true, false, List, [], ◌∷◌, ◌++◌, bytes_eq, length, slice_get, Some, IsSome, All, if◌then◌else◌}
+use Rattle.std.specs.Prelude.{◌≡◌, ◌≢◌, ℕ, ◌+◌, ◌-◌, ◌^◌, ◌<◌, ◌&&◌, ℤ, pos, neg_ℤ, ◌+ℤ◌, Bool, true, false, List, [], ◌∷◌, ◌++◌, bytes_eq, filter, length, map, slice_get, Some, IsSome, All, if◌then◌else◌}
+use Rattle.std.specs.Option.{option_map_or}
 use Rattle.work_store.specs.Stored.{Stored, held_of}
 use Rattle.net_base.specs.declared.nodes.JoinTest.{JoinTest}
 use Rattle.net_base.specs.declared.nodes.Node.{Node}
@@ -26,13 +27,27 @@ use Rattle.activation.specs.Putting.{Put, changes}
 abbrev pub matching : Elements → List JoinTest → Bag → ℕ → List ℕ → ℕ
 matching elements tests b n t = count_below (2 ^ 64) (joins_hold tests elements t) (standing_at b n Right)
 
+-- whether the task comes to a terminal
+abbrev pub is_last : List Node → Task → Bool
+is_last nodes x = option_map_or (λ n. is_terminal n.kind) (slice_get nodes x.node) false
+
+-- the tasks of these entries that came to terminals
+abbrev pub lasts_of : List Node → List Entry → List Task
+lasts_of nodes es = filter (is_last nodes) (map (λ e. e.task) es)
+
+-- the line tells of just the tasks that came to terminals
+abbrev pub TellsOfLasts : List Node → Line → Type 0
+TellsOfLasts nodes line = line.told.items ≡ lasts_of nodes line.entries.items
+
 -- Each token of the line that has a sum other than 0 fits, and the line keeps it under its code. With each left token
--- of a negated node it keeps how often right tokens stand that match it.
+-- of a negated node it keeps how often right tokens stand that match it. It tells of just the tasks that came to
+-- terminals.
 pub record IsCounted (nodes : List Node) (s : Stored) (line : Line) : Type 0 where
   pub fit : (n : ℕ) (side : Side) (t : List ℕ) → sum_in line n side t ≢ pos 0 → Fits nodes s n side t
   pub counts : (n : ℕ) (x : Node) (t : List ℕ) → slice_get nodes n ≡ Some x → is_negated x.kind ≡ true → sum_in line n Left t ≢ pos 0
       → blockers_in line n t ≡ matching (held_of s) x.joins (sum_in line) n t
   pub filed : (n c : ℕ) (side : Side) (t : List ℕ) → IsFiled line n c side t → c ≡ code_of (held_of s) nodes n side t
+  pub told : TellsOfLasts nodes line
 
 -- ---- what a node puts out for a task
 

@@ -2,7 +2,7 @@
 ghost use Rattle.std.specs.Prelude.{◌≡◌, ◌≢◌, ◌<◌, ◌-◌, ◌^◌, ◌&&◌, List, OnErr, OnOk, Some, if◌then◌else◌, pos, slice_get, slice_index, true, ℕ};
 ghost use Rattle.std.specs.Option.{option_copied};
 ghost use Rattle.work_store.specs.Stored.{held_of};
-ghost use Rattle.net_base.specs.Sound.{IsSound};
+ghost use Rattle.net_base.specs.Sound.{IsSound, is_terminal};
 ghost use Rattle.net_base.specs.Tokens.{joins_hold};
 ghost use Rattle.net_base.specs.declared.tasks.Side.{Side};
 ghost use Rattle.net_base.specs.declared.tasks.Side.TheVariants.{Left};
@@ -16,11 +16,11 @@ ghost use Rattle.activation.specs.Negating.{is_matched};
 
 use crate::effects::{do_at, tags_are_small, tokens_are_kept};
 use net_base::net::Net;
-use net_base::nodes::Node;
+use net_base::nodes::{Kind, Node};
 use net_base::tasks::Task;
 use ops_base::memory::OutOfMemory;
 use std::alloc::Global;
-use token_line::{Children, Entry, Line, code_of, tag_at};
+use token_line::{Children, Line, code_of, tag_at};
 use work_store::Store;
 
 /// The node of the task.
@@ -32,6 +32,16 @@ fn node_of<'a>(net: &'a Net, store: &Store, task: &Task) -> &'a Node
     match net.nodes().get(task.node) {
         Some(node) => node,
         None => unreachable!(),
+    }
+}
+
+/// Whether the tasks of this node are told of: those of a terminal.
+fn is_last(node: &Node) -> bool
+    ensures { result ≡ is_terminal node.now.kind }
+{
+    match node.kind {
+        Kind::Terminal { rule: _ } => true,
+        Kind::Join | Kind::Negated => false,
     }
 }
 
@@ -51,6 +61,7 @@ fn count_blockers(
     ensures blockers { (n : ℕ) (t : List ℕ) → sum_in line.new n Left t ≢ pos 0 → blockers_in line.new n t ≡ (if blocks && is_matched (slice_get net.now.nodes task.now.node) (held_of store.now) task.now n t then counted task.now.plus (blockers_in line.old n t) else blockers_in line.old n t) }
     ensures sums { (n : ℕ) (s : Side) (t : List ℕ) → sum_in line.new n s t ≡ sum_in line.old n s t }
     ensures entries { line.new.entries.items ≡ line.old.entries.items }
+    ensures told { line.new.told.items ≡ line.old.told.items }
     ensures number { line.new.number ≡ line.old.number }
     ensures filed { KeepsCodes line.old line.new }
 {
@@ -87,18 +98,15 @@ fn attempt(
     tokens_are_kept(memory);
     tags_are_small(store);
     let done = do_at(alloc, store, node, memory, spot.kept(), task, out)?;
-    let entry = Entry {
-        task: task.copy(alloc)?,
-        children: Children::since(out, before),
-    };
-    line.add_at(alloc, &spot, entry, done.blockers)?;
+    let children = Children::since(out, before);
+    line.add_at(alloc, &spot, task, children, done.blockers, is_last(node))?;
     count_blockers(net, store, line, node, task, code, done.blocks);
     Ok(())
 }
 
 /// Does a task on this line, which its caller finds by `token_line::line_of`: its children go after `out`, it becomes
 /// an entry of the line, and its token counts there. The task's code is made once, and its memory and the token are
-/// looked for once. A join or a negated node looks at each token of the other side that it has on the line with the
+/// looked for once; the task is copied where its node is a terminal alone. A join or a negated node looks at each token of the other side that it has on the line with the
 /// task's code, so at no other values at the equality tests unless their codes happen to be equal; but for a task that
 /// changes nothing and a left token that a negated node keeps already. Each child is made once. Where memory runs out,
 /// or a count does not fit, nothing has changed.

@@ -9,7 +9,7 @@ use Rattle.token_line.specs.declared.line.Line.{Line}
 use Rattle.token_line.specs.declared.line.Entry.{Entry}
 use Rattle.token_line.specs.Bags.{Bag}
 use Rattle.token_line.specs.Lines.{KeepsCodes, blockers_in, sum_in}
-use Rattle.activation.specs.Acting.{IsCounted}
+use Rattle.activation.specs.Acting.{IsCounted, lasts_of}
 use Rattle.step_core.specs.Machine.{Seen, cleared}
 use Rattle.step_core.specs.Worlds.{seen}
 use Rattle.step_core.proofs.Adding.{bag_ext}
@@ -21,6 +21,7 @@ pub record IsKept (old new : Line) : Type 0 where
   pub blockers : (n : ℕ) (t : List ℕ) → blockers_in new n t ≡ blockers_in old n t
   pub number : new.number ≡ old.number
   pub filed : KeepsCodes old new
+  pub told : (nodes : List Node) → old.told.items ≡ lasts_of nodes old.entries.items → new.told.items ≡ lasts_of nodes new.entries.items
 
 abbrev pub AreKept : List Line → List Line → Type 0
 AreKept [] [] = Unit {0}
@@ -30,10 +31,10 @@ AreKept (x ∷ xs) (y ∷ ys) = IsKept x y × AreKept xs ys
 
 pub all_kept : (xs : List Line) → AreKept xs xs
 all_kept [] = tt
-all_kept (x ∷ xs) = (record { sums = λ n s t. refl; blockers = λ n t. refl; number = refl; filed = λ n c s t some. some }, all_kept xs)
+all_kept (x ∷ xs) = (record { sums = λ n s t. refl; blockers = λ n t. refl; number = refl; filed = λ n c s t some. some; told = λ nodes is. is }, all_kept xs)
 
 kept_on : (x y z : Line) → IsKept x y → IsKept y z → IsKept x z
-kept_on x y z a b = record { sums = λ n s t. b.sums n s t ∙ a.sums n s t; blockers = λ n t. b.blockers n t ∙ a.blockers n t; number = b.number ∙ a.number; filed = λ n c s t some. a.filed n c s t (b.filed n c s t some) }
+kept_on x y z a b = record { sums = λ n s t. b.sums n s t ∙ a.sums n s t; blockers = λ n t. b.blockers n t ∙ a.blockers n t; number = b.number ∙ a.number; filed = λ n c s t some. a.filed n c s t (b.filed n c s t some); told = λ nodes is. b.told nodes (a.told nodes is) }
 
 pub one_kept : (k : ℕ) (xs ys : List Line) (y z : Line) → AreKept xs ys → k < length ys → y ≡ get_or ys k y → IsKept y z → AreKept xs (set ys k z)
 one_kept k [] [] y z are low is one = absurd (omega arith)
@@ -73,4 +74,4 @@ counted_kept nodes s [] [] are all = All-nil (IsCounted nodes s)
 counted_kept nodes s [] (y ∷ ys) are all = absurd are
 counted_kept nodes s (x ∷ xs) [] are all = absurd are
 counted_kept nodes s (x ∷ xs) (y ∷ ys) are all =
-    All-cons (IsCounted nodes s) y ys (counted_same nodes s x y (All-head (IsCounted nodes s) x xs all) are.0.sums are.0.blockers are.0.filed) (counted_kept nodes s xs ys are.1 (All-tail (IsCounted nodes s) x xs all))
+    All-cons (IsCounted nodes s) y ys (counted_same nodes s x y (All-head (IsCounted nodes s) x xs all) are.0.sums are.0.blockers are.0.filed (are.0.told nodes (All-head (IsCounted nodes s) x xs all).told)) (counted_kept nodes s xs ys are.1 (All-tail (IsCounted nodes s) x xs all))

@@ -15,7 +15,7 @@ use Rattle.token_line.specs.Lawful.{giver_of}
 use Rattle.token_line.proofs.Fitting.{fits_at, left_is_wide}
 use Rattle.token_line.specs.Lines.{KeepsCodes, blockers_in, sum_in}
 use Rattle.token_line.proofs.Filed.{filed_stands}
-use Rattle.activation.specs.Acting.{IsCounted, matching}
+use Rattle.activation.specs.Acting.{IsCounted, lasts_of, matching}
 use Rattle.step_core.specs.Machine.{root_part}
 use Rattle.step_core.specs.Starts.{IsBegun}
 use Rattle.step_core.proofs.Adding.{bag_ext}
@@ -23,8 +23,9 @@ use Rattle.step_core.proofs.RootTokens.{IsRootToken, root_code, root_token}
 
 -- a line with the same sums, the same numbers, and no other codes
 pub counted_same : (nodes : List Node) (s : Stored) (old new : Line) → IsCounted nodes s old → ((n : ℕ) (side : Side) (t : List ℕ) → sum_in new n side t ≡ sum_in old n side t)
-    → ((n : ℕ) (t : List ℕ) → blockers_in new n t ≡ blockers_in old n t) → KeepsCodes old new → IsCounted nodes s new
-counted_same nodes s old new counted same numbers codes = record {
+    → ((n : ℕ) (t : List ℕ) → blockers_in new n t ≡ blockers_in old n t) → KeepsCodes old new → new.told.items ≡ lasts_of nodes new.entries.items → IsCounted nodes s new
+counted_same nodes s old new counted same numbers codes told = record {
+  told = told;
   fit = λ n side t some. counted.fit n side t (λ z. some (same n side t ∙ z));
   counts = λ n x t at negated some.
       numbers n t
@@ -46,6 +47,7 @@ joins_in (Some x) = is_join x.kind
 -- a line of the start, which has only what the root gives, and that at joins
 pub counted_begun : (alphas : List Alpha) (nodes : List Node) → IsSound alphas nodes → (s : Stored) (lines bound i : ℕ) (l : Line) → IsBegun nodes lines bound i l → IsCounted nodes s l
 counted_begun alphas nodes sound s lines bound i l begun = record {
+  told = begun.bare.1 ∙ ap (lasts_of nodes) (sym begun.bare.0);
   fit = λ n side t some. root_fits nodes s n side t (token n side t some);
   counts = λ n x t at negated some. no_negated x.kind negated (at_join n x t at some);
   filed = λ n c side t some. begun.filed n c side t some ∙ sym (root_code alphas nodes sound n side t (token n side t (filed_stands l n c side t some)) (held_of s));

@@ -39,3 +39,5 @@ pub mod Settling
 pub mod AddingUp
 pub mod WhatMoved
 pub mod WorkedMoves
+pub mod Lasts
+pub mod Lifted

@@ -163,6 +163,7 @@ module _ (alphas : List Alpha) (nodes : List Node) (wm : List Element) where
 
       counted_moves : (s s' : Stored) → HoldsWm wm s → HoldsWm wm s' → IsCounted nodes s l → IsCounted nodes s' l
       counted_moves s s' holds holds' counted = record {
+        told = counted.told;
         fit = λ n side t some. fits_of s' holds' n side t (stand n side t some);
         counts = λ n x t at negated some. counted.counts n x t at negated some ∙ (matches s holds n x t at some ∙ sym (matches s' holds' n x t at some));
         filed = λ n c side t has.

@@ -1,5 +1,6 @@
 -- What holds of a call's result.
-use Rattle.std.proofs.Common.{◌≡◌, List, IfOk, OnErr, OnOk, Result, Ok, Err, Vec, Global, sym, subst}
+use Rattle.std.proofs.Common.{◌≡◌, Bool, true, false, List, IfOk, OnErr, OnOk, Result, Ok, Err, Vec, Global, sym, subst}
+use Rattle.std.specs.Result.{is_err}
 use Rattle.ops_base.specs.declared.memory.OutOfMemory.{OutOfMemory}
 
 pub if_items : {X : Type 0} (P : List X → Type 0) (xs : List X) (r : Result (Vec X Global) OutOfMemory) → IfOk r (λ v. v.items ≡ xs) → P xs → IfOk r (λ v. P v.items)
@@ -13,3 +14,11 @@ on_err P (Err e) p = p
 pub on_ok : {T E : Type 0} (P Q : Type 0) (r : Result T E) → (P → Q) → OnOk r P → OnOk r Q
 on_ok P Q (Ok x) f p = f p
 on_ok P Q (Err e) f p = tt
+
+pub ok_of : {T E : Type 0} (P : Type 0) (r : Result T E) (b : Bool) → b ≡ is_err r → b ≡ false → OnOk r P → P
+ok_of P (Ok x) b same bad p = p
+ok_of P (Err e) b same bad p = absurd (cc)
+
+pub on_err_both : {T E : Type 0} (P Q R : Type 0) (r : Result T E) → (P → Q → R) → OnErr r P → OnErr r Q → OnErr r R
+on_err_both P Q R (Ok x) f p q = tt
+on_err_both P Q R (Err e) f p q = f p q

@@ -67,7 +67,7 @@ module _ (alphas : List Alpha) (nodes : List Node) (sound : IsSound alphas nodes
   seen_begun : (i : ℕ) (l : Line) → IsBegun nodes lines (length nodes) i l → seen l ≡ record { sums = on_line (placed elements nodes lines) i (sums_at_start nodes); entries = [] }
   seen_begun i l is =
       let make : Bag → List Entry → Seen = λ b es. record { sums = b; entries = es } in
-      ap₂ make (bag_ext (sum_in l) (on_line (placed elements nodes lines) i (sums_at_start nodes)) (λ n s t. is.sums n s t ∙ all_given i n s t)) is.entries
+      ap₂ make (bag_ext (sum_in l) (on_line (placed elements nodes lines) i (sums_at_start nodes)) (λ n s t. is.sums n s t ∙ all_given i n s t)) is.bare.0
 
   -- ---- all lines
 

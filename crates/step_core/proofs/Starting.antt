@@ -19,7 +19,7 @@ use Rattle.token_line.specs.Lines.{IsAlone, IsFiled, KeepsCodesBut, filed_in, su
 use Rattle.token_line.proofs.Filed.{nothing}
 use Rattle.token_line.proofs.LineLemmas.{at_task}
 use Rattle.step_core.specs.Machine.{root_part}
-use Rattle.step_core.specs.Starts.{AreUnused, AreBegun, IsBegun, given_below, root_task}
+use Rattle.step_core.specs.Starts.{AreUnused, AreBegun, IsBare, IsBegun, given_below, root_task}
 use Rattle.step_core.proofs.Signs.{sign_at-none}
 
 -- ---- each in a list, with its number
@@ -43,17 +43,17 @@ pub unused_none : AreUnused 0 []
 unused_none = record {
   count = refl;
   number = λ i l at. absurd (cc);
-  entries = λ i l at. absurd (cc);
+  bare = λ i l at. absurd (cc);
   sums = λ i l at n s t. absurd (cc);
   filed = λ i l at n c s t. absurd (cc);
 }
 
-pub unused_more : (count : ℕ) (ls : List Line) (l : Line) → AreUnused count ls → l.number ≡ count → l.entries.items ≡ [] → ((n : ℕ) (s : Side) (t : List ℕ) → sum_in l n s t ≡ pos 0)
+pub unused_more : (count : ℕ) (ls : List Line) (l : Line) → AreUnused count ls → l.number ≡ count → IsBare l → ((n : ℕ) (s : Side) (t : List ℕ) → sum_in l n s t ≡ pos 0)
     → ((n c : ℕ) (s : Side) (t : List ℕ) → filed_in l n c s t ≡ None) → AreUnused (count + 1) (ls ++ l ∷ [])
-unused_more count ls l are number entries sums filed = record {
+unused_more count ls l are number bare sums filed = record {
   count = omega (arith, length-append ls (l ∷ []), are.count);
   number = each_push (λ i x. x.number ≡ i) ls l are.number (number ∙ sym are.count);
-  entries = each_push (λ i x. x.entries.items ≡ []) ls l are.entries entries;
+  bare = each_push (λ i x. IsBare x) ls l are.bare bare;
   sums = each_push (λ i x. (n : ℕ) (s : Side) (t : List ℕ) → sum_in x n s t ≡ pos 0) ls l are.sums sums;
   filed = each_push (λ i x. (n c : ℕ) (s : Side) (t : List ℕ) → filed_in x n c s t ≡ None) ls l are.filed filed;
 }
@@ -63,7 +63,7 @@ unused_is_begun nodes lines ls are = record {
   count = are.count;
   each = λ i l at. record {
     number = are.number i l at;
-    entries = are.entries i l at;
+    bare = are.bare i l at;
     sums = λ n s t. are.sums i l at n s t ∙ none i n s t;
     filed = λ n c s t some. absurd (nothing (filed_in l n c s t) (are.filed i l at n c s t) some);
   };
@@ -161,7 +161,7 @@ module _ (nodes : List Node) (k : ℕ) (x : Node) (at : slice_get nodes k ≡ So
     count = are.count;
     each = λ i l e.
         let old = are.each i l e in
-        record { number = old.number; entries = old.entries; sums = λ n s t. old.sums n s t ∙ same_given lines i s t (none_given (k % lines == i) s t) n; filed = old.filed };
+        record { number = old.number; bare = old.bare; sums = λ n s t. old.sums n s t ∙ same_given lines i s t (none_given (k % lines == i) s t) n; filed = old.filed };
   }
     where
       none_given : (b : Bool) (s : Side) (t : List ℕ) → cond b (pos (root_part (giver_of nodes k s) t)) (pos 0) ≡ pos 0
@@ -176,18 +176,18 @@ module _ (nodes : List Node) (k : ℕ) (x : Node) (at : slice_get nodes k ≡ So
       by (Some p) is some = below_node p is lines ls are
 
   pub root_given : is_some x.parent ≡ false → (lines : ℕ) (ls : List Line) (old new : Line) → AreBegun nodes lines k ls → slice_get ls (k % lines) ≡ Some old
-      → new.number ≡ old.number → new.entries.items ≡ [] → ((n : ℕ) (s : Side) (t : List ℕ) → sum_in new n s t ≡ after (sum_in old) (root_task k) n s t)
+      → new.number ≡ old.number → IsBare new → ((n : ℕ) (s : Side) (t : List ℕ) → sum_in new n s t ≡ after (sum_in old) (root_task k) n s t)
       → KeepsCodesBut old new k (root_task k) → AreBegun nodes lines (k + 1) (set ls (k % lines) new)
-  root_given none lines ls old new are here number entries sums codes = record {
+  root_given none lines ls old new are here number bare sums codes = record {
     count = length-set ls (k % lines) new ∙ are.count;
     each = each_set (IsBegun nodes lines (k + 1)) ls (k % lines) new
         (λ i l ne e.
         let was = are.each i l e in
-        record { number = was.number; entries = was.entries; sums = λ n s t. was.sums n s t ∙ same_given lines i s t (elsewhere i ne s t) n; filed = was.filed })
+        record { number = was.number; bare = was.bare; sums = λ n s t. was.sums n s t ∙ same_given lines i s t (elsewhere i ne s t) n; filed = was.filed })
         (let was = are.each (k % lines) old here in
         record {
           number = number ∙ was.number;
-          entries = entries;
+          bare = bare;
           sums = λ n s t. sums n s t ∙ (ap (λ z. z +ℤ sign_at n s t (root_task k)) (was.sums n s t) ∙ more_given lines (k % lines) s t (at_root x.parent none) refl n);
           filed = λ n c s t some. coded (was.filed) n c s t (codes n c s t some);
         });

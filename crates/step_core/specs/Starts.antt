@@ -10,11 +10,15 @@ use Rattle.token_line.specs.Lawful.{giver_of}
 use Rattle.token_line.specs.Lines.{IsFiled, filed_in, sum_in}
 use Rattle.step_core.specs.Machine.{root_part}
 
+-- nothing was done on the line, and it tells of nothing
+abbrev pub IsBare : Line → Type 0
+IsBare l = (l.entries.items ≡ []) × (l.told.items ≡ [])
+
 -- this many lines, in the order of their numbers, with no tokens and no entries
 pub record AreUnused (lines : ℕ) (ls : List Line) : Type 0 where
   pub count : length ls ≡ lines
   pub number : (i : ℕ) (l : Line) → slice_get ls i ≡ Some l → l.number ≡ i
-  pub entries : (i : ℕ) (l : Line) → slice_get ls i ≡ Some l → l.entries.items ≡ []
+  pub bare : (i : ℕ) (l : Line) → slice_get ls i ≡ Some l → IsBare l
   pub sums : (i : ℕ) (l : Line) → slice_get ls i ≡ Some l → (n : ℕ) (s : Side) (t : List ℕ) → sum_in l n s t ≡ pos 0
   pub filed : (i : ℕ) (l : Line) → slice_get ls i ≡ Some l → (n c : ℕ) (s : Side) (t : List ℕ) → filed_in l n c s t ≡ None
 
@@ -30,7 +34,7 @@ given_below nodes lines bound i n s t =
 -- line i, which holds just this, each token under the number of its node as its code, with no entry
 pub record IsBegun (nodes : List Node) (lines bound i : ℕ) (l : Line) : Type 0 where
   pub number : l.number ≡ i
-  pub entries : l.entries.items ≡ []
+  pub bare : IsBare l
   pub sums : (n : ℕ) (s : Side) (t : List ℕ) → sum_in l n s t ≡ given_below nodes lines bound i n s t
   pub filed : (n c : ℕ) (s : Side) (t : List ℕ) → IsFiled l n c s t → c ≡ n
 

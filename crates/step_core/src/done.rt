@@ -1,15 +1,33 @@
 //! What was done and is not finished yet.
-ghost use Rattle.std.specs.Prelude.{◌≡◌, ◌≤◌, ◌<◌, ◌+◌, ◌∷◌, ◌++◌, [], length, map, remove, slice_get, Some, vec_len, vec_capacity};
+ghost use Rattle.std.specs.Prelude.{◌≡◌, ◌≤◌, ◌<◌, ◌+◌, ◌∷◌, ◌++◌, [], length, map, remove, set, slice_get, Some, vec_len, vec_capacity};
 ghost use Rattle.net_base.specs.declared.tasks.Task.{Task};
 ghost use Rattle.step_core.specs.Doing.{entry_of};
 
-use net_base::tasks::Task;
+use net_base::tags::Tags;
+use net_base::tasks::{Side, Task};
+use std::alloc::Global;
+use std::mem;
 
 /// A task that was done, and the tasks that it gave.
 #[derive(Drop)]
 pub(crate) struct Done {
     pub(crate) task: Task,
     pub(crate) children: Vec<Task>,
+}
+
+/// Takes the task at that place out of the flight, where an empty one stays in its place. Takes no memory.
+pub(crate) fn lift(flight: &mut Vec<Task>, alloc: Global, index: usize) -> Task
+    requires { index < length flight.old.items }
+    ensures task { slice_get flight.old.items index ≡ Some result }
+    ensures rest { (blank : Task) × (flight.new.items ≡ set flight.old.items index blank) }
+{
+    let blank = Task {
+        node: 0,
+        side: Side::Left,
+        plus: true,
+        token: Tags::new(alloc),
+    };
+    mem::replace(&mut flight[index], blank)
 }
 
 /// Adds tasks at the end of those that have the room.

@@ -4,11 +4,12 @@ ghost use Rattle.std.specs.Int.{w64};
 ghost use Rattle.std.specs.List.Sorted.{IsSortedByKey};
 ghost use Rattle.ops_base.specs.Instances.{by_rule_and_tags};
 ghost use Rattle.token_line.specs.Bags.{sign};
+ghost use Rattle.activation.specs.Acting.{TellsOfLasts};
 ghost use Rattle.step_core.specs.Phases.{before, now, total};
 ghost use Rattle.step_core.specs.Worked.{AreWorked};
 ghost use Rattle.step_core.specs.Worlds.{seen};
 ghost use Rattle.step_core.specs.Found.{inst};
-ghost use Rattle.step_core.specs.Gathering.{AreTold, added, ends_with, has_come, has_gone, is_same, moved_at, moved_by, moved_on, moved_over, rule_in};
+ghost use Rattle.step_core.specs.Gathering.{AreTold, added, ends_with, has_come, has_gone, is_same, moved_at, moved_by, moved_on, rule_in};
 ghost use Rattle.step_core.specs.Settling.{HaveOwnLines, IsGathered};
 
 use net_base::net::Net;
@@ -88,30 +89,20 @@ fn look_at(
     Ok(())
 }
 
-/// The same for each entry of the line.
+/// The same for each task that the line tells of.
 fn look_over(
     alloc: Global,
     net: &Net,
     line: &Line,
     moved: &mut Vec<Moved>,
 ) -> Result<(), OutOfMemory>
+    requires { TellsOfLasts net.now.nodes line.now }
     ensures { OnOk result (moved.new.items ≡ moved.old.items ++ moved_on net.now.nodes (seen line.now)) }
 {
-    for entry in line.entries() {
-        look_at(alloc, net, line, &entry.task, moved)?;
+    for task in line.told() {
+        look_at(alloc, net, line, task, moved)?;
     }
     Ok(())
-}
-
-/// What the entries of all lines moved.
-fn look_over_all(alloc: Global, net: &Net, lines: &[Line]) -> Result<Vec<Moved>, OutOfMemory>
-    ensures { IfOk result (λ v. v.items ≡ moved_over net.now.nodes (map seen lines.now)) }
-{
-    let mut moved = Vec::new(alloc);
-    for line in lines {
-        look_over(alloc, net, line, &mut moved)?;
-    }
-    Ok(moved)
 }
 
 /// What the entries of the lines at these places moved.
@@ -121,7 +112,8 @@ fn look_over_places(
     lines: &[Line],
     places: &[usize],
 ) -> Result<Vec<Moved>, OutOfMemory>
-    requires { All (λ i. i < length lines.now) places.now }
+    requires within { All (λ i. i < length lines.now) places.now }
+    requires told { All (TellsOfLasts net.now.nodes) lines.now }
     ensures { IfOk result (λ v. v.items ≡ moved_at net.now.nodes (map seen lines.now) places.now) }
 {
     let mut moved = Vec::new(alloc);
@@ -230,18 +222,8 @@ fn tell(alloc: Global, moved: Vec<Moved>) -> Result<Gathered, OutOfMemory>
 }
 
 /// What came and what went in the phase of the lines: the instantiations that did not stand when it began and stand
-/// now, and those that stood and no longer do. It looks at each line and each entry once, and takes time for the
-/// entries at terminals alone: they are sorted. It takes no memory where there is none.
-pub fn gather(alloc: Global, net: &Net, lines: &[Line]) -> Result<Gathered, OutOfMemory>
-    requires { HaveOwnLines (map seen lines.now) }
-    ensures { IfOk result (λ g. IsGathered net.now.nodes (total (map before (map seen lines.now))) (total (map now (map seen lines.now))) g.come.items g.gone.items) }
-{
-    let moved = look_over_all(alloc, net, lines)?;
-    let gathered = tell(alloc, moved)?;
-    Ok(gathered)
-}
-
-/// The same, where it is known which lines have entries: it looks at these alone.
+/// now, and those that stood and no longer do. It looks at the lines that have entries alone, and there at the tasks
+/// that came to terminals, which it sorts. It takes no memory where there is none.
 pub fn gather_worked(
     alloc: Global,
     net: &Net,
@@ -250,6 +232,7 @@ pub fn gather_worked(
 ) -> Result<Gathered, OutOfMemory>
     requires own { HaveOwnLines (map seen lines.now) }
     requires worked { AreWorked lines.now worked.now }
+    requires told { All (TellsOfLasts net.now.nodes) lines.now }
     ensures { IfOk result (λ g. IsGathered net.now.nodes (total (map before (map seen lines.now))) (total (map now (map seen lines.now))) g.come.items g.gone.items) }
 {
     let moved = look_over_places(alloc, net, lines, worked)?;

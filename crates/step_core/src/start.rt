@@ -11,7 +11,7 @@ use net_base::tags::Tags;
 use net_base::tasks::{Side, Task};
 use ops_base::memory::OutOfMemory;
 use std::alloc::Global;
-use token_line::{Children, Entry, Line};
+use token_line::{Children, Line};
 
 /// So many lines with no tokens.
 fn bare_lines(alloc: Global, count: usize) -> Result<Vec<Line>, OutOfMemory>
@@ -29,6 +29,7 @@ fn give_root(alloc: Global, line: &mut Line, node: usize) -> Result<(), OutOfMem
     requires { IsAlone line.old node node Left [] }
     ensures sums { OnOk result ((n : ℕ) (s : Side) (t : List ℕ) → sum_in line.new n s t ≡ after (sum_in line.old) (root_task node) n s t) }
     ensures entries { OnOk result (line.new.entries.items ≡ []) }
+    ensures told { OnOk result (line.new.told.items ≡ []) }
     ensures number { line.new.number ≡ line.old.number }
     ensures filed { OnOk result (KeepsCodesBut line.old line.new node (root_task node)) }
 {
@@ -38,8 +39,7 @@ fn give_root(alloc: Global, line: &mut Line, node: usize) -> Result<(), OutOfMem
         plus: true,
         token: Tags::new(alloc),
     };
-    let children = Children::none(alloc);
-    line.add(alloc, node as u64, Entry { task, children }, 0)?;
+    line.add(alloc, node as u64, &task, Children::none(alloc), 0)?;
     line.clear_phase();
     Ok(())
 }

@@ -3,7 +3,7 @@ ghost use Rattle.std.specs.Prelude.{◌≡◌, ◌≤◌, ◌<◌, ◌+◌, ◌-
 ghost use Rattle.net_base.specs.declared.tasks.Task.{Task};
 ghost use Rattle.step_core.specs.Worked.{AreWorked};
 
-use crate::done::{Done, deliver, move_to_done};
+use crate::done::{Done, deliver, lift, move_to_done};
 use crate::feeding::fed_by;
 use crate::start::first_lines;
 use crate::worked::{act_on, clear_worked, worked_lines};
@@ -240,7 +240,7 @@ impl World {
 
     /// Does the task at that place and finishes it, at the cost of `activation::activate`: its children are made where
     /// they will be, at the end of the flight. `enter` gets the number of the task's line just before. It also moves the
-    /// tasks in flight after that place. Where memory runs out nothing has changed.
+    /// tasks in flight after that place; the task is not copied. Where memory runs out nothing has changed.
     pub fn work_at<F: Fn(usize)>(
         &mut self,
         alloc: Global,
@@ -258,8 +258,8 @@ impl World {
         ensures lines { numbers_of self.new ≡ numbers_of self.old }
         ensures count { length self.new.lines.items ≡ length self.old.lines.items }
     {
-        let task = self.flight[index].copy(alloc)?;
-        act_on(
+        let task = lift(&mut self.flight, alloc, index);
+        let acted = act_on(
             &mut self.lines,
             &mut self.worked,
             alloc,
@@ -268,8 +268,12 @@ impl World {
             enter,
             &task,
             &mut self.flight,
-        )?;
-        let _task = self.flight.remove(index);
+        );
+        if acted.is_err() {
+            self.flight[index] = task;
+            return acted;
+        }
+        let _blank = self.flight.remove(index);
         self.counter = (self.flight.len() + self.done.len()) as u64;
         Ok(())
     }

@@ -2,6 +2,7 @@
 #![tactic(auto)]
 
 pub mod children;
+pub mod deed;
 pub mod joining;
 pub mod laws;
 pub mod line;
@@ -14,6 +15,7 @@ mod tests;
 pub mod tokens;
 
 pub use children::Children;
+pub use deed::Deed;
 pub use joining::{joins, tag_at};
 pub use line::{Entry, Line};
 pub use memory::Memory;

@@ -1,6 +1,6 @@
 //! A line: the tokens of every node that stand on it, and what was done there in this phase.
-ghost use Rattle.std.specs.Prelude.{◌≡◌, ◌≢◌, ◌<◌, ◌∷◌, ◌++◌, ◌==◌, ◌&&◌, ◌-◌, ◌^◌, ◌+ℤ◌, IfOk, IfSome, List, None, OnErr, OnOk, [], if◌then◌else◌, pos, true, ℕ};
-ghost use Rattle.std.specs.Option.{option_copied};
+ghost use Rattle.std.specs.Prelude.{◌≡◌, ◌≢◌, ◌<◌, ◌∷◌, ◌++◌, ◌==◌, ◌&&◌, ◌-◌, ◌^◌, ◌+ℤ◌, IfOk, IfSome, List, None, OnErr, OnOk, [], if◌then◌else◌, length, pos, true, vec_capacity, ℕ};
+ghost use Rattle.std.specs.Option.{option_copied, option_to_list};
 ghost use Rattle.work_store.specs.Stored.{held_of};
 ghost use Rattle.net_base.specs.declared.tasks.Side.{Side};
 ghost use Rattle.net_base.specs.declared.tasks.Side.TheVariants.{Left, Right};
@@ -11,6 +11,7 @@ ghost use Rattle.token_line.specs.Spots.{IsSpotAmong};
 ghost use Rattle.token_line.specs.Sums.{blockers_kept, counted, sum_kept};
 
 use crate::children::Children;
+use crate::deed::Deed;
 use crate::memories::Memories;
 use crate::memory::Memory;
 use crate::spot::{Spot, spot_in, sum_of};
@@ -23,19 +24,21 @@ use ops_base::memory::OutOfMemory;
 use std::alloc::Global;
 use work_store::Store;
 
-/// A task that was done, and the tasks that it gave, which contracts alone see.
+/// A task that was done, and the tasks that it gave. Contracts alone see both: an entry takes no bytes.
 #[derive(Drop)]
 pub struct Entry {
-    pub task: Task,
+    pub task: Deed,
     pub children: Children,
 }
 
-/// The tokens that stand on one line, by their nodes and codes, and what was done there since the phase began, in this order.
+/// The tokens that stand on one line, by their nodes and codes, and what was done there since the phase began, in this
+/// order. Of that it keeps the tasks that are to be told of.
 #[derive(Drop)]
 pub struct Line {
     number: usize,
     memories: IndexMap<usize, Memories>,
     entries: Vec<Entry>,
+    told: Vec<Task>,
     ghost apart: { AreApart memories },
     ghost some: { HaveSums memories },
 }
@@ -66,6 +69,35 @@ fn cell_with(sum: &i64, blockers: u64) -> Option<Cell>
         None
     } else {
         Some(Cell { sum, blockers })
+    }
+}
+
+/// A copy of a task that is to be told of, with room for it.
+fn copy_to_tell(
+    told: &mut Vec<Task>,
+    alloc: Global,
+    task: &Task,
+    is_told: bool,
+) -> Result<Option<Task>, OutOfMemory>
+    ensures copy { IfOk result (λ copy. option_to_list copy ≡ (if is_told then task.now ∷ [] else [])) }
+    ensures room { IfOk result (λ copy. IfSome copy (λ _. length told.new.items < vec_capacity told.new)) }
+    ensures same { told.new.items ≡ told.old.items }
+{
+    if is_told {
+        told.reserve(1)?;
+        Ok(Some(task.copy(alloc)?))
+    } else {
+        Ok(None)
+    }
+}
+
+/// Adds the task, where there is one and so room for it.
+fn tell(told: &mut Vec<Task>, task: Option<Task>)
+    requires { IfSome task (λ _. length told.old.items < vec_capacity told.old) }
+    ensures { told.new.items ≡ told.old.items ++ option_to_list task }
+{
+    if let Some(task) = task {
+        told.push_reserved(task);
     }
 }
 
@@ -134,12 +166,14 @@ impl Line {
         ensures number { result.number ≡ number }
         ensures sums { (n : ℕ) (s : Side) (t : List ℕ) → sum_in result n s t ≡ pos 0 }
         ensures entries { result.entries.items ≡ [] }
+        ensures told { result.told.items ≡ [] }
         ensures filed { (n c : ℕ) (s : Side) (t : List ℕ) → filed_in result n c s t ≡ None }
     {
         Line {
             number,
             memories: IndexMap::new(alloc),
             entries: Vec::new(alloc),
+            told: Vec::new(alloc),
         }
     }
 
@@ -202,65 +236,83 @@ impl Line {
         }
     }
 
-    /// What was done since the phase began, in this order. Takes no memory.
+    /// What was done since the phase began, in this order: only its number is known when the program runs. Takes no memory.
     pub fn entries(&self) -> &[Entry]
         ensures { result.now ≡ self.now.entries.items }
     {
         self.entries.as_slice()
     }
 
-    /// Adds the entry at the end, and its task to the sum of its token. A left token of the task is kept with this many
-    /// blockers. It looks for the token once, as `find` does. Where memory runs out, or a sum would not fit, nothing
-    /// has changed.
+    /// The tasks that were done since the phase began and are to be told of, in this order. Takes no memory.
+    pub fn told(&self) -> &[Task]
+        ensures { result.now ≡ self.now.told.items }
+    {
+        self.told.as_slice()
+    }
+
+    /// Adds an entry of the task at the end, and the task to the sum of its token. A left token of the task is kept with
+    /// this many blockers. It is not told of. It looks for the token once, as `find` does. Where memory runs out, or a
+    /// sum would not fit, nothing has changed.
     pub fn add(
         &mut self,
         alloc: Global,
         code: u64,
-        entry: Entry,
+        task: &Task,
+        children: Children,
         blockers: u64,
     ) -> Result<(), OutOfMemory>
-        requires { IsAlone self.old entry.task.node code entry.task.side entry.task.token }
-        ensures sums { OnOk result ((n : ℕ) (s : Side) (t : List ℕ) → sum_in self.new n s t ≡ after (sum_in self.old) entry.task n s t) }
-        ensures entries { OnOk result (self.new.entries.items ≡ self.old.entries.items ++ entry ∷ []) }
+        requires { IsAlone self.old task.now.node code task.now.side task.now.token }
+        ensures sums { OnOk result ((n : ℕ) (s : Side) (t : List ℕ) → sum_in self.new n s t ≡ after (sum_in self.old) task.now n s t) }
+        ensures entries { OnOk result (self.new.entries.items ≡ self.old.entries.items ++ record { task = task.now; children = children } ∷ []) }
+        ensures told { self.new.told.items ≡ self.old.told.items }
         ensures same_sums { OnErr result ((n : ℕ) (s : Side) (t : List ℕ) → sum_in self.new n s t ≡ sum_in self.old n s t) }
         ensures same_entries { OnErr result (self.new.entries.items ≡ self.old.entries.items) }
         ensures number { self.new.number ≡ self.old.number }
-        ensures blockers { OnOk result ((n : ℕ) (t : List ℕ) → sum_in self.new n Left t ≢ pos 0 → blockers_in self.new n t ≡ (if is_at n Left t entry.task then blockers else blockers_in self.old n t)) }
+        ensures blockers { OnOk result ((n : ℕ) (t : List ℕ) → sum_in self.new n Left t ≢ pos 0 → blockers_in self.new n t ≡ (if is_at n Left t task.now then blockers else blockers_in self.old n t)) }
         ensures same_blockers { OnErr result ((n : ℕ) (t : List ℕ) → blockers_in self.new n t ≡ blockers_in self.old n t) }
-        ensures filed { OnOk result (KeepsCodesBut self.old self.new code entry.task) }
+        ensures filed { OnOk result (KeepsCodesBut self.old self.new code task.now) }
         ensures same_filed { OnErr result (KeepsCodes self.old self.new) }
     {
-        let task = &entry.task;
         let (spot, _memory) = self.find(task.node, code, task.side, &task.token);
-        self.add_at(alloc, &spot, entry, blockers)
+        self.add_at(alloc, &spot, task, children, blockers, false)
     }
 
-    /// The same at the spot of the task's token, with no look for it. Where the token is new to a memory of many, it is hashed.
+    /// The same at the spot of the task's token, with no look for it. Where the token is new to a memory of many, it is
+    /// hashed. The task is copied where it is to be told of, and else its token alone, where that is new.
     pub fn add_at(
         &mut self,
         alloc: Global,
         spot: &Spot,
-        entry: Entry,
+        task: &Task,
+        children: Children,
         blockers: u64,
+        is_told: bool,
     ) -> Result<(), OutOfMemory>
-        requires spot { IsSpot self.old entry.task.node entry.task.side entry.task.token spot.now }
-        requires alone { IsAlone self.old entry.task.node spot.now.code entry.task.side entry.task.token }
-        ensures sums { OnOk result ((n : ℕ) (s : Side) (t : List ℕ) → sum_in self.new n s t ≡ after (sum_in self.old) entry.task n s t) }
-        ensures entries { OnOk result (self.new.entries.items ≡ self.old.entries.items ++ entry ∷ []) }
+        requires spot { IsSpot self.old task.now.node task.now.side task.now.token spot.now }
+        requires alone { IsAlone self.old task.now.node spot.now.code task.now.side task.now.token }
+        ensures sums { OnOk result ((n : ℕ) (s : Side) (t : List ℕ) → sum_in self.new n s t ≡ after (sum_in self.old) task.now n s t) }
+        ensures entries { OnOk result (self.new.entries.items ≡ self.old.entries.items ++ record { task = task.now; children = children } ∷ []) }
+        ensures told { OnOk result (self.new.told.items ≡ self.old.told.items ++ (if is_told then task.now ∷ [] else [])) }
+        ensures same_told { OnErr result (self.new.told.items ≡ self.old.told.items) }
         ensures same_sums { OnErr result ((n : ℕ) (s : Side) (t : List ℕ) → sum_in self.new n s t ≡ sum_in self.old n s t) }
         ensures same_entries { OnErr result (self.new.entries.items ≡ self.old.entries.items) }
         ensures number { self.new.number ≡ self.old.number }
-        ensures blockers { OnOk result ((n : ℕ) (t : List ℕ) → sum_in self.new n Left t ≢ pos 0 → blockers_in self.new n t ≡ (if is_at n Left t entry.task then blockers else blockers_in self.old n t)) }
+        ensures blockers { OnOk result ((n : ℕ) (t : List ℕ) → sum_in self.new n Left t ≢ pos 0 → blockers_in self.new n t ≡ (if is_at n Left t task.now then blockers else blockers_in self.old n t)) }
         ensures same_blockers { OnErr result ((n : ℕ) (t : List ℕ) → blockers_in self.new n t ≡ blockers_in self.old n t) }
-        ensures filed { OnOk result (KeepsCodesBut self.old self.new spot.now.code entry.task) }
+        ensures filed { OnOk result (KeepsCodesBut self.old self.new spot.now.code task.now) }
         ensures same_filed { OnErr result (KeepsCodes self.old self.new) }
     {
         let had = spot.sum();
-        let sum = stepped(&had, entry.task.plus)?;
+        let sum = stepped(&had, task.plus)?;
         let cell = cell_with(&sum, blockers);
+        let copy = copy_to_tell(&mut self.told, alloc, task, is_told)?;
         self.entries.reserve(1)?;
-        put(&mut self.memories, alloc, spot, &entry.task, cell)?;
-        self.entries.push_reserved(entry);
+        put(&mut self.memories, alloc, spot, task, cell)?;
+        self.entries.push_reserved(Entry {
+            task: Deed::of(task),
+            children,
+        });
+        tell(&mut self.told, copy);
         Ok(())
     }
 
@@ -280,6 +332,7 @@ impl Line {
         ensures blockers { (n : ℕ) (t : List ℕ) → sum_in self.new n Left t ≢ pos 0 → blockers_in self.new n t ≡ (if (n == node) && joins_hold tests.now (held_of store.now) t tag then counted plus (blockers_in self.old n t) else blockers_in self.old n t) }
         ensures sums { (n : ℕ) (s : Side) (t : List ℕ) → sum_in self.new n s t ≡ sum_in self.old n s t }
         ensures entries { self.new.entries.items ≡ self.old.entries.items }
+        ensures told { self.new.told.items ≡ self.old.told.items }
         ensures number { self.new.number ≡ self.old.number }
         ensures filed { KeepsCodes self.old self.new }
     {
@@ -290,10 +343,12 @@ impl Line {
     pub fn clear_phase(&mut self)
         ensures sums { (n : ℕ) (s : Side) (t : List ℕ) → sum_in self.new n s t ≡ sum_in self.old n s t }
         ensures entries { self.new.entries.items ≡ [] }
+        ensures told { self.new.told.items ≡ [] }
         ensures number { self.new.number ≡ self.old.number }
         ensures blockers { (n : ℕ) (t : List ℕ) → blockers_in self.new n t ≡ blockers_in self.old n t }
         ensures filed { KeepsCodes self.old self.new }
     {
         self.entries.clear();
+        self.told.clear();
     }
 }

@@ -6,7 +6,7 @@ ghost use Rattle.token_line.specs.Lines.{blockers_in, sum_in};
 
 use crate::children::Children;
 use crate::joining::joins;
-use crate::line::{Entry, Line};
+use crate::line::Line;
 use crate::number::{code_of, line_of, with_token};
 use net_base::net::Net;
 use net_base::nodes::{JoinTest, Kind, Node};
@@ -21,18 +21,16 @@ use std::test::Fail;
 use work_store::Store;
 
 // the token of a tag arrives or leaves at node 3
-fn entry_of(alloc: Global, side: Side, plus: bool, tag: u64) -> Result<Entry, OutOfMemory>
-    ensures { IfOk result (λ e. e.task.token ≡ tag ∷ []) }
+fn task_of(alloc: Global, side: Side, plus: bool, tag: u64) -> Result<Task, OutOfMemory>
+    ensures { IfOk result (λ x. x.token ≡ tag ∷ []) }
 {
     let token = Tags::from_slice(alloc, &[tag])?;
-    let task = Task {
+    Ok(Task {
         node: 3,
         side,
         plus,
         token,
-    };
-    let children = Children::none(alloc);
-    Ok(Entry { task, children })
+    })
 }
 
 // the same on a line where every third tag has one code
@@ -46,8 +44,8 @@ fn bring(
     requires { HasCodes (λ t. slice_index t 0 % 3) line.old }
     ensures { HasCodes (λ t. slice_index t 0 % 3) line.new }
 {
-    let entry = entry_of(alloc, side, plus, tag)?;
-    line.add(alloc, tag % 3, entry, 0)
+    let task = task_of(alloc, side, plus, tag)?;
+    line.add(alloc, tag % 3, &task, Children::none(alloc), 0)
 }
 
 fn come(alloc: Global, line: &mut Line, side: Side, plus: bool) -> Result<(), OutOfMemory>
@@ -69,14 +67,9 @@ fn kept(line: &Line, code: u64) -> Option<(usize, usize)> {
     Some((memory.left().len(), memory.right().len()))
 }
 
-// how many entries there are, and how many of them are inserts
+// how many entries there are, and how many tasks are to be told of
 fn done(line: &Line) -> (usize, usize) {
-    let inserts = line
-        .entries()
-        .iter()
-        .filter(|entry| entry.task.plus)
-        .count();
-    (line.entries().len(), inserts)
+    (line.entries().len(), line.told().len())
 }
 
 #[test]
@@ -100,7 +93,7 @@ fn tasks_come_to_a_line(rt: HostRuntime) -> Result<(), Fail> {
     assert_eq!(rt; sums(rt.alloc(), &line, 4)?, (0, 0));
 
     come(rt.alloc(), &mut line, Side::Left, true)?;
-    assert_eq!(rt; (kept(&line, 2), done(&line)), (Some((0, 1)), (3, 2)));
+    assert_eq!(rt; (kept(&line, 2), done(&line)), (Some((0, 1)), (3, 0)));
     line.clear_phase();
     assert_eq!(rt;
         (sums(rt.alloc(), &line, 3)?, done(&line)),
@@ -182,8 +175,8 @@ fn line_of_one(alloc: Global, blockers: u64) -> Result<Line, OutOfMemory>
     ensures codes { IfOk result (HasCodes (λ t. 5)) }
 {
     let mut line = Line::new(alloc, 7);
-    let entry = entry_of(alloc, Side::Left, true, 2)?;
-    line.add(alloc, 5, entry, blockers)?;
+    let task = task_of(alloc, Side::Left, true, 2)?;
+    line.add(alloc, 5, &task, Children::none(alloc), blockers)?;
     Ok(line)
 }
 
@@ -242,7 +235,7 @@ fn no_nodes(alloc: Global) -> Result<Net, OutOfMemory> {
 fn a_line_has_a_number_within_bounds(rt: HostRuntime) -> Result<(), Fail> {
     let net = no_nodes(rt.alloc())?;
     let store = Store::new(rt.alloc());
-    let task = entry_of(rt.alloc(), Side::Left, true, 2)?.task;
+    let task = task_of(rt.alloc(), Side::Left, true, 2)?;
     assert_eq!(rt; line_of(&net, &store, &task, 2), 1);
     assert_eq!(rt; code_of(&net, &store, &task), 3);
     Ok(())

@@ -1,6 +1,8 @@
 -- The lines at rest are as good for the new store; the phase is a bundle; what is gathered of it is what changed.
 use Rattle.std.proofs.Common.{List, map, sym, subst}
+use Rattle.std.specs.List.{All}
 use Rattle.token_line.specs.declared.line.Line.{Line}
+use Rattle.activation.specs.Acting.{TellsOfLasts}
 use Rattle.step_core.specs.Phases.{before, now, total}
 use Rattle.step_core.specs.Settling.{HaveOwnLines, IsGathered}
 use Rattle.step_core.specs.Worked.{AreWorked}
@@ -17,6 +19,10 @@ run_phase-requires-clause-known g c κs within = c.in_ok-do_changes.ensures.phas
 
 pub gather_worked-requires-clause-worked : goal.gather_worked-requires-clause-worked
 gather_worked-requires-clause-worked g c = subst (λ (ls : List Line). AreWorked ls c.worked.result.now) (sym c.lines.ensures.lines) c.worked.ensures
+
+pub gather_worked-requires-clause-told : goal.gather_worked-requires-clause-told
+gather_worked-requires-clause-told g c =
+    subst (λ (ls : List Line). All (TellsOfLasts c.args.net.now.nodes) ls) (sym c.lines.ensures.lines) (λ i l low. (c.in_ok-world.ensures.counted i l low).told)
 
 pub gather_worked-requires-clause-own : goal.gather_worked-requires-clause-own
 gather_worked-requires-clause-own g c =

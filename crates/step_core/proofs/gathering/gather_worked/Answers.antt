@@ -8,7 +8,7 @@ use Rattle.step_core.proofs.WorkedMoves.{all_within, worked_as_much, worked_with
 use Rattle.step_core.proofs.gathering.gather_worked.Goals as goal
 
 pub look_over_places-requires : goal.look_over_places-requires
-look_over_places-requires c = all_within c.args.lines.now c.args.worked.now c.requires.worked
+look_over_places-requires c = record { within = all_within c.args.lines.now c.args.worked.now c.requires.worked; told = c.requires.told }
 
 pub returns : goal.returns
 returns c =

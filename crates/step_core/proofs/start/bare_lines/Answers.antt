@@ -9,4 +9,4 @@ loop-number-init c = subst (AreUnused 0) (sym c.in_ok-lines.ensures.items) unuse
 pub loop-number-preserved : goal.loop-number-preserved
 loop-number-preserved c =
     subst (AreUnused _) (sym c.in_ok-push.ensures.items)
-    (unused_more c.loop-number.number c.loop-number.lines.items c.new.result c.loop-number.invariant c.new.ensures.number c.new.ensures.entries c.new.ensures.sums c.new.ensures.filed)
+    (unused_more c.loop-number.number c.loop-number.lines.items c.new.result c.loop-number.invariant c.new.ensures.number (c.new.ensures.entries, c.new.ensures.told) c.new.ensures.sums c.new.ensures.filed)

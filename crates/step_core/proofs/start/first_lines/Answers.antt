@@ -23,7 +23,7 @@ loop-number-preserved c =
           let here = slice_get_read ls (length ls) (k % c.args.count) w.index_mut.result.now refl low w.index_mut.ensures.value in
           subst (λ v. AreBegun nodes c.args.count (k + 1) v.items) (sym w.lines-is)
           (root_given nodes k x at w.if-is_none.ensures c.args.count ls w.index_mut.result.now w.give_root.new.line c.loop-number.invariant here
-          w.in_ok-give_root.ensures.number w.in_ok-give_root.ensures.entries w.in_ok-give_root.ensures.sums w.in_ok-give_root.ensures.filed)
+          w.in_ok-give_root.ensures.number (w.in_ok-give_root.ensures.entries, w.in_ok-give_root.ensures.told) w.in_ok-give_root.ensures.sums w.in_ok-give_root.ensures.filed)
       | else-is_none w ↦
           subst (λ v. AreBegun nodes c.args.count (k + 1) v.items) (sym w.lines-is) (not_at_root nodes k x at w.if-is_none.ensures c.args.count ls c.loop-number.invariant)
     ]

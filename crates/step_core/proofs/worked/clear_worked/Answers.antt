@@ -2,6 +2,7 @@
 use Rattle.std.proofs.Common.{◌++◌, sym, ap, subst, ◌∙◌, arith}
 use Rattle.std.specs.Option.{option_to_list}
 use Rattle.std.proofs.lemmas.List.{append-nil}
+use Rattle.activation.specs.Acting.{lasts_of}
 use Rattle.step_core.specs.Worked.{AreWorked}
 use Rattle.step_core.proofs.Clearing.{all_kept, one_kept, seen_cleared, numbers_kept, length_kept, counted_kept}
 use Rattle.step_core.proofs.WorkedLines.{worked_less, named_within, all_rest}
@@ -26,7 +27,7 @@ loop-place-preserved c =
     record {
       kept =
           one_kept k c.args.lines.now.items ls c.index_mut.result.now line c.loop-place.invariant.kept low c.index_mut.ensures.value
-          (record { sums = c.clear_phase.ensures.sums; blockers = c.clear_phase.ensures.blockers; number = c.clear_phase.ensures.number; filed = c.clear_phase.ensures.filed });
+          (record { sums = c.clear_phase.ensures.sums; blockers = c.clear_phase.ensures.blockers; number = c.clear_phase.ensures.number; filed = c.clear_phase.ensures.filed; told = λ nodes is. c.clear_phase.ensures.told ∙ ap (lasts_of nodes) (sym c.clear_phase.ensures.entries) });
       told = worked_less ls k line c.loop-place.worked.items c.pop.new.self.items named c.loop-place.invariant.told c.clear_phase.ensures.entries;
     }
 

@@ -13,7 +13,7 @@ use Rattle.token_line.proofs.line.Line.add_at.Goals as goal
 
 pub returns-clause-sums : goal.returns-clause-sums
 returns-clause-sums c =
-    let x = c.args.entry.task in
+    let x = c.args.task.now in
     let self = c.args.self.now in
     let had = c.sum-had.result in
     let sum = c.in_ok-sum.sum in
@@ -29,7 +29,7 @@ returns-clause-sums c =
 
 pub returns-clause-blockers : goal.returns-clause-blockers
 returns-clause-blockers c =
-    let x = c.args.entry.task in
+    let x = c.args.task.now in
     let self = c.args.self.now in
     add_blockers (cell_among self.memories) (cell_among c.put.new.memories) x c.cell_with-cell.result
     (put_cells self.memories c.put.new.memories self.apart x c.args.spot.now.code c.cell_with-cell.result c.requires.alone c.in_ok-put.ensures.ok)
@@ -38,14 +38,14 @@ returns-clause-blockers c =
 pub returns-clause-filed : goal.returns-clause-filed
 returns-clause-filed c =
     let self = c.args.self.now in
-    put_codes self.memories c.put.new.memories self.apart c.args.entry.task c.args.spot.now.code c.cell_with-cell.result c.requires.alone c.in_ok-put.ensures.ok
+    put_codes self.memories c.put.new.memories self.apart c.args.task.now c.args.spot.now.code c.cell_with-cell.result c.requires.alone c.in_ok-put.ensures.ok
 
 pub invariant_of-self-2 : goal.invariant_of-self-2
 invariant_of-self-2 c =
     let self = c.args.self.now in
     record {
-      apart = put_apart self.memories c.put.new.memories self.apart c.args.entry.task c.args.spot.now.code c.cell_with-cell.result c.requires.alone c.in_ok-put.ensures.ok;
-      some = put_sums self.memories c.put.new.memories c.args.entry.task c.args.spot.now.code c.cell_with-cell.result c.cell_with-cell.ensures.some self.some c.in_ok-put.ensures.ok;
+      apart = put_apart self.memories c.put.new.memories self.apart c.args.task.now c.args.spot.now.code c.cell_with-cell.result c.requires.alone c.in_ok-put.ensures.ok;
+      some = put_sums self.memories c.put.new.memories c.args.task.now c.args.spot.now.code c.cell_with-cell.result c.cell_with-cell.ensures.some self.some c.in_ok-put.ensures.ok;
     }
 
 pub returns-in_err-put-clause-same_sums : goal.returns-in_err-put-clause-same_sums

@@ -1,0 +1,46 @@
+-- What moved is what the tasks that came to terminals moved.
+use Rattle.std.proofs.Common.{◌≡◌, ◌++◌, Bool, true, false, List, [], ◌∷◌, Option, Some, None, cond, map, refl, ap, sym, ◌∙◌, slice_get}
+use Rattle.std.specs.List.{filter}
+use Rattle.std.specs.Option.{option_map_or}
+use Rattle.std.specs.Prelude.{flat_map}
+use Rattle.net_base.specs.declared.nodes.Kind.{Kind}
+use Rattle.net_base.specs.declared.nodes.Kind.TheVariants.{Join, Negated, Terminal}
+use Rattle.net_base.specs.declared.nodes.Node.{Node}
+use Rattle.net_base.specs.declared.tasks.Side.{Side}
+use Rattle.net_base.specs.declared.tasks.Side.TheVariants.{Left, Right}
+use Rattle.net_base.specs.declared.tasks.Task.{Task}
+use Rattle.net_base.specs.Sound.{is_terminal}
+use Rattle.token_line.specs.declared.line.Line.{Line}
+use Rattle.activation.specs.Acting.{TellsOfLasts, is_last}
+use Rattle.step_core.specs.declared.gathering.Moved.{Moved}
+use Rattle.step_core.specs.Machine.{Seen}
+use Rattle.step_core.specs.Phases.{tasks_of}
+use Rattle.step_core.specs.Worlds.{seen}
+use Rattle.step_core.specs.Gathering.{moved_by, moved_on, moved_to, rule_in}
+
+-- a task that comes to no terminal moves nothing
+not_last : (o : Option Node) (d : Side) → option_map_or (λ n. is_terminal n.kind) o false ≡ false → rule_in o d ≡ None
+not_last None d e = refl
+not_last (Some x) Right e = refl
+not_last (Some x) Left e = by x.kind e
+  where
+    by : (k : Kind) → is_terminal k ≡ false → rule_in (Some (record x { kind = k })) Left ≡ None
+    by Join e = refl
+    by Negated e = refl
+    by (Terminal rule) e = absurd (cc)
+
+module _ (nodes : List Node) (l : Seen) where
+  moves_nothing : (x : Task) → is_last nodes x ≡ false → moved_by nodes l x ≡ []
+  moves_nothing x e = ap (λ o. moved_to o x (l.sums x.node Left x.token)) (not_last (slice_get nodes x.node) x.side e)
+
+  pub lasts_moved : (xs : List Task) → flat_map (moved_by nodes l) (filter (is_last nodes) xs) ≡ flat_map (moved_by nodes l) xs
+  lasts_moved [] = refl
+  lasts_moved (x ∷ xs) = by (is_last nodes x) refl (lasts_moved xs)
+    where
+      by : (b : Bool) → is_last nodes x ≡ b → flat_map (moved_by nodes l) (filter (is_last nodes) xs) ≡ flat_map (moved_by nodes l) xs
+          → flat_map (moved_by nodes l) (cond b (x ∷ filter (is_last nodes) xs) (filter (is_last nodes) xs)) ≡ moved_by nodes l x ++ flat_map (moved_by nodes l) xs
+      by true e ih = ap (λ ms. moved_by nodes l x ++ ms) ih
+      by false e ih = ih ∙ ap (λ ms. ms ++ flat_map (moved_by nodes l) xs) (sym (moves_nothing x e))
+
+pub told_moved : (nodes : List Node) (line : Line) → TellsOfLasts nodes line → flat_map (moved_by nodes (seen line)) line.told.items ≡ moved_on nodes (seen line)
+told_moved nodes line tells = ap (flat_map (moved_by nodes (seen line))) tells ∙ lasts_moved nodes (seen line) (tasks_of line.entries.items)

@@ -1,0 +1,31 @@
+//! A task that was done, which contracts alone see.
+ghost use Rattle.std.specs.Prelude.{◌≡◌};
+
+use net_base::tasks::Task;
+use std::marker::Model;
+use std::snapshot::Snapshot;
+
+/// A task that takes no bytes. The task itself went on: no code reads it here.
+#[derive(Drop)]
+pub struct Deed {
+    task: Snapshot<Task>,
+}
+
+impl Model for Deed {
+    ghost use Rattle.net_base.specs.declared.tasks.Task.{Task};
+
+    ghost Value = { Task };
+
+    ghost view = { λ d. d.task.value };
+}
+
+impl Deed {
+    /// That this task was done. Takes no memory.
+    pub fn of(task: &Task) -> Deed
+        ensures { result ≡ task.now }
+    {
+        Deed {
+            task: Snapshot::of(task),
+        }
+    }
+}
