@@ -11,7 +11,7 @@ use net_base::tags::Tags;
 use net_base::tasks::{Side, Task};
 use ops_base::memory::OutOfMemory;
 use std::alloc::Global;
-use token_line::{Memory, Tokens, joins, tag_at};
+use token_line::{Memory, Tokens, joins, joins_element, tag_at};
 use work_store::Store;
 
 /// Whether one insert or delete more changes how often a token of this sum stands. A delete that comes before its
@@ -44,7 +44,7 @@ fn give_for_left(
     Ok(())
 }
 
-/// The tasks that a join gives for one right token more or less: it looks at each left token.
+/// The tasks that a join gives for one right token more or less: it looks up its element, and looks at each left token.
 fn give_for_right(
     alloc: Global,
     store: &Store,
@@ -57,9 +57,10 @@ fn give_for_right(
     ensures ok { OnOk result (out.new.items ≡ out.old.items ++ children_of below.entry.nodes.now below.entry.plus (put_for_right tests.now (held_of store.now) tag left.now)) }
     ensures grown { Grows out.old.items out.new.items }
 {
+    let element = store.kept(tag);
     for place in 0..left.len() {
         let (token, cell) = left.pair(place);
-        let holds = joins(store, tests, token.as_slice(), tag);
+        let holds = joins_element(store, tests, token.as_slice(), element);
         push_if(alloc, holds, below, token, Some(tag), cell, out)?;
     }
     Ok(())

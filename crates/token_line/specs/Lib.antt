@@ -11,3 +11,4 @@ pub mod Spots
 pub mod Lines
 pub mod Lawful
 pub mod Coded
+pub mod Joins

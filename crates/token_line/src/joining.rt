@@ -4,6 +4,7 @@ ghost use Rattle.std.specs.Option.{option_copied};
 ghost use Rattle.ops_base.specs.Values.{holds_of};
 ghost use Rattle.work_store.specs.Stored.{held_of};
 ghost use Rattle.net_base.specs.Tokens.{field_in, joins_hold};
+ghost use Rattle.token_line.specs.Joins.{joins_with};
 
 use net_base::nodes::JoinTest;
 use ops_base::elements::Element;
@@ -43,13 +44,24 @@ fn test_holds(store: &Store, token: &[u64], element: Option<&Element>, test: &Jo
     )
 }
 
-/// Whether all tests hold of the element of that tag and of the left token. It looks up an element for each test, and takes no
+/// Whether all tests hold of this element and of the left token. It looks up an element for each test, and takes no
 /// memory.
-pub fn joins(store: &Store, tests: &[JoinTest], token: &[u64], tag: u64) -> bool
-    ensures { result ≡ joins_hold tests.now (held_of store.now) token.now tag }
+pub fn joins_element(
+    store: &Store,
+    tests: &[JoinTest],
+    token: &[u64],
+    element: Option<&Element>,
+) -> bool
+    ensures { result ≡ joins_with tests.now (held_of store.now) token.now (option_copied element.entry) }
 {
-    let element = store.kept(tag);
     tests
         .iter()
         .all(|test| test_holds(store, token, element, test))
+}
+
+/// The same of the element of that tag, which it looks up first.
+pub fn joins(store: &Store, tests: &[JoinTest], token: &[u64], tag: u64) -> bool
+    ensures { result ≡ joins_hold tests.now (held_of store.now) token.now tag }
+{
+    joins_element(store, tests, token, store.kept(tag))
 }

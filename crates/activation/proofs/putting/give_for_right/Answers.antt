@@ -2,6 +2,7 @@
 use Rattle.std.proofs.Common.{◌∙◌, ◌++◌, ◌∷◌, [], ap}
 use Rattle.work_store.specs.Stored.{held_of}
 use Rattle.net_base.specs.Tokens.{joins_hold}
+use Rattle.token_line.specs.Joins.{joins_with}
 use Rattle.activation.specs.Children.{children_of}
 use Rattle.activation.specs.Putting.{put_for_right, put_if}
 use Rattle.activation.proofs.Growth.{Pair, grows_more, next_given}
@@ -16,7 +17,7 @@ loop-place-preserved c =
     let plus = c.args.below.plus in
     let e : Pair = (c.pair.result.0.now, c.pair.result.1) in
     let before = c.loop-place.out.items in
-    let holds = c.joins-holds.ensures ∙ ap (λ t. joins_hold tests elements t tag) c.as_slice.ensures in
+    let holds = c.joins_element-holds.ensures ∙ (ap (joins_with tests elements c.as_slice.result.now) c.kept-element.ensures ∙ ap (λ t. joins_hold tests elements t tag) c.as_slice.ensures) in
     let more = c.in_ok-push_if.ensures.ok ∙ ap (λ b. before ++ children_of nodes plus (put_if b (e.0 ++ tag ∷ []) e.1.sum)) holds in
     record {
       made =
