@@ -1,4 +1,7 @@
 pub mod Lists
+pub mod Rows
+pub mod Levels
+pub mod Places
 pub mod Slots
 pub mod Changes
 pub mod Holding

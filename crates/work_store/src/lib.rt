@@ -4,6 +4,8 @@
 mod changing;
 mod iter;
 mod matcher;
+mod pages;
+mod row;
 mod slot;
 mod store;
 #[cfg(test)]
