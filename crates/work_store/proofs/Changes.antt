@@ -38,7 +38,7 @@ placed_push [] t s placed below h = (h, tt, tt)
 placed_push (e ∷ es) t s placed below h =
     (placed.0, all_push (λ f. e.0 < f.0) es (t, s) placed.1 below.0, placed_push es t s placed.2 below.1 h)
 
-all_below : (es : List (ℕ × Slot)) (last t : ℕ) → last < t → AllByRecursion (λ e. e.0 ≤ last) es → AllByRecursion (λ e. e.0 < t) es
+pub all_below : (es : List (ℕ × Slot)) (last t : ℕ) → last < t → AllByRecursion (λ e. e.0 ≤ last) es → AllByRecursion (λ e. e.0 < t) es
 all_below es last t above a = all_weaker (λ e. e.0 ≤ last) (λ e. e.0 < t) (λ e h. omega arith) es a
 
 -- the slot of an element that is added

@@ -126,8 +126,7 @@ pub chapter_same : (base : ℕ) (c d : Row (Row Slot)) → IsChapter base c → 
 chapter_same base c d h are held =
     let long = ap length are in
     let short = h.short in
-    let same = ap (spread page_entries 64 base) are in
-    (
+    let same = ap (spread page_entries 64 base) are in (
       record {
         row = record { counted = held ∙ h.row.counted ∙ ap length (sym same); each = subst (HoldsAtEach IsPage 64 base) (sym are) h.row.each };
         short = omega arith;
@@ -165,8 +164,7 @@ all_grown c d h grown held =
 pub all_same : (c d : Row (Row (Row Slot))) → ArePages c → d.places.items ≡ c.places.items → d.held ≡ c.held → ArePages d × (all_entries d ≡ all_entries c)
 all_same c d h are held =
     let small = h.small in
-    let same = ap (spread chapter_entries 4096 0) are in
-    (
+    let same = ap (spread chapter_entries 4096 0) are in (
       record {
         row = record { counted = held ∙ h.row.counted ∙ ap length (sym same); each = subst (HoldsAtEach IsChapter 4096 0) (sym are) h.row.each };
         small = omega arith;

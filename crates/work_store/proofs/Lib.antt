@@ -2,6 +2,7 @@ pub mod Lists
 pub mod Rows
 pub mod Levels
 pub mod Places
+pub mod Present
 pub mod Slots
 pub mod Changes
 pub mod Holding

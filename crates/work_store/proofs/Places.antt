@@ -88,8 +88,7 @@ page_marked tag p q x h within is are held =
     let one : length (at_place slot_entries tag (get_or p.places.items (tag % 64) None)) ≡ 1 = ap (λ o. length (at_place slot_entries tag o)) is in
     let change = sym (ap (λ o. set_value (is_at (nat_cmp tag)) (at_place slot_entries tag o) kept) is ∙ one_set tag x kept) in
     let whole = page_edited tag p q (Some kept) (λ es. set_value (is_at (nat_cmp tag)) es kept) (set_edits tag kept) h within are change in
-    let there = page_looked_up tag p h ∙ ap (λ o. lookup (is_at (nat_cmp tag)) (at_place slot_entries tag o)) is ∙ one_found tag x in
-    (
+    let there = page_looked_up tag p h ∙ ap (λ o. lookup (is_at (nat_cmp tag)) (at_place slot_entries tag o)) is ∙ one_found tag x in (
       page_set tag p q (Some kept) h within are (omega arith),
       λ s k. whole ∙ ap (λ (v : Slot). set_value (is_at (nat_cmp tag)) (page_entries (start_of 64 tag) p) (record v { present = false })) (same_slot x s (sym there ∙ k)),
     )
@@ -99,8 +98,7 @@ pub page_removed : (tag : ℕ) (p q : Row Slot) (x : Slot) → IsPage (start_of 
     → IsPage (start_of 64 tag) q × (page_entries (start_of 64 tag) q ≡ remove_entry (is_at (nat_cmp tag)) (page_entries (start_of 64 tag) p))
 page_removed tag p q x h within is are held =
     let one : length (at_place slot_entries tag (get_or p.places.items (tag % 64) None)) ≡ 1 = ap (λ o. length (at_place slot_entries tag o)) is in
-    let change = sym (ap (λ o. remove_entry (is_at (nat_cmp tag)) (at_place slot_entries tag o)) is ∙ one_removed tag x) in
-    (
+    let change = sym (ap (λ o. remove_entry (is_at (nat_cmp tag)) (at_place slot_entries tag o)) is ∙ one_removed tag x) in (
       page_set tag p q None h within are (omega arith),
       page_edited tag p q None (remove_entry (is_at (nat_cmp tag))) (remove_edits tag) h within are change,
     )
@@ -122,8 +120,7 @@ pub page_added : (tag : ℕ) (p q : Row Slot) (s : Slot) → IsPage (start_of 64
 page_added tag p q s h absent within are held =
     let is : get_or p.places.items (tag % 64) None ≡ None = no_slot tag (get_or p.places.items (tag % 64) None) (sym (page_looked_up tag p h) ∙ absent) in
     let one : length (at_place slot_entries tag (get_or p.places.items (tag % 64) None)) ≡ 0 = ap (λ o. length (at_place slot_entries tag o)) is in
-    let change = sym (ap (λ o. insert_entry nat_cmp (at_place slot_entries tag o) tag s) is) in
-    (
+    let change = sym (ap (λ o. insert_entry nat_cmp (at_place slot_entries tag o) tag s) is) in (
       page_set tag p q (Some s) h within are (omega arith),
       page_edited tag p q (Some s) (λ es. insert_entry nat_cmp es tag s) (insert_edits tag s) h within are change,
     )
@@ -146,8 +143,7 @@ pub chapter_marked : (tag : ℕ) (c d : Row (Row Slot)) (p q : Row Slot) → IsC
     → IsChapter (start_of 4096 tag) d × IsMarked tag (chapter_entries (start_of 4096 tag) c) (chapter_entries (start_of 4096 tag) d)
 chapter_marked tag c d p q h within is are held hp hq same marked =
     let was = hp.row.counted in
-    let now = hq.row.counted in
-    (
+    let now = hq.row.counted in (
       chapter_set tag c d (Some q) h within are hq (ap (λ o. d.held + length (at_place page_entries (start_of 64 tag) o)) is ∙ omega arith),
       λ s k.
           let there = sym (chapter_looked_up tag c h ∙ ap (λ o. lookup (is_at (nat_cmp tag)) (at_place page_entries (start_of 64 tag) o)) is) ∙ k in
@@ -190,8 +186,7 @@ page_there tag c p h is = subst (HoldsAt IsPage (start_of 64 tag)) is (chapter_p
 pub page_new : (base : ℕ) (p : Row Slot) → p.places.items ≡ [] → p.held ≡ 0 → IsPage base p × (page_entries base p ≡ [])
 page_new base p are none =
     let no_entries : page_entries base p ≡ [] = ap (spread slot_entries 1 base) are in
-    let long = ap length are in
-    (
+    let long = ap length are in (
       record {
         row = record { counted = none ∙ sym (ap length no_entries); each = subst (HoldsAtEach (λ _ _. Unit {0}) 1 base) (sym are) tt };
         short = omega arith;
@@ -202,8 +197,7 @@ page_new base p are none =
 pub chapter_new : (base : ℕ) (c : Row (Row Slot)) → c.places.items ≡ [] → c.held ≡ 0 → IsChapter base c × (chapter_entries base c ≡ [])
 chapter_new base c are none =
     let no_entries : chapter_entries base c ≡ [] = ap (spread page_entries 64 base) are in
-    let long = ap length are in
-    (
+    let long = ap length are in (
       record {
         row = record { counted = none ∙ sym (ap length no_entries); each = subst (HoldsAtEach IsPage 64 base) (sym are) tt };
         short = omega arith;
@@ -251,8 +245,7 @@ pub all_marked : (tag : ℕ) (c d : Row (Row (Row Slot))) (p q : Row (Row Slot))
 all_marked tag c d p q h within is are held hp hq same marked =
     let was = hp.row.counted in
     let now = hq.row.counted in
-    let small = h.small in
-    (
+    let small = h.small in (
       all_set tag c d (Some q) h within are hq (ap (λ o. d.held + length (at_place chapter_entries (start_of 4096 tag) o)) is ∙ omega arith) (omega arith),
       λ s k.
           let there = sym (all_looked_up tag c h ∙ ap (λ o. lookup (is_at (nat_cmp tag)) (at_place chapter_entries (start_of 4096 tag) o)) is) ∙ k in
@@ -302,4 +295,3 @@ all_stays tag c d p q h within is are held hq e =
     let long = ap length e in
     let small = h.small in
     all_changed tag c d (Some p) (Some q) (λ es. es) (stay_edits tag) h within is are hq (omega arith) e (omega arith)
-

@@ -109,6 +109,10 @@ look_left t [] bs a = refl
 look_left t (e ∷ before) bs a =
     ap (λ b. cond b (Some e.1) (lookup (is_at (nat_cmp t)) (before ++ bs))) (not_at_below t e.0 a.0) ∙ look_left t before bs a.1
 
+pub look_below : (t : ℕ) (es : List (ℕ × Slot)) → AllByRecursion (λ e. e.0 < t) es → lookup (is_at (nat_cmp t)) es ≡ None
+look_below t [] a = refl
+look_below t (e ∷ es) a = ap (λ b. cond b (Some e.1) (lookup (is_at (nat_cmp t)) es)) (not_at_below t e.0 a.0) ∙ look_below t es a.1
+
 look_none : (t : ℕ) (cs : List (ℕ × Slot)) → AllByRecursion (λ e. t < e.0) cs → lookup (is_at (nat_cmp t)) cs ≡ None
 look_none t [] a = refl
 look_none t (e ∷ cs) a = ap (λ b. cond b (Some e.1) (lookup (is_at (nat_cmp t)) cs)) (not_at_above t e.0 a.0) ∙ look_none t cs a.1

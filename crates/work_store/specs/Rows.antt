@@ -1,8 +1,9 @@
 -- How slots stand in rows of rows, and which entries these come to: each slot beside its tag, by rising tag.
-use Rattle.std.specs.Prelude.{◌≡◌, ◌+◌, ◌-◌, ◌<◌, ◌≤◌, ◌%◌, ◌^◌, ℕ, List, [], ◌∷◌, ◌++◌, length, replicate, Option, Some, None, false}
+use Rattle.std.specs.Prelude.{◌≡◌, ◌+◌, ◌-◌, ◌<◌, ◌≤◌, ◌%◌, ◌^◌, ℕ, List, [], ◌∷◌, ◌++◌, length, replicate, Option, Some, None, false, if◌then◌else◌}
 use Rattle.std.specs.BTreeMap.{is_at}
 use Rattle.std.specs.Map.{lookup, set_value}
 use Rattle.std.specs.Ordering.{nat_cmp}
+use Rattle.ops_base.specs.declared.elements.Element.{Element}
 use Rattle.work_store.specs.declared.row.Row.{Row}
 use Rattle.work_store.specs.declared.slot.Slot.{Slot}
 
@@ -60,6 +61,27 @@ pub record IsChapter (base : ℕ) (chapter : Row (Row Slot)) : Type 0 where
 pub record ArePages (chapters : Row (Row (Row Slot))) : Type 0 where
   pub row : IsRow IsChapter chapter_entries 4096 0 chapters
   pub small : chapters.held < 2 ^ 63
+
+-- ---- the present elements
+
+-- what stands at these places
+abbrev pub standing : {X : Type 0} → List (Option X) → List X
+standing [] = []
+standing (None ∷ os) = standing os
+standing (Some x ∷ os) = x ∷ standing os
+
+abbrev pub elements_by : {X : Type 0} → (X → List Element) → List X → List Element
+elements_by f [] = []
+elements_by f (x ∷ xs) = f x ++ elements_by f xs
+
+abbrev pub slot_elements : Slot → List Element
+slot_elements s = if s.present then s.element ∷ [] else []
+
+abbrev pub page_elements : Row Slot → List Element
+page_elements page = elements_by slot_elements (standing page.places.items)
+
+abbrev pub chapter_elements : Row (Row Slot) → List Element
+chapter_elements chapter = elements_by page_elements (standing chapter.places.items)
 
 -- ---- changes
 

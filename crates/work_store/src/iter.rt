@@ -1,25 +1,72 @@
 //! Going over the present elements.
+ghost use Rattle.std.specs.Prelude.{◌≡◌, ◌∷◌, ◌++◌, [], MatchOption};
 ghost use Rattle.std.specs.Iterator.{YieldsFirstRef, item_count};
+ghost use Rattle.std.specs.Slice.Iter.{iter_rest};
+ghost use Rattle.work_store.specs.Rows.{standing, elements_by, slot_elements, page_elements};
 
+use crate::row::Row;
 use crate::slot::Slot;
 use ops_base::elements::Element;
-use std::collections::btree_map;
 use std::marker::Model;
+use std::slice;
 
 /// The present elements by rising tag, seen as the list of those that are left.
 #[derive(Drop)]
 pub struct Elements<'a> {
-    pub(crate) slots: btree_map::Iter<'a, u64, Slot>,
+    pub(crate) slots: slice::Iter<'a, Option<Slot>>,
+    pub(crate) pages: slice::Iter<'a, Option<Row<Slot>>>,
+    pub(crate) chapters: slice::Iter<'a, Option<Row<Row<Slot>>>>,
 }
 
 impl<'a> Model for Elements<'a> {
-    ghost use Rattle.std.specs.Prelude.{List};
+    ghost use Rattle.std.specs.Prelude.{List, ◌++◌};
+    ghost use Rattle.std.specs.Slice.Iter.{iter_rest};
     ghost use Rattle.ops_base.specs.declared.elements.Element.{Element};
-    ghost use Rattle.work_store.specs.Slots.{those, is_present};
+    ghost use Rattle.work_store.specs.Rows.{standing, elements_by, slot_elements, page_elements, chapter_elements};
 
     ghost Value = { List Element };
 
-    ghost view = { λ e. those is_present e.slots };
+    ghost view = { λ e. (elements_by slot_elements (standing (iter_rest e.slots)) ++ elements_by page_elements (standing (iter_rest e.pages))) ++ elements_by chapter_elements (standing (iter_rest e.chapters)) };
+}
+
+// what stands at the first of these places that holds something
+fn next_standing<'a, T>(places: &mut slice::Iter<'a, Option<T>>) -> Option<&'a T>
+    ensures { YieldsFirstRef (λ s. standing (iter_rest s)) places.old result places.new }
+{
+    while let Some(place) = places.next() {
+        if let Some(held) = place {
+            return Some(held);
+        }
+    }
+    None
+}
+
+fn next_in_page<'a>(slots: &mut slice::Iter<'a, Option<Slot>>) -> Option<&'a Element>
+    ensures { YieldsFirstRef (λ s. elements_by slot_elements (standing (iter_rest s))) slots.old result slots.new }
+{
+    while let Some(slot) = next_standing(slots) {
+        if slot.present {
+            return Some(&slot.element);
+        }
+    }
+    None
+}
+
+fn next_in_pages<'a>(
+    slots: &mut slice::Iter<'a, Option<Slot>>,
+    pages: &mut slice::Iter<'a, Option<Row<Slot>>>,
+) -> Option<&'a Element>
+    ensures { let old = elements_by slot_elements (standing (iter_rest slots.old)) ++ elements_by page_elements (standing (iter_rest pages.old)) in let new = elements_by slot_elements (standing (iter_rest slots.new)) ++ elements_by page_elements (standing (iter_rest pages.new)) in MatchOption result ((old ≡ []) × (new ≡ [])) (λ e. old ≡ e.now ∷ new) }
+{
+    loop {
+        if let Some(element) = next_in_page(slots) {
+            return Some(element);
+        }
+        match next_standing(pages) {
+            Some(page) => *slots = page.places.iter(),
+            None => return None,
+        }
+    }
 }
 
 impl<'a> Iterator for Elements<'a> {
@@ -30,11 +77,14 @@ impl<'a> Iterator for Elements<'a> {
     ghost remaining = { item_count (λ left. left) };
 
     fn next(&mut self) -> Option<&'a Element> {
-        while let Some((_tag, slot)) = self.slots.next() {
-            if slot.present {
-                return Some(&slot.element);
+        loop {
+            if let Some(element) = next_in_pages(&mut self.slots, &mut self.pages) {
+                return Some(element);
+            }
+            match next_standing(&mut self.chapters) {
+                Some(chapter) => self.pages = chapter.places.iter(),
+                None => return None,
             }
         }
-        None
     }
 }

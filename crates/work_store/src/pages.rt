@@ -5,7 +5,9 @@ ghost use Rattle.std.specs.BTreeMap.{is_at, insert_entry};
 ghost use Rattle.std.specs.Map.{lookup, remove_entry};
 ghost use Rattle.std.specs.Ordering.{nat_cmp};
 ghost use Rattle.work_store.specs.Rows.{start_of, page_entries, chapter_entries, all_entries, IsPage, IsChapter, ArePages, IsMarked};
+ghost use Rattle.work_store.specs.Slots.{those, is_present};
 
+use crate::iter::Elements;
 use crate::row::Row;
 use crate::slot::Slot;
 use ops_base::memory::OutOfMemory;
@@ -275,6 +277,17 @@ impl Pages {
         let chapter = self.chapters.get((tag / 4096) as usize)?;
         let page = chapter.get((tag / 64 % 64) as usize)?;
         page.get((tag % 64) as usize)
+    }
+
+    /// The present elements by rising tag.
+    pub(crate) fn iter(&self) -> Elements<'_>
+        ensures { result ≡ those is_present self.now }
+    {
+        Elements {
+            slots: [].iter(),
+            pages: [].iter(),
+            chapters: self.chapters.places.iter(),
+        }
     }
 
     /// Marks the element of that tag as kept.

@@ -10,17 +10,17 @@ ghost use Rattle.work_store.specs.Slots.{without_all};
 ghost use Rattle.work_store.specs.declared.slot.Slot.{Slot};
 
 use crate::iter::Elements;
+use crate::pages::Pages;
 use crate::slot::Slot;
 use ops_base::elements::Element;
 use ops_base::memory::OutOfMemory;
 use std::alloc::Global;
-use std::collections::BTreeMap;
 use std::marker::Model;
 
 /// Working memory. Each element has a slot under its tag, also one that was removed, until it is forgotten.
 #[derive(Drop)]
 pub struct Store {
-    slots: BTreeMap<u64, Slot>,
+    slots: Pages,
     // The tags of the kept elements, with room for a tag of every slot.
     gone: Vec<u64>,
     last: u64,
@@ -34,26 +34,17 @@ impl Model for Store {
 
     ghost use Rattle.work_store.specs.Slots.{stored_in, AreSlots};
 
-    ghost view = { λ s. stored_in s.slots.entries s.last };
+    ghost view = { λ s. stored_in s.slots s.last };
 
-    ghost invariant = { λ s. AreSlots s.slots.entries s.gone.items (vec_capacity s.gone) s.last };
-}
-
-/// Marks the element of that tag as kept.
-fn mark(slots: &mut BTreeMap<u64, Slot>, tag: u64)
-    ensures { (s : Slot) → get nat_cmp slots.old tag ≡ Some s → slots.new.entries ≡ set_value (is_at (nat_cmp tag)) slots.old.entries (record s { present = false }) }
-{
-    if let Some(slot) = slots.get_mut(&tag) {
-        slot.present = false;
-    }
+    ghost invariant = { λ s. AreSlots s.slots s.gone.items (vec_capacity s.gone) s.last };
 }
 
 /// Drops the slots of these tags.
-fn drop_all(slots: &mut BTreeMap<u64, Slot>, tags: &[u64])
-    ensures { slots.new.entries ≡ without_all tags.now slots.old.entries }
+fn drop_all(slots: &mut Pages, tags: &[u64])
+    ensures { slots.new ≡ without_all tags.now slots.old }
 {
     for tag in tags {
-        slots.remove(tag);
+        slots.remove(*tag);
     }
 }
 
@@ -63,7 +54,7 @@ impl Store {
         ensures { result ≡ nothing_stored }
     {
         Store {
-            slots: BTreeMap::new(alloc),
+            slots: Pages::new(alloc),
             gone: Vec::new(alloc),
             last: 0,
         }
@@ -74,7 +65,7 @@ impl Store {
     pub fn get(&self, tag: u64) -> Option<&Element>
         ensures { option_copied result ≡ of_tag self.now.elements tag }
     {
-        let slot = self.slots.get(&tag)?;
+        let slot = self.slots.get(tag)?;
         if slot.present {
             Some(&slot.element)
         } else {
@@ -87,7 +78,7 @@ impl Store {
     pub fn kept(&self, tag: u64) -> Option<&Element>
         ensures { option_copied result ≡ held_of self.now tag }
     {
-        let held = self.slots.get(&tag)?;
+        let held = self.slots.get(tag)?;
         Some(&held.element)
     }
 
@@ -111,9 +102,7 @@ impl Store {
     pub fn iter(&self) -> Elements<'_>
         ensures { result ≡ self.now.elements }
     {
-        Elements {
-            slots: self.slots.iter(),
-        }
+        self.slots.iter()
     }
 
     /// References to the present elements, by rising tag. None is copied. Takes a time in proportion to the number of
@@ -122,10 +111,7 @@ impl Store {
         ensures elements { IfOk result (λ v. shown v.items ≡ self.now.elements) }
         ensures rising { HasRisingTags self.now.elements }
     {
-        let present = Elements {
-            slots: self.slots.iter(),
-        };
-        Ok(present.collect(alloc)?)
+        Ok(self.slots.iter().collect(alloc)?)
     }
 
     /// The present element at that place, by rising tag. Walks there from the first: to see all of them take `iter`.
@@ -150,7 +136,7 @@ impl Store {
         let room = self.slots.len() + 1 - self.gone.len();
         self.gone.reserve(room)?;
         let tag = element.tag;
-        self.slots.insert(
+        self.slots.add(
             tag,
             Slot {
                 element,
@@ -169,7 +155,7 @@ impl Store {
         ensures kept { (n : ℕ) → of_tag self.new.kept n ≡ (if n == tag then of_tag self.old.elements tag else of_tag self.old.kept n) }
         ensures last { self.new.last ≡ self.old.last }
     {
-        mark(&mut self.slots, tag);
+        self.slots.mark(tag);
         match self.gone.push(tag) {
             Ok(()) => {}
             Err(_) => unreachable!(),

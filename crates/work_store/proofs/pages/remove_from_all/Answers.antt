@@ -35,7 +35,7 @@ returns-then-after-eq0-clause-chapters c =
     let fewer_left = made.fewer in
     let all : Row (Row (Row Slot)) = record { places = with_item (with_item c.args.chapters.now.places (c.args.tag / 4096) (Some left)) (c.args.tag / 4096) None; held = c.args.chapters.now.held - (chapter.held - left.held) } in
     (all_removed c.args.tag c.args.chapters.now all chapter left None c.requires within there (set-set c.args.chapters.now.places.items (c.args.tag / 4096) (Some left) None) (omega arith) was made.chapter made.entries tt
-        (chapter_empty (start_of 4096 c.args.tag) left made.chapter (omega arith)) (omega arith)).0
+    (chapter_empty (start_of 4096 c.args.tag) left made.chapter (omega arith)) (omega arith)).0
 
 pub returns-then-after-eq0-clause-entries : goal.returns-then-after-eq0-clause-entries
 returns-then-after-eq0-clause-entries c =
@@ -49,7 +49,7 @@ returns-then-after-eq0-clause-entries c =
     let fewer_left = made.fewer in
     let all : Row (Row (Row Slot)) = record { places = with_item (with_item c.args.chapters.now.places (c.args.tag / 4096) (Some left)) (c.args.tag / 4096) None; held = c.args.chapters.now.held - (chapter.held - left.held) } in
     (all_removed c.args.tag c.args.chapters.now all chapter left None c.requires within there (set-set c.args.chapters.now.places.items (c.args.tag / 4096) (Some left) None) (omega arith) was made.chapter made.entries tt
-        (chapter_empty (start_of 4096 c.args.tag) left made.chapter (omega arith)) (omega arith)).1
+    (chapter_empty (start_of 4096 c.args.tag) left made.chapter (omega arith)) (omega arith)).1
 
 pub returns-else-after-eq0-clause-chapters : goal.returns-else-after-eq0-clause-chapters
 returns-else-after-eq0-clause-chapters c =

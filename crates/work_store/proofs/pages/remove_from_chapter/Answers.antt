@@ -35,7 +35,7 @@ returns-then-after-eq0-clause-chapter c =
     let fewer_left = made.fewer in
     let chapter : Row (Row Slot) = record { places = with_item (with_item c.args.chapter.now.places (c.args.tag / 64 % 64) (Some left)) (c.args.tag / 64 % 64) None; held = c.args.chapter.now.held - (page.held - left.held) } in
     (chapter_removed c.args.tag c.args.chapter.now chapter page left None c.requires within there (set-set c.args.chapter.now.places.items (c.args.tag / 64 % 64) (Some left) None) (omega arith) was made.page made.entries tt
-        (page_empty (start_of 64 c.args.tag) left made.page (omega arith))).0
+    (page_empty (start_of 64 c.args.tag) left made.page (omega arith))).0
 
 pub returns-then-after-eq0-clause-entries : goal.returns-then-after-eq0-clause-entries
 returns-then-after-eq0-clause-entries c =
@@ -49,7 +49,7 @@ returns-then-after-eq0-clause-entries c =
     let fewer_left = made.fewer in
     let chapter : Row (Row Slot) = record { places = with_item (with_item c.args.chapter.now.places (c.args.tag / 64 % 64) (Some left)) (c.args.tag / 64 % 64) None; held = c.args.chapter.now.held - (page.held - left.held) } in
     (chapter_removed c.args.tag c.args.chapter.now chapter page left None c.requires within there (set-set c.args.chapter.now.places.items (c.args.tag / 64 % 64) (Some left) None) (omega arith) was made.page made.entries tt
-        (page_empty (start_of 64 c.args.tag) left made.page (omega arith))).1
+    (page_empty (start_of 64 c.args.tag) left made.page (omega arith))).1
 
 pub returns-else-after-eq0-clause-chapter : goal.returns-else-after-eq0-clause-chapter
 returns-else-after-eq0-clause-chapter c =

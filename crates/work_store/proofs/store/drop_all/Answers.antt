@@ -7,4 +7,4 @@ loop-tag-preserved c =
     let tags = c.args.tags.now in
     let at = c.loop-tag.tag-index in
     let here : drop at tags ≡ get_or tags at 0 ∷ drop (at + 1) tags = rw add-one (drop-cons tags at 0 c.loop-tag-test.true) in
-    ap (without_all (drop (at + 1) tags)) c.remove.ensures.entries ∙ sym (ap (λ ts. without_all ts c.loop-tag.slots.entries) here) ∙ c.loop-tag.invariant
+    ap (without_all (drop (at + 1) tags)) c.remove.ensures ∙ sym (ap (λ ts. without_all ts c.loop-tag.slots) here) ∙ c.loop-tag.invariant

@@ -7,4 +7,4 @@ use Rattle.work_store.proofs.store.Store.last.Goals as goal
 pub returns-clause-stored : goal.returns-clause-stored
 returns-clause-stored c =
     let fields = c.self.inside in
-    subst IsStored c.self.view_is (stored_well fields.slots.entries fields.gone.items (vec_capacity fields.gone) fields.last c.self.invariant)
+    subst IsStored c.self.view_is (stored_well fields.slots fields.gone.items (vec_capacity fields.gone) fields.last c.self.invariant)
