@@ -1,14 +1,14 @@
 -- What a change at one place of a page or a chapter comes to.
-use Rattle.std.proofs.Common.{◌≡◌, ℕ, ◌+◌, ◌*◌, ◌/◌, ◌%◌, ◌^◌, ◌<◌, ◌≤◌, List, [], ◌∷◌, ◌++◌, length, get_or, set, replicate, Option, Some, None, refl, ap, sym, ◌∙◌, subst, arith, length-append}
+use Rattle.std.proofs.Common.{◌≡◌, ℕ, ◌+◌, ◌*◌, ◌/◌, ◌%◌, ◌^◌, ◌<◌, ◌≤◌, List, [], ◌∷◌, length, get_or, set, Option, Some, None, ap, sym, ◌∙◌, subst, arith}
 use Rattle.std.proofs.lemmas.List.{length-set}
-use Rattle.std.specs.BTreeMap.{is_at, insert_entry}
+use Rattle.std.specs.BTreeMap.{is_at}
 use Rattle.std.specs.List.{AllByRecursion}
-use Rattle.std.specs.Map.{lookup, set_value, remove_entry}
+use Rattle.std.specs.Map.{lookup}
 use Rattle.std.specs.Ordering.{nat_cmp}
 use Rattle.work_store.specs.declared.row.Row.{Row}
 use Rattle.work_store.specs.declared.slot.Slot.{Slot}
 use Rattle.work_store.specs.Rows.{at_place, spread, slot_entries, page_entries, chapter_entries, all_entries, start_of, HoldsAt, HoldsAtEach, IsRow, IsPage, IsChapter, ArePages, IsGrown}
-use Rattle.work_store.proofs.Rows.{IsEdit, spread_from, spread_to, edited, looked_up, each_at, each_set, each_grown, spread_grown, number_set, each_free}
+use Rattle.work_store.proofs.Rows.{IsEdit, spread_from, spread_to, edited, looked_up, each_at, each_set, each_grown, spread_grown, number_set}
 
 -- ---- a row
 

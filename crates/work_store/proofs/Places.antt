@@ -1,5 +1,5 @@
 -- What each of the changes of a page and of a chapter leaves: a slot that is marked, one that goes, and one that comes.
-use Rattle.std.proofs.Common.{◌≡◌, ℕ, zero, suc, ◌+◌, ◌*◌, ◌/◌, ◌%◌, ◌^◌, ◌<◌, ◌≤◌, Bool, true, false, cond, List, [], ◌∷◌, ◌++◌, length, get_or, set, Option, Some, None, Result, Ok, Err, refl, ap, sym, ◌∙◌, subst, arith}
+use Rattle.std.proofs.Common.{◌≡◌, ℕ, zero, suc, ◌+◌, ◌/◌, ◌%◌, ◌^◌, ◌<◌, ◌≤◌, Bool, true, false, cond, List, [], ◌∷◌, length, get_or, set, Option, Some, None, Result, Ok, Err, refl, ap, sym, ◌∙◌, subst, arith}
 use Rattle.std.proofs.lemmas.List.{set-get_or}
 use Rattle.std.specs.BTreeMap.{is_at, insert_entry}
 use Rattle.std.specs.Map.{lookup, set_value, remove_entry}
@@ -8,7 +8,7 @@ use Rattle.std.specs.Ordering.{nat_cmp}
 use Rattle.std.specs.Result.{OnErr}
 use Rattle.work_store.specs.declared.row.Row.{Row}
 use Rattle.work_store.specs.declared.slot.Slot.{Slot}
-use Rattle.work_store.specs.Rows.{at_place, spread, slot_entries, page_entries, chapter_entries, all_entries, start_of, HoldsAt, HoldsAtEach, IsRow, IsPage, IsChapter, ArePages, IsMarked}
+use Rattle.work_store.specs.Rows.{at_place, spread, slot_entries, page_entries, chapter_entries, all_entries, start_of, HoldsAt, HoldsAtEach, IsPage, IsChapter, ArePages, IsMarked}
 use Rattle.work_store.proofs.Lists.{at_is, same_tag}
 use Rattle.work_store.proofs.Rows.{IsEdit, set_edits, remove_edits, insert_edits, stay_edits}
 use Rattle.work_store.proofs.Levels.{page_edited, page_set, page_looked_up, chapter_edited, chapter_set, chapter_looked_up, chapter_page, all_edited, all_set, all_looked_up, all_chapter, part_fewer}

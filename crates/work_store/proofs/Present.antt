@@ -1,5 +1,5 @@
 -- The present elements of rows are those of their entries.
-use Rattle.std.proofs.Common.{◌≡◌, ℕ, ◌+◌, ◌<◌, Bool, true, false, cond, List, [], ◌∷◌, ◌++◌, Option, Some, None, refl, ap, sym, ◌∙◌, append_assoc}
+use Rattle.std.proofs.Common.{◌≡◌, ℕ, ◌+◌, Bool, true, false, cond, List, [], ◌∷◌, ◌++◌, Option, Some, None, refl, ap, sym, ◌∙◌}
 use Rattle.ops_base.specs.declared.elements.Element.{Element}
 use Rattle.work_store.specs.declared.row.Row.{Row}
 use Rattle.work_store.specs.declared.slot.Slot.{Slot}

@@ -31,9 +31,16 @@ chapter_entries base chapter = spread page_entries 64 base chapter.places.items
 abbrev pub all_entries : Row (Row (Row Slot)) → List (ℕ × Slot)
 all_entries chapters = spread chapter_entries 4096 0 chapters.places.items
 
--- the first of the tags that share a row of that width with this one
+-- the first tag of the row of that width in which this one lies
 abbrev pub start_of : ℕ → ℕ → ℕ
 start_of width tag = tag - tag % width
+
+-- the entries of the page that has a tag's place, and of its chapter
+abbrev pub entries_in_page : ℕ → Row Slot → List (ℕ × Slot)
+entries_in_page tag page = page_entries (start_of 64 tag) page
+
+abbrev pub entries_in_chapter : ℕ → Row (Row Slot) → List (ℕ × Slot)
+entries_in_chapter tag chapter = chapter_entries (start_of 4096 tag) chapter
 
 -- ---- what rows keep true
 
@@ -61,6 +68,12 @@ pub record IsChapter (base : ℕ) (chapter : Row (Row Slot)) : Type 0 where
 pub record ArePages (chapters : Row (Row (Row Slot))) : Type 0 where
   pub row : IsRow IsChapter chapter_entries 4096 0 chapters
   pub small : chapters.held < 2 ^ 63
+
+abbrev pub IsPageOf : ℕ → Row Slot → Type 0
+IsPageOf tag page = IsPage (start_of 64 tag) page
+
+abbrev pub IsChapterOf : ℕ → Row (Row Slot) → Type 0
+IsChapterOf tag chapter = IsChapter (start_of 4096 tag) chapter
 
 -- ---- the present elements
 

@@ -4,7 +4,7 @@ ghost use Rattle.std.specs.Option.{option_copied};
 ghost use Rattle.std.specs.BTreeMap.{is_at, insert_entry};
 ghost use Rattle.std.specs.Map.{lookup, remove_entry};
 ghost use Rattle.std.specs.Ordering.{nat_cmp};
-ghost use Rattle.work_store.specs.Rows.{start_of, page_entries, chapter_entries, all_entries, IsPage, IsChapter, ArePages, IsMarked};
+ghost use Rattle.work_store.specs.Rows.{entries_in_page, entries_in_chapter, all_entries, IsPageOf, IsChapterOf, ArePages, IsMarked};
 ghost use Rattle.work_store.specs.Slots.{those, is_present};
 
 use crate::iter::Elements;
@@ -41,10 +41,10 @@ impl Model for Pages {
 // ---- a page
 
 fn mark_in_page(page: &mut Row<Slot>, tag: u64)
-    requires { IsPage (start_of 64 tag) page.old }
-    ensures page { IsPage (start_of 64 tag) page.new }
+    requires { IsPageOf tag page.old }
+    ensures page { IsPageOf tag page.new }
     ensures held { page.new.held ≡ page.old.held }
-    ensures entries { IsMarked tag (page_entries (start_of 64 tag) page.old) (page_entries (start_of 64 tag) page.new) }
+    ensures entries { IsMarked tag (entries_in_page tag page.old) (entries_in_page tag page.new) }
 {
     let at = (tag % 64) as usize;
     if at >= page.places.len() {
@@ -57,10 +57,10 @@ fn mark_in_page(page: &mut Row<Slot>, tag: u64)
 }
 
 fn remove_from_page(page: &mut Row<Slot>, tag: u64)
-    requires { IsPage (start_of 64 tag) page.old }
-    ensures page { IsPage (start_of 64 tag) page.new }
+    requires { IsPageOf tag page.old }
+    ensures page { IsPageOf tag page.new }
     ensures fewer { page.new.held ≤ page.old.held }
-    ensures entries { page_entries (start_of 64 tag) page.new ≡ remove_entry (is_at (nat_cmp tag)) (page_entries (start_of 64 tag) page.old) }
+    ensures entries { entries_in_page tag page.new ≡ remove_entry (is_at (nat_cmp tag)) (entries_in_page tag page.old) }
 {
     let at = (tag % 64) as usize;
     if at >= page.places.len() {
@@ -73,13 +73,13 @@ fn remove_from_page(page: &mut Row<Slot>, tag: u64)
 }
 
 fn add_to_page(page: &mut Row<Slot>, tag: u64, slot: Slot) -> Result<(), OutOfMemory>
-    requires page { IsPage (start_of 64 tag) page.old }
+    requires page { IsPageOf tag page.old }
     requires small { page.old.held < 2 ^ 63 }
-    requires absent { lookup (is_at (nat_cmp tag)) (page_entries (start_of 64 tag) page.old) ≡ None }
-    ensures page { IsPage (start_of 64 tag) page.new }
-    ensures ok { OnOk result (page_entries (start_of 64 tag) page.new ≡ insert_entry nat_cmp (page_entries (start_of 64 tag) page.old) tag slot) }
+    requires absent { lookup (is_at (nat_cmp tag)) (entries_in_page tag page.old) ≡ None }
+    ensures page { IsPageOf tag page.new }
+    ensures ok { OnOk result (entries_in_page tag page.new ≡ insert_entry nat_cmp (entries_in_page tag page.old) tag slot) }
     ensures held { OnOk result (page.new.held ≡ page.old.held + 1) }
-    ensures err { OnErr result (page_entries (start_of 64 tag) page.new ≡ page_entries (start_of 64 tag) page.old) }
+    ensures err { OnErr result (entries_in_page tag page.new ≡ entries_in_page tag page.old) }
     ensures err_held { OnErr result (page.new.held ≡ page.old.held) }
 {
     let at = (tag % 64) as usize;
@@ -90,8 +90,8 @@ fn add_to_page(page: &mut Row<Slot>, tag: u64, slot: Slot) -> Result<(), OutOfMe
 }
 
 fn new_page(alloc: Global, tag: u64, slot: Slot) -> Result<Row<Slot>, OutOfMemory>
-    ensures page { IfOk result (λ p. IsPage (start_of 64 tag) p) }
-    ensures entries { IfOk result (λ p. page_entries (start_of 64 tag) p ≡ (tag, slot) ∷ []) }
+    ensures page { IfOk result (λ p. IsPageOf tag p) }
+    ensures entries { IfOk result (λ p. entries_in_page tag p ≡ (tag, slot) ∷ []) }
 {
     let mut page = Row::new(alloc);
     add_to_page(&mut page, tag, slot)?;
@@ -101,10 +101,10 @@ fn new_page(alloc: Global, tag: u64, slot: Slot) -> Result<Row<Slot>, OutOfMemor
 // ---- a chapter
 
 fn mark_in_chapter(chapter: &mut Row<Row<Slot>>, tag: u64)
-    requires { IsChapter (start_of 4096 tag) chapter.old }
-    ensures chapter { IsChapter (start_of 4096 tag) chapter.new }
+    requires { IsChapterOf tag chapter.old }
+    ensures chapter { IsChapterOf tag chapter.new }
     ensures held { chapter.new.held ≡ chapter.old.held }
-    ensures entries { IsMarked tag (chapter_entries (start_of 4096 tag) chapter.old) (chapter_entries (start_of 4096 tag) chapter.new) }
+    ensures entries { IsMarked tag (entries_in_chapter tag chapter.old) (entries_in_chapter tag chapter.new) }
 {
     let at = (tag / 64 % 64) as usize;
     if at >= chapter.places.len() {
@@ -117,10 +117,10 @@ fn mark_in_chapter(chapter: &mut Row<Row<Slot>>, tag: u64)
 }
 
 fn remove_from_chapter(chapter: &mut Row<Row<Slot>>, tag: u64)
-    requires { IsChapter (start_of 4096 tag) chapter.old }
-    ensures chapter { IsChapter (start_of 4096 tag) chapter.new }
+    requires { IsChapterOf tag chapter.old }
+    ensures chapter { IsChapterOf tag chapter.new }
     ensures fewer { chapter.new.held ≤ chapter.old.held }
-    ensures entries { chapter_entries (start_of 4096 tag) chapter.new ≡ remove_entry (is_at (nat_cmp tag)) (chapter_entries (start_of 4096 tag) chapter.old) }
+    ensures entries { entries_in_chapter tag chapter.new ≡ remove_entry (is_at (nat_cmp tag)) (entries_in_chapter tag chapter.old) }
 {
     let at = (tag / 64 % 64) as usize;
     if at >= chapter.places.len() {
@@ -146,13 +146,13 @@ fn add_to_chapter(
     tag: u64,
     slot: Slot,
 ) -> Result<(), OutOfMemory>
-    requires chapter { IsChapter (start_of 4096 tag) chapter.old }
+    requires chapter { IsChapterOf tag chapter.old }
     requires small { chapter.old.held < 2 ^ 63 }
-    requires absent { lookup (is_at (nat_cmp tag)) (chapter_entries (start_of 4096 tag) chapter.old) ≡ None }
-    ensures chapter { IsChapter (start_of 4096 tag) chapter.new }
-    ensures ok { OnOk result (chapter_entries (start_of 4096 tag) chapter.new ≡ insert_entry nat_cmp (chapter_entries (start_of 4096 tag) chapter.old) tag slot) }
+    requires absent { lookup (is_at (nat_cmp tag)) (entries_in_chapter tag chapter.old) ≡ None }
+    ensures chapter { IsChapterOf tag chapter.new }
+    ensures ok { OnOk result (entries_in_chapter tag chapter.new ≡ insert_entry nat_cmp (entries_in_chapter tag chapter.old) tag slot) }
     ensures held { OnOk result (chapter.new.held ≡ chapter.old.held + 1) }
-    ensures err { OnErr result (chapter_entries (start_of 4096 tag) chapter.new ≡ chapter_entries (start_of 4096 tag) chapter.old) }
+    ensures err { OnErr result (entries_in_chapter tag chapter.new ≡ entries_in_chapter tag chapter.old) }
     ensures err_held { OnErr result (chapter.new.held ≡ chapter.old.held) }
 {
     let at = (tag / 64 % 64) as usize;
@@ -172,8 +172,8 @@ fn add_to_chapter(
 }
 
 fn new_chapter(alloc: Global, tag: u64, slot: Slot) -> Result<Row<Row<Slot>>, OutOfMemory>
-    ensures chapter { IfOk result (λ c. IsChapter (start_of 4096 tag) c) }
-    ensures entries { IfOk result (λ c. chapter_entries (start_of 4096 tag) c ≡ (tag, slot) ∷ []) }
+    ensures chapter { IfOk result (λ c. IsChapterOf tag c) }
+    ensures entries { IfOk result (λ c. entries_in_chapter tag c ≡ (tag, slot) ∷ []) }
 {
     let mut chapter = Row::new(alloc);
     add_to_chapter(&mut chapter, alloc, tag, slot)?;

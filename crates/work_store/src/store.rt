@@ -61,7 +61,7 @@ impl Store {
     }
 
     #[tactic(auto, using(crate::proofs::Slots::get_present))]
-    /// The present element of that tag. Takes a time that grows with the logarithm of the number of elements.
+    /// The present element of that tag. Takes the same time whatever the number of elements.
     pub fn get(&self, tag: u64) -> Option<&Element>
         ensures { option_copied result ≡ of_tag self.now.elements tag }
     {
@@ -74,7 +74,7 @@ impl Store {
     }
 
     #[tactic(auto, using(crate::proofs::Slots::get_any))]
-    /// The element of that tag, present or kept. Takes a time that grows with the logarithm of the number of elements.
+    /// The element of that tag, present or kept. Takes the same time whatever the number of elements.
     pub fn kept(&self, tag: u64) -> Option<&Element>
         ensures { option_copied result ≡ held_of self.now tag }
     {
@@ -98,7 +98,7 @@ impl Store {
     }
 
     /// The present elements by rising tag. Going over them takes a time in proportion to the number of those that are
-    /// present or kept.
+    /// present or kept, and to the greatest tag over 4,096.
     pub fn iter(&self) -> Elements<'_>
         ensures { result ≡ self.now.elements }
     {
@@ -106,7 +106,7 @@ impl Store {
     }
 
     /// References to the present elements, by rising tag. None is copied. Takes a time in proportion to the number of
-    /// those that are present or kept.
+    /// those that are present or kept, and to the greatest tag over 4,096.
     pub fn present(&self, alloc: Global) -> Result<Vec<&Element>, OutOfMemory>
         ensures elements { IfOk result (λ v. shown v.items ≡ self.now.elements) }
         ensures rising { HasRisingTags self.now.elements }
@@ -125,8 +125,10 @@ impl Store {
         }
     }
 
-    /// Adds an element with a tag above all others. Where memory runs out nothing has changed. Takes a time that grows
-    /// with the logarithm of the number of elements, but where the room for the tags of kept elements doubles.
+    /// Adds an element with a tag above all others. Where memory runs out nothing has changed. Takes the same time
+    /// whatever the number of elements, but where a room for tags or slots doubles, and where tags are left out: there it
+    /// grows with their number over 4,096. Beside the elements themselves the store takes memory in proportion to the
+    /// greatest tag over 4,096, so a tag far above the others may be refused for want of memory.
     pub fn add(&mut self, element: Element) -> Result<(), OutOfMemory>
         requires { self.old.last < element.tag }
         ensures ok { OnOk result (self.new ≡ record { elements = self.old.elements ++ element ∷ []; kept = self.old.kept; last = element.tag }) }
@@ -147,8 +149,8 @@ impl Store {
         Ok(())
     }
 
-    /// Removes a present element, which is kept until `forget`. Takes no memory, and a time that grows with the
-    /// logarithm of the number of elements.
+    /// Removes a present element, which is kept until `forget`. Takes no memory, and the same time whatever the number of
+    /// elements.
     pub fn remove(&mut self, tag: u64)
         requires { IsSome (of_tag self.old.elements tag) }
         ensures elements { self.new.elements ≡ without_tag tag self.old.elements }
@@ -162,8 +164,7 @@ impl Store {
         }
     }
 
-    /// Lets the kept elements go. Takes no memory, and a time for each of them that grows with the logarithm of the
-    /// number of elements.
+    /// Lets the kept elements go. Takes no memory, and for each of them the same time whatever the number of elements.
     pub fn forget(&mut self)
         ensures { self.new ≡ record self.old { kept = [] } }
     {

@@ -99,3 +99,73 @@ fn changes_are_made_in_their_order(rt: HostRuntime) -> Result<(), OutOfMemory> {
     assert_eq!(rt; store.present(rt.alloc())?.len(), 2);
     Ok(())
 }
+
+// the same as a removal, where there is such an element
+fn remove(store: &mut Store, tag: u64) {
+    if store.get(tag).is_some() {
+        store.remove(tag);
+    }
+}
+
+#[test]
+fn tags_lie_far_apart(rt: HostRuntime) -> Result<(), OutOfMemory> {
+    let tags = [1, 64, 65, 4095, 4096, 4097, 70000];
+    let mut store = Store::new(rt.alloc());
+    for tag in &tags {
+        assert!(rt; store.last() < *tag);
+        store.add(element(rt.alloc(), *tag))?;
+    }
+    assert_eq!(rt; shown(rt.alloc(), &store)?.as_slice(), tags.as_slice());
+    for tag in &tags {
+        assert_eq!(rt; present(&store, *tag), Some(*tag));
+    }
+    assert_eq!(rt;
+        (
+            present(&store, 0),
+            present(&store, 66),
+            present(&store, 4098),
+            present(&store, 1 << 60)
+        ),
+        (None, None, None, None)
+    );
+    remove(&mut store, 64);
+    remove(&mut store, 4096);
+    store.forget();
+    assert_eq!(rt;
+        (kept(&store, 64), kept(&store, 4096), store.len()),
+        (None, None, 5)
+    );
+    assert_eq!(rt;
+        shown(rt.alloc(), &store)?.as_slice(),
+        [1, 65, 4095, 4097, 70000].as_slice()
+    );
+    Ok(())
+}
+
+#[test]
+fn pages_empty_and_fill_again(rt: HostRuntime) -> Result<(), OutOfMemory> {
+    let mut store = Store::new(rt.alloc());
+    for tag in 0..200 {
+        if store.last() < tag {
+            store.add(element(rt.alloc(), tag))?;
+        }
+        if tag > 0 {
+            remove(&mut store, tag - 1);
+            store.forget();
+        }
+    }
+    assert_eq!(rt; shown(rt.alloc(), &store)?.as_slice(), [199].as_slice());
+    remove(&mut store, 199);
+    store.forget();
+    assert_eq!(rt;
+        (store.len(), store.last(), kept(&store, 199)),
+        (0, 199, None)
+    );
+    assert!(rt; store.last() < 200);
+    store.add(element(rt.alloc(), 200))?;
+    assert_eq!(rt;
+        (present(&store, 200), present(&store, 199)),
+        (Some(200), None)
+    );
+    Ok(())
+}

@@ -1,4 +1,4 @@
-use Rattle.std.proofs.Common.{arith, ℕ, refl, ap, sym, ◌∙◌, set, get_or, [], ◌∷◌, Some, None, ◌≡◌, ◌<◌, ◌≤◌, ◌+◌, ◌/◌, ◌%◌, length}
+use Rattle.std.proofs.Common.{arith, refl, ap, sym, ◌∙◌, Some, None, ◌≡◌, ◌+◌, ◌/◌, length}
 use Rattle.std.proofs.lemmas.List.{set-set}
 use Rattle.std.specs.BTreeMap.{is_at, insert_entry}
 use Rattle.std.specs.Map.{lookup}
@@ -59,8 +59,8 @@ returns-in_err-add_to_chapter-in-Some-clause-err c =
     on_err _ _ ((all_stays c.args.tag c.reach.new.self all c.in-Some.chapter chapter far.0 c.in_ok-reach.ensures.ok there refl refl c.add_to_chapter.ensures.chapter c.in_err-add_to_chapter-in-Some.ensures.err).1 ∙ far.1)
 
 -- a page has one slot more
-pub returns-in_ok-add_to_chapter-in-Some-clause-chapters : goal.returns-in_ok-add_to_chapter-in-Some-clause-chapters
-returns-in_ok-add_to_chapter-in-Some-clause-chapters c =
+pub returns-in_ok-add_to_chapter-in-Some : goal.returns-in_ok-add_to_chapter-in-Some
+returns-in_ok-add_to_chapter-in-Some c =
     let far = reached c.args.chapters.now c.reach.new.self c.requires.chapters c.reach.ensures.grown c.reach.ensures.held in
     let there = place_is _ _ _ _ c.in_ok-reach.ensures.ok c.index_mut.ensures.value c.in-Some.is in
     let chapter = c.add_to_chapter.new.chapter in
@@ -69,20 +69,12 @@ returns-in_ok-add_to_chapter-in-Some-clause-chapters c =
     let was = (chapter_there c.args.tag c.reach.new.self c.in-Some.chapter far.0 there).row.counted in
     let now = made.chapter.row.counted in
     let more = made.held in
-    (all_added c.args.tag c.reach.new.self all (Some c.in-Some.chapter) chapter c.args.slot far.0 c.in_ok-reach.ensures.ok there refl refl made.chapter (omega arith) made.ok (omega (arith, c.if-chapters-ge-MOST.false, c.reach.ensures.held))).0
-
-pub returns-in_ok-add_to_chapter-in-Some-clause-ok : goal.returns-in_ok-add_to_chapter-in-Some-clause-ok
-returns-in_ok-add_to_chapter-in-Some-clause-ok c =
-    let far = reached c.args.chapters.now c.reach.new.self c.requires.chapters c.reach.ensures.grown c.reach.ensures.held in
-    let there = place_is _ _ _ _ c.in_ok-reach.ensures.ok c.index_mut.ensures.value c.in-Some.is in
-    let chapter = c.add_to_chapter.new.chapter in
-    let all : Row (Row (Row Slot)) = record { places = with_item c.reach.new.self.places (c.args.tag / 4096) (Some chapter); held = c.reach.new.self.held + 1 } in
-    let made = c.in_ok-add_to_chapter-in-Some.ensures in
-    let was = (chapter_there c.args.tag c.reach.new.self c.in-Some.chapter far.0 there).row.counted in
-    let now = made.chapter.row.counted in
-    let more = made.held in
-    (all_added c.args.tag c.reach.new.self all (Some c.in-Some.chapter) chapter c.args.slot far.0 c.in_ok-reach.ensures.ok there refl refl made.chapter (omega arith) made.ok (omega (arith, c.if-chapters-ge-MOST.false, c.reach.ensures.held))).1
-    ∙ ap (λ es. insert_entry nat_cmp es c.args.tag c.args.slot) far.1
+    let changed = all_added c.args.tag c.reach.new.self all (Some c.in-Some.chapter) chapter c.args.slot far.0 c.in_ok-reach.ensures.ok there refl refl made.chapter (omega arith) made.ok (omega (arith, c.if-chapters-ge-MOST.false, c.reach.ensures.held)) in
+    record {
+      chapters = changed.0;
+      ok = changed.1 ∙ ap (λ es. insert_entry nat_cmp es c.args.tag c.args.slot) far.1;
+      err = tt;
+    }
 
 -- no page could be made
 pub returns-in_err-new_chapter-in-None-clause-chapters : goal.returns-in_err-new_chapter-in-None-clause-chapters
@@ -98,21 +90,16 @@ returns-in_err-new_chapter-in-None-clause-err c =
     on_err _ _ ((all_same c.reach.new.self all far.0 (set_read c.reach.new.self.places.items (c.args.tag / 4096) _ c.index_mut.ensures.value) refl).1 ∙ far.1)
 
 -- a new page has one slot
-pub returns-in_ok-new_chapter-in-None-clause-chapters : goal.returns-in_ok-new_chapter-in-None-clause-chapters
-returns-in_ok-new_chapter-in-None-clause-chapters c =
+pub returns-in_ok-new_chapter-in-None : goal.returns-in_ok-new_chapter-in-None
+returns-in_ok-new_chapter-in-None c =
     let far = reached c.args.chapters.now c.reach.new.self c.requires.chapters c.reach.ensures.grown c.reach.ensures.held in
     let there = place_is _ _ _ _ c.in_ok-reach.ensures.ok c.index_mut.ensures.value c.in-None.is in
     let chapter = c.in_ok-new_chapter-in-None.field-0 in
     let all : Row (Row (Row Slot)) = record { places = with_item (with_item c.reach.new.self.places (c.args.tag / 4096) c.index_mut.result.now) (c.args.tag / 4096) (Some chapter); held = c.reach.new.self.held + 1 } in
     let made = c.in_ok-new_chapter-in-None.ensures in
-    (all_added c.args.tag c.reach.new.self all None chapter c.args.slot far.0 c.in_ok-reach.ensures.ok there (set-set c.reach.new.self.places.items (c.args.tag / 4096) c.index_mut.result.now (Some chapter)) refl made.chapter (ap length made.entries) made.entries (omega (arith, c.if-chapters-ge-MOST.false, c.reach.ensures.held))).0
-
-pub returns-in_ok-new_chapter-in-None-clause-ok : goal.returns-in_ok-new_chapter-in-None-clause-ok
-returns-in_ok-new_chapter-in-None-clause-ok c =
-    let far = reached c.args.chapters.now c.reach.new.self c.requires.chapters c.reach.ensures.grown c.reach.ensures.held in
-    let there = place_is _ _ _ _ c.in_ok-reach.ensures.ok c.index_mut.ensures.value c.in-None.is in
-    let chapter = c.in_ok-new_chapter-in-None.field-0 in
-    let all : Row (Row (Row Slot)) = record { places = with_item (with_item c.reach.new.self.places (c.args.tag / 4096) c.index_mut.result.now) (c.args.tag / 4096) (Some chapter); held = c.reach.new.self.held + 1 } in
-    let made = c.in_ok-new_chapter-in-None.ensures in
-    (all_added c.args.tag c.reach.new.self all None chapter c.args.slot far.0 c.in_ok-reach.ensures.ok there (set-set c.reach.new.self.places.items (c.args.tag / 4096) c.index_mut.result.now (Some chapter)) refl made.chapter (ap length made.entries) made.entries (omega (arith, c.if-chapters-ge-MOST.false, c.reach.ensures.held))).1
-    ∙ ap (λ es. insert_entry nat_cmp es c.args.tag c.args.slot) far.1
+    let changed = all_added c.args.tag c.reach.new.self all None chapter c.args.slot far.0 c.in_ok-reach.ensures.ok there (set-set c.reach.new.self.places.items (c.args.tag / 4096) c.index_mut.result.now (Some chapter)) refl made.chapter (ap length made.entries) made.entries (omega (arith, c.if-chapters-ge-MOST.false, c.reach.ensures.held)) in
+    record {
+      chapters = changed.0;
+      ok = changed.1 ∙ ap (λ es. insert_entry nat_cmp es c.args.tag c.args.slot) far.1;
+      err = tt;
+    }

@@ -1,4 +1,4 @@
-use Rattle.std.proofs.Common.{arith, ℕ, refl, ap, sym, ◌∙◌, set, get_or, [], ◌∷◌, Some, None, ◌≡◌, ◌<◌, ◌≤◌, ◌+◌, ◌/◌, ◌%◌, length}
+use Rattle.std.proofs.Common.{arith, ℕ, refl, ap, sym, ◌∙◌, Some, None, ◌≡◌, ◌<◌, ◌≤◌, ◌+◌, ◌/◌, ◌%◌, length}
 use Rattle.std.proofs.lemmas.List.{set-set}
 use Rattle.std.specs.BTreeMap.{is_at, insert_entry}
 use Rattle.std.specs.Map.{lookup}
@@ -64,8 +64,8 @@ returns-in_err-add_to_page-in-Some-clause-err c =
     on_err _ _ ((chapter_stays c.args.tag c.reach.new.self chapter c.in-Some.page page far.0 c.in_ok-reach.ensures.ok there refl refl c.add_to_page.ensures.page c.in_err-add_to_page-in-Some.ensures.err).1 ∙ far.1)
 
 -- a page has one slot more
-pub returns-in_ok-add_to_page-in-Some-clause-chapter : goal.returns-in_ok-add_to_page-in-Some-clause-chapter
-returns-in_ok-add_to_page-in-Some-clause-chapter c =
+pub returns-in_ok-add_to_page-in-Some : goal.returns-in_ok-add_to_page-in-Some
+returns-in_ok-add_to_page-in-Some c =
     let far = reached c.args.tag c.args.chapter.now c.reach.new.self c.requires.chapter c.reach.ensures.grown c.reach.ensures.held c.reach.ensures.within in
     let there = place_is _ _ _ _ c.in_ok-reach.ensures.ok c.index_mut.ensures.value c.in-Some.is in
     let page = c.add_to_page.new.page in
@@ -74,20 +74,14 @@ returns-in_ok-add_to_page-in-Some-clause-chapter c =
     let was = (page_there c.args.tag c.reach.new.self c.in-Some.page far.0 there).row.counted in
     let now = made.page.row.counted in
     let more = made.held in
-    (chapter_added c.args.tag c.reach.new.self chapter (Some c.in-Some.page) page c.args.slot far.0 c.in_ok-reach.ensures.ok there refl refl made.page (omega arith) made.ok).0
-
-pub returns-in_ok-add_to_page-in-Some-clause-ok : goal.returns-in_ok-add_to_page-in-Some-clause-ok
-returns-in_ok-add_to_page-in-Some-clause-ok c =
-    let far = reached c.args.tag c.args.chapter.now c.reach.new.self c.requires.chapter c.reach.ensures.grown c.reach.ensures.held c.reach.ensures.within in
-    let there = place_is _ _ _ _ c.in_ok-reach.ensures.ok c.index_mut.ensures.value c.in-Some.is in
-    let page = c.add_to_page.new.page in
-    let chapter : Row (Row Slot) = record { places = with_item c.reach.new.self.places (c.args.tag / 64 % 64) (Some page); held = c.reach.new.self.held + 1 } in
-    let made = c.in_ok-add_to_page-in-Some.ensures in
-    let was = (page_there c.args.tag c.reach.new.self c.in-Some.page far.0 there).row.counted in
-    let now = made.page.row.counted in
-    let more = made.held in
-    (chapter_added c.args.tag c.reach.new.self chapter (Some c.in-Some.page) page c.args.slot far.0 c.in_ok-reach.ensures.ok there refl refl made.page (omega arith) made.ok).1
-    ∙ ap (λ es. insert_entry nat_cmp es c.args.tag c.args.slot) far.1
+    let changed = chapter_added c.args.tag c.reach.new.self chapter (Some c.in-Some.page) page c.args.slot far.0 c.in_ok-reach.ensures.ok there refl refl made.page (omega arith) made.ok in
+    record {
+      chapter = changed.0;
+      ok = changed.1 ∙ ap (λ es. insert_entry nat_cmp es c.args.tag c.args.slot) far.1;
+      held = ap (λ n. n + 1) c.reach.ensures.held;
+      err = tt;
+      err_held = tt;
+    }
 
 -- no page could be made
 pub returns-in_err-new_page-in-None-clause-chapter : goal.returns-in_err-new_page-in-None-clause-chapter
@@ -103,21 +97,18 @@ returns-in_err-new_page-in-None-clause-err c =
     on_err _ _ ((chapter_same (start_of 4096 c.args.tag) c.reach.new.self chapter far.0 (set_read c.reach.new.self.places.items (c.args.tag / 64 % 64) _ c.index_mut.ensures.value) refl).1 ∙ far.1)
 
 -- a new page has one slot
-pub returns-in_ok-new_page-in-None-clause-chapter : goal.returns-in_ok-new_page-in-None-clause-chapter
-returns-in_ok-new_page-in-None-clause-chapter c =
+pub returns-in_ok-new_page-in-None : goal.returns-in_ok-new_page-in-None
+returns-in_ok-new_page-in-None c =
     let far = reached c.args.tag c.args.chapter.now c.reach.new.self c.requires.chapter c.reach.ensures.grown c.reach.ensures.held c.reach.ensures.within in
     let there = place_is _ _ _ _ c.in_ok-reach.ensures.ok c.index_mut.ensures.value c.in-None.is in
     let page = c.in_ok-new_page-in-None.field-0 in
     let chapter : Row (Row Slot) = record { places = with_item (with_item c.reach.new.self.places (c.args.tag / 64 % 64) c.index_mut.result.now) (c.args.tag / 64 % 64) (Some page); held = c.reach.new.self.held + 1 } in
     let made = c.in_ok-new_page-in-None.ensures in
-    (chapter_added c.args.tag c.reach.new.self chapter None page c.args.slot far.0 c.in_ok-reach.ensures.ok there (set-set c.reach.new.self.places.items (c.args.tag / 64 % 64) c.index_mut.result.now (Some page)) refl made.page (ap length made.entries) made.entries).0
-
-pub returns-in_ok-new_page-in-None-clause-ok : goal.returns-in_ok-new_page-in-None-clause-ok
-returns-in_ok-new_page-in-None-clause-ok c =
-    let far = reached c.args.tag c.args.chapter.now c.reach.new.self c.requires.chapter c.reach.ensures.grown c.reach.ensures.held c.reach.ensures.within in
-    let there = place_is _ _ _ _ c.in_ok-reach.ensures.ok c.index_mut.ensures.value c.in-None.is in
-    let page = c.in_ok-new_page-in-None.field-0 in
-    let chapter : Row (Row Slot) = record { places = with_item (with_item c.reach.new.self.places (c.args.tag / 64 % 64) c.index_mut.result.now) (c.args.tag / 64 % 64) (Some page); held = c.reach.new.self.held + 1 } in
-    let made = c.in_ok-new_page-in-None.ensures in
-    (chapter_added c.args.tag c.reach.new.self chapter None page c.args.slot far.0 c.in_ok-reach.ensures.ok there (set-set c.reach.new.self.places.items (c.args.tag / 64 % 64) c.index_mut.result.now (Some page)) refl made.page (ap length made.entries) made.entries).1
-    ∙ ap (λ es. insert_entry nat_cmp es c.args.tag c.args.slot) far.1
+    let changed = chapter_added c.args.tag c.reach.new.self chapter None page c.args.slot far.0 c.in_ok-reach.ensures.ok there (set-set c.reach.new.self.places.items (c.args.tag / 64 % 64) c.index_mut.result.now (Some page)) refl made.page (ap length made.entries) made.entries in
+    record {
+      chapter = changed.0;
+      ok = changed.1 ∙ ap (λ es. insert_entry nat_cmp es c.args.tag c.args.slot) far.1;
+      held = ap (λ n. n + 1) c.reach.ensures.held;
+      err = tt;
+      err_held = tt;
+    }

@@ -1,4 +1,4 @@
-use Rattle.std.proofs.Common.{arith, refl, sym, ◌∙◌, subst, get_or, Some, None, ◌≡◌, ◌<◌, ◌≤◌, ◌+◌, ◌-◌, ◌%◌, length}
+use Rattle.std.proofs.Common.{arith, refl, None, ◌<◌, ◌-◌, ◌%◌, length}
 use Rattle.std.proofs.lemmas.List.{get_or_past}
 use Rattle.std.specs.Vec.{with_item}
 use Rattle.work_store.specs.declared.row.Row.{Row}
@@ -16,23 +16,19 @@ overflow_sub-page c =
     let slot = some_of c.index.result.now c.if-is_some.ensures in
     page_some c.args.tag c.args.page.now slot.0 c.requires within (place_is _ _ _ _ within c.index.ensures slot.1)
 
-pub returns-then-is_some-clause-page : goal.returns-then-is_some-clause-page
-returns-then-is_some-clause-page c =
+pub returns-then-is_some : goal.returns-then-is_some
+returns-then-is_some c =
     let within : c.args.tag % 64 < length c.args.page.now.places.items = omega arith in
     let slot = some_of c.index.result.now c.if-is_some.ensures in
     let page : Row Slot = record { places = with_item c.args.page.now.places (c.args.tag % 64) None; held = c.args.page.now.held - 1 } in
     let there = place_is _ _ _ _ within c.index.ensures slot.1 in
     let some = page_some c.args.tag c.args.page.now slot.0 c.requires within there in
-    (page_removed c.args.tag c.args.page.now page slot.0 c.requires within there refl (omega arith)).0
-
-pub returns-then-is_some-clause-entries : goal.returns-then-is_some-clause-entries
-returns-then-is_some-clause-entries c =
-    let within : c.args.tag % 64 < length c.args.page.now.places.items = omega arith in
-    let slot = some_of c.index.result.now c.if-is_some.ensures in
-    let page : Row Slot = record { places = with_item c.args.page.now.places (c.args.tag % 64) None; held = c.args.page.now.held - 1 } in
-    let there = place_is _ _ _ _ within c.index.ensures slot.1 in
-    let some = page_some c.args.tag c.args.page.now slot.0 c.requires within there in
-    (page_removed c.args.tag c.args.page.now page slot.0 c.requires within there refl (omega arith)).1
+    let changed = page_removed c.args.tag c.args.page.now page slot.0 c.requires within there refl (omega arith) in
+    record {
+      page = changed.0;
+      fewer = omega arith;
+      entries = changed.1;
+    }
 
 pub returns-else-is_some-clause-entries : goal.returns-else-is_some-clause-entries
 returns-else-is_some-clause-entries c =

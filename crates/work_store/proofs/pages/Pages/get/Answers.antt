@@ -1,8 +1,8 @@
-use Rattle.std.proofs.Common.{ap, sym, subst, ◌∙◌, get_or, Some, None, ◌≡◌, ◌/◌, ◌%◌}
+use Rattle.std.proofs.Common.{ap, sym, ◌∙◌, get_or, None, ◌%◌}
 use Rattle.std.specs.BTreeMap.{is_at}
 use Rattle.std.specs.Map.{lookup}
 use Rattle.std.specs.Ordering.{nat_cmp}
-use Rattle.work_store.specs.Rows.{at_place, start_of, slot_entries, page_entries, chapter_entries, all_entries}
+use Rattle.work_store.specs.Rows.{at_place, start_of, page_entries, chapter_entries}
 use Rattle.work_store.proofs.Levels.{page_looked_up, chapter_looked_up, all_looked_up}
 use Rattle.work_store.proofs.Places.{all_absent, chapter_absent, chapter_there, page_there, slot_found}
 use Rattle.work_store.proofs.pages.Pages.get.Goals as goal

@@ -1,5 +1,4 @@
-use Rattle.std.proofs.Common.{ap, ◌∙◌, []}
-use Rattle.work_store.specs.Rows.{standing, elements_by, slot_elements, page_elements, chapter_elements}
+use Rattle.std.proofs.Common.{ap, ◌∙◌}
 use Rattle.work_store.specs.Slots.{those, is_present}
 use Rattle.work_store.proofs.Present.{in_all}
 use Rattle.work_store.proofs.pages.Pages.iter.Goals as goal
