@@ -1,5 +1,6 @@
 -- Tokens that are kept under one code alone: what is kept of such a token is what is kept under that code.
 use Rattle.std.proofs.Common.{◌≡◌, ◌≢◌, ℕ, zero, suc, pos, Bool, true, false, cond, ◌&&◌, ◌==◌, ◌⊎◌, inl, inr, List, [], ◌∷◌, ◌++◌, bytes_eq, nat_eq, Option, Some, None, IsSome, IfSome, refl, sym, ap, ap₂, subst, ◌∙◌, true≢false, arith}
+use Rattle.std.specs.Global.{Box}
 use Rattle.std.specs.Map.{keys_of, lookup}
 use Rattle.std.specs.Option.{is_some, option_map, option_or}
 use Rattle.std.proofs.lemmas.Bool.{cases_eq, eqb-true}
@@ -13,7 +14,7 @@ use Rattle.token_line.specs.declared.memory.Memory.{Memory}
 use Rattle.token_line.specs.declared.memories.Memories.{Memories}
 use Rattle.token_line.specs.declared.tokens.Cell.{Cell}
 use Rattle.token_line.specs.Bags.{are_same_sides, is_at}
-use Rattle.token_line.specs.Codes.{AreApart, HaveSums, cell_among, cell_blocked, cell_under, codes_among, codes_of, filed_among, first_some, memory_of, memory_under, tokens_of}
+use Rattle.token_line.specs.Codes.{AreApart, HaveSums, cell_among, cell_blocked, cell_under, codes_among, codes_of, filed_among, first_some, other_codes, other_memory, memory_of, memory_under, tokens_of}
 use Rattle.token_line.specs.Lines.{IsFiled, filed_in, sum_in}
 use Rattle.token_line.specs.Pairs.{cell_of}
 use Rattle.token_line.specs.Sums.{blocked, blockers_kept, counted, side_of, sum_kept}
@@ -50,6 +51,11 @@ module _ {X : Type 0} (f : ℕ → Option X) where
       by own rest true q = inr (ap f (eqb-true c e.0 q) ∙ own)
       by own rest false q = rest
 
+  -- the same of the map of other codes
+  none_other : {S : Type 0} (o : Option (Box (IndexMap ℕ Memory S))) → first_some f (other_codes o) ≡ None → (c : ℕ) → (other_memory o c ≡ None) ⊎ (f c ≡ None)
+  none_other None none c = inl refl
+  none_other (Some others) none c = none_keyed others.value.entries none c
+
 -- ---- the tokens of one side of a node
 
 module _ (s : Side) (t : List ℕ) where
@@ -63,12 +69,12 @@ module _ (s : Side) (t : List ℕ) where
   all_none : (o : Option Memories) → first o ≡ None → (c : ℕ) → filed o c ≡ None
   all_none None none c = refl
   all_none (Some m) none c =
-      let both = none_head (filed (Some m)) (filed (Some m) m.code) (first_some (filed (Some m)) (keys_of m.others.entries)) none in
-      by both.0 (none_keyed (filed (Some m)) m.others.entries both.1 c) (c == m.code) refl
+      let both = none_head (filed (Some m)) (filed (Some m) m.code) (first_some (filed (Some m)) (other_codes m.others)) none in
+      by both.0 (none_other (filed (Some m)) m.others both.1 c) (c == m.code) refl
     where
-      by : filed (Some m) m.code ≡ None → (get nat_eq m.others c ≡ None) ⊎ (filed (Some m) c ≡ None) → (b : Bool) → (c == m.code) ≡ b → filed (Some m) c ≡ None
+      by : filed (Some m) m.code ≡ None → (other_memory m.others c ≡ None) ⊎ (filed (Some m) c ≡ None) → (b : Bool) → (c == m.code) ≡ b → filed (Some m) c ≡ None
       by own others true q = ap (filed (Some m)) (eqb-true c m.code q) ∙ own
-      by own (inl none) false q = ap (λ b. cell_of (tokens_of (cond b (Some m.first) (get nat_eq m.others c)) s) t) q ∙ ap (λ p. cell_of (tokens_of p s) t) none
+      by own (inl none) false q = ap (λ b. cell_of (tokens_of (cond b (Some m.first) (other_memory m.others c)) s) t) q ∙ ap (λ p. cell_of (tokens_of p s) t) none
       by own (inr none) false q = none
 
   -- a token that is kept under no other code
@@ -120,13 +126,13 @@ module _ (s : Side) (t : List ℕ) where
 
 -- ---- a node's first memory
 
-pub fresh_cells : (m : Memories) (code : ℕ) (first : Memory) → m.code ≡ code → m.first ≡ first → m.others.entries ≡ []
+pub fresh_cells : (m : Memories) (code : ℕ) (first : Memory) → m.code ≡ code → m.first ≡ first → m.others ≡ None
     → (c : ℕ) (s : Side) (t : List ℕ) → cell_under m c s t ≡ cond (c == code) (cell_of (side_of first s) t) None
-fresh_cells m code first own is none c s t = ap (λ k. cell_of (tokens_of (cond (c == k) (Some m.first) (get nat_eq m.others c)) s) t) own ∙ by (c == code)
+fresh_cells m code first own is none c s t = ap (λ k. cell_of (tokens_of (cond (c == k) (Some m.first) (other_memory m.others c)) s) t) own ∙ by (c == code)
   where
-    by : (b : Bool) → cell_of (tokens_of (cond b (Some m.first) (get nat_eq m.others c)) s) t ≡ cond b (cell_of (side_of first s) t) None
+    by : (b : Bool) → cell_of (tokens_of (cond b (Some m.first) (other_memory m.others c)) s) t ≡ cond b (cell_of (side_of first s) t) None
     by true = ap (λ x. cell_of (side_of x s) t) is
-    by false = ap (λ es. cell_of (tokens_of (lookup (nat_eq c) es) s) t) none
+    by false = ap (λ o. cell_of (tokens_of (other_memory o c) s) t) none
 
 -- ---- tests
 

@@ -1,5 +1,6 @@
 -- The memories of one node by the codes of their tokens, and those of all nodes of a line.
 use Rattle.std.specs.Prelude.{◌≡◌, ◌≢◌, ◌==◌, ℕ, pos, Bool, List, [], ◌∷◌, nat_eq, Option, Some, None, IsSome, if◌then◌else◌}
+use Rattle.std.specs.Global.{Box}
 use Rattle.std.specs.Map.{keys_of}
 use Rattle.std.specs.Option.{option_map, option_or}
 use Rattle.indexmap.specs.IndexMap.{IndexMap, get}
@@ -21,15 +22,28 @@ tokens_of (Some memory) s = side_of memory s
 abbrev pub kept_among : {S : Type 0} → IndexMap ℕ Memory S → ℕ → Side → List ℕ → Option Cell
 kept_among memories c s t = cell_of (tokens_of (get nat_eq memories c) s) t
 
+-- the memory of a code other than the first, none where there is no map of them
+abbrev pub other_memory : {S : Type 0} → Option (Box (IndexMap ℕ Memory S)) → ℕ → Option Memory
+other_memory None c = None
+other_memory (Some others) c = get nat_eq others.value c
+
+-- what is kept of a token with such a code
+abbrev pub other_cell : {S : Type 0} → Option (Box (IndexMap ℕ Memory S)) → ℕ → Side → List ℕ → Option Cell
+other_cell others c s t = cell_of (tokens_of (other_memory others c) s) t
+
+abbrev pub other_codes : {S : Type 0} → Option (Box (IndexMap ℕ Memory S)) → List ℕ
+other_codes None = []
+other_codes (Some others) = keys_of others.value.entries
+
 -- the memory of the tokens with this code, none where there are none
 abbrev pub memory_under : Memories → ℕ → Option Memory
-memory_under m c = if c == m.code then Some m.first else get nat_eq m.others c
+memory_under m c = if c == m.code then Some m.first else other_memory m.others c
 
 abbrev pub cell_under : Memories → ℕ → Side → List ℕ → Option Cell
 cell_under m c s t = cell_of (tokens_of (memory_under m c) s) t
 
 abbrev pub codes_of : Memories → List ℕ
-codes_of m = m.code ∷ keys_of m.others.entries
+codes_of m = m.code ∷ other_codes m.others
 
 -- what the first of these codes has, of those that have something
 abbrev pub first_some : {X : Type 0} → (ℕ → Option X) → List ℕ → Option X

@@ -5,4 +5,4 @@ use Rattle.token_line.specs.Pairs.{Pairs}
 
 abbrev pub pairs_in : Room → Pairs
 pairs_in (Few list) = list.items
-pairs_in (Many map) = map.entries
+pairs_in (Many map) = map.value.entries

@@ -134,7 +134,7 @@ fn put(
         None => {
             let mut memory = Memory::new(alloc);
             memory.put(alloc, task.side, None, &task.token, cell)?;
-            memories.insert(task.node, Memories::with_first(alloc, spot.code, memory))?;
+            memories.insert(task.node, Memories::with_first(spot.code, memory))?;
         }
     }
     Ok(())

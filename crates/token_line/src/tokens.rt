@@ -31,10 +31,11 @@ pub struct Cell {
     pub blockers: u64,
 }
 
+// The map is boxed, since most memories never have one, and a line keeps room for several memories.
 #[derive(Drop)]
 enum Room {
     Few(Vec<(Tags, Cell)>),
-    Many(IndexMap<Tags, Cell>),
+    Many(Box<IndexMap<Tags, Cell>>),
 }
 
 /// Tokens, each with its cell; none has the sum 0.
@@ -172,7 +173,7 @@ impl Room {
             && list.len() >= FEW
         {
             let map = as_map(alloc, list.as_slice())?;
-            *self = Room::Many(map);
+            *self = Room::Many(Box::new(alloc, map)?);
         }
         Ok(())
     }
