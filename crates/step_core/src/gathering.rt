@@ -9,7 +9,7 @@ ghost use Rattle.step_core.specs.Phases.{before, now, total};
 ghost use Rattle.step_core.specs.Worked.{AreWorked};
 ghost use Rattle.step_core.specs.Worlds.{seen};
 ghost use Rattle.step_core.specs.Found.{inst};
-ghost use Rattle.step_core.specs.Gathering.{AreTold, added, ends_with, has_come, has_gone, is_same, moved_at, moved_by, moved_on, rule_in};
+ghost use Rattle.step_core.specs.Gathering.{AreTold, added, ends_with, has_come, has_gone, is_same, moved_at, moved_by, moved_on, moved_over, rule_in};
 ghost use Rattle.step_core.specs.Settling.{HaveOwnLines, IsGathered};
 
 use net_base::net::Net;
@@ -103,6 +103,18 @@ fn look_over(
         look_at(alloc, net, line, task, moved)?;
     }
     Ok(())
+}
+
+/// What the entries of all lines moved.
+fn look_over_all(alloc: Global, net: &Net, lines: &[Line]) -> Result<Vec<Moved>, OutOfMemory>
+    requires { All (TellsOfLasts net.now.nodes) lines.now }
+    ensures { IfOk result (λ v. v.items ≡ moved_over net.now.nodes (map seen lines.now)) }
+{
+    let mut moved = Vec::new(alloc);
+    for line in lines {
+        look_over(alloc, net, line, &mut moved)?;
+    }
+    Ok(moved)
 }
 
 /// What the entries of the lines at these places moved.
@@ -222,8 +234,19 @@ fn tell(alloc: Global, moved: Vec<Moved>) -> Result<Gathered, OutOfMemory>
 }
 
 /// What came and what went in the phase of the lines: the instantiations that did not stand when it began and stand
-/// now, and those that stood and no longer do. It looks at the lines that have entries alone, and there at the tasks
-/// that came to terminals, which it sorts. It takes no memory where there is none.
+/// now, and those that stood and no longer do. It looks at each line once, and at the tasks that came to terminals,
+/// which it sorts. It takes no memory where there is none.
+pub fn gather(alloc: Global, net: &Net, lines: &[Line]) -> Result<Gathered, OutOfMemory>
+    requires own { HaveOwnLines (map seen lines.now) }
+    requires told { All (TellsOfLasts net.now.nodes) lines.now }
+    ensures { IfOk result (λ g. IsGathered net.now.nodes (total (map before (map seen lines.now))) (total (map now (map seen lines.now))) g.come.items g.gone.items) }
+{
+    let moved = look_over_all(alloc, net, lines)?;
+    let gathered = tell(alloc, moved)?;
+    Ok(gathered)
+}
+
+/// The same, where it is known which lines have entries: it looks at these alone.
 pub fn gather_worked(
     alloc: Global,
     net: &Net,

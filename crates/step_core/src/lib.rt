@@ -12,5 +12,5 @@ mod tests;
 mod worked;
 pub mod world;
 
-pub use gathering::{Gathered, gather_worked};
+pub use gathering::{Gathered, gather, gather_worked};
 pub use world::{Parts, Step, World};
