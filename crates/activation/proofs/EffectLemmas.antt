@@ -1,5 +1,5 @@
 -- What a task does at a join and at a negated node is its effect there.
-use Rattle.std.proofs.Common.{◌≡◌, ◌≢◌, ℕ, ◌-◌, ◌^◌, ◌<◌, ◌&&◌, Bool, true, false, not, List, [], pos, refl, sym, ap, ap₂, subst, ◌∙◌, slice_get, bytes_eq, Option, Some, None, IfSome, is_some, true≢false}
+use Rattle.std.proofs.Common.{◌≡◌, ℕ, ◌-◌, ◌^◌, ◌<◌, ◌&&◌, Bool, true, false, not, List, [], pos, refl, sym, ap, ap₂, subst, ◌∙◌, slice_get, bytes_eq, Option, Some, None, IfSome, is_some, true≢false}
 use Rattle.std.specs.Map.{lookup}
 use Rattle.std.specs.Option.{option_map_or}
 use Rattle.std.proofs.lemmas.Bool.Decides.{Decides-ltb}
@@ -34,7 +34,6 @@ use Rattle.activation.proofs.AtNode.{Kept, cell_at, cell_is, same_node}
 use Rattle.activation.proofs.Matching.{blockers_are}
 use Rattle.activation.proofs.NegatedChange.{left_change, right_change}
 use Rattle.activation.proofs.Outs.{IsChange, unchanged}
-use Rattle.activation.proofs.PutNumbers.{sum_at}
 use Rattle.activation.proofs.PutOutLemmas.{put_by_join}
 
 -- ---- room

@@ -20,7 +20,7 @@ use Rattle.token_line.specs.Bags.{Bag, after, standing, standing_at}
 use Rattle.token_line.specs.Held.{Agrees, Fits}
 use Rattle.token_line.specs.Lines.{memory_at, sum_in}
 use Rattle.token_line.specs.Numbers.{code_of}
-use Rattle.token_line.specs.Sums.{counted, kept_sum}
+use Rattle.token_line.specs.Sums.{counted}
 use Rattle.activation.specs.Acting.{IsCounted, matching, signed}
 use Rattle.activation.specs.Negating.{blockers_for, number_matching}
 use Rattle.activation.specs.Putting.{changes, left_entries, right_entries}

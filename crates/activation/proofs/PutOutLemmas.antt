@@ -1,5 +1,5 @@
 -- What a join puts out for a task, over the tokens of its line.
-use Rattle.std.proofs.Common.{◌≡◌, ◌≢◌, ℕ, true, cond, List, [], ◌∷◌, ◌++◌, ℤ, pos, ◌+ℤ◌, refl, sym, ap, subst, ◌∙◌, arith, length, slice_get, slice_index, slice_index_or, Some}
+use Rattle.std.proofs.Common.{◌≡◌, ◌≢◌, ℕ, true, List, [], ◌∷◌, ◌++◌, ℤ, pos, ◌+ℤ◌, refl, sym, ap, subst, ◌∙◌, arith, length, slice_get, slice_index, slice_index_or, Some}
 use Rattle.std.specs.List.{AllByRecursion}
 use Rattle.std.proofs.lemmas.List.{length_push}
 use Rattle.std.proofs.lemmas.List.Elements.{All-from_recursion, All-push, recursion_from_All}
@@ -12,7 +12,7 @@ use Rattle.net_base.specs.declared.tasks.Side.{Side}
 use Rattle.net_base.specs.declared.tasks.Side.TheVariants.{Left, Right}
 use Rattle.net_base.specs.declared.tasks.Task.{Task}
 use Rattle.net_base.specs.Sound.{IsSound, added_tags, is_join}
-use Rattle.net_base.specs.Tokens.{Elements, joins_hold, out_of_join}
+use Rattle.net_base.specs.Tokens.{Elements, out_of_join}
 use Rattle.token_line.specs.declared.line.Line.{Line}
 use Rattle.token_line.specs.declared.tokens.Cell.{Cell}
 use Rattle.token_line.specs.Bags.{after, standing, standing_at}

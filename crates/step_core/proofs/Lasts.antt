@@ -1,5 +1,5 @@
 -- What moved is what the tasks that came to terminals moved.
-use Rattle.std.proofs.Common.{◌≡◌, ◌++◌, Bool, true, false, List, [], ◌∷◌, Option, Some, None, cond, map, refl, ap, sym, ◌∙◌, slice_get}
+use Rattle.std.proofs.Common.{◌≡◌, ◌++◌, Bool, true, false, List, [], ◌∷◌, Option, Some, None, cond, refl, ap, sym, ◌∙◌, slice_get}
 use Rattle.std.specs.List.{filter}
 use Rattle.std.specs.Option.{option_map_or}
 use Rattle.std.specs.Prelude.{flat_map}
@@ -12,7 +12,6 @@ use Rattle.net_base.specs.declared.tasks.Task.{Task}
 use Rattle.net_base.specs.Sound.{is_terminal}
 use Rattle.token_line.specs.declared.line.Line.{Line}
 use Rattle.activation.specs.Acting.{TellsOfLasts, is_last}
-use Rattle.step_core.specs.declared.gathering.Moved.{Moved}
 use Rattle.step_core.specs.Machine.{Seen}
 use Rattle.step_core.specs.Phases.{tasks_of}
 use Rattle.step_core.specs.Worlds.{seen}

@@ -1,5 +1,5 @@
 -- A task that is taken out of a list for a while, with another one in its place.
-use Rattle.std.proofs.Common.{◌≡◌, ℕ, zero, suc, ◌<◌, List, [], ◌∷◌, length, remove, set, slice_get, Some, refl, ap, sym, arith}
+use Rattle.std.proofs.Common.{◌≡◌, ℕ, zero, suc, List, [], ◌∷◌, remove, set, slice_get, Some, refl, ap, sym}
 
 -- what stands in its place goes with the place
 pub remove-lifted : {X : Type 0} (xs : List X) (i : ℕ) (y : X) → remove (set xs i y) i ≡ remove xs i

@@ -1,5 +1,5 @@
 -- What holds of a call's result.
-use Rattle.std.proofs.Common.{◌≡◌, Bool, true, false, List, IfOk, OnErr, OnOk, Result, Ok, Err, Vec, Global, sym, subst}
+use Rattle.std.proofs.Common.{◌≡◌, Bool, false, List, IfOk, OnErr, OnOk, Result, Ok, Err, Vec, Global, sym, subst}
 use Rattle.std.specs.Result.{is_err}
 use Rattle.ops_base.specs.declared.memory.OutOfMemory.{OutOfMemory}
 

@@ -1,5 +1,5 @@
 -- Left tokens after one right token more or less, which matches some of them.
-use Rattle.std.proofs.Common.{◌≡◌, ◌≢◌, ℕ, zero, suc, ◌+◌, ◌<◌, Bool, true, false, cond, List, [], ◌∷◌, map, length, slice_get, slice_index_or, Option, Some, None, pos, refl, sym, ap, subst, ◌∙◌, add-one, bytes_eq, IfSome}
+use Rattle.std.proofs.Common.{◌≡◌, ◌≢◌, ℕ, zero, suc, ◌+◌, ◌<◌, Bool, true, false, cond, List, [], ◌∷◌, map, length, slice_get, slice_index_or, Some, pos, refl, sym, ap, subst, ◌∙◌, add-one, bytes_eq, IfSome}
 use Rattle.std.specs.List.{All}
 use Rattle.std.specs.Map.{lookup}
 use Rattle.std.specs.Option.{option_map, option_map_or}
@@ -7,7 +7,7 @@ use Rattle.std.proofs.lemmas.Option.{slice_get-get_or}
 use Rattle.indexmap.specs.IndexMap.{set_value_at}
 use Rattle.token_line.specs.declared.tokens.Cell.{Cell}
 use Rattle.token_line.specs.Pairs.{ArePairs, Pairs, cell_of}
-use Rattle.token_line.specs.Sums.{blocked, blockers_of, counted, kept_sum}
+use Rattle.token_line.specs.Sums.{blocked, blockers_of, kept_sum}
 use Rattle.token_line.proofs.PairLemmas.{Pair, cell_at, no_pair, same_bytes}
 
 module _ (matches : List ℕ → Bool) (plus : Bool) where

@@ -1,5 +1,5 @@
 -- Tokens that are kept under one code alone: what is kept of such a token is what is kept under that code.
-use Rattle.std.proofs.Common.{◌≡◌, ◌≢◌, ℕ, zero, suc, pos, Bool, true, false, cond, ◌&&◌, ◌==◌, ◌⊎◌, inl, inr, List, [], ◌∷◌, ◌++◌, bytes_eq, nat_eq, Option, Some, None, IsSome, IfSome, refl, sym, ap, ap₂, subst, ◌∙◌, true≢false, arith}
+use Rattle.std.proofs.Common.{◌≡◌, ◌≢◌, ℕ, pos, Bool, true, false, cond, ◌&&◌, ◌==◌, ◌⊎◌, inl, inr, List, [], ◌∷◌, nat_eq, Option, Some, None, IsSome, IfSome, refl, sym, ap, subst, ◌∙◌, true≢false}
 use Rattle.std.specs.Global.{Box}
 use Rattle.std.specs.Map.{keys_of, lookup}
 use Rattle.std.specs.Option.{is_some, option_map, option_or}
@@ -14,7 +14,7 @@ use Rattle.token_line.specs.declared.memory.Memory.{Memory}
 use Rattle.token_line.specs.declared.memories.Memories.{Memories}
 use Rattle.token_line.specs.declared.tokens.Cell.{Cell}
 use Rattle.token_line.specs.Bags.{are_same_sides, is_at}
-use Rattle.token_line.specs.Codes.{AreApart, HaveSums, cell_among, cell_blocked, cell_under, codes_among, codes_of, filed_among, first_some, other_codes, other_memory, memory_of, memory_under, tokens_of}
+use Rattle.token_line.specs.Codes.{AreApart, HaveSums, cell_among, cell_blocked, cell_under, codes_among, filed_among, first_some, other_codes, other_memory, memory_of, tokens_of}
 use Rattle.token_line.specs.Lines.{IsFiled, filed_in, sum_in}
 use Rattle.token_line.specs.Pairs.{cell_of}
 use Rattle.token_line.specs.Sums.{blocked, blockers_kept, counted, side_of, sum_kept}

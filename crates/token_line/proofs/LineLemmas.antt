@@ -1,5 +1,5 @@
 -- Values by their nodes or codes once one of them was written, and what follows for sums and blockers.
-use Rattle.std.proofs.Common.{◌≡◌, ◌≢◌, ℕ, ℤ, pos, ◌+ℤ◌, Bool, true, false, cond, ◌&&◌, ◌==◌, List, [], nat_eq, zero, suc, ◌∷◌, bytes_eq, position, slice_get, slice_index_or, Option, Some, None, IfSome, Result, Ok, Err, OnErr, is_some, refl, sym, ap, subst, ◌∙◌, arith, true≢false}
+use Rattle.std.proofs.Common.{◌≡◌, ◌≢◌, ℕ, pos, ◌+ℤ◌, Bool, true, false, cond, ◌&&◌, ◌==◌, List, [], nat_eq, zero, suc, ◌∷◌, bytes_eq, position, slice_get, slice_index_or, Option, Some, None, IfSome, Result, Ok, Err, OnErr, is_some, refl, sym, ap, subst, ◌∙◌, arith, true≢false}
 use Rattle.std.specs.Map.{keys_of, lookup, values_of}
 use Rattle.std.proofs.lemmas.Bool.{eqb-true}
 use Rattle.std.proofs.lemmas.Bool.Decides.{Decides-eqb}

@@ -8,7 +8,7 @@ use Rattle.net_base.specs.declared.tasks.Task.{Task}
 use Rattle.token_line.specs.declared.line.Line.{Line}
 use Rattle.token_line.specs.declared.line.Entry.{Entry}
 use Rattle.token_line.specs.declared.tokens.Cell.{Cell}
-use Rattle.token_line.specs.Bags.{after, is_at}
+use Rattle.token_line.specs.Bags.{is_at}
 use Rattle.token_line.specs.Lines.{IsAlone, IsFiled, KeepsCodesBut, blockers_in, filed_in, sum_in}
 use Rattle.token_line.specs.Numbers.{code_of}
 use Rattle.token_line.specs.Sums.{counted}

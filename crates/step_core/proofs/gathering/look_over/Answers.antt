@@ -1,8 +1,7 @@
 -- All tasks that it tells of were looked at.
-use Rattle.std.proofs.Common.{◌≡◌, ◌∙◌, ◌≤◌, ◌++◌, ℕ, List, ap, length, take, arith}
+use Rattle.std.proofs.Common.{◌≡◌, ◌∙◌, ◌++◌, ap, length, take, arith}
 use Rattle.std.proofs.lemmas.List.{take_all}
 use Rattle.std.specs.Prelude.{flat_map}
-use Rattle.net_base.specs.declared.tasks.Task.{Task}
 use Rattle.step_core.specs.Gathering.{moved_by}
 use Rattle.step_core.specs.Worlds.{seen}
 use Rattle.step_core.proofs.Lasts.{told_moved}

@@ -1,5 +1,5 @@
 -- The memories of the node are written, or come new to the line, and those of each other node are as they were.
-use Rattle.std.proofs.Common.{◌≡◌, ◌∙◌, ◌&&◌, ◌==◌, None, Some, ap, bytes_eq, cond, nat_eq, sym}
+use Rattle.std.proofs.Common.{◌∙◌, ◌&&◌, ◌==◌, None, ap, bytes_eq, cond, nat_eq, sym}
 use Rattle.token_line.specs.Bags.{are_same_sides}
 use Rattle.std.proofs.lemmas.Cmp.{nat_eq_equiv}
 use Rattle.indexmap.proofs.CallerLemmas.{updates-with_value_at}

@@ -1,5 +1,5 @@
 -- The memory of the code is written, or comes new, and each other memory is as it was.
-use Rattle.std.proofs.Common.{◌≡◌, ◌∙◌, ◌&&◌, ◌==◌, ap, bytes_eq, cond, nat_eq, sym}
+use Rattle.std.proofs.Common.{◌∙◌, ◌&&◌, ap, bytes_eq, cond, nat_eq, sym}
 use Rattle.token_line.specs.Bags.{are_same_sides}
 use Rattle.std.proofs.lemmas.Cmp.{nat_eq_equiv}
 use Rattle.indexmap.proofs.CallerLemmas.{updates-with_value_at}

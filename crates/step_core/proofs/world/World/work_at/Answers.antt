@@ -9,9 +9,8 @@ use Rattle.net_base.specs.declared.tasks.Task.{Task}
 use Rattle.token_line.specs.Held.{TaskFits}
 use Rattle.step_core.specs.Doing.{entry_of}
 use Rattle.step_core.proofs.Activating.{All-remove, works}
-use Rattle.step_core.specs.Machine
 use Rattle.step_core.specs.Machine.{Seen}
-use Rattle.step_core.specs.Worlds.{ActsOn, seen}
+use Rattle.step_core.specs.Worlds.{ActsOn}
 use Rattle.step_core.proofs.Lifted.{remove-lifted, set-lifted}
 use Rattle.step_core.proofs.ListPlaces.{all_at}
 use Rattle.step_core.proofs.Results.{ok_of, on_err_both}

@@ -1,10 +1,10 @@
 -- Each token keeps its sum and its code, and the left ones that the right token matches have one blocker more, or one less.
-use Rattle.std.proofs.Common.{◌≡◌, ◌∙◌, ◌<◌, ◌-◌, ◌^◌, List, ℕ, IsSome, ap, subst, sym}
+use Rattle.std.proofs.Common.{◌<◌, ◌-◌, ◌^◌, subst}
 use Rattle.net_base.specs.Tokens.{joins_hold}
 use Rattle.net_base.specs.declared.tasks.Side.TheVariants.{Left}
 use Rattle.work_store.specs.Stored.{held_of}
 use Rattle.token_line.specs.Codes.{filed_among}
-use Rattle.token_line.specs.Sums.{blockers_kept, sum_kept}
+use Rattle.token_line.specs.Sums.{blockers_kept}
 use Rattle.token_line.proofs.Filed.{block_numbers, block_sums, filed_cell, kept_some}
 use Rattle.token_line.proofs.line.Line.block.Goals as goal
 
