@@ -96,6 +96,10 @@ page_elements page = elements_by slot_elements (standing page.places.items)
 abbrev pub chapter_elements : Row (Row Slot) → List Element
 chapter_elements chapter = elements_by page_elements (standing chapter.places.items)
 
+-- the elements of the slots that are left of a page, and of the pages that are left of a chapter
+abbrev pub elements_left : List (Option Slot) → List (Option (Row Slot)) → List Element
+elements_left slots pages = elements_by slot_elements (standing slots) ++ elements_by page_elements (standing pages)
+
 -- ---- changes
 
 -- empty places came behind the others

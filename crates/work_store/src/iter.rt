@@ -1,8 +1,7 @@
 //! Going over the present elements.
-ghost use Rattle.std.specs.Prelude.{◌≡◌, ◌∷◌, ◌++◌, [], MatchOption};
 ghost use Rattle.std.specs.Iterator.{YieldsFirstRef, item_count};
 ghost use Rattle.std.specs.Slice.Iter.{iter_rest};
-ghost use Rattle.work_store.specs.Rows.{standing, elements_by, slot_elements, page_elements};
+ghost use Rattle.work_store.specs.Rows.{standing, elements_by, elements_left, slot_elements};
 
 use crate::row::Row;
 use crate::slot::Slot;
@@ -22,11 +21,11 @@ impl<'a> Model for Elements<'a> {
     ghost use Rattle.std.specs.Prelude.{List, ◌++◌};
     ghost use Rattle.std.specs.Slice.Iter.{iter_rest};
     ghost use Rattle.ops_base.specs.declared.elements.Element.{Element};
-    ghost use Rattle.work_store.specs.Rows.{standing, elements_by, slot_elements, page_elements, chapter_elements};
+    ghost use Rattle.work_store.specs.Rows.{standing, elements_by, elements_left, chapter_elements};
 
     ghost Value = { List Element };
 
-    ghost view = { λ e. (elements_by slot_elements (standing (iter_rest e.slots)) ++ elements_by page_elements (standing (iter_rest e.pages))) ++ elements_by chapter_elements (standing (iter_rest e.chapters)) };
+    ghost view = { λ e. elements_left (iter_rest e.slots) (iter_rest e.pages) ++ elements_by chapter_elements (standing (iter_rest e.chapters)) };
 }
 
 // what stands at the first of these places that holds something
@@ -56,7 +55,7 @@ fn next_in_pages<'a>(
     slots: &mut slice::Iter<'a, Option<Slot>>,
     pages: &mut slice::Iter<'a, Option<Row<Slot>>>,
 ) -> Option<&'a Element>
-    ensures { let old = elements_by slot_elements (standing (iter_rest slots.old)) ++ elements_by page_elements (standing (iter_rest pages.old)) in let new = elements_by slot_elements (standing (iter_rest slots.new)) ++ elements_by page_elements (standing (iter_rest pages.new)) in MatchOption result ((old ≡ []) × (new ≡ [])) (λ e. old ≡ e.now ∷ new) }
+    ensures { YieldsFirstRef (λ left. left) (elements_left (iter_rest slots.old) (iter_rest pages.old)) result (elements_left (iter_rest slots.new) (iter_rest pages.new)) }
 {
     loop {
         if let Some(element) = next_in_page(slots) {
