@@ -1,13 +1,9 @@
 //! The store: present elements by rising tag, and removed ones until they are forgotten.
-ghost use Rattle.std.specs.Prelude.{◌≡◌, ◌==◌, ◌++◌, ◌∷◌, ◌<◌, ℕ, [], length, slice_get, Some, IsSome, IfOk, OnOk, OnErr, if◌then◌else◌, false};
+ghost use Rattle.std.specs.Prelude.{◌≡◌, ◌==◌, ◌++◌, ◌∷◌, ◌<◌, ℕ, [], length, slice_get, Some, IsSome, IfOk, OnOk, OnErr, if◌then◌else◌};
 ghost use Rattle.std.specs.Option.{option_copied};
-ghost use Rattle.std.specs.BTreeMap.{get, is_at};
-ghost use Rattle.std.specs.Map.{set_value};
-ghost use Rattle.std.specs.Ordering.{nat_cmp};
 ghost use Rattle.ops_base.specs.WorkingMemory.{without_tag, shown, HasRisingTags};
 ghost use Rattle.work_store.specs.Stored.{Stored, nothing_stored, of_tag, held_of, HoldsAlso, IsStored};
 ghost use Rattle.work_store.specs.Slots.{without_all};
-ghost use Rattle.work_store.specs.declared.slot.Slot.{Slot};
 
 use crate::iter::Elements;
 use crate::pages::Pages;
