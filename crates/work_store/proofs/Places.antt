@@ -8,7 +8,7 @@ use Rattle.std.specs.Ordering.{nat_cmp}
 use Rattle.std.specs.Result.{OnErr}
 use Rattle.work_store.specs.declared.row.Row.{Row}
 use Rattle.work_store.specs.declared.slot.Slot.{Slot}
-use Rattle.work_store.specs.Rows.{at_place, spread, slot_entries, page_entries, chapter_entries, all_entries, start_of, HoldsAt, HoldsAtEach, IsPage, IsChapter, ArePages, IsMarked}
+use Rattle.work_store.specs.Rows.{at_place, slot_entries, page_entries, chapter_entries, all_entries, start_of, HoldsAt, IsPage, IsChapter, ArePages, IsMarked}
 use Rattle.work_store.proofs.Lists.{at_is, same_tag}
 use Rattle.work_store.proofs.Rows.{IsEdit, set_edits, remove_edits, insert_edits, stay_edits}
 use Rattle.work_store.proofs.Levels.{page_edited, page_set, page_looked_up, chapter_edited, chapter_set, chapter_looked_up, chapter_page, all_edited, all_set, all_looked_up, all_chapter, part_fewer}
@@ -181,29 +181,6 @@ page_fewer tag c p h within is hp =
 -- the page at a place of a chapter keeps what a page has to
 pub page_there : (tag : ℕ) (c : Row (Row Slot)) (p : Row Slot) → IsChapter (start_of 4096 tag) c → get_or c.places.items (tag / 64 % 64) None ≡ Some p → IsPage (start_of 64 tag) p
 page_there tag c p h is = subst (HoldsAt IsPage (start_of 64 tag)) is (chapter_page tag c h)
-
--- a page with no places
-pub page_new : (base : ℕ) (p : Row Slot) → p.places.items ≡ [] → p.held ≡ 0 → IsPage base p × (page_entries base p ≡ [])
-page_new base p are none =
-    let no_entries : page_entries base p ≡ [] = ap (spread slot_entries 1 base) are in
-    let long = ap length are in (
-      record {
-        row = record { counted = none ∙ sym (ap length no_entries); each = subst (HoldsAtEach (λ _ _. Unit {0}) 1 base) (sym are) tt };
-        short = omega arith;
-      },
-      no_entries,
-    )
-
-pub chapter_new : (base : ℕ) (c : Row (Row Slot)) → c.places.items ≡ [] → c.held ≡ 0 → IsChapter base c × (chapter_entries base c ≡ [])
-chapter_new base c are none =
-    let no_entries : chapter_entries base c ≡ [] = ap (spread page_entries 64 base) are in
-    let long = ap length are in (
-      record {
-        row = record { counted = none ∙ sym (ap length no_entries); each = subst (HoldsAtEach IsPage 64 base) (sym are) tt };
-        short = omega arith;
-      },
-      no_entries,
-    )
 
 -- a page with one more slot, or a new page with one, in the place of what was there
 pub chapter_added : (tag : ℕ) (c d : Row (Row Slot)) (x : Option (Row Slot)) (q : Row Slot) (s : Slot) → IsChapter (start_of 4096 tag) c → tag / 64 % 64 < length c.places.items

@@ -1,4 +1,4 @@
-use Rattle.std.proofs.Common.{◌≡◌, ◌++◌, length}
+use Rattle.std.proofs.Common.{◌≡◌, length}
 use Rattle.std.specs.Slice.Iter.{iter_rest}
 use Rattle.work_store.specs.Rows.{standing, elements_left}
 use Rattle.work_store.proofs.iter.next_in_pages.Given as goal
