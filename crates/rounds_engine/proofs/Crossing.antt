@@ -21,6 +21,7 @@ use Rattle.net_base.specs.contracts.nodes.Alpha as Alpha
 use Rattle.net_base.specs.contracts.tags.Tags as Tags
 use Rattle.net_base.specs.contracts.tasks.Task as Task
 use Rattle.work_store.specs.contracts.store.Store as Store
+use Rattle.work_store.proofs.store.Store.TheSendSync as StoreCrosses
 use Rattle.token_line.specs.contracts.children.Children as Children
 use Rattle.token_line.specs.contracts.line.Entry as Entry
 use Rattle.token_line.specs.contracts.line.Line as Line
@@ -71,7 +72,7 @@ pub element_sync : IsSync Element.the_row
 element_sync = search (listed_sync, value_sync, sendable, crosses) depth 80
 
 pub store_sync : IsSync Store.the_row
-store_sync = search (element_sync, sendable, crosses, maps.crosses) depth 80
+store_sync = StoreCrosses.the_sync
 
 pub children_send : IsSend Children.the_row
 children_send = search (sendable, crosses) depth 80
