@@ -12,6 +12,7 @@ use Rattle.ops_forms.specs.Walking.{AreBehind}
 use Rattle.ops_lhs.specs.LeftSides.{left_read}
 use Rattle.ops_rhs.specs.declared.sides.Sight.{Sight}
 use Rattle.ops_rhs.specs.RightSides.{IsBracket, ReadsRight, Sees, right_read}
+use Rattle.ops_rhs.proofs.Borders.{right_goes}
 
 get_behind : (before rest : List Word) (w : Word) → slice_get (before ++ w ∷ rest) (length before) ≡ Some w
 get_behind [] rest w = refl
@@ -53,7 +54,7 @@ module _ (s : State) (conditions : List Condition) (values elements : List Named
   pub right_is_read : s ≡ left_begun s → (words rest : List Word) (actions : List Action) (sight : Sight) (r : ReadsRight s.classes sighted words rest actions sight) (new : State) (bracket : Word) → slice_get words (length words - length rest - 1) ≡ Some bracket → (items : List Condition) → items ≡ conditions → new ≡ with_rule (right_read (record s { conditions = items }) actions sight r.further) bracket.past → (more : List Word) (ws : List Wanted) → goes (words ++ more) (Actions ∷ ws) behind ≡ goes (rest ++ more) ws new
   right_is_read begun words rest actions sight r new bracket there items same ended more ws =
       let at : r.behind.last ≡ bracket = some_is _ _ (sym (bracket_at words rest r.behind) ∙ there) in
-      r.reads behind sees more ws
+      right_goes s.classes sighted words rest actions sight r behind sees more ws
       ∙ ap (λ (w : Word). goes (rest ++ more) ws (with_rule (right_read behind actions sight r.further) w.past)) at
       ∙ ap (λ (t : State). goes (rest ++ more) ws (with_rule (right_read (record t { conditions = conditions }) actions sight r.further) bracket.past)) (sym begun)
       ∙ ap (λ cs. goes (rest ++ more) ws (with_rule (right_read (record s { conditions = cs }) actions sight r.further) bracket.past)) (sym same)

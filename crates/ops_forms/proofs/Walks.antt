@@ -1,11 +1,28 @@
 -- Steps of a walk by places in words, in every state of a kind.
-use Rattle.std.proofs.Common.{◌≡◌, ℕ, List, [], ◌∷◌, None, Some, Result, Ok, Err, ◌∙◌}
+use Rattle.std.proofs.Common.{◌≡◌, ℕ, zero, suc, ◌+◌, ◌<◌, ◌≤◌, List, [], ◌∷◌, take, drop, None, Some, Result, Ok, Err, refl, ◌∙◌, arith}
 use Rattle.ops_base.specs.declared.endings.Fault.{Fault}
 use Rattle.ops_grammar.specs.declared.words.Word.{Word}
 use Rattle.ops_grammar.specs.Grammar.{Wanted, State}
 use Rattle.ops_forms.specs.declared.refusals.Refusal.{Refusal}
 use Rattle.ops_forms.specs.declared.refusals.Refusal.TheVariants as refusal
-use Rattle.ops_forms.specs.Walking.{Way, Fails, GoesOn, FailsAmong, GoesAmong, GoesToAmong}
+use Rattle.ops_forms.specs.Walking.{Way, Fails, GoesOn, FailsAmong, GoesAmong, GoesToAmong, CutGoesAmong, CutGoesToAmong, IsFrom}
+
+-- a word is taken also where the words are cut after it
+pub cut_taken : (words : List Word) (at next n : ℕ) (w : Word) → drop at words ≡ w ∷ drop next words → next ≡ at + 1 → at < n → drop at (take n words) ≡ w ∷ drop next (take n words)
+cut_taken words at next n w e is lt = let here : next ≡ suc at = omega (arith, is) in rw here (by words at n (rw here at e) lt)
+  where
+    by : (words : List Word) (at n : ℕ) → drop at words ≡ w ∷ drop (suc at) words → at < n → drop at (take n words) ≡ w ∷ drop (suc at) (take n words)
+    by [] zero n e lt = absurd (cc)
+    by [] (suc at) n e lt = absurd (cc)
+    by (x ∷ words) at zero e lt = absurd (omega (arith, lt))
+    by (x ∷ words) zero (suc n) e lt = grind arith
+    by (x ∷ words) (suc at) (suc n) e lt = by words at n e (omega (arith, lt))
+
+-- after the words that were taken none is left
+pub taken_all : (n : ℕ) (words : List Word) → drop n (take n words) ≡ []
+taken_all zero words = refl
+taken_all (suc n) [] = refl
+taken_all (suc n) (w ∷ words) = taken_all n words
 
 -- what fails on one way fails on a way that is the same
 pub fails_as : (from by : Way) → ((more : List Word) (ws : List Wanted) (s : State) → from more ws s ≡ by more ws s) → (e : Refusal) → Fails by e → Fails from e
@@ -60,3 +77,17 @@ module _ (holds : State → Type 0) where
   fails_anywhere from by same refusal.OutOfMemory h = tt
   fails_anywhere from by same (refusal.At f None) h = λ ws s i. same [] ws s i ∙ h ws s
   fails_anywhere from by same (refusal.At f (Some w)) h = λ more ws s i. same more ws s i ∙ h more ws s
+
+  -- ---- where the words are cut
+
+  pub cut_goes_as_among : (from by : List Word → Way) (words : List Word) (at : ℕ) → ((n : ℕ) → at ≤ n → (more : List Word) (ws : List Wanted) (s : State) → holds s → from (take n words) more ws s ≡ by (take n words) more ws s) → (new : State → State) (r : Result ℕ Refusal) → IsFrom at r → CutGoesAmong holds by words new r → CutGoesAmong holds from words new r
+  cut_goes_as_among from by words at same new (Ok next) le h = λ n lt more ws s i. same n (omega (arith, le, lt)) more ws s i ∙ h n lt more ws s i
+  cut_goes_as_among from by words at same new (Err e) le h = tt
+
+  pub cut_goes_to_as_among : (wanted : Wanted) (from by : List Word → Way) (words : List Word) (at : ℕ) → ((n : ℕ) → at ≤ n → (more : List Word) (ws : List Wanted) (s : State) → holds s → from (take n words) more ws s ≡ by (take n words) more ws s) → (new : State → State) (r : Result ℕ Refusal) → IsFrom at r → CutGoesToAmong holds wanted by words new r → CutGoesToAmong holds wanted from words new r
+  cut_goes_to_as_among wanted from by words at same new (Ok next) le h = λ n lt more ws s i. same n (omega (arith, le, lt)) more ws s i ∙ h n lt more ws s i
+  cut_goes_to_as_among wanted from by words at same new (Err e) le h = tt
+
+  pub cut_goes_to_among : (wanted : Wanted) (by : List Word → Way) (words : List Word) (new : State → State) (r : Result ℕ Refusal) → CutGoesAmong holds by words new r → CutGoesToAmong holds wanted (λ cut more ws s. by cut more (wanted ∷ ws) s) words new r
+  cut_goes_to_among wanted by words new (Ok next) h = λ n lt more ws. h n lt more (wanted ∷ ws)
+  cut_goes_to_among wanted by words new (Err e) h = tt

@@ -1,5 +1,5 @@
 -- How a walk by places in words goes along with the definition's, in every state of a kind.
-use Rattle.std.specs.Prelude.{◌≡◌, ℕ, ◌+◌, ◌≤◌, List, [], ◌∷◌, ◌++◌, drop, length, Some, None, Result, Ok, Err}
+use Rattle.std.specs.Prelude.{◌≡◌, ℕ, ◌+◌, ◌<◌, ◌≤◌, List, [], ◌∷◌, ◌++◌, take, drop, length, Some, None, Result, Ok, Err}
 use Rattle.ops_base.specs.declared.endings.Fault.TheVariants as fault
 use Rattle.ops_tokens.specs.declared.token.Token.{Token}
 use Rattle.ops_grammar.specs.declared.words.Word.{Word}
@@ -43,11 +43,35 @@ abbrev pub GoesToAmong : (State → Type 0) → Wanted → Way → List Word →
 GoesToAmong holds w from words new (Ok next) = (more : List Word) (ws : List Wanted) (s : State) → holds s → from more ws s ≡ goes (drop next words ++ more) (w ∷ ws) (new s)
 GoesToAmong holds w from words new (Err e) = FailsAmong holds from e
 
+-- ---- where the words are cut
+
+-- A walk looks at no word after the one at the next place: cut anywhere after that one, and with any words after the cut,
+-- the words go on from there to the same state.
+abbrev pub CutGoesOn : (List Word → Way) → List Word → (State → State) → Result ℕ Refusal → Type 0
+CutGoesOn from words new (Ok next) = (n : ℕ) → next < n → (more : List Word) (ws : List Wanted) (s : State) → from (take n words) more ws s ≡ goes (drop next (take n words) ++ more) ws (new s)
+CutGoesOn from words new (Err e) = Unit {0}
+
+-- the same, in each state of which something holds
+abbrev pub CutGoesAmong : (State → Type 0) → (List Word → Way) → List Word → (State → State) → Result ℕ Refusal → Type 0
+CutGoesAmong holds from words new (Ok next) = (n : ℕ) → next < n → (more : List Word) (ws : List Wanted) (s : State) → holds s → from (take n words) more ws s ≡ goes (drop next (take n words) ++ more) ws (new s)
+CutGoesAmong holds from words new (Err e) = Unit {0}
+
+-- the same, where that is wanted afterwards
+abbrev pub CutGoesToAmong : (State → Type 0) → Wanted → (List Word → Way) → List Word → (State → State) → Result ℕ Refusal → Type 0
+CutGoesToAmong holds w from words new (Ok next) = (n : ℕ) → next < n → (more : List Word) (ws : List Wanted) (s : State) → holds s → from (take n words) more ws s ≡ goes (drop next (take n words) ++ more) (w ∷ ws) (new s)
+CutGoesToAmong holds w from words new (Err e) = Unit {0}
+
+-- The words that a walk took go on to the new state, and then any words do.
+abbrev pub TakenGoesAmong : (State → Type 0) → (List Word → Way) → List Word → (State → State) → Result ℕ Refusal → Type 0
+TakenGoesAmong holds from words new (Ok next) = (more : List Word) (ws : List Wanted) (s : State) → holds s → from (take next words) more ws s ≡ goes more ws (new s)
+TakenGoesAmong holds from words new (Err e) = Unit {0}
+
 -- ---- words
 
--- the word at a place, with the place after it, or the refusal of a text that ends in a form
+-- The word at a place, also where the words are cut after it, with the place after it; or the refusal of a text that ends in
+-- a form.
 abbrev pub Takes : List Word → ℕ → Result (Word × ℕ) Refusal → Type 0
-Takes words at (Ok x) = (drop at words ≡ x.0 ∷ drop x.1 words) × (x.1 ≡ at + 1) × (x.1 ≤ length words)
+Takes words at (Ok x) = (drop at words ≡ x.0 ∷ drop x.1 words) × (x.1 ≡ at + 1) × (x.1 ≤ length words) × ((n : ℕ) → at < n → drop at (take n words) ≡ x.0 ∷ drop x.1 (take n words))
 Takes words at (Err e) = (drop at words ≡ []) × (e ≡ refusal.At fault.Unclosed None)
 
 -- a call read a closing bracket, whatever it ends
@@ -56,6 +80,11 @@ ReadsClosing words at (Ok next) = (e : Ends) (more : List Word) (ws : List Wante
 ReadsClosing words at (Err refusal.OutOfMemory) = ⊥
 ReadsClosing words at (Err (refusal.At f None)) = (e : Ends) (ws : List Wanted) (s : State) → goes (drop at words ++ []) (Closes e ∷ ws) s ≡ Err (f, None)
 ReadsClosing words at (Err (refusal.At f (Some w))) = (e : Ends) (more : List Word) (ws : List Wanted) (s : State) → goes (drop at words ++ more) (Closes e ∷ ws) s ≡ Err (f, Some w)
+
+-- the same, where the words are cut after the bracket
+abbrev pub CutReadsClosing : List Word → ℕ → Result ℕ Refusal → Type 0
+CutReadsClosing words at (Ok next) = (n : ℕ) → next ≤ n → (e : Ends) (more : List Word) (ws : List Wanted) (s : State) → goes (drop at (take n words) ++ more) (Closes e ∷ ws) s ≡ goes (drop next (take n words) ++ more) ws (ended e s)
+CutReadsClosing words at (Err e) = Unit {0}
 
 -- a refusal without a word is that of an open form
 abbrev pub IsPlaced : Refusal → Type 0

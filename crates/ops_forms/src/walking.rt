@@ -3,7 +3,7 @@ ghost use Rattle.std.specs.Prelude.{◌≡◌, ◌+◌, IfOk, Some, slice_get, t
 ghost use Rattle.ops_grammar.specs.Grammar.{is_right};
 ghost use Rattle.ops_grammar.specs.declared.words.Word.{Word};
 ghost use Rattle.ops_forms.specs.Forms.{past_last};
-ghost use Rattle.ops_forms.specs.Walking.{Takes, ReadsClosing, IsFrom, fault_of};
+ghost use Rattle.ops_forms.specs.Walking.{Takes, ReadsClosing, CutReadsClosing, IsFrom, fault_of};
 
 use crate::kinds::is_right;
 use crate::refusals::{ReadFault, Refusal, refused};
@@ -28,6 +28,7 @@ pub fn first_of(words: &[Word], at: usize) -> Result<(Word, usize), Refusal>
 #[tactic(auto, unfolding(ops_grammar::specs::Grammar::goes, ops_grammar::specs::Grammar::step, ops_grammar::specs::Grammar::ends))]
 pub fn closing(words: &[Word], at: usize) -> Result<usize, Refusal>
     ensures reads { ReadsClosing words.now at result }
+    ensures cut { CutReadsClosing words.now at result }
     ensures within { IsFrom at result }
     ensures rest { IfOk result (λ next. (next ≡ at + 1) × (w : Word) × (slice_get words.now at ≡ Some w) × (is_right w.kind ≡ true)) }
 {

@@ -1,12 +1,14 @@
 -- Where a left side begins and ends among its words and its tokens.
-use Rattle.std.proofs.Common.{◌≡◌, ℕ, ◌-◌, ◌≤◌, List, ◌++◌, ◌∷◌, [], length, drop, None, Some, refl, sym, ap, ◌∙◌, subst}
+use Rattle.std.proofs.Common.{◌≡◌, ℕ, ◌-◌, ◌≤◌, List, ◌++◌, ◌∷◌, [], length, drop, None, Some, refl, sym, ap, ◌∙◌, subst, append_assoc}
+use Rattle.ops_base.specs.declared.elements.Class.{Class}
 use Rattle.ops_base.specs.declared.conditions.Condition.{Condition}
 use Rattle.ops_base.specs.declared.endings.Fault.TheVariants as fault
 use Rattle.ops_base.specs.Valid.{cells_of}
 use Rattle.ops_tokens.specs.declared.token.Token.{Token}
 use Rattle.ops_grammar.specs.declared.words.Word.{Word}
+use Rattle.ops_grammar.specs.declared.words.Named.{Named}
 use Rattle.ops_grammar.specs.Words.{names_from}
-use Rattle.ops_grammar.specs.Grammar.{FirstPattern, Patterns, is_arrow, left_begun, nothing_read}
+use Rattle.ops_grammar.specs.Grammar.{Wanted, FirstPattern, Patterns, State, goes, is_arrow, left_begun, nothing_read}
 use Rattle.ops_forms.specs.Forms.{past_last}
 use Rattle.ops_forms.specs.Sights.{cells_from}
 use Rattle.ops_forms.specs.Walking.{words_of_scope, fault_of}
@@ -14,7 +16,14 @@ use Rattle.ops_forms.specs.declared.refusals.Refusal.{Refusal}
 use Rattle.ops_forms.specs.declared.refusals.Refusal.TheVariants as refusal
 use Rattle.ops_forms.specs.declared.scope.Scope.{Scope}
 use Rattle.ops_forms.proofs.Borders.{is_unclosed, begins, rest_is, last_is}
-use Rattle.ops_lhs.specs.LeftSides.{ReadsLeft, RefusesLeft, IsArrow, AreBehindArrow, IsArrowAt, IsLeftSide, IsRefused, at_word, at_end}
+use Rattle.ops_lhs.specs.LeftSides.{left_way, left_read, ReadsLeft, RefusesLeft, IsArrow, AreBehindArrow, IsArrowAt, IsLeftSide, IsRefused, at_word, at_end}
+
+-- the words that stand after a left side go on as the words
+pub left_goes : (classes : List Class) (words rest : List Word) (conditions : List Condition) (values elements : List Named) (variables : ℕ) → ReadsLeft classes words rest conditions values elements variables → (s : State) → s.classes ≡ classes → (more : List Word) (ws : List Wanted) → left_way words s more ws ≡ goes (rest ++ more) ws (left_read s conditions values elements variables)
+left_goes classes words rest conditions values elements variables r s i more ws =
+    ap (λ (all : List Word). goes (all ++ more) (FirstPattern ∷ Patterns ∷ ws) (left_begun s)) r.split
+    ∙ ap (λ (all : List Word). goes all (FirstPattern ∷ Patterns ∷ ws) (left_begun s)) (append_assoc r.read rest more)
+    ∙ r.reads s i (rest ++ more) ws
 
 module _ (scope : Scope) (tokens : List Token) (from : ℕ) (rest : List Word) (le : from ≤ length tokens) (b : AreBehindArrow (words_of_scope scope tokens from) rest) where
   arrow_is : IsArrowAt scope.text.items tokens (length tokens - length rest - 1)

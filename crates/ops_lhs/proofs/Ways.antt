@@ -1,13 +1,13 @@
 -- Steps of the walk over a left side, in every state around it.
-use Rattle.std.proofs.Common.{◌≡◌, ℕ, List, ◌∷◌, Result, Ok, Err, ◌∙◌}
+use Rattle.std.proofs.Common.{◌≡◌, ℕ, ◌≤◌, List, ◌∷◌, take, Result, Ok, Err, ◌∙◌, arith}
 use Rattle.ops_base.specs.declared.elements.Class.{Class}
 use Rattle.ops_grammar.specs.declared.words.Word.{Word}
 use Rattle.ops_grammar.specs.Grammar.{InPattern, Wanted, Terms, State}
 use Rattle.ops_forms.specs.declared.refusals.Refusal.{Refusal}
 use Rattle.ops_lhs.specs.declared.left.Left.{Left}
-use Rattle.ops_forms.specs.Walking.{Way, GoesOn}
+use Rattle.ops_forms.specs.Walking.{Way, GoesOn, CutGoesOn, IsFrom}
 use Rattle.ops_forms.proofs.Walks.{fails_under, fails_anywhere}
-use Rattle.ops_lhs.specs.Taking.{seen, GoesToTerms, Among, GoesToTermsAmong}
+use Rattle.ops_lhs.specs.Taking.{seen, GoesToTerms, Among, GoesToTermsAmong, CutGoesToTerms, CutGoesToTermsAmong}
 
 -- ---- where these classes are declared
 
@@ -20,3 +20,13 @@ terms_as_among classes from by same words new (Err e) h = fails_anywhere (Among 
 pub place_to_terms : (by : Way) (words : List Word) (new : Left) (r : Result ℕ Refusal) → GoesOn by words (λ s. seen s new) r → GoesToTerms (λ more ws s. by more (Terms InPattern ∷ ws) s) words new r
 place_to_terms by words new (Ok next) h = λ more ws s. h more (Terms InPattern ∷ ws) s
 place_to_terms by words new (Err e) h = fails_under by (λ ws. Terms InPattern ∷ ws) e h
+
+-- ---- where the words are cut
+
+pub cut_terms_as_among : (classes : List Class) (from by : List Word → Way) (words : List Word) (at : ℕ) → ((n : ℕ) → at ≤ n → (more : List Word) (ws : List Wanted) (s : State) → s.classes ≡ classes → from (take n words) more ws s ≡ by (take n words) more ws s) → (new : Left) (r : Result ℕ Refusal) → IsFrom at r → CutGoesToTerms by words new r → CutGoesToTermsAmong classes from words new r
+cut_terms_as_among classes from by words at same new (Ok next) le h = λ n lt more ws s i. same n (omega (arith, le, lt)) more ws s i ∙ h n lt more ws s
+cut_terms_as_among classes from by words at same new (Err e) le h = tt
+
+pub cut_place_to_terms : (by : List Word → Way) (words : List Word) (new : Left) (r : Result ℕ Refusal) → CutGoesOn by words (λ s. seen s new) r → CutGoesToTerms (λ cut more ws s. by cut more (Terms InPattern ∷ ws) s) words new r
+cut_place_to_terms by words new (Ok next) h = λ n lt more ws s. h n lt more (Terms InPattern ∷ ws) s
+cut_place_to_terms by words new (Err e) h = tt

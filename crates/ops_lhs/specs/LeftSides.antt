@@ -33,11 +33,12 @@ abbrev pub left_read : State → List Condition → List Named → List Named �
 left_read s conditions values elements variables =
     record (right_begun (left_begun s)) { values = values; elements = elements; variables = variables; conditions = conditions }
 
--- Where these classes are declared, the words are read as this left side up to its arrow, and these are left after it,
--- whatever else was read before and is wanted afterwards.
-abbrev pub ReadsLeft : List Class → List Word → List Word → List Condition → List Named → List Named → ℕ → Type 0
-ReadsLeft classes words rest conditions values elements variables =
-    (s : State) → s.classes ≡ classes → (more : List Word) (ws : List Wanted) → left_way words s more ws ≡ goes (rest ++ more) ws (left_read s conditions values elements variables)
+-- Where these classes are declared, the words that are read are this left side up to its arrow: whatever words stand after them,
+-- it goes on there from the state that the left side leaves, whatever else was read before and is wanted afterwards.
+pub record ReadsLeft (classes : List Class) (words rest : List Word) (conditions : List Condition) (values elements : List Named) (variables : ℕ) : Type 0 where
+  pub read : List Word
+  pub split : words ≡ read ++ rest
+  pub reads : (s : State) → s.classes ≡ classes → (more : List Word) (ws : List Wanted) → left_way read s more ws ≡ goes more ws (left_read s conditions values elements variables)
 
 -- where these classes are declared, the words are refused so
 abbrev pub RefusesLeft : List Class → List Word → Refusal → Type 0

@@ -1,9 +1,9 @@
 //! Conditions up to the arrow.
-ghost use Rattle.std.specs.Prelude.{◌∷◌, ◌++◌, drop, IfOk};
+ghost use Rattle.std.specs.Prelude.{◌∷◌, ◌++◌, ◌<◌, drop, IfOk};
 ghost use Rattle.ops_grammar.specs.Grammar.{goes, more_patterns, left_ended, right_begun, FirstPattern, Patterns};
-ghost use Rattle.ops_forms.specs.Walking.{GoesAmong, IsFrom, IsBehind};
+ghost use Rattle.ops_forms.specs.Walking.{GoesAmong, IsFrom, IsBehind, TakenGoesAmong};
 ghost use Rattle.ops_lhs.specs.LeftSides.{IsArrow};
-ghost use Rattle.ops_lhs.specs.Taking.{seen, ReadsAmong, ActsAmong, Among};
+ghost use Rattle.ops_lhs.specs.Taking.{seen, ReadsAmong, ActsAmong, Among, CutActsAmong, CutReadsAmong};
 
 use crate::left::Left;
 use ops_base::endings::{Fault, Limit};
@@ -25,6 +25,7 @@ impl Left {
         at: usize,
     ) -> Result<usize, Refusal>
         ensures reads { GoesAmong (Among classes.now) (λ more ws s. goes (drop at words.now ++ more) (FirstPattern ∷ Patterns ∷ ws) (seen s self.old)) words.now (λ s. right_begun (left_ended (seen s self.new))) result }
+        ensures cut { TakenGoesAmong (Among classes.now) (λ cut more ws s. goes (drop at cut ++ more) (FirstPattern ∷ Patterns ∷ ws) (seen s self.old)) words.now (λ s. right_begun (left_ended (seen s self.new))) result }
         ensures behind { IfOk result (λ next. IsBehind IsArrow words.now next) }
     {
         let rest = self.first_pattern(classes, words, at)?;
@@ -40,6 +41,7 @@ impl Left {
         at: usize,
     ) -> Result<usize, Refusal>
         ensures reads { ReadsAmong classes.now FirstPattern self.old self.new words.now at result }
+        ensures cut { CutReadsAmong classes.now FirstPattern self.old self.new words.now at result }
         ensures within { IsFrom at result }
     {
         let (word, rest) = first_of(words, at)?;
@@ -59,7 +61,9 @@ impl Left {
     #[tactic(auto, unfolding(ops_grammar::specs::Grammar::goes, ops_grammar::specs::Grammar::step, ops_grammar::specs::Grammar::ends))]
     fn patterns(&mut self, classes: &Classes, words: &[Word], at: usize) -> Result<usize, Refusal>
         ensures reads { GoesAmong (Among classes.now) (λ more ws s. goes (drop at words.now ++ more) (Patterns ∷ ws) (seen s self.old)) words.now (λ s. right_begun (left_ended (seen s self.new))) result }
+        ensures cut { TakenGoesAmong (Among classes.now) (λ cut more ws s. goes (drop at cut ++ more) (Patterns ∷ ws) (seen s self.old)) words.now (λ s. right_begun (left_ended (seen s self.new))) result }
         ensures behind { IfOk result (λ next. IsBehind IsArrow words.now next) }
+        ensures past { IfOk result (λ next. at < next) }
     {
         let mut rest = at;
         'patterns: loop {
@@ -80,6 +84,7 @@ impl Left {
         at: usize,
     ) -> Result<usize, Refusal>
         ensures acts { ActsAmong classes.now (λ ws s. more_patterns word ws s) word self.old self.new words.now at result }
+        ensures cut { CutActsAmong classes.now (λ ws s. more_patterns word ws s) word self.old self.new words.now at result }
         ensures within { IsFrom at result }
     {
         if !is_left(word.kind) && !is_left_brace(word.kind) && !is_minus(word.keyword) {

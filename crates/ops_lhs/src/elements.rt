@@ -1,8 +1,8 @@
 //! Element variables.
 ghost use Rattle.std.specs.Prelude.{◌∷◌, ◌++◌, drop};
 ghost use Rattle.ops_grammar.specs.Grammar.{goes, element_name, InPattern, Pattern, Braced, ElementName, ClosesBrace, ClassName, Terms};
-ghost use Rattle.ops_forms.specs.Walking.{GoesOn, GoesAmong, IsFrom};
-ghost use Rattle.ops_lhs.specs.Taking.{seen, Reads, Acts, ReadsAmong, ActsAmong, Among};
+ghost use Rattle.ops_forms.specs.Walking.{GoesOn, GoesAmong, IsFrom, CutGoesAmong, CutGoesOn};
+ghost use Rattle.ops_lhs.specs.Taking.{seen, Reads, Acts, ReadsAmong, ActsAmong, Among, CutActs, CutActsAmong, CutReads, CutReadsAmong};
 
 use crate::left::Left;
 use ops_base::endings::Fault;
@@ -17,6 +17,7 @@ impl Left {
     #[tactic(auto, unfolding(ops_grammar::specs::Grammar::goes, ops_grammar::specs::Grammar::step, ops_grammar::specs::Grammar::ends))]
     pub fn braced(&mut self, classes: &Classes, words: &[Word], at: usize) -> Result<usize, Refusal>
         ensures reads { ReadsAmong classes.now Braced self.old self.new words.now at result }
+        ensures cut { CutReadsAmong classes.now Braced self.old self.new words.now at result }
         ensures within { IsFrom at result }
     {
         let (word, rest) = first_of(words, at)?;
@@ -34,6 +35,7 @@ impl Left {
         at: usize,
     ) -> Result<usize, Refusal>
         ensures reads { GoesAmong (Among classes.now) (λ more ws s. goes (drop at words.now ++ more) (ClassName ∷ Terms InPattern ∷ ElementName ∷ ClosesBrace ∷ ws) (seen s self.old)) words.now (λ s. seen s self.new) result }
+        ensures cut { CutGoesAmong (Among classes.now) (λ cut more ws s. goes (drop at cut ++ more) (ClassName ∷ Terms InPattern ∷ ElementName ∷ ClosesBrace ∷ ws) (seen s self.old)) words.now (λ s. seen s self.new) result }
         ensures within { IsFrom at result }
     {
         let rest = self.class_and_terms(classes, words, at)?;
@@ -49,6 +51,7 @@ impl Left {
         at: usize,
     ) -> Result<usize, Refusal>
         ensures acts { ActsAmong classes.now (λ ws s. element_name word (Pattern ∷ ClosesBrace ∷ ws) s) word self.old self.new words.now at result }
+        ensures cut { CutActsAmong classes.now (λ ws s. element_name word (Pattern ∷ ClosesBrace ∷ ws) s) word self.old self.new words.now at result }
         ensures within { IsFrom at result }
     {
         let rest = self.element_name(word, words, at)?;
@@ -63,6 +66,7 @@ impl Left {
         at: usize,
     ) -> Result<usize, Refusal>
         ensures reads { GoesAmong (Among classes.now) (λ more ws s. goes (drop at words.now ++ more) (Pattern ∷ ClosesBrace ∷ ws) (seen s self.old)) words.now (λ s. seen s self.new) result }
+        ensures cut { CutGoesAmong (Among classes.now) (λ cut more ws s. goes (drop at cut ++ more) (Pattern ∷ ClosesBrace ∷ ws) (seen s self.old)) words.now (λ s. seen s self.new) result }
         ensures within { IsFrom at result }
     {
         let rest = self.pattern(classes, words, at)?;
@@ -73,6 +77,7 @@ impl Left {
     #[tactic(auto, unfolding(ops_grammar::specs::Grammar::goes, ops_grammar::specs::Grammar::step, ops_grammar::specs::Grammar::ends))]
     fn name_and_brace(&mut self, words: &[Word], at: usize) -> Result<usize, Refusal>
         ensures reads { GoesOn (λ more ws s. goes (drop at words.now ++ more) (ElementName ∷ ClosesBrace ∷ ws) (seen s self.old)) words.now (λ s. seen s self.new) result }
+        ensures cut { CutGoesOn (λ cut more ws s. goes (drop at cut ++ more) (ElementName ∷ ClosesBrace ∷ ws) (seen s self.old)) words.now (λ s. seen s self.new) result }
         ensures within { IsFrom at result }
     {
         let (word, rest) = first_of(words, at)?;
@@ -83,6 +88,7 @@ impl Left {
     // VARIABLE, which is the word, and was not bound in this left side
     fn element_name(&mut self, word: Word, words: &[Word], at: usize) -> Result<usize, Refusal>
         ensures acts { Acts (λ ws s. element_name word ws s) word self.old self.new words.now at result }
+        ensures cut { CutActs (λ ws s. element_name word ws s) word self.old self.new words.now at result }
         ensures within { IsFrom at result }
     {
         if !is_variable(word.kind) {
@@ -99,6 +105,7 @@ impl Left {
     #[tactic(auto, unfolding(ops_grammar::specs::Grammar::goes, ops_grammar::specs::Grammar::step, ops_grammar::specs::Grammar::ends))]
     fn closing_brace(&mut self, words: &[Word], at: usize) -> Result<usize, Refusal>
         ensures reads { Reads ClosesBrace self.old self.new words.now at result }
+        ensures cut { CutReads ClosesBrace self.old self.new words.now at result }
         ensures within { IsFrom at result }
     {
         let (word, rest) = first_of(words, at)?;

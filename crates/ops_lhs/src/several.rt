@@ -3,7 +3,7 @@ ghost use Rattle.std.specs.Prelude.{◌≡◌, ◌∷◌, ◌++◌, ◌||◌, dr
 ghost use Rattle.ops_base.specs.Valid.{most_fields};
 ghost use Rattle.ops_grammar.specs.Grammar.{goes, is_literal, is_variable, constant_of, place, within, InPattern, Several};
 ghost use Rattle.ops_forms.specs.Walking.{IsFrom};
-ghost use Rattle.ops_lhs.specs.Taking.{seen, GoesToTerms, Acts, begins_place};
+ghost use Rattle.ops_lhs.specs.Taking.{seen, GoesToTerms, Acts, begins_place, CutActs, CutGoesToTerms};
 
 use crate::left::Left;
 use ops_base::elements::MOST_FIELDS;
@@ -20,6 +20,7 @@ impl Left {
     #[tactic(auto, unfolding(ops_grammar::specs::Grammar::goes, ops_grammar::specs::Grammar::step, ops_grammar::specs::Grammar::ends))]
     pub fn places(&mut self, field: usize, words: &[Word], at: usize) -> Result<usize, Refusal>
         ensures reads { GoesToTerms (λ more ws s. goes (drop at words.now ++ more) (Several InPattern field ∷ ws) (seen s self.old)) words.now self.new result }
+        ensures cut { CutGoesToTerms (λ cut more ws s. goes (drop at cut ++ more) (Several InPattern field ∷ ws) (seen s self.old)) words.now self.new result }
         ensures within { IsFrom at result }
     {
         let mut next = field;
@@ -43,6 +44,7 @@ impl Left {
         at: usize,
     ) -> Result<usize, Refusal>
         ensures acts { Acts (λ ws s. within (nat_lt field most_fields) (place field word ws s)) word self.old self.new words.now at result }
+        ensures cut { CutActs (λ ws s. within (nat_lt field most_fields) (place field word ws s)) word self.old self.new words.now at result }
         ensures within { IsFrom at result }
     {
         if begins_place(word) && field >= MOST_FIELDS {

@@ -1,7 +1,7 @@
 //! Tests of a condition.
 ghost use Rattle.ops_grammar.specs.Grammar.{goes, number_of, place, test, tested, variable_tested, Place, Tests, Tested, Choice, Atom, ToTest};
 ghost use Rattle.ops_forms.specs.Walking.{IsFrom};
-ghost use Rattle.ops_lhs.specs.Taking.{Reads, Acts};
+ghost use Rattle.ops_lhs.specs.Taking.{Reads, Acts, CutActs, CutReads};
 
 use crate::left::Left;
 use ops_base::conditions::Operand;
@@ -21,6 +21,7 @@ impl Left {
     #[tactic(auto, unfolding(ops_grammar::specs::Grammar::goes, ops_grammar::specs::Grammar::step, ops_grammar::specs::Grammar::ends))]
     pub fn place(&mut self, field: usize, words: &[Word], at: usize) -> Result<usize, Refusal>
         ensures reads { Reads (Place field) self.old self.new words.now at result }
+        ensures cut { CutReads (Place field) self.old self.new words.now at result }
         ensures within { IsFrom at result }
     {
         let (word, rest) = first_of(words, at)?;
@@ -36,6 +37,7 @@ impl Left {
         at: usize,
     ) -> Result<usize, Refusal>
         ensures acts { Acts (λ ws s. place field word ws s) word self.old self.new words.now at result }
+        ensures cut { CutActs (λ ws s. place field word ws s) word self.old self.new words.now at result }
         ensures within { IsFrom at result }
     {
         if is_left_brace(word.kind) {
@@ -48,6 +50,7 @@ impl Left {
     #[tactic(auto, unfolding(ops_grammar::specs::Grammar::goes, ops_grammar::specs::Grammar::step, ops_grammar::specs::Grammar::ends))]
     fn conjunction(&mut self, field: usize, words: &[Word], at: usize) -> Result<usize, Refusal>
         ensures reads { Reads (Tests field) self.old self.new words.now at result }
+        ensures cut { CutReads (Tests field) self.old self.new words.now at result }
         ensures within { IsFrom at result }
     {
         let mut rest = at;
@@ -69,6 +72,7 @@ impl Left {
         at: usize,
     ) -> Result<usize, Refusal>
         ensures acts { Acts (λ ws s. test field word ws s) word self.old self.new words.now at result }
+        ensures cut { CutActs (λ ws s. test field word ws s) word self.old self.new words.now at result }
         ensures within { IsFrom at result }
     {
         if opens_choice(word.keyword) {
@@ -91,6 +95,7 @@ impl Left {
         at: usize,
     ) -> Result<usize, Refusal>
         ensures reads { Reads (Tested field pred) self.old self.new words.now at result }
+        ensures cut { CutReads (Tested field pred) self.old self.new words.now at result }
         ensures within { IsFrom at result }
     {
         let (word, rest) = first_of(words, at)?;
@@ -107,6 +112,7 @@ impl Left {
         at: usize,
     ) -> Result<usize, Refusal>
         ensures acts { Acts (λ ws s. tested field pred word ws s) word self.old self.new words.now at result }
+        ensures cut { CutActs (λ ws s. tested field pred word ws s) word self.old self.new words.now at result }
         ensures within { IsFrom at result }
     {
         if is_literal(word.keyword) {
@@ -132,6 +138,7 @@ impl Left {
         at: usize,
     ) -> Result<usize, Refusal>
         ensures reads { Reads (Atom (ToTest field pred)) self.old self.new words.now at result }
+        ensures cut { CutReads (Atom (ToTest field pred)) self.old self.new words.now at result }
         ensures within { IsFrom at result }
     {
         let (word, rest) = first_of(words, at)?;
@@ -152,6 +159,7 @@ impl Left {
         at: usize,
     ) -> Result<usize, Refusal>
         ensures acts { Acts (λ ws s. variable_tested field pred (number_of word.name s.values) word.name ws s) word self.old self.new words.now at result }
+        ensures cut { CutActs (λ ws s. variable_tested field pred (number_of word.name s.values) word.name ws s) word self.old self.new words.now at result }
         ensures within { IsFrom at result }
     {
         if let Some(number) = number_of(&self.values, word.name) {
@@ -171,6 +179,7 @@ impl Left {
     #[tactic(auto, unfolding(ops_grammar::specs::Grammar::goes, ops_grammar::specs::Grammar::step, ops_grammar::specs::Grammar::ends))]
     fn disjunction(&mut self, field: usize, words: &[Word], at: usize) -> Result<usize, Refusal>
         ensures reads { Reads (Choice field) self.old self.new words.now at result }
+        ensures cut { CutReads (Choice field) self.old self.new words.now at result }
         ensures within { IsFrom at result }
     {
         let mut rest = at;

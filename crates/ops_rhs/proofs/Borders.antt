@@ -1,6 +1,6 @@
 -- Where a right side begins and ends among its words and its tokens.
-use Rattle.std.proofs.Common.{◌≡◌, ℕ, ◌+◌, ◌-◌, ◌≤◌, List, ◌∷◌, ◌++◌, length, take, drop, true, None, Some, refl, sym, ap, ◌∙◌, subst, arith}
-use Rattle.std.proofs.lemmas.List.{take_all, length-drop}
+use Rattle.std.proofs.Common.{◌≡◌, ℕ, ◌+◌, ◌-◌, ◌<◌, ◌≤◌, List, [], ◌∷◌, ◌++◌, length, take, drop, true, None, Some, refl, sym, ap, ◌∙◌, subst, append_assoc, arith}
+use Rattle.std.proofs.Math.Seq.{take-add}
 use Rattle.ops_base.specs.declared.elements.Class.{Class}
 use Rattle.ops_base.specs.declared.actions.Action.{Action}
 use Rattle.ops_tokens.specs.declared.token.Token.{Token}
@@ -13,10 +13,11 @@ use Rattle.ops_forms.specs.declared.refusals.Refusal.{Refusal}
 use Rattle.ops_forms.specs.declared.refusals.Refusal.TheVariants as refusal
 use Rattle.ops_forms.specs.declared.scope.Scope.{Scope}
 use Rattle.ops_forms.proofs.Borders.{behind_is, begins, rest_is, last_is}
+use Rattle.ops_forms.proofs.Walks.{cut_taken, taken_all}
 use Rattle.ops_rhs.specs.declared.right.Around.{Around}
 use Rattle.ops_rhs.specs.declared.right.Right.{Right}
 use Rattle.ops_rhs.specs.declared.sides.Sight.{Sight}
-use Rattle.ops_rhs.specs.RightSides.{Sees, IsBracket, ReadsRight, RefusesRight, IsRightSide, IsRefused, at_word, at_end, sight_of}
+use Rattle.ops_rhs.specs.RightSides.{right_way, right_read, Sees, IsBracket, ReadsRight, RefusesRight, IsRightSide, IsRefused, at_word, at_end, sight_of}
 use Rattle.ops_rhs.specs.Taking.{seen, view, IsAround, IsClosing}
 use Rattle.ops_rhs.proofs.Operands.{as_in}
 
@@ -35,23 +36,41 @@ closed : (words rest more : List Word) (w : Word) (ws : List Wanted) (s : State)
 unfolding goes step
 closed words rest more w ws s e is = rw (e, is) refl
 
+-- the words up to the bracket, with it
+module _ (words : List Word) (place : ℕ) (closing : IsClosing words place) where
+  taken_is : take (place + 1) words ≡ take place words ++ closing.bracket ∷ []
+  taken_is = take-add place 1 words ∙ ap (λ (rest : List Word). take place words ++ take 1 rest) closing.there
+
+  closed_there : (more : List Word) (ws : List Wanted) (s : State) → goes (drop place (take (place + 1) words) ++ more) (Actions ∷ ws) s ≡ goes more ws (with_rule s closing.bracket.past)
+  closed_there more ws s =
+      let none = taken_all (place + 1) words in
+      let there = cut_taken words place (place + 1) (place + 1) closing.bracket closing.there refl (omega arith) in
+      closed (drop place (take (place + 1) words)) [] more closing.bracket ws s (there ∙ ap (λ (rest : List Word). closing.bracket ∷ rest) none) closing.is
+
 module _ (classes : List Class) (sight : Sight) (words : List Word) (around : Around) (begun new : Right) (place : ℕ) where
-  pub right_side_is : (cells : List ℕ) → view begun ≡ begun_with sight → around.classes.now ≡ classes → around.cells.now ≡ sight.cells → around.conditions.now ≡ sight.conditions → ((more : List Word) (ws : List Wanted) (s : State) → IsAround around s → goes (words ++ more) (Actions ∷ ws) (seen s begun) ≡ goes (drop place words ++ more) (Actions ∷ ws) (seen s new)) → IsClosing words place → cells ≡ sight.cells ++ new.further.items → ReadsRight classes sight words (take (length words - (place + 1)) (drop (place + 1) words)) new.actions.items (record { values = new.values; elements = new.elements; cells = cells; conditions = sight.conditions; variables = new.variables })
+  pub right_side_is : (cells : List ℕ) → view begun ≡ begun_with sight → around.classes.now ≡ classes → around.cells.now ≡ sight.cells → around.conditions.now ≡ sight.conditions → ((n : ℕ) → place < n → (more : List Word) (ws : List Wanted) (s : State) → IsAround around s → goes (take n words ++ more) (Actions ∷ ws) (seen s begun) ≡ goes (drop place (take n words) ++ more) (Actions ∷ ws) (seen s new)) → IsClosing words place → cells ≡ sight.cells ++ new.further.items → ReadsRight classes sight words (take (length words - (place + 1)) (drop (place + 1) words)) new.actions.items (record { values = new.values; elements = new.elements; cells = cells; conditions = sight.conditions; variables = new.variables })
   right_side_is cells started declared filled placed reads closing grown =
       let behind : IsBehind IsBracket words (place + 1) = record { before = place; last = closing.bracket; there = closing.there; is = closing.is; within = closing.within } in
-      let whole : take (length words - (place + 1)) (drop (place + 1) words) ≡ drop (place + 1) words = take_all (length words - (place + 1)) (drop (place + 1) words) (omega (arith, length-drop (place + 1) words)) in
       record {
         behind = behind_is IsBracket words (place + 1) behind;
         further = new.further.items;
         cells = grown;
         conditions = refl;
         reads = λ s v more ws.
-            ap (goes (words ++ more) (Actions ∷ ws)) (begun_is classes sight begun started s v)
-            ∙ reads more ws s (record { classes = v.classes_are ∙ sym declared; cells = v.cells_are ∙ sym filled; conditions = v.conditions_are ∙ sym placed })
-            ∙ closed (drop place words) (drop (place + 1) words) more closing.bracket ws (seen s new) closing.there closing.is
-            ∙ ap (λ (rest : List Word). goes (rest ++ more) ws (with_rule (seen s new) closing.bracket.past)) (sym whole)
-            ∙ ap (λ xs. goes (take (length words - (place + 1)) (drop (place + 1) words) ++ more) ws (with_rule (record (seen s new) { constants = xs }) closing.bracket.past)) (sym v.constants_are);
+            ap (λ (read : List Word). goes (read ++ more) (Actions ∷ ws) (right_begun s)) (sym (taken_is words place closing))
+            ∙ ap (goes (take (place + 1) words ++ more) (Actions ∷ ws)) (begun_is classes sight begun started s v)
+            ∙ reads (place + 1) (omega arith) more ws s (record { classes = v.classes_are ∙ sym declared; cells = v.cells_are ∙ sym filled; conditions = v.conditions_are ∙ sym placed })
+            ∙ closed_there words place closing more ws (seen s new)
+            ∙ ap (λ xs. goes more ws (with_rule (record (seen s new) { constants = xs }) closing.bracket.past)) (sym v.constants_are);
       }
+
+-- the words that stand after a right side go on as the words
+pub right_goes : (classes : List Class) (old : Sight) (words rest : List Word) (actions : List Action) (new : Sight) (r : ReadsRight classes old words rest actions new) (s : State) → Sees classes old s → (more : List Word) (ws : List Wanted) → right_way words s more ws ≡ goes (rest ++ more) ws (with_rule (right_read s actions new r.further) r.behind.last.past)
+right_goes classes old words rest actions new r s v more ws =
+    let read = r.behind.before ++ r.behind.last ∷ [] in
+    ap (λ (all : List Word). goes (all ++ more) (Actions ∷ ws) (right_begun s)) (r.behind.split ∙ sym (append_assoc r.behind.before (r.behind.last ∷ []) rest))
+    ∙ ap (λ (all : List Word). goes all (Actions ∷ ws) (right_begun s)) (append_assoc read rest more)
+    ∙ r.reads s v (rest ++ more) ws
 
 -- ---- of tokens
 

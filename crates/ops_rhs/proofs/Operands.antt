@@ -1,5 +1,5 @@
 -- Steps of the walk over expressions, and where their values go.
-use Rattle.std.proofs.Common.{◌≡◌, ℕ, suc, true, false, nat_lt, List, [], ◌∷◌, ◌++◌, drop, Option, Some, None, Result, Ok, Err, refl, ap, ◌∙◌}
+use Rattle.std.proofs.Common.{◌≡◌, ℕ, suc, true, false, nat_lt, List, [], ◌∷◌, ◌++◌, drop, Option, Some, None, Result, Ok, Err, refl, ap, ◌∙◌, arith}
 use Rattle.ops_base.specs.Expression.{Formula, apply}
 use Rattle.ops_base.specs.declared.expression.Op.{Op}
 use Rattle.ops_base.specs.declared.actions.Term.{Term}
@@ -13,7 +13,7 @@ use Rattle.ops_rhs.specs.declared.expressions.Waiting.{Waiting}
 use Rattle.ops_rhs.specs.declared.right.Right.{Right}
 use Rattle.ops_rhs.specs.declared.right.Target.{Target}
 use Rattle.ops_rhs.specs.declared.right.Target.TheVariants as target
-use Rattle.ops_rhs.specs.Taking.{seen, view, target_of, with_term, newest_first, GoesToOperand, ActsOperand, ReadsExpression, OpensExpression}
+use Rattle.ops_rhs.specs.Taking.{seen, view, target_of, with_term, newest_first, GoesToOperand, ActsOperand, ReadsExpression, OpensExpression, CutActsOperand, CutReadsExpression, CutOpensExpression, IsFromOperand}
 
 -- ---- what waits
 
@@ -56,6 +56,10 @@ module _ (depth deeper at : ℕ) (w : Word) (r : Right) (words : List Word) (fit
   bracket_read rest (Ok x) e opens reads = λ f more ws s. rw (fits, ← e) (opens deeper more ws (with_formula (seen s r) f) ∙ reads None f more ws s)
   bracket_read rest (Err x) e opens reads =
       λ f. rw (fits, ← e) (fails_as (λ more ws s. goes (drop at words ++ more) (Bracketed deeper ∷ ws) (with_formula (seen s r) f)) (λ more ws s. goes (drop rest words ++ more) (ExpressionUnit deeper ∷ ExpressionRest deeper [] None ∷ ws) (with_formula (seen s r) f)) (λ more ws s. opens deeper more ws (with_formula (seen s r) f)) x (reads None f))
+
+  pub bracket_cut : (rest : ℕ) (result : Result (Formula × ℕ) Refusal) → deeper ≡ suc depth → IsFromOperand rest result → CutOpensExpression words at (Ok rest) → CutReadsExpression deeper r words rest result → CutActsOperand (λ ws s. bracket_at depth ws s) w r words at result
+  bracket_cut rest (Ok x) e le opens reads = λ n lt f more ws s. rw (fits, ← e) (opens n (omega (arith, le, lt)) deeper more ws (with_formula (seen s r) f) ∙ reads n lt None f more ws s)
+  bracket_cut rest (Err x) e le opens reads = tt
 
   pub bracket_fails : (e : Refusal) → OpensExpression words at (Err e) → (f : Formula) → Fails (λ more ws s. after (goes (drop at words ++ more)) w (bracket_at depth ws (with_formula (seen s r) f))) e
   bracket_fails e opens f = rw fits (fails_in (λ more ws s. goes (drop at words ++ more) (Bracketed (suc depth) ∷ ws) s) (λ s. with_formula (seen s r) f) e (opens (suc depth)))

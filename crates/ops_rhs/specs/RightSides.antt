@@ -44,15 +44,16 @@ right_read s actions sight further =
 abbrev pub IsBracket : Word → Type 0
 IsBracket w = is_right w.kind ≡ true
 
--- Where these classes are declared and the old sight is in sight, the words are read as these actions up to a closing bracket,
--- and the others are left after it, whatever else was read before and is wanted afterwards. The bracket ends the production.
+-- Where these classes are declared and the old sight is in sight, the words up to a closing bracket are read as these actions:
+-- whatever words stand after it, it goes on there from the state that the right side leaves, whatever else was read before and
+-- is wanted afterwards. The bracket ends the production.
 pub record ReadsRight (classes : List Class) (old : Sight) (words rest : List Word) (actions : List Action) (new : Sight) : Type 0 where
   pub behind : AreBehind IsBracket words rest
   -- the classes of the cells that the right side named
   pub further : List ℕ
   pub cells : new.cells ≡ old.cells ++ further
   pub conditions : new.conditions ≡ old.conditions
-  pub reads : (s : State) → Sees classes old s → (more : List Word) (ws : List Wanted) → right_way words s more ws ≡ goes (rest ++ more) ws (with_rule (right_read s actions new further) behind.last.past)
+  pub reads : (s : State) → Sees classes old s → (more : List Word) (ws : List Wanted) → right_way (behind.before ++ behind.last ∷ []) s more ws ≡ goes more ws (with_rule (right_read s actions new further) behind.last.past)
 
 -- where these classes are declared and this is in sight, the words are refused so
 abbrev pub RefusesRight : List Class → Sight → List Word → Refusal → Type 0

@@ -2,7 +2,7 @@
 ghost use Rattle.std.specs.Prelude.{◌∷◌, ◌++◌, drop, IfOk};
 ghost use Rattle.ops_grammar.specs.Grammar.{goes, Actions, ActionWord, Closes, EndsHalt};
 ghost use Rattle.ops_forms.specs.Walking.{IsFrom};
-ghost use Rattle.ops_rhs.specs.Taking.{seen, Reads, GoesTo, IsClosing, ReadsAnywhere};
+ghost use Rattle.ops_rhs.specs.Taking.{seen, Reads, GoesTo, IsClosing, ReadsAnywhere, CutGoesTo, CutReads, CutReadsAnywhere};
 
 use crate::right::{Around, Right};
 use ops_base::actions::Action;
@@ -23,6 +23,7 @@ impl Right {
         at: usize,
     ) -> Result<usize, Refusal>
         ensures reads { GoesTo around.now Actions (λ more ws s. goes (drop at words.now ++ more) (Actions ∷ ws) (seen s self.old)) words.now self.new result }
+        ensures cut { CutGoesTo around.now Actions (λ cut more ws s. goes (drop at cut ++ more) (Actions ∷ ws) (seen s self.old)) words.now self.new result }
         ensures closing { IfOk result (λ place. IsClosing words.now place) }
         ensures within { IsFrom at result }
     {
@@ -44,6 +45,7 @@ impl Right {
     #[tactic(auto, unfolding(ops_grammar::specs::Grammar::goes, ops_grammar::specs::Grammar::step, ops_grammar::specs::Grammar::ends))]
     fn action(&mut self, around: &Around, words: &[Word], at: usize) -> Result<usize, Refusal>
         ensures reads { Reads around.now ActionWord self.old self.new words.now at result }
+        ensures cut { CutReads around.now ActionWord self.old self.new words.now at result }
         ensures within { IsFrom at result }
     {
         let (word, rest) = first_of(words, at)?;
@@ -75,6 +77,7 @@ impl Right {
     // )
     fn halt(&mut self, words: &[Word], at: usize) -> Result<usize, Refusal>
         ensures reads { ReadsAnywhere (Closes EndsHalt) self.old self.new words.now at result }
+        ensures cut { CutReadsAnywhere (Closes EndsHalt) self.old self.new words.now at result }
         ensures within { IsFrom at result }
     {
         let rest = closing(words, at)?;

@@ -1,8 +1,8 @@
 //! The actions that bind a variable to a value or to a cell.
 ghost use Rattle.std.specs.Prelude.{◌∷◌, ◌++◌, drop};
 ghost use Rattle.ops_grammar.specs.Grammar.{goes, value_for, ToBind, BoundName, BoundValue, CellName, Closes, EndsWhole};
-ghost use Rattle.ops_forms.specs.Walking.{GoesAmong, IsFrom};
-ghost use Rattle.ops_rhs.specs.Taking.{seen, IsAround, Reads, Acts, ReadsAnywhere};
+ghost use Rattle.ops_forms.specs.Walking.{GoesAmong, IsFrom, CutGoesAmong};
+ghost use Rattle.ops_rhs.specs.Taking.{seen, IsAround, Reads, Acts, ReadsAnywhere, CutActs, CutReads, CutReadsAnywhere};
 
 use crate::right::{Around, Right, Target};
 use ops_base::actions::Term;
@@ -17,6 +17,7 @@ impl Right {
     // VARIABLE value ) | VARIABLE )
     pub fn bind(&mut self, around: &Around, words: &[Word], at: usize) -> Result<usize, Refusal>
         ensures reads { GoesAmong (IsAround around.now) (λ more ws s. goes (drop at words.now ++ more) (BoundName ∷ BoundValue ∷ ws) (seen s self.old)) words.now (λ s. seen s self.new) result }
+        ensures cut { CutGoesAmong (IsAround around.now) (λ cut more ws s. goes (drop at cut ++ more) (BoundName ∷ BoundValue ∷ ws) (seen s self.old)) words.now (λ s. seen s self.new) result }
         ensures within { IsFrom at result }
     {
         let rest = self.bound_name(words, at)?;
@@ -27,6 +28,7 @@ impl Right {
     #[tactic(auto, unfolding(ops_grammar::specs::Grammar::goes, ops_grammar::specs::Grammar::step, ops_grammar::specs::Grammar::ends))]
     fn bound_name(&mut self, words: &[Word], at: usize) -> Result<usize, Refusal>
         ensures reads { ReadsAnywhere BoundName self.old self.new words.now at result }
+        ensures cut { CutReadsAnywhere BoundName self.old self.new words.now at result }
         ensures within { IsFrom at result }
     {
         let (word, rest) = first_of(words, at)?;
@@ -41,6 +43,7 @@ impl Right {
     #[tactic(auto, unfolding(ops_grammar::specs::Grammar::goes, ops_grammar::specs::Grammar::step, ops_grammar::specs::Grammar::ends))]
     fn bound_value(&mut self, around: &Around, words: &[Word], at: usize) -> Result<usize, Refusal>
         ensures reads { Reads around.now BoundValue self.old self.new words.now at result }
+        ensures cut { CutReads around.now BoundValue self.old self.new words.now at result }
         ensures within { IsFrom at result }
     {
         let (word, rest) = first_of(words, at)?;
@@ -60,6 +63,7 @@ impl Right {
         at: usize,
     ) -> Result<usize, Refusal>
         ensures acts { Acts around.now (λ ws s. value_for ToBind word (Closes EndsWhole ∷ ws) s) word self.old self.new words.now at result }
+        ensures cut { CutActs around.now (λ ws s. value_for ToBind word (Closes EndsWhole ∷ ws) s) word self.old self.new words.now at result }
         ensures within { IsFrom at result }
     {
         let rest = self.value_from(around, Target::Bind, word, words, at)?;
@@ -71,6 +75,7 @@ impl Right {
     // VARIABLE )
     pub fn cbind(&mut self, around: &Around, words: &[Word], at: usize) -> Result<usize, Refusal>
         ensures reads { GoesAmong (IsAround around.now) (λ more ws s. goes (drop at words.now ++ more) (CellName ∷ Closes EndsWhole ∷ ws) (seen s self.old)) words.now (λ s. seen s self.new) result }
+        ensures cut { CutGoesAmong (IsAround around.now) (λ cut more ws s. goes (drop at cut ++ more) (CellName ∷ Closes EndsWhole ∷ ws) (seen s self.old)) words.now (λ s. seen s self.new) result }
         ensures within { IsFrom at result }
     {
         let rest = self.cell_name(around, words, at)?;
@@ -81,6 +86,7 @@ impl Right {
     #[tactic(auto, unfolding(ops_grammar::specs::Grammar::goes, ops_grammar::specs::Grammar::step, ops_grammar::specs::Grammar::ends))]
     fn cell_name(&mut self, around: &Around, words: &[Word], at: usize) -> Result<usize, Refusal>
         ensures reads { Reads around.now CellName self.old self.new words.now at result }
+        ensures cut { CutReads around.now CellName self.old self.new words.now at result }
         ensures within { IsFrom at result }
     {
         let (word, rest) = first_of(words, at)?;

@@ -1,8 +1,8 @@
 //! The designators of the elements that a right side speaks of.
 ghost use Rattle.std.specs.Prelude.{◌≡◌, ◌∷◌, ◌++◌, drop, slice_get};
 ghost use Rattle.ops_grammar.specs.Grammar.{State, goes, cell, cell_of, named_cell, natural_of, number_of, InPut, Cell, Cells, Modified, Terms};
-ghost use Rattle.ops_forms.specs.Walking.{GoesAmong, IsFrom};
-ghost use Rattle.ops_rhs.specs.Taking.{seen, numbered_by, cell_by, IsAround, Reads, Acts};
+ghost use Rattle.ops_forms.specs.Walking.{GoesAmong, IsFrom, CutGoesAmong};
+ghost use Rattle.ops_rhs.specs.Taking.{seen, numbered_by, cell_by, IsAround, Reads, Acts, CutActs, CutReads};
 
 use crate::right::{Around, Right};
 use ops_base::endings::Fault;
@@ -19,6 +19,7 @@ impl Right {
     #[tactic(auto, unfolding(ops_grammar::specs::Grammar::goes, ops_grammar::specs::Grammar::step, ops_grammar::specs::Grammar::ends))]
     pub fn remove(&mut self, around: &Around, words: &[Word], at: usize) -> Result<usize, Refusal>
         ensures reads { GoesAmong (IsAround around.now) (λ more ws s. goes (drop at words.now ++ more) (Cell ∷ Cells ∷ ws) (seen s self.old)) words.now (λ s. seen s self.new) result }
+        ensures cut { CutGoesAmong (IsAround around.now) (λ cut more ws s. goes (drop at cut ++ more) (Cell ∷ Cells ∷ ws) (seen s self.old)) words.now (λ s. seen s self.new) result }
         ensures within { IsFrom at result }
     {
         let (word, rest) = first_of(words, at)?;
@@ -30,6 +31,7 @@ impl Right {
     #[tactic(auto, unfolding(ops_grammar::specs::Grammar::goes, ops_grammar::specs::Grammar::step, ops_grammar::specs::Grammar::ends))]
     fn remove_cells(&mut self, around: &Around, words: &[Word], at: usize) -> Result<usize, Refusal>
         ensures reads { Reads around.now Cells self.old self.new words.now at result }
+        ensures cut { CutReads around.now Cells self.old self.new words.now at result }
         ensures within { IsFrom at result }
     {
         let mut rest = at;
@@ -52,6 +54,7 @@ impl Right {
         at: usize,
     ) -> Result<usize, Refusal>
         ensures acts { Acts around.now (λ ws s. cell word.kind word.name ws s) word self.old self.new words.now at result }
+        ensures cut { CutActs around.now (λ ws s. cell word.kind word.name ws s) word self.old self.new words.now at result }
         ensures within { IsFrom at result }
     {
         match self.cell_of(around, word) {
@@ -68,6 +71,7 @@ impl Right {
     // DESIGNATOR put* )
     pub fn modify(&mut self, around: &Around, words: &[Word], at: usize) -> Result<usize, Refusal>
         ensures reads { GoesAmong (IsAround around.now) (λ more ws s. goes (drop at words.now ++ more) (Modified ∷ Terms InPut ∷ ws) (seen s self.old)) words.now (λ s. seen s self.new) result }
+        ensures cut { CutGoesAmong (IsAround around.now) (λ cut more ws s. goes (drop at cut ++ more) (Modified ∷ Terms InPut ∷ ws) (seen s self.old)) words.now (λ s. seen s self.new) result }
         ensures within { IsFrom at result }
     {
         let rest = self.modified_cell(around, words, at)?;
@@ -83,6 +87,7 @@ impl Right {
         at: usize,
     ) -> Result<usize, Refusal>
         ensures reads { Reads around.now Modified self.old self.new words.now at result }
+        ensures cut { CutReads around.now Modified self.old self.new words.now at result }
         ensures within { IsFrom at result }
     {
         let (word, rest) = first_of(words, at)?;

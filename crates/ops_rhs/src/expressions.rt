@@ -2,7 +2,7 @@
 ghost use Rattle.std.specs.Prelude.{◌≡◌, IfOk};
 ghost use Rattle.ops_grammar.specs.Grammar.{completed, bracket_at, unit_at, unit_bound, number_of, ExpressionUnit};
 ghost use Rattle.ops_forms.specs.Walking.{IsFrom};
-ghost use Rattle.ops_rhs.specs.Taking.{newest_first, ReadsOperand, ActsOperand, ReadsExpression, OpensExpression, IsOperand, IsFromOperand};
+ghost use Rattle.ops_rhs.specs.Taking.{newest_first, ReadsOperand, ActsOperand, ReadsExpression, OpensExpression, IsOperand, IsFromOperand, CutActsOperand, CutOpensExpression, CutReadsExpression, CutReadsOperand};
 
 use crate::right::Right;
 use ops_base::endings::{Fault, Limit};
@@ -39,6 +39,7 @@ impl Right {
         at: usize,
     ) -> Result<(Expr, usize), Refusal>
         ensures reads { ReadsExpression depth self.now words.now at result }
+        ensures cut { CutReadsExpression depth self.now words.now at result }
         ensures within { IsFromOperand at result }
     {
         let mut waiting = Vec::new(self.alloc);
@@ -63,6 +64,7 @@ impl Right {
     #[tactic(auto, unfolding(ops_grammar::specs::Grammar::goes, ops_grammar::specs::Grammar::step, ops_grammar::specs::Grammar::ends))]
     fn unit(&self, depth: usize, words: &[Word], at: usize) -> Result<(Expr, usize), Refusal>
         ensures reads { ReadsOperand (ExpressionUnit depth) self.now words.now at result }
+        ensures cut { CutReadsOperand (ExpressionUnit depth) self.now words.now at result }
         ensures within { IsFromOperand at result }
     {
         let (word, rest) = first_of(words, at)?;
@@ -82,6 +84,7 @@ impl Right {
         at: usize,
     ) -> Result<(Expr, usize), Refusal>
         ensures acts { ActsOperand (λ ws s. bracket_at depth ws s) word self.now words.now at result }
+        ensures cut { CutActsOperand (λ ws s. bracket_at depth ws s) word self.now words.now at result }
         ensures within { IsFromOperand at result }
     {
         if depth >= MOST_BRACKETS {
@@ -124,6 +127,7 @@ impl Right {
 #[tactic(auto, unfolding(ops_grammar::specs::Grammar::goes, ops_grammar::specs::Grammar::step, ops_grammar::specs::Grammar::ends))]
 fn behind_compute(words: &[Word], at: usize) -> Result<usize, Refusal>
     ensures reads { OpensExpression words.now at result }
+    ensures cut { CutOpensExpression words.now at result }
     ensures within { IsFrom at result }
 {
     let (word, rest) = first_of(words, at)?;

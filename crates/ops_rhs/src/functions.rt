@@ -1,8 +1,8 @@
 //! The functions that a value may be.
 ghost use Rattle.std.specs.Prelude.{◌∷◌, [], ◌++◌, drop, Some};
 ghost use Rattle.ops_grammar.specs.Grammar.{goes, function, function_depth, Function, ExpressionUnit, ExpressionRest, Closes, EndsWhole};
-ghost use Rattle.ops_forms.specs.Walking.{GoesOn, IsFrom};
-ghost use Rattle.ops_rhs.specs.Taking.{seen, target_of, with_term, Reads, Acts};
+ghost use Rattle.ops_forms.specs.Walking.{GoesOn, IsFrom, CutGoesOn};
+ghost use Rattle.ops_rhs.specs.Taking.{seen, target_of, with_term, Reads, Acts, CutActs, CutReads};
 
 use crate::expressions::FUNCTION_DEPTH;
 use crate::right::{Around, Right, Target};
@@ -24,6 +24,7 @@ impl Right {
         at: usize,
     ) -> Result<usize, Refusal>
         ensures reads { Reads around.now (Function (target_of target)) self.old self.new words.now at result }
+        ensures cut { CutReads around.now (Function (target_of target)) self.old self.new words.now at result }
         ensures within { IsFrom at result }
     {
         let (word, rest) = first_of(words, at)?;
@@ -40,6 +41,7 @@ impl Right {
         at: usize,
     ) -> Result<usize, Refusal>
         ensures acts { Acts around.now (λ ws s. function (target_of target) word.keyword ws s) word self.old self.new words.now at result }
+        ensures cut { CutActs around.now (λ ws s. function (target_of target) word.keyword ws s) word self.old self.new words.now at result }
         ensures within { IsFrom at result }
     {
         match word.keyword {
@@ -54,6 +56,7 @@ impl Right {
     // expr )
     fn compute(&mut self, target: Target, words: &[Word], at: usize) -> Result<usize, Refusal>
         ensures reads { GoesOn (λ more ws s. goes (drop at words.now ++ more) (ExpressionUnit function_depth ∷ ExpressionRest function_depth [] (Some (target_of target)) ∷ ws) (seen s self.old)) words.now (λ s. seen s self.new) result }
+        ensures cut { CutGoesOn (λ cut more ws s. goes (drop at cut ++ more) (ExpressionUnit function_depth ∷ ExpressionRest function_depth [] (Some (target_of target)) ∷ ws) (seen s self.old)) words.now (λ s. seen s self.new) result }
         ensures within { IsFrom at result }
     {
         let (formula, rest) = self.expression(FUNCTION_DEPTH, words, at)?;
@@ -70,6 +73,7 @@ impl Right {
         at: usize,
     ) -> Result<usize, Refusal>
         ensures reads { GoesOn (λ more ws s. goes (drop at words.now ++ more) (Closes EndsWhole ∷ ws) (with_term target (seen s self.old) term)) words.now (λ s. seen s self.new) result }
+        ensures cut { CutGoesOn (λ cut more ws s. goes (drop at cut ++ more) (Closes EndsWhole ∷ ws) (with_term target (seen s self.old) term)) words.now (λ s. seen s self.new) result }
         ensures within { IsFrom at result }
     {
         let rest = closing(words, at)?;

@@ -1,8 +1,8 @@
 //! What `write` prints.
 ghost use Rattle.std.specs.Prelude.{◌≡◌, ◌∷◌, ◌++◌, drop, if◌then◌else◌};
 ghost use Rattle.ops_grammar.specs.Grammar.{goes, value_for, is_left, column_item, ToItem, Items, ItemWord, Columns, Closes, EndsCrlf, EndsWhole, Next};
-ghost use Rattle.ops_forms.specs.Walking.{GoesOn, IsFrom};
-ghost use Rattle.ops_rhs.specs.Taking.{seen, column_of, Reads, Acts, ReadsAnywhere};
+ghost use Rattle.ops_forms.specs.Walking.{GoesOn, IsFrom, CutGoesOn};
+ghost use Rattle.ops_rhs.specs.Taking.{seen, column_of, Reads, Acts, ReadsAnywhere, CutActs, CutReads, CutReadsAnywhere};
 
 use crate::right::{Around, Column, Right, Target};
 use ops_base::actions::Item;
@@ -18,6 +18,7 @@ impl Right {
     #[tactic(auto, unfolding(ops_grammar::specs::Grammar::goes, ops_grammar::specs::Grammar::step, ops_grammar::specs::Grammar::ends))]
     pub fn write(&mut self, around: &Around, words: &[Word], at: usize) -> Result<usize, Refusal>
         ensures reads { Reads around.now Items self.old self.new words.now at result }
+        ensures cut { CutReads around.now Items self.old self.new words.now at result }
         ensures within { IsFrom at result }
     {
         let mut rest = at;
@@ -40,6 +41,7 @@ impl Right {
         at: usize,
     ) -> Result<usize, Refusal>
         ensures acts { Acts around.now (λ ws s. if is_left word.kind then Next (ItemWord ∷ ws) s else value_for ToItem word ws s) word self.old self.new words.now at result }
+        ensures cut { CutActs around.now (λ ws s. if is_left word.kind then Next (ItemWord ∷ ws) s else value_for ToItem word ws s) word self.old self.new words.now at result }
         ensures within { IsFrom at result }
     {
         if is_left(word.kind) {
@@ -52,6 +54,7 @@ impl Right {
     #[tactic(auto, unfolding(ops_grammar::specs::Grammar::goes, ops_grammar::specs::Grammar::step, ops_grammar::specs::Grammar::ends))]
     fn item_word(&mut self, around: &Around, words: &[Word], at: usize) -> Result<usize, Refusal>
         ensures reads { Reads around.now ItemWord self.old self.new words.now at result }
+        ensures cut { CutReads around.now ItemWord self.old self.new words.now at result }
         ensures within { IsFrom at result }
     {
         let (word, rest) = first_of(words, at)?;
@@ -66,6 +69,7 @@ impl Right {
     // )
     fn crlf(&mut self, words: &[Word], at: usize) -> Result<usize, Refusal>
         ensures reads { ReadsAnywhere (Closes EndsCrlf) self.old self.new words.now at result }
+        ensures cut { CutReadsAnywhere (Closes EndsCrlf) self.old self.new words.now at result }
         ensures within { IsFrom at result }
     {
         let rest = closing(words, at)?;
@@ -76,6 +80,7 @@ impl Right {
     // SMALL )
     fn columns(&mut self, column: Column, words: &[Word], at: usize) -> Result<usize, Refusal>
         ensures reads { GoesOn (λ more ws s. goes (drop at words.now ++ more) (Columns (column_of column) ∷ Closes EndsWhole ∷ ws) (seen s self.old)) words.now (λ s. seen s self.new) result }
+        ensures cut { CutGoesOn (λ cut more ws s. goes (drop at cut ++ more) (Columns (column_of column) ∷ Closes EndsWhole ∷ ws) (seen s self.old)) words.now (λ s. seen s self.new) result }
         ensures within { IsFrom at result }
     {
         let rest = self.small(column, words, at)?;
@@ -86,6 +91,7 @@ impl Right {
     #[tactic(auto, unfolding(ops_grammar::specs::Grammar::goes, ops_grammar::specs::Grammar::step, ops_grammar::specs::Grammar::ends))]
     fn small(&mut self, column: Column, words: &[Word], at: usize) -> Result<usize, Refusal>
         ensures reads { ReadsAnywhere (Columns (column_of column)) self.old self.new words.now at result }
+        ensures cut { CutReadsAnywhere (Columns (column_of column)) self.old self.new words.now at result }
         ensures within { IsFrom at result }
     {
         let (word, rest) = first_of(words, at)?;

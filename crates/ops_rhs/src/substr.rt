@@ -2,8 +2,8 @@
 ghost use Rattle.std.specs.Prelude.{◌≡◌, ◌∷◌, ◌++◌, ◌==◌, drop, position};
 ghost use Rattle.ops_base.specs.Valid.{is_vector};
 ghost use Rattle.ops_grammar.specs.Grammar.{goes, takes_several, SourceCell, SourceAttribute, SourceEnd, Closes, EndsWhole};
-ghost use Rattle.ops_forms.specs.Walking.{GoesAmong, IsFrom};
-ghost use Rattle.ops_rhs.specs.Taking.{seen, target_of, source_class, IsAround, Reads, ReadsAnywhere};
+ghost use Rattle.ops_forms.specs.Walking.{GoesAmong, IsFrom, CutGoesAmong};
+ghost use Rattle.ops_rhs.specs.Taking.{seen, target_of, source_class, IsAround, Reads, ReadsAnywhere, CutReads, CutReadsAnywhere};
 
 use crate::right::{Around, Right, Target};
 use ops_base::actions::Term;
@@ -25,6 +25,7 @@ impl Right {
         at: usize,
     ) -> Result<usize, Refusal>
         ensures reads { GoesAmong (IsAround around.now) (λ more ws s. goes (drop at words.now ++ more) (SourceCell ∷ SourceAttribute (target_of target) ∷ ws) (seen s self.old)) words.now (λ s. seen s self.new) result }
+        ensures cut { CutGoesAmong (IsAround around.now) (λ cut more ws s. goes (drop at cut ++ more) (SourceCell ∷ SourceAttribute (target_of target) ∷ ws) (seen s self.old)) words.now (λ s. seen s self.new) result }
         ensures within { IsFrom at result }
     {
         let rest = self.source_cell(words, at)?;
@@ -35,6 +36,7 @@ impl Right {
     #[tactic(auto, unfolding(ops_grammar::specs::Grammar::goes, ops_grammar::specs::Grammar::step, ops_grammar::specs::Grammar::ends))]
     fn source_cell(&mut self, words: &[Word], at: usize) -> Result<usize, Refusal>
         ensures reads { ReadsAnywhere SourceCell self.old self.new words.now at result }
+        ensures cut { CutReadsAnywhere SourceCell self.old self.new words.now at result }
         ensures within { IsFrom at result }
     {
         let (word, rest) = first_of(words, at)?;
@@ -58,6 +60,7 @@ impl Right {
         at: usize,
     ) -> Result<usize, Refusal>
         ensures reads { Reads around.now (SourceAttribute (target_of target)) self.old self.new words.now at result }
+        ensures cut { CutReads around.now (SourceAttribute (target_of target)) self.old self.new words.now at result }
         ensures within { IsFrom at result }
     {
         let (word, rest) = first_of(words, at)?;
@@ -81,6 +84,7 @@ impl Right {
         at: usize,
     ) -> Result<usize, Refusal>
         ensures reads { GoesAmong (IsAround around.now) (λ more ws s. goes (drop at words.now ++ more) (SourceEnd (target_of target) name ∷ Closes EndsWhole ∷ ws) (seen s self.old)) words.now (λ s. seen s self.new) result }
+        ensures cut { CutGoesAmong (IsAround around.now) (λ cut more ws s. goes (drop at cut ++ more) (SourceEnd (target_of target) name ∷ Closes EndsWhole ∷ ws) (seen s self.old)) words.now (λ s. seen s self.new) result }
         ensures within { IsFrom at result }
     {
         let rest = self.source_end(around, target, name, words, at)?;
@@ -98,6 +102,7 @@ impl Right {
         at: usize,
     ) -> Result<usize, Refusal>
         ensures reads { Reads around.now (SourceEnd (target_of target) name) self.old self.new words.now at result }
+        ensures cut { CutReads around.now (SourceEnd (target_of target) name) self.old self.new words.now at result }
         ensures within { IsFrom at result }
     {
         let (word, rest) = first_of(words, at)?;

@@ -1,7 +1,7 @@
 //! Values: constants, variables and functions.
 ghost use Rattle.ops_grammar.specs.Grammar.{goes, value_for, bound_at, number_of, Atom, ValueFor};
 ghost use Rattle.ops_forms.specs.Walking.{IsFrom};
-ghost use Rattle.ops_rhs.specs.Taking.{target_of, Reads, Acts, ReadsAnywhere, ActsAnywhere};
+ghost use Rattle.ops_rhs.specs.Taking.{target_of, Reads, Acts, ReadsAnywhere, ActsAnywhere, CutActs, CutActsAnywhere, CutReads, CutReadsAnywhere};
 
 use crate::right::{Around, Right, Target};
 use ops_base::actions::Term;
@@ -23,6 +23,7 @@ impl Right {
         at: usize,
     ) -> Result<usize, Refusal>
         ensures reads { Reads around.now (ValueFor (target_of target)) self.old self.new words.now at result }
+        ensures cut { CutReads around.now (ValueFor (target_of target)) self.old self.new words.now at result }
         ensures within { IsFrom at result }
     {
         let (word, rest) = first_of(words, at)?;
@@ -39,6 +40,7 @@ impl Right {
         at: usize,
     ) -> Result<usize, Refusal>
         ensures acts { Acts around.now (λ ws s. value_for (target_of target) word ws s) word self.old self.new words.now at result }
+        ensures cut { CutActs around.now (λ ws s. value_for (target_of target) word ws s) word self.old self.new words.now at result }
         ensures within { IsFrom at result }
     {
         if is_literal(word.keyword) {
@@ -61,6 +63,7 @@ impl Right {
     #[tactic(auto, unfolding(ops_grammar::specs::Grammar::goes, ops_grammar::specs::Grammar::step, ops_grammar::specs::Grammar::ends))]
     fn atom(&mut self, target: Target, words: &[Word], at: usize) -> Result<usize, Refusal>
         ensures reads { ReadsAnywhere (Atom (target_of target)) self.old self.new words.now at result }
+        ensures cut { CutReadsAnywhere (Atom (target_of target)) self.old self.new words.now at result }
         ensures within { IsFrom at result }
     {
         let (word, rest) = first_of(words, at)?;
@@ -80,6 +83,7 @@ impl Right {
         at: usize,
     ) -> Result<usize, Refusal>
         ensures acts { ActsAnywhere (λ ws s. bound_at (target_of target) (number_of word.name s.values) ws s) word self.old self.new words.now at result }
+        ensures cut { CutActsAnywhere (λ ws s. bound_at (target_of target) (number_of word.name s.values) ws s) word self.old self.new words.now at result }
         ensures within { IsFrom at result }
     {
         let Some(number) = number_of(&self.values, word.name) else {

@@ -2,6 +2,7 @@ use Rattle.std.proofs.Common.{◌∷◌, ◌++◌, ◌∙◌, ap, refl}
 use Rattle.std.proofs.lemmas.Result.{err_from_is_err_and}
 use Rattle.ops_grammar.specs.Grammar.{goes, FirstPattern, Patterns, Actions}
 use Rattle.ops_lhs.specs.LeftSides.{left_way, left_read}
+use Rattle.ops_lhs.proofs.Borders.{left_goes}
 use Rattle.ops_forms.proofs.Ways.{fails_as, fails_under, goes_as}
 use Rattle.ops_check.specs.Going.{view}
 use Rattle.ops_check.proofs.draft.Draft.sides.Goals as goal
@@ -13,7 +14,7 @@ returns-clause-reads c =
     goes_as _ (λ more ws. goes (c.in_ok-left.rest.now ++ more) (Actions ∷ ws) (left_read s left.conditions.items left.values left.elements left.variables))
     (λ more ws.
     ap (goes (c.args.words.now ++ more) (FirstPattern ∷ Patterns ∷ Actions ∷ ws)) c.requires.begun
-    ∙ c.in_ok-left.ensures.ok s refl more (Actions ∷ ws))
+    ∙ left_goes s.classes c.args.words.now c.in_ok-left.rest.now left.conditions.items left.values left.elements left.variables c.in_ok-left.ensures.ok s refl more (Actions ∷ ws))
     (view c.actions.new.self) c.actions.result c.actions.ensures.reads
 
 pub returns-in_err-left-clause-reads : goal.returns-in_err-left-clause-reads

@@ -1,4 +1,4 @@
-use Rattle.std.proofs.Common.{◌≡◌, List, length, ◌∷◌, ◌++◌, ◌≤◌, ◌-◌, drop}
+use Rattle.std.proofs.Common.{◌≡◌, ℕ, ◌<◌, List, length, ◌∷◌, ◌++◌, ◌≤◌, ◌-◌, take, drop}
 use Rattle.ops_grammar.specs.declared.words.Word.{Word}
 use Rattle.ops_grammar.specs.Grammar.{State, Wanted, InPattern, Several, goes}
 use Rattle.ops_lhs.specs.Taking.{seen}
@@ -7,6 +7,7 @@ use Rattle.ops_lhs.proofs.left.Left.places.Given as goal
 abbrev pub invariant-places : goal.invariant-places
 invariant-places l = record {
   same : (more : List Word) (ws : List Wanted) (s : State) → goes (drop l.fn.at l.words ++ more) (Several InPattern l.fn.field ∷ ws) (seen s l.fn.self) ≡ goes (drop l.rest l.words ++ more) (Several InPattern l.next ∷ ws) (seen s l.self);
+  cut : (n : ℕ) → l.rest < n → (more : List Word) (ws : List Wanted) (s : State) → goes (drop l.fn.at (take n l.words) ++ more) (Several InPattern l.fn.field ∷ ws) (seen s l.fn.self) ≡ goes (drop l.rest (take n l.words) ++ more) (Several InPattern l.next ∷ ws) (seen s l.self);
   from : l.fn.at ≤ l.rest;
 }
 

@@ -1,4 +1,4 @@
-use Rattle.std.proofs.Common.{◌≡◌, List, [], ◌∷◌, ◌++◌, length, drop, Option, ◌+◌, ◌-◌, ◌*◌, ◌≤◌}
+use Rattle.std.proofs.Common.{◌≡◌, ℕ, ◌<◌, List, [], ◌∷◌, ◌++◌, length, take, drop, Option, ◌+◌, ◌-◌, ◌*◌, ◌≤◌}
 use Rattle.ops_base.specs.Expression.{Formula}
 use Rattle.ops_grammar.specs.declared.words.Word.{Word}
 use Rattle.ops_grammar.specs.Grammar.{State, Wanted, ExpressionUnit, ExpressionRest, goes, with_formula}
@@ -18,6 +18,7 @@ decreases-bracket l = 3 * (33 - l.depth)
 abbrev pub invariant-expression-operations : goal.invariant-expression-operations
 invariant-expression-operations l = record {
   same : (t : Option Target) (f : Formula) (more : List Word) (ws : List Wanted) (s : State) → goes (drop l.fn.at l.words ++ more) (ExpressionUnit l.depth ∷ ExpressionRest l.depth [] (into t) ∷ ws) (with_formula (seen s l.self) f) ≡ goes (drop l.rest l.words ++ more) (ExpressionRest l.depth (newest_first l.waiting.items) (into t) ∷ ws) (with_formula (seen s l.self) l.operand);
+  cut : (n : ℕ) → l.rest < n → (t : Option Target) (f : Formula) (more : List Word) (ws : List Wanted) (s : State) → goes (drop l.fn.at (take n l.words) ++ more) (ExpressionUnit l.depth ∷ ExpressionRest l.depth [] (into t) ∷ ws) (with_formula (seen s l.self) f) ≡ goes (drop l.rest (take n l.words) ++ more) (ExpressionRest l.depth (newest_first l.waiting.items) (into t) ∷ ws) (with_formula (seen s l.self) l.operand);
   from : l.fn.at ≤ l.rest;
 }
 
