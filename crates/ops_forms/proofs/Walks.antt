@@ -1,11 +1,11 @@
 -- Steps of a walk by places in words, in every state of a kind.
-use Rattle.std.proofs.Common.{◌≡◌, ℕ, zero, suc, ◌+◌, ◌<◌, ◌≤◌, List, [], ◌∷◌, take, drop, None, Some, Result, Ok, Err, refl, ◌∙◌, arith}
+use Rattle.std.proofs.Common.{◌≡◌, ℕ, zero, suc, ◌+◌, ◌<◌, ◌≤◌, List, [], ◌∷◌, ◌++◌, take, drop, None, Some, Result, Ok, Err, refl, ◌∙◌, arith}
 use Rattle.ops_base.specs.declared.endings.Fault.{Fault}
 use Rattle.ops_grammar.specs.declared.words.Word.{Word}
-use Rattle.ops_grammar.specs.Grammar.{Wanted, State}
+use Rattle.ops_grammar.specs.Grammar.{Wanted, State, Step, Next, Refuses, after, step, goes}
 use Rattle.ops_forms.specs.declared.refusals.Refusal.{Refusal}
 use Rattle.ops_forms.specs.declared.refusals.Refusal.TheVariants as refusal
-use Rattle.ops_forms.specs.Walking.{Way, Fails, GoesOn, FailsAmong, GoesAmong, GoesToAmong, CutGoesAmong, CutGoesToAmong, IsFrom}
+use Rattle.ops_forms.specs.Walking.{Way, Fails, GoesOn, FailsAmong, GoesAmong, GoesToAmong, CutGoesAmong, PeekGoesToAmong, CutWay, Onward, goes_onward, IsFrom}
 
 -- a word is taken also where the words are cut after it
 pub cut_taken : (words : List Word) (at next n : ℕ) (w : Word) → drop at words ≡ w ∷ drop next words → next ≡ at + 1 → at < n → drop at (take n words) ≡ w ∷ drop next (take n words)
@@ -18,11 +18,26 @@ cut_taken words at next n w e is lt = let here : next ≡ suc at = omega (arith,
     by (x ∷ words) zero (suc n) e lt = grind arith
     by (x ∷ words) (suc at) (suc n) e lt = by words at n e (omega (arith, lt))
 
+-- the words go on to what goes on after them
+pub goes_split : (words more : List Word) (ws : List Wanted) (s : State) → goes (words ++ more) ws s ≡ goes_onward (goes more) words ws s
+unfolding goes goes_onward
+goes_split [] more ws s = refl
+goes_split (w ∷ words) more ws s = by (goes_split words more) (step w ws s)
+  where
+    by : ((ws : List Wanted) (s : State) → goes (words ++ more) ws s ≡ goes_onward (goes more) words ws s) → (r : Step) → after (goes (words ++ more)) w r ≡ after (goes_onward (goes more) words) w r
+    by same (Next ws s) = same ws s
+    by same (Refuses f) = refl
+
 -- after the words that were taken none is left
 pub taken_all : (n : ℕ) (words : List Word) → drop n (take n words) ≡ []
 taken_all zero words = refl
 taken_all (suc n) [] = refl
 taken_all (suc n) (w ∷ words) = taken_all n words
+
+-- what is done where the words end is done there
+pub taken_goes : (on : Onward) (n : ℕ) (words : List Word) (ws : List Wanted) (s : State) → goes_onward on (drop n (take n words)) ws s ≡ on ws s
+unfolding goes_onward
+taken_goes on n words ws s = rw (taken_all n words) refl
 
 -- what fails on one way fails on a way that is the same
 pub fails_as : (from by : Way) → ((more : List Word) (ws : List Wanted) (s : State) → from more ws s ≡ by more ws s) → (e : Refusal) → Fails by e → Fails from e
@@ -80,14 +95,14 @@ module _ (holds : State → Type 0) where
 
   -- ---- where the words are cut
 
-  pub cut_goes_as_among : (from by : List Word → Way) (words : List Word) (at : ℕ) → ((n : ℕ) → at ≤ n → (more : List Word) (ws : List Wanted) (s : State) → holds s → from (take n words) more ws s ≡ by (take n words) more ws s) → (new : State → State) (r : Result ℕ Refusal) → IsFrom at r → CutGoesAmong holds by words new r → CutGoesAmong holds from words new r
-  cut_goes_as_among from by words at same new (Ok next) le h = λ n lt more ws s i. same n (omega (arith, le, lt)) more ws s i ∙ h n lt more ws s i
+  pub cut_goes_as_among : (from by : CutWay) (words : List Word) (at : ℕ) → ((n : ℕ) → at ≤ n → (on : Onward) (ws : List Wanted) (s : State) → holds s → from (take n words) on ws s ≡ by (take n words) on ws s) → (new : State → State) (r : Result ℕ Refusal) → IsFrom at r → CutGoesAmong holds by words new r → CutGoesAmong holds from words new r
+  cut_goes_as_among from by words at same new (Ok next) le h = λ n lt on ws s i. same n (omega (arith, le, lt)) on ws s i ∙ h n lt on ws s i
   cut_goes_as_among from by words at same new (Err e) le h = tt
 
-  pub cut_goes_to_as_among : (wanted : Wanted) (from by : List Word → Way) (words : List Word) (at : ℕ) → ((n : ℕ) → at ≤ n → (more : List Word) (ws : List Wanted) (s : State) → holds s → from (take n words) more ws s ≡ by (take n words) more ws s) → (new : State → State) (r : Result ℕ Refusal) → IsFrom at r → CutGoesToAmong holds wanted by words new r → CutGoesToAmong holds wanted from words new r
-  cut_goes_to_as_among wanted from by words at same new (Ok next) le h = λ n lt more ws s i. same n (omega (arith, le, lt)) more ws s i ∙ h n lt more ws s i
-  cut_goes_to_as_among wanted from by words at same new (Err e) le h = tt
+  pub peek_goes_to_as_among : (wanted : Wanted) (from by : CutWay) (words : List Word) (at : ℕ) → ((n : ℕ) → at ≤ n → (on : Onward) (ws : List Wanted) (s : State) → holds s → from (take n words) on ws s ≡ by (take n words) on ws s) → (new : State → State) (r : Result ℕ Refusal) → IsFrom at r → PeekGoesToAmong holds wanted by words new r → PeekGoesToAmong holds wanted from words new r
+  peek_goes_to_as_among wanted from by words at same new (Ok next) le h = λ n lt on ws s i. same n (omega (arith, le, lt)) on ws s i ∙ h n lt on ws s i
+  peek_goes_to_as_among wanted from by words at same new (Err e) le h = tt
 
-  pub cut_goes_to_among : (wanted : Wanted) (by : List Word → Way) (words : List Word) (new : State → State) (r : Result ℕ Refusal) → CutGoesAmong holds by words new r → CutGoesToAmong holds wanted (λ cut more ws s. by cut more (wanted ∷ ws) s) words new r
-  cut_goes_to_among wanted by words new (Ok next) h = λ n lt more ws. h n lt more (wanted ∷ ws)
-  cut_goes_to_among wanted by words new (Err e) h = tt
+  pub peek_goes_to_among : (wanted : Wanted) (by : CutWay) (words : List Word) (new : State → State) (r : Result ℕ Refusal) → CutGoesAmong holds by words new r → PeekGoesToAmong holds wanted (λ cut on ws s. by cut on (wanted ∷ ws) s) words new r
+  peek_goes_to_among wanted by words new (Ok next) h = λ n lt on ws. h n (omega (arith, lt)) on (wanted ∷ ws)
+  peek_goes_to_among wanted by words new (Err e) h = tt

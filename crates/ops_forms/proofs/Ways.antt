@@ -10,6 +10,7 @@ use Rattle.ops_grammar.specs.Grammar.{Use, Target, Wanted, VectorName, VectorNam
 use Rattle.ops_forms.specs.declared.refusals.Refusal.{Refusal}
 use Rattle.ops_forms.specs.declared.refusals.Refusal.TheVariants as refusal
 use Rattle.ops_forms.specs.Going.{Way, Fails, Goes}
+use Rattle.ops_forms.specs.Walking.{Onward, goes_onward}
 
 -- what fails on one way fails on a way that is the same
 pub fails_as : (from by : Way) → ((more : List Word) (ws : List Wanted) → from more ws ≡ by more ws) → (e : Refusal) → Fails by e → Fails from e
@@ -99,3 +100,12 @@ module _ (u : Use) (class : Class) (words rest more : List Word) (w : Word) (ws 
   pub attribute_one : (f : ℕ) → position (λ a. a.0 == w.name.0) class.attrs ≡ Some f → is_vector class f ≡ false → goes (words ++ more) (Attribute u ∷ ws) s ≡ goes (rest ++ more) (behind_attribute u f ∷ Terms u ∷ ws) s
   unfolding goes step
   attribute_one f at scalar = rw (e, named, there, at, there, scalar) refl
+
+module _ (u : Use) (class : Class) (on : Onward) (words rest : List Word) (w : Word) (ws : List Wanted) (s : State) (e : words ≡ w ∷ rest) (named : is_name w.kind ≡ true) (there : slice_get s.classes s.class ≡ Some class) where
+  pub attribute_several_onward : (f : ℕ) → position (λ a. a.0 == w.name.0) class.attrs ≡ Some f → is_vector class f ≡ true → goes_onward on words (Attribute u ∷ ws) s ≡ goes_onward on rest (Several u f ∷ ws) (record s { terms = []; constants = [] })
+  unfolding goes_onward step
+  attribute_several_onward f at vector = rw (e, named, there, at, there, vector) refl
+
+  pub attribute_one_onward : (f : ℕ) → position (λ a. a.0 == w.name.0) class.attrs ≡ Some f → is_vector class f ≡ false → goes_onward on words (Attribute u ∷ ws) s ≡ goes_onward on rest (behind_attribute u f ∷ Terms u ∷ ws) s
+  unfolding goes_onward step
+  attribute_one_onward f at scalar = rw (e, named, there, at, there, scalar) refl

@@ -4,7 +4,7 @@ use Rattle.ops_base.specs.declared.endings.Fault.TheVariants as fault
 use Rattle.ops_tokens.specs.declared.token.Token.{Token}
 use Rattle.ops_grammar.specs.declared.words.Word.{Word}
 use Rattle.ops_grammar.specs.Words.{words_from}
-use Rattle.ops_grammar.specs.Grammar.{Ends, Wanted, Closes, State, Outcome, goes, ended}
+use Rattle.ops_grammar.specs.Grammar.{Ends, Wanted, Closes, State, Outcome, after, step, goes, ended}
 use Rattle.ops_forms.specs.declared.refusals.Refusal.{Refusal}
 use Rattle.ops_forms.specs.declared.refusals.Refusal.TheVariants as refusal
 use Rattle.ops_forms.specs.declared.refusals.ReadFault.{ReadFault}
@@ -45,26 +45,39 @@ GoesToAmong holds w from words new (Err e) = FailsAmong holds from e
 
 -- ---- where the words are cut
 
--- A walk looks at no word after the one at the next place: cut anywhere after that one, and with any words after the cut,
--- the words go on from there to the same state.
-abbrev pub CutGoesOn : (List Word → Way) → List Word → (State → State) → Result ℕ Refusal → Type 0
-CutGoesOn from words new (Ok next) = (n : ℕ) → next < n → (more : List Word) (ws : List Wanted) (s : State) → from (take n words) more ws s ≡ goes (drop next (take n words) ++ more) ws (new s)
+-- what is done where the words end, with what is wanted there and with the state
+abbrev pub Onward : Type 0
+Onward = List Wanted → State → Outcome
+
+-- The words, from what is wanted on, and then that.
+unfoldable pub goes_onward : Onward → List Word → List Wanted → State → Outcome
+goes_onward on [] ws s = on ws s
+goes_onward on (w ∷ words) ws s = after (goes_onward on words) w (step w ws s)
+
+-- how it goes in these words, and then onward, where that is wanted and with that state around
+abbrev pub CutWay : Type 0
+CutWay = List Word → Onward → List Wanted → State → Outcome
+
+-- A walk looks at no word after those that it took: cut anywhere after them, and whatever is done where they end, the words go on
+-- from there to the same state.
+abbrev pub CutGoesOn : CutWay → List Word → (State → State) → Result ℕ Refusal → Type 0
+CutGoesOn from words new (Ok next) = (n : ℕ) → next ≤ n → (on : Onward) (ws : List Wanted) (s : State) → from (take n words) on ws s ≡ goes_onward on (drop next (take n words)) ws (new s)
 CutGoesOn from words new (Err e) = Unit {0}
 
 -- the same, in each state of which something holds
-abbrev pub CutGoesAmong : (State → Type 0) → (List Word → Way) → List Word → (State → State) → Result ℕ Refusal → Type 0
-CutGoesAmong holds from words new (Ok next) = (n : ℕ) → next < n → (more : List Word) (ws : List Wanted) (s : State) → holds s → from (take n words) more ws s ≡ goes (drop next (take n words) ++ more) ws (new s)
+abbrev pub CutGoesAmong : (State → Type 0) → CutWay → List Word → (State → State) → Result ℕ Refusal → Type 0
+CutGoesAmong holds from words new (Ok next) = (n : ℕ) → next ≤ n → (on : Onward) (ws : List Wanted) (s : State) → holds s → from (take n words) on ws s ≡ goes_onward on (drop next (take n words)) ws (new s)
 CutGoesAmong holds from words new (Err e) = Unit {0}
 
 -- the same, where that is wanted afterwards
-abbrev pub CutGoesToAmong : (State → Type 0) → Wanted → (List Word → Way) → List Word → (State → State) → Result ℕ Refusal → Type 0
-CutGoesToAmong holds w from words new (Ok next) = (n : ℕ) → next < n → (more : List Word) (ws : List Wanted) (s : State) → holds s → from (take n words) more ws s ≡ goes (drop next (take n words) ++ more) (w ∷ ws) (new s)
+abbrev pub CutGoesToAmong : (State → Type 0) → Wanted → CutWay → List Word → (State → State) → Result ℕ Refusal → Type 0
+CutGoesToAmong holds w from words new (Ok next) = (n : ℕ) → next ≤ n → (on : Onward) (ws : List Wanted) (s : State) → holds s → from (take n words) on ws s ≡ goes_onward on (drop next (take n words)) (w ∷ ws) (new s)
 CutGoesToAmong holds w from words new (Err e) = Unit {0}
 
--- The words that a walk took go on to the new state, and then any words do.
-abbrev pub TakenGoesAmong : (State → Type 0) → (List Word → Way) → List Word → (State → State) → Result ℕ Refusal → Type 0
-TakenGoesAmong holds from words new (Ok next) = (more : List Word) (ws : List Wanted) (s : State) → holds s → from (take next words) more ws s ≡ goes more ws (new s)
-TakenGoesAmong holds from words new (Err e) = Unit {0}
+-- The same, where the walk looked at the word at the next place too, and did not take it.
+abbrev pub PeekGoesToAmong : (State → Type 0) → Wanted → CutWay → List Word → (State → State) → Result ℕ Refusal → Type 0
+PeekGoesToAmong holds w from words new (Ok next) = (n : ℕ) → next < n → (on : Onward) (ws : List Wanted) (s : State) → holds s → from (take n words) on ws s ≡ goes_onward on (drop next (take n words)) (w ∷ ws) (new s)
+PeekGoesToAmong holds w from words new (Err e) = Unit {0}
 
 -- ---- words
 
@@ -83,7 +96,7 @@ ReadsClosing words at (Err (refusal.At f (Some w))) = (e : Ends) (more : List Wo
 
 -- the same, where the words are cut after the bracket
 abbrev pub CutReadsClosing : List Word → ℕ → Result ℕ Refusal → Type 0
-CutReadsClosing words at (Ok next) = (n : ℕ) → next ≤ n → (e : Ends) (more : List Word) (ws : List Wanted) (s : State) → goes (drop at (take n words) ++ more) (Closes e ∷ ws) s ≡ goes (drop next (take n words) ++ more) ws (ended e s)
+CutReadsClosing words at (Ok next) = (n : ℕ) → next ≤ n → (e : Ends) (on : Onward) (ws : List Wanted) (s : State) → goes_onward on (drop at (take n words)) (Closes e ∷ ws) s ≡ goes_onward on (drop next (take n words)) ws (ended e s)
 CutReadsClosing words at (Err e) = Unit {0}
 
 -- a refusal without a word is that of an open form

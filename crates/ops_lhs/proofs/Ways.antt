@@ -5,9 +5,9 @@ use Rattle.ops_grammar.specs.declared.words.Word.{Word}
 use Rattle.ops_grammar.specs.Grammar.{InPattern, Wanted, Terms, State}
 use Rattle.ops_forms.specs.declared.refusals.Refusal.{Refusal}
 use Rattle.ops_lhs.specs.declared.left.Left.{Left}
-use Rattle.ops_forms.specs.Walking.{Way, GoesOn, CutGoesOn, IsFrom}
+use Rattle.ops_forms.specs.Walking.{Way, GoesOn, CutGoesOn, CutWay, Onward, IsFrom}
 use Rattle.ops_forms.proofs.Walks.{fails_under, fails_anywhere}
-use Rattle.ops_lhs.specs.Taking.{seen, GoesToTerms, Among, GoesToTermsAmong, CutGoesToTerms, CutGoesToTermsAmong}
+use Rattle.ops_lhs.specs.Taking.{seen, GoesToTerms, Among, GoesToTermsAmong, PeekGoesToTerms, PeekGoesToTermsAmong}
 
 -- ---- where these classes are declared
 
@@ -23,10 +23,10 @@ place_to_terms by words new (Err e) h = fails_under by (λ ws. Terms InPattern �
 
 -- ---- where the words are cut
 
-pub cut_terms_as_among : (classes : List Class) (from by : List Word → Way) (words : List Word) (at : ℕ) → ((n : ℕ) → at ≤ n → (more : List Word) (ws : List Wanted) (s : State) → s.classes ≡ classes → from (take n words) more ws s ≡ by (take n words) more ws s) → (new : Left) (r : Result ℕ Refusal) → IsFrom at r → CutGoesToTerms by words new r → CutGoesToTermsAmong classes from words new r
-cut_terms_as_among classes from by words at same new (Ok next) le h = λ n lt more ws s i. same n (omega (arith, le, lt)) more ws s i ∙ h n lt more ws s
-cut_terms_as_among classes from by words at same new (Err e) le h = tt
+pub peek_terms_as_among : (classes : List Class) (from by : CutWay) (words : List Word) (at : ℕ) → ((n : ℕ) → at ≤ n → (on : Onward) (ws : List Wanted) (s : State) → s.classes ≡ classes → from (take n words) on ws s ≡ by (take n words) on ws s) → (new : Left) (r : Result ℕ Refusal) → IsFrom at r → PeekGoesToTerms by words new r → PeekGoesToTermsAmong classes from words new r
+peek_terms_as_among classes from by words at same new (Ok next) le h = λ n lt on ws s i. same n (omega (arith, le, lt)) on ws s i ∙ h n lt on ws s
+peek_terms_as_among classes from by words at same new (Err e) le h = tt
 
-pub cut_place_to_terms : (by : List Word → Way) (words : List Word) (new : Left) (r : Result ℕ Refusal) → CutGoesOn by words (λ s. seen s new) r → CutGoesToTerms (λ cut more ws s. by cut more (Terms InPattern ∷ ws) s) words new r
-cut_place_to_terms by words new (Ok next) h = λ n lt more ws s. h n lt more (Terms InPattern ∷ ws) s
-cut_place_to_terms by words new (Err e) h = tt
+pub peek_place_to_terms : (by : CutWay) (words : List Word) (new : Left) (r : Result ℕ Refusal) → CutGoesOn by words (λ s. seen s new) r → PeekGoesToTerms (λ cut on ws s. by cut on (Terms InPattern ∷ ws) s) words new r
+peek_place_to_terms by words new (Ok next) h = λ n lt on ws s. h n (omega (arith, lt)) on (Terms InPattern ∷ ws) s
+peek_place_to_terms by words new (Err e) h = tt

@@ -4,7 +4,7 @@ use Rattle.ops_base.specs.declared.elements.Class.{Class}
 use Rattle.ops_grammar.specs.declared.words.Word.{Word}
 use Rattle.ops_grammar.specs.Grammar.{InPattern, Wanted, Terms, State, Step, after, goes, nothing_read, is_left_brace, is_variable, is_literal, opens_choice, pred_of, constant_of}
 use Rattle.ops_forms.specs.declared.refusals.Refusal.{Refusal}
-use Rattle.ops_forms.specs.Walking.{Way, Fails, GoesOn, GoesAmong, GoesToAmong, CutGoesOn, CutGoesAmong, CutGoesToAmong}
+use Rattle.ops_forms.specs.Walking.{Way, Fails, GoesOn, GoesAmong, GoesToAmong, CutGoesOn, CutGoesAmong, PeekGoesToAmong, Onward, CutWay, goes_onward}
 use Rattle.ops_lhs.specs.declared.left.Left.{Left}
 
 -- what is read so far, where all else that was read is that of a state
@@ -42,17 +42,17 @@ abbrev pub GoesToTerms : Way → List Word → Left → Result ℕ Refusal → T
 GoesToTerms from words new (Ok next) = (more : List Word) (ws : List Wanted) (s : State) → from more ws s ≡ goes (drop next words ++ more) (Terms InPattern ∷ ws) (seen s new)
 GoesToTerms from words new (Err e) = Fails from e
 
--- ---- where the words are cut after the one at the next place
+-- ---- where the words are cut
 
 abbrev pub CutReads : Wanted → Left → Left → List Word → ℕ → Result ℕ Refusal → Type 0
-CutReads w old new words at result = CutGoesOn (λ cut more ws s. goes (drop at cut ++ more) (w ∷ ws) (seen s old)) words (λ s. seen s new) result
+CutReads w old new words at result = CutGoesOn (λ cut on ws s. goes_onward on (drop at cut) (w ∷ ws) (seen s old)) words (λ s. seen s new) result
 
 abbrev pub CutActs : (List Wanted → State → Step) → Word → Left → Left → List Word → ℕ → Result ℕ Refusal → Type 0
-CutActs does w old new words at result = CutGoesOn (λ cut more ws s. after (goes (drop at cut ++ more)) w (does ws (seen s old))) words (λ s. seen s new) result
+CutActs does w old new words at result = CutGoesOn (λ cut on ws s. after (goes_onward on (drop at cut)) w (does ws (seen s old))) words (λ s. seen s new) result
 
-abbrev pub CutGoesToTerms : (List Word → Way) → List Word → Left → Result ℕ Refusal → Type 0
-CutGoesToTerms from words new (Ok next) = (n : ℕ) → next < n → (more : List Word) (ws : List Wanted) (s : State) → from (take n words) more ws s ≡ goes (drop next (take n words) ++ more) (Terms InPattern ∷ ws) (seen s new)
-CutGoesToTerms from words new (Err e) = Unit {0}
+abbrev pub PeekGoesToTerms : CutWay → List Word → Left → Result ℕ Refusal → Type 0
+PeekGoesToTerms from words new (Ok next) = (n : ℕ) → next < n → (on : Onward) (ws : List Wanted) (s : State) → from (take n words) on ws s ≡ goes_onward on (drop next (take n words)) (Terms InPattern ∷ ws) (seen s new)
+PeekGoesToTerms from words new (Err e) = Unit {0}
 
 -- ---- where these classes are declared
 
@@ -69,14 +69,14 @@ ReadsAmong classes w old new words at result = GoesAmong (Among classes) (λ mor
 abbrev pub ActsAmong : List Class → (List Wanted → State → Step) → Word → Left → Left → List Word → ℕ → Result ℕ Refusal → Type 0
 ActsAmong classes does w old new words at result = GoesAmong (Among classes) (λ more ws s. after (goes (drop at words ++ more)) w (does ws (seen s old))) words (λ s. seen s new) result
 
-abbrev pub CutGoesToTermsAmong : List Class → (List Word → Way) → List Word → Left → Result ℕ Refusal → Type 0
-CutGoesToTermsAmong classes from words new result = CutGoesToAmong (Among classes) (Terms InPattern) from words (λ s. seen s new) result
+abbrev pub PeekGoesToTermsAmong : List Class → CutWay → List Word → Left → Result ℕ Refusal → Type 0
+PeekGoesToTermsAmong classes from words new result = PeekGoesToAmong (Among classes) (Terms InPattern) from words (λ s. seen s new) result
 
 abbrev pub CutReadsAmong : List Class → Wanted → Left → Left → List Word → ℕ → Result ℕ Refusal → Type 0
-CutReadsAmong classes w old new words at result = CutGoesAmong (Among classes) (λ cut more ws s. goes (drop at cut ++ more) (w ∷ ws) (seen s old)) words (λ s. seen s new) result
+CutReadsAmong classes w old new words at result = CutGoesAmong (Among classes) (λ cut on ws s. goes_onward on (drop at cut) (w ∷ ws) (seen s old)) words (λ s. seen s new) result
 
 abbrev pub CutActsAmong : List Class → (List Wanted → State → Step) → Word → Left → Left → List Word → ℕ → Result ℕ Refusal → Type 0
-CutActsAmong classes does w old new words at result = CutGoesAmong (Among classes) (λ cut more ws s. after (goes (drop at cut ++ more)) w (does ws (seen s old))) words (λ s. seen s new) result
+CutActsAmong classes does w old new words at result = CutGoesAmong (Among classes) (λ cut on ws s. after (goes_onward on (drop at cut)) w (does ws (seen s old))) words (λ s. seen s new) result
 
 -- ---- words
 

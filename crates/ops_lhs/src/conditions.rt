@@ -1,7 +1,7 @@
 //! Conditions up to the arrow.
 ghost use Rattle.std.specs.Prelude.{◌∷◌, ◌++◌, ◌<◌, drop, IfOk};
 ghost use Rattle.ops_grammar.specs.Grammar.{goes, more_patterns, left_ended, right_begun, FirstPattern, Patterns};
-ghost use Rattle.ops_forms.specs.Walking.{GoesAmong, IsFrom, IsBehind, TakenGoesAmong};
+ghost use Rattle.ops_forms.specs.Walking.{GoesAmong, IsFrom, IsBehind, CutGoesAmong, goes_onward};
 ghost use Rattle.ops_lhs.specs.LeftSides.{IsArrow};
 ghost use Rattle.ops_lhs.specs.Taking.{seen, ReadsAmong, ActsAmong, Among, CutActsAmong, CutReadsAmong};
 
@@ -25,7 +25,7 @@ impl Left {
         at: usize,
     ) -> Result<usize, Refusal>
         ensures reads { GoesAmong (Among classes.now) (λ more ws s. goes (drop at words.now ++ more) (FirstPattern ∷ Patterns ∷ ws) (seen s self.old)) words.now (λ s. right_begun (left_ended (seen s self.new))) result }
-        ensures cut { TakenGoesAmong (Among classes.now) (λ cut more ws s. goes (drop at cut ++ more) (FirstPattern ∷ Patterns ∷ ws) (seen s self.old)) words.now (λ s. right_begun (left_ended (seen s self.new))) result }
+        ensures cut { CutGoesAmong (Among classes.now) (λ cut on ws s. goes_onward on (drop at cut) (FirstPattern ∷ Patterns ∷ ws) (seen s self.old)) words.now (λ s. right_begun (left_ended (seen s self.new))) result }
         ensures behind { IfOk result (λ next. IsBehind IsArrow words.now next) }
     {
         let rest = self.first_pattern(classes, words, at)?;
@@ -33,7 +33,7 @@ impl Left {
     }
 
     // positive
-    #[tactic(auto, unfolding(ops_grammar::specs::Grammar::goes, ops_grammar::specs::Grammar::step, ops_grammar::specs::Grammar::ends))]
+    #[tactic(auto, unfolding(ops_grammar::specs::Grammar::goes, ops_grammar::specs::Grammar::step, ops_grammar::specs::Grammar::ends, ops_forms::specs::Walking::goes_onward))]
     fn first_pattern(
         &mut self,
         classes: &Classes,
@@ -58,10 +58,10 @@ impl Left {
     }
 
     // condition* -->
-    #[tactic(auto, unfolding(ops_grammar::specs::Grammar::goes, ops_grammar::specs::Grammar::step, ops_grammar::specs::Grammar::ends))]
+    #[tactic(auto, unfolding(ops_grammar::specs::Grammar::goes, ops_grammar::specs::Grammar::step, ops_grammar::specs::Grammar::ends, ops_forms::specs::Walking::goes_onward))]
     fn patterns(&mut self, classes: &Classes, words: &[Word], at: usize) -> Result<usize, Refusal>
         ensures reads { GoesAmong (Among classes.now) (λ more ws s. goes (drop at words.now ++ more) (Patterns ∷ ws) (seen s self.old)) words.now (λ s. right_begun (left_ended (seen s self.new))) result }
-        ensures cut { TakenGoesAmong (Among classes.now) (λ cut more ws s. goes (drop at cut ++ more) (Patterns ∷ ws) (seen s self.old)) words.now (λ s. right_begun (left_ended (seen s self.new))) result }
+        ensures cut { CutGoesAmong (Among classes.now) (λ cut on ws s. goes_onward on (drop at cut) (Patterns ∷ ws) (seen s self.old)) words.now (λ s. right_begun (left_ended (seen s self.new))) result }
         ensures behind { IfOk result (λ next. IsBehind IsArrow words.now next) }
         ensures past { IfOk result (λ next. at < next) }
     {

@@ -1,7 +1,7 @@
 //! Element variables.
 ghost use Rattle.std.specs.Prelude.{◌∷◌, ◌++◌, drop};
 ghost use Rattle.ops_grammar.specs.Grammar.{goes, element_name, InPattern, Pattern, Braced, ElementName, ClosesBrace, ClassName, Terms};
-ghost use Rattle.ops_forms.specs.Walking.{GoesOn, GoesAmong, IsFrom, CutGoesAmong, CutGoesOn};
+ghost use Rattle.ops_forms.specs.Walking.{GoesOn, GoesAmong, IsFrom, CutGoesAmong, CutGoesOn, goes_onward};
 ghost use Rattle.ops_lhs.specs.Taking.{seen, Reads, Acts, ReadsAmong, ActsAmong, Among, CutActs, CutActsAmong, CutReads, CutReadsAmong};
 
 use crate::left::Left;
@@ -14,7 +14,7 @@ use ops_grammar::Word;
 
 impl Left {
     // VARIABLE pattern } | pattern VARIABLE }
-    #[tactic(auto, unfolding(ops_grammar::specs::Grammar::goes, ops_grammar::specs::Grammar::step, ops_grammar::specs::Grammar::ends))]
+    #[tactic(auto, unfolding(ops_grammar::specs::Grammar::goes, ops_grammar::specs::Grammar::step, ops_grammar::specs::Grammar::ends, ops_forms::specs::Walking::goes_onward))]
     pub fn braced(&mut self, classes: &Classes, words: &[Word], at: usize) -> Result<usize, Refusal>
         ensures reads { ReadsAmong classes.now Braced self.old self.new words.now at result }
         ensures cut { CutReadsAmong classes.now Braced self.old self.new words.now at result }
@@ -35,7 +35,7 @@ impl Left {
         at: usize,
     ) -> Result<usize, Refusal>
         ensures reads { GoesAmong (Among classes.now) (λ more ws s. goes (drop at words.now ++ more) (ClassName ∷ Terms InPattern ∷ ElementName ∷ ClosesBrace ∷ ws) (seen s self.old)) words.now (λ s. seen s self.new) result }
-        ensures cut { CutGoesAmong (Among classes.now) (λ cut more ws s. goes (drop at cut ++ more) (ClassName ∷ Terms InPattern ∷ ElementName ∷ ClosesBrace ∷ ws) (seen s self.old)) words.now (λ s. seen s self.new) result }
+        ensures cut { CutGoesAmong (Among classes.now) (λ cut on ws s. goes_onward on (drop at cut) (ClassName ∷ Terms InPattern ∷ ElementName ∷ ClosesBrace ∷ ws) (seen s self.old)) words.now (λ s. seen s self.new) result }
         ensures within { IsFrom at result }
     {
         let rest = self.class_and_terms(classes, words, at)?;
@@ -66,7 +66,7 @@ impl Left {
         at: usize,
     ) -> Result<usize, Refusal>
         ensures reads { GoesAmong (Among classes.now) (λ more ws s. goes (drop at words.now ++ more) (Pattern ∷ ClosesBrace ∷ ws) (seen s self.old)) words.now (λ s. seen s self.new) result }
-        ensures cut { CutGoesAmong (Among classes.now) (λ cut more ws s. goes (drop at cut ++ more) (Pattern ∷ ClosesBrace ∷ ws) (seen s self.old)) words.now (λ s. seen s self.new) result }
+        ensures cut { CutGoesAmong (Among classes.now) (λ cut on ws s. goes_onward on (drop at cut) (Pattern ∷ ClosesBrace ∷ ws) (seen s self.old)) words.now (λ s. seen s self.new) result }
         ensures within { IsFrom at result }
     {
         let rest = self.pattern(classes, words, at)?;
@@ -74,10 +74,10 @@ impl Left {
     }
 
     // VARIABLE }
-    #[tactic(auto, unfolding(ops_grammar::specs::Grammar::goes, ops_grammar::specs::Grammar::step, ops_grammar::specs::Grammar::ends))]
+    #[tactic(auto, unfolding(ops_grammar::specs::Grammar::goes, ops_grammar::specs::Grammar::step, ops_grammar::specs::Grammar::ends, ops_forms::specs::Walking::goes_onward))]
     fn name_and_brace(&mut self, words: &[Word], at: usize) -> Result<usize, Refusal>
         ensures reads { GoesOn (λ more ws s. goes (drop at words.now ++ more) (ElementName ∷ ClosesBrace ∷ ws) (seen s self.old)) words.now (λ s. seen s self.new) result }
-        ensures cut { CutGoesOn (λ cut more ws s. goes (drop at cut ++ more) (ElementName ∷ ClosesBrace ∷ ws) (seen s self.old)) words.now (λ s. seen s self.new) result }
+        ensures cut { CutGoesOn (λ cut on ws s. goes_onward on (drop at cut) (ElementName ∷ ClosesBrace ∷ ws) (seen s self.old)) words.now (λ s. seen s self.new) result }
         ensures within { IsFrom at result }
     {
         let (word, rest) = first_of(words, at)?;
@@ -102,7 +102,7 @@ impl Left {
     }
 
     // }
-    #[tactic(auto, unfolding(ops_grammar::specs::Grammar::goes, ops_grammar::specs::Grammar::step, ops_grammar::specs::Grammar::ends))]
+    #[tactic(auto, unfolding(ops_grammar::specs::Grammar::goes, ops_grammar::specs::Grammar::step, ops_grammar::specs::Grammar::ends, ops_forms::specs::Walking::goes_onward))]
     fn closing_brace(&mut self, words: &[Word], at: usize) -> Result<usize, Refusal>
         ensures reads { Reads ClosesBrace self.old self.new words.now at result }
         ensures cut { CutReads ClosesBrace self.old self.new words.now at result }

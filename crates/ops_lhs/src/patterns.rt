@@ -1,8 +1,8 @@
 //! Patterns: a class with attributes and tests.
 ghost use Rattle.std.specs.Prelude.{◌∷◌, ◌++◌, drop};
 ghost use Rattle.ops_grammar.specs.Grammar.{goes, InPattern, ClassName, Terms, Attribute, Pattern};
-ghost use Rattle.ops_forms.specs.Walking.{GoesAmong, IsFrom, CutGoesAmong};
-ghost use Rattle.ops_lhs.specs.Taking.{seen, GoesToTermsAmong, ReadsAmong, Among, CutGoesToTermsAmong, CutReadsAmong};
+ghost use Rattle.ops_forms.specs.Walking.{GoesAmong, IsFrom, CutGoesAmong, goes_onward};
+ghost use Rattle.ops_lhs.specs.Taking.{seen, GoesToTermsAmong, ReadsAmong, Among, PeekGoesToTermsAmong, CutReadsAmong};
 
 use crate::left::Left;
 use ops_base::endings::Fault;
@@ -14,7 +14,7 @@ use ops_grammar::Word;
 
 impl Left {
     // ( CLASS term* )
-    #[tactic(auto, unfolding(ops_grammar::specs::Grammar::goes, ops_grammar::specs::Grammar::step, ops_grammar::specs::Grammar::ends))]
+    #[tactic(auto, unfolding(ops_grammar::specs::Grammar::goes, ops_grammar::specs::Grammar::step, ops_grammar::specs::Grammar::ends, ops_forms::specs::Walking::goes_onward))]
     pub fn pattern(
         &mut self,
         classes: &Classes,
@@ -40,7 +40,7 @@ impl Left {
         at: usize,
     ) -> Result<usize, Refusal>
         ensures reads { GoesAmong (Among classes.now) (λ more ws s. goes (drop at words.now ++ more) (ClassName ∷ Terms InPattern ∷ ws) (seen s self.old)) words.now (λ s. seen s self.new) result }
-        ensures cut { CutGoesAmong (Among classes.now) (λ cut more ws s. goes (drop at cut ++ more) (ClassName ∷ Terms InPattern ∷ ws) (seen s self.old)) words.now (λ s. seen s self.new) result }
+        ensures cut { CutGoesAmong (Among classes.now) (λ cut on ws s. goes_onward on (drop at cut) (ClassName ∷ Terms InPattern ∷ ws) (seen s self.old)) words.now (λ s. seen s self.new) result }
         ensures within { IsFrom at result }
     {
         let rest = self.class_name(classes, words, at)?;
@@ -48,7 +48,7 @@ impl Left {
     }
 
     // CLASS
-    #[tactic(auto, unfolding(ops_grammar::specs::Grammar::goes, ops_grammar::specs::Grammar::step, ops_grammar::specs::Grammar::ends))]
+    #[tactic(auto, unfolding(ops_grammar::specs::Grammar::goes, ops_grammar::specs::Grammar::step, ops_grammar::specs::Grammar::ends, ops_forms::specs::Walking::goes_onward))]
     fn class_name(&mut self, classes: &Classes, words: &[Word], at: usize) -> Result<usize, Refusal>
         ensures reads { ReadsAmong classes.now ClassName self.old self.new words.now at result }
         ensures cut { CutReadsAmong classes.now ClassName self.old self.new words.now at result }
@@ -66,7 +66,7 @@ impl Left {
     }
 
     // term* )
-    #[tactic(auto, unfolding(ops_grammar::specs::Grammar::goes, ops_grammar::specs::Grammar::step, ops_grammar::specs::Grammar::ends))]
+    #[tactic(auto, unfolding(ops_grammar::specs::Grammar::goes, ops_grammar::specs::Grammar::step, ops_grammar::specs::Grammar::ends, ops_forms::specs::Walking::goes_onward))]
     fn terms(&mut self, classes: &Classes, words: &[Word], at: usize) -> Result<usize, Refusal>
         ensures reads { ReadsAmong classes.now (Terms InPattern) self.old self.new words.now at result }
         ensures cut { CutReadsAmong classes.now (Terms InPattern) self.old self.new words.now at result }
@@ -87,10 +87,10 @@ impl Left {
     }
 
     // ATTR place*
-    #[tactic(auto, unfolding(ops_grammar::specs::Grammar::goes, ops_grammar::specs::Grammar::step, ops_grammar::specs::Grammar::ends))]
+    #[tactic(auto, unfolding(ops_grammar::specs::Grammar::goes, ops_grammar::specs::Grammar::step, ops_grammar::specs::Grammar::ends, ops_forms::specs::Walking::goes_onward))]
     fn attribute(&mut self, classes: &Classes, words: &[Word], at: usize) -> Result<usize, Refusal>
         ensures reads { GoesToTermsAmong classes.now (λ more ws s. goes (drop at words.now ++ more) (Attribute InPattern ∷ ws) (seen s self.old)) words.now self.new result }
-        ensures cut { CutGoesToTermsAmong classes.now (λ cut more ws s. goes (drop at cut ++ more) (Attribute InPattern ∷ ws) (seen s self.old)) words.now self.new result }
+        ensures cut { PeekGoesToTermsAmong classes.now (λ cut on ws s. goes_onward on (drop at cut) (Attribute InPattern ∷ ws) (seen s self.old)) words.now self.new result }
         ensures within { IsFrom at result }
     {
         let (word, rest) = first_of(words, at)?;

@@ -2,8 +2,8 @@
 ghost use Rattle.std.specs.Prelude.{◌≡◌, ◌∷◌, ◌++◌, ◌||◌, drop, is_some, nat_lt};
 ghost use Rattle.ops_base.specs.Valid.{most_fields};
 ghost use Rattle.ops_grammar.specs.Grammar.{goes, is_literal, is_variable, constant_of, place, within, InPattern, Several};
-ghost use Rattle.ops_forms.specs.Walking.{IsFrom};
-ghost use Rattle.ops_lhs.specs.Taking.{seen, GoesToTerms, Acts, begins_place, CutActs, CutGoesToTerms};
+ghost use Rattle.ops_forms.specs.Walking.{IsFrom, goes_onward};
+ghost use Rattle.ops_lhs.specs.Taking.{seen, GoesToTerms, Acts, begins_place, CutActs, PeekGoesToTerms};
 
 use crate::left::Left;
 use ops_base::elements::MOST_FIELDS;
@@ -17,10 +17,10 @@ use ops_grammar::Word;
 
 impl Left {
     // place*
-    #[tactic(auto, unfolding(ops_grammar::specs::Grammar::goes, ops_grammar::specs::Grammar::step, ops_grammar::specs::Grammar::ends))]
+    #[tactic(auto, unfolding(ops_grammar::specs::Grammar::goes, ops_grammar::specs::Grammar::step, ops_grammar::specs::Grammar::ends, ops_forms::specs::Walking::goes_onward))]
     pub fn places(&mut self, field: usize, words: &[Word], at: usize) -> Result<usize, Refusal>
         ensures reads { GoesToTerms (λ more ws s. goes (drop at words.now ++ more) (Several InPattern field ∷ ws) (seen s self.old)) words.now self.new result }
-        ensures cut { CutGoesToTerms (λ cut more ws s. goes (drop at cut ++ more) (Several InPattern field ∷ ws) (seen s self.old)) words.now self.new result }
+        ensures cut { PeekGoesToTerms (λ cut on ws s. goes_onward on (drop at cut) (Several InPattern field ∷ ws) (seen s self.old)) words.now self.new result }
         ensures within { IsFrom at result }
     {
         let mut next = field;

@@ -1,6 +1,5 @@
 -- Where a right side begins and ends among its words and its tokens.
-use Rattle.std.proofs.Common.{◌≡◌, ℕ, ◌+◌, ◌-◌, ◌<◌, ◌≤◌, List, [], ◌∷◌, ◌++◌, length, take, drop, true, None, Some, refl, sym, ap, ◌∙◌, subst, append_assoc, arith}
-use Rattle.std.proofs.Math.Seq.{take-add}
+use Rattle.std.proofs.Common.{◌≡◌, ℕ, ◌+◌, ◌-◌, ◌≤◌, List, [], ◌∷◌, ◌++◌, length, take, drop, true, None, Some, Ok, refl, sym, ap, ◌∙◌, subst, append_assoc, arith}
 use Rattle.ops_base.specs.declared.elements.Class.{Class}
 use Rattle.ops_base.specs.declared.actions.Action.{Action}
 use Rattle.ops_tokens.specs.declared.token.Token.{Token}
@@ -8,16 +7,16 @@ use Rattle.ops_grammar.specs.declared.words.Word.{Word}
 use Rattle.ops_grammar.specs.Words.{names_from}
 use Rattle.ops_grammar.specs.Grammar.{State, Wanted, Actions, goes, step, is_right, right_begun, nothing_read, with_rule}
 use Rattle.ops_forms.specs.Forms.{past_last}
-use Rattle.ops_forms.specs.Walking.{IsBehind, IsPlaced, words_of_scope, fault_of}
+use Rattle.ops_forms.specs.Walking.{IsBehind, IsPlaced, Onward, goes_onward, words_of_scope, fault_of}
 use Rattle.ops_forms.specs.declared.refusals.Refusal.{Refusal}
 use Rattle.ops_forms.specs.declared.refusals.Refusal.TheVariants as refusal
 use Rattle.ops_forms.specs.declared.scope.Scope.{Scope}
 use Rattle.ops_forms.proofs.Borders.{behind_is, begins, rest_is, last_is}
-use Rattle.ops_forms.proofs.Walks.{cut_taken, taken_all}
+use Rattle.ops_forms.proofs.Walks.{goes_split, taken_goes}
 use Rattle.ops_rhs.specs.declared.right.Around.{Around}
 use Rattle.ops_rhs.specs.declared.right.Right.{Right}
 use Rattle.ops_rhs.specs.declared.sides.Sight.{Sight}
-use Rattle.ops_rhs.specs.RightSides.{right_way, right_read, Sees, IsBracket, ReadsRight, RefusesRight, IsRightSide, IsRefused, at_word, at_end, sight_of}
+use Rattle.ops_rhs.specs.RightSides.{right_way, right_read, Names, Sees, IsBracket, ReadsRight, RefusesRight, IsRightSide, IsRefused, at_word, at_end, sight_of}
 use Rattle.ops_rhs.specs.Taking.{seen, view, IsAround, IsClosing}
 use Rattle.ops_rhs.proofs.Operands.{as_in}
 
@@ -32,35 +31,29 @@ begun_is classes sight begun started s v =
     let here : right_begun s ≡ as_in s (begun_with sight) = rw (v.constants_are, v.values_are, v.elements_are, v.variables_are) refl in
     here ∙ ap (as_in s) (sym started)
 
-closed : (words rest more : List Word) (w : Word) (ws : List Wanted) (s : State) → words ≡ w ∷ rest → is_right w.kind ≡ true → goes (words ++ more) (Actions ∷ ws) s ≡ goes (rest ++ more) ws (with_rule s w.past)
+closed : (more : List Word) (w : Word) (ws : List Wanted) (s : State) → is_right w.kind ≡ true → goes (w ∷ more) (Actions ∷ ws) s ≡ goes more ws (with_rule s w.past)
 unfolding goes step
-closed words rest more w ws s e is = rw (e, is) refl
-
--- the words up to the bracket, with it
-module _ (words : List Word) (place : ℕ) (closing : IsClosing words place) where
-  taken_is : take (place + 1) words ≡ take place words ++ closing.bracket ∷ []
-  taken_is = take-add place 1 words ∙ ap (λ (rest : List Word). take place words ++ take 1 rest) closing.there
-
-  closed_there : (more : List Word) (ws : List Wanted) (s : State) → goes (drop place (take (place + 1) words) ++ more) (Actions ∷ ws) s ≡ goes more ws (with_rule s closing.bracket.past)
-  closed_there more ws s =
-      let none = taken_all (place + 1) words in
-      let there = cut_taken words place (place + 1) (place + 1) closing.bracket closing.there refl (omega arith) in
-      closed (drop place (take (place + 1) words)) [] more closing.bracket ws s (there ∙ ap (λ (rest : List Word). closing.bracket ∷ rest) none) closing.is
+closed more w ws s is = rw is refl
 
 module _ (classes : List Class) (sight : Sight) (words : List Word) (around : Around) (begun new : Right) (place : ℕ) where
-  pub right_side_is : (cells : List ℕ) → view begun ≡ begun_with sight → around.classes.now ≡ classes → around.cells.now ≡ sight.cells → around.conditions.now ≡ sight.conditions → ((n : ℕ) → place < n → (more : List Word) (ws : List Wanted) (s : State) → IsAround around s → goes (take n words ++ more) (Actions ∷ ws) (seen s begun) ≡ goes (drop place (take n words) ++ more) (Actions ∷ ws) (seen s new)) → IsClosing words place → cells ≡ sight.cells ++ new.further.items → ReadsRight classes sight words (take (length words - (place + 1)) (drop (place + 1) words)) new.actions.items (record { values = new.values; elements = new.elements; cells = cells; conditions = sight.conditions; variables = new.variables })
+  pub right_side_is : (cells : List ℕ) → view begun ≡ begun_with sight → around.classes.now ≡ classes → around.cells.now ≡ sight.cells → around.conditions.now ≡ sight.conditions → ((n : ℕ) → place ≤ n → (on : Onward) (ws : List Wanted) (s : State) → IsAround around s → goes_onward on (take n words) (Actions ∷ ws) (seen s begun) ≡ goes_onward on (drop place (take n words)) (Actions ∷ ws) (seen s new)) → IsClosing words place → cells ≡ sight.cells ++ new.further.items → ReadsRight classes sight words (take (length words - (place + 1)) (drop (place + 1) words)) new.actions.items (record { values = new.values; elements = new.elements; cells = cells; conditions = sight.conditions; variables = new.variables })
   right_side_is cells started declared filled placed reads closing grown =
       let behind : IsBehind IsBracket words (place + 1) = record { before = place; last = closing.bracket; there = closing.there; is = closing.is; within = closing.within } in
+      let up_to_bracket : (on : Onward) (ws : List Wanted) (s : State) → Sees classes sight s → goes_onward on (take place words) (Actions ∷ ws) (right_begun s) ≡ on (Actions ∷ ws) (seen s new) = λ on ws s v.
+      ap (goes_onward on (take place words) (Actions ∷ ws)) (begun_is classes sight begun started s v)
+      ∙ reads place (omega arith) on ws s (record { classes = v.classes_are ∙ sym declared; cells = v.cells_are ∙ sym filled; conditions = v.conditions_are ∙ sym placed })
+      ∙ taken_goes on place words (Actions ∷ ws) (seen s new) in
       record {
         behind = behind_is IsBracket words (place + 1) behind;
         further = new.further.items;
+        named = λ s v. subst (Names new.further.items) (sym (up_to_bracket (λ ws t. Ok t) [] s v)) refl;
         cells = grown;
         conditions = refl;
         reads = λ s v more ws.
-            ap (λ (read : List Word). goes (read ++ more) (Actions ∷ ws) (right_begun s)) (sym (taken_is words place closing))
-            ∙ ap (goes (take (place + 1) words ++ more) (Actions ∷ ws)) (begun_is classes sight begun started s v)
-            ∙ reads (place + 1) (omega arith) more ws s (record { classes = v.classes_are ∙ sym declared; cells = v.cells_are ∙ sym filled; conditions = v.conditions_are ∙ sym placed })
-            ∙ closed_there words place closing more ws (seen s new)
+            ap (λ (all : List Word). goes all (Actions ∷ ws) (right_begun s)) (append_assoc (take place words) (closing.bracket ∷ []) more)
+            ∙ goes_split (take place words) (closing.bracket ∷ more) (Actions ∷ ws) (right_begun s)
+            ∙ up_to_bracket (goes (closing.bracket ∷ more)) ws s v
+            ∙ closed more closing.bracket ws (seen s new) closing.is
             ∙ ap (λ xs. goes more ws (with_rule (record (seen s new) { constants = xs }) closing.bracket.past)) (sym v.constants_are);
       }
 

@@ -5,7 +5,7 @@ use Rattle.ops_base.specs.declared.expression.Op.{Op}
 use Rattle.ops_base.specs.declared.actions.Term.{Term}
 use Rattle.ops_grammar.specs.declared.words.Word.{Word}
 use Rattle.ops_grammar.specs.Grammar.{Target as Goal, Waiting as Waits, Wanted, State, Next, Bracketed, ExpressionUnit, ExpressionRest, after, goes, step, bracket_at, completed, is_left, is_right, most_brackets, number_of, operation_of, term_at, with_bind, with_formula}
-use Rattle.ops_forms.specs.Walking.{Way, Fails, GoesOn, GoesAmong}
+use Rattle.ops_forms.specs.Walking.{Way, Fails, GoesOn, GoesAmong, Onward, goes_onward}
 use Rattle.ops_forms.specs.declared.refusals.Refusal.{Refusal}
 use Rattle.ops_forms.specs.declared.refusals.Refusal.TheVariants as refusal
 use Rattle.ops_forms.proofs.Walks.{fails_as, fails_anywhere}
@@ -13,7 +13,7 @@ use Rattle.ops_rhs.specs.declared.expressions.Waiting.{Waiting}
 use Rattle.ops_rhs.specs.declared.right.Right.{Right}
 use Rattle.ops_rhs.specs.declared.right.Target.{Target}
 use Rattle.ops_rhs.specs.declared.right.Target.TheVariants as target
-use Rattle.ops_rhs.specs.Taking.{seen, view, target_of, with_term, newest_first, GoesToOperand, ActsOperand, ReadsExpression, OpensExpression, CutActsOperand, CutReadsExpression, CutOpensExpression, IsFromOperand}
+use Rattle.ops_rhs.specs.Taking.{seen, view, target_of, with_term, newest_first, GoesToOperand, ActsOperand, ReadsExpression, OpensExpression, CutActsOperand, CutReadsExpression, PeekOpensExpression, IsFromOperand}
 
 -- ---- what waits
 
@@ -57,8 +57,8 @@ module _ (depth deeper at : ℕ) (w : Word) (r : Right) (words : List Word) (fit
   bracket_read rest (Err x) e opens reads =
       λ f. rw (fits, ← e) (fails_as (λ more ws s. goes (drop at words ++ more) (Bracketed deeper ∷ ws) (with_formula (seen s r) f)) (λ more ws s. goes (drop rest words ++ more) (ExpressionUnit deeper ∷ ExpressionRest deeper [] None ∷ ws) (with_formula (seen s r) f)) (λ more ws s. opens deeper more ws (with_formula (seen s r) f)) x (reads None f))
 
-  pub bracket_cut : (rest : ℕ) (result : Result (Formula × ℕ) Refusal) → deeper ≡ suc depth → IsFromOperand rest result → CutOpensExpression words at (Ok rest) → CutReadsExpression deeper r words rest result → CutActsOperand (λ ws s. bracket_at depth ws s) w r words at result
-  bracket_cut rest (Ok x) e le opens reads = λ n lt f more ws s. rw (fits, ← e) (opens n (omega (arith, le, lt)) deeper more ws (with_formula (seen s r) f) ∙ reads n lt None f more ws s)
+  pub bracket_cut : (rest : ℕ) (result : Result (Formula × ℕ) Refusal) → deeper ≡ suc depth → IsFromOperand rest result → PeekOpensExpression words at (Ok rest) → CutReadsExpression deeper r words rest result → CutActsOperand (λ ws s. bracket_at depth ws s) w r words at result
+  bracket_cut rest (Ok x) e le opens reads = λ n lt f on ws s. rw (fits, ← e) (opens n (omega (arith, le, lt)) deeper on ws (with_formula (seen s r) f) ∙ reads n lt None f on ws s)
   bracket_cut rest (Err x) e le opens reads = tt
 
   pub bracket_fails : (e : Refusal) → OpensExpression words at (Err e) → (f : Formula) → Fails (λ more ws s. after (goes (drop at words ++ more)) w (bracket_at depth ws (with_formula (seen s r) f))) e
@@ -69,6 +69,10 @@ module _ (depth deeper at : ℕ) (w : Word) (r : Right) (words : List Word) (fit
 pub rest_operation : (depth : ℕ) (waiting : List Waits) (t : Option Goal) (words rest more : List Word) (w : Word) (op : Op) (ws : List Wanted) (s : State) → words ≡ w ∷ rest → is_right w.kind ≡ false → operation_of w.keyword ≡ Some op → goes (words ++ more) (ExpressionRest depth waiting t ∷ ws) s ≡ goes (rest ++ more) (ExpressionUnit depth ∷ ExpressionRest depth (record { left = s.formula; op = op } ∷ waiting) t ∷ ws) s
 unfolding goes step
 rest_operation depth waiting t words rest more w op ws s e other is = rw (e, other, is) refl
+
+pub rest_operation_onward : (depth : ℕ) (waiting : List Waits) (t : Option Goal) (on : Onward) (words rest : List Word) (w : Word) (op : Op) (ws : List Wanted) (s : State) → words ≡ w ∷ rest → is_right w.kind ≡ false → operation_of w.keyword ≡ Some op → goes_onward on words (ExpressionRest depth waiting t ∷ ws) s ≡ goes_onward on rest (ExpressionUnit depth ∷ ExpressionRest depth (record { left = s.formula; op = op } ∷ waiting) t ∷ ws) s
+unfolding goes_onward step
+rest_operation_onward depth waiting t on words rest w op ws s e other is = rw (e, other, is) refl
 
 -- ---- where values go
 

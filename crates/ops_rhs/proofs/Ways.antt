@@ -5,6 +5,7 @@ use Rattle.ops_grammar.specs.declared.words.Word.{Word}
 use Rattle.ops_grammar.specs.declared.words.Keyword.{Keyword}
 use Rattle.ops_grammar.specs.declared.words.Keyword.TheVariants as keyword
 use Rattle.ops_grammar.specs.Grammar.{Target, Wanted, SourceAttribute, SourceEnd, Function, ItemWord, BoundValue, Closes, EndsWhole, ToItem, ToBind, State, after, goes, step, is_name, is_right, function, item_word, value_for, source_class as class_read}
+use Rattle.ops_forms.specs.Walking.{Onward, goes_onward}
 use Rattle.ops_rhs.specs.declared.right.Around.{Around}
 use Rattle.ops_rhs.specs.declared.right.Right.{Right}
 use Rattle.ops_rhs.specs.Taking.{seen, IsAround, source_class}
@@ -22,6 +23,10 @@ module _ (t : Target) (words rest more : List Word) (w : Word) (ws : List Wanted
   pub source_found : (f : ℕ) → position (λ a. a.0 == w.name.0) (class_read s).attrs ≡ Some f → goes (words ++ more) (SourceAttribute t ∷ ws) s ≡ goes (rest ++ more) (SourceEnd t w.name ∷ Closes EndsWhole ∷ ws) (record s { source_field = f })
   unfolding goes step
   source_found f at = rw (e, named, at) refl
+
+pub source_found_onward : (t : Target) (on : Onward) (words rest : List Word) (w : Word) (ws : List Wanted) (s : State) → words ≡ w ∷ rest → is_name w.kind ≡ true → (f : ℕ) → position (λ a. a.0 == w.name.0) (class_read s).attrs ≡ Some f → goes_onward on words (SourceAttribute t ∷ ws) s ≡ goes_onward on rest (SourceEnd t w.name ∷ Closes EndsWhole ∷ ws) (record s { source_field = f })
+unfolding goes_onward step
+source_found_onward t on words rest w ws s e named f at = rw (e, named, at) refl
 
 -- ---- functions, items and values of `bind`
 

@@ -1,5 +1,5 @@
 -- What a right side is read as.
-use Rattle.std.specs.Prelude.{◌≡◌, ℕ, ◌+◌, ◌-◌, ◌≤◌, List, [], ◌∷◌, ◌++◌, drop, slice_get, true, Some, None}
+use Rattle.std.specs.Prelude.{◌≡◌, ℕ, ◌+◌, ◌-◌, ◌≤◌, List, [], ◌∷◌, ◌++◌, drop, slice_get, true, Some, None, Ok, Err}
 use Rattle.ops_base.specs.declared.elements.Class.{Class}
 use Rattle.ops_base.specs.declared.actions.Action.{Action}
 use Rattle.ops_base.specs.declared.endings.Fault.{Fault}
@@ -8,11 +8,11 @@ use Rattle.ops_base.specs.Valid.{cells_of}
 use Rattle.ops_tokens.specs.declared.token.Token.{Token}
 use Rattle.ops_grammar.specs.declared.words.Word.{Word}
 use Rattle.ops_grammar.specs.Words.{names_from}
-use Rattle.ops_grammar.specs.Grammar.{State, Wanted, Actions, goes, is_right, right_begun, with_rule}
+use Rattle.ops_grammar.specs.Grammar.{State, Wanted, Actions, Outcome, goes, is_right, right_begun, with_rule}
 use Rattle.ops_forms.specs.Forms.{past_last}
 use Rattle.ops_forms.specs.Going.{Way, Fails}
 use Rattle.ops_forms.specs.Sights.{cells_from}
-use Rattle.ops_forms.specs.Walking.{AreBehind, words_of_scope}
+use Rattle.ops_forms.specs.Walking.{AreBehind, goes_onward, words_of_scope}
 use Rattle.ops_forms.specs.declared.refusals.Refusal.{Refusal}
 use Rattle.ops_forms.specs.declared.refusals.Refusal.TheVariants as refusal
 use Rattle.ops_forms.specs.declared.refusals.ReadFault.{ReadFault}
@@ -44,13 +44,23 @@ right_read s actions sight further =
 abbrev pub IsBracket : Word → Type 0
 IsBracket w = is_right w.kind ≡ true
 
+-- the state where the words end, whatever is then still wanted
+abbrev pub reached : List Word → List Wanted → State → Outcome
+reached words ws s = goes_onward (λ ws t. Ok t) words ws s
+
+-- a state in which `cbind` has named cells of these classes
+abbrev pub Names : List ℕ → Outcome → Type 0
+Names further (Ok s) = s.further ≡ further
+Names further (Err e) = ⊥
+
 -- Where these classes are declared and the old sight is in sight, the words up to a closing bracket are read as these actions:
 -- whatever words stand after it, it goes on there from the state that the right side leaves, whatever else was read before and
 -- is wanted afterwards. The bracket ends the production.
 pub record ReadsRight (classes : List Class) (old : Sight) (words rest : List Word) (actions : List Action) (new : Sight) : Type 0 where
   pub behind : AreBehind IsBracket words rest
-  -- the classes of the cells that the right side named
+  -- the classes of the cells that the right side named, as they are known at the bracket
   pub further : List ℕ
+  pub named : (s : State) → Sees classes old s → Names further (reached behind.before (Actions ∷ []) (right_begun s))
   pub cells : new.cells ≡ old.cells ++ further
   pub conditions : new.conditions ≡ old.conditions
   pub reads : (s : State) → Sees classes old s → (more : List Word) (ws : List Wanted) → right_way (behind.before ++ behind.last ∷ []) s more ws ≡ goes more ws (with_rule (right_read s actions new further) behind.last.past)

@@ -11,7 +11,7 @@ use Rattle.ops_base.specs.Valid.{class_of, cells_of}
 use Rattle.ops_grammar.specs.declared.words.Word.{Word}
 use Rattle.ops_grammar.specs.Grammar.{Target as Goal, ToPut, ToTerms, ToItem, ToBind, Column as Purpose, ToTab, ToRight, Wanted, State, Step, Waiting as Waits, Bracketed, ExpressionUnit, ExpressionRest, Next, Refuses, after, goes, nothing_read, no_formula, is_right, number_of, with_put, with_item, with_bind, with_formula}
 use Rattle.ops_forms.specs.Sights.{cells_from}
-use Rattle.ops_forms.specs.Walking.{Way, Fails, IsPlaced, GoesOn, GoesAmong, GoesToAmong, CutGoesOn, CutGoesAmong, CutGoesToAmong}
+use Rattle.ops_forms.specs.Walking.{Way, Fails, IsPlaced, GoesOn, GoesAmong, GoesToAmong, CutGoesOn, CutGoesAmong, CutGoesToAmong, PeekGoesToAmong, Onward, CutWay, goes_onward}
 use Rattle.ops_forms.specs.declared.refusals.Refusal.{Refusal}
 use Rattle.ops_forms.specs.declared.refusals.Refusal.TheVariants as refusal
 use Rattle.ops_rhs.specs.declared.expressions.Waiting.{Waiting}
@@ -80,21 +80,24 @@ ActsAnywhere does w old new words at result = GoesOn (λ more ws s. after (goes 
 abbrev pub GoesTo : Around → Wanted → Way → List Word → Right → Result ℕ Refusal → Type 0
 GoesTo a w from words new result = GoesToAmong (IsAround a) w from words (λ s. seen s new) result
 
--- ---- where the words are cut after the one at the next place
+-- ---- where the words are cut
 
 abbrev pub CutReads : Around → Wanted → Right → Right → List Word → ℕ → Result ℕ Refusal → Type 0
-CutReads a w old new words at result = CutGoesAmong (IsAround a) (λ cut more ws s. goes (drop at cut ++ more) (w ∷ ws) (seen s old)) words (λ s. seen s new) result
+CutReads a w old new words at result = CutGoesAmong (IsAround a) (λ cut on ws s. goes_onward on (drop at cut) (w ∷ ws) (seen s old)) words (λ s. seen s new) result
 
 abbrev pub CutActs : Around → (List Wanted → State → Step) → Word → Right → Right → List Word → ℕ → Result ℕ Refusal → Type 0
-CutActs a does w old new words at result = CutGoesAmong (IsAround a) (λ cut more ws s. after (goes (drop at cut ++ more)) w (does ws (seen s old))) words (λ s. seen s new) result
+CutActs a does w old new words at result = CutGoesAmong (IsAround a) (λ cut on ws s. after (goes_onward on (drop at cut)) w (does ws (seen s old))) words (λ s. seen s new) result
 
 abbrev pub CutReadsAnywhere : Wanted → Right → Right → List Word → ℕ → Result ℕ Refusal → Type 0
-CutReadsAnywhere w old new words at result = CutGoesOn (λ cut more ws s. goes (drop at cut ++ more) (w ∷ ws) (seen s old)) words (λ s. seen s new) result
+CutReadsAnywhere w old new words at result = CutGoesOn (λ cut on ws s. goes_onward on (drop at cut) (w ∷ ws) (seen s old)) words (λ s. seen s new) result
 
 abbrev pub CutActsAnywhere : (List Wanted → State → Step) → Word → Right → Right → List Word → ℕ → Result ℕ Refusal → Type 0
-CutActsAnywhere does w old new words at result = CutGoesOn (λ cut more ws s. after (goes (drop at cut ++ more)) w (does ws (seen s old))) words (λ s. seen s new) result
+CutActsAnywhere does w old new words at result = CutGoesOn (λ cut on ws s. after (goes_onward on (drop at cut)) w (does ws (seen s old))) words (λ s. seen s new) result
 
-abbrev pub CutGoesTo : Around → Wanted → (List Word → Way) → List Word → Right → Result ℕ Refusal → Type 0
+abbrev pub PeekGoesTo : Around → Wanted → CutWay → List Word → Right → Result ℕ Refusal → Type 0
+PeekGoesTo a w from words new result = PeekGoesToAmong (IsAround a) w from words (λ s. seen s new) result
+
+abbrev pub CutGoesTo : Around → Wanted → CutWay → List Word → Right → Result ℕ Refusal → Type 0
 CutGoesTo a w from words new result = CutGoesToAmong (IsAround a) w from words (λ s. seen s new) result
 
 -- ---- where values go
@@ -155,31 +158,32 @@ abbrev pub OpensExpression : List Word → ℕ → Result ℕ Refusal → Type 0
 OpensExpression words at (Ok next) = (depth : ℕ) (more : List Word) (ws : List Wanted) (s : State) → goes (drop at words ++ more) (Bracketed depth ∷ ws) s ≡ goes (drop next words ++ more) (ExpressionUnit depth ∷ ExpressionRest depth [] None ∷ ws) s
 OpensExpression words at (Err e) = (depth : ℕ) → Fails (λ more ws s. goes (drop at words ++ more) (Bracketed depth ∷ ws) s) e
 
--- ---- expressions, where the words are cut after the one at the next place
+-- ---- expressions, where the words are cut
 
-abbrev pub CutGoesToOperand : (Formula → List Word → Way) → Right → List Word → Result (Formula × ℕ) Refusal → Type 0
-CutGoesToOperand from r words (Ok x) = (n : ℕ) → x.1 < n → (f : Formula) (more : List Word) (ws : List Wanted) (s : State) → from f (take n words) more ws s ≡ goes (drop x.1 (take n words) ++ more) ws (with_formula (seen s r) x.0)
+abbrev pub CutGoesToOperand : (Formula → CutWay) → Right → List Word → Result (Formula × ℕ) Refusal → Type 0
+CutGoesToOperand from r words (Ok x) = (n : ℕ) → x.1 ≤ n → (f : Formula) (on : Onward) (ws : List Wanted) (s : State) → from f (take n words) on ws s ≡ goes_onward on (drop x.1 (take n words)) ws (with_formula (seen s r) x.0)
 CutGoesToOperand from r words (Err e) = Unit {0}
 
 abbrev pub CutReadsOperand : Wanted → Right → List Word → ℕ → Result (Formula × ℕ) Refusal → Type 0
-CutReadsOperand w r words at result = CutGoesToOperand (λ f cut more ws s. goes (drop at cut ++ more) (w ∷ ws) (with_formula (seen s r) f)) r words result
+CutReadsOperand w r words at result = CutGoesToOperand (λ f cut on ws s. goes_onward on (drop at cut) (w ∷ ws) (with_formula (seen s r) f)) r words result
 
 abbrev pub CutActsOperand : (List Wanted → State → Step) → Word → Right → List Word → ℕ → Result (Formula × ℕ) Refusal → Type 0
-CutActsOperand does w r words at result = CutGoesToOperand (λ f cut more ws s. after (goes (drop at cut ++ more)) w (does ws (with_formula (seen s r) f))) r words result
+CutActsOperand does w r words at result = CutGoesToOperand (λ f cut on ws s. after (goes_onward on (drop at cut)) w (does ws (with_formula (seen s r) f))) r words result
 
 abbrev pub CutReadsExpression : ℕ → Right → List Word → ℕ → Result (Formula × ℕ) Refusal → Type 0
-CutReadsExpression depth r words at (Ok x) = (n : ℕ) → x.1 < n → (t : Option Target) (f : Formula) (more : List Word) (ws : List Wanted) (s : State) → goes (drop at (take n words) ++ more) (ExpressionUnit depth ∷ ExpressionRest depth [] (into t) ∷ ws) (with_formula (seen s r) f) ≡ goes (drop x.1 (take n words) ++ more) ws (ended_as t (seen s r) x.0)
+CutReadsExpression depth r words at (Ok x) = (n : ℕ) → x.1 ≤ n → (t : Option Target) (f : Formula) (on : Onward) (ws : List Wanted) (s : State) → goes_onward on (drop at (take n words)) (ExpressionUnit depth ∷ ExpressionRest depth [] (into t) ∷ ws) (with_formula (seen s r) f) ≡ goes_onward on (drop x.1 (take n words)) ws (ended_as t (seen s r) x.0)
 CutReadsExpression depth r words at (Err e) = Unit {0}
 
-abbrev pub CutOpensExpression : List Word → ℕ → Result ℕ Refusal → Type 0
-CutOpensExpression words at (Ok next) = (n : ℕ) → next < n → (depth : ℕ) (more : List Word) (ws : List Wanted) (s : State) → goes (drop at (take n words) ++ more) (Bracketed depth ∷ ws) s ≡ goes (drop next (take n words) ++ more) (ExpressionUnit depth ∷ ExpressionRest depth [] None ∷ ws) s
-CutOpensExpression words at (Err e) = Unit {0}
+-- also at the word at the next place is looked
+abbrev pub PeekOpensExpression : List Word → ℕ → Result ℕ Refusal → Type 0
+PeekOpensExpression words at (Ok next) = (n : ℕ) → next < n → (depth : ℕ) (on : Onward) (ws : List Wanted) (s : State) → goes_onward on (drop at (take n words)) (Bracketed depth ∷ ws) s ≡ goes_onward on (drop next (take n words)) (ExpressionUnit depth ∷ ExpressionRest depth [] None ∷ ws) s
+PeekOpensExpression words at (Err e) = Unit {0}
 
 -- ---- places after operands
 
--- the place after an operand is not before that one, or it is such a refusal
+-- the place after an operand is after that one, or it is such a refusal
 abbrev pub IsFromOperand : ℕ → Result (Formula × ℕ) Refusal → Type 0
-IsFromOperand at (Ok x) = at ≤ x.1
+IsFromOperand at (Ok x) = at < x.1
 IsFromOperand at (Err e) = IsPlaced e
 
 -- what waits, from the one on that was read last

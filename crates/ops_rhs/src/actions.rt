@@ -1,7 +1,7 @@
 //! Actions up to the closing bracket of a production.
 ghost use Rattle.std.specs.Prelude.{◌∷◌, ◌++◌, drop, IfOk};
 ghost use Rattle.ops_grammar.specs.Grammar.{goes, Actions, ActionWord, Closes, EndsHalt};
-ghost use Rattle.ops_forms.specs.Walking.{IsFrom};
+ghost use Rattle.ops_forms.specs.Walking.{IsFrom, goes_onward};
 ghost use Rattle.ops_rhs.specs.Taking.{seen, Reads, GoesTo, IsClosing, ReadsAnywhere, CutGoesTo, CutReads, CutReadsAnywhere};
 
 use crate::right::{Around, Right};
@@ -15,7 +15,7 @@ use ops_grammar::{Keyword, Word};
 
 impl Right {
     // action*, up to the closing bracket, whose place is answered
-    #[tactic(auto, unfolding(ops_grammar::specs::Grammar::goes, ops_grammar::specs::Grammar::step, ops_grammar::specs::Grammar::ends))]
+    #[tactic(auto, unfolding(ops_grammar::specs::Grammar::goes, ops_grammar::specs::Grammar::step, ops_grammar::specs::Grammar::ends, ops_forms::specs::Walking::goes_onward))]
     pub fn read_actions(
         &mut self,
         around: &Around,
@@ -23,7 +23,7 @@ impl Right {
         at: usize,
     ) -> Result<usize, Refusal>
         ensures reads { GoesTo around.now Actions (λ more ws s. goes (drop at words.now ++ more) (Actions ∷ ws) (seen s self.old)) words.now self.new result }
-        ensures cut { CutGoesTo around.now Actions (λ cut more ws s. goes (drop at cut ++ more) (Actions ∷ ws) (seen s self.old)) words.now self.new result }
+        ensures cut { CutGoesTo around.now Actions (λ cut on ws s. goes_onward on (drop at cut) (Actions ∷ ws) (seen s self.old)) words.now self.new result }
         ensures closing { IfOk result (λ place. IsClosing words.now place) }
         ensures within { IsFrom at result }
     {
@@ -42,7 +42,7 @@ impl Right {
 
     // make CLASS put* ) | modify DESIGNATOR put* ) | remove DESIGNATOR DESIGNATOR* ) | write item* ) | bind VARIABLE [value] )
     // | cbind VARIABLE ) | halt )
-    #[tactic(auto, unfolding(ops_grammar::specs::Grammar::goes, ops_grammar::specs::Grammar::step, ops_grammar::specs::Grammar::ends))]
+    #[tactic(auto, unfolding(ops_grammar::specs::Grammar::goes, ops_grammar::specs::Grammar::step, ops_grammar::specs::Grammar::ends, ops_forms::specs::Walking::goes_onward))]
     fn action(&mut self, around: &Around, words: &[Word], at: usize) -> Result<usize, Refusal>
         ensures reads { Reads around.now ActionWord self.old self.new words.now at result }
         ensures cut { CutReads around.now ActionWord self.old self.new words.now at result }

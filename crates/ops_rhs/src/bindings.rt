@@ -1,7 +1,7 @@
 //! The actions that bind a variable to a value or to a cell.
 ghost use Rattle.std.specs.Prelude.{◌∷◌, ◌++◌, drop};
 ghost use Rattle.ops_grammar.specs.Grammar.{goes, value_for, ToBind, BoundName, BoundValue, CellName, Closes, EndsWhole};
-ghost use Rattle.ops_forms.specs.Walking.{GoesAmong, IsFrom, CutGoesAmong};
+ghost use Rattle.ops_forms.specs.Walking.{GoesAmong, IsFrom, CutGoesAmong, goes_onward};
 ghost use Rattle.ops_rhs.specs.Taking.{seen, IsAround, Reads, Acts, ReadsAnywhere, CutActs, CutReads, CutReadsAnywhere};
 
 use crate::right::{Around, Right, Target};
@@ -17,7 +17,7 @@ impl Right {
     // VARIABLE value ) | VARIABLE )
     pub fn bind(&mut self, around: &Around, words: &[Word], at: usize) -> Result<usize, Refusal>
         ensures reads { GoesAmong (IsAround around.now) (λ more ws s. goes (drop at words.now ++ more) (BoundName ∷ BoundValue ∷ ws) (seen s self.old)) words.now (λ s. seen s self.new) result }
-        ensures cut { CutGoesAmong (IsAround around.now) (λ cut more ws s. goes (drop at cut ++ more) (BoundName ∷ BoundValue ∷ ws) (seen s self.old)) words.now (λ s. seen s self.new) result }
+        ensures cut { CutGoesAmong (IsAround around.now) (λ cut on ws s. goes_onward on (drop at cut) (BoundName ∷ BoundValue ∷ ws) (seen s self.old)) words.now (λ s. seen s self.new) result }
         ensures within { IsFrom at result }
     {
         let rest = self.bound_name(words, at)?;
@@ -25,7 +25,7 @@ impl Right {
     }
 
     // VARIABLE
-    #[tactic(auto, unfolding(ops_grammar::specs::Grammar::goes, ops_grammar::specs::Grammar::step, ops_grammar::specs::Grammar::ends))]
+    #[tactic(auto, unfolding(ops_grammar::specs::Grammar::goes, ops_grammar::specs::Grammar::step, ops_grammar::specs::Grammar::ends, ops_forms::specs::Walking::goes_onward))]
     fn bound_name(&mut self, words: &[Word], at: usize) -> Result<usize, Refusal>
         ensures reads { ReadsAnywhere BoundName self.old self.new words.now at result }
         ensures cut { CutReadsAnywhere BoundName self.old self.new words.now at result }
@@ -40,7 +40,7 @@ impl Right {
     }
 
     // value ) | ), of which the value is a fresh atom
-    #[tactic(auto, unfolding(ops_grammar::specs::Grammar::goes, ops_grammar::specs::Grammar::step, ops_grammar::specs::Grammar::ends))]
+    #[tactic(auto, unfolding(ops_grammar::specs::Grammar::goes, ops_grammar::specs::Grammar::step, ops_grammar::specs::Grammar::ends, ops_forms::specs::Walking::goes_onward))]
     fn bound_value(&mut self, around: &Around, words: &[Word], at: usize) -> Result<usize, Refusal>
         ensures reads { Reads around.now BoundValue self.old self.new words.now at result }
         ensures cut { CutReads around.now BoundValue self.old self.new words.now at result }
@@ -75,7 +75,7 @@ impl Right {
     // VARIABLE )
     pub fn cbind(&mut self, around: &Around, words: &[Word], at: usize) -> Result<usize, Refusal>
         ensures reads { GoesAmong (IsAround around.now) (λ more ws s. goes (drop at words.now ++ more) (CellName ∷ Closes EndsWhole ∷ ws) (seen s self.old)) words.now (λ s. seen s self.new) result }
-        ensures cut { CutGoesAmong (IsAround around.now) (λ cut more ws s. goes (drop at cut ++ more) (CellName ∷ Closes EndsWhole ∷ ws) (seen s self.old)) words.now (λ s. seen s self.new) result }
+        ensures cut { CutGoesAmong (IsAround around.now) (λ cut on ws s. goes_onward on (drop at cut) (CellName ∷ Closes EndsWhole ∷ ws) (seen s self.old)) words.now (λ s. seen s self.new) result }
         ensures within { IsFrom at result }
     {
         let rest = self.cell_name(around, words, at)?;
@@ -83,7 +83,7 @@ impl Right {
     }
 
     // VARIABLE, for the element that was made last
-    #[tactic(auto, unfolding(ops_grammar::specs::Grammar::goes, ops_grammar::specs::Grammar::step, ops_grammar::specs::Grammar::ends))]
+    #[tactic(auto, unfolding(ops_grammar::specs::Grammar::goes, ops_grammar::specs::Grammar::step, ops_grammar::specs::Grammar::ends, ops_forms::specs::Walking::goes_onward))]
     fn cell_name(&mut self, around: &Around, words: &[Word], at: usize) -> Result<usize, Refusal>
         ensures reads { Reads around.now CellName self.old self.new words.now at result }
         ensures cut { CutReads around.now CellName self.old self.new words.now at result }

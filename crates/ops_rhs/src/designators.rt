@@ -1,7 +1,7 @@
 //! The designators of the elements that a right side speaks of.
 ghost use Rattle.std.specs.Prelude.{◌≡◌, ◌∷◌, ◌++◌, drop, slice_get};
 ghost use Rattle.ops_grammar.specs.Grammar.{State, goes, cell, cell_of, named_cell, natural_of, number_of, InPut, Cell, Cells, Modified, Terms};
-ghost use Rattle.ops_forms.specs.Walking.{GoesAmong, IsFrom, CutGoesAmong};
+ghost use Rattle.ops_forms.specs.Walking.{GoesAmong, IsFrom, CutGoesAmong, goes_onward};
 ghost use Rattle.ops_rhs.specs.Taking.{seen, numbered_by, cell_by, IsAround, Reads, Acts, CutActs, CutReads};
 
 use crate::right::{Around, Right};
@@ -16,10 +16,10 @@ use ops_tokens::TokenKind;
 
 impl Right {
     // DESIGNATOR DESIGNATOR* )
-    #[tactic(auto, unfolding(ops_grammar::specs::Grammar::goes, ops_grammar::specs::Grammar::step, ops_grammar::specs::Grammar::ends))]
+    #[tactic(auto, unfolding(ops_grammar::specs::Grammar::goes, ops_grammar::specs::Grammar::step, ops_grammar::specs::Grammar::ends, ops_forms::specs::Walking::goes_onward))]
     pub fn remove(&mut self, around: &Around, words: &[Word], at: usize) -> Result<usize, Refusal>
         ensures reads { GoesAmong (IsAround around.now) (λ more ws s. goes (drop at words.now ++ more) (Cell ∷ Cells ∷ ws) (seen s self.old)) words.now (λ s. seen s self.new) result }
-        ensures cut { CutGoesAmong (IsAround around.now) (λ cut more ws s. goes (drop at cut ++ more) (Cell ∷ Cells ∷ ws) (seen s self.old)) words.now (λ s. seen s self.new) result }
+        ensures cut { CutGoesAmong (IsAround around.now) (λ cut on ws s. goes_onward on (drop at cut) (Cell ∷ Cells ∷ ws) (seen s self.old)) words.now (λ s. seen s self.new) result }
         ensures within { IsFrom at result }
     {
         let (word, rest) = first_of(words, at)?;
@@ -28,7 +28,7 @@ impl Right {
     }
 
     // DESIGNATOR* )
-    #[tactic(auto, unfolding(ops_grammar::specs::Grammar::goes, ops_grammar::specs::Grammar::step, ops_grammar::specs::Grammar::ends))]
+    #[tactic(auto, unfolding(ops_grammar::specs::Grammar::goes, ops_grammar::specs::Grammar::step, ops_grammar::specs::Grammar::ends, ops_forms::specs::Walking::goes_onward))]
     fn remove_cells(&mut self, around: &Around, words: &[Word], at: usize) -> Result<usize, Refusal>
         ensures reads { Reads around.now Cells self.old self.new words.now at result }
         ensures cut { CutReads around.now Cells self.old self.new words.now at result }
@@ -71,7 +71,7 @@ impl Right {
     // DESIGNATOR put* )
     pub fn modify(&mut self, around: &Around, words: &[Word], at: usize) -> Result<usize, Refusal>
         ensures reads { GoesAmong (IsAround around.now) (λ more ws s. goes (drop at words.now ++ more) (Modified ∷ Terms InPut ∷ ws) (seen s self.old)) words.now (λ s. seen s self.new) result }
-        ensures cut { CutGoesAmong (IsAround around.now) (λ cut more ws s. goes (drop at cut ++ more) (Modified ∷ Terms InPut ∷ ws) (seen s self.old)) words.now (λ s. seen s self.new) result }
+        ensures cut { CutGoesAmong (IsAround around.now) (λ cut on ws s. goes_onward on (drop at cut) (Modified ∷ Terms InPut ∷ ws) (seen s self.old)) words.now (λ s. seen s self.new) result }
         ensures within { IsFrom at result }
     {
         let rest = self.modified_cell(around, words, at)?;
@@ -79,7 +79,7 @@ impl Right {
     }
 
     // DESIGNATOR
-    #[tactic(auto, unfolding(ops_grammar::specs::Grammar::goes, ops_grammar::specs::Grammar::step, ops_grammar::specs::Grammar::ends))]
+    #[tactic(auto, unfolding(ops_grammar::specs::Grammar::goes, ops_grammar::specs::Grammar::step, ops_grammar::specs::Grammar::ends, ops_forms::specs::Walking::goes_onward))]
     fn modified_cell(
         &mut self,
         around: &Around,

@@ -2,7 +2,7 @@
 ghost use Rattle.std.specs.Prelude.{◌≡◌, IfOk};
 ghost use Rattle.ops_grammar.specs.Grammar.{completed, bracket_at, unit_at, unit_bound, number_of, ExpressionUnit};
 ghost use Rattle.ops_forms.specs.Walking.{IsFrom};
-ghost use Rattle.ops_rhs.specs.Taking.{newest_first, ReadsOperand, ActsOperand, ReadsExpression, OpensExpression, IsOperand, IsFromOperand, CutActsOperand, CutOpensExpression, CutReadsExpression, CutReadsOperand};
+ghost use Rattle.ops_rhs.specs.Taking.{newest_first, ReadsOperand, ActsOperand, ReadsExpression, OpensExpression, IsOperand, IsFromOperand, CutActsOperand, PeekOpensExpression, CutReadsExpression, CutReadsOperand};
 
 use crate::right::Right;
 use ops_base::endings::{Fault, Limit};
@@ -31,7 +31,7 @@ pub struct Waiting {
 impl Right {
     // unit, or unit OP expr, and the closing bracket, where this many brackets are open
     #[cycle(expressions)]
-    #[tactic(auto, unfolding(ops_grammar::specs::Grammar::goes, ops_grammar::specs::Grammar::step, ops_grammar::specs::Grammar::ends))]
+    #[tactic(auto, unfolding(ops_grammar::specs::Grammar::goes, ops_grammar::specs::Grammar::step, ops_grammar::specs::Grammar::ends, ops_forms::specs::Walking::goes_onward))]
     pub fn expression(
         &self,
         depth: usize,
@@ -61,7 +61,7 @@ impl Right {
 
     // WHOLE | VARIABLE | ( expr ) | ( compute expr )
     #[cycle(expressions)]
-    #[tactic(auto, unfolding(ops_grammar::specs::Grammar::goes, ops_grammar::specs::Grammar::step, ops_grammar::specs::Grammar::ends))]
+    #[tactic(auto, unfolding(ops_grammar::specs::Grammar::goes, ops_grammar::specs::Grammar::step, ops_grammar::specs::Grammar::ends, ops_forms::specs::Walking::goes_onward))]
     fn unit(&self, depth: usize, words: &[Word], at: usize) -> Result<(Expr, usize), Refusal>
         ensures reads { ReadsOperand (ExpressionUnit depth) self.now words.now at result }
         ensures cut { CutReadsOperand (ExpressionUnit depth) self.now words.now at result }
@@ -124,10 +124,10 @@ impl Right {
 }
 
 // the place after `compute`, where that stands there
-#[tactic(auto, unfolding(ops_grammar::specs::Grammar::goes, ops_grammar::specs::Grammar::step, ops_grammar::specs::Grammar::ends))]
+#[tactic(auto, unfolding(ops_grammar::specs::Grammar::goes, ops_grammar::specs::Grammar::step, ops_grammar::specs::Grammar::ends, ops_forms::specs::Walking::goes_onward))]
 fn behind_compute(words: &[Word], at: usize) -> Result<usize, Refusal>
     ensures reads { OpensExpression words.now at result }
-    ensures cut { CutOpensExpression words.now at result }
+    ensures cut { PeekOpensExpression words.now at result }
     ensures within { IsFrom at result }
 {
     let (word, rest) = first_of(words, at)?;

@@ -1,7 +1,7 @@
 //! The functions that a value may be.
 ghost use Rattle.std.specs.Prelude.{◌∷◌, [], ◌++◌, drop, Some};
 ghost use Rattle.ops_grammar.specs.Grammar.{goes, function, function_depth, Function, ExpressionUnit, ExpressionRest, Closes, EndsWhole};
-ghost use Rattle.ops_forms.specs.Walking.{GoesOn, IsFrom, CutGoesOn};
+ghost use Rattle.ops_forms.specs.Walking.{GoesOn, IsFrom, CutGoesOn, goes_onward};
 ghost use Rattle.ops_rhs.specs.Taking.{seen, target_of, with_term, Reads, Acts, CutActs, CutReads};
 
 use crate::expressions::FUNCTION_DEPTH;
@@ -15,7 +15,7 @@ use ops_grammar::{Keyword, Word};
 
 impl Right {
     // compute expr ) | genatom ) | accept ) | substr VARIABLE ATTR ATTR ) | substr VARIABLE ATTR inf )
-    #[tactic(auto, unfolding(ops_grammar::specs::Grammar::goes, ops_grammar::specs::Grammar::step, ops_grammar::specs::Grammar::ends))]
+    #[tactic(auto, unfolding(ops_grammar::specs::Grammar::goes, ops_grammar::specs::Grammar::step, ops_grammar::specs::Grammar::ends, ops_forms::specs::Walking::goes_onward))]
     pub fn function(
         &mut self,
         around: &Around,
@@ -56,7 +56,7 @@ impl Right {
     // expr )
     fn compute(&mut self, target: Target, words: &[Word], at: usize) -> Result<usize, Refusal>
         ensures reads { GoesOn (λ more ws s. goes (drop at words.now ++ more) (ExpressionUnit function_depth ∷ ExpressionRest function_depth [] (Some (target_of target)) ∷ ws) (seen s self.old)) words.now (λ s. seen s self.new) result }
-        ensures cut { CutGoesOn (λ cut more ws s. goes (drop at cut ++ more) (ExpressionUnit function_depth ∷ ExpressionRest function_depth [] (Some (target_of target)) ∷ ws) (seen s self.old)) words.now (λ s. seen s self.new) result }
+        ensures cut { CutGoesOn (λ cut on ws s. goes_onward on (drop at cut) (ExpressionUnit function_depth ∷ ExpressionRest function_depth [] (Some (target_of target)) ∷ ws) (seen s self.old)) words.now (λ s. seen s self.new) result }
         ensures within { IsFrom at result }
     {
         let (formula, rest) = self.expression(FUNCTION_DEPTH, words, at)?;
@@ -73,7 +73,7 @@ impl Right {
         at: usize,
     ) -> Result<usize, Refusal>
         ensures reads { GoesOn (λ more ws s. goes (drop at words.now ++ more) (Closes EndsWhole ∷ ws) (with_term target (seen s self.old) term)) words.now (λ s. seen s self.new) result }
-        ensures cut { CutGoesOn (λ cut more ws s. goes (drop at cut ++ more) (Closes EndsWhole ∷ ws) (with_term target (seen s self.old) term)) words.now (λ s. seen s self.new) result }
+        ensures cut { CutGoesOn (λ cut on ws s. goes_onward on (drop at cut) (Closes EndsWhole ∷ ws) (with_term target (seen s self.old) term)) words.now (λ s. seen s self.new) result }
         ensures within { IsFrom at result }
     {
         let rest = closing(words, at)?;

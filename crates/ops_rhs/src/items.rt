@@ -1,7 +1,7 @@
 //! What `write` prints.
 ghost use Rattle.std.specs.Prelude.{◌≡◌, ◌∷◌, ◌++◌, drop, if◌then◌else◌};
 ghost use Rattle.ops_grammar.specs.Grammar.{goes, value_for, is_left, column_item, ToItem, Items, ItemWord, Columns, Closes, EndsCrlf, EndsWhole, Next};
-ghost use Rattle.ops_forms.specs.Walking.{GoesOn, IsFrom, CutGoesOn};
+ghost use Rattle.ops_forms.specs.Walking.{GoesOn, IsFrom, CutGoesOn, goes_onward};
 ghost use Rattle.ops_rhs.specs.Taking.{seen, column_of, Reads, Acts, ReadsAnywhere, CutActs, CutReads, CutReadsAnywhere};
 
 use crate::right::{Around, Column, Right, Target};
@@ -15,7 +15,7 @@ use ops_grammar::{Keyword, Word};
 
 impl Right {
     // item* )
-    #[tactic(auto, unfolding(ops_grammar::specs::Grammar::goes, ops_grammar::specs::Grammar::step, ops_grammar::specs::Grammar::ends))]
+    #[tactic(auto, unfolding(ops_grammar::specs::Grammar::goes, ops_grammar::specs::Grammar::step, ops_grammar::specs::Grammar::ends, ops_forms::specs::Walking::goes_onward))]
     pub fn write(&mut self, around: &Around, words: &[Word], at: usize) -> Result<usize, Refusal>
         ensures reads { Reads around.now Items self.old self.new words.now at result }
         ensures cut { CutReads around.now Items self.old self.new words.now at result }
@@ -51,7 +51,7 @@ impl Right {
     }
 
     // crlf ) | tabto SMALL ) | rjust SMALL ) | function
-    #[tactic(auto, unfolding(ops_grammar::specs::Grammar::goes, ops_grammar::specs::Grammar::step, ops_grammar::specs::Grammar::ends))]
+    #[tactic(auto, unfolding(ops_grammar::specs::Grammar::goes, ops_grammar::specs::Grammar::step, ops_grammar::specs::Grammar::ends, ops_forms::specs::Walking::goes_onward))]
     fn item_word(&mut self, around: &Around, words: &[Word], at: usize) -> Result<usize, Refusal>
         ensures reads { Reads around.now ItemWord self.old self.new words.now at result }
         ensures cut { CutReads around.now ItemWord self.old self.new words.now at result }
@@ -80,7 +80,7 @@ impl Right {
     // SMALL )
     fn columns(&mut self, column: Column, words: &[Word], at: usize) -> Result<usize, Refusal>
         ensures reads { GoesOn (λ more ws s. goes (drop at words.now ++ more) (Columns (column_of column) ∷ Closes EndsWhole ∷ ws) (seen s self.old)) words.now (λ s. seen s self.new) result }
-        ensures cut { CutGoesOn (λ cut more ws s. goes (drop at cut ++ more) (Columns (column_of column) ∷ Closes EndsWhole ∷ ws) (seen s self.old)) words.now (λ s. seen s self.new) result }
+        ensures cut { CutGoesOn (λ cut on ws s. goes_onward on (drop at cut) (Columns (column_of column) ∷ Closes EndsWhole ∷ ws) (seen s self.old)) words.now (λ s. seen s self.new) result }
         ensures within { IsFrom at result }
     {
         let rest = self.small(column, words, at)?;
@@ -88,7 +88,7 @@ impl Right {
     }
 
     // SMALL
-    #[tactic(auto, unfolding(ops_grammar::specs::Grammar::goes, ops_grammar::specs::Grammar::step, ops_grammar::specs::Grammar::ends))]
+    #[tactic(auto, unfolding(ops_grammar::specs::Grammar::goes, ops_grammar::specs::Grammar::step, ops_grammar::specs::Grammar::ends, ops_forms::specs::Walking::goes_onward))]
     fn small(&mut self, column: Column, words: &[Word], at: usize) -> Result<usize, Refusal>
         ensures reads { ReadsAnywhere (Columns (column_of column)) self.old self.new words.now at result }
         ensures cut { CutReadsAnywhere (Columns (column_of column)) self.old self.new words.now at result }

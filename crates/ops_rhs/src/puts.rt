@@ -1,8 +1,8 @@
 //! The elements that a right side makes: a class with attributes and values.
 ghost use Rattle.std.specs.Prelude.{◌∷◌, ◌++◌, drop};
 ghost use Rattle.ops_grammar.specs.Grammar.{goes, InPut, ClassName, Terms, Attribute, Several};
-ghost use Rattle.ops_forms.specs.Walking.{GoesAmong, IsFrom, CutGoesAmong};
-ghost use Rattle.ops_rhs.specs.Taking.{seen, IsAround, Reads, GoesTo, CutGoesTo, CutReads};
+ghost use Rattle.ops_forms.specs.Walking.{GoesAmong, IsFrom, CutGoesAmong, goes_onward};
+ghost use Rattle.ops_rhs.specs.Taking.{seen, IsAround, Reads, GoesTo, PeekGoesTo, CutReads};
 
 use crate::right::{Around, Right, Target};
 use ops_base::endings::Fault;
@@ -16,7 +16,7 @@ impl Right {
     // CLASS put* )
     pub fn make(&mut self, around: &Around, words: &[Word], at: usize) -> Result<usize, Refusal>
         ensures reads { GoesAmong (IsAround around.now) (λ more ws s. goes (drop at words.now ++ more) (ClassName ∷ Terms InPut ∷ ws) (seen s self.old)) words.now (λ s. seen s self.new) result }
-        ensures cut { CutGoesAmong (IsAround around.now) (λ cut more ws s. goes (drop at cut ++ more) (ClassName ∷ Terms InPut ∷ ws) (seen s self.old)) words.now (λ s. seen s self.new) result }
+        ensures cut { CutGoesAmong (IsAround around.now) (λ cut on ws s. goes_onward on (drop at cut) (ClassName ∷ Terms InPut ∷ ws) (seen s self.old)) words.now (λ s. seen s self.new) result }
         ensures within { IsFrom at result }
     {
         let rest = self.class_name(around, words, at)?;
@@ -24,7 +24,7 @@ impl Right {
     }
 
     // CLASS
-    #[tactic(auto, unfolding(ops_grammar::specs::Grammar::goes, ops_grammar::specs::Grammar::step, ops_grammar::specs::Grammar::ends))]
+    #[tactic(auto, unfolding(ops_grammar::specs::Grammar::goes, ops_grammar::specs::Grammar::step, ops_grammar::specs::Grammar::ends, ops_forms::specs::Walking::goes_onward))]
     fn class_name(&mut self, around: &Around, words: &[Word], at: usize) -> Result<usize, Refusal>
         ensures reads { Reads around.now ClassName self.old self.new words.now at result }
         ensures cut { CutReads around.now ClassName self.old self.new words.now at result }
@@ -42,7 +42,7 @@ impl Right {
     }
 
     // put* )
-    #[tactic(auto, unfolding(ops_grammar::specs::Grammar::goes, ops_grammar::specs::Grammar::step, ops_grammar::specs::Grammar::ends))]
+    #[tactic(auto, unfolding(ops_grammar::specs::Grammar::goes, ops_grammar::specs::Grammar::step, ops_grammar::specs::Grammar::ends, ops_forms::specs::Walking::goes_onward))]
     pub fn read_terms(
         &mut self,
         around: &Around,
@@ -68,10 +68,10 @@ impl Right {
     }
 
     // ATTR value*
-    #[tactic(auto, unfolding(ops_grammar::specs::Grammar::goes, ops_grammar::specs::Grammar::step, ops_grammar::specs::Grammar::ends))]
+    #[tactic(auto, unfolding(ops_grammar::specs::Grammar::goes, ops_grammar::specs::Grammar::step, ops_grammar::specs::Grammar::ends, ops_forms::specs::Walking::goes_onward))]
     fn attribute(&mut self, around: &Around, words: &[Word], at: usize) -> Result<usize, Refusal>
         ensures reads { GoesTo around.now (Terms InPut) (λ more ws s. goes (drop at words.now ++ more) (Attribute InPut ∷ ws) (seen s self.old)) words.now self.new result }
-        ensures cut { CutGoesTo around.now (Terms InPut) (λ cut more ws s. goes (drop at cut ++ more) (Attribute InPut ∷ ws) (seen s self.old)) words.now self.new result }
+        ensures cut { PeekGoesTo around.now (Terms InPut) (λ cut on ws s. goes_onward on (drop at cut) (Attribute InPut ∷ ws) (seen s self.old)) words.now self.new result }
         ensures within { IsFrom at result }
     {
         let (word, rest) = first_of(words, at)?;
@@ -93,7 +93,7 @@ impl Right {
     }
 
     // value*, up to what is no more of them
-    #[tactic(auto, unfolding(ops_grammar::specs::Grammar::goes, ops_grammar::specs::Grammar::step, ops_grammar::specs::Grammar::ends))]
+    #[tactic(auto, unfolding(ops_grammar::specs::Grammar::goes, ops_grammar::specs::Grammar::step, ops_grammar::specs::Grammar::ends, ops_forms::specs::Walking::goes_onward))]
     fn several(
         &mut self,
         around: &Around,
@@ -102,7 +102,7 @@ impl Right {
         at: usize,
     ) -> Result<usize, Refusal>
         ensures reads { GoesTo around.now (Terms InPut) (λ more ws s. goes (drop at words.now ++ more) (Several InPut field ∷ ws) (seen s self.old)) words.now self.new result }
-        ensures cut { CutGoesTo around.now (Terms InPut) (λ cut more ws s. goes (drop at cut ++ more) (Several InPut field ∷ ws) (seen s self.old)) words.now self.new result }
+        ensures cut { PeekGoesTo around.now (Terms InPut) (λ cut on ws s. goes_onward on (drop at cut) (Several InPut field ∷ ws) (seen s self.old)) words.now self.new result }
         ensures within { IsFrom at result }
     {
         let mut rest = at;

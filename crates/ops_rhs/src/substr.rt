@@ -2,7 +2,7 @@
 ghost use Rattle.std.specs.Prelude.{◌≡◌, ◌∷◌, ◌++◌, ◌==◌, drop, position};
 ghost use Rattle.ops_base.specs.Valid.{is_vector};
 ghost use Rattle.ops_grammar.specs.Grammar.{goes, takes_several, SourceCell, SourceAttribute, SourceEnd, Closes, EndsWhole};
-ghost use Rattle.ops_forms.specs.Walking.{GoesAmong, IsFrom, CutGoesAmong};
+ghost use Rattle.ops_forms.specs.Walking.{GoesAmong, IsFrom, CutGoesAmong, goes_onward};
 ghost use Rattle.ops_rhs.specs.Taking.{seen, target_of, source_class, IsAround, Reads, ReadsAnywhere, CutReads, CutReadsAnywhere};
 
 use crate::right::{Around, Right, Target};
@@ -25,7 +25,7 @@ impl Right {
         at: usize,
     ) -> Result<usize, Refusal>
         ensures reads { GoesAmong (IsAround around.now) (λ more ws s. goes (drop at words.now ++ more) (SourceCell ∷ SourceAttribute (target_of target) ∷ ws) (seen s self.old)) words.now (λ s. seen s self.new) result }
-        ensures cut { CutGoesAmong (IsAround around.now) (λ cut more ws s. goes (drop at cut ++ more) (SourceCell ∷ SourceAttribute (target_of target) ∷ ws) (seen s self.old)) words.now (λ s. seen s self.new) result }
+        ensures cut { CutGoesAmong (IsAround around.now) (λ cut on ws s. goes_onward on (drop at cut) (SourceCell ∷ SourceAttribute (target_of target) ∷ ws) (seen s self.old)) words.now (λ s. seen s self.new) result }
         ensures within { IsFrom at result }
     {
         let rest = self.source_cell(words, at)?;
@@ -33,7 +33,7 @@ impl Right {
     }
 
     // VARIABLE
-    #[tactic(auto, unfolding(ops_grammar::specs::Grammar::goes, ops_grammar::specs::Grammar::step, ops_grammar::specs::Grammar::ends))]
+    #[tactic(auto, unfolding(ops_grammar::specs::Grammar::goes, ops_grammar::specs::Grammar::step, ops_grammar::specs::Grammar::ends, ops_forms::specs::Walking::goes_onward))]
     fn source_cell(&mut self, words: &[Word], at: usize) -> Result<usize, Refusal>
         ensures reads { ReadsAnywhere SourceCell self.old self.new words.now at result }
         ensures cut { CutReadsAnywhere SourceCell self.old self.new words.now at result }
@@ -51,7 +51,7 @@ impl Right {
     }
 
     // ATTR ATTR ) | ATTR inf )
-    #[tactic(auto, unfolding(ops_grammar::specs::Grammar::goes, ops_grammar::specs::Grammar::step, ops_grammar::specs::Grammar::ends))]
+    #[tactic(auto, unfolding(ops_grammar::specs::Grammar::goes, ops_grammar::specs::Grammar::step, ops_grammar::specs::Grammar::ends, ops_forms::specs::Walking::goes_onward))]
     fn source_attribute(
         &mut self,
         around: &Around,
@@ -84,7 +84,7 @@ impl Right {
         at: usize,
     ) -> Result<usize, Refusal>
         ensures reads { GoesAmong (IsAround around.now) (λ more ws s. goes (drop at words.now ++ more) (SourceEnd (target_of target) name ∷ Closes EndsWhole ∷ ws) (seen s self.old)) words.now (λ s. seen s self.new) result }
-        ensures cut { CutGoesAmong (IsAround around.now) (λ cut more ws s. goes (drop at cut ++ more) (SourceEnd (target_of target) name ∷ Closes EndsWhole ∷ ws) (seen s self.old)) words.now (λ s. seen s self.new) result }
+        ensures cut { CutGoesAmong (IsAround around.now) (λ cut on ws s. goes_onward on (drop at cut) (SourceEnd (target_of target) name ∷ Closes EndsWhole ∷ ws) (seen s self.old)) words.now (λ s. seen s self.new) result }
         ensures within { IsFrom at result }
     {
         let rest = self.source_end(around, target, name, words, at)?;
@@ -92,7 +92,7 @@ impl Right {
     }
 
     // ATTR | inf, after this name
-    #[tactic(auto, unfolding(ops_grammar::specs::Grammar::goes, ops_grammar::specs::Grammar::step, ops_grammar::specs::Grammar::ends))]
+    #[tactic(auto, unfolding(ops_grammar::specs::Grammar::goes, ops_grammar::specs::Grammar::step, ops_grammar::specs::Grammar::ends, ops_forms::specs::Walking::goes_onward))]
     fn source_end(
         &mut self,
         around: &Around,

@@ -1,11 +1,12 @@
-use Rattle.std.proofs.Common.{◌≡◌, ◌∷◌, ◌++◌, ◌∙◌, sym, ap, true, Some, ◌+◌, ◌≤◌, ◌<◌, ℕ, take, drop, slice_get, List, arith}
+use Rattle.std.proofs.Common.{◌≡◌, ◌∷◌, ◌++◌, ◌∙◌, sym, ap, true, Some, ◌≤◌, ◌<◌, ℕ, take, drop, slice_get, List, arith}
 use Rattle.ops_base.specs.declared.elements.Class.{Class}
 use Rattle.ops_base.specs.declared.endings.Fault.TheVariants as fault
 use Rattle.ops_grammar.specs.Grammar.{goes, is_name, InPattern, Attribute, Several, Place, Terms}
 use Rattle.ops_lhs.specs.Taking.{seen, Among}
 use Rattle.ops_forms.proofs.Walks.{to_refused_among}
-use Rattle.ops_forms.proofs.Ways.{attribute_unknown, attribute_several, attribute_one}
-use Rattle.ops_lhs.proofs.Ways.{terms_as_among, place_to_terms, cut_terms_as_among, cut_place_to_terms}
+use Rattle.ops_forms.proofs.Ways.{attribute_unknown, attribute_several, attribute_one, attribute_several_onward, attribute_one_onward}
+use Rattle.ops_forms.specs.Walking.{goes_onward}
+use Rattle.ops_lhs.proofs.Ways.{terms_as_among, place_to_terms, peek_terms_as_among, peek_place_to_terms}
 use Rattle.ops_lhs.proofs.left.Left.attribute.Goals as goal
 
 pub returns-in_default-field_of-clause-reads : goal.returns-in_default-field_of-clause-reads
@@ -43,11 +44,11 @@ returns-then-is_vector-clause-cut c =
     let named : is_name w.kind ≡ true = sym c.is_name.ensures ∙ c.if-not-is_name.false in
     let there : slice_get c.args.classes.now c.args.self.now.class ≡ Some c.in-Some.class.now = sym c.in-Some.ensures in
     let before : (n : ℕ) → c.in_ok-word.rest ≤ n → c.args.at < n = λ n le. omega (arith, le, c.in_ok-word.ensures.1) in
-    cut_terms_as_among c.args.classes.now
-    (λ cut more ws s. goes (drop c.args.at cut ++ more) (Attribute InPattern ∷ ws) (seen s c.args.self.now))
-    (λ cut more ws s. goes (drop c.in_ok-word.rest cut ++ more) (Several InPattern c.in-Some-field_of.field ∷ ws) (seen s c.args.self.now))
+    peek_terms_as_among c.args.classes.now
+    (λ cut on ws s. goes_onward on (drop c.args.at cut) (Attribute InPattern ∷ ws) (seen s c.args.self.now))
+    (λ cut on ws s. goes_onward on (drop c.in_ok-word.rest cut) (Several InPattern c.in-Some-field_of.field ∷ ws) (seen s c.args.self.now))
     words c.in_ok-word.rest
-    (λ n le more ws s i. attribute_several InPattern c.in-Some.class.now (drop c.args.at (take n words)) (drop c.in_ok-word.rest (take n words)) more w ws (seen s c.args.self.now) (c.in_ok-word.ensures.3 n (before n le)) named (ap (λ (cs : List Class). slice_get cs c.args.self.now.class) i ∙ there) c.in-Some-field_of.field (sym c.in-Some-field_of.ensures) (sym c.is_vector.ensures ∙ c.if-is_vector.true))
+    (λ n le on ws s i. attribute_several_onward InPattern c.in-Some.class.now on (drop c.args.at (take n words)) (drop c.in_ok-word.rest (take n words)) w ws (seen s c.args.self.now) (c.in_ok-word.ensures.3 n (before n le)) named (ap (λ (cs : List Class). slice_get cs c.args.self.now.class) i ∙ there) c.in-Some-field_of.field (sym c.in-Some-field_of.ensures) (sym c.is_vector.ensures ∙ c.if-is_vector.true))
     c.places.new.self c.places.result c.places.ensures.within c.places.ensures.cut
 
 pub returns-clause-cut : goal.returns-clause-cut
@@ -57,10 +58,10 @@ returns-clause-cut c =
     let named : is_name w.kind ≡ true = sym c.is_name.ensures ∙ c.if-not-is_name.false in
     let there : slice_get c.args.classes.now c.args.self.now.class ≡ Some c.in-Some.class.now = sym c.in-Some.ensures in
     let before : (n : ℕ) → c.in_ok-word.rest ≤ n → c.args.at < n = λ n le. omega (arith, le, c.in_ok-word.ensures.1) in
-    cut_terms_as_among c.args.classes.now
-    (λ cut more ws s. goes (drop c.args.at cut ++ more) (Attribute InPattern ∷ ws) (seen s c.args.self.now))
-    (λ cut more ws s. goes (drop c.in_ok-word.rest cut ++ more) (Place c.in-Some-field_of.field ∷ Terms InPattern ∷ ws) (seen s c.args.self.now))
+    peek_terms_as_among c.args.classes.now
+    (λ cut on ws s. goes_onward on (drop c.args.at cut) (Attribute InPattern ∷ ws) (seen s c.args.self.now))
+    (λ cut on ws s. goes_onward on (drop c.in_ok-word.rest cut) (Place c.in-Some-field_of.field ∷ Terms InPattern ∷ ws) (seen s c.args.self.now))
     words c.in_ok-word.rest
-    (λ n le more ws s i. attribute_one InPattern c.in-Some.class.now (drop c.args.at (take n words)) (drop c.in_ok-word.rest (take n words)) more w ws (seen s c.args.self.now) (c.in_ok-word.ensures.3 n (before n le)) named (ap (λ (cs : List Class). slice_get cs c.args.self.now.class) i ∙ there) c.in-Some-field_of.field (sym c.in-Some-field_of.ensures) (sym c.is_vector.ensures ∙ c.if-is_vector.false))
+    (λ n le on ws s i. attribute_one_onward InPattern c.in-Some.class.now on (drop c.args.at (take n words)) (drop c.in_ok-word.rest (take n words)) w ws (seen s c.args.self.now) (c.in_ok-word.ensures.3 n (before n le)) named (ap (λ (cs : List Class). slice_get cs c.args.self.now.class) i ∙ there) c.in-Some-field_of.field (sym c.in-Some-field_of.ensures) (sym c.is_vector.ensures ∙ c.if-is_vector.false))
     c.place.new.self c.place.result c.place.ensures.within
-    (cut_place_to_terms (λ cut more ws s. goes (drop c.in_ok-word.rest cut ++ more) (Place c.in-Some-field_of.field ∷ ws) (seen s c.args.self.now)) words c.place.new.self c.place.result c.place.ensures.cut)
+    (peek_place_to_terms (λ cut on ws s. goes_onward on (drop c.in_ok-word.rest cut) (Place c.in-Some-field_of.field ∷ ws) (seen s c.args.self.now)) words c.place.new.self c.place.result c.place.ensures.cut)

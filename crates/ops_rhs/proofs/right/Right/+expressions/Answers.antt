@@ -1,10 +1,11 @@
-use Rattle.std.proofs.Common.{◌≡◌, ◌≤◌, ◌<◌, ◌∙◌, List, [], ◌∷◌, ◌++◌, ◌+◌, sym, ap, suc, take, drop, arith}
+use Rattle.std.proofs.Common.{◌≡◌, ◌<◌, ◌∙◌, List, [], ◌∷◌, ◌++◌, ◌+◌, sym, ap, suc, take, drop, arith}
 use Rattle.std.proofs.lemmas.Bool.{lt-ltb}
 use Rattle.std.proofs.lemmas.Result.{err_from_is_err_and}
 use Rattle.ops_grammar.specs.Grammar.{Waiting as Waits, ExpressionUnit, ExpressionRest, after, goes, bracket_at, with_formula, most_brackets}
+use Rattle.ops_forms.specs.Walking.{goes_onward}
 use Rattle.ops_forms.proofs.Walks.{fails_as, fails_under}
 use Rattle.ops_rhs.specs.Taking.{seen, into, newest_first}
-use Rattle.ops_rhs.proofs.Operands.{bracket_read, bracket_cut, bracket_fails, operand_as, unit_opens, rest_operation, newest_grown}
+use Rattle.ops_rhs.proofs.Operands.{bracket_read, bracket_cut, bracket_fails, operand_as, unit_opens, rest_operation, rest_operation_onward, newest_grown}
 use Rattle.ops_rhs.proofs.right.Right.+expressions.Goals as goal
 
 pub bracket-returns-clause-acts : goal.bracket-returns-clause-acts
@@ -34,19 +35,19 @@ expression-operations-preserved t c =
     let waiting = newest_first c.operations.waiting.items in
     let w = c.in_ok-word.word in
     let after_word : c.in_ok-word.after ≡ c.operations.rest + 1 = c.in_ok-word.ensures.1 in
-    let behind_unit : c.in_ok-word.after ≤ c.in_ok-next.behind = c.in_ok-next.ensures.within in
+    let behind_unit : c.in_ok-word.after < c.in_ok-next.behind = c.in_ok-next.ensures.within in
     record {
       same = λ target f more ws s.
           c.operations.invariant.same target f more ws s
           ∙ rest_operation depth waiting (into target) (drop c.operations.rest words) (drop c.in_ok-word.after words) more w c.in-Some.op ws (with_formula (seen s r) operand) c.in_ok-word.ensures.0 (sym c.is_right.ensures ∙ c.if-is_right.false) (sym c.operation_of.ensures ∙ c.in-Some.is)
           ∙ c.in_ok-next.ensures.reads operand more (ExpressionRest depth (record { left = operand; op = c.in-Some.op } ∷ waiting) (into target) ∷ ws) s
           ∙ ap (λ (more_waiting : List Waits). goes (drop c.in_ok-next.behind words ++ more) (ExpressionRest depth more_waiting (into target) ∷ ws) (with_formula (seen s r) c.in_ok-next.next)) (sym (newest_grown c.push.new.self.items c.operations.waiting.items _ c.in_ok-push.ensures.items));
-      cut = λ n lt target f more ws s.
+      cut = λ n lt target f on ws s.
           let here : c.operations.rest < n = omega (arith, after_word, behind_unit, lt) in
-          c.operations.invariant.cut n here target f more ws s
-          ∙ rest_operation depth waiting (into target) (drop c.operations.rest (take n words)) (drop c.in_ok-word.after (take n words)) more w c.in-Some.op ws (with_formula (seen s r) operand) (c.in_ok-word.ensures.3 n here) (sym c.is_right.ensures ∙ c.if-is_right.false) (sym c.operation_of.ensures ∙ c.in-Some.is)
-          ∙ c.in_ok-next.ensures.cut n lt operand more (ExpressionRest depth (record { left = operand; op = c.in-Some.op } ∷ waiting) (into target) ∷ ws) s
-          ∙ ap (λ (more_waiting : List Waits). goes (drop c.in_ok-next.behind (take n words) ++ more) (ExpressionRest depth more_waiting (into target) ∷ ws) (with_formula (seen s r) c.in_ok-next.next)) (sym (newest_grown c.push.new.self.items c.operations.waiting.items _ c.in_ok-push.ensures.items));
+          c.operations.invariant.cut n here target f on ws s
+          ∙ rest_operation_onward depth waiting (into target) on (drop c.operations.rest (take n words)) (drop c.in_ok-word.after (take n words)) w c.in-Some.op ws (with_formula (seen s r) operand) (c.in_ok-word.ensures.3 n here) (sym c.is_right.ensures ∙ c.if-is_right.false) (sym c.operation_of.ensures ∙ c.in-Some.is)
+          ∙ c.in_ok-next.ensures.cut n (omega (arith, lt)) operand on (ExpressionRest depth (record { left = operand; op = c.in-Some.op } ∷ waiting) (into target) ∷ ws) s
+          ∙ ap (λ (more_waiting : List Waits). goes_onward on (drop c.in_ok-next.behind (take n words)) (ExpressionRest depth more_waiting (into target) ∷ ws) (with_formula (seen s r) c.in_ok-next.next)) (sym (newest_grown c.push.new.self.items c.operations.waiting.items _ c.in_ok-push.ensures.items));
       from = omega (arith, after_word, behind_unit);
     }
 

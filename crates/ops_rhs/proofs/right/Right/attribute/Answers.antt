@@ -3,8 +3,9 @@ use Rattle.ops_base.specs.declared.actions.Term.{Term}
 use Rattle.ops_base.specs.declared.elements.Class.{Class}
 use Rattle.ops_base.specs.declared.endings.Fault.TheVariants as fault
 use Rattle.ops_grammar.specs.Grammar.{goes, is_name, InPut, ToPut, Attribute, Terms, Several, ValueFor}
-use Rattle.ops_forms.proofs.Walks.{goes_to_as_among, to_refused_among, goes_to_among, cut_goes_to_as_among, cut_goes_to_among}
-use Rattle.ops_forms.proofs.Ways.{attribute_unknown, attribute_several, attribute_one}
+use Rattle.ops_forms.proofs.Walks.{goes_to_as_among, to_refused_among, goes_to_among, peek_goes_to_as_among, peek_goes_to_among}
+use Rattle.ops_forms.proofs.Ways.{attribute_unknown, attribute_several, attribute_one, attribute_several_onward, attribute_one_onward}
+use Rattle.ops_forms.specs.Walking.{goes_onward}
 use Rattle.ops_rhs.specs.Taking.{seen, IsAround}
 use Rattle.ops_rhs.proofs.right.Right.attribute.Goals as goal
 
@@ -50,12 +51,12 @@ returns-then-is_vector-clause-cut c =
     let named : is_name w.kind ≡ true = sym c.is_name.ensures ∙ c.if-not-is_name.false in
     let there : slice_get c.args.around.now.classes.now r.class ≡ Some c.in-Some.class.now = sym c.in-Some.ensures in
     let before : (n : ℕ) → c.in_ok-word.rest ≤ n → c.args.at < n = λ n le. omega (arith, le, c.in_ok-word.ensures.1) in
-    cut_goes_to_as_among (IsAround c.args.around.now) (Terms InPut)
-    (λ cut more ws s. goes (drop c.args.at cut ++ more) (Attribute InPut ∷ ws) (seen s r))
-    (λ cut more ws s. goes (drop c.in_ok-word.rest cut ++ more) (Several InPut f ∷ ws) (record (seen s r) { terms = c.clear.new.self.items; constants = [] }))
+    peek_goes_to_as_among (IsAround c.args.around.now) (Terms InPut)
+    (λ cut on ws s. goes_onward on (drop c.args.at cut) (Attribute InPut ∷ ws) (seen s r))
+    (λ cut on ws s. goes_onward on (drop c.in_ok-word.rest cut) (Several InPut f ∷ ws) (record (seen s r) { terms = c.clear.new.self.items; constants = [] }))
     words c.in_ok-word.rest
-    (λ n le more ws s i. attribute_several InPut c.in-Some.class.now (drop c.args.at (take n words)) (drop c.in_ok-word.rest (take n words)) more w ws (seen s r) (c.in_ok-word.ensures.3 n (before n le)) named (ap (λ (cs : List Class). slice_get cs r.class) i.classes ∙ there) f (sym c.in-Some-field_of.ensures) (sym c.is_vector.ensures ∙ c.if-is_vector.true)
-    ∙ ap (λ (ts : List Term). goes (drop c.in_ok-word.rest (take n words) ++ more) (Several InPut f ∷ ws) (record (seen s r) { terms = ts; constants = [] })) (sym c.clear.ensures.items))
+    (λ n le on ws s i. attribute_several_onward InPut c.in-Some.class.now on (drop c.args.at (take n words)) (drop c.in_ok-word.rest (take n words)) w ws (seen s r) (c.in_ok-word.ensures.3 n (before n le)) named (ap (λ (cs : List Class). slice_get cs r.class) i.classes ∙ there) f (sym c.in-Some-field_of.ensures) (sym c.is_vector.ensures ∙ c.if-is_vector.true)
+    ∙ ap (λ (ts : List Term). goes_onward on (drop c.in_ok-word.rest (take n words)) (Several InPut f ∷ ws) (record (seen s r) { terms = ts; constants = [] })) (sym c.clear.ensures.items))
     (λ s. seen s c.several.new.self) c.several.result c.several.ensures.within c.several.ensures.cut
 
 pub returns-clause-cut : goal.returns-clause-cut
@@ -67,10 +68,10 @@ returns-clause-cut c =
     let named : is_name w.kind ≡ true = sym c.is_name.ensures ∙ c.if-not-is_name.false in
     let there : slice_get c.args.around.now.classes.now r.class ≡ Some c.in-Some.class.now = sym c.in-Some.ensures in
     let before : (n : ℕ) → c.in_ok-word.rest ≤ n → c.args.at < n = λ n le. omega (arith, le, c.in_ok-word.ensures.1) in
-    cut_goes_to_as_among (IsAround c.args.around.now) (Terms InPut)
-    (λ cut more ws s. goes (drop c.args.at cut ++ more) (Attribute InPut ∷ ws) (seen s r))
-    (λ cut more ws s. goes (drop c.in_ok-word.rest cut ++ more) (ValueFor (ToPut f) ∷ Terms InPut ∷ ws) (seen s r))
+    peek_goes_to_as_among (IsAround c.args.around.now) (Terms InPut)
+    (λ cut on ws s. goes_onward on (drop c.args.at cut) (Attribute InPut ∷ ws) (seen s r))
+    (λ cut on ws s. goes_onward on (drop c.in_ok-word.rest cut) (ValueFor (ToPut f) ∷ Terms InPut ∷ ws) (seen s r))
     words c.in_ok-word.rest
-    (λ n le more ws s i. attribute_one InPut c.in-Some.class.now (drop c.args.at (take n words)) (drop c.in_ok-word.rest (take n words)) more w ws (seen s r) (c.in_ok-word.ensures.3 n (before n le)) named (ap (λ (cs : List Class). slice_get cs r.class) i.classes ∙ there) f (sym c.in-Some-field_of.ensures) (sym c.is_vector.ensures ∙ c.if-is_vector.false))
+    (λ n le on ws s i. attribute_one_onward InPut c.in-Some.class.now on (drop c.args.at (take n words)) (drop c.in_ok-word.rest (take n words)) w ws (seen s r) (c.in_ok-word.ensures.3 n (before n le)) named (ap (λ (cs : List Class). slice_get cs r.class) i.classes ∙ there) f (sym c.in-Some-field_of.ensures) (sym c.is_vector.ensures ∙ c.if-is_vector.false))
     (λ s. seen s c.value.new.self) c.value.result c.value.ensures.within
-    (cut_goes_to_among (IsAround c.args.around.now) (Terms InPut) (λ cut more ws s. goes (drop c.in_ok-word.rest cut ++ more) (ValueFor (ToPut f) ∷ ws) (seen s r)) words (λ s. seen s c.value.new.self) c.value.result c.value.ensures.cut)
+    (peek_goes_to_among (IsAround c.args.around.now) (Terms InPut) (λ cut on ws s. goes_onward on (drop c.in_ok-word.rest cut) (ValueFor (ToPut f) ∷ ws) (seen s r)) words (λ s. seen s c.value.new.self) c.value.result c.value.ensures.cut)
