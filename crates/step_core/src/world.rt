@@ -122,7 +122,7 @@ impl World {
         self.lines.as_slice()
     }
 
-    /// The places of the lines that have entries, each once, in the order in which work began on them. Takes no memory.
+    /// The places of the lines that have entries, each once. Takes no memory.
     pub fn worked(&self) -> &[usize]
         ensures { AreWorked self.now.lines.items result.now }
     {
