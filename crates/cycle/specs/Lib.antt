@@ -1,4 +1,5 @@
 -- What the contracts of the recognise-act cycle cite.
 pub mod Settles
+pub mod Slots
 pub mod States
 pub mod Quiet

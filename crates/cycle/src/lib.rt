@@ -3,6 +3,7 @@
 
 #[cfg(test)]
 mod fake;
+mod slot;
 mod state;
 #[cfg(test)]
 mod tests;

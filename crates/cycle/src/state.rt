@@ -23,6 +23,7 @@ ghost use Rattle.conflict_index.specs.Selecting.{IsFirst};
 ghost use Rattle.cycle.specs.Settles.{Settles};
 ghost use Rattle.cycle.specs.States.{alone, state_course};
 
+use crate::slot::Slot;
 use act_phase::{ActFault, act, traces_firings};
 use conflict_index::Index;
 use ops_base::commands::Strategy;
@@ -38,10 +39,10 @@ use std::marker::Model;
 use work_store::{Matcher, Settled, Store};
 
 /// A matcher, the conflict set that it has found with the marks of those that have fired, and how many firings were
-/// made.
+/// made. The matcher stands on the heap, so that a state is moved at the same small cost whatever matcher it has.
 #[derive(Drop)]
 pub struct State<M: Matcher> {
-    matcher: M,
+    matcher: Slot<M>,
     index: Index,
     firings: u64,
 }
@@ -57,13 +58,13 @@ impl<M: Matcher> Model for State<M> {
 }
 
 /// The last tag that was given. With it comes what a matcher keeps true.
-fn last_of<M: Matcher>(matcher: &M) -> u64
+fn last_of<M: Matcher>(matcher: &Slot<M>) -> u64
     ensures last { result ≡ (M.stored matcher.now).last }
     ensures kept { WellKept (M.stored matcher.now).elements (M.stored matcher.now).last }
     ensures set { (rules : List Rule) → M.stands_for matcher.now rules → IsConflictSet rules (M.stored matcher.now).elements (M.found matcher.now) }
     ensures none { (M.stored matcher.now).elements ≡ [] → M.found matcher.now ≡ [] }
 {
-    matcher.store().last()
+    matcher.get().store().last()
 }
 
 /// A copy of an instantiation that is there.
@@ -100,12 +101,12 @@ fn put_trace<K: Sink>(
     Ok(put_firing(out, sink, names, program, firing, inst)?)
 }
 
-/// Settles a matcher by what its caller lends.
+/// Settles a matcher by what its caller lends, and puts it back into its place. After a refusal the place is gone, too.
 fn settled_by<M: Matcher, H: Fn(M, &[Change]) -> Result<Settled<M>, OutOfMemory>>(
     hand: &H,
-    matcher: M,
+    matcher: Slot<M>,
     changes: &[Change],
-) -> Result<Settled<M>, OutOfMemory>
+) -> Result<Settled<Slot<M>>, OutOfMemory>
     requires settles { Settles M.stored M.found M.stands_for (λ m cs. H.pre hand.now m cs) (λ m cs r. H.post hand.now m cs r) }
     requires lawful { Lawful (M.stored matcher).elements (M.stored matcher).last changes.now }
     ensures elements { IfOk result (λ s. (M.stored s.matcher).elements ≡ done (M.stored matcher).elements changes.now) }
@@ -113,12 +114,22 @@ fn settled_by<M: Matcher, H: Fn(M, &[Change]) -> Result<Settled<M>, OutOfMemory>
     ensures settled { IfOk result (λ s. IsSettled (M.found matcher) (M.found s.matcher) s.gone.items s.come.items) }
     ensures stands { IfOk result (λ s. (rules : List Rule) → M.stands_for matcher rules → M.stands_for s.matcher rules) }
 {
-    hand(matcher, changes)
+    let (matcher, place) = matcher.take();
+    let Settled {
+        matcher,
+        come,
+        gone,
+    } = hand(matcher, changes)?;
+    Ok(Settled {
+        matcher: place.fill(matcher),
+        come,
+        gone,
+    })
 }
 
 impl<M: Matcher> State<M> {
     /// These as one state.
-    fn of(matcher: M, index: Index, firings: u64) -> State<M>
+    fn of(matcher: Slot<M>, index: Index, firings: u64) -> State<M>
         requires { (i : Inst) → Contains (insts_of index.members) i ↔ Contains (M.found matcher) i }
         ensures { result ≡ record { matcher = matcher; index = index; firings = firings } }
     {
@@ -132,26 +143,27 @@ impl<M: Matcher> State<M> {
         }
     }
 
-    /// Nothing was done yet. Takes no memory.
-    pub fn start(alloc: Global, matcher: M) -> State<M>
+    /// Nothing was done yet. Takes memory for the place of the matcher.
+    pub fn start(alloc: Global, matcher: M) -> Result<State<M>, OutOfMemory>
         requires elements { (M.stored matcher).elements ≡ [] }
         requires last { (M.stored matcher).last ≡ 0 }
-        ensures matcher { result.matcher ≡ matcher }
-        ensures index { result.index ≡ nothing_indexed }
-        ensures course { (names : Spellings) (coming : Coming)
-            → state_course M.stored result names coming ≡ nothing_yet names coming }
+        ensures matcher { IfOk result (λ s. s.matcher ≡ matcher) }
+        ensures index { IfOk result (λ s. s.index ≡ nothing_indexed) }
+        ensures course { IfOk result (λ s. (names : Spellings) (coming : Coming)
+            → state_course M.stored s names coming ≡ nothing_yet names coming) }
     {
         // so nothing is found
         let empty = matcher.store().len() == 0;
         prove!(empty);
-        State::of(matcher, Index::new(alloc), 0)
+        let matcher = Slot::new(alloc, matcher)?;
+        Ok(State::of(matcher, Index::new(alloc), 0))
     }
 
     /// Working memory.
     pub fn store(&self) -> &Store
         ensures { result.now ≡ M.stored self.now.matcher }
     {
-        self.matcher.store()
+        self.matcher.get().store()
     }
 
     /// The conflict set, with the marks of those that have fired.

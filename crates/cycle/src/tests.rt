@@ -114,8 +114,8 @@ fn once(alloc: Global) -> Result<Program, OutOfMemory>
     program(alloc, actions, 2)
 }
 
-fn start(alloc: Global) -> State<Fake>
-    ensures { result.index.members ≡ [] }
+fn start(alloc: Global) -> Result<State<Fake>, OutOfMemory>
+    ensures { IfOk result (λ s. s.index.members ≡ []) }
 {
     let store = Store::new(alloc);
     State::start(alloc, Fake { store })
@@ -212,7 +212,7 @@ fn counts(state: &State<Fake>) -> (u64, u64, usize) {
 fn mark_forgotten_over_two_cycles(rt: HostRuntime) -> Result<(), Fail> {
     let alloc = rt.alloc();
     let close = close(alloc)?;
-    let state = make(alloc, start(alloc), &close, 0)?;
+    let state = make(alloc, start(alloc)?, &close, 0)?;
     assert_eq!(rt; next_tag(&state), Some(1));
     let (state, halted) = fire(alloc, state, &close)?;
     assert!(rt; !halted);
@@ -229,7 +229,7 @@ fn mark_forgotten_over_two_cycles(rt: HostRuntime) -> Result<(), Fail> {
 fn mark_stays_in_one_phase(rt: HostRuntime) -> Result<(), Fail> {
     let alloc = rt.alloc();
     let once = once(alloc)?;
-    let state = make(alloc, start(alloc), &once, 0)?;
+    let state = make(alloc, start(alloc)?, &once, 0)?;
     let (state, halted) = fire(alloc, state, &once)?;
     assert!(rt; halted);
     assert_eq!(rt; (counts(&state), next_tag(&state)), ((1, 2, 1), None));
@@ -240,7 +240,7 @@ fn mark_stays_in_one_phase(rt: HostRuntime) -> Result<(), Fail> {
 
 #[test]
 fn strategy_is_set(rt: HostRuntime) -> Result<(), Fail> {
-    let mut state = start(rt.alloc());
+    let mut state = start(rt.alloc())?;
     assert!(rt; state.index().strategy() == Strategy::Lex);
     state.set_strategy(Strategy::Mea)?;
     assert!(rt; state.index().strategy() == Strategy::Mea);
