@@ -39,11 +39,11 @@ use std::marker::Model;
 use work_store::{Matcher, Settled, Store};
 
 /// A matcher, the conflict set that it has found with the marks of those that have fired, and how many firings were
-/// made. The matcher stands on the heap, so that a state is moved at the same small cost whatever matcher it has.
+/// made. The first two stand on the heap, so that a state is moved at a small cost whatever matcher it has.
 #[derive(Drop)]
 pub struct State<M: Matcher> {
     matcher: Slot<M>,
-    index: Index,
+    index: Box<Index>,
     firings: u64,
 }
 
@@ -52,9 +52,9 @@ impl<M: Matcher> Model for State<M> {
 
     ghost Value = { Held M };
 
-    ghost view = { λ s. record { matcher = s.matcher; index = s.index; firings = s.firings } };
+    ghost view = { λ s. record { matcher = s.matcher; index = s.index.value; firings = s.firings } };
 
-    ghost invariant = { λ s. Agree (M.stored s.matcher) (M.found s.matcher) (M.stands_for s.matcher) s.index.members };
+    ghost invariant = { λ s. Agree (M.stored s.matcher) (M.found s.matcher) (M.stands_for s.matcher) s.index.value.members };
 }
 
 /// The last tag that was given. With it comes what a matcher keeps true.
@@ -129,9 +129,9 @@ fn settled_by<M: Matcher, H: Fn(M, &[Change]) -> Result<Settled<M>, OutOfMemory>
 
 impl<M: Matcher> State<M> {
     /// These as one state.
-    fn of(matcher: Slot<M>, index: Index, firings: u64) -> State<M>
-        requires { (i : Inst) → Contains (insts_of index.members) i ↔ Contains (M.found matcher) i }
-        ensures { result ≡ record { matcher = matcher; index = index; firings = firings } }
+    fn of(matcher: Slot<M>, index: Box<Index>, firings: u64) -> State<M>
+        requires { (i : Inst) → Contains (insts_of index.value.members) i ↔ Contains (M.found matcher) i }
+        ensures { result ≡ record { matcher = matcher; index = index.value; firings = firings } }
     {
         // the two are looked at for what they keep true
         let _last = last_of(&matcher);
@@ -143,7 +143,7 @@ impl<M: Matcher> State<M> {
         }
     }
 
-    /// Nothing was done yet. Takes memory for the place of the matcher.
+    /// Nothing was done yet. Takes memory for the places of the matcher and of the index.
     pub fn start(alloc: Global, matcher: M) -> Result<State<M>, OutOfMemory>
         requires elements { (M.stored matcher).elements ≡ [] }
         requires last { (M.stored matcher).last ≡ 0 }
@@ -156,7 +156,8 @@ impl<M: Matcher> State<M> {
         let empty = matcher.store().len() == 0;
         prove!(empty);
         let matcher = Slot::new(alloc, matcher)?;
-        Ok(State::of(matcher, Index::new(alloc), 0))
+        let index = Box::new(alloc, Index::new(alloc))?;
+        Ok(State::of(matcher, index, 0))
     }
 
     /// Working memory.
@@ -172,7 +173,7 @@ impl<M: Matcher> State<M> {
         ensures set { (rules : List Rule) → M.stands_for self.now.matcher rules
             → insts_of self.now.index.members ≡ conflict_set rules (M.stored self.now.matcher).elements }
     {
-        &self.index
+        self.index.as_ref()
     }
 
     /// How many firings were made.
@@ -200,7 +201,7 @@ impl<M: Matcher> State<M> {
             → M.stands_for self.now.matcher rules → KeepsSpecificities rules self.now.index.members
             → option_copied result ≡ next_to_fire rules (state_course M.stored self.now names coming) }
     {
-        self.index.select()
+        self.index.as_ref().select()
     }
 
     /// Does changes in their order, which is one phase: the matcher settles once, and the index takes in what that
@@ -233,7 +234,9 @@ impl<M: Matcher> State<M> {
         // the matcher is looked at for what it keeps true
         let _last = last_of(&matcher);
         let mut index = index;
-        index.apply(program, gone.as_slice(), come.as_slice())?;
+        index
+            .as_mut()
+            .apply(program, gone.as_slice(), come.as_slice())?;
         Ok(State::of(matcher, index, firings))
     }
 
@@ -246,7 +249,7 @@ impl<M: Matcher> State<M> {
           firings = self.old.firings + 1;
         } }
     {
-        self.index.mark(inst);
+        self.index.as_mut().mark(inst);
         self.firings += 1;
     }
 
@@ -330,6 +333,6 @@ impl<M: Matcher> State<M> {
             ≡ record (state_course M.stored self.old names coming) { strategy = strategy }) }
         ensures err { OnErr result (self.new ≡ self.old) }
     {
-        self.index.set_strategy(strategy)
+        self.index.as_mut().set_strategy(strategy)
     }
 }

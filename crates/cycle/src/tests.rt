@@ -212,7 +212,8 @@ fn counts(state: &State<Fake>) -> (u64, u64, usize) {
 fn mark_forgotten_over_two_cycles(rt: HostRuntime) -> Result<(), Fail> {
     let alloc = rt.alloc();
     let close = close(alloc)?;
-    let state = make(alloc, start(alloc)?, &close, 0)?;
+    let empty = start(alloc)?;
+    let state = make(alloc, empty, &close, 0)?;
     assert_eq!(rt; next_tag(&state), Some(1));
     let (state, halted) = fire(alloc, state, &close)?;
     assert!(rt; !halted);
@@ -229,7 +230,8 @@ fn mark_forgotten_over_two_cycles(rt: HostRuntime) -> Result<(), Fail> {
 fn mark_stays_in_one_phase(rt: HostRuntime) -> Result<(), Fail> {
     let alloc = rt.alloc();
     let once = once(alloc)?;
-    let state = make(alloc, start(alloc)?, &once, 0)?;
+    let empty = start(alloc)?;
+    let state = make(alloc, empty, &once, 0)?;
     let (state, halted) = fire(alloc, state, &once)?;
     assert!(rt; halted);
     assert_eq!(rt; (counts(&state), next_tag(&state)), ((1, 2, 1), None));

@@ -57,8 +57,9 @@ pub(crate) fn started<M: Matcher>(
     ensures under_way { IfOk result (IsUnderWay M.stored M.stands_for program.now.rules) }
 {
     let breaks = no_breaks(alloc, program)?;
+    let state = State::start(alloc, matcher)?;
     Ok(Session {
-        state: State::start(alloc, matcher),
+        state,
         pending: Listed::new(alloc),
         last_tag: 0,
         ran: false,

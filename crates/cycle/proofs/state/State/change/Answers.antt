@@ -3,45 +3,49 @@ use Rattle.cycle.proofs.state.State.change.Goals as goal
 
 pub apply-requires-clause-members : goal.apply-requires-clause-members
 apply-requires-clause-members g c =
-    members_of g.M.Matcher.stored g.M.Matcher.found g.M.Matcher.stands_for c.self.inside.matcher c.self.inside.index c.self.inside.firings c.self.invariant c.args.self c.self.view_is c.args.program.now.rules c.requires.stands
+    rw c.as_mut.ensures.value (
+    members_of g.M.Matcher.stored g.M.Matcher.found g.M.Matcher.stands_for c.self.inside.matcher c.self.inside.index.value c.self.inside.firings c.self.invariant c.args.self c.self.view_is c.args.program.now.rules c.requires.stands)
 
 pub apply-requires-clause-specificities : goal.apply-requires-clause-specificities
 apply-requires-clause-specificities g c =
-    specificities g.M.Matcher.stored g.M.Matcher.found g.M.Matcher.stands_for c.self.inside.matcher c.self.inside.index c.self.inside.firings c.self.invariant c.args.self c.self.view_is c.args.program.now.rules c.requires.stands c.requires.specificities
+    rw c.as_mut.ensures.value (
+    specificities g.M.Matcher.stored g.M.Matcher.found g.M.Matcher.stands_for c.self.inside.matcher c.self.inside.index.value c.self.inside.firings c.self.invariant c.args.self c.self.view_is c.args.program.now.rules c.requires.stands c.requires.specificities)
 
 pub apply-requires-clause-gone : goal.apply-requires-clause-gone
 apply-requires-clause-gone g c =
-    gone_of g.M.Matcher.stored g.M.Matcher.found g.M.Matcher.stands_for c.self.inside.matcher c.self.inside.index c.self.inside.firings c.self.invariant c.args.self c.self.view_is c.args.program.now.rules c.requires.stands
+    gone_of g.M.Matcher.stored g.M.Matcher.found g.M.Matcher.stands_for c.self.inside.matcher c.self.inside.index.value c.self.inside.firings c.self.invariant c.args.self c.self.view_is c.args.program.now.rules c.requires.stands
     c.in_ok-matcher.field-0.matcher c.in_ok-matcher.field-0.gone.items c.in_ok-matcher.field-0.come.items c.as_slice.result.now c.as_slice-2.result.now c.in_ok-matcher.ensures.settled c.as_slice.ensures.value c.as_slice-2.ensures.value
     c.last_of-last.ensures.kept c.last_of-last.ensures.set c.in_ok-matcher.ensures.stands
 
 pub apply-requires-clause-come : goal.apply-requires-clause-come
 apply-requires-clause-come g c =
-    come_of g.M.Matcher.stored g.M.Matcher.found g.M.Matcher.stands_for c.self.inside.matcher c.self.inside.index c.self.inside.firings c.self.invariant c.args.self c.self.view_is c.args.program.now.rules c.requires.stands
+    come_of g.M.Matcher.stored g.M.Matcher.found g.M.Matcher.stands_for c.self.inside.matcher c.self.inside.index.value c.self.inside.firings c.self.invariant c.args.self c.self.view_is c.args.program.now.rules c.requires.stands
     c.in_ok-matcher.field-0.matcher c.in_ok-matcher.field-0.gone.items c.in_ok-matcher.field-0.come.items c.as_slice.result.now c.as_slice-2.result.now c.in_ok-matcher.ensures.settled c.as_slice.ensures.value c.as_slice-2.ensures.value
     c.last_of-last.ensures.kept c.last_of-last.ensures.set c.in_ok-matcher.ensures.stands
 
 pub apply-requires-clause-part : goal.apply-requires-clause-part
 apply-requires-clause-part g c =
-    is_part g.M.Matcher.stored g.M.Matcher.found g.M.Matcher.stands_for c.self.inside.matcher c.self.inside.index c.self.inside.firings c.self.invariant c.args.self c.self.view_is c.args.program.now.rules c.requires.stands
+    rw c.as_mut.ensures.value (
+    is_part g.M.Matcher.stored g.M.Matcher.found g.M.Matcher.stands_for c.self.inside.matcher c.self.inside.index.value c.self.inside.firings c.self.invariant c.args.self c.self.view_is c.args.program.now.rules c.requires.stands
     c.in_ok-matcher.field-0.matcher c.in_ok-matcher.field-0.gone.items c.in_ok-matcher.field-0.come.items c.as_slice.result.now c.as_slice-2.result.now c.in_ok-matcher.ensures.settled c.as_slice.ensures.value c.as_slice-2.ensures.value
-    c.last_of-last.ensures.kept c.last_of-last.ensures.set c.in_ok-matcher.ensures.stands
+    c.last_of-last.ensures.kept c.last_of-last.ensures.set c.in_ok-matcher.ensures.stands)
 
 pub apply-requires-clause-apart : goal.apply-requires-clause-apart
 apply-requires-clause-apart g c =
-    is_apart g.M.Matcher.stored g.M.Matcher.found g.M.Matcher.stands_for c.self.inside.matcher c.self.inside.index c.self.inside.firings c.self.invariant c.args.self c.self.view_is c.args.program.now.rules c.requires.stands
+    rw c.as_mut.ensures.value (
+    is_apart g.M.Matcher.stored g.M.Matcher.found g.M.Matcher.stands_for c.self.inside.matcher c.self.inside.index.value c.self.inside.firings c.self.invariant c.args.self c.self.view_is c.args.program.now.rules c.requires.stands
     c.in_ok-matcher.field-0.matcher c.in_ok-matcher.field-0.gone.items c.in_ok-matcher.field-0.come.items c.as_slice.result.now c.as_slice-2.result.now c.in_ok-matcher.ensures.settled c.as_slice.ensures.value c.as_slice-2.ensures.value
-    c.last_of-last.ensures.kept c.last_of-last.ensures.set c.in_ok-matcher.ensures.stands
+    c.last_of-last.ensures.kept c.last_of-last.ensures.set c.in_ok-matcher.ensures.stands)
 
 pub of-requires : goal.of-requires
 of-requires g c =
-    again g.M.Matcher.stored g.M.Matcher.found g.M.Matcher.stands_for c.self.inside.matcher c.self.inside.index c.self.inside.firings c.self.invariant c.args.self c.self.view_is c.args.program.now.rules c.requires.stands
+    again g.M.Matcher.stored g.M.Matcher.found g.M.Matcher.stands_for c.self.inside.matcher c.self.inside.index.value c.self.inside.firings c.self.invariant c.args.self c.self.view_is c.args.program.now.rules c.requires.stands
     c.in_ok-matcher.field-0.matcher c.in_ok-matcher.field-0.gone.items c.in_ok-matcher.field-0.come.items c.as_slice.result.now c.as_slice-2.result.now c.in_ok-matcher.ensures.settled c.as_slice.ensures.value c.as_slice-2.ensures.value
-    c.last_of-last.ensures.kept c.last_of-last.ensures.set c.in_ok-matcher.ensures.stands c.apply.new.self c.in_ok-apply.ensures.ok
+    c.last_of-last.ensures.kept c.last_of-last.ensures.set c.in_ok-matcher.ensures.stands c.apply.new.self (rw c.as_mut.ensures.value at c.in_ok-apply.ensures.ok)
 
 pub returns-clause-course : goal.returns-clause-course
 returns-clause-course g c = λ names coming.
-    phase_done g.M.Matcher.stored g.M.Matcher.found g.M.Matcher.stands_for c.self.inside.matcher c.self.inside.index c.self.inside.firings c.self.invariant c.args.self c.self.view_is c.args.program.now.rules c.requires.stands
+    phase_done g.M.Matcher.stored g.M.Matcher.found g.M.Matcher.stands_for c.self.inside.matcher c.self.inside.index.value c.self.inside.firings c.self.invariant c.args.self c.self.view_is c.args.program.now.rules c.requires.stands
     c.in_ok-matcher.field-0.matcher c.in_ok-matcher.field-0.gone.items c.in_ok-matcher.field-0.come.items c.as_slice.result.now c.as_slice-2.result.now c.in_ok-matcher.ensures.settled c.as_slice.ensures.value c.as_slice-2.ensures.value
-    c.last_of-last.ensures.kept c.last_of-last.ensures.set c.in_ok-matcher.ensures.stands c.apply.new.self c.in_ok-apply.ensures.ok
+    c.last_of-last.ensures.kept c.last_of-last.ensures.set c.in_ok-matcher.ensures.stands c.apply.new.self (rw c.as_mut.ensures.value at c.in_ok-apply.ensures.ok)
     c.args.changes.now c.in_ok-matcher.ensures.elements c.in_ok-matcher.ensures.last c.of.result c.of.ensures names coming
