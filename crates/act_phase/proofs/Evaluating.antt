@@ -25,15 +25,14 @@ use Rattle.ops_tokens.specs.Accepting.{Accepted, accepted}
 use Rattle.ops_tokens.specs.declared.accept.AcceptFault.{AcceptFault}
 use Rattle.ops_tokens.specs.declared.accept.AcceptFault.TheVariants as accept_fault
 use Rattle.act_phase.specs.Deeds.{Scene, Acts, Gives, value_found, atom_found}
-use Rattle.act_phase.specs.State.{doing_of, held_in, valued_of}
-use Rattle.act_phase.specs.declared.doing.Doing.{Doing}
+use Rattle.act_phase.specs.State.{State, doing_of, held_in, valued_of}
 use Rattle.act_phase.specs.declared.outcome.Mishap.{Mishap}
 use Rattle.act_phase.specs.declared.outcome.Mishap.TheVariants as mishap
 use Rattle.act_phase.specs.declared.values.Values.{Values}
 use Rattle.act_phase.specs.declared.values.Values.TheVariants as values
 use Rattle.act_phase.proofs.Deeds.{does_nothing, does_given, still_all, still_done, still_short, silent_step, silent_fails}
 
-module _ (classes : List Class) (doing : Doing) (t : Term) where
+module _ (classes : List Class) (doing : State) (t : Term) where
   abbrev pub evaluates : Spellings → Coming → Effect Missed Valued
   evaluates names d = silent (evaluated classes t (doing_of doing names d))
 
@@ -43,7 +42,7 @@ module _ (classes : List Class) (doing : Doing) (t : Term) where
   pub constant_is : (v : Value) (names : Spellings) → t ≡ term.Constant v → (d : Coming) → evaluates names d ≡ leaves (v ∷ []) names d
   constant_is v names is d = ap (λ t. silent (evaluated classes t (doing_of doing names d))) is
 
-  pub variable_is : (n : ℕ) (v : Value) (names : Spellings) → t ≡ term.Variable n → v ≡ unwrap_or (value_of doing.bindings.items n) nil → (d : Coming) → evaluates names d ≡ leaves (v ∷ []) names d
+  pub variable_is : (n : ℕ) (v : Value) (names : Spellings) → t ≡ term.Variable n → v ≡ unwrap_or (value_of doing.bindings n) nil → (d : Coming) → evaluates names d ≡ leaves (v ∷ []) names d
   variable_is n v names is same d =
       ap (λ t. silent (evaluated classes t (doing_of doing names d))) is ∙ ap (λ v. leaves (v ∷ []) names d) (sym same)
 
@@ -82,14 +81,14 @@ computed_then : (d : Meant) (o : Computed) → computed_as d o ≡ followed_by (
 computed_then d (Ok v) = refl
 computed_then d (Err kind) = refl
 
-module _ (classes : List Class) (doing : Doing) (t : Term) (f : Formula) (is : t ≡ term.Compute f) (a : Scene) (w : IsTrue a.port.out.whole) where
+module _ (classes : List Class) (doing : State) (t : Term) (f : Formula) (is : t ≡ term.Compute f) (a : Scene) (w : IsTrue a.port.out.whole) where
   abbrev what : Result Value Missed
-  what = value_found (computed (λ v. unwrap_or (value_of doing.bindings.items v) nil) f)
+  what = value_found (computed (λ v. unwrap_or (value_of doing.bindings v) nil) f)
 
   computes : (d : Coming) → evaluated classes t (doing_of doing a.names d) ≡ followed_by (outcome_as (valued_by (doing_of doing a.names d)) (λ m. m) what) (λ v. Ok v)
   computes d =
       ap (λ t. evaluated classes t (doing_of doing a.names d)) is
-      ∙ computed_then (doing_of doing a.names d) (computed (λ v. unwrap_or (value_of doing.bindings.items v) nil) f)
+      ∙ computed_then (doing_of doing a.names d) (computed (λ v. unwrap_or (value_of doing.bindings v) nil) f)
 
   pub compute_ok : (v : Value) → Gives (λ v. v) (Ok v) what → Acts (λ v d. valued_of v (doing_of doing a.names d)) (Ok (values.One v)) a a (evaluates classes doing t a.names)
   compute_ok v g =
@@ -101,19 +100,19 @@ module _ (classes : List Class) (doing : Doing) (t : Term) (f : Formula) (is : t
 
 -- ---- accepted atoms
 
-abbrev valued_with : Doing → Accepted → Result Valued Missed
+abbrev valued_with : State → Accepted → Result Valued Missed
 valued_with doing x = Ok (record { values = x.value ∷ []; doing = doing_of doing x.names x.coming })
 
-accepted_then : (doing : Doing) (names : Spellings) (d : Coming) (o : Result Accepted AcceptFault) → accepted_in (doing_of doing names d) o ≡ followed_by (atom_found o) (valued_with doing)
+accepted_then : (doing : State) (names : Spellings) (d : Coming) (o : Result Accepted AcceptFault) → accepted_in (doing_of doing names d) o ≡ followed_by (atom_found o) (valued_with doing)
 accepted_then doing names d (Ok x) = refl
 accepted_then doing names d (Err accept_fault.TooLong) = refl
 accepted_then doing names d (Err accept_fault.Read) = refl
 accepted_then doing names d (Err accept_fault.OutOfMemory) = refl
 
-accepts : (classes : List Class) (doing : Doing) (t : Term) (names : Spellings) → t ≡ term.Accept → (d : Coming) → evaluated classes t (doing_of doing names d) ≡ followed_by (atom_found (accepted names d)) (valued_with doing)
+accepts : (classes : List Class) (doing : State) (t : Term) (names : Spellings) → t ≡ term.Accept → (d : Coming) → evaluated classes t (doing_of doing names d) ≡ followed_by (atom_found (accepted names d)) (valued_with doing)
 accepts classes doing t names is d = ap (λ t. evaluated classes t (doing_of doing names d)) is ∙ accepted_then doing names d (accepted names d)
 
-module _ (classes : List Class) (doing : Doing) (t : Term) (is : t ≡ term.Accept) {a b : Scene} (w : IsTrue a.port.out.whole) where
+module _ (classes : List Class) (doing : State) (t : Term) (is : t ≡ term.Accept) {a b : Scene} (w : IsTrue a.port.out.whole) where
   pub accept_ok : (v : Value) (next : Spellings) → Acts (λ v d. record { value = v; names = next; coming = d }) (Ok v) a b (λ d. silent (atom_found (accepted a.names d)))
       → Acts (λ v d. valued_of v (doing_of doing next d)) (Ok (values.One v)) a b (evaluates classes doing t a.names)
   accept_ok v next p = still_done (values.One v) (silent_step (valued_with doing) (still_all a (evaluates classes doing t a.names) w) p (accepts classes doing t a.names is)) (λ d. refl)

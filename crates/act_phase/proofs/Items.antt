@@ -16,8 +16,7 @@ use Rattle.ops_meaning.specs.Acting.{Mishap as Missed, Doing as Meant, Valued, e
 use Rattle.ops_meaning.specs.Effects.{Effect, writes, silent, and_then}
 use Rattle.ops_meaning.specs.Layout.{Lead, Apart, value_bytes, values_bytes, tab_bytes}
 use Rattle.act_phase.specs.Deeds.{Scene, Acts, StillDoes}
-use Rattle.act_phase.specs.State.{doing_of, values_in, valued_of}
-use Rattle.act_phase.specs.declared.doing.Doing.{Doing}
+use Rattle.act_phase.specs.State.{State, doing_of, values_in, valued_of}
 use Rattle.act_phase.specs.declared.outcome.Mishap.{Mishap}
 use Rattle.act_phase.specs.declared.outcome.Mishap.TheVariants as mishap
 use Rattle.act_phase.specs.declared.values.Values.{Values}
@@ -47,7 +46,7 @@ printed_then : (lead : Lead) (column : ℕ) (r : Result Valued Missed) → print
 printed_then lead column (Ok v) = refl
 printed_then lead column (Err m) = refl
 
-module _ (classes : List Class) (doing : Doing) (t : Term) (lead : Lead) {a b : Scene} (w : IsTrue a.port.out.whole) where
+module _ (classes : List Class) (doing : State) (t : Term) (lead : Lead) {a b : Scene} (w : IsTrue a.port.out.whole) where
   pub value_found : (v : Values) (vs : List Value) → vs ≡ values_in v → Acts (λ v d. valued_of v (doing_of doing b.names d)) (Ok v) a b (λ d. silent (evaluated classes t (doing_of doing a.names d)))
       → StillDoes a b (λ d. item_done classes lead a.port.out.column (item.Print t) (doing_of doing a.names d)) (λ d. writes (values_bytes b.names lead b.port.out.column vs) (doing_of doing b.names d))
   value_found v vs same p =
@@ -63,7 +62,7 @@ module _ (classes : List Class) (doing : Doing) (t : Term) (lead : Lead) {a b : 
 
 -- ---- one item after another
 
-module _ (classes : List Class) (doing : Doing) (lead : Lead) (items : List Item) (i : ℕ) (x : Item) (within : i < length items) (is : x ≡ get_or items i x) where
+module _ (classes : List Class) (doing : State) (lead : Lead) (items : List Item) (i : ℕ) (x : Item) (within : i < length items) (is : x ≡ get_or items i x) where
   abbrev behind_item : ℕ → Meant → Effect Missed Meant
   behind_item n d = items_done classes (lead_after x) n (drop (i + 1) items) d
 
@@ -80,12 +79,12 @@ module _ (classes : List Class) (doing : Doing) (lead : Lead) (items : List Item
 
 -- ---- tabs and widths
 
-pub tab_left : (classes : List Class) (doing : Doing) (lead : Lead) (n m : ℕ) (x : Item) (a : Scene) → IsTrue a.port.out.whole → x ≡ item.TabTo n → m ≡ n
+pub tab_left : (classes : List Class) (doing : State) (lead : Lead) (n m : ℕ) (x : Item) (a : Scene) → IsTrue a.port.out.whole → x ≡ item.TabTo n → m ≡ n
     → StillDoes a a (λ d. item_done classes lead a.port.out.column x (doing_of doing a.names d)) (λ d. writes (tab_bytes m a.port.out.column) (doing_of doing a.names d))
 tab_left classes doing lead n m x a w is same =
     still_same _ (still_all a (λ d. item_done classes lead a.port.out.column x (doing_of doing a.names d)) w)
     (λ d. ap (λ x. item_done classes lead a.port.out.column x (doing_of doing a.names d)) is ∙ ap (λ n. writes (tab_bytes n a.port.out.column) (doing_of doing a.names d)) (sym same))
 
-pub width_done : {X : Type 0} (classes : List Class) (doing : Doing) (lead : Lead) (n : ℕ) (x : Item) (a : Scene) (y : X) → IsTrue a.port.out.whole → x ≡ item.RightIn n
+pub width_done : {X : Type 0} (classes : List Class) (doing : State) (lead : Lead) (n : ℕ) (x : Item) (a : Scene) (y : X) → IsTrue a.port.out.whole → x ≡ item.RightIn n
     → Acts (λ _ d. doing_of doing a.names d) (Ok y) a a (λ d. item_done classes lead a.port.out.column x (doing_of doing a.names d))
 width_done classes doing lead n x a y w is = does_nothing y a _ w (λ d. ap (λ x. item_done classes lead a.port.out.column x (doing_of doing a.names d)) is)

@@ -1,5 +1,6 @@
 pub mod Asking
 pub mod Atoms
+pub mod Cells
 pub mod Computed
 pub mod Counts
 pub mod Deeds

@@ -13,8 +13,7 @@ use Rattle.ops_io.specs.Coming.{Coming}
 use Rattle.ops_meaning.specs.Acting.{Mishap as Missed, Doing as Meant, Valued, Filled, evaluated, values_placed, placed, terms_placed}
 use Rattle.ops_meaning.specs.Effects.{Effect, silent, followed_by, outcome_as}
 use Rattle.act_phase.specs.Deeds.{Scene, Acts, StillDoes, Gives, fields_found}
-use Rattle.act_phase.specs.State.{doing_of, values_in, valued_of, filled_of}
-use Rattle.act_phase.specs.declared.doing.Doing.{Doing}
+use Rattle.act_phase.specs.State.{State, doing_of, values_in, valued_of, filled_of}
 use Rattle.act_phase.specs.declared.outcome.Mishap.{Mishap}
 use Rattle.act_phase.specs.declared.values.Values.{Values}
 use Rattle.act_phase.proofs.Deeds.{does_given, still_same, silent_step, silent_fails}
@@ -72,7 +71,7 @@ terms_here : (classes : List Class) (at i : ℕ) (terms : List Term) (t : Term) 
 terms_here classes at i terms t fields d within is =
     ap (λ ts. terms_placed classes at ts (filled_of fields d)) (drop_more terms i t within ∙ ap (λ u. u ∷ drop (i + 1) terms) (sym is))
 
-module _ (classes : List Class) (doing : Doing) (terms : List Term) (at i : ℕ) (t : Term) (fields : List Value) (within : i < length terms) (is : t ≡ get_or terms i t) {a b c : Scene} {whole : Coming → Effect Missed Filled}
+module _ (classes : List Class) (doing : State) (terms : List Term) (at i : ℕ) (t : Term) (fields : List Value) (within : i < length terms) (is : t ≡ get_or terms i t) {a b c : Scene} {whole : Coming → Effect Missed Filled}
     (p : StillDoes a b whole (λ d. silent (terms_placed classes at (drop i terms) (filled_of fields (doing_of doing b.names d))))) where
   pub term_ok : (v : Values) → Acts (λ v d. valued_of v (doing_of doing c.names d)) (Ok v) b c (λ d. silent (evaluated classes t (doing_of doing b.names d)))
       → StillDoes a c whole (λ d. silent (behind_value classes at fields (drop (i + 1) terms) (valued_of v (doing_of doing c.names d))))
@@ -82,7 +81,7 @@ module _ (classes : List Class) (doing : Doing) (terms : List Term) (at i : ℕ)
   term_err seen r f h q =
       silent_fails seen r (behind_value classes at fields (drop (i + 1) terms)) h p q (λ d. terms_here classes at i terms t fields (doing_of doing b.names d) within is)
 
-module _ (classes : List Class) (doing : Doing) (behind : List Term) (at : ℕ) (fields : List Value) (v : Values) (vs : List Value) (same : vs ≡ values_in v) {a b : Scene} {whole : Coming → Effect Missed Filled}
+module _ (classes : List Class) (doing : State) (behind : List Term) (at : ℕ) (fields : List Value) (v : Values) (vs : List Value) (same : vs ≡ values_in v) {a b : Scene} {whole : Coming → Effect Missed Filled}
     (p : StillDoes a b whole (λ d. silent (behind_value classes at fields behind (valued_of v (doing_of doing b.names d))))) where
   finds : (d : Coming) → placed (doing_of doing b.names d) (values_placed at (values_in v) fields) ≡ outcome_as (λ fields. filled_of fields (doing_of doing b.names d)) (λ m. m) (fields_found (values_placed at vs fields))
   finds d =
@@ -104,7 +103,7 @@ module _ (classes : List Class) (doing : Doing) (behind : List Term) (at : ℕ) 
 -- ---- one attribute after another
 
 module _ (all : List Put → Filled → Result Filled Missed) (step : Put → Filled → Result Filled Missed) (cons : (p : Put) (ps : List Put) (f : Filled) → all (p ∷ ps) f ≡ followed_by (step p f) (all ps))
-    (doing : Doing) (puts : List Put) (i : ℕ) (put : Put) (fields : List Value) (within : i < length puts) (is : put ≡ get_or puts i put) where
+    (doing : State) (puts : List Put) (i : ℕ) (put : Put) (fields : List Value) (within : i < length puts) (is : put ≡ get_or puts i put) where
   puts_here : (names : Spellings) (part : Coming → Result Filled Missed) → ((d : Coming) → step put (filled_of fields (doing_of doing names d)) ≡ part d) → (d : Coming) → all (drop i puts) (filled_of fields (doing_of doing names d)) ≡ followed_by (part d) (all (drop (i + 1) puts))
   puts_here names part does d =
       ap (λ ps. all ps (filled_of fields (doing_of doing names d))) (drop_more puts i put within ∙ ap (λ q. q ∷ drop (i + 1) puts) (sym is))

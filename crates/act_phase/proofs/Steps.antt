@@ -21,8 +21,7 @@ use Rattle.work_store.specs.Stored.{Stored, IsStored}
 use Rattle.act_phase.specs.Deeds.{Scene, Does, Acts, StillDoes}
 use Rattle.act_phase.specs.Held.{element_held, change_held}
 use Rattle.act_phase.specs.Outcomes.{acted_of, failure_of, mishap_of, is_read, is_read_mishap}
-use Rattle.act_phase.specs.State.{doing_of}
-use Rattle.act_phase.specs.declared.doing.Doing.{Doing}
+use Rattle.act_phase.specs.State.{State, doing_of}
 use Rattle.act_phase.specs.declared.outcome.Acted.{Acted}
 use Rattle.act_phase.specs.declared.outcome.ActFault.{ActFault}
 use Rattle.act_phase.specs.declared.outcome.ActFault.TheVariants as fault
@@ -48,7 +47,7 @@ module _ {S T : Type 0} (left : Coming → Result S Missed) (next : S → T) {a 
   then_fails seen r p h = silent_fails seen r (λ s. Ok (next s)) h (still_all a (λ d. silent (followed_by (left d) (λ s. Ok (next s)))) w) p (λ d. refl)
 
 -- an action that neither reads nor puts
-pub action_quiet : {X : Type 0} (y : X) (s : Setting) (x known : Action) (now next : Doing) (a : Scene) → IsTrue a.port.out.whole → x ≡ known → ((names : Spellings) (d : Coming) → action_done s a.port.out.column known (doing_of now names d) ≡ writes [] (doing_of next names d))
+pub action_quiet : {X : Type 0} (y : X) (s : Setting) (x known : Action) (now next : State) (a : Scene) → IsTrue a.port.out.whole → x ≡ known → ((names : Spellings) (d : Coming) → action_done s a.port.out.column known (doing_of now names d) ≡ writes [] (doing_of next names d))
     → Acts (λ _ d. doing_of next a.names d) (Ok y) a a (λ d. action_done s a.port.out.column x (doing_of now a.names d))
 action_quiet y s x known now next a w is does =
     does_nothing y a _ w (λ d. ap (λ x. action_done s a.port.out.column x (doing_of now a.names d)) is ∙ does a.names d)
@@ -91,7 +90,7 @@ module _ (s : Setting) (actions : List Action) (i : ℕ) (x : Action) (within : 
       ap (λ rest. actions_done s column (i + 1) rest d) (drop_more actions i x within ∙ ap (λ y. y ∷ drop (i + 1) actions) (sym is))
       ∙ ap (λ n. and_then {T = Meant} column (told_as (λ d. d) (in_action (i + 1)) (action_done s column x d)) (λ next d. actions_done s next n (drop (i + 1) actions) d)) more
 
-  module _ (now next : Doing) {a b c : Scene} {whole : Coming → Effect Misdeed Meant} (p : StillDoes a b whole (λ d. actions_done s b.port.out.column (i + 1) (drop i actions) (doing_of now b.names d))) where
+  module _ (now next : State) {a b c : Scene} {whole : Coming → Effect Misdeed Meant} (p : StillDoes a b whole (λ d. actions_done s b.port.out.column (i + 1) (drop i actions) (doing_of now b.names d))) where
     pub action_ok : {X : Type 0} {y : X} → Does (λ _ d. doing_of next c.names d) failure_of is_read (Ok y) b c (λ d. told_as (λ d. d) (in_action (i + 1)) (action_done s b.port.out.column x (doing_of now b.names d)))
         → StillDoes a c whole (λ d. actions_done s c.port.out.column (i + 1 + 1) (drop (i + 1) actions) (doing_of next c.names d))
     action_ok q = still_then behind p q (λ d. actions_here b.port.out.column (doing_of now b.names d))
@@ -127,7 +126,7 @@ module _ (s : Setting) (inst : Inst) (wm : List Element) (last : ℕ) (a : Scene
   pub whole_short : {Y : Type 0} (seen : Y → Coming → Done) (r : Result Y ActFault) → IsErrAnd r (λ g. g ≡ fault.OutOfMemory) → IsTrue a.port.out.whole → Does seen failure_of is_read r a a right_side
   whole_short seen r h w = still_short r fault.OutOfMemory h refl refl (still_all a right_side w)
 
-  module _ (actions : List Action) (same : actions ≡ actions_of s.rules inst.rule) (start : Doing) (begin : (names : Spellings) (d : Coming) → doing_of start names d ≡ begun s inst (record { wm = wm; last = last; names = names; coming = d })) where
+  module _ (actions : List Action) (same : actions ≡ actions_of s.rules inst.rule) (start : State) (begin : (names : Spellings) (d : Coming) → doing_of start names d ≡ begun s inst (record { wm = wm; last = last; names = names; coming = d })) where
     abbrev done : Coming → Effect Misdeed Meant
     done d = actions_done s a.port.out.column 1 actions (doing_of start a.names d)
 
@@ -139,7 +138,7 @@ module _ (s : Setting) (inst : Inst) (wm : List Element) (last : ℕ) (a : Scene
         ∙ told_then a.port.out.column left_by (done d)
 
     -- all actions were done
-    pub whole_ok : {X : Type 0} {x : X} {b : Scene} (end : Doing) (r : Acted) → Does (λ _ d. doing_of end b.names d) failure_of is_read (Ok x) a b done → ((names : Spellings) (d : Coming) → acted_of r names d ≡ left_by (doing_of end names d)) → IsTrue a.port.out.whole
+    pub whole_ok : {X : Type 0} {x : X} {b : Scene} (end : State) (r : Acted) → Does (λ _ d. doing_of end b.names d) failure_of is_read (Ok x) a b done → ((names : Spellings) (d : Coming) → acted_of r names d ≡ left_by (doing_of end names d)) → IsTrue a.port.out.whole
         → Does (λ r d. acted_of r b.names d) failure_of is_read (Ok r) a b right_side
     whole_ok {b = b} end r p left w =
         still_done r (still_then (λ _ d. writes [] (left_by d)) (still_all a right_side w) p whole_here) (λ d. ap (λ s. writes [] s) (sym (left b.names d)))

@@ -19,8 +19,7 @@ use Rattle.ops_meaning.specs.Effects.{Effect, writes, and_then}
 use Rattle.ops_meaning.specs.Layout.{fresh_line, line_at, lines_at, traced}
 use Rattle.act_phase.specs.Changed.{Changed, GoesOnTo, memory_of}
 use Rattle.act_phase.specs.Deeds.{Scene, Acts, StillDoes}
-use Rattle.act_phase.specs.State.{doing_of}
-use Rattle.act_phase.specs.declared.doing.Doing.{Doing}
+use Rattle.act_phase.specs.State.{State, doing_of}
 use Rattle.act_phase.specs.declared.outcome.Mishap.{Mishap}
 use Rattle.act_phase.proofs.Deeds.{still_all, still_same, still_then, still_fails}
 
@@ -72,7 +71,7 @@ same_lines names classes old new n g is =
 abbrev pub with_lines : Setting → Changed → ℕ → (Coming → Effect Missed Meant) → Coming → Effect Missed Meant
 with_lines s w column part d = and_then column (part d) (told s w)
 
-module _ (s : Setting) (old new : Doing) {a b : Scene} {part : Coming → Effect Missed Meant} (w : IsTrue a.port.out.whole) where
+module _ (s : Setting) (old new : State) {a b : Scene} {part : Coming → Effect Missed Meant} (w : IsTrue a.port.out.whole) where
   -- the action is done, and its changes are still to be told
   pub still_told : {X : Type 0} {x : X} (n : ℕ) → Acts (λ _ d. doing_of new b.names d) (Ok x) a b part → GoesOnTo old.working new.working → n ≡ length old.working.changes
       → StillDoes a b (with_lines s old.working a.port.out.column part) (λ d. writes (traced s.watch b.port.out.column (lines_since b.names s.classes n new.working)) (doing_of new b.names d))
@@ -85,7 +84,7 @@ module _ (s : Setting) (old new : Doing) {a b : Scene} {part : Coming → Effect
   never_told seen r h p = still_fails seen r (told s old.working) h (still_all a (with_lines s old.working a.port.out.column part) w) p (λ d. refl)
 
 -- elements were removed, which is still to be told
-pub removal_told : (s : Setting) (old new : Doing) (a : Scene) (x : Action) (n : ℕ) (cells all : List ℕ) → IsTrue a.port.out.whole → x ≡ action.Remove cells → all ≡ cells
+pub removal_told : (s : Setting) (old new : State) (a : Scene) (x : Action) (n : ℕ) (cells all : List ℕ) → IsTrue a.port.out.whole → x ≡ action.Remove cells → all ≡ cells
     → ((names : Spellings) (coming : Coming) → doing_of new names coming ≡ fold (λ d c. removed d (cell_of d c).tag) (doing_of old names coming) all)
     → GoesOnTo old.working new.working → n ≡ length old.working.changes
     → StillDoes a a (λ d. action_done s a.port.out.column x (doing_of old a.names d))

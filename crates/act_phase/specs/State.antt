@@ -1,39 +1,59 @@
 -- What the state of a right side in the code stands for.
-use Rattle.std.specs.Prelude.{ℕ, List, [], ◌∷◌, map, slice_get, unwrap_or}
+use Rattle.std.specs.Prelude.{ℕ, List, [], ◌∷◌, Bool, true, nat_lt, slice_get, option_map, unwrap_or}
 use Rattle.ops_base.specs.Names.{Spellings}
 use Rattle.ops_base.specs.declared.elements.Element.{Element}
+use Rattle.ops_base.specs.declared.elements.Change.{Change}
+use Rattle.ops_base.specs.declared.matching.Binding.{Binding}
 use Rattle.ops_base.specs.declared.values.Value.{Value}
 use Rattle.ops_io.specs.Coming.{Coming}
-use Rattle.ops_meaning.specs.Acting.{Doing as Meant, Valued, Filled, element_of, no_element}
-use Rattle.act_phase.specs.Changed.{memory_of}
+use Rattle.ops_meaning.specs.Acting.{Doing as Meant, Valued, Filled, element_of, no_element, made_by}
+use Rattle.act_phase.specs.Changed.{Changed, memory_of}
 use Rattle.act_phase.specs.declared.doing.Cell.{Cell}
 use Rattle.act_phase.specs.declared.doing.Cell.TheVariants as cell
-use Rattle.act_phase.specs.declared.doing.Doing.{Doing}
 use Rattle.act_phase.specs.declared.values.Values.{Values}
 use Rattle.act_phase.specs.declared.values.Values.TheVariants as values
 
--- the element that a cell holds
-abbrev pub held_by : List Element → Cell → Element
-held_by start (cell.Matched tag) = unwrap_or (element_of start tag) no_element
-held_by start (cell.Made e) = e
+-- working memory and its changes so far, what the variables are bound to, the elements that the cells hold, and whether
+-- `halt` was done
+pub record State : Type 0 where
+  pub working : Changed
+  pub bindings : List Binding
+  pub cells : List Element
+  pub halted : Bool
+
+-- the element that the change at this place adds
+abbrev pub made_at : List Change → ℕ → Element
+made_at changes place = unwrap_or (option_map (made_by no_element) (slice_get changes place)) no_element
+
+-- the element that a cell holds, where these changes were made to working memory
+abbrev pub held_by : List Element → List Change → Cell → Element
+held_by start changes (cell.Matched tag) = unwrap_or (element_of start tag) no_element
+held_by start changes (cell.Made place) = made_at changes place
+held_by start changes cell.Nothing = no_element
+
+-- the change that a cell names is among so many
+abbrev pub is_there : ℕ → Cell → Bool
+is_there n (cell.Matched tag) = true
+is_there n (cell.Made place) = nat_lt place n
+is_there n cell.Nothing = true
 
 -- with these names in use, and this input still to come
-abbrev pub doing_of : Doing → Spellings → Coming → Meant
+abbrev pub doing_of : State → Spellings → Coming → Meant
 doing_of d names coming =
     record {
       wm = memory_of d.working;
       changes = d.working.changes;
       last = d.working.last;
-      bindings = d.bindings.items;
-      cells = map (held_by d.working.start) d.cells.items;
+      bindings = d.bindings;
+      cells = d.cells;
       halted = d.halted;
       names = names;
       coming = coming;
     }
 
 -- the element of a cell, whatever names are in use
-abbrev pub held_in : Doing → ℕ → Element
-held_in d cell = unwrap_or (slice_get (map (held_by d.working.start) d.cells.items) cell) no_element
+abbrev pub held_in : State → ℕ → Element
+held_in d cell = unwrap_or (slice_get d.cells cell) no_element
 
 abbrev pub values_in : Values → List Value
 values_in (values.One v) = v ∷ []

@@ -92,7 +92,7 @@ fn modify<I: Source, K: Sink>(
     let fields = modified_fields(
         alloc, classes, names, doing, cell, puts, input, source, out, sink,
     )?;
-    Ok(doing.modify(alloc, cell, fields)?)
+    Ok(doing.modify(cell, fields)?)
 }
 
 /// Binds a variable to the first value of a term, `nil` where it has none.
@@ -160,12 +160,12 @@ fn make_and_tell<I: Source, K: Sink>(
     ensures written { fails_by is_read_mishap result ≡ true → out.new.held ≡ [] }
     ensures untouched { list_any put_asks puts.now ≡ false → (input.new ≡ input.old) × (source.new ≡ source.old) }
 {
-    let since = doing.working.changes().len();
+    let since = doing.changes().len();
     let classes = program.classes.as_slice();
     make(
         alloc, classes, names, doing, class, puts, input, source, out, sink,
     )?;
-    Ok(tell_changes(program, names, &doing.working, watch, since, out, sink)?)
+    Ok(tell_changes(program, names, doing.working(), watch, since, out, sink)?)
 }
 
 /// Puts a copy with other fields in the place of a cell's element, and tells of both where elements are traced.
@@ -192,12 +192,12 @@ fn modify_and_tell<I: Source, K: Sink>(
     ensures written { fails_by is_read_mishap result ≡ true → out.new.held ≡ [] }
     ensures untouched { list_any put_asks puts.now ≡ false → (input.new ≡ input.old) × (source.new ≡ source.old) }
 {
-    let since = doing.working.changes().len();
+    let since = doing.changes().len();
     let classes = program.classes.as_slice();
     modify(
         alloc, classes, names, doing, cell, puts, input, source, out, sink,
     )?;
-    Ok(tell_changes(program, names, &doing.working, watch, since, out, sink)?)
+    Ok(tell_changes(program, names, doing.working(), watch, since, out, sink)?)
 }
 
 /// Does an action.
@@ -238,9 +238,9 @@ fn act_one<I: Source, K: Sink>(
             )
         }
         Action::Remove { cells } => {
-            let since = doing.working.changes().len();
+            let since = doing.changes().len();
             remove(doing, cells.as_slice())?;
-            Ok(tell_changes(program, names, &doing.working, watch, since, out, sink)?)
+            Ok(tell_changes(program, names, doing.working(), watch, since, out, sink)?)
         }
         Action::Write { items } => {
             let items = items.as_slice();
@@ -251,9 +251,9 @@ fn act_one<I: Source, K: Sink>(
         Action::Bind { variable, term } => bind(
             alloc, classes, names, doing, *variable, term, input, source, out, sink,
         ),
-        Action::Cbind { .. } => Ok(doing.bind_cell(alloc)?),
+        Action::Cbind { .. } => Ok(doing.bind_cell()?),
         Action::Halt => {
-            doing.halted = true;
+            doing.halt();
             Ok(())
         }
     }
@@ -342,8 +342,8 @@ fn act_all<I: Source, K: Sink>(
 }
 
 /// Does the right side of an instantiation, whose first new element gets the tag `next_tag`. The store is only read: an
-/// element of the left side is looked up there, and an element is copied only where it is modified or named. Before an
-/// `accept` all that was put is written. Where `watch` is 2, what an action has removed and made is told once it is done: an
+/// element of the left side is looked up there, and its fields are copied only where it is modified. Before an `accept`
+/// all that was put is written. Where `watch` is 2, what an action has removed and made is told once it is done: an
 /// element of the left side is looked up in the store for that, and for one that the right side has made itself it goes
 /// back over the changes to where it was made. A session is over long before the tags are, so that one beyond 64 bits
 /// is answered as want of memory.

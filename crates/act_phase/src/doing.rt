@@ -1,49 +1,86 @@
 //! `Doing`, the whole state between two actions: working memory, bindings, cells, and whether `halt` was done.
-ghost use Rattle.std.specs.Prelude.{◌≡◌, ◌+◌, ◌-◌, ◌<◌, IfOk, OnOk, [], ◌∷◌, map, true, false, unwrap_or};
+ghost use Rattle.std.specs.Prelude.{◌≡◌, ◌+◌, ◌-◌, ◌<◌, IfOk, OnOk, [], ◌∷◌, map, true, false, unwrap_or, length, slice_set, List};
+ghost use Rattle.std.specs.List.{list_all};
 ghost use Rattle.std.specs.Option.{option_copied};
 ghost use Rattle.ops_base.specs.Names.{Spellings};
 ghost use Rattle.ops_io.specs.Coming.{Coming};
 ghost use Rattle.ops_meaning.specs.Acting.{elements_of, bindings_of, no_element, made_last, added, removed, modified, cell_bound, bound, left_by};
 ghost use Rattle.act_phase.specs.Changed.{GoesOnTo};
 ghost use Rattle.act_phase.specs.Outcomes.{acted_of};
-ghost use Rattle.act_phase.specs.State.{held_by, held_in, doing_of};
+ghost use Rattle.act_phase.specs.State.{held_by, is_there, made_at, held_in, doing_of};
 
 use crate::bindings::bindings_of;
 use crate::outcome::Acted;
 use crate::working::Working;
 use ops_base::conditions::Condition;
-use ops_base::elements::Element;
+use ops_base::elements::{Change, Element};
 use ops_base::list::Listed;
 use ops_base::matching::Binding;
 use ops_base::memory::OutOfMemory;
 use ops_base::values::Value;
 use std::alloc::Global;
+use std::marker::Model;
 use work_store::Store;
 
-/// What a cell holds: the element of a tag, which stands in the store, or a copy of one that was made here.
+/// What a cell holds: the element of a tag, which stands in the store, the element that the change at a place adds, or none.
 #[derive(Drop)]
 pub(crate) enum Cell {
     Matched(u64),
-    Made(Element),
+    Made(usize),
+    Nothing,
 }
 
-/// The state of a right side between two of its actions.
+/// The state of a right side between two of its actions. A cell copies no element, and the changes only grow, so that the
+/// change that it names stays where it is.
 #[derive(Drop)]
 pub(crate) struct Doing<'s> {
-    pub(crate) working: Working<'s>,
-    pub(crate) bindings: Vec<Binding>,
-    pub(crate) cells: Vec<Cell>,
-    pub(crate) halted: bool,
+    working: Working<'s>,
+    bindings: Vec<Binding>,
+    cells: Vec<Cell>,
+    halted: bool,
+}
+
+impl<'s> Model for Doing<'s> {
+    ghost use Rattle.std.specs.Prelude.{◌≡◌, map, length, true};
+    ghost use Rattle.std.specs.List.{list_all};
+    ghost use Rattle.act_phase.specs.State.{State, held_by, is_there};
+
+    ghost Value = { State };
+
+    ghost view = { λ d. record {
+      working = d.working;
+      bindings = d.bindings.items;
+      cells = map (held_by d.working.start d.working.changes) d.cells.items;
+      halted = d.halted;
+    } };
+
+    ghost invariant = { λ d. list_all (is_there (length d.working.changes)) d.cells.items ≡ true };
 }
 
 fn cells_of(alloc: Global, store: &Store, tags: &[u64]) -> Result<Vec<Cell>, OutOfMemory>
-    ensures { IfOk result (λ cells. map (held_by store.now.elements) cells.items ≡ elements_of store.now.elements tags.now) }
+    ensures held { IfOk result (λ cells. map (held_by store.now.elements []) cells.items ≡ elements_of store.now.elements tags.now) }
+    ensures there { IfOk result (λ cells. list_all (is_there 0) cells.items ≡ true) }
 {
     let mut cells = Vec::new(alloc);
     for tag in tags {
         cells.push(Cell::Matched(*tag))?;
     }
     Ok(cells)
+}
+
+/// A cell of the element that was added last. Looks at the changes since then.
+fn last_made(changes: &[Change]) -> Cell
+    ensures held { (start : List Element) → held_by start changes.now result ≡ made_last changes.now }
+    ensures there { is_there (length changes.now) result ≡ true }
+{
+    let mut place = changes.len();
+    while place > 0 {
+        place -= 1;
+        if let Change::Add(_) = &changes[place] {
+            return Cell::Made(place);
+        }
+    }
+    Cell::Nothing
 }
 
 impl<'s> Doing<'s> {
@@ -81,8 +118,28 @@ impl<'s> Doing<'s> {
     {
         match self.cells.get(cell)? {
             Cell::Matched(tag) => self.working.store().get(*tag),
-            Cell::Made(element) => Some(element),
+            Cell::Made(place) => self.working.made_at(*place),
+            Cell::Nothing => None,
         }
+    }
+
+    pub(crate) fn working(&self) -> &Working<'s>
+        ensures { result.now ≡ self.now.working }
+    {
+        &self.working
+    }
+
+    pub(crate) fn changes(&self) -> &[Change]
+        ensures { result.now ≡ self.now.working.changes }
+    {
+        self.working.changes()
+    }
+
+    /// What the variables are bound to.
+    pub(crate) fn bindings(&self) -> &[Binding]
+        ensures { result.now ≡ self.now.bindings }
+    {
+        self.bindings.as_slice()
     }
 
     fn tag(&self, cell: usize) -> u64
@@ -107,6 +164,7 @@ impl<'s> Doing<'s> {
     pub(crate) fn make(&mut self, class: usize, fields: Vec<Value>) -> Result<(), OutOfMemory>
         ensures does { OnOk result ((names : Spellings) (coming : Coming) → doing_of self.new names coming ≡ added (doing_of self.old names coming) class fields.items) }
         ensures goes_on { OnOk result (GoesOnTo self.old.working self.new.working) }
+        ensures grows { OnOk result (length self.old.working.changes < length self.new.working.changes) }
     {
         self.working.add(class, Listed::from_vec(fields))?;
         Ok(())
@@ -122,47 +180,43 @@ impl<'s> Doing<'s> {
         Ok(())
     }
 
-    /// A copy of the element that was made last.
-    fn copy_made(&self, alloc: Global) -> Result<Element, OutOfMemory>
-        ensures { IfOk result (λ e. e ≡ made_last self.now.working.changes) }
-    {
-        match self.working.made_last() {
-            Some(element) => element.copy(alloc),
-            None => Ok(Element {
-                tag: 0,
-                class: 0,
-                fields: Listed::new(alloc),
-            }),
-        }
-    }
-
-    /// Puts an element with these fields in the place of that of a cell, in working memory and in the cell.
-    pub(crate) fn modify(
-        &mut self,
-        alloc: Global,
-        cell: usize,
-        fields: Vec<Value>,
-    ) -> Result<(), OutOfMemory>
+    /// Puts an element with these fields in the place of that of a cell, in working memory and in the cell. Nothing is copied.
+    pub(crate) fn modify(&mut self, cell: usize, fields: Vec<Value>) -> Result<(), OutOfMemory>
         ensures does { OnOk result ((names : Spellings) (coming : Coming) → doing_of self.new names coming ≡ modified (doing_of self.old names coming) cell fields.items) }
         ensures goes_on { OnOk result (GoesOnTo self.old.working self.new.working) }
     {
         let class = self.class(cell);
         self.remove(cell)?;
+        let place = self.working.changes().len();
         self.make(class, fields)?;
-        let made = self.copy_made(alloc)?;
-        if cell < self.cells.len() {
-            self.cells[cell] = Cell::Made(made);
-        }
+        self.hold(cell, place);
         Ok(())
     }
 
-    /// A new cell holds the element that was made last.
-    pub(crate) fn bind_cell(&mut self, alloc: Global) -> Result<(), OutOfMemory>
+    /// The cell holds what the change at this place has added.
+    fn hold(&mut self, cell: usize, place: usize)
+        requires { place < length self.old.working.changes }
+        ensures { self.new ≡ record self.old { cells = slice_set self.old.cells cell (made_at self.old.working.changes place) } }
+    {
+        if cell < self.cells.len() {
+            self.cells[cell] = Cell::Made(place);
+        }
+    }
+
+    /// A new cell holds the element that was made last. Looks at the changes since then.
+    pub(crate) fn bind_cell(&mut self) -> Result<(), OutOfMemory>
         ensures { OnOk result ((names : Spellings) (coming : Coming) → doing_of self.new names coming ≡ cell_bound (doing_of self.old names coming)) }
     {
-        let made = self.copy_made(alloc)?;
-        self.cells.push(Cell::Made(made))?;
+        let made = last_made(self.working.changes());
+        self.cells.push(made)?;
         Ok(())
+    }
+
+    /// `halt` is done.
+    pub(crate) fn halt(&mut self)
+        ensures { self.new ≡ record self.old { halted = true } }
+    {
+        self.halted = true;
     }
 
     /// Binds a variable, also one that was bound before.

@@ -95,9 +95,9 @@ fn class(element: Option<&Element>) -> usize
 
 /// The value of a variable, which is looked for among the bindings.
 fn value_in(doing: &Doing<'_>, variable: usize) -> Value
-    ensures { result ≡ unwrap_or (value_of doing.now.bindings.items variable) nil }
+    ensures { result ≡ unwrap_or (value_of doing.now.bindings variable) nil }
 {
-    bound_value(doing.bindings.as_slice(), variable).unwrap_or(NOTHING)
+    bound_value(doing.bindings(), variable).unwrap_or(NOTHING)
 }
 
 /// The values of the vector attribute of a cell's element.
@@ -110,9 +110,9 @@ fn row<'d>(classes: &[Class], doing: &'d Doing<'_>, cell: usize) -> &'d [Value]
 
 /// The value of an expression.
 fn compute(alloc: Global, doing: &Doing<'_>, expr: &Expr) -> Result<Value, Mishap>
-    ensures { Gives (λ v. v) result (value_found (computed (λ v. unwrap_or (value_of doing.now.bindings.items v) nil) expr.now)) }
+    ensures { Gives (λ v. v) result (value_found (computed (λ v. unwrap_or (value_of doing.now.bindings v) nil) expr.now)) }
 {
-    match computed(alloc, doing.bindings.as_slice(), expr)? {
+    match computed(alloc, doing.bindings(), expr)? {
         Ok(value) => Ok(value),
         Err(kind) => Err(Mishap::Fault(kind)),
     }

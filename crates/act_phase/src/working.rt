@@ -2,8 +2,9 @@
 ghost use Rattle.std.specs.Prelude.{◌≡◌, ◌+◌, ◌-◌, ◌<◌, OnOk, Some, slice_get, take, unwrap_or};
 ghost use Rattle.std.specs.Option.{option_copied};
 ghost use Rattle.ops_base.specs.WorkingMemory.{done};
-ghost use Rattle.ops_meaning.specs.Acting.{has_tag, element_of, no_element, made_last};
-ghost use Rattle.act_phase.specs.Changed.{memory_of, unchanged, with_removed, with_added, added_by, last_added};
+ghost use Rattle.ops_meaning.specs.Acting.{has_tag, element_of, no_element};
+ghost use Rattle.act_phase.specs.Changed.{memory_of, unchanged, with_removed, with_added, added_by, last_added, GoesOnTo};
+ghost use Rattle.act_phase.specs.State.{made_at};
 
 use ops_base::elements::{Change, Element};
 use ops_base::list::Listed;
@@ -104,7 +105,8 @@ impl<'s> Working<'s> {
 
     /// Removes the element of a tag, where it is present.
     pub(crate) fn remove(&mut self, tag: u64) -> Result<(), OutOfMemory>
-        ensures { OnOk result (self.new ≡ with_removed self.old tag) }
+        ensures does { OnOk result (self.new ≡ with_removed self.old tag) }
+        ensures goes_on { GoesOnTo self.old self.new }
     {
         if self.is_present(tag) {
             self.changes.reserve(1)?;
@@ -119,7 +121,8 @@ impl<'s> Working<'s> {
 
     /// Adds an element with the next tag. A session is over long before the tags are.
     pub(crate) fn add(&mut self, class: usize, fields: Listed<Value>) -> Result<(), OutOfMemory>
-        ensures { OnOk result (self.new ≡ with_added self.old (record { tag = self.old.last + 1; class = class; fields = fields })) }
+        ensures does { OnOk result (self.new ≡ with_added self.old (record { tag = self.old.last + 1; class = class; fields = fields })) }
+        ensures goes_on { GoesOnTo self.old self.new }
     {
         let tag = self.next_tag;
         let Some(next_tag) = tag.checked_add(1) else {
@@ -131,19 +134,14 @@ impl<'s> Working<'s> {
         Ok(())
     }
 
-    #[tactic(auto, using(crate::proofs::Counts::made_last_push))]
-    /// The element that was added last. Looks at the changes since then.
-    pub(crate) fn made_last(&self) -> Option<&Element>
-        ensures { unwrap_or (option_copied result) no_element ≡ made_last self.now.changes }
+    /// The element that the change at this place added.
+    pub(crate) fn made_at(&self, place: usize) -> Option<&Element>
+        ensures { unwrap_or (option_copied result) no_element ≡ made_at self.now.changes place }
     {
-        let mut left = self.changes.as_slice();
-        while let Some((last, before)) = left.split_last() {
-            if let Change::Add(element) = last {
-                return Some(element);
-            }
-            left = before;
+        match self.changes.as_slice().get(place)? {
+            Change::Add(element) => Some(element),
+            Change::Remove(_) => None,
         }
-        None
     }
 
     /// The changes so far.

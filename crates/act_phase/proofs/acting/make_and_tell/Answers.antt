@@ -14,11 +14,11 @@ returns-in_err-tell_changes-clause-does g c =
     bytes_refused _ _
     (still_told (setting_of c.args.program.now c.args.watch) c.args.doing.now c.make.new.doing c.requires.whole (length c.changes-since.result.now)
     (rw c.as_slice-classes.ensures at c.in_ok-make.ensures.does) c.in_ok-make.ensures.goes_on (ap length c.changes-since.ensures))
-    _ _ c.from_residual-in_err-tell_changes.ensures.1 c.in_err-tell_changes.ensures.puts
+    _ _ c.from_residual-in_err-tell_changes.ensures.1 (rw c.working.ensures at c.in_err-tell_changes.ensures.puts)
 
 pub returns-clause-does : goal.returns-clause-does
 returns-clause-does g c =
     bytes_put _ _
     (still_told (setting_of c.args.program.now c.args.watch) c.args.doing.now c.make.new.doing c.requires.whole (length c.changes-since.result.now)
     (rw c.as_slice-classes.ensures at c.in_ok-make.ensures.does) c.in_ok-make.ensures.goes_on (ap length c.changes-since.ensures))
-    _ _ c.in_ok-tell_changes.ensures.puts
+    _ _ (rw c.working.ensures at c.in_ok-tell_changes.ensures.puts)

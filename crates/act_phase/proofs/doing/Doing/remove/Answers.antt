@@ -1,9 +1,19 @@
-use Rattle.act_phase.proofs.Following.{goes_on_removed}
-use Rattle.act_phase.proofs.States.{doing_removed}
+use Rattle.act_phase.proofs.Cells.{still_there}
+use Rattle.act_phase.proofs.States.{state_removed}
 use Rattle.act_phase.proofs.doing.Doing.remove.Goals as goal
 
-pub returns : goal.returns
-returns c = record {
-  does = λ names coming. doing_removed names coming c.args.self.now c.remove.new.self c.tag-tag.result _ c.in_ok-remove.ensures c.tag-tag.ensures;
-  goes_on = goes_on_removed c.args.self.now.working c.remove.new.self c.tag-tag.result c.in_ok-remove.ensures;
-}
+pub invariant_of-self : goal.invariant_of-self
+invariant_of-self c =
+    let fields = c.self.inside in
+    still_there fields.working c.remove.new.self fields.cells.items c.remove.ensures.goes_on c.self.invariant
+
+pub invariant_of-self-2 : goal.invariant_of-self-2
+invariant_of-self-2 c =
+    let fields = c.self.inside in
+    still_there fields.working c.remove.new.self fields.cells.items c.remove.ensures.goes_on c.self.invariant
+
+pub returns-clause-does : goal.returns-clause-does
+returns-clause-does c = λ names coming.
+    let fields = c.self.inside in
+    state_removed names coming fields.working c.remove.new.self fields.bindings.items fields.cells.items fields.halted c.args.self.now c.self.view_is c.remove.ensures.goes_on c.self.invariant
+    c.tag-tag.result _ c.in_ok-remove.ensures.does c.tag-tag.ensures
