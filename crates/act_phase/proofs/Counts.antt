@@ -3,8 +3,6 @@ use Rattle.std.proofs.Common.{◌≡◌, ℕ, ◌+◌, ◌-◌, ◌<◌, ◌≤�
 use Rattle.std.specs.List.{All}
 use Rattle.std.specs.Borrow.{Bor}
 use Rattle.std.specs.Option.{option_copied}
-use Rattle.std.specs.Ordering.{nat_cmp}
-use Rattle.std.specs.BTreeMap.{is_at}
 use Rattle.std.specs.Prelude.{Contains}
 use Rattle.std.proofs.lemmas.Bool.Decides.{nat_tests}
 use Rattle.std.proofs.lemmas.List.{map-append}
@@ -18,7 +16,7 @@ use Rattle.ops_base.specs.WorkingMemory.{tags_of, without_tag, done}
 use Rattle.ops_meaning.specs.Acting.{has_tag, element_of, made_by, made_last, no_element}
 use Rattle.ops_base.proofs.Changes.{done_push, last_after_push}
 use Rattle.ops_meaning.proofs.Lawful.{has_tag-Contains, lawful_push}
-use Rattle.work_store.proofs.Lists.{or_false, at_is, tag_is}
+use Rattle.work_store.proofs.Lists.{or_false, tag_is}
 use Rattle.act_phase.specs.Changed.{is_new, AreCounted}
 
 -- ---- one change
@@ -88,23 +86,20 @@ counted_added start changes gone first next e c is = record {
 }
 
 -- an element less
-pub counted_removed : (start : List Element) (changes : List Change) (gone now : ℕ → Bool) (first next tag : ℕ) → AreCounted start changes gone first next → has_tag (done start changes) tag ≡ true → ((t : ℕ) → now t ≡ cond (is_at (nat_cmp tag) t) true (gone t)) → AreCounted start (changes ++ change.Remove tag ∷ []) now first next
+pub counted_removed : (start : List Element) (changes : List Change) (gone now : ℕ → Bool) (first next tag : ℕ) → AreCounted start changes gone first next → has_tag (done start changes) tag ≡ true → ((t : ℕ) → now t ≡ cond (t == tag) true (gone t)) → AreCounted start (changes ++ change.Remove tag ∷ []) now first next
 counted_removed start changes gone now first next tag c there is = record {
   present = λ t.
       ap (λ wm. has_tag wm t) (done_push start changes (change.Remove tag)) ∙ has_tag-without (done start changes) tag t
       ∙ ap (λ b. b && not (t == tag)) (c.present t) ∙ remove_step (gone t) (has_tag start t || is_new first next t) (t == tag)
-      ∙ ap (λ g. not g && (has_tag start t || is_new first next t)) (sym (now_is t));
+      ∙ ap (λ g. not g && (has_tag start t || is_new first next t)) (sym (is t));
   positive = c.positive;
   order = c.order;
-  gone_below = λ t h. gone_or_this t (t == tag) (gone t) refl refl (sym (now_is t) ∙ h);
+  gone_below = λ t h. gone_or_this t (t == tag) (gone t) refl refl (sym (is t) ∙ h);
   start_below = c.start_below;
   lawful = lawful_push start (first - 1) changes (change.Remove tag) c.lawful (has_tag-Contains (done start changes) tag there, tt);
   free = let last = last_after_push (first - 1) changes (change.Remove tag) in let f = c.free in omega (arith, last, f);
 }
   where
-    now_is : (t : ℕ) → now t ≡ cond (t == tag) true (gone t)
-    now_is t = is t ∙ ap (λ b. cond b true (gone t)) (at_is tag t)
-
     present_below : (g s : Bool) → has_tag start tag ≡ s → true ≡ (not g && (s || is_new first next tag)) → tag < next
     present_below true s h e = absurd (cc)
     present_below false true h e = let lt = c.start_below tag h in let o = c.order in omega arith

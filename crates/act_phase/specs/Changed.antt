@@ -1,11 +1,19 @@
 -- Working memory as a right side changes it.
 use Rattle.std.specs.Prelude.{◌≡◌, ℕ, ◌-◌, ◌<◌, ◌≤◌, List, [], ◌∷◌, ◌++◌, fold, Bool, not, ◌&&◌, ◌||◌, ◌==◌, nat_lt, nat_le, if◌then◌else◌, true, Option, Some, None}
+use Rattle.std.specs.BTreeSet.{contains}
+use Rattle.std.specs.List.{list_any}
 use Rattle.std.specs.Option.{option_or}
+use Rattle.std.specs.Ordering.{nat_cmp}
 use Rattle.ops_base.specs.declared.elements.Element.{Element}
 use Rattle.ops_base.specs.declared.elements.Change.{Change}
 use Rattle.ops_base.specs.declared.elements.Change.TheVariants as change
 use Rattle.ops_base.specs.WorkingMemory.{done, Lawful, last_after}
 use Rattle.ops_meaning.specs.Acting.{has_tag}
+use Rattle.act_phase.specs.declared.gone.Gone.{Gone}
+
+-- the tag is one of those that were removed
+abbrev pub is_among : Gone → ℕ → Bool
+is_among gone tag = list_any (λ t. t == tag) gone.few.items || contains nat_cmp gone.more tag
 
 -- working memory at the start, the changes since then in order, and the last tag that was given
 pub record Changed : Type 0 where

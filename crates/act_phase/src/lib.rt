@@ -14,6 +14,7 @@ mod bindings;
 mod computing;
 mod doing;
 mod fields;
+mod gone;
 mod outcome;
 mod telling;
 #[cfg(test)]

@@ -6,12 +6,12 @@ ghost use Rattle.ops_meaning.specs.Acting.{has_tag, element_of, no_element};
 ghost use Rattle.act_phase.specs.Changed.{memory_of, unchanged, with_removed, with_added, added_by, last_added, GoesOnTo};
 ghost use Rattle.act_phase.specs.State.{made_at};
 
+use crate::gone::Gone;
 use ops_base::elements::{Change, Element};
 use ops_base::list::Listed;
 use ops_base::memory::OutOfMemory;
 use ops_base::values::Value;
 use std::alloc::Global;
-use std::collections::BTreeSet;
 use std::marker::Model;
 use work_store::Store;
 
@@ -22,22 +22,20 @@ pub(crate) struct Working<'s> {
     store: &'s Store,
     changes: Vec<Change>,
     // The tags that were removed.
-    gone: BTreeSet<u64>,
+    gone: Gone,
     first_tag: u64,
     next_tag: u64,
 }
 
 impl<'s> Model for Working<'s> {
     ghost use Rattle.std.specs.Prelude.{◌-◌};
-    ghost use Rattle.std.specs.BTreeSet.{contains};
-    ghost use Rattle.std.specs.Ordering.{nat_cmp};
-    ghost use Rattle.act_phase.specs.Changed.{Changed, AreCounted};
+    ghost use Rattle.act_phase.specs.Changed.{Changed, AreCounted, is_among};
 
     ghost Value = { Changed };
 
     ghost view = { λ w. record { start = w.store.now.elements; changes = w.changes.items; last = w.next_tag - 1 } };
 
-    ghost invariant = { λ w. AreCounted w.store.now.elements w.changes.items (contains nat_cmp w.gone) w.first_tag w.next_tag };
+    ghost invariant = { λ w. AreCounted w.store.now.elements w.changes.items (is_among w.gone) w.first_tag w.next_tag };
 }
 
 /// The element that a change adds, where it has this tag.
@@ -77,7 +75,7 @@ impl<'s> Working<'s> {
         Working {
             store,
             changes: Vec::new(alloc),
-            gone: BTreeSet::new(alloc),
+            gone: Gone::new(alloc),
             first_tag: next_tag,
             next_tag,
         }
@@ -94,7 +92,7 @@ impl<'s> Working<'s> {
     fn is_present(&self, tag: u64) -> bool
         ensures { result ≡ has_tag (memory_of self.now) tag }
     {
-        if self.gone.contains(&tag) {
+        if self.gone.contains(tag) {
             return false;
         }
         if self.store.get(tag).is_some() {

@@ -9,4 +9,4 @@ invariant_of-self-in-Ok c =
     let fields = c.self.inside in
     let there = ap (λ (v : Changed). has_tag (memory_of v) c.args.tag) c.self.view_is ∙ sym c.is_present.ensures ∙ c.if-is_present.true in
     rw (c.in-Ok.ensures.items, c.reserve.ensures.items)
-    (counted_removed fields.store.now.elements fields.changes.items _ _ fields.first_tag fields.next_tag c.args.tag c.self.invariant there c.in_ok-insert.ensures.updates.0)
+    (counted_removed fields.store.now.elements fields.changes.items _ _ fields.first_tag fields.next_tag c.args.tag c.self.invariant there c.in_ok-insert.ensures.ok)

@@ -1,0 +1,57 @@
+//! `Gone`, the tags that a right side has removed.
+ghost use Rattle.std.specs.Prelude.{◌≡◌, OnOk, OnErr, if◌then◌else◌, ◌==◌, true, false, ℕ};
+ghost use Rattle.std.specs.List.{list_any};
+ghost use Rattle.act_phase.specs.Changed.{is_among};
+
+use ops_base::memory::OutOfMemory;
+use smallvec::SmallVec;
+use std::alloc::Global;
+use std::collections::BTreeSet;
+
+/// How many tags take no memory. Few right sides remove more elements.
+const FEW: usize = 8;
+
+/// Tags that were removed: the first few where they stand, and only those beyond in a set, which takes memory for each.
+#[derive(Drop)]
+pub(crate) struct Gone {
+    few: SmallVec<u64, FEW>,
+    more: BTreeSet<u64>,
+}
+
+fn is_one_of(tags: &[u64], tag: u64) -> bool
+    ensures { result ≡ list_any (λ t. t == tag) tags.now }
+{
+    tags.iter().any(|each| *each == tag)
+}
+
+impl Gone {
+    /// No tag. Takes no memory.
+    pub(crate) fn new(alloc: Global) -> Gone
+        ensures { (t : ℕ) → is_among result t ≡ false }
+    {
+        Gone {
+            few: SmallVec::new(alloc),
+            more: BTreeSet::new(alloc),
+        }
+    }
+
+    /// Looks at the first few, and takes a time that grows with the logarithm of the number of the others.
+    pub(crate) fn contains(&self, tag: u64) -> bool
+        ensures { result ≡ is_among self.now tag }
+    {
+        is_one_of(self.few.as_slice(), tag) || self.more.contains(&tag)
+    }
+
+    /// A tag more. Takes memory only where there are a few already.
+    pub(crate) fn insert(&mut self, tag: u64) -> Result<(), OutOfMemory>
+        ensures ok { OnOk result ((t : ℕ) → is_among self.new t ≡ (if t == tag then true else is_among self.old t)) }
+        ensures err { OnErr result (self.new ≡ self.old) }
+    {
+        if self.few.len() < FEW {
+            self.few.push(tag)?;
+        } else {
+            self.more.insert(tag)?;
+        }
+        Ok(())
+    }
+}
