@@ -33,7 +33,7 @@ fn length_for(names: &Names, lead: Lead, value: &Value) -> usize
     }
 }
 
-/// Puts a value behind its lead.
+/// Puts a value after its lead.
 fn put_led<K: Sink>(
     out: &mut Out,
     sink: &mut K,
@@ -73,7 +73,7 @@ fn put_values<K: Sink>(
     Ok(())
 }
 
-/// What an item leaves to a value behind it.
+/// What an item leaves to a value after it.
 fn lead_after(item: &Item) -> Lead
     ensures { lead_of result ≡ lead_after item.now }
 {
