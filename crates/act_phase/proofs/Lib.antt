@@ -14,3 +14,4 @@ pub mod Placing
 pub mod States
 pub mod Steps
 pub mod Told
+pub mod Unbound

@@ -1,24 +1,37 @@
 //! What the variables of an instantiation are bound to.
 ghost use Rattle.std.specs.Prelude.{◌≡◌, IfOk, []};
-ghost use Rattle.std.specs.Option.{option_copied};
-ghost use Rattle.ops_meaning.specs.Acting.{matched_by, bindings_of};
+ghost use Rattle.std.specs.List.{list_any};
+ghost use Rattle.ops_meaning.specs.Acting.{element_of, matched_by, bindings_of};
 
 use ops_base::conditions::Condition;
-use ops_base::elements::Element;
 use ops_base::matching::{Binding, matched};
 use ops_base::memory::OutOfMemory;
 use std::alloc::Global;
 use work_store::Store;
 
+/// Whether a test of the condition binds a variable.
+fn binds(condition: &Condition) -> bool
+    ensures { result ≡ list_any (λ t. t.binds) condition.now.tests }
+{
+    condition.tests.as_slice().iter().any(|test| test.binds)
+}
+
+#[tactic(auto, using(crate::proofs::Unbound::unbound))]
+/// The bindings after the element of a tag met a condition. Where no test binds, they stay as they are: then nothing is
+/// looked up, and it takes no memory.
 fn matched_by(
     alloc: Global,
     condition: &Condition,
-    element: Option<&Element>,
+    store: &Store,
+    tag: u64,
     bindings: Vec<Binding>,
 ) -> Result<Vec<Binding>, OutOfMemory>
-    ensures { IfOk result (λ v. v.items ≡ matched_by condition.now (option_copied element.entry) bindings.items) }
+    ensures { IfOk result (λ v. v.items ≡ matched_by condition.now (element_of store.now.elements tag) bindings.items) }
 {
-    let Some(e) = element else {
+    if !binds(condition) {
+        return Ok(bindings);
+    }
+    let Some(e) = store.get(tag) else {
         return Ok(bindings);
     };
     match matched(alloc, condition, e, &bindings)? {
@@ -27,8 +40,8 @@ fn matched_by(
     }
 }
 
-/// The bindings that the elements of these tags give, one for each positive condition. Each element is looked up by its
-/// tag, and does its condition's tests once more.
+/// The bindings that the elements of these tags give, one for each positive condition. Only an element whose condition
+/// binds a variable is looked up by its tag and does the tests once more, and then the bindings so far are copied.
 pub(crate) fn bindings_of(
     alloc: Global,
     store: &Store,
@@ -44,7 +57,7 @@ pub(crate) fn bindings_of(
             return Ok(bindings);
         };
         if !condition.negated {
-            bindings = matched_by(alloc, condition, store.get(*tag), bindings)?;
+            bindings = matched_by(alloc, condition, store, *tag, bindings)?;
             rest = after;
         }
     }
