@@ -22,7 +22,8 @@ use std::alloc::Global;
 use std::marker::Model;
 use work_store::Store;
 
-/// What a cell holds: the element of a tag, which stands in the store, the element that the change at a place adds, or none.
+/// What a cell holds: the element of a tag, which stands in the store, the element that the change at a place adds, or
+/// none.
 #[derive(Drop)]
 pub(crate) enum Cell {
     Matched(u64),
@@ -30,8 +31,8 @@ pub(crate) enum Cell {
     Nothing,
 }
 
-/// The state of a right side between two of its actions. A cell copies no element, and the changes only grow, so that the
-/// change that it names stays where it is.
+/// The state of a right side between two of its actions. A cell copies no element, and the changes only grow, so that
+/// the change that it names stays where it is.
 #[derive(Drop)]
 pub(crate) struct Doing<'s> {
     working: Working<'s>,
@@ -180,7 +181,8 @@ impl<'s> Doing<'s> {
         Ok(())
     }
 
-    /// Puts an element with these fields in the place of that of a cell, in working memory and in the cell. Nothing is copied.
+    /// Puts an element with these fields in the place of that of a cell, in working memory and in the cell. Nothing is
+    /// copied.
     pub(crate) fn modify(&mut self, cell: usize, fields: Vec<Value>) -> Result<(), OutOfMemory>
         ensures does { OnOk result ((names : Spellings) (coming : Coming) → doing_of self.new names coming ≡ modified (doing_of self.old names coming) cell fields.items) }
         ensures goes_on { OnOk result (GoesOnTo self.old.working self.new.working) }

@@ -88,7 +88,7 @@ impl<'s> Working<'s> {
         self.store
     }
 
-    /// Takes a time that grows with the logarithm of the numbers of elements and of removals.
+    /// Takes a time that grows with the logarithm of the number of removals, where there are more than eight.
     fn is_present(&self, tag: u64) -> bool
         ensures { result ≡ has_tag (memory_of self.now) tag }
     {

@@ -35,8 +35,8 @@ fn node_of<'a>(net: &'a Net, store: &Store, task: &Task) -> &'a Node
     }
 }
 
-/// Whether the tasks of this node are told of: those of a terminal.
-fn is_last(node: &Node) -> bool
+/// Whether the line tells of the tasks of this node: of those of a terminal.
+fn is_told(node: &Node) -> bool
     ensures { result ≡ is_terminal node.now.kind }
 {
     match node.kind {
@@ -99,17 +99,17 @@ fn attempt(
     tags_are_small(store);
     let done = do_at(alloc, store, node, memory, spot.kept(), task, out)?;
     let children = Children::since(out, before);
-    line.add_at(alloc, &spot, task, children, done.blockers, is_last(node))?;
+    line.add_at(alloc, &spot, task, children, done.blockers, is_told(node))?;
     count_blockers(net, store, line, node, task, code, done.blocks);
     Ok(())
 }
 
 /// Does a task on this line, which its caller finds by `token_line::line_of`: its children go after `out`, it becomes
 /// an entry of the line, and its token counts there. The task's code is made once, and its memory and the token are
-/// looked for once; the task is copied where its node is a terminal alone. A join or a negated node looks at each token of the other side that it has on the line with the
-/// task's code, so at no other values at the equality tests unless their codes happen to be equal; but for a task that
-/// changes nothing and a left token that a negated node keeps already. Each child is made once. Where memory runs out,
-/// or a count does not fit, nothing has changed.
+/// looked for once. The task is copied only where its node is a terminal. A join or a negated node looks at each token
+/// of the other side that it has on the line with the task's code, so at no other values at the equality tests unless
+/// their codes happen to be equal; but for a task that changes nothing and a left token that a negated node keeps
+/// already. Each child is made once. Where memory runs out, or a count does not fit, nothing has changed.
 pub fn activate(
     alloc: Global,
     net: &Net,

@@ -1,7 +1,7 @@
 //! The engine of free workers: a matcher over a network whose tasks are done by several threads in any order.
 ghost use Rattle.std.specs.Prelude.{◌≡◌, ◌≤◌, ◌^◌, All, IfOk, [], length, map};
 ghost use Rattle.work_store.specs.Stored.{held_of, nothing_stored};
-ghost use Rattle.activation.specs.Acting.{IsCounted};
+ghost use Rattle.activation.specs.Acting.{IsCounted, TellsOfLasts};
 ghost use Rattle.step_core.specs.Laws.{AreEmpty};
 ghost use Rattle.step_core.specs.Phases.{HoldJust, now, sums_over};
 ghost use Rattle.step_core.specs.Worlds.{AreNumbered, placed, seen};
@@ -95,6 +95,8 @@ impl<G: Gate + Drop> FreeEngine<G> {
         ensures numbered { AreNumbered result.now }
         // They hold just the tokens over the store.
         ensures hold { HoldJust (placed (held_of self.now.store) self.now.net.nodes (length result.now)) (sums_over self.now.store.elements self.now.net.alphas self.now.net.nodes) (map now (map seen result.now)) }
+        // They tell of just the tasks of the last settle that came to terminals.
+        ensures told { All (TellsOfLasts self.now.net.nodes) result.now }
     {
         self.world.lines()
     }

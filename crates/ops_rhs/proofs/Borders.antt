@@ -16,7 +16,7 @@ use Rattle.ops_forms.proofs.Walks.{goes_split, taken_goes}
 use Rattle.ops_rhs.specs.declared.right.Around.{Around}
 use Rattle.ops_rhs.specs.declared.right.Right.{Right}
 use Rattle.ops_rhs.specs.declared.sides.Sight.{Sight}
-use Rattle.ops_rhs.specs.RightSides.{right_way, right_read, Names, Sees, IsBracket, ReadsRight, RefusesRight, IsRightSide, IsRefused, at_word, at_end, sight_of}
+use Rattle.ops_rhs.specs.RightSides.{right_way, right_read, HasNamed, Sees, IsBracket, ReadsRight, RefusesRight, IsRightSide, IsRefused, at_word, at_end, sight_of}
 use Rattle.ops_rhs.specs.Taking.{seen, view, IsAround, IsClosing}
 use Rattle.ops_rhs.proofs.Operands.{as_in}
 
@@ -46,7 +46,7 @@ module _ (classes : List Class) (sight : Sight) (words : List Word) (around : Ar
       record {
         behind = behind_is IsBracket words (place + 1) behind;
         further = new.further.items;
-        named = λ s v. subst (Names new.further.items) (sym (up_to_bracket (λ ws t. Ok t) [] s v)) refl;
+        named = λ s v. subst (HasNamed new.further.items) (sym (up_to_bracket (λ ws t. Ok t) [] s v)) refl;
         cells = grown;
         conditions = refl;
         reads = λ s v more ws.

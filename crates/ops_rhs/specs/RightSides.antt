@@ -49,9 +49,9 @@ abbrev pub reached : List Word → List Wanted → State → Outcome
 reached words ws s = goes_onward (λ ws t. Ok t) words ws s
 
 -- a state in which `cbind` has named cells of these classes
-abbrev pub Names : List ℕ → Outcome → Type 0
-Names further (Ok s) = s.further ≡ further
-Names further (Err e) = ⊥
+abbrev pub HasNamed : List ℕ → Outcome → Type 0
+HasNamed further (Ok s) = s.further ≡ further
+HasNamed further (Err e) = ⊥
 
 -- Where these classes are declared and the old sight is in sight, the words up to a closing bracket are read as these actions:
 -- whatever words stand after it, it goes on there from the state that the right side leaves, whatever else was read before and
@@ -60,7 +60,7 @@ pub record ReadsRight (classes : List Class) (old : Sight) (words rest : List Wo
   pub behind : AreBehind IsBracket words rest
   -- the classes of the cells that the right side named, as they are known at the bracket
   pub further : List ℕ
-  pub named : (s : State) → Sees classes old s → Names further (reached behind.before (Actions ∷ []) (right_begun s))
+  pub named : (s : State) → Sees classes old s → HasNamed further (reached behind.before (Actions ∷ []) (right_begun s))
   pub cells : new.cells ≡ old.cells ++ further
   pub conditions : new.conditions ≡ old.conditions
   pub reads : (s : State) → Sees classes old s → (more : List Word) (ws : List Wanted) → right_way (behind.before ++ behind.last ∷ []) s more ws ≡ goes more ws (with_rule (right_read s actions new further) behind.last.past)

@@ -174,7 +174,7 @@ abbrev pub CutReadsExpression : ℕ → Right → List Word → ℕ → Result (
 CutReadsExpression depth r words at (Ok x) = (n : ℕ) → x.1 ≤ n → (t : Option Target) (f : Formula) (on : Onward) (ws : List Wanted) (s : State) → goes_onward on (drop at (take n words)) (ExpressionUnit depth ∷ ExpressionRest depth [] (into t) ∷ ws) (with_formula (seen s r) f) ≡ goes_onward on (drop x.1 (take n words)) ws (ended_as t (seen s r) x.0)
 CutReadsExpression depth r words at (Err e) = Unit {0}
 
--- also at the word at the next place is looked
+-- the same, where the call also looked at the word at the next place, and did not take it
 abbrev pub PeekOpensExpression : List Word → ℕ → Result ℕ Refusal → Type 0
 PeekOpensExpression words at (Ok next) = (n : ℕ) → next < n → (depth : ℕ) (on : Onward) (ws : List Wanted) (s : State) → goes_onward on (drop at (take n words)) (Bracketed depth ∷ ws) s ≡ goes_onward on (drop next (take n words)) (ExpressionUnit depth ∷ ExpressionRest depth [] None ∷ ws) s
 PeekOpensExpression words at (Err e) = Unit {0}

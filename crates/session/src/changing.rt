@@ -193,8 +193,7 @@ fn is_left(store: &Store, named: &BTreeSet<u64>, tag: u64) -> bool
 }
 
 /// The removals of these tags in their order, where an absent one is none, and one that is named again neither. Each is
-/// looked up, so that it takes a time in proportion to the tags and to the logarithms of their number and of the number
-/// of elements.
+/// looked up, so that it takes a time in proportion to the tags, times the logarithm of their number.
 fn removals(alloc: Global, store: &Store, tags: &[u64]) -> Result<Listed<Change>, OutOfMemory>
     ensures { IfOk result (λ changes. changes ≡ removals store.now.elements tags.now) }
 {

@@ -14,7 +14,7 @@ use Rattle.step_core.specs.Machine.{root_part}
 abbrev pub IsBare : Line → Type 0
 IsBare l = (l.entries.items ≡ []) × (l.told.items ≡ [])
 
--- this many lines, in the order of their numbers, with no tokens and no entries
+-- this many lines, in the order of their numbers, with no tokens, on which nothing was done
 pub record AreUnused (lines : ℕ) (ls : List Line) : Type 0 where
   pub count : length ls ≡ lines
   pub number : (i : ℕ) (l : Line) → slice_get ls i ≡ Some l → l.number ≡ i
@@ -31,7 +31,7 @@ abbrev pub given_below : List Node → ℕ → ℕ → ℕ → Bag
 given_below nodes lines bound i n s t =
     if nat_lt n bound && (n % lines == i) then pos (root_part (giver_of nodes n s) t) else pos 0
 
--- line i, which holds just this, each token under the number of its node as its code, with no entry
+-- line i, which holds just this, each token under the number of its node as its code, on which nothing was done
 pub record IsBegun (nodes : List Node) (lines bound i : ℕ) (l : Line) : Type 0 where
   pub number : l.number ≡ i
   pub bare : IsBare l

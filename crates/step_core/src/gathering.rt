@@ -1,4 +1,4 @@
-//! What the entries of the lines tell of instantiations that came and went.
+//! What the lines tell of instantiations that came and went.
 ghost use Rattle.std.specs.Prelude.{◌≡◌, ◌<◌, ◌-◌, ◌++◌, All, ◌+ℤ◌, [], Some, length, IfOk, OnOk, filter, fold, map, slice_get, IsPermutation, FitsSigned};
 ghost use Rattle.std.specs.Int.{w64};
 ghost use Rattle.std.specs.List.Sorted.{IsSortedByKey};

@@ -5,7 +5,7 @@ use net_base::tasks::Task;
 use std::marker::Model;
 use std::snapshot::Snapshot;
 
-/// A task that takes no bytes. The task itself went on: no code reads it here.
+/// A task that takes no bytes. No code reads it here.
 #[derive(Drop)]
 pub struct Deed {
     task: Snapshot<Task>,

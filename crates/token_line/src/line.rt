@@ -236,7 +236,8 @@ impl Line {
         }
     }
 
-    /// What was done since the phase began, in this order: only its number is known when the program runs. Takes no memory.
+    /// What was done since the phase began, in this order. When the program runs, only how many there are is known.
+    /// Takes no memory.
     pub fn entries(&self) -> &[Entry]
         ensures { result.now ≡ self.now.entries.items }
     {

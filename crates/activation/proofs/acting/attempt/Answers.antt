@@ -133,5 +133,5 @@ returns-clause-counted c =
     (λ n t some. c.count_blockers.ensures.blockers n t some ∙ ap₂ (λ b k. cond (b && is_matched (slice_get nodes x.node) (held_of s) x n t) (counted x.plus k) k) done.blocks (added n t some))
     (λ n k side t some. filed n k side t (c.count_blockers.ensures.filed n k side t some))
     (c.count_blockers.ensures.told
-    ∙ (told_after nodes x node c.node_of-node.ensures.node c.is_last.result c.is_last.ensures old c.requires.counted c.add_at.new.self c.since-children.result c.in_ok-add_at.ensures.told c.in_ok-add_at.ensures.entries
+    ∙ (told_after nodes x node c.node_of-node.ensures.node c.is_told.result c.is_told.ensures old c.requires.counted c.add_at.new.self c.since-children.result c.in_ok-add_at.ensures.told c.in_ok-add_at.ensures.entries
     ∙ ap (lasts_of nodes) (sym c.count_blockers.ensures.entries)))
