@@ -1,5 +1,5 @@
 -- Which tags are present after the changes of a right side.
-use Rattle.std.proofs.Common.{◌≡◌, ℕ, ◌+◌, ◌-◌, ◌<◌, ◌≤◌, List, [], ◌∷◌, ◌++◌, Bool, true, false, cond, not, ◌==◌, ◌&&◌, ◌||◌, Option, Some, None, is_some, refl, ap, sym, ◌∙◌, subst, arith}
+use Rattle.std.proofs.Common.{◌≡◌, ℕ, ◌+◌, ◌-◌, ◌<◌, ◌≤◌, List, [], ◌∷◌, ◌++◌, nat_le, nat_lt, Bool, true, false, cond, not, ◌==◌, ◌&&◌, ◌||◌, Option, Some, None, is_some, refl, ap, sym, ◌∙◌, subst, arith}
 use Rattle.std.specs.List.{All}
 use Rattle.std.specs.Borrow.{Bor}
 use Rattle.std.specs.Option.{option_copied}
@@ -124,12 +124,13 @@ copied_there : (r : Option (Bor Element)) → is_some r ≡ is_some (option_copi
 copied_there None = refl
 copied_there (Some e) = refl
 
--- a tag that was removed is not present, one of the start that was not removed is, and any other is where it is new
-pub present_is : (start : List Element) (changes : List Change) (gone : ℕ → Bool) (first next tag : ℕ) (r : Option (Bor Element)) (g s : Bool) → AreCounted start changes gone first next → g ≡ gone tag → option_copied r ≡ element_of start tag → s ≡ is_some r → (not g && (s || is_new first next tag)) ≡ has_tag (done start changes) tag
-present_is start changes gone first next tag r g s c eg er es =
-    ap (λ g. not g && (s || is_new first next tag)) eg
-    ∙ ap (λ s. not (gone tag) && (s || is_new first next tag)) (es ∙ copied_there r ∙ ap is_some er ∙ found_there start tag)
-    ∙ sym (c.present tag)
+-- a tag from before that was not removed is present where it is found at the start
+pub present_old : (start : List Element) (changes : List Change) (gone : ℕ → Bool) (first next tag : ℕ) → AreCounted start changes gone first next → gone tag ≡ false → tag < first → (r : Option (Bor Element)) → option_copied r ≡ element_of start tag
+    → is_some r ≡ has_tag (done start changes) tag
+present_old start changes gone first next tag c stays old r found =
+    let not_new : nat_le first tag ≡ false = grind (arith, nat_tests) in
+    copied_there r ∙ ap is_some found ∙ found_there start tag ∙ sym (or_false (has_tag start tag))
+    ∙ sym (c.present tag ∙ ap (λ g. not g && (has_tag start tag || is_new first next tag)) stays ∙ ap (λ b. has_tag start tag || (b && nat_lt tag next)) not_new)
 
 -- ---- the element that was made last
 

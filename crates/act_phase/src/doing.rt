@@ -143,21 +143,14 @@ impl<'s> Doing<'s> {
         self.bindings.as_slice()
     }
 
-    fn tag(&self, cell: usize) -> u64
-        ensures { result ≡ (held_in self.now cell).tag }
+    /// The tag and the class of a cell's element, which is looked up once.
+    fn tag_and_class(&self, cell: usize) -> (u64, usize)
+        ensures tag { result.0 ≡ (held_in self.now cell).tag }
+        ensures class { result.1 ≡ (held_in self.now cell).class }
     {
         match self.element(cell) {
-            Some(element) => element.tag,
-            None => 0,
-        }
-    }
-
-    fn class(&self, cell: usize) -> usize
-        ensures { result ≡ (held_in self.now cell).class }
-    {
-        match self.element(cell) {
-            Some(element) => element.class,
-            None => 0,
+            Some(element) => (element.tag, element.class),
+            None => (0, 0),
         }
     }
 
@@ -171,24 +164,32 @@ impl<'s> Doing<'s> {
         Ok(())
     }
 
+    /// Removes the element of this tag, where it is present.
+    fn remove_tag(&mut self, tag: u64) -> Result<(), OutOfMemory>
+        ensures does { OnOk result ((names : Spellings) (coming : Coming) → doing_of self.new names coming ≡ removed (doing_of self.old names coming) tag) }
+        ensures goes_on { OnOk result (GoesOnTo self.old.working self.new.working) }
+    {
+        self.working.remove(tag)?;
+        Ok(())
+    }
+
     /// Removes the element of a cell, where it is present.
     pub(crate) fn remove(&mut self, cell: usize) -> Result<(), OutOfMemory>
         ensures does { OnOk result ((names : Spellings) (coming : Coming) → doing_of self.new names coming ≡ removed (doing_of self.old names coming) (held_in self.old cell).tag) }
         ensures goes_on { OnOk result (GoesOnTo self.old.working self.new.working) }
     {
-        let tag = self.tag(cell);
-        self.working.remove(tag)?;
-        Ok(())
+        let (tag, _) = self.tag_and_class(cell);
+        self.remove_tag(tag)
     }
 
     /// Puts an element with these fields in the place of that of a cell, in working memory and in the cell. Nothing is
-    /// copied.
+    /// copied, and an element of the left side is looked up once for its tag and once for whether it is present.
     pub(crate) fn modify(&mut self, cell: usize, fields: Vec<Value>) -> Result<(), OutOfMemory>
         ensures does { OnOk result ((names : Spellings) (coming : Coming) → doing_of self.new names coming ≡ modified (doing_of self.old names coming) cell fields.items) }
         ensures goes_on { OnOk result (GoesOnTo self.old.working self.new.working) }
     {
-        let class = self.class(cell);
-        self.remove(cell)?;
+        let (tag, class) = self.tag_and_class(cell);
+        self.remove_tag(tag)?;
         let place = self.working.changes().len();
         self.make(class, fields)?;
         self.hold(cell, place);

@@ -88,17 +88,18 @@ impl<'s> Working<'s> {
         self.store
     }
 
-    /// Takes a time that grows with the logarithm of the number of removals, where there are more than eight.
+    /// Takes a time that grows with the logarithm of the number of removals, where there are more than eight. An element
+    /// that was made here is not looked up.
     fn is_present(&self, tag: u64) -> bool
         ensures { result ≡ has_tag (memory_of self.now) tag }
     {
         if self.gone.contains(tag) {
             return false;
         }
-        if self.store.get(tag).is_some() {
-            return true;
+        if tag >= self.first_tag {
+            return tag < self.next_tag;
         }
-        self.first_tag <= tag && tag < self.next_tag
+        self.store.get(tag).is_some()
     }
 
     /// Removes the element of a tag, where it is present.

@@ -1,6 +1,7 @@
+use Rattle.std.proofs.Common.{refl}
 use Rattle.act_phase.proofs.Cells.{still_there}
 use Rattle.act_phase.proofs.States.{state_removed}
-use Rattle.act_phase.proofs.doing.Doing.remove.Goals as goal
+use Rattle.act_phase.proofs.doing.Doing.remove_tag.Goals as goal
 
 pub invariant_of-self : goal.invariant_of-self
 invariant_of-self c =
@@ -16,4 +17,4 @@ pub returns-clause-does : goal.returns-clause-does
 returns-clause-does c = λ names coming.
     let fields = c.self.inside in
     state_removed names coming fields.working c.remove.new.self fields.bindings.items fields.cells.items fields.halted c.args.self.now c.self.view_is c.remove.ensures.goes_on c.self.invariant
-    c.tag-tag.result _ c.in_ok-remove.ensures.does c.tag-tag.ensures
+    c.args.tag _ c.in_ok-remove.ensures.does refl
