@@ -53,8 +53,8 @@ fn most_alone(sharing: Sharing) -> Option<usize> {
 /// Of how many tasks in flight, from the last one on, the partners are counted.
 const SAMPLE: usize = 16;
 
-/// How many partners these have at least, all together, where it pays to share the work.
-const PARTNERS: usize = 128;
+/// How many partners these have at least, all together, where it pays to share the work: 64 for each.
+const PARTNERS: usize = 1_024;
 
 /// How many workers share this many tasks: one, and one more for each 64 tasks, but two at least, and no more than
 /// there may be.
