@@ -13,8 +13,8 @@ use Rattle.ops_meaning.specs.Acting.{made_by, made_last, no_element}
 use Rattle.act_phase.specs.Changed.{Changed, GoesOnTo}
 use Rattle.act_phase.specs.State.{held_by, is_there, made_at}
 use Rattle.act_phase.proofs.Counts.{made_last_push}
-use Rattle.act_phase.specs.declared.doing.Cell.{Cell}
-use Rattle.act_phase.specs.declared.doing.Cell.TheVariants as cell
+use Rattle.act_phase.specs.declared.state.Cell.{Cell}
+use Rattle.act_phase.specs.declared.state.Cell.TheVariants as cell
 
 pub both_true : (a b : Bool) → (a && b) ≡ true → (a ≡ true) × (b ≡ true)
 both_true true b h = (refl, h)

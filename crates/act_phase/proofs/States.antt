@@ -14,8 +14,8 @@ use Rattle.ops_meaning.specs.Acting.{Doing as Meant, has_tag, cell_of, next_elem
 use Rattle.ops_base.proofs.Changes.{done_push}
 use Rattle.act_phase.specs.Changed.{Changed, GoesOnTo, memory_of, with_change, with_removed, with_added}
 use Rattle.act_phase.specs.State.{State, made_at, held_by, is_there, doing_of}
-use Rattle.act_phase.specs.declared.doing.Cell.{Cell}
-use Rattle.act_phase.specs.declared.doing.Cell.TheVariants as cell
+use Rattle.act_phase.specs.declared.state.Cell.{Cell}
+use Rattle.act_phase.specs.declared.state.Cell.TheVariants as cell
 use Rattle.act_phase.proofs.Cells.{made_at_end, still_held}
 
 removed-cells : (d : Meant) (tag : ℕ) → (removed d tag).cells ≡ d.cells

@@ -10,8 +10,8 @@ ghost use Rattle.act_phase.specs.Deeds.{Acts, Gives, scene, fields_found};
 ghost use Rattle.act_phase.specs.Outcomes.{fails_by, is_read_mishap};
 ghost use Rattle.act_phase.specs.State.{doing_of, held_in, filled_of};
 
-use crate::doing::Doing;
 use crate::outcome::Mishap;
+use crate::state::Doing;
 use crate::values::evaluate;
 use ops_base::actions::Put;
 use ops_base::elements::{Class, MOST_FIELDS};

@@ -8,22 +8,22 @@
 //! itself, so that a contract can name what each holds afterwards.
 #![tactic(auto)]
 
-mod accepting;
-mod acting;
+mod atoms;
 mod bindings;
-mod computing;
-mod doing;
+mod changed_memory;
+mod expressions;
 mod fields;
 mod gone;
+mod items;
 mod outcome;
-mod telling;
+mod right_side;
+mod state;
 #[cfg(test)]
 mod tests;
+mod traces;
 mod values;
-mod working;
-mod writing;
 
-pub use acting::act;
 pub use ops_base::endings::ActKind;
 pub use outcome::{ActFault, Acted};
-pub use telling::{traces_elements, traces_firings};
+pub use right_side::act;
+pub use traces::{traces_elements, traces_firings};

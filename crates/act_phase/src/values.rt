@@ -13,10 +13,10 @@ ghost use Rattle.act_phase.specs.Deeds.{Acts, Gives, scene, value_found};
 ghost use Rattle.act_phase.specs.Outcomes.{fails_by, is_read_mishap};
 ghost use Rattle.act_phase.specs.State.{doing_of, held_in, values_in, valued_of};
 
-use crate::accepting::accept;
-use crate::computing::computed;
-use crate::doing::Doing;
+use crate::atoms::accept;
+use crate::expressions::computed;
 use crate::outcome::Mishap;
+use crate::state::Doing;
 use ops_base::actions::Term;
 use ops_base::elements::{Class, Element};
 use ops_base::expression::Expr;

@@ -4,7 +4,7 @@ use Rattle.std.proofs.lemmas.Bool.{or_parts, cond_both}
 use Rattle.ops_base.specs.declared.values.Value.{Value}
 use Rattle.ops_grammar.specs.declared.words.Word.{Word}
 use Rattle.ops_grammar.specs.Grammar.{Target, ToConstants, Atom, Wanted, State, Step, Next, Refuses, is_left, is_literal, is_of_action, is_variable, value_of, number_of, bound_at, constant_at, value_for, within}
-use Rattle.ops_check.specs.Going.{begins_value}
+use Rattle.ops_check.specs.Walks.{begins_value}
 
 -- a word is taken, or refused as no part of the grammar
 abbrev IsTaken : Step → Type 0

@@ -8,7 +8,7 @@ use Rattle.ops_grammar.specs.declared.words.Named.{Named}
 use Rattle.ops_grammar.specs.declared.words.Word.{Word}
 use Rattle.ops_grammar.specs.Grammar.{State, Wanted, Actions, goes, left_begun, with_rule}
 use Rattle.ops_forms.specs.Sights.{cells_from}
-use Rattle.ops_forms.specs.Walking.{AreBehind}
+use Rattle.ops_forms.specs.PlaceWalks.{AreBehind}
 use Rattle.ops_lhs.specs.LeftSides.{left_read}
 use Rattle.ops_rhs.specs.declared.sides.Sight.{Sight}
 use Rattle.ops_rhs.specs.RightSides.{IsBracket, ReadsRight, Sees, right_read}

@@ -19,7 +19,7 @@ use Rattle.ops_forms.specs.declared.form.FormEnd.{FormEnd}
 use Rattle.ops_forms.specs.declared.form.FormEnd.TheVariants as end
 use Rattle.ops_forms.specs.declared.refusals.Refusal.{Refusal}
 use Rattle.ops_forms.specs.declared.refusals.Refusal.TheVariants as refused
-use Rattle.ops_check.specs.Going.{ReadsAll}
+use Rattle.ops_check.specs.Walks.{ReadsAll}
 use Rattle.ops_check.specs.Answered.{rest_by, rest_of, stop_of, fault_at, Continues}
 use Rattle.ops_check.proofs.Balance.{NotCut, NotDone, closed_reads, open_form_goes_on}
 

@@ -1,7 +1,7 @@
 //! The commands of one word, and those of one word and an argument.
 ghost use Rattle.ops_grammar.specs.Grammar.{Count, StrategyName, Level, Closes, EndsCs, EndsExit};
-ghost use Rattle.ops_forms.specs.Going.{Reads, IsWithin};
-ghost use Rattle.ops_check.specs.Going.{view};
+ghost use Rattle.ops_forms.specs.WordWalks.{Reads, IsWithin};
+ghost use Rattle.ops_check.specs.Walks.{view};
 
 use crate::draft::Draft;
 use ops_base::commands::Command;

@@ -1,8 +1,8 @@
 //! Declarations of classes.
 ghost use Rattle.std.specs.Prelude.{◌∷◌, ◌++◌};
 ghost use Rattle.ops_grammar.specs.Grammar.{goes, vector_name, VectorName, VectorNames, ClassDeclared, Attributes};
-ghost use Rattle.ops_forms.specs.Going.{Goes, Reads, Acts, IsWithin};
-ghost use Rattle.ops_check.specs.Going.{view};
+ghost use Rattle.ops_forms.specs.WordWalks.{Goes, Reads, Acts, IsWithin};
+ghost use Rattle.ops_check.specs.Walks.{view};
 
 use crate::draft::Draft;
 use ops_base::elements::MOST_FIELDS;

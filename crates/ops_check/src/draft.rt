@@ -2,8 +2,8 @@
 ghost use Rattle.std.specs.Prelude.{◌≡◌, ◌==◌, position, slice_get};
 ghost use Rattle.ops_base.specs.Valid.{class_of, is_vector};
 ghost use Rattle.ops_grammar.specs.Grammar.{nothing_read, is_class, is_rule, is_one_of, is_second, makes_second, may_declare, may_produce, with_class, with_vector, with_fixed, with_constant, with_command, attributes_of};
-ghost use Rattle.ops_forms.specs.Going.{Becomes};
-ghost use Rattle.ops_check.specs.Going.{view, target_of};
+ghost use Rattle.ops_forms.specs.WordWalks.{Becomes};
+ghost use Rattle.ops_check.specs.Walks.{view, target_of};
 
 use crate::given::GivenCommands;
 use ops_base::commands::{Command, Fixed};

@@ -1,8 +1,8 @@
 //! The elements of commands: a class with attributes and values.
 ghost use Rattle.std.specs.Prelude.{false, [], ◌∷◌, ◌++◌};
 ghost use Rattle.ops_grammar.specs.Grammar.{goes, InFixed, Shown, ClassName, Terms, Attribute};
-ghost use Rattle.ops_forms.specs.Going.{Goes, GoesToTerms, Reads, IsWithin};
-ghost use Rattle.ops_check.specs.Going.{view};
+ghost use Rattle.ops_forms.specs.WordWalks.{Goes, GoesToTerms, Reads, IsWithin};
+ghost use Rattle.ops_check.specs.Walks.{view};
 
 use crate::draft::{Draft, ElementUse, Target};
 use ops_base::commands::Command;

@@ -2,9 +2,9 @@
 ghost use Rattle.std.specs.Prelude.{◌≡◌, ◌+◌, ◌++◌, List, ℕ, not, count_by, SomeIff, ◌<◌, ◌^◌};
 ghost use Rattle.ops_base.specs.Valid.{cells_of, specificity};
 ghost use Rattle.ops_grammar.specs.Grammar.{with_several, with_element, with_rule, fixed_command, InFixed};
-ghost use Rattle.ops_forms.specs.Going.{Becomes};
+ghost use Rattle.ops_forms.specs.WordWalks.{Becomes};
 ghost use Rattle.ops_rhs.specs.RightSides.{right_read};
-ghost use Rattle.ops_check.specs.Going.{view, shows};
+ghost use Rattle.ops_check.specs.Walks.{view, shows};
 
 use crate::draft::{Draft, ElementUse};
 use ops_base::commands::{Command, Fixed};

@@ -1,8 +1,8 @@
 //! The forms of a program text.
 ghost use Rattle.std.specs.Prelude.{◌≡◌, MatchOption, [], ◌∷◌};
 ghost use Rattle.ops_grammar.specs.Grammar.{Form};
-ghost use Rattle.ops_forms.specs.Going.{Reads, IsWithin};
-ghost use Rattle.ops_check.specs.Going.{view, ReadsAll};
+ghost use Rattle.ops_forms.specs.WordWalks.{Reads, IsWithin};
+ghost use Rattle.ops_check.specs.Walks.{view, ReadsAll};
 
 use crate::draft::Draft;
 use ops_base::endings::Fault;

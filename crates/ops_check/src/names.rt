@@ -1,8 +1,8 @@
 //! The commands that name productions, whether they are there or not.
 ghost use Rattle.std.specs.Prelude.{◌≡◌, [], ◌∷◌, ◌++◌};
 ghost use Rattle.ops_grammar.specs.Grammar.{goes, NamedRule, NamedRules, ToPrint, ToBreak, name_command, with_named};
-ghost use Rattle.ops_forms.specs.Going.{Goes, Reads, Becomes, IsWithin};
-ghost use Rattle.ops_check.specs.Going.{view, name_use_of};
+ghost use Rattle.ops_forms.specs.WordWalks.{Goes, Reads, Becomes, IsWithin};
+ghost use Rattle.ops_check.specs.Walks.{view, name_use_of};
 
 use crate::draft::{Draft, NameUse};
 use ops_base::commands::Command;

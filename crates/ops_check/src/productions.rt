@@ -2,10 +2,10 @@
 ghost use Rattle.std.specs.Prelude.{◌≡◌, ◌<◌, ◌-◌, ◌∷◌, ◌++◌, length, slice_get, Some, IfOk};
 ghost use Rattle.ops_base.specs.Valid.{cells_of};
 ghost use Rattle.ops_grammar.specs.Grammar.{goes, left_begun, RuleName, FirstPattern, Patterns, Actions};
-ghost use Rattle.ops_forms.specs.Going.{Goes, Reads, IsWithin};
+ghost use Rattle.ops_forms.specs.WordWalks.{Goes, Reads, IsWithin};
 ghost use Rattle.ops_forms.specs.Sights.{cells_from};
 ghost use Rattle.ops_lhs.specs.LeftSides.{left_read};
-ghost use Rattle.ops_check.specs.Going.{view};
+ghost use Rattle.ops_check.specs.Walks.{view};
 
 use crate::draft::Draft;
 use ops_base::conditions::Condition;

@@ -10,7 +10,7 @@ ghost use Rattle.ops_base.specs.Symbols.{is_held};
 ghost use Rattle.ops_grammar.specs.TextNames.{AreNamesOf};
 ghost use Rattle.ops_forms.specs.Forms.{IsForm};
 ghost use Rattle.ops_check.specs.Answered.{IsRefusal, IsStanding, IsAnswer, Comes, Continues, rest_of};
-ghost use Rattle.ops_check.specs.Going.{view};
+ghost use Rattle.ops_check.specs.Walks.{view};
 
 use crate::draft::Draft;
 use crate::faults::{ProgramFault, TextFault, fault_at, fault_of};

@@ -2,8 +2,8 @@
 ghost use Rattle.std.specs.Prelude.{◌≡◌, ◌+◌, ◌∷◌, ◌++◌, length, nat_lt};
 ghost use Rattle.ops_base.specs.Valid.{most_fields};
 ghost use Rattle.ops_grammar.specs.Grammar.{goes, value_for, within, ToConstants, InFixed, Several};
-ghost use Rattle.ops_forms.specs.Going.{GoesToTerms, Acts, IsWithin};
-ghost use Rattle.ops_check.specs.Going.{view, begins_value};
+ghost use Rattle.ops_forms.specs.WordWalks.{GoesToTerms, Acts, IsWithin};
+ghost use Rattle.ops_check.specs.Walks.{view, begins_value};
 
 use crate::draft::{Draft, Target};
 use ops_base::elements::MOST_FIELDS;

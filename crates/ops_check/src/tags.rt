@@ -1,8 +1,8 @@
 //! The commands that name elements by their tags.
 ghost use Rattle.std.specs.Prelude.{◌≡◌, []};
 ghost use Rattle.ops_grammar.specs.Grammar.{TagOrAll, Tags, ToShow, tag_command, with_tags};
-ghost use Rattle.ops_forms.specs.Going.{Reads, Becomes, IsWithin};
-ghost use Rattle.ops_check.specs.Going.{view, tag_use_of};
+ghost use Rattle.ops_forms.specs.WordWalks.{Reads, Becomes, IsWithin};
+ghost use Rattle.ops_check.specs.Walks.{view, tag_use_of};
 
 use crate::draft::{Draft, TagUse};
 use ops_base::commands::Command;

@@ -1,7 +1,7 @@
 //! Constants where a value of a command stands.
 ghost use Rattle.ops_grammar.specs.Grammar.{goes, atom_of, value_for, Atom, ValueFor};
-ghost use Rattle.ops_forms.specs.Going.{Reads, Acts, IsWithin};
-ghost use Rattle.ops_check.specs.Going.{view, target_of};
+ghost use Rattle.ops_forms.specs.WordWalks.{Reads, Acts, IsWithin};
+ghost use Rattle.ops_check.specs.Walks.{view, target_of};
 
 use crate::draft::{Draft, Target};
 use ops_base::endings::Fault;

@@ -12,7 +12,7 @@ use Rattle.ops_grammar.specs.declared.words.Word.{Word}
 use Rattle.ops_grammar.specs.Words.{keyword_of, names_with, words_from, names_from}
 use Rattle.ops_grammar.specs.Grammar.{Wanted, Forms, State, Step, Next, Refuses, Outcome, after, step, ends, goes}
 use Rattle.ops_forms.specs.Forms.{past_last}
-use Rattle.ops_forms.specs.Walking.{AreBehind, IsBehind, words_of_scope}
+use Rattle.ops_forms.specs.PlaceWalks.{AreBehind, IsBehind, words_of_scope}
 use Rattle.ops_forms.specs.declared.scope.Scope.{Scope}
 
 -- ---- of words

@@ -5,7 +5,7 @@ use Rattle.ops_grammar.specs.declared.words.Word.{Word}
 use Rattle.ops_grammar.specs.Grammar.{Wanted, State, Step, Next, Refuses, after, step, goes}
 use Rattle.ops_forms.specs.declared.refusals.Refusal.{Refusal}
 use Rattle.ops_forms.specs.declared.refusals.Refusal.TheVariants as refusal
-use Rattle.ops_forms.specs.Walking.{Way, Fails, GoesOn, FailsAmong, GoesAmong, GoesToAmong, CutGoesAmong, PeekGoesToAmong, CutWay, Onward, goes_onward, IsFrom}
+use Rattle.ops_forms.specs.PlaceWalks.{Way, Fails, GoesOn, FailsAmong, GoesAmong, GoesToAmong, CutGoesAmong, PeekGoesToAmong, CutWay, Onward, goes_onward, IsFrom}
 
 -- a word is taken also where the words are cut after it
 pub cut_taken : (words : List Word) (at next n : ℕ) (w : Word) → drop at words ≡ w ∷ drop next words → next ≡ at + 1 → at < n → drop at (take n words) ≡ w ∷ drop next (take n words)

@@ -9,8 +9,8 @@ use Rattle.ops_grammar.specs.declared.words.Word.{Word}
 use Rattle.ops_grammar.specs.Grammar.{Use, Target, Wanted, VectorName, VectorNames, Patterns, Pattern, Braced, ElementName, ClosesBrace, Terms, ClassName, Attribute, Several, Cell, Cells, Items, ItemWord, Place, Tests, Tested, ValueFor, ToItem, State, Next, after, step, goes, is_left, is_right, is_right_brace, is_caret, is_arrow, is_name, behind_attribute, vector_name, more_patterns, element_name, place, test, tested, value_for, one_of_several, cell}
 use Rattle.ops_forms.specs.declared.refusals.Refusal.{Refusal}
 use Rattle.ops_forms.specs.declared.refusals.Refusal.TheVariants as refusal
-use Rattle.ops_forms.specs.Going.{Way, Fails, Goes}
-use Rattle.ops_forms.specs.Walking.{Onward, goes_onward}
+use Rattle.ops_forms.specs.WordWalks.{Way, Fails, Goes}
+use Rattle.ops_forms.specs.PlaceWalks.{Onward, goes_onward}
 
 -- what fails on one way fails on a way that is the same
 pub fails_as : (from by : Way) → ((more : List Word) (ws : List Wanted) → from more ws ≡ by more ws) → (e : Refusal) → Fails by e → Fails from e

@@ -1,6 +1,6 @@
 pub mod Firsts
 pub mod Forms
-pub mod Going
+pub mod WordWalks
 pub mod Noted
 pub mod Sights
-pub mod Walking
+pub mod PlaceWalks

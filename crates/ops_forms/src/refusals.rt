@@ -2,7 +2,7 @@
 ghost use Rattle.std.specs.Prelude.{◌≡◌, ◌∷◌, Err, IfOk, Some, true};
 ghost use Rattle.ops_grammar.specs.Grammar.{is_right};
 ghost use Rattle.ops_grammar.specs.declared.words.Word.{Word};
-ghost use Rattle.ops_forms.specs.Going.{Takes, ReadsClosing, IsWithin};
+ghost use Rattle.ops_forms.specs.WordWalks.{Takes, ReadsClosing, IsWithin};
 ghost use Rattle.ops_forms.specs.declared.refusals.Refusal.TheVariants.{OutOfMemory as WantOfMemory};
 ghost use Rattle.ops_forms.specs.declared.refusals.ReadFault.TheVariants.{OutOfMemory as NoMemory};
 

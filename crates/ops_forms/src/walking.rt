@@ -3,7 +3,7 @@ ghost use Rattle.std.specs.Prelude.{◌≡◌, ◌+◌, IfOk, Some, slice_get, t
 ghost use Rattle.ops_grammar.specs.Grammar.{is_right};
 ghost use Rattle.ops_grammar.specs.declared.words.Word.{Word};
 ghost use Rattle.ops_forms.specs.Forms.{past_last};
-ghost use Rattle.ops_forms.specs.Walking.{Takes, ReadsClosing, CutReadsClosing, IsFrom, fault_of};
+ghost use Rattle.ops_forms.specs.PlaceWalks.{Takes, ReadsClosing, CutReadsClosing, IsFrom, fault_of};
 
 use crate::kinds::is_right;
 use crate::refusals::{ReadFault, Refusal, refused};

@@ -11,7 +11,7 @@ use Rattle.ops_grammar.specs.Words.{names_from}
 use Rattle.ops_grammar.specs.Grammar.{Wanted, FirstPattern, Patterns, State, goes, is_arrow, left_begun, nothing_read}
 use Rattle.ops_forms.specs.Forms.{past_last}
 use Rattle.ops_forms.specs.Sights.{cells_from}
-use Rattle.ops_forms.specs.Walking.{words_of_scope, fault_of}
+use Rattle.ops_forms.specs.PlaceWalks.{words_of_scope, fault_of}
 use Rattle.ops_forms.specs.declared.refusals.Refusal.{Refusal}
 use Rattle.ops_forms.specs.declared.refusals.Refusal.TheVariants as refusal
 use Rattle.ops_forms.specs.declared.scope.Scope.{Scope}

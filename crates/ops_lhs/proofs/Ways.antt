@@ -5,7 +5,7 @@ use Rattle.ops_grammar.specs.declared.words.Word.{Word}
 use Rattle.ops_grammar.specs.Grammar.{InPattern, Wanted, Terms, State}
 use Rattle.ops_forms.specs.declared.refusals.Refusal.{Refusal}
 use Rattle.ops_lhs.specs.declared.left.Left.{Left}
-use Rattle.ops_forms.specs.Walking.{Way, GoesOn, CutGoesOn, CutWay, Onward, IsFrom}
+use Rattle.ops_forms.specs.PlaceWalks.{Way, GoesOn, CutGoesOn, CutWay, Onward, IsFrom}
 use Rattle.ops_forms.proofs.Walks.{fails_under, fails_anywhere}
 use Rattle.ops_lhs.specs.Taking.{seen, GoesToTerms, Among, GoesToTermsAmong, PeekGoesToTerms, PeekGoesToTermsAmong}
 

@@ -12,9 +12,9 @@ use Rattle.ops_grammar.specs.declared.words.Named.{Named}
 use Rattle.ops_grammar.specs.Words.{keyword_of, names_from}
 use Rattle.ops_grammar.specs.Grammar.{State, Wanted, FirstPattern, Patterns, goes, is_arrow, left_begun, right_begun}
 use Rattle.ops_forms.specs.Forms.{past_last}
-use Rattle.ops_forms.specs.Going.{Way, Fails}
+use Rattle.ops_forms.specs.WordWalks.{Way, Fails}
 use Rattle.ops_forms.specs.Sights.{cells_from}
-use Rattle.ops_forms.specs.Walking.{AreBehind, words_of_scope}
+use Rattle.ops_forms.specs.PlaceWalks.{AreBehind, words_of_scope}
 use Rattle.ops_forms.specs.declared.refusals.Refusal.{Refusal}
 use Rattle.ops_forms.specs.declared.refusals.Refusal.TheVariants as refusal
 use Rattle.ops_forms.specs.declared.refusals.ReadFault.{ReadFault}

@@ -4,7 +4,7 @@ use Rattle.ops_base.specs.declared.elements.Class.{Class}
 use Rattle.ops_grammar.specs.declared.words.Word.{Word}
 use Rattle.ops_grammar.specs.Grammar.{InPattern, Wanted, Terms, State, Step, after, goes, nothing_read, is_left_brace, is_variable, is_literal, opens_choice, pred_of, constant_of}
 use Rattle.ops_forms.specs.declared.refusals.Refusal.{Refusal}
-use Rattle.ops_forms.specs.Walking.{Way, Fails, GoesOn, GoesAmong, GoesToAmong, CutGoesOn, CutGoesAmong, PeekGoesToAmong, Onward, CutWay, goes_onward}
+use Rattle.ops_forms.specs.PlaceWalks.{Way, Fails, GoesOn, GoesAmong, GoesToAmong, CutGoesOn, CutGoesAmong, PeekGoesToAmong, Onward, CutWay, goes_onward}
 use Rattle.ops_lhs.specs.declared.left.Left.{Left}
 
 -- what is read so far, where all else that was read is that of a state

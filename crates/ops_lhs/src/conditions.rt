@@ -1,7 +1,7 @@
 //! Conditions up to the arrow.
 ghost use Rattle.std.specs.Prelude.{◌∷◌, ◌++◌, ◌<◌, drop, IfOk};
 ghost use Rattle.ops_grammar.specs.Grammar.{goes, more_patterns, left_ended, right_begun, FirstPattern, Patterns};
-ghost use Rattle.ops_forms.specs.Walking.{GoesAmong, IsFrom, IsBehind, CutGoesAmong, goes_onward};
+ghost use Rattle.ops_forms.specs.PlaceWalks.{GoesAmong, IsFrom, IsBehind, CutGoesAmong, goes_onward};
 ghost use Rattle.ops_lhs.specs.LeftSides.{IsArrow};
 ghost use Rattle.ops_lhs.specs.Taking.{seen, ReadsAmong, ActsAmong, Among, CutActsAmong, CutReadsAmong};
 

@@ -1,7 +1,7 @@
 //! Element variables.
 ghost use Rattle.std.specs.Prelude.{◌∷◌, ◌++◌, drop};
 ghost use Rattle.ops_grammar.specs.Grammar.{goes, element_name, InPattern, Pattern, Braced, ElementName, ClosesBrace, ClassName, Terms};
-ghost use Rattle.ops_forms.specs.Walking.{GoesOn, GoesAmong, IsFrom, CutGoesAmong, CutGoesOn, goes_onward};
+ghost use Rattle.ops_forms.specs.PlaceWalks.{GoesOn, GoesAmong, IsFrom, CutGoesAmong, CutGoesOn, goes_onward};
 ghost use Rattle.ops_lhs.specs.Taking.{seen, Reads, Acts, ReadsAmong, ActsAmong, Among, CutActs, CutActsAmong, CutReads, CutReadsAmong};
 
 use crate::left::Left;

@@ -2,7 +2,7 @@
 ghost use Rattle.std.specs.Prelude.{◌≡◌, length};
 ghost use Rattle.ops_base.specs.Valid.{cells_of};
 ghost use Rattle.ops_grammar.specs.Grammar.{nothing_read, left_begun, with_test, with_bound, with_choice, with_condition, with_bound_element};
-ghost use Rattle.ops_forms.specs.Going.{Becomes};
+ghost use Rattle.ops_forms.specs.WordWalks.{Becomes};
 ghost use Rattle.ops_lhs.specs.Taking.{view};
 
 use ops_base::conditions::{Condition, Operand, Test};

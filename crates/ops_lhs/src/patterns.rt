@@ -1,7 +1,7 @@
 //! Patterns: a class with attributes and tests.
 ghost use Rattle.std.specs.Prelude.{◌∷◌, ◌++◌, drop};
 ghost use Rattle.ops_grammar.specs.Grammar.{goes, InPattern, ClassName, Terms, Attribute, Pattern};
-ghost use Rattle.ops_forms.specs.Walking.{GoesAmong, IsFrom, CutGoesAmong, goes_onward};
+ghost use Rattle.ops_forms.specs.PlaceWalks.{GoesAmong, IsFrom, CutGoesAmong, goes_onward};
 ghost use Rattle.ops_lhs.specs.Taking.{seen, GoesToTermsAmong, ReadsAmong, Among, PeekGoesToTermsAmong, CutReadsAmong};
 
 use crate::left::Left;

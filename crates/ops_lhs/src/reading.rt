@@ -2,7 +2,7 @@
 ghost use Rattle.std.specs.Prelude.{◌≡◌, ◌≤◌, length, All, IfOk, IfErr};
 ghost use Rattle.ops_tokens.specs.Tokens.{LiesIn};
 ghost use Rattle.ops_lhs.specs.LeftSides.{ReadsLeft, RefusesLeft, AreBehindArrow, IsLeftSide, IsRefused};
-ghost use Rattle.ops_forms.specs.Walking.{fault_of};
+ghost use Rattle.ops_forms.specs.PlaceWalks.{fault_of};
 
 use crate::left::Left;
 use crate::sides::LeftSide;

@@ -2,7 +2,7 @@
 ghost use Rattle.std.specs.Prelude.{◌≡◌, ◌∷◌, ◌++◌, ◌||◌, drop, is_some, nat_lt};
 ghost use Rattle.ops_base.specs.Valid.{most_fields};
 ghost use Rattle.ops_grammar.specs.Grammar.{goes, is_literal, is_variable, constant_of, place, within, InPattern, Several};
-ghost use Rattle.ops_forms.specs.Walking.{IsFrom, goes_onward};
+ghost use Rattle.ops_forms.specs.PlaceWalks.{IsFrom, goes_onward};
 ghost use Rattle.ops_lhs.specs.Taking.{seen, GoesToTerms, Acts, begins_place, CutActs, PeekGoesToTerms};
 
 use crate::left::Left;

@@ -1,6 +1,6 @@
 //! Tests of a condition.
 ghost use Rattle.ops_grammar.specs.Grammar.{goes, number_of, place, test, tested, variable_tested, Place, Tests, Tested, Choice, Atom, ToTest};
-ghost use Rattle.ops_forms.specs.Walking.{IsFrom};
+ghost use Rattle.ops_forms.specs.PlaceWalks.{IsFrom};
 ghost use Rattle.ops_lhs.specs.Taking.{Reads, Acts, CutActs, CutReads};
 
 use crate::left::Left;

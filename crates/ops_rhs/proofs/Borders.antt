@@ -7,7 +7,7 @@ use Rattle.ops_grammar.specs.declared.words.Word.{Word}
 use Rattle.ops_grammar.specs.Words.{names_from}
 use Rattle.ops_grammar.specs.Grammar.{State, Wanted, Actions, goes, step, is_right, right_begun, nothing_read, with_rule}
 use Rattle.ops_forms.specs.Forms.{past_last}
-use Rattle.ops_forms.specs.Walking.{IsBehind, IsPlaced, Onward, goes_onward, words_of_scope, fault_of}
+use Rattle.ops_forms.specs.PlaceWalks.{IsBehind, IsPlaced, Onward, goes_onward, words_of_scope, fault_of}
 use Rattle.ops_forms.specs.declared.refusals.Refusal.{Refusal}
 use Rattle.ops_forms.specs.declared.refusals.Refusal.TheVariants as refusal
 use Rattle.ops_forms.specs.declared.scope.Scope.{Scope}

@@ -5,7 +5,7 @@ use Rattle.ops_base.specs.declared.expression.Op.{Op}
 use Rattle.ops_base.specs.declared.actions.Term.{Term}
 use Rattle.ops_grammar.specs.declared.words.Word.{Word}
 use Rattle.ops_grammar.specs.Grammar.{Target as Goal, Waiting as Waits, Wanted, State, Next, Bracketed, ExpressionUnit, ExpressionRest, after, goes, step, bracket_at, completed, is_left, is_right, most_brackets, number_of, operation_of, term_at, with_bind, with_formula}
-use Rattle.ops_forms.specs.Walking.{Way, Fails, GoesOn, GoesAmong, Onward, goes_onward}
+use Rattle.ops_forms.specs.PlaceWalks.{Way, Fails, GoesOn, GoesAmong, Onward, goes_onward}
 use Rattle.ops_forms.specs.declared.refusals.Refusal.{Refusal}
 use Rattle.ops_forms.specs.declared.refusals.Refusal.TheVariants as refusal
 use Rattle.ops_forms.proofs.Walks.{fails_as, fails_anywhere}

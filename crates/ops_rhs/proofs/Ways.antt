@@ -5,7 +5,7 @@ use Rattle.ops_grammar.specs.declared.words.Word.{Word}
 use Rattle.ops_grammar.specs.declared.words.Keyword.{Keyword}
 use Rattle.ops_grammar.specs.declared.words.Keyword.TheVariants as keyword
 use Rattle.ops_grammar.specs.Grammar.{Target, Wanted, SourceAttribute, SourceEnd, Function, ItemWord, BoundValue, Closes, EndsWhole, ToItem, ToBind, State, after, goes, step, is_name, is_right, function, item_word, value_for, source_class as class_read}
-use Rattle.ops_forms.specs.Walking.{Onward, goes_onward}
+use Rattle.ops_forms.specs.PlaceWalks.{Onward, goes_onward}
 use Rattle.ops_rhs.specs.declared.right.Around.{Around}
 use Rattle.ops_rhs.specs.declared.right.Right.{Right}
 use Rattle.ops_rhs.specs.Taking.{seen, IsAround, source_class}

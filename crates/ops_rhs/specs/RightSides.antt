@@ -10,9 +10,9 @@ use Rattle.ops_grammar.specs.declared.words.Word.{Word}
 use Rattle.ops_grammar.specs.Words.{names_from}
 use Rattle.ops_grammar.specs.Grammar.{State, Wanted, Actions, Outcome, goes, is_right, right_begun, with_rule}
 use Rattle.ops_forms.specs.Forms.{past_last}
-use Rattle.ops_forms.specs.Going.{Way, Fails}
+use Rattle.ops_forms.specs.WordWalks.{Way, Fails}
 use Rattle.ops_forms.specs.Sights.{cells_from}
-use Rattle.ops_forms.specs.Walking.{AreBehind, goes_onward, words_of_scope}
+use Rattle.ops_forms.specs.PlaceWalks.{AreBehind, goes_onward, words_of_scope}
 use Rattle.ops_forms.specs.declared.refusals.Refusal.{Refusal}
 use Rattle.ops_forms.specs.declared.refusals.Refusal.TheVariants as refusal
 use Rattle.ops_forms.specs.declared.refusals.ReadFault.{ReadFault}

@@ -11,7 +11,7 @@ use Rattle.ops_base.specs.Valid.{class_of, cells_of}
 use Rattle.ops_grammar.specs.declared.words.Word.{Word}
 use Rattle.ops_grammar.specs.Grammar.{Target as Goal, ToPut, ToTerms, ToItem, ToBind, Column as Purpose, ToTab, ToRight, Wanted, State, Step, Waiting as Waits, Bracketed, ExpressionUnit, ExpressionRest, Next, Refuses, after, goes, nothing_read, no_formula, is_right, number_of, with_put, with_item, with_bind, with_formula}
 use Rattle.ops_forms.specs.Sights.{cells_from}
-use Rattle.ops_forms.specs.Walking.{Way, Fails, IsPlaced, GoesOn, GoesAmong, GoesToAmong, CutGoesOn, CutGoesAmong, CutGoesToAmong, PeekGoesToAmong, Onward, CutWay, goes_onward}
+use Rattle.ops_forms.specs.PlaceWalks.{Way, Fails, IsPlaced, GoesOn, GoesAmong, GoesToAmong, CutGoesOn, CutGoesAmong, CutGoesToAmong, PeekGoesToAmong, Onward, CutWay, goes_onward}
 use Rattle.ops_forms.specs.declared.refusals.Refusal.{Refusal}
 use Rattle.ops_forms.specs.declared.refusals.Refusal.TheVariants as refusal
 use Rattle.ops_rhs.specs.declared.expressions.Waiting.{Waiting}

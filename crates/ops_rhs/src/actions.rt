@@ -1,7 +1,7 @@
 //! Actions up to the closing bracket of a production.
 ghost use Rattle.std.specs.Prelude.{◌∷◌, ◌++◌, drop, IfOk};
 ghost use Rattle.ops_grammar.specs.Grammar.{goes, Actions, ActionWord, Closes, EndsHalt};
-ghost use Rattle.ops_forms.specs.Walking.{IsFrom, goes_onward};
+ghost use Rattle.ops_forms.specs.PlaceWalks.{IsFrom, goes_onward};
 ghost use Rattle.ops_rhs.specs.Taking.{seen, Reads, GoesTo, IsClosing, ReadsAnywhere, CutGoesTo, CutReads, CutReadsAnywhere};
 
 use crate::right::{Around, Right};

@@ -1,7 +1,7 @@
 //! The actions that bind a variable to a value or to a cell.
 ghost use Rattle.std.specs.Prelude.{◌∷◌, ◌++◌, drop};
 ghost use Rattle.ops_grammar.specs.Grammar.{goes, value_for, ToBind, BoundName, BoundValue, CellName, Closes, EndsWhole};
-ghost use Rattle.ops_forms.specs.Walking.{GoesAmong, IsFrom, CutGoesAmong, goes_onward};
+ghost use Rattle.ops_forms.specs.PlaceWalks.{GoesAmong, IsFrom, CutGoesAmong, goes_onward};
 ghost use Rattle.ops_rhs.specs.Taking.{seen, IsAround, Reads, Acts, ReadsAnywhere, CutActs, CutReads, CutReadsAnywhere};
 
 use crate::right::{Around, Right, Target};

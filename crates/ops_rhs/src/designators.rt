@@ -1,7 +1,7 @@
 //! The designators of the elements that a right side speaks of.
 ghost use Rattle.std.specs.Prelude.{◌≡◌, ◌∷◌, ◌++◌, drop, slice_get};
 ghost use Rattle.ops_grammar.specs.Grammar.{State, goes, cell, cell_of, named_cell, natural_of, number_of, InPut, Cell, Cells, Modified, Terms};
-ghost use Rattle.ops_forms.specs.Walking.{GoesAmong, IsFrom, CutGoesAmong, goes_onward};
+ghost use Rattle.ops_forms.specs.PlaceWalks.{GoesAmong, IsFrom, CutGoesAmong, goes_onward};
 ghost use Rattle.ops_rhs.specs.Taking.{seen, numbered_by, cell_by, IsAround, Reads, Acts, CutActs, CutReads};
 
 use crate::right::{Around, Right};

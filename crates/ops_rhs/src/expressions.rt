@@ -1,7 +1,7 @@
 //! The expressions of `compute`.
 ghost use Rattle.std.specs.Prelude.{◌≡◌, IfOk};
 ghost use Rattle.ops_grammar.specs.Grammar.{completed, bracket_at, unit_at, unit_bound, number_of, ExpressionUnit};
-ghost use Rattle.ops_forms.specs.Walking.{IsFrom};
+ghost use Rattle.ops_forms.specs.PlaceWalks.{IsFrom};
 ghost use Rattle.ops_rhs.specs.Taking.{newest_first, ReadsOperand, ActsOperand, ReadsExpression, OpensExpression, IsOperand, IsFromOperand, CutActsOperand, PeekOpensExpression, CutReadsExpression, CutReadsOperand};
 
 use crate::right::Right;

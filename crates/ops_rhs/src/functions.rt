@@ -1,7 +1,7 @@
 //! The functions that a value may be.
 ghost use Rattle.std.specs.Prelude.{◌∷◌, [], ◌++◌, drop, Some};
 ghost use Rattle.ops_grammar.specs.Grammar.{goes, function, function_depth, Function, ExpressionUnit, ExpressionRest, Closes, EndsWhole};
-ghost use Rattle.ops_forms.specs.Walking.{GoesOn, IsFrom, CutGoesOn, goes_onward};
+ghost use Rattle.ops_forms.specs.PlaceWalks.{GoesOn, IsFrom, CutGoesOn, goes_onward};
 ghost use Rattle.ops_rhs.specs.Taking.{seen, target_of, with_term, Reads, Acts, CutActs, CutReads};
 
 use crate::expressions::FUNCTION_DEPTH;

@@ -1,7 +1,7 @@
 //! What `write` prints.
 ghost use Rattle.std.specs.Prelude.{◌≡◌, ◌∷◌, ◌++◌, drop, if◌then◌else◌};
 ghost use Rattle.ops_grammar.specs.Grammar.{goes, value_for, is_left, column_item, ToItem, Items, ItemWord, Columns, Closes, EndsCrlf, EndsWhole, Next};
-ghost use Rattle.ops_forms.specs.Walking.{GoesOn, IsFrom, CutGoesOn, goes_onward};
+ghost use Rattle.ops_forms.specs.PlaceWalks.{GoesOn, IsFrom, CutGoesOn, goes_onward};
 ghost use Rattle.ops_rhs.specs.Taking.{seen, column_of, Reads, Acts, ReadsAnywhere, CutActs, CutReads, CutReadsAnywhere};
 
 use crate::right::{Around, Column, Right, Target};

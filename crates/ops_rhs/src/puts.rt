@@ -1,7 +1,7 @@
 //! The elements that a right side makes: a class with attributes and values.
 ghost use Rattle.std.specs.Prelude.{◌∷◌, ◌++◌, drop};
 ghost use Rattle.ops_grammar.specs.Grammar.{goes, InPut, ClassName, Terms, Attribute, Several};
-ghost use Rattle.ops_forms.specs.Walking.{GoesAmong, IsFrom, CutGoesAmong, goes_onward};
+ghost use Rattle.ops_forms.specs.PlaceWalks.{GoesAmong, IsFrom, CutGoesAmong, goes_onward};
 ghost use Rattle.ops_rhs.specs.Taking.{seen, IsAround, Reads, GoesTo, PeekGoesTo, CutReads};
 
 use crate::right::{Around, Right, Target};

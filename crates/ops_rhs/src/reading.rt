@@ -1,7 +1,7 @@
 //! Right sides, from their words and from their tokens.
 ghost use Rattle.std.specs.Prelude.{◌≡◌, ◌≤◌, ◌++◌, [], length, All, IfOk, IfErr};
 ghost use Rattle.ops_tokens.specs.Tokens.{LiesIn};
-ghost use Rattle.ops_forms.specs.Walking.{IsPlaced};
+ghost use Rattle.ops_forms.specs.PlaceWalks.{IsPlaced};
 ghost use Rattle.ops_rhs.specs.RightSides.{sight_of, ReadsRight, RefusesRight, IsRightSide, IsRefused};
 
 use crate::right::{Around, Right};

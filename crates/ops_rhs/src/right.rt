@@ -1,7 +1,7 @@
 //! What was read so far of a right side, and how it grows.
 ghost use Rattle.std.specs.Prelude.{◌≡◌, None};
 ghost use Rattle.ops_grammar.specs.Grammar.{nothing_read, right_begun, number_of, with_action, with_item, with_put, with_bind, with_several, with_element, with_remove, with_write, put_action, InPut};
-ghost use Rattle.ops_forms.specs.Going.{Becomes};
+ghost use Rattle.ops_forms.specs.WordWalks.{Becomes};
 ghost use Rattle.ops_rhs.specs.Taking.{view, with_term};
 
 use ops_base::actions::{Action, Item, Put, Term};

@@ -1,6 +1,6 @@
 //! Values: constants, variables and functions.
 ghost use Rattle.ops_grammar.specs.Grammar.{goes, value_for, bound_at, number_of, Atom, ValueFor};
-ghost use Rattle.ops_forms.specs.Walking.{IsFrom};
+ghost use Rattle.ops_forms.specs.PlaceWalks.{IsFrom};
 ghost use Rattle.ops_rhs.specs.Taking.{target_of, Reads, Acts, ReadsAnywhere, ActsAnywhere, CutActs, CutActsAnywhere, CutReads, CutReadsAnywhere};
 
 use crate::right::{Around, Right, Target};

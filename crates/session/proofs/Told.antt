@@ -14,7 +14,7 @@ use Rattle.ops_meaning.specs.Layout.{tagged_text}
 use Rattle.ops_meaning.specs.Running.{removals}
 use Rattle.work_store.proofs.Doing.{found_to_remove}
 use Rattle.work_store.proofs.Lists.{tag_is}
-use Rattle.session.specs.Telling.{IsToldBy, AreToldBy}
+use Rattle.session.specs.Traces.{IsToldBy, AreToldBy}
 
 -- an element that is made
 pub made_told : (wm : List Element) (e : Element) → AreToldBy wm (Add e ∷ [])

@@ -3,4 +3,4 @@ pub mod Deeds
 pub mod Endings
 pub mod Holding
 pub mod Pauses
-pub mod Telling
+pub mod Traces

@@ -3,9 +3,9 @@ use Rattle.std.specs.Prelude.{ℕ, List, Option, option_map}
 use Rattle.ops_base.specs.Names.{Spellings}
 use Rattle.ops_meaning.specs.Layout.{halted_line, broken_line, counted_line}
 use Rattle.ops_meaning.specs.Running.{LastFiring as Meant}
-use Rattle.session.specs.declared.running.LastFiring.{LastFiring}
-use Rattle.session.specs.declared.running.Pause.{Pause}
-use Rattle.session.specs.declared.running.Pause.TheVariants as pause
+use Rattle.session.specs.declared.runs.LastFiring.{LastFiring}
+use Rattle.session.specs.declared.runs.Pause.{Pause}
+use Rattle.session.specs.declared.runs.Pause.TheVariants as pause
 
 -- the last firing of a run, where it made one
 abbrev pub meant_last : Option LastFiring → Option Meant

@@ -11,12 +11,12 @@ ghost use Rattle.act_phase.specs.Outcomes.{setting_of};
 ghost use Rattle.cycle.specs.Settles.{Settles};
 ghost use Rattle.session.specs.Courses.{IsUnderWay, meant_by, ends_unread};
 
-use crate::changing::{make_at_top, remove, remove_all};
-use crate::listing::{list_elements, list_met, list_standing};
-use crate::naming::{give_breaks, list_productions};
-use crate::running::run;
+use crate::lists::{list_elements, list_met, list_standing};
+use crate::memory_commands::{make_at_top, remove, remove_all};
+use crate::productions::{give_breaks, list_productions};
+use crate::runs::run;
 use crate::session::{Session, settle, started};
-use crate::setting::{give_level, give_strategy};
+use crate::settings::{give_level, give_strategy};
 use ops_base::commands::Command;
 use ops_base::elements::Change;
 use ops_base::endings::Ending;

@@ -7,15 +7,16 @@
 //! each is lent by itself, so that a contract can name what each holds afterwards. `hand` settles the matcher.
 #![tactic(auto)]
 
-mod changing;
+mod bounds;
 mod commands;
-mod listing;
-mod making;
-mod naming;
-mod running;
+mod elements;
+mod lists;
+mod memory_commands;
+mod productions;
+mod runs;
 mod session;
-mod setting;
-mod telling;
+mod settings;
+mod traces;
 mod whole;
 
 pub use ops_base::endings::Ending;

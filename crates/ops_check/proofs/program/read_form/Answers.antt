@@ -1,6 +1,6 @@
 use Rattle.std.proofs.Common.{ap, ◌∙◌}
 use Rattle.ops_grammar.specs.Words.{words_from, names_from}
-use Rattle.ops_check.specs.Going.{view}
+use Rattle.ops_check.specs.Walks.{view}
 use Rattle.ops_check.specs.Answered.{rest_of}
 use Rattle.ops_check.proofs.Texts.{form_read, form_failed}
 use Rattle.ops_check.proofs.program.read_form.Goals as goal

@@ -1,5 +1,5 @@
 use Rattle.std.proofs.Common.{arith, ◌∙◌}
-use Rattle.ops_check.specs.Going.{view}
+use Rattle.ops_check.specs.Walks.{view}
 use Rattle.ops_check.proofs.Texts.{reads_long, reads_first, nothing_more}
 use Rattle.ops_check.proofs.program.read_text.Goals as goal
 

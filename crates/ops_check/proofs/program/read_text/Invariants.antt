@@ -1,6 +1,6 @@
 use Rattle.std.proofs.Common.{◌≡◌, ◌≤◌, ◌-◌, length}
 use Rattle.ops_grammar.specs.Reads.{reads}
-use Rattle.ops_check.specs.Going.{view}
+use Rattle.ops_check.specs.Walks.{view}
 use Rattle.ops_check.specs.Answered.{rest_of}
 use Rattle.ops_check.proofs.program.read_text.Given as goal
 

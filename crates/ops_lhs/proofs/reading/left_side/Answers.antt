@@ -1,7 +1,7 @@
 use Rattle.std.proofs.Common.{◌≡◌, ◌∷◌, ◌∙◌, sym, ap, take, rules, arith}
 use Rattle.std.proofs.lemmas.List.{take-append-drop, take_rest}
 use Rattle.ops_grammar.specs.Grammar.{FirstPattern, Patterns, goes, left_begun, left_ended, right_begun}
-use Rattle.ops_forms.specs.Walking.{goes_onward}
+use Rattle.ops_forms.specs.PlaceWalks.{goes_onward}
 use Rattle.ops_forms.proofs.Borders.{behind_is}
 use Rattle.ops_forms.proofs.Walks.{goes_split, taken_goes}
 use Rattle.ops_lhs.specs.Taking.{seen}

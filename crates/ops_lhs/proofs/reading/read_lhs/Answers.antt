@@ -2,7 +2,7 @@ use Rattle.std.proofs.Common.{◌-◌, ◌∙◌, sym, subst, refl, length, List
 use Rattle.ops_base.specs.declared.conditions.Condition.{Condition}
 use Rattle.ops_grammar.specs.declared.words.Word.{Word}
 use Rattle.ops_forms.specs.declared.scope.Scope.{Scope}
-use Rattle.ops_forms.specs.Walking.{words_of_scope}
+use Rattle.ops_forms.specs.PlaceWalks.{words_of_scope}
 use Rattle.ops_forms.proofs.Borders.{words_made, names_made, counted}
 use Rattle.ops_lhs.specs.LeftSides.{ReadsLeft, RefusesLeft, IsArrow, AreBehindArrow, IsLeftSide, IsRefused}
 use Rattle.ops_lhs.proofs.Borders.{left_side_is, refused_is}

@@ -1,6 +1,6 @@
 use Rattle.std.proofs.Common.{◌≡◌, ◌-◌, ◌∙◌, sym, ap, subst, length, List, arith}
 use Rattle.ops_grammar.specs.declared.words.Word.{Word}
-use Rattle.ops_forms.specs.Walking.{AreBehind, words_of_scope}
+use Rattle.ops_forms.specs.PlaceWalks.{AreBehind, words_of_scope}
 use Rattle.ops_forms.specs.declared.scope.Scope.{Scope}
 use Rattle.ops_forms.proofs.Borders.{words_made, names_made, counted}
 use Rattle.ops_rhs.specs.declared.sides.Sight.{Sight}

@@ -5,7 +5,7 @@ use Rattle.ops_base.specs.Valid.{cells_of}
 use Rattle.ops_lhs.specs.LeftSides.{left_read}
 use Rattle.ops_rhs.specs.declared.sides.Sight.{Sight}
 use Rattle.ops_rhs.specs.RightSides.{ReadsRight, RefusesRight}
-use Rattle.ops_check.specs.Going.{view}
+use Rattle.ops_check.specs.Walks.{view}
 use Rattle.ops_check.proofs.Sides.{sees, right_is_read}
 use Rattle.ops_check.proofs.draft.Draft.actions.Goals as goal
 

@@ -1,7 +1,7 @@
 use Rattle.std.proofs.Common.{◌≡◌, List, length, ◌∷◌, ◌++◌, ◌≤◌}
 use Rattle.ops_grammar.specs.declared.words.Word.{Word}
 use Rattle.ops_grammar.specs.Grammar.{Wanted, NamedRules, goes}
-use Rattle.ops_check.specs.Going.{view, name_use_of}
+use Rattle.ops_check.specs.Walks.{view, name_use_of}
 use Rattle.ops_check.proofs.draft.Draft.names.Given as goal
 
 abbrev pub invariant-names : goal.invariant-names

@@ -2,7 +2,7 @@ use Rattle.std.proofs.Common.{◌++◌, ◌+◌, ◌<◌, ◌∙◌, sym, ap, le
 use Rattle.std.proofs.lemmas.Bool.{lt-ltb}
 use Rattle.ops_base.specs.Valid.{most_fields}
 use Rattle.ops_grammar.specs.Grammar.{goes, after, value_for, within, ToConstants}
-use Rattle.ops_check.specs.Going.{view}
+use Rattle.ops_check.specs.Walks.{view}
 use Rattle.ops_forms.proofs.Ways.{goes_as}
 use Rattle.ops_check.proofs.Rooms.{no_value}
 use Rattle.ops_check.proofs.draft.Draft.next_constant_from.Goals.{else-begins_value-via-then-begins_value+else-len-room, else-begins_value-via-else-begins_value}

@@ -1,7 +1,7 @@
 use Rattle.std.proofs.Common.{true, List, ◌∷◌, ◌++◌, ◌∙◌, sym, ap}
 use Rattle.ops_base.specs.declared.commands.Fixed.{Fixed}
 use Rattle.ops_grammar.specs.Grammar.{InFixed, ClassName, Terms, goes}
-use Rattle.ops_check.specs.Going.{view}
+use Rattle.ops_check.specs.Walks.{view}
 use Rattle.ops_forms.proofs.Ways.{goes_as}
 use Rattle.ops_check.proofs.Ways.{shown_first}
 use Rattle.ops_check.proofs.draft.Draft.ppwm.Goals as goal

@@ -1,7 +1,7 @@
 use Rattle.std.proofs.Common.{◌≡◌, List, length, ◌∷◌, ◌++◌, ◌≤◌}
 use Rattle.ops_grammar.specs.declared.words.Word.{Word}
 use Rattle.ops_grammar.specs.Grammar.{Wanted, Tags, goes}
-use Rattle.ops_check.specs.Going.{view, tag_use_of}
+use Rattle.ops_check.specs.Walks.{view, tag_use_of}
 use Rattle.ops_check.proofs.draft.Draft.read_tags.Given as goal
 
 abbrev pub invariant-tags : goal.invariant-tags

@@ -2,7 +2,7 @@ use Rattle.std.proofs.Common.{◌∷◌, ◌++◌, ◌∙◌, sym, ◌+◌, leng
 use Rattle.std.proofs.lemmas.Result.{err_from_is_err_and}
 use Rattle.ops_base.specs.Valid.{most_fields}
 use Rattle.ops_grammar.specs.Grammar.{goes, after, InFixed, Several, within, value_for, ToConstants}
-use Rattle.ops_check.specs.Going.{view}
+use Rattle.ops_check.specs.Walks.{view}
 use Rattle.ops_forms.proofs.Ways.{fails_as, fails_under, several_first}
 use Rattle.ops_check.proofs.draft.Draft.several_constants.Goals as goal
 

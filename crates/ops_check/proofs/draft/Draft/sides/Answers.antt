@@ -4,7 +4,7 @@ use Rattle.ops_grammar.specs.Grammar.{goes, FirstPattern, Patterns, Actions}
 use Rattle.ops_lhs.specs.LeftSides.{left_way, left_read}
 use Rattle.ops_lhs.proofs.Borders.{left_goes}
 use Rattle.ops_forms.proofs.Ways.{fails_as, fails_under, goes_as}
-use Rattle.ops_check.specs.Going.{view}
+use Rattle.ops_check.specs.Walks.{view}
 use Rattle.ops_check.proofs.draft.Draft.sides.Goals as goal
 
 pub returns-clause-reads : goal.returns-clause-reads

@@ -1,4 +1,4 @@
-use Rattle.ops_check.specs.Going.{view, target_of}
+use Rattle.ops_check.specs.Walks.{view, target_of}
 use Rattle.ops_forms.proofs.Ways.{goes_as, value_first}
 use Rattle.ops_check.proofs.draft.Draft.value.Goals as goal
 

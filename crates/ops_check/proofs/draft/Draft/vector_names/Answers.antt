@@ -1,7 +1,7 @@
 use Rattle.std.proofs.Common.{◌∷◌, ◌++◌, ◌∙◌, sym}
 use Rattle.std.proofs.lemmas.Result.{err_from_is_err_and}
 use Rattle.ops_grammar.specs.Grammar.{goes, vector_name, after, VectorNames}
-use Rattle.ops_check.specs.Going.{view}
+use Rattle.ops_check.specs.Walks.{view}
 use Rattle.ops_forms.proofs.Ways.{fails_as, fails_under, vectors_first}
 use Rattle.ops_check.proofs.draft.Draft.vector_names.Goals as goal
 

@@ -5,7 +5,7 @@ use Rattle.ops_grammar.specs.Grammar.{goes, is_name, InPattern, Attribute, Sever
 use Rattle.ops_lhs.specs.Taking.{seen, Among}
 use Rattle.ops_forms.proofs.Walks.{to_refused_among}
 use Rattle.ops_forms.proofs.Ways.{attribute_unknown, attribute_several, attribute_one, attribute_several_onward, attribute_one_onward}
-use Rattle.ops_forms.specs.Walking.{goes_onward}
+use Rattle.ops_forms.specs.PlaceWalks.{goes_onward}
 use Rattle.ops_lhs.proofs.Ways.{terms_as_among, place_to_terms, peek_terms_as_among, peek_place_to_terms}
 use Rattle.ops_lhs.proofs.left.Left.attribute.Goals as goal
 

@@ -1,7 +1,7 @@
 use Rattle.std.proofs.Common.{◌≡◌, ℕ, ◌<◌, List, length, ◌∷◌, ◌++◌, ◌≤◌, ◌-◌, take, drop}
 use Rattle.ops_grammar.specs.declared.words.Word.{Word}
 use Rattle.ops_grammar.specs.Grammar.{State, Wanted, InPattern, Several, goes}
-use Rattle.ops_forms.specs.Walking.{Onward, goes_onward}
+use Rattle.ops_forms.specs.PlaceWalks.{Onward, goes_onward}
 use Rattle.ops_lhs.specs.Taking.{seen}
 use Rattle.ops_lhs.proofs.left.Left.places.Given as goal
 

@@ -2,7 +2,7 @@ use Rattle.std.proofs.Common.{◌≡◌, ◌<◌, ◌∙◌, List, [], ◌∷◌
 use Rattle.std.proofs.lemmas.Bool.{lt-ltb}
 use Rattle.std.proofs.lemmas.Result.{err_from_is_err_and}
 use Rattle.ops_grammar.specs.Grammar.{Waiting as Waits, ExpressionUnit, ExpressionRest, after, goes, bracket_at, with_formula, most_brackets}
-use Rattle.ops_forms.specs.Walking.{goes_onward}
+use Rattle.ops_forms.specs.PlaceWalks.{goes_onward}
 use Rattle.ops_forms.proofs.Walks.{fails_as, fails_under}
 use Rattle.ops_rhs.specs.Taking.{seen, into, newest_first}
 use Rattle.ops_rhs.proofs.Operands.{bracket_read, bracket_cut, bracket_fails, operand_as, unit_opens, rest_operation, rest_operation_onward, newest_grown}

@@ -2,7 +2,7 @@ use Rattle.std.proofs.Common.{◌≡◌, ℕ, ◌<◌, List, [], ◌∷◌, ◌+
 use Rattle.ops_base.specs.Expression.{Formula}
 use Rattle.ops_grammar.specs.declared.words.Word.{Word}
 use Rattle.ops_grammar.specs.Grammar.{State, Wanted, ExpressionUnit, ExpressionRest, goes, with_formula}
-use Rattle.ops_forms.specs.Walking.{Onward, goes_onward}
+use Rattle.ops_forms.specs.PlaceWalks.{Onward, goes_onward}
 use Rattle.ops_rhs.specs.declared.right.Target.{Target}
 use Rattle.ops_rhs.specs.Taking.{seen, into, newest_first}
 use Rattle.ops_rhs.proofs.right.Right.+expressions.Given as goal

@@ -5,7 +5,7 @@ use Rattle.ops_base.specs.declared.endings.Fault.TheVariants as fault
 use Rattle.ops_grammar.specs.Grammar.{goes, is_name, InPut, ToPut, Attribute, Terms, Several, ValueFor}
 use Rattle.ops_forms.proofs.Walks.{goes_to_as_among, to_refused_among, goes_to_among, peek_goes_to_as_among, peek_goes_to_among}
 use Rattle.ops_forms.proofs.Ways.{attribute_unknown, attribute_several, attribute_one, attribute_several_onward, attribute_one_onward}
-use Rattle.ops_forms.specs.Walking.{goes_onward}
+use Rattle.ops_forms.specs.PlaceWalks.{goes_onward}
 use Rattle.ops_rhs.specs.Taking.{seen, IsAround}
 use Rattle.ops_rhs.proofs.right.Right.attribute.Goals as goal
 

@@ -2,7 +2,7 @@ use Rattle.std.proofs.Common.{◌∙◌, ◌++◌, take, drop, Some, sym, ap}
 use Rattle.std.proofs.lemmas.Result.{err_from_is_err_and}
 use Rattle.ops_base.specs.declared.actions.Term.TheVariants as term
 use Rattle.ops_grammar.specs.Grammar.{State, goes, no_formula}
-use Rattle.ops_forms.specs.Walking.{goes_onward}
+use Rattle.ops_forms.specs.PlaceWalks.{goes_onward}
 use Rattle.ops_rhs.proofs.Operands.{added}
 use Rattle.ops_rhs.proofs.right.Right.compute.Goals as goal
 

@@ -2,7 +2,7 @@ use Rattle.std.proofs.Common.{◌≡◌, ℕ, ◌<◌, ◌≤◌, ◌==◌, ◌�
 use Rattle.ops_base.specs.declared.elements.Class.{Class}
 use Rattle.ops_base.specs.declared.endings.Fault.TheVariants as fault
 use Rattle.ops_grammar.specs.Grammar.{SourceAttribute, SourceEnd, Closes, EndsWhole, is_name}
-use Rattle.ops_forms.specs.Walking.{goes_onward}
+use Rattle.ops_forms.specs.PlaceWalks.{goes_onward}
 use Rattle.ops_forms.proofs.Walks.{goes_as_among, refused_among, cut_goes_as_among}
 use Rattle.ops_rhs.specs.Taking.{seen, target_of, source_class, IsAround}
 use Rattle.ops_rhs.proofs.Ways.{source_is, source_unknown, source_found, source_found_onward}

@@ -1,7 +1,7 @@
 use Rattle.std.proofs.Common.{◌≡◌, ℕ, ◌<◌, List, length, ◌∷◌, ◌++◌, ◌≤◌, ◌-◌, take, drop}
 use Rattle.ops_grammar.specs.declared.words.Word.{Word}
 use Rattle.ops_grammar.specs.Grammar.{State, Wanted, Items, goes}
-use Rattle.ops_forms.specs.Walking.{Onward, goes_onward}
+use Rattle.ops_forms.specs.PlaceWalks.{Onward, goes_onward}
 use Rattle.ops_rhs.specs.Taking.{seen, IsAround}
 use Rattle.ops_rhs.proofs.right.Right.write.Given as goal
 

@@ -1,0 +1,244 @@
+//! `Doing`, the whole state between two actions: working memory, bindings, cells, and whether `halt` was done.
+ghost use Rattle.std.specs.Prelude.{◌≡◌, ◌+◌, ◌-◌, ◌<◌, IfOk, OnOk, [], ◌∷◌, map, true, false, unwrap_or, length, slice_set, List};
+ghost use Rattle.std.specs.List.{list_all};
+ghost use Rattle.std.specs.Option.{option_copied};
+ghost use Rattle.ops_base.specs.Names.{Spellings};
+ghost use Rattle.ops_io.specs.Coming.{Coming};
+ghost use Rattle.ops_meaning.specs.Acting.{elements_of, bindings_of, no_element, made_last, added, removed, modified, cell_bound, bound, left_by};
+ghost use Rattle.act_phase.specs.Changed.{GoesOnTo};
+ghost use Rattle.act_phase.specs.Outcomes.{acted_of};
+ghost use Rattle.act_phase.specs.State.{held_by, is_there, made_at, held_in, doing_of};
+
+use crate::bindings::bindings_of;
+use crate::changed_memory::Working;
+use crate::outcome::Acted;
+use ops_base::conditions::Condition;
+use ops_base::elements::{Change, Element};
+use ops_base::list::Listed;
+use ops_base::matching::Binding;
+use ops_base::memory::OutOfMemory;
+use ops_base::values::Value;
+use std::alloc::Global;
+use std::marker::Model;
+use work_store::Store;
+
+/// What a cell holds: the element of a tag, which stands in the store, the element that the change at a place adds, or
+/// none.
+#[derive(Drop)]
+pub(crate) enum Cell {
+    Matched(u64),
+    Made(usize),
+    Nothing,
+}
+
+/// The state of a right side between two of its actions. A cell copies no element, and the changes only grow, so that
+/// the change that it names stays where it is.
+#[derive(Drop)]
+pub(crate) struct Doing<'s> {
+    working: Working<'s>,
+    bindings: Vec<Binding>,
+    cells: Vec<Cell>,
+    halted: bool,
+}
+
+impl<'s> Model for Doing<'s> {
+    ghost use Rattle.std.specs.Prelude.{◌≡◌, map, length, true};
+    ghost use Rattle.std.specs.List.{list_all};
+    ghost use Rattle.act_phase.specs.State.{State, held_by, is_there};
+
+    ghost Value = { State };
+
+    ghost view = { λ d. record {
+      working = d.working;
+      bindings = d.bindings.items;
+      cells = map (held_by d.working.start d.working.changes) d.cells.items;
+      halted = d.halted;
+    } };
+
+    ghost invariant = { λ d. list_all (is_there (length d.working.changes)) d.cells.items ≡ true };
+}
+
+fn cells_of(alloc: Global, store: &Store, tags: &[u64]) -> Result<Vec<Cell>, OutOfMemory>
+    ensures held { IfOk result (λ cells. map (held_by store.now.elements []) cells.items ≡ elements_of store.now.elements tags.now) }
+    ensures there { IfOk result (λ cells. list_all (is_there 0) cells.items ≡ true) }
+{
+    let mut cells = Vec::new(alloc);
+    for tag in tags {
+        cells.push(Cell::Matched(*tag))?;
+    }
+    Ok(cells)
+}
+
+/// A cell of the element that was added last. Looks at the changes since then.
+fn last_made(changes: &[Change]) -> Cell
+    ensures held { (start : List Element) → held_by start changes.now result ≡ made_last changes.now }
+    ensures there { is_there (length changes.now) result ≡ true }
+{
+    let mut place = changes.len();
+    while place > 0 {
+        place -= 1;
+        if let Change::Add(_) = &changes[place] {
+            return Cell::Made(place);
+        }
+    }
+    Cell::Nothing
+}
+
+impl<'s> Doing<'s> {
+    /// Nothing is done yet.
+    pub(crate) fn new(
+        alloc: Global,
+        store: &'s Store,
+        conditions: &[Condition],
+        tags: &[u64],
+        next_tag: u64,
+    ) -> Result<Doing<'s>, OutOfMemory>
+        requires { store.now.last < next_tag }
+        ensures { IfOk result (λ d. (names : Spellings) (coming : Coming) → doing_of d names coming ≡ record {
+          wm = store.now.elements;
+          changes = [];
+          last = next_tag - 1;
+          bindings = bindings_of store.now.elements conditions.now tags.now [];
+          cells = elements_of store.now.elements tags.now;
+          halted = false;
+          names = names;
+          coming = coming;
+        }) }
+    {
+        Ok(Doing {
+            working: Working::new(alloc, store, next_tag),
+            bindings: bindings_of(alloc, store, conditions, tags)?,
+            cells: cells_of(alloc, store, tags)?,
+            halted: false,
+        })
+    }
+
+    /// The element of a cell, also where it was removed. One of the left side is looked up by its tag.
+    pub(crate) fn element(&self, cell: usize) -> Option<&Element>
+        ensures { unwrap_or (option_copied result) no_element ≡ held_in self.now cell }
+    {
+        match self.cells.get(cell)? {
+            Cell::Matched(tag) => self.working.store().get(*tag),
+            Cell::Made(place) => self.working.made_at(*place),
+            Cell::Nothing => None,
+        }
+    }
+
+    pub(crate) fn working(&self) -> &Working<'s>
+        ensures { result.now ≡ self.now.working }
+    {
+        &self.working
+    }
+
+    pub(crate) fn changes(&self) -> &[Change]
+        ensures { result.now ≡ self.now.working.changes }
+    {
+        self.working.changes()
+    }
+
+    /// What the variables are bound to.
+    pub(crate) fn bindings(&self) -> &[Binding]
+        ensures { result.now ≡ self.now.bindings }
+    {
+        self.bindings.as_slice()
+    }
+
+    /// The tag and the class of a cell's element, which is looked up once.
+    fn tag_and_class(&self, cell: usize) -> (u64, usize)
+        ensures tag { result.0 ≡ (held_in self.now cell).tag }
+        ensures class { result.1 ≡ (held_in self.now cell).class }
+    {
+        match self.element(cell) {
+            Some(element) => (element.tag, element.class),
+            None => (0, 0),
+        }
+    }
+
+    /// Adds an element.
+    pub(crate) fn make(&mut self, class: usize, fields: Vec<Value>) -> Result<(), OutOfMemory>
+        ensures does { OnOk result ((names : Spellings) (coming : Coming) → doing_of self.new names coming ≡ added (doing_of self.old names coming) class fields.items) }
+        ensures goes_on { OnOk result (GoesOnTo self.old.working self.new.working) }
+        ensures grows { OnOk result (length self.old.working.changes < length self.new.working.changes) }
+    {
+        self.working.add(class, Listed::from_vec(fields))?;
+        Ok(())
+    }
+
+    /// Removes the element of this tag, where it is present.
+    fn remove_tag(&mut self, tag: u64) -> Result<(), OutOfMemory>
+        ensures does { OnOk result ((names : Spellings) (coming : Coming) → doing_of self.new names coming ≡ removed (doing_of self.old names coming) tag) }
+        ensures goes_on { OnOk result (GoesOnTo self.old.working self.new.working) }
+    {
+        self.working.remove(tag)?;
+        Ok(())
+    }
+
+    /// Removes the element of a cell, where it is present.
+    pub(crate) fn remove(&mut self, cell: usize) -> Result<(), OutOfMemory>
+        ensures does { OnOk result ((names : Spellings) (coming : Coming) → doing_of self.new names coming ≡ removed (doing_of self.old names coming) (held_in self.old cell).tag) }
+        ensures goes_on { OnOk result (GoesOnTo self.old.working self.new.working) }
+    {
+        let (tag, _) = self.tag_and_class(cell);
+        self.remove_tag(tag)
+    }
+
+    /// Puts an element with these fields in the place of that of a cell, in working memory and in the cell. Nothing is
+    /// copied, and an element of the left side is looked up once for its tag and once for whether it is present.
+    pub(crate) fn modify(&mut self, cell: usize, fields: Vec<Value>) -> Result<(), OutOfMemory>
+        ensures does { OnOk result ((names : Spellings) (coming : Coming) → doing_of self.new names coming ≡ modified (doing_of self.old names coming) cell fields.items) }
+        ensures goes_on { OnOk result (GoesOnTo self.old.working self.new.working) }
+    {
+        let (tag, class) = self.tag_and_class(cell);
+        self.remove_tag(tag)?;
+        let place = self.working.changes().len();
+        self.make(class, fields)?;
+        self.hold(cell, place);
+        Ok(())
+    }
+
+    /// The cell holds what the change at this place has added.
+    fn hold(&mut self, cell: usize, place: usize)
+        requires { place < length self.old.working.changes }
+        ensures { self.new ≡ record self.old { cells = slice_set self.old.cells cell (made_at self.old.working.changes place) } }
+    {
+        if cell < self.cells.len() {
+            self.cells[cell] = Cell::Made(place);
+        }
+    }
+
+    /// A new cell holds the element that was made last. Looks at the changes since then.
+    pub(crate) fn bind_cell(&mut self) -> Result<(), OutOfMemory>
+        ensures { OnOk result ((names : Spellings) (coming : Coming) → doing_of self.new names coming ≡ cell_bound (doing_of self.old names coming)) }
+    {
+        let made = last_made(self.working.changes());
+        self.cells.push(made)?;
+        Ok(())
+    }
+
+    /// `halt` is done.
+    pub(crate) fn halt(&mut self)
+        ensures { self.new ≡ record self.old { halted = true } }
+    {
+        self.halted = true;
+    }
+
+    /// Binds a variable, also one that was bound before.
+    pub(crate) fn bind(&mut self, variable: usize, value: Value) -> Result<(), OutOfMemory>
+        ensures { OnOk result ((names : Spellings) (coming : Coming) → doing_of self.new names coming ≡ bound (doing_of self.old names coming) variable value) }
+    {
+        self.bindings.push(Binding { variable, value })?;
+        Ok(())
+    }
+
+    pub(crate) fn finish(self) -> Acted
+        ensures left { (names : Spellings) (coming : Coming) → acted_of result names coming ≡ left_by (doing_of self.entry names coming) }
+        ensures positive { 0 < result.next_tag }
+    {
+        let (changes, next_tag) = self.working.finish();
+        Acted {
+            changes: Listed::from_vec(changes),
+            halted: self.halted,
+            next_tag,
+        }
+    }
+}

@@ -1,0 +1,293 @@
+//! The commands that change working memory. Each is one phase.
+ghost use Rattle.std.specs.Prelude.{◌≡◌, ◌^◌, ◌<◌, ◌+◌, ◌++◌, ◌&&◌, [], ◌∷◌, not, map, IsTrue, IfOk};
+ghost use Rattle.std.specs.BTreeSet.{contains};
+ghost use Rattle.std.specs.Ordering.{nat_cmp};
+ghost use Rattle.ops_base.specs.Names.{Spellings};
+ghost use Rattle.ops_base.specs.ConflictSet.{conflict_set};
+ghost use Rattle.ops_base.specs.WorkingMemory.{HasRisingTags, Lawful, last_after, tags_of};
+ghost use Rattle.ops_io.specs.Coming.{Coming};
+ghost use Rattle.ops_io.specs.Ports.{port};
+ghost use Rattle.ops_meaning.specs.Acting.{has_tag};
+ghost use Rattle.ops_meaning.specs.Running.{element_made, phase_by, phase_done, removals, with_course};
+ghost use Rattle.act_phase.specs.Outcomes.{setting_of};
+ghost use Rattle.cycle.specs.Settles.{Settles};
+ghost use Rattle.session.specs.Courses.{IsUnderWay, meant_by};
+ghost use Rattle.session.specs.Deeds.{Does};
+ghost use Rattle.session.specs.Traces.{AreToldBy};
+
+use crate::bounds::UNREACHED;
+use crate::elements::fixed_element;
+use crate::session::{Session, settle, settle_piece};
+use crate::traces::{tell, tell_made};
+use ops_base::commands::Fixed;
+use ops_base::elements::{Change, Element};
+use ops_base::endings::Ending;
+use ops_base::list::Listed;
+use ops_base::memory::OutOfMemory;
+use ops_base::programs::Program;
+use ops_base::symbols::Names;
+use ops_io::{Out, Sink};
+use std::alloc::Global;
+use std::collections::BTreeSet;
+use work_store::{Matcher, Settled, Store};
+
+/// The tag of the next element. Want of memory tells that there is none.
+fn next_tag(last: u64) -> Result<u64, OutOfMemory>
+    ensures { IfOk result (λ tag. tag ≡ last + 1) }
+{
+    if last < UNREACHED {
+        Ok(last + 1)
+    } else {
+        Err(OutOfMemory)
+    }
+}
+
+/// Does changes in their order, which is one phase.
+fn change<M: Matcher, H: Fn(M, &[Change]) -> Result<Settled<M>, OutOfMemory>>(
+    alloc: Global,
+    hand: &H,
+    program: &Program,
+    session: Session<M>,
+    changes: &[Change],
+) -> Result<Session<M>, OutOfMemory>
+    requires settles { Settles M.stored M.found M.stands_for (λ m cs. H.pre hand.now m cs) (λ m cs r. H.post hand.now m cs r) }
+    requires under_way { IsUnderWay M.stored M.stands_for program.now.rules session }
+    requires settled { session.pending ≡ [] }
+    requires lawful { Lawful (M.stored session.state.matcher).elements (M.stored session.state.matcher).last changes.now }
+    ensures meant { IfOk result (λ s. (n : Spellings) (c : Coming) → meant_by M.stored s n c
+        ≡ (let k = meant_by M.stored session n c in with_course k
+        (phase_by (conflict_set program.now.rules) changes.now k.course.firings (last_after k.course.last changes.now) k.course))) }
+    ensures under_way { IfOk result (IsUnderWay M.stored M.stands_for program.now.rules) }
+{
+    let state = session.state.change(hand, program, changes)?;
+    let last_tag = state.last_tag();
+    Ok(Session {
+        state,
+        last_tag,
+        ..session
+    })
+}
+
+/// One phase, whose changes are told first.
+fn phase<M: Matcher, H: Fn(M, &[Change]) -> Result<Settled<M>, OutOfMemory>, K: Sink>(
+    alloc: Global,
+    hand: &H,
+    program: &Program,
+    names: &Names,
+    session: Session<M>,
+    changes: &[Change],
+    out: &mut Out,
+    sink: &mut K,
+) -> Result<Session<M>, Ending>
+    requires settles { Settles M.stored M.found M.stands_for (λ m cs. H.pre hand.now m cs) (λ m cs r. H.post hand.now m cs r) }
+    requires under_way { IsUnderWay M.stored M.stands_for program.now.rules session }
+    requires settled { session.pending ≡ [] }
+    requires lawful { Lawful (M.stored session.state.matcher).elements (M.stored session.state.matcher).last changes.now }
+    requires told { AreToldBy (M.stored session.state.matcher).elements changes.now }
+    requires whole { IsTrue out.old.whole }
+    requires faults { K.faults sink.old < 2 ^ 63 }
+    ensures { Does M.stored M.stands_for program.now.rules names.now session result
+        (port (K.taken sink.old) (K.faults sink.old) out.old)
+        (port (K.taken sink.new) (K.faults sink.new) out.new)
+        (λ k. phase_done (setting_of program.now 0) out.old.column changes.now (last_after k.course.last changes.now) k) }
+{
+    tell(
+        out,
+        sink,
+        names,
+        program,
+        session.watch,
+        session.state.store(),
+        changes,
+    )?;
+    Ok(change(alloc, hand, program, session, changes)?)
+}
+
+/// An element waits for its phase.
+fn with_waiting<M: Matcher>(session: Session<M>, made: Element) -> Result<Session<M>, OutOfMemory>
+    ensures { IfOk result (λ s. s ≡ record session { pending = session.pending ++ Change.Add made ∷ []; last_tag = made.tag }) }
+{
+    let mut session = session;
+    session.last_tag = made.tag;
+    session.pending.push(Change::Add(made))?;
+    Ok(session)
+}
+
+/// Makes an element, which is one phase. Where no run was begun it waits, but is told at once.
+fn make_one<M: Matcher, H: Fn(M, &[Change]) -> Result<Settled<M>, OutOfMemory>, K: Sink>(
+    alloc: Global,
+    hand: &H,
+    program: &Program,
+    names: &Names,
+    session: Session<M>,
+    class: usize,
+    puts: &Listed<Fixed>,
+    out: &mut Out,
+    sink: &mut K,
+) -> Result<Session<M>, Ending>
+    requires settles { Settles M.stored M.found M.stands_for (λ m cs. H.pre hand.now m cs) (λ m cs r. H.post hand.now m cs r) }
+    requires under_way { IsUnderWay M.stored M.stands_for program.now.rules session }
+    requires whole { IsTrue out.old.whole }
+    requires faults { K.faults sink.old < 2 ^ 63 }
+    ensures { Does M.stored M.stands_for program.now.rules names.now session result
+        (port (K.taken sink.old) (K.faults sink.old) out.old)
+        (port (K.taken sink.new) (K.faults sink.new) out.new)
+        (λ k. phase_done (setting_of program.now 0) out.old.column
+        (Change.Add (element_made program.now.classes class puts.now k.course) ∷ []) (k.course.last + 1) k) }
+{
+    let tag = next_tag(session.last_tag)?;
+    let made = fixed_element(alloc, program, tag, class, puts.as_slice())?;
+    if session.ran {
+        let changes = [Change::Add(made)];
+        return phase(alloc, hand, program, names, session, &changes, out, sink);
+    }
+    tell_made(out, sink, names, program, session.watch, &made)?;
+    Ok(with_waiting(session, made)?)
+}
+
+/// The command `make`, which is one phase. Where no run was begun it waits, but is told at once; and once many wait,
+/// their phases are made before it.
+pub(crate) fn make_at_top<
+    M: Matcher,
+    H: Fn(M, &[Change]) -> Result<Settled<M>, OutOfMemory>,
+    K: Sink,
+>(
+    alloc: Global,
+    hand: &H,
+    program: &Program,
+    names: &Names,
+    session: Session<M>,
+    class: usize,
+    puts: &Listed<Fixed>,
+    out: &mut Out,
+    sink: &mut K,
+) -> Result<Session<M>, Ending>
+    requires settles { Settles M.stored M.found M.stands_for (λ m cs. H.pre hand.now m cs) (λ m cs r. H.post hand.now m cs r) }
+    requires under_way { IsUnderWay M.stored M.stands_for program.now.rules session }
+    requires whole { IsTrue out.old.whole }
+    requires faults { K.faults sink.old < 2 ^ 63 }
+    ensures { Does M.stored M.stands_for program.now.rules names.now session result
+        (port (K.taken sink.old) (K.faults sink.old) out.old)
+        (port (K.taken sink.new) (K.faults sink.new) out.new)
+        (λ k. phase_done (setting_of program.now 0) out.old.column
+        (Change.Add (element_made program.now.classes class puts.now k.course) ∷ []) (k.course.last + 1) k) }
+{
+    let session = settle_piece(alloc, hand, program, session)?;
+    make_one(alloc, hand, program, names, session, class, puts, out, sink)
+}
+
+/// Whether an element of this tag is there.
+fn is_present(store: &Store, tag: u64) -> bool
+    ensures { result ≡ has_tag store.now.elements tag }
+{
+    store.get(tag).is_some()
+}
+
+/// Whether the element of this tag is there, and was not named before.
+fn is_left(store: &Store, named: &BTreeSet<u64>, tag: u64) -> bool
+    ensures { result ≡ (has_tag store.now.elements tag && not (contains nat_cmp named.now tag)) }
+{
+    is_present(store, tag) && !named.contains(&tag)
+}
+
+/// The removals of these tags in their order, where an absent one is none, and one that is named again neither. Each is
+/// looked up, so that it takes a time in proportion to the tags, times the logarithm of their number.
+fn removals(alloc: Global, store: &Store, tags: &[u64]) -> Result<Listed<Change>, OutOfMemory>
+    ensures { IfOk result (λ changes. changes ≡ removals store.now.elements tags.now) }
+{
+    let mut named = BTreeSet::new(alloc);
+    let mut changes = Listed::new(alloc);
+    for tag in tags {
+        if !is_left(store, &named, *tag) {
+            continue;
+        }
+        named.insert(*tag)?;
+        changes.push(Change::Remove(*tag))?;
+    }
+    Ok(changes)
+}
+
+/// The removals of all elements, by rising tag.
+fn all_removals(alloc: Global, store: &Store) -> Result<Listed<Change>, OutOfMemory>
+    ensures changes { IfOk result (λ changes. changes ≡ map Change.Remove (tags_of store.now.elements)) }
+    ensures rising { HasRisingTags store.now.elements }
+{
+    // the store is looked at for what it keeps true
+    let _last = store.last();
+    let mut changes = Listed::new(alloc);
+    for element in store.iter() {
+        changes.push(Change::Remove(element.tag))?;
+    }
+    Ok(changes)
+}
+
+/// The command `remove` with tags: removes their elements, which is one phase.
+pub(crate) fn remove<M: Matcher, H: Fn(M, &[Change]) -> Result<Settled<M>, OutOfMemory>, K: Sink>(
+    alloc: Global,
+    hand: &H,
+    program: &Program,
+    names: &Names,
+    session: Session<M>,
+    tags: &Listed<u64>,
+    out: &mut Out,
+    sink: &mut K,
+) -> Result<Session<M>, Ending>
+    requires settles { Settles M.stored M.found M.stands_for (λ m cs. H.pre hand.now m cs) (λ m cs r. H.post hand.now m cs r) }
+    requires under_way { IsUnderWay M.stored M.stands_for program.now.rules session }
+    requires whole { IsTrue out.old.whole }
+    requires faults { K.faults sink.old < 2 ^ 63 }
+    ensures { Does M.stored M.stands_for program.now.rules names.now session result
+        (port (K.taken sink.old) (K.faults sink.old) out.old)
+        (port (K.taken sink.new) (K.faults sink.new) out.new)
+        (λ k. phase_done (setting_of program.now 0) out.old.column (removals k.course.wm tags.now) k.course.last k) }
+{
+    let session = settle(alloc, hand, program, session)?;
+    let changes = removals(alloc, session.state.store(), tags.as_slice())?;
+    phase(
+        alloc,
+        hand,
+        program,
+        names,
+        session,
+        changes.as_slice(),
+        out,
+        sink,
+    )
+}
+
+/// The command `remove *`: removes all elements, which is one phase.
+pub(crate) fn remove_all<
+    M: Matcher,
+    H: Fn(M, &[Change]) -> Result<Settled<M>, OutOfMemory>,
+    K: Sink,
+>(
+    alloc: Global,
+    hand: &H,
+    program: &Program,
+    names: &Names,
+    session: Session<M>,
+    out: &mut Out,
+    sink: &mut K,
+) -> Result<Session<M>, Ending>
+    requires settles { Settles M.stored M.found M.stands_for (λ m cs. H.pre hand.now m cs) (λ m cs r. H.post hand.now m cs r) }
+    requires under_way { IsUnderWay M.stored M.stands_for program.now.rules session }
+    requires whole { IsTrue out.old.whole }
+    requires faults { K.faults sink.old < 2 ^ 63 }
+    ensures { Does M.stored M.stands_for program.now.rules names.now session result
+        (port (K.taken sink.old) (K.faults sink.old) out.old)
+        (port (K.taken sink.new) (K.faults sink.new) out.new)
+        (λ k. phase_done (setting_of program.now 0) out.old.column (map Change.Remove (tags_of k.course.wm)) k.course.last k) }
+{
+    let session = settle(alloc, hand, program, session)?;
+    let changes = all_removals(alloc, session.state.store())?;
+    phase(
+        alloc,
+        hand,
+        program,
+        names,
+        session,
+        changes.as_slice(),
+        out,
+        sink,
+    )
+}

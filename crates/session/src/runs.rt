@@ -1,0 +1,263 @@
+//! A run: one firing after another, until it ends.
+ghost use Rattle.std.specs.Prelude.{◌≡◌, ◌^◌, ◌<◌, ◌-◌, [], ◌⊎◌, true, IsTrue, IsOk, IfOk, Some, None, option_map, false};
+ghost use Rattle.ops_base.specs.Names.{Spellings};
+ghost use Rattle.ops_base.specs.declared.rules.Inst.{Inst};
+ghost use Rattle.ops_io.specs.Coming.{inlet};
+ghost use Rattle.ops_io.specs.Ports.{port, FlushesAll, PutsBytes};
+ghost use Rattle.ops_meaning.specs.Effects.{PerformsOn, CountsReads, failure_as, of_ending};
+ghost use Rattle.ops_meaning.specs.Kept.{KeepsNames};
+ghost use Rattle.ops_meaning.specs.Layout.{line_at};
+ghost use Rattle.ops_meaning.specs.Running.{ended_in, firing, has_break, line_of_count, line_of_pause, next_to_fire, one_less, run_on};
+ghost use Rattle.act_phase.specs.Asking.{program_asks};
+ghost use Rattle.act_phase.specs.Outcomes.{failure_of, setting_of};
+ghost use Rattle.cycle.specs.Settles.{Settles};
+ghost use Rattle.cycle.specs.States.{alone, state_course};
+ghost use Rattle.session.specs.Courses.{IsOf, ends_unread};
+ghost use Rattle.session.specs.Pauses.{meant_last, pause_line};
+
+use crate::bounds::UNREACHED;
+use act_phase::ActFault;
+use cycle::State;
+use ops_base::elements::Change;
+use ops_base::endings::Ending;
+use ops_base::memory::OutOfMemory;
+use ops_base::programs::Program;
+use ops_base::symbols::Names;
+use ops_base::values::Sym;
+use ops_io::{Input, Out, Sink, Source, WriteFailed};
+use ops_print::{put_line, put_name_line, rule_name};
+use std::alloc::Global;
+use work_store::{Matcher, Settled};
+
+/// How a fault of a right side ends the session.
+fn ended_in(firing: u64, rule: usize, fault: ActFault) -> Ending
+    ensures { of_ending result ≡ failure_as (ended_in firing rule) (failure_of fault) }
+{
+    match fault {
+        ActFault::Bad { action, kind } => Ending::Act {
+            firing,
+            rule,
+            action,
+            kind,
+        },
+        ActFault::Read => Ending::ReadFault,
+        ActFault::Write => Ending::WriteFault,
+        ActFault::OutOfMemory => Ending::OutOfMemory,
+    }
+}
+
+/// The firing of the dominant instantiation, which is of this production.
+fn fire<M: Matcher, H: Fn(M, &[Change]) -> Result<Settled<M>, OutOfMemory>, I: Source, K: Sink>(
+    alloc: Global,
+    hand: &H,
+    program: &Program,
+    names: &mut Names,
+    state: State<M>,
+    watch: u8,
+    rule: usize,
+    input: &mut Input,
+    source: &mut I,
+    out: &mut Out,
+    sink: &mut K,
+) -> Result<(State<M>, bool), Ending>
+    requires settles { Settles M.stored M.found M.stands_for (λ m cs. H.pre hand.now m cs) (λ m cs r. H.post hand.now m cs r) }
+    requires whole { IsTrue out.old.whole }
+    requires faults { K.faults sink.old < 2 ^ 63 }
+    requires reads { I.faults source.old < 2 ^ 63 }
+    requires of { IsOf M.stands_for program.now.rules state }
+    requires next { (i : Inst) × (next_to_fire program.now.rules (alone M.stored state) ≡ Some i) × (i.rule ≡ rule) }
+    ensures performs { (i : Inst) → next_to_fire program.now.rules (alone M.stored state) ≡ Some i
+        → PerformsOn (λ r c. record { course = state_course M.stored r.0 names.new c; halted = r.1 }) of_ending result
+        (inlet input.old (I.left source.old) (I.faults source.old))
+        (inlet input.new (I.left source.new) (I.faults source.new))
+        (port (K.taken sink.old) (K.faults sink.old) out.old)
+        (port (K.taken sink.new) (K.faults sink.new) out.new)
+        (λ c. firing (setting_of program.now watch) out.old.column i (state_course M.stored state names.old c)) }
+    ensures reads { CountsReads (ends_unread result) (I.faults source.old) (I.faults source.new) }
+    ensures written { ends_unread result ≡ true → out.new.held ≡ [] }
+    ensures untouched { program_asks program.now.rules ≡ false → (input.new ≡ input.old) × (source.new ≡ source.old) }
+    ensures names { KeepsNames names.old names.new }
+    ensures of { IfOk result (λ r. IsOf M.stands_for program.now.rules r.0) }
+{
+    let firings = state.firings();
+    if firings >= UNREACHED || state.last_tag() >= UNREACHED {
+        return Err(Ending::OutOfMemory);
+    }
+    match state.fire(alloc, hand, program, names, watch, input, source, out, sink) {
+        Ok(fired) => Ok(fired),
+        Err(fault) => Err(ended_in(firings + 1, rule, fault)),
+    }
+}
+
+/// The last firing of a run: its production, and whether `halt` was done in it.
+#[derive(Clone, Copy)]
+struct LastFiring {
+    rule: usize,
+    halted: bool,
+}
+
+/// Why a run ends whatever is next.
+#[derive(Clone, Copy)]
+enum Pause {
+    /// `halt` was done in its last firing.
+    Halted,
+    /// The production of its last firing, which has this name, has a break.
+    Broken(Sym),
+    /// It has made all the firings that it has a number for.
+    Counted,
+}
+
+/// Whether the production with this number has a break.
+pub(crate) fn has_break(breaks: &[bool], rule: usize) -> bool
+    ensures { result ≡ has_break breaks.now rule }
+{
+    breaks.get(rule).copied().unwrap_or(false)
+}
+
+/// Why the run ends here by its number of firings, if it does.
+fn pause_by_count(count: Option<u64>) -> Option<Pause>
+    ensures { (names : Spellings) → option_map (pause_line names) result ≡ line_of_count count }
+{
+    if count == Some(0) {
+        Some(Pause::Counted)
+    } else {
+        None
+    }
+}
+
+/// Why the run ends here whatever is next, if it does.
+fn pause_of(
+    program: &Program,
+    breaks: &[bool],
+    last: Option<LastFiring>,
+    count: Option<u64>,
+) -> Option<Pause>
+    ensures { (names : Spellings) → option_map (pause_line names) result
+        ≡ line_of_pause names program.now.rules breaks.now (meant_last last) count }
+{
+    let Some(fired) = last else {
+        return pause_by_count(count);
+    };
+    if fired.halted {
+        return Some(Pause::Halted);
+    }
+    if has_break(breaks, fired.rule) {
+        return Some(Pause::Broken(rule_name(program.rules.as_slice(), fired.rule)));
+    }
+    pause_by_count(count)
+}
+
+/// Puts the line of a run that ends for this reason.
+fn put_pause<K: Sink>(
+    out: &mut Out,
+    sink: &mut K,
+    names: &Names,
+    pause: Pause,
+) -> Result<(), WriteFailed>
+    requires whole { IsTrue out.old.whole }
+    requires faults { K.faults sink.old < 2 ^ 63 }
+    ensures puts { PutsBytes result (port (K.taken sink.old) (K.faults sink.old) out.old)
+        (port (K.taken sink.new) (K.faults sink.new) out.new)
+        (line_at out.old.column (pause_line names.now pause)) }
+{
+    match pause {
+        Pause::Halted => put_line(out, sink, b"end -- explicit halt"),
+        Pause::Broken(name) => put_name_line(out, sink, names, b"break -- production ", &name),
+        Pause::Counted => put_line(out, sink, b"break -- run count"),
+    }
+}
+
+/// One firing less is left to the run.
+fn one_less(count: Option<u64>) -> Option<u64>
+    ensures { result ≡ one_less count }
+{
+    Some(count?.saturating_sub(1))
+}
+
+/// Writes out what was put, where someone reads along. Where nothing is held, no call of the sink is made.
+fn show<K: Sink>(out: &mut Out, sink: &mut K) -> Result<(), WriteFailed>
+    requires whole { IsTrue out.old.whole }
+    requires faults { K.faults sink.old < 2 ^ 63 }
+    ensures shows { FlushesAll result (port (K.taken sink.old) (K.faults sink.old) out.old)
+        (port (K.taken sink.new) (K.faults sink.new) out.new)
+        ⊎ (IsOk result × (out.new ≡ out.old) × (sink.new ≡ sink.old)) }
+    ensures unwritten { out.old.held ≡ [] → (sink.new ≡ sink.old) × IsOk result }
+{
+    if sink.is_read_along() {
+        return out.flush(sink);
+    }
+    Ok(())
+}
+
+/// What the command `run` does: a run of at most `count` firings, if it has a number, until it ends or the session has
+/// made the last of its `limit` firings. It ends after a firing that did `halt`, after one whose production has a
+/// break, where it has made its number of firings, and where nothing is left to fire: these are looked at in this
+/// order, and the limit after them. Where someone reads along, what a firing put is written out after it.
+pub(crate) fn run<
+    M: Matcher,
+    H: Fn(M, &[Change]) -> Result<Settled<M>, OutOfMemory>,
+    I: Source,
+    K: Sink,
+>(
+    alloc: Global,
+    hand: &H,
+    program: &Program,
+    names: &mut Names,
+    state: State<M>,
+    watch: u8,
+    breaks: &[bool],
+    limit: u64,
+    count: Option<u64>,
+    input: &mut Input,
+    source: &mut I,
+    out: &mut Out,
+    sink: &mut K,
+) -> Result<State<M>, Ending>
+    requires settles { Settles M.stored M.found M.stands_for (λ m cs. H.pre hand.now m cs) (λ m cs r. H.post hand.now m cs r) }
+    requires whole { IsTrue out.old.whole }
+    requires faults { K.faults sink.old < 2 ^ 63 }
+    requires reads { I.faults source.old < 2 ^ 63 }
+    requires of { IsOf M.stands_for program.now.rules state }
+    ensures performs { PerformsOn (λ s c. state_course M.stored s names.new c) of_ending result
+        (inlet input.old (I.left source.old) (I.faults source.old))
+        (inlet input.new (I.left source.new) (I.faults source.new))
+        (port (K.taken sink.old) (K.faults sink.old) out.old)
+        (port (K.taken sink.new) (K.faults sink.new) out.new)
+        (λ c. run_on (limit - state.firings) (setting_of program.now watch) breaks.now out.old.column None count
+        (state_course M.stored state names.old c)) }
+    ensures reads { CountsReads (ends_unread result) (I.faults source.old) (I.faults source.new) }
+    ensures written { ends_unread result ≡ true → out.new.held ≡ [] }
+    ensures untouched { program_asks program.now.rules ≡ false → (input.new ≡ input.old) × (source.new ≡ source.old) }
+    ensures names { KeepsNames names.old names.new }
+    ensures of { IfOk result (λ s. IsOf M.stands_for program.now.rules s) }
+{
+    let mut state = state;
+    let mut left = limit.saturating_sub(state.firings());
+    let mut count = count;
+    let mut last = None;
+    'turns: loop {
+        if let Some(pause) = pause_of(program, breaks, last, count) {
+            put_pause(out, sink, names, pause)?;
+            return Ok(state);
+        }
+        // what is next is looked up here, for the end and for its production, and once more as it fires
+        let Some(next) = state.next() else {
+            put_line(out, sink, b"end -- no production true")?;
+            return Ok(state);
+        };
+        let rule = next.rule;
+        if left == 0 {
+            return Err(Ending::Limit {
+                firings: state.firings(),
+            });
+        }
+        left -= 1;
+        count = one_less(count);
+        let (after, halted) = fire(
+            alloc, hand, program, names, state, watch, rule, input, source, out, sink,
+        )?;
+        show(out, sink)?;
+        state = after;
+        last = Some(LastFiring { rule, halted });
+    }
+}
