@@ -1,5 +1,5 @@
 pub mod Asking
-pub mod Atoms
+pub mod AtomLemmas
 pub mod Cells
 pub mod Computed
 pub mod Counts
@@ -9,7 +9,7 @@ pub mod Following
 pub mod Found
 pub mod Held
 pub mod HeldDoings
-pub mod Items
+pub mod ItemLemmas
 pub mod Placing
 pub mod States
 pub mod Steps

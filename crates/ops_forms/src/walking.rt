@@ -25,7 +25,7 @@ pub fn first_of(words: &[Word], at: usize) -> Result<(Word, usize), Refusal>
 }
 
 /// A closing bracket at a place, and the place after it.
-#[tactic(auto, unfolding(ops_grammar::specs::Grammar::goes, ops_grammar::specs::Grammar::step, ops_grammar::specs::Grammar::ends, crate::specs::Walking::goes_onward))]
+#[tactic(auto, unfolding(ops_grammar::specs::Grammar::goes, ops_grammar::specs::Grammar::step, ops_grammar::specs::Grammar::ends, crate::specs::PlaceWalks::goes_onward))]
 pub fn closing(words: &[Word], at: usize) -> Result<usize, Refusal>
     ensures reads { ReadsClosing words.now at result }
     ensures cut { CutReadsClosing words.now at result }

@@ -33,7 +33,7 @@ impl Left {
     }
 
     // positive
-    #[tactic(auto, unfolding(ops_grammar::specs::Grammar::goes, ops_grammar::specs::Grammar::step, ops_grammar::specs::Grammar::ends, ops_forms::specs::Walking::goes_onward))]
+    #[tactic(auto, unfolding(ops_grammar::specs::Grammar::goes, ops_grammar::specs::Grammar::step, ops_grammar::specs::Grammar::ends, ops_forms::specs::PlaceWalks::goes_onward))]
     fn first_pattern(
         &mut self,
         classes: &Classes,
@@ -58,7 +58,7 @@ impl Left {
     }
 
     // condition* -->
-    #[tactic(auto, unfolding(ops_grammar::specs::Grammar::goes, ops_grammar::specs::Grammar::step, ops_grammar::specs::Grammar::ends, ops_forms::specs::Walking::goes_onward))]
+    #[tactic(auto, unfolding(ops_grammar::specs::Grammar::goes, ops_grammar::specs::Grammar::step, ops_grammar::specs::Grammar::ends, ops_forms::specs::PlaceWalks::goes_onward))]
     fn patterns(&mut self, classes: &Classes, words: &[Word], at: usize) -> Result<usize, Refusal>
         ensures reads { GoesAmong (Among classes.now) (λ more ws s. goes (drop at words.now ++ more) (Patterns ∷ ws) (seen s self.old)) words.now (λ s. right_begun (left_ended (seen s self.new))) result }
         ensures cut { CutGoesAmong (Among classes.now) (λ cut on ws s. goes_onward on (drop at cut) (Patterns ∷ ws) (seen s self.old)) words.now (λ s. right_begun (left_ended (seen s self.new))) result }

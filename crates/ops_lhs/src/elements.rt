@@ -14,7 +14,7 @@ use ops_grammar::Word;
 
 impl Left {
     // VARIABLE pattern } | pattern VARIABLE }
-    #[tactic(auto, unfolding(ops_grammar::specs::Grammar::goes, ops_grammar::specs::Grammar::step, ops_grammar::specs::Grammar::ends, ops_forms::specs::Walking::goes_onward))]
+    #[tactic(auto, unfolding(ops_grammar::specs::Grammar::goes, ops_grammar::specs::Grammar::step, ops_grammar::specs::Grammar::ends, ops_forms::specs::PlaceWalks::goes_onward))]
     pub fn braced(&mut self, classes: &Classes, words: &[Word], at: usize) -> Result<usize, Refusal>
         ensures reads { ReadsAmong classes.now Braced self.old self.new words.now at result }
         ensures cut { CutReadsAmong classes.now Braced self.old self.new words.now at result }
@@ -74,7 +74,7 @@ impl Left {
     }
 
     // VARIABLE }
-    #[tactic(auto, unfolding(ops_grammar::specs::Grammar::goes, ops_grammar::specs::Grammar::step, ops_grammar::specs::Grammar::ends, ops_forms::specs::Walking::goes_onward))]
+    #[tactic(auto, unfolding(ops_grammar::specs::Grammar::goes, ops_grammar::specs::Grammar::step, ops_grammar::specs::Grammar::ends, ops_forms::specs::PlaceWalks::goes_onward))]
     fn name_and_brace(&mut self, words: &[Word], at: usize) -> Result<usize, Refusal>
         ensures reads { GoesOn (λ more ws s. goes (drop at words.now ++ more) (ElementName ∷ ClosesBrace ∷ ws) (seen s self.old)) words.now (λ s. seen s self.new) result }
         ensures cut { CutGoesOn (λ cut on ws s. goes_onward on (drop at cut) (ElementName ∷ ClosesBrace ∷ ws) (seen s self.old)) words.now (λ s. seen s self.new) result }
@@ -102,7 +102,7 @@ impl Left {
     }
 
     // }
-    #[tactic(auto, unfolding(ops_grammar::specs::Grammar::goes, ops_grammar::specs::Grammar::step, ops_grammar::specs::Grammar::ends, ops_forms::specs::Walking::goes_onward))]
+    #[tactic(auto, unfolding(ops_grammar::specs::Grammar::goes, ops_grammar::specs::Grammar::step, ops_grammar::specs::Grammar::ends, ops_forms::specs::PlaceWalks::goes_onward))]
     fn closing_brace(&mut self, words: &[Word], at: usize) -> Result<usize, Refusal>
         ensures reads { Reads ClosesBrace self.old self.new words.now at result }
         ensures cut { CutReads ClosesBrace self.old self.new words.now at result }

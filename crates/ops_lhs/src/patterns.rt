@@ -14,7 +14,7 @@ use ops_grammar::Word;
 
 impl Left {
     // ( CLASS term* )
-    #[tactic(auto, unfolding(ops_grammar::specs::Grammar::goes, ops_grammar::specs::Grammar::step, ops_grammar::specs::Grammar::ends, ops_forms::specs::Walking::goes_onward))]
+    #[tactic(auto, unfolding(ops_grammar::specs::Grammar::goes, ops_grammar::specs::Grammar::step, ops_grammar::specs::Grammar::ends, ops_forms::specs::PlaceWalks::goes_onward))]
     pub fn pattern(
         &mut self,
         classes: &Classes,
@@ -48,7 +48,7 @@ impl Left {
     }
 
     // CLASS
-    #[tactic(auto, unfolding(ops_grammar::specs::Grammar::goes, ops_grammar::specs::Grammar::step, ops_grammar::specs::Grammar::ends, ops_forms::specs::Walking::goes_onward))]
+    #[tactic(auto, unfolding(ops_grammar::specs::Grammar::goes, ops_grammar::specs::Grammar::step, ops_grammar::specs::Grammar::ends, ops_forms::specs::PlaceWalks::goes_onward))]
     fn class_name(&mut self, classes: &Classes, words: &[Word], at: usize) -> Result<usize, Refusal>
         ensures reads { ReadsAmong classes.now ClassName self.old self.new words.now at result }
         ensures cut { CutReadsAmong classes.now ClassName self.old self.new words.now at result }
@@ -66,7 +66,7 @@ impl Left {
     }
 
     // term* )
-    #[tactic(auto, unfolding(ops_grammar::specs::Grammar::goes, ops_grammar::specs::Grammar::step, ops_grammar::specs::Grammar::ends, ops_forms::specs::Walking::goes_onward))]
+    #[tactic(auto, unfolding(ops_grammar::specs::Grammar::goes, ops_grammar::specs::Grammar::step, ops_grammar::specs::Grammar::ends, ops_forms::specs::PlaceWalks::goes_onward))]
     fn terms(&mut self, classes: &Classes, words: &[Word], at: usize) -> Result<usize, Refusal>
         ensures reads { ReadsAmong classes.now (Terms InPattern) self.old self.new words.now at result }
         ensures cut { CutReadsAmong classes.now (Terms InPattern) self.old self.new words.now at result }
@@ -87,7 +87,7 @@ impl Left {
     }
 
     // ATTR place*
-    #[tactic(auto, unfolding(ops_grammar::specs::Grammar::goes, ops_grammar::specs::Grammar::step, ops_grammar::specs::Grammar::ends, ops_forms::specs::Walking::goes_onward))]
+    #[tactic(auto, unfolding(ops_grammar::specs::Grammar::goes, ops_grammar::specs::Grammar::step, ops_grammar::specs::Grammar::ends, ops_forms::specs::PlaceWalks::goes_onward))]
     fn attribute(&mut self, classes: &Classes, words: &[Word], at: usize) -> Result<usize, Refusal>
         ensures reads { GoesToTermsAmong classes.now (λ more ws s. goes (drop at words.now ++ more) (Attribute InPattern ∷ ws) (seen s self.old)) words.now self.new result }
         ensures cut { PeekGoesToTermsAmong classes.now (λ cut on ws s. goes_onward on (drop at cut) (Attribute InPattern ∷ ws) (seen s self.old)) words.now self.new result }

@@ -17,7 +17,7 @@ use ops_grammar::Word;
 
 impl Left {
     // place*
-    #[tactic(auto, unfolding(ops_grammar::specs::Grammar::goes, ops_grammar::specs::Grammar::step, ops_grammar::specs::Grammar::ends, ops_forms::specs::Walking::goes_onward))]
+    #[tactic(auto, unfolding(ops_grammar::specs::Grammar::goes, ops_grammar::specs::Grammar::step, ops_grammar::specs::Grammar::ends, ops_forms::specs::PlaceWalks::goes_onward))]
     pub fn places(&mut self, field: usize, words: &[Word], at: usize) -> Result<usize, Refusal>
         ensures reads { GoesToTerms (λ more ws s. goes (drop at words.now ++ more) (Several InPattern field ∷ ws) (seen s self.old)) words.now self.new result }
         ensures cut { PeekGoesToTerms (λ cut on ws s. goes_onward on (drop at cut) (Several InPattern field ∷ ws) (seen s self.old)) words.now self.new result }

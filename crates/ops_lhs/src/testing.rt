@@ -18,7 +18,7 @@ use ops_grammar::Word;
 
 impl Left {
     // test | { test* }
-    #[tactic(auto, unfolding(ops_grammar::specs::Grammar::goes, ops_grammar::specs::Grammar::step, ops_grammar::specs::Grammar::ends, ops_forms::specs::Walking::goes_onward))]
+    #[tactic(auto, unfolding(ops_grammar::specs::Grammar::goes, ops_grammar::specs::Grammar::step, ops_grammar::specs::Grammar::ends, ops_forms::specs::PlaceWalks::goes_onward))]
     pub fn place(&mut self, field: usize, words: &[Word], at: usize) -> Result<usize, Refusal>
         ensures reads { Reads (Place field) self.old self.new words.now at result }
         ensures cut { CutReads (Place field) self.old self.new words.now at result }
@@ -47,7 +47,7 @@ impl Left {
     }
 
     // test* }
-    #[tactic(auto, unfolding(ops_grammar::specs::Grammar::goes, ops_grammar::specs::Grammar::step, ops_grammar::specs::Grammar::ends, ops_forms::specs::Walking::goes_onward))]
+    #[tactic(auto, unfolding(ops_grammar::specs::Grammar::goes, ops_grammar::specs::Grammar::step, ops_grammar::specs::Grammar::ends, ops_forms::specs::PlaceWalks::goes_onward))]
     fn conjunction(&mut self, field: usize, words: &[Word], at: usize) -> Result<usize, Refusal>
         ensures reads { Reads (Tests field) self.old self.new words.now at result }
         ensures cut { CutReads (Tests field) self.old self.new words.now at result }
@@ -86,7 +86,7 @@ impl Left {
     }
 
     // constant | VARIABLE
-    #[tactic(auto, unfolding(ops_grammar::specs::Grammar::goes, ops_grammar::specs::Grammar::step, ops_grammar::specs::Grammar::ends, ops_forms::specs::Walking::goes_onward))]
+    #[tactic(auto, unfolding(ops_grammar::specs::Grammar::goes, ops_grammar::specs::Grammar::step, ops_grammar::specs::Grammar::ends, ops_forms::specs::PlaceWalks::goes_onward))]
     fn tested(
         &mut self,
         field: usize,
@@ -129,7 +129,7 @@ impl Left {
     }
 
     // atom
-    #[tactic(auto, unfolding(ops_grammar::specs::Grammar::goes, ops_grammar::specs::Grammar::step, ops_grammar::specs::Grammar::ends, ops_forms::specs::Walking::goes_onward))]
+    #[tactic(auto, unfolding(ops_grammar::specs::Grammar::goes, ops_grammar::specs::Grammar::step, ops_grammar::specs::Grammar::ends, ops_forms::specs::PlaceWalks::goes_onward))]
     fn atom(
         &mut self,
         field: usize,
@@ -176,7 +176,7 @@ impl Left {
     }
 
     // atom* >>
-    #[tactic(auto, unfolding(ops_grammar::specs::Grammar::goes, ops_grammar::specs::Grammar::step, ops_grammar::specs::Grammar::ends, ops_forms::specs::Walking::goes_onward))]
+    #[tactic(auto, unfolding(ops_grammar::specs::Grammar::goes, ops_grammar::specs::Grammar::step, ops_grammar::specs::Grammar::ends, ops_forms::specs::PlaceWalks::goes_onward))]
     fn disjunction(&mut self, field: usize, words: &[Word], at: usize) -> Result<usize, Refusal>
         ensures reads { Reads (Choice field) self.old self.new words.now at result }
         ensures cut { CutReads (Choice field) self.old self.new words.now at result }

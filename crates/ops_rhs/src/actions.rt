@@ -15,7 +15,7 @@ use ops_grammar::{Keyword, Word};
 
 impl Right {
     // action*, up to the closing bracket, whose place is answered
-    #[tactic(auto, unfolding(ops_grammar::specs::Grammar::goes, ops_grammar::specs::Grammar::step, ops_grammar::specs::Grammar::ends, ops_forms::specs::Walking::goes_onward))]
+    #[tactic(auto, unfolding(ops_grammar::specs::Grammar::goes, ops_grammar::specs::Grammar::step, ops_grammar::specs::Grammar::ends, ops_forms::specs::PlaceWalks::goes_onward))]
     pub fn read_actions(
         &mut self,
         around: &Around,
@@ -42,7 +42,7 @@ impl Right {
 
     // make CLASS put* ) | modify DESIGNATOR put* ) | remove DESIGNATOR DESIGNATOR* ) | write item* ) | bind VARIABLE [value] )
     // | cbind VARIABLE ) | halt )
-    #[tactic(auto, unfolding(ops_grammar::specs::Grammar::goes, ops_grammar::specs::Grammar::step, ops_grammar::specs::Grammar::ends, ops_forms::specs::Walking::goes_onward))]
+    #[tactic(auto, unfolding(ops_grammar::specs::Grammar::goes, ops_grammar::specs::Grammar::step, ops_grammar::specs::Grammar::ends, ops_forms::specs::PlaceWalks::goes_onward))]
     fn action(&mut self, around: &Around, words: &[Word], at: usize) -> Result<usize, Refusal>
         ensures reads { Reads around.now ActionWord self.old self.new words.now at result }
         ensures cut { CutReads around.now ActionWord self.old self.new words.now at result }

@@ -31,7 +31,7 @@ pub struct Waiting {
 impl Right {
     // unit, or unit OP expr, and the closing bracket, where this many brackets are open
     #[cycle(expressions)]
-    #[tactic(auto, unfolding(ops_grammar::specs::Grammar::goes, ops_grammar::specs::Grammar::step, ops_grammar::specs::Grammar::ends, ops_forms::specs::Walking::goes_onward))]
+    #[tactic(auto, unfolding(ops_grammar::specs::Grammar::goes, ops_grammar::specs::Grammar::step, ops_grammar::specs::Grammar::ends, ops_forms::specs::PlaceWalks::goes_onward))]
     pub fn expression(
         &self,
         depth: usize,
@@ -61,7 +61,7 @@ impl Right {
 
     // WHOLE | VARIABLE | ( expr ) | ( compute expr )
     #[cycle(expressions)]
-    #[tactic(auto, unfolding(ops_grammar::specs::Grammar::goes, ops_grammar::specs::Grammar::step, ops_grammar::specs::Grammar::ends, ops_forms::specs::Walking::goes_onward))]
+    #[tactic(auto, unfolding(ops_grammar::specs::Grammar::goes, ops_grammar::specs::Grammar::step, ops_grammar::specs::Grammar::ends, ops_forms::specs::PlaceWalks::goes_onward))]
     fn unit(&self, depth: usize, words: &[Word], at: usize) -> Result<(Expr, usize), Refusal>
         ensures reads { ReadsOperand (ExpressionUnit depth) self.now words.now at result }
         ensures cut { CutReadsOperand (ExpressionUnit depth) self.now words.now at result }
@@ -124,7 +124,7 @@ impl Right {
 }
 
 // the place after `compute`, where that stands there
-#[tactic(auto, unfolding(ops_grammar::specs::Grammar::goes, ops_grammar::specs::Grammar::step, ops_grammar::specs::Grammar::ends, ops_forms::specs::Walking::goes_onward))]
+#[tactic(auto, unfolding(ops_grammar::specs::Grammar::goes, ops_grammar::specs::Grammar::step, ops_grammar::specs::Grammar::ends, ops_forms::specs::PlaceWalks::goes_onward))]
 fn behind_compute(words: &[Word], at: usize) -> Result<usize, Refusal>
     ensures reads { OpensExpression words.now at result }
     ensures cut { PeekOpensExpression words.now at result }

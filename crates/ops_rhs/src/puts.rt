@@ -24,7 +24,7 @@ impl Right {
     }
 
     // CLASS
-    #[tactic(auto, unfolding(ops_grammar::specs::Grammar::goes, ops_grammar::specs::Grammar::step, ops_grammar::specs::Grammar::ends, ops_forms::specs::Walking::goes_onward))]
+    #[tactic(auto, unfolding(ops_grammar::specs::Grammar::goes, ops_grammar::specs::Grammar::step, ops_grammar::specs::Grammar::ends, ops_forms::specs::PlaceWalks::goes_onward))]
     fn class_name(&mut self, around: &Around, words: &[Word], at: usize) -> Result<usize, Refusal>
         ensures reads { Reads around.now ClassName self.old self.new words.now at result }
         ensures cut { CutReads around.now ClassName self.old self.new words.now at result }
@@ -42,7 +42,7 @@ impl Right {
     }
 
     // put* )
-    #[tactic(auto, unfolding(ops_grammar::specs::Grammar::goes, ops_grammar::specs::Grammar::step, ops_grammar::specs::Grammar::ends, ops_forms::specs::Walking::goes_onward))]
+    #[tactic(auto, unfolding(ops_grammar::specs::Grammar::goes, ops_grammar::specs::Grammar::step, ops_grammar::specs::Grammar::ends, ops_forms::specs::PlaceWalks::goes_onward))]
     pub fn read_terms(
         &mut self,
         around: &Around,
@@ -68,7 +68,7 @@ impl Right {
     }
 
     // ATTR value*
-    #[tactic(auto, unfolding(ops_grammar::specs::Grammar::goes, ops_grammar::specs::Grammar::step, ops_grammar::specs::Grammar::ends, ops_forms::specs::Walking::goes_onward))]
+    #[tactic(auto, unfolding(ops_grammar::specs::Grammar::goes, ops_grammar::specs::Grammar::step, ops_grammar::specs::Grammar::ends, ops_forms::specs::PlaceWalks::goes_onward))]
     fn attribute(&mut self, around: &Around, words: &[Word], at: usize) -> Result<usize, Refusal>
         ensures reads { GoesTo around.now (Terms InPut) (λ more ws s. goes (drop at words.now ++ more) (Attribute InPut ∷ ws) (seen s self.old)) words.now self.new result }
         ensures cut { PeekGoesTo around.now (Terms InPut) (λ cut on ws s. goes_onward on (drop at cut) (Attribute InPut ∷ ws) (seen s self.old)) words.now self.new result }
@@ -93,7 +93,7 @@ impl Right {
     }
 
     // value*, up to what is no more of them
-    #[tactic(auto, unfolding(ops_grammar::specs::Grammar::goes, ops_grammar::specs::Grammar::step, ops_grammar::specs::Grammar::ends, ops_forms::specs::Walking::goes_onward))]
+    #[tactic(auto, unfolding(ops_grammar::specs::Grammar::goes, ops_grammar::specs::Grammar::step, ops_grammar::specs::Grammar::ends, ops_forms::specs::PlaceWalks::goes_onward))]
     fn several(
         &mut self,
         around: &Around,

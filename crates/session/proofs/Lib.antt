@@ -6,7 +6,7 @@ pub mod HeldSession
 pub mod Lines
 pub mod Told
 pub mod Removals
-pub mod Productions
+pub mod ProductionLemmas
 pub mod Values
 pub mod Listed
 pub mod Standing
@@ -14,7 +14,7 @@ pub mod Pending
 pub mod UnderWay
 pub mod Phases
 pub mod Deeds
-pub mod Runs
+pub mod RunLemmas
 pub mod Sequence
 pub mod Early
 pub mod SessionEnds

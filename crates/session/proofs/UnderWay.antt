@@ -20,7 +20,7 @@ use Rattle.cycle.specs.States.{Held, no_names, no_input, alone, state_course}
 use Rattle.work_store.specs.Stored.{Stored}
 use Rattle.session.specs.Courses.{with_pending, course_of, meant_by, IsOf, IsUnderWay}
 use Rattle.session.specs.declared.session.Session.{Session}
-use Rattle.session.proofs.Productions.{none_broken}
+use Rattle.session.proofs.ProductionLemmas.{none_broken}
 use Rattle.session.proofs.Pending.{none_stay, phase_unmarked, made_element, made_waits}
 
 -- the element of a top-level make, where this is its tag

@@ -2,7 +2,7 @@ use Rattle.std.proofs.Common.{refl}
 use Rattle.ops_io.specs.declared.stop.Stop.TheVariants as stop
 use Rattle.act_phase.specs.declared.outcome.Mishap.TheVariants as mishap
 use Rattle.act_phase.proofs.Deeds.{still_all, still_flushed, still_last, still_refused}
-use Rattle.act_phase.proofs.Atoms.{accept_ok}
+use Rattle.act_phase.proofs.AtomLemmas.{accept_ok}
 use Rattle.act_phase.proofs.atoms.accept.Goals as goal
 
 pub returns-in_err-flush-clause-does : goal.returns-in_err-flush-clause-does

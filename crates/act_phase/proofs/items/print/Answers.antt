@@ -1,5 +1,5 @@
 use Rattle.ops_print.specs.Leads.{lead_of}
-use Rattle.act_phase.proofs.Items.{bytes_put, bytes_refused, value_found, value_failed}
+use Rattle.act_phase.proofs.ItemLemmas.{bytes_put, bytes_refused, value_found, value_failed}
 use Rattle.act_phase.proofs.items.print.Goals as goal
 
 pub returns-in_err-values-clause-does : goal.returns-in_err-values-clause-does

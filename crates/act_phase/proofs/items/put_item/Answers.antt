@@ -1,5 +1,5 @@
 use Rattle.ops_print.specs.Leads.{lead_of}
-use Rattle.act_phase.proofs.Items.{bytes_put, bytes_refused, tab_left, width_done}
+use Rattle.act_phase.proofs.ItemLemmas.{bytes_put, bytes_refused, tab_left, width_done}
 use Rattle.act_phase.proofs.items.put_item.Goals as goal
 
 pub returns-in_err-put_tab-in-TabTo-clause-does : goal.returns-in_err-put_tab-in-TabTo-clause-does

@@ -1,6 +1,6 @@
 use Rattle.ops_print.specs.Leads.{lead_of}
 use Rattle.act_phase.proofs.Deeds.{still_all}
-use Rattle.act_phase.proofs.Items.{item_put, item_failed}
+use Rattle.act_phase.proofs.ItemLemmas.{item_put, item_failed}
 use Rattle.std.proofs.Common.{refl}
 use Rattle.act_phase.specs.Asking.{item_asks}
 use Rattle.act_phase.proofs.Asking.{none_at, both_then}

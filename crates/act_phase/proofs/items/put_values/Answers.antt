@@ -3,7 +3,7 @@ use Rattle.std.proofs.lemmas.Result.{err_from_is_err_and}
 use Rattle.ops_io.specs.declared.stop.Stop.TheVariants as stop
 use Rattle.ops_io.proofs.PortLemmas.{underway_step, underway_stop}
 use Rattle.ops_print.specs.Leads.{lead_of}
-use Rattle.act_phase.proofs.Items.{values_here}
+use Rattle.act_phase.proofs.ItemLemmas.{values_here}
 use Rattle.act_phase.proofs.items.put_values.Goals as goal
 
 pub returns-in_err-put_led-clause-puts : goal.returns-in_err-put_led-clause-puts

@@ -5,7 +5,7 @@ use Rattle.act_phase.specs.Outcomes.{setting_of}
 use Rattle.act_phase.specs.State.{doing_of}
 use Rattle.act_phase.specs.declared.outcome.Mishap.TheVariants as mishap
 use Rattle.act_phase.proofs.Deeds.{still_all, still_short}
-use Rattle.act_phase.proofs.Items.{bytes_put, bytes_refused}
+use Rattle.act_phase.proofs.ItemLemmas.{bytes_put, bytes_refused}
 use Rattle.act_phase.proofs.Steps.{action_quiet}
 use Rattle.act_phase.proofs.Told.{removal_told}
 use Rattle.act_phase.proofs.right_side.act_one.Goals as goal

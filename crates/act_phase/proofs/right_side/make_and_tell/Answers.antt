@@ -1,6 +1,6 @@
 use Rattle.std.proofs.Common.{ap, length}
 use Rattle.act_phase.specs.Outcomes.{setting_of}
-use Rattle.act_phase.proofs.Items.{bytes_put, bytes_refused}
+use Rattle.act_phase.proofs.ItemLemmas.{bytes_put, bytes_refused}
 use Rattle.act_phase.proofs.Told.{still_told, never_told}
 use Rattle.act_phase.proofs.right_side.make_and_tell.Goals as goal
 

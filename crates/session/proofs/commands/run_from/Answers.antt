@@ -5,7 +5,7 @@ use Rattle.cycle.specs.States.{state_course}
 use Rattle.ops_meaning.specs.Effects.{of_ending}
 use Rattle.ops_meaning.specs.Running.{Course, Session as Meant}
 use Rattle.session.specs.Courses.{with_pending}
-use Rattle.session.proofs.Runs.{ran, ran_badly}
+use Rattle.session.proofs.RunLemmas.{ran, ran_badly}
 use Rattle.session.proofs.Seen.{runs_short}
 use Rattle.session.proofs.commands.run_from.Goals as goal
 

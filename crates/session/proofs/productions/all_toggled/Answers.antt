@@ -1,6 +1,6 @@
 use Rattle.std.proofs.Common.{◌∙◌, ap, sym, ◌+◌, drop}
 use Rattle.ops_meaning.specs.Running.{all_toggled, toggled}
-use Rattle.session.proofs.Productions.{toggled_here}
+use Rattle.session.proofs.ProductionLemmas.{toggled_here}
 use Rattle.session.proofs.productions.all_toggled.Goals as goal
 
 pub loop-name-preserved : goal.loop-name-preserved

@@ -5,7 +5,7 @@ use Rattle.ops_meaning.specs.Running.{Session as Meant, all_toggled, breaks_give
 use Rattle.act_phase.specs.Outcomes.{setting_of}
 use Rattle.session.specs.Courses.{meant_by}
 use Rattle.session.proofs.Deeds.{does_all}
-use Rattle.session.proofs.Productions.{breaks_some}
+use Rattle.session.proofs.ProductionLemmas.{breaks_some}
 use Rattle.session.proofs.productions.give_breaks.Goals as goal
 
 pub returns : goal.returns

@@ -1,7 +1,7 @@
 use Rattle.std.proofs.lemmas.Result.{err_from_is_err_and}
 use Rattle.ops_meaning.specs.Running.{break_lines}
 use Rattle.session.proofs.Lines.{lines_step, lines_stop}
-use Rattle.session.proofs.Productions.{breaks_here}
+use Rattle.session.proofs.ProductionLemmas.{breaks_here}
 use Rattle.session.proofs.productions.put_breaks.Goals as goal
 
 pub returns-in_err-put_break : goal.returns-in_err-put_break

@@ -1,7 +1,7 @@
 use Rattle.std.proofs.Common.{◌==◌, ◌∙◌, ap, sym, find, length, arith}
 use Rattle.ops_base.specs.declared.rules.Rule.{Rule}
 use Rattle.act_phase.specs.Outcomes.{setting_of}
-use Rattle.session.proofs.Productions.{found_within, no_production}
+use Rattle.session.proofs.ProductionLemmas.{found_within, no_production}
 use Rattle.session.proofs.productions.put_production.Goals as goal
 
 pub rule_text-requires-clause-first : goal.rule_text-requires-clause-first

@@ -3,7 +3,7 @@ use Rattle.ops_io.proofs.PortLemmas.{put_nothing}
 use Rattle.ops_meaning.specs.Layout.{unknown_line}
 use Rattle.ops_meaning.specs.Running.{rule_named}
 use Rattle.session.proofs.Lines.{one_line}
-use Rattle.session.proofs.Productions.{unknown_one}
+use Rattle.session.proofs.ProductionLemmas.{unknown_one}
 use Rattle.session.proofs.productions.put_where_unknown.Goals as goal
 
 pub returns-in-Some : goal.returns-in-Some
