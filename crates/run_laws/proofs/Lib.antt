@@ -1,0 +1,4 @@
+pub mod Beginnings
+pub mod Endings
+pub mod Shown
+pub mod Rankings

@@ -1,0 +1,14 @@
+-- What `cs` lists.
+use Rattle.std.specs.Prelude.{◌≡◌, ◌↔◌, List, AllPairs, Contains, IsTrue, slice_get}
+use Rattle.ops_base.specs.declared.rules.Inst.{Inst}
+use Rattle.ops_base.specs.declared.rules.Rule.{Rule}
+use Rattle.ops_base.specs.ConflictSet.{conflict_set}
+use Rattle.ops_base.specs.Dominance.{dominates}
+use Rattle.ops_meaning.specs.Running.{Course, next_to_fire}
+
+-- The list has just the members of the conflict set that have not fired. Each is dominated by all before it, so that none
+-- stands twice, and the first is the next to fire.
+pub record IsRanking (rules : List Rule) (m : Course) (list : List Inst) : Type 0 where
+  pub members : (i : Inst) → Contains list i ↔ (Contains (conflict_set rules m.wm) i × ¬ Contains m.fired i)
+  pub order : AllPairs (λ i j. IsTrue (dominates m.strategy rules i j)) list
+  pub first : slice_get list 0 ≡ next_to_fire rules m

@@ -1,0 +1,51 @@
+//! What holds of each program by the definitions of running: the contracts of functions that do nothing.
+ghost use Rattle.std.specs.Prelude.{◌≡◌, ℕ, List, [], Some, Option, Bool, if◌then◌else◌, None, AllPairs, Contains};
+ghost use Rattle.ops_base.specs.declared.commands.Command.{Command};
+ghost use Rattle.ops_base.specs.declared.commands.Fixed.{Fixed};
+ghost use Rattle.ops_base.specs.declared.elements.Element.{Element};
+ghost use Rattle.ops_base.specs.declared.matching.Binding.{Binding};
+ghost use Rattle.ops_base.specs.declared.rules.Inst.{Inst};
+ghost use Rattle.ops_base.specs.declared.rules.Rule.{Rule};
+ghost use Rattle.ops_base.specs.ConflictSet.{conflict_set};
+ghost use Rattle.ops_base.specs.Matching.{match_of};
+ghost use Rattle.ops_base.specs.Names.{Spellings};
+ghost use Rattle.ops_base.specs.WorkingMemory.{HasRisingTags};
+ghost use Rattle.ops_io.specs.Coming.{Coming};
+ghost use Rattle.ops_meaning.specs.Acting.{Setting, Given};
+ghost use Rattle.ops_meaning.specs.Running.{Course, Session, command_done, element_lines, ending_of, lists, meets, session_of, standing_by};
+ghost use Rattle.run_laws.specs.Beginning.{BeginsAsMatched};
+ghost use Rattle.run_laws.specs.Ending.{IsOfSession};
+ghost use Rattle.run_laws.specs.Patterns.{condition_with, meeting};
+ghost use Rattle.run_laws.specs.Ranking.{IsRanking};
+
+/// A right side begins with the bindings with which the walk over its conditions accepted the instantiation, and with its
+/// elements in the cells.
+pub fn right_sides_begin_as_matched()
+    ensures { (s : Setting) (g : Given) (i : Inst)
+        → HasRisingTags g.wm → Contains (conflict_set s.rules g.wm) i → BeginsAsMatched s g i }
+{}
+
+/// Whatever the program, no session ends in a write that is refused or in want of memory. It ends in a read fault only
+/// where its input fails.
+pub fn sessions_end_by_themselves()
+    ensures { (s : Setting) (limit : ℕ) (commands : List Command) (names : Spellings) (coming : Coming)
+        → IsOfSession coming.fails (ending_of (session_of s limit commands names coming).outcome) }
+{}
+
+/// `ppwm` with a pattern shows the elements that a positive condition with these constants would match, in the order of
+/// their tags.
+pub fn patterns_match_as_conditions()
+    ensures meets { (class : ℕ) (puts : List Fixed) (e : Element) (bindings : List Binding)
+        → match_of (condition_with class puts) e bindings ≡ (if meets (Some (class, puts)) e then Some bindings else None) }
+    ensures listed { (s : Setting) (limit column class : ℕ) (puts : List Fixed) (k : Session)
+        → command_done s limit column (Command.Ppwm (Some (class, puts))) k
+        ≡ lists column (element_lines k.course.names s.classes (meeting (condition_with class puts) k.course.wm)) k }
+    ensures order { (class : ℕ) (puts : List Fixed) (wm : List Element)
+        → HasRisingTags wm → HasRisingTags (meeting (condition_with class puts) wm) }
+{}
+
+/// What `cs` lists is a ranking of the members of the conflict set that have not fired.
+pub fn standing_is_ranked()
+    ensures { (rules : List Rule) (m : Course)
+        → HasRisingTags m.wm → IsRanking rules m (standing_by (conflict_set rules) rules m) }
+{}
