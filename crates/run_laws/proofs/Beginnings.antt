@@ -1,7 +1,8 @@
 -- The bindings with which a right side begins are those with which the walk over its conditions came to its end.
-use Rattle.std.proofs.Common.{◌≡◌, ℕ, ◌<◌, List, [], ◌∷◌, ◌++◌, map, Bool, true, false, cond, not, ◌==◌, Option, Some, None, option_map, refl, ap, sym, ◌∙◌, subst, inl, inr, append_assoc, arith}
-use Rattle.std.specs.Prelude.{All, Contains, slice_get, unwrap_or}
+use Rattle.std.proofs.Common.{◌≡◌, ℕ, ◌<◌, List, [], ◌∷◌, ◌++◌, map, Bool, true, false, cond, not, ◌==◌, Some, None, option_map, refl, ap, sym, ◌∙◌, subst, inl, inr, append_assoc, arith}
+use Rattle.std.specs.Prelude.{Contains, slice_get, unwrap_or}
 use Rattle.std.specs.List.{flat_map}
+use Rattle.std.proofs.lemmas.Bool.{eqb-true}
 use Rattle.std.proofs.lemmas.Bool.Decides.{nat_tests}
 use Rattle.std.proofs.lemmas.List.{append-nil}
 use Rattle.ops_base.specs.declared.conditions.Condition.{Condition}
@@ -11,7 +12,8 @@ use Rattle.ops_base.specs.declared.matching.Binding.{Binding}
 use Rattle.ops_base.specs.declared.rules.Inst.{Inst}
 use Rattle.ops_base.specs.declared.rules.Rule.{Rule}
 use Rattle.ops_base.specs.ConflictSet.{extended, some_meets, at_condition, walk, empty_partial, matches_of, conflict_set}
-use Rattle.ops_base.specs.Matching.{match_of}
+use Rattle.ops_base.specs.Matching.{after_tests, match_of}
+use Rattle.ops_base.specs.Valid.{cells_of}
 use Rattle.ops_base.specs.WorkingMemory.{HasRisingTags, tags_of}
 use Rattle.ops_base.proofs.ConflictSetLaws.{conflict_set-is}
 use Rattle.ops_base.proofs.InOrder.{AllBefore, TagBelow, tags_in_order}
@@ -57,6 +59,17 @@ past_positive wm c cs e ts bindings next positive found matched =
     ∙ ap (λ o. bindings_of wm cs ts (matched_by c o bindings)) found
     ∙ ap (λ o. bindings_of wm cs ts (unwrap_or o bindings)) matched
 
+abbrev pub classes_in : List Element → List ℕ
+classes_in es = map (λ e. e.class) es
+
+-- what meets a condition is of its class
+matched_class : (c : Condition) (e : Element) (bindings next : List Binding) → match_of c e bindings ≡ Some next → e.class ≡ c.class
+matched_class c e bindings next is = by (e.class == c.class) refl is
+  where
+    by : (b : Bool) → (e.class == c.class) ≡ b → cond b (after_tests c.tests e bindings) None ≡ Some next → e.class ≡ c.class
+    by true same is = eqb-true e.class c.class same
+    by false same is = absurd (cc)
+
 -- What the walk finds goes on from one of these partial matches, with the bindings that the further tags give. The
 -- elements of these tags are in working memory.
 pub record Followed (wm : List Element) (cs : List Condition) (ps : List Partial) (q : Partial) : Type 0 where
@@ -66,23 +79,25 @@ pub record Followed (wm : List Element) (cs : List Condition) (ps : List Partial
   pub tags : q.tags ≡ from.tags ++ rest
   pub bindings : bindings_of wm cs rest from.bindings ≡ q.bindings
   pub cells : tags_of (elements_of wm rest) ≡ rest
+  pub classes : classes_in (elements_of wm rest) ≡ cells_of cs
   pub elements : (e : Element) → IsMember e (elements_of wm rest) → IsMember e wm
 
 module _ (wm : List Element) (rising : HasRisingTags wm) where
-  stepped : (c : Condition) (cs : List Condition) (p q : Partial) (rest : List ℕ) → IsMember q (at_condition wm c p) → tags_of (elements_of wm rest) ≡ rest → ((e : Element) → IsMember e (elements_of wm rest) → IsMember e wm)
+  stepped : (c : Condition) (cs : List Condition) (p q : Partial) (rest : List ℕ) → IsMember q (at_condition wm c p) → tags_of (elements_of wm rest) ≡ rest → classes_in (elements_of wm rest) ≡ cells_of cs → ((e : Element) → IsMember e (elements_of wm rest) → IsMember e wm)
       → (front : List ℕ) × (q.tags ≡ p.tags ++ front) × (bindings_of wm (c ∷ cs) (front ++ rest) p.bindings ≡ bindings_of wm cs rest q.bindings)
-      × (tags_of (elements_of wm (front ++ rest)) ≡ front ++ rest) × ((e : Element) → IsMember e (elements_of wm (front ++ rest)) → IsMember e wm)
-  stepped c cs p q rest m cells elements = by c.negated refl m
+      × (tags_of (elements_of wm (front ++ rest)) ≡ front ++ rest) × (classes_in (elements_of wm (front ++ rest)) ≡ cells_of (c ∷ cs)) × ((e : Element) → IsMember e (elements_of wm (front ++ rest)) → IsMember e wm)
+  stepped c cs p q rest m cells classes elements = by c.negated refl m
     where
       by : (b : Bool) → c.negated ≡ b → IsMember q (cond b (cond (not (some_meets wm c p.bindings)) (p ∷ []) []) (flat_map (extended c p) wm))
           → (front : List ℕ) × (q.tags ≡ p.tags ++ front) × (bindings_of wm (c ∷ cs) (front ++ rest) p.bindings ≡ bindings_of wm cs rest q.bindings)
-          × (tags_of (elements_of wm (front ++ rest)) ≡ front ++ rest) × ((e : Element) → IsMember e (elements_of wm (front ++ rest)) → IsMember e wm)
+          × (tags_of (elements_of wm (front ++ rest)) ≡ front ++ rest) × (classes_in (elements_of wm (front ++ rest)) ≡ cond b (cells_of cs) (c.class ∷ cells_of cs)) × ((e : Element) → IsMember e (elements_of wm (front ++ rest)) → IsMember e wm)
       by true is m =
           let n = negated_is p q (some_meets wm c p.bindings) m in (
             [],
             ap (λ (w : Partial). w.tags) n.1 ∙ sym (append-nil p.tags),
             past_negated wm c cs rest p.bindings is ∙ ap (λ (w : Partial). bindings_of wm cs rest w.bindings) (sym n.1),
             cells,
+            classes,
             elements,
           )
       by false is m =
@@ -93,6 +108,7 @@ module _ (wm : List Element) (rising : HasRisingTags wm) where
             l.1,
             past_positive wm c cs f.0 rest p.bindings q.bindings is found l.0,
             ap (λ o. (unwrap_or o no_element).tag ∷ tags_of (elements_of wm rest)) found ∙ ap (λ ts. f.0.tag ∷ ts) cells,
+            ap (λ o. (unwrap_or o no_element).class ∷ classes_in (elements_of wm rest)) found ∙ ap (λ n. n ∷ classes_in (elements_of wm rest)) (matched_class c f.0 p.bindings q.bindings l.0) ∙ ap (λ ns. c.class ∷ ns) classes,
             one_more f.0 f.1 found,
           )
         where
@@ -103,41 +119,44 @@ module _ (wm : List Element) (rising : HasRisingTags wm) where
           one_more x there found e (inr m) = elements e m
 
   pub followed : (cs : List Condition) (ps : List Partial) (q : Partial) → IsMember q (walk wm cs ps) → Followed wm cs ps q
-  followed [] ps q m = record { from = q; begun = m; rest = []; tags = sym (append-nil q.tags); bindings = refl; cells = refl; elements = λ e m. absurd m }
+  followed [] ps q m = record { from = q; begun = m; rest = []; tags = sym (append-nil q.tags); bindings = refl; cells = refl; classes = refl; elements = λ e m. absurd m }
   followed (c ∷ cs) ps q m =
       let r = followed cs (flat_map (at_condition wm c) ps) q m in
       let b = flat_map_member (at_condition wm c) r.from ps r.begun in
-      let s = stepped c cs b.0 r.from r.rest b.2 r.cells r.elements in record {
+      let s = stepped c cs b.0 r.from r.rest b.2 r.cells r.classes r.elements in record {
         from = b.0;
         begun = b.1;
         rest = s.0 ++ r.rest;
         tags = r.tags ∙ ap (λ w. w ++ r.rest) s.1 ∙ append_assoc b.0.tags s.0 r.rest;
         bindings = s.2 ∙ r.bindings;
         cells = s.3;
-        elements = s.4;
+        classes = s.4;
+        elements = s.5;
       }
 
   -- a whole match has the bindings that its tags give
   pub record Whole (cs : List Condition) (q : Partial) : Type 0 where
     pub bindings : bindings_of wm cs q.tags [] ≡ q.bindings
     pub cells : tags_of (elements_of wm q.tags) ≡ q.tags
+    pub classes : classes_in (elements_of wm q.tags) ≡ cells_of cs
     pub elements : (e : Element) → IsMember e (elements_of wm q.tags) → IsMember e wm
 
   pub whole_match : (cs : List Condition) (q : Partial) → IsMember q (matches_of wm cs) → Whole cs q
-  whole_match cs q m = let r = followed cs (empty_partial ∷ []) q m in by r.from r.begun r.rest r.tags r.bindings r.cells r.elements
+  whole_match cs q m = let r = followed cs (empty_partial ∷ []) q m in by r.from r.begun r.rest r.tags r.bindings r.cells r.classes r.elements
     where
       by : (from : Partial) → IsMember from (empty_partial ∷ []) → (rest : List ℕ) → q.tags ≡ from.tags ++ rest → bindings_of wm cs rest from.bindings ≡ q.bindings
-          → tags_of (elements_of wm rest) ≡ rest → ((e : Element) → IsMember e (elements_of wm rest) → IsMember e wm) → Whole cs q
-      by from (inl is) rest t b k l =
+          → tags_of (elements_of wm rest) ≡ rest → classes_in (elements_of wm rest) ≡ cells_of cs → ((e : Element) → IsMember e (elements_of wm rest) → IsMember e wm) → Whole cs q
+      by from (inl is) rest t b k n l =
           let same : q.tags ≡ rest = t ∙ ap (λ (w : Partial). w.tags ++ rest) is in
           let P : List ℕ → Type 0 = λ ts. tags_of (elements_of wm ts) ≡ ts in
           let Q : List ℕ → Type 0 = λ ts. (e : Element) → IsMember e (elements_of wm ts) → IsMember e wm in
           record {
             bindings = ap (λ ts. bindings_of wm cs ts []) same ∙ ap (λ (w : Partial). bindings_of wm cs rest w.bindings) (sym is) ∙ b;
             cells = subst P (sym same) k;
+            classes = ap (λ ts. classes_in (elements_of wm ts)) same ∙ n;
             elements = subst Q (sym same) l;
           }
-      by from (inr m) rest t b k l = absurd m
+      by from (inr m) rest t b k n l = absurd m
 
 -- ---- an instantiation of the conflict set
 
@@ -149,6 +168,13 @@ partial_is p tags bindings t b =
     let with_tags : List ℕ → Partial = λ ts. record { tags = ts; bindings = p.bindings } in
     let with_bindings : List Binding → Partial = λ bs. record { tags = tags; bindings = bs } in
     ap with_tags t ∙ ap with_bindings b
+
+-- a right side begins with the bindings of the whole match at its tags
+pub bindings_begun : (s : Setting) (g : Given) (i : Inst) (r : Rule) → HasRisingTags g.wm → conditions_of s.rules i.rule ≡ r.conditions → (p : Partial) → IsMember p (matches_of g.wm r.conditions) → p.tags ≡ i.tags
+    → p.bindings ≡ (begun s i g).bindings
+bindings_begun s g i r rising same p m t =
+    let w = whole_match g.wm rising r.conditions p m in
+    sym w.bindings ∙ ap (λ ts. bindings_of g.wm r.conditions ts []) t ∙ ap (λ cs. bindings_of g.wm cs i.tags []) (sym same)
 
 pub begins_as_matched : (s : Setting) (g : Given) (i : Inst) → HasRisingTags g.wm → Contains (conflict_set s.rules g.wm) i → BeginsAsMatched s g i
 begins_as_matched s g i rising in_set =
@@ -170,7 +196,4 @@ begins_as_matched s g i rising in_set =
     }
   where
     alike : (r : Rule) → conditions_of s.rules i.rule ≡ r.conditions → (p : Partial) → IsMember p (matches_of g.wm r.conditions) → p.tags ≡ i.tags → p ≡ begun_match s g i
-    alike r same p m t =
-        let w = whole_match g.wm rising r.conditions p m in
-        partial_is p i.tags (begun s i g).bindings t
-        (sym w.bindings ∙ ap (λ ts. bindings_of g.wm r.conditions ts []) t ∙ ap (λ cs. bindings_of g.wm cs i.tags []) (sym same))
+    alike r same p m t = partial_is p i.tags (begun s i g).bindings t (bindings_begun s g i r rising same p m t)

@@ -1,5 +1,5 @@
 -- A session comes to an end of its own.
-use Rattle.std.proofs.Common.{◌≡◌, ℕ, Bool, true, List, Result, Ok, Err, MatchResult, refl}
+use Rattle.std.proofs.Common.{ℕ, Bool, List, Result, Ok, Err, MatchResult}
 use Rattle.ops_base.specs.declared.commands.Command.{Command}
 use Rattle.ops_base.specs.declared.endings.Ending.{Ending}
 use Rattle.ops_base.specs.declared.endings.Ending.TheVariants as ending

@@ -1,17 +1,16 @@
 -- What `cs` lists is ranked.
-use Rattle.std.proofs.Common.{◌≡◌, ℕ, zero, suc, ◌≤◌, List, [], ◌∷◌, length, not, Option, Some, None, option_map, unwrap_or, refl, ap, sym, ◌∙◌, subst, arith}
-use Rattle.std.specs.Prelude.{◌≢◌, ◌↔◌, AllPairs, Contains, MatchOption, slice_get}
+use Rattle.std.proofs.Common.{◌≡◌, ℕ, zero, suc, ◌≤◌, List, [], ◌∷◌, length, not, Option, Some, None, option_map, unwrap_or, refl, arith}
+use Rattle.std.specs.Prelude.{◌≢◌, slice_get}
 use Rattle.std.proofs.lemmas.List.Kept.{AllPairs-filter}
 use Rattle.ops_base.specs.declared.commands.Strategy.{Strategy}
 use Rattle.ops_base.specs.declared.rules.Inst.{Inst}
 use Rattle.ops_base.specs.declared.rules.Rule.{Rule}
 use Rattle.ops_base.specs.ConflictSet.{conflict_set}
-use Rattle.ops_base.specs.Refraction.{is_among, unfired, dominant, IsDominant}
+use Rattle.ops_base.specs.Refraction.{is_among, unfired, dominant}
 use Rattle.ops_base.specs.WorkingMemory.{HasRisingTags}
 use Rattle.ops_base.proofs.ConflictSetLaws.{conflict_set-is}
-use Rattle.ops_base.proofs.DominanceLaws.{dominates_itself, dominant_is}
 use Rattle.ops_base.proofs.RefractionLaws.{member-unfired}
-use Rattle.ops_meaning.specs.Running.{Course, ranked, standing_by, without_inst, next_to_fire}
+use Rattle.ops_meaning.specs.Running.{Course, ranked, standing_by, without_inst}
 use Rattle.ops_meaning.proofs.Ranked.{AreDistinct, in_order_distinct, ranked_is}
 use Rattle.run_laws.specs.Ranking.{IsRanking}
 

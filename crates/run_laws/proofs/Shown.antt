@@ -1,5 +1,5 @@
 -- A pattern of constants is met as the positive condition with these constants is.
-use Rattle.std.proofs.Common.{◌≡◌, ℕ, suc, List, [], ◌∷◌, ◌++◌, map, filter, Bool, true, false, cond, not, ◌==◌, ◌&&◌, Option, Some, None, is_some, refl, ap, sym, ◌∙◌, subst}
+use Rattle.std.proofs.Common.{◌≡◌, ℕ, suc, List, [], ◌∷◌, ◌++◌, filter, Bool, true, false, cond, ◌==◌, ◌&&◌, Option, Some, None, is_some, refl, ap, sym, ◌∙◌}
 use Rattle.std.specs.Prelude.{option_and_then}
 use Rattle.std.specs.List.{flat_map, list_all, AllByRecursion}
 use Rattle.std.specs.List.Sorted.{IsStrictlySortedBy}
@@ -17,7 +17,7 @@ use Rattle.ops_base.specs.Values.{are_same}
 use Rattle.ops_base.specs.WorkingMemory.{field_of, tags_of, HasRisingTags}
 use Rattle.ops_meaning.specs.Acting.{Setting}
 use Rattle.ops_meaning.specs.Running.{Session, has_values, meets, lists, element_lines, command_done}
-use Rattle.run_laws.specs.Patterns.{equality, equalities, condition_with, meeting}
+use Rattle.run_laws.specs.Patterns.{equalities, condition_with, meeting}
 
 -- ---- one condition
 

@@ -1,6 +1,5 @@
 -- What a right side begins with.
-use Rattle.std.specs.Prelude.{◌≡◌, ℕ, List, All, Contains, slice_get, Some}
-use Rattle.ops_base.specs.declared.conditions.Condition.{Condition}
+use Rattle.std.specs.Prelude.{◌≡◌, All, Contains, slice_get, Some}
 use Rattle.ops_base.specs.declared.direct.Partial.{Partial}
 use Rattle.ops_base.specs.declared.rules.Inst.{Inst}
 use Rattle.ops_base.specs.declared.rules.Rule.{Rule}

@@ -1,20 +1,22 @@
 //! What holds of each program by the definitions of running: the contracts of functions that do nothing.
-ghost use Rattle.std.specs.Prelude.{◌≡◌, ℕ, List, [], Some, Option, Bool, if◌then◌else◌, None, AllPairs, Contains};
+ghost use Rattle.std.specs.Prelude.{◌≡◌, ℕ, List, [], ◌∷◌, slice_get, Some, Option, Bool, if◌then◌else◌, None, length, Contains, IsTrue};
 ghost use Rattle.ops_base.specs.declared.commands.Command.{Command};
 ghost use Rattle.ops_base.specs.declared.commands.Fixed.{Fixed};
 ghost use Rattle.ops_base.specs.declared.elements.Element.{Element};
 ghost use Rattle.ops_base.specs.declared.matching.Binding.{Binding};
 ghost use Rattle.ops_base.specs.declared.rules.Inst.{Inst};
 ghost use Rattle.ops_base.specs.declared.rules.Rule.{Rule};
-ghost use Rattle.ops_base.specs.ConflictSet.{conflict_set};
+ghost use Rattle.ops_base.specs.ConflictSet.{conflict_set, empty_partial};
 ghost use Rattle.ops_base.specs.Matching.{match_of};
 ghost use Rattle.ops_base.specs.Names.{Spellings};
+ghost use Rattle.ops_base.specs.Valid.{is_valid};
 ghost use Rattle.ops_base.specs.WorkingMemory.{HasRisingTags};
 ghost use Rattle.ops_io.specs.Coming.{Coming};
-ghost use Rattle.ops_meaning.specs.Acting.{Setting, Given};
+ghost use Rattle.ops_meaning.specs.Acting.{Setting, Given, actions_of, begun};
 ghost use Rattle.ops_meaning.specs.Running.{Course, Session, command_done, element_lines, ending_of, lists, meets, session_of, standing_by};
 ghost use Rattle.run_laws.specs.Beginning.{BeginsAsMatched};
 ghost use Rattle.run_laws.specs.Ending.{IsOfSession};
+ghost use Rattle.run_laws.specs.Finding.{AllFind, WalkFinds};
 ghost use Rattle.run_laws.specs.Patterns.{condition_with, meeting};
 ghost use Rattle.run_laws.specs.Ranking.{IsRanking};
 
@@ -48,4 +50,20 @@ pub fn patterns_match_as_conditions()
 pub fn standing_is_ranked()
     ensures { (rules : List Rule) (m : Course)
         → HasRisingTags m.wm → IsRanking rules m (standing_by (conflict_set rules) rules m) }
+{}
+
+/// In a valid program each test that an element comes to finds its class, its field, and the variable that it compares with.
+pub fn left_sides_find_what_they_name()
+    ensures { (s : Setting) (commands : List Command) (wm : List Element) (n : ℕ) (r : Rule)
+        → IsTrue (is_valid s.classes s.rules commands (length s.text)) → slice_get s.rules n ≡ Some r
+        → WalkFinds s.classes wm r.conditions (empty_partial ∷ []) }
+{}
+
+/// In a valid program each action of a right side finds, in the state that it comes to, all that it names: variables,
+/// cells, classes and fields.
+pub fn right_sides_find_what_they_name()
+    ensures { (s : Setting) (commands : List Command) (column : ℕ) (g : Given) (i : Inst)
+        → IsTrue (is_valid s.classes s.rules commands (length s.text))
+        → HasRisingTags g.wm → Contains (conflict_set s.rules g.wm) i
+        → AllFind s column (actions_of s.rules i.rule) (begun s i g) }
 {}

@@ -1,0 +1,123 @@
+-- What the sides of a production name is there: so none of the values is met that the definitions put in the place of what
+-- is absent.
+use Rattle.std.specs.Prelude.{ℕ, List, [], ◌∷◌, Bool, true, false, ◌&&◌, ◌||◌, slice_get, is_some, unwrap_or, option_map, Contains, IsTrue, IfOk}
+use Rattle.std.specs.List.{flat_map, list_all, list_any}
+use Rattle.ops_base.specs.declared.actions.Action.{Action}
+use Rattle.ops_base.specs.declared.actions.Action.TheVariants as action
+use Rattle.ops_base.specs.declared.actions.Item.{Item}
+use Rattle.ops_base.specs.declared.actions.Item.TheVariants as item
+use Rattle.ops_base.specs.declared.actions.Put.{Put}
+use Rattle.ops_base.specs.declared.actions.Term.{Term}
+use Rattle.ops_base.specs.declared.actions.Term.TheVariants as term
+use Rattle.ops_base.specs.declared.conditions.Condition.{Condition}
+use Rattle.ops_base.specs.declared.conditions.Operand.{Operand}
+use Rattle.ops_base.specs.declared.conditions.Operand.TheVariants as operand
+use Rattle.ops_base.specs.declared.conditions.Test.{Test}
+use Rattle.ops_base.specs.declared.direct.Partial.{Partial}
+use Rattle.ops_base.specs.declared.elements.Change.{Change}
+use Rattle.ops_base.specs.declared.elements.Change.TheVariants as change
+use Rattle.ops_base.specs.declared.elements.Class.{Class}
+use Rattle.ops_base.specs.declared.elements.Element.{Element}
+use Rattle.ops_base.specs.declared.matching.Binding.{Binding}
+use Rattle.ops_base.specs.ConflictSet.{at_condition}
+use Rattle.ops_base.specs.Expression.{all_variables}
+use Rattle.ops_base.specs.Matching.{value_of, after_test}
+use Rattle.ops_base.specs.Valid.{class_of, is_attribute, is_field}
+use Rattle.ops_io.specs.Output.{column_after}
+use Rattle.ops_meaning.specs.Acting.{Setting, Doing, cell_of, action_done}
+
+abbrev pub is_class : List Class → ℕ → Bool
+is_class classes n = is_some (slice_get classes n)
+
+-- ---- left sides
+
+-- the variable is bound that a value is compared with
+abbrev pub operand_finds : List Binding → Operand → Bool
+operand_finds bindings (operand.Constant v) = true
+operand_finds bindings (operand.OneOf vs) = true
+operand_finds bindings (operand.Variable v) = is_some (value_of bindings v)
+
+-- the field is one of the class, and a test that does not bind its variable finds it bound
+abbrev pub test_finds : Class → Test → List Binding → Bool
+test_finds c t bindings = is_field c t.field && (t.binds || operand_finds bindings t.operand)
+
+-- each test that the element comes to, in the order of the tests
+abbrev pub tests_find : Class → Element → List Test → List Binding → Bool
+tests_find c e [] bindings = true
+tests_find c e (t ∷ ts) bindings =
+    test_finds c t bindings && unwrap_or (option_map (tests_find c e ts) (after_test t e bindings)) true
+
+abbrev pub condition_finds : List Class → Condition → List Binding → Element → Bool
+condition_finds classes c bindings e = is_class classes c.class && tests_find (class_of classes c.class) e c.tests bindings
+
+-- From these partial matches on, each element finds at each condition that the walk comes to all that it names.
+abbrev pub WalkFinds : List Class → List Element → List Condition → List Partial → Type 0
+WalkFinds classes wm [] ps = Unit {0}
+WalkFinds classes wm (c ∷ cs) ps =
+    ((p : Partial) (e : Element) → Contains ps p → Contains wm e → IsTrue (condition_finds classes c p.bindings e))
+    × WalkFinds classes wm cs (flat_map (at_condition wm c) ps)
+
+-- ---- right sides
+
+-- the variable is bound
+abbrev pub is_bound : Doing → ℕ → Bool
+is_bound d v = is_some (value_of d.bindings v)
+
+-- the cell holds an element, whose class is there
+abbrev pub is_held : List Class → Doing → ℕ → Bool
+is_held classes d cell = is_some (slice_get d.cells cell) && is_class classes (cell_of d cell).class
+
+-- the class of the element in a cell
+abbrev pub held_class : List Class → Doing → ℕ → Class
+held_class classes d cell = class_of classes (cell_of d cell).class
+
+-- an element was made
+abbrev pub is_add : Change → Bool
+is_add (change.Add e) = true
+is_add (change.Remove tag) = false
+
+abbrev pub has_made : Doing → Bool
+has_made d = list_any is_add d.changes
+
+-- a term that gives one value, whatever there is
+abbrev pub is_single : Term → Bool
+is_single (term.Rest cell) = false
+is_single _ = true
+
+abbrev pub term_finds : List Class → Doing → Term → Bool
+term_finds classes d (term.Constant v) = true
+term_finds classes d (term.Variable v) = is_bound d v
+term_finds classes d (term.Compute formula) = all_variables (is_bound d) formula
+term_finds classes d (term.One cell field) = is_held classes d cell && is_attribute (held_class classes d cell) field
+term_finds classes d (term.Rest cell) = is_held classes d cell && (held_class classes d cell).vector
+term_finds classes d term.Fresh = true
+term_finds classes d term.Accept = true
+
+abbrev pub put_finds : List Class → Doing → Class → Put → Bool
+put_finds classes d c p = is_attribute c p.field && list_all (term_finds classes d) p.terms
+
+abbrev pub item_finds : List Class → Doing → Item → Bool
+item_finds classes d (item.Print t) = term_finds classes d t
+item_finds classes d item.Crlf = true
+item_finds classes d (item.TabTo n) = true
+item_finds classes d (item.RightIn n) = true
+
+-- Each variable that the action evaluates is bound, each cell that it names holds an element, each class that it names is
+-- there, and so is that of each such element, and each field is one of its class.
+abbrev pub action_finds : List Class → Doing → Action → Bool
+action_finds classes d (action.Make class puts) =
+    is_class classes class && list_all (put_finds classes d (class_of classes class)) puts
+action_finds classes d (action.Modify cell puts) =
+    is_held classes d cell && list_all (put_finds classes d (held_class classes d cell)) puts
+action_finds classes d (action.Remove cells) = list_all (is_held classes d) cells
+action_finds classes d (action.Write items) = list_all (item_finds classes d) items
+action_finds classes d (action.Bind variable t) = term_finds classes d t && is_single t
+action_finds classes d (action.Cbind cell) = has_made d
+action_finds classes d action.Halt = true
+
+-- From a column and a state on, each action finds all that it names, in the state to which those before it lead.
+abbrev pub AllFind : Setting → ℕ → List Action → Doing → Type 0
+AllFind s column [] d = Unit {0}
+AllFind s column (a ∷ rest) d =
+    let e = action_done s column a d in
+    IsTrue (action_finds s.classes d a) × IfOk e.outcome (λ next. AllFind s (column_after column e.bytes) rest next)
