@@ -1,5 +1,5 @@
 -- What the validity of a right side takes as known is so in each state that it comes to.
-use Rattle.std.proofs.Common.{◌≡◌, ℕ, zero, suc, ◌+◌, ◌<◌, List, [], ◌∷◌, ◌++◌, map, length, fold, Bool, true, false, cond, ◌==◌, ◌&&◌, ◌||◌, Option, Some, None, is_some, Result, Ok, Err, IfOk, refl, ap, sym, ◌∙◌, subst, nat_lt, slice_get, unwrap_or, arith}
+use Rattle.std.proofs.Common.{◌≡◌, ℕ, zero, suc, ◌<◌, List, [], ◌∷◌, ◌++◌, map, length, fold, Bool, true, false, cond, ◌==◌, ◌&&◌, ◌||◌, Option, Some, None, is_some, Ok, IfOk, refl, ap, sym, ◌∙◌, subst, nat_lt, slice_get, unwrap_or, arith}
 use Rattle.std.specs.Prelude.{slice_set}
 use Rattle.std.specs.List.{list_all, list_any}
 use Rattle.std.proofs.lemmas.Bool.{and_parts, and_from, ltb-true}
@@ -24,28 +24,13 @@ use Rattle.ops_base.specs.Matching.{value_of}
 use Rattle.ops_base.specs.Valid.{Known, is_in, is_cell, class_of, class_of_cell, is_attribute, is_vector, fits, term_is_valid, put_is_valid, puts_are_valid, item_is_valid, action_is_valid, actions_are_valid, known_after}
 use Rattle.ops_base.proofs.Bound.{value_of_last}
 use Rattle.ops_io.specs.Output.{column_after}
-use Rattle.ops_tokens.specs.Accepting.{Accepted, accepted}
-use Rattle.ops_tokens.specs.declared.accept.AcceptFault.{AcceptFault}
-use Rattle.ops_tokens.specs.declared.accept.AcceptFault.TheVariants as accept_fault
-use Rattle.ops_meaning.specs.Acting.{Setting, Doing, Mishap, Valued, Filled, no_element, evaluated, value_in, computed_as, accepted_as, values_placed, placed, terms_placed, puts_made, puts_over, made_fields, modified_fields, emptied, has_tag, cell_of, changed, next_element, added, removed, modified, made_by, made_last, cell_bound, bound, first_of, printed, lead_after, item_done, items_done, changes_told, action_done}
-use Rattle.ops_meaning.specs.Computing.{Computed, computed}
-use Rattle.ops_meaning.specs.Effects.{Effect, going_on, followed_by}
-use Rattle.ops_meaning.specs.Layout.{Lead, Apart}
-use Rattle.run_laws.specs.Finding.{is_bound, is_class, is_held, held_class, is_add, has_made, is_single, term_finds, put_finds, item_finds, action_finds, AllFind}
-
--- ---- parts that leave this
-
-ok_behind : {E S T : Type 0} (P : S → Type 0) (Q : T → Type 0) (o : Result S E) (next : S → Result T E) → IfOk o P → ((s : S) → P s → IfOk (next s) Q) → IfOk (followed_by o next) Q
-ok_behind P Q (Ok s) next p q = q s p
-ok_behind P Q (Err e) next p q = tt
-
-ok_on : {E S T : Type 0} (P : S → Type 0) (Q : T → Type 0) (bytes : List ℕ) (o : Result S E) (next : S → Effect E T) → IfOk o P → ((s : S) → P s → IfOk (next s).outcome Q) → IfOk (going_on bytes o next).outcome Q
-ok_on P Q bytes (Ok s) next p q = q s p
-ok_on P Q bytes (Err e) next p q = tt
-
-ok_more : {E S : Type 0} (P Q : S → Type 0) (o : Result S E) → IfOk o P → ((s : S) → P s → Q s) → IfOk o Q
-ok_more P Q (Ok s) p q = q s p
-ok_more P Q (Err e) p q = tt
+use Rattle.ops_meaning.specs.Acting.{Setting, Doing, no_element, evaluated, made_fields, modified_fields, has_tag, cell_of, changed, next_element, added, removed, modified, made_by, made_last, cell_bound, bound, first_of, changes_told, action_done}
+use Rattle.ops_meaning.specs.Effects.{followed_by}
+use Rattle.ops_meaning.specs.Layout.{Apart}
+use Rattle.run_laws.specs.Finding.{is_bound, is_class, is_held, held_class, is_add, has_made, term_finds, is_single, put_finds, item_finds, action_finds, AllFind}
+use Rattle.run_laws.proofs.Evaluating.{KeepsValued, KeepsFilled, evaluated_keeps, made_keeps, over_keeps, items_keep}
+use Rattle.run_laws.proofs.Parts.{ok_behind, ok_on, ok_more, all_such}
+use Rattle.run_laws.proofs.Rooms.{single}
 
 -- ---- lists
 
@@ -82,13 +67,8 @@ all_within p [] n d h w = absurd (omega arith)
 all_within p (x ∷ xs) zero d h w = (and_parts (p x) (list_all p xs) h).0
 all_within p (x ∷ xs) (suc n) d h w = all_within p xs n d (and_parts (p x) (list_all p xs) h).1 (omega arith)
 
-all_at : {X : Type 0} (p : X → Bool) (xs : List X) (n : ℕ) (d : X) → list_all p xs ≡ true → nat_lt n (length xs) ≡ true → p (unwrap_or (slice_get xs n) d) ≡ true
+pub all_at : {X : Type 0} (p : X → Bool) (xs : List X) (n : ℕ) (d : X) → list_all p xs ≡ true → nat_lt n (length xs) ≡ true → p (unwrap_or (slice_get xs n) d) ≡ true
 all_at p xs n d h w = all_within p xs n d h (ltb-true n (length xs) w)
-
-all_such : {X : Type 0} (p q : X → Bool) → ((x : X) → p x ≡ true → q x ≡ true) → (xs : List X) → list_all p xs ≡ true → list_all q xs ≡ true
-all_such p q f [] h = refl
-all_such p q f (x ∷ xs) h =
-    let parts = and_parts (p x) (list_all p xs) h in and_from (q x) (list_all q xs) (f x parts.0) (all_such p q f xs parts.1)
 
 variables_such : (p q : ℕ → Bool) → ((v : ℕ) → p v ≡ true → q v ≡ true) → (f : Formula) → all_variables p f ≡ true → all_variables q f ≡ true
 variables_such p q f (number n) h = refl
@@ -154,7 +134,7 @@ module _ (classes : List Class) where
   -- ---- a valid action finds what it names
 
   module _ (k : Known) (d : Doing) (p : Knows k d) where
-    holds_there : (cell : ℕ) → is_cell k cell ≡ true → is_held classes d cell ≡ true
+    pub holds_there : (cell : ℕ) → is_cell k cell ≡ true → is_held classes d cell ≡ true
     holds_there cell within =
         let P : List ℕ → Type 0 = λ cs. nat_lt cell (length cs) ≡ true in
         let exists : nat_lt (unwrap_or (slice_get k.cells cell) 0) (length classes) ≡ true = all_at (λ c. nat_lt c (length classes)) k.cells cell 0 p.exist within in
@@ -163,7 +143,7 @@ module _ (classes : List Class) where
         and_from (is_some (slice_get d.cells cell)) (is_class classes (cell_of d cell).class) (cell_there d.cells cell (subst P (sym p.cells) within))
         (there classes (cell_of d cell).class (subst R (cell_class d.cells cell) (subst Q (sym p.cells) exists)))
 
-    same_class : (cell : ℕ) → class_of_cell classes k cell ≡ held_class classes d cell
+    pub same_class : (cell : ℕ) → class_of_cell classes k cell ≡ held_class classes d cell
     same_class cell =
         ap (λ cs. class_of classes (unwrap_or (slice_get cs cell) 0)) (sym p.cells) ∙ ap (class_of classes) (cell_class d.cells cell)
 
@@ -200,15 +180,6 @@ module _ (classes : List Class) where
     item_found (item.TabTo n) h = refl
     item_found (item.RightIn n) h = refl
 
-    single : (t : Term) → term_is_valid classes k false t ≡ true → is_single t ≡ true
-    single (term.Constant v) h = refl
-    single (term.Variable v) h = refl
-    single (term.Compute f) h = refl
-    single (term.One cell field) h = refl
-    single (term.Rest cell) h = absurd (cc)
-    single term.Fresh h = refl
-    single term.Accept h = refl
-
     made_found : (o : Option ℕ) → k.made ≡ o → is_some o ≡ true → has_made d ≡ true
     made_found None is h = absurd (cc)
     made_found (Some c) is h = (p.made c is).one
@@ -227,81 +198,13 @@ module _ (classes : List Class) where
         all_such (is_cell k) (is_held classes d) holds_there cells whole.1
     action_found (action.Write items) h =
         all_such (item_is_valid classes k) (item_finds classes d) item_found items (and_parts (fits items) (list_all (item_is_valid classes k) items) h).1
-    action_found (action.Bind v t) h = and_from (term_finds classes d t) (is_single t) (term_found false t h) (single t h)
+    action_found (action.Bind v t) h = and_from (term_finds classes d t) (is_single t) (term_found false t h) (single classes k t h)
     action_found (action.Cbind cell) h = made_found k.made refl (and_parts (is_some k.made) (cell == length k.cells) h).0
     action_found action.Halt h = refl
 
   -- ---- what a valid action leaves
 
   module _ (k : Known) where
-    abbrev KnowsIt : Doing → Type 0
-    KnowsIt d = Knows k d
-
-    abbrev KnowsValued : Valued → Type 0
-    KnowsValued v = Knows k v.doing
-
-    abbrev KnowsFilled : Filled → Type 0
-    KnowsFilled f = Knows k f.doing
-
-    computed_knows : (d : Doing) (c : Computed) → Knows k d → IfOk (computed_as d c) KnowsValued
-    computed_knows d (Ok v) p = p
-    computed_knows d (Err kind) p = tt
-
-    accepted_knows : (d : Doing) (r : Result Accepted AcceptFault) → Knows k d → IfOk (accepted_as d r) KnowsValued
-    accepted_knows d (Ok a) p = p
-    accepted_knows d (Err accept_fault.TooLong) p = tt
-    accepted_knows d (Err accept_fault.Read) p = tt
-    accepted_knows d (Err accept_fault.OutOfMemory) p = tt
-
-    evaluated_knows : (t : Term) (d : Doing) → Knows k d → IfOk (evaluated classes t d) KnowsValued
-    evaluated_knows (term.Constant v) d p = p
-    evaluated_knows (term.Variable v) d p = p
-    evaluated_knows (term.One cell field) d p = p
-    evaluated_knows (term.Rest cell) d p = p
-    evaluated_knows (term.Compute formula) d p = computed_knows d (computed (value_in d) formula) p
-    evaluated_knows term.Fresh d p = p
-    evaluated_knows term.Accept d p = accepted_knows d (accepted d.names d.coming) p
-
-    placed_knows : (d : Doing) (o : Option (List Value)) → Knows k d → IfOk (placed d o) KnowsFilled
-    placed_knows d (Some fields) p = p
-    placed_knows d None p = tt
-
-    terms_knows : (at : ℕ) (ts : List Term) (f : Filled) → KnowsFilled f → IfOk (terms_placed classes at ts f) KnowsFilled
-    terms_knows at [] f p = p
-    terms_knows at (t ∷ ts) f p =
-        ok_behind KnowsValued KnowsFilled (evaluated classes t f.doing) _ (evaluated_knows t f.doing p)
-        (λ v q. ok_behind KnowsFilled KnowsFilled (placed v.doing (values_placed at v.values f.fields)) (λ g. terms_placed classes (at + length v.values) ts g) (placed_knows v.doing (values_placed at v.values f.fields) q)
-        (λ g r. terms_knows (at + length v.values) ts g r))
-
-    made_knows : (c : Class) (puts : List Put) (f : Filled) → KnowsFilled f → IfOk (puts_made classes c puts f) KnowsFilled
-    made_knows c [] f p = p
-    made_knows c (x ∷ puts) f p =
-        ok_behind KnowsFilled KnowsFilled (terms_placed classes x.field x.terms (record f { fields = emptied c x.field f.fields })) (λ g. puts_made classes c puts g) (terms_knows x.field x.terms _ p)
-        (λ g q. made_knows c puts g q)
-
-    over_knows : (puts : List Put) (f : Filled) → KnowsFilled f → IfOk (puts_over classes puts f) KnowsFilled
-    over_knows [] f p = p
-    over_knows (x ∷ puts) f p =
-        ok_behind KnowsFilled KnowsFilled (terms_placed classes x.field x.terms f) (λ g. puts_over classes puts g) (terms_knows x.field x.terms f p)
-        (λ g q. over_knows puts g q)
-
-    item_knows : (lead : Lead) (column : ℕ) (x : Item) (d : Doing) → Knows k d → IfOk (item_done classes lead column x d).outcome KnowsIt
-    item_knows lead column (item.Print t) d p = by (evaluated classes t d) (evaluated_knows t d p)
-      where
-        by : (r : Result Valued Mishap) → IfOk r KnowsValued → IfOk (printed lead column r).outcome KnowsIt
-        by (Ok v) q = q
-        by (Err m) q = tt
-    item_knows lead column item.Crlf d p = p
-    item_knows lead column (item.TabTo n) d p = p
-    item_knows lead column (item.RightIn n) d p = p
-
-    items_know : (lead : Lead) (column : ℕ) (items : List Item) (d : Doing) → Knows k d → IfOk (items_done classes lead column items d).outcome KnowsIt
-    items_know lead column [] d p = p
-    items_know lead column (x ∷ items) d p =
-        let e = item_done classes lead column x d in
-        ok_on KnowsIt KnowsIt e.bytes e.outcome (λ d. items_done classes (lead_after x) (column_after column e.bytes) items d) (item_knows lead column x d p)
-        (λ d q. items_know (lead_after x) (column_after column e.bytes) items d q)
-
     removed_knows : (tag : ℕ) (d : Doing) → Knows k d → Knows k (removed d tag)
     removed_knows tag d p = by (has_tag d.wm tag)
       where
@@ -367,21 +270,21 @@ action_knows s column k (action.Make class puts) d p h =
     let parts = and_parts (nat_lt class (length s.classes)) (puts_are_valid s.classes k (class_of s.classes class) puts) h in
     let After : Doing → Type 0 = Knows s.classes (record k { made = Some class }) in
     ok_on After After [] (followed_by (made_fields s.classes (class_of s.classes class) puts d) (λ f. Ok (added f.doing class f.fields))) (changes_told s d (column_after column []))
-    (ok_behind (KnowsFilled s.classes k) After (made_fields s.classes (class_of s.classes class) puts d) (λ f. Ok (added f.doing class f.fields))
-    (made_knows s.classes k (class_of s.classes class) puts _ p) (λ f q. added_knows s.classes k f.doing class f.fields parts.0 q))
+    (ok_behind (KeepsFilled (Holds s.classes k) s.classes) After (made_fields s.classes (class_of s.classes class) puts d) (λ f. Ok (added f.doing class f.fields))
+    (made_keeps (Holds s.classes k) s.classes (class_of s.classes class) puts _ p) (λ f q. added_knows s.classes k f.doing class f.fields parts.0 q))
     (λ d q. q)
 action_knows s column k (action.Modify cell puts) d p h =
     let parts = and_parts (is_cell k cell) (puts_are_valid s.classes k (class_of_cell s.classes k cell) puts) h in
     let After : Doing → Type 0 = Knows s.classes (record k { made = slice_get k.cells cell }) in
     ok_on After After [] (followed_by (modified_fields s.classes puts cell d) (λ f. Ok (modified f.doing cell f.fields))) (changes_told s d (column_after column []))
-    (ok_behind (KnowsFilled s.classes k) After (modified_fields s.classes puts cell d) (λ f. Ok (modified f.doing cell f.fields))
-    (over_knows s.classes k puts _ p) (λ f q. modified_knows s.classes k f.doing cell f.fields parts.0 q))
+    (ok_behind (KeepsFilled (Holds s.classes k) s.classes) After (modified_fields s.classes puts cell d) (λ f. Ok (modified f.doing cell f.fields))
+    (over_keeps (Holds s.classes k) s.classes puts _ p) (λ f q. modified_knows s.classes k f.doing cell f.fields parts.0 q))
     (λ d q. q)
 action_knows s column k (action.Remove cells) d p h = all_removed s.classes k cells d p
-action_knows s column k (action.Write items) d p h = items_know s.classes k Apart column items d p
+action_knows s column k (action.Write items) d p h = items_keep (Holds s.classes k) s.classes Apart column items d p
 action_knows s column k (action.Bind v t) d p h =
-    ok_behind (KnowsValued s.classes k) (Knows s.classes (known_after k (action.Bind v t))) (evaluated s.classes t d) (λ w. Ok (bound w.doing v (first_of w.values)))
-    (evaluated_knows s.classes k t d p) (λ w q. bound_knows s.classes k w.doing v (first_of w.values) q)
+    ok_behind (KeepsValued (Holds s.classes k) s.classes) (Knows s.classes (known_after k (action.Bind v t))) (evaluated s.classes t d) (λ w. Ok (bound w.doing v (first_of w.values)))
+    (evaluated_keeps (Holds s.classes k) s.classes t d p) (λ w q. bound_knows s.classes k w.doing v (first_of w.values) q)
 action_knows s column k (action.Cbind cell) d p h =
     cbound_knows s.classes k d k.made refl (and_parts (is_some k.made) (cell == length k.cells) h).0 p
 action_knows s column k action.Halt d p h = record { variables = p.variables; cells = p.cells; exist = p.exist; made = p.made }

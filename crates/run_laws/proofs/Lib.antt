@@ -4,3 +4,8 @@ pub mod Shown
 pub mod Rankings
 pub mod Knowing
 pub mod Sights
+pub mod Rooms
+pub mod Evaluating
+pub mod Parts
+pub mod Wholes
+pub mod Sessions

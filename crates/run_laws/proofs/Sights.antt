@@ -121,7 +121,7 @@ walk_found classes wm (c ∷ cs) s ps h v =
 
 -- ---- valid productions
 
-each_at : {X : Type 0} (p : X → Bool) (xs : List X) (k : ℕ) (x : X) → list_all p xs ≡ true → slice_get xs k ≡ Some x → p x ≡ true
+pub each_at : {X : Type 0} (p : X → Bool) (xs : List X) (k : ℕ) (x : X) → list_all p xs ≡ true → slice_get xs k ≡ Some x → p x ≡ true
 each_at p [] k x h at = absurd (cc)
 each_at p (y ∷ xs) zero x h at = let same : y ≡ x = cc in ap p (sym same) ∙ (and_parts (p y) (list_all p xs) h).0
 each_at p (y ∷ xs) (suc k) x h at = each_at p xs k x (and_parts (p y) (list_all p xs) h).1 at
@@ -130,7 +130,7 @@ rule_valid : (classes : List Class) (rules : List Rule) (commands : List Command
 rule_valid classes rules commands text k r h at =
     each_at (rule_is_valid classes text) rules k r (and_parts _ _ (and_parts _ _ (and_parts _ _ (and_parts _ _ h).0).0).0).1 at
 
-sides_valid : (classes : List Class) (text : ℕ) (r : Rule) → rule_is_valid classes text r ≡ true → (conditions_are_valid classes nothing_in_sight r.conditions ≡ true) × (actions_are_valid classes (known_of r.conditions) r.actions ≡ true)
+pub sides_valid : (classes : List Class) (text : ℕ) (r : Rule) → rule_is_valid classes text r ≡ true → (conditions_are_valid classes nothing_in_sight r.conditions ≡ true) × (actions_are_valid classes (known_of r.conditions) r.actions ≡ true)
 sides_valid classes text r h =
     let fifth = (and_parts _ _ (and_parts _ _ (and_parts _ _ (and_parts _ _ (and_parts _ _ h).0).0).0).0).0 in
     let third = (and_parts _ _ (and_parts _ _ fifth).0).0 in
@@ -155,7 +155,7 @@ cells_there classes s (c ∷ cs) h =
     by false here rest = and_from _ _ here rest
 
 -- what is known where the right side of an instantiation begins is so
-begun_knows : (s : Setting) (g : Given) (i : Inst) (r : Rule) → HasRisingTags g.wm → conditions_of s.rules i.rule ≡ r.conditions → conditions_are_valid s.classes nothing_in_sight r.conditions ≡ true
+pub begun_knows : (s : Setting) (g : Given) (i : Inst) (r : Rule) → HasRisingTags g.wm → conditions_of s.rules i.rule ≡ r.conditions → conditions_are_valid s.classes nothing_in_sight r.conditions ≡ true
     → (q : Partial) → IsMember q (matches_of g.wm r.conditions) → q.tags ≡ i.tags → Holds s.classes (known_of r.conditions) (begun s i g).bindings (begun s i g).cells []
 begun_knows s g i r rising same valid q m t =
     let w = whole_match g.wm rising r.conditions q m in

@@ -1,5 +1,7 @@
 pub mod Beginning
 pub mod Ending
 pub mod Finding
+pub mod Elements
+pub mod Firings
 pub mod Patterns
 pub mod Ranking

@@ -1,5 +1,5 @@
 //! What holds of each program by the definitions of running: the contracts of functions that do nothing.
-ghost use Rattle.std.specs.Prelude.{◌≡◌, ℕ, List, [], ◌∷◌, slice_get, Some, Option, Bool, if◌then◌else◌, None, length, Contains, IsTrue};
+ghost use Rattle.std.specs.Prelude.{◌≡◌, ℕ, List, [], ◌∷◌, slice_get, Some, Option, Bool, if◌then◌else◌, None, length, Contains, IsTrue, IfOk};
 ghost use Rattle.ops_base.specs.declared.commands.Command.{Command};
 ghost use Rattle.ops_base.specs.declared.commands.Fixed.{Fixed};
 ghost use Rattle.ops_base.specs.declared.elements.Element.{Element};
@@ -15,8 +15,10 @@ ghost use Rattle.ops_io.specs.Coming.{Coming};
 ghost use Rattle.ops_meaning.specs.Acting.{Setting, Given, actions_of, begun};
 ghost use Rattle.ops_meaning.specs.Running.{Course, Session, command_done, element_lines, ending_of, lists, meets, session_of, standing_by};
 ghost use Rattle.run_laws.specs.Beginning.{BeginsAsMatched};
+ghost use Rattle.run_laws.specs.Elements.{AreWhole};
 ghost use Rattle.run_laws.specs.Ending.{IsOfSession};
 ghost use Rattle.run_laws.specs.Finding.{AllFind, WalkFinds};
+ghost use Rattle.run_laws.specs.Firings.{EachFiring, FindsAll};
 ghost use Rattle.run_laws.specs.Patterns.{condition_with, meeting};
 ghost use Rattle.run_laws.specs.Ranking.{IsRanking};
 
@@ -66,4 +68,14 @@ pub fn right_sides_find_what_they_name()
         → IsTrue (is_valid s.classes s.rules commands (length s.text))
         → HasRisingTags g.wm → Contains (conflict_set s.rules g.wm) i
         → AllFind s column (actions_of s.rules i.rule) (begun s i g) }
+{}
+
+/// In each firing of a session of a valid program the elements of working memory have just the fields of their classes, and
+/// the right side begins as matched and finds all that it names. A session that comes to its end leaves such elements.
+pub fn firings_find_what_they_name()
+    ensures firings { (s : Setting) (limit : ℕ) (commands : List Command) (names : Spellings) (coming : Coming)
+        → IsTrue (is_valid s.classes s.rules commands (length s.text)) → EachFiring FindsAll s limit commands names coming }
+    ensures elements { (s : Setting) (limit : ℕ) (commands : List Command) (names : Spellings) (coming : Coming)
+        → IsTrue (is_valid s.classes s.rules commands (length s.text))
+        → IfOk (session_of s limit commands names coming).outcome (λ k. AreWhole s.classes k.course.wm) }
 {}

@@ -1,0 +1,285 @@
+-- In each firing of a session of a valid program the elements are whole, and the right side finds all that it names.
+use Rattle.std.proofs.Common.{◌≡◌, ℕ, zero, suc, ◌+◌, ◌-◌, List, [], ◌∷◌, map, length, Bool, true, false, cond, ◌&&◌, Option, Some, None, IfOk, refl, ap, sym, subst, inl, inr, nat_lt, unwrap_or, option_map, arith}
+use Rattle.std.specs.Prelude.{Contains, MatchOption}
+use Rattle.std.specs.Bool.{MatchBool}
+use Rattle.std.specs.List.{list_all}
+use Rattle.std.proofs.lemmas.Bool.{and_parts}
+use Rattle.std.proofs.lemmas.List.Elements.{All-nil}
+use Rattle.ops_base.specs.declared.actions.Action.{Action}
+use Rattle.ops_base.specs.declared.commands.Command.{Command}
+use Rattle.ops_base.specs.declared.commands.Command.TheVariants as command
+use Rattle.ops_base.specs.declared.commands.Fixed.{Fixed}
+use Rattle.ops_base.specs.declared.commands.Strategy.{Strategy}
+use Rattle.ops_base.specs.declared.elements.Change.TheVariants as change
+use Rattle.ops_base.specs.declared.elements.Class.{Class}
+use Rattle.ops_base.specs.declared.elements.Element.{Element}
+use Rattle.ops_base.specs.declared.endings.Ending.{Ending}
+use Rattle.ops_base.specs.declared.rules.Inst.{Inst}
+use Rattle.ops_base.specs.declared.rules.Rule.{Rule}
+use Rattle.ops_base.specs.declared.values.Sym.{Sym}
+use Rattle.ops_base.specs.ConflictSet.{conflict_set}
+use Rattle.ops_base.specs.Names.{Spellings}
+use Rattle.ops_base.specs.Refraction.{unfired, IsDominant}
+use Rattle.ops_base.specs.Valid.{class_of, no_class, class_is_valid, rule_is_valid, command_is_valid, fits, fixed_is_valid, fixed_are_valid, actions_are_valid, known_of, is_valid}
+use Rattle.ops_base.specs.WorkingMemory.{tags_of, without_tag}
+use Rattle.ops_base.proofs.ConflictSetLaws.{conflict_set-is}
+use Rattle.ops_base.proofs.DominanceLaws.{dominant_is}
+use Rattle.ops_base.proofs.Members.{IsMember, all_from_members}
+use Rattle.ops_base.proofs.RefractionLaws.{member-unfired}
+use Rattle.ops_base.proofs.WalkFinds.{meets-matches_of}
+use Rattle.ops_io.specs.Coming.{Coming}
+use Rattle.ops_io.specs.Output.{column_after}
+use Rattle.ops_meaning.specs.Acting.{Setting, Given, Acted, acted, actions_of, actions_done, conditions_of, elements_of, left_by, has_tag}
+use Rattle.ops_meaning.specs.Acting as acting
+use Rattle.ops_meaning.specs.Effects.{Effect, writes, and_then}
+use Rattle.ops_meaning.specs.Kept.{WellKept, IsLawfulOver}
+use Rattle.ops_meaning.specs.Layout.{firing_bytes}
+use Rattle.ops_meaning.specs.Running.{Course, Turned, Session, LastFiring, begun, turn, line_of_pause, last_of, one_less, given_by, ended_in, turned_of, with_course, element_made, removals, strategy_given, level_given, breaks_given, is_exit, firing, run_on, next_to_fire, command_done, commands_done, session_of}
+use Rattle.ops_meaning.proofs.Lawful.{added_kept, kept_after, removals_lawful, removals_last, clearing_lawful, clearing_last}
+use Rattle.ops_meaning.proofs.RisingTags.{acts_lawfully}
+use Rattle.run_laws.specs.Elements.{IsWhole, AreWhole}
+use Rattle.run_laws.specs.Finding.{AllFind}
+use Rattle.run_laws.specs.Firings.{IfGoesOn, EachOfRun, EachOfCommand, EachOfCommands, EachFiring, FindsAll}
+use Rattle.run_laws.proofs.Beginnings.{begins_as_matched, whole_match}
+use Rattle.run_laws.proofs.Knowing.{Holds, there, all_at, actions_find}
+use Rattle.run_laws.proofs.Parts.{ok_on, ok_as, ok_more, ok_both}
+use Rattle.run_laws.proofs.Rooms.{fits_class, fixed_fields_room}
+use Rattle.run_laws.proofs.Sights.{each_at, sides_valid, begun_knows}
+use Rattle.run_laws.proofs.Wholes.{EachWhole, MakesWhole, Wholes, AreWholes, one_more, done_whole, actions_whole}
+
+-- what is valid of a setting: its classes, and both sides of its rules
+pub record IsSound (s : Setting) : Type 0 where
+  classes : list_all class_is_valid s.classes ≡ true
+  rules : list_all (rule_is_valid s.classes (length s.text)) s.rules ≡ true
+
+-- working memory is well kept, and its elements are whole
+record IsGood (s : Setting) (m : Course) : Type 0 where
+  kept : WellKept m.wm m.last
+  whole : EachWhole s.classes m.wm
+
+all_whole : (s : Setting) (m : Course) → IsGood s m → AreWhole s.classes m.wm
+all_whole s m g = all_from_members (IsWhole s.classes) m.wm g.whole
+
+-- ---- a firing
+
+-- what is next is of the conflict set
+next_there : (s : Setting) (m : Course) (i : Inst) → next_to_fire s.rules m ≡ Some i → Contains (conflict_set s.rules m.wm) i
+next_there s m i is = by (next_to_fire s.rules m) (dominant_is m.strategy s.rules (unfired (conflict_set s.rules m.wm) m.fired)) is
+  where
+    by : (o : Option Inst) → MatchOption o (unfired (conflict_set s.rules m.wm) m.fired ≡ []) (λ i. IsDominant m.strategy s.rules (unfired (conflict_set s.rules m.wm) m.fired) i) → o ≡ Some i → Contains (conflict_set s.rules m.wm) i
+    by None p is = absurd (cc)
+    by (Some j) p is =
+        let same : j ≡ i = cc in
+        let P : Inst → Type 0 = Contains (conflict_set s.rules m.wm) in
+        subst P same ((member-unfired (conflict_set s.rules m.wm) m.fired j).0 p.member).0
+
+-- what holds where the right side of an instantiation begins
+record Beginning (s : Setting) (m : Course) (i : Inst) : Type 0 where
+  rule : Rule
+  actions : actions_of s.rules i.rule ≡ rule.actions
+  valid : actions_are_valid s.classes (known_of rule.conditions) rule.actions ≡ true
+  knows : Holds s.classes (known_of rule.conditions) (acting.begun s i (given_by m)).bindings (acting.begun s i (given_by m)).cells []
+  cells : EachWhole s.classes (acting.begun s i (given_by m)).cells
+
+beginning : (s : Setting) (m : Course) (i : Inst) → IsSound s → IsGood s m → Contains (conflict_set s.rules m.wm) i → Beginning s m i
+beginning s m i sound good in_set =
+    let is = (conflict_set-is s.rules m.wm good.kept.0).sound i in_set in
+    let r = is.0 in
+    let sides = sides_valid s.classes (length s.text) r (each_at (rule_is_valid s.classes (length s.text)) s.rules i.rule r sound.rules is.1) in
+    let conditions : conditions_of s.rules i.rule ≡ r.conditions = ap (λ o. unwrap_or (option_map (λ (r : Rule). r.conditions) o) []) is.1 in
+    let f = meets-matches_of m.wm r.conditions i.tags is.2 in
+    let w = whole_match m.wm good.kept.0 r.conditions f.0 f.1 in
+    let P : List ℕ → Type 0 = λ ts. (e : Element) → IsMember e (elements_of m.wm ts) → IsMember e m.wm in
+    let among = subst P f.2 w.elements in
+    record {
+      rule = r;
+      actions = ap (λ o. unwrap_or (option_map (λ (r : Rule). r.actions) o) []) is.1;
+      valid = sides.1;
+      knows = begun_knows s (given_by m) i r good.kept.0 conditions sides.0 f.0 f.1 f.2;
+      cells = λ e k. good.whole e (among e k);
+    }
+
+-- where the right side of a firing begins to write
+abbrev start_column : Setting → ℕ → Inst → Course → ℕ
+start_column s column i m =
+    column_after column (firing_bytes s.watch column m.names s.rules (m.firings + 1) i)
+
+finds_all : (s : Setting) (column : ℕ) (i : Inst) (m : Course) → IsSound s → IsGood s m → Contains (conflict_set s.rules m.wm) i → FindsAll s column i m
+finds_all s column i m sound good in_set =
+    let b = beginning s m i sound good in_set in
+    let P : List Action → Type 0 = λ as_. AllFind s (start_column s column i m) as_ (acting.begun s i (given_by m)) in
+    record {
+      whole = all_whole s m good;
+      begins = begins_as_matched s (given_by m) i good.kept.0 in_set;
+      finds = subst P (sym b.actions) (actions_find s (start_column s column i m) (known_of b.rule.conditions) b.rule.actions (acting.begun s i (given_by m)) b.knows b.valid);
+    }
+
+acted_whole : (s : Setting) (column : ℕ) (i : Inst) (m : Course) → IsSound s → IsGood s m → Contains (conflict_set s.rules m.wm) i → IfOk (acted s column i (given_by m)).outcome (λ a. MakesWhole s.classes a.changes)
+acted_whole s column i m sound good in_set =
+    let b = beginning s m i sound good in_set in
+    let start = acting.begun s i (given_by m) in
+    let P : List Action → Type 0 = λ as_. IfOk (actions_done s column 1 as_ start).outcome (AreWholes s.classes sound.classes) in
+    let w : Wholes s.classes start.cells [] = record { cells = b.cells; made = λ e m. absurd m } in
+    ok_as (AreWholes s.classes sound.classes) (λ (a : Acted). MakesWhole s.classes a.changes) left_by (λ f. f) (actions_done s column 1 (actions_of s.rules i.rule) start).outcome
+    (subst P (sym b.actions) (actions_whole s sound.classes column 1 (known_of b.rule.conditions) b.rule.actions start b.knows w b.valid))
+    (λ d q. q.made)
+
+firing_good : (s : Setting) (column : ℕ) (i : Inst) (m : Course) → IsSound s → IsGood s m → Contains (conflict_set s.rules m.wm) i → IfOk (firing s column i m).outcome (λ t. IsGood s t.course)
+firing_good s column i m sound good in_set =
+    let behind = start_column s column i m in
+    let a = acted s behind i (given_by m) in
+    let P : Acted → Type 0 = λ a. IsLawfulOver m.wm m.last a × MakesWhole s.classes a.changes in
+    ok_as P (λ (t : Turned). IsGood s t.course) (turned_of s.rules i m) (ended_in (m.firings + 1) i.rule) a.outcome
+    (ok_both (IsLawfulOver m.wm m.last) (λ (a : Acted). MakesWhole s.classes a.changes) a.outcome (acts_lawfully s behind i (given_by m) good.kept) (acted_whole s behind i m sound good in_set))
+    (λ a q. let lawful = q.0 in record { kept = lawful.kept; whole = done_whole s.classes m.wm a.changes good.whole q.1 })
+
+-- ---- a run
+
+turn_good : (s : Setting) (column : ℕ) (line : Option (List ℕ)) (m : Course) (next : Option Inst) (go_on : Inst → Effect Ending Course) (Q : Inst → Type 0) → IsGood s m
+    → ((i : Inst) → next ≡ Some i → Q i × IfOk (go_on i).outcome (IsGood s)) → IfGoesOn line next Q × IfOk (turn column line m next go_on).outcome (IsGood s)
+turn_good s column (Some line) m next go_on Q good on = (tt, good)
+turn_good s column None m None go_on Q good on = (tt, good)
+turn_good s column None m (Some i) go_on Q good on = on i refl
+
+run_good : (left : ℕ) (s : Setting) (breaks : List Bool) (column : ℕ) (last : Option LastFiring) (count : Option ℕ) (m : Course) → IsSound s → IsGood s m
+    → EachOfRun FindsAll left s breaks column last count m × IfOk (run_on left s breaks column last count m).outcome (IsGood s)
+run_good zero s breaks column last count m sound good =
+    (tt, (turn_good s column (line_of_pause m.names s.rules breaks last count) m (next_to_fire s.rules m) _ (λ i. Unit {0}) good (λ i is. (tt, tt))).1)
+run_good (suc left) s breaks column last count m sound good =
+    turn_good s column (line_of_pause m.names s.rules breaks last count) m (next_to_fire s.rules m) _ _ good
+    (λ i is.
+    let in_set = next_there s m i is in
+    let e = firing s column i m in
+    let Good : Turned → Type 0 = λ t. IsGood s t.course in
+    let rest : Turned → Type 0 = λ t. EachOfRun FindsAll left s breaks (column_after column e.bytes) (last_of i t) (one_less count) t.course in
+    let one = firing_good s column i m sound good in_set in (
+      (
+        finds_all s column i m sound good in_set,
+        ok_more Good rest e.outcome one (λ t g. (run_good left s breaks (column_after column e.bytes) (last_of i t) (one_less count) t.course sound g).0),
+      ),
+      ok_on Good (IsGood s) e.bytes e.outcome (λ t. run_on left s breaks (column_after column e.bytes) (last_of i t) (one_less count) t.course) one
+          (λ t g. (run_good left s breaks (column_after column e.bytes) (last_of i t) (one_less count) t.course sound g).1),
+    ))
+
+-- ---- commands
+
+removals_make : (classes : List Class) (wm : List Element) (tags : List ℕ) → MakesWhole classes (removals wm tags)
+removals_make classes wm [] = λ e m. absurd m
+removals_make classes wm (t ∷ ts) = by (has_tag wm t) (removals_make classes (without_tag t wm) ts) (removals_make classes wm ts)
+  where
+    by : (b : Bool) → MakesWhole classes (removals (without_tag t wm) ts) → MakesWhole classes (removals wm ts)
+        → MakesWhole classes (cond b (change.Remove t ∷ removals (without_tag t wm) ts) (removals wm ts))
+    by true one none = λ e m. first e m
+      where
+        first : (e : Element) → IsMember (change.Add e) (change.Remove t ∷ removals (without_tag t wm) ts) → IsWhole classes e
+        first e (inl same) = absurd (cc)
+        first e (inr m) = one e m
+    by false one none = none
+
+clearing_make : (classes : List Class) (tags : List ℕ) → MakesWhole classes (map change.Remove tags)
+clearing_make classes [] e m = absurd m
+clearing_make classes (t ∷ ts) e (inl same) = absurd (cc)
+clearing_make classes (t ∷ ts) e (inr m) = clearing_make classes ts e m
+
+-- the element that a valid command makes is whole
+made_whole : (s : Setting) (class : ℕ) (puts : List Fixed) (m : Course) → IsSound s → fixed_are_valid s.classes class puts ≡ true → IsWhole s.classes (element_made s.classes class puts m)
+made_whole s class puts m sound h =
+    let whole = and_parts (nat_lt class (length s.classes) && fits puts) (list_all (fixed_is_valid (class_of s.classes class)) puts) h in
+    let front = and_parts (nat_lt class (length s.classes)) (fits puts) whole.0 in
+    record {
+      class = there s.classes class front.0;
+      fields = fixed_fields_room (class_of s.classes class) puts (fits_class (class_of s.classes class) (all_at class_is_valid s.classes class no_class sound.classes front.0)) whole.1;
+    }
+
+module _ (s : Setting) (sound : IsSound s) (limit : ℕ) where
+  abbrev GoodSession : Session → Type 0
+  GoodSession k = IsGood s k.course
+
+  strategy_good : (column : ℕ) (set : Option Strategy) (k : Session) → GoodSession k → IfOk (strategy_given column set k).outcome GoodSession
+  strategy_good column None k g = g
+  strategy_good column (Some x) k g = record { kept = g.kept; whole = g.whole }
+
+  level_good : (column : ℕ) (set : Option ℕ) (k : Session) → GoodSession k → IfOk (level_given column set k).outcome GoodSession
+  level_good column None k g = g
+  level_good column (Some n) k g = g
+
+  breaks_good : (column : ℕ) (names : List Sym) (k : Session) → GoodSession k → IfOk (breaks_given s column names k).outcome GoodSession
+  breaks_good column [] k g = g
+  breaks_good column (n ∷ ns) k g = g
+
+  command_good : (column : ℕ) (c : Command) (k : Session) → command_is_valid s.classes c ≡ true → GoodSession k → EachOfCommand FindsAll s limit column c k × IfOk (command_done s limit column c k).outcome GoodSession
+  command_good column (command.Make class puts) k h g =
+      let e = element_made s.classes class puts k.course in
+      (tt, record { kept = added_kept k.course.wm k.course.last e (omega arith) g.kept; whole = one_more s.classes k.course.wm e g.whole (made_whole s class puts k.course sound h) })
+  command_good column (command.Remove tags) k h g = (
+    tt,
+    record {
+      kept = kept_after k.course.wm k.course.last (removals k.course.wm tags) g.kept (removals_lawful k.course.wm k.course.last tags) (removals_last k.course.wm k.course.last tags);
+      whole = done_whole s.classes k.course.wm (removals k.course.wm tags) g.whole (removals_make s.classes k.course.wm tags);
+    },
+  )
+  command_good column command.RemoveAll k h g = (
+    tt,
+    record {
+      kept = kept_after k.course.wm k.course.last (map change.Remove (tags_of k.course.wm)) g.kept (clearing_lawful k.course.wm k.course.last g.kept.0) (clearing_last k.course.last (tags_of k.course.wm));
+      whole = done_whole s.classes k.course.wm (map change.Remove (tags_of k.course.wm)) g.whole (clearing_make s.classes (tags_of k.course.wm));
+    },
+  )
+  command_good column (command.Run count) k h g =
+      let at : Setting = record s { watch = k.watch } in
+      let sound_at : IsSound at = record { classes = sound.classes; rules = sound.rules } in
+      let good_at : IsGood at k.course = record { kept = g.kept; whole = g.whole } in
+      let r = run_good (limit - k.course.firings) at k.breaks column None count k.course sound_at good_at in
+      (r.0, ok_as (IsGood at) GoodSession (with_course k) (λ e. e) (run_on (limit - k.course.firings) at k.breaks column None count k.course).outcome r.1 (λ m q. record { kept = q.kept; whole = q.whole }))
+  command_good column (command.Wm tags) k h g = (tt, g)
+  command_good column (command.Ppwm pattern) k h g = (tt, g)
+  command_good column command.Cs k h g = (tt, g)
+  command_good column (command.Pm names) k h g = (tt, g)
+  command_good column (command.Strategy set) k h g = (tt, strategy_good column set k g)
+  command_good column (command.Watch set) k h g = (tt, level_good column set k g)
+  command_good column (command.Pbreak names) k h g = (tt, breaks_good column names k g)
+  command_good column command.Exit k h g = (tt, g)
+
+  commands_good : (column : ℕ) (commands : List Command) (k : Session) → list_all (command_is_valid s.classes) commands ≡ true → GoodSession k
+      → EachOfCommands FindsAll s limit column commands k × IfOk (commands_done s limit column commands k).outcome GoodSession
+  commands_good column [] k h g = (tt, g)
+  commands_good column (c ∷ rest) k h g =
+      let parts = and_parts (command_is_valid s.classes c) (list_all (command_is_valid s.classes) rest) h in
+      let e = command_done s limit column c k in
+      let one = command_good column c k parts.0 g in
+      let More : Session → Type 0 = λ next. EachOfCommands FindsAll s limit (column_after column e.bytes) rest next in
+      by (is_exit c)
+      (one.0, ok_more GoodSession More e.outcome one.1 (λ next q. (commands_good (column_after column e.bytes) rest next parts.1 q).0))
+      (ok_on GoodSession GoodSession e.bytes e.outcome (λ next. commands_done s limit (column_after column e.bytes) rest next) one.1
+      (λ next q. (commands_good (column_after column e.bytes) rest next parts.1 q).1))
+    where
+      by : (b : Bool) → (let e = command_done s limit column c k in EachOfCommand FindsAll s limit column c k × IfOk e.outcome (λ next. EachOfCommands FindsAll s limit (column_after column e.bytes) rest next))
+          → IfOk (and_then column (command_done s limit column c k) (λ next k. commands_done s limit next rest k)).outcome GoodSession
+          → MatchBool b (Unit {0}) (let e = command_done s limit column c k in EachOfCommand FindsAll s limit column c k × IfOk e.outcome (λ next. EachOfCommands FindsAll s limit (column_after column e.bytes) rest next))
+          × IfOk (cond b (writes [] k) (and_then column (command_done s limit column c k) (λ next k. commands_done s limit next rest k))).outcome GoodSession
+      by true each rest = (tt, g)
+      by false each rest = (each, rest)
+
+-- ---- a session
+
+sound_setting : (s : Setting) (commands : List Command) → is_valid s.classes s.rules commands (length s.text) ≡ true → IsSound s × (list_all (command_is_valid s.classes) commands ≡ true)
+sound_setting s commands h =
+    let seventh = (and_parts _ _ (and_parts _ _ h).0).0 in
+    let sixth = and_parts _ _ (and_parts _ _ seventh).0 in
+    (record { classes = (and_parts _ _ sixth.0).1; rules = sixth.1 }, (and_parts _ _ seventh).1)
+
+session_good : (s : Setting) (limit : ℕ) (commands : List Command) (names : Spellings) (coming : Coming) → is_valid s.classes s.rules commands (length s.text) ≡ true
+    → EachFiring FindsAll s limit commands names coming × IfOk (session_of s limit commands names coming).outcome (λ k. IsGood s k.course)
+session_good s limit commands names coming h =
+    let valid = sound_setting s commands h in
+    commands_good s valid.0 limit 0 commands (begun s.rules names coming) valid.1
+    (record { kept = (λ k within. absurd (omega arith), All-nil _); whole = λ e m. absurd m })
+
+pub each_firing_finds : (s : Setting) (limit : ℕ) (commands : List Command) (names : Spellings) (coming : Coming) → is_valid s.classes s.rules commands (length s.text) ≡ true → EachFiring FindsAll s limit commands names coming
+each_firing_finds s limit commands names coming h = (session_good s limit commands names coming h).0
+
+pub session_whole : (s : Setting) (limit : ℕ) (commands : List Command) (names : Spellings) (coming : Coming) → is_valid s.classes s.rules commands (length s.text) ≡ true
+    → IfOk (session_of s limit commands names coming).outcome (λ k. AreWhole s.classes k.course.wm)
+session_whole s limit commands names coming h =
+    ok_more (λ (k : Session). IsGood s k.course) (λ (k : Session). AreWhole s.classes k.course.wm) (session_of s limit commands names coming).outcome
+    (session_good s limit commands names coming h).1 (λ k g. all_whole s k.course g)

@@ -1,0 +1,55 @@
+-- What holds of each firing of a session.
+use Rattle.std.specs.Prelude.{ℕ, zero, suc, ◌+◌, ◌-◌, List, [], ◌∷◌, Bool, Option, Some, None, IfOk}
+use Rattle.std.specs.Bool.{MatchBool}
+use Rattle.ops_base.specs.declared.commands.Command.{Command}
+use Rattle.ops_base.specs.declared.commands.Command.TheVariants as command
+use Rattle.ops_base.specs.declared.rules.Inst.{Inst}
+use Rattle.ops_base.specs.Names.{Spellings}
+use Rattle.ops_io.specs.Coming.{Coming}
+use Rattle.ops_io.specs.Output.{column_after}
+use Rattle.ops_meaning.specs.Acting.{Setting, actions_of}
+use Rattle.ops_meaning.specs.Acting as acting
+use Rattle.ops_meaning.specs.Layout.{firing_bytes}
+use Rattle.ops_meaning.specs.Running.{Course, Session, LastFiring, begun, command_done, firing, given_by, is_exit, last_of, line_of_pause, next_to_fire, one_less}
+use Rattle.run_laws.specs.Beginning.{BeginsAsMatched}
+use Rattle.run_laws.specs.Elements.{AreWhole}
+use Rattle.run_laws.specs.Finding.{AllFind}
+
+-- of what is next, where the run goes on
+abbrev pub IfGoesOn : Option (List ℕ) → Option Inst → (Inst → Type 0) → Type 0
+IfGoesOn (Some line) next P = Unit {0}
+IfGoesOn None None P = Unit {0}
+IfGoesOn None (Some i) P = P i
+
+-- P holds of each firing of a run: with its setting, of the column at which it begins, of the instantiation that fires,
+-- and of the course that it finds.
+abbrev pub EachOfRun : (Setting → ℕ → Inst → Course → Type 0) → ℕ → Setting → List Bool → ℕ → Option LastFiring → Option ℕ → Course → Type 0
+EachOfRun P zero s breaks column last count m = Unit {0}
+EachOfRun P (suc left) s breaks column last count m =
+    IfGoesOn (line_of_pause m.names s.rules breaks last count) (next_to_fire s.rules m)
+    (λ i. let e = firing s column i m in
+    P s column i m
+    × IfOk e.outcome (λ t. EachOfRun P left s breaks (column_after column e.bytes) (last_of i t) (one_less count) t.course))
+
+abbrev pub EachOfCommand : (Setting → ℕ → Inst → Course → Type 0) → Setting → ℕ → ℕ → Command → Session → Type 0
+EachOfCommand P s limit column (command.Run count) k =
+    EachOfRun P (limit - k.course.firings) (record s { watch = k.watch }) k.breaks column None count k.course
+EachOfCommand P s limit column _ k = Unit {0}
+
+abbrev pub EachOfCommands : (Setting → ℕ → Inst → Course → Type 0) → Setting → ℕ → ℕ → List Command → Session → Type 0
+EachOfCommands P s limit column [] k = Unit {0}
+EachOfCommands P s limit column (c ∷ rest) k =
+    MatchBool (is_exit c) (Unit {0})
+    (let e = command_done s limit column c k in
+    EachOfCommand P s limit column c k
+    × IfOk e.outcome (λ next. EachOfCommands P s limit (column_after column e.bytes) rest next))
+
+-- P holds of each firing of a session.
+abbrev pub EachFiring : (Setting → ℕ → Inst → Course → Type 0) → Setting → ℕ → List Command → Spellings → Coming → Type 0
+EachFiring P s limit commands names coming = EachOfCommands P s limit 0 commands (begun s.rules names coming)
+
+-- In a firing the elements of working memory are whole, and the right side begins as matched and finds all that it names.
+pub record FindsAll (s : Setting) (column : ℕ) (i : Inst) (m : Course) : Type 0 where
+  pub whole : AreWhole s.classes m.wm
+  pub begins : BeginsAsMatched s (given_by m) i
+  pub finds : AllFind s (column_after column (firing_bytes s.watch column m.names s.rules (m.firings + 1) i)) (actions_of s.rules i.rule) (acting.begun s i (given_by m))
