@@ -9,3 +9,4 @@ pub mod Evaluating
 pub mod Parts
 pub mod Wholes
 pub mod Sessions
+pub mod Ordered

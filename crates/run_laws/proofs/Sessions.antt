@@ -262,7 +262,7 @@ module _ (s : Setting) (sound : IsSound s) (limit : ℕ) where
 
 -- ---- a session
 
-sound_setting : (s : Setting) (commands : List Command) → is_valid s.classes s.rules commands (length s.text) ≡ true → IsSound s × (list_all (command_is_valid s.classes) commands ≡ true)
+pub sound_setting : (s : Setting) (commands : List Command) → is_valid s.classes s.rules commands (length s.text) ≡ true → IsSound s × (list_all (command_is_valid s.classes) commands ≡ true)
 sound_setting s commands h =
     let seventh = (and_parts _ _ (and_parts _ _ h).0).0 in
     let sixth = and_parts _ _ (and_parts _ _ seventh).0 in

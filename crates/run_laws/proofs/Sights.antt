@@ -126,7 +126,7 @@ each_at p [] k x h at = absurd (cc)
 each_at p (y ∷ xs) zero x h at = let same : y ≡ x = cc in ap p (sym same) ∙ (and_parts (p y) (list_all p xs) h).0
 each_at p (y ∷ xs) (suc k) x h at = each_at p xs k x (and_parts (p y) (list_all p xs) h).1 at
 
-rule_valid : (classes : List Class) (rules : List Rule) (commands : List Command) (text k : ℕ) (r : Rule) → is_valid classes rules commands text ≡ true → slice_get rules k ≡ Some r → rule_is_valid classes text r ≡ true
+pub rule_valid : (classes : List Class) (rules : List Rule) (commands : List Command) (text k : ℕ) (r : Rule) → is_valid classes rules commands text ≡ true → slice_get rules k ≡ Some r → rule_is_valid classes text r ≡ true
 rule_valid classes rules commands text k r h at =
     each_at (rule_is_valid classes text) rules k r (and_parts _ _ (and_parts _ _ (and_parts _ _ (and_parts _ _ h).0).0).0).1 at
 

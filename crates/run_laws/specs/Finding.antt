@@ -1,6 +1,6 @@
--- What the sides of a production name is there: so none of the values is met that the definitions put in the place of what
--- is absent.
-use Rattle.std.specs.Prelude.{ℕ, List, [], ◌∷◌, Bool, true, false, ◌&&◌, ◌||◌, slice_get, is_some, unwrap_or, option_map, Contains, IsTrue, IfOk}
+-- What productions and commands name is there: so none of the values is met that the definitions put in the place of
+-- what is absent.
+use Rattle.std.specs.Prelude.{ℕ, List, [], ◌∷◌, Bool, true, false, ◌&&◌, ◌||◌, Some, slice_get, is_some, unwrap_or, option_map, Contains, IsTrue, IfOk}
 use Rattle.std.specs.List.{flat_map, list_all, list_any}
 use Rattle.ops_base.specs.declared.actions.Action.{Action}
 use Rattle.ops_base.specs.declared.actions.Action.TheVariants as action
@@ -9,6 +9,9 @@ use Rattle.ops_base.specs.declared.actions.Item.TheVariants as item
 use Rattle.ops_base.specs.declared.actions.Put.{Put}
 use Rattle.ops_base.specs.declared.actions.Term.{Term}
 use Rattle.ops_base.specs.declared.actions.Term.TheVariants as term
+use Rattle.ops_base.specs.declared.commands.Command.{Command}
+use Rattle.ops_base.specs.declared.commands.Command.TheVariants as command
+use Rattle.ops_base.specs.declared.commands.Fixed.{Fixed}
 use Rattle.ops_base.specs.declared.conditions.Condition.{Condition}
 use Rattle.ops_base.specs.declared.conditions.Operand.{Operand}
 use Rattle.ops_base.specs.declared.conditions.Operand.TheVariants as operand
@@ -22,7 +25,7 @@ use Rattle.ops_base.specs.declared.matching.Binding.{Binding}
 use Rattle.ops_base.specs.ConflictSet.{at_condition}
 use Rattle.ops_base.specs.Expression.{all_variables}
 use Rattle.ops_base.specs.Matching.{value_of, after_test}
-use Rattle.ops_base.specs.Valid.{class_of, is_attribute, is_field}
+use Rattle.ops_base.specs.Valid.{class_of, is_attribute, is_field, is_vector}
 use Rattle.ops_io.specs.Output.{column_after}
 use Rattle.ops_meaning.specs.Acting.{Setting, Doing, cell_of, action_done}
 
@@ -121,3 +124,16 @@ AllFind s column [] d = Unit {0}
 AllFind s column (a ∷ rest) d =
     let e = action_done s column a d in
     IsTrue (action_finds s.classes d a) × IfOk e.outcome (λ next. AllFind s (column_after column e.bytes) rest next)
+
+-- ---- commands
+
+-- the attribute is one of the class, and a scalar one is given a value
+abbrev pub fixed_finds : Class → Fixed → Bool
+fixed_finds c p = is_attribute c p.field && (is_vector c p.field || is_some (slice_get p.values 0))
+
+-- the class that the command names is there, and so are the attributes
+abbrev pub command_finds : List Class → Command → Bool
+command_finds classes (command.Make class puts) =
+    is_class classes class && list_all (fixed_finds (class_of classes class)) puts
+command_finds classes (command.Ppwm (Some p)) = is_class classes p.0 && list_all (fixed_finds (class_of classes p.0)) p.1
+command_finds classes _ = true

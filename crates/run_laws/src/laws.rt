@@ -1,5 +1,6 @@
 //! What holds of each program by the definitions of running: the contracts of functions that do nothing.
 ghost use Rattle.std.specs.Prelude.{◌≡◌, ℕ, List, [], ◌∷◌, slice_get, Some, Option, Bool, if◌then◌else◌, None, length, Contains, IsTrue, IfOk};
+ghost use Rattle.std.specs.List.{list_all};
 ghost use Rattle.ops_base.specs.declared.commands.Command.{Command};
 ghost use Rattle.ops_base.specs.declared.commands.Fixed.{Fixed};
 ghost use Rattle.ops_base.specs.declared.elements.Element.{Element};
@@ -17,10 +18,10 @@ ghost use Rattle.ops_meaning.specs.Running.{Course, Session, command_done, eleme
 ghost use Rattle.run_laws.specs.Beginning.{BeginsAsMatched};
 ghost use Rattle.run_laws.specs.Elements.{AreWhole};
 ghost use Rattle.run_laws.specs.Ending.{IsOfSession};
-ghost use Rattle.run_laws.specs.Finding.{AllFind, WalkFinds};
+ghost use Rattle.run_laws.specs.Finding.{AllFind, WalkFinds, command_finds};
 ghost use Rattle.run_laws.specs.Firings.{EachFiring, FindsAll};
 ghost use Rattle.run_laws.specs.Patterns.{condition_with, meeting};
-ghost use Rattle.run_laws.specs.Ranking.{IsRanking};
+ghost use Rattle.run_laws.specs.Ranking.{HasRank, IsRanking};
 
 /// A right side begins with the bindings with which the walk over its conditions accepted the instantiation, and with its
 /// elements in the cells.
@@ -48,10 +49,25 @@ pub fn patterns_match_as_conditions()
         → HasRisingTags wm → HasRisingTags (meeting (condition_with class puts) wm) }
 {}
 
-/// What `cs` lists is a ranking of the members of the conflict set that have not fired.
+/// What `cs` lists is a ranking of the members of the conflict set that have not fired, and no other list is one.
 pub fn standing_is_ranked()
-    ensures { (rules : List Rule) (m : Course)
+    ensures ranked { (rules : List Rule) (m : Course)
         → HasRisingTags m.wm → IsRanking rules m (standing_by (conflict_set rules) rules m) }
+    ensures only { (rules : List Rule) (m : Course) (other : List Inst)
+        → HasRisingTags m.wm → IsRanking rules m other → other ≡ standing_by (conflict_set rules) rules m }
+{}
+
+/// In a valid program each member of the conflict set has what dominance looks at.
+pub fn instantiations_have_ranks()
+    ensures { (s : Setting) (commands : List Command) (wm : List Element) (i : Inst)
+        → IsTrue (is_valid s.classes s.rules commands (length s.text))
+        → HasRisingTags wm → Contains (conflict_set s.rules wm) i → HasRank s.rules i }
+{}
+
+/// In a valid program each command finds the class and the attributes that it names, with a value for each scalar one.
+pub fn commands_find_what_they_name()
+    ensures { (s : Setting) (commands : List Command)
+        → IsTrue (is_valid s.classes s.rules commands (length s.text)) → IsTrue (list_all (command_finds s.classes) commands) }
 {}
 
 /// In a valid program each test that an element comes to finds its class, its field, and the variable that it compares with.

@@ -1,5 +1,8 @@
-use Rattle.run_laws.proofs.Rankings.{standing_ranked}
+use Rattle.run_laws.proofs.Rankings.{standing_ranked, only_ranking}
 use Rattle.run_laws.proofs.laws.standing_is_ranked.Goals as goal
 
-pub returns : goal.returns
-returns c = standing_ranked
+pub returns-clause-ranked : goal.returns-clause-ranked
+returns-clause-ranked c = standing_ranked
+
+pub returns-clause-only : goal.returns-clause-only
+returns-clause-only c = only_ranking
