@@ -1,5 +1,5 @@
 -- Evaluating, placing and writing leave the bindings, the cells and the changes as they are.
-use Rattle.std.proofs.Common.{ℕ, ◌+◌, List, [], ◌∷◌, length, Option, Some, None, Result, Ok, Err, IfOk}
+use Rattle.std.proofs.Common.{◌≡◌, refl, ℕ, ◌+◌, List, [], ◌∷◌, length, Option, Some, None, Result, Ok, Err, IfOk}
 use Rattle.ops_base.specs.declared.actions.Item.{Item}
 use Rattle.ops_base.specs.declared.actions.Item.TheVariants as item
 use Rattle.ops_base.specs.declared.actions.Put.{Put}
@@ -17,6 +17,7 @@ use Rattle.ops_tokens.specs.declared.accept.AcceptFault.TheVariants as accept_fa
 use Rattle.ops_meaning.specs.Acting.{Doing, Mishap, Valued, Filled, evaluated, value_in, computed_as, accepted_as, values_placed, placed, terms_placed, puts_made, puts_over, emptied, printed, lead_after, item_done, items_done}
 use Rattle.ops_meaning.specs.Computing.{Computed, computed}
 use Rattle.ops_meaning.specs.Layout.{Lead}
+use Rattle.run_laws.specs.Finding.{SeesTheSame}
 use Rattle.run_laws.proofs.Parts.{ok_behind, ok_on}
 
 module _ (P : List Binding → List Element → List Change → Type 0) (classes : List Class) where
@@ -87,3 +88,8 @@ module _ (P : List Binding → List Element → List Change → Type 0) (classes
       let e = item_done classes lead column x d in
       ok_on Keeps Keeps e.bytes e.outcome (λ d. items_done classes (lead_after x) (column_after column e.bytes) items d) (item_keeps lead column x d p)
       (λ d q. items_keep (lead_after x) (column_after column e.bytes) items d q)
+
+-- a term leaves what the terms after it look at
+pub sees_the_same : (classes : List Class) (t : Term) (d : Doing) → IfOk (evaluated classes t d) (λ v. SeesTheSame d v.doing)
+sees_the_same classes t d =
+    evaluated_keeps (λ bindings elements changes. (bindings ≡ d.bindings) × (elements ≡ d.cells) × (changes ≡ d.changes)) classes t d (refl, refl, refl)

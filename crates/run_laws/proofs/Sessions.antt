@@ -33,13 +33,12 @@ use Rattle.ops_meaning.specs.Acting.{Setting, Given, Acted, acted, actions_of, a
 use Rattle.ops_meaning.specs.Acting as acting
 use Rattle.ops_meaning.specs.Effects.{Effect, writes, and_then}
 use Rattle.ops_meaning.specs.Kept.{WellKept, IsLawfulOver}
-use Rattle.ops_meaning.specs.Layout.{firing_bytes}
 use Rattle.ops_meaning.specs.Running.{Course, Turned, Session, LastFiring, begun, turn, line_of_pause, last_of, one_less, given_by, ended_in, turned_of, with_course, element_made, removals, strategy_given, level_given, breaks_given, is_exit, firing, run_on, next_to_fire, command_done, commands_done, session_of}
 use Rattle.ops_meaning.proofs.Lawful.{added_kept, kept_after, removals_lawful, removals_last, clearing_lawful, clearing_last}
 use Rattle.ops_meaning.proofs.RisingTags.{acts_lawfully}
 use Rattle.run_laws.specs.Elements.{IsWhole, AreWhole}
 use Rattle.run_laws.specs.Finding.{AllFind}
-use Rattle.run_laws.specs.Firings.{IfGoesOn, EachOfRun, EachOfCommand, EachOfCommands, EachFiring, FindsAll}
+use Rattle.run_laws.specs.Firings.{IfGoesOn, EachOfRun, EachOfCommand, EachOfCommands, EachFiring, FindsAll, behind_line}
 use Rattle.run_laws.proofs.Beginnings.{begins_as_matched, whole_match}
 use Rattle.run_laws.proofs.Knowing.{Holds, there, all_at, actions_find}
 use Rattle.run_laws.proofs.Parts.{ok_on, ok_as, ok_more, ok_both}
@@ -99,19 +98,14 @@ beginning s m i sound good in_set =
       cells = λ e k. good.whole e (among e k);
     }
 
--- where the right side of a firing begins to write
-abbrev start_column : Setting → ℕ → Inst → Course → ℕ
-start_column s column i m =
-    column_after column (firing_bytes s.watch column m.names s.rules (m.firings + 1) i)
-
 finds_all : (s : Setting) (column : ℕ) (i : Inst) (m : Course) → IsSound s → IsGood s m → Contains (conflict_set s.rules m.wm) i → FindsAll s column i m
 finds_all s column i m sound good in_set =
     let b = beginning s m i sound good in_set in
-    let P : List Action → Type 0 = λ as_. AllFind s (start_column s column i m) as_ (acting.begun s i (given_by m)) in
+    let P : List Action → Type 0 = λ as_. AllFind s (behind_line s column i m) as_ (acting.begun s i (given_by m)) in
     record {
       whole = all_whole s m good;
       begins = begins_as_matched s (given_by m) i good.kept.0 in_set;
-      finds = subst P (sym b.actions) (actions_find s (start_column s column i m) (known_of b.rule.conditions) b.rule.actions (acting.begun s i (given_by m)) b.knows b.valid);
+      finds = subst P (sym b.actions) (actions_find s (behind_line s column i m) (known_of b.rule.conditions) b.rule.actions (acting.begun s i (given_by m)) b.knows b.valid);
     }
 
 acted_whole : (s : Setting) (column : ℕ) (i : Inst) (m : Course) → IsSound s → IsGood s m → Contains (conflict_set s.rules m.wm) i → IfOk (acted s column i (given_by m)).outcome (λ a. MakesWhole s.classes a.changes)
@@ -126,7 +120,7 @@ acted_whole s column i m sound good in_set =
 
 firing_good : (s : Setting) (column : ℕ) (i : Inst) (m : Course) → IsSound s → IsGood s m → Contains (conflict_set s.rules m.wm) i → IfOk (firing s column i m).outcome (λ t. IsGood s t.course)
 firing_good s column i m sound good in_set =
-    let behind = start_column s column i m in
+    let behind = behind_line s column i m in
     let a = acted s behind i (given_by m) in
     let P : Acted → Type 0 = λ a. IsLawfulOver m.wm m.last a × MakesWhole s.classes a.changes in
     ok_as P (λ (t : Turned). IsGood s t.course) (turned_of s.rules i m) (ended_in (m.firings + 1) i.rule) a.outcome

@@ -1,6 +1,6 @@
 -- What productions and commands name is there: so none of the values is met that the definitions put in the place of
 -- what is absent.
-use Rattle.std.specs.Prelude.{ℕ, List, [], ◌∷◌, Bool, true, false, ◌&&◌, ◌||◌, Some, slice_get, is_some, unwrap_or, option_map, Contains, IsTrue, IfOk}
+use Rattle.std.specs.Prelude.{◌≡◌, ℕ, List, [], ◌∷◌, Bool, true, false, ◌&&◌, ◌||◌, Some, slice_get, is_some, unwrap_or, option_map, Contains, IsTrue, IfOk}
 use Rattle.std.specs.List.{flat_map, list_all, list_any}
 use Rattle.ops_base.specs.declared.actions.Action.{Action}
 use Rattle.ops_base.specs.declared.actions.Action.TheVariants as action
@@ -105,8 +105,9 @@ item_finds classes d item.Crlf = true
 item_finds classes d (item.TabTo n) = true
 item_finds classes d (item.RightIn n) = true
 
--- Each variable that the action evaluates is bound, each cell that it names holds an element, each class that it names is
--- there, and so is that of each such element, and each field is one of its class.
+-- Each variable that the action evaluates is bound, each cell that it names holds an element, each class that it names
+-- is there, and so is that of each such element, and each field is one of its class. The term of `bind` gives one
+-- value, and where a cell is bound to the element that was made last, one was made.
 abbrev pub action_finds : List Class → Doing → Action → Bool
 action_finds classes d (action.Make class puts) =
     is_class classes class && list_all (put_finds classes d (class_of classes class)) puts
@@ -124,6 +125,10 @@ AllFind s column [] d = Unit {0}
 AllFind s column (a ∷ rest) d =
     let e = action_done s column a d in
     IsTrue (action_finds s.classes d a) × IfOk e.outcome (λ next. AllFind s (column_after column e.bytes) rest next)
+
+-- the bindings, the cells and the changes are the same
+abbrev pub SeesTheSame : Doing → Doing → Type 0
+SeesTheSame old new = (new.bindings ≡ old.bindings) × (new.cells ≡ old.cells) × (new.changes ≡ old.changes)
 
 -- ---- commands
 

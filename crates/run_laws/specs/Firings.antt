@@ -48,8 +48,13 @@ EachOfCommands P s limit column (c ∷ rest) k =
 abbrev pub EachFiring : (Setting → ℕ → Inst → Course → Type 0) → Setting → ℕ → List Command → Spellings → Coming → Type 0
 EachFiring P s limit commands names coming = EachOfCommands P s limit 0 commands (begun s.rules names coming)
 
--- In a firing the elements of working memory are whole, and the right side begins as matched and finds all that it names.
+-- where the right side of a firing begins to write that begins at this column
+abbrev pub behind_line : Setting → ℕ → Inst → Course → ℕ
+behind_line s column i m = column_after column (firing_bytes s.watch column m.names s.rules (m.firings + 1) i)
+
+-- In a firing the elements of working memory are whole, the right side begins as matched, and it finds all that it
+-- names.
 pub record FindsAll (s : Setting) (column : ℕ) (i : Inst) (m : Course) : Type 0 where
   pub whole : AreWhole s.classes m.wm
   pub begins : BeginsAsMatched s (given_by m) i
-  pub finds : AllFind s (column_after column (firing_bytes s.watch column m.names s.rules (m.firings + 1) i)) (actions_of s.rules i.rule) (acting.begun s i (given_by m))
+  pub finds : AllFind s (behind_line s column i m) (actions_of s.rules i.rule) (acting.begun s i (given_by m))

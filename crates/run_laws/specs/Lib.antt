@@ -1,3 +1,4 @@
+pub mod Programs
 pub mod Beginning
 pub mod Ending
 pub mod Finding

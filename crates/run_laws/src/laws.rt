@@ -1,8 +1,10 @@
-//! What holds of each program by the definitions of running: the contracts of functions that do nothing.
-ghost use Rattle.std.specs.Prelude.{◌≡◌, ℕ, List, [], ◌∷◌, slice_get, Some, Option, Bool, if◌then◌else◌, None, length, Contains, IsTrue, IfOk};
+//! What holds of programs by the definitions of running: the contracts of functions that do nothing.
+ghost use Rattle.std.specs.Prelude.{◌≡◌, ℕ, List, [], ◌∷◌, slice_get, Some, if◌then◌else◌, None, Contains, IsTrue, IfOk};
 ghost use Rattle.std.specs.List.{list_all};
+ghost use Rattle.ops_base.specs.declared.actions.Term.{Term};
 ghost use Rattle.ops_base.specs.declared.commands.Command.{Command};
 ghost use Rattle.ops_base.specs.declared.commands.Fixed.{Fixed};
+ghost use Rattle.ops_base.specs.declared.elements.Class.{Class};
 ghost use Rattle.ops_base.specs.declared.elements.Element.{Element};
 ghost use Rattle.ops_base.specs.declared.matching.Binding.{Binding};
 ghost use Rattle.ops_base.specs.declared.rules.Inst.{Inst};
@@ -10,24 +12,64 @@ ghost use Rattle.ops_base.specs.declared.rules.Rule.{Rule};
 ghost use Rattle.ops_base.specs.ConflictSet.{conflict_set, empty_partial};
 ghost use Rattle.ops_base.specs.Matching.{match_of};
 ghost use Rattle.ops_base.specs.Names.{Spellings};
-ghost use Rattle.ops_base.specs.Valid.{is_valid};
 ghost use Rattle.ops_base.specs.WorkingMemory.{HasRisingTags};
 ghost use Rattle.ops_io.specs.Coming.{Coming};
-ghost use Rattle.ops_meaning.specs.Acting.{Setting, Given, actions_of, begun};
+ghost use Rattle.ops_meaning.specs.Acting.{Setting, Given, Doing, actions_of, begun, evaluated};
 ghost use Rattle.ops_meaning.specs.Running.{Course, Session, command_done, element_lines, ending_of, lists, meets, session_of, standing_by};
 ghost use Rattle.run_laws.specs.Beginning.{BeginsAsMatched};
 ghost use Rattle.run_laws.specs.Elements.{AreWhole};
 ghost use Rattle.run_laws.specs.Ending.{IsOfSession};
-ghost use Rattle.run_laws.specs.Finding.{AllFind, WalkFinds, command_finds};
+ghost use Rattle.run_laws.specs.Finding.{AllFind, SeesTheSame, WalkFinds, command_finds};
 ghost use Rattle.run_laws.specs.Firings.{EachFiring, FindsAll};
 ghost use Rattle.run_laws.specs.Patterns.{condition_with, meeting};
+ghost use Rattle.run_laws.specs.Programs.{AreValid};
 ghost use Rattle.run_laws.specs.Ranking.{HasRank, IsRanking};
 
-/// A right side begins with the bindings with which the walk over its conditions accepted the instantiation, and with its
-/// elements in the cells.
+/// A right side begins with the bindings with which the walk over its conditions accepted the instantiation, and with
+/// its elements in the cells.
 pub fn right_sides_begin_as_matched()
     ensures { (s : Setting) (g : Given) (i : Inst)
         → HasRisingTags g.wm → Contains (conflict_set s.rules g.wm) i → BeginsAsMatched s g i }
+{}
+
+/// In a valid program each test that an element comes to finds its class, its field, and the variable that it compares
+/// with.
+pub fn left_sides_find_what_they_name()
+    ensures { (s : Setting) (commands : List Command) (wm : List Element) (n : ℕ) (r : Rule)
+        → AreValid s commands → slice_get s.rules n ≡ Some r → WalkFinds s.classes wm r.conditions (empty_partial ∷ []) }
+{}
+
+/// In a valid program each action of a right side finds, in the state that it comes to, all that it names: variables,
+/// cells, classes and fields. A term leaves the bindings, the cells and the changes as they are.
+pub fn right_sides_find_what_they_name()
+    ensures actions { (s : Setting) (commands : List Command) (column : ℕ) (g : Given) (i : Inst)
+        → AreValid s commands → HasRisingTags g.wm → Contains (conflict_set s.rules g.wm) i
+        → AllFind s column (actions_of s.rules i.rule) (begun s i g) }
+    ensures terms { (classes : List Class) (t : Term) (d : Doing)
+        → IfOk (evaluated classes t d) (λ v. SeesTheSame d v.doing) }
+{}
+
+/// In each firing of a session of a valid program the elements of working memory have just the fields of their classes,
+/// and the right side begins as matched and finds all that it names. A session that comes to its end leaves such
+/// elements.
+pub fn firings_find_what_they_name()
+    ensures firings { (s : Setting) (limit : ℕ) (commands : List Command) (names : Spellings) (coming : Coming)
+        → AreValid s commands → EachFiring FindsAll s limit commands names coming }
+    ensures elements { (s : Setting) (limit : ℕ) (commands : List Command) (names : Spellings) (coming : Coming)
+        → AreValid s commands
+        → IfOk (session_of s limit commands names coming).outcome (λ k. AreWhole s.classes k.course.wm) }
+{}
+
+/// In a valid program each command finds the class and the attributes that it names, with a value for each scalar one.
+pub fn commands_find_what_they_name()
+    ensures { (s : Setting) (commands : List Command)
+        → AreValid s commands → IsTrue (list_all (command_finds s.classes) commands) }
+{}
+
+/// In a valid program dominance finds what it looks at in each member of the conflict set.
+pub fn instantiations_have_ranks()
+    ensures { (s : Setting) (commands : List Command) (wm : List Element) (i : Inst)
+        → AreValid s commands → HasRisingTags wm → Contains (conflict_set s.rules wm) i → HasRank s.rules i }
 {}
 
 /// Whatever the program, no session ends in a write that is refused or in want of memory. It ends in a read fault only
@@ -55,43 +97,4 @@ pub fn standing_is_ranked()
         → HasRisingTags m.wm → IsRanking rules m (standing_by (conflict_set rules) rules m) }
     ensures only { (rules : List Rule) (m : Course) (other : List Inst)
         → HasRisingTags m.wm → IsRanking rules m other → other ≡ standing_by (conflict_set rules) rules m }
-{}
-
-/// In a valid program each member of the conflict set has what dominance looks at.
-pub fn instantiations_have_ranks()
-    ensures { (s : Setting) (commands : List Command) (wm : List Element) (i : Inst)
-        → IsTrue (is_valid s.classes s.rules commands (length s.text))
-        → HasRisingTags wm → Contains (conflict_set s.rules wm) i → HasRank s.rules i }
-{}
-
-/// In a valid program each command finds the class and the attributes that it names, with a value for each scalar one.
-pub fn commands_find_what_they_name()
-    ensures { (s : Setting) (commands : List Command)
-        → IsTrue (is_valid s.classes s.rules commands (length s.text)) → IsTrue (list_all (command_finds s.classes) commands) }
-{}
-
-/// In a valid program each test that an element comes to finds its class, its field, and the variable that it compares with.
-pub fn left_sides_find_what_they_name()
-    ensures { (s : Setting) (commands : List Command) (wm : List Element) (n : ℕ) (r : Rule)
-        → IsTrue (is_valid s.classes s.rules commands (length s.text)) → slice_get s.rules n ≡ Some r
-        → WalkFinds s.classes wm r.conditions (empty_partial ∷ []) }
-{}
-
-/// In a valid program each action of a right side finds, in the state that it comes to, all that it names: variables,
-/// cells, classes and fields.
-pub fn right_sides_find_what_they_name()
-    ensures { (s : Setting) (commands : List Command) (column : ℕ) (g : Given) (i : Inst)
-        → IsTrue (is_valid s.classes s.rules commands (length s.text))
-        → HasRisingTags g.wm → Contains (conflict_set s.rules g.wm) i
-        → AllFind s column (actions_of s.rules i.rule) (begun s i g) }
-{}
-
-/// In each firing of a session of a valid program the elements of working memory have just the fields of their classes, and
-/// the right side begins as matched and finds all that it names. A session that comes to its end leaves such elements.
-pub fn firings_find_what_they_name()
-    ensures firings { (s : Setting) (limit : ℕ) (commands : List Command) (names : Spellings) (coming : Coming)
-        → IsTrue (is_valid s.classes s.rules commands (length s.text)) → EachFiring FindsAll s limit commands names coming }
-    ensures elements { (s : Setting) (limit : ℕ) (commands : List Command) (names : Spellings) (coming : Coming)
-        → IsTrue (is_valid s.classes s.rules commands (length s.text))
-        → IfOk (session_of s limit commands names coming).outcome (λ k. AreWhole s.classes k.course.wm) }
 {}
