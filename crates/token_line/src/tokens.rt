@@ -178,14 +178,19 @@ impl Room {
         Ok(())
     }
 
-    /// Keeps a new token after the others.
+    /// Keeps a new token after the others. For the first it takes room for one: most memories have no more.
     fn push(&mut self, token: Tags, cell: Cell) -> Result<(), OutOfMemory>
         requires { lookup (bytes_eq token) (pairs_in self.old) ≡ None }
         ensures ok { OnOk result (pairs_in self.new ≡ pairs_in self.old ++ (token, cell) ∷ []) }
         ensures err { OnErr result (pairs_in self.new ≡ pairs_in self.old) }
     {
         match self {
-            Room::Few(list) => list.push((token, cell))?,
+            Room::Few(list) => {
+                if list.is_empty() {
+                    list.reserve_exact(1)?;
+                }
+                list.push((token, cell))?;
+            }
             Room::Many(map) => {
                 map.insert(token, cell)?;
             }
