@@ -1,11 +1,9 @@
 -- Tokens that are kept under one code alone: what is kept of such a token is what is kept under that code.
 use Rattle.std.proofs.Common.{◌≡◌, ◌≢◌, ℕ, pos, Bool, true, false, cond, ◌&&◌, ◌==◌, ◌⊎◌, inl, inr, List, [], ◌∷◌, nat_eq, Option, Some, None, IsSome, IfSome, refl, sym, ap, subst, ◌∙◌, true≢false}
-use Rattle.std.specs.Global.{Box}
 use Rattle.std.specs.Map.{keys_of, lookup}
 use Rattle.std.specs.Option.{is_some, option_map, option_or}
 use Rattle.std.proofs.lemmas.Bool.{cases_eq, eqb-true}
 use Rattle.std.proofs.lemmas.Bool.Decides.{Decides-eqb}
-use Rattle.indexmap.specs.IndexMap.{IndexMap, get}
 use Rattle.net_base.specs.declared.tasks.Side.{Side}
 use Rattle.net_base.specs.declared.tasks.Side.TheVariants.{Left}
 use Rattle.net_base.specs.declared.tasks.Task.{Task}
@@ -14,7 +12,7 @@ use Rattle.token_line.specs.declared.memory.Memory.{Memory}
 use Rattle.token_line.specs.declared.memories.Memories.{Memories}
 use Rattle.token_line.specs.declared.tokens.Cell.{Cell}
 use Rattle.token_line.specs.Bags.{are_same_sides, is_at}
-use Rattle.token_line.specs.Codes.{AreApart, HaveSums, cell_among, cell_blocked, cell_under, codes_among, filed_among, first_some, other_codes, other_memory, memory_of, tokens_of}
+use Rattle.token_line.specs.Codes.{AreApart, HaveSums, cell_among, cell_blocked, cell_under, codes_among, filed_among, first_some, memory_of, tokens_of}
 use Rattle.token_line.specs.Lines.{IsFiled, filed_in, sum_in}
 use Rattle.token_line.specs.Pairs.{cell_of}
 use Rattle.token_line.specs.Sums.{blocked, blockers_kept, counted, side_of, sum_kept}
@@ -43,18 +41,13 @@ module _ {X : Type 0} (f : ℕ → Option X) where
   none_head (Some x) p e = absurd (cc)
 
   -- where none of the keys has anything, one that has is not among them
-  none_keyed : {V : Type 0} (es : List (ℕ × V)) → first_some f (keys_of es) ≡ None → (c : ℕ) → (lookup (nat_eq c) es ≡ None) ⊎ (f c ≡ None)
+  pub none_keyed : {V : Type 0} (es : List (ℕ × V)) → first_some f (keys_of es) ≡ None → (c : ℕ) → (lookup (nat_eq c) es ≡ None) ⊎ (f c ≡ None)
   none_keyed [] none c = inl refl
   none_keyed {V} (e ∷ es) none c = let both = none_head (f e.0) (first_some f (keys_of es)) none in by both.0 (none_keyed es both.1 c) (nat_eq c e.0) refl
     where
       by : f e.0 ≡ None → (lookup (nat_eq c) es ≡ None) ⊎ (f c ≡ None) → (b : Bool) → nat_eq c e.0 ≡ b → (cond b (Some e.1) (lookup (nat_eq c) es) ≡ None) ⊎ (f c ≡ None)
       by own rest true q = inr (ap f (eqb-true c e.0 q) ∙ own)
       by own rest false q = rest
-
-  -- the same of the map of other codes
-  none_other : {S : Type 0} (o : Option (Box (IndexMap ℕ Memory S))) → first_some f (other_codes o) ≡ None → (c : ℕ) → (other_memory o c ≡ None) ⊎ (f c ≡ None)
-  none_other None none c = inl refl
-  none_other (Some others) none c = none_keyed others.value.entries none c
 
 -- ---- the tokens of one side of a node
 
@@ -69,12 +62,12 @@ module _ (s : Side) (t : List ℕ) where
   all_none : (o : Option Memories) → first o ≡ None → (c : ℕ) → filed o c ≡ None
   all_none None none c = refl
   all_none (Some m) none c =
-      let both = none_head (filed (Some m)) (filed (Some m) m.code) (first_some (filed (Some m)) (other_codes m.others)) none in
-      by both.0 (none_other (filed (Some m)) m.others both.1 c) (c == m.code) refl
+      let both = none_head (filed (Some m)) (filed (Some m) m.code) (first_some (filed (Some m)) (keys_of m.others)) none in
+      by both.0 (none_keyed (filed (Some m)) m.others both.1 c) (c == m.code) refl
     where
-      by : filed (Some m) m.code ≡ None → (other_memory m.others c ≡ None) ⊎ (filed (Some m) c ≡ None) → (b : Bool) → (c == m.code) ≡ b → filed (Some m) c ≡ None
+      by : filed (Some m) m.code ≡ None → (lookup (nat_eq c) m.others ≡ None) ⊎ (filed (Some m) c ≡ None) → (b : Bool) → (c == m.code) ≡ b → filed (Some m) c ≡ None
       by own others true q = ap (filed (Some m)) (eqb-true c m.code q) ∙ own
-      by own (inl none) false q = ap (λ b. cell_of (tokens_of (cond b (Some m.first) (other_memory m.others c)) s) t) q ∙ ap (λ p. cell_of (tokens_of p s) t) none
+      by own (inl none) false q = ap (λ b. cell_of (tokens_of (cond b (Some m.first) (lookup (nat_eq c) m.others)) s) t) q ∙ ap (λ p. cell_of (tokens_of p s) t) none
       by own (inr none) false q = none
 
   -- a token that is kept under no other code
@@ -126,13 +119,13 @@ module _ (s : Side) (t : List ℕ) where
 
 -- ---- a node's first memory
 
-pub fresh_cells : (m : Memories) (code : ℕ) (first : Memory) → m.code ≡ code → m.first ≡ first → m.others ≡ None
+pub fresh_cells : (m : Memories) (code : ℕ) (first : Memory) → m.code ≡ code → m.first ≡ first → m.others ≡ []
     → (c : ℕ) (s : Side) (t : List ℕ) → cell_under m c s t ≡ cond (c == code) (cell_of (side_of first s) t) None
-fresh_cells m code first own is none c s t = ap (λ k. cell_of (tokens_of (cond (c == k) (Some m.first) (other_memory m.others c)) s) t) own ∙ by (c == code)
+fresh_cells m code first own is none c s t = ap (λ k. cell_of (tokens_of (cond (c == k) (Some m.first) (lookup (nat_eq c) m.others)) s) t) own ∙ by (c == code)
   where
-    by : (b : Bool) → cell_of (tokens_of (cond b (Some m.first) (other_memory m.others c)) s) t ≡ cond b (cell_of (side_of first s) t) None
+    by : (b : Bool) → cell_of (tokens_of (cond b (Some m.first) (lookup (nat_eq c) m.others)) s) t ≡ cond b (cell_of (side_of first s) t) None
     by true = ap (λ x. cell_of (side_of x s) t) is
-    by false = ap (λ o. cell_of (tokens_of (other_memory o c) s) t) none
+    by false = ap (λ o. cell_of (tokens_of (lookup (nat_eq c) o) s) t) none
 
 -- ---- tests
 
@@ -164,20 +157,20 @@ nothing o none some = true≢false (sym some ∙ ap is_some none)
 
 -- ---- all memories of a line
 
-module _ {S : Type 0} (old : IndexMap ℕ Memories S) where
+module _ (old : List (ℕ × Memories)) where
   pub alone_cell : (n c : ℕ) (s : Side) (t : List ℕ) → ((d : ℕ) → d ≢ c → filed_among old n d s t ≡ None) → cell_among old n s t ≡ filed_among old n c s t
-  alone_cell n c s t alone = alone_first s t (get nat_eq old n) c alone
+  alone_cell n c s t alone = alone_first s t (lookup (nat_eq n) old) c alone
 
   module _ (apart : AreApart old) where
     -- of a token that is kept under a code
     pub filed_cell : (n c : ℕ) (s : Side) (t : List ℕ) → IsSome (filed_among old n c s t) → cell_among old n s t ≡ filed_among old n c s t
-    filed_cell n c s t some = alone_cell n c s t (others_none s t (get nat_eq old n) c (λ a b. apart n a b s t) some)
+    filed_cell n c s t some = alone_cell n c s t (others_none s t (lookup (nat_eq n) old) c (λ a b. apart n a b s t) some)
 
     -- where the same is kept under each code
-    module _ (new : IndexMap ℕ Memories S) (same : (n c : ℕ) (s : Side) (t : List ℕ) → filed_among new n c s t ≡ filed_among old n c s t) where
+    module _ (new : List (ℕ × Memories)) (same : (n c : ℕ) (s : Side) (t : List ℕ) → filed_among new n c s t ≡ filed_among old n c s t) where
       pub same_cells : (n : ℕ) (s : Side) (t : List ℕ) → cell_among new n s t ≡ cell_among old n s t
       same_cells n s t =
-          let both = changes_first s t (get nat_eq old n) (get nat_eq new n) (λ c o. o) (λ c. refl) (λ c. same n c s t) (λ a b. apart n a b s t) in
+          let both = changes_first s t (lookup (nat_eq n) old) (lookup (nat_eq n) new) (λ c o. o) (λ c. refl) (λ c. same n c s t) (λ a b. apart n a b s t) in
           both.1.1 ∙ sym both.1.0
 
       pub same_codes : (n c : ℕ) (s : Side) (t : List ℕ) → IsSome (filed_among new n c s t) → IsSome (filed_among old n c s t)
@@ -201,12 +194,12 @@ kept_under line n s t ne = by (cell_among line.memories n s t) refl
     by : (o : Option Cell) → cell_among line.memories n s t ≡ o → (c : ℕ) × IsFiled line n c s t
     by None q = absurd (ne (ap sum_kept q))
     by (Some k) q =
-        let own = some_first (λ c. filed_in line n c s t) (codes_among (get nat_eq line.memories n)) k q in
+        let own = some_first (λ c. filed_in line n c s t) (codes_among (lookup (nat_eq n) line.memories)) k q in
         (own.0, subst IsSome (sym own.1) refl)
 
 -- ---- once something else is kept of the token of a task
 
-module _ {S : Type 0} (old new : IndexMap ℕ Memories S) (apart : AreApart old) (x : Task) (code : ℕ) (cell : Option Cell)
+module _ (old new : List (ℕ × Memories)) (apart : AreApart old) (x : Task) (code : ℕ) (cell : Option Cell)
     (alone : (d : ℕ) → d ≢ code → filed_among old x.node d x.side x.token ≡ None)
     (written : (n c : ℕ) (s : Side) (t : List ℕ) → filed_among new n c s t ≡ cond ((c == code) && is_at n s t x) cell (filed_among old n c s t)) where
   elsewhere : (n c : ℕ) (s : Side) (t : List ℕ) → is_at n s t x ≡ false → filed_among new n c s t ≡ filed_among old n c s t
@@ -226,7 +219,7 @@ module _ {S : Type 0} (old new : IndexMap ℕ Memories S) (apart : AreApart old)
           alone_cell new n code s t (other_none n s t q)
           ∙ (written n code s t ∙ ap (λ b. cond b cell (filed_among old n code s t)) (ap (λ b. b && is_at n s t x) (same_code code) ∙ q))
       by false q =
-          let both = changes_first s t (get nat_eq old n) (get nat_eq new n) (λ c o. o) (λ c. refl) (λ c. elsewhere n c s t q) (λ a b. apart n a b s t) in
+          let both = changes_first s t (lookup (nat_eq n) old) (lookup (nat_eq n) new) (λ c o. o) (λ c. refl) (λ c. elsewhere n c s t q) (λ a b. apart n a b s t) in
           both.1.1 ∙ sym both.1.0
 
   own_code : (n c : ℕ) (s : Side) (t : List ℕ) → is_at n s t x ≡ true → IsSome (filed_among new n c s t) → c ≡ code
@@ -250,7 +243,7 @@ module _ {S : Type 0} (old new : IndexMap ℕ Memories S) (apart : AreApart old)
       by true q = inr (own_code n c s t q some, refl)
       by false q = inl (subst IsSome (elsewhere n c s t q) some)
 
-pub put_sums : {S : Type 0} (old new : IndexMap ℕ Memories S) (x : Task) (code : ℕ) (cell : Option Cell) → IfSome cell (λ c. c.sum ≢ pos 0) → HaveSums old
+pub put_sums : (old new : List (ℕ × Memories)) (x : Task) (code : ℕ) (cell : Option Cell) → IfSome cell (λ c. c.sum ≢ pos 0) → HaveSums old
     → ((n c : ℕ) (s : Side) (t : List ℕ) → filed_among new n c s t ≡ cond ((c == code) && is_at n s t x) cell (filed_among old n c s t)) → HaveSums new
 put_sums old new x code cell has sums written n c s t some =
     subst (λ o. sum_kept o ≢ pos 0) (sym (written n c s t)) (by ((c == code) && is_at n s t x) (subst IsSome (written n c s t) some))
@@ -289,14 +282,14 @@ module _ (plus : Bool) where
   unmatched true (Some c) = refl
   unmatched false o = refl
 
-  module _ {S : Type 0} (old new : IndexMap ℕ Memories S) (apart : AreApart old) (node code : ℕ) (matches : List ℕ → Bool)
+  module _ (old new : List (ℕ × Memories)) (apart : AreApart old) (node code : ℕ) (matches : List ℕ → Bool)
       (written : (n c : ℕ) (s : Side) (t : List ℕ) → filed_among new n c s t ≡ cell_blocked ((n == node) && ((c == code) && are_same_sides s Left)) (matches t) plus (filed_among old n c s t)) where
     module _ (n : ℕ) (s : Side) (t : List ℕ) where
       abbrev here : ℕ → Bool
       here c = (n == node) && ((c == code) && are_same_sides s Left)
 
       moved : (c : ℕ) × ((cell_among old n s t ≡ filed_among old n c s t) × (cell_among new n s t ≡ cell_blocked (here c) (matches t) plus (filed_among old n c s t)))
-      moved = changes_first s t (get nat_eq old n) (get nat_eq new n) (λ c o. cell_blocked (here c) (matches t) plus o) (λ c. none_blocked (here c) (matches t)) (λ c. written n c s t) (λ a b. apart n a b s t)
+      moved = changes_first s t (lookup (nat_eq n) old) (lookup (nat_eq n) new) (λ c o. cell_blocked (here c) (matches t) plus o) (λ c. none_blocked (here c) (matches t)) (λ c. written n c s t) (λ a b. apart n a b s t)
 
       pub block_sums : sum_kept (cell_among new n s t) ≡ sum_kept (cell_among old n s t)
       block_sums = ap sum_kept moved.1.1 ∙ (same_sum (here moved.0) (matches t) (filed_among old n moved.0 s t) ∙ ap sum_kept (sym moved.1.0))

@@ -1,5 +1,6 @@
 pub mod Joined
 pub mod Fitting
+pub mod SmallMapLemmas
 pub mod PairLemmas
 pub mod LineLemmas
 pub mod Filed

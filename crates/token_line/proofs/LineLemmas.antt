@@ -1,52 +1,20 @@
 -- Values by their nodes or codes once one of them was written, and what follows for sums and blockers.
-use Rattle.std.proofs.Common.{◌≡◌, ◌≢◌, ℕ, pos, ◌+ℤ◌, Bool, true, false, cond, ◌&&◌, ◌==◌, List, [], nat_eq, zero, suc, ◌∷◌, bytes_eq, position, slice_get, slice_index_or, Option, Some, None, IfSome, Result, Ok, Err, OnErr, is_some, refl, sym, ap, subst, ◌∙◌, arith, true≢false}
-use Rattle.std.specs.Map.{keys_of, lookup, values_of}
+use Rattle.std.proofs.Common.{◌≡◌, ◌≢◌, ℕ, pos, ◌+ℤ◌, Bool, true, false, cond, ◌&&◌, ◌==◌, List, [], nat_eq, bytes_eq, Option, Some, None, IfSome, Result, Ok, Err, OnErr, refl, sym, ap, subst, ◌∙◌, arith}
+use Rattle.std.specs.Option.{option_map}
 use Rattle.std.proofs.lemmas.Bool.{eqb-true}
-use Rattle.std.proofs.lemmas.Bool.Decides.{Decides-eqb}
 use Rattle.std.proofs.lemmas.Int.{ints}
 use Rattle.std.proofs.lemmas.Slice.Eq.{bytes_eq-Decides}
-use Rattle.std.proofs.lemmas.List.Quantifiers.{position-Some}
-use Rattle.indexmap.proofs.MapLemmas.{Found-position, some_index}
 use Rattle.net_base.specs.declared.tasks.Side.{Side}
 use Rattle.net_base.specs.declared.tasks.Side.TheVariants.{Left, Right}
 use Rattle.net_base.specs.declared.tasks.Task.{Task}
 use Rattle.token_line.specs.declared.memory.Memory.{Memory}
 use Rattle.token_line.specs.declared.tokens.Cell.{Cell}
 use Rattle.token_line.specs.Bags.{are_same_sides, is_at, sign, sign_at}
-use Rattle.token_line.specs.Sums.{blockers_kept, side_of, sum_kept}
+use Rattle.token_line.specs.Codes.{cell_blocked}
+use Rattle.token_line.specs.Pairs.{cell_of}
+use Rattle.token_line.specs.Sums.{blocked, blockers_kept, side_of, sum_kept}
 
--- ---- memories by their nodes
-
-no_position : {X : Type 0} (n : ℕ) (es : List (ℕ × X)) → position (nat_eq n) (keys_of es) ≡ None → lookup (nat_eq n) es ≡ None
-no_position {X} n es is = by (lookup (nat_eq n) es) refl
-  where
-    by : (o : Option X) → lookup (nat_eq n) es ≡ o → o ≡ None
-    by None e = refl
-    by (Some v) e = absurd (true≢false (sym (ap is_some e) ∙ (sym (some_index (nat_eq n) es) ∙ ap is_some is)))
-
-pub none_at : {X : Type 0} (n : ℕ) (es : List (ℕ × X)) (o : Option ℕ) → o ≡ position (nat_eq n) (keys_of es) → o ≡ None → lookup (nat_eq n) es ≡ None
-none_at n es o is none = no_position n es (sym is ∙ none)
-
-node_key_at : {X : Type 0} (es : List (ℕ × X)) (i : ℕ) (e : ℕ × X) → slice_get es i ≡ Some e → slice_index_or (keys_of es) i e.0 ≡ e.0
-node_key_at [] i e at = refl
-node_key_at {X = X} (x ∷ xs) zero e at = let same : x ≡ e = cc in ap (λ (y : ℕ × X). y.0) same
-node_key_at (x ∷ xs) (suc i) e at = node_key_at xs i e at
-
-value_at : {X : Type 0} (es : List (ℕ × X)) (i : ℕ) (v : X) → slice_get (values_of es) i ≡ Some v → (k : ℕ) × (slice_get es i ≡ Some (k, v))
-value_at [] i v at = absurd (cc)
-value_at (x ∷ xs) zero v at = let same : x.1 ≡ v = cc in (x.0, ap (λ w. Some (x.0, w)) same)
-value_at (x ∷ xs) (suc i) v at = value_at xs i v at
-
--- the value at the place of a node is that node's
-pub node_at : {X : Type 0} (es : List (ℕ × X)) (n i : ℕ) (v : X) → position (nat_eq n) (keys_of es) ≡ Some i → slice_get (values_of es) i ≡ Some v → slice_get es i ≡ Some (n, v)
-node_at es n i v is at =
-    let e = value_at es i v at in
-    let own = position-Some (nat_eq n) (keys_of es) i e.0 is in
-    let key : n ≡ e.0 = eqb-true n e.0 (ap (nat_eq n) (sym (node_key_at es i (e.0, v) e.1)) ∙ own.1) in
-    e.1 ∙ ap (λ k. Some (k, v)) (sym key)
-
-pub found_at : {X : Type 0} (es : List (ℕ × X)) (n i : ℕ) (v : X) → position (nat_eq n) (keys_of es) ≡ Some i → slice_get (values_of es) i ≡ Some v → lookup (nat_eq n) es ≡ Some v
-found_at es n i v is at = (Found-position (nat_eq n) es i is).value ∙ at
+-- ---- values by their nodes or codes
 
 pub always_err : {T E P : Type 0} (r : Result T E) → P → OnErr r P
 always_err (Ok x) p = tt
@@ -58,23 +26,60 @@ bare m left right Right = right
 
 module _ {V R : Type 0} (f g : ℕ → Option V) (n m : ℕ) (see : Option V → R) where
   -- the value at one node looks as it did
-  pub same_seen : (old new : V) → g m ≡ cond (nat_eq n m) (Some new) (f m) → f n ≡ Some old → see (Some new) ≡ see (Some old) → see (g m) ≡ see (f m)
-  same_seen old new written at same = ap see written ∙ by (nat_eq n m) refl
+  pub same_seen : (old new : V) → g m ≡ cond (nat_eq m n) (Some new) (f m) → f n ≡ Some old → see (Some new) ≡ see (Some old) → see (g m) ≡ see (f m)
+  same_seen old new written at same = ap see written ∙ by (nat_eq m n) refl
     where
-      by : (a : Bool) → nat_eq n m ≡ a → see (cond a (Some new) (f m)) ≡ see (f m)
-      by true p = same ∙ (ap see (sym at) ∙ ap (λ k. see (f k)) (eqb-true n m p))
+      by : (a : Bool) → nat_eq m n ≡ a → see (cond a (Some new) (f m)) ≡ see (f m)
+      by true p = same ∙ (ap see (sym at) ∙ ap (λ k. see (f k)) (sym (eqb-true m n p)))
+      by false p = refl
+
+  -- the value that is gone looked like none
+  pub drop_seen : (old : V) → g m ≡ cond (nat_eq m n) None (f m) → f n ≡ Some old → see None ≡ see (Some old) → see (g m) ≡ see (f m)
+  drop_seen old written at same = ap see written ∙ by (nat_eq m n) refl
+    where
+      by : (a : Bool) → nat_eq m n ≡ a → see (cond a None (f m)) ≡ see (f m)
+      by true p = same ∙ (ap see (sym at) ∙ ap (λ k. see (f k)) (sym (eqb-true m n p)))
       by false p = refl
 
   -- the value at one node looks different where `here` says so
-  pub put_seen : (new : V) (here : Bool) (r : R) → g m ≡ cond (nat_eq n m) (Some new) (f m) → see (Some new) ≡ cond here r (see (f n))
+  pub put_seen : (new : V) (here : Bool) (r : R) → g m ≡ cond (nat_eq m n) (Some new) (f m) → see (Some new) ≡ cond here r (see (f n))
       → see (g m) ≡ cond ((m == n) && here) r (see (f m))
-  put_seen new here r written each = ap see written ∙ by (nat_eq n m) refl (m == n) refl
+  put_seen new here r written each = ap see written ∙ by (nat_eq m n) refl
     where
-      by : (a : Bool) → nat_eq n m ≡ a → (b : Bool) → (m == n) ≡ b → see (cond a (Some new) (f m)) ≡ cond (b && here) r (see (f m))
-      by true p true q = each ∙ ap (λ k. cond here r (see (f k))) (sym (eqb-true m n q))
-      by true p false q = absurd (true≢false (sym ((Decides-eqb m n).1 (sym (eqb-true n m p))) ∙ q))
-      by false p true q = absurd (true≢false (sym ((Decides-eqb n m).1 (sym (eqb-true m n q))) ∙ p))
-      by false p false q = refl
+      by : (a : Bool) → nat_eq m n ≡ a → see (cond a (Some new) (f m)) ≡ cond (a && here) r (see (f m))
+      by true p = each ∙ ap (λ k. cond here r (see (f k))) (sym (eqb-true m n p))
+      by false p = refl
+
+  -- the value at one node is changed where `here` says so
+  module _ (change : Bool → R → R) (same : (r : R) → change false r ≡ r) (here : Bool) where
+    pub change_seen : (new : V) → g m ≡ cond (nat_eq m n) (Some new) (f m) → see (Some new) ≡ change here (see (f n)) → see (g m) ≡ change ((m == n) && here) (see (f m))
+    change_seen new written each = ap see written ∙ by (nat_eq m n) refl
+      where
+        by : (a : Bool) → nat_eq m n ≡ a → see (cond a (Some new) (f m)) ≡ change (a && here) (see (f m))
+        by true p = each ∙ ap (λ k. change here (see (f k))) (sym (eqb-true m n p))
+        by false p = sym (same (see (f m)))
+
+    -- and there is none to be changed
+    pub keep_seen : f n ≡ None → see None ≡ change here (see None) → see (f m) ≡ change ((m == n) && here) (see (f m))
+    keep_seen none each = by (nat_eq m n) refl
+      where
+        by : (a : Bool) → nat_eq m n ≡ a → see (f m) ≡ change (a && here) (see (f m))
+        by true p = let gone : f m ≡ None = ap f (eqb-true m n p) ∙ none in subst (λ o. see o ≡ change here (see o)) (sym gone) each
+        by false p = sym (same (see (f m)))
+
+-- ---- blocked
+
+pub same_where_not : (matches plus : Bool) (o : Option Cell) → cell_blocked false matches plus o ≡ o
+same_where_not matches plus o = refl
+
+pub none_blocked : (here matches plus : Bool) → None ≡ cell_blocked here matches plus None
+none_blocked true matches plus = refl
+none_blocked false matches plus = refl
+
+pub side_blocked : (old new : Memory) (matches : List ℕ → Bool) (plus : Bool) → ((t : List ℕ) → cell_of new.left t ≡ option_map (blocked (matches t) plus) (cell_of old.left t)) → new.right ≡ old.right
+    → (s : Side) (t : List ℕ) → cell_of (side_of new s) t ≡ cell_blocked (are_same_sides s Left) (matches t) plus (cell_of (side_of old s) t)
+side_blocked old new matches plus left right Left t = left t
+side_blocked old new matches plus left right Right t = ap (λ kept. cell_of kept t) right
 
 -- ---- sums and blockers
 

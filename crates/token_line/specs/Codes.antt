@@ -1,9 +1,7 @@
 -- The memories of one node by the codes of their tokens, and those of all nodes of a line.
 use Rattle.std.specs.Prelude.{◌≡◌, ◌≢◌, ◌==◌, ℕ, pos, Bool, List, [], ◌∷◌, nat_eq, Option, Some, None, IsSome, if◌then◌else◌}
-use Rattle.std.specs.Global.{Box}
-use Rattle.std.specs.Map.{keys_of}
+use Rattle.std.specs.Map.{keys_of, lookup}
 use Rattle.std.specs.Option.{option_map, option_or}
-use Rattle.indexmap.specs.IndexMap.{IndexMap, get}
 use Rattle.net_base.specs.declared.tasks.Side.{Side}
 use Rattle.token_line.specs.declared.memory.Memory.{Memory}
 use Rattle.token_line.specs.declared.memories.Memories.{Memories}
@@ -19,31 +17,18 @@ tokens_of None s = []
 tokens_of (Some memory) s = side_of memory s
 
 -- what is kept of a token with this code
-abbrev pub kept_among : {S : Type 0} → IndexMap ℕ Memory S → ℕ → Side → List ℕ → Option Cell
-kept_among memories c s t = cell_of (tokens_of (get nat_eq memories c) s) t
-
--- the memory of a code other than the first, none where there is no map of them
-abbrev pub other_memory : {S : Type 0} → Option (Box (IndexMap ℕ Memory S)) → ℕ → Option Memory
-other_memory None c = None
-other_memory (Some others) c = get nat_eq others.value c
-
--- what is kept of a token with such a code
-abbrev pub other_cell : {S : Type 0} → Option (Box (IndexMap ℕ Memory S)) → ℕ → Side → List ℕ → Option Cell
-other_cell others c s t = cell_of (tokens_of (other_memory others c) s) t
-
-abbrev pub other_codes : {S : Type 0} → Option (Box (IndexMap ℕ Memory S)) → List ℕ
-other_codes None = []
-other_codes (Some others) = keys_of others.value.entries
+abbrev pub kept_among : List (ℕ × Memory) → ℕ → Side → List ℕ → Option Cell
+kept_among memories c s t = cell_of (tokens_of (lookup (nat_eq c) memories) s) t
 
 -- the memory of the tokens with this code, none where there are none
 abbrev pub memory_under : Memories → ℕ → Option Memory
-memory_under m c = if c == m.code then Some m.first else other_memory m.others c
+memory_under m c = if c == m.code then Some m.first else lookup (nat_eq c) m.others
 
 abbrev pub cell_under : Memories → ℕ → Side → List ℕ → Option Cell
 cell_under m c s t = cell_of (tokens_of (memory_under m c) s) t
 
 abbrev pub codes_of : Memories → List ℕ
-codes_of m = m.code ∷ other_codes m.others
+codes_of m = m.code ∷ keys_of m.others
 
 -- what the first of these codes has, of those that have something
 abbrev pub first_some : {X : Type 0} → (ℕ → Option X) → List ℕ → Option X
@@ -71,17 +56,17 @@ codes_among None = []
 codes_among (Some m) = codes_of m
 
 -- what is kept of a token of one side of a node under a code
-abbrev pub filed_among : {S : Type 0} → IndexMap ℕ Memories S → ℕ → ℕ → Side → List ℕ → Option Cell
-filed_among memories n c s t = cell_of (tokens_of (memory_of (get nat_eq memories n) c) s) t
+abbrev pub filed_among : List (ℕ × Memories) → ℕ → ℕ → Side → List ℕ → Option Cell
+filed_among memories n c s t = cell_of (tokens_of (memory_of (lookup (nat_eq n) memories) c) s) t
 
 -- the same, whatever the code
-abbrev pub cell_among : {S : Type 0} → IndexMap ℕ Memories S → ℕ → Side → List ℕ → Option Cell
-cell_among memories n s t = first_some (λ c. filed_among memories n c s t) (codes_among (get nat_eq memories n))
+abbrev pub cell_among : List (ℕ × Memories) → ℕ → Side → List ℕ → Option Cell
+cell_among memories n s t = first_some (λ c. filed_among memories n c s t) (codes_among (lookup (nat_eq n) memories))
 
 -- no token of one side of a node is kept under two codes
-abbrev pub AreApart : {S : Type 0} → IndexMap ℕ Memories S → Type 0
+abbrev pub AreApart : List (ℕ × Memories) → Type 0
 AreApart memories = (n c d : ℕ) (s : Side) (t : List ℕ) → IsSome (filed_among memories n c s t) → IsSome (filed_among memories n d s t) → c ≡ d
 
 -- no token is kept with a sum of 0
-abbrev pub HaveSums : {S : Type 0} → IndexMap ℕ Memories S → Type 0
+abbrev pub HaveSums : List (ℕ × Memories) → Type 0
 HaveSums memories = (n c : ℕ) (s : Side) (t : List ℕ) → IsSome (filed_among memories n c s t) → sum_kept (filed_among memories n c s t) ≢ pos 0

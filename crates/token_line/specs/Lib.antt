@@ -4,7 +4,8 @@ pub mod Numbers
 pub mod Held
 pub mod OneLine
 pub mod Pairs
-pub mod Rooms
+pub mod SmallMap
+pub mod SmallMapLends
 pub mod Sums
 pub mod Codes
 pub mod Spots

@@ -1,7 +1,7 @@
 -- What a line holds: a sum for each node, side and token, a number for each node and left token, and the code under
 -- which it keeps a token.
 use Rattle.std.specs.Prelude.{◌≡◌, ◌≢◌, ◌⊎◌, ℕ, true, List, nat_eq, Option, None, IsSome}
-use Rattle.indexmap.specs.IndexMap.{get}
+use Rattle.std.specs.Map.{lookup}
 use Rattle.net_base.specs.declared.tasks.Side.{Side}
 use Rattle.net_base.specs.declared.tasks.Side.TheVariants.{Left}
 use Rattle.net_base.specs.declared.tasks.Task.{Task}
@@ -16,7 +16,7 @@ use Rattle.token_line.specs.Sums.{blockers_kept, sum_kept}
 
 -- the memory of a node's tokens with this code, none where it has none
 abbrev pub memory_at : Line → ℕ → ℕ → Option Memory
-memory_at line n c = memory_of (get nat_eq line.memories n) c
+memory_at line n c = memory_of (lookup (nat_eq n) line.memories) c
 
 -- what is kept of a token of one side of a node under a code
 abbrev pub filed_in : Line → ℕ → ℕ → Side → List ℕ → Option Cell

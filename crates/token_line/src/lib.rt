@@ -9,6 +9,7 @@ pub mod line;
 mod memories;
 pub mod memory;
 pub mod number;
+mod small_map;
 mod spot;
 #[cfg(test)]
 mod tests;

@@ -14,9 +14,9 @@ use crate::children::Children;
 use crate::deed::Deed;
 use crate::memories::Memories;
 use crate::memory::Memory;
+use crate::small_map::SmallMap;
 use crate::spot::{Spot, spot_in, sum_of};
 use crate::tokens::Cell;
-use indexmap::IndexMap;
 use net_base::nodes::JoinTest;
 use net_base::tags::Tags;
 use net_base::tasks::{Side, Task};
@@ -36,7 +36,7 @@ pub struct Entry {
 #[derive(Drop)]
 pub struct Line {
     number: usize,
-    memories: IndexMap<usize, Memories>,
+    memories: SmallMap<usize, Memories>,
     entries: Vec<Entry>,
     told: Vec<Task>,
     ghost apart: { AreApart memories },
@@ -102,19 +102,20 @@ fn tell(told: &mut Vec<Task>, task: Option<Task>)
 }
 
 /// A node with no token left leaves the line.
-fn drop_if_empty(memories: &mut IndexMap<usize, Memories>, place: usize)
+fn drop_if_empty(memories: &mut SmallMap<usize, Memories>, place: usize)
+    requires { place < length memories.old }
     ensures { (n c : ℕ) (s : Side) (t : List ℕ) → filed_among memories.new n c s t ≡ filed_among memories.old n c s t }
 {
-    if let Some((_node, of_node)) = memories.get_index(place)
-        && of_node.is_empty()
-    {
-        memories.swap_remove_index(place);
+    let _apart = memories.len();
+    let (_node, of_node) = memories.pair(place);
+    if of_node.is_empty() {
+        memories.remove(place);
     }
 }
 
 /// Keeps something else of the token at the spot, or keeps it no more. Where memory runs out, nothing has changed.
 fn put(
-    memories: &mut IndexMap<usize, Memories>,
+    memories: &mut SmallMap<usize, Memories>,
     alloc: Global,
     spot: &Spot,
     task: &Task,
@@ -125,16 +126,17 @@ fn put(
     ensures ok { OnOk result ((n c : ℕ) (s : Side) (t : List ℕ) → filed_among memories.new n c s t ≡ (if (c == spot.now.code) && is_at n s t task.now then cell else filed_among memories.old n c s t)) }
     ensures err { OnErr result ((n c : ℕ) (s : Side) (t : List ℕ) → filed_among memories.new n c s t ≡ filed_among memories.old n c s t) }
 {
-    let _unique = memories.len();
+    let _apart = memories.len();
     match spot.node {
         Some(place) => {
-            memories[place].put(alloc, spot, task, cell)?;
+            memories.value_mut(place).put(alloc, spot, task, cell)?;
             drop_if_empty(memories, place);
         }
         None => {
             let mut memory = Memory::new(alloc);
             memory.put(alloc, task.side, None, &task.token, cell)?;
-            memories.insert(task.node, Memories::with_first(spot.code, memory))?;
+            let first = Memories::with_first(alloc, spot.code, memory);
+            memories.push(alloc, task.node, first)?;
         }
     }
     Ok(())
@@ -142,7 +144,7 @@ fn put(
 
 /// One right token more, or one less, for each left token of the node with this code that it matches.
 fn block(
-    memories: &mut IndexMap<usize, Memories>,
+    memories: &mut SmallMap<usize, Memories>,
     store: &Store,
     tests: &[JoinTest],
     node: usize,
@@ -153,8 +155,11 @@ fn block(
     requires room { plus ≡ true → (t : List ℕ) → sum_kept (filed_among memories.old node code Left t) ≢ pos 0 → blockers_kept (filed_among memories.old node code Left t) < 2 ^ 64 - 1 }
     ensures { (n c : ℕ) (s : Side) (t : List ℕ) → filed_among memories.new n c s t ≡ cell_blocked ((n == node) && ((c == code) && are_same_sides s Left)) (joins_hold tests.now (held_of store.now) t tag) plus (filed_among memories.old n c s t) }
 {
-    if let Some(of_node) = memories.get_mut(&node) {
-        of_node.block(store, tests, code, tag, plus);
+    let _apart = memories.len();
+    if let Some(place) = memories.find(&node) {
+        memories
+            .value_mut(place)
+            .block(store, tests, code, tag, plus);
     }
 }
 
@@ -171,7 +176,7 @@ impl Line {
     {
         Line {
             number,
-            memories: IndexMap::new(alloc),
+            memories: SmallMap::new(alloc),
             entries: Vec::new(alloc),
             told: Vec::new(alloc),
         }
@@ -227,9 +232,9 @@ impl Line {
         ensures code { result.0.code ≡ code }
         ensures memory { option_copied result.1 ≡ memory_at self.now node code }
     {
-        match self.memories.get_full(&node) {
-            Some((place, _node, of_node)) => {
-                let memory = of_node.memory(code);
+        match self.memories.find(&node) {
+            Some(place) => {
+                let memory = self.memories.pair(place).1.memory(code);
                 (spot_in(memory, Some(place), code, side, token), memory)
             }
             None => (spot_in(None, None, code, side, token), None),

@@ -1,20 +1,20 @@
 //! The memories of one node on one line: the tokens with one code have one memory.
-ghost use Rattle.std.specs.Prelude.{◌≡◌, ◌≢◌, ◌<◌, ◌==◌, ◌&&◌, ◌-◌, ◌^◌, [], IfSome, IsTrue, List, None, OnErr, OnOk, bytes_eq, if◌then◌else◌, nat_eq, pos, true, ℕ};
+ghost use Rattle.std.specs.Prelude.{◌≡◌, ◌≢◌, ◌<◌, ◌==◌, ◌&&◌, ◌-◌, ◌^◌, [], IfSome, IsTrue, List, None, length, OnErr, OnOk, bytes_eq, if◌then◌else◌, nat_eq, pos, true, ℕ};
+ghost use Rattle.std.specs.Map.{keys_of, lookup};
 ghost use Rattle.std.specs.Option.{option_copied};
-ghost use Rattle.indexmap.specs.IndexMap.{get};
 ghost use Rattle.work_store.specs.Stored.{held_of};
 ghost use Rattle.net_base.specs.declared.tasks.Side.{Side};
 ghost use Rattle.net_base.specs.declared.tasks.Side.TheVariants.{Left};
 ghost use Rattle.net_base.specs.Tokens.{joins_hold};
 ghost use Rattle.token_line.specs.Bags.{are_same_sides};
-ghost use Rattle.token_line.specs.Codes.{cell_blocked, cell_in, cell_under, first_some, kept_among, memory_under, other_cell, other_codes, other_memory, tokens_of};
+ghost use Rattle.token_line.specs.Codes.{cell_blocked, cell_in, cell_under, first_some, kept_among, memory_under, tokens_of};
 ghost use Rattle.token_line.specs.Pairs.{cell_of, place_of};
 ghost use Rattle.token_line.specs.Sums.{blockers_kept, sum_kept};
 
 use crate::memory::Memory;
+use crate::small_map::SmallMap;
 use crate::spot::Spot;
 use crate::tokens::Cell;
-use indexmap::IndexMap;
 use net_base::nodes::JoinTest;
 use net_base::tags::Tags;
 use net_base::tasks::{Side, Task};
@@ -23,113 +23,78 @@ use std::alloc::Global;
 use work_store::Store;
 
 /// The memories of one node on one line, by the codes of their tokens. The one whose code came first stands apart from
-/// the others: where a line has tokens of one code alone, no map is made for them. The map is boxed, since a line keeps
-/// room for the memories of several nodes.
+/// the others: where a line has tokens of one code alone, no room is taken for others.
 #[derive(Drop)]
 pub(crate) struct Memories {
     code: u64,
     first: Memory,
-    others: Option<Box<IndexMap<u64, Memory>>>,
+    others: SmallMap<u64, Memory>,
 }
 
 /// A memory that has become empty leaves the others.
-fn drop_if_empty(memories: &mut IndexMap<u64, Memory>, place: usize)
-    ensures { (c : ℕ) (s : Side) (t : List ℕ) → kept_among memories.new c s t ≡ kept_among memories.old c s t }
+fn drop_if_empty(others: &mut SmallMap<u64, Memory>, place: usize)
+    requires { place < length others.old }
+    ensures { (c : ℕ) (s : Side) (t : List ℕ) → kept_among others.new c s t ≡ kept_among others.old c s t }
 {
-    if let Some((_code, memory)) = memories.get_index(place)
-        && memory.is_empty()
-    {
-        memories.swap_remove_index(place);
+    let _apart = others.len();
+    let (_code, memory) = others.pair(place);
+    if memory.is_empty() {
+        others.remove(place);
     }
 }
 
 /// Keeps something else of the token at the spot, or keeps it no more. Where memory runs out, nothing has changed.
 fn put_among(
-    memories: &mut IndexMap<u64, Memory>,
+    others: &mut SmallMap<u64, Memory>,
     alloc: Global,
     spot: &Spot,
     task: &Task,
     cell: Option<Cell>,
 ) -> Result<(), OutOfMemory>
-    requires token { spot.now.token ≡ place_of (tokens_of (get nat_eq memories.old spot.now.code) task.now.side) task.now.token }
+    requires token { spot.now.token ≡ place_of (tokens_of (lookup (nat_eq spot.now.code) others.old) task.now.side) task.now.token }
     requires some { IfSome cell (λ c. c.sum ≢ pos 0) }
-    ensures ok { OnOk result ((c : ℕ) (s : Side) (t : List ℕ) → kept_among memories.new c s t ≡ (if (c == spot.now.code) && (are_same_sides s task.now.side && bytes_eq t task.now.token) then cell else kept_among memories.old c s t)) }
-    ensures err { OnErr result ((c : ℕ) (s : Side) (t : List ℕ) → kept_among memories.new c s t ≡ kept_among memories.old c s t) }
+    ensures ok { OnOk result ((c : ℕ) (s : Side) (t : List ℕ) → kept_among others.new c s t ≡ (if (c == spot.now.code) && (are_same_sides s task.now.side && bytes_eq t task.now.token) then cell else kept_among others.old c s t)) }
+    ensures err { OnErr result ((c : ℕ) (s : Side) (t : List ℕ) → kept_among others.new c s t ≡ kept_among others.old c s t) }
 {
-    let code = spot.code;
-    match memories.get_index_of(&code) {
+    let _apart = others.len();
+    match others.find(&spot.code) {
         Some(place) => {
-            memories[place].put(alloc, task.side, spot.token, &task.token, cell)?;
-            drop_if_empty(memories, place);
+            others
+                .value_mut(place)
+                .put(alloc, task.side, spot.token, &task.token, cell)?;
+            drop_if_empty(others, place);
         }
         None => {
             let mut memory = Memory::new(alloc);
             memory.put(alloc, task.side, None, &task.token, cell)?;
-            memories.insert(code, memory)?;
+            others.push(alloc, spot.code, memory)?;
         }
     }
     Ok(())
 }
 
-/// The same where there may be no map yet: it is made for the first memory in it.
-fn put_elsewhere(
-    others: &mut Option<Box<IndexMap<u64, Memory>>>,
-    alloc: Global,
-    spot: &Spot,
-    task: &Task,
-    cell: Option<Cell>,
-) -> Result<(), OutOfMemory>
-    requires token { spot.now.token ≡ place_of (tokens_of (other_memory others.old spot.now.code) task.now.side) task.now.token }
-    requires some { IfSome cell (λ c. c.sum ≢ pos 0) }
-    ensures ok { OnOk result ((c : ℕ) (s : Side) (t : List ℕ) → other_cell others.new c s t ≡ (if (c == spot.now.code) && (are_same_sides s task.now.side && bytes_eq t task.now.token) then cell else other_cell others.old c s t)) }
-    ensures err { OnErr result ((c : ℕ) (s : Side) (t : List ℕ) → other_cell others.new c s t ≡ other_cell others.old c s t) }
-{
-    match others {
-        Some(memories) => put_among(memories, alloc, spot, task, cell),
-        None => {
-            let mut memories = IndexMap::new(alloc);
-            put_among(&mut memories, alloc, spot, task, cell)?;
-            *others = Some(Box::new(alloc, memories)?);
-            Ok(())
-        }
-    }
-}
-
-/// Whether there is no memory in the map, or no map.
-fn are_empty(others: &Option<Box<IndexMap<u64, Memory>>>) -> bool
-    ensures { IsTrue result → (c : ℕ) (s : Side) (t : List ℕ) → other_cell others.now c s t ≡ None }
-{
-    match others {
-        Some(memories) => memories.is_empty(),
-        None => true,
-    }
-}
-
 impl Memories {
     /// The one memory of a node with these tokens. Takes no memory.
-    pub(crate) fn with_first(code: u64, first: Memory) -> Memories
+    pub(crate) fn with_first(alloc: Global, code: u64, first: Memory) -> Memories
         ensures code { result.code ≡ code }
         ensures first { result.first ≡ first }
-        ensures others { result.others ≡ None }
+        ensures others { result.others ≡ [] }
     {
         Memories {
             code,
             first,
-            others: None,
+            others: SmallMap::new(alloc),
         }
     }
 
-    /// The memory of the tokens with this code. It hashes the code, where it is not the first. Takes no memory.
+    /// The memory of the tokens with this code. It looks for the code where it is not the first. Takes no memory.
     pub(crate) fn memory(&self, code: u64) -> Option<&Memory>
         ensures { option_copied result ≡ memory_under self.now code }
     {
         if code == self.code {
             Some(&self.first)
         } else {
-            match &self.others {
-                Some(others) => others.get(&code),
-                None => None,
-            }
+            self.others.get(&code)
         }
     }
 
@@ -154,12 +119,10 @@ impl Memories {
 
     /// The same with a code other than the first.
     fn cell_of_others(&self, side: Side, token: &Tags) -> Option<Cell>
-        ensures { result ≡ first_some (λ c. cell_under self.now c side token.now) (other_codes self.now.others) }
+        ensures { result ≡ first_some (λ c. cell_under self.now c side token.now) (keys_of self.now.others) }
     {
-        let Some(others) = &self.others else {
-            return None;
-        };
-        for code in others.keys() {
+        for place in 0..self.others.len() {
+            let (code, _memory) = self.others.pair(place);
             if let Some(cell) = self.cell_under(*code, side, token) {
                 return Some(cell);
             }
@@ -171,7 +134,7 @@ impl Memories {
     pub(crate) fn is_empty(&self) -> bool
         ensures { IsTrue result → (c : ℕ) (s : Side) (t : List ℕ) → cell_under self.now c s t ≡ None }
     {
-        self.first.is_empty() && are_empty(&self.others)
+        self.first.is_empty() && self.others.is_empty()
     }
 
     /// Keeps something else of the token at the spot, or keeps it no more. Where memory runs out, nothing has changed.
@@ -191,7 +154,7 @@ impl Memories {
             self.first
                 .put(alloc, task.side, spot.token, &task.token, cell)
         } else {
-            put_elsewhere(&mut self.others, alloc, spot, task, cell)
+            put_among(&mut self.others, alloc, spot, task, cell)
         }
     }
 
@@ -210,41 +173,25 @@ impl Memories {
         if code == self.code {
             self.first.block(store, tests, tag, plus);
         } else {
-            block_elsewhere(&mut self.others, store, tests, code, tag, plus);
+            block_among(&mut self.others, store, tests, code, tag, plus);
         }
     }
 }
 
-/// The same where there may be no others.
-fn block_elsewhere(
-    others: &mut Option<Box<IndexMap<u64, Memory>>>,
-    store: &Store,
-    tests: &[JoinTest],
-    code: u64,
-    tag: u64,
-    plus: bool,
-)
-    requires room { plus ≡ true → (t : List ℕ) → sum_kept (other_cell others.old code Left t) ≢ pos 0 → blockers_kept (other_cell others.old code Left t) < 2 ^ 64 - 1 }
-    ensures { (c : ℕ) (s : Side) (t : List ℕ) → other_cell others.new c s t ≡ cell_blocked ((c == code) && are_same_sides s Left) (joins_hold tests.now (held_of store.now) t tag) plus (other_cell others.old c s t) }
-{
-    if let Some(memories) = others {
-        block_among(memories, store, tests, code, tag, plus);
-    }
-}
-
-/// The same among the others.
+/// The same of one whose code is not the first.
 fn block_among(
-    memories: &mut IndexMap<u64, Memory>,
+    others: &mut SmallMap<u64, Memory>,
     store: &Store,
     tests: &[JoinTest],
     code: u64,
     tag: u64,
     plus: bool,
 )
-    requires room { plus ≡ true → (t : List ℕ) → sum_kept (kept_among memories.old code Left t) ≢ pos 0 → blockers_kept (kept_among memories.old code Left t) < 2 ^ 64 - 1 }
-    ensures { (c : ℕ) (s : Side) (t : List ℕ) → kept_among memories.new c s t ≡ cell_blocked ((c == code) && are_same_sides s Left) (joins_hold tests.now (held_of store.now) t tag) plus (kept_among memories.old c s t) }
+    requires room { plus ≡ true → (t : List ℕ) → sum_kept (kept_among others.old code Left t) ≢ pos 0 → blockers_kept (kept_among others.old code Left t) < 2 ^ 64 - 1 }
+    ensures { (c : ℕ) (s : Side) (t : List ℕ) → kept_among others.new c s t ≡ cell_blocked ((c == code) && are_same_sides s Left) (joins_hold tests.now (held_of store.now) t tag) plus (kept_among others.old c s t) }
 {
-    if let Some(memory) = memories.get_mut(&code) {
-        memory.block(store, tests, tag, plus);
+    let _apart = others.len();
+    if let Some(place) = others.find(&code) {
+        others.value_mut(place).block(store, tests, tag, plus);
     }
 }

@@ -1,5 +1,4 @@
-//! The tokens of one side of a node that have one code, on one line, each with what is kept of it: a list while they
-//! are few, a map where they are many.
+//! The tokens of one side of a node that have one code, on one line, each with what is kept of it.
 ghost use Rattle.std.specs.Prelude.{◌≡◌, ◌≢◌, ◌<◌, ◌==◌, ◌-◌, ◌^◌, ◌++◌, ◌∷◌, ◌↔◌, [], IfOk, IfSome, IsTrue, List, None, OnErr, OnOk, Some, bytes_eq, if◌then◌else◌, length, pos, position, slice_get, true, ℕ};
 ghost use Rattle.std.specs.List.{IsDistinct, swap_remove};
 ghost use Rattle.std.specs.Map.{keys_of, lookup};
@@ -8,20 +7,16 @@ ghost use Rattle.indexmap.specs.IndexMap.{set_value_at};
 ghost use Rattle.work_store.specs.Stored.{held_of};
 ghost use Rattle.net_base.specs.Tokens.{joins_hold};
 ghost use Rattle.token_line.specs.Pairs.{ArePairs, cell_of, place_of};
-ghost use Rattle.token_line.specs.Rooms.{pairs_in};
 ghost use Rattle.token_line.specs.Sums.{blocked, blockers_of, counted, kept_sum};
 
 use crate::joining::joins;
-use indexmap::IndexMap;
+use crate::small_map::SmallMap;
 use net_base::nodes::JoinTest;
 use net_base::tags::Tags;
 use ops_base::memory::OutOfMemory;
 use std::alloc::Global;
 use std::marker::Model;
 use work_store::Store;
-
-/// So many tokens at most are kept as a list.
-const FEW: usize = 8;
 
 /// What is kept of a token: its sum, and a number of blockers. With a left token of a negated node that is how often
 /// right tokens stand that match it, which is for the caller to see to; with other tokens nothing goes by it.
@@ -31,17 +26,10 @@ pub struct Cell {
     pub blockers: u64,
 }
 
-// The map is boxed, since most memories never have one, and a line keeps room for several memories.
-#[derive(Drop)]
-enum Room {
-    Few(Vec<(Tags, Cell)>),
-    Many(Box<IndexMap<Tags, Cell>>),
-}
-
 /// Tokens, each with its cell; none has the sum 0.
 #[derive(Drop)]
 pub struct Tokens {
-    room: Room,
+    pairs: SmallMap<Tags, Cell>,
 }
 
 impl Model for Tokens {
@@ -50,40 +38,11 @@ impl Model for Tokens {
 
     ghost Value = { List (List ℕ × Cell) };
 
-    ghost use Rattle.token_line.specs.Rooms.{pairs_in};
     ghost use Rattle.token_line.specs.Pairs.{ArePairs};
 
-    ghost view = { λ c. pairs_in c.room };
+    ghost view = { λ c. c.pairs };
 
-    ghost invariant = { λ c. ArePairs (pairs_in c.room) };
-}
-
-/// The same tokens as a map.
-fn as_map(alloc: Global, list: &[(Tags, Cell)]) -> Result<IndexMap<Tags, Cell>, OutOfMemory>
-    requires { IsDistinct bytes_eq (keys_of list.now) }
-    ensures { IfOk result (λ map. map.entries ≡ list.now) }
-{
-    let mut map = IndexMap::with_capacity(alloc, 2 * FEW)?;
-    for (token, cell) in list {
-        map.insert(token.copy(alloc)?, *cell)?;
-    }
-    Ok(map)
-}
-
-/// The place of a token in a list.
-fn place_in(list: &[(Tags, Cell)], token: &Tags) -> Option<usize>
-    ensures { result ≡ position (λ e. bytes_eq token.now e.0) list.now }
-{
-    list.iter().position(|pair| *token == pair.0)
-}
-
-/// Writes the cell at a place of a list.
-fn set_in(list: &mut Vec<(Tags, Cell)>, place: usize, cell: Cell)
-    requires { place < length list.old.items }
-    ensures { list.new.items ≡ set_value_at list.old.items place cell }
-{
-    let pair = &mut list[place];
-    pair.1 = cell;
+    ghost invariant = { λ c. ArePairs c.pairs };
 }
 
 /// One more, or one less, if there is one.
@@ -98,114 +57,13 @@ fn counted(count: u64, plus: bool) -> u64
     }
 }
 
-impl Room {
-    fn len(&self) -> usize
-        ensures { result ≡ length (pairs_in self.now) }
-    {
-        match self {
-            Room::Few(list) => list.len(),
-            Room::Many(map) => map.len(),
-        }
-    }
-
-    fn is_empty(&self) -> bool
-        ensures { result ≡ (length (pairs_in self.now) == 0) }
-    {
-        self.len() == 0
-    }
-
-    fn pair(&self, place: usize) -> (&Tags, Cell)
-        requires { place < length (pairs_in self.now) }
-        ensures { slice_get (pairs_in self.now) place ≡ Some (result.0.now, result.1) }
-    {
-        match self {
-            Room::Few(list) => {
-                let pair = &list[place];
-                (&pair.0, pair.1)
-            }
-            Room::Many(map) => {
-                let (token, cell) = map.get_index(place).unwrap();
-                (token, *cell)
-            }
-        }
-    }
-
-    fn find(&self, token: &Tags) -> Option<usize>
-        ensures { result ≡ place_of (pairs_in self.now) token.now }
-    {
-        match self {
-            Room::Few(list) => place_in(list.as_slice(), token),
-            Room::Many(map) => map.get_index_of(token),
-        }
-    }
-
-    fn set(&mut self, place: usize, cell: Cell)
-        requires { place < length (pairs_in self.old) }
-        ensures { pairs_in self.new ≡ set_value_at (pairs_in self.old) place cell }
-    {
-        match self {
-            Room::Few(list) => set_in(list, place, cell),
-            Room::Many(map) => map[place] = cell,
-        }
-    }
-
-    /// The last token takes the place of the one that is there.
-    fn remove(&mut self, place: usize)
-        requires { place < length (pairs_in self.old) }
-        ensures { IfSome (slice_get (pairs_in self.old) place) (λ e. pairs_in self.new ≡ swap_remove (pairs_in self.old) place e) }
-    {
-        match self {
-            Room::Few(list) => {
-                list.swap_remove(place);
-            }
-            Room::Many(map) => {
-                map.swap_remove_index(place);
-            }
-        }
-    }
-
-    /// Makes a map of a full list. Where memory runs out, nothing has changed.
-    fn widen(&mut self, alloc: Global) -> Result<(), OutOfMemory>
-        requires { IsDistinct bytes_eq (keys_of (pairs_in self.old)) }
-        ensures { pairs_in self.new ≡ pairs_in self.old }
-    {
-        if let Room::Few(list) = self
-            && list.len() >= FEW
-        {
-            let map = as_map(alloc, list.as_slice())?;
-            *self = Room::Many(Box::new(alloc, map)?);
-        }
-        Ok(())
-    }
-
-    /// Keeps a new token after the others. For the first it takes room for one: most memories have no more.
-    fn push(&mut self, token: Tags, cell: Cell) -> Result<(), OutOfMemory>
-        requires { lookup (bytes_eq token) (pairs_in self.old) ≡ None }
-        ensures ok { OnOk result (pairs_in self.new ≡ pairs_in self.old ++ (token, cell) ∷ []) }
-        ensures err { OnErr result (pairs_in self.new ≡ pairs_in self.old) }
-    {
-        match self {
-            Room::Few(list) => {
-                if list.is_empty() {
-                    list.reserve_exact(1)?;
-                }
-                list.push((token, cell))?;
-            }
-            Room::Many(map) => {
-                map.insert(token, cell)?;
-            }
-        }
-        Ok(())
-    }
-}
-
 impl Tokens {
     /// No tokens. Takes no memory.
     pub(crate) fn new(alloc: Global) -> Tokens
         ensures { result ≡ [] }
     {
         Tokens {
-            room: Room::Few(Vec::new(alloc)),
+            pairs: SmallMap::new(alloc),
         }
     }
 
@@ -214,14 +72,14 @@ impl Tokens {
         ensures len { result ≡ length self.now }
         ensures pairs { ArePairs self.now }
     {
-        self.room.len()
+        self.pairs.len()
     }
 
     /// Takes no memory.
     pub fn is_empty(&self) -> bool
         ensures { IsTrue result ↔ (self.now ≡ []) }
     {
-        self.room.is_empty()
+        self.pairs.is_empty()
     }
 
     /// The token at a place, and what is kept of it. Takes no memory.
@@ -230,7 +88,8 @@ impl Tokens {
         ensures pair { slice_get self.now place ≡ Some (result.0.now, result.1) }
         ensures some { result.1.sum ≢ pos 0 }
     {
-        self.room.pair(place)
+        let (token, cell) = self.pairs.pair(place);
+        (token, *cell)
     }
 
     /// The place of a token. It compares the token with each where they are few, and hashes it where they are many.
@@ -238,7 +97,7 @@ impl Tokens {
     pub fn find(&self, token: &Tags) -> Option<usize>
         ensures { result ≡ place_of self.now token.now }
     {
-        self.room.find(token)
+        self.pairs.find(token)
     }
 
     /// What is kept of a token that has this place. Takes no memory.
@@ -260,7 +119,7 @@ impl Tokens {
         requires some { cell.sum ≢ pos 0 }
         ensures { self.new ≡ set_value_at self.old place cell }
     {
-        self.room.set(place, cell);
+        *self.pairs.value_mut(place) = cell;
     }
 
     /// The last token takes the place of the one that is there. Takes no memory.
@@ -268,7 +127,7 @@ impl Tokens {
         requires { place < length self.old }
         ensures { IfSome (slice_get self.old place) (λ e. self.new ≡ swap_remove self.old place e) }
     {
-        self.room.remove(place);
+        self.pairs.remove(place);
     }
 
     /// Keeps a new token after the others. The ninth makes a map of the list. Where memory runs out, nothing has changed.
@@ -283,9 +142,7 @@ impl Tokens {
         ensures ok { OnOk result (self.new ≡ self.old ++ (token.now, cell) ∷ []) }
         ensures err { OnErr result (self.new ≡ self.old) }
     {
-        let token = token.copy(alloc)?;
-        self.room.widen(alloc)?;
-        self.room.push(token, cell)
+        self.pairs.push(alloc, token.copy(alloc)?, cell)
     }
 
     /// Keeps something else of a token that has this place, or keeps it no more. Where memory runs out, nothing has changed.

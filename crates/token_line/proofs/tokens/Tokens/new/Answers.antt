@@ -3,4 +3,4 @@ use Rattle.token_line.proofs.PairLemmas.{no_pairs}
 use Rattle.token_line.proofs.tokens.Tokens.new.Goals as goal
 
 pub invariant_of-result : goal.invariant_of-result
-invariant_of-result c = no_pairs c.new.result.items c.new.ensures.items
+invariant_of-result c = no_pairs c.new.result c.new.ensures
