@@ -1,7 +1,7 @@
 -- Pairs with keys of which none is there twice, once one of them is written, added or taken out.
-use Rattle.std.proofs.Common.{inl, inr, ◌≡◌, ℕ, zero, suc, ◌+◌, ◌<◌, Bool, true, false, cond, ◌||◌, List, [], ◌∷◌, ◌++◌, length, map, slice_get, slice_index_or, slice_set, Option, Some, None, IfSome, IsOk, Result, Ok, Err, OnOk, OnErr, refl, sym, ap, subst, ◌∙◌, arith, add-one, append_assoc, position, drop, is_some, true≢false, ◌≤◌}
+use Rattle.std.proofs.Common.{not, nat_lt, inl, inr, ◌≡◌, ℕ, zero, suc, ◌+◌, ◌<◌, Bool, true, false, cond, ◌||◌, List, [], ◌∷◌, ◌++◌, length, map, slice_get, slice_index_or, slice_set, Option, Some, None, IfSome, IsOk, Result, Ok, Err, OnOk, OnErr, refl, sym, ap, ap₂, subst, ◌∙◌, arith, add-one, append_assoc, position, drop, is_some, true≢false, ◌≤◌}
 use Rattle.std.specs.Cmp.{IsEquivalence}
-use Rattle.std.specs.List.{AllByRecursion, IsDistinct, list_any, swap_remove}
+use Rattle.std.specs.List.{AllByRecursion, IsDistinct, list_any, prefix_len, swap_remove}
 use Rattle.std.specs.List.Sorted.{IsPermutation}
 use Rattle.std.specs.Map.{keys_of, lookup, values_of}
 use Rattle.std.specs.declared.vec.Vec.{Vec}
@@ -21,6 +21,18 @@ use Rattle.token_line.specs.declared.small_map.Room.TheVariants.{Few, Many}
 pub on_ok_at : {T E P : Type 0} (r : Result T E) → OnOk r P → IsOk r → P
 on_ok_at (Ok x) h ok = h
 on_ok_at (Err e) h ok = absurd (cc)
+
+-- a place among the keys is one among the pairs
+before_map : {X Y : Type 0} (p : Y → Bool) (f : X → Y) (xs : List X) → prefix_len p (map f xs) ≡ prefix_len (λ x. p (f x)) xs
+before_map p f [] = refl
+before_map p f (x ∷ xs) = ap (λ n. cond (p (f x)) (1 + n) 0) (before_map p f xs)
+
+length_map : {X Y : Type 0} (f : X → Y) (xs : List X) → length (map f xs) ≡ length xs
+length_map f [] = refl
+length_map f (x ∷ xs) = ap suc (length_map f xs)
+
+pub position-map : {X Y : Type 0} (p : Y → Bool) (f : X → Y) (xs : List X) → position p (map f xs) ≡ position (λ x. p (f x)) xs
+position-map p f xs = ap₂ (λ n m. cond (nat_lt n m) (Some n) None) (before_map (λ y. not (p y)) f xs) (length_map f xs)
 
 pub no_keys : {K : Type 0} (eq : K → K → Bool) → IsDistinct eq []
 unfolding IsDistinct

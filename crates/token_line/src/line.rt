@@ -209,8 +209,9 @@ impl Line {
         }
     }
 
-    /// The sum of a left token of a node, 0 where it is not kept. It hashes the node, and looks for the token as
-    /// `Tokens::find` does, under one code after another: those of a terminal all have one. Takes no memory.
+    /// The sum of a left token of a node, 0 where it is not kept. It compares the node with those of the line where they
+    /// are few, and hashes it where they are many. It looks for the token as `Tokens::find` does, under one code after
+    /// another: those of a terminal all have one. Takes no memory.
     pub fn left_sum(&self, node: usize, token: &Tags) -> i64
         ensures { result ≡ sum_in self.now node Left token.now }
     {
@@ -224,9 +225,9 @@ impl Line {
         sum_of(self.cell(node, Side::Right, token))
     }
 
-    /// The spot of a token of one side of a node among those with its code, and the memory of these. It hashes the node
-    /// once, the code where the node has several on the line, and looks for the token once, as `Tokens::find` does.
-    /// Takes no memory.
+    /// The spot of a token of one side of a node among those with its code, and the memory of these. It looks once for
+    /// the node, for the code where the node has several on the line, and for the token: each is compared with the
+    /// others where they are few, and hashed where they are many. Takes no memory.
     pub fn find(&self, node: usize, code: u64, side: Side, token: &Tags) -> (Spot, Option<&Memory>)
         ensures spot { IsSpot self.now node side token.now result.0 }
         ensures code { result.0.code ≡ code }
@@ -283,8 +284,8 @@ impl Line {
         self.add_at(alloc, &spot, task, children, blockers, false)
     }
 
-    /// The same at the spot of the task's token, with no look for it. Where the token is new to a memory of many, it is
-    /// hashed. The task is copied where it is to be told of, and else its token alone, where that is new.
+    /// The same at the spot of the task's token, with no look for it. A token that is new to a memory of many is hashed,
+    /// and so is a code or a node that is new among many. The task is copied where it is to be told of, and else its token alone, where that is new.
     pub fn add_at(
         &mut self,
         alloc: Global,

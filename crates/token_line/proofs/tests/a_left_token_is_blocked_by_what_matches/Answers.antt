@@ -1,5 +1,5 @@
 -- Each token that is kept has the code under which it is looked for.
-use Rattle.std.proofs.Common.{◌≡◌, ◌<◌, ◌-◌, ◌^◌, arith}
+use Rattle.std.proofs.Common.{arith}
 use Rattle.net_base.specs.declared.tasks.Side.TheVariants.{Left}
 use Rattle.token_line.proofs.Coded.{coded_filed, coded_same}
 use Rattle.token_line.proofs.Filed.{filed_stands}

@@ -1,5 +1,5 @@
 -- The token is kept under no code but its own.
-use Rattle.std.proofs.Common.{◌≡◌, ◌%◌, ap, slice_index, sym}
+use Rattle.std.proofs.Common.{◌%◌, ap, slice_index, sym}
 use Rattle.token_line.proofs.Coded.{coded_alone}
 use Rattle.token_line.proofs.tests.bring.Goals as goal
 

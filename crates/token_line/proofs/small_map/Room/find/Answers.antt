@@ -2,7 +2,7 @@
 use Rattle.std.proofs.Common.{ap, position, sym, ◌∙◌}
 use Rattle.std.specs.Map.{keys_of}
 use Rattle.token_line.specs.SmallMap.{pairs_in}
-use Rattle.token_line.proofs.PairLemmas.{position-map}
+use Rattle.token_line.proofs.SmallMapLemmas.{position-map}
 use Rattle.token_line.proofs.small_map.Room.find.Goals as goal
 
 pub returns-in-Few : goal.returns-in-Few
