@@ -98,7 +98,7 @@ end_of : {X : Type 0} (xs : List X) → (xs ≡ []) ⊎ ((front : List X) × (x 
 end_of [] = inl refl
 end_of (y ∷ ys) = elim (end_of ys) [ inl e ↦ inr ([], y, ap (λ zs. y ∷ zs) e) | inr h ↦ inr (y ∷ h.0, h.1, ap (λ zs. y ∷ zs) h.2) ]
 
-at_end : {X : Type 0} (front : List X) (x : X) → slice_get (front ++ x ∷ []) (length front) ≡ Some x
+pub at_end : {X : Type 0} (front : List X) (x : X) → slice_get (front ++ x ∷ []) (length front) ≡ Some x
 at_end [] x = refl
 at_end (y ∷ ys) x = at_end ys x
 
@@ -112,22 +112,13 @@ last_place front x = let e = length-append front (x ∷ []) in omega (arith, e)
 added_at : Option Total → List Total → Moved → List Total
 added_at o ts m = cond (is_of o m.inst) (counted_last o ts m) (ts ++ begun m ∷ [])
 
-added-end : (front : List Total) (x : Total) (m : Moved)
+pub added-end : (front : List Total) (x : Total) (m : Moved)
     → added (front ++ x ∷ []) m ≡ cond (is_same x.inst m.inst) (front ++ counted_in x m ∷ []) ((front ++ x ∷ []) ++ begun m ∷ [])
 unfolding added_at
 added-end front x m =
     ap (λ o. added_at o (front ++ x ∷ []) m) (ap (slice_get (front ++ x ∷ [])) (last_place front x) ∙ at_end front x)
     ∙ ap (λ ts. cond (is_same x.inst m.inst) ts ((front ++ x ∷ []) ++ begun m ∷ []))
     (ap (λ k. slice_set (front ++ x ∷ []) k (counted_in x m)) (last_place front x) ∙ set_end front x (counted_in x m))
-
--- a total that counts one more, in its place
-pub counted_in_last : (ts : List Total) (m : Moved) (x : Total) → ends_with ts m.inst ≡ true → slice_get ts (length ts - 1) ≡ Some x → slice_set ts (length ts - 1) (counted_in x m) ≡ added ts m
-counted_in_last ts m x ends at =
-    sym (ap (λ o. counted_last o ts m) at) ∙ sym (ap (λ b. cond b (counted_last (slice_get ts (length ts - 1)) ts m) (ts ++ begun m ∷ [])) ends)
-
-pub ends_within : (ts : List Total) (i : Inst) → ends_with ts i ≡ true → length ts - 1 < length ts
-ends_within [] i e = absurd (cc)
-ends_within (t ∷ ts) i e = omega arith
 
 -- ---- one more that moved
 

@@ -1,7 +1,7 @@
 -- The tasks of an element fit where the store holds the tag.
-use Rattle.std.proofs.Common.{◌≡◌, ℕ, zero, suc, ◌<◌, Bool, true, false, cond, not, ◌&&◌, List, [], ◌∷◌, refl, sym, ap, subst, ◌∙◌, length, get_or, slice_get, Option, Some, None, IsSome}
+use Rattle.std.proofs.Common.{◌≡◌, ℕ, zero, suc, ◌<◌, Bool, true, false, cond, not, ◌&&◌, List, [], ◌∷◌, refl, sym, ap, subst, ◌∙◌, length, get_or, slice_get, Option, Some, None, IsSome, ◌++◌, Result, Ok, Err, OnOk, OnErr}
 use Rattle.std.specs.List.{All, AllByRecursion}
-use Rattle.std.proofs.lemmas.List.Elements.{All-cons, All-nil, All-from_recursion}
+use Rattle.std.proofs.lemmas.List.Elements.{All-append, All-cons, All-nil, All-from_recursion}
 use Rattle.std.proofs.lemmas.Option.{slice_get_read}
 use Rattle.ops_base.specs.declared.elements.Element.{Element}
 use Rattle.work_store.specs.Stored.{Stored, held_of}
@@ -50,3 +50,9 @@ module _ (s : Stored) (alphas : List Alpha) (nodes : List Node) (plus : Bool) (t
 
   pub tasks_fit : (i : ℕ) → All (TaskFits nodes s) (tasks_below alphas nodes plus tag e i)
   tasks_fit i = All-from_recursion (TaskFits nodes s) (tasks_below alphas nodes plus tag e i) (fit_below i)
+
+-- and so does the flight with them, or without where a call failed
+pub fit_after : {T E : Type 0} (nodes : List Node) (s : Stored) (old new : List Task) (r : Result T E) (fed : List Task) → OnOk r (new ≡ old ++ fed) → OnErr r (new ≡ old)
+    → All (TaskFits nodes s) old → All (TaskFits nodes s) fed → All (TaskFits nodes s) new
+fit_after nodes s old new (Ok v) fed is same all fit = subst (All (TaskFits nodes s)) (sym is) (All-append (TaskFits nodes s) old fed all fit)
+fit_after nodes s old new (Err e) fed is same all fit = subst (All (TaskFits nodes s)) (sym same) all

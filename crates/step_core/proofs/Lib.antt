@@ -37,6 +37,7 @@ pub mod Storing
 pub mod StartPlaced
 pub mod Settling
 pub mod AddingUp
+pub mod Telling
 pub mod WhatMoved
 pub mod WorkedMoves
 pub mod Lasts

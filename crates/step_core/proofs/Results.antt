@@ -1,11 +1,6 @@
 -- What holds of a call's result.
-use Rattle.std.proofs.Common.{◌≡◌, Bool, false, List, IfOk, OnErr, OnOk, Result, Ok, Err, Vec, Global, sym, subst}
+use Rattle.std.proofs.Common.{◌≡◌, Bool, false, OnErr, OnOk, Result, Ok, Err}
 use Rattle.std.specs.Result.{is_err}
-use Rattle.ops_base.specs.declared.memory.OutOfMemory.{OutOfMemory}
-
-pub if_items : {X : Type 0} (P : List X → Type 0) (xs : List X) (r : Result (Vec X Global) OutOfMemory) → IfOk r (λ v. v.items ≡ xs) → P xs → IfOk r (λ v. P v.items)
-if_items P xs (Ok v) e h = subst P (sym e) h
-if_items P xs (Err err) e h = tt
 
 pub on_err : {T E : Type 0} (P : Type 0) (r : Result T E) → P → OnErr r P
 on_err P (Ok x) p = tt
@@ -22,3 +17,7 @@ ok_of P (Err e) b same bad p = absurd (cc)
 pub on_err_both : {T E : Type 0} (P Q R : Type 0) (r : Result T E) → (P → Q → R) → OnErr r P → OnErr r Q → OnErr r R
 on_err_both P Q R (Ok x) f p q = tt
 on_err_both P Q R (Err e) f p q = f p q
+
+pub on_ok_both : {T E : Type 0} (P Q R : Type 0) (r : Result T E) → (P → Q → R) → OnOk r P → OnOk r Q → OnOk r R
+on_ok_both P Q R (Ok x) f p q = f p q
+on_ok_both P Q R (Err e) f p q = tt

@@ -93,6 +93,18 @@ has_come t = is_moved (t.sum -ℤ t.change) t.sum
 abbrev pub has_gone : Total → Bool
 has_gone t = is_moved t.sum (t.sum -ℤ t.change)
 
+-- one of these totals, the last, is at hand, and what the others tell has come and gone
+pub record HaveAtHand (ts : List Total) (x : Total) (come gone : List Inst) : Type 0 where
+  pub front : List Total
+  pub all : ts ≡ front ++ x ∷ []
+  pub come_is : come ≡ map (λ t. t.inst) (filter has_come front)
+  pub gone_is : gone ≡ map (λ t. t.inst) (filter has_gone front)
+
+-- these have come and gone by the totals, but for what the one at hand tells; where none is at hand there is none
+abbrev pub AreToldBut : List Total → Option Total → List Inst → List Inst → Type 0
+AreToldBut ts None come gone = (ts ≡ []) × (come ≡ []) × (gone ≡ [])
+AreToldBut ts (Some x) come gone = HaveAtHand ts x come gone
+
 -- these are told by the totals of what moved, in order
 pub record AreTold (moved : List Moved) (come gone : List Inst) : Type 0 where
   pub sorted : List Moved

@@ -1,9 +1,10 @@
-//! The tasks that a change feeds.
-ghost use Rattle.std.specs.Prelude.{◌≡◌, All, IfOk, Some, length, map, slice_get};
+//! The tasks that a change feeds, made where they will be.
+ghost use Rattle.std.specs.Prelude.{◌≡◌, ◌++◌, All, IfOk, OnErr, OnOk, Some, [], length, map, slice_get};
 ghost use Rattle.std.specs.List.Sorted.{IsPermutation, IsSorted};
 ghost use Rattle.std.specs.Ordering.{nat_cmp};
 ghost use Rattle.net_base.specs.Tokens.{Elements};
 ghost use Rattle.token_line.specs.Held.{Agrees, TaskFits};
+ghost use Rattle.activation.specs.Children.{Grows};
 ghost use Rattle.step_core.specs.Machine.{fed_by, passes_in, tasks_below};
 ghost use Rattle.step_core.specs.Feeding.{AreTakers, IsKnown, right_task};
 
@@ -27,18 +28,24 @@ fn passes(alphas: &[Alpha], alpha: usize, element: &Element) -> bool
     }
 }
 
-/// The nodes that take the element, each once, in no order. Each alpha that the element can pass is tested once.
-fn takers(alloc: Global, net: &Net, element: &Element) -> Result<Numbers, OutOfMemory>
-    ensures { IfOk result (λ v. AreTakers net.now.alphas net.now.nodes element.now v.items) }
+/// Puts the nodes that take the element into an empty list, each once, in no order. Each alpha that the element can
+/// pass is tested once.
+fn find_takers(
+    alloc: Global,
+    net: &Net,
+    element: &Element,
+    nodes: &mut Numbers,
+) -> Result<(), OutOfMemory>
+    requires { nodes.old.items ≡ [] }
+    ensures { OnOk result (AreTakers net.now.alphas net.now.nodes element.now nodes.new.items) }
 {
     let candidates = net.candidates(alloc, element)?;
-    let mut nodes = Numbers::new(alloc);
     for alpha in candidates.as_slice() {
         if passes(net.alphas(), *alpha, element) {
             nodes.extend_from_slice(net.takers(*alpha))?;
         }
     }
-    Ok(nodes)
+    Ok(())
 }
 
 fn sort(numbers: &mut Numbers)
@@ -48,61 +55,88 @@ fn sort(numbers: &mut Numbers)
     numbers.as_mut_slice().sort_unstable();
 }
 
-/// The task of that element for a node.
-fn task_for(alloc: Global, node: usize, plus: bool, tag: u64) -> Result<Task, OutOfMemory>
-    ensures { IfOk result (λ x. x ≡ right_task plus tag node) }
+/// Adds a task of that element for each of the nodes. Where memory runs out some may have been added.
+fn add_tasks(
+    alloc: Global,
+    nodes: &[usize],
+    plus: bool,
+    tag: u64,
+    flight: &mut Vec<Task>,
+) -> Result<(), OutOfMemory>
+    ensures ok { OnOk result (flight.new.items ≡ flight.old.items ++ map (right_task plus tag) nodes.now) }
+    ensures grown { Grows flight.old.items flight.new.items }
 {
-    let token = Tags::from_slice(alloc, &[tag])?;
-    Ok(Task {
-        node,
-        side: Side::Right,
-        plus,
-        token,
-    })
-}
-
-/// A task of that element for each of the nodes.
-fn tasks_at(alloc: Global, nodes: &[usize], plus: bool, tag: u64) -> Result<Vec<Task>, OutOfMemory>
-    ensures { IfOk result (λ v. v.items ≡ map (right_task plus tag) nodes.now) }
-{
-    let mut tasks = Vec::with_capacity(alloc, nodes.len())?;
+    flight.reserve(nodes.len())?;
     for node in nodes {
-        tasks.push(task_for(alloc, *node, plus, tag)?)?;
+        let token = Tags::from_slice(alloc, &[tag])?;
+        flight.push(Task {
+            node: *node,
+            side: Side::Right,
+            plus,
+            token,
+        })?;
     }
-    Ok(tasks)
+    Ok(())
 }
 
-/// The tasks of that element, one for each node that takes it.
-fn tasks_for(
+/// The same, but that where memory runs out nothing has changed.
+fn add_all(
+    alloc: Global,
+    nodes: &[usize],
+    plus: bool,
+    tag: u64,
+    flight: &mut Vec<Task>,
+) -> Result<(), OutOfMemory>
+    ensures ok { OnOk result (flight.new.items ≡ flight.old.items ++ map (right_task plus tag) nodes.now) }
+    ensures err { OnErr result (flight.new.items ≡ flight.old.items) }
+{
+    let before = flight.len();
+    match add_tasks(alloc, nodes, plus, tag, flight) {
+        Ok(()) => Ok(()),
+        Err(failed) => {
+            flight.truncate(before);
+            Err(failed)
+        }
+    }
+}
+
+/// Adds the tasks of that element, one for each node that takes it, in the order of these.
+fn add_for(
     alloc: Global,
     net: &Net,
     plus: bool,
     tag: u64,
     element: &Element,
-) -> Result<Vec<Task>, OutOfMemory>
-    ensures { IfOk result (λ v. v.items ≡ tasks_below net.now.alphas net.now.nodes plus tag (Some element.now) (length net.now.nodes)) }
+    flight: &mut Vec<Task>,
+) -> Result<(), OutOfMemory>
+    ensures ok { OnOk result (flight.new.items ≡ flight.old.items ++ tasks_below net.now.alphas net.now.nodes plus tag (Some element.now) (length net.now.nodes)) }
+    ensures err { OnErr result (flight.new.items ≡ flight.old.items) }
 {
-    let mut nodes = takers(alloc, net, element)?;
+    let mut nodes = Numbers::new(alloc);
+    find_takers(alloc, net, element, &mut nodes)?;
     sort(&mut nodes);
-    tasks_at(alloc, nodes.as_slice(), plus, tag)
+    add_all(alloc, nodes.as_slice(), plus, tag, flight)
 }
 
-/// The tasks that a change feeds, in the order of their nodes. It looks up the alphas that the element can pass, tests
-/// these, and sorts the nodes that take it. Up to 16 alphas and 16 nodes take no memory but for the tasks.
-pub(crate) fn fed_by(
+/// Adds the tasks that a change feeds at the end of the flight, in the order of their nodes. It looks up the alphas that
+/// the element can pass, tests these, and sorts the nodes that take it. Up to 16 alphas and 16 nodes take no memory but
+/// for the room in flight. Where memory runs out nothing has changed.
+pub(crate) fn add_fed(
     alloc: Global,
     net: &Net,
     store: &Store,
     change: &Change,
-) -> Result<Vec<Task>, OutOfMemory>
+    flight: &mut Vec<Task>,
+) -> Result<(), OutOfMemory>
     requires { IsKnown store.now change.now }
-    ensures tasks { IfOk result (λ v. (elements : Elements) → Agrees store.now elements → v.items ≡ fed_by elements net.now.alphas net.now.nodes change.now) }
-    ensures fit { IfOk result (λ v. All (TaskFits net.now.nodes store.now) v.items) }
+    ensures tasks { OnOk result ((elements : Elements) → Agrees store.now elements → flight.new.items ≡ flight.old.items ++ fed_by elements net.now.alphas net.now.nodes change.now) }
+    ensures fit { All (TaskFits net.now.nodes store.now) flight.old.items → All (TaskFits net.now.nodes store.now) flight.new.items }
+    ensures err { OnErr result (flight.new.items ≡ flight.old.items) }
 {
     match change {
-        Change::Add(element) => tasks_for(alloc, net, true, element.tag, element),
+        Change::Add(element) => add_for(alloc, net, true, element.tag, element, flight),
         Change::Remove(tag) => match store.kept(*tag) {
-            Some(element) => tasks_for(alloc, net, false, *tag, element),
+            Some(element) => add_for(alloc, net, false, *tag, element, flight),
             None => unreachable!(),
         },
     }

@@ -1,7 +1,8 @@
 //! What the lines tell of instantiations that came and went.
-ghost use Rattle.std.specs.Prelude.{◌≡◌, ◌<◌, ◌-◌, ◌++◌, All, ◌+ℤ◌, [], Some, length, IfOk, OnOk, filter, fold, map, slice_get, IsPermutation, FitsSigned};
+ghost use Rattle.std.specs.Prelude.{◌≡◌, ◌<◌, ◌-◌, ◌++◌, ◌∷◌, All, List, ◌+ℤ◌, [], Some, length, IfOk, OnOk, filter, fold, map, slice_get, IsPermutation, FitsSigned};
 ghost use Rattle.std.specs.Int.{w64};
 ghost use Rattle.std.specs.List.Sorted.{IsSortedByKey};
+ghost use Rattle.std.specs.Option.{option_to_list};
 ghost use Rattle.ops_base.specs.Instances.{by_rule_and_tags};
 ghost use Rattle.token_line.specs.Bags.{sign};
 ghost use Rattle.activation.specs.Acting.{TellsOfLasts};
@@ -9,7 +10,7 @@ ghost use Rattle.step_core.specs.Phases.{before, now, total};
 ghost use Rattle.step_core.specs.Worked.{AreWorked};
 ghost use Rattle.step_core.specs.Worlds.{seen};
 ghost use Rattle.step_core.specs.Found.{inst};
-ghost use Rattle.step_core.specs.Gathering.{AreTold, added, ends_with, has_come, has_gone, is_same, moved_at, moved_by, moved_on, moved_over, rule_in};
+ghost use Rattle.step_core.specs.Gathering.{AreTold, AreToldBut, added, begun, has_come, has_gone, is_same, moved_at, moved_by, moved_on, moved_over, rule_in};
 ghost use Rattle.step_core.specs.Settling.{HaveOwnLines, IsGathered};
 
 use net_base::net::Net;
@@ -156,43 +157,6 @@ fn change_of(moved: &Moved) -> i64
     if moved.plus { 1 } else { -1 }
 }
 
-/// Whether the last total is that of the instantiation.
-fn ends_with(totals: &[Total], inst: &Inst) -> bool
-    ensures { result ≡ ends_with totals.now inst.now }
-{
-    match totals.last() {
-        Some(last) => is_same(&last.inst, inst),
-        None => false,
-    }
-}
-
-/// One more that moved: it counts in the last total, where that is of its instantiation, or begins one of its own.
-fn add(totals: &mut Vec<Total>, next: Moved) -> Result<(), OutOfMemory>
-    requires { (x : Total) → slice_get totals.old.items (length totals.old.items - 1) ≡ Some x → FitsSigned w64 (x.change +ℤ sign next.plus) }
-    ensures { OnOk result (totals.new.items ≡ added totals.old.items next) }
-{
-    let change = change_of(&next);
-    if ends_with(totals.as_slice(), &next.inst) {
-        let last = totals.len() - 1;
-        totals[last].change += change;
-        return Ok(());
-    }
-    let Moved { inst, plus: _, sum } = next;
-    totals.push(Total { inst, change, sum })?;
-    Ok(())
-}
-
-/// What moved in order, added up for each instantiation.
-fn add_up(alloc: Global, moved: Vec<Moved>) -> Result<Vec<Total>, OutOfMemory>
-    ensures { IfOk result (λ v. v.items ≡ fold added [] moved.items) }
-{
-    let mut totals = Vec::new(alloc);
-    for next in moved {
-        add(&mut totals, next)?;
-    }
-    Ok(totals)
-}
-
 /// It did not stand, and stands.
 fn has_come(total: &Total) -> bool
     ensures { result ≡ has_come total.now }
@@ -207,30 +171,71 @@ fn has_gone(total: &Total) -> bool
     total.sum <= 0 && total.sum > total.change
 }
 
-/// Those that did not stand and stand, and those that stood and do not.
-fn split(alloc: Global, totals: Vec<Total>) -> Result<Gathered, OutOfMemory>
-    ensures come { IfOk result (λ g. g.come.items ≡ map (λ t. t.inst) (filter has_come totals.items)) }
-    ensures gone { IfOk result (λ g. g.gone.items ≡ map (λ t. t.inst) (filter has_gone totals.items)) }
+/// Tells the instantiation of a total that is all of it: among those that came, among those that went, or nowhere.
+fn tell_of(total: Total, told: &mut Gathered) -> Result<(), OutOfMemory>
+    ensures come { OnOk result (told.new.come.items ≡ told.old.come.items ++ map (λ t. t.inst) (filter has_come (total ∷ []))) }
+    ensures gone { OnOk result (told.new.gone.items ≡ told.old.gone.items ++ map (λ t. t.inst) (filter has_gone (total ∷ []))) }
 {
-    let mut come = Vec::new(alloc);
-    let mut gone = Vec::new(alloc);
-    for total in totals {
-        if has_come(&total) {
-            come.push(total.inst)?;
-        } else if has_gone(&total) {
-            gone.push(total.inst)?;
-        }
+    if has_come(&total) {
+        told.come.push(total.inst)?;
+    } else if has_gone(&total) {
+        told.gone.push(total.inst)?;
     }
-    Ok(Gathered { come, gone })
+    Ok(())
 }
 
-/// What came and what went, by what moved: that is sorted, and added up.
+/// The total of one that moved alone.
+fn begin(moved: Moved) -> Total
+    ensures { result ≡ begun moved }
+{
+    let change = change_of(&moved);
+    let Moved { inst, plus: _, sum } = moved;
+    Total { inst, change, sum }
+}
+
+/// One of another instantiation is at hand next, and the one before it is told.
+fn turn_to(next: Total, hand: &mut Option<Total>, told: &mut Gathered) -> Result<(), OutOfMemory>
+    ensures hand { hand.new ≡ Some next }
+    ensures come { OnOk result (told.new.come.items ≡ told.old.come.items ++ map (λ t. t.inst) (filter has_come (option_to_list hand.old))) }
+    ensures gone { OnOk result (told.new.gone.items ≡ told.old.gone.items ++ map (λ t. t.inst) (filter has_gone (option_to_list hand.old))) }
+{
+    if let Some(total) = hand.replace(next) {
+        tell_of(total, told)?;
+    }
+    Ok(())
+}
+
+/// One more that moved: it counts in the total at hand, where that is of its instantiation. Otherwise that total is told,
+/// and one of its own is at hand.
+fn count(hand: &mut Option<Total>, next: Moved, told: &mut Gathered) -> Result<(), OutOfMemory>
+    requires { (x : Total) → hand.old ≡ Some x → FitsSigned w64 (x.change +ℤ sign next.plus) }
+    ensures { OnOk result ((ts : List Total) → AreToldBut ts hand.old told.old.come.items told.old.gone.items → AreToldBut (added ts next) hand.new told.new.come.items told.new.gone.items) }
+{
+    if let Some(total) = hand {
+        if is_same(&total.inst, &next.inst) {
+            total.change += change_of(&next);
+            return Ok(());
+        }
+    }
+    turn_to(begin(next), hand, told)
+}
+
+/// What came and what went, by what moved: that is sorted, and added up in one pass for each instantiation.
 fn tell(alloc: Global, moved: Vec<Moved>) -> Result<Gathered, OutOfMemory>
     ensures { IfOk result (λ g. AreTold moved.items g.come.items g.gone.items) }
 {
-    let totals = add_up(alloc, in_order(moved))?;
-    let gathered = split(alloc, totals)?;
-    Ok(gathered)
+    let mut told = Gathered {
+        come: Vec::new(alloc),
+        gone: Vec::new(alloc),
+    };
+    let mut hand = None;
+    for next in in_order(moved) {
+        count(&mut hand, next, &mut told)?;
+    }
+    if let Some(last) = hand {
+        tell_of(last, &mut told)?;
+    }
+    Ok(told)
 }
 
 /// What came and what went in the phase of the lines: the instantiations that did not stand when it began and stand

@@ -4,7 +4,7 @@ ghost use Rattle.net_base.specs.declared.tasks.Task.{Task};
 ghost use Rattle.step_core.specs.Worked.{AreWorked};
 
 use crate::done::{Done, deliver, lift, move_to_done};
-use crate::feeding::fed_by;
+use crate::feeding::add_fed;
 use crate::start::first_lines;
 use crate::worked::{act_on, clear_worked, worked_lines};
 use net_base::net::Net;
@@ -162,7 +162,8 @@ impl World {
     }
 
     /// Puts into flight one task for each node that takes the change's element. It looks up the alphas that the element
-    /// can pass, tests these, and sorts the nodes that take it. Where memory runs out nothing has changed.
+    /// can pass, tests these, and sorts the nodes that take it; the tasks are made where they will be. Where memory runs
+    /// out nothing has changed.
     pub fn feed(
         &mut self,
         alloc: Global,
@@ -178,11 +179,9 @@ impl World {
         ensures lines { numbers_of self.new ≡ numbers_of self.old }
         ensures count { length self.new.lines.items ≡ length self.old.lines.items }
     {
-        let tasks = fed_by(alloc, net, store, change)?;
-        let added = tasks.len();
-        self.flight.reserve(added)?;
-        deliver(&mut self.flight, tasks);
-        self.counter += added as u64;
+        let before = self.flight.len();
+        add_fed(alloc, net, store, change, &mut self.flight)?;
+        self.counter += (self.flight.len() - before) as u64;
         Ok(())
     }
 

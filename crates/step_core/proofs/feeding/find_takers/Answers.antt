@@ -1,8 +1,9 @@
+-- What each alpha adds is all that takes the element.
 use Rattle.std.proofs.Common.{◌∙◌, ap}
 use Rattle.std.specs.Prelude.{flat_map}
 use Rattle.step_core.specs.Feeding.{taken_by}
 use Rattle.step_core.proofs.Takers.{are_takers, all_added}
-use Rattle.step_core.proofs.feeding.takers.Goals as goal
+use Rattle.step_core.proofs.feeding.find_takers.Goals as goal
 
 pub returns : goal.returns
 returns c =

@@ -1,7 +1,7 @@
 use Rattle.std.proofs.Common.{◌≡◌, ◌++◌, drop}
 use Rattle.std.specs.Prelude.{flat_map}
 use Rattle.step_core.specs.Feeding.{taken_by}
-use Rattle.step_core.proofs.feeding.takers.Given as goal
+use Rattle.step_core.proofs.feeding.find_takers.Given as goal
 
 abbrev pub invariant-loop-alpha : goal.invariant-loop-alpha
 invariant-loop-alpha l =

@@ -1,0 +1,7 @@
+-- All but what is at hand is told of those that were looked at.
+use Rattle.std.proofs.Common.{[], fold}
+use Rattle.step_core.specs.Gathering.{AreToldBut, added}
+use Rattle.step_core.proofs.gathering.tell.Given as goal
+
+abbrev pub invariant-loop-next : goal.invariant-loop-next
+invariant-loop-next l = AreToldBut (fold added [] l.yielded) l.hand l.told.come.items l.told.gone.items
