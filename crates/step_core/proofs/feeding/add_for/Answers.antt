@@ -1,6 +1,5 @@
 -- The tasks of the takers in order are those of the nodes in order.
-use Rattle.std.proofs.Common.{◌≡◌, ◌++◌, ◌∙◌, ap, length, Some, map}
-use Rattle.step_core.specs.Machine.{tasks_below}
+use Rattle.std.proofs.Common.{◌++◌, ◌∙◌, ap, map}
 use Rattle.step_core.specs.Feeding.{right_task}
 use Rattle.step_core.proofs.Results.{on_ok}
 use Rattle.step_core.proofs.Takers.{tasks_of_takers}

@@ -1,11 +1,10 @@
 -- Each total has the change of fewer than all, and all are told.
-use Rattle.std.proofs.Common.{◌≡◌, ◌<◌, ◌+◌, ◌-◌, ◌^◌, [], fold, length, map, sym, ap, subst, ◌∙◌, arith, List, Option}
+use Rattle.std.proofs.Common.{◌≡◌, ◌<◌, ◌+◌, ◌-◌, ◌^◌, [], fold, length, sym, subst, ◌∙◌, arith, List}
 use Rattle.std.proofs.lemmas.Iterator.Adapters.{YieldsList-from_vec}
 use Rattle.std.proofs.lemmas.Iterator.Consumers.{YieldsList-end, YieldsList-turn}
 use Rattle.std.proofs.lemmas.List.{map-id}
 use Rattle.step_core.specs.declared.gathering.Gathered.{Gathered}
 use Rattle.step_core.specs.declared.gathering.Moved.{Moved}
-use Rattle.step_core.specs.declared.gathering.Total.{Total}
 use Rattle.step_core.specs.Gathering.{AreToldBut, added, has_come, has_gone}
 use Rattle.step_core.proofs.Telling.{all_told, chosen, hand_fits, none_told}
 use Rattle.step_core.proofs.gathering.tell.Goals as goal

@@ -1,5 +1,5 @@
 -- The flight has grown by the tasks that are fed.
-use Rattle.std.proofs.Common.{◌≡◌, ◌+◌, length, length-append, ap, ◌∙◌, arith}
+use Rattle.std.proofs.Common.{length, length-append, ap, ◌∙◌, arith}
 use Rattle.work_store.specs.Stored.{held_of}
 use Rattle.step_core.specs.Machine.{fed_by}
 use Rattle.step_core.proofs.world.World.feed.Goals as goal
