@@ -1,2 +1,3 @@
--- A phase on its way.
+-- A phase on its way, and an engine at rest.
+pub mod Engines
 pub mod Running

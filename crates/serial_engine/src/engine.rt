@@ -1,7 +1,7 @@
 //! The serial engine: a matcher over a network, which works one task after another.
 ghost use Rattle.std.specs.Prelude.{◌≡◌, ◌≤◌, All, IfOk, [], length, map};
 ghost use Rattle.work_store.specs.Stored.{held_of, nothing_stored};
-ghost use Rattle.activation.specs.Acting.{IsCounted, TellsOfLasts};
+ghost use Rattle.activation.specs.Acting.{TellsOfLasts};
 ghost use Rattle.step_core.specs.Laws.{AreEmpty};
 ghost use Rattle.step_core.specs.Phases.{HoldJust, now, sums_over};
 ghost use Rattle.step_core.specs.Worlds.{AreNumbered, placed, seen};
@@ -12,24 +12,43 @@ use ops_base::elements::Change;
 use ops_base::memory::OutOfMemory;
 use ops_io::Gate;
 use std::alloc::Global;
+use std::marker::Model;
 use step_core::laws::{match_laws, settle_laws};
 use step_core::{Gathered, World};
 use token_line::Line;
 use work_store::{Matcher, Settled, Store};
 
-/// A matcher over a network. Between two settles its lines hold just the tokens that stand at each node over its store,
-/// each once. The gate is called with worker 0 and the number of the line, just before each activation.
+/// What an engine is made of.
 #[derive(Drop)]
-pub struct SerialEngine<G> {
+struct Parts<G> {
     net: Net,
     store: Store,
     world: World,
     gate: G,
-    // Nothing is under way.
-    ghost quiet: { world.counter ≡ 0 },
-    ghost numbered: { AreNumbered world.lines.items },
-    ghost counted: { All (IsCounted net.nodes store) world.lines.items },
-    ghost holds: { HoldJust (placed (held_of store) net.nodes (length world.lines.items)) (sums_over store.elements net.alphas net.nodes) (map now (map seen world.lines.items)) },
+}
+
+/// A matcher over a network. Between two settles its lines hold just the tokens that stand at each node over its store,
+/// each once. The gate is called with worker 0 and the number of the line, just before each activation. An engine stands
+/// on the heap, so that it is moved at a small cost.
+#[derive(Drop)]
+pub struct SerialEngine<G> {
+    parts: Box<Parts<G>>,
+}
+
+impl<G> Model for SerialEngine<G> {
+    ghost use Rattle.std.specs.Coded.{codes};
+    ghost use Rattle.net_base.specs.contracts.net.Net as nets;
+    ghost use Rattle.step_core.specs.contracts.world.World as worlds;
+    ghost use Rattle.serial_engine.specs.Engines.{Engine, IsAtRest};
+
+    ghost Value = { Engine };
+
+    // Networks and worlds are told apart as their own types tell them.
+    ghost coded = { Prim.hlevel (codes, nets.the_row.coded, worlds.the_row.coded) };
+
+    ghost view = { λ e. record { net = e.parts.value.net; store = e.parts.value.store; world = e.parts.value.world } };
+
+    ghost invariant = { λ e. IsAtRest e.parts.value.net e.parts.value.store e.parts.value.world };
 }
 
 impl<G: Gate + Drop> SerialEngine<G> {
@@ -39,7 +58,8 @@ impl<G: Gate + Drop> SerialEngine<G> {
     ghost use Rattle.step_core.specs.Found.{found_over};
     ghost use Rattle.step_core.specs.Phases.{IsBundle};
 
-    /// An engine over the network with this many lines. Nothing is stored. It makes each line and looks at each node.
+    /// An engine over the network with this many lines. Nothing is stored. It makes each line and looks at each node, and
+    /// takes memory for its own place.
     pub fn new(
         alloc: Global,
         net: Net,
@@ -54,19 +74,22 @@ impl<G: Gate + Drop> SerialEngine<G> {
     {
         match_laws();
         let world = World::start(alloc, &net, lines)?;
-        Ok(SerialEngine {
+        let parts = Parts {
             net,
             store: Store::new(alloc),
             world,
             gate,
-        })
+        };
+        let parts = Box::new(alloc, parts)?;
+        Ok(SerialEngine { parts })
     }
 
     /// The network. Takes no memory.
     pub fn net(&self) -> &Net
         ensures { result.now ≡ self.now.net }
     {
-        &self.net
+        let parts = self.parts.as_ref();
+        &parts.net
     }
 
     /// The lines, in the order of their numbers, with the entries of the last settle. Takes no memory.
@@ -78,7 +101,8 @@ impl<G: Gate + Drop> SerialEngine<G> {
         // They tell of just the tasks of the last settle that came to terminals.
         ensures told { All (TellsOfLasts self.now.net.nodes) result.now }
     {
-        self.world.lines()
+        let parts = self.parts.as_ref();
+        parts.world.lines()
     }
 
     /// As `settle`, in an order that a test can choose. All changes are fed at once: their tasks stand in the order of
@@ -101,24 +125,22 @@ impl<G: Gate + Drop> SerialEngine<G> {
         ensures bundle { IfOk result (λ s. IsBundle (held_of s.matcher.store) s.matcher.net.alphas s.matcher.net.nodes (placed (held_of s.matcher.store) s.matcher.net.nodes (length s.matcher.world.lines.items)) self.store.elements changes.now (map seen s.matcher.world.lines.items)) }
         ensures lines { IfOk result (λ s. length s.matcher.world.lines.items ≡ length self.world.lines.items) }
     {
-        let SerialEngine {
-            net,
-            mut store,
-            mut world,
-            gate,
-        } = self;
+        let SerialEngine { parts } = self;
+        let mut engine = parts;
+        let parts = engine.as_mut();
+        let gate = &parts.gate;
         let enter = |line: usize| gate.enter(0, line);
         let Gathered { come, gone } = settle(
-            alloc, &net, &mut store, &enter, &mut world, changes, picks,
+            alloc,
+            &parts.net,
+            &mut parts.store,
+            &enter,
+            &mut parts.world,
+            changes,
+            picks,
         )?;
-        let matcher = SerialEngine {
-            net,
-            store,
-            world,
-            gate,
-        };
         Ok(Settled {
-            matcher,
+            matcher: SerialEngine { parts: engine },
             come,
             gone,
         })
@@ -145,9 +167,10 @@ impl<G: Gate + Drop> Matcher for SerialEngine<G> {
 
     fn store(&self) -> &Store {
         settle_laws();
-        let _last = self.store.last();
-        let _nodes = self.net.nodes();
-        &self.store
+        let parts = self.parts.as_ref();
+        let _last = parts.store.last();
+        let _nodes = parts.net.nodes();
+        &parts.store
     }
 
     /// Feeds the tasks of all changes, and then does the last task in flight with all that comes of it, down to the
@@ -175,30 +198,22 @@ impl<G: Gate + Drop> Matcher for SerialEngine<G> {
         ensures bundle { IfOk result (λ s. IsBundle (held_of s.matcher.store) s.matcher.net.alphas s.matcher.net.nodes (placed (held_of s.matcher.store) s.matcher.net.nodes (length s.matcher.world.lines.items)) self.store.elements changes.now (map seen s.matcher.world.lines.items)) }
         ensures lines { IfOk result (λ s. length s.matcher.world.lines.items ≡ length self.world.lines.items) }
     {
-        let SerialEngine {
-            net,
-            mut store,
-            mut world,
-            gate,
-        } = self;
+        let SerialEngine { parts } = self;
+        let mut engine = parts;
+        let parts = engine.as_mut();
+        let gate = &parts.gate;
         let enter = |line: usize| gate.enter(0, line);
         let Gathered { come, gone } = settle(
             alloc,
-            &net,
-            &mut store,
+            &parts.net,
+            &mut parts.store,
             &enter,
-            &mut world,
+            &mut parts.world,
             changes,
             &[],
         )?;
-        let matcher = SerialEngine {
-            net,
-            store,
-            world,
-            gate,
-        };
         Ok(Settled {
-            matcher,
+            matcher: SerialEngine { parts: engine },
             come,
             gone,
         })
