@@ -7,6 +7,7 @@ pub mod Sights
 pub mod Rooms
 pub mod Evaluating
 pub mod Parts
+pub mod Places
 pub mod Wholes
 pub mod Sessions
 pub mod Ordered

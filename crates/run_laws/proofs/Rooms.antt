@@ -26,7 +26,7 @@ use Rattle.run_laws.proofs.Parts.{ok_behind, ok_more, all_such}
 
 -- ---- one value and several
 
-length-slice_set : {X : Type 0} (xs : List X) (n : ℕ) (x : X) → length (slice_set xs n x) ≡ length xs
+pub length-slice_set : {X : Type 0} (xs : List X) (n : ℕ) (x : X) → length (slice_set xs n x) ≡ length xs
 length-slice_set [] n x = refl
 length-slice_set (y ∷ xs) zero x = refl
 length-slice_set (y ∷ xs) (suc n) x = ap suc (length-slice_set xs n x)
@@ -156,7 +156,7 @@ scalars_are : (c : Class) (b : Bool) → c.vector ≡ b → scalar_count c ≡ c
 scalars_are c b is = ap (λ b. cond b (length c.attrs - 1) (length c.attrs)) is
 
 -- the vector attribute stands behind the scalar ones
-vector_at : (c : Class) (f : ℕ) → is_vector c f ≡ true → (c.vector ≡ true) × (f ≡ scalar_count c)
+pub vector_at : (c : Class) (f : ℕ) → is_vector c f ≡ true → (c.vector ≡ true) × (f ≡ scalar_count c)
 vector_at c f h =
     let parts = and_parts c.vector (f + 1 == length c.attrs) h in
     let last = eqb-true (f + 1) (length c.attrs) parts.1 in
@@ -164,7 +164,7 @@ vector_at c f h =
     (parts.0, omega arith)
 
 -- an attribute that is not that stands among them
-scalar_at : (c : Class) (f : ℕ) → is_attribute c f ≡ true → is_vector c f ≡ false → f < scalar_count c
+pub scalar_at : (c : Class) (f : ℕ) → is_attribute c f ≡ true → is_vector c f ≡ false → f < scalar_count c
 scalar_at c f within h = by c.vector refl h
   where
     by : (b : Bool) → c.vector ≡ b → (b && (f + 1 == length c.attrs)) ≡ false → f < scalar_count c

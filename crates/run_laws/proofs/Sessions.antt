@@ -38,13 +38,13 @@ use Rattle.ops_meaning.proofs.Lawful.{added_kept, kept_after, removals_lawful, r
 use Rattle.ops_meaning.proofs.RisingTags.{acts_lawfully}
 use Rattle.run_laws.specs.Elements.{IsWhole, AreWhole}
 use Rattle.run_laws.specs.Finding.{AllFind}
-use Rattle.run_laws.specs.Firings.{IfGoesOn, EachOfRun, EachOfCommand, EachOfCommands, EachFiring, FindsAll, behind_line}
+use Rattle.run_laws.specs.Firings.{IfGoesOn, EachOfRun, EachOfCommand, EachOfCommands, EachFiring, FindsAll, HoldWhole, behind_line}
 use Rattle.run_laws.proofs.Beginnings.{begins_as_matched, whole_match}
 use Rattle.run_laws.proofs.Knowing.{Holds, there, all_at, actions_find}
 use Rattle.run_laws.proofs.Parts.{ok_on, ok_as, ok_more, ok_both}
 use Rattle.run_laws.proofs.Rooms.{fits_class, fixed_fields_room}
 use Rattle.run_laws.proofs.Sights.{each_at, sides_valid, begun_knows}
-use Rattle.run_laws.proofs.Wholes.{EachWhole, MakesWhole, Wholes, AreWholes, one_more, done_whole, actions_whole}
+use Rattle.run_laws.proofs.Wholes.{EachWhole, MakesWhole, Wholes, AreWholes, one_more, done_whole, actions_whole, actions_hold_whole}
 
 -- what is valid of a setting: its classes, and both sides of its rules
 pub record IsSound (s : Setting) : Type 0 where
@@ -101,11 +101,15 @@ beginning s m i sound good in_set =
 finds_all : (s : Setting) (column : ℕ) (i : Inst) (m : Course) → IsSound s → IsGood s m → Contains (conflict_set s.rules m.wm) i → FindsAll s column i m
 finds_all s column i m sound good in_set =
     let b = beginning s m i sound good in_set in
-    let P : List Action → Type 0 = λ as_. AllFind s (behind_line s column i m) as_ (acting.begun s i (given_by m)) in
+    let start = acting.begun s i (given_by m) in
+    let P : List Action → Type 0 = λ as_. AllFind s (behind_line s column i m) as_ start in
+    let Q : List Action → Type 0 = λ as_. HoldWhole s (behind_line s column i m) as_ start in
+    let w : Wholes s.classes start.cells [] = record { cells = b.cells; made = λ e m. absurd m } in
     record {
       whole = all_whole s m good;
       begins = begins_as_matched s (given_by m) i good.kept.0 in_set;
-      finds = subst P (sym b.actions) (actions_find s (behind_line s column i m) (known_of b.rule.conditions) b.rule.actions (acting.begun s i (given_by m)) b.knows b.valid);
+      finds = subst P (sym b.actions) (actions_find s (behind_line s column i m) (known_of b.rule.conditions) b.rule.actions start b.knows b.valid);
+      cells = subst Q (sym b.actions) (actions_hold_whole s sound.classes (behind_line s column i m) (known_of b.rule.conditions) b.rule.actions start b.knows w b.valid);
     }
 
 acted_whole : (s : Setting) (column : ℕ) (i : Inst) (m : Course) → IsSound s → IsGood s m → Contains (conflict_set s.rules m.wm) i → IfOk (acted s column i (given_by m)).outcome (λ a. MakesWhole s.classes a.changes)

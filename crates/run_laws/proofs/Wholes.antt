@@ -14,16 +14,17 @@ use Rattle.ops_base.specs.declared.values.Value.{Value}
 use Rattle.ops_base.specs.Valid.{Known, is_cell, class_of, class_of_cell, no_class, fits, class_is_valid, put_is_valid, puts_are_valid, action_is_valid, actions_are_valid, known_after}
 use Rattle.ops_base.specs.WorkingMemory.{done, without_tag}
 use Rattle.ops_base.proofs.Filtered.{filter_member}
-use Rattle.ops_base.proofs.Members.{IsMember, member_cases}
+use Rattle.ops_base.proofs.Members.{IsMember, all_from_members, member_cases}
 use Rattle.ops_io.specs.Output.{column_after}
 use Rattle.ops_meaning.specs.Acting.{Setting, Doing, no_element, evaluated, has_tag, cell_of, changed, next_element, added, removed, modified, made_fields, modified_fields, made_by, made_last, bound, first_of, changes_told, action_done, actions_done, in_action}
 use Rattle.ops_meaning.specs.Effects.{followed_by, outcome_as}
 use Rattle.ops_meaning.specs.Layout.{Apart}
 use Rattle.run_laws.specs.Elements.{AreFieldsOf, IsWhole}
 use Rattle.run_laws.specs.Finding.{is_add, is_class}
+use Rattle.run_laws.specs.Firings.{HoldWhole}
 use Rattle.run_laws.proofs.Evaluating.{KeepsValued, KeepsFilled, evaluated_keeps, made_keeps, over_keeps, items_keep}
 use Rattle.run_laws.proofs.Knowing.{Holds, Knows, there, all_at, holds_there, same_class, action_knows}
-use Rattle.run_laws.proofs.Parts.{ok_behind, ok_on, ok_as, ok_both}
+use Rattle.run_laws.proofs.Parts.{ok_behind, ok_on, ok_as, ok_more, ok_both}
 use Rattle.run_laws.proofs.Rooms.{HasRoom, fits_class, no_fields_room, puts_made_room, puts_over_room}
 
 -- ---- lists of elements
@@ -189,3 +190,17 @@ actions_whole s valid column n k (a ∷ rest) d p q h =
     (ok_as Both Both (λ d. d) (in_action n) e.outcome
     (ok_both (Knows s.classes (known_after k a)) (AreWholes s.classes valid) e.outcome (action_knows s column k a d p parts.0) (action_whole s valid column k a d p q parts.0)) (λ d r. r))
     (λ d r. actions_whole s valid (column_after column e.bytes) (suc n) (known_after k a) rest d r.0 r.1 parts.1)
+
+-- before each of them the cells hold whole elements
+pub actions_hold_whole : (s : Setting) (valid : list_all class_is_valid s.classes ≡ true) (column : ℕ) (k : Known) (actions : List Action) (d : Doing) → Knows s.classes k d → AreWholes s.classes valid d → actions_are_valid s.classes k actions ≡ true
+    → HoldWhole s column actions d
+actions_hold_whole s valid column k [] d p q h = tt
+actions_hold_whole s valid column k (a ∷ rest) d p q h =
+    let parts = and_parts (action_is_valid s.classes k a) (actions_are_valid s.classes (known_after k a) rest) h in
+    let e = action_done s column a d in
+    let Both : Doing → Type 0 = λ d. Knows s.classes (known_after k a) d × AreWholes s.classes valid d in (
+      all_from_members (IsWhole s.classes) d.cells q.cells,
+      ok_more Both (HoldWhole s (column_after column e.bytes) rest) e.outcome
+          (ok_both (Knows s.classes (known_after k a)) (AreWholes s.classes valid) e.outcome (action_knows s column k a d p parts.0) (action_whole s valid column k a d p q parts.0))
+          (λ next r. actions_hold_whole s valid (column_after column e.bytes) (known_after k a) rest next r.0 r.1 parts.1),
+    )

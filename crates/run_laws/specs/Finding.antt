@@ -119,12 +119,16 @@ action_finds classes d (action.Bind variable t) = term_finds classes d t && is_s
 action_finds classes d (action.Cbind cell) = has_made d
 action_finds classes d action.Halt = true
 
--- From a column and a state on, each action finds all that it names, in the state to which those before it lead.
-abbrev pub AllFind : Setting → ℕ → List Action → Doing → Type 0
-AllFind s column [] d = Unit {0}
-AllFind s column (a ∷ rest) d =
+-- From a column and a state on, P holds of each action with the state to which those before it lead.
+abbrev pub EachAction : (Action → Doing → Type 0) → Setting → ℕ → List Action → Doing → Type 0
+EachAction P s column [] d = Unit {0}
+EachAction P s column (a ∷ rest) d =
     let e = action_done s column a d in
-    IsTrue (action_finds s.classes d a) × IfOk e.outcome (λ next. AllFind s (column_after column e.bytes) rest next)
+    P a d × IfOk e.outcome (λ next. EachAction P s (column_after column e.bytes) rest next)
+
+-- Each action finds all that it names.
+abbrev pub AllFind : Setting → ℕ → List Action → Doing → Type 0
+AllFind s column actions d = EachAction (λ a d. IsTrue (action_finds s.classes d a)) s column actions d
 
 -- the bindings, the cells and the changes are the same
 abbrev pub SeesTheSame : Doing → Doing → Type 0

@@ -1,19 +1,20 @@
 -- What holds of each firing of a session.
 use Rattle.std.specs.Prelude.{ℕ, zero, suc, ◌+◌, ◌-◌, List, [], ◌∷◌, Bool, Option, Some, None, IfOk}
 use Rattle.std.specs.Bool.{MatchBool}
+use Rattle.ops_base.specs.declared.actions.Action.{Action}
 use Rattle.ops_base.specs.declared.commands.Command.{Command}
 use Rattle.ops_base.specs.declared.commands.Command.TheVariants as command
 use Rattle.ops_base.specs.declared.rules.Inst.{Inst}
 use Rattle.ops_base.specs.Names.{Spellings}
 use Rattle.ops_io.specs.Coming.{Coming}
 use Rattle.ops_io.specs.Output.{column_after}
-use Rattle.ops_meaning.specs.Acting.{Setting, actions_of}
+use Rattle.ops_meaning.specs.Acting.{Setting, Doing, actions_of}
 use Rattle.ops_meaning.specs.Acting as acting
 use Rattle.ops_meaning.specs.Layout.{firing_bytes}
 use Rattle.ops_meaning.specs.Running.{Course, Session, LastFiring, begun, command_done, firing, given_by, is_exit, last_of, line_of_pause, next_to_fire, one_less}
 use Rattle.run_laws.specs.Beginning.{BeginsAsMatched}
 use Rattle.run_laws.specs.Elements.{AreWhole}
-use Rattle.run_laws.specs.Finding.{AllFind}
+use Rattle.run_laws.specs.Finding.{AllFind, EachAction}
 
 -- of what is next, where the run goes on
 abbrev pub IfGoesOn : Option (List ℕ) → Option Inst → (Inst → Type 0) → Type 0
@@ -52,9 +53,14 @@ EachFiring P s limit commands names coming = EachOfCommands P s limit 0 commands
 abbrev pub behind_line : Setting → ℕ → Inst → Course → ℕ
 behind_line s column i m = column_after column (firing_bytes s.watch column m.names s.rules (m.firings + 1) i)
 
--- In a firing the elements of working memory are whole, the right side begins as matched, and it finds all that it
--- names.
+-- before each action the cells hold whole elements
+abbrev pub HoldWhole : Setting → ℕ → List Action → Doing → Type 0
+HoldWhole s column actions d = EachAction (λ a d. AreWhole s.classes d.cells) s column actions d
+
+-- In a firing the elements of working memory are whole, and those of the cells too, the right side begins as matched,
+-- and it finds all that it names.
 pub record FindsAll (s : Setting) (column : ℕ) (i : Inst) (m : Course) : Type 0 where
   pub whole : AreWhole s.classes m.wm
   pub begins : BeginsAsMatched s (given_by m) i
   pub finds : AllFind s (behind_line s column i m) (actions_of s.rules i.rule) (acting.begun s i (given_by m))
+  pub cells : HoldWhole s (behind_line s column i m) (actions_of s.rules i.rule) (acting.begun s i (given_by m))

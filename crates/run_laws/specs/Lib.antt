@@ -3,6 +3,7 @@ pub mod Beginning
 pub mod Ending
 pub mod Finding
 pub mod Elements
+pub mod Placing
 pub mod Firings
 pub mod Patterns
 pub mod Ranking

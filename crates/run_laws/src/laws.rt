@@ -1,5 +1,5 @@
 //! What holds of programs by the definitions of running: the contracts of functions that do nothing.
-ghost use Rattle.std.specs.Prelude.{◌≡◌, ℕ, List, [], ◌∷◌, slice_get, Some, if◌then◌else◌, None, Contains, IsTrue, IfOk};
+ghost use Rattle.std.specs.Prelude.{◌≡◌, ℕ, ◌≤◌, List, [], ◌∷◌, length, slice_get, Some, if◌then◌else◌, None, Contains, IsTrue, IfOk};
 ghost use Rattle.std.specs.List.{list_all};
 ghost use Rattle.ops_base.specs.declared.actions.Term.{Term};
 ghost use Rattle.ops_base.specs.declared.commands.Command.{Command};
@@ -9,19 +9,22 @@ ghost use Rattle.ops_base.specs.declared.elements.Element.{Element};
 ghost use Rattle.ops_base.specs.declared.matching.Binding.{Binding};
 ghost use Rattle.ops_base.specs.declared.rules.Inst.{Inst};
 ghost use Rattle.ops_base.specs.declared.rules.Rule.{Rule};
+ghost use Rattle.ops_base.specs.declared.values.Value.{Value};
 ghost use Rattle.ops_base.specs.ConflictSet.{conflict_set, empty_partial};
 ghost use Rattle.ops_base.specs.Matching.{match_of};
 ghost use Rattle.ops_base.specs.Names.{Spellings};
+ghost use Rattle.ops_base.specs.Valid.{is_attribute};
 ghost use Rattle.ops_base.specs.WorkingMemory.{HasRisingTags};
 ghost use Rattle.ops_io.specs.Coming.{Coming};
-ghost use Rattle.ops_meaning.specs.Acting.{Setting, Given, Doing, actions_of, begun, evaluated};
+ghost use Rattle.ops_meaning.specs.Acting.{Setting, Given, Doing, actions_of, begun, evaluated, values_placed};
 ghost use Rattle.ops_meaning.specs.Running.{Course, Session, command_done, element_lines, ending_of, lists, meets, session_of, standing_by};
 ghost use Rattle.run_laws.specs.Beginning.{BeginsAsMatched};
-ghost use Rattle.run_laws.specs.Elements.{AreWhole};
+ghost use Rattle.run_laws.specs.Elements.{AreFieldsOf, AreWhole};
 ghost use Rattle.run_laws.specs.Ending.{IsOfSession};
 ghost use Rattle.run_laws.specs.Finding.{AllFind, SeesTheSame, WalkFinds, command_finds};
 ghost use Rattle.run_laws.specs.Firings.{EachFiring, FindsAll};
 ghost use Rattle.run_laws.specs.Patterns.{condition_with, meeting};
+ghost use Rattle.run_laws.specs.Placing.{StandAt};
 ghost use Rattle.run_laws.specs.Programs.{AreValid};
 ghost use Rattle.run_laws.specs.Ranking.{HasRank, IsRanking};
 
@@ -49,15 +52,24 @@ pub fn right_sides_find_what_they_name()
         → IfOk (evaluated classes t d) (λ v. SeesTheSame d v.doing) }
 {}
 
-/// In each firing of a session of a valid program the elements of working memory have just the fields of their classes,
-/// and the right side begins as matched and finds all that it names. A session that comes to its end leaves such
-/// elements.
+/// In each firing of a session of a valid program the elements of working memory and of the cells have just the fields
+/// of their classes, and the right side begins as matched and finds all that it names. A session that comes to its end
+/// leaves such elements.
 pub fn firings_find_what_they_name()
     ensures firings { (s : Setting) (limit : ℕ) (commands : List Command) (names : Spellings) (coming : Coming)
         → AreValid s commands → EachFiring FindsAll s limit commands names coming }
     ensures elements { (s : Setting) (limit : ℕ) (commands : List Command) (names : Spellings) (coming : Coming)
         → AreValid s commands
         → IfOk (session_of s limit commands names coming).outcome (λ k. AreWhole s.classes k.course.wm) }
+{}
+
+/// Values that are placed from a field on stand there, and the others stay, where that field is not past the end. That
+/// of an attribute is not, where the fields are those of its class.
+pub fn values_stand_where_they_are_placed()
+    ensures stand { (at : ℕ) (values old new : List Value)
+        → at ≤ length old → values_placed at values old ≡ Some new → StandAt at values old new }
+    ensures within { (c : Class) (field values : ℕ)
+        → IsTrue (is_attribute c field) → AreFieldsOf c values → field ≤ values }
 {}
 
 /// In a valid program each command finds the class and the attributes that it names, with a value for each scalar one.
