@@ -21,7 +21,7 @@ ghost use Rattle.ops_meaning.specs.Running.{Course, Session, command_done, eleme
 ghost use Rattle.run_laws.specs.Beginning.{BeginsAsMatched};
 ghost use Rattle.run_laws.specs.Elements.{AreFieldsOf, AreWhole};
 ghost use Rattle.run_laws.specs.Ending.{IsOfSession};
-ghost use Rattle.run_laws.specs.Finding.{AllFind, SeesTheSame, WalkFinds, command_finds};
+ghost use Rattle.run_laws.specs.Finding.{AllFind, SeesTheSame, WalkFinds, command_finds, is_single};
 ghost use Rattle.run_laws.specs.Firings.{EachFiring, FindsAll};
 ghost use Rattle.run_laws.specs.Patterns.{condition_with, meeting};
 ghost use Rattle.run_laws.specs.Placing.{StandAt};
@@ -43,13 +43,16 @@ pub fn left_sides_find_what_they_name()
 {}
 
 /// In a valid program each action of a right side finds, in the state that it comes to, all that it names: variables,
-/// cells, classes and fields. A term leaves the bindings, the cells and the changes as they are.
+/// cells, classes and fields. A term leaves the bindings, the cells and the changes as they are, and gives one value but
+/// where it is all of a vector attribute.
 pub fn right_sides_find_what_they_name()
     ensures actions { (s : Setting) (commands : List Command) (column : ℕ) (g : Given) (i : Inst)
         → AreValid s commands → HasRisingTags g.wm → Contains (conflict_set s.rules g.wm) i
         → AllFind s column (actions_of s.rules i.rule) (begun s i g) }
     ensures terms { (classes : List Class) (t : Term) (d : Doing)
         → IfOk (evaluated classes t d) (λ v. SeesTheSame d v.doing) }
+    ensures one { (classes : List Class) (t : Term) (d : Doing)
+        → IsTrue (is_single t) → IfOk (evaluated classes t d) (λ v. length v.values ≡ 1) }
 {}
 
 /// In each firing of a session of a valid program the elements of working memory and of the cells have just the fields
