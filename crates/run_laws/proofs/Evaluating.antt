@@ -1,4 +1,4 @@
--- Evaluating, placing and writing leave the bindings, the cells and the changes as they are.
+-- Evaluating, placing and writing leave the bindings, the cells, the changes and working memory as they are.
 use Rattle.std.proofs.Common.{◌≡◌, refl, ℕ, ◌+◌, List, [], ◌∷◌, length, Option, Some, None, Result, Ok, Err, IfOk}
 use Rattle.ops_base.specs.declared.actions.Item.{Item}
 use Rattle.ops_base.specs.declared.actions.Item.TheVariants as item
@@ -20,9 +20,9 @@ use Rattle.ops_meaning.specs.Layout.{Lead}
 use Rattle.run_laws.specs.Finding.{SeesTheSame}
 use Rattle.run_laws.proofs.Parts.{ok_behind, ok_on}
 
-module _ (P : List Binding → List Element → List Change → Type 0) (classes : List Class) where
+module _ (P : List Binding → List Element → List Change → List Element → Type 0) (classes : List Class) where
   abbrev pub Keeps : Doing → Type 0
-  Keeps d = P d.bindings d.cells d.changes
+  Keeps d = P d.bindings d.cells d.changes d.wm
 
   abbrev pub KeepsValued : Valued → Type 0
   KeepsValued v = Keeps v.doing
@@ -92,4 +92,4 @@ module _ (P : List Binding → List Element → List Change → Type 0) (classes
 -- a term leaves what the terms after it look at
 pub sees_the_same : (classes : List Class) (t : Term) (d : Doing) → IfOk (evaluated classes t d) (λ v. SeesTheSame d v.doing)
 sees_the_same classes t d =
-    evaluated_keeps (λ bindings elements changes. (bindings ≡ d.bindings) × (elements ≡ d.cells) × (changes ≡ d.changes)) classes t d (refl, refl, refl)
+    evaluated_keeps (λ bindings elements changes wm. (bindings ≡ d.bindings) × (elements ≡ d.cells) × (changes ≡ d.changes) × (wm ≡ d.wm)) classes t d (refl, refl, refl, refl)

@@ -264,27 +264,31 @@ module _ (classes : List Class) where
           made = p.made;
         }
 
+-- the same, whatever working memory is
+abbrev HoldsIn : List Class → Known → List Binding → List Element → List Change → List Element → Type 0
+HoldsIn classes k bindings elements changes wm = Holds classes k bindings elements changes
+
 -- a valid action leaves what is known after it
 pub action_knows : (s : Setting) (column : ℕ) (k : Known) (a : Action) (d : Doing) → Knows s.classes k d → action_is_valid s.classes k a ≡ true → IfOk (action_done s column a d).outcome (Knows s.classes (known_after k a))
 action_knows s column k (action.Make class puts) d p h =
     let parts = and_parts (nat_lt class (length s.classes)) (puts_are_valid s.classes k (class_of s.classes class) puts) h in
     let After : Doing → Type 0 = Knows s.classes (record k { made = Some class }) in
     ok_on After After [] (followed_by (made_fields s.classes (class_of s.classes class) puts d) (λ f. Ok (added f.doing class f.fields))) (changes_told s d (column_after column []))
-    (ok_behind (KeepsFilled (Holds s.classes k) s.classes) After (made_fields s.classes (class_of s.classes class) puts d) (λ f. Ok (added f.doing class f.fields))
-    (made_keeps (Holds s.classes k) s.classes (class_of s.classes class) puts _ p) (λ f q. added_knows s.classes k f.doing class f.fields parts.0 q))
+    (ok_behind (KeepsFilled (HoldsIn s.classes k) s.classes) After (made_fields s.classes (class_of s.classes class) puts d) (λ f. Ok (added f.doing class f.fields))
+    (made_keeps (HoldsIn s.classes k) s.classes (class_of s.classes class) puts _ p) (λ f q. added_knows s.classes k f.doing class f.fields parts.0 q))
     (λ d q. q)
 action_knows s column k (action.Modify cell puts) d p h =
     let parts = and_parts (is_cell k cell) (puts_are_valid s.classes k (class_of_cell s.classes k cell) puts) h in
     let After : Doing → Type 0 = Knows s.classes (record k { made = slice_get k.cells cell }) in
     ok_on After After [] (followed_by (modified_fields s.classes puts cell d) (λ f. Ok (modified f.doing cell f.fields))) (changes_told s d (column_after column []))
-    (ok_behind (KeepsFilled (Holds s.classes k) s.classes) After (modified_fields s.classes puts cell d) (λ f. Ok (modified f.doing cell f.fields))
-    (over_keeps (Holds s.classes k) s.classes puts _ p) (λ f q. modified_knows s.classes k f.doing cell f.fields parts.0 q))
+    (ok_behind (KeepsFilled (HoldsIn s.classes k) s.classes) After (modified_fields s.classes puts cell d) (λ f. Ok (modified f.doing cell f.fields))
+    (over_keeps (HoldsIn s.classes k) s.classes puts _ p) (λ f q. modified_knows s.classes k f.doing cell f.fields parts.0 q))
     (λ d q. q)
 action_knows s column k (action.Remove cells) d p h = all_removed s.classes k cells d p
-action_knows s column k (action.Write items) d p h = items_keep (Holds s.classes k) s.classes Apart column items d p
+action_knows s column k (action.Write items) d p h = items_keep (HoldsIn s.classes k) s.classes Apart column items d p
 action_knows s column k (action.Bind v t) d p h =
-    ok_behind (KeepsValued (Holds s.classes k) s.classes) (Knows s.classes (known_after k (action.Bind v t))) (evaluated s.classes t d) (λ w. Ok (bound w.doing v (first_of w.values)))
-    (evaluated_keeps (Holds s.classes k) s.classes t d p) (λ w q. bound_knows s.classes k w.doing v (first_of w.values) q)
+    ok_behind (KeepsValued (HoldsIn s.classes k) s.classes) (Knows s.classes (known_after k (action.Bind v t))) (evaluated s.classes t d) (λ w. Ok (bound w.doing v (first_of w.values)))
+    (evaluated_keeps (HoldsIn s.classes k) s.classes t d p) (λ w q. bound_knows s.classes k w.doing v (first_of w.values) q)
 action_knows s column k (action.Cbind cell) d p h =
     cbound_knows s.classes k d k.made refl (and_parts (is_some k.made) (cell == length k.cells) h).0 p
 action_knows s column k action.Halt d p h = record { variables = p.variables; cells = p.cells; exist = p.exist; made = p.made }

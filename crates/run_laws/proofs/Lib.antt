@@ -8,6 +8,7 @@ pub mod Rooms
 pub mod Evaluating
 pub mod Parts
 pub mod Places
+pub mod Removed
 pub mod Wholes
 pub mod Sessions
 pub mod Ordered

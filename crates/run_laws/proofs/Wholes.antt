@@ -97,8 +97,8 @@ pub record Wholes (classes : List Class) (elements : List Element) (changes : Li
   pub made : MakesWhole classes changes
 
 module _ (classes : List Class) (valid : list_all class_is_valid classes ≡ true) where
-  abbrev Kept : Known → List Binding → List Element → List Change → Type 0
-  Kept k bindings elements changes = Holds classes k bindings elements changes × Wholes classes elements changes
+  abbrev Kept : Known → List Binding → List Element → List Change → List Element → Type 0
+  Kept k bindings elements changes wm = Holds classes k bindings elements changes × Wholes classes elements changes
 
   abbrev pub AreWholes : Doing → Type 0
   AreWholes d = Wholes classes d.cells d.changes
@@ -164,9 +164,9 @@ action_whole s valid column k (action.Modify cell puts) d p q h =
     (λ d q. q)
 action_whole s valid column k (action.Remove cells) d p q h = all_removed_whole s.classes valid cells d q
 action_whole s valid column k (action.Write items) d p q h =
-    items_keep (λ bindings elements changes. Wholes s.classes elements changes) s.classes Apart column items d q
+    items_keep (λ bindings elements changes wm. Wholes s.classes elements changes) s.classes Apart column items d q
 action_whole s valid column k (action.Bind v t) d p q h =
-    let P : List Binding → List Element → List Change → Type 0 = λ bindings elements changes. Wholes s.classes elements changes in
+    let P : List Binding → List Element → List Change → List Element → Type 0 = λ bindings elements changes wm. Wholes s.classes elements changes in
     ok_behind (KeepsValued P s.classes) (AreWholes s.classes valid) (evaluated s.classes t d) (λ w. Ok (bound w.doing v (first_of w.values)))
     (evaluated_keeps P s.classes t d q) (λ w r. record { cells = r.cells; made = r.made })
 action_whole s valid column k (action.Cbind cell) d p q h =

@@ -26,8 +26,9 @@ use Rattle.ops_base.specs.ConflictSet.{at_condition}
 use Rattle.ops_base.specs.Expression.{all_variables}
 use Rattle.ops_base.specs.Matching.{value_of, after_test}
 use Rattle.ops_base.specs.Valid.{class_of, is_attribute, is_field, is_vector}
+use Rattle.ops_base.specs.WorkingMemory.{change_done}
 use Rattle.ops_io.specs.Output.{column_after}
-use Rattle.ops_meaning.specs.Acting.{Setting, Doing, cell_of, action_done}
+use Rattle.ops_meaning.specs.Acting.{Setting, Doing, cell_of, element_of, action_done}
 
 abbrev pub is_class : List Class → ℕ → Bool
 is_class classes n = is_some (slice_get classes n)
@@ -130,9 +131,17 @@ EachAction P s column (a ∷ rest) d =
 abbrev pub AllFind : Setting → ℕ → List Action → Doing → Type 0
 AllFind s column actions d = EachAction (λ a d. IsTrue (action_finds s.classes d a)) s column actions d
 
--- the bindings, the cells and the changes are the same
+-- the bindings, the cells, the changes and working memory are the same
 abbrev pub SeesTheSame : Doing → Doing → Type 0
-SeesTheSame old new = (new.bindings ≡ old.bindings) × (new.cells ≡ old.cells) × (new.changes ≡ old.changes)
+SeesTheSame old new =
+    (new.bindings ≡ old.bindings) × (new.cells ≡ old.cells) × (new.changes ≡ old.changes) × (new.wm ≡ old.wm)
+
+-- each removal names an element that is there when it is done, which a trace can show
+abbrev pub RemovalsFind : List Element → List Change → Type 0
+RemovalsFind wm [] = Unit {0}
+RemovalsFind wm (change.Add e ∷ cs) = RemovalsFind (change_done wm (change.Add e)) cs
+RemovalsFind wm (change.Remove tag ∷ cs) =
+    IsTrue (is_some (element_of wm tag)) × RemovalsFind (change_done wm (change.Remove tag)) cs
 
 -- ---- commands
 

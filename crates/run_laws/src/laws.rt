@@ -1,9 +1,11 @@
 //! What holds of programs by the definitions of running: the contracts of functions that do nothing.
-ghost use Rattle.std.specs.Prelude.{◌≡◌, ℕ, ◌≤◌, List, [], ◌∷◌, length, slice_get, Some, if◌then◌else◌, None, Contains, IsTrue, IfOk};
+ghost use Rattle.std.specs.Prelude.{◌≡◌, ℕ, ◌≤◌, List, [], ◌∷◌, length, drop, map, slice_get, Some, if◌then◌else◌, None, Contains, IsTrue, IfOk};
 ghost use Rattle.std.specs.List.{list_all};
+ghost use Rattle.ops_base.specs.declared.actions.Action.{Action};
 ghost use Rattle.ops_base.specs.declared.actions.Term.{Term};
 ghost use Rattle.ops_base.specs.declared.commands.Command.{Command};
 ghost use Rattle.ops_base.specs.declared.commands.Fixed.{Fixed};
+ghost use Rattle.ops_base.specs.declared.elements.Change.TheVariants.{Remove};
 ghost use Rattle.ops_base.specs.declared.elements.Class.{Class};
 ghost use Rattle.ops_base.specs.declared.elements.Element.{Element};
 ghost use Rattle.ops_base.specs.declared.matching.Binding.{Binding};
@@ -14,14 +16,14 @@ ghost use Rattle.ops_base.specs.ConflictSet.{conflict_set, empty_partial};
 ghost use Rattle.ops_base.specs.Matching.{match_of};
 ghost use Rattle.ops_base.specs.Names.{Spellings};
 ghost use Rattle.ops_base.specs.Valid.{is_attribute};
-ghost use Rattle.ops_base.specs.WorkingMemory.{HasRisingTags};
+ghost use Rattle.ops_base.specs.WorkingMemory.{HasRisingTags, tags_of};
 ghost use Rattle.ops_io.specs.Coming.{Coming};
-ghost use Rattle.ops_meaning.specs.Acting.{Setting, Given, Doing, actions_of, begun, evaluated, values_placed};
-ghost use Rattle.ops_meaning.specs.Running.{Course, Session, command_done, element_lines, ending_of, lists, meets, session_of, standing_by};
+ghost use Rattle.ops_meaning.specs.Acting.{Setting, Given, Doing, actions_of, action_done, begun, evaluated, values_placed};
+ghost use Rattle.ops_meaning.specs.Running.{Course, Session, command_done, element_lines, ending_of, lists, meets, removals, session_of, standing_by};
 ghost use Rattle.run_laws.specs.Beginning.{BeginsAsMatched};
 ghost use Rattle.run_laws.specs.Elements.{AreFieldsOf, AreWhole};
 ghost use Rattle.run_laws.specs.Ending.{IsOfSession};
-ghost use Rattle.run_laws.specs.Finding.{AllFind, SeesTheSame, WalkFinds, command_finds, is_single};
+ghost use Rattle.run_laws.specs.Finding.{AllFind, RemovalsFind, SeesTheSame, WalkFinds, command_finds, is_single};
 ghost use Rattle.run_laws.specs.Firings.{EachFiring, FindsAll};
 ghost use Rattle.run_laws.specs.Patterns.{condition_with, meeting};
 ghost use Rattle.run_laws.specs.Placing.{StandAt};
@@ -43,8 +45,8 @@ pub fn left_sides_find_what_they_name()
 {}
 
 /// In a valid program each action of a right side finds, in the state that it comes to, all that it names: variables,
-/// cells, classes and fields. A term leaves the bindings, the cells and the changes as they are, and gives one value but
-/// where it is all of a vector attribute.
+/// cells, classes and fields. A term leaves the bindings, the cells, the changes and working memory as they are, and
+/// gives one value but where it is all of a vector attribute.
 pub fn right_sides_find_what_they_name()
     ensures actions { (s : Setting) (commands : List Command) (column : ℕ) (g : Given) (i : Inst)
         → AreValid s commands → HasRisingTags g.wm → Contains (conflict_set s.rules g.wm) i
@@ -79,6 +81,14 @@ pub fn values_stand_where_they_are_placed()
 pub fn commands_find_what_they_name()
     ensures { (s : Setting) (commands : List Command)
         → AreValid s commands → IsTrue (list_all (command_finds s.classes) commands) }
+{}
+
+/// What an action or a command removes is there when it is removed, so that a trace can show it.
+pub fn removals_find_what_they_name()
+    ensures actions { (s : Setting) (column : ℕ) (a : Action) (d : Doing)
+        → IfOk (action_done s column a d).outcome (λ next. RemovalsFind d.wm (drop (length d.changes) next.changes)) }
+    ensures commands { (wm : List Element) (tags : List ℕ) → RemovalsFind wm (removals wm tags) }
+    ensures all { (wm : List Element) → HasRisingTags wm → RemovalsFind wm (map Remove (tags_of wm)) }
 {}
 
 /// In a valid program dominance finds what it looks at in each member of the conflict set.
