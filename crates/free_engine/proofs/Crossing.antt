@@ -14,10 +14,10 @@ use Rattle.std.specs.contracts.alloc.Global as Global
 use Rattle.std.specs.contracts.snapshot.Snapshot as Snapshot
 use Rattle.net_base.specs.contracts.net.Net as Net
 use Rattle.net_base.proofs.net.Net.TheSendSync as NetCrosses
+use Rattle.net_base.proofs.tasks.Task.TheSendSync as TaskCrosses
 use Rattle.work_store.specs.contracts.store.Store as Store
 use Rattle.work_store.proofs.store.Store.TheSendSync as StoreCrosses
 use Rattle.token_line.specs.contracts.line.Line as Line
-use Rattle.task_pool.specs.contracts.taken_task.TakenTask as TakenTask
 use Rattle.task_pool.specs.contracts.pool.PoolEntry as PoolEntry
 use Rattle.task_pool.specs.contracts.pool.Pool as Pool
 use Rattle.turn_table.specs.contracts.passes.Pass as Pass
@@ -31,7 +31,7 @@ use Rattle.free_engine.specs.contracts.slots.SlotEntry as SlotEntry
 use Rattle.free_engine.specs.contracts.slots.SlotName as SlotName
 use Rattle.free_engine.specs.contracts.slots.SlotKept.TheImpl.{ghosts}
 use Rattle.free_engine.specs.contracts.turns.Crew as Crew
-use Rattle.rounds_engine.proofs.Crossing.{children_send, line_send, task_send}
+use Rattle.serial_engine.proofs.Crossing.{children_send, deed_send, line_send}
 
 snapshot_send : (Y : RattleType) → IsSend (Snapshot.the_row Y)
 snapshot_send Y = search crosses depth 20
@@ -39,14 +39,11 @@ snapshot_send Y = search crosses depth 20
 snapshot_sync : (Y : RattleType) → IsSync (Snapshot.the_row Y)
 snapshot_sync Y = search crosses depth 20
 
-taken_task_send : IsSend TakenTask.the_row
-taken_task_send = search (sendable, crosses) depth 80
-
 pool_entry_send : IsSend PoolEntry.the_row
-pool_entry_send = search (taken_task_send, children_send, sendable, crosses) depth 80
+pool_entry_send = search (deed_send, children_send, sendable, crosses) depth 80
 
 pool_send : IsSend Pool.the_row
-pool_send = search (task_send, pool_entry_send, sendable, crosses) depth 80
+pool_send = search (TaskCrosses.the_send, pool_entry_send, sendable, crosses) depth 80
 
 pool_cell_send : IsSend PoolCell.the_row
 pool_cell_send = search (pool_send, sendable, crosses) depth 80 fits 20000

@@ -13,4 +13,3 @@ pub mod Joined
 pub mod LinesBack
 pub mod SharedLines
 pub mod Results
-pub mod Stepped

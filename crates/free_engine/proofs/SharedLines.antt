@@ -8,7 +8,7 @@ use Rattle.token_line.specs.declared.line.Line.{Line}
 use Rattle.activation.specs.Acting.{IsCounted}
 use Rattle.step_core.specs.Worlds.{AreNumbered, placed}
 use Rattle.step_core.specs.Rounds.{IsUnderWay}
-use Rattle.rounds_engine.specs.Carrying.{CarriesOn}
+use Rattle.serial_engine.specs.Carrying.{CarriesOn}
 use Rattle.turn_table.specs.declared.views.Row.{Row}
 use Rattle.turn_table.specs.declared.views.View.{View}
 use Rattle.turn_table.specs.Ends.{Accounts}

@@ -2,7 +2,7 @@
 ghost use Rattle.std.specs.Prelude.{◌≡◌, [], All, IfOk, length, map};
 ghost use Rattle.activation.specs.Acting.{IsCounted};
 ghost use Rattle.step_core.specs.Worlds.{AreNumbered};
-ghost use Rattle.rounds_engine.specs.Carrying.{CarriesOn};
+ghost use Rattle.serial_engine.specs.Carrying.{CarriesOn};
 ghost use Rattle.turn_table.specs.Turns.{first_values, knows};
 ghost use Rattle.free_engine.specs.Counts.{SawQuiet};
 ghost use Rattle.free_engine.specs.Openings.{IsOpened};

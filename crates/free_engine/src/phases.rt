@@ -9,7 +9,7 @@ ghost use Rattle.step_core.specs.Found.{found_over};
 ghost use Rattle.step_core.specs.Phases.{HoldJust, IsBundle, now, sums_over};
 ghost use Rattle.step_core.specs.Worlds.{AreNumbered, ArePartsReady, IsReady, numbers_of, placed, seen, world_of};
 ghost use Rattle.serial_engine.specs.Running.{IsBundleOf, Went};
-ghost use Rattle.rounds_engine.specs.Carrying.{CarriesOn};
+ghost use Rattle.serial_engine.specs.Carrying.{CarriesOn};
 
 use crate::sharing::share;
 use net_base::net::Net;

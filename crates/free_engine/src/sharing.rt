@@ -3,7 +3,7 @@
 ghost use Rattle.std.specs.Prelude.{◌≡◌, ◌≤◌, ◌^◌, [], All, IfOk, length, map};
 ghost use Rattle.activation.specs.Acting.{IsCounted};
 ghost use Rattle.step_core.specs.Worlds.{AreNumbered, ArePartsReady};
-ghost use Rattle.rounds_engine.specs.Carrying.{CarriesOn};
+ghost use Rattle.serial_engine.specs.Carrying.{CarriesOn};
 
 use crate::closing::close;
 use crate::starting::start;

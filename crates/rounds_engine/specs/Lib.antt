@@ -1,3 +1,2 @@
--- Tasks dealt to shards, a round of these, and a phase that rounds carry on.
+-- Tasks dealt to shards, and a round of these.
 pub mod Sharing
-pub mod Carrying

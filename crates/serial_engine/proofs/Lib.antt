@@ -2,3 +2,5 @@ pub mod StepLemmas
 pub mod StartLemmas
 pub mod PhaseLemmas
 pub mod SettleLemmas
+pub mod Carried
+pub mod Crossing

@@ -3,9 +3,7 @@
 
 pub mod laws;
 pub mod pool;
-mod taken_task;
 #[cfg(test)]
 mod tests;
 
 pub use pool::{Pool, PoolEntry, Taken};
-pub use taken_task::TakenTask;

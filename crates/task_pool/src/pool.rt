@@ -5,14 +5,13 @@ ghost use Rattle.task_pool.specs.declared.pool.PoolEntry.TheVariants.{Finish as 
 ghost use Rattle.task_pool.specs.Pools.{HasPlayed, TakeSays, TakesFrom, holds};
 ghost use Rattle.task_pool.specs.Facts.{played_prop};
 
-use crate::taken_task::TakenTask;
 use net_base::tasks::Task;
 use ops_base::memory::OutOfMemory;
 use std::alloc::Global;
 use std::collections::VecDeque;
 use std::mem::replace;
 use std::snapshot::Snapshot;
-use token_line::Children;
+use token_line::{Children, Deed};
 
 /// What a take answers: the first task that waits, or why there is none.
 #[derive(Drop)]
@@ -30,7 +29,7 @@ pub enum Taken {
 /// What a worker did in the pool. The tasks in it are for contracts alone.
 #[derive(Drop)]
 pub enum PoolEntry {
-    Take { worker: usize, task: TakenTask },
+    Take { worker: usize, task: Deed },
     Finish { worker: usize, children: Children },
     Stop { worker: usize },
 }
@@ -103,7 +102,7 @@ impl Pool {
             Some(task) => {
                 self.entries.push_reserved(PoolEntry::Take {
                     worker,
-                    task: TakenTask::of(&task),
+                    task: Deed::of(&task),
                 });
                 self.unfinished += 1;
                 Taken::Task(task)

@@ -3,7 +3,7 @@ use Rattle.std.proofs.Common.{◌≡◌, ◌∙◌, [], List, map, sym, subst}
 use Rattle.std.specs.List.{All}
 use Rattle.token_line.specs.declared.line.Line.{Line}
 use Rattle.activation.specs.Acting.{IsCounted}
-use Rattle.rounds_engine.specs.Carrying.{CarriesOn}
+use Rattle.serial_engine.specs.Carrying.{CarriesOn}
 use Rattle.turn_table.specs.Turns.{first_values, knows, rows}
 use Rattle.free_engine.proofs.Results.{if_ok}
 use Rattle.free_engine.proofs.SharedLines.{lines_carry, lines_counted, lines_numbers}

@@ -9,7 +9,7 @@ use Rattle.step_core.specs.Doing.{entry_of}
 use Rattle.step_core.specs.Worlds.{EntryFits, placed}
 use Rattle.serial_engine.proofs.PhaseLemmas.{done_stays, none_in_flight, none_is_done}
 use Rattle.serial_engine.proofs.StartLemmas.{numbers_stay}
-use Rattle.rounds_engine.proofs.Carried.{by_phase}
+use Rattle.serial_engine.proofs.Carried.{by_phase}
 use Rattle.free_engine.proofs.Results.{if_ok}
 use Rattle.free_engine.proofs.phases.run_phase.Goals as goal
 

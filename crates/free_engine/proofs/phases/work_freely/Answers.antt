@@ -5,7 +5,7 @@ use Rattle.net_base.specs.declared.tasks.Task.{Task}
 use Rattle.token_line.specs.declared.line.Line.{Line}
 use Rattle.activation.specs.Acting.{IsCounted}
 use Rattle.step_core.specs.Worlds.{AreNumbered}
-use Rattle.rounds_engine.specs.Carrying.{CarriesOn}
+use Rattle.serial_engine.specs.Carrying.{CarriesOn}
 use Rattle.free_engine.proofs.Results.{if_ok}
 use Rattle.free_engine.proofs.phases.work_freely.Goals as goal
 

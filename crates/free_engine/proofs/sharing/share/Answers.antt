@@ -1,6 +1,6 @@
 -- As many workers are joined as there are passes.
 use Rattle.std.proofs.Common.{IfOk, [], length, sym, subst, ◌∙◌}
-use Rattle.rounds_engine.specs.Carrying.{CarriesOn}
+use Rattle.serial_engine.specs.Carrying.{CarriesOn}
 use Rattle.turn_table.specs.Turns.{first_values, knows}
 use Rattle.free_engine.specs.Teams.{AllJoined}
 use Rattle.free_engine.specs.Turns.{IsSetUp}

@@ -4,7 +4,7 @@ use Rattle.std.specs.List.{All}
 use Rattle.net_base.specs.declared.tasks.Task.{Task}
 use Rattle.token_line.specs.declared.line.Line.{Line}
 use Rattle.activation.specs.Acting.{IsCounted}
-use Rattle.rounds_engine.specs.Carrying.{CarriesOn}
+use Rattle.serial_engine.specs.Carrying.{CarriesOn}
 use Rattle.rounds_engine.specs.Sharing.{tasks_of_shards}
 use Rattle.rounds_engine.proofs.Carried.{by_order, came_back, same_length}
 use Rattle.rounds_engine.proofs.Results.{if_ok}

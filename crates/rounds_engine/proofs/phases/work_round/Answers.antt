@@ -3,7 +3,7 @@ use Rattle.std.proofs.Common.{◌≡◌, ◌≤◌, List, length, map, refl, sym
 use Rattle.work_store.specs.Stored.{held_of}
 use Rattle.step_core.specs.Rounds.{HaveDone}
 use Rattle.step_core.specs.Worlds.{placed, seen}
-use Rattle.rounds_engine.specs.Carrying.{CarriesOn}
+use Rattle.serial_engine.specs.Carrying.{CarriesOn}
 use Rattle.rounds_engine.specs.Sharing.{AreAllShards, AreDeeper, AreShards, HaveShared, first_of, tasks_of_shards}
 use Rattle.rounds_engine.proofs.Carried.{by_round}
 use Rattle.rounds_engine.proofs.Halving.{all_can, first_is}

@@ -2,7 +2,7 @@
 use Rattle.std.proofs.Common.{◌≡◌, ◌≤◌, length}
 use Rattle.std.specs.List.{All}
 use Rattle.net_base.specs.declared.tasks.Task.{Task}
-use Rattle.rounds_engine.specs.Carrying.{CarriesOn}
+use Rattle.serial_engine.specs.Carrying.{CarriesOn}
 use Rattle.rounds_engine.specs.Sharing.{AreAllShards, AreKept, tasks_of_shards}
 use Rattle.rounds_engine.proofs.phases.work_rounds.Given as goal
 
