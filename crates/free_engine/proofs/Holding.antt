@@ -130,6 +130,12 @@ at_end : {A : Type 0} (xs : List A) (x : A) → IsAt (xs ++ x ∷ []) (length xs
 at_end [] x = refl
 at_end (y ∷ ys) x = at_end ys x
 
+-- the last that was seen is the pool
+pub sees_now : (before old seen : List (Sight SlotEntry)) (c : ℕ) (es : List SlotEntry) → seen ≡ before ++ record { cell = c; list = es } ∷ [] → before ≡ old → c ≡ 0
+    → (list : List PoolEntry) → es ≡ map OfPool list → seen ≡ old ++ record { cell = 0; list = map OfPool list } ∷ []
+sees_now before old seen c es is same here list are =
+    is ∙ (ap (λ l. l ++ record { cell = c; list = es } ∷ []) same ∙ (ap (λ k. old ++ record { cell = k; list = es } ∷ []) here ∙ ap (λ l. old ++ record { cell = 0; list = l } ∷ []) are))
+
 pub saw_stop_now : (by : ℕ) (before seen : List (Sight SlotEntry)) (c : ℕ) (es : List SlotEntry) → seen ≡ before ++ record { cell = c; list = es } ∷ [] → c ≡ 0
     → (list : List PoolEntry) → es ≡ map OfPool list → first_stop list ≡ Some by → SawStop by seen
 saw_stop_now by before seen c es is here list are stopped = record {

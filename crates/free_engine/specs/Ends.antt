@@ -12,7 +12,7 @@ use Rattle.turn_table.specs.declared.views.Row.{Row}
 use Rattle.turn_table.specs.Ends.{Accounts}
 use Rattle.free_engine.specs.Slots.{entries, name, signature}
 use Rattle.free_engine.specs.Tables.{IsTable, lines_in}
-use Rattle.free_engine.specs.Turns.{IsSetUp, a_row}
+use Rattle.free_engine.specs.Turns.{IsSetUp, SeesUnfinished, a_row}
 use Rattle.task_pool.specs.declared.pool.PoolEntry.TheVariants.{Stop}
 use Rattle.free_engine.specs.declared.slots.SlotEntry.TheVariants.{OfPool}
 use Rattle.step_core.specs.Rounds.{IsUnderWay}
@@ -30,7 +30,7 @@ HasEndedEarly w q = ((rows : List (Row SlotEntry)) × (q.own ≡ rows ++ a_row w
 -- what a round adds to the rows of the worker
 abbrev pub RoundDone : ℕ → ℕ → List Task → View Slot SlotEntry → View Slot SlotEntry → RoundEnd → Type 0
 RoundDone lines w first p q Done = (x : Round) × (x.line < lines) × (q.own ≡ p.own ++ rows_of_round w x)
-RoundDone lines w first p q Nothing = q.own ≡ p.own
+RoundDone lines w first p q Nothing = (q.own ≡ p.own) × ((n : ℕ) × SeesUnfinished first n p.seen q.seen)
 RoundDone lines w first p q Quiet = (q.own ≡ p.own) × SawQuiet first q.seen
 RoundDone lines w first p q Broken = HasEndedEarly w q
 

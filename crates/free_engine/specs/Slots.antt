@@ -1,5 +1,5 @@
 -- What a slot stands for: the pool or a line.
-use Rattle.std.specs.Prelude.{◌≡◌, ℕ, ◌+◌, List, [], ◌∷◌, ◌++◌, Option, Some, None, map}
+use Rattle.std.specs.Prelude.{◌≡◌, ◌<◌, ℕ, ◌+◌, List, [], ◌∷◌, ◌++◌, Option, Some, None, length, map}
 use Rattle.net_base.specs.declared.tasks.Task.{Task}
 use Rattle.token_line.specs.Numbers.{line_number}
 use Rattle.task_pool.specs.declared.pool.PoolEntry.{PoolEntry}
@@ -9,7 +9,7 @@ use Rattle.net_base.specs.declared.net.Net.{Net}
 use Rattle.net_base.specs.declared.nodes.Node.{Node}
 use Rattle.task_pool.specs.declared.pool.Taken.{Taken}
 use Rattle.task_pool.specs.declared.pool.Taken.TheVariants.{Task as ATask, Again, Quiet, Stopped}
-use Rattle.task_pool.specs.Pools.{IsQuiet, first_stop}
+use Rattle.task_pool.specs.Pools.{IsQuiet, first_stop, played}
 use Rattle.free_engine.specs.declared.cells.LineCell.{LineCell}
 use Rattle.free_engine.specs.declared.slots.Slot.{Slot}
 use Rattle.free_engine.specs.declared.slots.Slot.TheVariants.{Queue, Row}
@@ -83,9 +83,15 @@ abbrev pub IsSlotFor : Net → Stored → Task → Slot → Type 0
 IsSlotFor net s x (Queue q) = ⊥
 IsSlotFor net s x (Row l) = IsLineFor net s x l.value
 
+-- no task waits, and this many are unfinished, one at least
+pub record AreUnfinished (first : List Task) (es : List PoolEntry) (n : ℕ) : Type 0 where
+  pub queue : (played first es).queue ≡ []
+  pub busy : length (played first es).busy ≡ n
+  pub some : 0 < n
+
 -- what a take did to the entries
 abbrev pub SlotTakes : ℕ → List Task → List SlotEntry → List SlotEntry → Taken → Type 0
 SlotTakes w first old new (ATask t) = new ≡ old ++ OfPool (Take w t) ∷ []
-SlotTakes w first old new (Again n) = new ≡ old
+SlotTakes w first old new (Again n) = (new ≡ old) × ((list : List PoolEntry) × (old ≡ map OfPool list) × AreUnfinished first list n)
 SlotTakes w first old new Quiet = (new ≡ old) × ((list : List PoolEntry) × (old ≡ map OfPool list) × IsQuiet first list)
 SlotTakes w first old new (Stopped by) = (new ≡ old) × ((list : List PoolEntry) × (old ≡ map OfPool list) × (first_stop list ≡ Some by))

@@ -1,11 +1,13 @@
 -- What turns of a worker add to its rows.
-use Rattle.std.specs.Prelude.{◌≡◌, ℕ, ◌+◌, Bool, false, List, [], ◌∷◌, ◌++◌, length}
+use Rattle.std.specs.Prelude.{◌≡◌, ℕ, ◌+◌, Bool, false, List, [], ◌∷◌, ◌++◌, length, map}
 use Rattle.work_store.specs.Stored.{Stored}
 use Rattle.net_base.specs.declared.net.Net.{Net}
 use Rattle.net_base.specs.declared.tasks.Task.{Task}
 use Rattle.turn_table.specs.declared.views.Row.{Row as ARow}
+use Rattle.turn_table.specs.declared.views.Sight.{Sight}
 use Rattle.turn_table.specs.declared.views.View.{View}
 use Rattle.turn_table.specs.Log.{IsAt, given_to}
+use Rattle.task_pool.specs.declared.pool.PoolEntry.{PoolEntry}
 use Rattle.task_pool.specs.declared.pool.PoolEntry.TheVariants.{Take}
 use Rattle.task_pool.specs.declared.pool.Taken.{Taken}
 use Rattle.task_pool.specs.declared.pool.Taken.TheVariants.{Task as ATask, Again, Quiet, Stopped}
@@ -16,6 +18,7 @@ use Rattle.free_engine.specs.declared.slots.Slot.{Slot}
 use Rattle.free_engine.specs.declared.slots.Slot.TheVariants.{Queue, Row}
 use Rattle.free_engine.specs.declared.slots.SlotEntry.{SlotEntry}
 use Rattle.free_engine.specs.declared.slots.SlotEntry.TheVariants.{OfPool, OfLine}
+use Rattle.free_engine.specs.Slots.{AreUnfinished}
 use Rattle.free_engine.specs.Counts.{SawQuiet, SawStop}
 
 -- ---- the cells of a phase
@@ -66,9 +69,14 @@ has_taken w rows = holds_slots w false (given_to 0 rows)
 abbrev pub a_row : ℕ → ℕ → SlotEntry → List (ARow SlotEntry)
 a_row w cell e = record { pass = w + 1; cell = cell; entry = e } ∷ []
 
+-- the last that was seen since is the pool, where no task waits and this many are unfinished
+abbrev pub SeesUnfinished : List Task → ℕ → List (Sight SlotEntry) → List (Sight SlotEntry) → Type 0
+SeesUnfinished first n old new =
+    (since : List (Sight SlotEntry)) × (list : List PoolEntry) × (new ≡ (old ++ since) ++ record { cell = 0; list = map OfPool list } ∷ []) × AreUnfinished first list n
+
 -- what a take adds to the rows of the worker
 abbrev pub PassTakes : ℕ → List Task → View Slot SlotEntry → View Slot SlotEntry → Taken → Type 0
 PassTakes w first p q (ATask t) = q.own ≡ p.own ++ a_row w 0 (OfPool (Take w t))
-PassTakes w first p q (Again n) = q.own ≡ p.own
+PassTakes w first p q (Again n) = (q.own ≡ p.own) × SeesUnfinished first n p.seen q.seen
 PassTakes w first p q Quiet = (q.own ≡ p.own) × SawQuiet first q.seen
 PassTakes w first p q (Stopped by) = (q.own ≡ p.own) × SawStop by q.seen
