@@ -147,6 +147,18 @@ module _ (r : Result Status Stop) (ws : List (List ℕ)) (told : List ℕ → Op
       (λ contents d. input_map old new failed (λ z. Delivers r (whole ws contents broken z) k b n a) (λ z. Answers (status_after r) (whole ws contents broken z) k n)
       (λ z d. delivered_answers r (whole ws contents broken z) k n b a d) d) d
 
+  pub whole_answers_quietly : (Q : Type 0) (asks : List (Option (List ℕ)) → Bool)
+      → OfContents told (files_of ws) (λ contents. OfInput old new failed (λ z. Delivers r (whole ws contents broken z) k b n a) × (asks contents ≡ false → Q))
+      → OfContents told (files_of ws) (λ contents. OfInput old new failed (λ z. Answers (status_after r) (whole ws contents broken z) k n) × (asks contents ≡ false → Q))
+  whole_answers_quietly Q asks d =
+      contents_map told (files_of ws) (λ contents. OfInput old new failed (λ z. Delivers r (whole ws contents broken z) k b n a) × (asks contents ≡ false → Q))
+      (λ contents. OfInput old new failed (λ z. Answers (status_after r) (whole ws contents broken z) k n) × (asks contents ≡ false → Q))
+      (λ contents d. (
+        input_map old new failed (λ z. Delivers r (whole ws contents broken z) k b n a) (λ z. Answers (status_after r) (whole ws contents broken z) k n)
+            (λ z e. delivered_answers r (whole ws contents broken z) k n b a e) d.0,
+        d.1,
+      )) d
+
   pub whole_tells_write : DeliversWhole → TellsFailedWrite (status_after r) b a
   whole_tells_write d =
       of_whole (TellsFailedWrite (status_after r) b a) (λ contents z d. tells_write r (whole ws contents broken z) k n b a (whole_is_plain ws contents broken z) d) d

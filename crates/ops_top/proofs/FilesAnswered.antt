@@ -31,17 +31,18 @@ any_deliver left failed D job told names broken d =
     contents_any told names (λ cs. OfInput left left failed (λ z. D (answer_gathered job z (gathered_for job (readable cs broken)))))
     (λ cs. input_untouched left failed (λ z. D (answer_gathered job z (gathered_for job (readable cs broken)))) (λ z. d (answer_gathered job z (gathered_for job (readable cs broken)))))
 
--- what holds of the input where the text of a job asks for no atom
-pub gathered_quiet : (Q : Type 0) (job : Job) (told : List ℕ → Option (Option (List ℕ))) (files : List (List ℕ)) (broken : Option ℕ) (g : Gathered)
-    → OfContents told files (λ cs. gathered_for job (readable cs broken) ≡ g) → (gathered_asks g ≡ false → Q)
-    → OfContents told files (λ cs. gathered_asks (gathered_for job (readable cs broken)) ≡ false → Q)
-gathered_quiet Q job told files broken g p q =
-    let R : Gathered → Type 0 = λ g. gathered_asks g ≡ false → Q in
-    contents_map told files (λ cs. gathered_for job (readable cs broken) ≡ g) (λ cs. R (gathered_for job (readable cs broken))) (λ cs e. subst R (sym e) q) p
+-- what the text of a job comes to is answered, and beside it what holds of the input where it asks for no atom
+pub gathered_quiet : (Q : Type 0) (I : (Coming → Type 0) → Type 0) (D : Reply → Type 0) (job : Job) (told : List ℕ → Option (Option (List ℕ))) (files : List (List ℕ)) (broken : Option ℕ) (g : Gathered)
+    → OfContents told files (λ cs. gathered_for job (readable cs broken) ≡ g) → I (λ z. D (answer_gathered job z g)) → (gathered_asks g ≡ false → Q)
+    → OfContents told files (λ cs. I (λ z. D (answer_gathered job z (gathered_for job (readable cs broken)))) × (gathered_asks (gathered_for job (readable cs broken)) ≡ false → Q))
+gathered_quiet Q I D job told files broken g p d q =
+    let R : Gathered → Type 0 = λ g. I (λ z. D (answer_gathered job z g)) × (gathered_asks g ≡ false → Q) in
+    contents_map told files (λ cs. gathered_for job (readable cs broken) ≡ g) (λ cs. R (gathered_for job (readable cs broken))) (λ cs e. subst R (sym e) (d, q)) p
 
--- and what holds in any case
-pub any_quiet : (Q : Type 0) (P : List (Option (List ℕ)) → Type 0) (told : List ℕ → Option (Option (List ℕ))) (files : List (List ℕ)) → Q → OfContents told files (λ cs. P cs → Q)
-any_quiet Q P told files q = contents_any told files (λ cs. P cs → Q) (λ cs asks. q)
+-- what holds in any case beside what holds of some contents
+pub also_quiet : (Q : Type 0) (A : List (Option (List ℕ)) → Type 0) (asks : List (Option (List ℕ)) → Bool) (told : List ℕ → Option (Option (List ℕ))) (files : List (List ℕ))
+    → Q → OfContents told files A → OfContents told files (λ cs. A cs × (asks cs ≡ false → Q))
+also_quiet Q A asks told files q p = contents_map told files A (λ cs. A cs × (asks cs ≡ false → Q)) (λ cs a. (a, λ none. q)) p
 
 module _ (ws : List (List ℕ)) (told : List ℕ → Option (Option (List ℕ))) (broken : Option ℕ) where
   abbrev Answered : ((Coming → Type 0) → Type 0) → (Reply → Type 0) → Option Job → Type 0
@@ -63,11 +64,13 @@ module _ (ws : List (List ℕ)) (told : List ℕ → Option (Option (List ℕ)))
       contents_any told (files_of ws) (λ cs. OfInput left left failed (λ z. D (whole ws cs broken z)))
       (λ cs. input_untouched left failed (λ z. D (whole ws cs broken z)) (λ z. d (whole ws cs broken z)))
 
-  abbrev Quiet : Type 0 → Option Job → Type 0
-  Quiet Q asked =
-      OfContents told (unwrap_or (option_map files_in asked) []) (λ cs. unwrap_or (option_map (λ job. gathered_asks (gathered_for job (readable cs broken))) asked) false ≡ false → Q)
+  abbrev Quiet : Type 0 → ((Coming → Type 0) → Type 0) → (Reply → Type 0) → Option Job → Type 0
+  Quiet Q I D asked =
+      OfContents told (unwrap_or (option_map files_in asked) [])
+      (λ cs. I (λ z. D (whole_job asked cs broken z)) × (unwrap_or (option_map (λ job. gathered_asks (gathered_for job (readable cs broken))) asked) false ≡ false → Q))
 
   -- where the words fit, they ask for an atom as their job does
-  pub words_quiet : (Q : Type 0) (job : Job) → job_of ws ≡ Some job → OfContents told (files_in job) (λ cs. gathered_asks (gathered_for job (readable cs broken)) ≡ false → Q)
-      → OfContents told (files_of ws) (λ cs. words_ask ws cs broken ≡ false → Q)
-  words_quiet Q job is p = subst (Quiet Q) (sym is) p
+  pub words_quiet : (Q : Type 0) (I : (Coming → Type 0) → Type 0) (D : Reply → Type 0) (job : Job) → job_of ws ≡ Some job
+      → OfContents told (files_in job) (λ cs. I (λ z. D (answer_gathered job z (gathered_for job (readable cs broken)))) × (gathered_asks (gathered_for job (readable cs broken)) ≡ false → Q))
+      → OfContents told (files_of ws) (λ cs. I (λ z. D (whole ws cs broken z)) × (words_ask ws cs broken ≡ false → Q))
+  words_quiet Q I D job is p = subst (Quiet Q I D) (sym is) p

@@ -53,9 +53,13 @@ pub fn run_alone<
     ensures reads { TellsFailedRead (status_after result) (H.faults shelf.old) (H.faults shelf.new) (I.faults input.old) (I.faults input.new) }
     ensures input { (got : List ℕ) × (I.left input.old ≡ prepend_known got (I.left input.new)) }
     ensures quiet { OfContents (H.told shelf.old) (files_of (word_bytes words.now)) (λ contents.
-        words_ask (word_bytes words.now) contents
+        OfInput (I.left input.old) (I.left input.new) (nat_lt (I.faults input.old) (I.faults input.new)) (λ coming.
+        Delivers result (whole (word_bytes words.now) contents
+        (broken_load (H.names shelf.old) (H.names shelf.new) (H.faults shelf.old) (H.faults shelf.new)) coming)
+        (K.taken sink.old) (K.faults sink.old) (K.taken sink.new) (K.faults sink.new))
+        × (words_ask (word_bytes words.now) contents
         (broken_load (H.names shelf.old) (H.names shelf.new) (H.faults shelf.old) (H.faults shelf.new)) ≡ false
-        → input.new ≡ input.old) }
+        → input.new ≡ input.old)) }
     ensures untouched { ask_for_run (word_bytes words.now) ≡ false → input.new ≡ input.old }
     ensures refused { is_refused (status_after result) ≡ true → input.new ≡ input.old }
     ensures unloaded { H.faults shelf.old < H.faults shelf.new → input.new ≡ input.old }
@@ -106,9 +110,13 @@ pub fn run_apart<
     ensures reads { TellsFailedRead (status_after result) (H.faults shelf.old) (H.faults shelf.new) (I.faults input.old) (I.faults input.new) }
     ensures input { (got : List ℕ) × (I.left input.old ≡ prepend_known got (I.left input.new)) }
     ensures quiet { OfContents (H.told shelf.old) (files_of (word_bytes words.now)) (λ contents.
-        words_ask (word_bytes words.now) contents
+        OfInput (I.left input.old) (I.left input.new) (nat_lt (I.faults input.old) (I.faults input.new)) (λ coming.
+        Delivers result (whole (word_bytes words.now) contents
+        (broken_load (H.names shelf.old) (H.names shelf.new) (H.faults shelf.old) (H.faults shelf.new)) coming)
+        (K.taken sink.old) (K.faults sink.old) (K.taken sink.new) (K.faults sink.new))
+        × (words_ask (word_bytes words.now) contents
         (broken_load (H.names shelf.old) (H.names shelf.new) (H.faults shelf.old) (H.faults shelf.new)) ≡ false
-        → input.new ≡ input.old) }
+        → input.new ≡ input.old)) }
     ensures untouched { ask_for_run (word_bytes words.now) ≡ false → input.new ≡ input.old }
     ensures refused { is_refused (status_after result) ≡ true → input.new ≡ input.old }
     ensures unloaded { H.faults shelf.old < H.faults shelf.new → input.new ≡ input.old }

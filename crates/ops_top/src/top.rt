@@ -85,10 +85,15 @@ pub fn still_run<R: Threads + Clone + Drop + Send + Sync, H: Shelf, I: Source, K
     ensures unasked { words_fit (word_bytes words.now) ≡ false → H.faults shelf.new ≡ H.faults shelf.old }
     ensures told { (n : List ℕ) → H.told shelf.new n ≡ H.told shelf.old n }
     ensures input { (got : List ℕ) × (I.left input.old ≡ prepend_known got (I.left input.new)) }
+    // These are answered of the same contents: where they ask for no atom, the input is left as it was.
     ensures quiet { IfSome result (λ status. OfContents (H.told shelf.old) (files_of (word_bytes words.now)) (λ contents.
-        words_ask (word_bytes words.now) contents
+        OfInput (I.left input.old) (I.left input.new) (nat_lt (I.faults input.old) (I.faults input.new)) (λ coming.
+        Answers status (whole (word_bytes words.now) contents
+        (broken_load (H.names shelf.old) (H.names shelf.new) (H.faults shelf.old) (H.faults shelf.new)) coming)
+        (K.taken sink.old) (K.taken sink.new))
+        × (words_ask (word_bytes words.now) contents
         (broken_load (H.names shelf.old) (H.names shelf.new) (H.faults shelf.old) (H.faults shelf.new)) ≡ false
-        → input.new ≡ input.old)) }
+        → input.new ≡ input.old))) }
     ensures untouched { ask_for_run (word_bytes words.now) ≡ false → input.new ≡ input.old }
     ensures refused { IfSome result (λ status. is_refused status ≡ true → input.new ≡ input.old) }
     ensures unloaded { H.faults shelf.old < H.faults shelf.new → input.new ≡ input.old }
@@ -144,10 +149,15 @@ pub fn ops_run<
     ensures unasked { words_fit (word_bytes words.now) ≡ false → H.faults shelf.new ≡ H.faults shelf.old }
     ensures told { (n : List ℕ) → H.told shelf.new n ≡ H.told shelf.old n }
     ensures input { (got : List ℕ) × (I.left input.old ≡ prepend_known got (I.left input.new)) }
+    // These are answered of the same contents: where they ask for no atom, the input is left as it was.
     ensures quiet { OfContents (H.told shelf.old) (files_of (word_bytes words.now)) (λ contents.
-        words_ask (word_bytes words.now) contents
+        OfInput (I.left input.old) (I.left input.new) (nat_lt (I.faults input.old) (I.faults input.new)) (λ coming.
+        Answers result (whole (word_bytes words.now) contents
+        (broken_load (H.names shelf.old) (H.names shelf.new) (H.faults shelf.old) (H.faults shelf.new)) coming)
+        (K.taken sink.old) (K.taken sink.new))
+        × (words_ask (word_bytes words.now) contents
         (broken_load (H.names shelf.old) (H.names shelf.new) (H.faults shelf.old) (H.faults shelf.new)) ≡ false
-        → input.new ≡ input.old) }
+        → input.new ≡ input.old)) }
     ensures untouched { ask_for_run (word_bytes words.now) ≡ false → input.new ≡ input.old }
     ensures refused { is_refused result ≡ true → input.new ≡ input.old }
     ensures unloaded { H.faults shelf.old < H.faults shelf.new → input.new ≡ input.old }

@@ -1,5 +1,5 @@
 use Rattle.ops_jobs.specs.Words.{word_bytes}
-use Rattle.ops_top.proofs.Answering.{whole_answers, whole_tells_write, whole_fits_words, unfit_answers, runs_to_end}
+use Rattle.ops_top.proofs.Answering.{whole_answers, whole_answers_quietly, whole_tells_write, whole_fits_words, unfit_answers, runs_to_end}
 use Rattle.ops_top.proofs.Loads.{none_broken}
 use Rattle.ops_top.proofs.WholeGoes.{whole_goes}
 use Rattle.ops_top.proofs.top.ops_run.Goals as goal
@@ -29,3 +29,7 @@ returns-clause-complete g c =
 
 pub returns-clause-sets : goal.returns-clause-sets
 returns-clause-sets g c = whole_goes (word_bytes c.args.words.now)
+
+pub returns-clause-quiet : goal.returns-clause-quiet
+returns-clause-quiet g c =
+    rw c.status_after.ensures (whole_answers_quietly c.run_apart-answered.result (word_bytes c.args.words.now) _ _ _ _ _ _ _ _ _ _ _ c.run_apart-answered.ensures.quiet)

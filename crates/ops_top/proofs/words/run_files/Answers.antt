@@ -5,7 +5,7 @@ use Rattle.ops_top.specs.Whole.{Reply, Joined, Unread, Overlong, files_in, unrea
 use Rattle.ops_top.specs.Calls.{OfInput}
 use Rattle.ops_top.specs.Told.{Delivers}
 use Rattle.ops_top.proofs.Deliveries.{untold}
-use Rattle.ops_top.proofs.FilesAnswered.{gathered_deliver, said_deliver, any_deliver, gathered_quiet, any_quiet}
+use Rattle.ops_top.proofs.FilesAnswered.{gathered_deliver, said_deliver, any_deliver, gathered_quiet, also_quiet}
 use Rattle.ops_top.proofs.words.run_files.Goals as goal
 
 pub returns-in-Ok-clause-delivers : goal.returns-in-Ok-clause-delivers
@@ -34,13 +34,18 @@ returns-clause-delivers g c =
 
 pub returns-in-Ok-clause-quiet : goal.returns-in-Ok-clause-quiet
 returns-in-Ok-clause-quiet g c =
-    gathered_quiet _ c.args.job.now (g.H.Shelf.told c.args.shelf.now) (files_in c.args.job.now) _ (Joined c.in-Ok.text.items) c.in-Ok.ensures.text c.answer_text.ensures.quiet
+    let I : (Coming → Type 0) → Type 0 = OfInput (g.I.Source.left c.args.input.now) (g.I.Source.left c.answer_text.new.input) (nat_lt (g.I.Source.faults c.args.input.now) (g.I.Source.faults c.answer_text.new.input)) in
+    let D : Reply → Type 0 = λ o. Delivers c.answer_text.result o (g.K.Sink.taken c.args.sink.now) (g.K.Sink.faults c.args.sink.now) (g.K.Sink.taken c.answer_text.new.sink) (g.K.Sink.faults c.answer_text.new.sink) in
+    gathered_quiet _ I D c.args.job.now (g.H.Shelf.told c.args.shelf.now) (files_in c.args.job.now) _ (Joined c.in-Ok.text.items) c.in-Ok.ensures.text c.answer_text.ensures.delivers c.answer_text.ensures.quiet
 
 pub returns-in-Err-Unread-clause-quiet : goal.returns-in-Err-Unread-clause-quiet
-returns-in-Err-Unread-clause-quiet g c = any_quiet _ _ (g.H.Shelf.told c.args.shelf.now) (files_in c.args.job.now) refl
+returns-in-Err-Unread-clause-quiet g c =
+    also_quiet _ _ _ (g.H.Shelf.told c.args.shelf.now) (files_in c.args.job.now) refl (returns-in-Err-Unread-clause-delivers g c)
 
 pub returns-in-Err-TooLong-clause-quiet : goal.returns-in-Err-TooLong-clause-quiet
-returns-in-Err-TooLong-clause-quiet g c = any_quiet _ _ (g.H.Shelf.told c.args.shelf.now) (files_in c.args.job.now) refl
+returns-in-Err-TooLong-clause-quiet g c =
+    also_quiet _ _ _ (g.H.Shelf.told c.args.shelf.now) (files_in c.args.job.now) refl (returns-in-Err-TooLong-clause-delivers g c)
 
 pub returns-clause-quiet : goal.returns-clause-quiet
-returns-clause-quiet g c = any_quiet _ _ (g.H.Shelf.told c.args.shelf.now) (files_in c.args.job.now) refl
+returns-clause-quiet g c =
+    also_quiet _ _ _ (g.H.Shelf.told c.args.shelf.now) (files_in c.args.job.now) refl (returns-clause-delivers g c)

@@ -6,7 +6,7 @@ use Rattle.ops_top.specs.Whole.{Reply, files_of}
 use Rattle.ops_top.specs.Calls.{OfInput}
 use Rattle.ops_top.specs.Told.{Delivers}
 use Rattle.ops_top.proofs.Deliveries.{untold}
-use Rattle.ops_top.proofs.FilesAnswered.{words_deliver, unfit_deliver, short_deliver, words_quiet, any_quiet}
+use Rattle.ops_top.proofs.FilesAnswered.{words_deliver, unfit_deliver, short_deliver, words_quiet, also_quiet}
 use Rattle.ops_top.proofs.words.run_words.Goals as goal
 
 pub returns-in-Ok-clause-delivers : goal.returns-in-Ok-clause-delivers
@@ -28,7 +28,14 @@ returns-clause-delivers g c =
 
 pub returns-in-Ok-clause-quiet : goal.returns-in-Ok-clause-quiet
 returns-in-Ok-clause-quiet g c =
-    words_quiet (word_bytes c.args.words.now) (g.H.Shelf.told c.args.shelf.now) _ _ c.in-Ok.job c.in-Ok.ensures.fits c.run_files.ensures.quiet
+    let I : (Coming → Type 0) → Type 0 = OfInput (g.I.Source.left c.args.input.now) (g.I.Source.left c.run_files.new.input) (nat_lt (g.I.Source.faults c.args.input.now) (g.I.Source.faults c.run_files.new.input)) in
+    let D : Reply → Type 0 = λ o. Delivers c.run_files.result o (g.K.Sink.taken c.args.sink.now) (g.K.Sink.faults c.args.sink.now) (g.K.Sink.taken c.run_files.new.sink) (g.K.Sink.faults c.run_files.new.sink) in
+    words_quiet (word_bytes c.args.words.now) (g.H.Shelf.told c.args.shelf.now) _ _ I D c.in-Ok.job c.in-Ok.ensures.fits c.run_files.ensures.quiet
+
+pub returns-in-Err-Usage-clause-quiet : goal.returns-in-Err-Usage-clause-quiet
+returns-in-Err-Usage-clause-quiet g c =
+    also_quiet _ _ _ (g.H.Shelf.told c.args.shelf.now) (files_of (word_bytes c.args.words.now)) refl (returns-in-Err-Usage-clause-delivers g c)
 
 pub returns-clause-quiet : goal.returns-clause-quiet
-returns-clause-quiet g c = any_quiet _ _ (g.H.Shelf.told c.args.shelf.now) (files_of (word_bytes c.args.words.now)) refl
+returns-clause-quiet g c =
+    also_quiet _ _ _ (g.H.Shelf.told c.args.shelf.now) (files_of (word_bytes c.args.words.now)) refl (returns-clause-delivers g c)
