@@ -1,4 +1,4 @@
--- A session comes to an end of its own.
+-- No session ends in a refused write or in want of memory, and in a read fault only where its input fails.
 use Rattle.std.proofs.Common.{ℕ, Bool, List, Result, Ok, Err, MatchResult}
 use Rattle.ops_base.specs.declared.commands.Command.{Command}
 use Rattle.ops_base.specs.declared.endings.Ending.{Ending}
@@ -22,6 +22,6 @@ ended_so : (kept : Session → Type 0) (fails : Bool) (o : Result Session Ending
 ended_so kept fails (Ok k) p = ends_so fails (ending.Done _ _ _) tt
 ended_so kept fails (Err e) p = ends_so fails e p
 
-pub ends_by_itself : (s : Setting) (limit : ℕ) (commands : List Command) (names : Spellings) (coming : Coming) → IsOfSession coming.fails (ending_of (session_of s limit commands names coming).outcome)
-ends_by_itself s limit commands names coming =
+pub only_input_fails : (s : Setting) (limit : ℕ) (commands : List Command) (names : Spellings) (coming : Coming) → IsOfSession coming.fails (ending_of (session_of s limit commands names coming).outcome)
+only_input_fails s limit commands names coming =
     ended_so (λ (k : Session). KeptCourse names coming.fails k.course) coming.fails (session_of s limit commands names coming).outcome (session_goes_on s limit commands names coming)

@@ -42,9 +42,6 @@ cell_class [] n = refl
 cell_class (e ∷ es) zero = refl
 cell_class (e ∷ es) (suc n) = cell_class es n
 
-got_class : (es : List Element) (n c : ℕ) → slice_get (class_numbers es) n ≡ Some c → (unwrap_or (slice_get es n) no_element).class ≡ c
-got_class es n c is = sym (cell_class es n) ∙ ap (λ o. unwrap_or o 0) is
-
 class_set : (es : List Element) (n : ℕ) (e : Element) → e.class ≡ (unwrap_or (slice_get es n) no_element).class → class_numbers (slice_set es n e) ≡ class_numbers es
 class_set [] n e same = refl
 class_set (x ∷ es) zero e same = ap (λ c. c ∷ class_numbers es) same

@@ -75,7 +75,7 @@ pub values_stand : (at : ℕ) (vs fields next : List Value) → at ≤ length fi
 values_stand at [] fields next within is =
     let same : fields ≡ next = cc in
     let P : List Value → Type 0 = StandAt at [] fields in
-    subst P same (record { placed = λ k h. absurd (omega arith); before = λ k h. refl; behind = λ k h. refl })
+    subst P same (record { placed = λ k h. absurd (omega arith); before = λ k h. refl; after = λ k h. refl })
 values_stand at (v ∷ vs) fields next within is =
     by (value_placed at v fields) refl (λ mid w k. values_stand (suc at) vs mid next w k) is
   where
@@ -87,7 +87,7 @@ values_stand at (v ∷ vs) fields next within is =
         let g = later mid (omega (arith, f.reach)) is in record {
           placed = λ k h. at_each f g k h;
           before = λ k h. g.before k (omega arith) ∙ f.elsewhere k (inl h);
-          behind = λ k h. g.behind k (omega arith) ∙ f.elsewhere k (inr (omega arith));
+          after = λ k h. g.after k (omega arith) ∙ f.elsewhere k (inr (omega arith));
         }
       where
         at_each : Stands at v fields mid → StandAt (suc at) vs mid next → (k : ℕ) → k < length (v ∷ vs) → slice_get next (at + k) ≡ slice_get (v ∷ vs) k

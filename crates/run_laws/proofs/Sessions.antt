@@ -29,7 +29,7 @@ use Rattle.ops_base.proofs.RefractionLaws.{member-unfired}
 use Rattle.ops_base.proofs.WalkFinds.{meets-matches_of}
 use Rattle.ops_io.specs.Coming.{Coming}
 use Rattle.ops_io.specs.Output.{column_after}
-use Rattle.ops_meaning.specs.Acting.{Setting, Given, Acted, acted, actions_of, actions_done, conditions_of, elements_of, left_by, has_tag}
+use Rattle.ops_meaning.specs.Acting.{Setting, Acted, acted, actions_of, actions_done, conditions_of, elements_of, left_by, has_tag}
 use Rattle.ops_meaning.specs.Acting as acting
 use Rattle.ops_meaning.specs.Effects.{Effect, writes, and_then}
 use Rattle.ops_meaning.specs.Kept.{WellKept, IsLawfulOver}
@@ -38,7 +38,7 @@ use Rattle.ops_meaning.proofs.Lawful.{added_kept, kept_after, removals_lawful, r
 use Rattle.ops_meaning.proofs.RisingTags.{acts_lawfully}
 use Rattle.run_laws.specs.Elements.{IsWhole, AreWhole}
 use Rattle.run_laws.specs.Finding.{AllFind}
-use Rattle.run_laws.specs.Firings.{IfGoesOn, EachOfRun, EachOfCommand, EachOfCommands, EachFiring, FindsAll, HoldWhole, behind_line}
+use Rattle.run_laws.specs.Firings.{IfGoesOn, EachOfRun, EachOfCommand, EachOfCommands, EachFiring, FindsAll, HoldWhole, column_after_line}
 use Rattle.run_laws.proofs.Beginnings.{begins_as_matched, whole_match}
 use Rattle.run_laws.proofs.Knowing.{Holds, there, all_at, actions_find}
 use Rattle.run_laws.proofs.Parts.{ok_on, ok_as, ok_more, ok_both}
@@ -102,14 +102,14 @@ finds_all : (s : Setting) (column : ℕ) (i : Inst) (m : Course) → IsSound s �
 finds_all s column i m sound good in_set =
     let b = beginning s m i sound good in_set in
     let start = acting.begun s i (given_by m) in
-    let P : List Action → Type 0 = λ as_. AllFind s (behind_line s column i m) as_ start in
-    let Q : List Action → Type 0 = λ as_. HoldWhole s (behind_line s column i m) as_ start in
+    let P : List Action → Type 0 = λ as_. AllFind s (column_after_line s column i m) as_ start in
+    let Q : List Action → Type 0 = λ as_. HoldWhole s (column_after_line s column i m) as_ start in
     let w : Wholes s.classes start.cells [] = record { cells = b.cells; made = λ e m. absurd m } in
     record {
       whole = all_whole s m good;
       begins = begins_as_matched s (given_by m) i good.kept.0 in_set;
-      finds = subst P (sym b.actions) (actions_find s (behind_line s column i m) (known_of b.rule.conditions) b.rule.actions start b.knows b.valid);
-      cells = subst Q (sym b.actions) (actions_hold_whole s sound.classes (behind_line s column i m) (known_of b.rule.conditions) b.rule.actions start b.knows w b.valid);
+      finds = subst P (sym b.actions) (actions_find s (column_after_line s column i m) (known_of b.rule.conditions) b.rule.actions start b.knows b.valid);
+      cells = subst Q (sym b.actions) (actions_hold_whole s sound.classes (column_after_line s column i m) (known_of b.rule.conditions) b.rule.actions start b.knows w b.valid);
     }
 
 acted_whole : (s : Setting) (column : ℕ) (i : Inst) (m : Course) → IsSound s → IsGood s m → Contains (conflict_set s.rules m.wm) i → IfOk (acted s column i (given_by m)).outcome (λ a. MakesWhole s.classes a.changes)
@@ -124,11 +124,11 @@ acted_whole s column i m sound good in_set =
 
 firing_good : (s : Setting) (column : ℕ) (i : Inst) (m : Course) → IsSound s → IsGood s m → Contains (conflict_set s.rules m.wm) i → IfOk (firing s column i m).outcome (λ t. IsGood s t.course)
 firing_good s column i m sound good in_set =
-    let behind = behind_line s column i m in
-    let a = acted s behind i (given_by m) in
+    let start = column_after_line s column i m in
+    let a = acted s start i (given_by m) in
     let P : Acted → Type 0 = λ a. IsLawfulOver m.wm m.last a × MakesWhole s.classes a.changes in
     ok_as P (λ (t : Turned). IsGood s t.course) (turned_of s.rules i m) (ended_in (m.firings + 1) i.rule) a.outcome
-    (ok_both (IsLawfulOver m.wm m.last) (λ (a : Acted). MakesWhole s.classes a.changes) a.outcome (acts_lawfully s behind i (given_by m) good.kept) (acted_whole s behind i m sound good in_set))
+    (ok_both (IsLawfulOver m.wm m.last) (λ (a : Acted). MakesWhole s.classes a.changes) a.outcome (acts_lawfully s start i (given_by m) good.kept) (acted_whole s start i m sound good in_set))
     (λ a q. let lawful = q.0 in record { kept = lawful.kept; whole = done_whole s.classes m.wm a.changes good.whole q.1 })
 
 -- ---- a run

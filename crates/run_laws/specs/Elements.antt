@@ -6,8 +6,8 @@ use Rattle.ops_base.specs.Valid.{class_of, most_fields}
 use Rattle.ops_base.specs.WorkingMemory.{scalar_count}
 use Rattle.run_laws.specs.Finding.{is_class}
 
--- So many values are one for each scalar attribute of the class, and after them some of its vector attribute, where it
--- has one: as many as there is room for.
+-- This many values are one for each scalar attribute of the class, and after them some of its vector attribute, where it
+-- has one: as many as fit.
 pub record AreFieldsOf (c : Class) (values : ℕ) : Type 0 where
   pub scalars : scalar_count c ≤ values
   pub room : values ≤ most_fields
@@ -18,5 +18,6 @@ pub record IsWhole (classes : List Class) (e : Element) : Type 0 where
   pub class : IsTrue (is_class classes e.class)
   pub fields : AreFieldsOf (class_of classes e.class) (length e.fields)
 
+-- each of these elements is whole
 abbrev pub AreWhole : List Class → List Element → Type 0
 AreWhole classes wm = All (IsWhole classes) wm

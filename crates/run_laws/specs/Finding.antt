@@ -1,5 +1,5 @@
--- What productions and commands name is there: so none of the values is met that the definitions put in the place of
--- what is absent.
+-- What productions and commands name is there: each variable, cell and class, and the number of each field. So nothing
+-- is met of what the definitions take where one of these is absent.
 use Rattle.std.specs.Prelude.{◌≡◌, ℕ, List, [], ◌∷◌, Bool, true, false, ◌&&◌, ◌||◌, Some, slice_get, is_some, unwrap_or, option_map, Contains, IsTrue, IfOk}
 use Rattle.std.specs.List.{flat_map, list_all, list_any}
 use Rattle.ops_base.specs.declared.actions.Action.{Action}
@@ -30,12 +30,13 @@ use Rattle.ops_base.specs.WorkingMemory.{change_done}
 use Rattle.ops_io.specs.Output.{column_after}
 use Rattle.ops_meaning.specs.Acting.{Setting, Doing, cell_of, element_of, action_done}
 
+-- there is a class of this number
 abbrev pub is_class : List Class → ℕ → Bool
 is_class classes n = is_some (slice_get classes n)
 
 -- ---- left sides
 
--- the variable is bound that a value is compared with
+-- the variable that a value is compared with is bound
 abbrev pub operand_finds : List Binding → Operand → Bool
 operand_finds bindings (operand.Constant v) = true
 operand_finds bindings (operand.OneOf vs) = true
@@ -54,7 +55,8 @@ tests_find c e (t ∷ ts) bindings =
 abbrev pub condition_finds : List Class → Condition → List Binding → Element → Bool
 condition_finds classes c bindings e = is_class classes c.class && tests_find (class_of classes c.class) e c.tests bindings
 
--- From these partial matches on, each element finds at each condition that the walk comes to all that it names.
+-- From these partial matches on, at each condition that the walk comes to, each test that an element comes to finds all
+-- that it names.
 abbrev pub WalkFinds : List Class → List Element → List Condition → List Partial → Type 0
 WalkFinds classes wm [] ps = Unit {0}
 WalkFinds classes wm (c ∷ cs) ps =

@@ -16,14 +16,14 @@ use Rattle.run_laws.specs.Beginning.{BeginsAsMatched}
 use Rattle.run_laws.specs.Elements.{AreWhole}
 use Rattle.run_laws.specs.Finding.{AllFind, EachAction}
 
--- of what is next, where the run goes on
+-- P holds of the instantiation that is next, where the run goes on.
 abbrev pub IfGoesOn : Option (List ℕ) → Option Inst → (Inst → Type 0) → Type 0
 IfGoesOn (Some line) next P = Unit {0}
 IfGoesOn None None P = Unit {0}
 IfGoesOn None (Some i) P = P i
 
--- P holds of each firing of a run: with its setting, of the column at which it begins, of the instantiation that fires,
--- and of the course that it finds.
+-- P holds of each firing of a run from here on: of its setting, of the column at which it begins, of the instantiation
+-- that fires, and of what the session has come to before it.
 abbrev pub EachOfRun : (Setting → ℕ → Inst → Course → Type 0) → ℕ → Setting → List Bool → ℕ → Option LastFiring → Option ℕ → Course → Type 0
 EachOfRun P zero s breaks column last count m = Unit {0}
 EachOfRun P (suc left) s breaks column last count m =
@@ -32,11 +32,13 @@ EachOfRun P (suc left) s breaks column last count m =
     P s column i m
     × IfOk e.outcome (λ t. EachOfRun P left s breaks (column_after column e.bytes) (last_of i t) (one_less count) t.course))
 
+-- P holds of each firing of a command. Only `run` has any.
 abbrev pub EachOfCommand : (Setting → ℕ → Inst → Course → Type 0) → Setting → ℕ → ℕ → Command → Session → Type 0
 EachOfCommand P s limit column (command.Run count) k =
     EachOfRun P (limit - k.course.firings) (record s { watch = k.watch }) k.breaks column None count k.course
 EachOfCommand P s limit column _ k = Unit {0}
 
+-- P holds of each firing of these commands, up to the first `exit`.
 abbrev pub EachOfCommands : (Setting → ℕ → Inst → Course → Type 0) → Setting → ℕ → ℕ → List Command → Session → Type 0
 EachOfCommands P s limit column [] k = Unit {0}
 EachOfCommands P s limit column (c ∷ rest) k =
@@ -49,9 +51,9 @@ EachOfCommands P s limit column (c ∷ rest) k =
 abbrev pub EachFiring : (Setting → ℕ → Inst → Course → Type 0) → Setting → ℕ → List Command → Spellings → Coming → Type 0
 EachFiring P s limit commands names coming = EachOfCommands P s limit 0 commands (begun s.rules names coming)
 
--- where the right side of a firing begins to write that begins at this column
-abbrev pub behind_line : Setting → ℕ → Inst → Course → ℕ
-behind_line s column i m = column_after column (firing_bytes s.watch column m.names s.rules (m.firings + 1) i)
+-- the column at which the right side of a firing begins to write, where the firing begins at this one
+abbrev pub column_after_line : Setting → ℕ → Inst → Course → ℕ
+column_after_line s column i m = column_after column (firing_bytes s.watch column m.names s.rules (m.firings + 1) i)
 
 -- before each action the cells hold whole elements
 abbrev pub HoldWhole : Setting → ℕ → List Action → Doing → Type 0
@@ -62,5 +64,5 @@ HoldWhole s column actions d = EachAction (λ a d. AreWhole s.classes d.cells) s
 pub record FindsAll (s : Setting) (column : ℕ) (i : Inst) (m : Course) : Type 0 where
   pub whole : AreWhole s.classes m.wm
   pub begins : BeginsAsMatched s (given_by m) i
-  pub finds : AllFind s (behind_line s column i m) (actions_of s.rules i.rule) (acting.begun s i (given_by m))
-  pub cells : HoldWhole s (behind_line s column i m) (actions_of s.rules i.rule) (acting.begun s i (given_by m))
+  pub finds : AllFind s (column_after_line s column i m) (actions_of s.rules i.rule) (acting.begun s i (given_by m))
+  pub cells : HoldWhole s (column_after_line s column i m) (actions_of s.rules i.rule) (acting.begun s i (given_by m))

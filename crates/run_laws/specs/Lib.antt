@@ -1,3 +1,4 @@
+-- What the laws say, in words of their own.
 pub mod Programs
 pub mod Beginning
 pub mod Ending

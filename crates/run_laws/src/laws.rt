@@ -19,6 +19,7 @@ ghost use Rattle.ops_base.specs.Valid.{is_attribute};
 ghost use Rattle.ops_base.specs.WorkingMemory.{HasRisingTags, tags_of};
 ghost use Rattle.ops_io.specs.Coming.{Coming};
 ghost use Rattle.ops_meaning.specs.Acting.{Setting, Given, Doing, actions_of, action_done, begun, evaluated, values_placed};
+ghost use Rattle.ops_meaning.specs.Layout.{inst_text};
 ghost use Rattle.ops_meaning.specs.Running.{Course, Session, command_done, element_lines, ending_of, lists, meets, removals, session_of, standing_by};
 ghost use Rattle.run_laws.specs.Beginning.{BeginsAsMatched};
 ghost use Rattle.run_laws.specs.Elements.{AreFieldsOf, AreWhole};
@@ -97,9 +98,9 @@ pub fn instantiations_have_ranks()
         → AreValid s commands → HasRisingTags wm → Contains (conflict_set s.rules wm) i → HasRank s.rules i }
 {}
 
-/// Whatever the program, no session ends in a write that is refused or in want of memory. It ends in a read fault only
-/// where its input fails.
-pub fn sessions_end_by_themselves()
+/// Whatever the program, no session ends in a refused write or in want of memory. It ends in a read fault only where its
+/// input fails.
+pub fn only_the_input_fails()
     ensures { (s : Setting) (limit : ℕ) (commands : List Command) (names : Spellings) (coming : Coming)
         → IsOfSession coming.fails (ending_of (session_of s limit commands names coming).outcome) }
 {}
@@ -118,6 +119,9 @@ pub fn patterns_match_as_conditions()
 
 /// What `cs` lists is a ranking of the members of the conflict set that have not fired, and no other list is one.
 pub fn standing_is_ranked()
+    ensures listed { (s : Setting) (limit column : ℕ) (k : Session)
+        → command_done s limit column Command.Cs k
+        ≡ lists column (map (inst_text k.course.names s.rules) (standing_by (conflict_set s.rules) s.rules k.course)) k }
     ensures ranked { (rules : List Rule) (m : Course)
         → HasRisingTags m.wm → IsRanking rules m (standing_by (conflict_set rules) rules m) }
     ensures only { (rules : List Rule) (m : Course) (other : List Inst)
