@@ -11,4 +11,5 @@ pub mod Places
 pub mod Removed
 pub mod Wholes
 pub mod Sessions
+pub mod Seen
 pub mod Ordered

@@ -6,5 +6,6 @@ pub mod Finding
 pub mod Elements
 pub mod Placing
 pub mod Firings
+pub mod Cuts
 pub mod Patterns
 pub mod Ranking

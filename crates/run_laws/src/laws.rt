@@ -1,5 +1,5 @@
 //! What holds of programs by the definitions of running: the contracts of functions that do nothing.
-ghost use Rattle.std.specs.Prelude.{◌≡◌, ℕ, ◌≤◌, List, [], ◌∷◌, length, drop, map, slice_get, Some, if◌then◌else◌, None, Contains, IsTrue, IfOk};
+ghost use Rattle.std.specs.Prelude.{◌≡◌, ℕ, ◌≤◌, List, [], ◌∷◌, ◌++◌, length, drop, map, slice_get, Some, if◌then◌else◌, Option, None, Ok, Bool, Contains, IsTrue, IfOk};
 ghost use Rattle.std.specs.List.{list_all};
 ghost use Rattle.ops_base.specs.declared.actions.Action.{Action};
 ghost use Rattle.ops_base.specs.declared.actions.Term.{Term};
@@ -18,13 +18,14 @@ ghost use Rattle.ops_base.specs.Names.{Spellings};
 ghost use Rattle.ops_base.specs.Valid.{is_attribute};
 ghost use Rattle.ops_base.specs.WorkingMemory.{HasRisingTags, tags_of};
 ghost use Rattle.ops_io.specs.Coming.{Coming};
-ghost use Rattle.ops_meaning.specs.Acting.{Setting, Given, Doing, actions_of, action_done, begun, evaluated, values_placed};
+ghost use Rattle.ops_meaning.specs.Acting.{Setting, Given, Doing, actions_of, action_done, actions_done, begun, evaluated, values_placed};
 ghost use Rattle.ops_meaning.specs.Layout.{inst_text};
 ghost use Rattle.ops_meaning.specs.Running.{Course, Session, command_done, element_lines, ending_of, lists, meets, removals, session_of, standing_by};
 ghost use Rattle.run_laws.specs.Beginning.{BeginsAsMatched};
+ghost use Rattle.run_laws.specs.Cuts.{GoesOnWith};
 ghost use Rattle.run_laws.specs.Elements.{AreFieldsOf, AreWhole};
 ghost use Rattle.run_laws.specs.Ending.{IsOfSession};
-ghost use Rattle.run_laws.specs.Finding.{AllFind, RemovalsFind, SeesTheSame, WalkFinds, command_finds, is_single};
+ghost use Rattle.run_laws.specs.Finding.{AllFind, EachAction, RemovalsFind, SeesTheSame, WalkFinds, command_finds, is_single};
 ghost use Rattle.run_laws.specs.Firings.{EachFiring, FindsAll};
 ghost use Rattle.run_laws.specs.Patterns.{condition_with, meeting};
 ghost use Rattle.run_laws.specs.Placing.{StandAt};
@@ -64,6 +65,10 @@ pub fn right_sides_find_what_they_name()
 pub fn firings_find_what_they_name()
     ensures firings { (s : Setting) (limit : ℕ) (commands : List Command) (names : Spellings) (coming : Coming)
         → AreValid s commands → EachFiring FindsAll s limit commands names coming }
+    ensures any { (s : Setting) (limit n : ℕ) (before after : List Command) (count : Option ℕ) (names : Spellings)
+        → (coming : Coming) (k : Session) (i : Inst)
+        → AreValid s (before ++ Command.Run count ∷ after) → GoesOnWith s limit before count n names coming k i
+        → (column : ℕ) × FindsAll (record s { watch = k.watch }) column i k.course }
     ensures elements { (s : Setting) (limit : ℕ) (commands : List Command) (names : Spellings) (coming : Coming)
         → AreValid s commands
         → IfOk (session_of s limit commands names coming).outcome (λ k. AreWhole s.classes k.course.wm) }
@@ -126,4 +131,17 @@ pub fn standing_is_ranked()
         → HasRisingTags m.wm → IsRanking rules m (standing_by (conflict_set rules) rules m) }
     ensures only { (rules : List Rule) (m : Course) (other : List Inst)
         → HasRisingTags m.wm → IsRanking rules m other → other ≡ standing_by (conflict_set rules) rules m }
+{}
+
+/// A test that passes for each action of a right side passes for any action that the right side comes to, in the state to
+/// which those before it lead. One that passes for each firing of a session passes for any firing that a run goes on with.
+pub fn nothing_is_passed_over()
+    ensures actions { (test : Action → Doing → Bool) (s : Setting) (column n : ℕ) (before after : List Action) (a : Action) (d e : Doing)
+        → EachAction (λ a d. IsTrue (test a d)) s column (before ++ a ∷ after) d
+        → (actions_done s column n before d).outcome ≡ Ok e → IsTrue (test a e) }
+    ensures firings { (test : Setting → ℕ → Inst → Course → Bool) (s : Setting) (limit n : ℕ) (before after : List Command) (count : Option ℕ)
+        → (names : Spellings) (coming : Coming) (k : Session) (i : Inst)
+        → EachFiring (λ s column i m. IsTrue (test s column i m)) s limit (before ++ Command.Run count ∷ after) names coming
+        → GoesOnWith s limit before count n names coming k i
+        → (column : ℕ) × IsTrue (test (record s { watch = k.watch }) column i k.course) }
 {}

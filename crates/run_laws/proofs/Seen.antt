@@ -1,0 +1,215 @@
+-- The walks over the actions of a right side and over the firings of a session pass nothing over.
+use Rattle.std.proofs.Common.{◌≡◌, ℕ, zero, suc, ◌+◌, ◌-◌, ◌<◌, List, [], ◌∷◌, ◌++◌, Bool, true, false, cond, Option, Some, None, Result, Ok, Err, IfOk, refl, ap, sym, ◌∙◌, subst, inl, inr, ◌⊎◌, arith}
+use Rattle.std.specs.Prelude.{◌≢◌}
+use Rattle.std.specs.Bool.{MatchBool}
+use Rattle.ops_base.specs.declared.actions.Action.{Action}
+use Rattle.ops_base.specs.declared.commands.Command.{Command}
+use Rattle.ops_base.specs.declared.commands.Command.TheVariants as command
+use Rattle.ops_base.specs.declared.endings.Ending.{Ending}
+use Rattle.ops_base.specs.declared.endings.Ending.TheVariants as ending
+use Rattle.ops_base.specs.declared.rules.Inst.{Inst}
+use Rattle.ops_base.specs.declared.rules.Rule.{Rule}
+use Rattle.ops_base.specs.Names.{Spellings}
+use Rattle.ops_io.specs.Coming.{Coming}
+use Rattle.ops_io.specs.Output.{column_after}
+use Rattle.ops_meaning.specs.Acting.{Setting, Doing, Mishap, Misdeed, Acted, in_action, action_done, actions_done, acted}
+use Rattle.ops_meaning.specs.Effects.{Effect, writes, going_on, outcome_as}
+use Rattle.ops_meaning.specs.Layout.{firing_bytes}
+use Rattle.ops_meaning.specs.Running.{Course, Turned, Session, LastFiring, begun, turn, has_break, line_of_count, line_of_pause, last_of, one_less, given_by, ended_in, turned_of, with_course, is_exit, firing, run_on, next_to_fire, command_done, commands_done}
+use Rattle.run_laws.specs.Cuts.{GoesOnWith, HasMore, cut_after}
+use Rattle.run_laws.specs.Finding.{EachAction}
+use Rattle.run_laws.specs.Firings.{IfGoesOn, EachOfRun, EachOfCommand, EachOfCommands, EachFiring}
+
+-- ---- actions
+
+pub action_seen : (P : Action → Doing → Type 0) (s : Setting) (column n : ℕ) (before after : List Action) (a : Action) (d e : Doing)
+    → EachAction P s column (before ++ a ∷ after) d → (actions_done s column n before d).outcome ≡ Ok e → P a e
+action_seen P s column n [] after a d e each is =
+    let same : d ≡ e = cc in
+    let Q : Doing → Type 0 = P a in
+    subst Q same each.0
+action_seen P s column n (b ∷ before) after a d e each is =
+    let f = action_done s column b d in
+    by f.bytes f.outcome (λ next h k. action_seen P s (column_after column f.bytes) (suc n) before after a next e h k) each.1 is
+  where
+    by : (bytes : List ℕ) (o : Result Doing Mishap)
+        → ((next : Doing) → EachAction P s (column_after column bytes) (before ++ a ∷ after) next → (actions_done s (column_after column bytes) (suc n) before next).outcome ≡ Ok e → P a e)
+        → IfOk o (λ next. EachAction P s (column_after column bytes) (before ++ a ∷ after) next)
+        → (going_on bytes (outcome_as (λ d. d) (in_action n) o) (λ next. actions_done s (column_after column bytes) (suc n) before next)).outcome ≡ Ok e → P a e
+    by bytes (Ok next) rest each is = rest next each is
+    by bytes (Err x) rest each is = absurd (cc)
+
+-- ---- a run
+
+-- A run pauses by its last firing whatever number of firings it has, or by that number alone.
+pauses : (names : Spellings) (rules : List Rule) (breaks : List Bool) (last : Option LastFiring)
+    → ((line : List ℕ) × ((count : Option ℕ) → line_of_pause names rules breaks last count ≡ Some line)) ⊎ ((count : Option ℕ) → line_of_pause names rules breaks last count ≡ line_of_count count)
+pauses names rules breaks None = inr (λ count. refl)
+pauses names rules breaks (Some last) = by last.halted (has_break breaks last.rule) _ _
+  where
+    by : (h b : Bool) (one two : List ℕ)
+        → ((line : List ℕ) × ((count : Option ℕ) → cond h (Some one) (cond b (Some two) (line_of_count count)) ≡ Some line)) ⊎ ((count : Option ℕ) → cond h (Some one) (cond b (Some two) (line_of_count count)) ≡ line_of_count count)
+    by true b one two = inl (one, λ count. refl)
+    by false true one two = inl (two, λ count. refl)
+    by false false one two = inr (λ count. refl)
+
+ok_same : {o : Result Course Ending} {done : Course} (m : Course) → o ≡ Ok m → o ≡ Ok done → m ≡ done
+ok_same m one two = cc
+
+stops_or_leaves : {o : Result Course Ending} {done : Course} (e : Ending) → o ≡ Err e → o ≡ Ok done → ⊥
+stops_or_leaves {o} {done} e one two = let both : Err e ≡ Ok done = sym one ∙ two in absurd (cc)
+
+turn_paused : (column : ℕ) (o : Option (List ℕ)) (line : List ℕ) (m : Course) (next : Option Inst) (go_on : Inst → Effect Ending Course) → o ≡ Some line → (turn column o m next go_on).outcome ≡ Ok m
+turn_paused column (Some l) line m next go_on is = refl
+turn_paused column None line m next go_on is = absurd (cc)
+
+turn_ended : (column : ℕ) (o : Option (List ℕ)) (m : Course) (next : Option Inst) (go_on : Inst → Effect Ending Course) → next ≡ None → (turn column o m next go_on).outcome ≡ Ok m
+turn_ended column (Some l) m next go_on is = refl
+turn_ended column None m None go_on is = refl
+turn_ended column None m (Some i) go_on is = absurd (cc)
+
+turn_goes : (column : ℕ) (o : Option (List ℕ)) (m : Course) (next : Option Inst) (i : Inst) (go_on : Inst → Effect Ending Course) → o ≡ None → next ≡ Some i → (turn column o m next go_on).outcome ≡ (go_on i).outcome
+turn_goes column (Some l) m next i go_on is on = absurd (cc)
+turn_goes column None m None i go_on is on = absurd (cc)
+turn_goes column None m (Some j) i go_on is on = let same : j ≡ i = cc in ap (λ k. (go_on k).outcome) same
+
+next_seen : (o : Option (List ℕ)) (next : Option Inst) (i : Inst) (Q : Inst → Type 0) → o ≡ None → next ≡ Some i → IfGoesOn o next Q → Q i
+next_seen (Some l) next i Q is on each = absurd (cc)
+next_seen None None i Q is on each = absurd (cc)
+next_seen None (Some j) i Q is on each = let same : j ≡ i = cc in subst Q same each
+
+-- a run that has more firings does not pause by their number
+unpaused : (count : Option ℕ) (n : ℕ) → HasMore count n → line_of_count count ≡ None
+unpaused None n h = refl
+unpaused (Some zero) n h = absurd (omega arith)
+unpaused (Some (suc c)) n h = refl
+
+one_off : (n : ℕ) → suc n - 1 ≡ n
+one_off n = omega arith
+
+more_left : (count : Option ℕ) (n : ℕ) → HasMore count (suc n) → HasMore (one_less count) n
+more_left None n h = tt
+more_left (Some c) n h = omega arith
+
+firing_counted : (s : Setting) (column : ℕ) (i : Inst) (m : Course) → IfOk (firing s column i m).outcome (λ t. t.course.firings ≡ m.firings + 1)
+firing_counted s column i m =
+    by (acted s (column_after column (firing_bytes s.watch column m.names s.rules (m.firings + 1) i)) i (given_by m)).outcome
+  where
+    by : (o : Result Acted Misdeed) → IfOk (outcome_as (turned_of s.rules i m) (ended_in (m.firings + 1) i.rule) o) (λ t. t.course.firings ≡ m.firings + 1)
+    by (Ok a) = refl
+    by (Err e) = tt
+
+module _ (P : Setting → ℕ → Inst → Course → Type 0) (s : Setting) (breaks : List Bool) (limit : ℕ) (i : Inst) (done : Course) (room : done.firings < limit) (is_next : next_to_fire s.rules done ≡ Some i) where
+  -- P holds of the firing that a run goes on with
+  abbrev Seen : Type 0
+  Seen = (at : ℕ) × P s at i done
+
+  pub run_seen : (left n column : ℕ) (last : Option LastFiring) (count : Option ℕ) (m : Course) → left ≡ limit - m.firings → HasMore count n
+      → EachOfRun P left s breaks column last count m
+      → (run_on left s breaks column last (Some n) m).outcome ≡ Ok done → (run_on left s breaks column last (Some (suc n)) m).outcome ≢ Ok done → Seen
+  run_seen zero n column last count m counts has each is more = absurd (none n is more (pauses m.names s.rules breaks last))
+    where
+      none : (n : ℕ) → (run_on zero s breaks column last (Some n) m).outcome ≡ Ok done → (run_on zero s breaks column last (Some (suc n)) m).outcome ≢ Ok done
+          → ((line : List ℕ) × ((count : Option ℕ) → line_of_pause m.names s.rules breaks last count ≡ Some line)) ⊎ ((count : Option ℕ) → line_of_pause m.names s.rules breaks last count ≡ line_of_count count) → ⊥
+      none n is more (inl p) = more (turn_paused column _ p.0 m _ _ (p.1 (Some (suc n))) ∙ sym (turn_paused column _ p.0 m _ _ (p.1 (Some n))) ∙ is)
+      none zero is more (inr f) =
+          let same : m ≡ done = ok_same m (turn_paused column _ _ m _ _ (f (Some zero))) is in
+          let firings : m.firings ≡ done.firings = ap (λ (m : Course). m.firings) same in
+          omega (arith, counts, firings, room)
+      none (suc n) is more (inr f) = by (next_to_fire s.rules m) refl
+        where
+          by : (o : Option Inst) → next_to_fire s.rules m ≡ o → ⊥
+          by None ended = more (turn_ended column _ m _ _ ended ∙ sym (turn_ended column _ m _ _ ended) ∙ is)
+          by (Some j) on = stops_or_leaves (ending.Limit m.firings) (turn_goes column _ m _ j _ (f (Some (suc n))) on) is
+  run_seen (suc left) n column last count m counts has each is more =
+      by n has is more (pauses m.names s.rules breaks last)
+      (λ n column j t counts has each is more. run_seen left n column (last_of j t) (one_less count) t.course counts has each is more)
+    where
+      by : (n : ℕ) → HasMore count n
+          → (run_on (suc left) s breaks column last (Some n) m).outcome ≡ Ok done → (run_on (suc left) s breaks column last (Some (suc n)) m).outcome ≢ Ok done
+          → ((line : List ℕ) × ((count : Option ℕ) → line_of_pause m.names s.rules breaks last count ≡ Some line)) ⊎ ((count : Option ℕ) → line_of_pause m.names s.rules breaks last count ≡ line_of_count count)
+          → ((n column : ℕ) (j : Inst) (t : Turned) → left ≡ limit - t.course.firings → HasMore (one_less count) n
+          → EachOfRun P left s breaks column (last_of j t) (one_less count) t.course
+          → (run_on left s breaks column (last_of j t) (Some n) t.course).outcome ≡ Ok done
+          → (run_on left s breaks column (last_of j t) (Some (suc n)) t.course).outcome ≢ Ok done → Seen)
+          → Seen
+      by n has is more (inl p) rest =
+          absurd (more (turn_paused column _ p.0 m _ _ (p.1 (Some (suc n))) ∙ sym (turn_paused column _ p.0 m _ _ (p.1 (Some n))) ∙ is))
+      by zero has is more (inr f) rest =
+          let same : m ≡ done = ok_same m (turn_paused column _ _ m _ _ (f (Some zero))) is in
+          let here : next_to_fire s.rules m ≡ Some i = ap (next_to_fire s.rules) same ∙ is_next in
+          let seen = next_seen _ _ i _ (f count ∙ unpaused count zero has) here each in
+          let Q : Course → Type 0 = P s column i in
+          (column, subst Q same seen.0)
+      by (suc n) has is more (inr f) rest = at_next (next_to_fire s.rules m) refl
+        where
+          at_next : (o : Option Inst) → next_to_fire s.rules m ≡ o → Seen
+          at_next None ended = absurd (more (turn_ended column _ m _ _ ended ∙ sym (turn_ended column _ m _ _ ended) ∙ is))
+          at_next (Some j) on =
+              let goes = turn_goes column _ m _ j _ (f (Some (suc n))) on in
+              let goes_more = turn_goes column _ m _ j _ (f (Some (suc (suc n)))) on in
+              let seen = next_seen _ _ j _ (f count ∙ unpaused count (suc n) has) on each in
+              let e = firing s column j m in
+              let Left : ℕ → Type 0 = λ n. (going_on e.bytes e.outcome (λ t. run_on left s breaks (column_after column e.bytes) (last_of j t) (Some n) t.course)).outcome ≡ Ok done in
+              fired e.bytes e.outcome (firing_counted s column j m) seen.1
+              (subst Left (one_off n) (sym goes ∙ is)) (λ k. more (goes_more ∙ subst Left (sym (one_off (suc n))) k))
+            where
+              fired : (bytes : List ℕ) (o : Result Turned Ending) → IfOk o (λ t. t.course.firings ≡ m.firings + 1)
+                  → IfOk o (λ t. EachOfRun P left s breaks (column_after column bytes) (last_of j t) (one_less count) t.course)
+                  → (going_on bytes o (λ t. run_on left s breaks (column_after column bytes) (last_of j t) (Some n) t.course)).outcome ≡ Ok done
+                  → (going_on bytes o (λ t. run_on left s breaks (column_after column bytes) (last_of j t) (Some (suc n)) t.course)).outcome ≢ Ok done → Seen
+              fired bytes (Ok t) counted each is more =
+                  rest n (column_after column bytes) j t (omega (arith, counts, counted)) (more_left count n has) each is more
+              fired bytes (Err x) counted each is more = absurd (cc)
+
+-- ---- a session
+
+module _ (P : Setting → ℕ → Inst → Course → Type 0) (s : Setting) (limit : ℕ) (i : Inst) (done : Session) (room : done.course.firings < limit) (is_next : next_to_fire s.rules done.course ≡ Some i) where
+  -- what a run leaves that is the last command
+  abbrev LeavesLast : List ℕ → Result Course Ending → Session → Result Session Ending
+  LeavesLast bytes o k = (going_on bytes (outcome_as (with_course k) (λ (e : Ending). e) o) (λ k. writes [] k)).outcome
+
+  last_left : (bytes : List ℕ) (o : Result Course Ending) (k : Session) → LeavesLast bytes o k ≡ Ok done → (m : Course) × (o ≡ Ok m) × (with_course k m ≡ done)
+  last_left bytes (Ok m) k is = (m, refl, cc)
+  last_left bytes (Err e) k is = absurd (cc)
+
+  commands_seen : (n column : ℕ) (before after : List Command) (count : Option ℕ) (k : Session) → HasMore count n
+      → EachOfCommands P s limit column (before ++ command.Run count ∷ after) k
+      → (commands_done s limit column (cut_after before n) k).outcome ≡ Ok done → (commands_done s limit column (cut_after before (suc n)) k).outcome ≢ Ok done
+      → (at : ℕ) × P (record s { watch = done.watch }) at i done.course
+  commands_seen n column [] after count k has each is more =
+      let at_level : Setting = record s { watch = k.watch } in
+      let r = last_left _ (run_on (limit - k.course.firings) at_level k.breaks column None (Some n) k.course).outcome k is in
+      let m = r.0 in
+      let course : m ≡ done.course = ap (λ (k : Session). k.course) r.2 in
+      let watch : k.watch ≡ done.watch = ap (λ (k : Session). k.watch) r.2 in
+      let left_more = run_on (limit - k.course.firings) at_level k.breaks column None (Some (suc n)) k.course in
+      let R : Course → Type 0 = λ m. m.firings < limit in
+      let N : Course → Type 0 = λ m. next_to_fire s.rules m ≡ Some i in
+      let seen = run_seen P at_level k.breaks limit i m (subst R (sym course) room) (subst N (sym course) is_next) (limit - k.course.firings) n column None count k.course refl has each.0 r.1
+          (λ same. more (ap (λ o. LeavesLast left_more.bytes o k) same ∙ ap Ok r.2)) in
+      let Q : Session → Type 0 = λ k. P (record s { watch = k.watch }) seen.0 i k.course in
+      (seen.0, subst Q r.2 seen.1)
+  commands_seen n column (c ∷ before) after count k has each is more =
+      let e = command_done s limit column c k in
+      by (is_exit c) e.bytes e.outcome (λ next each is more. commands_seen n (column_after column e.bytes) before after count next has each is more) each is more
+    where
+      by : (b : Bool) (bytes : List ℕ) (o : Result Session Ending)
+          → ((next : Session) → EachOfCommands P s limit (column_after column bytes) (before ++ command.Run count ∷ after) next
+          → (commands_done s limit (column_after column bytes) (cut_after before n) next).outcome ≡ Ok done
+          → (commands_done s limit (column_after column bytes) (cut_after before (suc n)) next).outcome ≢ Ok done
+          → (at : ℕ) × P (record s { watch = done.watch }) at i done.course)
+          → MatchBool b (Unit {0}) (EachOfCommand P s limit column c k × IfOk o (λ next. EachOfCommands P s limit (column_after column bytes) (before ++ command.Run count ∷ after) next))
+          → (cond b (writes [] k) (going_on bytes o (λ k. commands_done s limit (column_after column bytes) (cut_after before n) k))).outcome ≡ Ok done
+          → (cond b (writes [] k) (going_on bytes o (λ k. commands_done s limit (column_after column bytes) (cut_after before (suc n)) k))).outcome ≢ Ok done
+          → (at : ℕ) × P (record s { watch = done.watch }) at i done.course
+      by true bytes o rest each is more = absurd (more is)
+      by false bytes (Ok next) rest each is more = rest next each.1 is more
+      by false bytes (Err x) rest each is more = absurd (cc)
+
+-- P holds of each firing that a run goes on with.
+pub firing_seen : (P : Setting → ℕ → Inst → Course → Type 0) (s : Setting) (limit n : ℕ) (before after : List Command) (count : Option ℕ) (names : Spellings) (coming : Coming) (k : Session) (i : Inst)
+    → EachFiring P s limit (before ++ command.Run count ∷ after) names coming → GoesOnWith s limit before count n names coming k i
+    → (column : ℕ) × P (record s { watch = k.watch }) column i k.course
+firing_seen P s limit n before after count names coming k i each g =
+    commands_seen P s limit i k g.session g.next n 0 before after count (begun s.rules names coming) g.run each g.reached g.more
