@@ -1,14 +1,24 @@
--- The walks over the actions of a right side and over the firings of a session pass nothing over.
-use Rattle.std.proofs.Common.{◌≡◌, ℕ, zero, suc, ◌+◌, ◌-◌, ◌<◌, List, [], ◌∷◌, ◌++◌, Bool, true, false, cond, Option, Some, None, Result, Ok, Err, IfOk, refl, ap, sym, ◌∙◌, subst, inl, inr, ◌⊎◌, arith}
-use Rattle.std.specs.Prelude.{◌≢◌}
+-- The walks over tests, conditions, actions and firings pass nothing over.
+use Rattle.std.proofs.Common.{◌≡◌, option_map, unwrap_or, ℕ, zero, suc, ◌+◌, ◌-◌, ◌<◌, List, [], ◌∷◌, ◌++◌, Bool, true, false, cond, Option, Some, None, Result, Ok, Err, IfOk, refl, ap, sym, ◌∙◌, subst, inl, inr, ◌⊎◌, arith}
+use Rattle.std.specs.Prelude.{Contains, option_and_then, ◌≢◌}
 use Rattle.std.specs.Bool.{MatchBool}
+use Rattle.std.specs.List.{flat_map}
+use Rattle.std.proofs.lemmas.Bool.{and_parts}
 use Rattle.ops_base.specs.declared.actions.Action.{Action}
 use Rattle.ops_base.specs.declared.commands.Command.{Command}
 use Rattle.ops_base.specs.declared.commands.Command.TheVariants as command
+use Rattle.ops_base.specs.declared.conditions.Condition.{Condition}
+use Rattle.ops_base.specs.declared.conditions.Test.{Test}
+use Rattle.ops_base.specs.declared.direct.Partial.{Partial}
+use Rattle.ops_base.specs.declared.elements.Class.{Class}
+use Rattle.ops_base.specs.declared.elements.Element.{Element}
 use Rattle.ops_base.specs.declared.endings.Ending.{Ending}
 use Rattle.ops_base.specs.declared.endings.Ending.TheVariants as ending
+use Rattle.ops_base.specs.declared.matching.Binding.{Binding}
 use Rattle.ops_base.specs.declared.rules.Inst.{Inst}
 use Rattle.ops_base.specs.declared.rules.Rule.{Rule}
+use Rattle.ops_base.specs.ConflictSet.{at_condition, walk}
+use Rattle.ops_base.specs.Matching.{after_test, after_tests}
 use Rattle.ops_base.specs.Names.{Spellings}
 use Rattle.ops_io.specs.Coming.{Coming}
 use Rattle.ops_io.specs.Output.{column_after}
@@ -17,8 +27,30 @@ use Rattle.ops_meaning.specs.Effects.{Effect, writes, going_on, outcome_as}
 use Rattle.ops_meaning.specs.Layout.{firing_bytes}
 use Rattle.ops_meaning.specs.Running.{Course, Turned, Session, LastFiring, begun, turn, has_break, line_of_count, line_of_pause, last_of, one_less, given_by, ended_in, turned_of, with_course, is_exit, firing, run_on, next_to_fire, command_done, commands_done}
 use Rattle.run_laws.specs.Cuts.{GoesOnWith, HasMore, cut_after}
-use Rattle.run_laws.specs.Finding.{EachAction}
+use Rattle.run_laws.specs.Finding.{EachAction, WalkFinds, condition_finds, test_finds, tests_find}
 use Rattle.run_laws.specs.Firings.{IfGoesOn, EachOfRun, EachOfCommand, EachOfCommands, EachFiring}
+
+-- ---- left sides
+
+pub test_seen : (c : Class) (e : Element) (before after : List Test) (t : Test) (bindings next : List Binding)
+    → tests_find c e (before ++ t ∷ after) bindings ≡ true → after_tests before e bindings ≡ Some next → test_finds c t next ≡ true
+test_seen c e [] after t bindings next h is =
+    let same : bindings ≡ next = cc in
+    let Q : List Binding → Type 0 = λ b. test_finds c t b ≡ true in
+    subst Q same (and_parts _ _ h).0
+test_seen c e (b ∷ before) after t bindings next h is =
+    by (after_test b e bindings) (λ found h is. test_seen c e before after t found next h is) (and_parts (test_finds c b bindings) _ h).1 is
+  where
+    by : (o : Option (List Binding)) → ((found : List Binding) → tests_find c e (before ++ t ∷ after) found ≡ true → after_tests before e found ≡ Some next → test_finds c t next ≡ true)
+        → unwrap_or (option_map (tests_find c e (before ++ t ∷ after)) o) true ≡ true → option_and_then (λ b. after_tests before e b) o ≡ Some next → test_finds c t next ≡ true
+    by None rest h is = absurd (cc)
+    by (Some found) rest h is = rest found h is
+
+pub condition_seen : (classes : List Class) (wm : List Element) (before after : List Condition) (c : Condition) (ps : List Partial) (p : Partial) (e : Element)
+    → WalkFinds classes wm (before ++ c ∷ after) ps → Contains (walk wm before ps) p → Contains wm e → condition_finds classes c p.bindings e ≡ true
+condition_seen classes wm [] after c ps p e each k m = each.0 p e k m
+condition_seen classes wm (b ∷ before) after c ps p e each k m =
+    condition_seen classes wm before after c (flat_map (at_condition wm b) ps) p e each.1 k m
 
 -- ---- actions
 
@@ -187,7 +219,7 @@ module _ (P : Setting → ℕ → Inst → Course → Type 0) (s : Setting) (lim
       let R : Course → Type 0 = λ m. m.firings < limit in
       let N : Course → Type 0 = λ m. next_to_fire s.rules m ≡ Some i in
       let seen = run_seen P at_level k.breaks limit i m (subst R (sym course) room) (subst N (sym course) is_next) (limit - k.course.firings) n column None count k.course refl has each.0 r.1
-          (λ same. more (ap (λ o. LeavesLast left_more.bytes o k) same ∙ ap Ok r.2)) in
+      (λ same. more (ap (λ o. LeavesLast left_more.bytes o k) same ∙ ap Ok r.2)) in
       let Q : Session → Type 0 = λ k. P (record s { watch = k.watch }) seen.0 i k.course in
       (seen.0, subst Q r.2 seen.1)
   commands_seen n column (c ∷ before) after count k has each is more =

@@ -1,4 +1,4 @@
--- What the laws say, in words of their own.
+-- What the laws of running cite.
 pub mod Programs
 pub mod Beginning
 pub mod Ending

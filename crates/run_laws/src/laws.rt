@@ -5,6 +5,9 @@ ghost use Rattle.ops_base.specs.declared.actions.Action.{Action};
 ghost use Rattle.ops_base.specs.declared.actions.Term.{Term};
 ghost use Rattle.ops_base.specs.declared.commands.Command.{Command};
 ghost use Rattle.ops_base.specs.declared.commands.Fixed.{Fixed};
+ghost use Rattle.ops_base.specs.declared.conditions.Condition.{Condition};
+ghost use Rattle.ops_base.specs.declared.conditions.Test.{Test};
+ghost use Rattle.ops_base.specs.declared.direct.Partial.{Partial};
 ghost use Rattle.ops_base.specs.declared.elements.Change.TheVariants.{Remove};
 ghost use Rattle.ops_base.specs.declared.elements.Class.{Class};
 ghost use Rattle.ops_base.specs.declared.elements.Element.{Element};
@@ -12,8 +15,8 @@ ghost use Rattle.ops_base.specs.declared.matching.Binding.{Binding};
 ghost use Rattle.ops_base.specs.declared.rules.Inst.{Inst};
 ghost use Rattle.ops_base.specs.declared.rules.Rule.{Rule};
 ghost use Rattle.ops_base.specs.declared.values.Value.{Value};
-ghost use Rattle.ops_base.specs.ConflictSet.{conflict_set, empty_partial};
-ghost use Rattle.ops_base.specs.Matching.{match_of};
+ghost use Rattle.ops_base.specs.ConflictSet.{conflict_set, empty_partial, walk};
+ghost use Rattle.ops_base.specs.Matching.{after_tests, match_of};
 ghost use Rattle.ops_base.specs.Names.{Spellings};
 ghost use Rattle.ops_base.specs.Valid.{is_attribute};
 ghost use Rattle.ops_base.specs.WorkingMemory.{HasRisingTags, tags_of};
@@ -25,7 +28,7 @@ ghost use Rattle.run_laws.specs.Beginning.{BeginsAsMatched};
 ghost use Rattle.run_laws.specs.Cuts.{GoesOnWith};
 ghost use Rattle.run_laws.specs.Elements.{AreFieldsOf, AreWhole};
 ghost use Rattle.run_laws.specs.Ending.{IsOfSession};
-ghost use Rattle.run_laws.specs.Finding.{AllFind, EachAction, RemovalsFind, SeesTheSame, WalkFinds, command_finds, is_single};
+ghost use Rattle.run_laws.specs.Finding.{AllFind, EachAction, RemovalsFind, SeesTheSame, WalkFinds, command_finds, condition_finds, is_single, test_finds, tests_find};
 ghost use Rattle.run_laws.specs.Firings.{EachFiring, FindsAll};
 ghost use Rattle.run_laws.specs.Patterns.{condition_with, meeting};
 ghost use Rattle.run_laws.specs.Placing.{StandAt};
@@ -39,15 +42,15 @@ pub fn right_sides_begin_as_matched()
         → HasRisingTags g.wm → Contains (conflict_set s.rules g.wm) i → BeginsAsMatched s g i }
 {}
 
-/// In a valid program each test that an element comes to finds its class, its field, and the variable that it compares
-/// with.
+/// In a valid program each test that an element comes to finds its class, the number of its field, and the variable that
+/// it compares with.
 pub fn left_sides_find_what_they_name()
     ensures { (s : Setting) (commands : List Command) (wm : List Element) (n : ℕ) (r : Rule)
         → AreValid s commands → slice_get s.rules n ≡ Some r → WalkFinds s.classes wm r.conditions (empty_partial ∷ []) }
 {}
 
 /// In a valid program each action of a right side finds, in the state that it comes to, all that it names: variables,
-/// cells, classes and fields. A term leaves the bindings, the cells, the changes and working memory as they are, and
+/// cells, classes and numbers of fields. A term leaves the bindings, the cells, the changes and working memory as they are, and
 /// gives one value but where it is all of a vector attribute.
 pub fn right_sides_find_what_they_name()
     ensures actions { (s : Setting) (commands : List Command) (column : ℕ) (g : Given) (i : Inst)
@@ -133,9 +136,16 @@ pub fn standing_is_ranked()
         → HasRisingTags m.wm → IsRanking rules m other → other ≡ standing_by (conflict_set rules) rules m }
 {}
 
-/// A test that passes for each action of a right side passes for any action that the right side comes to, in the state to
-/// which those before it lead. One that passes for each firing of a session passes for any firing that a run goes on with.
+/// What is said of each test, each condition and each action in turn is said of any that is come to, after those before
+/// it. What is said of each firing of a session is said of any firing that a run goes on with.
 pub fn nothing_is_passed_over()
+    ensures tests { (c : Class) (e : Element) (before after : List Test) (t : Test) (bindings next : List Binding)
+        → IsTrue (tests_find c e (before ++ t ∷ after) bindings) → after_tests before e bindings ≡ Some next
+        → IsTrue (test_finds c t next) }
+    ensures conditions { (classes : List Class) (wm : List Element) (before after : List Condition) (c : Condition)
+        → (ps : List Partial) (p : Partial) (e : Element)
+        → WalkFinds classes wm (before ++ c ∷ after) ps → Contains (walk wm before ps) p → Contains wm e
+        → IsTrue (condition_finds classes c p.bindings e) }
     ensures actions { (test : Action → Doing → Bool) (s : Setting) (column n : ℕ) (before after : List Action) (a : Action) (d e : Doing)
         → EachAction (λ a d. IsTrue (test a d)) s column (before ++ a ∷ after) d
         → (actions_done s column n before d).outcome ≡ Ok e → IsTrue (test a e) }
