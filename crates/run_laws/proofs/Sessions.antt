@@ -131,6 +131,10 @@ firing_good s column i m sound good in_set =
     (ok_both (IsLawfulOver m.wm m.last) (λ (a : Acted). MakesWhole s.classes a.changes) a.outcome (acts_lawfully s start i (given_by m) good.kept) (acted_whole s start i m sound good in_set))
     (λ a q. let lawful = q.0 in record { kept = lawful.kept; whole = done_whole s.classes m.wm a.changes good.whole q.1 })
 
+-- what holds of what is next where working memory is good
+abbrev HoldsNext : (Setting → ℕ → Inst → Course → Type 0) → Type 0
+HoldsNext P = (s : Setting) (column : ℕ) (i : Inst) (m : Course) → IsSound s → IsGood s m → Contains (conflict_set s.rules m.wm) i → P s column i m
+
 -- ---- a run
 
 turn_good : (s : Setting) (column : ℕ) (line : Option (List ℕ)) (m : Course) (next : Option Inst) (go_on : Inst → Effect Ending Course) (Q : Inst → Type 0) → IsGood s m
@@ -139,24 +143,24 @@ turn_good s column (Some line) m next go_on Q good on = (tt, good)
 turn_good s column None m None go_on Q good on = (tt, good)
 turn_good s column None m (Some i) go_on Q good on = on i refl
 
-run_good : (left : ℕ) (s : Setting) (breaks : List Bool) (column : ℕ) (last : Option LastFiring) (count : Option ℕ) (m : Course) → IsSound s → IsGood s m
-    → EachOfRun FindsAll left s breaks column last count m × IfOk (run_on left s breaks column last count m).outcome (IsGood s)
-run_good zero s breaks column last count m sound good =
+run_good : (P : Setting → ℕ → Inst → Course → Type 0) → HoldsNext P → (left : ℕ) (s : Setting) (breaks : List Bool) (column : ℕ) (last : Option LastFiring) (count : Option ℕ) (m : Course) → IsSound s → IsGood s m
+    → EachOfRun P left s breaks column last count m × IfOk (run_on left s breaks column last count m).outcome (IsGood s)
+run_good P holds zero s breaks column last count m sound good =
     (tt, (turn_good s column (line_of_pause m.names s.rules breaks last count) m (next_to_fire s.rules m) _ (λ i. Unit {0}) good (λ i is. (tt, tt))).1)
-run_good (suc left) s breaks column last count m sound good =
+run_good P holds (suc left) s breaks column last count m sound good =
     turn_good s column (line_of_pause m.names s.rules breaks last count) m (next_to_fire s.rules m) _ _ good
     (λ i is.
     let in_set = next_there s m i is in
     let e = firing s column i m in
     let Good : Turned → Type 0 = λ t. IsGood s t.course in
-    let rest : Turned → Type 0 = λ t. EachOfRun FindsAll left s breaks (column_after column e.bytes) (last_of i t) (one_less count) t.course in
+    let rest : Turned → Type 0 = λ t. EachOfRun P left s breaks (column_after column e.bytes) (last_of i t) (one_less count) t.course in
     let one = firing_good s column i m sound good in_set in (
       (
-        finds_all s column i m sound good in_set,
-        ok_more Good rest e.outcome one (λ t g. (run_good left s breaks (column_after column e.bytes) (last_of i t) (one_less count) t.course sound g).0),
+        holds s column i m sound good in_set,
+        ok_more Good rest e.outcome one (λ t g. (run_good P holds left s breaks (column_after column e.bytes) (last_of i t) (one_less count) t.course sound g).0),
       ),
       ok_on Good (IsGood s) e.bytes e.outcome (λ t. run_on left s breaks (column_after column e.bytes) (last_of i t) (one_less count) t.course) one
-          (λ t g. (run_good left s breaks (column_after column e.bytes) (last_of i t) (one_less count) t.course sound g).1),
+          (λ t g. (run_good P holds left s breaks (column_after column e.bytes) (last_of i t) (one_less count) t.course sound g).1),
     ))
 
 -- ---- commands
@@ -189,7 +193,7 @@ made_whole s class puts m sound h =
       fields = fixed_fields_room (class_of s.classes class) puts (fits_class (class_of s.classes class) (all_at class_is_valid s.classes class no_class sound.classes front.0)) whole.1;
     }
 
-module _ (s : Setting) (sound : IsSound s) (limit : ℕ) where
+module _ (P : Setting → ℕ → Inst → Course → Type 0) (holds : HoldsNext P) (s : Setting) (sound : IsSound s) (limit : ℕ) where
   abbrev GoodSession : Session → Type 0
   GoodSession k = IsGood s k.course
 
@@ -205,7 +209,7 @@ module _ (s : Setting) (sound : IsSound s) (limit : ℕ) where
   breaks_good column [] k g = g
   breaks_good column (n ∷ ns) k g = g
 
-  command_good : (column : ℕ) (c : Command) (k : Session) → command_is_valid s.classes c ≡ true → GoodSession k → EachOfCommand FindsAll s limit column c k × IfOk (command_done s limit column c k).outcome GoodSession
+  command_good : (column : ℕ) (c : Command) (k : Session) → command_is_valid s.classes c ≡ true → GoodSession k → EachOfCommand P s limit column c k × IfOk (command_done s limit column c k).outcome GoodSession
   command_good column (command.Make class puts) k h g =
       let e = element_made s.classes class puts k.course in
       (tt, record { kept = added_kept k.course.wm k.course.last e (omega arith) g.kept; whole = one_more s.classes k.course.wm e g.whole (made_whole s class puts k.course sound h) })
@@ -227,7 +231,7 @@ module _ (s : Setting) (sound : IsSound s) (limit : ℕ) where
       let at : Setting = record s { watch = k.watch } in
       let sound_at : IsSound at = record { classes = sound.classes; rules = sound.rules } in
       let good_at : IsGood at k.course = record { kept = g.kept; whole = g.whole } in
-      let r = run_good (limit - k.course.firings) at k.breaks column None count k.course sound_at good_at in
+      let r = run_good P holds (limit - k.course.firings) at k.breaks column None count k.course sound_at good_at in
       (r.0, ok_as (IsGood at) GoodSession (with_course k) (λ e. e) (run_on (limit - k.course.firings) at k.breaks column None count k.course).outcome r.1 (λ m q. record { kept = q.kept; whole = q.whole }))
   command_good column (command.Wm tags) k h g = (tt, g)
   command_good column (command.Ppwm pattern) k h g = (tt, g)
@@ -239,21 +243,21 @@ module _ (s : Setting) (sound : IsSound s) (limit : ℕ) where
   command_good column command.Exit k h g = (tt, g)
 
   commands_good : (column : ℕ) (commands : List Command) (k : Session) → list_all (command_is_valid s.classes) commands ≡ true → GoodSession k
-      → EachOfCommands FindsAll s limit column commands k × IfOk (commands_done s limit column commands k).outcome GoodSession
+      → EachOfCommands P s limit column commands k × IfOk (commands_done s limit column commands k).outcome GoodSession
   commands_good column [] k h g = (tt, g)
   commands_good column (c ∷ rest) k h g =
       let parts = and_parts (command_is_valid s.classes c) (list_all (command_is_valid s.classes) rest) h in
       let e = command_done s limit column c k in
       let one = command_good column c k parts.0 g in
-      let More : Session → Type 0 = λ next. EachOfCommands FindsAll s limit (column_after column e.bytes) rest next in
+      let More : Session → Type 0 = λ next. EachOfCommands P s limit (column_after column e.bytes) rest next in
       by (is_exit c)
       (one.0, ok_more GoodSession More e.outcome one.1 (λ next q. (commands_good (column_after column e.bytes) rest next parts.1 q).0))
       (ok_on GoodSession GoodSession e.bytes e.outcome (λ next. commands_done s limit (column_after column e.bytes) rest next) one.1
       (λ next q. (commands_good (column_after column e.bytes) rest next parts.1 q).1))
     where
-      by : (b : Bool) → (let e = command_done s limit column c k in EachOfCommand FindsAll s limit column c k × IfOk e.outcome (λ next. EachOfCommands FindsAll s limit (column_after column e.bytes) rest next))
+      by : (b : Bool) → (let e = command_done s limit column c k in EachOfCommand P s limit column c k × IfOk e.outcome (λ next. EachOfCommands P s limit (column_after column e.bytes) rest next))
           → IfOk (and_then column (command_done s limit column c k) (λ next k. commands_done s limit next rest k)).outcome GoodSession
-          → MatchBool b (Unit {0}) (let e = command_done s limit column c k in EachOfCommand FindsAll s limit column c k × IfOk e.outcome (λ next. EachOfCommands FindsAll s limit (column_after column e.bytes) rest next))
+          → MatchBool b (Unit {0}) (let e = command_done s limit column c k in EachOfCommand P s limit column c k × IfOk e.outcome (λ next. EachOfCommands P s limit (column_after column e.bytes) rest next))
           × IfOk (cond b (writes [] k) (and_then column (command_done s limit column c k) (λ next k. commands_done s limit next rest k))).outcome GoodSession
       by true each rest = (tt, g)
       by false each rest = (each, rest)
@@ -266,18 +270,24 @@ sound_setting s commands h =
     let sixth = and_parts _ _ (and_parts _ _ seventh).0 in
     (record { classes = (and_parts _ _ sixth.0).1; rules = sixth.1 }, (and_parts _ _ seventh).1)
 
-session_good : (s : Setting) (limit : ℕ) (commands : List Command) (names : Spellings) (coming : Coming) → is_valid s.classes s.rules commands (length s.text) ≡ true
-    → EachFiring FindsAll s limit commands names coming × IfOk (session_of s limit commands names coming).outcome (λ k. IsGood s k.course)
-session_good s limit commands names coming h =
+session_good : (P : Setting → ℕ → Inst → Course → Type 0) → HoldsNext P → (s : Setting) (limit : ℕ) (commands : List Command) (names : Spellings) (coming : Coming) → is_valid s.classes s.rules commands (length s.text) ≡ true
+    → EachFiring P s limit commands names coming × IfOk (session_of s limit commands names coming).outcome (λ k. IsGood s k.course)
+session_good P holds s limit commands names coming h =
     let valid = sound_setting s commands h in
-    commands_good s valid.0 limit 0 commands (begun s.rules names coming) valid.1
+    commands_good P holds s valid.0 limit 0 commands (begun s.rules names coming) valid.1
     (record { kept = (λ k within. absurd (omega arith), All-nil _); whole = λ e m. absurd m })
 
 pub each_firing_finds : (s : Setting) (limit : ℕ) (commands : List Command) (names : Spellings) (coming : Coming) → is_valid s.classes s.rules commands (length s.text) ≡ true → EachFiring FindsAll s limit commands names coming
-each_firing_finds s limit commands names coming h = (session_good s limit commands names coming h).0
+each_firing_finds s limit commands names coming h = (session_good FindsAll finds_all s limit commands names coming h).0
+
+-- the same, whatever the column is
+pub each_firing_finds_anywhere : (s : Setting) (limit : ℕ) (commands : List Command) (names : Spellings) (coming : Coming) → is_valid s.classes s.rules commands (length s.text) ≡ true
+    → EachFiring (λ s column i m. (at : ℕ) → FindsAll s at i m) s limit commands names coming
+each_firing_finds_anywhere s limit commands names coming h =
+    (session_good (λ s column i m. (at : ℕ) → FindsAll s at i m) (λ s column i m sound good in_set at. finds_all s at i m sound good in_set) s limit commands names coming h).0
 
 pub session_whole : (s : Setting) (limit : ℕ) (commands : List Command) (names : Spellings) (coming : Coming) → is_valid s.classes s.rules commands (length s.text) ≡ true
     → IfOk (session_of s limit commands names coming).outcome (λ k. AreWhole s.classes k.course.wm)
 session_whole s limit commands names coming h =
     ok_more (λ (k : Session). IsGood s k.course) (λ (k : Session). AreWhole s.classes k.course.wm) (session_of s limit commands names coming).outcome
-    (session_good s limit commands names coming h).1 (λ k g. all_whole s k.course g)
+    (session_good FindsAll finds_all s limit commands names coming h).1 (λ k g. all_whole s k.course g)

@@ -6,8 +6,8 @@ use Rattle.ops_base.specs.Valid.{class_of, most_fields}
 use Rattle.ops_base.specs.WorkingMemory.{scalar_count}
 use Rattle.run_laws.specs.Finding.{is_class}
 
--- This many values are one for each scalar attribute of the class, and after them some of its vector attribute, where it
--- has one: as many as fit.
+-- This many values are one for each scalar attribute of the class, and after them some of its vector attribute, where
+-- it has one: as many as fit.
 pub record AreFieldsOf (c : Class) (values : ℕ) : Type 0 where
   pub scalars : scalar_count c ≤ values
   pub room : values ≤ most_fields

@@ -42,16 +42,16 @@ pub fn right_sides_begin_as_matched()
         → HasRisingTags g.wm → Contains (conflict_set s.rules g.wm) i → BeginsAsMatched s g i }
 {}
 
-/// In a valid program each test that an element comes to finds its class, the number of its field, and the variable that
-/// it compares with.
+/// In a valid program each test that an element comes to finds its class, the number of its field, and the variable
+/// that it compares with.
 pub fn left_sides_find_what_they_name()
     ensures { (s : Setting) (commands : List Command) (wm : List Element) (n : ℕ) (r : Rule)
         → AreValid s commands → slice_get s.rules n ≡ Some r → WalkFinds s.classes wm r.conditions (empty_partial ∷ []) }
 {}
 
 /// In a valid program each action of a right side finds, in the state that it comes to, all that it names: variables,
-/// cells, classes and numbers of fields. A term leaves the bindings, the cells, the changes and working memory as they are, and
-/// gives one value but where it is all of a vector attribute.
+/// cells, classes and numbers of fields. A term leaves the bindings, the cells, the changes and working memory as they
+/// are, and gives one value but where it is all of a vector attribute.
 pub fn right_sides_find_what_they_name()
     ensures actions { (s : Setting) (commands : List Command) (column : ℕ) (g : Given) (i : Inst)
         → AreValid s commands → HasRisingTags g.wm → Contains (conflict_set s.rules g.wm) i
@@ -63,15 +63,15 @@ pub fn right_sides_find_what_they_name()
 {}
 
 /// In each firing of a session of a valid program the elements of working memory and of the cells have just the fields
-/// of their classes, and the right side begins as matched and finds all that it names. A session that comes to its end
-/// leaves such elements.
+/// of their classes, and the right side begins as matched and finds all that it names. So it is in any firing that a
+/// run goes on with. A session that comes to its end leaves such elements.
 pub fn firings_find_what_they_name()
     ensures firings { (s : Setting) (limit : ℕ) (commands : List Command) (names : Spellings) (coming : Coming)
         → AreValid s commands → EachFiring FindsAll s limit commands names coming }
     ensures any { (s : Setting) (limit n : ℕ) (before after : List Command) (count : Option ℕ) (names : Spellings)
-        → (coming : Coming) (k : Session) (i : Inst)
+        → (coming : Coming) (k : Session) (column : ℕ) (i : Inst)
         → AreValid s (before ++ Command.Run count ∷ after) → GoesOnWith s limit before count n names coming k i
-        → (column : ℕ) × FindsAll (record s { watch = k.watch }) column i k.course }
+        → FindsAll (record s { watch = k.watch }) column i k.course }
     ensures elements { (s : Setting) (limit : ℕ) (commands : List Command) (names : Spellings) (coming : Coming)
         → AreValid s commands
         → IfOk (session_of s limit commands names coming).outcome (λ k. AreWhole s.classes k.course.wm) }
@@ -106,8 +106,8 @@ pub fn instantiations_have_ranks()
         → AreValid s commands → HasRisingTags wm → Contains (conflict_set s.rules wm) i → HasRank s.rules i }
 {}
 
-/// Whatever the program, no session ends in a refused write or in want of memory. It ends in a read fault only where its
-/// input fails.
+/// Whatever the program, no session ends in a refused write or in want of memory. It ends in a read fault only where
+/// its input fails.
 pub fn only_the_input_fails()
     ensures { (s : Setting) (limit : ℕ) (commands : List Command) (names : Spellings) (coming : Coming)
         → IsOfSession coming.fails (ending_of (session_of s limit commands names coming).outcome) }
