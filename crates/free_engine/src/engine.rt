@@ -1,7 +1,7 @@
 //! The engine of free workers: a matcher over a network whose tasks are done by several threads in any order.
 ghost use Rattle.std.specs.Prelude.{◌≡◌, ◌≤◌, ◌^◌, All, IfOk, [], length, map};
 ghost use Rattle.work_store.specs.Stored.{held_of, nothing_stored};
-ghost use Rattle.activation.specs.Acting.{IsCounted, TellsOfLasts};
+ghost use Rattle.activation.specs.Acting.{TellsOfLasts};
 ghost use Rattle.step_core.specs.Laws.{AreEmpty};
 ghost use Rattle.step_core.specs.Phases.{HoldJust, now, sums_over};
 ghost use Rattle.step_core.specs.Worlds.{AreNumbered, placed, seen};
@@ -13,6 +13,7 @@ use ops_base::memory::OutOfMemory;
 use ops_io::Gate;
 use serial_engine::settle as settle_alone;
 use std::alloc::Global;
+use std::marker::Model;
 use std::sync::Wait;
 use std::thread::Threads;
 use step_core::laws::{match_laws, settle_laws};
@@ -20,24 +21,39 @@ use step_core::{Gathered, World};
 use token_line::Line;
 use work_store::{Matcher, Settled, Store};
 
-/// A matcher over a network. Between two settles its lines hold just the tokens that stand at each node over its store,
-/// each once. The gate is called just before each activation, with the number of the worker, or with worker 0 on the
-/// calling thread, and with the number of the line.
+/// What an engine is made of.
 #[derive(Drop)]
-pub struct FreeEngine<G> {
+struct Parts<G> {
     net: Net,
     store: Store,
     world: World,
     gate: G,
     sharing: Sharing,
-    // There is a worker at least, and there are not too many.
-    ghost some: { 1 ≤ sharing.workers },
-    ghost few: { sharing.workers ≤ 2 ^ 32 },
-    // Nothing is under way.
-    ghost quiet: { world.counter ≡ 0 },
-    ghost numbered: { AreNumbered world.lines.items },
-    ghost counted: { All (IsCounted net.nodes store) world.lines.items },
-    ghost holds: { HoldJust (placed (held_of store) net.nodes (length world.lines.items)) (sums_over store.elements net.alphas net.nodes) (map now (map seen world.lines.items)) },
+}
+
+/// A matcher over a network. Between two settles its lines hold just the tokens that stand at each node over its store,
+/// each once. The gate is called just before each activation, with the number of the worker, or with worker 0 on the
+/// calling thread, and with the number of the line. An engine stands on the heap, so that it is moved at a small cost.
+#[derive(Drop)]
+pub struct FreeEngine<G> {
+    parts: Box<Parts<G>>,
+}
+
+impl<G> Model for FreeEngine<G> {
+    ghost use Rattle.std.specs.Coded.{codes};
+    ghost use Rattle.net_base.specs.contracts.net.Net as nets;
+    ghost use Rattle.step_core.specs.contracts.world.World as worlds;
+    ghost use Rattle.free_engine.specs.contracts.phases.Sharing as sharings;
+    ghost use Rattle.free_engine.specs.Engines.{CanSettle, Engine};
+
+    ghost Value = { Engine };
+
+    // Networks, worlds and the sharing of phases are told apart as their own types tell them.
+    ghost coded = { Prim.hlevel (codes, nets.the_row.coded, worlds.the_row.coded, sharings.the_row.coded) };
+
+    ghost view = { λ e. record { net = e.parts.value.net; store = e.parts.value.store; world = e.parts.value.world; sharing = e.parts.value.sharing } };
+
+    ghost invariant = { λ e. CanSettle e.parts.value.net e.parts.value.store e.parts.value.world e.parts.value.sharing.workers };
 }
 
 impl<G: Gate + Drop> FreeEngine<G> {
@@ -51,7 +67,7 @@ impl<G: Gate + Drop> FreeEngine<G> {
     ghost use Rattle.step_core.specs.Found.{found_over};
 
     /// An engine over the network with this many lines and workers. Nothing is stored. It makes each line and looks at
-    /// each node, and starts no thread.
+    /// each node, takes memory for its own place, and starts no thread.
     pub fn new(
         alloc: Global,
         net: Net,
@@ -70,7 +86,7 @@ impl<G: Gate + Drop> FreeEngine<G> {
     {
         match_laws();
         let world = World::start(alloc, &net, lines)?;
-        Ok(FreeEngine {
+        let parts = Parts {
             net,
             store: Store::new(alloc),
             world,
@@ -79,14 +95,17 @@ impl<G: Gate + Drop> FreeEngine<G> {
                 workers,
                 shared: false,
             },
-        })
+        };
+        let parts = Box::new(alloc, parts)?;
+        Ok(FreeEngine { parts })
     }
 
     /// The network. Takes no memory.
     pub fn net(&self) -> &Net
         ensures { result.now ≡ self.now.net }
     {
-        &self.net
+        let parts = self.parts.as_ref();
+        &parts.net
     }
 
     /// The lines, in the order of their numbers, with the entries of the last settle. Takes no memory.
@@ -98,14 +117,16 @@ impl<G: Gate + Drop> FreeEngine<G> {
         // They tell of just the tasks of the last settle that came to terminals.
         ensures told { All (TellsOfLasts self.now.net.nodes) result.now }
     {
-        self.world.lines()
+        let parts = self.parts.as_ref();
+        parts.world.lines()
     }
 
     /// Feeds all changes, and does their tasks and all that comes of them: on the calling thread as long as few are in
     /// flight, and then by several workers, each of which takes a task from a pool and gives back its children. It
     /// takes time for the tasks that it does, for the lines that they were done on, and for the nodes that a change is
-    /// fed to. Where the work was shared it also moves each line. It may wait for other threads, and it is not promised
-    /// that their turns come. What it removed is kept until the next settle.
+    /// fed to. Where many were in flight it also looks at each line, and moves each where the work was shared. It may
+    /// wait for other threads, and it is not promised that their turns come. What it removed is kept until the next
+    /// settle.
     pub fn settle_freely<R: Threads + Wait + Sync>(
         self,
         rt: &R,
@@ -125,34 +146,21 @@ impl<G: Gate + Drop> FreeEngine<G> {
         ensures lines { IfOk result (λ s. length s.matcher.world.lines.items ≡ length self.world.lines.items) }
         ensures workers { IfOk result (λ s. s.matcher.sharing.workers ≡ self.sharing.workers) }
     {
-        let FreeEngine {
-            net,
-            mut store,
-            world,
-            gate,
-            sharing,
-        } = self;
-        let mut sharing = sharing;
-        let (world, gathered) = settle(
+        let FreeEngine { parts } = self;
+        let mut engine = parts;
+        let parts = engine.as_mut();
+        let Gathered { come, gone } = settle(
             rt,
             alloc,
-            &net,
-            &mut store,
-            &gate,
-            world,
-            &mut sharing,
+            &parts.net,
+            &mut parts.store,
+            &parts.gate,
+            &mut parts.world,
+            &mut parts.sharing,
             changes,
         )?;
-        let Gathered { come, gone } = gathered;
-        let matcher = FreeEngine {
-            net,
-            store,
-            world,
-            gate,
-            sharing,
-        };
         Ok(Settled {
-            matcher,
+            matcher: FreeEngine { parts: engine },
             come,
             gone,
         })
@@ -179,9 +187,10 @@ impl<G: Gate + Drop> Matcher for FreeEngine<G> {
 
     fn store(&self) -> &Store {
         settle_laws();
-        let _last = self.store.last();
-        let _nodes = self.net.nodes();
-        &self.store
+        let parts = self.parts.as_ref();
+        let _last = parts.store.last();
+        let _nodes = parts.net.nodes();
+        &parts.store
     }
 
     /// As `settle_freely`, on the calling thread alone, as the serial engine settles.
@@ -204,32 +213,22 @@ impl<G: Gate + Drop> Matcher for FreeEngine<G> {
         ensures lines { IfOk result (λ s. length s.matcher.world.lines.items ≡ length self.world.lines.items) }
         ensures workers { IfOk result (λ s. s.matcher.sharing.workers ≡ self.sharing.workers) }
     {
-        let FreeEngine {
-            net,
-            mut store,
-            mut world,
-            gate,
-            sharing,
-        } = self;
+        let FreeEngine { parts } = self;
+        let mut engine = parts;
+        let parts = engine.as_mut();
+        let gate = &parts.gate;
         let enter = |line: usize| gate.enter(0, line);
         let Gathered { come, gone } = settle_alone(
             alloc,
-            &net,
-            &mut store,
+            &parts.net,
+            &mut parts.store,
             &enter,
-            &mut world,
+            &mut parts.world,
             changes,
             &[],
         )?;
-        let matcher = FreeEngine {
-            net,
-            store,
-            world,
-            gate,
-            sharing,
-        };
         Ok(Settled {
-            matcher,
+            matcher: FreeEngine { parts: engine },
             come,
             gone,
         })

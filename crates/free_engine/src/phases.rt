@@ -19,6 +19,7 @@ use ops_base::memory::OutOfMemory;
 use ops_io::Gate;
 use serial_engine::{do_changes, feed_all, work_all};
 use std::alloc::Global;
+use std::mem;
 use std::sync::Wait;
 use std::thread::Threads;
 use step_core::laws::{round_laws, settle_laws};
@@ -137,9 +138,20 @@ fn finish_alone<G: Gate>(
     Ok(world)
 }
 
-/// Does the tasks in flight, and all that comes of them, by several workers where that pays. Where none is in flight it
-/// does nothing; otherwise it also moves or looks at each line.
-fn work_freely<R: Threads + Wait + Sync, G: Gate>(
+/// A world to stand in the place of one that is taken out: one bare line, and nothing under way.
+fn stand_in(alloc: Global) -> Result<World, OutOfMemory> {
+    let mut lines = Vec::new(alloc);
+    lines.push(Line::new(alloc, 0))?;
+    let parts = Parts {
+        lines,
+        flight: Vec::new(alloc),
+    };
+    World::from_parts(alloc, parts)
+}
+
+/// Does the tasks in flight of a world that was taken out of its place, and all that comes of them, by several workers
+/// where that pays. It also moves or looks at each line.
+fn work_taken<R: Threads + Wait + Sync, G: Gate>(
     rt: &R,
     alloc: Global,
     net: &Net,
@@ -159,9 +171,6 @@ fn work_freely<R: Threads + Wait + Sync, G: Gate>(
     ensures numbers { IfOk result (λ w. numbers_of w ≡ numbers_of world) }
     ensures workers { OnOk result (sharing.new.workers ≡ sharing.old.workers) }
 {
-    if world.in_flight() == 0 {
-        return Ok(world);
-    }
     let team = team_size(world.in_flight(), sharing.workers);
     let is_first = !sharing.shared && world.in_flight() < MANY;
     let parts = world.into_parts();
@@ -177,6 +186,36 @@ fn work_freely<R: Threads + Wait + Sync, G: Gate>(
     World::from_parts(alloc, parts)
 }
 
+/// Does the tasks in flight, and all that comes of them, by several workers where that pays. Where none is in flight it
+/// does nothing; otherwise it takes the world out of its place for this, and also moves or looks at each line.
+fn work_freely<R: Threads + Wait + Sync, G: Gate>(
+    rt: &R,
+    alloc: Global,
+    net: &Net,
+    store: &Store,
+    gate: &G,
+    world: &mut World,
+    sharing: &mut Sharing,
+) -> Result<(), OutOfMemory>
+    requires some { 1 ≤ sharing.old.workers }
+    requires few { sharing.old.workers ≤ 2 ^ 32 }
+    requires numbered { AreNumbered world.old.lines.items }
+    requires ready { IsReady net.now.nodes store.now world.old }
+    requires done { length world.old.done.items ≡ 0 }
+    ensures carries { OnOk result (CarriesOn net.now.alphas net.now.nodes store.now world.old.lines.items world.old.flight.items world.new.lines.items []) }
+    ensures quiet { OnOk result (world.new.counter ≡ 0) }
+    ensures counted { OnOk result (All (IsCounted net.now.nodes store.now) world.new.lines.items) }
+    ensures numbers { OnOk result (numbers_of world.new ≡ numbers_of world.old) }
+    ensures workers { OnOk result (sharing.new.workers ≡ sharing.old.workers) }
+{
+    if world.in_flight() == 0 {
+        return Ok(());
+    }
+    let taken = mem::replace(world, stand_in(alloc)?);
+    *world = work_taken(rt, alloc, net, store, gate, taken, sharing)?;
+    Ok(())
+}
+
 /// Does the phase of these changes, which the store has done. The lines begin it.
 fn run_phase<R: Threads + Wait + Sync, G: Gate>(
     rt: &R,
@@ -184,29 +223,29 @@ fn run_phase<R: Threads + Wait + Sync, G: Gate>(
     net: &Net,
     store: &Store,
     gate: &G,
-    world: World,
+    world: &mut World,
     sharing: &mut Sharing,
     changes: &[Change],
-) -> Result<World, OutOfMemory>
+) -> Result<(), OutOfMemory>
     requires some { 1 ≤ sharing.old.workers }
     requires few { sharing.old.workers ≤ 2 ^ 32 }
-    requires numbered { AreNumbered world.lines.items }
-    requires quiet { world.counter ≡ 0 }
-    requires counted { All (IsCounted net.now.nodes store.now) world.lines.items }
+    requires numbered { AreNumbered world.old.lines.items }
+    requires quiet { world.old.counter ≡ 0 }
+    requires counted { All (IsCounted net.now.nodes store.now) world.old.lines.items }
     requires known { All (IsKnown store.now) changes.now }
-    ensures quiet { IfOk result (λ w. w.counter ≡ 0) }
-    ensures counted { IfOk result (λ w. All (IsCounted net.now.nodes store.now) w.lines.items) }
-    ensures lines { IfOk result (λ w. numbers_of w ≡ numbers_of world) }
-    ensures bundle { IfOk result (λ w. IsBundleOf net.now.alphas net.now.nodes store.now changes.now world w) }
+    ensures quiet { OnOk result (world.new.counter ≡ 0) }
+    ensures counted { OnOk result (All (IsCounted net.now.nodes store.now) world.new.lines.items) }
+    ensures lines { OnOk result (numbers_of world.new ≡ numbers_of world.old) }
+    ensures bundle { OnOk result (IsBundleOf net.now.alphas net.now.nodes store.now changes.now world.old world.new) }
     ensures workers { OnOk result (sharing.new.workers ≡ sharing.old.workers) }
 {
     settle_laws();
     round_laws();
-    let mut world = world;
     world.clear_phase();
-    feed_all(alloc, net, store, &mut world, changes)?;
-    work_alone(alloc, net, store, gate, &mut world, *sharing)?;
-    work_freely(rt, alloc, net, store, gate, world, sharing)
+    feed_all(alloc, net, store, world, changes)?;
+    work_alone(alloc, net, store, gate, world, *sharing)?;
+    work_freely(rt, alloc, net, store, gate, world, sharing)?;
+    Ok(())
 }
 
 /// Does the changes to the store, and their phase over lines that hold just the tokens over it. The lines then hold
@@ -217,31 +256,31 @@ pub(crate) fn settle<R: Threads + Wait + Sync, G: Gate>(
     net: &Net,
     store: &mut Store,
     gate: &G,
-    world: World,
+    world: &mut World,
     sharing: &mut Sharing,
     changes: &[Change],
-) -> Result<(World, Gathered), OutOfMemory>
+) -> Result<Gathered, OutOfMemory>
     requires some { 1 ≤ sharing.old.workers }
     requires few { sharing.old.workers ≤ 2 ^ 32 }
-    requires numbered { AreNumbered world.lines.items }
+    requires numbered { AreNumbered world.old.lines.items }
     requires lawful { Lawful store.old.elements store.old.last changes.now }
-    requires quiet { world.counter ≡ 0 }
-    requires counted { All (IsCounted net.now.nodes store.old) world.lines.items }
-    requires holds { HoldJust (placed (held_of store.old) net.now.nodes (length world.lines.items)) (sums_over store.old.elements net.now.alphas net.now.nodes) (map now (map seen world.lines.items)) }
+    requires quiet { world.old.counter ≡ 0 }
+    requires counted { All (IsCounted net.now.nodes store.old) world.old.lines.items }
+    requires holds { HoldJust (placed (held_of store.old) net.now.nodes (length world.old.lines.items)) (sums_over store.old.elements net.now.alphas net.now.nodes) (map now (map seen world.old.lines.items)) }
     ensures elements { OnOk result (store.new.elements ≡ done store.old.elements changes.now) }
     ensures last { OnOk result (store.new.last ≡ last_after store.old.last changes.now) }
     ensures kept { OnOk result (HoldsAlso (record store.old { kept = [] }) store.new (added_by changes.now)) }
-    ensures quiet { IfOk result (λ r. r.0.counter ≡ 0) }
-    ensures counted { IfOk result (λ r. All (IsCounted net.now.nodes store.new) r.0.lines.items) }
-    ensures holds { IfOk result (λ r. HoldJust (placed (held_of store.new) net.now.nodes (length r.0.lines.items)) (sums_over store.new.elements net.now.alphas net.now.nodes) (map now (map seen r.0.lines.items))) }
-    ensures lines { IfOk result (λ r. numbers_of r.0 ≡ numbers_of world) }
-    ensures bundle { IfOk result (λ r. IsBundle (held_of store.new) net.now.alphas net.now.nodes (placed (held_of store.new) net.now.nodes (length r.0.lines.items)) store.old.elements changes.now (map seen r.0.lines.items)) }
-    ensures settled { IfOk result (λ r. IsSettled (found_over net.now.alphas net.now.nodes store.old.elements) (found_over net.now.alphas net.now.nodes store.new.elements) r.1.gone.items r.1.come.items) }
+    ensures quiet { OnOk result (world.new.counter ≡ 0) }
+    ensures counted { OnOk result (All (IsCounted net.now.nodes store.new) world.new.lines.items) }
+    ensures holds { OnOk result (HoldJust (placed (held_of store.new) net.now.nodes (length world.new.lines.items)) (sums_over store.new.elements net.now.alphas net.now.nodes) (map now (map seen world.new.lines.items))) }
+    ensures lines { OnOk result (numbers_of world.new ≡ numbers_of world.old) }
+    ensures bundle { OnOk result (IsBundle (held_of store.new) net.now.alphas net.now.nodes (placed (held_of store.new) net.now.nodes (length world.new.lines.items)) store.old.elements changes.now (map seen world.new.lines.items)) }
+    ensures settled { IfOk result (λ g. IsSettled (found_over net.now.alphas net.now.nodes store.old.elements) (found_over net.now.alphas net.now.nodes store.new.elements) g.gone.items g.come.items) }
     ensures workers { OnOk result (sharing.new.workers ≡ sharing.old.workers) }
 {
     settle_laws();
     do_changes(alloc, store, changes)?;
-    let world = run_phase(rt, alloc, net, store, gate, world, sharing, changes)?;
+    run_phase(rt, alloc, net, store, gate, world, sharing, changes)?;
     let gathered = gather_worked(alloc, net, world.lines(), world.worked())?;
-    Ok((world, gathered))
+    Ok(gathered)
 }
