@@ -1,5 +1,5 @@
 -- Shards with the tasks of others after their own.
-use Rattle.std.proofs.Common.{◌≡◌, ℕ, zero, suc, ◌+◌, ◌<◌, ◌↔◌, List, [], ◌∷◌, ◌++◌, All, get_or, length, refl, ap, ap₂, subst, sum_by, sym, ◌∙◌, arith, slice_get, Some}
+use Rattle.std.proofs.Common.{◌≡◌, ℕ, zero, suc, ◌+◌, List, [], ◌∷◌, ◌++◌, All, get_or, length, refl, ap, subst, sum_by, sym, ◌∙◌, arith, slice_get, Some}
 use Rattle.std.specs.List.{zip}
 use Rattle.std.proofs.lemmas.List.{map-append}
 use Rattle.std.proofs.lemmas.List.Elements.{All-append, All-head, All-tail}
@@ -11,8 +11,8 @@ use Rattle.net_base.specs.declared.tasks.Task.{Task}
 use Rattle.step_core.specs.Phases.{AreSame}
 use Rattle.rounds_engine.specs.declared.shards.Placed.{Placed}
 use Rattle.rounds_engine.specs.declared.shards.Shard.{Shard}
-use Rattle.rounds_engine.specs.Sharing.{AreAllShards, AreBoth, AreDealt, FollowOn, HasLine, HasOwn, IsBoth, IsPlacedAt, lines_of, shard_of, tasks_in, tasks_of_shards}
-use Rattle.rounds_engine.proofs.Dealing.{HasLine-same, shard_weight}
+use Rattle.rounds_engine.specs.Sharing.{AreAllShards, AreBoth, AreDealt, FollowOn, HasLine, HasOwn, IsBoth, IsPlacedAt, lines_of, tasks_in, tasks_of_shards}
+use Rattle.rounds_engine.proofs.Dealing.{HasLine-same}
 
 -- ---- one pair more
 

@@ -1,2 +1,3 @@
--- Tasks dealt to shards, and a round of these.
+-- Tasks dealt to shards, a round of these, and an engine at rest.
 pub mod Sharing
+pub mod Engines

@@ -1,5 +1,5 @@
 -- Tasks dealt to shards, each of which is some lines that follow one another, and what shards do of a round.
-use Rattle.std.specs.Prelude.{◌≡◌, ◌≤◌, ◌<◌, ◌+◌, ◌*◌, ◌/◌, ◌^◌, ◌++◌, ◌↔◌, ℕ, All, List, [], ◌∷◌, Ok, Result, Some, Vec, flat_map, length, map, slice_get, sum_by}
+use Rattle.std.specs.Prelude.{◌≡◌, ◌≤◌, ◌<◌, ◌+◌, ◌*◌, ◌/◌, ◌++◌, ◌↔◌, ℕ, All, List, [], ◌∷◌, Ok, Result, Some, Vec, flat_map, length, map, slice_get, sum_by}
 use Rattle.std.specs.List.{zip}
 use Rattle.std.specs.declared.alloc.Global.{Global}
 use Rattle.ops_base.specs.declared.memory.OutOfMemory.{OutOfMemory}

@@ -1,7 +1,7 @@
 //! The engine of rounds: a matcher over a network whose shards of lines work at once.
 ghost use Rattle.std.specs.Prelude.{◌≡◌, ◌≤◌, ◌^◌, All, IfOk, [], length, map, min};
 ghost use Rattle.work_store.specs.Stored.{held_of, nothing_stored};
-ghost use Rattle.activation.specs.Acting.{IsCounted, TellsOfLasts};
+ghost use Rattle.activation.specs.Acting.{TellsOfLasts};
 ghost use Rattle.step_core.specs.Laws.{AreEmpty};
 ghost use Rattle.step_core.specs.Phases.{HoldJust, now, sums_over};
 ghost use Rattle.step_core.specs.Worlds.{AreNumbered, placed, seen};
@@ -13,30 +13,46 @@ use ops_base::memory::OutOfMemory;
 use ops_io::Gate;
 use serial_engine::settle as settle_alone;
 use std::alloc::Global;
+use std::marker::Model;
 use std::thread::Threads;
 use step_core::laws::{match_laws, settle_laws};
 use step_core::{Gathered, World};
 use token_line::Line;
 use work_store::{Matcher, Settled, Store};
 
-/// A matcher over a network. Between two settles its lines hold just the tokens that stand at each node over its store,
-/// each once. There are as many shards as the lesser of the workers and the lines. The gate is called just before each
-/// activation, with the number of the shard, or with worker 0 on the calling thread, and with the number of the line.
+/// What an engine is made of.
 #[derive(Drop)]
-pub struct RoundsEngine<G> {
+struct Parts<G> {
     net: Net,
     store: Store,
     world: World,
     gate: G,
     sharing: Sharing,
-    // There is a line at least for each shard.
-    ghost some: { 1 ≤ sharing.shards },
-    ghost few: { sharing.shards ≤ length world.lines.items },
-    // Nothing is under way.
-    ghost quiet: { world.counter ≡ 0 },
-    ghost numbered: { AreNumbered world.lines.items },
-    ghost counted: { All (IsCounted net.nodes store) world.lines.items },
-    ghost holds: { HoldJust (placed (held_of store) net.nodes (length world.lines.items)) (sums_over store.elements net.alphas net.nodes) (map now (map seen world.lines.items)) },
+}
+
+/// A matcher over a network. Between two settles its lines hold just the tokens that stand at each node over its store,
+/// each once. There are as many shards as the lesser of the workers and the lines. The gate is called just before each
+/// activation, with the number of the shard, or with worker 0 on the calling thread, and with the number of the line. An
+/// engine stands on the heap, so that it is moved at a small cost.
+#[derive(Drop)]
+pub struct RoundsEngine<G> {
+    parts: Box<Parts<G>>,
+}
+
+impl<G> Model for RoundsEngine<G> {
+    ghost use Rattle.std.specs.Coded.{codes};
+    ghost use Rattle.net_base.specs.contracts.net.Net as nets;
+    ghost use Rattle.step_core.specs.contracts.world.World as worlds;
+    ghost use Rattle.rounds_engine.specs.Engines.{Engine, IsAtRestInShards};
+
+    ghost Value = { Engine };
+
+    // Networks and worlds are told apart as their own types tell them.
+    ghost coded = { Prim.hlevel (codes, nets.the_row.coded, worlds.the_row.coded) };
+
+    ghost view = { λ e. record { net = e.parts.value.net; store = e.parts.value.store; world = e.parts.value.world; sharing = e.parts.value.sharing } };
+
+    ghost invariant = { λ e. IsAtRestInShards e.parts.value.net e.parts.value.store e.parts.value.world e.parts.value.sharing };
 }
 
 impl<G: Gate + Drop> RoundsEngine<G> {
@@ -50,7 +66,7 @@ impl<G: Gate + Drop> RoundsEngine<G> {
     ghost use Rattle.step_core.specs.Found.{found_over};
 
     /// An engine over the network with this many lines and workers. Nothing is stored. It makes each line and looks at
-    /// each node, and starts no thread.
+    /// each node, starts no thread, and takes memory for its own place.
     pub fn new(
         alloc: Global,
         net: Net,
@@ -70,23 +86,27 @@ impl<G: Gate + Drop> RoundsEngine<G> {
     {
         match_laws();
         let world = World::start(alloc, &net, lines)?;
-        Ok(RoundsEngine {
+        let sharing = Sharing {
+            shards: workers.min(lines),
+            shared: false,
+        };
+        let parts = Parts {
             net,
             store: Store::new(alloc),
             world,
             gate,
-            sharing: Sharing {
-                shards: workers.min(lines),
-                shared: false,
-            },
-        })
+            sharing,
+        };
+        let parts = Box::new(alloc, parts)?;
+        Ok(RoundsEngine { parts })
     }
 
     /// The network. Takes no memory.
     pub fn net(&self) -> &Net
         ensures { result.now ≡ self.now.net }
     {
-        &self.net
+        let parts = self.parts.as_ref();
+        &parts.net
     }
 
     /// The lines, in the order of their numbers, with the entries of the last settle. Takes no memory.
@@ -98,7 +118,8 @@ impl<G: Gate + Drop> RoundsEngine<G> {
         // They tell of just the tasks of the last settle that came to terminals.
         ensures told { All (TellsOfLasts self.now.net.nodes) result.now }
     {
-        self.world.lines()
+        let parts = self.parts.as_ref();
+        parts.world.lines()
     }
 
     /// Feeds all changes, and does their tasks and all that comes of them: on the calling thread as long as few are in
@@ -124,34 +145,21 @@ impl<G: Gate + Drop> RoundsEngine<G> {
         ensures lines { IfOk result (λ s. length s.matcher.world.lines.items ≡ length self.world.lines.items) }
         ensures shards { IfOk result (λ s. s.matcher.sharing.shards ≡ self.sharing.shards) }
     {
-        let RoundsEngine {
-            net,
-            mut store,
-            world,
-            gate,
-            sharing,
-        } = self;
-        let mut sharing = sharing;
-        let (world, gathered) = settle(
+        let RoundsEngine { parts } = self;
+        let mut engine = parts;
+        let parts = engine.as_mut();
+        let Gathered { come, gone } = settle(
             rt,
             alloc,
-            &net,
-            &mut store,
-            &gate,
-            world,
-            &mut sharing,
+            &parts.net,
+            &mut parts.store,
+            &parts.gate,
+            &mut parts.world,
+            &mut parts.sharing,
             changes,
         )?;
-        let Gathered { come, gone } = gathered;
-        let matcher = RoundsEngine {
-            net,
-            store,
-            world,
-            gate,
-            sharing,
-        };
         Ok(Settled {
-            matcher,
+            matcher: RoundsEngine { parts: engine },
             come,
             gone,
         })
@@ -178,9 +186,10 @@ impl<G: Gate + Drop> Matcher for RoundsEngine<G> {
 
     fn store(&self) -> &Store {
         settle_laws();
-        let _last = self.store.last();
-        let _nodes = self.net.nodes();
-        &self.store
+        let parts = self.parts.as_ref();
+        let _last = parts.store.last();
+        let _nodes = parts.net.nodes();
+        &parts.store
     }
 
     /// As `settle_in_rounds`, on the calling thread alone, as the serial engine settles.
@@ -203,32 +212,22 @@ impl<G: Gate + Drop> Matcher for RoundsEngine<G> {
         ensures lines { IfOk result (λ s. length s.matcher.world.lines.items ≡ length self.world.lines.items) }
         ensures shards { IfOk result (λ s. s.matcher.sharing.shards ≡ self.sharing.shards) }
     {
-        let RoundsEngine {
-            net,
-            mut store,
-            mut world,
-            gate,
-            sharing,
-        } = self;
+        let RoundsEngine { parts } = self;
+        let mut engine = parts;
+        let parts = engine.as_mut();
+        let gate = &parts.gate;
         let enter = |line: usize| gate.enter(0, line);
         let Gathered { come, gone } = settle_alone(
             alloc,
-            &net,
-            &mut store,
+            &parts.net,
+            &mut parts.store,
             &enter,
-            &mut world,
+            &mut parts.world,
             changes,
             &[],
         )?;
-        let matcher = RoundsEngine {
-            net,
-            store,
-            world,
-            gate,
-            sharing,
-        };
         Ok(Settled {
-            matcher,
+            matcher: RoundsEngine { parts: engine },
             come,
             gone,
         })

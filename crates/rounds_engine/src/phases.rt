@@ -21,6 +21,7 @@ use ops_base::memory::OutOfMemory;
 use ops_io::Gate;
 use serial_engine::{do_changes, feed_all, work_all};
 use std::alloc::Global;
+use std::mem;
 use std::thread::Threads;
 use step_core::laws::{round_laws, settle_laws};
 use step_core::{Gathered, Parts, World, gather_worked};
@@ -147,34 +148,49 @@ fn work_rounds<R: Threads + Sync, G: Gate>(
     Ok(())
 }
 
-/// Does the tasks in flight, and all that comes of them, in rounds. Where none is in flight it does nothing; otherwise it
-/// also looks at each line once.
+/// A world of one line with no tokens, to stand where a world was taken out. It takes memory for that line alone.
+fn idle_world(alloc: Global) -> Result<World, OutOfMemory> {
+    let mut lines = Vec::new(alloc);
+    lines.push(Line::new(alloc, 0))?;
+    let parts = Parts {
+        lines,
+        flight: Vec::new(alloc),
+    };
+    World::from_parts(alloc, parts)
+}
+
+/// Does the tasks in flight, and all that comes of them, in rounds. Where none is in flight it does nothing. Otherwise it
+/// also looks at each line once, and takes the lines out of the world until the rounds have ended: where memory runs out
+/// before that, they are lost.
 fn work_in_rounds<R: Threads + Sync, G: Gate>(
     rt: &R,
     ground: &Ground<'_>,
     gate: &G,
     shared: &mut bool,
-    world: World,
-) -> Result<World, OutOfMemory>
-    requires lines { length world.lines.items ≡ ground.now.lines }
-    requires ready { IsReady ground.now.net.now.nodes ground.now.store.now world }
-    requires done { length world.done.items ≡ 0 }
-    ensures carries { IfOk result (λ w. CarriesOn ground.now.net.now.alphas ground.now.net.now.nodes ground.now.store.now world.lines.items world.flight.items w.lines.items []) }
-    ensures quiet { IfOk result (λ w. w.counter ≡ 0) }
-    ensures counted { IfOk result (λ w. All (IsCounted ground.now.net.now.nodes ground.now.store.now) w.lines.items) }
-    ensures numbers { IfOk result (λ w. numbers_of w ≡ numbers_of world) }
+    world: &mut World,
+) -> Result<(), OutOfMemory>
+    requires lines { length world.old.lines.items ≡ ground.now.lines }
+    requires ready { IsReady ground.now.net.now.nodes ground.now.store.now world.old }
+    requires done { length world.old.done.items ≡ 0 }
+    ensures carries { OnOk result (CarriesOn ground.now.net.now.alphas ground.now.net.now.nodes ground.now.store.now world.old.lines.items world.old.flight.items world.new.lines.items []) }
+    ensures quiet { OnOk result (world.new.counter ≡ 0) }
+    ensures counted { OnOk result (All (IsCounted ground.now.net.now.nodes ground.now.store.now) world.new.lines.items) }
+    ensures numbers { OnOk result (numbers_of world.new ≡ numbers_of world.old) }
 {
     if world.in_flight() == 0 {
-        return Ok(world);
+        return Ok(());
     }
-    let Parts { mut lines, flight } = world.into_parts();
+    let idle = idle_world(ground.alloc)?;
+    let taken = mem::replace(world, idle);
+    let Parts { mut lines, flight } = taken.into_parts();
     let shards = deal(ground, flight)?;
     work_rounds(rt, ground, gate, shared, shards, lines.as_mut_slice())?;
     let parts = Parts {
         lines,
         flight: Vec::new(ground.alloc),
     };
-    World::from_parts(ground.alloc, parts)
+    *world = World::from_parts(ground.alloc, parts)?;
+    Ok(())
 }
 
 /// Does the phase of these changes, which the store has done. The lines begin it.
@@ -183,26 +199,25 @@ fn run_phase<R: Threads + Sync, G: Gate>(
     ground: &Ground<'_>,
     gate: &G,
     shared: &mut bool,
-    world: World,
+    world: &mut World,
     changes: &[Change],
-) -> Result<World, OutOfMemory>
-    requires all { length world.lines.items ≡ ground.now.lines }
-    requires quiet { world.counter ≡ 0 }
-    requires counted { All (IsCounted ground.now.net.now.nodes ground.now.store.now) world.lines.items }
+) -> Result<(), OutOfMemory>
+    requires all { length world.old.lines.items ≡ ground.now.lines }
+    requires quiet { world.old.counter ≡ 0 }
+    requires counted { All (IsCounted ground.now.net.now.nodes ground.now.store.now) world.old.lines.items }
     requires known { All (IsKnown ground.now.store.now) changes.now }
-    ensures quiet { IfOk result (λ w. w.counter ≡ 0) }
-    ensures counted { IfOk result (λ w. All (IsCounted ground.now.net.now.nodes ground.now.store.now) w.lines.items) }
-    ensures lines { IfOk result (λ w. numbers_of w ≡ numbers_of world) }
-    ensures bundle { IfOk result (λ w. IsBundleOf ground.now.net.now.alphas ground.now.net.now.nodes ground.now.store.now changes.now world w) }
+    ensures quiet { OnOk result (world.new.counter ≡ 0) }
+    ensures counted { OnOk result (All (IsCounted ground.now.net.now.nodes ground.now.store.now) world.new.lines.items) }
+    ensures lines { OnOk result (numbers_of world.new ≡ numbers_of world.old) }
+    ensures bundle { OnOk result (IsBundleOf ground.now.net.now.alphas ground.now.net.now.nodes ground.now.store.now changes.now world.old world.new) }
 {
     settle_laws();
     round_laws();
     let net = ground.net;
     let _nodes = net.nodes();
-    let mut world = world;
     world.clear_phase();
-    feed_all(ground.alloc, net, ground.store, &mut world, changes)?;
-    work_alone(ground, gate, &mut world, *shared)?;
+    feed_all(ground.alloc, net, ground.store, world, changes)?;
+    work_alone(ground, gate, world, *shared)?;
     work_in_rounds(rt, ground, gate, shared, world)
 }
 
@@ -214,25 +229,25 @@ pub(crate) fn settle<R: Threads + Sync, G: Gate>(
     net: &Net,
     store: &mut Store,
     gate: &G,
-    world: World,
+    world: &mut World,
     sharing: &mut Sharing,
     changes: &[Change],
-) -> Result<(World, Gathered), OutOfMemory>
+) -> Result<Gathered, OutOfMemory>
     requires some { 1 ≤ sharing.old.shards }
-    requires few { sharing.old.shards ≤ length world.lines.items }
+    requires few { sharing.old.shards ≤ length world.old.lines.items }
     requires lawful { Lawful store.old.elements store.old.last changes.now }
-    requires quiet { world.counter ≡ 0 }
-    requires counted { All (IsCounted net.now.nodes store.old) world.lines.items }
-    requires holds { HoldJust (placed (held_of store.old) net.now.nodes (length world.lines.items)) (sums_over store.old.elements net.now.alphas net.now.nodes) (map now (map seen world.lines.items)) }
+    requires quiet { world.old.counter ≡ 0 }
+    requires counted { All (IsCounted net.now.nodes store.old) world.old.lines.items }
+    requires holds { HoldJust (placed (held_of store.old) net.now.nodes (length world.old.lines.items)) (sums_over store.old.elements net.now.alphas net.now.nodes) (map now (map seen world.old.lines.items)) }
     ensures elements { OnOk result (store.new.elements ≡ done store.old.elements changes.now) }
     ensures last { OnOk result (store.new.last ≡ last_after store.old.last changes.now) }
     ensures kept { OnOk result (HoldsAlso (record store.old { kept = [] }) store.new (added_by changes.now)) }
-    ensures quiet { IfOk result (λ r. r.0.counter ≡ 0) }
-    ensures counted { IfOk result (λ r. All (IsCounted net.now.nodes store.new) r.0.lines.items) }
-    ensures holds { IfOk result (λ r. HoldJust (placed (held_of store.new) net.now.nodes (length r.0.lines.items)) (sums_over store.new.elements net.now.alphas net.now.nodes) (map now (map seen r.0.lines.items))) }
-    ensures lines { IfOk result (λ r. numbers_of r.0 ≡ numbers_of world) }
-    ensures bundle { IfOk result (λ r. IsBundle (held_of store.new) net.now.alphas net.now.nodes (placed (held_of store.new) net.now.nodes (length r.0.lines.items)) store.old.elements changes.now (map seen r.0.lines.items)) }
-    ensures settled { IfOk result (λ r. IsSettled (found_over net.now.alphas net.now.nodes store.old.elements) (found_over net.now.alphas net.now.nodes store.new.elements) r.1.gone.items r.1.come.items) }
+    ensures quiet { OnOk result (world.new.counter ≡ 0) }
+    ensures counted { OnOk result (All (IsCounted net.now.nodes store.new) world.new.lines.items) }
+    ensures holds { OnOk result (HoldJust (placed (held_of store.new) net.now.nodes (length world.new.lines.items)) (sums_over store.new.elements net.now.alphas net.now.nodes) (map now (map seen world.new.lines.items))) }
+    ensures lines { OnOk result (numbers_of world.new ≡ numbers_of world.old) }
+    ensures bundle { OnOk result (IsBundle (held_of store.new) net.now.alphas net.now.nodes (placed (held_of store.new) net.now.nodes (length world.new.lines.items)) store.old.elements changes.now (map seen world.new.lines.items)) }
+    ensures settled { IfOk result (λ g. IsSettled (found_over net.now.alphas net.now.nodes store.old.elements) (found_over net.now.alphas net.now.nodes store.new.elements) g.gone.items g.come.items) }
     ensures shards { OnOk result (sharing.new.shards ≡ sharing.old.shards) }
 {
     settle_laws();
@@ -244,7 +259,7 @@ pub(crate) fn settle<R: Threads + Sync, G: Gate>(
         lines: world.lines().len(),
         shards: sharing.shards,
     };
-    let world = run_phase(rt, &ground, gate, &mut sharing.shared, world, changes)?;
+    run_phase(rt, &ground, gate, &mut sharing.shared, world, changes)?;
     let gathered = gather_worked(alloc, net, world.lines(), world.worked())?;
-    Ok((world, gathered))
+    Ok(gathered)
 }

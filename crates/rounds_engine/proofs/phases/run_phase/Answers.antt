@@ -1,5 +1,5 @@
 -- Nothing is under way where the phase begins and where it ends, and steps and rounds carry it from the one to the other.
-use Rattle.std.proofs.Common.{[], length, map, sym, ap, subst, ◌∙◌, arith}
+use Rattle.std.proofs.Common.{length, map, sym, ap, subst, ◌∙◌, arith}
 use Rattle.std.specs.List.{All}
 use Rattle.std.proofs.lemmas.List.{length-map}
 use Rattle.std.proofs.lemmas.List.Elements.{All-nil}
@@ -10,14 +10,14 @@ use Rattle.step_core.specs.Worlds.{EntryFits, placed}
 use Rattle.serial_engine.proofs.PhaseLemmas.{done_stays, none_in_flight, none_is_done}
 use Rattle.serial_engine.proofs.StepLemmas.{same_count}
 use Rattle.serial_engine.proofs.Carried.{by_phase}
-use Rattle.rounds_engine.proofs.Results.{if_ok}
+use Rattle.rounds_engine.proofs.Results.{on_ok}
 use Rattle.rounds_engine.proofs.phases.run_phase.Goals as goal
 
 pub feed_all-requires-clause-ready : goal.feed_all-requires-clause-ready
 feed_all-requires-clause-ready g c =
     let nodes = c.args.ground.now.net.now.nodes in
     let s = c.args.ground.now.store.now in
-    let old = c.args.world in
+    let old = c.args.world.now in
     c.clear_phase.ensures.ready nodes s (record {
       flight = subst (All (TaskFits nodes s)) (sym (none_in_flight old c.requires.quiet)) (All-nil (TaskFits nodes s));
       done = subst (All (EntryFits nodes s)) (sym (ap (map entry_of) (none_is_done old c.requires.quiet))) (All-nil (EntryFits nodes s));
@@ -26,13 +26,13 @@ feed_all-requires-clause-ready g c =
 
 pub work_alone-requires-clause-lines : goal.work_alone-requires-clause-lines
 work_alone-requires-clause-lines g c =
-    let a = same_count c.args.world c.clear_phase.new.self c.clear_phase.ensures.lines in
+    let a = same_count c.args.world.now c.clear_phase.new.self c.clear_phase.ensures.lines in
     let b = same_count c.clear_phase.new.self c.feed_all.new.world c.feed_all.ensures.lines in
     let all = c.requires.all in omega (arith, a, b, all)
 
 pub work_in_rounds-requires-clause-lines : goal.work_in_rounds-requires-clause-lines
 work_in_rounds-requires-clause-lines g c κs within =
-    let a = same_count c.args.world c.clear_phase.new.self c.clear_phase.ensures.lines in
+    let a = same_count c.args.world.now c.clear_phase.new.self c.clear_phase.ensures.lines in
     let b = same_count c.clear_phase.new.self c.feed_all.new.world c.feed_all.ensures.lines in
     let d = same_count c.feed_all.new.world c.work_alone.new.world c.work_alone.ensures.lines in
     let all = c.requires.all in omega (arith, a, b, d, all)
@@ -41,7 +41,7 @@ pub work_in_rounds-requires-clause-done : goal.work_in_rounds-requires-clause-do
 work_in_rounds-requires-clause-done g c κs within =
     let net = c.args.ground.now.net.now in
     let s = c.args.ground.now.store.now in
-    let old = c.args.world in
+    let old = c.args.world.now in
     let cleared = c.clear_phase.ensures.steps (held_of s) net.alphas net.nodes (placed (held_of s) net.nodes (length old.lines.items)) in
     let none = done_stays net.alphas net.nodes s net.sound old c.clear_phase.new.self c.requires.quiet cleared in
     let done = c.in_ok-work_alone.ensures.done ∙ (c.in_ok-feed_all.ensures.done ∙ none) in
@@ -50,17 +50,17 @@ work_in_rounds-requires-clause-done g c κs within =
 pub returns-clause-lines : goal.returns-clause-lines
 returns-clause-lines g c =
     let rest = c.work_alone.ensures.lines ∙ (c.feed_all.ensures.lines ∙ c.clear_phase.ensures.lines) in
-    if_ok _ _ c.work_in_rounds.result (λ w is. is ∙ rest) c.work_in_rounds.ensures.numbers
+    on_ok _ _ c.work_in_rounds.result (λ is. is ∙ rest) c.work_in_rounds.ensures.numbers
 
 pub returns-clause-bundle : goal.returns-clause-bundle
 returns-clause-bundle g c =
     let net = c.args.ground.now.net.now in
     let s = c.args.ground.now.store.now in
-    let old = c.args.world in
+    let old = c.args.world.now in
     let cleared = c.clear_phase.ensures.steps (held_of s) net.alphas net.nodes (placed (held_of s) net.nodes (length old.lines.items)) in
-    if_ok _ _ c.work_in_rounds.result
-    (λ w is. by_phase net.alphas net.nodes s net.sound old c.clear_phase.new.self c.requires.quiet cleared
-    c.round_laws.ensures.begin c.round_laws.ensures.steps c.round_laws.ensures.end c.settle_laws.ensures.placed c.feed_all.new.world c.work_alone.new.world w c.args.changes.now
+    on_ok _ _ c.work_in_rounds.result
+    (λ is. by_phase net.alphas net.nodes s net.sound old c.clear_phase.new.self c.requires.quiet cleared
+    c.round_laws.ensures.begin c.round_laws.ensures.steps c.round_laws.ensures.end c.settle_laws.ensures.placed c.feed_all.new.world c.work_alone.new.world c.work_in_rounds.new.world c.args.changes.now
     c.clear_phase.ensures.lines
     c.in_ok-feed_all.ensures.went c.in_ok-feed_all.ensures.done c.feed_all.ensures.lines
     c.in_ok-work_alone.ensures.went c.in_ok-work_alone.ensures.done c.work_alone.ensures.lines

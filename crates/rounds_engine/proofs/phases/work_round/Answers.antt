@@ -1,10 +1,9 @@
 -- The shards do their tasks, which are all that wait.
-use Rattle.std.proofs.Common.{◌≡◌, ◌≤◌, List, length, map, refl, sym, ap, subst, ◌∙◌, arith}
+use Rattle.std.proofs.Common.{◌≤◌, length, map, refl, sym, subst, arith}
 use Rattle.work_store.specs.Stored.{held_of}
 use Rattle.step_core.specs.Rounds.{HaveDone}
 use Rattle.step_core.specs.Worlds.{placed, seen}
-use Rattle.serial_engine.specs.Carrying.{CarriesOn}
-use Rattle.rounds_engine.specs.Sharing.{AreAllShards, AreDeeper, AreShards, HaveShared, first_of, tasks_of_shards}
+use Rattle.rounds_engine.specs.Sharing.{tasks_of_shards}
 use Rattle.rounds_engine.proofs.Carried.{by_round}
 use Rattle.rounds_engine.proofs.Halving.{all_can, first_is}
 use Rattle.rounds_engine.proofs.Results.{if_ok}

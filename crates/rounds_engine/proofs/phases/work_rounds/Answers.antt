@@ -1,7 +1,6 @@
 -- A round more carries the phase on. Tasks that have as many rounds behind them as there are nodes are none.
-use Rattle.std.proofs.Common.{◌≡◌, List, length, sym, ap, subst, ◌∙◌, arith}
+use Rattle.std.proofs.Common.{List, length, sym, ap, subst, ◌∙◌, arith}
 use Rattle.net_base.specs.declared.tasks.Task.{Task}
-use Rattle.rounds_engine.specs.declared.shards.Shard.{Shard}
 use Rattle.serial_engine.specs.Carrying.{CarriesOn}
 use Rattle.rounds_engine.specs.Sharing.{AreDeeper, AreAllShards, tasks_of_shards}
 use Rattle.rounds_engine.proofs.Carried.{by_both, none_left, same_length}

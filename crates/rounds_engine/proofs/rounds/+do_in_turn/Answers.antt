@@ -1,5 +1,5 @@
 -- A round of one shard, and of two halves put together.
-use Rattle.std.proofs.Common.{◌/◌, IfOk, ◌∷◌, ◌++◌, [], length, sym, subst, ◌∙◌, arith}
+use Rattle.std.proofs.Common.{◌/◌, IfOk, ◌++◌, length, sym, subst, ◌∙◌, arith}
 use Rattle.std.proofs.lemmas.List.Elements.{All-get_or}
 use Rattle.rounds_engine.specs.Sharing.{AreKept, HasOwn, HaveShared}
 use Rattle.rounds_engine.proofs.Halving.{both_kept, in_parts, joined_shared, one_shard, only_lines}

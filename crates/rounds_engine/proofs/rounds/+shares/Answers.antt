@@ -1,5 +1,5 @@
 -- A round of one shard, and of two halves put together.
-use Rattle.std.proofs.Common.{rules, ◌/◌, IfOk, ◌∷◌, ◌++◌, [], length, sym, subst, ◌∙◌, arith}
+use Rattle.std.proofs.Common.{rules, ◌/◌, IfOk, ◌++◌, length, sym, subst, ◌∙◌, arith}
 use denote.Param.Send.{IsSync, sendable}
 use Rattle.std.proofs.lemmas.List.Elements.{All-get_or}
 use Rattle.rounds_engine.specs.Sharing.{AreKept, HasOwn, HaveShared}
