@@ -222,14 +222,14 @@ accepts_held names c =
 
 -- ---- a right side
 
--- At least so many symbols are held, and all that stand in the bindings, the cells and the changes so far.
+-- At least this many symbols are held, and all that stand in the bindings, the cells and the changes so far.
 pub record HeldDoing (n : ℕ) (d : Doing) : Type 0 where
   pub more : n ≤ length d.names.held
   pub bindings : list_all (binding_held (length d.names.held)) d.bindings ≡ true
   pub cells : list_all (element_held (length d.names.held)) d.cells ≡ true
   pub changes : list_all (change_held (length d.names.held)) d.changes ≡ true
 
--- What evaluating leaves whose names were so many before it: all its values are held.
+-- What evaluating leaves before which there were this many names: all its values are held.
 pub record HeldValues (n before : ℕ) (vs : List Value) (d : Doing) : Type 0 where
   pub doing : HeldDoing n d
   pub values : list_all (value_held (length d.names.held)) vs ≡ true

@@ -1,4 +1,4 @@
--- What was removed and made since, as it is told.
+-- What was removed and made since, as it is printed.
 use Rattle.std.proofs.Common.{◌≡◌, ℕ, ◌+◌, ◌<◌, List, [], ◌∷◌, ◌++◌, length, take, drop, fold, get_or, true, cond, nat_le, Result, Ok, Err, refl, ap, sym, ◌∙◌, IsTrue}
 use Rattle.std.specs.Prelude.{IsErrAnd}
 use Rattle.std.proofs.Math.Seq.{take-append_seam}
@@ -72,7 +72,7 @@ abbrev pub with_lines : Setting → Changed → ℕ → (Coming → Effect Misse
 with_lines s w column part d = and_then column (part d) (told s w)
 
 module _ (s : Setting) (old new : State) {a b : Scene} {part : Coming → Effect Missed Meant} (w : IsTrue a.port.out.whole) where
-  -- the action is done, and its changes are still to be told
+  -- the action is done, and its changes are still to be printed
   pub still_told : {X : Type 0} {x : X} (n : ℕ) → Acts (λ _ d. doing_of new b.names d) (Ok x) a b part → GoesOnTo old.working new.working → n ≡ length old.working.changes
       → StillDoes a b (with_lines s old.working a.port.out.column part) (λ d. writes (traced s.watch b.port.out.column (lines_since b.names s.classes n new.working)) (doing_of new b.names d))
   still_told n p g is =
@@ -83,7 +83,7 @@ module _ (s : Setting) (old new : State) {a b : Scene} {part : Coming → Effect
   pub never_told : {X Y : Type 0} {view : X → Coming → Meant} {f : Mishap} (seen : Y → Coming → Meant) (r : Result Y Mishap) → IsErrAnd r (λ g. g ≡ f) → Acts view (Err f) a b part → Acts seen r a b (with_lines s old.working a.port.out.column part)
   never_told seen r h p = still_fails seen r (told s old.working) h (still_all a (with_lines s old.working a.port.out.column part) w) p (λ d. refl)
 
--- elements were removed, which is still to be told
+-- elements were removed, which is still to be printed
 pub removal_told : (s : Setting) (old new : State) (a : Scene) (x : Action) (n : ℕ) (cells all : List ℕ) → IsTrue a.port.out.whole → x ≡ action.Remove cells → all ≡ cells
     → ((names : Spellings) (coming : Coming) → doing_of new names coming ≡ fold (λ d c. removed d (cell_of d c).tag) (doing_of old names coming) all)
     → GoesOnTo old.working new.working → n ≡ length old.working.changes

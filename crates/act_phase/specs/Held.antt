@@ -9,7 +9,7 @@ use Rattle.ops_base.specs.declared.programs.Program.{Program}
 use Rattle.ops_base.specs.Names.{Spellings}
 use Rattle.ops_base.specs.Symbols.{value_held, is_held}
 
--- each symbol of the element is held among so many
+-- each symbol of the element is held among this many
 abbrev pub element_held : ℕ → Element → Bool
 element_held n e = list_all (value_held n) e.fields
 

@@ -31,7 +31,7 @@ held_by start changes (cell.Matched tag) = unwrap_or (element_of start tag) no_e
 held_by start changes (cell.Made place) = made_at changes place
 held_by start changes cell.Nothing = no_element
 
--- the change that a cell names is among so many
+-- the change that a cell names is among this many
 abbrev pub is_there : ℕ → Cell → Bool
 is_there n (cell.Matched tag) = true
 is_there n (cell.Made place) = nat_lt place n

@@ -13,8 +13,8 @@ use ops_io::{Input, Out, Sink, Source};
 use ops_tokens::{AcceptFault, accept_atom};
 use std::alloc::Global;
 
-/// Reads one atom. Before that all that was put is written: a person sees the question before the answer is waited for. So
-/// where the read fails nothing is held.
+/// Reads one atom. Before that all that was put is written: a person sees the question before the answer is waited for.
+/// So where the read fails nothing is held.
 pub(crate) fn accept<I: Source, K: Sink>(
     alloc: Global,
     names: &mut Names,

@@ -1,4 +1,4 @@
-//! `Working`, the working memory within that state: the store that a right side began with, and its changes so far.
+//! `Working`, the working memory that a right side changes: the store that it began with, and its changes so far.
 ghost use Rattle.std.specs.Prelude.{◌≡◌, ◌+◌, ◌-◌, ◌<◌, OnOk, Some, slice_get, take, unwrap_or};
 ghost use Rattle.std.specs.Option.{option_copied};
 ghost use Rattle.ops_base.specs.WorkingMemory.{done};
@@ -15,8 +15,8 @@ use std::alloc::Global;
 use std::marker::Model;
 use work_store::Store;
 
-/// The changes of a right side so far, seen as those and the working memory that they began with. That is not copied: an
-/// element is present where it is in the store or was added, and was not removed.
+/// The changes of a right side so far, seen as those and the working memory that they began with. That is not copied:
+/// an element is present where it is in the store or was added, and was not removed.
 #[derive(Drop)]
 pub(crate) struct Working<'s> {
     store: &'s Store,
@@ -88,8 +88,8 @@ impl<'s> Working<'s> {
         self.store
     }
 
-    /// Takes a time that grows with the logarithm of the number of removals, where there are more than eight. An element
-    /// that was made here is not looked up.
+    /// Takes a time that grows with the logarithm of the number of removals, where there are more than eight. An
+    /// element that was made here is not looked up.
     fn is_present(&self, tag: u64) -> bool
         ensures { result ≡ has_tag (memory_of self.now) tag }
     {
@@ -150,8 +150,8 @@ impl<'s> Working<'s> {
         self.changes.as_slice()
     }
 
-    /// The element that the removal of this tag took out, which is the change at this place. One that was there at the start
-    /// is looked up in the store. For one that was made here it goes back over the changes to where it was made.
+    /// The element that the removal of this tag took out, which is the change at this place. One that was there at the
+    /// start is looked up in the store. For one that was made here it goes back over the changes to where it was made.
     pub(crate) fn removed_at(&self, place: usize, tag: u64) -> &Element
         requires { slice_get self.now.changes place ≡ Some (Change.Remove tag) }
         ensures { element_of (done self.now.start (take place self.now.changes)) tag ≡ Some result.now }

@@ -1,11 +1,11 @@
 //! The right side of an instantiation, done over a store of working memory.
 //!
-//! The definitions of what a right side does are total, and so are the functions here: where a number is of no production, no
-//! class, no cell or no bound variable, they give an empty list, 0 or `nil`, as the definitions do. A program that was checked
-//! never comes there.
+//! The definitions of what a right side does are total, and so are the functions here: where a number is of no
+//! production, no class, no cell or no bound variable, they give an empty list, 0 or `nil`, as the definitions do. A
+//! program that was checked never comes there.
 //!
-//! `alloc`, `names`, `input`, `source`, `out` and `sink` go from call to call, each as a parameter of its own: each is lent by
-//! itself, so that a contract can name what each holds afterwards.
+//! `alloc`, `names`, `input`, `source`, `out` and `sink` go from call to call, each as a parameter of its own: each is
+//! lent by itself, so that a contract can name what each holds afterwards.
 #![tactic(auto)]
 
 mod atoms;

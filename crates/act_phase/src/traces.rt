@@ -1,4 +1,4 @@
-//! What is told at each trace level, and the lines that tell what was removed and made.
+//! What is printed at each trace level, and the lines of what was removed and made.
 ghost use Rattle.std.specs.Prelude.{◌≡◌, ◌^◌, ◌<◌, IsTrue, OnErr, Some, false, nat_le, slice_get, drop, take};
 ghost use Rattle.ops_base.specs.WorkingMemory.{done};
 ghost use Rattle.ops_io.specs.Ports.{port, PutsBytes};
@@ -54,8 +54,8 @@ pub fn traces_elements(watch: u8) -> bool
     watch >= 2
 }
 
-/// Puts the lines of all changes but the first `since`, where elements are traced. For the line of an element that the right
-/// side has made and removed again it goes back over the changes between.
+/// Puts the lines of all changes but the first `since`, where elements are traced. For the line of an element that the
+/// right side has made and removed again it goes back over the changes between.
 pub(crate) fn tell_changes<K: Sink>(
     program: &Program,
     names: &Names,

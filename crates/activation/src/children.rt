@@ -53,7 +53,8 @@ fn push_to(
     Ok(())
 }
 
-/// Adds the tasks for each node below, of a token that is put out so often. Where memory runs out, some may have been added.
+/// Adds the tasks for each node below, of a token that is put out so often. Where memory runs out, some may have been
+/// added.
 pub(crate) fn push_to_each(
     alloc: Global,
     below: Below,

@@ -1,4 +1,5 @@
-//! One task of the match, done on its line: the tasks that it gives, and the change of its sum and of what blocks left tokens.
+//! One task of the match, done on its line: the tasks that it gives, and the change of its sum and of what blocks left
+//! tokens.
 #![tactic(auto)]
 
 mod acting;

@@ -54,8 +54,8 @@ fn number_matching(
     Ok(count)
 }
 
-/// How often right tokens stand that match a left token of a negated node. It looks at them only where the left token is not
-/// kept yet.
+/// How often right tokens stand that match a left token of a negated node. It looks at them only where the left token
+/// is not kept yet.
 pub(crate) fn blockers_for(
     store: &Store,
     tests: &[JoinTest],

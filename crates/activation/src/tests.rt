@@ -246,7 +246,8 @@ fn meet(
     activate(alloc, net, store, line, &task, out)
 }
 
-// A left token is put out, two right tokens that block it come, and leave again: how many tasks there are by then, each time.
+// A left token is put out, two right tokens that block it come, and leave again: how many tasks there are by then, each
+// time.
 fn come_and_go(
     alloc: Global,
     net: &Net,

@@ -14,8 +14,9 @@ use ops_base::memory::OutOfMemory;
 use std::alloc::Global;
 use test_table::passes;
 
-/// The class and the alpha tests of a condition, in text order: the tests that neither bind nor compare with a variable that is
-/// bound outside the condition. It looks back over the variables that the condition binds for each test of a variable.
+/// The class and the alpha tests of a condition, in text order: the tests that neither bind nor compare with a variable
+/// that is bound outside the condition. It looks back over the variables that the condition binds for each test of a
+/// variable.
 pub fn alpha_part(alloc: Global, condition: &Condition) -> Result<Alpha, OutOfMemory>
     ensures alone { IfOk result (λ a. a ≡ alpha_of condition.now) }
 
@@ -50,8 +51,8 @@ fn tests_pass(tests: &[Test], e: &Element) -> bool
     tests.iter().all(|test| test_passes(test, e))
 }
 
-/// Whether the element is of the alpha's class and passes each of its tests. It decides one test after another up to the first
-/// that does not hold, and takes no memory.
+/// Whether the element is of the alpha's class and passes each of its tests. It decides one test after another up to
+/// the first that does not hold, and takes no memory.
 pub fn alpha_passes(alpha: &Alpha, e: &Element) -> bool
     ensures { result ≡ passes_alpha alpha.now e.now }
 {

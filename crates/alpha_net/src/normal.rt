@@ -86,8 +86,8 @@ fn normal_tests(
     Ok(found)
 }
 
-/// The normal form of a condition with this many positive ones before it. What it binds is added to the binders. It looks back
-/// over the binders for each test of a variable. Where memory runs out the binders are as before.
+/// The normal form of a condition with this many positive ones before it. What it binds is added to the binders. It
+/// looks back over the binders for each test of a variable. Where memory runs out the binders are as before.
 pub fn normal_form(
     alloc: Global,
     place: usize,

@@ -16,7 +16,7 @@ use Rattle.beta_net.proofs.Lists.{same_some, get_lt, get_at}
 use Rattle.beta_net.proofs.DownLemmas.{have_nodes, ordered, terminal_steps}
 use Rattle.beta_net.proofs.SoundLemmas.{AreValidRules, ends_within, terminal_number, one_each}
 
--- an instantiation of rule k is told by its conditions
+-- an instantiation of rule k is given by its conditions
 inst_is : (rules : List Rule) (wm : List Element) (k : ℕ) (r : Rule) (tags : List ℕ) → slice_get rules k ≡ Some r → (Meets wm r.conditions [] tags) ↔ IsInst rules wm (record { rule = k; tags = tags })
 inst_is rules wm k r tags at = (λ m. (r, at, m), λ i. subst (λ (z : Rule). Meets wm z.conditions [] tags) (same_some i.0 r (sym i.1 ∙ at)) i.2)
 

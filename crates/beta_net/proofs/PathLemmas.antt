@@ -27,7 +27,7 @@ pub path_to_grown : (links more : List Link) → AreLinks links → (o : Option 
 path_to_grown links more a None w = refl
 path_to_grown links more a (Some p) w = path_grown links more a p (w p refl)
 
--- the bound that the paths above a link are told with does not matter
+-- the bound that the paths above a link are given with does not matter
 pub path_above_is : (links : List Link) → AreLinks links → (k n : ℕ) → n < suc k → n < length links → (o : Option ℕ) → IsWithin o n → path_above (path_below k links) o ≡ path_to links o
 path_above_is links a k n lt low None w = refl
 path_above_is links a k n lt low (Some p) w =

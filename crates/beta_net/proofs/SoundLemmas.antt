@@ -145,7 +145,7 @@ module _ (links : List Link) (ends : List End) (alphas : List Alpha) (nodes : Li
     terminal = λ t. bare_terminal n k e x at is h;
   }
 
-  -- the number of a terminal is told by its rule
+  -- the number of a terminal is given by its rule
   pub terminal_number : (n k : ℕ) (x : Node) → slice_get nodes n ≡ Some x → x.kind ≡ Terminal k → (e : End) × (slice_get ends k ≡ Some e) × (n ≡ length links + k) × IsTerminalNode k e x
   terminal_number n k x at t = elim (d.each n x at) [
     | inl h ↦ absurd (link_kind h.0.condition k (sym h.2.kind ∙ t))

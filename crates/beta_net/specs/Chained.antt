@@ -2,7 +2,7 @@
 use Rattle.std.specs.Prelude.{◌≡◌, ◌<◌, ◌≤◌, ℕ, suc, List, map, length, slice_get, Option, Some, None}
 use Rattle.beta_net.specs.declared.chains.Entry.{Entry}
 
--- the first number above the one that is told, if one is
+-- the first number above the one that is given, if one is
 abbrev pub reach : Option ℕ → ℕ
 reach None = 0
 reach (Some n) = suc n

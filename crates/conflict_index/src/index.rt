@@ -61,12 +61,13 @@ impl Index {
         self.strategy
     }
 
-    /// Takes those that are gone out, with their marks, and adds those that come. Where memory runs out nothing has changed.
+    /// Takes those that are gone out, with their marks, and adds those that come. Where memory runs out nothing has
+    /// changed.
     ///
     /// It costs what goes and what comes, and not what stays: for each a key is made, which copies the tags and sorts
-    /// the copy, and is looked for by a number of comparisons that grows with the logarithm of the number of members. For each
-    /// that comes the tags are copied once more. Only where room for more marks is made, or where memory runs out while
-    /// members are added, it goes over those that are there.
+    /// the copy, and is looked for by a number of comparisons that grows with the logarithm of the number of members.
+    /// For each that comes the tags are copied once more. Only where room for more marks is made, or where memory runs
+    /// out while members are added, it goes over those that are there.
     pub fn apply(
         &mut self,
         program: &Program,
@@ -93,9 +94,9 @@ impl Index {
         Ok(())
     }
 
-    /// Marks a member as fired. Takes no memory. Where it is the one that `select` answers, it costs a number of comparisons
-    /// that does not grow with the members. Where it is another it is looked for among those that have not fired, which
-    /// compares productions and tags with those of each, the dominant one last.
+    /// Marks a member as fired. Takes no memory. Where it is the one that `select` answers, it costs a number of
+    /// comparisons that does not grow with the members. Where it is another it is looked for among those that have not
+    /// fired, which compares productions and tags with those of each, the dominant one last.
     pub fn mark(&mut self, inst: &Inst)
         requires { Contains (insts_of self.old.members) inst.now }
         ensures { self.new ≡ record self.old { members = marked inst.now self.old.members } }
@@ -109,9 +110,9 @@ impl Index {
         }
     }
 
-    /// Lets another strategy decide what `select` and `nth` answer from now on. Members and marks stay as they are. Those that
-    /// have not fired are copied with their keys into a new order, so it costs their number times its logarithm. Where
-    /// memory runs out nothing has changed.
+    /// Lets another strategy decide what `select` and `nth` answer from now on. Members and marks stay as they are.
+    /// Those that have not fired are copied with their keys into a new order, so it costs their number times its
+    /// logarithm. Where memory runs out nothing has changed.
     pub fn set_strategy(&mut self, strategy: Strategy) -> Result<(), OutOfMemory>
         ensures ok { OnOk result (self.new ≡ record self.old { strategy = strategy }) }
         ensures err { OnErr result (self.new ≡ self.old) }
@@ -121,8 +122,8 @@ impl Index {
         Ok(())
     }
 
-    /// The dominant one of those that have not fired. Takes no memory, and a time that grows with the logarithm of their
-    /// number.
+    /// The dominant one of those that have not fired. Takes no memory, and a time that grows with the logarithm of
+    /// their number.
     pub fn select(&self) -> Option<&Inst>
         ensures first { MatchOption result (waiting self.now.members ≡ [])
             (λ i. IsFirst self.now.strategy self.now.members i.now) }
@@ -132,8 +133,8 @@ impl Index {
         self.by_dominance().next()
     }
 
-    /// Those that have not fired, the dominant one first: at each place the one that `nth` answers. Takes no memory. All of
-    /// them together take a time in proportion to their number.
+    /// Those that have not fired, the dominant one first: at each place the one that `nth` answers. Takes no memory.
+    /// All of them together take a time in proportion to their number.
     pub fn by_dominance(&self) -> ByDominance<'_>
         ensures places { (place : ℕ) → MatchOption (slice_get result place) (length (waiting self.now.members) ≤ place)
             (λ i. IsAt self.now.strategy self.now.members place i) }
@@ -144,8 +145,8 @@ impl Index {
         }
     }
 
-    /// The one that has not fired at that place, from 0, in the order of dominance. Takes no memory, and walks there from the
-    /// dominant one: to see all of them take `by_dominance`.
+    /// The one that has not fired at that place, from 0, in the order of dominance. Takes no memory, and walks there
+    /// from the dominant one: to see all of them take `by_dominance`.
     pub fn nth(&self, i: usize) -> Option<&Inst>
         ensures { MatchOption result (length (waiting self.now.members) ≤ i)
             (λ j. IsAt self.now.strategy self.now.members i j.now) }

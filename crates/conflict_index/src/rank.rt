@@ -9,8 +9,8 @@ use ops_base::rules::Inst;
 use resolution::{Key, compare};
 use std::cmp::Ordering;
 
-/// A key with the strategy by which it is compared. All ranks of one index have the strategy in force. Ranks that compare as
-/// equal are equal.
+/// A key with the strategy by which it is compared. All ranks of one index have the strategy in force. Ranks that
+/// compare as equal are equal.
 #[derive(Drop)]
 pub(crate) struct Rank {
     pub(crate) strategy: Strategy,

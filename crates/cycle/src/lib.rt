@@ -1,4 +1,5 @@
-//! The recognise-act cycle over any matcher: working memory, the conflict set with its marks, and one firing after another.
+//! The recognise-act cycle over any matcher: working memory, the conflict set with its marks, and one firing after
+//! another.
 #![tactic(auto)]
 
 #[cfg(test)]

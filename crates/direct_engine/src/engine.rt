@@ -75,8 +75,8 @@ impl Matcher for DirectEngine {
         &self.store
     }
 
-    /// Where there are changes it finds the whole conflict set again: for each rule it takes time in all of working memory,
-    /// however few the changes are. It keeps no removed element.
+    /// Where there are changes it finds the whole conflict set again: for each rule it takes time in all of working
+    /// memory, however few the changes are. It keeps no removed element.
     fn settle(
         self,
         alloc: Global,

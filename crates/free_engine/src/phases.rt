@@ -80,8 +80,8 @@ fn partners_of(net: &Net, store: &Store, lines: &[Line], task: &Task) -> usize
     }
 }
 
-/// Whether the last tasks in flight have so many partners that it pays to share the work: a turn costs as much as a look
-/// at some of them. It looks up 16 tasks, and takes no memory.
+/// Whether the last tasks in flight have so many partners that it pays to share the work: a turn costs as much as a
+/// look at some of them. It looks up 16 tasks, and takes no memory.
 fn are_worth_it(net: &Net, store: &Store, lines: &[Line], flight: &[Task]) -> bool
     requires { 1 ≤ length lines.now }
 {

@@ -18,8 +18,8 @@ use work_store::Store;
 /// The cells, their first pass, and the passes of the workers.
 pub type Started = (Cells<Slot>, Pass<Slot>, Vec<Pass<Slot>>);
 
-/// Cells of a pool of the tasks in flight and of the lines, and a pass for each of this many workers. It moves each line,
-/// and takes memory for each line and each worker. Where memory runs out the lines are let go.
+/// Cells of a pool of the tasks in flight and of the lines, and a pass for each of this many workers. It moves each
+/// line, and takes memory for each line and each worker. Where memory runs out the lines are let go.
 pub fn start(
     alloc: Global,
     net: &Net,

@@ -1,4 +1,4 @@
--- A chain of nodes as steps, each told by its sign, its alpha and its join tests.
+-- A chain of nodes as steps, each given by its sign, its alpha and its join tests.
 use Rattle.std.proofs.Common.{◌<◌, ◌≡◌, ℕ, zero, suc, ◌*◌, Bool, true, false, cond, List, [], ◌∷◌, ◌++◌, ◌==◌, slice_get, Option, Some, None}
 use Rattle.ops_base.specs.declared.elements.Element.{Element}
 use Rattle.net_base.specs.declared.nodes.JoinTest.{JoinTest}

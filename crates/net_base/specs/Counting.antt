@@ -55,7 +55,7 @@ are_same_conditions c d = beq c.negated d.negated && c.class == d.class && point
 
 -- ---- prefixes
 
--- a non-empty prefix, told by what stands before its last condition and by that one
+-- a non-empty prefix, given by what stands before its last condition and by that one
 abbrev pub Prefix : Type 0
 Prefix = List NormalCondition × NormalCondition
 

@@ -29,7 +29,7 @@ StandsIn all before c = (rest : List NormalCondition) × (all ≡ before ++ c �
 abbrev pub IsPrefix : List Rule → List NormalCondition → NormalCondition → Type 0
 IsPrefix rules before c = (k : ℕ) × (r : Rule) × (slice_get rules k ≡ Some r) × StandsIn (normal_form r) before c
 
--- a prefix, told by what stands before its last condition and by that one, which has this sign
+-- a prefix, given by what stands before its last condition and by that one, which has this sign
 abbrev pub IsPrefixOfSign : List Rule → Bool → List NormalCondition × NormalCondition → Type 0
 IsPrefixOfSign rules negated p = IsPrefix rules p.0 p.1 × (p.1.negated ≡ negated)
 

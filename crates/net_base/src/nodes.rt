@@ -23,8 +23,8 @@ pub struct JoinTest {
     pub other: usize,
 }
 
-/// A node's left tokens come from its parent, and from the root where it has none. Its right tokens are the elements that
-/// pass its alpha. A terminal has no right tokens, and its class and alpha are not used.
+/// A node's left tokens come from its parent, and from the root where it has none. Its right tokens are the elements
+/// that pass its alpha. A terminal has no right tokens, and its class and alpha are not used.
 #[derive(Drop)]
 pub struct Node {
     pub kind: Kind,

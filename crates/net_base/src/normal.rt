@@ -3,8 +3,9 @@
 use ops_base::list::Listed;
 use ops_base::values::{Pred, Value};
 
-/// A field of the element of a condition, told by how many positive conditions stand before that one. For a positive condition
-/// this number is the place of its element in a token; for a negated one it stands for the element that is looked at.
+/// A field of the element of a condition, given by how many positive conditions stand before that one. For a positive
+/// condition this number is the place of its element in a token; for a negated one it stands for the element that is
+/// looked at.
 #[derive(Clone, Copy, Debug, PartialEq, Eq)]
 pub struct Origin {
     pub place: usize,

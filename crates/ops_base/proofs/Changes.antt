@@ -1,4 +1,4 @@
--- Changes done one after another: one more behind them, and the first of them.
+-- Changes done one after another: one more after them, and the first of them.
 use Rattle.std.proofs.Common.{◌≡◌, ℕ, List, [], ◌∷◌, ◌++◌, refl}
 use Rattle.ops_base.specs.declared.elements.Element.{Element}
 use Rattle.ops_base.specs.declared.elements.Change.{Change}

@@ -17,7 +17,7 @@ any-map f test (k ∷ keys) = ap (λ b. test (f k) || b) (any-map f test keys)
 
 -- ---- the search
 
--- the search goes on behind a number whose spelling is held
+-- the search goes on after a number whose spelling is held
 search_goes_on : (more left : ℕ) (held : List (List ℕ)) (n : ℕ) → more ≡ suc left → is_held held (fresh_spelling n) ≡ true → first_free more held n ≡ first_free left held (suc n)
 search_goes_on zero left held n e test = absurd (omega (arith, e))
 search_goes_on (suc more) left held n e test =
@@ -29,7 +29,7 @@ search_stops : (more : ℕ) (held : List (List ℕ)) (n : ℕ) → 0 < more → 
 search_stops zero held n some test = absurd (omega (arith, some))
 search_stops (suc more) held n some test = ap (λ b. cond b (first_free more held (suc n)) n) test
 
--- the same behind the number n, up to a last one
+-- the same after the number n, up to a last one
 pub goes_on_below : (last : ℕ) (held : List (List ℕ)) (n : ℕ) → n < last → is_held held (fresh_spelling (n + 1)) ≡ true → first_free (last - n) held (suc n) ≡ first_free (last - (n + 1)) held (suc (n + 1))
 goes_on_below last held n below test =
     let left : last - n ≡ suc (last - (n + 1)) = omega (arith, below) in

@@ -1,4 +1,4 @@
--- Members of joined, mapped and flattened lists. A member is what the list contains, told by the list's own form.
+-- Members of joined, mapped and flattened lists. A member is what the list contains, by the list's own form.
 use Rattle.std.proofs.Common.{◌≡◌, List, [], ◌∷◌, ◌++◌, map, refl, ap, sym, subst, inl, inr, ◌⊎◌}
 use Rattle.std.specs.List.{flat_map, All, AllByRecursion, Contains}
 use Rattle.std.proofs.lemmas.List.Elements.{All-nil, All-cons, All-contains, All-contains_itself, recursion_from_All}

@@ -42,7 +42,7 @@ fresh_spelling n = codes "g" ++ decimal n
 abbrev pub is_held : List (List ℕ) → List ℕ → Bool
 is_held held s = list_any (λ t. bytes_eq s t) held
 
--- the first number from n on, of so many, whose spelling is not held, and otherwise the one behind them
+-- the first number from n on, of this many, whose spelling is not held, and otherwise the one after them
 abbrev pub first_free : ℕ → List (List ℕ) → ℕ → ℕ
 first_free zero held n = n
 first_free (suc more) held n = if is_held held (fresh_spelling n) then first_free more held (suc n) else n

@@ -20,7 +20,7 @@ use Rattle.ops_base.specs.declared.commands.Fixed.{Fixed}
 use Rattle.ops_base.specs.declared.commands.Command.{Command}
 use Rattle.ops_base.specs.declared.commands.Command.TheVariants as command
 
--- the symbol is held among so many
+-- the symbol is held among this many
 abbrev pub symbol_held : ℕ → Sym → Bool
 symbol_held n s = nat_lt s.0 n
 
@@ -75,6 +75,6 @@ command_held n (command.Pm names) = list_all (symbol_held n) names
 command_held n (command.Pbreak names) = list_all (symbol_held n) names
 command_held n _ = true
 
--- each symbol of these classes, rules and commands is held among so many
+-- each symbol of these classes, rules and commands is held among this many
 abbrev pub is_held : ℕ → List Class → List Rule → List Command → Bool
 is_held n classes rules commands = list_all (class_held n) classes && list_all (rule_held n) rules && list_all (command_held n) commands

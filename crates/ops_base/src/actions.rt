@@ -4,8 +4,8 @@ use crate::expression::Expr;
 use crate::list::Listed;
 use crate::values::Value;
 
-/// A value of a right side. The cells 0 to c - 1 of a rule hold the elements of its c positive conditions in order; each
-/// `cbind` has a further one.
+/// A value of a right side. The cells 0 to c - 1 of a rule hold the elements of its c positive conditions in order;
+/// each `cbind` has a further one.
 #[derive(Debug, Drop)]
 pub enum Term {
     Constant(Value),

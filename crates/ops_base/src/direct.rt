@@ -140,8 +140,8 @@ fn insts(alloc: Global, rules: &[Rule], wm: &[&Element]) -> Result<Vec<Inst>, Ou
 }
 
 /// The conflict set, in the order of rule number and then tags, each instantiation once. No element is copied. Each
-/// condition looks at every element for each partial match before it, a negated one until an element meets it, and copies
-/// the bindings for each element of its class.
+/// condition looks at every element for each partial match before it, a negated one until an element meets it, and
+/// copies the bindings for each element of its class.
 pub fn direct_set_of(
     alloc: Global,
     program: &Program,

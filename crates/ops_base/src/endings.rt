@@ -15,8 +15,8 @@ pub enum ActKind {
     InputTooLong,
 }
 
-/// How a session ends. Firings and actions are counted from 1. The last two variants are no endings: no session ends so,
-/// and a call that works for the session gives up with them.
+/// How a session ends. Firings and actions are counted from 1. The last two variants are no endings: no session ends
+/// so, and a call that works for the session gives up with them.
 #[derive(Clone, Copy, Debug, PartialEq, Eq)]
 pub enum Ending {
     /// All commands were done, to the last one or to `exit`.

@@ -106,8 +106,8 @@ fn pass(test: &Test, e: &Element, found: &mut Vec<Binding>) -> Result<bool, OutO
 }
 
 /// The bindings with which the element meets the condition, `None` where it does not meet it. For an element of another
-/// class it looks at the class alone. Otherwise it copies the bindings and does the tests up to the first that fails, and
-/// each test of a variable looks through the bindings so far.
+/// class it looks at the class alone. Otherwise it copies the bindings and does the tests up to the first that fails,
+/// and each test of a variable looks through the bindings so far.
 pub fn matched(
     alloc: Global,
     condition: &Condition,

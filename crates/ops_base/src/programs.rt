@@ -7,8 +7,8 @@ use crate::elements::Class;
 use crate::list::Listed;
 use crate::rules::Rule;
 
-/// A program that was read, with its text. All numbers of classes, fields, variables, cells and bytes in it are in range,
-/// and what its rules and commands use is bound and allowed where they use it.
+/// A program that was read, with its text. All numbers of classes, fields, variables, cells and bytes in it are in
+/// range, and what its rules and commands use is bound and allowed where they use it.
 #[derive(Debug, Drop)]
 pub struct Program {
     pub classes: Listed<Class>,

@@ -31,7 +31,8 @@ impl Model for Names {
         × (slice_get (spellings n.held.keys) 0 ≡ Some (codes "nil")) };
 }
 
-/// The place of a spelling, which is added at the end where it is not held. Each spelling that was held keeps its place.
+/// The place of a spelling, which is added at the end where it is not held. Each spelling that was held keeps its
+/// place.
 fn place_in(held: &mut IndexSet<Vec<u8>>, spelling: &[u8]) -> Result<usize, OutOfMemory>
     ensures place { IfOk result (λ place. place ≡ place_of (spellings held.old.keys) spelling.now) }
     ensures ok { OnOk result (spellings held.new.keys ≡ with_spelling (spellings held.old.keys) spelling.now) }
@@ -121,10 +122,10 @@ impl Names {
         Ok(Sym(place_in(&mut self.held, spelling)? as u64))
     }
 
-    /// The next fresh atom: `g` and the next number of a counter that starts at 1, without the numbers whose spelling is
-    /// held. It costs a look-up for each number that is tried, so one more than there are held spellings of that form
-    /// in a row. A counter that would pass 64 bits is answered as `OutOfMemory`. After an error nothing has changed, not
-    /// even the counter.
+    /// The next fresh atom: `g` and the next number of a counter that starts at 1, without the numbers whose spelling
+    /// is held. It costs a look-up for each number that is tried, so one more than there are held spellings of that
+    /// form in a row. A counter that would pass 64 bits is answered as `OutOfMemory`. After an error nothing has
+    /// changed, not even the counter.
     pub fn fresh(&mut self) -> Result<Sym, OutOfMemory>
         ensures symbol { IfOk result (λ sym. sym.0 ≡ length self.old.held) }
         ensures names { OnOk result (self.new ≡ with_fresh self.old) }

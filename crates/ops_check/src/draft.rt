@@ -44,9 +44,9 @@ pub enum ElementUse {
     Show,
 }
 
-/// The classes, rules and commands that were read, and the parts of the form that is being read. The fields are those of the
-/// state of the definition's walk (`State` in the specs/Grammar.antt of ops_grammar), which hands values from one method to
-/// the next.
+/// The classes, rules and commands that were read, and the parts of the form that is being read. The fields are those
+/// of the state of the definition's walk (`State` in the specs/Grammar.antt of ops_grammar), which hands values from
+/// one method to the next.
 #[derive(Drop)]
 pub struct Draft {
     pub classes: Classes,

@@ -1,4 +1,5 @@
-//! What ends while a text is read: values become a field of an element, its fields a command, and two sides a production.
+//! What ends while a text is read: values become a field of an element, its fields a command, and two sides a
+//! production.
 ghost use Rattle.std.specs.Prelude.{◌≡◌, ◌+◌, ◌++◌, List, ℕ, not, count_by, SomeIff, ◌<◌, ◌^◌};
 ghost use Rattle.ops_base.specs.Valid.{cells_of, specificity};
 ghost use Rattle.ops_grammar.specs.Grammar.{with_several, with_element, with_rule, fixed_command, InFixed};

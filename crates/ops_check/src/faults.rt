@@ -1,4 +1,4 @@
-//! The faults of a text, where they stand, and how they are told.
+//! The faults of a text, where they stand, and how they are written.
 ghost use Rattle.std.specs.Prelude.{◌≡◌};
 ghost use Rattle.ops_grammar.specs.Reads.{fault_of, cut_off};
 ghost use Rattle.ops_check.specs.Answered.{stop_of, placed, fault_at};

@@ -8,7 +8,8 @@ use ops_base::memory::OutOfMemory;
 use std::alloc::Global;
 use std::marker::Model;
 
-/// The commands that were read, in order. What may still stand after them is kept, and told without a look through them.
+/// The commands that were read, in order. What may still stand after them is kept, and known without a look through
+/// them.
 #[derive(Drop)]
 pub struct GivenCommands {
     list: Vec<Command>,

@@ -14,8 +14,8 @@ use std::alloc::Global;
 use std::collections::BTreeMap;
 use std::marker::Model;
 
-/// The classes that were declared, in order. A class is found by its name, and the classes that have an attribute by the
-/// attribute's name, each in a time that grows with the logarithm of their number.
+/// The classes that were declared, in order. A class is found by its name, and the classes that have an attribute by
+/// the attribute's name, each in a time that grows with the logarithm of their number.
 #[derive(Drop)]
 pub struct Classes {
     alloc: Global,
@@ -168,7 +168,8 @@ fn arrange(
     Ok(())
 }
 
-/// The classes at these places get this attribute as their vector attribute. Where memory runs out some of them have it.
+/// The classes at these places get this attribute as their vector attribute. Where memory runs out some of them have
+/// it.
 fn arrange_all(
     alloc: Global,
     classes: &mut Declared<Class>,
@@ -242,7 +243,8 @@ impl Classes {
         self.list.into_vec()
     }
 
-    /// Whether a class that has a vector attribute has an attribute of this name. Looks only at the classes that have it.
+    /// Whether a class that has a vector attribute has an attribute of this name. Looks only at the classes that have
+    /// it.
     pub fn makes_second(&self, name: Sym) -> bool
         ensures { result ≡ makes_second name self.now }
     {

@@ -188,8 +188,8 @@ impl<T: Titled + Drop> Declared<T> {
 }
 
 impl Declared<Named> {
-    /// The first of that name has this number from here on; a name that was not there comes last. Where memory runs out nothing
-    /// has changed.
+    /// The first of that name has this number from here on; a name that was not there comes last. Where memory runs out
+    /// nothing has changed.
     pub fn renumber(&mut self, name: Sym, number: usize) -> Result<(), OutOfMemory>
         ensures ok { OnOk result (self.new ≡ renumbered name number self.old) }
         ensures err { OnErr result (self.new ≡ self.old) }

@@ -69,8 +69,8 @@ impl FormReader {
         }
     }
 
-    /// The next form from `from` on, or `None` where only white space and comments are left. Takes time in proportion to
-    /// the bytes that it passes, and memory in proportion to the form's tokens.
+    /// The next form from `from` on, or `None` where only white space and comments are left. Takes time in proportion
+    /// to the bytes that it passes, and memory in proportion to the form's tokens.
     pub fn read_form(
         &self,
         alloc: Global,

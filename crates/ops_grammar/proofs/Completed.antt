@@ -39,7 +39,7 @@ closing_choice = record { kind = kind.Operator; keyword = keyword.CloseChoice; n
 abbrev pub Completed : List Sym → List Wanted → Type 0
 Completed vs ws = (ts : List Word) × Derives vs ws ts
 
--- a value behind a scalar attribute
+-- a value after a scalar attribute
 scalar_completed : (vs : List Sym) (u : Use) (ws : List Wanted) → Completed vs ws → Completed vs (behind_attribute u 0 ∷ Terms u ∷ ws)
 scalar_completed vs InPattern ws c = (number ∷ closing ∷ c.0, an_operand refl (no_term refl c.1))
 scalar_completed vs InPut ws c = (number ∷ closing ∷ c.0, a_value refl (no_term refl c.1))

@@ -49,7 +49,7 @@ abbrev pub AreOperands : List ℕ → ℕ → List Waiting → Type 0
 AreOperands sight d [] = Unit {0}
 AreOperands sight d (w ∷ waiting) = IsOperand sight d true w.left × AreOperands sight d waiting
 
--- So many brackets are open around what is wanted, in a function for this target: an expression goes on in each.
+-- This many brackets are open around what is wanted, in a function for this target: an expression goes on in each.
 pub data AreOpen (sight : List ℕ) (t : Target) (behind : List Wanted) : ℕ → List Wanted → Type 0 where
   outermost : (waiting : List Waiting) → AreOperands sight function_depth waiting → AreOpen sight t behind function_depth (ExpressionRest function_depth waiting (Some t) ∷ behind)
   bracket : (d : ℕ) → (waiting : List Waiting) → (ws : List Wanted) → nat_lt d most_brackets ≡ true → AreOperands sight (suc d) waiting → AreOpen sight t behind d ws

@@ -103,7 +103,7 @@ module _ (t : Target) (k : InSight) (ws : List Wanted) (s : State) (seen : Sight
 
 -- ---- values
 
--- what gives a value behind a bracket
+-- what gives a value after a bracket
 abbrev gives : Keyword → Bool
 gives keyword.Substr = true
 gives keyword.Compute = true

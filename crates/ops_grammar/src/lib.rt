@@ -1,5 +1,5 @@
-//! What is read as a program: the definitions of the words of a text, the grammar, and where a fault stands, in specs/, and
-//! the few types that they and the readers above share.
+//! What is read as a program: the definitions of the words of a text, the grammar, and where a fault stands, in specs/,
+//! and the few types that they and the readers above share.
 #![tactic(auto)]
 
 pub mod words;

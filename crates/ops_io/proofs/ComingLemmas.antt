@@ -153,7 +153,7 @@ steady_comes old new c e h = subst (λ (b : Bool). ComesBehind b new c) (sym (le
 pub comes_failed : (old new : Inlet) (c : Coming) → new.faults ≡ old.faults + 1 → ComesAfter old new c → c ≡ record { bytes = new.buffer.held; fails = true }
 comes_failed old new c e h = subst (λ (b : Bool). ComesBehind b new c) (lt-ltb old.faults new.faults (omega arith)) h
 
--- what the source has left, or nothing where that is not told
+-- what the source has left, or nothing where that is not known
 end_behind : (ended : Bool) (left : Option (List ℕ)) → (more : List ℕ) × IsBehind ended false left more
 end_behind true left = ([], (refl, refl))
 end_behind false None = ([], tt)

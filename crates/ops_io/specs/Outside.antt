@@ -32,7 +32,7 @@ abbrev pub LoadsUntold : ℕ → Bool → List ℕ → List ℕ → Type 0
 LoadsUntold room true old new = (bytes : List ℕ) × Loads bytes room true old new
 LoadsUntold room false old new = new ≡ old
 
--- What a load leaves in the buffer, by what is told of the file: a file that is not there is never loaded.
+-- What a load leaves in the buffer, by what is known of the file: a file that is not there is never loaded.
 abbrev pub LoadGives : Option (Option (List ℕ)) → ℕ → Result Bool LoadError → List ℕ → List ℕ → Type 0
 LoadGives told room (Err e) old new = new ≡ old
 LoadGives None room (Ok b) old new = LoadsUntold room b old new

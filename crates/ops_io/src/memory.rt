@@ -1,4 +1,5 @@
-//! Files, an input and an output in memory, which tell their bytes and fail at the calls that they are told to.
+//! Files, an input and an output in memory, whose bytes are known, and which fail at the calls that are chosen for
+//! them.
 ghost use Rattle.std.specs.Prelude.{◌≡◌, ◌+◌, ◌-◌, ◌^◌, ◌<◌, ◌≤◌, ◌↔◌, ◌⊎◌, ℕ, List, [], ◌∷◌, ◌++◌, length, min, Some, None, IfOk, IfSome, IfNone, OnErr, IsErr, IsErrOf, Contains};
 ghost use Rattle.std.specs.Io.{ReadsAtMost};
 ghost use Rattle.ops_io.specs.Outside.{CountsFailure, ReadGives, WriteGives, LoadGives, LoadCounts, LoadNames};
@@ -168,7 +169,8 @@ impl Source for MemSource {
     }
 }
 
-/// An output in memory. A write fails exactly where its number is listed, counted from 1, or where there is no room left.
+/// An output in memory. A write fails exactly where its number is listed, counted from 1, or where there is no room
+/// left.
 #[derive(Drop)]
 pub struct MemSink {
     written: Vec<u8>,

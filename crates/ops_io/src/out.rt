@@ -142,7 +142,8 @@ impl Out {
             (port (K.taken sink.new) (K.faults sink.new) self.new) bytes.now }
         ensures broken { OnErr result (self.new.whole ≡ false) }
 
-        // Where what it holds and these bytes are 8,192 bytes at most, no call of the sink is made, and they are held too.
+        // Where what it holds and these bytes are 8,192 bytes at most, no call of the sink is made, and they are held
+        // too.
         ensures unwritten { length self.old.held + length bytes.now ≤ ROOM → (sink.new ≡ sink.old) × IsOk result }
         ensures gathered { length self.old.held + length bytes.now ≤ ROOM
             → self.new ≡ record self.old { held = self.old.held ++ bytes.now; column = column_after self.old.column bytes.now } }

@@ -43,7 +43,7 @@ impl<T: Drop> From<AllocFailed<T>> for LoadError {
 pub trait Shelf {
     ghost use Rattle.std.specs.Prelude.{Option};
 
-    /// What is told of the file of a name: nothing, that there is none, or its bytes.
+    /// What is known of the file of a name: nothing, that there is none, or its bytes.
     ghost told: { Self → List ℕ → Option (Option (List ℕ)) };
 
     /// How many loads have failed.
@@ -67,14 +67,15 @@ pub trait Shelf {
 pub trait Source {
     ghost use Rattle.std.specs.Prelude.{Option};
 
-    /// The bytes that are still to come, where they are told.
+    /// The bytes that are still to come, where they are known.
     ghost left: { Self → Option (List ℕ) };
 
     /// How many reads have failed.
     ghost faults: { Self → ℕ };
 
-    /// Gives the next bytes at the front of `buf`, and answers how many; 0 is the end. A read that fails gives up no byte.
-    /// No clause says what stands in `buf` after a failure, since nothing is promised of what a real reader leaves there.
+    /// Gives the next bytes at the front of `buf`, and answers how many; 0 is the end. A read that fails gives up no
+    /// byte. No clause says what stands in `buf` after a failure, since nothing is promised of what a real reader
+    /// leaves there.
     fn read(&mut self, buf: &mut [u8]) -> Result<usize, Failed>
         requires room { 0 < length buf.old }
         requires faults { faults self.old < 2 ^ 64 - 1 }
@@ -87,7 +88,7 @@ pub trait Source {
 pub trait Sink {
     ghost use Rattle.std.specs.Prelude.{Option};
 
-    /// The bytes that were taken, where they are told.
+    /// The bytes that were taken, where they are known.
     ghost taken: { Self → Option (List ℕ) };
 
     /// How many writes have failed.

@@ -44,8 +44,8 @@ impl<R: Read> Source for StdSource<R> {
 
     ghost faults = { λ s. s.faults };
 
-    /// Each error of the reader is a failure, also an interruption. What it gives comes off the front of the bytes that the
-    /// reader has left, and it answers an end only where none are left.
+    /// Each error of the reader is a failure, also an interruption. What it gives comes off the front of the bytes that
+    /// the reader has left, and it answers an end only where none are left.
     fn read(&mut self, buf: &mut [u8]) -> Result<usize, Failed>
         requires room { 0 < length buf.old }
         requires faults { self.old.faults < 2 ^ 64 - 1 }
@@ -100,8 +100,8 @@ impl<W: Write> Sink for StdSink<W> {
 
     ghost faults = { λ s. s.faults };
 
-    /// Each error of the writer is a failure, and so is a write of which it takes nothing. What the writer holds grows by the
-    /// bytes that are counted, and by none after a failure.
+    /// Each error of the writer is a failure, and so is a write of which it takes nothing. What the writer holds grows
+    /// by the bytes that are counted, and by none after a failure.
     fn write(&mut self, piece: &[u8]) -> Result<usize, Failed>
         requires some { 0 < length piece.now }
         requires faults { self.old.faults < 2 ^ 64 - 1 }
@@ -119,7 +119,7 @@ impl<W: Write> Sink for StdSink<W> {
         }
     }
 
-    /// As it was told.
+    /// As it was given.
     fn is_read_along(&self) -> bool {
         self.read_along
     }
@@ -184,7 +184,8 @@ fn load_opened<F: Read + Drop>(
 #[derive(Drop)]
 pub struct StdShelf<'r, R> {
     rt: &'r R,
-    // The names that loads were given. No code reads them: they are there for the contracts, which say what was asked for.
+    // The names that loads were given. No code reads them: they are there for the contracts, which say what was asked
+    // for.
     names: Vec<Vec<u8>>,
     faults: u64,
 }

@@ -9,7 +9,7 @@ use Rattle.ops_jobs.proofs.EachOption.{each_flag, each_option}
 
 -- ---- a word cut at its first `=`
 
--- it is what stands before that, the `=`, and what stands behind it
+-- it is what stands before that, the `=`, and what stands after it
 rejoined : (word : Word) → list_any (λ b. b == 61) word ≡ true → before_first (λ b. b == 61) word ++ 61 ∷ after_first (λ b. b == 61) word ≡ word
 rejoined [] has = absurd (true≢false (sym has))
 rejoined (b ∷ bs) has = go (b == 61) refl (position_or_len (λ c. c == 61) bs) has (rejoined bs)
@@ -47,7 +47,7 @@ IsSpelled names word = is_dashed word ≡ false
 abbrev valued : Word → Option Word
 valued rest = cond (list_any (λ b. b == 61) rest) (Some (after_first (λ b. b == 61) rest)) None
 
--- a word behind its two dashes, where its name is an option's or a flag's
+-- a word after its two dashes, where its name is an option's or a flag's
 abbrev named_sort : Word → Bool → Bool → Option Word → Sort
 named_sort name s f value = cond s (option_sort name value) (cond f (flag_sort name value) unknown)
 

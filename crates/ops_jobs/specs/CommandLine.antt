@@ -39,11 +39,11 @@ abbrev pub is_long : Word → Bool
 is_long (a ∷ b ∷ rest) = a == 45 && b == 45
 is_long _ = false
 
--- what stands behind `--`, up to the first `=`
+-- what stands after `--`, up to the first `=`
 abbrev pub name_in : Word → Word
 name_in word = before_first (λ b. b == 61) (drop 2 word)
 
--- what stands behind the first `=`, where there is one
+-- what stands after the first `=`, where there is one
 abbrev pub value_in : Word → Option Word
 value_in word = if list_any (λ b. b == 61) (drop 2 word) then Some (after_first (λ b. b == 61) (drop 2 word)) else None
 
@@ -85,7 +85,7 @@ pub data Piece : Type 0 where
 abbrev pub with_piece : Piece → Option (List Piece) → Option (List Piece)
 with_piece piece pieces = option_map (λ ps. piece ∷ ps) pieces
 
--- `rest` reads the words behind this one, where an option waits for its value or none does
+-- `rest` reads the words after this one, where an option waits for its value or none does
 abbrev pub read_as : Sort → Word → List Word → (Option Word → Option (List Piece)) → Option (List Piece)
 read_as ends_options word words rest = Some (map file words)
 read_as (gives option value) word words rest = with_piece (given option value) (rest None)

@@ -8,7 +8,7 @@ use Rattle.ops_jobs.specs.declared.jobs.Job.{Job}
 use Rattle.ops_jobs.specs.declared.jobs.Job.TheVariants.{Run, Net, Gen}
 
 -- The words spell the pieces: `--OPTION=VALUE`, or `--OPTION` and `VALUE`, for an option with its value, `--FLAG` for a
--- flag, a word that is not dashed for a file, and behind `--` each word for a file.
+-- flag, a word that is not dashed for a file, and after `--` each word for a file.
 pub data Spells : List Word → List Piece → Type 0 where
   nothing : Spells [] []
   attached : (option value : Word) (words : List Word) (pieces : List Piece) → is_option option ≡ true → Spells words pieces

@@ -14,8 +14,8 @@ use ops_grammar::Word;
 use ops_tokens::Token;
 use std::alloc::Global;
 
-/// Reads the left side with which the words begin, where these classes are declared, and answers the words after its arrow.
-/// Takes time in proportion to the words that it reads, times the logarithm of the number of names.
+/// Reads the left side with which the words begin, where these classes are declared, and answers the words after its
+/// arrow. Takes time in proportion to the words that it reads, times the logarithm of the number of names.
 pub fn left_side<'a>(
     alloc: Global,
     classes: &Classes,
@@ -36,9 +36,10 @@ pub fn left_side<'a>(
     Ok((side, &words[next..]))
 }
 
-/// Reads the left side of a production, which begins at the token `from`, after the production's name. Answers its conditions
-/// and the place of its arrow, and leaves in the scope what they leave in sight; the names of all tokens from there on
-/// are held. After a refusal the scope holds its text and classes, and else nothing that could be relied on.
+/// Reads the left side of a production, which begins at the token `from`, after the production's name. Answers its
+/// conditions and the place of its arrow, and leaves in the scope what they leave in sight; the names of all tokens
+/// from there on are held. After a refusal the scope holds its text and classes, and else nothing that could be relied
+/// on.
 pub fn read_lhs(
     alloc: Global,
     scope: &mut Scope,

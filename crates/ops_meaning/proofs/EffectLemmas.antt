@@ -77,13 +77,13 @@ pub performs_puts : {X W E S : Type 0} (s : S) (failure : W → Failure E) (r : 
 performs_puts s failure (Ok x) a b bytes is p = (refl, p)
 performs_puts s failure (Err w) a b bytes is p = fails_stopped stop.Write (failure w) a b (writes bytes s) (is w) p
 
--- ---- effects that are told of otherwise
+-- ---- effects that are put another way
 
--- what is left is told of otherwise, where the part came to its end
+-- what is left is put another way, where the part came to its end
 pub told_leaves : {E F S T : Type 0} (left : S → T) (end : E → F) (s : S) (a b : Port) (e : Effect E S) → Leaves s a b e → Leaves (left s) a b (told_as left end e)
 told_leaves left end s a b e p = (ap (outcome_as left end) p.0, p.1)
 
--- the failure is told of otherwise, where it failed
+-- the failure is put another way, where it failed
 pub told_fails : {E F S T : Type 0} (left : S → T) (end : E → F) (f : Failure E) (a b : Port) (e : Effect E S) → Fails f a b e → Fails (failure_as end f) a b (told_as left end e)
 told_fails left end (OfPort why) a b e p = p
 told_fails left end (OfEffect f) a b e p = (ap (outcome_as left end) p.0, p.1)

@@ -136,7 +136,7 @@ pub fails_on_front : {E S T : Type 0} (f : Failure E) (i j : Inlet) (a b : Port)
 fails_on_front f i j a b column e next p =
     record { taken = p.taken; took = p.took; fails = λ c h. fails_front f a b column (e (preceded_by p.taken c)) next (p.fails c h) }
 
--- ---- effects that are told of otherwise
+-- ---- effects that are put another way
 
 pub told_leaves_on : {E F S T : Type 0} (left : S → T) (end : E → F) (s : Coming → S) (i j : Inlet) (a b : Port) (e : Coming → Effect E S) → LeavesOn s i j a b e → LeavesOn (λ c. left (s c)) i j a b (λ c. told_as left end (e c))
 told_leaves_on left end s i j a b e p =

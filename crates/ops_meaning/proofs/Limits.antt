@@ -37,7 +37,7 @@ module _ (limit : ℕ) where
   ended_tells firing rule (Bad n k) p = p
   ended_tells firing rule NoInput p = tt
 
-  -- a firing is counted, and one that fails is told by its number
+  -- a firing is counted, and one that fails is named by its number
   firing_counts : (s : Setting) (column : ℕ) (i : Inst) (m : Course) → m.firings + 1 ≤ limit → MatchResult (firing s column i m).outcome (λ t. t.course.firings ≡ m.firings + 1) (TellsLimit limit)
   firing_counts s column i m within =
       let behind = column_after column (firing_bytes s.watch column m.names s.rules (m.firings + 1) i) in

@@ -227,7 +227,7 @@ module _ (g : Strategy) (rules : List Rule) where
       by (Some d) p later =
           ranks_led insts d (ranked n g rules (without_inst d insts)) apart p (later d p)
 
--- So many places, or more, rank distinct instantiations.
+-- This many places, or more, rank distinct instantiations.
 pub ranked_is : (strategy : Strategy) (rules : List Rule) (n : ℕ) (insts : List Inst) → AreDistinct insts → length insts ≤ n → IsRanking strategy rules insts (ranked n strategy rules insts)
 ranked_is strategy rules n insts distinct within =
     let r = ranks_from strategy rules n insts distinct within in

@@ -275,7 +275,7 @@ abbrev pub change_lines : Spellings → List Class → List Element → List Cha
 change_lines names classes wm [] = []
 change_lines names classes wm (c ∷ cs) = change_text names classes wm c ∷ change_lines names classes (change_done wm c) cs
 
--- The changes since this one are told, where elements are traced.
+-- The changes since this one are printed, where elements are traced.
 abbrev pub changes_told : Setting → Doing → ℕ → Doing → Effect Mishap Doing
 changes_told s before column d =
     writes (traced s.watch column (change_lines d.names s.classes before.wm (drop (length before.changes) d.changes))) d
@@ -283,7 +283,7 @@ changes_told s before column d =
 -- ---- actions
 
 -- What an action does from a column on. All values of an element are placed before it is removed or made, and what is
--- removed and made is told in that order.
+-- removed and made is printed in that order.
 abbrev pub action_done : Setting → ℕ → Action → Doing → Effect Mishap Doing
 action_done s column (action.Make class puts) d =
     and_then column (silent (followed_by (made_fields s.classes (class_of s.classes class) puts d) (λ f. Ok (added f.doing class f.fields)))) (changes_told s d)

@@ -34,7 +34,7 @@ abbrev pub outcome_as : {E F S T : Type 0} → (S → T) → (E → F) → Resul
 outcome_as left end (Ok s) = Ok (left s)
 outcome_as left end (Err e) = Err (end e)
 
--- the same bytes, where what is left and the end are told of otherwise
+-- the same bytes, where what is left and the end are put another way
 abbrev pub told_as : {E F S T : Type 0} → (S → T) → (E → F) → Effect E S → Effect F T
 told_as left end e = record { bytes = e.bytes; outcome = outcome_as left end e.outcome }
 
@@ -52,7 +52,7 @@ pub data Failure (E : Type 0) : Type 0 where
   OfPort : (why : Stop) → Failure E
   OfEffect : (end : E) → Failure E
 
--- the same failure, where the end is told of otherwise
+-- the same failure, where the end is put another way
 abbrev pub failure_as : {E F : Type 0} → (E → F) → Failure E → Failure F
 failure_as end (OfPort why) = OfPort why
 failure_as end (OfEffect f) = OfEffect (end f)

@@ -55,7 +55,7 @@ TellsLimit limit ending.ReadFault = Unit {0}
 TellsLimit limit ending.WriteFault = Unit {0}
 TellsLimit limit ending.OutOfMemory = Unit {0}
 
--- At most this many firings were made, or the limit that was told is this one.
+-- At most this many firings were made, or the limit that was reached and printed is this one.
 abbrev pub KeepsLimit : ℕ → Result Session Ending → Type 0
 KeepsLimit limit r = MatchResult r (λ k. k.course.firings ≤ limit) (TellsLimit limit)
 

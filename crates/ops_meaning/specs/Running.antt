@@ -158,7 +158,7 @@ with_course k m = record k { course = m }
 abbrev pub lists : ℕ → List (List ℕ) → Session → Effect Ending Session
 lists column lines k = writes (lines_at column lines) k
 
--- One phase, whose changes are told where elements are traced.
+-- One phase, whose changes are printed where elements are traced.
 abbrev pub phase_told : Finder → Setting → ℕ → List Change → ℕ → Session → Effect Ending Session
 phase_told found s column changes last k =
     writes (traced k.watch column (change_lines k.course.names s.classes k.course.wm changes))
@@ -226,12 +226,12 @@ rule_text text r = drop r.first (take r.past text)
 abbrev pub production_line : Setting → Spellings → Sym → List ℕ
 production_line s names name = unwrap_or (option_map (rule_text s.text) (find (λ r. r.name.0 == name.0) s.rules)) (unknown_line names name)
 
--- A strategy is set, or told where none is given.
+-- A strategy is set, or printed where none is given.
 abbrev pub strategy_given : ℕ → Option Strategy → Session → Effect Ending Session
 strategy_given column None k = lists column (strategy_line k.course.strategy ∷ []) k
 strategy_given column (Some g) k = writes [] (with_course k (record k.course { strategy = g }))
 
--- A trace level is set, or told where none is given.
+-- A trace level is set, or printed where none is given.
 abbrev pub level_given : ℕ → Option ℕ → Session → Effect Ending Session
 level_given column None k = lists column (level_line k.watch ∷ []) k
 level_given column (Some n) k = writes [] (record k { watch = n })

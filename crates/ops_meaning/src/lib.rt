@@ -1,5 +1,5 @@
-//! What programs do: the definitions of acting, printing and running, in specs/, and the type that they and the code above
-//! share.
+//! What programs do: the definitions of acting, printing and running, in specs/, and the type that they and the code
+//! above share.
 #![tactic(auto)]
 
 pub mod statuses;

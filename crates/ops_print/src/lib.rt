@@ -1,5 +1,5 @@
-//! The layout of what is printed, put into the output buffer: values, symbols, elements, instantiations, spaces,
-//! lines and the lines of endings. The definitions of these texts are total, and so are the functions: `nil` stands for a
+//! The layout of what is printed, put into the output buffer: values, symbols, elements, instantiations, spaces, lines
+//! and the lines of endings. The definitions of these texts are total, and so are the functions: `nil` stands for a
 //! production or a class that a program does not have. A program that was checked names none.
 #![tactic(auto)]
 

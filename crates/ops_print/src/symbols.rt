@@ -37,7 +37,8 @@ fn bar_of(spelling: &[u8]) -> &'static [u8]
     if is_plain_symbol(spelling) { &[] } else { b"|" }
 }
 
-/// Puts a symbol as a program names it: between bars where it is not plain. It reads the spelling as a token to see that.
+/// Puts a symbol as a program names it: between bars where it is not plain. It reads the spelling as a token to see
+/// that.
 pub fn put_symbol<K: Sink>(
     out: &mut Out,
     sink: &mut K,

@@ -40,7 +40,8 @@ impl Right {
         }
     }
 
-    // make CLASS put* ) | modify DESIGNATOR put* ) | remove DESIGNATOR DESIGNATOR* ) | write item* ) | bind VARIABLE [value] )
+    // make CLASS put* ) | modify DESIGNATOR put* ) | remove DESIGNATOR DESIGNATOR* ) | write item* ) | bind VARIABLE
+    // [value] )
     // | cbind VARIABLE ) | halt )
     #[tactic(auto, unfolding(ops_grammar::specs::Grammar::goes, ops_grammar::specs::Grammar::step, ops_grammar::specs::Grammar::ends, ops_forms::specs::PlaceWalks::goes_onward))]
     fn action(&mut self, around: &Around, words: &[Word], at: usize) -> Result<usize, Refusal>

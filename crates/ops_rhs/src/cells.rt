@@ -9,8 +9,8 @@ use ops_base::values::Sym;
 use ops_forms::Refusal;
 
 impl Right {
-    // the class of a cell's element. The definition is total, with the first class for a cell that is not there; the cells that
-    // are read are there.
+    // the class of a cell's element. The definition is total, with the first class for a cell that is not there; the
+    // cells that are read are there.
     pub fn class_of_cell(&self, around: &Around, cell: usize) -> usize
         ensures { result ≡ unwrap_or (slice_get (around.now.cells.now ++ self.now.further.items) cell) 0 }
     {

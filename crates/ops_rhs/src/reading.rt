@@ -15,9 +15,9 @@ use ops_tokens::Token;
 use std::alloc::{AllocError, Global};
 use std::mem;
 
-/// Reads the right side with which the words begin, after an arrow, where these classes are declared and that is in sight.
-/// Answers the words after its closing bracket, which stands right before them. Takes time in proportion to the words that it
-/// reads, times the logarithm of the number of names.
+/// Reads the right side with which the words begin, after an arrow, where these classes are declared and that is in
+/// sight. Answers the words after its closing bracket, which stands right before them. Takes time in proportion to the
+/// words that it reads, times the logarithm of the number of names.
 pub fn right_side<'a>(
     alloc: Global,
     classes: &Classes,
@@ -65,10 +65,10 @@ fn with_further(cells: Listed<usize>, further: &[usize]) -> Result<Listed<usize>
     Ok(Listed::from_vec(all))
 }
 
-/// Reads the right side of a production, which begins at the token `from`, after the arrow, where the scope is as the left side
-/// left it. Answers its actions and the place of its closing bracket, and leaves in the scope what is in sight there; the names
-/// of all tokens from there on are held. After a refusal the scope holds its text and classes, and else nothing that could be
-/// relied on.
+/// Reads the right side of a production, which begins at the token `from`, after the arrow, where the scope is as the
+/// left side left it. Answers its actions and the place of its closing bracket, and leaves in the scope what is in
+/// sight there; the names of all tokens from there on are held. After a refusal the scope holds its text and classes,
+/// and else nothing that could be relied on.
 pub fn read_rhs(
     alloc: Global,
     scope: &mut Scope,

@@ -32,7 +32,8 @@ fn declare(
     })
 }
 
-// the classes a, with x and the vector attribute y, and b, with z, and what {<e> (a ^x <v>)} - (b ^z <u>) (b) leaves in sight
+// the classes a, with x and the vector attribute y, and b, with z, and what {<e> (a ^x <v>)} - (b ^z <u>) (b) leaves in
+// sight
 fn scope_of(alloc: Global, text: &[u8]) -> Result<Scope, OutOfMemory>
     ensures { IfOk result (λ scope. scope.text.items ≡ text.now) }
 {

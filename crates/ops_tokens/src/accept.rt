@@ -60,7 +60,7 @@ impl<T: Drop> From<AllocFailed<T>> for AcceptFault {
 /// Reads one atom: white space is skipped, and the byte after an atom without bars is not taken. A whole number of 64
 /// bits is that number, and any other atom a symbol, in which a byte that no text may have is shown as `?`. Where
 /// nothing is left it is the symbol `end-of-file`. More than 1,048,576 bytes are too many, and a read that fails is
-/// told as that. Each byte takes constant time.
+/// answered as that. Each byte takes constant time.
 pub fn accept_atom<I: Source>(
     alloc: Global,
     names: &mut Names,

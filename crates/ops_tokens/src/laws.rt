@@ -9,7 +9,8 @@ pub fn what_stands_next_is_settled(text: &[u8])
     ensures { (from : ℕ) → from ≤ length text.now → IsSettled text.now from }
 {}
 
-/// Lexical faults have their numbers among the faults of a text, of which the lowest counts where several stand at one place.
+/// Lexical faults have their numbers among the faults of a text, of which the lowest counts where several stand at one
+/// place.
 pub fn lexical_faults_have_their_numbers()
     ensures { (BAD_BYTE ≡ 1) × (UNCLOSED ≡ 2) × (FRACTION_NUMBER ≡ 4) × (NUMBER_RANGE ≡ 5) }
 {}

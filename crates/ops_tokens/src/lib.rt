@@ -1,5 +1,5 @@
-//! The tokens of a program text: their kinds and spellings, and the next one from a place on. Also the atoms that `accept`
-//! reads from an input.
+//! The tokens of a program text: their kinds and spellings, and the next one from a place on. Also the atoms that
+//! `accept` reads from an input.
 #![tactic(auto)]
 
 mod accept;

@@ -41,7 +41,7 @@ fn written(
     }
 }
 
-/// So many atoms of a text that is read in pieces, of which the listed reads fail.
+/// This many atoms of a text that is read in pieces, of which the listed reads fail.
 fn atoms(
     alloc: Global,
     text: &[u8],

@@ -44,7 +44,7 @@ long_file (Some None) room old new h p = absurd p
 long_file (Some (Some bytes)) room old new h p = (bytes, refl, longer room old bytes h p.0)
 
 module _ (told : List ℕ → Option (Option (List ℕ))) (names : List (List ℕ)) where
-  -- So many of the files were loaded, in their order, and this is their text.
+  -- This many of the files were loaded, in their order, and this is their text.
   pub record Loaded (count : ℕ) (text : List ℕ) : Type 0 where
     pub contents : List (Option (List ℕ))
     pub are : AreTold told (take count names) contents

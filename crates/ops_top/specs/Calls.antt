@@ -12,13 +12,13 @@ use Rattle.ops_jobs.specs.declared.jobs.Job.{Job}
 use Rattle.ops_jobs.specs.declared.jobs.Job.TheVariants.{Run, Net, Gen}
 use Rattle.ops_top.specs.Whole.{Gathered, Joined, gathered_for, files_of, setting_read}
 
--- It holds for the content that is told of a file, or for some content where none is told.
+-- It holds for the content that is known of a file, or for some content where none is known.
 abbrev pub OfContent : Option (Option (List ℕ)) → (Option (List ℕ) → Type 0) → Type 0
 OfContent (Some content) P = P content
 OfContent None P = (content : Option (List ℕ)) × P content
 
--- It holds for contents of these files, in their order, each of which is the one that is told, or some content where
--- none is told.
+-- It holds for contents of these files, in their order, each of which is the one that is known, or some content where
+-- none is known.
 abbrev pub OfContents : (List ℕ → Option (Option (List ℕ))) → List (List ℕ) → (List (Option (List ℕ)) → Type 0) → Type 0
 OfContents told [] P = P []
 OfContents told (name ∷ names) P = OfContent (told name) (λ content. OfContents told names (λ contents. P (content ∷ contents)))
@@ -100,7 +100,7 @@ AskedForWords s words false old new = new ≡ old
 abbrev pub last_of : List (List ℕ) → List ℕ
 last_of names = slice_index_or names (length names - 1) []
 
--- The program's session comes to its end, within its limit, over this input; its network is told always.
+-- The program's session comes to its end, within its limit, over this input. A job that asks for its network always comes to its end.
 abbrev pub program_runs_through : Job → Coming → List ℕ → Read → Bool
 program_runs_through (Run options files) coming text p = is_ok (session_of (setting_read text p) options.limit p.commands p.names coming).outcome
 program_runs_through (Net files) coming text p = true
@@ -125,7 +125,7 @@ job_runs_over (Some job) contents left = gathered_runs_through job (record { byt
 abbrev pub runs_over : List (List ℕ) → List (Option (List ℕ)) → List ℕ → Bool
 runs_over words contents left = job_runs_over (job_of words) contents left
 
--- the contents of these files, where those of all are told
+-- the contents of these files, where those of all are known
 abbrev pub all_told : (List ℕ → Option (Option (List ℕ))) → List (List ℕ) → Option (List (Option (List ℕ)))
 all_told told [] = Some []
 all_told told (name ∷ names) = option_and_then (λ content. option_map (λ contents. content ∷ contents) (all_told told names)) (told name)

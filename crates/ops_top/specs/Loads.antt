@@ -6,7 +6,7 @@ use Rattle.ops_top.specs.Calls.{last_of}
 use Rattle.ops_top.specs.declared.files.FilesFault.{FilesFault}
 use Rattle.ops_top.specs.declared.files.FilesFault.TheVariants as fault
 
--- this may be the content of a file of which this is told
+-- this may be the content of a file of which this is known
 abbrev pub IsTold : Option (Option (List ℕ)) → Option (List ℕ) → Type 0
 IsTold None content = Unit {0}
 IsTold (Some known) content = known ≡ content

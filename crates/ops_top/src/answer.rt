@@ -60,7 +60,7 @@ fn status_of(ending: Ending) -> Status
 }
 
 /// Runs the session of a program over a matcher that stands for it, and puts the line after it. The symbols of the
-/// program keep their spellings in it, so that the line is told with the names as they were.
+/// program keep their spellings in it, so that the line is written with the names as they were.
 fn tell_session<
     M: Matcher,
     H: Fn(M, &[Change]) -> Result<Settled<M>, OutOfMemory>,

@@ -153,7 +153,8 @@ fn answer_serially<I: Source, K: Sink, G: Gate + Drop>(
     )
 }
 
-/// The answer to a program, whose session runs over the engine of rounds and is summed up or not. The network is compiled.
+/// The answer to a program, whose session runs over the engine of rounds and is summed up or not. The network is
+/// compiled.
 fn answer_in_rounds<R: Threads + Sync, I: Source, K: Sink, G: Gate + Drop>(
     rt: &R,
     alloc: Global,

@@ -6,8 +6,9 @@ ghost use Rattle.ops_meaning.specs.Acting.{Setting};
 ghost use Rattle.ops_meaning.specs.Kept.{IsCounted, IsLimited};
 ghost use Rattle.ops_meaning.specs.Running.{Course};
 
-/// A session that comes to its end made at most as many firings as its limit says, over all its runs; where it ends by the
-/// limit, the limit that is told is its own. A run with a number that does not end the session made at most this many.
+/// A session that comes to its end made at most as many firings as its limit says, over all its runs; where it ends by
+/// the limit, the limit that is printed is its own. A run with a number that does not end the session made at most this
+/// many.
 pub fn firings_are_limited()
     ensures session { (s : Setting) (limit : ℕ) (commands : List Command) (names : Spellings) → IsLimited s limit commands names }
     ensures run { (left : ℕ) (s : Setting) (m : Course) → IsCounted left s m }

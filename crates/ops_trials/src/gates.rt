@@ -34,8 +34,8 @@ impl Gate for Counting {
     }
 }
 
-/// Words, each with how many activations the program `hello` makes over the engine that they ask for. Its element comes to
-/// its one condition and then to its terminal, and leaves them in the same way.
+/// Words, each with how many activations the program `hello` makes over the engine that they ask for. Its element comes
+/// to its one condition and then to its terminal, and leaves them in the same way.
 const CALLS: [(&[&str], u64); 8] = [
     (&["hello"], 4),
     (&["--match=direct", "hello"], 0),
@@ -64,8 +64,8 @@ fn activations_counted(rt: HostRuntime) -> Result<(), Fail> {
     Ok(())
 }
 
-/// Words that run a workload, each with the least number of activations and one that is too large. Direct matching makes
-/// none, and takes too long for a test on more items.
+/// Words that run a workload, each with the least number of activations and one that is too large. Direct matching
+/// makes none, and takes too long for a test on more items.
 const MANY: [(&[&str], u64, u64); 4] = [
     (&["--gen", "7", "400", "--match", "serial"], 1_001, 20_000),
     (&["--gen", "7", "400", "--match", "rounds"], 1_001, 20_000),

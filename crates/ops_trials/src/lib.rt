@@ -1,5 +1,5 @@
-//! Trials of the top call: what it answers to words, texts and inputs, where devices fail, and at the limit. It has tests
-//! alone.
+//! Trials of the top call: what it answers to words, texts and inputs, where devices fail, and at the limit. It has
+//! tests alone.
 #![tactic(auto)]
 
 #[cfg(test)]

@@ -33,7 +33,8 @@ const FREE: &[u8] = b"(literalize a n) (literalize stop n)
 (run)
 ";
 
-// Places of a vector are tested one after another, a field past the end is `nil`, and a later list replaces an earlier one.
+// Places of a vector are tested one after another, a field past the end is `nil`, and a later list replaces an earlier
+// one.
 const VECTORS: &[u8] = b"(literalize v n list) (vector-attribute list) (literalize |a b| x)
 (p first { <w> (v ^n 1 ^list <h> { } <h>) } - (v ^list nil nil) --> (write first <h> (crlf)) (remove <w>))
 (p |second one| { (v ^list { <> c } { } nil) <w> } --> (write second (crlf)) (make v ^list a b ^list c) (remove <w>))
@@ -389,8 +390,8 @@ fn networks(rt: HostRuntime) -> Result<(), Fail> {
     Ok(())
 }
 
-/// Words that run a workload, each with the end of what is written. Each move of an item and each of the ten blocks makes
-/// a firing. The 59 roads and the items are left, and each move takes a tag more.
+/// Words that run a workload, each with the end of what is written. Each move of an item and each of the ten blocks
+/// makes a firing. The 59 roads and the items are left, and each move takes a tag more.
 const WORKLOADS: [(&[&str], &[u8]); 5] = [
     (&["--gen", "7", "1"], ONE_ITEM),
     (&["7", "1", "--gen", "--match=serial"], ONE_ITEM),

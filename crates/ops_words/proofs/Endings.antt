@@ -1,4 +1,4 @@
--- What `clap` does behind the last word.
+-- What `clap` does after the last word.
 use Rattle.std.proofs.Common.{◌≡◌, ◌∙◌, Bool, true, false, List, [], ◌∷◌, Option, Some, None, codes, refl, sym, ap, is_some, fold}
 use Rattle.std.proofs.lemmas.Bool.{true≢false}
 use Rattle.clap.specs.Walk.{Held, Row, Text, Walk, finished, nothing_held, settled, walk, walk_from, walked}

@@ -44,7 +44,7 @@ found-any p (x ∷ xs) = go (p x) (found-any p xs)
 pub there_or_not : (id : Text) (rows : List Row) (o : Option Row) → row_of id rows ≡ o → has_row id rows ≡ is_some o
 there_or_not id rows o is = found-any (λ r. bytes_eq r.id id) rows ∙ ap is_some is
 
--- what is to be done where an id has no row is done behind all rows
+-- what is to be done where an id has no row is done after all rows
 pub at_row-none : (id : Text) (change : Row → List Row) (missing rows : List Row) → row_of id rows ≡ None → at_row id change missing rows ≡ rows ++ missing
 at_row-none id change missing [] none = refl
 at_row-none id change missing (r ∷ rows) none = go (bytes_eq r.id id) none (at_row-none id change missing rows)

@@ -68,7 +68,7 @@ short_fails : (b c : ℕ) (bs : Text) (h : Held) → h.skip ≡ 0 → slice_get 
 unfolding flags_fault
 short_fails b c bs h none first = rw (none, first) refl
 
--- ---- the word behind its first byte
+-- ---- the word after its first byte
 
 one_dash : (b : ℕ) (bs : Text) → (b == 45) ≡ false → IsUtf8 (45 ∷ b ∷ bs) → Seen (45 ∷ b ∷ bs)
 one_dash b bs differs utf8 =

@@ -28,7 +28,7 @@ abbrev pub Fits : Bool → Kinds → List Piece → List Row → Type 0
 Fits true fault pieces rows = (fault ≡ []) × Ends pieces rows
 Fits false fault pieces rows = does_fail fault ≡ true
 
--- the same of pieces that come behind others, or of none
+-- the same of pieces that come after others, or of none
 abbrev pub Answers : Option (List Piece) → List Piece → Kinds → List Row → Type 0
 Answers None before fault rows = does_fail fault ≡ true
 Answers (Some pieces) before fault rows = Fits (is_complete (before ++ pieces)) fault (before ++ pieces) rows
@@ -114,7 +114,7 @@ answers_end pieces w agrees =
     subst (λ (ps : List Piece). Fits (is_complete ps) (fault_from w []) ps (rows_from w [])) (sym (append-nil pieces))
     (ends_well pieces w agrees (files_of pieces) refl)
 
--- ---- behind `--`
+-- ---- after `--`
 
 trails : (words : List Text) (pieces : List Piece) (h : Held) (waiting : Waiting) → Agrees pieces h
     → Answers (Some (map file words)) pieces (fault_from (stand h waiting true) words) (rows_from (stand h waiting true) words)
@@ -142,7 +142,7 @@ by_sort : (word : Text) (words : List Text) (s : Sort) (pieces : List Piece) (fa
 unfolding pieces_from
 by_sort word words s pieces fault rows is h = subst (λ x. Answers (read_as x word words (pieces_from words)) pieces fault rows) (sym is) h
 
--- an option or a flag that has a value already makes all that comes behind fail
+-- an option or a flag that has a value already makes all that comes after fail
 repeats : (read : Option (List Piece)) (pieces : List Piece) (piece : Piece) (name value v : Text) (vs : List Text) (fault : Kinds) (rows : List Row)
     → Says piece name value → values_of name pieces ≡ v ∷ vs → does_fail fault ≡ true → Answers (with_piece piece read) pieces fault rows
 repeats read pieces piece name value v vs fault rows says some fails =

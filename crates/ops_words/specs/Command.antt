@@ -1,4 +1,4 @@
--- The command line as `clap` is told of it: four options that take a value, two flags, and names.
+-- The command line as `clap` gets it: four options that take a value, two flags, and names.
 use Rattle.std.specs.Prelude.{codes, true, Some}
 use Rattle.clap.specs.Walk.{Rule, Text}
 use Rattle.clap.specs.Simple.{App, new_app, new_rule, on_top, with_rule}

@@ -1,4 +1,4 @@
-//! The command line as `clap` is told of it, and what it finds in words.
+//! The command line as `clap` gets it, and what it finds in words.
 ghost use Rattle.std.specs.Prelude.{◌≡◌, false, None, Err, IfOk};
 ghost use Rattle.clap.specs.Words.{app_of, rule_of};
 ghost use Rattle.ops_jobs.specs.Words.{word_bytes};

@@ -32,8 +32,8 @@ struct Parts<G> {
 
 /// A matcher over a network. Between two settles its lines hold just the tokens that stand at each node over its store,
 /// each once. There are as many shards as the lesser of the workers and the lines. The gate is called just before each
-/// activation, with the number of the shard, or with worker 0 on the calling thread, and with the number of the line. An
-/// engine stands on the heap, so that it is moved at a small cost.
+/// activation, with the number of the shard, or with worker 0 on the calling thread, and with the number of the line.
+/// An engine stands on the heap, so that it is moved at a small cost.
 #[derive(Drop)]
 pub struct RoundsEngine<G> {
     parts: Box<Parts<G>>,
@@ -124,8 +124,8 @@ impl<G: Gate + Drop> RoundsEngine<G> {
 
     /// Feeds all changes, and does their tasks and all that comes of them: on the calling thread as long as few are in
     /// flight, and then in rounds, each of which does all tasks in hand. It takes time for the tasks that it does, for
-    /// the lines that they were done on, and for the nodes that a change is fed to. Where there were rounds it also looks
-    /// at each line once. What it removed is kept until the next settle.
+    /// the lines that they were done on, and for the nodes that a change is fed to. Where there were rounds it also
+    /// looks at each line once. What it removed is kept until the next settle.
     pub fn settle_in_rounds<R: Threads + Sync>(
         self,
         rt: &R,

@@ -97,8 +97,8 @@ fn work_alone<G: Gate>(
     work_all(ground.alloc, ground.net, ground.store, &enter, world, most)
 }
 
-/// Does the tasks of these shards on the lines, in one round, which is shared among threads where that pays, and answers
-/// the shards of the next round. Beside what `do_shards` costs it looks at each shard.
+/// Does the tasks of these shards on the lines, in one round, which is shared among threads where that pays, and
+/// answers the shards of the next round. Beside what `do_shards` costs it looks at each shard.
 fn work_round<R: Threads + Sync, G: Gate>(
     rt: &R,
     ground: &Ground<'_>,
@@ -159,9 +159,9 @@ fn idle_world(alloc: Global) -> Result<World, OutOfMemory> {
     World::from_parts(alloc, parts)
 }
 
-/// Does the tasks in flight, and all that comes of them, in rounds. Where none is in flight it does nothing. Otherwise it
-/// also looks at each line once, and takes the lines out of the world until the rounds have ended: where memory runs out
-/// before that, they are lost.
+/// Does the tasks in flight, and all that comes of them, in rounds. Where none is in flight it does nothing. Otherwise
+/// it also looks at each line once, and takes the lines out of the world until the rounds have ended: where memory runs
+/// out before that, they are lost.
 fn work_in_rounds<R: Threads + Sync, G: Gate>(
     rt: &R,
     ground: &Ground<'_>,

@@ -99,8 +99,8 @@ fn do_in_turn<G: Gate>(
     joined(ground.alloc, lower, upper)
 }
 
-/// Does the lower and the upper half of the shards, each with its lines, by two threads at the same time if a thread can
-/// be made.
+/// Does the lower and the upper half of the shards, each with its lines, by two threads at the same time if a thread
+/// can be made.
 #[cycle(shares)]
 fn do_halves<R: Threads + Sync, G: Gate>(
     rt: &R,
@@ -157,11 +157,11 @@ fn do_apart<R: Threads + Sync, G: Gate>(
     joined(ground.alloc, lower, upper)
 }
 
-/// Does a round of the shards on these lines, which are theirs. Where `apart` says so, halves of the shards, and halves of
-/// these, are done by two threads at the same time if a thread can be made; else one shard is done after another. The
-/// gate is called before each task with the number of its shard as the worker. It answers the shards of the next round:
-/// the children, dealt by the shards that made them, in the order of these. What is joined here is moved. Where memory
-/// runs out some tasks have been done.
+/// Does a round of the shards on these lines, which are theirs. Where `apart` says so, halves of the shards, and halves
+/// of these, are done by two threads at the same time if a thread can be made; else one shard is done after another.
+/// The gate is called before each task with the number of its shard as the worker. It answers the shards of the next
+/// round: the children, dealt by the shards that made them, in the order of these. What is joined here is moved. Where
+/// memory runs out some tasks have been done.
 pub(crate) fn do_shards<R: Threads + Sync, G: Gate>(
     rt: &R,
     ground: &Ground<'_>,

@@ -101,8 +101,8 @@ fn bare_shards(alloc: Global, shards: usize, lines: usize) -> Result<Vec<Shard>,
 }
 
 /// All shards in order, each with those of the tasks that have its lines. Line i is dealt to shard i · shards / lines,
-/// rounded down, so the lines of a shard follow one another, and each shard has one. It makes each shard, and costs what
-/// `token_line::place_of` costs for each task, which it moves once.
+/// rounded down, so the lines of a shard follow one another, and each shard has one. It makes each shard, and costs
+/// what `token_line::place_of` costs for each task, which it moves once.
 pub(crate) fn deal(ground: &Ground<'_>, tasks: Vec<Task>) -> Result<Vec<Shard>, OutOfMemory>
     requires fit { All (TaskFits ground.now.net.now.nodes ground.now.store.now) tasks.items }
     ensures tasks { IfOk result (λ v. AreSame tasks.items (tasks_of_shards v.items)) }
@@ -117,8 +117,8 @@ pub(crate) fn deal(ground: &Ground<'_>, tasks: Vec<Task>) -> Result<Vec<Shard>, 
     Ok(dealt)
 }
 
-/// The shards of the first answer, each with the tasks of the same shard of the second answer after its own. It moves the
-/// tasks of the second answer.
+/// The shards of the first answer, each with the tasks of the same shard of the second answer after its own. It moves
+/// the tasks of the second answer.
 pub(crate) fn joined(
     alloc: Global,
     low: Result<Vec<Shard>, OutOfMemory>,
@@ -148,8 +148,8 @@ pub(crate) fn are_idle(shards: &[Shard]) -> bool
 }
 
 /// Whether a round of these shards is worth threads. Two shards must have tasks. The first such round is, so that
-/// threads are met early (`met` says whether one was shared); any other, if the largest shard leaves the others 64 tasks
-/// for each of them that has tasks. It looks at each shard.
+/// threads are met early (`met` says whether one was shared); any other, if the largest shard leaves the others 64
+/// tasks for each of them that has tasks. It looks at each shard.
 pub(crate) fn pays(shards: &[Shard], met: bool) -> bool {
     let mut busy: usize = 0;
     let mut all: usize = 0;

@@ -39,7 +39,7 @@ one_more wm (change.Remove tag ∷ cs) c p q = (p.0, one_more (without_tag tag w
 
 -- ---- right sides
 
--- From this working memory and behind these changes there were more, which led to this working memory.
+-- From this working memory and after these changes there were more, which led to this working memory.
 record Goes (wm : List Element) (before after : List Change) (now : List Element) : Type 0 where
   more : List Change
   changes : after ≡ before ++ more

@@ -31,7 +31,7 @@ length-slice_set [] n x = refl
 length-slice_set (y ∷ xs) zero x = refl
 length-slice_set (y ∷ xs) (suc n) x = ap suc (length-slice_set xs n x)
 
--- From `at` on so many values were placed, where there was this number of fields before and is that one now.
+-- From `at` on this many values were placed, where there was this number of fields before and is that one now.
 record Grown (at values before after : ℕ) : Type 0 where
   reach : at + values ≤ after
   more : before ≤ after
@@ -155,7 +155,7 @@ one_term classes at (t ∷ []) f one single within room =
 scalars_are : (c : Class) (b : Bool) → c.vector ≡ b → scalar_count c ≡ cond b (length c.attrs - 1) (length c.attrs)
 scalars_are c b is = ap (λ b. cond b (length c.attrs - 1) (length c.attrs)) is
 
--- the vector attribute stands behind the scalar ones
+-- the vector attribute stands after the scalar ones
 pub vector_at : (c : Class) (f : ℕ) → is_vector c f ≡ true → (c.vector ≡ true) × (f ≡ scalar_count c)
 vector_at c f h =
     let parts = and_parts c.vector (f + 1 == length c.attrs) h in

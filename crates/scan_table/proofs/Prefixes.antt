@@ -34,7 +34,7 @@ by_kind t bytes from i kind best false e le so_far a =
 longest_more : (t : Table) (bytes : List ℕ) (from i kind : ℕ) (best : Option (ℕ × ℕ)) → from ≤ i → IsLongestWithin t bytes from i best → accepted t (slice_range bytes from (i + 1)) ≡ kind → IsLongestWithin t bytes from (i + 1) (cond (eqb kind 0) best (Some (i + 1, kind)))
 longest_more t bytes from i kind best le so_far a = by_kind t bytes from i kind best (eqb kind 0) refl le so_far a
 
--- the state behind the bytes up to `at`, and the longest prefix among them
+-- the state after the bytes up to `at`, and the longest prefix among them
 pub record HasRead (t : Table) (bytes : List ℕ) (from at state : ℕ) (best : Option (ℕ × ℕ)) : Type 0 where
   pub leads : state ≡ state_after t (slice_range bytes from at)
   pub longest : IsLongestWithin t bytes from at best

@@ -5,7 +5,8 @@ ghost use Rattle.scan_table.specs.Table.{Table, step_of, AreBelow, AreRowsBelow,
 use std::marker::Model;
 
 /// `S` states by `C` classes of bytes. State 0 is the start. Each byte has a class, each state has a next state for
-/// each class, and the kind that it accepts, of which 0 accepts nothing. A contract sees the table as these three lists.
+/// each class, and the kind that it accepts, of which 0 accepts nothing. A contract sees the table as these three
+/// lists.
 #[derive(Drop)]
 pub struct Dfa<const S: usize, const C: usize> {
     classes: [u8; 256],

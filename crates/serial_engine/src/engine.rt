@@ -28,8 +28,8 @@ struct Parts<G> {
 }
 
 /// A matcher over a network. Between two settles its lines hold just the tokens that stand at each node over its store,
-/// each once. The gate is called with worker 0 and the number of the line, just before each activation. An engine stands
-/// on the heap, so that it is moved at a small cost.
+/// each once. The gate is called with worker 0 and the number of the line, just before each activation. An engine
+/// stands on the heap, so that it is moved at a small cost.
 #[derive(Drop)]
 pub struct SerialEngine<G> {
     parts: Box<Parts<G>>,
@@ -58,8 +58,8 @@ impl<G: Gate + Drop> SerialEngine<G> {
     ghost use Rattle.step_core.specs.Found.{found_over};
     ghost use Rattle.step_core.specs.Phases.{IsBundle};
 
-    /// An engine over the network with this many lines. Nothing is stored. It makes each line and looks at each node, and
-    /// takes memory for its own place.
+    /// An engine over the network with this many lines. Nothing is stored. It makes each line and looks at each node,
+    /// and takes memory for its own place.
     pub fn new(
         alloc: Global,
         net: Net,

@@ -31,8 +31,8 @@ fn is_full(world: &World, most: Option<usize>) -> bool
     }
 }
 
-/// Does the last task in flight, and then all that comes of it, down to the terminals; or until as many are in flight as
-/// are asked for. `enter` gets the line of each task just before it is done.
+/// Does the last task in flight, and then all that comes of it, down to the terminals; or until as many are in flight
+/// as are asked for. `enter` gets the line of each task just before it is done.
 fn work_down<F: Fn(usize)>(
     alloc: Global,
     net: &Net,

@@ -62,7 +62,7 @@ clearing_held n (t ∷ ts) = clearing_held n ts
 
 -- ---- a session
 
--- At least so many symbols are held, and each of working memory.
+-- At least this many symbols are held, and each of working memory.
 pub record HeldCourse (n : ℕ) (m : Course) : Type 0 where
   pub more : n ≤ length m.names.held
   pub memory : list_all (element_held (length m.names.held)) m.wm ≡ true

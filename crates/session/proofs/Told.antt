@@ -1,4 +1,4 @@
--- Changes that are told by working memory as it was before them: one element that is made, and removals.
+-- Changes that are printed from working memory as it was before them: one element that is made, and removals.
 use Rattle.std.proofs.Common.{◌≡◌, ◌∙◌, ap, sym, subst, refl, ℕ, List, [], ◌∷◌, map, Bool, true, false, cond, not, ◌==◌, Option, Some, None, unwrap_or, codes, ◌++◌}
 use Rattle.std.specs.Prelude.{IsSome}
 use Rattle.std.proofs.lemmas.List.Elements.{All-nil, All-cons}

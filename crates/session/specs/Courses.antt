@@ -52,7 +52,7 @@ abbrev pub ends_unread : {X : Type 0} → Result X Ending → Bool
 ends_unread (Err ending.ReadFault) = true
 ends_unread _ = false
 
--- the ending of a session that is told, or why none is
+-- the ending of a session that is known, or why none is
 abbrev pub ended : {M H : Type 0} → (M → Stored) → Result (Session M H) Ending → Result Ending Stop
 ended stored (Ok s) = Ok (ending.Done s.state.firings (length (stored s.state.matcher).elements) (stored s.state.matcher).last)
 ended stored (Err ending.WriteFault) = Err stop.Write

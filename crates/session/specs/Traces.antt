@@ -1,4 +1,4 @@
--- When changes can be told by working memory as it was before them.
+-- When changes can be printed from working memory as it was before them.
 use Rattle.std.specs.Prelude.{◌≡◌, List, IsSome, map}
 use Rattle.std.specs.List.{All}
 use Rattle.ops_base.specs.declared.elements.Change.{Change}

@@ -1,4 +1,4 @@
 //! What no session reaches.
 
-/// No tag and no number of a firing reaches this. A session is over long before.
+/// No tag is above this, and no number of a firing reaches it. A session is over long before.
 pub(crate) const UNREACHED: u64 = 1 << 63;

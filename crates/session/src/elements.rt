@@ -52,8 +52,8 @@ fn first_of(values: &[Value]) -> Value
     }
 }
 
-/// Gives one attribute: a scalar one the first of the values, and the vector attribute all, in the place of those that it
-/// had. Takes time for these values alone.
+/// Gives one attribute: a scalar one the first of the values, and the vector attribute all, in the place of those that
+/// it had. Takes time for these values alone.
 fn give_values(
     class: &Class,
     fields: &mut Vec<Value>,

@@ -1,7 +1,8 @@
 //! The session: the commands of a program in the order of its text, over any matcher.
 //!
-//! The definitions of what a command does are total, and so are the functions here: where a number is of no class, they go by a
-//! class without attributes, and where no value is given by `nil`. A program that was checked never comes there.
+//! The definitions of what a command does are total, and so are the functions here: where a number is of no class, they
+//! go by a class without attributes, and where no value is given by `nil`. A program that was checked never comes
+//! there.
 //!
 //! `alloc`, `hand`, `names`, `input`, `source`, `out` and `sink` go from call to call, each as a parameter of its own:
 //! each is lent by itself, so that a contract can name what each holds afterwards. `hand` settles the matcher.

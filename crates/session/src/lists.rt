@@ -69,7 +69,8 @@ fn put_tagged<K: Sink>(
     }
 }
 
-/// Puts the lines of the elements of these tags in their order, each looked up by its tag, or of all where no tag is given.
+/// Puts the lines of the elements of these tags in their order, each looked up by its tag, or of all where no tag is
+/// given.
 fn put_elements<K: Sink>(
     out: &mut Out,
     sink: &mut K,
@@ -243,8 +244,8 @@ pub(crate) fn list_met<M: Matcher, H: Fn(M, &[Change]) -> Result<Settled<M>, Out
     Ok(session)
 }
 
-/// Puts the lines of the instantiations that have not fired, the dominant one first. Takes no memory, and a time in proportion
-/// to their number.
+/// Puts the lines of the instantiations that have not fired, the dominant one first. Takes no memory, and a time in
+/// proportion to their number.
 fn put_standing<K: Sink>(
     out: &mut Out,
     sink: &mut K,

@@ -208,8 +208,8 @@ fn all_toggled(rules: &[Rule], given: &[Sym], breaks: Listed<bool>) -> Listed<bo
     Listed::from_vec(breaks)
 }
 
-/// The command `pbreak`: sets or clears breaks by names, or lists them where no name is given. For each name it looks at the
-/// productions one after the other.
+/// The command `pbreak`: sets or clears breaks by names, or lists them where no name is given. For each name it looks
+/// at the productions one after the other.
 pub(crate) fn give_breaks<M: Matcher, K: Sink>(
     program: &Program,
     names: &Names,

@@ -14,9 +14,10 @@ use ops_base::programs::Program;
 use std::alloc::Global;
 use work_store::{Matcher, Settled};
 
-/// So many makes that wait are made as one phase, if working memory has no more elements than that. A network engine then
-/// holds the entries of this many changes at once and not those of all. The direct engine matches working memory anew in
-/// each phase: since working memory doubles at least from one such phase to the next, it does at most twice the work of one.
+/// This many waiting makes are made as one phase, if working memory has no more elements than that. A network engine
+/// then holds the entries of this many changes at once and not those of all. The direct engine matches working memory
+/// anew in each phase: since working memory doubles at least from one such phase to the next, it does at most twice the
+/// work of one.
 const PIECE: usize = 1024;
 
 /// A session between two of its commands. Before the first run nothing is marked as fired, so that no mark can be lost:

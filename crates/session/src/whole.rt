@@ -1,4 +1,4 @@
-//! A whole session, and what is told of it.
+//! A whole session, and what is known of it at its end.
 ghost use Rattle.std.specs.Prelude.{◌≡◌, ℕ, ◌^◌, ◌<◌, [], Ok, IsTrue, false};
 ghost use Rattle.ops_io.specs.Coming.{inlet};
 ghost use Rattle.ops_io.specs.Ports.{port};
@@ -23,7 +23,7 @@ use ops_io::{Input, Out, Sink, Source, Stop};
 use std::alloc::Global;
 use work_store::{Matcher, Settled};
 
-/// What is told of a session once its commands are done.
+/// What is known of a session once its commands are done.
 fn ended<M: Matcher>(done: Result<Session<M>, Ending>) -> Result<Ending, Stop>
     ensures { result ≡ ended M.stored done }
 {
@@ -39,8 +39,8 @@ fn ended<M: Matcher>(done: Result<Session<M>, Ending>) -> Result<Ending, Stop>
     }
 }
 
-/// Does the commands of a program in order, from nothing. Each symbol keeps its spelling, and wherever the session looks for
-/// instantiations it looks at the conflict set. Where a read fails, all that was put before is written out.
+/// Does the commands of a program in order, from nothing. Each symbol keeps its spelling, and wherever the session
+/// looks for instantiations it looks at the conflict set. Where a read fails, all that was put before is written out.
 pub fn run_session<
     M: Matcher,
     H: Fn(M, &[Change]) -> Result<Settled<M>, OutOfMemory>,

@@ -1,4 +1,4 @@
--- One pass over what moved tells the same as all totals: those before the one at hand are told.
+-- One pass over what moved reports the same as all totals: those before the one at hand are reported.
 use Rattle.std.proofs.Common.{◌≡◌, ◌+◌, ◌<◌, ◌^◌, ◌+ℤ◌, Bool, true, false, cond, List, [], ◌∷◌, ◌++◌, refl, sym, ap, subst, ◌∙◌, append-nil, filter, fold, length, map, slice_get, Option, Some, None, w64, FitsSigned}
 use Rattle.token_line.specs.Bags.{sign}
 use Rattle.std.proofs.lemmas.List.{map-append}
@@ -27,7 +27,7 @@ chosen test ts = map (λ (t : Total). t.inst) (filter test ts)
 pub chosen-append : (test : Total → Bool) (xs ys : List Total) → chosen test (xs ++ ys) ≡ chosen test xs ++ chosen test ys
 chosen-append test xs ys = ap (map (λ (t : Total). t.inst)) (filter-append test xs ys) ∙ map-append (λ (t : Total). t.inst) (filter test xs) (filter test ys)
 
--- what is at hand is told, too
+-- what is at hand is reported, too
 pub told_more : (test : Total → Bool) (ts front : List Total) (x : Total) (old new : List Inst) → ts ≡ front ++ x ∷ [] → old ≡ chosen test front → new ≡ old ++ chosen test (x ∷ []) → new ≡ chosen test ts
 told_more test ts front x old new all is more = more ∙ (ap (λ is'. is' ++ chosen test (x ∷ [])) is ∙ (sym (chosen-append test front (x ∷ [])) ∙ ap (chosen test) (sym all)))
 
@@ -58,7 +58,7 @@ turned ts (Some x) next m come gone come' gone' other is h came went =
 
 -- ---- at the end
 
--- the totals of what moved are told, where the last of them is told, too
+-- the totals of what moved are reported, where the last of them is, too
 pub all_told : (ts : List Total) (o : Option Total) (x : Total) (come gone come' gone' : List Inst) → o ≡ Some x → AreToldBut ts o come gone
     → come' ≡ come ++ chosen has_come (x ∷ []) → gone' ≡ gone ++ chosen has_gone (x ∷ []) → (come' ≡ chosen has_come ts) × (gone' ≡ chosen has_gone ts)
 all_told ts None x come gone come' gone' is h came went = absurd (not_none x (sym is))

@@ -293,7 +293,7 @@ module _ (nodes : List Node) (alphas : List Alpha) (sound : IsSound alphas nodes
         gone_in_order = chosen_in_order nodes alphas sound (total (map now ls)) (total (map before ls)) has_gone ts gone_tested gone_changed are.order;
       }
 
-    -- what is told of these moves, or of others that stand for them
+    -- what is reported of these moves, or of others that stand for them
     module _ (moved : List Moved) (within : (m : Moved) → IsMember m moved → IsMember m (moved_over nodes ls)) (as_much : (i : Inst) → moved_change i moved ≡ moved_change i (moved_over nodes ls)) where
       pub told_gathered : (come gone : List Inst) → AreTold moved come gone → IsGathered nodes (total (map before ls)) (total (map now ls)) come gone
       told_gathered come gone told =

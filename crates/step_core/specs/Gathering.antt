@@ -105,7 +105,7 @@ abbrev pub AreToldBut : List Total → Option Total → List Inst → List Inst 
 AreToldBut ts None come gone = (ts ≡ []) × (come ≡ []) × (gone ≡ [])
 AreToldBut ts (Some x) come gone = HaveAtHand ts x come gone
 
--- these are told by the totals of what moved, in order
+-- these are reported of the totals of what moved, in order
 pub record AreTold (moved : List Moved) (come gone : List Inst) : Type 0 where
   pub sorted : List Moved
   pub same : IsPermutation moved sorted

@@ -20,7 +20,7 @@ abbrev pub total : List Bag → Bag
 total [] n s t = pos 0
 total (b ∷ bs) n s t = b n s t +ℤ total bs n s t
 
--- the lines, told by their sums, hold just this, each token on its own line
+-- the lines, given by their sums, hold just this, each token on its own line
 pub record HoldJust (line : Placing) (b : Bag) (bags : List Bag) : Type 0 where
   pub all : (n : ℕ) (s : Side) (t : List ℕ) → total bags n s t ≡ b n s t
   pub apart : (i : ℕ) (c : Bag) → slice_get bags i ≡ Some c → (n : ℕ) (s : Side) (t : List ℕ) → line n s t ≢ i → c n s t ≡ pos 0

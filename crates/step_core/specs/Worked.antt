@@ -1,4 +1,4 @@
--- Which lines have entries, told by their places among the lines.
+-- Which lines have entries, given by their places among the lines.
 use Rattle.std.specs.Prelude.{◌≡◌, ◌≢◌, ◌<◌, ◌≤◌, ◌==◌, ℕ, Bool, not, List, length, slice_get, Some}
 use Rattle.token_line.specs.declared.line.Line.{Line}
 

@@ -15,7 +15,8 @@ pub(crate) struct Done {
     pub(crate) children: Vec<Task>,
 }
 
-/// Takes the task at that place out of the flight, where another one, without tags, stays in its place. Takes no memory.
+/// Takes the task at that place out of the flight, where another one, without tags, stays in its place. Takes no
+/// memory.
 pub(crate) fn lift(flight: &mut Vec<Task>, alloc: Global, index: usize) -> Task
     requires { index < length flight.old.items }
     ensures task { slice_get flight.old.items index ≡ Some result }

@@ -118,9 +118,9 @@ fn add_for(
     add_all(alloc, nodes.as_slice(), plus, tag, flight)
 }
 
-/// Adds the tasks that a change feeds at the end of the flight, in the order of their nodes. It looks up the alphas that
-/// the element can pass, tests these, and sorts the nodes that take it. Up to 16 alphas and 16 nodes take no memory but
-/// for the room in flight. Where memory runs out nothing has changed.
+/// Adds the tasks that a change feeds at the end of the flight, in the order of their nodes. It looks up the alphas
+/// that the element can pass, tests these, and sorts the nodes that take it. Up to 16 alphas and 16 nodes take no
+/// memory but for the room in flight. Where memory runs out nothing has changed.
 pub(crate) fn add_fed(
     alloc: Global,
     net: &Net,

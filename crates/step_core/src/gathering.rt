@@ -193,7 +193,7 @@ fn begin(moved: Moved) -> Total
     Total { inst, change, sum }
 }
 
-/// One of another instantiation is at hand next, and the one before it is told.
+/// One of another instantiation is at hand next, and the one before it is reported.
 fn turn_to(next: Total, hand: &mut Option<Total>, told: &mut Gathered) -> Result<(), OutOfMemory>
     ensures hand { hand.new ≡ Some next }
     ensures come { OnOk result (told.new.come.items ≡ told.old.come.items ++ map (λ t. t.inst) (filter has_come (option_to_list hand.old))) }
@@ -205,8 +205,8 @@ fn turn_to(next: Total, hand: &mut Option<Total>, told: &mut Gathered) -> Result
     Ok(())
 }
 
-/// One more that moved: it counts in the total at hand, where that is of its instantiation. Otherwise that total is told,
-/// and one of its own is at hand.
+/// One more that moved: it counts in the total at hand, where that is of its instantiation. Otherwise that total is
+/// reported, and one of its own is at hand.
 fn count(hand: &mut Option<Total>, next: Moved, told: &mut Gathered) -> Result<(), OutOfMemory>
     requires { (x : Total) → hand.old ≡ Some x → FitsSigned w64 (x.change +ℤ sign next.plus) }
     ensures { OnOk result ((ts : List Total) → AreToldBut ts hand.old told.old.come.items told.old.gone.items → AreToldBut (added ts next) hand.new told.new.come.items told.new.gone.items) }

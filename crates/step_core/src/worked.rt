@@ -1,4 +1,5 @@
-//! The lines at work: a task is done on its line, those that have entries are known by name, and they alone are cleared.
+//! The lines at work: a task is done on its line, those that have entries are known by name, and they alone are
+//! cleared.
 ghost use Rattle.std.specs.Prelude.{◌≡◌, ◌≢◌, ◌≤◌, ◌<◌, ◌∷◌, ◌++◌, [], All, IfOk, List, OnErr, OnOk, length, map, vec_capacity, vec_len};
 ghost use Rattle.work_store.specs.Stored.{Stored};
 ghost use Rattle.net_base.specs.declared.nodes.Node.{Node};

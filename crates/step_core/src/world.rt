@@ -1,4 +1,5 @@
-//! The world of a match, and its steps: a change is fed, a task is activated, an entry is finished, the lines are cleared.
+//! The world of a match, and its steps: a change is fed, a task is activated, an entry is finished, the lines are
+//! cleared.
 ghost use Rattle.std.specs.Prelude.{◌≡◌, ◌≤◌, ◌<◌, ◌+◌, ◌-◌, length, remove, slice_get, Some};
 ghost use Rattle.net_base.specs.declared.tasks.Task.{Task};
 ghost use Rattle.step_core.specs.Worked.{AreWorked};
@@ -59,7 +60,7 @@ impl World {
     ghost use Rattle.step_core.specs.Working.{IsWorked, but_last};
     ghost use Rattle.step_core.specs.Worlds.{AreNumbered, ArePartsReady, IsReady, IsWithin, Takes, joined, numbers_of, placed, seen, step_of, world_of};
 
-    /// So many lines, with nothing under way. It makes each line and looks at each node.
+    /// This many lines, with nothing under way. It makes each line and looks at each node.
     pub fn start(alloc: Global, net: &Net, lines: usize) -> Result<World, OutOfMemory>
         requires { 1 ≤ lines }
         ensures start { IfOk result (λ w. (elements : Elements) → world_of w ≡ start net.now.nodes (placed elements net.now.nodes lines) lines) }
@@ -162,8 +163,8 @@ impl World {
     }
 
     /// Puts into flight one task for each node that takes the change's element. It looks up the alphas that the element
-    /// can pass, tests these, and sorts the nodes that take it; the tasks are made where they will be. Where memory runs
-    /// out nothing has changed.
+    /// can pass, tests these, and sorts the nodes that take it; the tasks are made where they will be. Where memory
+    /// runs out nothing has changed.
     pub fn feed(
         &mut self,
         alloc: Global,
@@ -238,8 +239,8 @@ impl World {
     }
 
     /// Does the task at that place and finishes it, at the cost of `activation::activate`: its children are made where
-    /// they will be, at the end of the flight. `enter` gets the number of the task's line just before. It also moves the
-    /// tasks in flight after that place; the task is not copied. Where memory runs out nothing has changed.
+    /// they will be, at the end of the flight. `enter` gets the number of the task's line just before. It also moves
+    /// the tasks in flight after that place; the task is not copied. Where memory runs out nothing has changed.
     pub fn work_at<F: Fn(usize)>(
         &mut self,
         alloc: Global,

@@ -59,8 +59,8 @@ fn deliver(queue: &mut VecDeque<Task>, tasks: Vec<Task>)
 }
 
 impl Pool {
-    /// These tasks wait, and this many workers may take them. It reserves room for the entries of each task's take and of
-    /// as many stops, and copies nothing.
+    /// These tasks wait, and this many workers may take them. It reserves room for the entries of each task's take and
+    /// of as many stops, and copies nothing.
     pub fn new(alloc: Global, tasks: Vec<Task>, workers: usize) -> Result<Pool, OutOfMemory>
         ensures first { IfOk result (λ p. p.first.value.items ≡ tasks.items) }
         ensures workers { IfOk result (λ p. p.workers.value ≡ workers) }

@@ -32,7 +32,7 @@ pub struct Entry {
 }
 
 /// The tokens that stand on one line, by their nodes and codes, and what was done there since the phase began, in this
-/// order. Of that it keeps the tasks that are to be told of.
+/// order. Of that it keeps the tasks that are to be reported.
 #[derive(Drop)]
 pub struct Line {
     number: usize,
@@ -72,7 +72,7 @@ fn cell_with(sum: &i64, blockers: u64) -> Option<Cell>
     }
 }
 
-/// A copy of a task that is to be told of, with room for it.
+/// A copy of a task that is to be reported, with room for it.
 fn copy_to_tell(
     told: &mut Vec<Task>,
     alloc: Global,
@@ -209,9 +209,9 @@ impl Line {
         }
     }
 
-    /// The sum of a left token of a node, 0 where it is not kept. It compares the node with those of the line where they
-    /// are few, and hashes it where they are many. It looks for the token as `Tokens::find` does, under one code after
-    /// another: those of a terminal all have one. Takes no memory.
+    /// The sum of a left token of a node, 0 where it is not kept. It compares the node with those of the line where
+    /// they are few, and hashes it where they are many. It looks for the token as `Tokens::find` does, under one code
+    /// after another: those of a terminal all have one. Takes no memory.
     pub fn left_sum(&self, node: usize, token: &Tags) -> i64
         ensures { result ≡ sum_in self.now node Left token.now }
     {
@@ -250,16 +250,16 @@ impl Line {
         self.entries.as_slice()
     }
 
-    /// The tasks that were done since the phase began and are to be told of, in this order. Takes no memory.
+    /// The tasks that were done since the phase began and are to be reported, in this order. Takes no memory.
     pub fn told(&self) -> &[Task]
         ensures { result.now ≡ self.now.told.items }
     {
         self.told.as_slice()
     }
 
-    /// Adds an entry of the task at the end, and the task to the sum of its token. A left token of the task is kept with
-    /// this many blockers. It is not told of. It looks for the token once, as `find` does. Where memory runs out, or a
-    /// sum would not fit, nothing has changed.
+    /// Adds an entry of the task at the end, and the task to the sum of its token. A left token of the task is kept
+    /// with this many blockers. It is not reported. It looks for the token once, as `find` does. Where memory runs out,
+    /// or a sum would not fit, nothing has changed.
     pub fn add(
         &mut self,
         alloc: Global,
@@ -284,8 +284,9 @@ impl Line {
         self.add_at(alloc, &spot, task, children, blockers, false)
     }
 
-    /// The same at the spot of the task's token, with no look for it. A token that is new to a memory of many is hashed,
-    /// and so is a code or a node that is new among many. The task is copied where it is to be told of, and else its token alone, where that is new.
+    /// The same at the spot of the task's token, with no look for it. A token that is new to a memory of many is
+    /// hashed, and so is a code or a node that is new among many. The task is copied where it is to be reported, and
+    /// else its token alone, where that is new.
     pub fn add_at(
         &mut self,
         alloc: Global,

@@ -1,4 +1,5 @@
-//! The code of a token, and the number of the line on which it stands. Tokens that a node can join have one code, and one line.
+//! The code of a token, and the number of the line on which it stands. Tokens that a node can join have one code, and
+//! one line.
 ghost use Rattle.std.specs.Prelude.{◌≡◌, ◌<◌, ◌≤◌, fold, map};
 ghost use Rattle.work_store.specs.Stored.{held_of};
 ghost use Rattle.token_line.specs.Numbers.{code_of, equalities, is_equal, line_number, mixed, own_codes, own_value, tested_codes, value_code};
@@ -104,7 +105,8 @@ pub fn line_of(net: &Net, store: &Store, task: &Task, lines: usize) -> usize
     (code % lines as u64) as usize
 }
 
-/// What the token's line goes by, before the number of lines is known, and its code: two numbers from one look at the tests.
+/// What the token's line goes by, before the number of lines is known, and its code: two numbers from one look at the
+/// tests.
 fn both_codes(store: &Store, node: &Node, side: Side, tags: &[u64], start: u64) -> (u64, u64)
     ensures number { result.0 ≡ fold mixed start (own_codes (held_of store.now) node.now.kind node.now.joins side tags.now) }
     ensures code { result.1 ≡ fold mixed start (tested_codes (held_of store.now) node.now.joins side tags.now) }

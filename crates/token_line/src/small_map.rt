@@ -13,7 +13,7 @@ use std::hash::Hash;
 use std::marker::Model;
 use std::mem;
 
-/// So many pairs at most are kept as a list.
+/// At most this many pairs are kept as a list.
 const FEW: usize = 8;
 
 // The map is boxed, since most rooms never have one.
@@ -203,8 +203,8 @@ impl<K: Eq + Hash, V> SmallMap<K, V> {
         self.room.pair(place)
     }
 
-    /// The place of a key. It compares the key with each where they are few, and hashes it where they are many. Takes no
-    /// memory.
+    /// The place of a key. It compares the key with each where they are few, and hashes it where they are many. Takes
+    /// no memory.
     pub(crate) fn find(&self, key: &K) -> Option<usize>
         ensures { result ≡ position (K.eq key.now) (keys_of self.now) }
     {
@@ -241,7 +241,8 @@ impl<K: Eq + Hash + Drop, V: Drop> SmallMap<K, V> {
         self.room.remove(place);
     }
 
-    /// Keeps a new pair after the others. The ninth makes a map of the list. Where memory runs out, nothing has changed.
+    /// Keeps a new pair after the others. The ninth makes a map of the list. Where memory runs out, nothing has
+    /// changed.
     pub(crate) fn push(&mut self, alloc: Global, key: K, value: V) -> Result<(), OutOfMemory>
         requires { lookup (K.eq key) self.old ≡ None }
         ensures ok { OnOk result (self.new ≡ self.old ++ (key, value) ∷ []) }

@@ -67,7 +67,7 @@ fn kept(line: &Line, code: u64) -> Option<(usize, usize)> {
     Some((memory.left().len(), memory.right().len()))
 }
 
-// how many entries there are, and how many tasks are to be told of
+// how many entries there are, and how many tasks are to be reported
 fn done(line: &Line) -> (usize, usize) {
     (line.entries().len(), line.told().len())
 }

@@ -130,7 +130,8 @@ impl Tokens {
         self.pairs.remove(place);
     }
 
-    /// Keeps a new token after the others. The ninth makes a map of the list. Where memory runs out, nothing has changed.
+    /// Keeps a new token after the others. The ninth makes a map of the list. Where memory runs out, nothing has
+    /// changed.
     pub(crate) fn push(
         &mut self,
         alloc: Global,
@@ -145,7 +146,8 @@ impl Tokens {
         self.pairs.push(alloc, token.copy(alloc)?, cell)
     }
 
-    /// Keeps something else of a token that has this place, or keeps it no more. Where memory runs out, nothing has changed.
+    /// Keeps something else of a token that has this place, or keeps it no more. Where memory runs out, nothing has
+    /// changed.
     pub(crate) fn put(
         &mut self,
         alloc: Global,

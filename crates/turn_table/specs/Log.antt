@@ -36,7 +36,7 @@ module _ {E : Type 0} where
   abbrev pub signed_by : (E → Option ℕ) → ℕ → List E → List E
   signed_by signature pass entries = filter (is_signed_by signature pass) entries
 
-  -- the row is of one of so many cells, and its entry is not signed with the number of another pass
+  -- the row is of one of this many cells, and its entry is not signed with the number of another pass
   pub record IsRow (signature : E → Option ℕ) (cells : ℕ) (r : Row E) : Type 0 where
     pub inside : r.cell < cells
     pub may_sign : MaySign signature r.pass r.entry

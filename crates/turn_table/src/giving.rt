@@ -53,8 +53,8 @@ impl<T: Kept> Cells<T> {
         self.let_go(turn, word)
     }
 
-    /// Gives the value back to its cell with the entries that it had, and nothing stands in the log for it. It takes one
-    /// atomic step and no memory.
+    /// Gives the value back to its cell with the entries that it had, and nothing stands in the log for it. It takes
+    /// one atomic step and no memory.
     pub fn give_back(&self, turn: Turn<T>) -> Pass<T>
         requires turn { IsTurnOf T.entries self.now turn }
         requires name { T.name (value turn) ≡ T.name (claimed_value turn) }

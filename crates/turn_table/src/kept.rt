@@ -1,8 +1,8 @@
 //! What a value in a cell stands for.
 ghost use Rattle.std.specs.Prelude.{◌≡◌, ℕ, List, Option, length};
 
-/// A value that can stand in a cell: it stores a list of entries, and has a name that no turn changes. It is `Drop` since
-/// `Cells::new` lets the values go where memory runs out.
+/// A value that can stand in a cell: it stores a list of entries, and has a name that no turn changes. It is `Drop`
+/// since `Cells::new` lets the values go where memory runs out.
 pub trait Kept: Drop {
     type Entry;
 

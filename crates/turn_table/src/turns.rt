@@ -23,8 +23,8 @@ pub struct Turn<T: Kept> {
 }
 
 impl<T: Kept> Turn<T> {
-    /// The value, to be read and changed. An error in the midst of a change must not leave by `?`, since the turn has to
-    /// be given back first.
+    /// The value, to be read and changed. An error in the midst of a change must not leave by `?`, since the turn has
+    /// to be given back first.
     pub fn value(&mut self) -> &mut T
         ensures* writes_back { sem 𝓛 (Lends (the_row T.row T.Entry.row T.Name.row) T.row self.entry result (with_value self.old)) }
         ensures value { result.now ≡ value self.old }

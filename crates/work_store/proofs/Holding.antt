@@ -101,7 +101,7 @@ removed_held before now t there elements kept n =
 
 -- ---- changes
 
--- what changes add, and others behind them
+-- what changes add, and others after them
 added_by-append : (cs ds : List Change) → added_by (cs ++ ds) ≡ added_by cs ++ added_by ds
 added_by-append [] ds = refl
 added_by-append (Add e ∷ cs) ds = ap (λ es. e ∷ es) (added_by-append cs ds)

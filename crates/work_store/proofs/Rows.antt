@@ -13,7 +13,7 @@ use Rattle.work_store.proofs.Lists.{above_differs, below_differs, at_is, compare
 
 -- ---- changes at one tag
 
--- A change of the entries at one tag leaves those of lower tags before it, and those of higher tags behind it.
+-- A change of the entries at one tag leaves those of lower tags before it, and those of higher tags after it.
 pub record IsEdit (t : ℕ) (f : List (ℕ × Slot) → List (ℕ × Slot)) : Type 0 where
   pub left : (before bs : List (ℕ × Slot)) → AllByRecursion (λ e. e.0 < t) before → f (before ++ bs) ≡ before ++ f bs
   pub right : (bs cs : List (ℕ × Slot)) → AllByRecursion (λ e. t < e.0) cs → f (bs ++ cs) ≡ f bs ++ cs

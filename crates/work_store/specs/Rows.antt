@@ -102,7 +102,7 @@ elements_left slots pages = elements_by slot_elements (standing slots) ++ elemen
 
 -- ---- changes
 
--- empty places came behind the others
+-- empty places came after the others
 pub record IsGrown {X : Type 0} (before now : List (Option X)) : Type 0 where
   pub more : ℕ
   pub are : now ≡ before ++ replicate more None

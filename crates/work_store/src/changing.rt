@@ -24,9 +24,9 @@ fn make_change(store: &mut Store, alloc: Global, change: &Change) -> Result<(), 
 }
 
 impl Store {
-    /// Does changes in their order. An added element is copied, and a removed one is kept until `forget`. Each takes the
-    /// same time whatever the number of elements, but where `add` says more. Where memory runs out at a change those
-    /// before it are done.
+    /// Does changes in their order. An added element is copied, and a removed one is kept until `forget`. Each takes
+    /// the same time whatever the number of elements, but where `add` says more. Where memory runs out at a change
+    /// those before it are done.
     pub fn make_changes(&mut self, alloc: Global, changes: &[Change]) -> Result<(), OutOfMemory>
         requires { Lawful self.old.elements self.old.last changes.now }
         ensures elements { OnOk result (self.new.elements ≡ done self.old.elements changes.now) }

@@ -11,8 +11,8 @@ use ops_base::memory::OutOfMemory;
 use ops_base::rules::Inst;
 use std::alloc::Global;
 
-/// A matcher once it has settled, and how its conflict set changed: what came and what went, each in the order of rule and
-/// tags. What left and came back is in neither.
+/// A matcher once it has settled, and how its conflict set changed: what came and what went, each in the order of rule
+/// and tags. What left and came back is in neither.
 pub struct Settled<M> {
     pub matcher: M,
     pub come: Vec<Inst>,

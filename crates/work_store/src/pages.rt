@@ -17,8 +17,8 @@ use std::marker::Model;
 // The greatest number of slots.
 const MOST: usize = 1 << 62;
 
-/// Slots by their tags. Tag t has place t % 64 of a page, which is place t / 64 % 64 of chapter t / 4096. A page without a
-/// slot and a chapter without a page are let go.
+/// Slots by their tags. Tag t has place t % 64 of a page, which is place t / 64 % 64 of chapter t / 4096. A page
+/// without a slot and a chapter without a page are let go.
 #[derive(Drop)]
 pub(crate) struct Pages {
     pub(crate) chapters: Row<Row<Row<Slot>>>,

@@ -122,9 +122,9 @@ impl Store {
     }
 
     /// Adds an element with a tag above all others. Where memory runs out nothing has changed. Takes the same time
-    /// whatever the number of elements, but where a room for tags or slots doubles, and where tags are left out: there it
-    /// grows with their number over 4,096. Beside the elements themselves the store takes memory in proportion to the
-    /// greatest tag over 4,096, so a tag far above the others may be refused for want of memory.
+    /// whatever the number of elements, but where a room for tags or slots doubles, and where tags are left out: there
+    /// it grows with their number over 4,096. Beside the elements themselves the store takes memory in proportion to
+    /// the greatest tag over 4,096, so a tag far above the others may be refused for want of memory.
     pub fn add(&mut self, element: Element) -> Result<(), OutOfMemory>
         requires { self.old.last < element.tag }
         ensures ok { OnOk result (self.new ≡ record { elements = self.old.elements ++ element ∷ []; kept = self.old.kept; last = element.tag }) }
@@ -145,8 +145,8 @@ impl Store {
         Ok(())
     }
 
-    /// Removes a present element, which is kept until `forget`. Takes no memory, and the same time whatever the number of
-    /// elements.
+    /// Removes a present element, which is kept until `forget`. Takes no memory, and the same time whatever the number
+    /// of elements.
     pub fn remove(&mut self, tag: u64)
         requires { IsSome (of_tag self.old.elements tag) }
         ensures elements { self.new.elements ≡ without_tag tag self.old.elements }

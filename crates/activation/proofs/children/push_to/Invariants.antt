@@ -1,4 +1,4 @@
--- So many tasks are there.
+-- This many tasks are there.
 use Rattle.std.proofs.Common.{◌≡◌, ◌++◌, replicate}
 use Rattle.activation.specs.Children.{child}
 use Rattle.activation.specs.Putting.{tagged}

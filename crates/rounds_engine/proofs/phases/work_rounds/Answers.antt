@@ -1,4 +1,4 @@
--- A round more carries the phase on. Tasks that have as many rounds behind them as there are nodes are none.
+-- A round more carries the phase on. After as many rounds as there are nodes no task is left.
 use Rattle.std.proofs.Common.{List, length, sym, ap, subst, ◌∙◌, arith}
 use Rattle.net_base.specs.declared.tasks.Task.{Task}
 use Rattle.serial_engine.specs.Carrying.{CarriesOn}

@@ -1,4 +1,4 @@
--- The total at hand counts one more, or it is told and another one is at hand.
+-- The total at hand counts one more, or it is reported and another one is at hand.
 use Rattle.std.proofs.Common.{◌≡◌, ◌++◌, Bool, List, true, false, Some, Option, sym, ap, ap₂, subst, ◌∙◌, rules, ℤ, ◌+ℤ◌, to_z, of_z, w64, FitsSigned}
 use Rattle.std.specs.Option.{option_to_list}
 use Rattle.std.proofs.lemmas.Int.{to_z-of_z}

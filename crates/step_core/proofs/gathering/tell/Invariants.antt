@@ -1,4 +1,4 @@
--- All but what is at hand is told of those that were looked at.
+-- All but what is at hand is reported of those that were looked at.
 use Rattle.std.proofs.Common.{[], fold}
 use Rattle.step_core.specs.Gathering.{AreToldBut, added}
 use Rattle.step_core.proofs.gathering.tell.Given as goal
