@@ -1,5 +1,5 @@
 //! One task, done on its line.
-ghost use Rattle.std.specs.Prelude.{◌≡◌, ◌≢◌, ◌<◌, ◌-◌, ◌^◌, ◌&&◌, List, OnErr, OnOk, Some, if◌then◌else◌, pos, slice_get, slice_index, true, ℕ};
+ghost use Rattle.std.specs.Prelude.{◌≡◌, ◌≢◌, ◌<◌, ◌-◌, ◌^◌, ◌&&◌, List, OnErr, OnOk, Some, if◌then◌else◌, pos, slice_get, slice_index, true, ℕ, ◌≤◌, vec_capacity};
 ghost use Rattle.std.specs.Option.{option_copied};
 ghost use Rattle.work_store.specs.Stored.{held_of};
 ghost use Rattle.net_base.specs.Sound.{IsSound, is_terminal};
@@ -91,6 +91,7 @@ fn attempt(
     ensures same_sums { OnErr result ((n : ℕ) (s : Side) (t : List ℕ) → sum_in line.new n s t ≡ sum_in line.old n s t) }
     ensures same_entries { OnErr result (line.new.entries.items ≡ line.old.entries.items) }
     ensures grown { OnErr result (Grows out.old.items out.new.items) }
+    ensures capacity { vec_capacity out.old ≤ vec_capacity out.new }
 {
     let node = node_of(net, store, task);
     let before = out.len();
@@ -126,6 +127,7 @@ pub fn activate(
     ensures same_sums { OnErr result ((n : ℕ) (s : Side) (t : List ℕ) → sum_in line.new n s t ≡ sum_in line.old n s t) }
     ensures same_entries { OnErr result (line.new.entries.items ≡ line.old.entries.items) }
     ensures same_out { OnErr result (out.new.items ≡ out.old.items) }
+    ensures capacity { vec_capacity out.old ≤ vec_capacity out.new }
 {
     let code = code_of(net, store, task);
     activate_coded(alloc, net, store, line, task, code, out)
@@ -150,6 +152,7 @@ pub fn activate_coded(
     ensures same_sums { OnErr result ((n : ℕ) (s : Side) (t : List ℕ) → sum_in line.new n s t ≡ sum_in line.old n s t) }
     ensures same_entries { OnErr result (line.new.entries.items ≡ line.old.entries.items) }
     ensures same_out { OnErr result (out.new.items ≡ out.old.items) }
+    ensures capacity { vec_capacity out.old ≤ vec_capacity out.new }
 {
     let before = out.len();
     match attempt(alloc, net, store, line, task, code, out) {

@@ -1,5 +1,5 @@
 //! The tasks for the children of a node, of what the node puts out.
-ghost use Rattle.std.specs.Prelude.{◌≡◌, ◌++◌, IfOk, OnOk, replicate};
+ghost use Rattle.std.specs.Prelude.{◌≡◌, ◌++◌, IfOk, OnOk, replicate, ◌≤◌, vec_capacity};
 ghost use Rattle.token_line.specs.Bags.{standing};
 ghost use Rattle.activation.specs.Children.{Grows, child, children_of, to_each};
 ghost use Rattle.activation.specs.Putting.{put_if, tagged};
@@ -40,6 +40,7 @@ fn push_to(
 ) -> Result<(), OutOfMemory>
     ensures ok { OnOk result (out.new.items ≡ out.old.items ++ replicate times (child plus (tagged token.now tag) node)) }
     ensures grown { Grows out.old.items out.new.items }
+    ensures capacity { vec_capacity out.old ≤ vec_capacity out.new }
 {
     for _time in 0..times {
         let token = lengthened(alloc, token, tag)?;
@@ -65,6 +66,7 @@ pub(crate) fn push_to_each(
 ) -> Result<(), OutOfMemory>
     ensures ok { OnOk result (out.new.items ≡ out.old.items ++ to_each below.entry.nodes.now below.entry.plus (record { token = tagged token.now tag; times = times })) }
     ensures grown { Grows out.old.items out.new.items }
+    ensures capacity { vec_capacity out.old ≤ vec_capacity out.new }
 {
     let nodes = below.nodes;
     for node in nodes {
@@ -93,6 +95,7 @@ pub(crate) fn push_if(
 ) -> Result<(), OutOfMemory>
     ensures ok { OnOk result (out.new.items ≡ out.old.items ++ children_of below.entry.nodes.now below.entry.plus (put_if holds (tagged token.now tag) cell.sum)) }
     ensures grown { Grows out.old.items out.new.items }
+    ensures capacity { vec_capacity out.old ≤ vec_capacity out.new }
 {
     if !holds {
         return Ok(());

@@ -1,5 +1,5 @@
 //! What a task does at its node, by the kind of the node.
-ghost use Rattle.std.specs.Prelude.{◌≡◌, ◌<◌, ◌==◌, ◌&&◌, ◌^◌, IfOk, IsSome, OnOk, false, pos, true, ℕ};
+ghost use Rattle.std.specs.Prelude.{◌≡◌, ◌<◌, ◌==◌, ◌&&◌, ◌^◌, IfOk, IsSome, OnOk, false, pos, true, ℕ, ◌≤◌, vec_capacity};
 ghost use Rattle.std.specs.Option.{ForSome, option_copied, option_map_or};
 ghost use Rattle.work_store.specs.Stored.{held_of};
 ghost use Rattle.net_base.specs.declared.nodes.Kind.TheVariants.{Negated};
@@ -71,6 +71,7 @@ fn at_join(
 ) -> Result<Done, OutOfMemory>
     ensures ok { IfOk result (λ d. IsGiven node.now.children (join_effect node.now.joins (held_of store.now) (option_copied memory.entry) task.now moves) out.old.items out.new.items d) }
     ensures grown { Grows out.old.items out.new.items }
+    ensures capacity { vec_capacity out.old ≤ vec_capacity out.new }
 {
     if moves {
         let nodes = node.children.as_slice();
@@ -98,6 +99,7 @@ fn at_left(
 ) -> Result<Done, OutOfMemory>
     ensures ok { IfOk result (λ d. IsGiven node.now.children (record { plus = task.now.plus; puts = put_once (moves && (blockers == 0)) task.now.token; blockers = blockers; blocks = false }) out.old.items out.new.items d) }
     ensures grown { Grows out.old.items out.new.items }
+    ensures capacity { vec_capacity out.old ≤ vec_capacity out.new }
 {
     if moves && blockers == 0 {
         let nodes = node.children.as_slice();
@@ -127,6 +129,7 @@ fn at_right(
     ensures ok { IfOk result (λ d. IsGiven node.now.children (right_effect node.now.joins (held_of store.now) (option_copied memory.entry) task.now moves) out.old.items out.new.items d) }
     ensures room { OnOk result (moves ≡ true → all_have_room task.now.plus (left_entries (option_copied memory.entry)) ≡ true) }
     ensures grown { Grows out.old.items out.new.items }
+    ensures capacity { vec_capacity out.old ≤ vec_capacity out.new }
 {
     if moves {
         let nodes = node.children.as_slice();
@@ -158,6 +161,7 @@ pub(crate) fn do_at(
     ensures ok { IfOk result (λ d. IsGiven node.now.children (effect_at node.now.kind node.now.joins (held_of store.now) (option_copied memory.entry) task.now (changes (option_map_or (λ c. c.sum) kept (pos 0)) task.now.plus)) out.old.items out.new.items d) }
     ensures room { OnOk result (node.now.kind ≡ Negated → task.now.side ≡ Right → changes (option_map_or (λ c. c.sum) kept (pos 0)) task.now.plus ≡ true → all_have_room task.now.plus (left_entries (option_copied memory.entry)) ≡ true) }
     ensures grown { Grows out.old.items out.new.items }
+    ensures capacity { vec_capacity out.old ≤ vec_capacity out.new }
 {
     let moves = moves(kept, task);
     match node.kind {

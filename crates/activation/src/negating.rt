@@ -1,6 +1,6 @@
 //! What a negated node puts out for a task, and how often right tokens stand that match a left one, over the tokens of
 //! its line.
-ghost use Rattle.std.specs.Prelude.{◌≡◌, ◌+◌, ◌==◌, ◌&&◌, ◌++◌, IfOk, OnOk, if◌then◌else◌, slice_index, true};
+ghost use Rattle.std.specs.Prelude.{◌≡◌, ◌+◌, ◌==◌, ◌&&◌, ◌++◌, IfOk, OnOk, if◌then◌else◌, slice_index, true, ◌≤◌, vec_capacity};
 ghost use Rattle.std.specs.Option.{option_copied, option_map_or};
 ghost use Rattle.work_store.specs.Stored.{held_of};
 ghost use Rattle.net_base.specs.Tokens.{joins_hold};
@@ -109,6 +109,7 @@ fn give_flipped(
     ensures ok { OnOk result (out.new.items ≡ out.old.items ++ children_of below.entry.nodes.now below.entry.plus (put_flipped tests.now (held_of store.now) (slice_index task.now.token 0) task.now.plus left.now)) }
     ensures room { OnOk result (all_have_room task.now.plus left.now ≡ true) }
     ensures grown { Grows out.old.items out.new.items }
+    ensures capacity { vec_capacity out.old ≤ vec_capacity out.new }
 {
     let tag = tag_at(task.token.as_slice(), 0);
     let plus = task.plus;
@@ -136,6 +137,7 @@ pub(crate) fn give_by_flip(
     ensures ok { OnOk result (out.new.items ≡ out.old.items ++ children_of below.entry.nodes.now below.entry.plus (put_flipped tests.now (held_of store.now) (slice_index task.now.token 0) task.now.plus (left_entries (option_copied memory.entry)))) }
     ensures room { OnOk result (all_have_room task.now.plus (left_entries (option_copied memory.entry)) ≡ true) }
     ensures grown { Grows out.old.items out.new.items }
+    ensures capacity { vec_capacity out.old ≤ vec_capacity out.new }
 {
     match memory {
         Some(memory) => give_flipped(alloc, store, tests, task, memory.left(), below, out),

@@ -1,5 +1,5 @@
 //! What a join puts out for a task, over the tokens of its line.
-ghost use Rattle.std.specs.Prelude.{◌≡◌, ◌++◌, OnOk};
+ghost use Rattle.std.specs.Prelude.{◌≡◌, ◌++◌, OnOk, ◌≤◌, vec_capacity};
 ghost use Rattle.std.specs.Option.{option_copied};
 ghost use Rattle.work_store.specs.Stored.{held_of};
 ghost use Rattle.activation.specs.Children.{Grows, children_of};
@@ -34,6 +34,7 @@ fn give_for_left(
 ) -> Result<(), OutOfMemory>
     ensures ok { OnOk result (out.new.items ≡ out.old.items ++ children_of below.entry.nodes.now below.entry.plus (put_for_left tests.now (held_of store.now) token.now right.now)) }
     ensures grown { Grows out.old.items out.new.items }
+    ensures capacity { vec_capacity out.old ≤ vec_capacity out.new }
 {
     for place in 0..right.len() {
         let (other, cell) = right.pair(place);
@@ -56,6 +57,7 @@ fn give_for_right(
 ) -> Result<(), OutOfMemory>
     ensures ok { OnOk result (out.new.items ≡ out.old.items ++ children_of below.entry.nodes.now below.entry.plus (put_for_right tests.now (held_of store.now) tag left.now)) }
     ensures grown { Grows out.old.items out.new.items }
+    ensures capacity { vec_capacity out.old ≤ vec_capacity out.new }
 {
     let element = store.kept(tag);
     for place in 0..left.len() {
@@ -79,6 +81,7 @@ pub(crate) fn give_by_join(
 ) -> Result<(), OutOfMemory>
     ensures ok { OnOk result (out.new.items ≡ out.old.items ++ children_of below.entry.nodes.now below.entry.plus (put_for tests.now (held_of store.now) (option_copied memory.entry) task.now.side task.now.token)) }
     ensures grown { Grows out.old.items out.new.items }
+    ensures capacity { vec_capacity out.old ≤ vec_capacity out.new }
 {
     let Some(memory) = memory else {
         return Ok(());

@@ -1,6 +1,6 @@
 -- What becomes of the members where some ranks leave the two maps of an index and others come.
-use Rattle.std.proofs.Common.{◌≡◌, ◌≢◌, ℕ, ◌≤◌, List, [], ◌∷◌, map, length, false, true, refl, ap, sym, ◌∙◌, subst, inl, inr, ◌⊎◌}
-use Rattle.std.specs.Prelude.{Contains, ◌↔◌}
+use Rattle.std.proofs.Common.{◌≡◌, ◌≢◌, ℕ, ◌≤◌, List, map, length, refl, ap, sym, ◌∙◌, subst, inl, inr, ◌⊎◌}
+use Rattle.std.specs.Prelude.{Contains}
 use Rattle.std.specs.List.{IsDistinct}
 use Rattle.std.specs.List.Sorted.{IsStrictlySortedBy}
 use Rattle.std.specs.Map.{keys_of}
@@ -9,19 +9,17 @@ use Rattle.ops_base.specs.declared.commands.Strategy.{Strategy}
 use Rattle.ops_base.specs.declared.rules.Inst.{Inst}
 use Rattle.ops_base.specs.declared.rules.Rule.{Rule}
 use Rattle.ops_base.specs.Dominance.{specificity_of}
-use Rattle.ops_base.specs.Instances.{IsInOrder}
 use Rattle.ops_base.proofs.Members.{IsMember, member_from_contains, contains_from_member, member-map, map_member, all_from_members}
 use Rattle.resolution.specs.declared.keys.Key.{Key}
 use Rattle.resolution.specs.Keys.{same_keys}
-use Rattle.conflict_index.specs.declared.rank.Held.{Held}
 use Rattle.conflict_index.specs.declared.rank.Rank.{Rank}
 use Rattle.conflict_index.specs.Indexed.{Member, Indexed, insts_of, key_with, KeepsSpecificities}
 use Rattle.conflict_index.specs.Applying.{newcomer, Stays, Comes, IsApplied, IsPart, IsApart}
 use Rattle.conflict_index.specs.Ranking.{compare_ranks}
-use Rattle.conflict_index.specs.Keeping.{held_member, fired_member, all_members, members_of, rank_with, rank_in, arrival, AreToldApart, AreRanked, AreKeyed, IsKept, HasSame, Gains, Loses}
+use Rattle.conflict_index.specs.Keeping.{held_member, fired_member, all_members, members_of, rank_with, rank_in, arrival, AreToldApart, IsKept, HasSame, Gains, Loses}
 use Rattle.conflict_index.proofs.Members.{insts_in_order}
 use Rattle.conflict_index.proofs.Placing.{IsOne, sorted, in_order_member, member_in_order}
-use Rattle.conflict_index.proofs.Kept.{Entry, Mark, all_member, held_among, fired_among, kept_one, one_kept, inst_of_key, ranked_inst, keyed_inst, same_by_key}
+use Rattle.conflict_index.proofs.Kept.{Entry, Mark, all_member, held_among, fired_among, kept_one, one_kept, inst_of_key, ranked_inst, same_by_key}
 
 abbrev inst_of : Member → Inst
 inst_of m = m.inst
@@ -135,6 +133,27 @@ module _ (strategy : Strategy) (rules : List Rule) (gone come : List Inst) (wait
       let l = came e g in
       let i : f.0 ≡ l.0 = ap (λ (w : Rank). inst_of_key w.key) (sym (ap (λ (w : Entry). w.0) f.2) ∙ same ∙ ap (λ (w : Entry). w.0) l.2) in
       f.2 ∙ ap (arrival strategy rules) i ∙ sym l.2
+
+  -- one that waits and one that has fired have two keys, also once others came
+  pub keys_apart : (more : List Entry) (moved : List Mark) → Gains (map (arrival strategy rules) come) waiting more → HasSame fired moved
+      → (e : Entry) (d : Mark) → Contains more e → Contains moved d → e.0.key ≢ d.0
+  keys_apart more moved gains same e d h g keys = elim ((gains e).0 h) [
+    | inl o ↦
+        let m = member_from_contains e waiting o in
+        can.kept.apart e d o fired_there (ranked_inst strategy waiting can.kept.ranked e m ∙ by_key)
+    | inr n ↦
+        let f = came e n in
+        absent (fired_member d) f.0 (fired_among waiting fired d mark) f.1 (sym (ap (λ (w : Entry). inst_of_key w.0.key) (sym f.2) ∙ by_key))
+  ]
+    where
+      fired_there : Contains fired d
+      fired_there = (same d).0 g
+
+      mark : IsMember d fired
+      mark = member_from_contains d fired fired_there
+
+      by_key : inst_of_key e.0.key ≡ d.1
+      by_key = ap inst_of_key (keys ∙ key_is d mark)
 
   -- ---- what is left
 

@@ -1,6 +1,6 @@
 -- The order of dominance: which members stand above which, and which stands at a place.
-use Rattle.std.proofs.Common.{◌≡◌, ◌≢◌, ℕ, zero, suc, ◌+◌, ◌≤◌, ◌<◌, List, [], ◌∷◌, ◌++◌, map, length, slice_get, reverse, Bool, true, false, cond, not, Option, Some, None, refl, ap, sym, ◌∙◌, subst, inl, inr, ◌⊎◌, arith}
-use Rattle.std.specs.Prelude.{Contains, filter}
+use Rattle.std.proofs.Common.{◌≡◌, ◌≢◌, ℕ, ◌+◌, ◌≤◌, ◌<◌, List, [], ◌∷◌, ◌++◌, map, length, slice_get, reverse, Bool, true, false, cond, not, Option, Some, None, refl, ap, sym, ◌∙◌, subst, inl, inr, arith}
+use Rattle.std.specs.Prelude.{filter}
 use Rattle.std.specs.Option.{MatchOption, unwrap_or}
 use Rattle.std.specs.declared.cmp.Ordering.{Ordering}
 use Rattle.std.specs.declared.cmp.Ordering.TheVariants.{Less, Equal, Greater}
@@ -17,18 +17,17 @@ use Rattle.ops_base.specs.declared.rules.Inst.{Inst}
 use Rattle.ops_base.specs.Dominance.{is_greater}
 use Rattle.ops_base.proofs.Filtered.{filter_member, member-filter, all_before-filter}
 use Rattle.ops_base.proofs.InOrder.{AllBefore}
-use Rattle.ops_base.proofs.Members.{IsMember, member_from_contains, contains_from_member, member_left, member_right, member_cases, member-map, map_member}
+use Rattle.ops_base.proofs.Members.{IsMember, contains_from_member, member_left, member_right, member-map, map_member}
 use Rattle.resolution.specs.declared.keys.Key.{Key}
 use Rattle.resolution.specs.Keys.{compare_keys}
 use Rattle.resolution.proofs.KeyLaws.{compare_keys_total}
 use Rattle.resolution.proofs.SameKeys.{tied_keys}
 use Rattle.conflict_index.specs.declared.rank.Held.{Held}
-use Rattle.conflict_index.specs.declared.rank.Rank.{Rank}
 use Rattle.conflict_index.specs.Indexed.{Member, waiting, outranks, key_with}
 use Rattle.conflict_index.specs.Ranking.{under, compare_ranks, compare_ranks_total}
-use Rattle.conflict_index.specs.Keeping.{held_member, fired_member, in_order, all_members, members_of, rank_with, unfired_insts, IsKept}
+use Rattle.conflict_index.specs.Keeping.{held_member, in_order, all_members, members_of, rank_with, unfired_insts, IsKept}
 use Rattle.conflict_index.specs.Selecting.{IsAt}
-use Rattle.conflict_index.proofs.Kept.{Entry, Mark, all_member, held_among, fired_among, kept_one, same_by_inst}
+use Rattle.conflict_index.proofs.Kept.{Entry, Mark, all_member, held_among, kept_one, same_by_inst}
 use Rattle.conflict_index.proofs.Members.{MemberBefore}
 use Rattle.conflict_index.proofs.Placing.{IsOne, in_order_is, sorted, in_order_member, member_in_order, length-filter_in_order}
 use Rattle.conflict_index.proofs.Ranks.{outranks_itself}

@@ -1,7 +1,6 @@
 -- The members of an index, from the two maps that keep them.
-use Rattle.std.proofs.Common.{◌≡◌, ◌≢◌, ℕ, ◌≤◌, List, [], ◌∷◌, ◌++◌, map, length, Bool, true, false, cond, Some, None, Option, refl, ap, sym, ◌∙◌, subst, inl, inr, ◌⊎◌, arith}
-use Rattle.std.specs.Prelude.{Contains, ◌↔◌}
-use Rattle.std.specs.Bool.{Decides}
+use Rattle.std.proofs.Common.{◌≡◌, ◌≢◌, ℕ, ◌≤◌, List, [], map, length, ap, sym, ◌∙◌, subst, inl, inr, ◌⊎◌, arith}
+use Rattle.std.specs.Prelude.{Contains}
 use Rattle.std.specs.List.{IsDistinct}
 use Rattle.std.specs.List.Sorted.{IsStrictlySortedBy}
 use Rattle.std.specs.Map.{keys_of}
@@ -10,7 +9,6 @@ use Rattle.std.proofs.lemmas.List.Sorted.{Contains-permutation, IsPermutation-sy
 use Rattle.ops_base.specs.declared.commands.Strategy.{Strategy}
 use Rattle.ops_base.specs.declared.rules.Inst.{Inst}
 use Rattle.ops_base.specs.Instances.{IsInOrder}
-use Rattle.ops_base.proofs.InstEquality.{same_fields}
 use Rattle.ops_base.proofs.Members.{IsMember, member_from_contains, contains_from_member, member_left, member_right, member_cases, member-map, map_member}
 use Rattle.resolution.specs.declared.keys.Key.{Key}
 use Rattle.resolution.specs.Keys.{same_keys}
@@ -18,8 +16,8 @@ use Rattle.conflict_index.specs.declared.rank.Held.{Held}
 use Rattle.conflict_index.specs.declared.rank.Rank.{Rank}
 use Rattle.conflict_index.specs.Indexed.{Member, Indexed, insts_of, key_with}
 use Rattle.conflict_index.specs.Ranking.{compare_ranks}
-use Rattle.conflict_index.specs.Keeping.{held_member, fired_member, in_order, all_members, members_of, rank_with, ranked_anew, AreToldApart, AreRanked, AreKeyed, IsKept, HasSame}
-use Rattle.conflict_index.proofs.Members.{InOrder, insts_in_order}
+use Rattle.conflict_index.specs.Keeping.{held_member, fired_member, all_members, members_of, rank_with, ranked_anew, AreToldApart, AreRanked, AreKeyed, IsKept, HasSame}
+use Rattle.conflict_index.proofs.Members.{insts_in_order}
 use Rattle.conflict_index.proofs.Placing.{IsOne, sorted, in_order_is, in_order_member, member_in_order}
 
 abbrev pub Entry : Type 0

@@ -23,7 +23,7 @@ use Rattle.ops_base.specs.declared.commands.Strategy.{Strategy}
 use Rattle.ops_base.specs.declared.commands.Strategy.TheVariants.{Lex, Mea}
 use Rattle.ops_base.specs.declared.rules.Inst.{Inst}
 use Rattle.ops_base.proofs.InstOrder.{both_equal, equal_numbers}
-use Rattle.ops_base.proofs.Members.{IsMember, member_from_contains, contains_from_member, member_left, member_right, member_cases}
+use Rattle.ops_base.proofs.Members.{member_from_contains, contains_from_member, member_left, member_right, member_cases}
 use Rattle.resolution.specs.declared.keys.Key.{Key}
 use Rattle.resolution.specs.Keys.{compare_keys, same_keys}
 use Rattle.resolution.proofs.SameKeys.{same_parts, same_keys-Decides, tied_keys}
@@ -91,7 +91,7 @@ updated_some {K} {X} f g test k w d e q v = by_test (test q) (d q) (e q)
 
 -- ---- the maps of an index
 
-waiting_has : (m : BTreeMap Rank Held) → tree.IsOrdered compare_ranks m → (q : Rank) (v : Held) → (tree.get compare_ranks m q ≡ Some v) ↔ Contains m.entries (q, v)
+pub waiting_has : (m : BTreeMap Rank Held) → tree.IsOrdered compare_ranks m → (q : Rank) (v : Held) → (tree.get compare_ranks m q ≡ Some v) ↔ Contains m.entries (q, v)
 waiting_has m o q v = btree_map_get_iff compare_ranks_total tied_ranks m o q v
 
 pub fired_has : {S : Type 0} (m : HashMap Key Inst S) → hash.IsUnique same_keys m → (q : Key) (v : Inst) → (hash.get same_keys m q ≡ Some v) ↔ Contains m.entries (q, v)

@@ -26,8 +26,8 @@ use Rattle.conflict_index.specs.declared.rank.Rank.{Rank}
 use Rattle.conflict_index.specs.Applying.{marked}
 use Rattle.conflict_index.specs.Indexed.{Member, insts_of, key_with}
 use Rattle.conflict_index.specs.Ranking.{compare_ranks, compare_ranks_total}
-use Rattle.conflict_index.specs.Keeping.{held_member, fired_member, put_in, in_order, all_members, members_of, rank_with, marked_held, AreRanked, AreKeyed, IsKept, Gains}
-use Rattle.conflict_index.proofs.Kept.{Entry, Mark, all_member, held_among, fired_among, kept_one, one_kept, inst_of_key, ranked_inst, keyed_inst, same_by_inst}
+use Rattle.conflict_index.specs.Keeping.{held_member, fired_member, put_in, in_order, all_members, members_of, rank_with, marked_held, IsKept, Gains}
+use Rattle.conflict_index.proofs.Kept.{Entry, Mark, all_member, held_among, fired_among, kept_one, one_kept, ranked_inst, keyed_inst, same_by_inst}
 use Rattle.conflict_index.proofs.Lookups.{fired_has}
 use Rattle.conflict_index.proofs.Placing.{IsOne, in_order_is, sorted, in_order_member, member_in_order}
 use Rattle.conflict_index.proofs.Sorted.{entries_before}

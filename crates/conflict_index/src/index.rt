@@ -10,7 +10,7 @@ ghost use Rattle.conflict_index.specs.Selecting.{IsFirst, IsAt};
 
 use crate::order::ByDominance;
 use crate::standing::{
-    Fired, Waiting, add, is_last, mark_in_place, put, ranked, ranked_anew, ranks_of, remove_all,
+    Fired, Waiting, add, is_last, mark_in_place, put, ranked_anew, ranks_of, remove_all,
 };
 use ops_base::commands::Strategy;
 use ops_base::memory::OutOfMemory;
@@ -87,9 +87,8 @@ impl Index {
         ensures err { OnErr result (self.new ≡ self.old) }
     {
         let leaving = ranks_of(self.alloc, self.strategy, program, gone)?;
-        let coming = ranked(self.alloc, self.strategy, program, come)?;
         self.fired.reserve(self.waiting.len() + come.len())?;
-        add(&mut self.waiting, coming, come)?;
+        add(self.alloc, self.strategy, program, &mut self.waiting, come)?;
         remove_all(&mut self.waiting, &mut self.fired, leaving.as_slice());
         Ok(())
     }

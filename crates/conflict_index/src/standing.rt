@@ -1,5 +1,5 @@
 //! The two maps of an index: members in the order of dominance, and those that have fired by their keys.
-ghost use Rattle.std.specs.Prelude.{◌≡◌, ◌+◌, ◌<◌, ◌≤◌, ◌++◌, ◌∷◌, [], List, IsTrue, map, filter, length, not, IfOk, OnOk, OnErr, Contains, None, ◌⊎◌};
+ghost use Rattle.std.specs.Prelude.{◌≡◌, ◌≢◌, ◌+◌, ◌<◌, ◌≤◌, ◌++◌, ◌∷◌, [], List, IsTrue, map, filter, length, not, IfOk, OnOk, OnErr, Contains, None, ◌⊎◌};
 ghost use Rattle.std.specs.HashMap.{spare, get};
 ghost use Rattle.std.specs.List.Sorted.{IsStrictlySortedBy};
 ghost use Rattle.std.specs.List.{IsDistinct};
@@ -11,6 +11,7 @@ ghost use Rattle.conflict_index.specs.Keeping.{rank_in, arrival, ranked_anew, Ar
 ghost use Rattle.conflict_index.specs.declared.rank.Rank.{Rank};
 ghost use Rattle.conflict_index.specs.declared.rank.Held.{Held};
 ghost use Rattle.ops_base.specs.declared.rules.Inst.{Inst};
+ghost use Rattle.resolution.specs.declared.keys.Key.{Key};
 ghost use Rattle.conflict_index.specs.Ranking.{compare_ranks};
 
 use crate::rank::{Held, Rank};
@@ -71,37 +72,30 @@ pub(crate) fn ranks_of(
     Ok(ranks)
 }
 
-/// A copy of each with its rank. Of each it copies the tags three times, and sorts one of the copies.
-pub(crate) fn ranked(
+/// Adds a copy of each with its rank, as far as memory goes. Of each it copies the tags three times, and sorts one of the
+/// copies.
+fn add_all(
     alloc: Global,
     strategy: Strategy,
     program: &Program,
+    waiting: &mut Waiting,
     insts: &[Inst],
-) -> Result<Vec<(Rank, Held)>, OutOfMemory>
-    requires { AreOf program.now.rules insts.now }
-    ensures { IfOk result (λ v. v.items ≡ map (arrival strategy program.now.rules) insts.now) }
-{
-    let mut ranked = Vec::with_capacity(alloc, insts.len())?;
-    for inst in insts {
-        let rank = rank_of(alloc, strategy, program, inst)?;
-        let inst = inst.copy(alloc)?;
-        ranked.push((rank, Held { inst, fired: false }))?;
-    }
-    Ok(ranked)
-}
-
-fn add_all(waiting: &mut Waiting, ranked: Vec<(Rank, Held)>) -> Result<(), OutOfMemory>
+) -> Result<(), OutOfMemory>
+    requires rules { AreOf program.now.rules insts.now }
     requires ordered { IsStrictlySortedBy compare_ranks (keys_of waiting.old.entries) }
-    requires told_apart { AreToldApart waiting.old.entries ranked.items }
-    ensures ok { OnOk result (Gains ranked.items waiting.old.entries waiting.new.entries) }
+    requires told_apart { AreToldApart waiting.old.entries (map (arrival strategy program.now.rules) insts.now) }
+    ensures ok { OnOk result (Gains (map (arrival strategy program.now.rules) insts.now) waiting.old.entries waiting.new.entries) }
     ensures ordered { IsStrictlySortedBy compare_ranks (keys_of waiting.new.entries) }
     ensures kept { (e : Rank × Held) → Contains waiting.old.entries e → Contains waiting.new.entries e }
     ensures no_other { (e : Rank × Held) → Contains waiting.new.entries e
-        → Contains waiting.old.entries e ⊎ Contains ranked.items e }
-    ensures number { length waiting.new.entries ≤ length waiting.old.entries + length ranked.items }
+        → Contains waiting.old.entries e ⊎ Contains (map (arrival strategy program.now.rules) insts.now) e }
+    ensures number { length waiting.new.entries ≤ length waiting.old.entries + length insts.now }
 {
-    for (rank, held) in ranked {
-        waiting.insert(rank, held)?;
+    for inst in insts {
+        let rank = rank_of(alloc, strategy, program, inst)?;
+        let inst = inst.copy(alloc)?;
+        let fired = false;
+        waiting.insert(rank, Held { inst, fired })?;
     }
     Ok(())
 }
@@ -114,22 +108,26 @@ fn take_back(waiting: &mut Waiting, insts: &[Inst])
     waiting.retain(|_, held| !is_among(insts, &held.inst));
 }
 
-/// Adds them all, or none where memory runs out. In that case alone it goes over those that were there.
+/// Adds a copy of each with its rank, or none where memory runs out. In that case alone it goes over those that were
+/// there.
 pub(crate) fn add(
+    alloc: Global,
+    strategy: Strategy,
+    program: &Program,
     waiting: &mut Waiting,
-    ranked: Vec<(Rank, Held)>,
     insts: &[Inst],
 ) -> Result<(), OutOfMemory>
+    requires rules { AreOf program.now.rules insts.now }
     requires ordered { IsStrictlySortedBy compare_ranks (keys_of waiting.old.entries) }
-    requires told_apart { AreToldApart waiting.old.entries ranked.items }
+    requires told_apart { AreToldApart waiting.old.entries (map (arrival strategy program.now.rules) insts.now) }
     requires apart { (e : Rank × Held) → Contains waiting.old.entries e → ¬ Contains insts.now e.1.inst }
-    requires among { (e : Rank × Held) → Contains ranked.items e → Contains insts.now e.1.inst }
-    ensures ok { OnOk result (Gains ranked.items waiting.old.entries waiting.new.entries) }
+    requires among { (e : Rank × Held) → Contains (map (arrival strategy program.now.rules) insts.now) e → Contains insts.now e.1.inst }
+    ensures ok { OnOk result (Gains (map (arrival strategy program.now.rules) insts.now) waiting.old.entries waiting.new.entries) }
     ensures err { OnErr result (waiting.new.entries ≡ waiting.old.entries) }
-    ensures number { length waiting.new.entries ≤ length waiting.old.entries + length ranked.items }
+    ensures number { length waiting.new.entries ≤ length waiting.old.entries + length insts.now }
     ensures ordered { IsStrictlySortedBy compare_ranks (keys_of waiting.new.entries) }
 {
-    match add_all(waiting, ranked) {
+    match add_all(alloc, strategy, program, waiting, insts) {
         Ok(()) => Ok(()),
         Err(error) => {
             take_back(waiting, insts);
@@ -138,10 +136,12 @@ pub(crate) fn add(
     }
 }
 
-/// Removes those of these ranks from where they stand. Takes no memory.
+/// Removes those of these ranks from where they stand, each in one of the two maps: it looks among those that have fired
+/// only where a rank does not wait. Takes no memory.
 pub(crate) fn remove_all(waiting: &mut Waiting, fired: &mut Fired, ranks: &[Rank])
     requires ordered { IsStrictlySortedBy compare_ranks (keys_of waiting.old.entries) }
     requires unique { IsDistinct same_keys (keys_of fired.old.entries) }
+    requires apart { (e : Rank × Held) (d : Key × Inst) → Contains waiting.old.entries e → Contains fired.old.entries d → e.0.key ≢ d.0 }
     ensures waiting { Loses ranks.now waiting.old.entries waiting.new.entries }
     ensures fired { Loses (map (λ r. r.key) ranks.now) fired.old.entries fired.new.entries }
     ensures number { length waiting.new.entries ≤ length waiting.old.entries }
@@ -150,8 +150,9 @@ pub(crate) fn remove_all(waiting: &mut Waiting, fired: &mut Fired, ranks: &[Rank
     ensures unique { IsDistinct same_keys (keys_of fired.new.entries) }
 {
     for rank in ranks {
-        let _waited = waiting.remove(rank);
-        let _had_fired = fired.remove(&rank.key);
+        if waiting.remove(rank).is_none() {
+            let _had_fired = fired.remove(&rank.key);
+        }
     }
 }
 

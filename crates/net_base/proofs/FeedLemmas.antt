@@ -1,5 +1,5 @@
 -- What is looked up: numbers of list items, the index of the alphas, and what an element finds in it.
-use Rattle.std.proofs.Common.{◌≡◌, ◌≢◌, ℕ, zero, suc, ◌+◌, ◌<◌, Bool, true, false, cond, ◌||◌, ◌==◌, nat_eq, List, [], ◌∷◌, ◌++◌, length, slice_get, Option, Some, None, refl, sym, ap, subst, ◌∙◌, arith, add-one, inl, inr}
+use Rattle.std.proofs.Common.{◌≡◌, ◌≢◌, ℕ, zero, suc, ◌+◌, ◌<◌, Bool, true, false, cond, not, ◌||◌, ◌&&◌, ◌==◌, List, [], ◌∷◌, ◌++◌, length, slice_get, Option, Some, None, refl, sym, ap, subst, ◌∙◌, arith, add-one, append-nil, inl, inr}
 use Rattle.std.specs.List.{list_any, list_all, flat_map, All, AllPairs, Contains}
 use Rattle.std.specs.Prelude.{IsTrue}
 use Rattle.std.proofs.lemmas.Bool.{eqb-true, eqb-false, and_parts, and_from}
@@ -14,13 +14,15 @@ use Rattle.ops_base.specs.Values.{are_same}
 use Rattle.ops_base.specs.WorkingMemory.{field_of}
 use Rattle.ops_base.proofs.Members.{IsMember, all_from_members, contains_from_member, member_left, member_right, member-flat_map, flat_map_member, member_cases}
 use Rattle.net_base.specs.declared.nodes.Alpha.{Alpha}
+use Rattle.net_base.specs.declared.nodes.Node.{Node}
+use Rattle.net_base.specs.declared.rows.Rows.{Rows}
+use Rattle.net_base.specs.Sound.{is_terminal}
 use Rattle.net_base.specs.declared.keys.Constant.{Constant}
 use Rattle.net_base.specs.declared.keys.Key.{Key}
 use Rattle.net_base.specs.declared.alpha_index.AlphaIndex.{AlphaIndex}
 use Rattle.net_base.specs.Tokens.{alpha_test_holds, passes_alpha}
-use Rattle.net_base.specs.Lists.{list_at}
-use Rattle.net_base.specs.Feeds.{number_if, numbers_below, constant_if, constant_of, constant_or, first_constant, has_constant, IsCandidate, key_of, has_key, has_field, IsIndexBelow, IsIndex, AddsAlpha, found_by, found_at, found_in}
-use Rattle.net_base.specs.Keys.{same_key}
+use Rattle.net_base.specs.Rows.{AddsTo, row_at}
+use Rattle.net_base.specs.Feeds.{takes_from, number_if, numbers_below, constant_if, constant_of, constant_or, first_constant, has_constant, IsCandidate, key_of, has_key, has_field, IsIndexBelow, IsIndex, AddsAlpha, found_by, found_at, found_in}
 use Rattle.net_base.proofs.KeyLemmas.{key_Decides}
 use Rattle.net_base.proofs.Apart.{NoTwice, no_twice_append, no_twice-flat_map, pairs_from_no_twice, no_twice_from_pairs}
 use Rattle.net_base.proofs.Sames.{value_Decides}
@@ -29,6 +31,21 @@ use Rattle.net_base.proofs.Sames.{value_Decides}
 
 pub numbers_more : {X : Type 0} (test : X → Bool) (xs : List X) (i : ℕ) (x : X) → slice_get xs i ≡ Some x → numbers_below test xs (i + 1) ≡ numbers_below test xs i ++ cond (test x) (i ∷ []) []
 numbers_more test xs i x at = ap (numbers_below test xs) (add-one i) ∙ ap (λ o. numbers_below test xs i ++ number_if test o i) at
+
+-- one node more takes the elements of its alpha
+pub takers_more : (nodes : List Node) (i : ℕ) (x : Node) (old new : Rows) → slice_get nodes i ≡ Some x → is_terminal x.kind ≡ false → AddsTo old new x.alpha i
+    → ((alpha : ℕ) → row_at old alpha ≡ numbers_below (takes_from alpha) nodes i) → (alpha : ℕ) → row_at new alpha ≡ numbers_below (takes_from alpha) nodes (i + 1)
+takers_more nodes i x old new at lives adds h alpha =
+    adds alpha ∙ (ap (λ ns. ns ++ cond (x.alpha == alpha) (i ∷ []) []) (h alpha)
+    ∙ sym (numbers_more (takes_from alpha) nodes i x at ∙ ap (λ b. numbers_below (takes_from alpha) nodes i ++ cond (not b && (x.alpha == alpha)) (i ∷ []) []) lives))
+
+-- a terminal takes none
+pub takers_same : (nodes : List Node) (i : ℕ) (x : Node) (rows : Rows) → slice_get nodes i ≡ Some x → is_terminal x.kind ≡ true
+    → ((alpha : ℕ) → row_at rows alpha ≡ numbers_below (takes_from alpha) nodes i) → (alpha : ℕ) → row_at rows alpha ≡ numbers_below (takes_from alpha) nodes (i + 1)
+takers_same nodes i x rows at ends h alpha =
+    h alpha
+    ∙ sym (numbers_more (takes_from alpha) nodes i x at
+    ∙ (ap (λ b. numbers_below (takes_from alpha) nodes i ++ cond (not b && (x.alpha == alpha)) (i ∷ []) []) ends ∙ append-nil (numbers_below (takes_from alpha) nodes i)))
 
 -- one alpha more
 pub index_more : (alphas : List Alpha) (i : ℕ) (a : Alpha) (old new : AlphaIndex) → slice_get alphas i ≡ Some a → IsIndexBelow alphas i old → AddsAlpha old new i a → IsIndexBelow alphas (i + 1) new
@@ -156,10 +173,10 @@ get_low (y ∷ xs) (suc n) x e = let h = get_low xs n x e in omega arith
 
 module _ (alphas : List Alpha) (index : AlphaIndex) (h : IsIndex alphas index) where
   -- an alpha is found by its key, and by no other
-  by_key : (n : ℕ) (a : Alpha) (k : Key) → slice_get alphas n ≡ Some a → key_of a ≡ k → IsMember n (list_at same_key index.alphas k)
+  by_key : (n : ℕ) (a : Alpha) (k : Key) → slice_get alphas n ≡ Some a → key_of a ≡ k → IsMember n (found_by index k.class k.constant)
   by_key n a k at is = subst (IsMember n) (sym (h.found k)) (number_in (has_key k) alphas n a at ((key_Decides (key_of a) k).1 is) (length alphas) (get_low alphas n a at))
 
-  key_found : (n : ℕ) (k : Key) → IsMember n (list_at same_key index.alphas k) → (a : Alpha) × (slice_get alphas n ≡ Some a) × (key_of a ≡ k)
+  key_found : (n : ℕ) (k : Key) → IsMember n (found_by index k.class k.constant) → (a : Alpha) × (slice_get alphas n ≡ Some a) × (key_of a ≡ k)
   key_found n k m =
       let r = number_of (has_key k) alphas n (length alphas) (subst (IsMember n) (h.found k) m) in
       (r.item, r.at, (key_Decides (key_of r.item) k).0 r.passes)
@@ -167,16 +184,16 @@ module _ (alphas : List Alpha) (index : AlphaIndex) (h : IsIndex alphas index) w
   module _ (e : Element) where
     passed_found : (n : ℕ) (a : Alpha) (o : Option Constant) → slice_get alphas n ≡ Some a → e.class ≡ a.class → first_constant a.tests ≡ o → has_constant e o ≡ true → IsMember n (found_in index e)
     passed_found n a None at class first has =
-        member_left n (found_by index e.class None) (flat_map (found_at index e) (list_at nat_eq index.fields e.class))
+        member_left n (found_by index e.class None) (flat_map (found_at index e) (row_at index.fields e.class))
         (by_key n a (record { class = e.class; constant = None }) at (λ i. record { class = sym class i; constant = first i }))
     passed_found n a (Some c) at class first has =
         let value : field_of e c.field ≡ c.value = (value_Decides (field_of e c.field) c.value).0 has in
         let wants : first_constant a.tests ≡ Some (record { field = c.field; value = field_of e c.field }) =
         first ∙ ap (λ v. Some (record { field = c.field; value = v })) (sym value) in
         let there = by_key n a (record { class = e.class; constant = Some (record { field = c.field; value = field_of e c.field }) }) at (λ i. record { class = sym class i; constant = wants i }) in
-        let known = found_member c.field (list_at nat_eq index.fields e.class) (ap (λ k. has_field index k c.field) class ∙ h.fields n a c (get_low alphas n a at) at first) in
-        member_right n (found_by index e.class None) (flat_map (found_at index e) (list_at nat_eq index.fields e.class))
-        (member-flat_map (found_at index e) n c.field (list_at nat_eq index.fields e.class) known there)
+        let known = found_member c.field (row_at index.fields e.class) (ap (λ k. has_field index k c.field) class ∙ h.fields n a c (get_low alphas n a at) at first) in
+        member_right n (found_by index e.class None) (flat_map (found_at index e) (row_at index.fields e.class))
+        (member-flat_map (found_at index e) n c.field (row_at index.fields e.class) known there)
 
     wants_of : (a : Alpha) → list_all (alpha_test_holds e) a.tests ≡ true → (o : Option Constant) → first_constant a.tests ≡ o → has_constant e o ≡ true
     wants_of a all None first = refl
@@ -198,10 +215,10 @@ module _ (alphas : List Alpha) (index : AlphaIndex) (h : IsIndex alphas index) w
     }
 
     found_able : (n : ℕ) → IsMember n (found_in index e) → IsCandidate alphas e n
-    found_able n m = elim (member_cases n (found_by index e.class None) (flat_map (found_at index e) (list_at nat_eq index.fields e.class)) m) [
+    found_able n m = elim (member_cases n (found_by index e.class None) (flat_map (found_at index e) (row_at index.fields e.class)) m) [
       | inl a ↦ (let r = key_found n (record { class = e.class; constant = None }) a in candidate n r.0 None r.1 r.2 refl)
       | inr b ↦
-          let f = flat_map_member (found_at index e) n (list_at nat_eq index.fields e.class) b in
+          let f = flat_map_member (found_at index e) n (row_at index.fields e.class) b in
           let c : Constant = record { field = f.0; value = field_of e f.0 } in
           let r = key_found n (record { class = e.class; constant = Some c }) f.2 in
           candidate n r.0 (Some c) r.1 r.2 ((value_Decides c.value c.value).1 refl)
@@ -214,13 +231,13 @@ module _ (alphas : List Alpha) (index : AlphaIndex) (h : IsIndex alphas index) w
     same_alpha : (n : ℕ) (a b : Alpha) → slice_get alphas n ≡ Some a → slice_get alphas n ≡ Some b → a ≡ b
     same_alpha n a b at here = let q : Some a ≡ Some b = sym at ∙ here in cc
 
-    one_key : (n : ℕ) (k q : Key) → IsMember n (list_at same_key index.alphas k) → IsMember n (list_at same_key index.alphas q) → k ≡ q
+    one_key : (n : ℕ) (k q : Key) → IsMember n (found_by index k.class k.constant) → IsMember n (found_by index q.class q.constant) → k ≡ q
     one_key n k q m l =
         let r = key_found n k m in
         let s = key_found n q l in
         sym r.2 ∙ (ap key_of (same_alpha n r.0 s.0 r.1 s.1) ∙ s.2)
 
-    no_twice_by : (k : Key) → NoTwice (list_at same_key index.alphas k)
+    no_twice_by : (k : Key) → NoTwice (found_by index k.class k.constant)
     no_twice_by k = subst NoTwice (sym (h.found k)) (numbers_apart (has_key k) alphas (length alphas))
 
     one_field : (f g n : ℕ) → IsMember n (found_at index e f) → IsMember n (found_at index e g) → f ≡ g
@@ -231,9 +248,9 @@ module _ (alphas : List Alpha) (index : AlphaIndex) (h : IsIndex alphas index) w
         let p : c ≡ d = cc in
         ap (λ (z : Constant). z.field) p
 
-    apart_by : (n : ℕ) → IsMember n (found_by index e.class None) → IsMember n (flat_map (found_at index e) (list_at nat_eq index.fields e.class)) → ⊥
+    apart_by : (n : ℕ) → IsMember n (found_by index e.class None) → IsMember n (flat_map (found_at index e) (row_at index.fields e.class)) → ⊥
     apart_by n m l =
-        let f = flat_map_member (found_at index e) n (list_at nat_eq index.fields e.class) l in
+        let f = flat_map_member (found_at index e) n (row_at index.fields e.class) l in
         let c : Constant = record { field = f.0; value = field_of e f.0 } in
         let q = ap (λ (k : Key). k.constant) (one_key n (record { class = e.class; constant = None }) (record { class = e.class; constant = Some c }) m f.2) in
         cc
@@ -241,6 +258,6 @@ module _ (alphas : List Alpha) (index : AlphaIndex) (h : IsIndex alphas index) w
     -- no alpha is found twice
     pub found_once : (found : List ℕ) → found ≡ found_in index e → AllPairs (λ n m. n ≢ m) found
     found_once found is = subst (AllPairs (λ n m. n ≢ m)) (sym is) (pairs_from_no_twice (found_in index e)
-        (no_twice_append (found_by index e.class None) (flat_map (found_at index e) (list_at nat_eq index.fields e.class)) (no_twice_by (record { class = e.class; constant = None }))
-        (no_twice-flat_map (found_at index e) (list_at nat_eq index.fields e.class) (no_twice_from_pairs (list_at nat_eq index.fields e.class) (h.once e.class))
+        (no_twice_append (found_by index e.class None) (flat_map (found_at index e) (row_at index.fields e.class)) (no_twice_by (record { class = e.class; constant = None }))
+        (no_twice-flat_map (found_at index e) (row_at index.fields e.class) (no_twice_from_pairs (row_at index.fields e.class) (h.once e.class))
         (λ f. no_twice_by (record { class = e.class; constant = Some (record { field = f; value = field_of e f }) })) one_field) apart_by))

@@ -1,5 +1,5 @@
 -- Which alphas an element can pass, and which nodes take the elements of an alpha.
-use Rattle.std.specs.Prelude.{◌≡◌, ◌≢◌, ◌<◌, ◌==◌, ◌&&◌, ℕ, zero, suc, Bool, true, not, List, [], ◌∷◌, ◌++◌, length, flat_map, slice_get, Option, Some, None, AllPairs, IsTrue, nat_eq, if◌then◌else◌}
+use Rattle.std.specs.Prelude.{◌≡◌, ◌≢◌, ◌<◌, ◌==◌, ◌&&◌, ℕ, zero, suc, Bool, true, not, List, [], ◌∷◌, ◌++◌, length, flat_map, slice_get, Option, Some, None, AllPairs, IsTrue, if◌then◌else◌}
 use Rattle.std.specs.List.{list_any}
 use Rattle.ops_base.specs.declared.values.Pred.{Pred}
 use Rattle.ops_base.specs.declared.values.Pred.TheVariants.{Eq}
@@ -17,6 +17,7 @@ use Rattle.net_base.specs.declared.alpha_index.AlphaIndex.{AlphaIndex}
 use Rattle.net_base.specs.Sound.{is_terminal}
 use Rattle.net_base.specs.Keys.{same_key}
 use Rattle.net_base.specs.Lists.{list_at}
+use Rattle.net_base.specs.Rows.{row_at}
 
 -- ---- numbers of a list's items
 
@@ -80,15 +81,20 @@ key_of a = record { class = a.class; constant = first_constant a.tests }
 abbrev pub has_key : Key → Alpha → Bool
 has_key k a = same_key (key_of a) k
 
+-- the alphas of a class that are found by this constant, or without one
+abbrev pub found_by : AlphaIndex → ℕ → Option Constant → List ℕ
+found_by index class None = row_at index.plain class
+found_by index class (Some c) = list_at same_key index.keyed (record { class = class; constant = Some c })
+
 -- the field is known in the class
 abbrev pub has_field : AlphaIndex → ℕ → ℕ → Bool
-has_field index class f = list_any (λ g. g == f) (list_at nat_eq index.fields class)
+has_field index class f = list_any (λ g. g == f) (row_at index.fields class)
 
 -- The alphas below the bound are found by their keys. The fields of their constants are known, each once.
 pub record IsIndexBelow (alphas : List Alpha) (bound : ℕ) (index : AlphaIndex) : Type 0 where
-  pub found : (k : Key) → list_at same_key index.alphas k ≡ numbers_below (has_key k) alphas bound
+  pub found : (k : Key) → found_by index k.class k.constant ≡ numbers_below (has_key k) alphas bound
   pub fields : (n : ℕ) (a : Alpha) (c : Constant) → n < bound → slice_get alphas n ≡ Some a → first_constant a.tests ≡ Some c → has_field index a.class c.field ≡ true
-  pub once : (class : ℕ) → AllPairs (λ f g. f ≢ g) (list_at nat_eq index.fields class)
+  pub once : (class : ℕ) → AllPairs (λ f g. f ≢ g) (row_at index.fields class)
 
 abbrev pub IsIndex : List Alpha → AlphaIndex → Type 0
 IsIndex alphas index = IsIndexBelow alphas (length alphas) index
@@ -97,20 +103,18 @@ IsIndex alphas index = IsIndexBelow alphas (length alphas) index
 pub record HasField (old new : AlphaIndex) (class f : ℕ) : Type 0 where
   pub field : has_field new class f ≡ true
   pub stay : (k g : ℕ) → has_field old k g ≡ true → has_field new k g ≡ true
-  pub once : ((k : ℕ) → AllPairs (λ f g. f ≢ g) (list_at nat_eq old.fields k)) → (k : ℕ) → AllPairs (λ f g. f ≢ g) (list_at nat_eq new.fields k)
-  pub alphas : new.alphas ≡ old.alphas
+  pub once : ((k : ℕ) → AllPairs (λ f g. f ≢ g) (row_at old.fields k)) → (k : ℕ) → AllPairs (λ f g. f ≢ g) (row_at new.fields k)
+  pub plain : new.plain ≡ old.plain
+  pub keyed : new.keyed ≡ old.keyed
 
 -- number n is one alpha more
 pub record AddsAlpha (old new : AlphaIndex) (n : ℕ) (a : Alpha) : Type 0 where
-  pub found : (k : Key) → list_at same_key new.alphas k ≡ list_at same_key old.alphas k ++ (if has_key k a then n ∷ [] else [])
+  pub found : (k : Key) → found_by new k.class k.constant ≡ found_by old k.class k.constant ++ (if has_key k a then n ∷ [] else [])
   pub stay : (k g : ℕ) → has_field old k g ≡ true → has_field new k g ≡ true
   pub field : (c : Constant) → first_constant a.tests ≡ Some c → has_field new a.class c.field ≡ true
-  pub once : ((k : ℕ) → AllPairs (λ f g. f ≢ g) (list_at nat_eq old.fields k)) → (k : ℕ) → AllPairs (λ f g. f ≢ g) (list_at nat_eq new.fields k)
+  pub once : ((k : ℕ) → AllPairs (λ f g. f ≢ g) (row_at old.fields k)) → (k : ℕ) → AllPairs (λ f g. f ≢ g) (row_at new.fields k)
 
 -- ---- what an element finds
-
-abbrev pub found_by : AlphaIndex → ℕ → Option Constant → List ℕ
-found_by index class c = list_at same_key index.alphas (record { class = class; constant = c })
 
 -- what is found by the constant that an element has in a field
 abbrev pub found_at : AlphaIndex → Element → ℕ → List ℕ
@@ -118,4 +122,4 @@ found_at index e f = found_by index e.class (Some (record { field = f; value = f
 
 -- what is found by its class, and by each field that matters in its class
 abbrev pub found_in : AlphaIndex → Element → List ℕ
-found_in index e = found_by index e.class None ++ flat_map (found_at index e) (list_at nat_eq index.fields e.class)
+found_in index e = found_by index e.class None ++ flat_map (found_at index e) (row_at index.fields e.class)

@@ -6,4 +6,5 @@ pub mod Network
 pub mod Counting
 pub mod Keys
 pub mod Lists
+pub mod Rows
 pub mod Feeds

@@ -1,22 +1,25 @@
 //! The alphas that an element can pass, found by its class and by the constants in its fields.
-ghost use Rattle.std.specs.Prelude.{◌≡◌, IfOk, OnOk};
+ghost use Rattle.std.specs.Prelude.{◌≡◌, [], IfOk, OnOk};
 ghost use Rattle.net_base.specs.Feeds.{AddsAlpha, HasField, IsIndex, constant_of, first_constant, found_in, key_of};
 
 use crate::keys::{Constant, Key};
 use crate::lists::Lists;
 use crate::net::Numbers;
 use crate::nodes::Alpha;
+use crate::rows::Rows;
 use ops_base::conditions::{Operand, Test};
 use ops_base::elements::Element;
 use ops_base::memory::OutOfMemory;
 use ops_base::values::Pred;
 use std::alloc::Global;
 
-/// The alphas by their keys, and for each class the fields in which its alphas first want a constant, each field once.
+/// The alphas that want no constant by their classes, the others by their keys, and for each class the fields in which
+/// its alphas first want a constant, each field once.
 #[derive(Drop)]
 pub(crate) struct AlphaIndex {
-    alphas: Lists<Key>,
-    fields: Lists<usize>,
+    plain: Rows,
+    keyed: Lists<Key>,
+    fields: Rows,
 }
 
 /// The constant that the test wants in its field.
@@ -61,8 +64,9 @@ impl AlphaIndex {
         ensures { IfOk result (IsIndex alphas.now) }
     {
         let mut index = AlphaIndex {
-            alphas: Lists::new(alloc),
-            fields: Lists::new(alloc),
+            plain: Rows::new(alloc),
+            keyed: Lists::new(alloc),
+            fields: Rows::new(alloc),
         };
         for (number, alpha) in alphas.iter().enumerate() {
             index.add(alloc, number, alpha)?;
@@ -83,22 +87,23 @@ impl AlphaIndex {
         ensures { OnOk result (AddsAlpha self.old self.new number alpha.now) }
     {
         let key = key_of(alpha);
-        if let Some(constant) = key.constant {
-            self.add_field(alloc, key.class, constant.field)?;
+        match key.constant {
+            Some(constant) => {
+                self.add_field(alloc, key.class, constant.field)?;
+                self.keyed.add(alloc, key, number)
+            }
+            None => self.plain.add(alloc, key.class, number),
         }
-        self.alphas.add(alloc, key, number)
     }
 
-    /// What is found by the class of the element, and by what it has in each field that matters in its class.
-    pub(crate) fn found(&self, alloc: Global, element: &Element) -> Result<Numbers, OutOfMemory>
-        ensures { IfOk result (λ v. v.items ≡ found_in self.now element.now) }
+    /// What is found by the class of the element, and by what it has in each field that matters in its class. It goes
+    /// into an empty list.
+    pub(crate) fn find(&self, element: &Element, found: &mut Numbers) -> Result<(), OutOfMemory>
+        requires { found.old.items ≡ [] }
+        ensures { OnOk result (found.new.items ≡ found_in self.now element.now) }
     {
         let class = element.class;
-        let plain = Key {
-            class,
-            constant: None,
-        };
-        let mut found = Numbers::from_slice(alloc, self.alphas.at(plain))?;
+        found.extend_from_slice(self.plain.at(class))?;
         for field in self.fields.at(class) {
             let constant = Constant {
                 field: *field,
@@ -108,8 +113,8 @@ impl AlphaIndex {
                 class,
                 constant: Some(constant),
             };
-            found.extend_from_slice(self.alphas.at(key))?;
+            found.extend_from_slice(self.keyed.at(key))?;
         }
-        Ok(found)
+        Ok(())
     }
 }

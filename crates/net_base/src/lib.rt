@@ -10,6 +10,7 @@ mod lists;
 pub mod net;
 pub mod nodes;
 pub mod normal;
+mod rows;
 pub mod tags;
 pub mod tasks;
 #[cfg(test)]

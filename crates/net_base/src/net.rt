@@ -1,16 +1,16 @@
 //! Networks, each sound by its type.
-ghost use Rattle.std.specs.Prelude.{◌≡◌, ◌≢◌, ℕ, All, AllPairs, Contains, IfOk, IsTrue, Some, count_by, nat_eq, slice_get};
+ghost use Rattle.std.specs.Prelude.{◌≡◌, ◌≢◌, ℕ, [], All, AllPairs, Contains, IfOk, IsTrue, OnOk, Some, count_by, slice_get};
 ghost use Rattle.net_base.specs.declared.nodes.Alpha.{Alpha};
 ghost use Rattle.net_base.specs.Sound.{IsSound, is_join, is_negated, is_terminal};
 ghost use Rattle.net_base.specs.Shape.{counts_of};
 ghost use Rattle.net_base.specs.Tokens.{passes_alpha};
-ghost use Rattle.net_base.specs.Lists.{list_at};
+ghost use Rattle.net_base.specs.Rows.{row_at};
 ghost use Rattle.net_base.specs.Feeds.{IsCandidate, IsIndex, takers_of};
 
 use crate::alpha_index::AlphaIndex;
 use crate::counts::Counts;
-use crate::lists::Lists;
 use crate::nodes::{Alpha, Kind, Node};
+use crate::rows::Rows;
 use ops_base::elements::Element;
 use ops_base::list::Listed;
 use ops_base::memory::OutOfMemory;
@@ -27,10 +27,10 @@ pub struct Net {
     alphas: Listed<Alpha>,
     nodes: Listed<Node>,
     index: AlphaIndex,
-    takers: Lists<usize>,
+    takers: Rows,
     ghost sound: { IsSound alphas nodes },
     ghost indexed: { IsIndex alphas index },
-    ghost fed: { (alpha : ℕ) → list_at nat_eq takers alpha ≡ takers_of nodes alpha },
+    ghost fed: { (alpha : ℕ) → row_at takers alpha ≡ takers_of nodes alpha },
 }
 
 fn is_join(kind: Kind) -> bool
@@ -82,10 +82,10 @@ fn terminals(nodes: &[Node]) -> usize
 }
 
 /// The nodes that take the elements of each alpha.
-fn takers(alloc: Global, nodes: &[Node]) -> Result<Lists<usize>, OutOfMemory>
-    ensures { IfOk result (λ l. (alpha : ℕ) → list_at nat_eq l alpha ≡ takers_of nodes.now alpha) }
+fn takers(alloc: Global, nodes: &[Node]) -> Result<Rows, OutOfMemory>
+    ensures { IfOk result (λ r. (alpha : ℕ) → row_at r alpha ≡ takers_of nodes.now alpha) }
 {
-    let mut takers = Lists::new(alloc);
+    let mut takers = Rows::new(alloc);
     for (number, node) in nodes.iter().enumerate() {
         if !is_terminal(node.kind) {
             takers.add(alloc, node.alpha, number)?;
@@ -132,18 +132,20 @@ impl Net {
     }
 
     /// The alphas that the element can pass: those of its class that want no constant, and those whose first constant
-    /// it has. There are two look-ups for its class, and one for each field in which an alpha of its class first wants
-    /// a constant. Up to 16 take no memory.
-    pub fn candidates(&self, alloc: Global, element: &Element) -> Result<Numbers, OutOfMemory>
-        ensures passed { IfOk result (λ v. (n : ℕ) (a : Alpha) → slice_get self.now.alphas n ≡ Some a
-            → IsTrue (passes_alpha a element.now) → Contains v.items n) }
-        ensures able { IfOk result (λ v. All (IsCandidate self.now.alphas element.now) v.items) }
-        ensures once { IfOk result (λ v. AllPairs (λ n m. n ≢ m) v.items) }
+    /// it has. They go into an empty list. What its class alone decides is read at the place of the class, and there is
+    /// one look-up for each field in which an alpha of its class first wants a constant. Up to 16 take no memory.
+    pub fn candidates(&self, element: &Element, found: &mut Numbers) -> Result<(), OutOfMemory>
+        requires { found.old.items ≡ [] }
+        ensures passed { OnOk result ((n : ℕ) (a : Alpha) → slice_get self.now.alphas n ≡ Some a
+            → IsTrue (passes_alpha a element.now) → Contains found.new.items n) }
+        ensures able { OnOk result (All (IsCandidate self.now.alphas element.now) found.new.items) }
+        ensures once { OnOk result (AllPairs (λ n m. n ≢ m) found.new.items) }
     {
-        self.index.found(alloc, element)
+        self.index.find(element, found)
     }
 
-    /// The nodes whose right tokens are the elements that pass this alpha, in their order. One look-up, and no memory.
+    /// The nodes whose right tokens are the elements that pass this alpha, in their order. Takes no
+    /// memory, and looks for nothing.
     pub fn takers(&self, alpha: usize) -> &[usize]
         ensures { result.now ≡ takers_of self.now.nodes alpha }
     {

@@ -1,6 +1,6 @@
 //! Tokens, tasks and the alphas that an element can pass, with ample memory.
 
-use crate::net::Net;
+use crate::net::{Net, Numbers};
 use crate::nodes::Alpha;
 use crate::tags::Tags;
 use crate::tasks::{Side, Task};
@@ -79,7 +79,8 @@ fn an_element_finds_what_it_can_pass(rt: HostRuntime) -> Result<(), Fail> {
             class,
             fields: Listed::from_array(rt.alloc(), [Value::Whole(number)])?,
         };
-        let candidates = net.candidates(rt.alloc(), &element)?;
+        let mut candidates = Numbers::new(rt.alloc());
+        net.candidates(&element, &mut candidates)?;
         assert_eq!(rt; candidates.as_slice(), found);
     }
     assert_eq!(rt; net.takers(0).len(), 0);

@@ -13,6 +13,9 @@ use ops_tokens::{LexFault, Scanner, Token, TokenKind};
 use std::alloc::Global;
 use thiserror::Error;
 
+/// For how many tokens there is room at first: most forms have no more.
+const ROOM: usize = 32;
+
 /// How the tokens of a form end.
 #[derive(Clone, Copy, Debug, PartialEq, Eq)]
 pub enum FormEnd {
@@ -97,7 +100,7 @@ impl FormReader {
         requires lies { LiesIn text.now left }
         ensures { IfOk result (λ form. (from : ℕ) → from ≤ length text.now → token_at text.now from ≡ Ok (Some left) → IsForm text.now from form) }
     {
-        let mut tokens = Vec::new(alloc);
+        let mut tokens = Vec::with_capacity(alloc, ROOM)?;
         tokens.push(left)?;
         let mut past = left.past;
         let mut depth = 1;

@@ -22,7 +22,7 @@ pub fn words_of(
     ensures words { IfOk result (λ words. words.items ≡ words_from text.now names.old tokens.now) }
     ensures names { OnOk result (names.new ≡ names_from text.now names.old tokens.now) }
 {
-    let mut words = Vec::new(alloc);
+    let mut words = Vec::with_capacity(alloc, tokens.len())?;
     for token in tokens {
         words.push(word_of(names, text, *token)?)?;
     }

@@ -39,7 +39,8 @@ fn find_takers(
     requires { nodes.old.items ≡ [] }
     ensures { OnOk result (AreTakers net.now.alphas net.now.nodes element.now nodes.new.items) }
 {
-    let candidates = net.candidates(alloc, element)?;
+    let mut candidates = Numbers::new(alloc);
+    net.candidates(element, &mut candidates)?;
     for alpha in candidates.as_slice() {
         if passes(net.alphas(), *alpha, element) {
             nodes.extend_from_slice(net.takers(*alpha))?;

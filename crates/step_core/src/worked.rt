@@ -52,6 +52,7 @@ pub(crate) fn act_on<F: Fn(usize)>(
     ensures count { length lines.new.items ≡ length lines.old.items }
     ensures same_seen { OnErr result (map seen lines.new.items ≡ map seen lines.old.items) }
     ensures same_out { OnErr result (out.new.items ≡ out.old.items) }
+    ensures capacity { vec_capacity out.old ≤ vec_capacity out.new }
 {
     worked.reserve(1)?;
     let place = place_of(net, store, task, lines.len());

@@ -297,8 +297,26 @@ impl World {
         ensures lines { numbers_of self.new ≡ numbers_of self.old }
         ensures count { length self.new.lines.items ≡ length self.old.lines.items }
     {
-        let last = self.flight.len() - 1;
-        self.work_at(alloc, net, store, enter, last)
+        let Some(task) = self.flight.pop() else {
+            unreachable!();
+        };
+        let acted = act_on(
+            &mut self.lines,
+            &mut self.worked,
+            alloc,
+            net,
+            store,
+            enter,
+            &task,
+            &mut self.flight,
+        );
+        if acted.is_err() {
+            self.flight.push_reserved(task);
+            return acted;
+        }
+        let under_way = self.flight.len() + self.done.len();
+        self.counter = under_way as u64;
+        Ok(())
     }
 
     /// Takes one step, at the cost of its kind.

@@ -1,8 +1,12 @@
 -- This many tasks are there.
-use Rattle.std.proofs.Common.{◌≡◌, ◌++◌, replicate}
+use Rattle.std.proofs.Common.{◌≡◌, ◌++◌, replicate, ◌≤◌}
+use Rattle.std.specs.Prelude.{vec_capacity}
 use Rattle.activation.specs.Children.{child}
 use Rattle.activation.specs.Putting.{tagged}
 use Rattle.activation.proofs.children.push_to.Given as goal
 
 abbrev pub invariant-loop-time : goal.invariant-loop-time
-invariant-loop-time l = l.out.items ≡ l.initial.out.items ++ replicate l._time (child l.plus (tagged l.token l.tag) l.node)
+invariant-loop-time l = record {
+  made : l.out.items ≡ l.initial.out.items ++ replicate l._time (child l.plus (tagged l.token l.tag) l.node);
+  capacity : vec_capacity l.initial.out ≤ vec_capacity l.out;
+}

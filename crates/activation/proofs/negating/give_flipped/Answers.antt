@@ -1,5 +1,5 @@
 -- The left token at the place gives what it gives, and has room; the tasks grow.
-use Rattle.std.proofs.Common.{◌≡◌, ◌∙◌, ◌==◌, ◌&&◌, ◌++◌, add-one, ap, drop, suc, sym, true}
+use Rattle.std.proofs.Common.{arith, ◌≡◌, ◌∙◌, ◌==◌, ◌&&◌, ◌++◌, add-one, ap, drop, suc, sym, true}
 use Rattle.work_store.specs.Stored.{held_of}
 use Rattle.net_base.specs.Tokens.{joins_hold}
 use Rattle.activation.specs.Children.{children_of}
@@ -29,4 +29,5 @@ loop-place-preserved c =
           ap (λ k. all_have_room plus (drop k left)) (add-one i)
           ∙ (sym (ap (λ b. b && all_have_room plus (drop (suc i) left)) has) ∙ (sym (ap (all_have_room plus) (drop_at left i e c.pair.ensures.pair)) ∙ c.loop-place.invariant.room));
       grown = grows_more c.args.out.now.items before c.push_if.new.out.items c.loop-place.invariant.grown c.push_if.ensures.grown;
+      capacity = omega (arith, c.push_if.ensures.capacity, c.loop-place.invariant.capacity);
     }

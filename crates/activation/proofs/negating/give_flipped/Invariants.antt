@@ -1,5 +1,6 @@
 -- What the left tokens before the place give is there, and the tasks that were there before; those tokens have room.
-use Rattle.std.proofs.Common.{◌≡◌, ◌++◌, drop}
+use Rattle.std.proofs.Common.{◌≡◌, ◌++◌, drop, ◌≤◌}
+use Rattle.std.specs.Prelude.{vec_capacity}
 use Rattle.work_store.specs.Stored.{held_of}
 use Rattle.activation.specs.Children.{Grows, children_of}
 use Rattle.activation.specs.Negating.{all_have_room, put_flipped}
@@ -11,4 +12,5 @@ invariant-loop-place l = record {
       ≡ l.initial.out.items ++ children_of l.below.nodes.now l.below.plus (put_flipped l.tests (held_of l.store) l.tag l.plus l.left);
   room : all_have_room l.plus (drop l.place l.left) ≡ all_have_room l.plus l.left;
   grown : Grows l.initial.out.items l.out.items;
+  capacity : vec_capacity l.initial.out ≤ vec_capacity l.out;
 }

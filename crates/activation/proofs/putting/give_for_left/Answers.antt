@@ -1,5 +1,5 @@
 -- The right token at the place gives what it gives, and the tasks grow.
-use Rattle.std.proofs.Common.{◌∙◌, ◌++◌, ◌∷◌, [], ap, ap₂, slice_index}
+use Rattle.std.proofs.Common.{arith, ◌∙◌, ◌++◌, ◌∷◌, [], ap, ap₂, slice_index}
 use Rattle.work_store.specs.Stored.{held_of}
 use Rattle.net_base.specs.Tokens.{joins_hold}
 use Rattle.activation.specs.Children.{children_of}
@@ -24,4 +24,5 @@ loop-place-preserved c =
           next_given nodes plus (λ (r : Pair). put_if (joins_hold tests elements token (slice_index r.0 0)) (token ++ slice_index r.0 0 ∷ []) r.1.sum) c.args.right.now c.loop-place.place e before
           c.push_if.new.out.items (c.args.out.now.items ++ children_of nodes plus (put_for_left tests elements token c.args.right.now)) c.pair.ensures.pair c.loop-place.invariant.made more;
       grown = grows_more c.args.out.now.items before c.push_if.new.out.items c.loop-place.invariant.grown c.push_if.ensures.grown;
+      capacity = omega (arith, c.push_if.ensures.capacity, c.loop-place.invariant.capacity);
     }

@@ -1,5 +1,6 @@
 -- What the tokens before the place give is there, and the tasks that were there before.
-use Rattle.std.proofs.Common.{◌≡◌, ◌++◌, drop}
+use Rattle.std.proofs.Common.{◌≡◌, ◌++◌, drop, ◌≤◌}
+use Rattle.std.specs.Prelude.{vec_capacity}
 use Rattle.work_store.specs.Stored.{held_of}
 use Rattle.activation.specs.Children.{Grows, children_of}
 use Rattle.activation.specs.Putting.{put_for_left}
@@ -10,4 +11,5 @@ invariant-loop-place l = record {
   made : l.out.items ++ children_of l.below.nodes.now l.below.plus (put_for_left l.tests (held_of l.store) l.token (drop l.place l.right))
       ≡ l.initial.out.items ++ children_of l.below.nodes.now l.below.plus (put_for_left l.tests (held_of l.store) l.token l.right);
   grown : Grows l.initial.out.items l.out.items;
+  capacity : vec_capacity l.initial.out ≤ vec_capacity l.out;
 }

@@ -1,5 +1,5 @@
 -- The left token at the place gives what it gives, and the tasks grow.
-use Rattle.std.proofs.Common.{◌∙◌, ◌++◌, ◌∷◌, [], ap}
+use Rattle.std.proofs.Common.{arith, ◌∙◌, ◌++◌, ◌∷◌, [], ap}
 use Rattle.work_store.specs.Stored.{held_of}
 use Rattle.net_base.specs.Tokens.{joins_hold}
 use Rattle.token_line.specs.Joins.{joins_with}
@@ -24,4 +24,5 @@ loop-place-preserved c =
           next_given nodes plus (λ (l : Pair). put_if (joins_hold tests elements l.0 tag) (l.0 ++ tag ∷ []) l.1.sum) c.args.left.now c.loop-place.place e before c.push_if.new.out.items
           (c.args.out.now.items ++ children_of nodes plus (put_for_right tests elements tag c.args.left.now)) c.pair.ensures.pair c.loop-place.invariant.made more;
       grown = grows_more c.args.out.now.items before c.push_if.new.out.items c.loop-place.invariant.grown c.push_if.ensures.grown;
+      capacity = omega (arith, c.push_if.ensures.capacity, c.loop-place.invariant.capacity);
     }

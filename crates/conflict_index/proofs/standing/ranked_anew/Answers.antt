@@ -1,4 +1,4 @@
-use Rattle.std.proofs.Common.{◌≡◌, ◌+◌, ◌≤◌, ◌∷◌, [], List, length, ap, sym, ◌∙◌, subst, inl, inr, arith}
+use Rattle.std.proofs.Common.{◌≡◌, ◌∷◌, [], List, length, ap, sym, ◌∙◌, subst, inl, inr, arith}
 use Rattle.std.specs.Prelude.{Contains, is_some}
 use Rattle.std.specs.Map.Iter.{deref_pair}
 use Rattle.std.proofs.lemmas.Map.Iter.{rest_more, rest_all}
@@ -6,7 +6,7 @@ use Rattle.ops_base.proofs.Members.{member_from_contains}
 use Rattle.conflict_index.specs.declared.rank.Held.{Held}
 use Rattle.conflict_index.specs.declared.rank.Rank.{Rank}
 use Rattle.conflict_index.specs.Keeping.{ranked_anew}
-use Rattle.conflict_index.proofs.Lookups.{added_one, adds_up, added_all, one_more_at_most}
+use Rattle.conflict_index.proofs.Lookups.{added_one, adds_up, one_more_at_most}
 use Rattle.conflict_index.proofs.standing.ranked_anew.Goals as goal
 
 pub loop-rank-preserved-in_ok-insert : goal.loop-rank-preserved-in_ok-insert

@@ -1,4 +1,8 @@
-use Rattle.std.proofs.Common.{◌≤◌, length, take, map}
+use Rattle.ops_base.specs.declared.rules.Inst.{Inst}
+use Rattle.resolution.specs.declared.keys.Key.{Key}
+use Rattle.conflict_index.specs.declared.rank.Held.{Held}
+use Rattle.std.specs.Prelude.{Contains}
+use Rattle.std.proofs.Common.{◌≢◌, ◌≤◌, length, take, map}
 use Rattle.std.specs.HashMap.{spare}
 use Rattle.std.specs.List.{IsDistinct}
 use Rattle.std.specs.List.Sorted.{IsStrictlySortedBy}
@@ -17,4 +21,5 @@ invariant-loop-rank l = record {
   room : spare l.fn.fired ≤ spare l.fired;
   ordered : IsStrictlySortedBy compare_ranks (keys_of l.waiting.entries);
   unique : IsDistinct same_keys (keys_of l.fired.entries);
+  apart : (e : Rank × Held) (d : Key × Inst) → Contains l.waiting.entries e → Contains l.fired.entries d → e.0.key ≢ d.0;
 }

@@ -1,7 +1,7 @@
-use Rattle.std.proofs.Common.{◌≡◌, ℕ, nat_eq}
-use Rattle.net_base.specs.Lists.{list_at}
+use Rattle.std.proofs.Common.{◌≡◌, ℕ}
+use Rattle.net_base.specs.Rows.{row_at}
 use Rattle.net_base.specs.Feeds.{numbers_below, takes_from}
 use Rattle.net_base.proofs.net.takers.Given as goal
 
 abbrev pub invariant-loop-number : goal.invariant-loop-number
-invariant-loop-number l = (alpha : ℕ) → list_at nat_eq l.takers alpha ≡ numbers_below (takes_from alpha) l.nodes l.number
+invariant-loop-number l = (alpha : ℕ) → row_at l.takers alpha ≡ numbers_below (takes_from alpha) l.nodes l.number

@@ -10,5 +10,5 @@ returns c =
     let net = c.args.net.now in
     let e = c.args.element.now in
     let all = all_added (taken_by net.alphas net.nodes e) c.loop-alpha.nodes.items c.as_slice-alpha-items.result.now c.loop-alpha.alpha-index c.loop-alpha-test.false c.loop-alpha.invariant in
-    are_takers net.alphas net.nodes e c.in_ok-candidates.candidates.items c.loop-alpha.nodes.items c.in_ok-candidates.ensures.once c.in_ok-candidates.ensures.passed
+    are_takers net.alphas net.nodes e c.candidates.new.found.items c.loop-alpha.nodes.items c.in_ok-candidates.ensures.once c.in_ok-candidates.ensures.passed
     (all ∙ ap (flat_map (taken_by net.alphas net.nodes e)) c.as_slice-alpha-items.ensures)

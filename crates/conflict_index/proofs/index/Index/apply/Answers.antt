@@ -1,17 +1,12 @@
-use Rattle.std.proofs.Common.{◌≡◌, ◌+◌, ◌≤◌, List, map, length, ap, sym, ◌∙◌, subst, arith}
-use Rattle.std.specs.Prelude.{Contains}
+use Rattle.std.proofs.Common.{◌≡◌, List, map, ap, ◌∙◌, subst, arith}
 use Rattle.std.specs.Prelude.{Result, Ok, Err, OnErr}
 use Rattle.std.specs.HashMap.{spare}
-use Rattle.std.proofs.lemmas.List.{length-map}
-use Rattle.ops_base.specs.declared.rules.Inst.{Inst}
-use Rattle.resolution.specs.declared.keys.Key.{Key}
-use Rattle.conflict_index.specs.declared.rank.Held.{Held}
 use Rattle.conflict_index.specs.declared.rank.Rank.{Rank}
 use Rattle.conflict_index.specs.Applying.{IsApplied}
 use Rattle.conflict_index.specs.Indexed.{Member, Indexed}
-use Rattle.conflict_index.specs.Keeping.{rank_in, arrival, AreToldApart, Gains, Loses, members_of}
+use Rattle.conflict_index.specs.Keeping.{rank_in, Loses, members_of}
 use Rattle.conflict_index.proofs.Kept.{same_from_permutation, moved_view, moved_kept}
-use Rattle.conflict_index.proofs.Applying.{CanApply, can_apply, come_apart, come_among, told_apart, IsChanged, changed_kept, changed_is, changed_keeps}
+use Rattle.conflict_index.proofs.Applying.{CanApply, can_apply, come_apart, come_among, told_apart, keys_apart, IsChanged, changed_kept, changed_is, changed_keeps}
 use Rattle.conflict_index.proofs.index.Index.apply.Goals as goal
 
 pub invariant_of-self : goal.invariant_of-self
@@ -25,9 +20,7 @@ add-requires-clause-told_apart c =
     let rules = c.args.program.now.rules in
     let come = c.args.come.now in
     let can = can_apply c.self.inside.strategy rules c.args.gone.now come c.self.inside.waiting.entries c.self.inside.fired.entries (spare c.self.inside.fired) c.args.self.now c.self.view_is c.self.invariant c.requires.part c.requires.apart c.requires.specificities in
-    let P : List (Rank × Held) → Type 0 = AreToldApart c.self.inside.waiting.entries in
-    subst P (sym c.in_ok-coming.ensures)
-    (told_apart c.self.inside.strategy rules c.args.gone.now come c.self.inside.waiting.entries c.self.inside.fired.entries (spare c.self.inside.fired) can)
+    told_apart c.self.inside.strategy rules c.args.gone.now come c.self.inside.waiting.entries c.self.inside.fired.entries (spare c.self.inside.fired) can
 
 pub add-requires-clause-apart : goal.add-requires-clause-apart
 add-requires-clause-apart c =
@@ -41,9 +34,15 @@ add-requires-clause-among c =
     let rules = c.args.program.now.rules in
     let come = c.args.come.now in
     let can = can_apply c.self.inside.strategy rules c.args.gone.now come c.self.inside.waiting.entries c.self.inside.fired.entries (spare c.self.inside.fired) c.args.self.now c.self.view_is c.self.invariant c.requires.part c.requires.apart c.requires.specificities in
-    let P : List (Rank × Held) → Type 0 = λ es. (e : Rank × Held) → Contains es e → Contains come e.1.inst in
-    subst P (sym c.in_ok-coming.ensures)
-    (come_among c.self.inside.strategy rules c.args.gone.now come c.self.inside.waiting.entries c.self.inside.fired.entries (spare c.self.inside.fired) can)
+    come_among c.self.inside.strategy rules c.args.gone.now come c.self.inside.waiting.entries c.self.inside.fired.entries (spare c.self.inside.fired) can
+
+pub remove_all-requires-clause-apart : goal.remove_all-requires-clause-apart
+remove_all-requires-clause-apart c =
+    let rules = c.args.program.now.rules in
+    let come = c.args.come.now in
+    let can = can_apply c.self.inside.strategy rules c.args.gone.now come c.self.inside.waiting.entries c.self.inside.fired.entries (spare c.self.inside.fired) c.args.self.now c.self.view_is c.self.invariant c.requires.part c.requires.apart c.requires.specificities in
+    keys_apart c.self.inside.strategy rules c.args.gone.now come c.self.inside.waiting.entries c.self.inside.fired.entries (spare c.self.inside.fired) can
+    c.add.new.waiting.entries c.reserve.new.self.entries c.in_ok-add.ensures.ok (same_from_permutation c.self.inside.fired.entries c.reserve.new.self.entries c.reserve.ensures.entries.0)
 
 pub invariant_of-self-in_err-add : goal.invariant_of-self-in_err-add
 invariant_of-self-in_err-add c =
@@ -74,12 +73,11 @@ changed : (c : goal.After-drop-leaving-2)
     → IsChanged c.self.inside.strategy c.args.program.now.rules c.args.gone.now c.args.come.now c.self.inside.waiting.entries c.add.new.waiting.entries c.remove_all.new.waiting.entries
     c.self.inside.fired.entries c.reserve.new.self.entries c.remove_all.new.fired.entries
 changed c =
-    let G : List (Rank × Held) → Type 0 = λ es. Gains es c.self.inside.waiting.entries c.add.new.waiting.entries in
     let L : List Rank → Type 0 = λ rs. Loses rs c.add.new.waiting.entries c.remove_all.new.waiting.entries in
     let M : List Rank → Type 0 = λ rs. Loses (map (λ (r : Rank). r.key) rs) c.reserve.new.self.entries c.remove_all.new.fired.entries in
     let ranks : c.as_slice.result.now ≡ map (rank_in c.self.inside.strategy c.args.program.now.rules) c.args.gone.now = c.as_slice.ensures.value ∙ c.in_ok-leaving.ensures in
     record {
-      gains = subst G c.in_ok-coming.ensures c.in_ok-add.ensures.ok;
+      gains = c.in_ok-add.ensures.ok;
       loses = subst L ranks c.remove_all.ensures.waiting;
       same = same_from_permutation c.self.inside.fired.entries c.reserve.new.self.entries c.reserve.ensures.entries.0;
       loses_marks = subst M ranks c.remove_all.ensures.fired;
@@ -89,12 +87,10 @@ pub invariant_of-self-2 : goal.invariant_of-self-2
 invariant_of-self-2 c =
     let rules = c.args.program.now.rules in
     let come = c.args.come.now in
-    let number : length c.in_ok-coming.coming.items ≡ length come =
-    ap length c.in_ok-coming.ensures ∙ length-map come (arrival c.self.inside.strategy rules) in
     changed_kept c.self.inside.strategy rules c.args.gone.now come c.self.inside.waiting.entries c.self.inside.fired.entries (spare c.self.inside.fired) (can c)
     c.add.new.waiting.entries c.remove_all.new.waiting.entries c.reserve.new.self.entries c.remove_all.new.fired.entries (changed c) (spare c.remove_all.new.fired)
     c.remove_all.ensures.ordered c.remove_all.ensures.unique
-    (omega (arith, number, c.in_ok-reserve.ensures.ok, c.len.ensures.len, c.add.ensures.number, c.remove_all.ensures.number, c.remove_all.ensures.spare))
+    (omega (arith, c.in_ok-reserve.ensures.ok, c.len.ensures.len, c.add.ensures.number, c.remove_all.ensures.number, c.remove_all.ensures.spare))
 
 pub returns-clause-ok : goal.returns-clause-ok
 returns-clause-ok c =

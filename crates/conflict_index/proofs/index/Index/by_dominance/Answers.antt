@@ -1,4 +1,4 @@
-use Rattle.std.proofs.Common.{◌≡◌, ◌≤◌, length, slice_get, subst}
+use Rattle.std.proofs.Common.{◌≤◌, length, slice_get, subst}
 use Rattle.std.specs.HashMap.{spare}
 use Rattle.std.specs.Option.{MatchOption}
 use Rattle.std.specs.Prelude.{reverse}

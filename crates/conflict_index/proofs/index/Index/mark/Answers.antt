@@ -1,4 +1,4 @@
-use Rattle.std.proofs.Common.{◌≡◌, ◌<◌, List, [], ◌∷◌, length, ap, sym, ◌∙◌, subst, inl}
+use Rattle.std.proofs.Common.{◌<◌, List, [], ◌∷◌, length, ap, sym, ◌∙◌, subst, inl}
 use Rattle.std.specs.Prelude.{is_some}
 use Rattle.std.proofs.lemmas.Bool.{false≢true}
 use Rattle.std.specs.HashMap.{spare}

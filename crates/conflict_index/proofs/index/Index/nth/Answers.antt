@@ -1,4 +1,4 @@
-use Rattle.std.proofs.Common.{◌≡◌, ◌≤◌, List, Option, Some, None, length, slice_get, subst, sym, refl, Bor}
+use Rattle.std.proofs.Common.{◌≡◌, ◌≤◌, List, Option, Some, None, length, slice_get, subst, sym, Bor}
 use Rattle.std.specs.Option.{MatchOption, option_map}
 use Rattle.std.proofs.lemmas.Iterator.Consumers.{nth_from_yields_List, YieldsList-from_first}
 use Rattle.ops_base.specs.declared.rules.Inst.{Inst}

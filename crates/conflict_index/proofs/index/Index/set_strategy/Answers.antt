@@ -1,4 +1,4 @@
-use Rattle.std.proofs.Common.{◌≡◌, List, ap, ◌∙◌}
+use Rattle.std.proofs.Common.{List, ap, ◌∙◌}
 use Rattle.std.specs.HashMap.{spare}
 use Rattle.conflict_index.specs.Indexed.{Indexed, Member}
 use Rattle.conflict_index.proofs.Kept.{told_anew, anew_view, anew_kept}

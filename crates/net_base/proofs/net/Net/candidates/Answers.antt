@@ -11,19 +11,22 @@ pub returns-clause-passed : goal.returns-clause-passed
 returns-clause-passed c =
     let net = c.args.self.now in
     let e = c.args.element.now in
-    IfOk-weaker c.found.result (λ v. v.items ≡ found_in net.index e) (λ v. (n : ℕ) (a : Alpha) → slice_get net.alphas n ≡ Some a → IsTrue (passes_alpha a e) → Contains v.items n)
-    (λ v is. found_passed net.alphas net.index net.indexed e v.items is) c.found.ensures
+    let found = c.find.new.found.items in
+    IfOk-weaker c.find.result (λ _. found ≡ found_in net.index e) (λ _. (n : ℕ) (a : Alpha) → slice_get net.alphas n ≡ Some a → IsTrue (passes_alpha a e) → Contains found n)
+    (λ _ is. found_passed net.alphas net.index net.indexed e found is) c.find.ensures
 
 pub returns-clause-able : goal.returns-clause-able
 returns-clause-able c =
     let net = c.args.self.now in
     let e = c.args.element.now in
-    IfOk-weaker c.found.result (λ v. v.items ≡ found_in net.index e) (λ v. All (IsCandidate net.alphas e) v.items)
-    (λ v is. all_able net.alphas net.index net.indexed e v.items is) c.found.ensures
+    let found = c.find.new.found.items in
+    IfOk-weaker c.find.result (λ _. found ≡ found_in net.index e) (λ _. All (IsCandidate net.alphas e) found)
+    (λ _ is. all_able net.alphas net.index net.indexed e found is) c.find.ensures
 
 pub returns-clause-once : goal.returns-clause-once
 returns-clause-once c =
     let net = c.args.self.now in
     let e = c.args.element.now in
-    IfOk-weaker c.found.result (λ v. v.items ≡ found_in net.index e) (λ v. AllPairs {X = ℕ} (λ n m. n ≢ m) v.items)
-    (λ v is. found_once net.alphas net.index net.indexed e v.items is) c.found.ensures
+    let found = c.find.new.found.items in
+    IfOk-weaker c.find.result (λ _. found ≡ found_in net.index e) (λ _. AllPairs {X = ℕ} (λ n m. n ≢ m) found)
+    (λ _ is. found_once net.alphas net.index net.indexed e found is) c.find.ensures

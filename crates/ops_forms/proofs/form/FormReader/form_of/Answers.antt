@@ -4,7 +4,7 @@ use Rattle.ops_forms.proofs.form.FormReader.form_of.Goals.{in-Ok-Some+in_ok-push
 use Rattle.ops_forms.proofs.form.FormReader.form_of.Goals as goal
 
 pub loop-token-init : goal.loop-token-init
-loop-token-init c = rw (c.in_ok-push.ensures.items, c.new-tokens.ensures.items) (open_first c.args.text.now c.args.left c.requires.opens c.requires.some c.requires.lies)
+loop-token-init c = rw (c.in_ok-push.ensures.items, c.in_ok-tokens.ensures.items) (open_first c.args.text.now c.args.left c.requires.opens c.requires.some c.requires.lies)
 
 pub loop-token-preserved : goal.loop-token-preserved
 loop-token-preserved c =
