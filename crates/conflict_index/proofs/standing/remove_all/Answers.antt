@@ -42,15 +42,15 @@ loop-rank-preserved c =
     let loses = waiting_loses c.loop-rank.waiting c.remove.new.self rank c.loop-rank.invariant.ordered c.remove.ensures.ordered c.remove.ensures.updates in
     let leaves : Leaves rank.key c.loop-rank.fired c.if-is_none.fired = elim c.if-is_none.branch [
       | then-is_none+in-Some-1 w ↦ subst (Leaves rank.key c.loop-rank.fired) (sym w.fired-is) (record {
-          loses = fired_loses c.loop-rank.fired w.remove-had_fired.new.self rank.key c.loop-rank.invariant.unique w.remove-had_fired.ensures.unique w.remove-had_fired.ensures.updates;
-          unique = w.remove-had_fired.ensures.unique;
-          room = omega (arith, w.remove-had_fired.ensures.spare);
-        })
+        loses = fired_loses c.loop-rank.fired w.remove-had_fired.new.self rank.key c.loop-rank.invariant.unique w.remove-had_fired.ensures.unique w.remove-had_fired.ensures.updates;
+        unique = w.remove-had_fired.ensures.unique;
+        room = omega (arith, w.remove-had_fired.ensures.spare);
+      })
       | then-is_none+in-None-1 w ↦ subst (Leaves rank.key c.loop-rank.fired) (sym w.fired-is) (record {
-          loses = fired_loses c.loop-rank.fired w.remove-had_fired.new.self rank.key c.loop-rank.invariant.unique w.remove-had_fired.ensures.unique w.remove-had_fired.ensures.updates;
-          unique = w.remove-had_fired.ensures.unique;
-          room = omega (arith, w.remove-had_fired.ensures.spare);
-        })
+        loses = fired_loses c.loop-rank.fired w.remove-had_fired.new.self rank.key c.loop-rank.invariant.unique w.remove-had_fired.ensures.unique w.remove-had_fired.ensures.updates;
+        unique = w.remove-had_fired.ensures.unique;
+        room = omega (arith, w.remove-had_fired.ensures.spare);
+      })
       | else-is_none w ↦ subst (Leaves rank.key c.loop-rank.fired) (sym w.fired-is)
           (let held = there c.remove.result w.if-is_none.ensures in
           not_there rank.key c.loop-rank.fired
