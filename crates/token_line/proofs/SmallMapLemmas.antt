@@ -111,6 +111,15 @@ module _ {K V : Type 0} where
 
   -- ---- one is added
 
+  -- the last value is written
+  pub set_last : (es : List (K × V)) (k : K) (v w : V) → set_value_at (es ++ (k, v) ∷ []) (length es) w ≡ es ++ (k, w) ∷ []
+  set_last [] k v w = refl
+  set_last (e ∷ es) k v w = ap (λ l. e ∷ l) (set_last es k v w)
+
+  pub value_last : (es : List (K × V)) (k : K) (v : V) → slice_get (values_of (es ++ (k, v) ∷ [])) (length es) ≡ Some v
+  value_last [] k v = refl
+  value_last (e ∷ es) k v = value_last es k v
+
   none_among : (eq : K → K → Bool) (es : List (K × V)) (k : K) → lookup (eq k) es ≡ None → list_any (eq k) (keys_of es) ≡ false
   none_among eq [] k none = refl
   none_among eq (e ∷ es) k none = by (none_among eq es k) (eq k e.0) refl none

@@ -72,33 +72,15 @@ fn cell_with(sum: &i64, blockers: u64) -> Option<Cell>
     }
 }
 
-/// A copy of a task that is to be reported, with room for it.
-fn copy_to_tell(
-    told: &mut Vec<Task>,
-    alloc: Global,
-    task: &Task,
-    is_told: bool,
-) -> Result<Option<Task>, OutOfMemory>
-    ensures copy { IfOk result (λ copy. option_to_list copy ≡ (if is_told then task.now ∷ [] else [])) }
-    ensures room { IfOk result (λ copy. IfSome copy (λ _. length told.new.items < vec_capacity told.new)) }
-    ensures same { told.new.items ≡ told.old.items }
+/// Reports the task, if it is to be reported.
+fn tell(told: &mut Vec<Task>, alloc: Global, task: &Task, is_told: bool) -> Result<(), OutOfMemory>
+    ensures ok { OnOk result (told.new.items ≡ told.old.items ++ (if is_told then task.now ∷ [] else [])) }
+    ensures err { OnErr result (told.new.items ≡ told.old.items) }
 {
     if is_told {
-        told.reserve(1)?;
-        Ok(Some(task.copy(alloc)?))
-    } else {
-        Ok(None)
+        told.push(task.copy(alloc)?)?;
     }
-}
-
-/// Adds the task, where there is one and so room for it.
-fn tell(told: &mut Vec<Task>, task: Option<Task>)
-    requires { IfSome task (λ _. length told.old.items < vec_capacity told.old) }
-    ensures { told.new.items ≡ told.old.items ++ option_to_list task }
-{
-    if let Some(task) = task {
-        told.push_reserved(task);
-    }
+    Ok(())
 }
 
 /// A node with no token left leaves the line.
@@ -133,13 +115,40 @@ fn put(
             drop_if_empty(memories, place);
         }
         None => {
-            let mut memory = Memory::new(alloc);
-            memory.put(alloc, task.side, None, &task.token, cell)?;
-            let first = Memories::with_first(alloc, spot.code, memory);
-            memories.push(alloc, task.node, first)?;
+            let place = memories.len();
+            memories.push(alloc, task.node, Memories::new(alloc, spot.code))?;
+            memories.value_mut(place).put(alloc, spot, task, cell)?;
         }
     }
     Ok(())
+}
+
+/// The same, and reports the task, if it is to be reported.
+fn put_and_tell(
+    memories: &mut SmallMap<usize, Memories>,
+    told: &mut Vec<Task>,
+    alloc: Global,
+    spot: &Spot,
+    task: &Task,
+    cell: Option<Cell>,
+    is_told: bool,
+) -> Result<(), OutOfMemory>
+    requires spot { IsSpotAmong memories.old task.now.node task.now.side task.now.token spot.now }
+    requires some { IfSome cell (λ c. c.sum ≢ pos 0) }
+    ensures ok { OnOk result ((n c : ℕ) (s : Side) (t : List ℕ) → filed_among memories.new n c s t ≡ (if (c == spot.now.code) && is_at n s t task.now then cell else filed_among memories.old n c s t)) }
+    ensures err { OnErr result ((n c : ℕ) (s : Side) (t : List ℕ) → filed_among memories.new n c s t ≡ filed_among memories.old n c s t) }
+    ensures told { OnOk result (told.new.items ≡ told.old.items ++ (if is_told then task.now ∷ [] else [])) }
+    ensures same_told { OnErr result (told.new.items ≡ told.old.items) }
+{
+    let before = told.len();
+    tell(told, alloc, task, is_told)?;
+    match put(memories, alloc, spot, task, cell) {
+        Ok(()) => Ok(()),
+        Err(failed) => {
+            told.truncate(before);
+            Err(failed)
+        }
+    }
 }
 
 /// One right token more, or one less, for each left token of the node with this code that it matches.
@@ -313,14 +322,20 @@ impl Line {
         let had = spot.sum();
         let sum = stepped(&had, task.plus)?;
         let cell = cell_with(&sum, blockers);
-        let copy = copy_to_tell(&mut self.told, alloc, task, is_told)?;
         self.entries.reserve(1)?;
-        put(&mut self.memories, alloc, spot, task, cell)?;
+        put_and_tell(
+            &mut self.memories,
+            &mut self.told,
+            alloc,
+            spot,
+            task,
+            cell,
+            is_told,
+        )?;
         self.entries.push_reserved(Entry {
             task: Deed::of(task),
             children,
         });
-        tell(&mut self.told, copy);
         Ok(())
     }
 

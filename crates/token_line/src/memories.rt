@@ -74,15 +74,16 @@ fn put_among(
 }
 
 impl Memories {
-    /// The one memory of a node with these tokens. Takes no memory.
-    pub(crate) fn with_first(alloc: Global, code: u64, first: Memory) -> Memories
+    /// No tokens, of which the first will have this code. Takes no memory.
+    pub(crate) fn new(alloc: Global, code: u64) -> Memories
         ensures code { result.code ≡ code }
-        ensures first { result.first ≡ first }
+        ensures left { result.first.left ≡ [] }
+        ensures right { result.first.right ≡ [] }
         ensures others { result.others ≡ [] }
     {
         Memories {
             code,
-            first,
+            first: Memory::new(alloc),
             others: SmallMap::new(alloc),
         }
     }
