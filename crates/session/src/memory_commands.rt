@@ -68,7 +68,7 @@ fn change<M: Matcher, H: Fn(M, &[Change]) -> Result<Settled<M>, OutOfMemory>>(
     })
 }
 
-/// One phase, whose changes are printed first.
+/// One phase, whose changes are printed first where elements are traced.
 fn phase<M: Matcher, H: Fn(M, &[Change]) -> Result<Settled<M>, OutOfMemory>, K: Sink>(
     alloc: Global,
     hand: &H,
@@ -113,7 +113,8 @@ fn with_waiting<M: Matcher>(session: Session<M>, made: Element) -> Result<Sessio
     Ok(session)
 }
 
-/// Makes an element, which is one phase. Where no run was begun it waits, but its line is printed at once.
+/// Makes an element, which is one phase. Where no run was begun it waits. Where elements are traced its line is printed
+/// at once.
 fn make_one<M: Matcher, H: Fn(M, &[Change]) -> Result<Settled<M>, OutOfMemory>, K: Sink>(
     alloc: Global,
     hand: &H,
@@ -145,8 +146,8 @@ fn make_one<M: Matcher, H: Fn(M, &[Change]) -> Result<Settled<M>, OutOfMemory>, 
     Ok(with_waiting(session, made)?)
 }
 
-/// The command `make`, which is one phase. Where no run was begun it waits, but its line is printed at once; and once
-/// many wait, their phases are made before it.
+/// The command `make`, which is one phase. Where no run was begun it waits; and once many wait, their phases are made
+/// before it. Where elements are traced its line is printed at once.
 pub(crate) fn make_at_top<
     M: Matcher,
     H: Fn(M, &[Change]) -> Result<Settled<M>, OutOfMemory>,
