@@ -5,7 +5,6 @@ use Rattle.std.specs.List.{list_all}
 use Rattle.std.proofs.lemmas.Bool.Decides.{nat_tests}
 use Rattle.std.proofs.lemmas.List.{take_more}
 use Rattle.std.proofs.lemmas.Option.{slice_get_read}
-use Rattle.std.proofs.lemmas.List.Folds.{list_all-append}
 use Rattle.ops_base.specs.declared.elements.Element.{Element}
 use Rattle.ops_base.specs.declared.elements.Change.{Change}
 use Rattle.ops_base.specs.declared.elements.Change.TheVariants as change
@@ -76,10 +75,6 @@ module _ (w v : Changed) (cells : List Cell) (p : GoesOnTo w v) (there : list_al
 
   pub still_there : list_all (is_there (length v.changes)) cells ≡ true
   still_there = cells_there (length w.changes) (length v.changes) cells (omega (arith, ap length p.changes, length-append w.changes p.more)) there
-
--- one cell more
-pub there_push : (n : ℕ) (cells : List Cell) (c : Cell) → list_all (is_there n) cells ≡ true → is_there n c ≡ true → list_all (is_there n) (cells ++ c ∷ []) ≡ true
-there_push n cells c all one = list_all-append (is_there n) cells (c ∷ []) ∙ ap (λ b. b && (is_there n c && true)) all ∙ ap (λ b. b && true) one
 
 -- another cell in the place of one
 pub there_set : (n : ℕ) (cells : List Cell) (at : ℕ) (c : Cell) → list_all (is_there n) cells ≡ true → is_there n c ≡ true → list_all (is_there n) (slice_set cells at c) ≡ true

@@ -33,7 +33,8 @@ pub record GoesOn (old new : Port) : Type 0 where
   pub whole : IsTrue new.out.whole
   pub faults : new.faults ≡ old.faults
 
--- What a call leaves that does this with what is still to come, and that names keep their places and failed reads are counted.
+-- What a call leaves that does this with what is still to come, and that names keep their places and failed reads are
+-- counted.
 pub record Does {X F E S : Type 0} (view : X → Coming → S) (failure : F → Failure E) (unread : F → Bool) (r : Result X F) (old new : Scene) (e : Coming → Effect E S) : Type 0 where
   pub performs : PerformsOn view failure r old.inlet new.inlet old.port new.port e
   pub reads : CountsReads (fails_by unread r) old.inlet.faults new.inlet.faults

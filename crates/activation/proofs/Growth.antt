@@ -17,13 +17,6 @@ pub grows_same : (xs : List Task) → Grows xs xs
 grows_same [] = refl
 grows_same (x ∷ xs) = ap (λ ys. x ∷ ys) (grows_same xs)
 
-pub grows_by : (a b c : List Task) → c ≡ a ++ b → Grows a c
-grows_by a b c is = ap (take (length a)) is ∙ by a
-  where
-    by : (xs : List Task) → take (length xs) (xs ++ b) ≡ xs
-    by [] = refl
-    by (x ∷ xs) = ap (λ ys. x ∷ ys) (by xs)
-
 pub grows_more : (a b c : List Task) → Grows a b → Grows b c → Grows a c
 grows_more [] b c first next = refl
 grows_more (x ∷ a) [] c first next = absurd (cc)

@@ -63,7 +63,8 @@ effect_at Join tests elements m x moves = join_effect tests elements m x moves
 effect_at Negated tests elements m x moves = negated_effect x.side tests elements m x moves
 effect_at (Terminal rule) tests elements m x moves = no_effect x.plus
 
--- What the effect puts out came after the tasks that were there, for each of the nodes below; the rest is as the effect says.
+-- What the effect puts out came after the tasks that were there, for each of the nodes below; the rest is as the effect
+-- says.
 pub record IsGiven (below : List ℕ) (e : Effect) (before now : List Task) (d : Done) : Type 0 where
   pub given : now ≡ before ++ children_of below e.plus e.puts
   pub blockers : d.blockers ≡ e.blockers

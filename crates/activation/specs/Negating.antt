@@ -1,4 +1,5 @@
--- What a negated node puts out for a task, and how often right tokens stand that match a left one, over the tokens of its line.
+-- What a negated node puts out for a task, and how often right tokens stand that match a left one, over the tokens of
+-- its line.
 use Rattle.std.specs.Prelude.{ℕ, ◌+◌, ◌-◌, ◌^◌, ◌==◌, ◌&&◌, Bool, true, false, List, [], ◌∷◌, nat_lt, slice_index, Option, Some, None, if◌then◌else◌}
 use Rattle.std.specs.List.{flat_map, list_all}
 use Rattle.std.specs.Option.{option_map_or}

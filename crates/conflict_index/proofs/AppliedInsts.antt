@@ -4,9 +4,8 @@ use Rattle.std.specs.Prelude.{Contains}
 use Rattle.std.proofs.lemmas.List.Elements.{All-contains, All-cons, All-nil, All-map, All-weaker}
 use Rattle.ops_base.specs.declared.rules.Inst.{Inst}
 use Rattle.ops_base.specs.declared.rules.Rule.{Rule}
-use Rattle.ops_base.specs.Instances.{Before, IsInOrder, AreOf}
-use Rattle.ops_base.proofs.Members.{IsMember, member_from_contains, contains_from_member, member-map, map_member, all_from_members}
-use Rattle.ops_base.proofs.InOrder.{all_pairs_from_before}
+use Rattle.ops_base.specs.Instances.{AreOf}
+use Rattle.ops_base.proofs.Members.{member_from_contains, contains_from_member, member-map, map_member, all_from_members}
 use Rattle.ops_base.specs.Dominance.{specificity_of}
 use Rattle.ops_base.specs.Refraction.{is_same_inst}
 use Rattle.conflict_index.specs.Indexed.{Member, Indexed, insts_of, KeepsSpecificities}
@@ -63,20 +62,6 @@ applied_are_of rules gone come old new a before came =
       | inl s ↦ All-contains P (insts_of old.members) i before s.0
       | inr s ↦ All-contains P come i came s
     ])
-
-pub none_in_order : IsInOrder []
-none_in_order = all_pairs_from_before Before [] tt
-
-pub one_in_order : (i : Inst) → IsInOrder (i ∷ [])
-one_in_order i = all_pairs_from_before Before (i ∷ []) (λ j h. absurd h, tt)
-
-pub two_in_order : (i j : Inst) → i.rule < j.rule → IsInOrder (i ∷ j ∷ [])
-two_in_order i j h =
-    all_pairs_from_before Before (i ∷ j ∷ []) (others, (λ k m. absurd m, tt))
-  where
-    others : (k : Inst) → IsMember k (j ∷ []) → Before i k
-    others k (inl e) = let P : Inst → Type 0 = Before i in subst P (sym e) (inl h)
-    others k (inr m) = absurd m
 
 -- ---- a list of one, or of none
 

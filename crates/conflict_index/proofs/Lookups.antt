@@ -160,9 +160,6 @@ fired_gains m n k v o p u none e =
 
 -- ---- one key more
 
-pub loses_none : {K X : Type 0} (es : List (K × X)) → Loses [] es es
-loses_none es e = (λ h. (h, λ k. member_from_contains e.0 [] k), λ h. h.0)
-
 pub loses_more : {K X : Type 0} (ks ls : List K) (k : K) (old mid new : List (K × X)) → Loses ks old mid → ((e : K × X) → Contains new e ↔ (Contains mid e × (k ≢ e.0))) → ls ≡ ks ++ k ∷ [] → Loses ls old new
 loses_more {K} {X} ks ls k old mid new a b is e = (
   λ h. (let t = b e in let m = t.0 h in let o = a e in let q = o.0 m.0 in (q.0, λ c. elim (split c) [ inl r ↦ q.1 r | inr r ↦ m.1 (sym r) ])),
@@ -212,16 +209,6 @@ gains_more {X} x left rest old mid new is g y = (
 
 -- ---- adding one after another
 
--- the item that a call of `next` gave was the first of those that were left
-pub next_item : {A X : Type 0} (s t : IntoIter X A) (o : Option X) (x : X) → o ≡ Some x → into_iter_steps s o t → into_iter_items s ≡ x ∷ into_iter_items t
-next_item {A} {X} s t o x e h = let P : Option X → Type 0 = λ w. into_iter_steps s w t in (subst P e h).0
-
-pub next_counted : {A X : Type 0} (s t : IntoIter X A) (o : Option X) (x : X) → o ≡ Some x → into_iter_steps s o t → length (into_iter_items s) ≡ into_iter_len s → length (into_iter_items t) ≡ into_iter_len t
-next_counted {A} {X} s t o x e h l =
-    let P : Option X → Type 0 = λ w. into_iter_steps s w t in
-    let g = subst P e h in
-    omega (arith, ap length g.0, g.1, l)
-
 -- those that are there and those that are left are the same as at first
 abbrev pub AddsUp : List (Rank × Held) → List (Rank × Held) → List (Rank × Held) → List (Rank × Held) → Type 0
 AddsUp old added now left = (e : Rank × Held) → (Contains now e ⊎ Contains left e) ↔ (Contains old e ⊎ Contains added e)
@@ -250,11 +237,6 @@ added_all old added now left s is e = (
     | inr l ↦ absurd (member_from_contains e [] (let P : List (Rank × Held) → Type 0 = λ xs. Contains xs e in subst P is l))
   ],
 )
-
-pub adds_up_first : (old added left : List (Rank × Held)) → left ≡ added → AddsUp old added old left
-adds_up_first old added left is e =
-    let P : List (Rank × Held) → Type 0 = λ xs. Contains xs e in
-    (λ h. elim h [ inl o ↦ inl o | inr l ↦ inr (subst P is l) ], λ h. elim h [ inl o ↦ inl o | inr l ↦ inr (subst P (sym is) l) ])
 
 pub same_entries : (old added now left : List (Rank × Held)) → AddsUp old added now left → (e : Rank × Held) → Contains now e → Contains old e ⊎ Contains added e
 same_entries old added now left s e h = (s e).0 (inl h)

@@ -5,7 +5,7 @@ use Rattle.std.specs.Cmp.Lexicographic.{slice_cmp}
 use Rattle.std.specs.declared.cmp.Ordering.{Ordering}
 use Rattle.std.specs.declared.cmp.Ordering.TheVariants.{Less, Equal, Greater}
 use Rattle.std.specs.Ordering.{nat_cmp, ordering_reverse, is_gt}
-use Rattle.std.proofs.lemmas.Cmp.{tied_itself, upto}
+use Rattle.std.proofs.lemmas.Cmp.{tied_itself}
 use Rattle.std.proofs.lemmas.Map.Lookups.{exact_bytes}
 use Rattle.ops_base.specs.declared.commands.Strategy.{Strategy}
 use Rattle.ops_base.specs.declared.commands.Strategy.TheVariants.{Lex, Mea}
@@ -28,23 +28,6 @@ is_greater-is_gt Greater = refl
 -- no member outranks itself
 pub outranks_itself : (strategy : Strategy) (m : Member) → outranks strategy m m ≡ false
 outranks_itself strategy m = ap is_greater (tied_itself (compare_keys_total strategy) (key_of m))
-
--- what does not outrank one that does not outrank a third does not outrank the third
-pub none_outranks : (strategy : Strategy) (m n k : Member) → outranks strategy m n ≡ false → outranks strategy n k ≡ false → outranks strategy m k ≡ false
-none_outranks strategy m n k a b =
-    let t = upto (compare_keys_total strategy) (key_of m) (key_of n) (key_of k)
-    (is_greater-is_gt (ranks strategy m n) ∙ a) (is_greater-is_gt (ranks strategy n k) ∙ b) in
-    sym (is_greater-is_gt (ranks strategy m k)) ∙ t
-
--- what outranks another is not outranked by it
-pub outranked : (strategy : Strategy) (m n : Member) → outranks strategy m n ≡ true → outranks strategy n m ≡ false
-outranked strategy m n t = by_order (ranks strategy m n) refl t
-  where
-    by_order : (o : Ordering) → ranks strategy m n ≡ o → is_greater o ≡ true → outranks strategy n m ≡ false
-    by_order Less e t = cc
-    by_order Equal e t = cc
-    by_order Greater e t =
-        ap is_greater ((compare_keys_total strategy).antisymm (key_of n) (key_of m) ∙ ap ordering_reverse e)
 
 tied_by_lex : (m n : Member) → compare_keys_lex (key_of m) (key_of n) ≡ Equal → m.inst ≡ n.inst
 tied_by_lex m n e =

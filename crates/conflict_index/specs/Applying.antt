@@ -19,8 +19,8 @@ Stays gone members m = Contains members m × ¬ Contains gone m.inst
 abbrev pub Comes : List Rule → List Inst → Member → Type 0
 Comes rules come m = (i : Inst) × Contains come i × (m ≡ newcomer rules i)
 
--- Those that are not gone stay as they are, and those that come are new and have not fired; in the order of rule and tags, each
--- once.
+-- Those that are not gone stay as they are, and those that come are new and have not fired; in the order of rule and
+-- tags, each once.
 pub record IsApplied (rules : List Rule) (gone come : List Inst) (old new : Indexed) : Type 0 where
   pub strategy : new.strategy ≡ old.strategy
   pub in_order : IsInOrder (insts_of new.members)

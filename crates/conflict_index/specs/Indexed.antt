@@ -8,7 +8,8 @@ use Rattle.ops_base.specs.Dominance.{downwards, first_tag, is_greater, specifici
 use Rattle.resolution.specs.declared.keys.Key.{Key}
 use Rattle.resolution.specs.Keys.{compare_keys}
 
--- an instantiation of the conflict set, the specificity that its production had when it came, and whether it is marked as fired
+-- an instantiation of the conflict set, the specificity that its production had when it came, and whether it is marked
+-- as fired
 pub record Member : Type 0 where
   pub inst : Inst
   pub specificity : ℕ

@@ -1,4 +1,5 @@
--- How an index keeps its members: in the order of dominance, and those that fired when they were dominant by their keys.
+-- How an index keeps its members: in the order of dominance, and those that fired when they were dominant by their
+-- keys.
 use Rattle.std.specs.Prelude.{◌≡◌, ◌≢◌, ℕ, ◌≤◌, List, [], ◌∷◌, ◌++◌, length, map, filter, not, true, false, if◌then◌else◌, Contains, ◌⊎◌, ◌↔◌}
 use Rattle.std.specs.List.{IsDistinct}
 use Rattle.std.specs.List.Sorted.{IsStrictlySortedBy}
@@ -73,7 +74,8 @@ AreRanked strategy waiting = (e : Rank × Held) → Contains waiting e → e.0 �
 abbrev pub AreKeyed : List (Key × Inst) → Type 0
 AreKeyed fired = (e : Key × Inst) → Contains fired e → e.0 ≡ key_with e.1 e.0.specificity
 
--- What is true of the two maps of an index. An instantiation is that of one member, and there is room for a mark on each.
+-- What is true of the two maps of an index. An instantiation is that of one member, and there is room for a mark on
+-- each.
 pub record IsKept (strategy : Strategy) (waiting : List (Rank × Held)) (fired : List (Key × Inst)) (spare : ℕ) : Type 0 where
   pub ordered : IsStrictlySortedBy compare_ranks (keys_of waiting)
   pub unique : IsDistinct same_keys (keys_of fired)

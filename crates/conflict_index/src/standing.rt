@@ -72,8 +72,8 @@ pub(crate) fn ranks_of(
     Ok(ranks)
 }
 
-/// Adds a copy of each with its rank, as far as memory goes. Of each it copies the tags three times, and sorts one of the
-/// copies.
+/// Adds a copy of each with its rank, as far as memory goes. Of each it copies the tags three times, and sorts one of
+/// the copies.
 fn add_all(
     alloc: Global,
     strategy: Strategy,
@@ -136,8 +136,8 @@ pub(crate) fn add(
     }
 }
 
-/// Removes those of these ranks from where they stand, each in one of the two maps: it looks among those that have fired
-/// only where a rank does not wait. Takes no memory.
+/// Removes those of these ranks from where they stand, each in one of the two maps: it looks among those that have
+/// fired only where a rank does not wait. Takes no memory.
 pub(crate) fn remove_all(waiting: &mut Waiting, fired: &mut Fired, ranks: &[Rank])
     requires ordered { IsStrictlySortedBy compare_ranks (keys_of waiting.old.entries) }
     requires unique { IsDistinct same_keys (keys_of fired.old.entries) }

@@ -10,8 +10,8 @@ use Rattle.work_store.specs.declared.matcher.Settled.{Settled}
 use Rattle.work_store.specs.Settling.{IsSettled}
 use Rattle.work_store.specs.Stored.{Stored}
 
--- It may be asked for every lawful list of changes. Where it has done them, the matcher stores what they make, what came
--- and went is how that which is found has changed, and the matcher stands for the programs that it stood for.
+-- It may be asked for every lawful list of changes. Where it has done them, the matcher stores what they make, what
+-- came and went is how that which is found has changed, and the matcher stands for the programs that it stood for.
 pub record Settles {M : Type 0} (stored : M → Stored) (found : M → List Inst) (stands_for : M → List Rule → Type 0)
     (pre : M → Bor (List Change) → Type 0) (post : M → Bor (List Change) → Result (Settled M) OutOfMemory → Type 0) : Type 0 where
   pub able : (m : M) (cs : Bor (List Change)) → Lawful (stored m).elements (stored m).last cs.now → pre m cs

@@ -1,5 +1,5 @@
 -- From lines that are opened for workers to the lines that come back.
-use Rattle.std.proofs.Common.{◌≡◌, ◌<◌, ◌^◌, ℕ, List, [], length, map, sym, ap, subst, ◌∙◌, None}
+use Rattle.std.proofs.Common.{◌≡◌, ℕ, List, [], length, map, sym, ap, subst, ◌∙◌, None}
 use Rattle.std.specs.List.{All}
 use Rattle.work_store.specs.Stored.{Stored, held_of}
 use Rattle.net_base.specs.declared.net.Net.{Net}
@@ -22,15 +22,11 @@ use Rattle.free_engine.specs.Tables.{IsTable, lines_in}
 use Rattle.free_engine.specs.Teams.{AllJoined}
 use Rattle.free_engine.proofs.Ending.{end_law, set_up_law}
 use Rattle.free_engine.proofs.Fresh.{unsigned}
-use Rattle.free_engine.proofs.Holding.{few}
 use Rattle.free_engine.proofs.LinesBack.{closed_counted, closed_length, closed_lines, closed_numbered, opened_fresh, opened_lines, opened_set_up, same_numbers}
 use Rattle.free_engine.proofs.Shared.{share_law}
 
 pub all_unsigned : (values : List Slot) → AreFresh values → All (λ (x : Slot). All (λ (e : SlotEntry). signature e ≡ None) (entries x)) values
 all_unsigned values fresh = λ k d low. (let r = is_there values k low in subst (λ (x : Slot). All (λ (e : SlotEntry). signature e ≡ None) (entries x)) (sym (get_or-at values k r.0 d r.1)) (unsigned r.0 (fresh k r.0 r.1)))
-
-pub all_few : (values : List Slot) → All (λ (x : Slot). length (entries x) < 2 ^ 63) values
-all_few values = λ k d low. few (Rattle.std.specs.Prelude.slice_index_or values k d)
 
 module _ (net : Net) (s : Stored) (workers : ℕ) (first : List Task) (ls : List Line) (values : List Slot) (o : IsOpened net s workers first (length ls) ls values) (numbered : AreNumbered ls)
     (v : View Slot SlotEntry) (same : v.values ≡ values) (own : v.own ≡ []) (splits : v.splits ≡ workers) (joined : AllJoined (length ls) workers v.joined) (saw : SawQuiet first v.seen)

@@ -35,6 +35,3 @@ one_more lines w x own own' low is was = record {
   inside = inside-snoc lines was.rounds x was.inside low;
   own_is = is ∙ (ap (λ l. l ++ rows_of_round w x) was.own_is ∙ sym (rounds-snoc w was.rounds x));
 }
-
-pub none_yet : (lines w : ℕ) (own : List (Row SlotEntry)) → own ≡ [] → HasWorked lines w own
-none_yet lines w own e = record { rounds = []; inside = tt; own_is = e }

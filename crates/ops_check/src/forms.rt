@@ -29,10 +29,12 @@ impl Draft {
         }
     }
 
-    // literalize NAME NAME* ) | vector-attribute NAME NAME* ) | p NAME first condition* --> action* ) | make CLASS
-    // fixed* )
-    // | remove NAT NAT* ) | remove * ) | run [NAT] ) | wm NAT* ) | ppwm ) | ppwm CLASS fixed* ) | cs ) | pm NAME NAME* )
-    // | strategy ) | strategy lex ) | strategy mea ) | watch ) | watch 0 ) | watch 1 ) | watch 2 ) | pbreak NAME* ) | exit )
+    // literalize NAME NAME* ) | vector-attribute NAME NAME* )
+    // | p NAME first condition* --> action* )
+    // | make CLASS fixed* ) | remove NAT NAT* ) | remove * )
+    // | run [NAT] ) | wm NAT* ) | ppwm ) | ppwm CLASS fixed* ) | cs ) | pm NAME NAME* )
+    // | strategy ) | strategy lex ) | strategy mea ) | watch ) | watch 0 ) | watch 1 ) | watch 2 ) | pbreak NAME* )
+    // | exit )
     #[tactic(auto, unfolding(ops_grammar::specs::Grammar::goes, ops_grammar::specs::Grammar::step, ops_grammar::specs::Grammar::ends))]
     fn form<'a>(&mut self, words: &'a [Word]) -> Result<&'a [Word], Refusal>
         ensures reads { Reads Form (view self.old) (view self.new) words.now result }

@@ -52,8 +52,8 @@ abbrev pub past_last : ℕ → List Token → ℕ
 past_last from [] = from
 past_last from (t ∷ ts) = past_last t.past ts
 
--- The tokens of the text from a place on are these, and those from `past` on where they close the form; where they don't,
--- they are all.
+-- The tokens of the text from a place on are these, and those from `past` on where they close the form; where they
+-- don't, they are all.
 abbrev pub Ends : List ℕ → ℕ → List Token → ℕ → FormEnd → Type 0
 Ends text from tokens past end.Closed = (closes_last 0 tokens ≡ true) × (lexed_at text from ≡ led tokens (lexed_at text past))
 Ends text from tokens past (end.Fault f) = (stays_open 0 tokens ≡ true) × (lexed_at text from ≡ led tokens (none_by (Some f)))

@@ -21,8 +21,8 @@ Fails from refusal.OutOfMemory = Unit {0}
 Fails from (refusal.At f None) = (ws : List Wanted) (s : State) → from [] ws s ≡ Err (f, None)
 Fails from (refusal.At f (Some w)) = (more : List Word) (ws : List Wanted) (s : State) → from more ws s ≡ Err (f, Some w)
 
--- How it goes from here is how it goes in the words from the next place on from the new state, or it is the refusal. Memory may
--- run out.
+-- How it goes from here is how it goes in the words from the next place on from the new state, or it is the refusal.
+-- Memory may run out.
 abbrev pub GoesOn : Way → List Word → (State → State) → Result ℕ Refusal → Type 0
 GoesOn from words new (Ok next) = (more : List Word) (ws : List Wanted) (s : State) → from more ws s ≡ goes (drop next words ++ more) ws (new s)
 GoesOn from words new (Err e) = Fails from e
@@ -58,8 +58,8 @@ goes_onward on (w ∷ words) ws s = after (goes_onward on words) w (step w ws s)
 abbrev pub CutWay : Type 0
 CutWay = List Word → Onward → List Wanted → State → Outcome
 
--- A walk looks at no word after those that it took: cut anywhere after them, and whatever is done where they end, the words go on
--- from there to the same state.
+-- A walk looks at no word after those that it took: cut anywhere after them, and whatever is done where they end, the
+-- words go on from there to the same state.
 abbrev pub CutGoesOn : CutWay → List Word → (State → State) → Result ℕ Refusal → Type 0
 CutGoesOn from words new (Ok next) = (n : ℕ) → next ≤ n → (on : Onward) (ws : List Wanted) (s : State) → from (take n words) on ws s ≡ goes_onward on (drop next (take n words)) ws (new s)
 CutGoesOn from words new (Err e) = Unit {0}
@@ -81,8 +81,8 @@ PeekGoesToAmong holds w from words new (Err e) = Unit {0}
 
 -- ---- words
 
--- The word at a place, also where the words are cut after it, with the place after it; or the refusal of a text that ends in
--- a form.
+-- The word at a place, also where the words are cut after it, with the place after it; or the refusal of a text that
+-- ends in a form.
 abbrev pub Takes : List Word → ℕ → Result (Word × ℕ) Refusal → Type 0
 Takes words at (Ok x) = (drop at words ≡ x.0 ∷ drop x.1 words) × (x.1 ≡ at + 1) × (x.1 ≤ length words) × ((n : ℕ) → at < n → drop at (take n words) ≡ x.0 ∷ drop x.1 (take n words))
 Takes words at (Err e) = (drop at words ≡ []) × (e ≡ refusal.At fault.Unclosed None)

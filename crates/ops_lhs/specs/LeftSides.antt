@@ -33,8 +33,9 @@ abbrev pub left_read : State → List Condition → List Named → List Named �
 left_read s conditions values elements variables =
     record (right_begun (left_begun s)) { values = values; elements = elements; variables = variables; conditions = conditions }
 
--- Where these classes are declared, the words that are read are this left side up to its arrow: whatever words stand after them,
--- it goes on there from the state that the left side leaves, whatever else was read before and is wanted afterwards.
+-- Where these classes are declared, the words that are read are this left side up to its arrow: whatever words stand
+-- after them, it goes on there from the state that the left side leaves, whatever else was read before and is wanted
+-- afterwards.
 pub record ReadsLeft (classes : List Class) (words rest : List Word) (conditions : List Condition) (values elements : List Named) (variables : ℕ) : Type 0 where
   pub read : List Word
   pub split : words ≡ read ++ rest

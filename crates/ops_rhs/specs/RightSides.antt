@@ -26,7 +26,8 @@ use Rattle.ops_rhs.specs.declared.sides.Sight.{Sight}
 abbrev pub right_way : List Word → State → Way
 right_way words s = λ more ws. goes (words ++ more) (Actions ∷ ws) (right_begun s)
 
--- A state in which these classes are declared and this is in sight, as an arrow leaves it: no constants of a command are read.
+-- A state in which these classes are declared and this is in sight, as an arrow leaves it: no constants of a command
+-- are read.
 pub record Sees (classes : List Class) (sight : Sight) (s : State) : Type 0 where
   pub classes_are : s.classes ≡ classes
   pub constants_are : s.constants ≡ []
@@ -53,9 +54,9 @@ abbrev pub HasNamed : List ℕ → Outcome → Type 0
 HasNamed further (Ok s) = s.further ≡ further
 HasNamed further (Err e) = ⊥
 
--- Where these classes are declared and the old sight is in sight, the words up to a closing bracket are read as these actions:
--- whatever words stand after it, it goes on there from the state that the right side leaves, whatever else was read before and
--- is wanted afterwards. The bracket ends the production.
+-- Where these classes are declared and the old sight is in sight, the words up to a closing bracket are read as these
+-- actions: whatever words stand after it, it goes on there from the state that the right side leaves, whatever else was
+-- read before and is wanted afterwards. The bracket ends the production.
 pub record ReadsRight (classes : List Class) (old : Sight) (words rest : List Word) (actions : List Action) (new : Sight) : Type 0 where
   pub behind : AreBehind IsBracket words rest
   -- the classes of the cells that the right side named, as they are known at the bracket
@@ -82,15 +83,16 @@ pub record IsBracketAt (tokens : List Token) (place : ℕ) : Type 0 where
   pub there : slice_get tokens place ≡ Some token
   pub is : is_right token.kind ≡ true
 
--- The tokens from a place on are read as these actions up to the closing bracket at that place, and the scope is what they
--- leave in sight.
+-- The tokens from a place on are read as these actions up to the closing bracket at that place, and the scope is what
+-- they leave in sight.
 pub record IsRightSide (old new : Scope) (tokens : List Token) (from : ℕ) (actions : List Action) (place : ℕ) : Type 0 where
   pub begins : from ≤ place
   pub bracket : IsBracketAt tokens place
   pub reads : ReadsRight old.classes (sight_of old) (words_of_scope old tokens from) (drop (place + 1 - from) (words_of_scope old tokens from)) actions (sight_of new)
   pub names : new.names ≡ names_from old.text.items old.names (drop from tokens)
 
--- The tokens are refused at the first byte of a word, or where they end before the closing bracket, at the byte past the last.
+-- The tokens are refused at the first byte of a word, or where they end before the closing bracket, at the byte past
+-- the last.
 pub data IsRefusedAt (scope : Scope) (tokens : List Token) (from : ℕ) : Fault → ℕ → Type 0 where
   at_word : (f : Fault) (w : Word) → RefusesRight scope.classes (sight_of scope) (words_of_scope scope tokens from) (refusal.At f (Some w)) → IsRefusedAt scope tokens from f w.first
   at_end : RefusesRight scope.classes (sight_of scope) (words_of_scope scope tokens from) (refusal.At fault.Unclosed None) → IsRefusedAt scope tokens from fault.Unclosed (past_last 0 tokens)

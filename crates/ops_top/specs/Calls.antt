@@ -100,7 +100,8 @@ AskedForWords s words false old new = new ≡ old
 abbrev pub last_of : List (List ℕ) → List ℕ
 last_of names = slice_index_or names (length names - 1) []
 
--- The program's session comes to its end, within its limit, over this input. A job that asks for its network always comes to its end.
+-- The program's session comes to its end, within its limit, over this input. A job that asks for its network always
+-- comes to its end.
 abbrev pub program_runs_through : Job → Coming → List ℕ → Read → Bool
 program_runs_through (Run options files) coming text p = is_ok (session_of (setting_read text p) options.limit p.commands p.names coming).outcome
 program_runs_through (Net files) coming text p = true

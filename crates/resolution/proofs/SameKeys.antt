@@ -9,7 +9,6 @@ use Rattle.std.proofs.lemmas.Map.Lookups.{exact_bytes}
 use Rattle.std.proofs.lemmas.Slice.Eq.{bytes_eq-Decides}
 use Rattle.ops_base.specs.declared.commands.Strategy.{Strategy}
 use Rattle.ops_base.specs.declared.commands.Strategy.TheVariants.{Lex, Mea}
-use Rattle.ops_base.specs.declared.rules.Inst.{Inst}
 use Rattle.ops_base.proofs.InstOrder.{both_equal, equal_numbers}
 use Rattle.resolution.specs.declared.keys.Key.{Key}
 use Rattle.resolution.specs.Keys.{compare_keys, compare_keys_lex, compare_keys_production, same_keys}

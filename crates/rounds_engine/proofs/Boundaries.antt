@@ -9,9 +9,6 @@ use Rattle.rounds_engine.specs.Sharing.{AreDealt, FollowOn, HasLine, IsFirstLine
 
 -- ---- first lines
 
-pub first_is_0 : (s lines first : ℕ) → IsFirstLine s lines 0 first → first ≡ 0
-first_is_0 s lines first is = let a = (is 0).1 (omega arith) in omega (arith, a)
-
 pub first_at_0 : (s lines : ℕ) → IsFirstLine s lines 0 0
 first_at_0 s lines i = (λ h. omega arith, λ h. omega arith)
 

@@ -20,7 +20,7 @@ use Rattle.token_line.specs.Lines.{sum_in}
 use Rattle.activation.specs.Acting.{Acts, IsCounted}
 use Rattle.step_core.specs.Machine.{Placing, Seen, add_entry, place_of, sums_at, with_entry}
 use Rattle.step_core.specs.Phases.{AreSame, children_of, entries_of}
-use Rattle.step_core.specs.Rounds.{HaveDone, NoneLaw, OneLaw}
+use Rattle.step_core.specs.Rounds.{HaveDone, OneLaw}
 use Rattle.step_core.specs.Settling.{ChildLaw}
 use Rattle.step_core.specs.Worlds.{placed, seen}
 use Rattle.rounds_engine.specs.declared.shards.Placed.{Placed}
@@ -75,13 +75,6 @@ pub record HaveWorked (nodes : List Node) (s : Stored) (lines first : ℕ) (todo
   pub did : HaveDone (held_of s) nodes (placed (held_of s) nodes lines) first (map seen old) (map seen new) (tasks_in todo) made
   pub fit : All (TaskFits nodes s) made
   pub deeper : AreDeeper (tasks_in todo) made
-
-pub none_worked : NoneLaw → (nodes : List Node) (s : Stored) (lines first : ℕ) (ls : List Line) → HaveWorked nodes s lines first [] ls ls []
-none_worked law nodes s lines first ls = record {
-  did = law (held_of s) nodes (placed (held_of s) nodes lines) first (map seen ls);
-  fit = All-nil (TaskFits nodes s);
-  deeper = λ level all. All-nil (λ (x : Task). level + 1 ≤ x.node);
-}
 
 back_of : {X : Type 0} (P : X → Type 0) (xs : List X) (y : X) → All P (xs ++ y ∷ []) → All P xs × P y
 back_of P [] y all = (All-nil P, All-head P y [] all)

@@ -11,8 +11,9 @@ use Rattle.step_core.specs.declared.world.World.{World}
 use Rattle.step_core.specs.Rounds.{IsUnderWay}
 use Rattle.step_core.specs.Worlds.{placed, seen}
 
--- Each phase that is on its way in the lines `old`, with the tasks that wait, is on its way in the lines `new`, with those
--- that wait now, whatever its changes and the working memory before it. Tasks are placed among as many lines as there are.
+-- Each phase that is on its way in the lines `old`, with the tasks that wait, is on its way in the lines `new`, with
+-- those that wait now, whatever its changes and the working memory before it. Tasks are placed among as many lines as
+-- there are.
 abbrev pub CarriesOn : List Alpha → List Node → Stored → (lines : List Line) → List Task → List Line → List Task → Type 0
 CarriesOn alphas nodes s old waiting new waiting' =
     (wm : List Element) (changes : List Change)

@@ -1,8 +1,8 @@
 -- Something may always come, and so what was put is known whatever comes.
-use Rattle.std.proofs.Common.{◌≡◌, ℕ, Bool, true, false, List, [], ◌++◌, Option, Some, None, Result, Ok, refl, ◌∙◌, nat_lt}
+use Rattle.std.proofs.Common.{◌≡◌, ℕ, Bool, true, false, List, [], ◌++◌, Option, Some, None, Result, Ok, refl, nat_lt}
 use Rattle.ops_io.specs.Coming.{Coming, Inlet, preceded_by, IsBehind, MayCome, ComesBehind, ComesAfter}
 use Rattle.ops_io.specs.Ports.{Port, Put}
-use Rattle.ops_meaning.specs.Effects.{Effect, Failure, PendingOn, PerformsOn, CountsReads}
+use Rattle.ops_meaning.specs.Effects.{Effect, Failure, PendingOn, PerformsOn}
 
 some_behind : (ended : Bool) (left : Option (List ℕ)) → (more : List ℕ) × IsBehind ended false left more
 some_behind true left = ([], (refl, refl))
@@ -31,8 +31,3 @@ pending_put i j a b whole rest p = let z = some_may j in let q = p.pending z.0 z
 pub performed_put : {X F E S : Type 0} {view : X → Coming → S} {failure : F → Failure E} {x : X} {i j : Inlet} {a b : Port} {e : Coming → Effect E S} → (let r : Result X F = Ok x in PerformsOn view failure r i j a b e) → (xs : List ℕ) × Put a b xs
 performed_put {i = i} {j = j} {e = e} p =
     let z = some_failing i j in ((e (preceded_by p.taken z.0)).bytes, (p.performs z.0 z.1).1)
-
--- what a call counts, after calls in which no read failed
-pub counts_behind : (failed : Bool) (before now new : ℕ) → now ≡ before → CountsReads failed now new → CountsReads failed before new
-counts_behind true before now new same p = cc
-counts_behind false before now new same p = p ∙ same

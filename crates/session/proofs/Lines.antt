@@ -6,7 +6,7 @@ use Rattle.ops_io.specs.Output.{column_after}
 use Rattle.ops_io.specs.Ports.{Port, Put, Stopped, Underway}
 use Rattle.ops_io.specs.declared.stop.Stop.TheVariants as stop
 use Rattle.ops_io.proofs.Known.{column-append}
-use Rattle.ops_io.proofs.PortLemmas.{put_nothing, put_short, underway_step, underway_stop, underway_done}
+use Rattle.ops_io.proofs.PortLemmas.{put_nothing, underway_step, underway_stop, underway_done}
 use Rattle.ops_meaning.specs.Layout.{fresh_line, line_at, lines_at}
 
 -- after a line the column is 0
@@ -75,12 +75,6 @@ pub lines_end : (start now : Port) (all rest : List (List ℕ)) → LinesLeft st
 lines_end start now all rest left none =
     let P : List (List ℕ) → Type 0 = LinesLeft start now all in
     underway_done start now (lines_at start.out.column all) (subst P none left)
-
--- memory ran out before the others
-pub lines_short : (start now : Port) (all rest : List (List ℕ)) → LinesLeft start now all rest → Stopped stop.OutOfMemory start now (lines_at start.out.column all)
-lines_short start now all rest left =
-    let P : List ℕ → Type 0 = Stopped stop.OutOfMemory start now in
-    subst P (sym left.split) (put_short start now left.sofar (lines_at now.out.column rest) left.put)
 
 -- ---- lists of lines
 

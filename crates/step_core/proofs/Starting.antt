@@ -1,5 +1,5 @@
 -- The lines at the start: with no tokens, and then with what the root gives to one node after another.
-use Rattle.std.proofs.Common.{◌≡◌, ◌≢◌, ℕ, zero, suc, ◌+◌, ◌%◌, Bool, true, false, cond, ◌&&◌, ◌==◌, nat_lt, List, [], ◌∷◌, ◌++◌, length, set, pos, ◌+ℤ◌, slice_get, Option, Some, None, IsSome, refl, sym, ap, ap₂, subst, ◌∙◌, arith, bytes_eq, length-append, length-set, ℤ, ◌⊎◌, inl, inr}
+use Rattle.std.proofs.Common.{◌≡◌, ◌≢◌, ℕ, zero, suc, ◌+◌, ◌%◌, Bool, true, false, cond, ◌&&◌, ◌==◌, nat_lt, List, [], ◌∷◌, ◌++◌, length, set, pos, ◌+ℤ◌, slice_get, Option, Some, None, refl, sym, ap, ap₂, subst, ◌∙◌, arith, bytes_eq, length-append, length-set, ℤ, ◌⊎◌, inl, inr}
 use Rattle.std.specs.Option.{is_some}
 use Rattle.std.proofs.lemmas.Int.{ints}
 use Rattle.std.proofs.lemmas.Bool.{cases_eq}
@@ -12,10 +12,9 @@ use Rattle.net_base.specs.declared.tasks.Side.{Side}
 use Rattle.net_base.specs.declared.tasks.Side.TheVariants.{Left, Right}
 use Rattle.net_base.specs.Tokens.{root_gives, giver_of_parent, giver_of_kind}
 use Rattle.token_line.specs.declared.line.Line.{Line}
-use Rattle.token_line.specs.declared.tokens.Cell.{Cell}
 use Rattle.token_line.specs.Bags.{after, are_same_sides, is_at, sign_at}
 use Rattle.token_line.specs.Lawful.{giver_in, giver_of}
-use Rattle.token_line.specs.Lines.{IsAlone, IsFiled, KeepsCodesBut, filed_in, sum_in}
+use Rattle.token_line.specs.Lines.{IsFiled, KeepsCodesBut, filed_in, sum_in}
 use Rattle.token_line.proofs.Filed.{nothing}
 use Rattle.token_line.proofs.LineLemmas.{at_task}
 use Rattle.step_core.specs.Machine.{root_part}
@@ -71,14 +70,6 @@ unused_is_begun nodes lines ls are = record {
   where
     none : (i n : ℕ) (s : Side) (t : List ℕ) → pos 0 ≡ given_below nodes lines 0 i n s t
     none i n s t = let no : nat_lt n 0 ≡ false = grind (arith, nat_tests) in ap (λ b. cond (b && (n % lines == i)) (pos (root_part (giver_of nodes n s) t)) (pos 0)) (sym no)
-
--- a token on such a line is under no code but the number of its node
-pub begun_alone : (nodes : List Node) (lines bound i : ℕ) (l : Line) → IsBegun nodes lines bound i l → (n : ℕ) (s : Side) (t : List ℕ) → IsAlone l n n s t
-begun_alone nodes lines bound i l begun n s t d ne = by (filed_in l n d s t) refl
-  where
-    by : (o : Option Cell) → filed_in l n d s t ≡ o → o ≡ None
-    by None q = refl
-    by (Some c) q = absurd (ne (begun.filed n d s t (subst IsSome (sym q) refl)))
 
 -- ---- what the root gives to one node
 

@@ -7,14 +7,6 @@ use Rattle.token_line.specs.declared.line.Line.{Line}
 use Rattle.step_core.specs.Worked.{AreWorked}
 use Rattle.step_core.proofs.ListPlaces.{get_left, get_last, get_push, get_set}
 
-pub worked_none : (ls : List Line) → ((i : ℕ) (l : Line) → slice_get ls i ≡ Some l → l.entries.items ≡ []) → AreWorked ls []
-worked_none ls none = record {
-  within = λ k i at. absurd (cc);
-  busy = λ k i l at here. absurd (cc);
-  rest = λ i l here others. ap length (none i l here);
-  once = λ j k i at at'. absurd (cc);
-}
-
 module _ (ls : List Line) (k : ℕ) (old new : Line) (worked : List ℕ) (told : AreWorked ls worked) (low : k < length ls) (is : old ≡ get_or ls k old) where
   here : slice_get ls k ≡ Some old
   here = slice_get_read ls (length ls) k old refl low is

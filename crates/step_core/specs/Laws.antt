@@ -175,7 +175,8 @@ SettleLaw =
     → NoClear phase → Run elements alphas nodes line w phase w' → w'.counter ≡ 0
     → IsBundle elements alphas nodes line wm (changes_of phase) w'.lines
 
--- at the end of each bundle of lawful changes the lines hold just the tokens over the working memory that the changes make
+-- at the end of each bundle of lawful changes the lines hold just the tokens over the working memory that the changes
+-- make
 abbrev pub BundleLaw : Type 0
 BundleLaw =
     (elements : Elements) (alphas : List Alpha) (nodes : List Node) (line : Placing) (wm : List Element) (last : ℕ) (changes : List Change) (ls : List Seen)

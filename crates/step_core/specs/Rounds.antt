@@ -16,8 +16,8 @@ use Rattle.step_core.specs.Phases.{AreSame, HoldJust, IsBundle, IsPhase, before,
 
 -- ---- a phase on its way
 
--- As in a bundle, but for the tasks that wait. At the start the lines held just the tokens over wm. Each line's phase is
--- lawful. The tasks of all entries, together with those that wait, are those that the changes feed together with the
+-- As in a bundle, but for the tasks that wait. At the start the lines held just the tokens over wm. Each line's phase
+-- is lawful. The tasks of all entries, together with those that wait, are those that the changes feed together with the
 -- children of all entries.
 pub record IsUnderWay (elements : Elements) (alphas : List Alpha) (nodes : List Node) (line : Placing) (wm : List Element) (changes : List Change) (ls : List Seen) (waiting : List Task) : Type 0 where
   pub start : HoldJust line (sums_over wm alphas nodes) (map before ls)

@@ -134,10 +134,6 @@ swapped true b x = refl
 swapped false true x = refl
 swapped false false x = refl
 
-pub nested : {R : Type 0} (a x : Bool) (r none : R) → cond a (cond x r none) none ≡ cond (a && x) r none
-nested true x r none = refl
-nested false x r none = refl
-
 same_code : (c : ℕ) → (c == c) ≡ true
 same_code c = (Decides-eqb c c).1 refl
 

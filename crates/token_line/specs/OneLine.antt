@@ -11,8 +11,8 @@ use Rattle.token_line.specs.Numbers.{code_of, equalities, own_value, line_number
 abbrev pub HaveOneValue : Elements → List JoinTest → List ℕ → ℕ → Type 0
 HaveOneValue elements tests t e = All (λ j. own_value elements Left t j ≡ own_value elements Right (e ∷ []) j) (equalities tests)
 
--- A left token and a right element of one node whose values agree at each test for equality have one line. A terminal has no
--- right elements.
+-- A left token and a right element of one node whose values agree at each test for equality have one line. A terminal
+-- has no right elements.
 abbrev pub OneLine : Type 0
 OneLine = (elements : Elements) (nodes : List Node) (lines n : ℕ) (x : Node) (t : List ℕ) (e : ℕ)
     → slice_get nodes n ≡ Some x → is_terminal x.kind ≡ false → HaveOneValue elements x.joins t e

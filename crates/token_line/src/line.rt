@@ -1,6 +1,6 @@
 //! A line: the tokens of every node that stand on it, and what was done there in this phase.
-ghost use Rattle.std.specs.Prelude.{◌≡◌, ◌≢◌, ◌<◌, ◌∷◌, ◌++◌, ◌==◌, ◌&&◌, ◌-◌, ◌^◌, ◌+ℤ◌, IfOk, IfSome, List, None, OnErr, OnOk, [], if◌then◌else◌, length, pos, true, vec_capacity, ℕ};
-ghost use Rattle.std.specs.Option.{option_copied, option_to_list};
+ghost use Rattle.std.specs.Prelude.{◌≡◌, ◌≢◌, ◌<◌, ◌∷◌, ◌++◌, ◌==◌, ◌&&◌, ◌-◌, ◌^◌, ◌+ℤ◌, IfOk, IfSome, List, None, OnErr, OnOk, [], if◌then◌else◌, length, pos, true, ℕ};
+ghost use Rattle.std.specs.Option.{option_copied};
 ghost use Rattle.work_store.specs.Stored.{held_of};
 ghost use Rattle.net_base.specs.declared.tasks.Side.{Side};
 ghost use Rattle.net_base.specs.declared.tasks.Side.TheVariants.{Left, Right};
