@@ -384,7 +384,7 @@ pub fn act<I: Source, K: Sink>(
     ensures names { KeepsNames names.old names.new }
 
     // Where the names hold each symbol of the program and of the store, they hold after it also those of what the
-    // changes make. So no symbol is printed that has no spelling.
+    // changes make.
     ensures held { HoldsProgram names.old program.now → HoldsElements names.old store.now.elements
         → HoldsProgram names.new program.now × HoldsElements names.new store.now.elements × IfOk result (λ a. HoldsMade names.new a.changes) }
 {

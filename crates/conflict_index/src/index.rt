@@ -93,9 +93,9 @@ impl Index {
         Ok(())
     }
 
-    /// Marks a member as fired. Takes no memory. Where it is the one that `select` answers, it costs a number of
-    /// comparisons that does not grow with the members. Where it is another it is looked for among those that have not
-    /// fired, which compares productions and tags with those of each, the dominant one last.
+    /// Marks a member as fired. Takes no memory. Where it is the one that `select` answers, and no other was marked out
+    /// of turn, it costs a number of comparisons that does not grow with the members. Else it is looked for among those
+    /// that have not fired, which compares productions and tags with those of each, the dominant one last.
     pub fn mark(&mut self, inst: &Inst)
         requires { Contains (insts_of self.old.members) inst.now }
         ensures { self.new ≡ record self.old { members = marked inst.now self.old.members } }
@@ -122,7 +122,7 @@ impl Index {
     }
 
     /// The dominant one of those that have not fired. Takes no memory, and a time that grows with the logarithm of
-    /// their number.
+    /// their number, beside a step for each one above it that was marked out of turn.
     pub fn select(&self) -> Option<&Inst>
         ensures first { MatchOption result (waiting self.now.members ≡ [])
             (λ i. IsFirst self.now.strategy self.now.members i.now) }

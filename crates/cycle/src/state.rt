@@ -255,7 +255,8 @@ impl<M: Matcher> State<M> {
 
     /// One firing: its line where firings are traced, the right side of what is next, which is marked, and then one
     /// phase. The answer tells whether `halt` was done in it. What fires is looked up in the conflict set, and marked
-    /// where it stands. After a refusal the state is gone; what was put and read stays so, and names may have come.
+    /// where it stands. After a refusal the state is gone, and names may have come; how far the input was read is not
+    /// said.
     pub fn fire<H: Fn(M, &[Change]) -> Result<Settled<M>, OutOfMemory>, I: Source, K: Sink>(
         self,
         alloc: Global,
@@ -294,7 +295,7 @@ impl<M: Matcher> State<M> {
         ensures names { KeepsNames names.old names.new }
 
         // Where the names hold each symbol of the program and of working memory, they hold after it those of the
-        // program and of the new working memory. So no symbol is printed that has no spelling.
+        // program and of the new working memory.
         ensures held { HoldsProgram names.old program.now → HoldsElements names.old (M.stored self.matcher).elements
             → HoldsProgram names.new program.now × HoldsElements names.new (M.stored self.matcher).elements
             × IfOk result (λ r. HoldsElements names.new (M.stored r.0.matcher).elements) }

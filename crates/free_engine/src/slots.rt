@@ -1,4 +1,4 @@
-//! The pool and the lines behind turns, in one type, one pointer wide.
+//! The pool and the lines behind turns, in one type, a tag and a pointer wide.
 
 use crate::cells::{LineCell, PoolCell};
 use net_base::net::Net;

@@ -103,7 +103,10 @@ struct Meeting {
     wanted: u64,
     /// The worker of the first call, or `NOBODY`.
     first: AtomicU64,
+    /// How many calls of other workers have come.
     others: AtomicU64,
+    /// How many had come when the first call went on, 0 before.
+    met: AtomicU64,
 }
 
 const NOBODY: u64 = u64::MAX;
@@ -114,6 +117,7 @@ impl Meeting {
             wanted,
             first: AtomicU64::new(NOBODY),
             others: AtomicU64::new(0),
+            met: AtomicU64::new(0),
         }
     }
 }
@@ -129,10 +133,12 @@ impl Gate for Meeting {
                 let backoff = Backoff::new();
                 for _turn in 0..TURNS {
                     if self.others.load(Ordering::SeqCst) >= self.wanted {
-                        return;
+                        break;
                     }
                     backoff.snooze();
                 }
+                let met = self.others.load(Ordering::SeqCst);
+                self.met.store(met, Ordering::SeqCst);
             }
             Err(first) => {
                 if first != me {
@@ -212,7 +218,7 @@ fn net_of_two(alloc: Global) -> Result<Net, Fail> {
     Ok(compile(alloc, &program)?)
 }
 
-/// Two shards work at the same time.
+/// A shard begins an activation while another one is held in its own.
 #[test]
 fn two_shards_meet(rt: HostRuntime) -> Result<(), Fail> {
     let alloc = rt.alloc();
@@ -222,14 +228,14 @@ fn two_shards_meet(rt: HostRuntime) -> Result<(), Fail> {
             let gate = Meeting::of(1);
             let status = answer_to_two(&rt, alloc, "rounds", lines, &gate)?;
             assert_eq!(rt; status, Status::Done);
-            assert_eq!(rt; gate.others.load(Ordering::SeqCst) >= 1, true);
+            assert_eq!(rt; gate.met.load(Ordering::SeqCst) >= 1, true);
             return Ok(());
         }
     }
     panic!(rt; "no number of lines has them in two shards");
 }
 
-/// A worker does an activation and its child while another is held in one: no order of rounds has that.
+/// A worker begins an activation and its child while another is held in one: no order of rounds has that.
 #[test]
 fn two_activations_meet(rt: HostRuntime) -> Result<(), Fail> {
     let alloc = rt.alloc();
@@ -239,7 +245,7 @@ fn two_activations_meet(rt: HostRuntime) -> Result<(), Fail> {
             let gate = Meeting::of(2);
             let status = answer_to_two(&rt, alloc, "free", lines, &gate)?;
             assert_eq!(rt; status, Status::Done);
-            assert_eq!(rt; gate.others.load(Ordering::SeqCst) >= 2, true);
+            assert_eq!(rt; gate.met.load(Ordering::SeqCst) >= 2, true);
             return Ok(());
         }
     }

@@ -5,7 +5,7 @@ use crate::key_tags::KeyTags;
 use ops_base::memory::OutOfMemory;
 use std::alloc::Global;
 
-/// What decides between instantiations, made once so that comparing takes no memory and sorts nothing.
+/// What decides between instantiations, made beforehand so that comparing takes no memory and sorts nothing.
 #[derive(Debug, Drop)]
 pub struct Key {
     /// The tag of the first condition.

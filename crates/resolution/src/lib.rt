@@ -1,4 +1,4 @@
-//! Conflict resolution: keys that are made once for an instantiation, and their comparison.
+//! Conflict resolution: the keys of instantiations, and their comparison.
 #![tactic(auto)]
 
 ghost use Rattle.std.specs.Prelude.{◌≡◌, ◌<◌, ◌↔◌, List, IfOk, IsTrue, length, unwrap_or, slice_get};

@@ -14,14 +14,14 @@ use ops_base::programs::Program;
 use std::alloc::Global;
 use work_store::{Matcher, Settled};
 
-/// This many waiting makes are made as one phase, if working memory has no more elements than that. A network engine
-/// then holds the entries of this many changes at once and not those of all. The direct engine matches working memory
-/// anew in each phase: since working memory doubles at least from one such phase to the next, it does at most twice the
-/// work of one.
+/// This many waiting makes are made as one phase, or as many as working memory has elements, if those are more. So a
+/// network engine holds the entries of such a piece at once and not those of all makes. The direct engine matches
+/// working memory anew in each phase: since working memory doubles at least from one piece to the next, all pieces
+/// together cost less than three times what one phase for all would.
 const PIECE: usize = 1024;
 
 /// A session between two of its commands. Before the first run nothing is marked as fired, so that no mark can be lost:
-/// top-level makes wait there, and their phases are made in one, for which the conflict set is found once.
+/// top-level makes wait there, and many of them are made in one phase, for which the conflict set is found once.
 #[derive(Drop)]
 pub(crate) struct Session<M: Matcher> {
     pub(crate) state: State<M>,
