@@ -66,8 +66,8 @@ impl Index {
     ///
     /// It costs what goes and what comes, and not what stays: for each a key is made, which copies the tags and sorts
     /// the copy, and is looked for by a number of comparisons that grows with the logarithm of the number of members.
-    /// More than four tags of a key take memory. For each that comes the tags are copied once more. Only where room for
-    /// more marks is made, or where memory runs out while members are added, it goes over those that are there.
+    /// For each that comes the tags are copied once more. Only where room for more marks is made, or where memory runs
+    /// out while members are added, it goes over those that are there.
     pub fn apply(
         &mut self,
         program: &Program,

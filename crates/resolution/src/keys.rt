@@ -1,7 +1,7 @@
 //! The key of an instantiation.
 ghost use Rattle.std.specs.Prelude.{◌≡◌, IfOk};
 
-use crate::key_tags::KeyTags;
+use ops_base::list::Listed;
 use ops_base::memory::OutOfMemory;
 use std::alloc::Global;
 
@@ -11,16 +11,16 @@ pub struct Key {
     /// The tag of the first condition.
     pub first: u64,
     /// The tags from the greatest down.
-    pub sorted: KeyTags,
+    pub sorted: Listed<u64>,
     pub specificity: u32,
     /// The number of the production, from 0 in the order of the text.
     pub rule: usize,
     /// The tags in the order of the conditions.
-    pub tags: KeyTags,
+    pub tags: Listed<u64>,
 }
 
 impl Key {
-    /// Takes time for each tag twice, and memory where there are more than four. It sorts nothing.
+    /// Takes memory and time for each tag twice, and sorts nothing.
     pub fn copy(&self, alloc: Global) -> Result<Key, OutOfMemory>
         ensures { IfOk result (λ c. c ≡ self.now) }
     {

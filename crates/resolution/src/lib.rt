@@ -10,18 +10,26 @@ ghost use Rattle.ops_base.specs.declared.rules.Rule.{Rule};
 ghost use Rattle.ops_base.specs.Dominance.{downwards, compare_insts, dominates};
 ghost use Rattle.resolution.specs.Keys.{IsKey, compare_keys, compare_keys_lex, compare_keys_production};
 
-mod key_tags;
 mod keys;
 mod sameness;
 
-pub use crate::key_tags::KeyTags;
 pub use crate::keys::Key;
 use ops_base::commands::Strategy;
+use ops_base::list::Listed;
 use ops_base::memory::OutOfMemory;
 use ops_base::programs::Program;
 use ops_base::rules::{Inst, Rule};
 use std::alloc::Global;
 use std::cmp::Ordering;
+
+fn sorted_downwards(alloc: Global, tags: &[u64]) -> Result<Vec<u64>, OutOfMemory>
+    ensures { IfOk result (λ v. v.items ≡ downwards tags.now) }
+{
+    let mut sorted = Vec::from_slice(alloc, tags)?;
+    sorted.sort_unstable();
+    sorted.reverse();
+    Ok(sorted)
+}
 
 fn first_of(tags: &[u64]) -> u64
     ensures { result ≡ unwrap_or (slice_get tags.now 0) 0 }
@@ -39,17 +47,18 @@ fn key_of(alloc: Global, rule: usize, specificity: u32, tags: &[u64]) -> Result<
     ensures rule { IfOk result (λ key. key.rule ≡ rule) }
     ensures tags { IfOk result (λ key. key.tags ≡ tags.now) }
 {
+    let sorted = sorted_downwards(alloc, tags)?;
+    let copy = Vec::from_slice(alloc, tags)?;
     Ok(Key {
         first: first_of(tags),
-        sorted: KeyTags::downwards(alloc, tags)?,
+        sorted: Listed::from_vec(sorted),
         specificity,
         rule,
-        tags: KeyTags::from_slice(alloc, tags)?,
+        tags: Listed::from_vec(copy),
     })
 }
 
-/// The key of an instantiation of one of the program's productions. It copies the tags twice and sorts one copy. More
-/// than four tags take memory.
+/// The key of an instantiation of one of the program's productions. It copies the tags twice and sorts one copy.
 pub fn key(alloc: Global, program: &Program, inst: &Inst) -> Result<Key, OutOfMemory>
     requires { inst.now.rule < length program.now.rules }
     ensures { IfOk result (λ key. IsKey program.now.rules inst.now key) }
@@ -117,7 +126,6 @@ mod tests {
     use super::*;
     use ops_base::conditions::Condition;
     use ops_base::elements::Class;
-    use ops_base::list::Listed;
     use ops_base::values::Sym;
     use std::test::Fail;
 
