@@ -18,8 +18,6 @@ mod items;
 mod outcome;
 mod right_side;
 mod state;
-#[cfg(test)]
-mod tests;
 mod traces;
 mod values;
 

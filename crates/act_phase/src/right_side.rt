@@ -136,7 +136,7 @@ fn remove(doing: &mut Doing<'_>, cells: &[usize]) -> Result<(), OutOfMemory>
     Ok(())
 }
 
-/// Makes an element, and tells of it where elements are traced.
+/// Makes an element, and prints it where elements are traced.
 fn make_and_tell<I: Source, K: Sink>(
     alloc: Global,
     program: &Program,
@@ -168,7 +168,7 @@ fn make_and_tell<I: Source, K: Sink>(
     Ok(tell_changes(program, names, doing.working(), watch, since, out, sink)?)
 }
 
-/// Puts a copy with other fields in the place of a cell's element, and tells of both where elements are traced.
+/// Puts a copy with other fields in the place of a cell's element, and prints both where elements are traced.
 fn modify_and_tell<I: Source, K: Sink>(
     alloc: Global,
     program: &Program,

@@ -4,5 +4,3 @@ pub mod Negating
 pub mod Effects
 pub mod Children
 pub mod Acting
-pub mod OneJoin
-pub mod OneNegated

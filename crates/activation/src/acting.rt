@@ -35,7 +35,7 @@ fn node_of<'a>(net: &'a Net, store: &Store, task: &Task) -> &'a Node
     }
 }
 
-/// Whether the line tells of the tasks of this node: of those of a terminal.
+/// Whether a line reports the tasks of this node: those of a terminal.
 fn is_told(node: &Node) -> bool
     ensures { result ≡ is_terminal node.now.kind }
 {
@@ -109,9 +109,9 @@ fn attempt(
 /// an entry of the line, and its token counts there. The task's code is made once, and its memory and the token are
 /// looked for once. The task is copied only where its node is a terminal. A join or a negated node looks at each token
 /// of the other side that it has on the line with the task's code, so at no other values at the equality tests unless
-/// their codes happen to be equal. A left token that a negated node keeps already looks at none, and neither does a task
-/// that changes nothing, unless it is a left delete at a negated node that comes before its insert. Each child is made
-/// once. Where memory runs out, or a count does not fit, nothing has changed.
+/// their codes happen to be equal. A left token that a negated node keeps already looks at none, and neither does a
+/// task that changes nothing, unless it is a left delete at a negated node that comes before its insert. Each child is
+/// made once. Where memory runs out, or a count does not fit, nothing has changed.
 pub fn activate(
     alloc: Global,
     net: &Net,

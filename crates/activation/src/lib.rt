@@ -7,7 +7,5 @@ mod children;
 mod effects;
 mod negating;
 mod putting;
-#[cfg(test)]
-mod tests;
 
 pub use acting::{activate, activate_coded};

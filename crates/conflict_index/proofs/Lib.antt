@@ -9,5 +9,3 @@ pub mod Applying
 pub mod Marking
 pub mod Dominant
 pub mod Selected
-pub mod AppliedInsts
-pub mod TestPrograms

@@ -64,10 +64,10 @@ impl Index {
     /// Takes those that are gone out, with their marks, and adds those that come. Where memory runs out nothing has
     /// changed.
     ///
-    /// It costs what goes and what comes, and not what stays: for each a key is made, which copies the tags and sorts
-    /// the copy, and is looked for by a number of comparisons that grows with the logarithm of the number of members.
-    /// For each that comes the tags are copied once more. Only where room for more marks is made, or where memory runs
-    /// out while members are added, it goes over those that are there.
+    /// It costs what goes and what comes, and not what stays: for each a key is made, which copies the tags twice and
+    /// sorts one of the copies. The key is looked for by a number of comparisons that grows with the logarithm of the
+    /// number of members. For each that comes the tags are copied once more. Only where room for more marks is made, or
+    /// where memory runs out while members are added, it goes over those that are there.
     pub fn apply(
         &mut self,
         program: &Program,

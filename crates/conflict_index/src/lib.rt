@@ -7,8 +7,6 @@ mod laws;
 mod order;
 mod rank;
 mod standing;
-#[cfg(test)]
-mod tests;
 
 pub use index::Index;
 pub use laws::outranking_is_dominance;

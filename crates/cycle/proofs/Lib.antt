@@ -4,4 +4,3 @@ pub mod HeldAfter
 pub mod Marks
 mod Phases
 mod Firings
-mod Quiet

@@ -2,4 +2,3 @@
 pub mod Settles
 pub mod Slots
 pub mod States
-pub mod Quiet

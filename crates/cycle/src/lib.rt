@@ -2,11 +2,7 @@
 //! another.
 #![tactic(auto)]
 
-#[cfg(test)]
-mod fake;
 mod slot;
 mod state;
-#[cfg(test)]
-mod tests;
 
 pub use state::State;

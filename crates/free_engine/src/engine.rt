@@ -121,12 +121,12 @@ impl<G: Gate + Drop> FreeEngine<G> {
         parts.world.lines()
     }
 
-    /// Feeds all changes, and does their tasks and all that comes of them: on the calling thread, or by several workers,
-    /// each of which takes a task from a pool and gives back its children. The work is shared where many tasks are in
-    /// flight and the last of them have many partners, and once where two or more but few are fed. It takes time for
-    /// the tasks that it does, for the lines that they were done on, and for the nodes that a change is fed to. Where
-    /// many were in flight it also looks at each line, and moves each where the work was shared. It may wait for other
-    /// threads, and it is not promised that their turns come. What it removed is kept until the next settle.
+    /// Feeds all changes, and does their tasks and all that comes of them: on the calling thread, or by several
+    /// workers, each of which takes a task from a pool and gives back its children. The work is shared where many tasks
+    /// are in flight and the last of them have many partners, and once where two or more but few are fed. It takes time
+    /// for the tasks that it does, for the lines that they were done on, and for the nodes that a change is fed to.
+    /// Where many were in flight it also looks at each line, and moves each where the work was shared. It may wait for
+    /// other threads, and it is not promised that their turns come. What it removed is kept until the next settle.
     pub fn settle_freely<R: Threads + Wait + Sync>(
         self,
         rt: &R,

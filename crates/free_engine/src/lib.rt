@@ -12,8 +12,6 @@ mod sharing;
 mod slots;
 mod starting;
 mod team;
-#[cfg(test)]
-mod tests;
 mod turns;
 mod working;
 

@@ -13,7 +13,7 @@ use std::marker::Model;
 /// The tags that a token names, in the order of their places.
 #[derive(Drop)]
 pub struct Tags {
-    tags: SmallVec<u64, 8>,
+    tags: SmallVec<u64, 5>,
 }
 
 impl Model for Tags {
@@ -58,7 +58,7 @@ impl Tags {
         }
     }
 
-    /// Up to eight tags take no memory.
+    /// Up to five tags take no memory.
     pub fn from_slice(alloc: Global, tags: &[u64]) -> Result<Tags, OutOfMemory>
         ensures { IfOk result (λ t. t ≡ tags.now) }
     {
@@ -67,7 +67,7 @@ impl Tags {
         })
     }
 
-    /// Up to eight tags take no memory.
+    /// Up to five tags take no memory.
     pub fn copy(&self, alloc: Global) -> Result<Tags, OutOfMemory>
         ensures { IfOk result (λ t. t ≡ self.now) }
     {
@@ -88,7 +88,7 @@ impl Tags {
         self.tags.as_slice().len()
     }
 
-    /// Adds a tag at the end. The ninth takes memory, and later ones now and then.
+    /// Adds a tag at the end. The sixth takes memory, and later ones now and then.
     pub fn push(&mut self, tag: u64) -> Result<(), OutOfMemory>
         ensures ok { OnOk result (self.new ≡ self.old ++ tag ∷ []) }
         ensures err { OnErr result (self.new ≡ self.old) }

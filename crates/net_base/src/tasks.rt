@@ -22,7 +22,7 @@ pub struct Task {
 }
 
 impl Task {
-    /// Takes memory where the token has more than eight tags.
+    /// Takes memory where the token has more than five tags.
     pub fn copy(&self, alloc: Global) -> Result<Task, OutOfMemory>
         ensures { IfOk result (λ t. t ≡ self.now) }
     {

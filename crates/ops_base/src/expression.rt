@@ -95,24 +95,3 @@ impl Expr {
         self.steps.as_slice() == other.steps.as_slice()
     }
 }
-
-#[cfg(test)]
-mod tests {
-    use super::*;
-
-    const OPERANDS: usize = 100_000;
-
-    // As many boxes, one in another, would overflow the stack.
-    #[test]
-    fn long_chain(rt: HostRuntime) -> Result<(), OutOfMemory> {
-        let alloc = rt.alloc();
-        let mut chain = Expr::variable(alloc, 7)?;
-        for _ in 1..OPERANDS {
-            chain = Expr::apply(Op::Add, Expr::number(alloc, 1)?, chain)?;
-        }
-        let copy = chain.copy(alloc)?;
-        assert_eq!(rt; copy.steps().len(), 2 * OPERANDS - 1);
-        assert!(rt; copy.equals(&chain));
-        Ok(())
-    }
-}

@@ -4,8 +4,6 @@
 //! the first word is taken already and passed to it.
 #![tactic(auto)]
 
-#[cfg(test)]
-mod command_tests;
 mod commands;
 mod declarations;
 mod draft;
@@ -13,8 +11,6 @@ mod elements;
 mod ends;
 mod faults;
 mod forms;
-#[cfg(test)]
-mod function_tests;
 mod given;
 pub mod laws;
 mod names;
@@ -22,8 +18,6 @@ mod productions;
 mod program;
 mod several;
 mod tags;
-#[cfg(test)]
-mod tests;
 mod values;
 
 pub use faults::ProgramFault;

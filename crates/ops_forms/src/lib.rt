@@ -9,8 +9,6 @@ pub mod kinds;
 pub mod places;
 pub mod refusals;
 pub mod scope;
-#[cfg(test)]
-mod tests;
 pub mod vectors;
 pub mod walking;
 pub mod words;

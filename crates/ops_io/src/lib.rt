@@ -7,8 +7,6 @@ mod out;
 mod outside;
 mod real;
 mod stop;
-#[cfg(test)]
-mod tests;
 
 pub use input::Input;
 pub use memory::{MemShelf, MemSink, MemSource};

@@ -13,8 +13,6 @@ mod several;
 pub mod sides;
 mod sight;
 mod testing;
-#[cfg(test)]
-mod tests;
 
 pub use reading::{left_side, read_lhs};
 pub use sides::LeftSide;

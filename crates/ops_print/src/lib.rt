@@ -9,8 +9,6 @@ mod instances;
 mod lines;
 mod pieces;
 mod symbols;
-#[cfg(test)]
-mod tests;
 mod values;
 
 pub use elements::{put_element, put_element_line, put_made_line, put_removed_line};

@@ -16,8 +16,6 @@ mod reading;
 mod right;
 pub mod sides;
 mod substr;
-#[cfg(test)]
-mod tests;
 mod values;
 
 pub use reading::{read_rhs, right_side};

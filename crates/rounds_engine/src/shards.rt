@@ -10,7 +10,7 @@ use ops_base::memory::OutOfMemory;
 use std::alloc::Global;
 use token_line::{Place, place_of};
 
-/// How many tasks a further shard must take off the largest one to be worth a thread.
+/// How many tasks the shards beside the largest one must have, on average, to be worth a thread each.
 const FEWEST: usize = 64;
 
 /// A task with the number of its line, and its code.

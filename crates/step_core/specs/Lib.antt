@@ -9,7 +9,6 @@ pub mod Worked
 pub mod Doing
 pub mod Worlds
 pub mod Working
-pub mod TwoJoins
 pub mod Found
 pub mod Settling
 pub mod Gathering

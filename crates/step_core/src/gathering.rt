@@ -90,7 +90,7 @@ fn look_at(
     Ok(())
 }
 
-/// The same for each task that the line tells of.
+/// The same for each task that the line reports.
 fn look_over(
     alloc: Global,
     net: &Net,

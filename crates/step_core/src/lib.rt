@@ -7,8 +7,6 @@ mod feeding;
 mod gathering;
 pub mod laws;
 mod start;
-#[cfg(test)]
-mod tests;
 mod worked;
 pub mod world;
 

@@ -11,8 +11,6 @@ pub mod memory;
 pub mod number;
 mod small_map;
 mod spot;
-#[cfg(test)]
-mod tests;
 pub mod tokens;
 
 pub use children::Children;

@@ -8,8 +8,6 @@ mod pages;
 mod row;
 mod slot;
 mod store;
-#[cfg(test)]
-mod tests;
 
 pub use iter::Elements;
 pub use matcher::{Matcher, Settled};

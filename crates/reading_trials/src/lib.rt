@@ -1,0 +1,17 @@
+//! Trials of reading: devices, forms, both sides of productions, and whole texts. It has tests alone.
+#![tactic(auto)]
+
+#[cfg(test)]
+mod commands;
+#[cfg(test)]
+mod devices;
+#[cfg(test)]
+mod forms;
+#[cfg(test)]
+mod functions;
+#[cfg(test)]
+mod left_sides;
+#[cfg(test)]
+mod right_sides;
+#[cfg(test)]
+mod texts;

@@ -1,0 +1,3 @@
+pub mod AppliedInsts
+pub mod TestPrograms
+mod Quiet

@@ -1,0 +1,2 @@
+-- What the matcher of the trials finds.
+pub mod Quiet
