@@ -1,17 +1,22 @@
 //! Predicates of two values, and a conflict set by direct matching.
-ghost use Rattle.std.specs.Prelude.{◌≡◌, ◌∷◌, [], IfOk};
+ghost use Rattle.std.specs.Prelude.{◌≡◌, IfOk};
 
-use ops_base::conditions::{Condition, Operand, Test};
 use ops_base::direct::direct_set;
-use ops_base::elements::{Class, Element};
+use ops_base::elements::Element;
 use ops_base::list::Listed;
 use ops_base::matching::holds;
 use ops_base::memory::OutOfMemory;
 use ops_base::programs::Program;
-use ops_base::rules::Rule;
+use ops_base::symbols::Names;
 use ops_base::values::{NOTHING, Pred, Sym, Value};
+use ops_check::read_program;
 use std::alloc::Global;
 use std::test::Fail;
+
+const TWIN: &[u8] = b"(literalize a n)
+(literalize b n)
+(p twin (a ^n <x>) (a ^n <x>) - (b ^n <x>) -->)
+";
 
 #[test]
 fn predicates(rt: HostRuntime) {
@@ -40,68 +45,17 @@ fn element(alloc: Global, tag: u64, class: usize, n: i64) -> Result<Element, Out
     Ok(Element { tag, class, fields })
 }
 
-fn class(alloc: Global, name: u64) -> Result<Class, OutOfMemory>
-    ensures { IfOk result (λ c.
-        c ≡ record { name = record { 0 = name }; attrs = record { 0 = 9 } ∷ []; vector = false }) }
-{
-    let name = Sym(name);
-    let attrs = Listed::from_array(alloc, [Sym(9)])?;
-    let vector = false;
-    Ok(Class {
-        name,
-        attrs,
-        vector,
-    })
-}
-
-/// Of the class whose first field is the first variable.
-fn with_x(alloc: Global, class: usize, negated: bool, binds: bool) -> Result<Condition, OutOfMemory>
-    ensures { IfOk result (λ c. c ≡ record {
-      class = class;
-      negated = negated;
-      tests
-          = record { field = 0; pred = Pred.Eq; operand = Operand.Variable 0; binds = binds } ∷ [];
-    }) }
-{
-    let test = Test {
-        field: 0,
-        pred: Pred::Eq,
-        operand: Operand::Variable(0),
-        binds,
-    };
-    let tests = Listed::from_array(alloc, [test])?;
-    Ok(Condition {
-        class,
-        negated,
-        tests,
-    })
-}
-
-/// `(p twin (a ^n <x>) (a ^n <x>) - (b ^n <x>) --> )`
-fn twin(alloc: Global) -> Result<Program, OutOfMemory> {
-    let classes = Listed::from_array(alloc, [class(alloc, 1)?, class(alloc, 2)?])?;
-    let mut conditions = Listed::new(alloc);
-    conditions.push(with_x(alloc, 0, false, true)?)?;
-    conditions.push(with_x(alloc, 0, false, false)?)?;
-    conditions.push(with_x(alloc, 1, true, false)?)?;
-    let rule = Rule {
-        name: Sym(3),
-        conditions,
-        actions: Listed::new(alloc),
-        specificity: 5,
-        variables: 1,
-        cells: 2,
-        first: 0,
-        past: 0,
-    };
-    let rules = Listed::from_array(alloc, [rule])?;
-    Ok(Program::new(classes, rules, Listed::new(alloc), Listed::new(alloc)))
+pub(super) fn read(alloc: Global, text: &[u8]) -> Result<(Program, Names), Fail> {
+    match read_program(alloc, Vec::from_slice(alloc, text)?) {
+        Ok(read) => Ok(read),
+        Err(_) => Err(Fail::from("the text is refused")),
+    }
 }
 
 #[test]
 fn joins_and_blocks(rt: HostRuntime) -> Result<(), Fail> {
     let alloc = rt.alloc();
-    let program = twin(alloc)?;
+    let (program, _names) = read(alloc, TWIN)?;
     let wm = [
         element(alloc, 1, 0, 5)?,
         element(alloc, 2, 0, 5)?,

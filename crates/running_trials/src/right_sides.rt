@@ -31,7 +31,7 @@ fn list<T: Drop, const N: usize>(alloc: Global, items: [T; N]) -> Result<Listed<
 }
 
 /// `(literalize box  size)`
-pub(super) fn class(alloc: Global) -> Result<Class, OutOfMemory>
+fn class(alloc: Global) -> Result<Class, OutOfMemory>
     ensures { IfOk result (λ c. c ≡ record { name = record { 0 = 1 }; attrs = record { 0 = 2 } ∷ []; vector = false }) }
 {
     Ok(Class {
@@ -42,7 +42,7 @@ pub(super) fn class(alloc: Global) -> Result<Class, OutOfMemory>
 }
 
 /// `(box ^size <n>)`
-pub(super) fn condition(alloc: Global) -> Result<Condition, OutOfMemory>
+fn condition(alloc: Global) -> Result<Condition, OutOfMemory>
     ensures { IfOk result (λ c. c ≡ record {
       class = 0;
       negated = false;
