@@ -15,6 +15,8 @@ use Rattle.ops_base.specs.declared.conditions.Operand.{Operand}
 use Rattle.ops_base.specs.declared.conditions.Operand.TheVariants as operand
 use Rattle.ops_base.specs.declared.conditions.Test.{Test}
 use Rattle.ops_base.specs.declared.conditions.Condition.{Condition}
+use Rattle.ops_base.specs.declared.conditions.Part.{Part}
+use Rattle.ops_base.specs.declared.conditions.Part.TheVariants as part
 use Rattle.ops_base.specs.declared.actions.Term.{Term}
 use Rattle.ops_base.specs.declared.actions.Term.TheVariants as term
 use Rattle.ops_base.specs.declared.actions.Put.{Put}
@@ -29,7 +31,7 @@ use Rattle.ops_base.specs.declared.commands.Command.{Command}
 use Rattle.ops_base.specs.declared.commands.Command.TheVariants as command
 use Rattle.ops_base.specs.declared.values.Sym.{Sym}
 use Rattle.ops_base.specs.Names.{Spellings}
-use Rattle.ops_base.specs.Symbols.{symbol_held, value_held, class_held, operand_held, condition_held, term_held, put_held, item_held, action_held, rule_held, fixed_held, pattern_held, command_held, is_held}
+use Rattle.ops_base.specs.Symbols.{symbol_held, value_held, class_held, operand_held, condition_held, part_held, term_held, put_held, item_held, action_held, rule_held, fixed_held, pattern_held, command_held, is_held}
 use Rattle.ops_base.specs.WorkingMemory.{done, without_tag}
 use Rattle.ops_meaning.specs.Kept.{KeepsNames}
 use Rattle.act_phase.specs.Held.{element_held, change_held, HoldsProgram, HoldsElements}
@@ -136,6 +138,10 @@ module _ (m n : ℕ) (le : m ≤ n) where
   condition_more c h =
       all_weaken (λ (t : Test). operand_held m t.operand) (λ (t : Test). operand_held n t.operand) (λ t. operand_more t.operand) c.tests h
 
+  part_more : (p : Part) → part_held m p ≡ true → part_held n p ≡ true
+  part_more (part.One c) h = condition_more c h
+  part_more (part.Group cs) h = all_weaken (condition_held m) (condition_held n) condition_more cs h
+
   pub term_more : (t : Term) → term_held m t ≡ true → term_held n t ≡ true
   term_more (term.Constant v) h = value_more v h
   term_more (term.Variable v) h = refl
@@ -165,9 +171,9 @@ module _ (m n : ℕ) (le : m ≤ n) where
 
   rule_more : (r : Rule) → rule_held m r ≡ true → rule_held n r ≡ true
   rule_more r h =
-      let whole = and_parts (symbol_held m r.name && list_all (condition_held m) r.conditions) (list_all (action_held m) r.actions) h in
-      let front = and_parts (symbol_held m r.name) (list_all (condition_held m) r.conditions) whole.0 in
-      and_from _ _ (and_from _ _ (symbol_more r.name front.0) (all_weaken (condition_held m) (condition_held n) condition_more r.conditions front.1))
+      let whole = and_parts (symbol_held m r.name && list_all (part_held m) r.conditions) (list_all (action_held m) r.actions) h in
+      let front = and_parts (symbol_held m r.name) (list_all (part_held m) r.conditions) whole.0 in
+      and_from _ _ (and_from _ _ (symbol_more r.name front.0) (all_weaken (part_held m) (part_held n) part_more r.conditions front.1))
       (all_weaken (action_held m) (action_held n) action_more r.actions whole.1)
 
   fixed_more : (f : Fixed) → fixed_held m f ≡ true → fixed_held n f ≡ true

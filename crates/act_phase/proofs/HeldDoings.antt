@@ -14,6 +14,8 @@ use Rattle.ops_base.specs.declared.actions.Put.{Put}
 use Rattle.ops_base.specs.declared.actions.Term.{Term}
 use Rattle.ops_base.specs.declared.actions.Term.TheVariants as term
 use Rattle.ops_base.specs.declared.conditions.Condition.{Condition}
+use Rattle.ops_base.specs.declared.conditions.Part.{Part}
+use Rattle.ops_base.specs.declared.conditions.Part.TheVariants as part
 use Rattle.ops_base.specs.declared.conditions.Operand.{Operand}
 use Rattle.ops_base.specs.declared.conditions.Operand.TheVariants as operand
 use Rattle.ops_base.specs.declared.conditions.Test.{Test}
@@ -32,7 +34,7 @@ use Rattle.ops_base.specs.declared.values.Value.TheVariants as value
 use Rattle.ops_base.specs.Expression.{Formula, number, variable, apply}
 use Rattle.ops_base.specs.Matching.{bound_to, operand_holds, after_test, after_tests, match_of}
 use Rattle.ops_base.specs.Names.{Spellings, with_fresh, fresh_spelling, next_fresh, place_of}
-use Rattle.ops_base.specs.Symbols.{value_held, term_held, put_held, item_held, action_held, rule_held, symbol_held, condition_held}
+use Rattle.ops_base.specs.Symbols.{value_held, term_held, put_held, item_held, action_held, rule_held, symbol_held, part_held}
 use Rattle.ops_base.specs.Valid.{class_of, is_vector, most_fields}
 use Rattle.ops_base.specs.Values.{nil}
 use Rattle.ops_base.specs.WorkingMemory.{field_of, no_fields, scalar_count}
@@ -117,14 +119,15 @@ module _ (n : ℕ) (some : 0 < n) where
   matched_held c None bs h k = k
   matched_held c (Some e) bs h k = of_found (list_all (binding_held n)) (match_of c e bs) bs (match_held c e bs h k) k
 
-  brought_held : (wm : List Element) (cs : List Condition) (tags : List ℕ) (bs : List Binding) → list_all (element_held n) wm ≡ true → list_all (binding_held n) bs ≡ true
-      → list_all (binding_held n) (bindings_of wm cs tags bs) ≡ true
+  brought_held : (wm : List Element) (parts : List Part) (tags : List ℕ) (bs : List Binding) → list_all (element_held n) wm ≡ true → list_all (binding_held n) bs ≡ true
+      → list_all (binding_held n) (bindings_of wm parts tags bs) ≡ true
   brought_held wm [] tags bs h k = k
-  brought_held wm (c ∷ cs) [] bs h k = k
-  brought_held wm (c ∷ cs) (t ∷ ts) bs h k =
-      cond_both c.negated (bindings_of wm cs (t ∷ ts) bs) (bindings_of wm cs ts (matched_by c (element_of wm t) bs)) (λ bs. list_all (binding_held n) bs ≡ true)
-      (λ _. brought_held wm cs (t ∷ ts) bs h k)
-      (λ _. brought_held wm cs ts (matched_by c (element_of wm t) bs) h (matched_held c (element_of wm t) bs (all_found (element_held n) (λ (e : Element). e.tag == t) wm h) k))
+  brought_held wm (p ∷ parts) [] bs h k = k
+  brought_held wm (part.One c ∷ parts) (t ∷ ts) bs h k =
+      cond_both c.negated (bindings_of wm parts (t ∷ ts) bs) (bindings_of wm parts ts (matched_by c (element_of wm t) bs)) (λ bs. list_all (binding_held n) bs ≡ true)
+      (λ _. brought_held wm parts (t ∷ ts) bs h k)
+      (λ _. brought_held wm parts ts (matched_by c (element_of wm t) bs) h (matched_held c (element_of wm t) bs (all_found (element_held n) (λ (e : Element). e.tag == t) wm h) k))
+  brought_held wm (part.Group cs ∷ parts) (t ∷ ts) bs h k = brought_held wm parts (t ∷ ts) bs h k
 
   elements_held : (wm : List Element) (tags : List ℕ) → list_all (element_held n) wm ≡ true → list_all (element_held n) (elements_of wm tags) ≡ true
   elements_held wm [] h = refl
@@ -437,7 +440,7 @@ module _ (n : ℕ) (some : 0 < n) where
   actions_of_held [] i h = refl
   actions_of_held (r ∷ rules) zero h =
       let whole = and_parts (rule_held n r) (list_all (rule_held n) rules) h in
-      (and_parts (symbol_held n r.name && list_all (condition_held n) r.conditions) (list_all (action_held n) r.actions) whole.0).1
+      (and_parts (symbol_held n r.name && list_all (part_held n) r.conditions) (list_all (action_held n) r.actions) whole.0).1
   actions_of_held (r ∷ rules) (suc i) h = actions_of_held rules i (and_parts (rule_held n r) (list_all (rule_held n) rules) h).1
 
 -- Where the names hold nil, the symbols of the rules and those of working memory, they hold after a right side those

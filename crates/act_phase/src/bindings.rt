@@ -3,7 +3,7 @@ ghost use Rattle.std.specs.Prelude.{◌≡◌, IfOk, []};
 ghost use Rattle.std.specs.List.{list_any};
 ghost use Rattle.ops_meaning.specs.Acting.{element_of, matched_by, bindings_of};
 
-use ops_base::conditions::Condition;
+use ops_base::conditions::{Condition, Part};
 use ops_base::matching::{Binding, matched};
 use ops_base::memory::OutOfMemory;
 use std::alloc::Global;
@@ -41,24 +41,28 @@ fn matched_by(
 }
 
 /// The bindings that the elements of these tags give, one for each positive condition. Only an element whose condition
-/// binds a variable is looked up by its tag and does the tests once more, and then the bindings so far are copied.
+/// binds a variable is looked up by its tag and does the tests once more, and then the bindings so far are copied. A
+/// group takes no tag and binds nothing.
 pub(crate) fn bindings_of(
     alloc: Global,
     store: &Store,
-    conditions: &[Condition],
+    parts: &[Part],
     tags: &[u64],
 ) -> Result<Vec<Binding>, OutOfMemory>
-    ensures { IfOk result (λ v. v.items ≡ bindings_of store.now.elements conditions.now tags.now []) }
+    ensures { IfOk result (λ v. v.items ≡ bindings_of store.now.elements parts.now tags.now []) }
 {
     let mut bindings = Vec::new(alloc);
     let mut rest = tags;
-    for condition in conditions {
+    for part in parts {
         let Some((tag, after)) = rest.split_first() else {
             return Ok(bindings);
         };
-        if !condition.negated {
-            bindings = matched_by(alloc, condition, store, *tag, bindings)?;
-            rest = after;
+        match part {
+            Part::One(condition) if !condition.negated => {
+                bindings = matched_by(alloc, condition, store, *tag, bindings)?;
+                rest = after;
+            }
+            Part::One(_) | Part::Group(_) => {}
         }
     }
     Ok(bindings)

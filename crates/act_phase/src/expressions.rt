@@ -14,13 +14,14 @@ use smallvec::SmallVec;
 use std::alloc::Global;
 use std::marker::Model;
 
-/// How many operands the stack holds before it takes memory. A text nests no deeper.
-const OPERANDS: usize = 32;
+/// How many operands the stack holds before it takes memory. Operations in a row keep two on it, and each bracket on the
+/// right may keep one more. A larger stack would cost each `compute` more: it is made anew for each.
+const OPERANDS: usize = 4;
 
 /// A number, or the fault of an operation.
 type Computed = Result<Value, ActKind>;
 
-fn sum(a: i64, b: i64) -> Computed
+fn sum(a: i128, b: i128) -> Computed
     ensures { result ≡ in_range (a +ℤ b) }
 {
     match a.checked_add(b) {
@@ -29,7 +30,7 @@ fn sum(a: i64, b: i64) -> Computed
     }
 }
 
-fn difference(a: i64, b: i64) -> Computed
+fn difference(a: i128, b: i128) -> Computed
     ensures { result ≡ in_range (a -ℤ b) }
 {
     match a.checked_sub(b) {
@@ -38,7 +39,7 @@ fn difference(a: i64, b: i64) -> Computed
     }
 }
 
-fn product(a: i64, b: i64) -> Computed
+fn product(a: i128, b: i128) -> Computed
     ensures { result ≡ in_range (a *ℤ b) }
 {
     match a.checked_mul(b) {
@@ -48,7 +49,7 @@ fn product(a: i64, b: i64) -> Computed
 }
 
 /// Truncated towards zero.
-fn quotient(a: i64, b: i64) -> Computed
+fn quotient(a: i128, b: i128) -> Computed
     ensures { result ≡ operated Op.Div a b }
 {
     if b == 0 {
@@ -61,7 +62,7 @@ fn quotient(a: i64, b: i64) -> Computed
 }
 
 /// With the sign of the dividend. One by -1 is 0, also of the least number.
-fn remainder(a: i64, b: i64) -> Computed
+fn remainder(a: i128, b: i128) -> Computed
     ensures { result ≡ operated Op.Rem a b }
 {
     match b {
@@ -71,7 +72,7 @@ fn remainder(a: i64, b: i64) -> Computed
     }
 }
 
-fn operated(op: Op, a: i64, b: i64) -> Computed
+fn operated(op: Op, a: i128, b: i128) -> Computed
     ensures { result ≡ operated op a b }
 {
     match op {
@@ -116,7 +117,7 @@ impl Default for Operand {
     }
 }
 
-/// The operands so far, the last one at the end. It takes no memory for an expression that a text can have.
+/// The operands so far, the last one at the end.
 type Operands = SmallVec<Operand, OPERANDS>;
 
 fn put(stack: &mut Operands, given: Computed) -> Result<(), OutOfMemory>

@@ -23,7 +23,7 @@ use crate::state::Doing;
 use crate::traces::tell_changes;
 use crate::values::evaluate;
 use ops_base::actions::{Action, Put, Term};
-use ops_base::conditions::Condition;
+use ops_base::conditions::Part;
 use ops_base::elements::Class;
 use ops_base::memory::OutOfMemory;
 use ops_base::programs::Program;
@@ -291,7 +291,7 @@ fn act_at<I: Source, K: Sink>(
     }
 }
 
-fn conditions_of(program: &Program, rule: usize) -> &[Condition]
+fn conditions_of(program: &Program, rule: usize) -> &[Part]
     ensures { result.now ≡ conditions_of program.now.rules rule }
 {
     match program.rules.as_slice().get(rule) {

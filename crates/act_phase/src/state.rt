@@ -12,7 +12,7 @@ ghost use Rattle.act_phase.specs.State.{held_by, is_there, made_at, held_in, doi
 use crate::bindings::bindings_of;
 use crate::changed_memory::Working;
 use crate::outcome::Acted;
-use ops_base::conditions::Condition;
+use ops_base::conditions::Part;
 use ops_base::elements::{Change, Element};
 use ops_base::list::Listed;
 use ops_base::matching::Binding;
@@ -89,7 +89,7 @@ impl<'s> Doing<'s> {
     pub(crate) fn new(
         alloc: Global,
         store: &'s Store,
-        conditions: &[Condition],
+        parts: &[Part],
         tags: &[u64],
         next_tag: u64,
     ) -> Result<Doing<'s>, OutOfMemory>
@@ -98,7 +98,7 @@ impl<'s> Doing<'s> {
           wm = store.now.elements;
           changes = [];
           last = next_tag - 1;
-          bindings = bindings_of store.now.elements conditions.now tags.now [];
+          bindings = bindings_of store.now.elements parts.now tags.now [];
           cells = elements_of store.now.elements tags.now;
           halted = false;
           names = names;
@@ -107,7 +107,7 @@ impl<'s> Doing<'s> {
     {
         Ok(Doing {
             working: Working::new(alloc, store, next_tag),
-            bindings: bindings_of(alloc, store, conditions, tags)?,
+            bindings: bindings_of(alloc, store, parts, tags)?,
             cells: cells_of(alloc, store, tags)?,
             halted: false,
         })

@@ -1,5 +1,5 @@
 -- The tokens of one node that a line keeps: their sums, and what fits there.
-use Rattle.std.proofs.Common.{◌≡◌, ◌≢◌, ℕ, ◌≤◌, ◌<◌, ◌==◌, Bool, true, false, cond, List, [], ◌∷◌, ◌++◌, pos, refl, sym, ap, subst, ◌∙◌, arith, length, slice_get, slice_index, slice_index_or, bytes_eq, Option, Some, None, IsSome}
+use Rattle.std.proofs.Common.{◌≡◌, ◌≢◌, ℕ, ◌≤◌, ◌<◌, ◌^◌, ◌==◌, Bool, true, false, cond, List, [], ◌∷◌, ◌++◌, pos, refl, sym, ap, subst, ◌∙◌, arith, length, slice_get, slice_index, slice_index_or, bytes_eq, Option, Some, None, IsSome}
 use Rattle.std.specs.List.{All, AllByRecursion, IsDistinct}
 use Rattle.std.specs.Map.{lookup, keys_of}
 use Rattle.std.specs.Option.{ForSome, option_map_or}
@@ -11,18 +11,20 @@ use Rattle.ops_base.specs.declared.elements.Element.{Element}
 use Rattle.ops_base.specs.WorkingMemory.{tags_of}
 use Rattle.work_store.specs.Stored.{IsStored, Stored, held_of, of_tag}
 use Rattle.net_base.specs.declared.nodes.Alpha.{Alpha}
+use Rattle.net_base.specs.declared.nodes.Kind.{Kind}
+use Rattle.net_base.specs.declared.nodes.Kind.TheVariants.{Join, Negated, Group, Terminal}
 use Rattle.net_base.specs.declared.nodes.Node.{Node}
 use Rattle.net_base.specs.declared.tasks.Side.{Side}
 use Rattle.net_base.specs.declared.tasks.Side.TheVariants.{Left, Right}
-use Rattle.net_base.specs.Sound.{IsSound, left_width}
-use Rattle.net_base.specs.Tokens.{Elements, joins_hold}
+use Rattle.net_base.specs.Sound.{IsSound, left_width, takes_elements}
+use Rattle.net_base.specs.Tokens.{Elements, goes_with, joins_hold, right_width}
 use Rattle.token_line.specs.declared.line.Line.{Line}
 use Rattle.token_line.specs.declared.tokens.Cell.{Cell}
 use Rattle.token_line.specs.declared.memory.Memory.{Memory}
 use Rattle.token_line.specs.Held.{Agrees, Fits}
 use Rattle.token_line.proofs.Filed.{alone_cell}
 use Rattle.token_line.proofs.Joined.{joined_with_one_code}
-use Rattle.token_line.proofs.Fitting.{left_length, one_length}
+use Rattle.token_line.proofs.Fitting.{left_length, one_length, right_length}
 use Rattle.token_line.specs.Bags.{standing}
 use Rattle.token_line.specs.Codes.{cell_among, tokens_of}
 use Rattle.token_line.specs.Lines.{IsAlone, IsFiled, blockers_in, filed_in, memory_at, sum_in}
@@ -33,6 +35,7 @@ use Rattle.token_line.proofs.PairLemmas.{cell_at as pair_found}
 use Rattle.activation.specs.Putting.{left_entries, right_entries}
 use Rattle.activation.specs.Acting.{AreKept, IsCounted}
 use Rattle.activation.proofs.Agreed.{IsHeld, joins_agree}
+use Rattle.activation.proofs.CountBelow.{AreLow}
 use Rattle.activation.proofs.PutNumbers.{left_of, right_of, sum_at}
 
 -- ---- sums and look-ups
@@ -73,29 +76,29 @@ module _ (nodes : List Node) (s : Stored) (line : Line) (counted : IsCounted nod
   pub left_sum_is : (c : ℕ) (k : List ℕ) → code_of (held_of s) nodes n Left k ≡ c → sum_in line n Left k ≡ left_of (left_entries (memory_at line n c)) k
   left_sum_is c k own = ap sum_kept (cell_is c Left k own) ∙ left_kept (memory_at line n c) k
 
-  -- those that a token joins stand in the memory of its code
+  -- those that go with a token stand in the memory of its code
   module _ (node : Node) (at : slice_get nodes n ≡ Some node) (c : ℕ) where
-    pub right_joined : (t : List ℕ) → code_of (held_of s) nodes n Left t ≡ c → (k : ℕ)
-        → cond (joins_hold node.joins (held_of s) t k) (standing (right_of (right_entries (memory_at line n c)) (k ∷ []))) 0
-        ≡ cond (joins_hold node.joins (held_of s) t k) (standing (sum_in line n Right (k ∷ []))) 0
-    right_joined t own k = by (joins_hold node.joins (held_of s) t k) refl
+    pub right_joined : (t : List ℕ) → code_of (held_of s) nodes n Left t ≡ c → (r : List ℕ)
+        → cond (goes_with node.kind node.joins (held_of s) t r) (standing (right_of (right_entries (memory_at line n c)) r)) 0
+        ≡ cond (goes_with node.kind node.joins (held_of s) t r) (standing (sum_in line n Right r)) 0
+    right_joined t own r = by (goes_with node.kind node.joins (held_of s) t r) refl
       where
-        by : (b : Bool) → joins_hold node.joins (held_of s) t k ≡ b
-            → cond b (standing (right_of (right_entries (memory_at line n c)) (k ∷ []))) 0 ≡ cond b (standing (sum_in line n Right (k ∷ []))) 0
-        by true q = ap standing (sym (right_sum_is c (k ∷ []) (sym (joined_with_one_code (held_of s) nodes n node t k at q) ∙ own)))
+        by : (b : Bool) → goes_with node.kind node.joins (held_of s) t r ≡ b
+            → cond b (standing (right_of (right_entries (memory_at line n c)) r)) 0 ≡ cond b (standing (sum_in line n Right r)) 0
+        by true q = ap standing (sym (right_sum_is c r (sym (joined_with_one_code (held_of s) nodes n node t r at q) ∙ own)))
         by false q = refl
 
-    pub joined_code : (tag : ℕ) → code_of (held_of s) nodes n Right (tag ∷ []) ≡ c → (t : List ℕ) → joins_hold node.joins (held_of s) t tag ≡ true → code_of (held_of s) nodes n Left t ≡ c
-    joined_code tag own t q = joined_with_one_code (held_of s) nodes n node t tag at q ∙ own
+    pub joined_code : (r : List ℕ) → code_of (held_of s) nodes n Right r ≡ c → (t : List ℕ) → goes_with node.kind node.joins (held_of s) t r ≡ true → code_of (held_of s) nodes n Left t ≡ c
+    joined_code r own t q = joined_with_one_code (held_of s) nodes n node t r at q ∙ own
 
-    pub left_joined : (tag : ℕ) → code_of (held_of s) nodes n Right (tag ∷ []) ≡ c → (t : List ℕ)
-        → cond (joins_hold node.joins (held_of s) t tag) (standing (left_of (left_entries (memory_at line n c)) t)) 0
-        ≡ cond (joins_hold node.joins (held_of s) t tag) (standing (sum_in line n Left t)) 0
-    left_joined tag own t = by (joins_hold node.joins (held_of s) t tag) refl
+    pub left_joined : (r : List ℕ) → code_of (held_of s) nodes n Right r ≡ c → (t : List ℕ)
+        → cond (goes_with node.kind node.joins (held_of s) t r) (standing (left_of (left_entries (memory_at line n c)) t)) 0
+        ≡ cond (goes_with node.kind node.joins (held_of s) t r) (standing (sum_in line n Left t)) 0
+    left_joined r own t = by (goes_with node.kind node.joins (held_of s) t r) refl
       where
-        by : (b : Bool) → joins_hold node.joins (held_of s) t tag ≡ b
+        by : (b : Bool) → goes_with node.kind node.joins (held_of s) t r ≡ b
             → cond b (standing (left_of (left_entries (memory_at line n c)) t)) 0 ≡ cond b (standing (sum_in line n Left t)) 0
-        by true q = ap standing (sym (left_sum_is c t (joined_code tag own t q)))
+        by true q = ap standing (sym (left_sum_is c t (joined_code r own t q)))
         by false q = refl
 
 -- ---- what is kept
@@ -174,17 +177,40 @@ module _ (nodes : List Node) (s : Stored) (n : ℕ) (node : Node) (at : slice_ge
   pub left_long : (t : List ℕ) → Fits nodes s n Left t → length t ≡ left_width nodes node.parent
   left_long t f = left_length nodes node t (f.width node at)
 
-  pub right_long : (t : List ℕ) → Fits nodes s n Right t → length t ≡ 1
-  right_long t f = one_length node.kind t (f.width node at)
+  -- a right token has the width of its node's right tokens, and where the node takes elements it is one
+  pub right_wide : (t : List ℕ) → Fits nodes s n Right t → length t ≡ right_width node.kind
+  right_wide t f = right_length node.kind t (f.width node at)
 
-  pub right_held : (t : List ℕ) → Fits nodes s n Right t → IsHeld s (slice_index t 0)
-  right_held t f = let long = right_long t f in All-get_or (IsHeld s) t 0 0 (omega arith) f.held
+  pub right_long : takes_elements node.kind ≡ true → (t : List ℕ) → Fits nodes s n Right t → length t ≡ 1
+  right_long takes t f = one_length node.kind t takes (f.width node at)
+
+  pub right_held : takes_elements node.kind ≡ true → (t : List ℕ) → Fits nodes s n Right t → IsHeld s (slice_index t 0)
+  right_held takes t f = let long = right_long takes t f in All-get_or (IsHeld s) t 0 0 (omega arith) f.held
+
+  -- its tags are below 2 ^ 64
+  pub right_low : ((tag : ℕ) → IsHeld s tag → tag < 2 ^ 64) → (t : List ℕ) → Fits nodes s n Right t → AreLow (2 ^ 64) t
+  right_low small t f = by t (recursion_from_All (IsHeld s) t f.held)
+    where
+      by : (u : List ℕ) → AllByRecursion (IsHeld s) u → AreLow (2 ^ 64) u
+      by [] all = tt
+      by (k ∷ ks) all = (small k all.0, by ks all.1)
 
   -- a left token and an element that is held join by any elements that agree with the store as they do by the store
   pub both_agree : (alphas : List Alpha) → IsSound alphas nodes → (elements : Elements) → Agrees s elements → (t : List ℕ) (k : ℕ) → Fits nodes s n Left t → IsHeld s k
       → joins_hold node.joins elements t k ≡ joins_hold node.joins (held_of s) t k
   both_agree alphas sound elements agrees t k f here =
       joins_agree s elements agrees node.joins t k (subst (λ w. All (λ j. j.place < w) node.joins) (sym (left_long t f)) (sound.each n node at).places) f.held here
+
+  -- a left token and a right one that fits go together by any elements that agree with the store as they do by the store
+  pub both_go : (alphas : List Alpha) → IsSound alphas nodes → (elements : Elements) → Agrees s elements → (t r : List ℕ) → Fits nodes s n Left t → Fits nodes s n Right r
+      → goes_with node.kind node.joins elements t r ≡ goes_with node.kind node.joins (held_of s) t r
+  both_go alphas sound elements agrees t r f g = by node.kind refl
+    where
+      by : (k : Kind) → node.kind ≡ k → goes_with k node.joins elements t r ≡ goes_with k node.joins (held_of s) t r
+      by Join q = both_agree alphas sound elements agrees t (slice_index r 0) f (right_held (ap takes_elements q) r g)
+      by Negated q = both_agree alphas sound elements agrees t (slice_index r 0) f (right_held (ap takes_elements q) r g)
+      by (Group giver width members) q = refl
+      by (Terminal rule) q = refl
 
 -- ---- tags
 

@@ -9,7 +9,7 @@ use Rattle.std.proofs.lemmas.Map.Entries.{All-lookup}
 use Rattle.work_store.specs.Stored.{Stored, held_of}
 use Rattle.net_base.specs.declared.nodes.Alpha.{Alpha}
 use Rattle.net_base.specs.declared.nodes.Kind.{Kind}
-use Rattle.net_base.specs.declared.nodes.Kind.TheVariants.{Join, Negated, Terminal}
+use Rattle.net_base.specs.declared.nodes.Kind.TheVariants.{Join, Negated, Group, Terminal}
 use Rattle.net_base.specs.declared.nodes.Node.{Node}
 use Rattle.net_base.specs.declared.tasks.Side.{Side}
 use Rattle.net_base.specs.declared.tasks.Side.TheVariants.{Left, Right}
@@ -25,7 +25,7 @@ use Rattle.token_line.specs.Lines.{IsFiled, blockers_in, filed_in, memory_at, su
 use Rattle.token_line.specs.Numbers.{code_of}
 use Rattle.token_line.specs.Pairs.{cell_of}
 use Rattle.activation.specs.Acting.{IsCounted, IsEffect, IsOutOf, matching}
-use Rattle.activation.specs.Effects.{effect_at, join_effect, left_effect, negated_effect, no_effect, right_effect}
+use Rattle.activation.specs.Effects.{effect_at, effect_by, join_effect, left_effect, negated_effect, no_effect, right_effect}
 use Rattle.activation.specs.Negating.{all_have_room, has_room}
 use Rattle.activation.specs.Putting.{Put, changes, left_entries}
 use Rattle.activation.proofs.Agreed.{IsHeld}
@@ -65,11 +65,13 @@ room_at nodes s line counted n c kept room t some = by (lookup (bytes_eq t) left
 join_blocks_not : (k : Kind) → is_join k ≡ true → (b : Bool) → false ≡ (is_negated k && b)
 join_blocks_not Join e b = refl
 join_blocks_not Negated e b = cc
+join_blocks_not (Group giver width members) e b = cc
 join_blocks_not (Terminal rule) e b = cc
 
 join_not_negated : (k : Kind) → is_join k ≡ true → is_negated k ≡ true → ⊥
 join_not_negated Join e f = cc
 join_not_negated Negated e f = cc
+join_not_negated (Group giver width members) e f = cc
 join_not_negated (Terminal rule) e f = cc
 
 module _ (alphas : List Alpha) (nodes : List Node) (sound : IsSound alphas nodes) (s : Stored) (line : Line) (x : Task) (fits : TaskFits nodes s x) (counts : IsCounted nodes s line)
@@ -96,18 +98,18 @@ module _ (alphas : List Alpha) (nodes : List Node) (sound : IsSound alphas nodes
     left_code : x.side ≡ Left → code_of (held_of s) nodes x.node Left x.token ≡ c
     left_code e = subst (λ d. code_of (held_of s) nodes x.node d x.token ≡ c) e code
 
-    left_done : x.side ≡ Left → (puts : List Put) (k : ℕ) → k ≡ matching (held_of s) node.joins (sum_in line) x.node x.token → IsChange nodes s line x x.plus puts
+    left_done : x.side ≡ Left → (puts : List Put) (k : ℕ) → k ≡ matching (held_of s) node (sum_in line) x.node x.token → IsChange nodes s line x x.plus puts
         → IsEffect nodes s line x (record { plus = x.plus; puts = puts; blockers = k; blocks = false })
     left_done e puts k number is = record {
       fit = is.fit;
       change = λ other elements t there inner agrees. is.change elements t agrees;
-      blockers = λ other there negated e. number ∙ ap (λ (z : Node). matching (held_of s) z.joins (sum_in line) x.node x.token) (same_node node other (sym at ∙ there));
+      blockers = λ other there negated e. number ∙ ap (λ (z : Node). matching (held_of s) z (sum_in line) x.node x.token) (same_node node other (sym at ∙ there));
       blocks = λ other there.
           sym (ap (λ b. is_negated other.kind && (b && changes (sum_in line x.node x.side x.token) x.plus)) (ap (λ d. are_same_sides Right d) e) ∙ and_false (is_negated other.kind));
       room = λ blocks. cc;
     }
 
-    pub left_is : x.side ≡ Left → (moves : Bool) → moves ≡ changes (sum_in line x.node x.side x.token) x.plus → IsEffect nodes s line x (left_effect node.joins (held_of s) (memory_at line x.node c) x moves)
+    pub left_is : x.side ≡ Left → (moves : Bool) → moves ≡ changes (sum_in line x.node x.side x.token) x.plus → IsEffect nodes s line x (left_effect node (held_of s) (memory_at line x.node c) x moves)
     left_is e true had =
         let number = blockers_are nodes s line counts x.node node at negated small c kept x.token (left_code e) in
         left_done e _ _ number (left_change alphas nodes sound s line x fits counts node at negated (sym had) e _ number)
@@ -131,7 +133,7 @@ module _ (alphas : List Alpha) (nodes : List Node) (sound : IsSound alphas nodes
 
     pub right_is : x.side ≡ Right → (moves : Bool) → moves ≡ changes (sum_in line x.node x.side x.token) x.plus
         → (moves ≡ true → all_have_room x.plus (left_entries (memory_at line x.node c)) ≡ true)
-        → IsEffect nodes s line x (right_effect node.joins (held_of s) (memory_at line x.node c) x moves)
+        → IsEffect nodes s line x (right_effect node (held_of s) (memory_at line x.node c) x moves)
     right_is e true had room = right_done e _ true had (right_change alphas nodes sound s line x fits counts node at negated (sym had) e small c code kept) room
     right_is e false had room = right_done e [] false had (unchanged nodes s line x (sym had) (not x.plus)) room
 
@@ -140,11 +142,13 @@ module _ (alphas : List Alpha) (nodes : List Node) (sound : IsSound alphas nodes
   terminal_not_negated : (k : Kind) → is_terminal k ≡ true → (b : Bool) → false ≡ (is_negated k && b)
   terminal_not_negated Join e b = cc
   terminal_not_negated Negated e b = cc
+  terminal_not_negated (Group giver width members) e b = cc
   terminal_not_negated (Terminal rule) e b = refl
 
   only_terminal : (k : Kind) → is_terminal k ≡ true → is_negated k ≡ true → ⊥
   only_terminal Join e f = cc
   only_terminal Negated e f = cc
+  only_terminal (Group giver width members) e f = cc
   only_terminal (Terminal rule) e f = cc
 
   terminal_is : is_terminal node.kind ≡ true → IsEffect nodes s line x (no_effect x.plus)
@@ -162,24 +166,25 @@ module _ (alphas : List Alpha) (nodes : List Node) (sound : IsSound alphas nodes
   -- ---- by the kind of the node
 
   pub effect_is : ((tag : ℕ) → IsHeld s tag → tag < 2 ^ 64) → (moves : Bool) → moves ≡ changes (sum_in line x.node x.side x.token) x.plus
-      → (node.kind ≡ Negated → x.side ≡ Right → moves ≡ true → all_have_room x.plus (left_entries (memory_at line x.node c)) ≡ true)
-      → IsEffect nodes s line x (effect_at node.kind node.joins (held_of s) (memory_at line x.node c) x moves)
+      → (is_negated node.kind ≡ true → x.side ≡ Right → moves ≡ true → all_have_room x.plus (left_entries (memory_at line x.node c)) ≡ true)
+      → IsEffect nodes s line x (effect_at node (held_of s) (memory_at line x.node c) x moves)
   effect_is small moves had room = by node.kind refl
     where
-      by_side : node.kind ≡ Negated → (d : Side) → x.side ≡ d → IsEffect nodes s line x (negated_effect d node.joins (held_of s) (memory_at line x.node c) x moves)
-      by_side q Left e = left_is (ap is_negated q) small e moves had
-      by_side q Right e = right_is (ap is_negated q) small e moves had (room q e)
+      by_side : is_negated node.kind ≡ true → (d : Side) → x.side ≡ d → IsEffect nodes s line x (negated_effect d node (held_of s) (memory_at line x.node c) x moves)
+      by_side q Left e = left_is q small e moves had
+      by_side q Right e = right_is q small e moves had (room q e)
 
-      by : (k : Kind) → node.kind ≡ k → IsEffect nodes s line x (effect_at k node.joins (held_of s) (memory_at line x.node c) x moves)
+      by : (k : Kind) → node.kind ≡ k → IsEffect nodes s line x (effect_by k node (held_of s) (memory_at line x.node c) x moves)
       by Join q = join_is (ap is_join q) moves had
-      by Negated q = by_side q x.side refl
+      by Negated q = by_side (ap is_negated q) x.side refl
+      by (Group giver width members) q = by_side (ap is_negated q) x.side refl
       by (Terminal rule) q = terminal_is (ap is_terminal q)
 
   -- the same, of what was found on the line
   pub done_effect : ((tag : ℕ) → IsHeld s tag → tag < 2 ^ 64) → (m : Option Memory) → m ≡ memory_at line x.node c → (o : Option Cell) → o ≡ filed_in line x.node c x.side x.token
-      → (node.kind ≡ Negated → x.side ≡ Right → changes (option_map_or (λ (c : Cell). c.sum) o (pos 0)) x.plus ≡ true → all_have_room x.plus (left_entries m) ≡ true)
-      → IsEffect nodes s line x (effect_at node.kind node.joins (held_of s) m x (changes (option_map_or (λ (c : Cell). c.sum) o (pos 0)) x.plus))
+      → (is_negated node.kind ≡ true → x.side ≡ Right → changes (option_map_or (λ (c : Cell). c.sum) o (pos 0)) x.plus ≡ true → all_have_room x.plus (left_entries m) ≡ true)
+      → IsEffect nodes s line x (effect_at node (held_of s) m x (changes (option_map_or (λ (c : Cell). c.sum) o (pos 0)) x.plus))
   done_effect small m is o kept_is room =
-      subst (λ k. IsEffect nodes s line x (effect_at node.kind node.joins (held_of s) k x (changes (option_map_or (λ (c : Cell). c.sum) o (pos 0)) x.plus))) (sym is)
+      subst (λ k. IsEffect nodes s line x (effect_at node (held_of s) k x (changes (option_map_or (λ (c : Cell). c.sum) o (pos 0)) x.plus))) (sym is)
       (effect_is small (changes (option_map_or (λ (c : Cell). c.sum) o (pos 0)) x.plus) (ap (λ z. changes (option_map_or (λ (c : Cell). c.sum) z (pos 0)) x.plus) (kept_is ∙ sym (cell_is nodes s line counts x.node c x.side x.token code)))
       (λ q e moved. ap (λ k. all_have_room x.plus (left_entries k)) (sym is) ∙ room q e moved))

@@ -4,7 +4,7 @@ use Rattle.std.specs.List.{flat_map}
 use Rattle.net_base.specs.declared.tasks.Task.{Task}
 use Rattle.token_line.specs.declared.tokens.Cell.{Cell}
 use Rattle.token_line.specs.Pairs.{Pairs}
-use Rattle.activation.specs.Children.{Grows, children_of, to_each}
+use Rattle.activation.specs.Children.{Grows, Target, children_of, to_each}
 use Rattle.activation.specs.Putting.{Put}
 
 pub append-nil : {X : Type 0} (xs : List X) → xs ++ [] ≡ xs
@@ -51,7 +51,7 @@ drop_all [] (suc i) low = refl
 drop_all (x ∷ xs) zero low = absurd (omega arith)
 drop_all (x ∷ xs) (suc i) low = drop_all xs i (omega arith)
 
-module _ (nodes : List ℕ) (plus : Bool) where
+module _ (nodes : List Target) (plus : Bool) where
   children-append : (ps qs : List Put) → children_of nodes plus (ps ++ qs) ≡ children_of nodes plus ps ++ children_of nodes plus qs
   children-append [] qs = refl
   children-append (p ∷ ps) qs =

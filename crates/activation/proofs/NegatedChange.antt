@@ -1,5 +1,5 @@
 -- What a negated node puts out for a task is the change of what it puts out.
-use Rattle.std.proofs.Common.{◌≡◌, ◌≢◌, ℕ, zero, suc, ◌+◌, ◌-◌, ◌^◌, ◌<◌, ◌==◌, ◌&&◌, Bool, true, false, not, cond, List, [], ◌∷◌, pos, ◌+ℤ◌, refl, sym, ap, subst, ◌∙◌, arith, slice_get, slice_index, slice_index_or, bytes_eq, Option, Some, None}
+use Rattle.std.proofs.Common.{◌≡◌, ◌≢◌, ℕ, zero, suc, ◌+◌, ◌-◌, ◌^◌, ◌<◌, ◌==◌, ◌&&◌, Bool, true, false, not, cond, List, [], pos, ◌+ℤ◌, refl, sym, ap, subst, ◌∙◌, arith, length, slice_get, slice_index_or, bytes_eq, Option, Some, None}
 use Rattle.std.specs.List.{All}
 use Rattle.std.specs.Map.{lookup}
 use Rattle.std.proofs.lemmas.Bool.Decides.{Decides-eqb}
@@ -9,12 +9,12 @@ use Rattle.std.proofs.lemmas.Slice.Eq.{bytes_eq-Decides}
 use Rattle.work_store.specs.Stored.{Stored, held_of}
 use Rattle.net_base.specs.declared.nodes.Alpha.{Alpha}
 use Rattle.net_base.specs.declared.nodes.Kind.{Kind}
-use Rattle.net_base.specs.declared.nodes.Kind.TheVariants.{Join, Negated, Terminal}
+use Rattle.net_base.specs.declared.nodes.Kind.TheVariants.{Join, Negated, Group, Terminal}
 use Rattle.net_base.specs.declared.nodes.Node.{Node}
 use Rattle.net_base.specs.declared.tasks.Side.TheVariants.{Left, Right}
 use Rattle.net_base.specs.declared.tasks.Task.{Task}
 use Rattle.net_base.specs.Sound.{IsSound, added_tags, is_negated}
-use Rattle.net_base.specs.Tokens.{Elements, joins_hold}
+use Rattle.net_base.specs.Tokens.{Elements, goes_with, right_width}
 use Rattle.token_line.specs.declared.line.Line.{Line}
 use Rattle.token_line.specs.declared.tokens.Cell.{Cell}
 use Rattle.token_line.specs.Bags.{after, standing, standing_at}
@@ -28,7 +28,8 @@ use Rattle.activation.specs.Negating.{put_once, put_flipped, before_flip}
 use Rattle.activation.specs.Putting.{Put, changes, left_entries}
 use Rattle.activation.proofs.Agreed.{IsHeld}
 use Rattle.activation.proofs.Arrived.{other_sum, own_sum}
-use Rattle.activation.proofs.AtNode.{Kept, both_agree, cell_at, joined_code, left_distinct, left_fits, left_long, left_sum_is, only_one, right_held, right_long}
+use Rattle.activation.proofs.AtNode.{Kept, both_go, cell_at, joined_code, left_distinct, left_fits, left_long, left_sum_is, right_low, right_wide}
+use Rattle.activation.proofs.CountBelow.{AreLow}
 use Rattle.activation.proofs.Childhood.{eqb-apart}
 use Rattle.activation.proofs.JoinChange.{moves, nothing_moves}
 use Rattle.activation.proofs.Matching.{left_matches, matching_agrees, one_matched, right_matches}
@@ -90,6 +91,7 @@ not_put false t u ne = refl
 none_added : (k : Kind) → is_negated k ≡ true → added_tags k ≡ 0
 none_added Join e = cc
 none_added Negated e = refl
+none_added (Group giver width members) e = refl
 none_added (Terminal rule) e = cc
 
 -- ---- at each token
@@ -104,8 +106,8 @@ module _ (alphas : List Alpha) (nodes : List Node) (sound : IsSound alphas nodes
 
   -- the change over sums from the change over what matches
   change_over : (plus : Bool) (puts : List Put) (elements : Elements) (t : List ℕ)
-      → signed plus (number_put t puts) +ℤ pos (cond (matching elements node.joins (sum_in line) x.node t == 0) (standing_at (sum_in line) x.node Left t) 0)
-      ≡ pos (cond (matching elements node.joins (after (sum_in line) x) x.node t == 0) (standing_at (after (sum_in line) x) x.node Left t) 0)
+      → signed plus (number_put t puts) +ℤ pos (cond (matching elements node (sum_in line) x.node t == 0) (standing_at (sum_in line) x.node Left t) 0)
+      ≡ pos (cond (matching elements node (after (sum_in line) x) x.node t == 0) (standing_at (after (sum_in line) x) x.node Left t) 0)
       → signed plus (number_put t puts) +ℤ pos (out_at elements nodes (sum_in line) x.node t) ≡ pos (out_at elements nodes (after (sum_in line) x) x.node t)
   change_over plus puts elements t moved =
       ap (λ k. signed plus (number_put t puts) +ℤ pos k) (negated_out elements nodes (sum_in line) x.node node at negated t)
@@ -113,35 +115,35 @@ module _ (alphas : List Alpha) (nodes : List Node) (sound : IsSound alphas nodes
 
   -- ---- a left task
 
-  module _ (e : x.side ≡ Left) (k : ℕ) (is : k ≡ matching (held_of s) node.joins (sum_in line) x.node x.token) where
+  module _ (e : x.side ≡ Left) (k : ℕ) (is : k ≡ matching (held_of s) node (sum_in line) x.node x.token) where
     own : Fits nodes s x.node Left x.token
     own = subst (λ d. Fits nodes s x.node d x.token) e fits
 
     left_at : (elements : Elements) (t : List ℕ) → Agrees s elements
-        → signed x.plus (number_put t (put_once (k == 0) x.token)) +ℤ pos (cond (matching elements node.joins (sum_in line) x.node t == 0) (standing_at (sum_in line) x.node Left t) 0)
-        ≡ pos (cond (matching elements node.joins (after (sum_in line) x) x.node t == 0) (standing_at (after (sum_in line) x) x.node Left t) 0)
+        → signed x.plus (number_put t (put_once (k == 0) x.token)) +ℤ pos (cond (matching elements node (sum_in line) x.node t == 0) (standing_at (sum_in line) x.node Left t) 0)
+        ≡ pos (cond (matching elements node (after (sum_in line) x) x.node t == 0) (standing_at (after (sum_in line) x) x.node Left t) 0)
     left_at elements t agrees =
         by (bytes_eq t x.token) refl
-        ∙ ap (λ c. pos (cond (c == 0) (standing_at (after (sum_in line) x) x.node Left t) 0)) (sym (left_matches (sum_in line) x elements node.joins t e x.node))
+        ∙ ap (λ c. pos (cond (c == 0) (standing_at (after (sum_in line) x) x.node Left t) 0)) (sym (left_matches (sum_in line) x elements node t e x.node))
       where
         by : (b : Bool) → bytes_eq t x.token ≡ b
-            → signed x.plus (number_put t (put_once (k == 0) x.token)) +ℤ pos (cond (matching elements node.joins (sum_in line) x.node t == 0) (standing_at (sum_in line) x.node Left t) 0)
-            ≡ pos (cond (matching elements node.joins (sum_in line) x.node t == 0) (standing_at (after (sum_in line) x) x.node Left t) 0)
+            → signed x.plus (number_put t (put_once (k == 0) x.token)) +ℤ pos (cond (matching elements node (sum_in line) x.node t == 0) (standing_at (sum_in line) x.node Left t) 0)
+            ≡ pos (cond (matching elements node (sum_in line) x.node t == 0) (standing_at (after (sum_in line) x) x.node Left t) 0)
         by true q =
             let here : x.token ≡ t = sym ((bytes_eq-Decides t x.token).0 q) in
-            let same : k ≡ matching elements node.joins (sum_in line) x.node x.token = is ∙ sym (matching_agrees nodes s line counts x.node node at negated alphas sound elements agrees x.token own) in
+            let same : k ≡ matching elements node (sum_in line) x.node x.token = is ∙ sym (matching_agrees nodes s line counts x.node node at negated alphas sound elements agrees x.token own) in
             let stands : signed x.plus 1 +ℤ pos (standing_at (sum_in line) x.node Left x.token) ≡ pos (standing_at (after (sum_in line) x) x.node Left x.token) =
             moves (sum_in line x.node Left x.token) x.plus (subst (λ d. changes (sum_in line x.node d x.token) x.plus ≡ true) e had) ∙ ap (λ z. pos (standing z)) (sym (own_sum (sum_in line) x Left e)) in
             subst
-            (λ v. signed x.plus (number_put v (put_once (k == 0) x.token)) +ℤ pos (cond (matching elements node.joins (sum_in line) x.node v == 0) (standing_at (sum_in line) x.node Left v) 0)
-            ≡ pos (cond (matching elements node.joins (sum_in line) x.node v == 0) (standing_at (after (sum_in line) x) x.node Left v) 0)) here
-            (ap (λ n. signed x.plus n +ℤ pos (cond (matching elements node.joins (sum_in line) x.node x.token == 0) (standing_at (sum_in line) x.node Left x.token) 0))
+            (λ v. signed x.plus (number_put v (put_once (k == 0) x.token)) +ℤ pos (cond (matching elements node (sum_in line) x.node v == 0) (standing_at (sum_in line) x.node Left v) 0)
+            ≡ pos (cond (matching elements node (sum_in line) x.node v == 0) (standing_at (after (sum_in line) x) x.node Left v) 0)) here
+            (ap (λ n. signed x.plus n +ℤ pos (cond (matching elements node (sum_in line) x.node x.token == 0) (standing_at (sum_in line) x.node Left x.token) 0))
             (once_put (k == 0) x.token ∙ ap (λ z. cond (z == 0) 1 0) same)
-            ∙ left_moves x.plus (matching elements node.joins (sum_in line) x.node x.token == 0) (standing_at (sum_in line) x.node Left x.token) (standing_at (after (sum_in line) x) x.node Left x.token) stands)
+            ∙ left_moves x.plus (matching elements node (sum_in line) x.node x.token == 0) (standing_at (sum_in line) x.node Left x.token) (standing_at (after (sum_in line) x) x.node Left x.token) stands)
         by false q =
             let ne : t ≢ x.token = λ z. let bad : true ≡ false = sym ((bytes_eq-Decides t x.token).1 z) ∙ q in cc in
             nothing_moves x.plus (number_put t (put_once (k == 0) x.token)) _ _ (not_put (k == 0) x.token t ne)
-            (ap (λ n. cond (matching elements node.joins (sum_in line) x.node t == 0) n 0) (ap standing (sym (other_sum (sum_in line) x x.node Left t (λ i. ne i.token)))))
+            (ap (λ n. cond (matching elements node (sum_in line) x.node t == 0) n 0) (ap standing (sym (other_sum (sum_in line) x x.node Left t (λ i. ne i.token)))))
 
     fit_once : (free : Bool) → All (λ p. IsOutOf nodes s x.node p.token) (put_once free x.token)
     fit_once true = All-cons (λ (p : Put). IsOutOf nodes s x.node p.token) (record { token = x.token; times = 1 }) [] (own_out x.token own) (All-nil (λ (p : Put). IsOutOf nodes s x.node p.token))
@@ -156,23 +158,20 @@ module _ (alphas : List Alpha) (nodes : List Node) (sound : IsSound alphas nodes
   -- ---- a right task
 
   module _ (e : x.side ≡ Right) (small : (tag : ℕ) → IsHeld s tag → tag < 2 ^ 64) (c : ℕ) (code : code_of (held_of s) nodes x.node x.side x.token ≡ c) (kept : Kept (memory_at line x.node c)) where
-    abbrev tag : ℕ
-    tag = slice_index x.token 0
-
     abbrev left : List (List ℕ × Cell)
     left = left_entries (memory_at line x.node c)
 
     mine : Fits nodes s x.node Right x.token
     mine = subst (λ d. Fits nodes s x.node d x.token) e fits
 
-    one : x.token ≡ tag ∷ []
-    one = only_one x.token (right_long nodes s x.node node at x.token mine)
+    wide : length x.token ≡ right_width node.kind
+    wide = right_wide nodes s x.node node at x.token mine
 
-    tag_code : code_of (held_of s) nodes x.node Right (tag ∷ []) ≡ c
-    tag_code = subst (λ t. code_of (held_of s) nodes x.node Right t ≡ c) one (subst (λ d. code_of (held_of s) nodes x.node d x.token ≡ c) e code)
+    low : AreLow (2 ^ 64) x.token
+    low = right_low nodes s x.node node at small x.token mine
 
-    here : IsHeld s tag
-    here = right_held nodes s x.node node at x.token mine
+    own_code : code_of (held_of s) nodes x.node Right x.token ≡ c
+    own_code = subst (λ d. code_of (held_of s) nodes x.node d x.token ≡ c) e code
 
     moved : changes (sum_in line x.node Right x.token) x.plus ≡ true
     moved = subst (λ d. changes (sum_in line x.node d x.token) x.plus ≡ true) e had
@@ -181,64 +180,64 @@ module _ (alphas : List Alpha) (nodes : List Node) (sound : IsSound alphas nodes
     left_stays t = ap standing (other_sum (sum_in line) x x.node Left t (λ i. sides_differ (sym (i.side ∙ e))))
 
     right_at : (elements : Elements) (t : List ℕ) → Agrees s elements
-        → signed (not x.plus) (number_put t (put_flipped node.joins (held_of s) tag x.plus left)) +ℤ pos (cond (matching elements node.joins (sum_in line) x.node t == 0) (standing_at (sum_in line) x.node Left t) 0)
-        ≡ pos (cond (matching elements node.joins (after (sum_in line) x) x.node t == 0) (standing_at (after (sum_in line) x) x.node Left t) 0)
+        → signed (not x.plus) (number_put t (put_flipped node (held_of s) x.token x.plus left)) +ℤ pos (cond (matching elements node (sum_in line) x.node t == 0) (standing_at (sum_in line) x.node Left t) 0)
+        ≡ pos (cond (matching elements node (after (sum_in line) x) x.node t == 0) (standing_at (after (sum_in line) x) x.node Left t) 0)
     right_at elements t agrees =
-        ap (λ n. signed (not x.plus) n +ℤ pos (cond (matching elements node.joins (sum_in line) x.node t == 0) (standing_at (sum_in line) x.node Left t) 0))
-        (flipped_number node.joins (held_of s) tag x.plus t left (left_distinct (memory_at line x.node c) kept))
-        ∙ (by (lookup (bytes_eq t) left) refl ∙ ap (λ n. pos (cond (matching elements node.joins (after (sum_in line) x) x.node t == 0) n 0)) (sym (left_stays t)))
+        ap (λ n. signed (not x.plus) n +ℤ pos (cond (matching elements node (sum_in line) x.node t == 0) (standing_at (sum_in line) x.node Left t) 0))
+        (flipped_number node (held_of s) x.token x.plus t left (left_distinct (memory_at line x.node c) kept))
+        ∙ (by (lookup (bytes_eq t) left) refl ∙ ap (λ n. pos (cond (matching elements node (after (sum_in line) x) x.node t == 0) n 0)) (sym (left_stays t)))
       where
         by : (o : Option Cell) → lookup (bytes_eq t) left ≡ o
-            → signed (not x.plus) (flipped_at node.joins (held_of s) tag x.plus t o) +ℤ pos (cond (matching elements node.joins (sum_in line) x.node t == 0) (standing_at (sum_in line) x.node Left t) 0)
-            ≡ pos (cond (matching elements node.joins (after (sum_in line) x) x.node t == 0) (standing_at (sum_in line) x.node Left t) 0)
-        by None found = of_joined (joins_hold node.joins (held_of s) t tag) refl (standing_at (sum_in line) x.node Left t) refl
+            → signed (not x.plus) (flipped_at node (held_of s) x.token x.plus t o) +ℤ pos (cond (matching elements node (sum_in line) x.node t == 0) (standing_at (sum_in line) x.node Left t) 0)
+            ≡ pos (cond (matching elements node (after (sum_in line) x) x.node t == 0) (standing_at (sum_in line) x.node Left t) 0)
+        by None found = of_joined (goes_with node.kind node.joins (held_of s) t x.token) refl (standing_at (sum_in line) x.node Left t) refl
           where
             unstood : standing_at (sum_in line) x.node Left t ≡ 0
-                → signed (not x.plus) 0 +ℤ pos (cond (matching elements node.joins (sum_in line) x.node t == 0) (standing_at (sum_in line) x.node Left t) 0)
-                ≡ pos (cond (matching elements node.joins (after (sum_in line) x) x.node t == 0) (standing_at (sum_in line) x.node Left t) 0)
+                → signed (not x.plus) 0 +ℤ pos (cond (matching elements node (sum_in line) x.node t == 0) (standing_at (sum_in line) x.node Left t) 0)
+                ≡ pos (cond (matching elements node (after (sum_in line) x) x.node t == 0) (standing_at (sum_in line) x.node Left t) 0)
             unstood none =
                 nothing_moves (not x.plus) 0 _ _ refl
-                (ap (λ n. cond (matching elements node.joins (sum_in line) x.node t == 0) n 0) none ∙ nothing (matching elements node.joins (sum_in line) x.node t == 0)
-                ∙ sym (ap (λ n. cond (matching elements node.joins (after (sum_in line) x) x.node t == 0) n 0) none ∙ nothing (matching elements node.joins (after (sum_in line) x) x.node t == 0)))
+                (ap (λ n. cond (matching elements node (sum_in line) x.node t == 0) n 0) none ∙ nothing (matching elements node (sum_in line) x.node t == 0)
+                ∙ sym (ap (λ n. cond (matching elements node (after (sum_in line) x) x.node t == 0) n 0) none ∙ nothing (matching elements node (after (sum_in line) x) x.node t == 0)))
 
             -- one that joins would be found; one that does not stays as it is
-            of_joined : (b : Bool) → joins_hold node.joins (held_of s) t tag ≡ b → (k : ℕ) → standing_at (sum_in line) x.node Left t ≡ k
-                → signed (not x.plus) 0 +ℤ pos (cond (matching elements node.joins (sum_in line) x.node t == 0) (standing_at (sum_in line) x.node Left t) 0)
-                ≡ pos (cond (matching elements node.joins (after (sum_in line) x) x.node t == 0) (standing_at (sum_in line) x.node Left t) 0)
+            of_joined : (b : Bool) → goes_with node.kind node.joins (held_of s) t x.token ≡ b → (k : ℕ) → standing_at (sum_in line) x.node Left t ≡ k
+                → signed (not x.plus) 0 +ℤ pos (cond (matching elements node (sum_in line) x.node t == 0) (standing_at (sum_in line) x.node Left t) 0)
+                ≡ pos (cond (matching elements node (after (sum_in line) x) x.node t == 0) (standing_at (sum_in line) x.node Left t) 0)
             of_joined true q k r =
-                unstood (ap standing (left_sum_is nodes s line counts x.node c t (joined_code nodes s line counts x.node node at c tag tag_code t q) ∙ ap (λ o. sum_at (λ (k : Cell). k.sum) o) found))
+                unstood (ap standing (left_sum_is nodes s line counts x.node c t (joined_code nodes s line counts x.node node at c x.token own_code t q) ∙ ap (λ o. sum_at (λ (k : Cell). k.sum) o) found))
             of_joined false q zero r = unstood r
             of_joined false q (suc k) r =
                 let f = counts.fit x.node Left t (λ z. let bad : ◌≡◌ {A = ℕ} 0 (suc k) = sym (ap standing z) ∙ r in absurd (omega (arith, bad))) in
-                let apart : joins_hold node.joins elements t tag ≡ false = both_agree nodes s x.node node at alphas sound elements agrees t tag f here ∙ q in
+                let apart : goes_with node.kind node.joins elements t x.token ≡ false = both_go nodes s x.node node at alphas sound elements agrees t x.token f mine ∙ q in
                 nothing_moves (not x.plus) 0 _ _ refl
                 (ap (λ m. cond (m == 0) (standing_at (sum_in line) x.node Left t) 0)
-                (sym (right_matches (sum_in line) x elements node.joins t e tag one (small tag here) moved
-                ∙ ap (λ j. cond j (counted x.plus (matching elements node.joins (sum_in line) x.node t)) (matching elements node.joins (sum_in line) x.node t)) apart)))
+                (sym (right_matches (sum_in line) x elements node t e wide low moved
+                ∙ ap (λ j. cond j (counted x.plus (matching elements node (sum_in line) x.node t)) (matching elements node (sum_in line) x.node t)) apart)))
         by (Some k) found =
             let is = cell_at nodes s line counts x.node c kept t k found in
             let some : sum_in line x.node Left t ≢ pos 0 = λ z. is.some (sym is.sum ∙ z) in
             let f = counts.fit x.node Left t some in
-            let number : k.blockers ≡ matching elements node.joins (sum_in line) x.node t =
+            let number : k.blockers ≡ matching elements node (sum_in line) x.node t =
             sym is.blockers ∙ (counts.counts x.node node t at negated some ∙ sym (matching_agrees nodes s line counts x.node node at negated alphas sound elements agrees t f)) in
-            let joined : joins_hold node.joins (held_of s) t tag ≡ joins_hold node.joins elements t tag = sym (both_agree nodes s x.node node at alphas sound elements agrees t tag f here) in
+            let joined : goes_with node.kind node.joins (held_of s) t x.token ≡ goes_with node.kind node.joins elements t x.token = sym (both_go nodes s x.node node at alphas sound elements agrees t x.token f mine) in
             let stands : standing k.sum ≡ standing_at (sum_in line) x.node Left t = ap standing (sym is.sum) in
-            let flip : flipped_at node.joins (held_of s) tag x.plus t (Some k)
-            ≡ cond ((matching elements node.joins (sum_in line) x.node t == before_flip x.plus) && joins_hold node.joins elements t tag) (standing_at (sum_in line) x.node Left t) 0 =
-            ap (λ m. cond ((m == before_flip x.plus) && joins_hold node.joins (held_of s) t tag) (standing k.sum) 0) number
-            ∙ (ap (λ j. cond ((matching elements node.joins (sum_in line) x.node t == before_flip x.plus) && j) (standing k.sum) 0) joined
-            ∙ ap (λ n. cond ((matching elements node.joins (sum_in line) x.node t == before_flip x.plus) && joins_hold node.joins elements t tag) n 0) stands) in
-            ap (λ n. signed (not x.plus) n +ℤ pos (cond (matching elements node.joins (sum_in line) x.node t == 0) (standing_at (sum_in line) x.node Left t) 0)) flip
-            ∙ (flipped x.plus (joins_hold node.joins elements t tag) (matching elements node.joins (sum_in line) x.node t) (standing_at (sum_in line) x.node Left t)
-            (one_matched (sum_in line) x elements node.joins t e tag one (small tag here) moved)
-            ∙ ap (λ m. pos (cond (m == 0) (standing_at (sum_in line) x.node Left t) 0)) (sym (right_matches (sum_in line) x elements node.joins t e tag one (small tag here) moved)))
+            let flip : flipped_at node (held_of s) x.token x.plus t (Some k)
+            ≡ cond ((matching elements node (sum_in line) x.node t == before_flip x.plus) && goes_with node.kind node.joins elements t x.token) (standing_at (sum_in line) x.node Left t) 0 =
+            ap (λ m. cond ((m == before_flip x.plus) && goes_with node.kind node.joins (held_of s) t x.token) (standing k.sum) 0) number
+            ∙ (ap (λ j. cond ((matching elements node (sum_in line) x.node t == before_flip x.plus) && j) (standing k.sum) 0) joined
+            ∙ ap (λ n. cond ((matching elements node (sum_in line) x.node t == before_flip x.plus) && goes_with node.kind node.joins elements t x.token) n 0) stands) in
+            ap (λ n. signed (not x.plus) n +ℤ pos (cond (matching elements node (sum_in line) x.node t == 0) (standing_at (sum_in line) x.node Left t) 0)) flip
+            ∙ (flipped x.plus (goes_with node.kind node.joins elements t x.token) (matching elements node (sum_in line) x.node t) (standing_at (sum_in line) x.node Left t)
+            (one_matched (sum_in line) x elements node t e wide low moved)
+            ∙ ap (λ m. pos (cond (m == 0) (standing_at (sum_in line) x.node Left t) 0)) (sym (right_matches (sum_in line) x elements node t e wide low moved)))
 
-    pub right_change : IsChange nodes s line x (not x.plus) (put_flipped node.joins (held_of s) tag x.plus left)
+    pub right_change : IsChange nodes s line x (not x.plus) (put_flipped node (held_of s) x.token x.plus left)
     right_change = record {
       fit =
-          All-from_recursion (λ (p : Put). IsOutOf nodes s x.node p.token) (put_flipped node.joins (held_of s) tag x.plus left)
-          (all_flipped node.joins (held_of s) tag x.plus (IsOutOf nodes s x.node) left
+          All-from_recursion (λ (p : Put). IsOutOf nodes s x.node p.token) (put_flipped node (held_of s) x.token x.plus left)
+          (all_flipped node (held_of s) x.token x.plus (IsOutOf nodes s x.node) left
           (recursion_from_All (λ (l : List ℕ × Cell). IsOutOf nodes s x.node l.0) left
           (λ i d within. own_out (slice_index_or left i d).0 (left_fits nodes s line counts x.node c kept i d within))));
-      change = λ elements t agrees. change_over (not x.plus) (put_flipped node.joins (held_of s) tag x.plus left) elements t (right_at elements t agrees);
+      change = λ elements t agrees. change_over (not x.plus) (put_flipped node (held_of s) x.token x.plus left) elements t (right_at elements t agrees);
     }

@@ -1,16 +1,16 @@
 -- What a node puts out, of the tokens that stand at its sides, and how a task changes it.
-use Rattle.std.proofs.Common.{◌≡◌, ℕ, ◌^◌, ◌==◌, Bool, true, false, cond, List, [], ◌∷◌, pos, ◌+ℤ◌, refl, ap, ap₂, ◌∙◌, slice_get, Option, Some, None}
+use Rattle.std.proofs.Common.{◌≡◌, ℕ, ◌^◌, ◌==◌, Bool, true, false, cond, List, [], pos, ◌+ℤ◌, refl, ap, ap₂, ◌∙◌, slice_get, Option, Some, None}
 use Rattle.std.specs.List.{All}
 use Rattle.std.proofs.lemmas.List.Elements.{All-nil}
 use Rattle.work_store.specs.Stored.{Stored}
 use Rattle.net_base.specs.declared.nodes.Kind.{Kind}
-use Rattle.net_base.specs.declared.nodes.Kind.TheVariants.{Join, Negated, Terminal}
+use Rattle.net_base.specs.declared.nodes.Kind.TheVariants.{Join, Negated, Group, Terminal}
 use Rattle.net_base.specs.declared.nodes.Node.{Node}
 use Rattle.net_base.specs.declared.tasks.Side.{Side}
 use Rattle.net_base.specs.declared.tasks.Side.TheVariants.{Left, Right}
 use Rattle.net_base.specs.declared.tasks.Task.{Task}
 use Rattle.net_base.specs.Sound.{is_join, is_negated}
-use Rattle.net_base.specs.Tokens.{Elements, Tokens, joins_hold, out_of, out_of_join}
+use Rattle.net_base.specs.Tokens.{Elements, Tokens, count_with, goes_with, right_width, out_of, out_of_join, out_of_negated}
 use Rattle.token_line.specs.declared.line.Line.{Line}
 use Rattle.token_line.specs.Bags.{Bag, after, standing_at}
 use Rattle.token_line.specs.Held.{Agrees}
@@ -28,11 +28,16 @@ out_in_same : (elements : Elements) (o : Option Node) (l r l' r' : Tokens) → (
 out_in_same elements None l r l' r' left right t = refl
 out_in_same elements (Some node) l r l' r' left right t = by node.kind
   where
+    counted : (k : Kind) → out_of_negated (2 ^ 64) k node.joins elements l r t ≡ out_of_negated (2 ^ 64) k node.joins elements l' r' t
+    counted k =
+        ap₂ (λ c n. cond (c == 0) n 0)
+        (count_same (2 ^ 64) (right_width k) (goes_with k node.joins elements t) (goes_with k node.joins elements t) r r' [] (λ v. ap (λ n. cond (goes_with k node.joins elements t v) n 0) (right v))) (left t)
+
     by : (k : Kind) → out_of (2 ^ 64) elements k node.joins l r t ≡ out_of (2 ^ 64) elements k node.joins l' r' t
     by Join = out_same node.joins elements l r l' r' left right t
     by Negated =
-        ap₂ (λ c n. cond (c == 0) n 0)
-        (count_same (2 ^ 64) (joins_hold node.joins elements t) (joins_hold node.joins elements t) r r' (λ k low. ap (λ n. cond (joins_hold node.joins elements t k) n 0) (right (k ∷ [])))) (left t)
+        counted Negated
+    by (Group giver width members) = counted (Group giver width members)
     by (Terminal rule) = left t
 
 pub out_at_same : (elements : Elements) (nodes : List Node) (b b' : Bag) (n : ℕ) → ((side : Side) (v : List ℕ) → standing_at b n side v ≡ standing_at b' n side v) → (t : List ℕ) → out_at elements nodes b n t ≡ out_at elements nodes b' n t
@@ -48,15 +53,17 @@ join_out elements nodes b n x at join t = ap (λ o. out_in elements o (standing_
     by : (k : Kind) → is_join k ≡ true → out_of (2 ^ 64) elements k x.joins (standing_at b n Left) (standing_at b n Right) t ≡ out_of_join x.joins elements (standing_at b n Left) (standing_at b n Right) t
     by Join e = refl
     by Negated e = cc
+    by (Group giver width members) e = cc
     by (Terminal rule) e = cc
 
 pub negated_out : (elements : Elements) (nodes : List Node) (b : Bag) (n : ℕ) (x : Node) → slice_get nodes n ≡ Some x → is_negated x.kind ≡ true
-    → (t : List ℕ) → out_at elements nodes b n t ≡ cond (matching elements x.joins b n t == 0) (standing_at b n Left t) 0
+    → (t : List ℕ) → out_at elements nodes b n t ≡ cond (matching elements x b n t == 0) (standing_at b n Left t) 0
 negated_out elements nodes b n x at negated t = ap (λ o. out_in elements o (standing_at b n Left) (standing_at b n Right) t) at ∙ by x.kind negated
   where
-    by : (k : Kind) → is_negated k ≡ true → out_of (2 ^ 64) elements k x.joins (standing_at b n Left) (standing_at b n Right) t ≡ cond (matching elements x.joins b n t == 0) (standing_at b n Left t) 0
+    by : (k : Kind) → is_negated k ≡ true → out_of (2 ^ 64) elements k x.joins (standing_at b n Left) (standing_at b n Right) t ≡ cond (count_with (2 ^ 64) k x.joins elements t (standing_at b n Right) == 0) (standing_at b n Left t) 0
     by Join e = cc
     by Negated e = refl
+    by (Group giver width members) e = refl
     by (Terminal rule) e = cc
 
 -- ---- the change of it

@@ -6,7 +6,8 @@ use Rattle.std.proofs.lemmas.Bool.Decides.{same_from_decides}
 use Rattle.std.proofs.lemmas.List.{same_from_push}
 use Rattle.std.proofs.lemmas.Slice.Eq.{bytes_eq-Decides}
 use Rattle.net_base.specs.declared.nodes.JoinTest.{JoinTest}
-use Rattle.net_base.specs.Tokens.{Elements, joins_hold}
+use Rattle.net_base.specs.declared.nodes.Node.{Node}
+use Rattle.net_base.specs.Tokens.{Elements, goes_with, joins_hold}
 use Rattle.token_line.specs.declared.tokens.Cell.{Cell}
 use Rattle.token_line.specs.Bags.{standing}
 use Rattle.activation.specs.Negating.{put_flipped, before_flip}
@@ -174,10 +175,10 @@ module _ (tests : List JoinTest) (elements : Elements) (tag : ℕ) where
 
 -- ---- for a right token of a negated node
 
-module _ (tests : List JoinTest) (elements : Elements) (tag : ℕ) (plus : Bool) where
+module _ (node : Node) (elements : Elements) (r : List ℕ) (plus : Bool) where
   -- whether the left token is taken back or put out again
   abbrev pub flips : List ℕ → Cell → Bool
-  flips q c = (c.blockers == before_flip plus) && joins_hold tests elements q tag
+  flips q c = (c.blockers == before_flip plus) && goes_with node.kind node.joins elements q r
 
   each_itself : (t : List ℕ) (es : List (List ℕ × Cell)) → AllByRecursion (λ e. bytes_eq t e.0 ≡ bytes_eq t e.0) es
   each_itself t [] = tt
@@ -187,8 +188,8 @@ module _ (tests : List JoinTest) (elements : Elements) (tag : ℕ) (plus : Bool)
   abbrev pub flipped_at : List ℕ → Option Cell → ℕ
   flipped_at t o = times_at flips (λ q. q) (λ c. c.sum) t o
 
-  pub flipped_number : (t : List ℕ) (es : List (List ℕ × Cell)) → IsDistinct bytes_eq (keys_of es) → number_put t (put_flipped tests elements tag plus es) ≡ flipped_at t (lookup (bytes_eq t) es)
+  pub flipped_number : (t : List ℕ) (es : List (List ℕ × Cell)) → IsDistinct bytes_eq (keys_of es) → number_put t (put_flipped node elements r plus es) ≡ flipped_at t (lookup (bytes_eq t) es)
   flipped_number t es distinct = number_one flips (λ q. q) (λ c. c.sum) t t es distinct (each_itself t es)
 
-  pub all_flipped : (P : List ℕ → Type 0) (es : List (List ℕ × Cell)) → AllByRecursion (λ e. P e.0) es → AllByRecursion (λ p. P p.token) (put_flipped tests elements tag plus es)
+  pub all_flipped : (P : List ℕ → Type 0) (es : List (List ℕ × Cell)) → AllByRecursion (λ e. P e.0) es → AllByRecursion (λ p. P p.token) (put_flipped node elements r plus es)
   all_flipped P es all = all_puts flips (λ q. q) (λ c. c.sum) P es all

@@ -1,18 +1,19 @@
 -- What a join puts out for a task, over the tokens of its line.
-use Rattle.std.proofs.Common.{◌≡◌, ◌≢◌, ℕ, true, List, [], ◌∷◌, ◌++◌, ℤ, pos, ◌+ℤ◌, refl, sym, ap, subst, ◌∙◌, arith, length, slice_get, slice_index, slice_index_or, Some}
+use Rattle.std.proofs.Common.{◌≡◌, ◌≢◌, ℕ, true, cond, List, [], ◌∷◌, ◌++◌, ℤ, pos, ◌+ℤ◌, refl, sym, ap, subst, ◌∙◌, arith, length, slice_get, slice_index, slice_index_or, Some}
 use Rattle.std.specs.List.{AllByRecursion}
 use Rattle.std.proofs.lemmas.List.{length_push}
 use Rattle.std.proofs.lemmas.List.Elements.{All-from_recursion, All-push, recursion_from_All}
 use Rattle.work_store.specs.Stored.{Stored, held_of}
+use Rattle.net_base.specs.declared.nodes.JoinTest.{JoinTest}
 use Rattle.net_base.specs.declared.nodes.Kind.{Kind}
-use Rattle.net_base.specs.declared.nodes.Kind.TheVariants.{Join, Negated, Terminal}
+use Rattle.net_base.specs.declared.nodes.Kind.TheVariants.{Join, Negated, Group, Terminal}
 use Rattle.net_base.specs.declared.nodes.Node.{Node}
 use Rattle.net_base.specs.declared.nodes.Alpha.{Alpha}
 use Rattle.net_base.specs.declared.tasks.Side.{Side}
 use Rattle.net_base.specs.declared.tasks.Side.TheVariants.{Left, Right}
 use Rattle.net_base.specs.declared.tasks.Task.{Task}
-use Rattle.net_base.specs.Sound.{IsSound, added_tags, is_join}
-use Rattle.net_base.specs.Tokens.{Elements, out_of_join}
+use Rattle.net_base.specs.Sound.{IsSound, added_tags, is_join, takes_elements}
+use Rattle.net_base.specs.Tokens.{Elements, goes_with, joins_hold, out_of_join}
 use Rattle.token_line.specs.declared.line.Line.{Line}
 use Rattle.token_line.specs.declared.tokens.Cell.{Cell}
 use Rattle.token_line.specs.Bags.{after, standing, standing_at}
@@ -27,13 +28,26 @@ use Rattle.activation.proofs.Arrived.{other_sum, own_sum}
 use Rattle.activation.proofs.AtNode.{Kept, both_agree, left_distinct, left_fits, left_joined, left_long, only_one, right_distinct, right_fits, right_held, right_joined, right_long}
 use Rattle.activation.proofs.JoinChange.{left_change, moves, right_change}
 use Rattle.activation.proofs.Outs.{IsChange, join_out}
-use Rattle.activation.proofs.PutNumbers.{all_left, all_right, left_none, left_number, right_none, right_number}
+use Rattle.activation.proofs.PutNumbers.{all_left, all_right, left_none, left_number, left_of, right_of, right_none, right_number}
 use Rattle.activation.proofs.Widths.{width_is}
 
-one_added : (k : Kind) → is_join k ≡ true → added_tags k ≡ 1
+pub one_added : (k : Kind) → is_join k ≡ true → added_tags k ≡ 1
 one_added Join e = refl
 one_added Negated e = cc
+one_added (Group giver width members) e = cc
 one_added (Terminal rule) e = cc
+
+takes_of : (k : Kind) → is_join k ≡ true → takes_elements k ≡ true
+takes_of Join e = refl
+takes_of Negated e = cc
+takes_of (Group giver width members) e = cc
+takes_of (Terminal rule) e = cc
+
+as_join : (k : Kind) → is_join k ≡ true → (tests : List JoinTest) (elements : Elements) (t r : List ℕ) → goes_with k tests elements t r ≡ joins_hold tests elements t (slice_index r 0)
+as_join Join e tests elements t r = refl
+as_join Negated e tests elements t r = cc
+as_join (Group giver width members) e tests elements t r = cc
+as_join (Terminal rule) e tests elements t r = cc
 
 pub standing_some : (z : ℤ) → standing z ≢ 0 → z ≢ pos 0
 standing_some z ne e = ne (ap standing e)
@@ -63,7 +77,7 @@ module _ (alphas : List Alpha) (nodes : List Node) (sound : IsSound alphas nodes
   right = right_entries (memory_at line x.node c)
 
   held_at : (t : List ℕ) → Fits nodes s x.node Right t → IsHeld s (slice_index t 0)
-  held_at t f = right_held nodes s x.node node at t f
+  held_at t f = right_held nodes s x.node node at (takes_of node.kind join) t f
 
   longer : (t : List ℕ) (k : ℕ) → Fits nodes s x.node Left t → IsHeld s k → IsOutOf nodes s x.node (t ++ k ∷ [])
   longer t k f here = record {
@@ -87,7 +101,7 @@ module _ (alphas : List Alpha) (nodes : List Node) (sound : IsSound alphas nodes
       own = subst (λ d. Fits nodes s x.node d x.token) e fits
 
       ones : AllByRecursion (λ r. length r.0 ≡ 1) right
-      ones = recursion_from_All (λ r. length r.0 ≡ 1) right (λ i d within. right_long nodes s x.node node at (slice_index_or right i d).0 (right_fits nodes s line counted x.node c kept i d within))
+      ones = recursion_from_All (λ r. length r.0 ≡ 1) right (λ i d within. right_long nodes s x.node node at (takes_of node.kind join) (slice_index_or right i d).0 (right_fits nodes s line counted x.node c kept i d within))
 
       had : changes (sum_in line x.node Left x.token) x.plus ≡ true
       had = subst (λ d. changes (sum_in line x.node d x.token) x.plus ≡ true) e moved
@@ -98,7 +112,8 @@ module _ (alphas : List Alpha) (nodes : List Node) (sound : IsSound alphas nodes
       over_tokens elements t agrees =
           left_change node.joins elements (standing_at (sum_in line) x.node Left) (standing_at (sum_in line) x.node Right) (standing_at (after (sum_in line) x) x.node Left) (standing_at (after (sum_in line) x) x.node Right)
           (held_of s) x.plus x.token (put_for_left node.joins (held_of s) x.token right)
-          (λ k. left_number node.joins (held_of s) x.token k right (right_distinct (memory_at line x.node c) kept) ones ∙ right_joined nodes s line counted x.node node at c x.token (subst (λ d. code_of (held_of s) nodes x.node d x.token ≡ c) e code) k)
+          (λ k. left_number node.joins (held_of s) x.token k right (right_distinct (memory_at line x.node c) kept) ones ∙ subst (λ b. cond b (standing (right_of right (k ∷ []))) 0 ≡ cond b (standing_at (sum_in line) x.node Right (k ∷ [])) 0) (as_join node.kind join node.joins (held_of s) x.token (k ∷ []))
+          (right_joined nodes s line counted x.node node at c x.token (subst (λ d. code_of (held_of s) nodes x.node d x.token ≡ c) e code) (k ∷ [])))
           (λ u ne. left_none node.joins (held_of s) x.token u ne right)
           (λ k some. both_agree nodes s x.node node at alphas sound elements agrees x.token k own (held_at (k ∷ []) (counted.fit x.node Right (k ∷ []) (standing_some (sum_in line x.node Right (k ∷ [])) some))))
           (moves (sum_in line x.node Left x.token) x.plus had ∙ ap (λ z. pos (standing z)) (sym (own_sum (sum_in line) x Left e)))
@@ -124,7 +139,7 @@ module _ (alphas : List Alpha) (nodes : List Node) (sound : IsSound alphas nodes
       own = subst (λ d. Fits nodes s x.node d x.token) e fits
 
       one : x.token ≡ tag ∷ []
-      one = only_one x.token (right_long nodes s x.node node at x.token own)
+      one = only_one x.token (right_long nodes s x.node node at (takes_of node.kind join) x.token own)
 
       tag_code : code_of (held_of s) nodes x.node Right (tag ∷ []) ≡ c
       tag_code = subst (λ t. code_of (held_of s) nodes x.node Right t ≡ c) one (subst (λ d. code_of (held_of s) nodes x.node d x.token ≡ c) e code)
@@ -138,7 +153,8 @@ module _ (alphas : List Alpha) (nodes : List Node) (sound : IsSound alphas nodes
       over_tokens elements t agrees =
           right_change node.joins elements (standing_at (sum_in line) x.node Left) (standing_at (sum_in line) x.node Right) (standing_at (after (sum_in line) x) x.node Left) (standing_at (after (sum_in line) x) x.node Right)
           (held_of s) x.plus tag (put_for_right node.joins (held_of s) tag left)
-          (λ f. right_number node.joins (held_of s) tag f left (left_distinct (memory_at line x.node c) kept) ∙ left_joined nodes s line counted x.node node at c tag tag_code f)
+          (λ f. right_number node.joins (held_of s) tag f left (left_distinct (memory_at line x.node c) kept) ∙ subst (λ b. cond b (standing (left_of left f)) 0 ≡ cond b (standing_at (sum_in line) x.node Left f) 0) (as_join node.kind join node.joins (held_of s) f (tag ∷ []))
+          (left_joined nodes s line counted x.node node at c (tag ∷ []) tag_code f))
           (λ u ne. right_none node.joins (held_of s) tag u ne left)
           (λ f some. both_agree nodes s x.node node at alphas sound elements agrees f tag (counted.fit x.node Left f (standing_some (sum_in line x.node Left f) some)) (held_at x.token own))
           (subst (λ z. signed x.plus 1 +ℤ pos (standing_at (sum_in line) x.node Right z) ≡ pos (standing_at (after (sum_in line) x) x.node Right z)) one

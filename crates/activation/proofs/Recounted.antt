@@ -1,5 +1,5 @@
 -- A line is still counted once a task has arrived, with what blocks its left tokens counted anew.
-use Rattle.std.proofs.Common.{◌≡◌, ◌≢◌, ℕ, ◌-◌, ◌<◌, ◌^◌, ◌==◌, ◌&&◌, Bool, true, false, cond, List, [], ◌∷◌, ◌++◌, pos, refl, sym, ap, ap₂, subst, ◌∙◌, length, slice_get, slice_index, bytes_eq, Some, ◌⊎◌, inl, inr, true≢false}
+use Rattle.std.proofs.Common.{◌≡◌, ◌≢◌, ℕ, ◌-◌, ◌<◌, ◌^◌, ◌==◌, ◌&&◌, Bool, true, false, cond, List, [], ◌∷◌, ◌++◌, pos, refl, sym, ap, ap₂, subst, ◌∙◌, slice_get, bytes_eq, Some, ◌⊎◌, inl, inr, true≢false}
 use Rattle.std.proofs.lemmas.Bool.Decides.{Decides-eqb}
 use Rattle.std.proofs.lemmas.List.{map-append}
 use Rattle.std.proofs.lemmas.List.Elements.{filter-append}
@@ -12,7 +12,7 @@ use Rattle.net_base.specs.declared.tasks.Side.{Side}
 use Rattle.net_base.specs.declared.tasks.Side.TheVariants.{Left, Right}
 use Rattle.net_base.specs.declared.tasks.Task.{Task}
 use Rattle.net_base.specs.Sound.{is_negated, is_terminal}
-use Rattle.net_base.specs.Tokens.{joins_hold}
+use Rattle.net_base.specs.Tokens.{goes_with}
 use Rattle.token_line.specs.declared.line.Entry.{Entry}
 use Rattle.token_line.specs.declared.line.Line.{Line}
 use Rattle.token_line.specs.Bags.{after, are_same_sides, is_at, standing}
@@ -30,7 +30,7 @@ use Rattle.activation.specs.Negating.{is_matched}
 use Rattle.activation.specs.Putting.{changes}
 use Rattle.activation.proofs.Agreed.{IsHeld}
 use Rattle.activation.proofs.Arrived.{IsAt, and_false, at_place, is_at-true, other_sum, still}
-use Rattle.activation.proofs.AtNode.{only_one, right_held, right_long, same_node}
+use Rattle.activation.proofs.AtNode.{right_low, right_wide, same_node}
 use Rattle.activation.proofs.Matching.{left_matches, matching_same, others_match, right_matches}
 
 module _ (nodes : List Node) (s : Stored) (x : Task) (fits : TaskFits nodes s x) (old new : Line) (counts : IsCounted nodes s old) (e : Effect) (effect : IsEffect nodes s old x e)
@@ -54,25 +54,25 @@ module _ (nodes : List Node) (s : Stored) (x : Task) (fits : TaskFits nodes s x)
   module _ (n : ℕ) (y : Node) (t : List ℕ) (at : slice_get nodes n ≡ Some y) (negated : is_negated y.kind ≡ true) (some : sum_in new n Left t ≢ pos 0) where
     -- how often right tokens match it, over these sums
     abbrev before : ℕ
-    before = matching (held_of s) y.joins (sum_in old) n t
+    before = matching (held_of s) y (sum_in old) n t
 
     abbrev now : ℕ
-    now = matching (held_of s) y.joins (after (sum_in old) x) n t
+    now = matching (held_of s) y (after (sum_in old) x) n t
 
-    over_new : now ≡ matching (held_of s) y.joins (sum_in new) n t
-    over_new = sym (matching_same (held_of s) y.joins (sum_in new) (after (sum_in old) x) n t (λ k. ap standing (sums n Right (k ∷ []))))
+    over_new : now ≡ matching (held_of s) y (sum_in new) n t
+    over_new = sym (matching_same (held_of s) y (sum_in new) (after (sum_in old) x) n t (λ v. ap standing (sums n Right v)))
 
     kept_before : (IsAt n Left t x → ⊥) → blockers_in old n t ≡ before
     kept_before elsewhere = counts.counts n y t at negated (λ z. some (sums n Left t ∙ (other_sum (sum_in old) x n Left t elsewhere ∙ z)))
 
     -- a left task
     of_left : x.side ≡ Left → cond (is_at n Left t x) e.blockers (blockers_in old n t) ≡ now
-    of_left q = by (is_at n Left t x) refl ∙ sym (left_matches (sum_in old) x (held_of s) y.joins t q n)
+    of_left q = by (is_at n Left t x) refl ∙ sym (left_matches (sum_in old) x (held_of s) y t q n)
       where
         by : (b : Bool) → is_at n Left t x ≡ b → cond b e.blockers (blockers_in old n t) ≡ before
         by true r =
             let i = is_at-true n Left t x r in
-            effect.blockers y (ap (slice_get nodes) (sym i.node) ∙ at) negated q ∙ ap₂ (λ m v. matching (held_of s) y.joins (sum_in old) m v) (sym i.node) (sym i.token)
+            effect.blockers y (ap (slice_get nodes) (sym i.node) ∙ at) negated q ∙ ap₂ (λ m v. matching (held_of s) y (sum_in old) m v) (sym i.node) (sym i.token)
         by false r = kept_before (λ i. let bad : true ≡ false = sym (at_place n Left t x i) ∙ r in cc)
 
     -- a right task
@@ -87,48 +87,42 @@ module _ (nodes : List Node) (s : Stored) (x : Task) (fits : TaskFits nodes s x)
       node_is r = same_node its_node.0 y (sym its_node.1 ∙ (ap (slice_get nodes) (sym (here r)) ∙ at))
 
       moves_here : (n == x.node) ≡ true → changes (sum_in old x.node Right x.token) x.plus ≡ true
-          → now ≡ cond (joins_hold y.joins (held_of s) t (slice_index x.token 0)) (counted x.plus before) before
+          → now ≡ cond (goes_with y.kind y.joins (held_of s) t x.token) (counted x.plus before) before
       moves_here r moved =
-          subst (λ m. matching (held_of s) y.joins (after (sum_in old) x) m t ≡ cond (joins_hold y.joins (held_of s) t tag) (counted x.plus (matching (held_of s) y.joins (sum_in old) m t)) (matching (held_of s) y.joins (sum_in old) m t)) (sym (here r))
-          (right_matches (sum_in old) x (held_of s) y.joins t q tag (only_one x.token long) (small tag (right_held nodes s x.node y there x.token mine)) moved)
+          subst (λ m. matching (held_of s) y (after (sum_in old) x) m t ≡ cond (goes_with y.kind y.joins (held_of s) t x.token) (counted x.plus (matching (held_of s) y (sum_in old) m t)) (matching (held_of s) y (sum_in old) m t)) (sym (here r))
+          (right_matches (sum_in old) x (held_of s) y t q (right_wide nodes s x.node y there x.token mine) (right_low nodes s x.node y there small x.token mine) moved)
         where
-          tag : ℕ
-          tag = slice_index x.token 0
-
           mine : Fits nodes s x.node Right x.token
           mine = subst (λ d. Fits nodes s x.node d x.token) q fits
 
           there : slice_get nodes x.node ≡ Some y
           there = ap (slice_get nodes) (sym (here r)) ∙ at
 
-          long : length x.token ≡ 1
-          long = right_long nodes s x.node y there x.token mine
-
       blocks_are : (n == x.node) ≡ true → e.blocks ≡ changes (sum_in old x.node Right x.token) x.plus
       blocks_are r =
           effect.blocks its_node.0 its_node.1
           ∙ (ap₂ (λ a d. a && (are_same_sides Right d && changes (sum_in old x.node d x.token) x.plus)) (ap (λ (z : Node). is_negated z.kind) (node_is r) ∙ negated) q)
 
-      of_right : cond (e.blocks && ((n == x.node) && joins_hold its_node.0.joins (held_of s) t (slice_index x.token 0))) (counted x.plus before) before ≡ now
+      of_right : cond (e.blocks && ((n == x.node) && goes_with its_node.0.kind its_node.0.joins (held_of s) t x.token)) (counted x.plus before) before ≡ now
       of_right = by (n == x.node) refl
         where
           stays : changes (sum_in old x.node Right x.token) x.plus ≡ false → before ≡ now
           stays same =
-              matching_same (held_of s) y.joins (sum_in old) (after (sum_in old) x) n t
-              (λ k. still (sum_in old) x (subst (λ d. changes (sum_in old x.node d x.token) x.plus ≡ false) (sym q) same) n Right (k ∷ []))
+              matching_same (held_of s) y (sum_in old) (after (sum_in old) x) n t
+              (λ v. still (sum_in old) x (subst (λ d. changes (sum_in old x.node d x.token) x.plus ≡ false) (sym q) same) n Right v)
 
           by_change : (n == x.node) ≡ true → (c : Bool) → changes (sum_in old x.node Right x.token) x.plus ≡ c
-              → cond (c && joins_hold its_node.0.joins (held_of s) t (slice_index x.token 0)) (counted x.plus before) before ≡ now
-          by_change r true moved = ap (λ (z : Node). cond (joins_hold z.joins (held_of s) t (slice_index x.token 0)) (counted x.plus before) before) (node_is r) ∙ sym (moves_here r moved)
+              → cond (c && goes_with its_node.0.kind its_node.0.joins (held_of s) t x.token) (counted x.plus before) before ≡ now
+          by_change r true moved = ap (λ (z : Node). cond (goes_with z.kind z.joins (held_of s) t x.token) (counted x.plus before) before) (node_is r) ∙ sym (moves_here r moved)
           by_change r false same = stays same
 
-          by : (b : Bool) → (n == x.node) ≡ b → cond (e.blocks && (b && joins_hold its_node.0.joins (held_of s) t (slice_index x.token 0))) (counted x.plus before) before ≡ now
+          by : (b : Bool) → (n == x.node) ≡ b → cond (e.blocks && (b && goes_with its_node.0.kind its_node.0.joins (held_of s) t x.token)) (counted x.plus before) before ≡ now
           by true r =
-              ap (λ c. cond (c && joins_hold its_node.0.joins (held_of s) t (slice_index x.token 0)) (counted x.plus before) before) (blocks_are r)
+              ap (λ c. cond (c && goes_with its_node.0.kind its_node.0.joins (held_of s) t x.token) (counted x.plus before) before) (blocks_are r)
               ∙ by_change r (changes (sum_in old x.node Right x.token) x.plus) refl
           by false r =
               ap (λ c. cond c (counted x.plus before) before) (and_false e.blocks)
-              ∙ sym (others_match (sum_in old) x (held_of s) y.joins t n (λ z. let bad : true ≡ false = sym ((Decides-eqb n x.node).1 z) ∙ r in cc))
+              ∙ sym (others_match (sum_in old) x (held_of s) y t n (λ z. let bad : true ≡ false = sym ((Decides-eqb n x.node).1 z) ∙ r in cc))
 
   -- what is kept with a left token, before it is counted anew
   abbrev added : ℕ → List ℕ → ℕ
@@ -153,13 +147,13 @@ module _ (nodes : List Node) (s : Stored) (x : Task) (fits : TaskFits nodes s x)
       code_after n c side t (inr own) = at_task (λ m d u. c ≡ code_of (held_of s) nodes m d u) x n side t own.1 own.0
 
       by : (n : ℕ) (y : Node) (t : List ℕ) (at : slice_get nodes n ≡ Some y) (negated : is_negated y.kind ≡ true) (some : sum_in new n Left t ≢ pos 0) → (d : Side) → x.side ≡ d
-          → cond (e.blocks && is_matched (slice_get nodes x.node) (held_of s) x n t) (counted x.plus (added n t)) (added n t) ≡ matching (held_of s) y.joins (after (sum_in old) x) n t
+          → cond (e.blocks && is_matched (slice_get nodes x.node) (held_of s) x n t) (counted x.plus (added n t)) (added n t) ≡ matching (held_of s) y (after (sum_in old) x) n t
       by n y t at negated some Left q =
           let still_kept : e.blocks ≡ false =
           effect.blocks its_node.0 its_node.1 ∙ (ap (λ d. is_negated its_node.0.kind && (are_same_sides Right d && changes (sum_in old x.node x.side x.token) x.plus)) q ∙ and_false (is_negated its_node.0.kind)) in
           ap (λ b. cond (b && is_matched (slice_get nodes x.node) (held_of s) x n t) (counted x.plus (added n t)) (added n t)) still_kept ∙ of_left n y t at negated some q
       by n y t at negated some Right q =
-          let unkept : added n t ≡ matching (held_of s) y.joins (sum_in old) n t =
+          let unkept : added n t ≡ matching (held_of s) y (sum_in old) n t =
           ap (λ b. cond b e.blockers (blockers_in old n t)) (ap (λ d. (n == x.node) && (are_same_sides Left d && bytes_eq t x.token)) q ∙ and_false (n == x.node)) ∙ kept_before n y t at negated some (not_mine n y t at negated some q small) in
           ap₂ (λ o k. cond (e.blocks && is_matched o (held_of s) x n t) (counted x.plus k) k) its_node.1 unkept ∙ of_right n y t at negated some q small
 
@@ -173,7 +167,7 @@ counted_same nodes s old new counts same numbers codes told entries = record {
   counts = λ n y t at negated some.
       numbers n t
       ∙ (counts.counts n y t at negated (λ z. some (same n Left t ∙ z))
-      ∙ sym (matching_same (held_of s) y.joins (sum_in new) (sum_in old) n t (λ k. ap standing (same n Right (k ∷ [])))));
+      ∙ sym (matching_same (held_of s) y (sum_in new) (sum_in old) n t (λ v. ap standing (same n Right v))));
   filed = λ n c side t some. counts.filed n c side t (codes n c side t some);
 }
 
@@ -231,10 +225,10 @@ module _ (nodes : List Node) (s : Stored) (x : Task) (fits : TaskFits nodes s x)
 
   -- each left token that it matches has its code
   pub code_after : (node : Node) → slice_get nodes x.node ≡ Some node → (t : List ℕ) → sum_in new x.node Left t ≢ pos 0
-      → joins_hold node.joins (held_of s) t (slice_index x.token 0) ≡ true → IsFiled new x.node code Left t
+      → goes_with node.kind node.joins (held_of s) t x.token ≡ true → IsFiled new x.node code Left t
   code_after node at t some joined =
       let kept = kept_under new x.node Left t some in
       let own : code_of (held_of s) nodes x.node Left t ≡ code =
-      joined_with_one_code (held_of s) nodes x.node node t (slice_index x.token 0) at joined
-      ∙ ap₂ (λ d u. code_of (held_of s) nodes x.node d u) (sym is_right) (sym (only_one x.token (right_long nodes s x.node node at x.token (subst (λ d. Fits nodes s x.node d x.token) is_right fits)))) in
+      joined_with_one_code (held_of s) nodes x.node node t x.token at joined
+      ∙ ap (λ d. code_of (held_of s) nodes x.node d x.token) (sym is_right) in
       subst (λ c. IsFiled new x.node c Left t) (counts.filed x.node kept.0 Left t (was_filed kept.0 t kept.1) ∙ own) kept.1

@@ -2,13 +2,12 @@
 use Rattle.std.specs.Prelude.{◌≡◌, ◌≢◌, ℕ, ◌+◌, ◌-◌, ◌^◌, ◌<◌, ◌&&◌, ℤ, pos, neg_ℤ, ◌+ℤ◌, Bool, true, false, List, [], ◌∷◌, ◌++◌, bytes_eq, filter, length, map, slice_get, Some, IsSome, All, if◌then◌else◌}
 use Rattle.std.specs.Option.{option_map_or}
 use Rattle.work_store.specs.Stored.{Stored, held_of}
-use Rattle.net_base.specs.declared.nodes.JoinTest.{JoinTest}
 use Rattle.net_base.specs.declared.nodes.Node.{Node}
 use Rattle.net_base.specs.declared.tasks.Side.{Side}
 use Rattle.net_base.specs.declared.tasks.Side.TheVariants.{Left, Right}
 use Rattle.net_base.specs.declared.tasks.Task.{Task}
 use Rattle.net_base.specs.Sound.{is_negated, is_terminal, width}
-use Rattle.net_base.specs.Tokens.{Elements, count_below, joins_hold}
+use Rattle.net_base.specs.Tokens.{Elements, count_with}
 use Rattle.token_line.specs.declared.line.Entry.{Entry}
 use Rattle.token_line.specs.declared.line.Line.{Line}
 use Rattle.token_line.specs.declared.memory.Memory.{Memory}
@@ -24,8 +23,8 @@ use Rattle.activation.specs.Putting.{Put, changes}
 -- ---- what is asked of a line
 
 -- how often right tokens stand that match this left token of the node, over these sums; all tags are below 2 ^ 64
-abbrev pub matching : Elements → List JoinTest → Bag → ℕ → List ℕ → ℕ
-matching elements tests b n t = count_below (2 ^ 64) (joins_hold tests elements t) (standing_at b n Right)
+abbrev pub matching : Elements → Node → Bag → ℕ → List ℕ → ℕ
+matching elements x b n t = count_with (2 ^ 64) x.kind x.joins elements t (standing_at b n Right)
 
 -- whether the task comes to a terminal
 abbrev pub is_last : List Node → Task → Bool
@@ -40,12 +39,12 @@ abbrev pub TellsOfLasts : List Node → Line → Type 0
 TellsOfLasts nodes line = line.told.items ≡ lasts_of nodes line.entries.items
 
 -- Each token of the line that has a sum other than 0 fits, and the line keeps it under its code. With each left token
--- of a negated node it keeps how often right tokens stand that match it. It tells of just the tasks that came to
--- terminals.
+-- of a negated node or a group it keeps how often right tokens stand that match it. It tells of just the tasks that came
+-- to terminals.
 pub record IsCounted (nodes : List Node) (s : Stored) (line : Line) : Type 0 where
   pub fit : (n : ℕ) (side : Side) (t : List ℕ) → sum_in line n side t ≢ pos 0 → Fits nodes s n side t
   pub counts : (n : ℕ) (x : Node) (t : List ℕ) → slice_get nodes n ≡ Some x → is_negated x.kind ≡ true → sum_in line n Left t ≢ pos 0
-      → blockers_in line n t ≡ matching (held_of s) x.joins (sum_in line) n t
+      → blockers_in line n t ≡ matching (held_of s) x (sum_in line) n t
   pub filed : (n c : ℕ) (side : Side) (t : List ℕ) → IsFiled line n c side t → c ≡ code_of (held_of s) nodes n side t
   pub told : TellsOfLasts nodes line
 
@@ -67,15 +66,15 @@ pub record IsOutOf (nodes : List Node) (s : Stored) (n : ℕ) (t : List ℕ) : T
   pub held : All (λ tag. IsSome (held_of s tag)) t
 
 -- What the task does at its node: what is put out, with the sign, is the change of what the node puts out, where the
--- node can have children. At a negated node a left token is kept with how often right tokens stand that match it, and a
--- right token is one blocker more, or one less, just where it stands once more or once less; each left token with its
--- code has room for that.
+-- node can have children. At a negated node or a group a left token is kept with how often right tokens stand that match
+-- it, and a right token is one blocker more, or one less, just where it stands once more or once less; each left token
+-- with its code has room for that.
 pub record IsEffect (nodes : List Node) (s : Stored) (line : Line) (x : Task) (e : Effect) : Type 0 where
   pub fit : All (λ p. IsOutOf nodes s x.node p.token) e.puts
   pub change : (node : Node) (elements : Elements) (t : List ℕ) → slice_get nodes x.node ≡ Some node → is_terminal node.kind ≡ false → Agrees s elements
       → signed e.plus (number_put t e.puts) +ℤ pos (out_at elements nodes (sum_in line) x.node t) ≡ pos (out_at elements nodes (after (sum_in line) x) x.node t)
   pub blockers : (node : Node) → slice_get nodes x.node ≡ Some node → is_negated node.kind ≡ true → x.side ≡ Left
-      → e.blockers ≡ matching (held_of s) node.joins (sum_in line) x.node x.token
+      → e.blockers ≡ matching (held_of s) node (sum_in line) x.node x.token
   pub blocks : (node : Node) → slice_get nodes x.node ≡ Some node
       → e.blocks ≡ (is_negated node.kind && (are_same_sides Right x.side && changes (sum_in line x.node x.side x.token) x.plus))
   pub room : e.blocks ≡ true → x.plus ≡ true → (t : List ℕ) → IsFiled line x.node (code_of (held_of s) nodes x.node x.side x.token) Left t

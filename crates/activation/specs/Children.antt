@@ -1,8 +1,9 @@
 -- The tasks for the children of a node, of what the node puts out.
-use Rattle.std.specs.Prelude.{◌≡◌, ℕ, Bool, List, [], length, replicate, take, Option, Some, None}
+use Rattle.std.specs.Prelude.{◌≡◌, ℕ, Bool, List, [], ◌++◌, length, map, replicate, take, Option, Some, None}
 use Rattle.std.specs.List.{flat_map}
 use Rattle.net_base.specs.declared.nodes.Node.{Node}
-use Rattle.net_base.specs.declared.tasks.Side.TheVariants.{Left}
+use Rattle.net_base.specs.declared.tasks.Side.{Side}
+use Rattle.net_base.specs.declared.tasks.Side.TheVariants.{Left, Right}
 use Rattle.net_base.specs.declared.tasks.Task.{Task}
 use Rattle.activation.specs.Putting.{Put}
 
@@ -10,19 +11,30 @@ use Rattle.activation.specs.Putting.{Put}
 abbrev pub Grows : List Task → List Task → Type 0
 Grows old new = take (length old) new ≡ old
 
--- the token arrives at the left side of a node, or leaves it
-abbrev pub child : Bool → List ℕ → ℕ → Task
-child plus t n = record { node = n; side = Left; plus = plus; token = t }
+-- a side of a node to which tokens go
+abbrev pub Target : Type 0
+Target = Side × ℕ
 
--- the token that is put out, so often, for each of these nodes
-abbrev pub to_each : List ℕ → Bool → Put → List Task
-to_each nodes plus p = flat_map (λ n. replicate p.times (child plus p.token n)) nodes
+abbrev pub targets_of : List ℕ → List ℕ → List Target
+targets_of left right = map (λ n. (Left, n)) left ++ map (λ n. (Right, n)) right
 
--- all that is put out, for each of these nodes
-abbrev pub children_of : List ℕ → Bool → List Put → List Task
-children_of nodes plus puts = flat_map (to_each nodes plus) puts
+-- the sides to which a node gives: the left ones of its children, and the right ones of its groups
+abbrev pub targets : Node → List Target
+targets x = targets_of x.children x.rights
 
--- the same for the children of this node
+-- the token arrives at a side of a node, or leaves it
+abbrev pub child : Bool → List ℕ → Target → Task
+child plus t c = record { node = c.1; side = c.0; plus = plus; token = t }
+
+-- the token that is put out, so often, for each of these sides
+abbrev pub to_each : List Target → Bool → Put → List Task
+to_each below plus p = flat_map (λ c. replicate p.times (child plus p.token c)) below
+
+-- all that is put out, for each of these sides
+abbrev pub children_of : List Target → Bool → List Put → List Task
+children_of below plus puts = flat_map (to_each below plus) puts
+
+-- the same for the sides to which this node gives
 abbrev pub children_at : Option Node → Bool → List Put → List Task
 children_at None plus puts = []
-children_at (Some x) plus puts = children_of x.children plus puts
+children_at (Some x) plus puts = children_of (targets x) plus puts

@@ -1,21 +1,22 @@
 -- What a task does at its node, by the kind of the node, over the tokens of its line.
-use Rattle.std.specs.Prelude.{◌≡◌, ◌==◌, ◌&&◌, ◌++◌, ℕ, Bool, false, not, List, [], slice_index, Option, if◌then◌else◌}
+use Rattle.std.specs.Prelude.{◌≡◌, ◌==◌, ◌&&◌, ◌++◌, ℕ, Bool, false, not, List, [], Option, if◌then◌else◌}
 use Rattle.net_base.specs.declared.nodes.Kind.{Kind}
-use Rattle.net_base.specs.declared.nodes.Kind.TheVariants.{Join, Negated, Terminal}
+use Rattle.net_base.specs.declared.nodes.Kind.TheVariants.{Join, Negated, Group, Terminal}
 use Rattle.net_base.specs.declared.tasks.Side.{Side}
 use Rattle.net_base.specs.declared.tasks.Side.TheVariants.{Left, Right}
 use Rattle.net_base.specs.declared.nodes.JoinTest.{JoinTest}
+use Rattle.net_base.specs.declared.nodes.Node.{Node}
 use Rattle.net_base.specs.declared.tasks.Task.{Task}
 use Rattle.net_base.specs.Tokens.{Elements}
 use Rattle.token_line.specs.declared.memory.Memory.{Memory}
 use Rattle.activation.specs.declared.effects.Done.{Done}
-use Rattle.activation.specs.Children.{children_of}
+use Rattle.activation.specs.Children.{Target, children_of}
 use Rattle.activation.specs.Putting.{Put, left_entries, put_for}
 use Rattle.activation.specs.Negating.{blockers_for, put_once, put_flipped}
 
 -- What a task does at its node: what is put out below, to arrive there or to leave; how often right tokens stand that
--- match the task's token, if that is a left one of a negated node, else 0; and whether the token is one blocker more,
--- or one less, of the left tokens that it matches.
+-- match the task's token, if that is a left one of a negated node or a group, else 0; and whether the token is one
+-- blocker more, or one less, of the left tokens that it matches.
 pub record Effect : Type 0 where
   pub plus : Bool
   pub puts : List Put
@@ -35,37 +36,42 @@ join_effect tests elements m x moves = record {
   blocks = false;
 }
 
--- of a left task at a negated node
-abbrev pub left_effect : List JoinTest → Elements → Option Memory → Task → Bool → Effect
-left_effect tests elements m x moves = record {
+-- of a left task at a negated node or a group
+abbrev pub left_effect : Node → Elements → Option Memory → Task → Bool → Effect
+left_effect node elements m x moves = record {
   plus = x.plus;
-  puts = put_once (moves && (blockers_for tests elements m x.token == 0)) x.token;
-  blockers = blockers_for tests elements m x.token;
+  puts = put_once (moves && (blockers_for node elements m x.token == 0)) x.token;
+  blockers = blockers_for node elements m x.token;
   blocks = false;
 }
 
--- of a right task at a negated node: an insert takes back what was put out, and a delete puts it out again
-abbrev pub right_effect : List JoinTest → Elements → Option Memory → Task → Bool → Effect
-right_effect tests elements m x moves = record {
+-- of a right task at one of these: an insert takes back what was put out, and a delete puts it out again
+abbrev pub right_effect : Node → Elements → Option Memory → Task → Bool → Effect
+right_effect node elements m x moves = record {
   plus = not x.plus;
-  puts = if moves then put_flipped tests elements (slice_index x.token 0) x.plus (left_entries m) else [];
+  puts = if moves then put_flipped node elements x.token x.plus (left_entries m) else [];
   blockers = 0;
   blocks = moves;
 }
 
--- at a node of this kind
-abbrev pub negated_effect : Side → List JoinTest → Elements → Option Memory → Task → Bool → Effect
-negated_effect Left tests elements m x moves = left_effect tests elements m x moves
-negated_effect Right tests elements m x moves = right_effect tests elements m x moves
+-- of a task at one of these, by its side
+abbrev pub negated_effect : Side → Node → Elements → Option Memory → Task → Bool → Effect
+negated_effect Left node elements m x moves = left_effect node elements m x moves
+negated_effect Right node elements m x moves = right_effect node elements m x moves
 
-abbrev pub effect_at : Kind → List JoinTest → Elements → Option Memory → Task → Bool → Effect
-effect_at Join tests elements m x moves = join_effect tests elements m x moves
-effect_at Negated tests elements m x moves = negated_effect x.side tests elements m x moves
-effect_at (Terminal rule) tests elements m x moves = no_effect x.plus
+-- at a node of this kind
+abbrev pub effect_by : Kind → Node → Elements → Option Memory → Task → Bool → Effect
+effect_by Join node elements m x moves = join_effect node.joins elements m x moves
+effect_by Negated node elements m x moves = negated_effect x.side node elements m x moves
+effect_by (Group giver width members) node elements m x moves = negated_effect x.side node elements m x moves
+effect_by (Terminal rule) node elements m x moves = no_effect x.plus
+
+abbrev pub effect_at : Node → Elements → Option Memory → Task → Bool → Effect
+effect_at node elements m x moves = effect_by node.kind node elements m x moves
 
 -- What the effect puts out came after the tasks that were there, for each of the nodes below; the rest is as the effect
 -- says.
-pub record IsGiven (below : List ℕ) (e : Effect) (before now : List Task) (d : Done) : Type 0 where
+pub record IsGiven (below : List Target) (e : Effect) (before now : List Task) (d : Done) : Type 0 where
   pub given : now ≡ before ++ children_of below e.plus e.puts
   pub blockers : d.blockers ≡ e.blockers
   pub blocks : d.blocks ≡ e.blocks

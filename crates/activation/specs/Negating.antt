@@ -1,12 +1,11 @@
--- What a negated node puts out for a task, and how often right tokens stand that match a left one, over the tokens of
--- its line.
-use Rattle.std.specs.Prelude.{ℕ, ◌+◌, ◌-◌, ◌^◌, ◌==◌, ◌&&◌, Bool, true, false, List, [], ◌∷◌, nat_lt, slice_index, Option, Some, None, if◌then◌else◌}
+-- What a negated node or a group puts out for a task, and how often right tokens stand that match a left one, over the
+-- tokens of its line. A right token matches the left ones that it goes with.
+use Rattle.std.specs.Prelude.{ℕ, ◌+◌, ◌-◌, ◌^◌, ◌==◌, ◌&&◌, Bool, true, false, List, [], ◌∷◌, nat_lt, Option, Some, None, if◌then◌else◌}
 use Rattle.std.specs.List.{flat_map, list_all}
 use Rattle.std.specs.Option.{option_map_or}
-use Rattle.net_base.specs.declared.nodes.JoinTest.{JoinTest}
 use Rattle.net_base.specs.declared.nodes.Node.{Node}
 use Rattle.net_base.specs.declared.tasks.Task.{Task}
-use Rattle.net_base.specs.Tokens.{Elements, joins_hold}
+use Rattle.net_base.specs.Tokens.{Elements, goes_with}
 use Rattle.token_line.specs.declared.tokens.Cell.{Cell}
 use Rattle.token_line.specs.declared.memory.Memory.{Memory}
 use Rattle.token_line.specs.Bags.{standing}
@@ -16,17 +15,17 @@ use Rattle.activation.specs.Putting.{Put, put_if}
 -- ---- how often right tokens stand that match a left one
 
 -- how often those of these stand that match the left token
-abbrev pub number_matching : List JoinTest → Elements → List ℕ → Pairs → ℕ
-number_matching tests elements t [] = 0
-number_matching tests elements t (e ∷ right) =
-    (if joins_hold tests elements t (slice_index e.0 0) then standing e.1.sum else 0) + number_matching tests elements t right
+abbrev pub number_matching : Node → Elements → List ℕ → Pairs → ℕ
+number_matching node elements t [] = 0
+number_matching node elements t (e ∷ right) =
+    (if goes_with node.kind node.joins elements t e.0 then standing e.1.sum else 0) + number_matching node elements t right
 
 -- what is kept with the left token; where it is not kept, what stands now
-abbrev pub blockers_for : List JoinTest → Elements → Option Memory → List ℕ → ℕ
-blockers_for tests elements None t = 0
-blockers_for tests elements (Some m) t = option_map_or (λ c. c.blockers) (cell_of m.left t) (number_matching tests elements t m.right)
+abbrev pub blockers_for : Node → Elements → Option Memory → List ℕ → ℕ
+blockers_for node elements None t = 0
+blockers_for node elements (Some m) t = option_map_or (λ c. c.blockers) (cell_of m.left t) (number_matching node elements t m.right)
 
--- ---- what a negated node puts out
+-- ---- what a negated node or a group puts out
 
 -- for one left token more or less: it, once, where it is free
 abbrev pub put_once : Bool → List ℕ → List Put
@@ -38,8 +37,8 @@ before_flip plus = if plus then 0 else 1
 
 -- for one right token more or less: each left token that it matches and that it blocks first, or frees, as often as
 -- that one stands
-abbrev pub put_flipped : List JoinTest → Elements → ℕ → Bool → Pairs → List Put
-put_flipped tests elements tag plus left = flat_map (λ e. put_if ((e.1.blockers == before_flip plus) && joins_hold tests elements e.0 tag) e.0 e.1.sum) left
+abbrev pub put_flipped : Node → Elements → List ℕ → Bool → Pairs → List Put
+put_flipped node elements r plus left = flat_map (λ e. put_if ((e.1.blockers == before_flip plus) && goes_with node.kind node.joins elements e.0 r) e.0 e.1.sum) left
 
 -- ---- room for one blocker more
 
@@ -54,4 +53,4 @@ all_have_room plus left = list_all (λ e. has_room plus e.1) left
 -- those of the task's node that its right token matches
 abbrev pub is_matched : Option Node → Elements → Task → ℕ → List ℕ → Bool
 is_matched None elements x n t = false
-is_matched (Some node) elements x n t = (n == x.node) && joins_hold node.joins elements t (slice_index x.token 0)
+is_matched (Some node) elements x n t = (n == x.node) && goes_with node.kind node.joins elements t x.token

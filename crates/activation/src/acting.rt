@@ -1,9 +1,9 @@
 //! One task, done on its line.
-ghost use Rattle.std.specs.Prelude.{◌≡◌, ◌≢◌, ◌<◌, ◌-◌, ◌^◌, ◌&&◌, List, OnErr, OnOk, Some, if◌then◌else◌, pos, slice_get, slice_index, true, ℕ, ◌≤◌, vec_capacity};
+ghost use Rattle.std.specs.Prelude.{◌≡◌, ◌≢◌, ◌<◌, ◌-◌, ◌^◌, ◌&&◌, List, OnErr, OnOk, Some, if◌then◌else◌, pos, slice_get, true, ℕ, ◌≤◌, vec_capacity};
 ghost use Rattle.std.specs.Option.{option_copied};
 ghost use Rattle.work_store.specs.Stored.{held_of};
 ghost use Rattle.net_base.specs.Sound.{IsSound, is_terminal};
-ghost use Rattle.net_base.specs.Tokens.{joins_hold};
+ghost use Rattle.net_base.specs.Tokens.{goes_with};
 ghost use Rattle.net_base.specs.declared.tasks.Side.{Side};
 ghost use Rattle.net_base.specs.declared.tasks.Side.TheVariants.{Left};
 ghost use Rattle.token_line.specs.Held.{TaskFits};
@@ -20,7 +20,7 @@ use net_base::nodes::{Kind, Node};
 use net_base::tasks::Task;
 use ops_base::memory::OutOfMemory;
 use std::alloc::Global;
-use token_line::{Children, Line, code_of, tag_at};
+use token_line::{Children, Line, code_of};
 use work_store::Store;
 
 /// The node of the task.
@@ -40,8 +40,8 @@ fn is_told(node: &Node) -> bool
     ensures { result ≡ is_terminal node.now.kind }
 {
     match node.kind {
-        Kind::Terminal { rule: _ } => true,
-        Kind::Join | Kind::Negated => false,
+        Kind::Terminal { .. } => true,
+        Kind::Join | Kind::Negated | Kind::Group { .. } => false,
     }
 }
 
@@ -57,7 +57,7 @@ fn count_blockers(
 )
     requires node { slice_get net.now.nodes task.now.node ≡ Some node.now }
     requires room { blocks ≡ true → task.now.plus ≡ true → (t : List ℕ) → IsFiled line.old task.now.node code Left t → blockers_in line.old task.now.node t < 2 ^ 64 - 1 }
-    requires code { blocks ≡ true → (t : List ℕ) → sum_in line.old task.now.node Left t ≢ pos 0 → joins_hold node.now.joins (held_of store.now) t (slice_index task.now.token 0) ≡ true → IsFiled line.old task.now.node code Left t }
+    requires code { blocks ≡ true → (t : List ℕ) → sum_in line.old task.now.node Left t ≢ pos 0 → goes_with node.now.kind node.now.joins (held_of store.now) t task.now.token ≡ true → IsFiled line.old task.now.node code Left t }
     ensures blockers { (n : ℕ) (t : List ℕ) → sum_in line.new n Left t ≢ pos 0 → blockers_in line.new n t ≡ (if blocks && is_matched (slice_get net.now.nodes task.now.node) (held_of store.now) task.now n t then counted task.now.plus (blockers_in line.old n t) else blockers_in line.old n t) }
     ensures sums { (n : ℕ) (s : Side) (t : List ℕ) → sum_in line.new n s t ≡ sum_in line.old n s t }
     ensures entries { line.new.entries.items ≡ line.old.entries.items }
@@ -66,9 +66,14 @@ fn count_blockers(
     ensures filed { KeepsCodes line.old line.new }
 {
     if blocks {
-        let tag = tag_at(task.token.as_slice(), 0);
-        let tests = node.joins.as_slice();
-        line.block(store, tests, task.node, code, tag, task.plus);
+        line.block(
+            store,
+            node,
+            task.node,
+            code,
+            task.token.as_slice(),
+            task.plus,
+        );
     }
 }
 
@@ -106,12 +111,14 @@ fn attempt(
 }
 
 /// Does a task on this line, which its caller finds by `token_line::line_of`: its children go after `out`, it becomes
-/// an entry of the line, and its token counts there. The task's code is made once, and its memory and the token are
-/// looked for once. The task is copied only where its node is a terminal. A join or a negated node looks at each token
-/// of the other side that it has on the line with the task's code, so at no other values at the equality tests unless
-/// their codes happen to be equal. A left token that a negated node keeps already looks at none, and neither does a
-/// task that changes nothing, unless it is a left delete at a negated node that comes before its insert. Each child is
-/// made once. Where memory runs out, or a count does not fit, nothing has changed.
+/// an entry of the line, and its token counts there. The children are for the left sides of the node's children, and
+/// for the right sides of the groups that it gives to. The task's code is made once, and its memory and the token are
+/// looked for once. The task is copied only where its node is a terminal. A node looks at each token of the other side
+/// that it has on the line with the task's code. At a join or a negated node these have the task's values at the
+/// equality tests; at a group they are the tokens that cover the task's, or the one that it covers; and others only
+/// where their codes happen to be equal. A left token that a negated node or a group keeps already looks at none, and
+/// neither does a task that changes nothing, unless it is a left delete there that comes before its insert. Each child
+/// is made once. Where memory runs out, or a count does not fit, nothing has changed.
 pub fn activate(
     alloc: Global,
     net: &Net,

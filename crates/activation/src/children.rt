@@ -1,7 +1,7 @@
 //! The tasks for the children of a node, of what the node puts out.
-ghost use Rattle.std.specs.Prelude.{◌≡◌, ◌++◌, IfOk, OnOk, replicate, ◌≤◌, vec_capacity};
+ghost use Rattle.std.specs.Prelude.{◌≡◌, ◌++◌, IfOk, OnOk, map, replicate, ◌≤◌, vec_capacity};
 ghost use Rattle.token_line.specs.Bags.{standing};
-ghost use Rattle.activation.specs.Children.{Grows, child, children_of, to_each};
+ghost use Rattle.activation.specs.Children.{Grows, child, children_of, targets_of, to_each};
 ghost use Rattle.activation.specs.Putting.{put_if, tagged};
 
 use net_base::tags::Tags;
@@ -10,10 +10,12 @@ use ops_base::memory::OutOfMemory;
 use std::alloc::Global;
 use token_line::Cell;
 
-/// The nodes to which a node gives, and whether what it puts out arrives there (`plus`) or leaves.
+/// The nodes to which a node gives, those on their left side and the groups on their right side, and whether what it
+/// puts out arrives there (`plus`) or leaves.
 #[derive(Clone, Copy)]
 pub(crate) struct Below<'a> {
-    pub(crate) nodes: &'a [usize],
+    pub(crate) children: &'a [usize],
+    pub(crate) rights: &'a [usize],
     pub(crate) plus: bool,
 }
 
@@ -28,25 +30,33 @@ fn lengthened(alloc: Global, token: &Tags, tag: Option<u64>) -> Result<Tags, Out
     Ok(made)
 }
 
-/// Adds a task for one node, as often as the token is put out. Where memory runs out, some may have been added.
+/// A token that a node puts out, with the tag after it where there is one, and how often.
+#[derive(Clone, Copy)]
+struct Output<'a> {
+    token: &'a Tags,
+    tag: Option<u64>,
+    times: u64,
+}
+
+/// Adds a task for one side of a node, as often as the token is put out. Where memory runs out, some may have been
+/// added.
 fn push_to(
     alloc: Global,
     node: usize,
+    side: Side,
     plus: bool,
-    token: &Tags,
-    tag: Option<u64>,
-    times: u64,
+    output: Output,
     out: &mut Vec<Task>,
 ) -> Result<(), OutOfMemory>
-    ensures ok { OnOk result (out.new.items ≡ out.old.items ++ replicate times (child plus (tagged token.now tag) node)) }
+    ensures ok { OnOk result (out.new.items ≡ out.old.items ++ replicate output.entry.times (child plus (tagged output.entry.token.now output.entry.tag) (side, node))) }
     ensures grown { Grows out.old.items out.new.items }
     ensures capacity { vec_capacity out.old ≤ vec_capacity out.new }
 {
-    for _time in 0..times {
-        let token = lengthened(alloc, token, tag)?;
+    for _time in 0..output.times {
+        let token = lengthened(alloc, output.token, output.tag)?;
         out.push(Task {
             node,
-            side: Side::Left,
+            side,
             plus,
             token,
         })?;
@@ -54,8 +64,27 @@ fn push_to(
     Ok(())
 }
 
-/// Adds the tasks for each node below, of a token that is put out so often. Where memory runs out, some may have been
-/// added.
+/// Adds the tasks for one side of each of these nodes. Where memory runs out, some may have been added.
+fn push_to_all(
+    alloc: Global,
+    nodes: &[usize],
+    side: Side,
+    plus: bool,
+    output: Output,
+    out: &mut Vec<Task>,
+) -> Result<(), OutOfMemory>
+    ensures ok { OnOk result (out.new.items ≡ out.old.items ++ to_each (map (λ n. (side, n)) nodes.now) plus (record { token = tagged output.entry.token.now output.entry.tag; times = output.entry.times })) }
+    ensures grown { Grows out.old.items out.new.items }
+    ensures capacity { vec_capacity out.old ≤ vec_capacity out.new }
+{
+    for node in nodes {
+        push_to(alloc, *node, side, plus, output, out)?;
+    }
+    Ok(())
+}
+
+/// Adds the tasks for each node below, of a token that is put out so often: for the left side of each child, and then
+/// for the right side of each group. Where memory runs out, some may have been added.
 pub(crate) fn push_to_each(
     alloc: Global,
     below: Below,
@@ -64,15 +93,14 @@ pub(crate) fn push_to_each(
     times: u64,
     out: &mut Vec<Task>,
 ) -> Result<(), OutOfMemory>
-    ensures ok { OnOk result (out.new.items ≡ out.old.items ++ to_each below.entry.nodes.now below.entry.plus (record { token = tagged token.now tag; times = times })) }
+    ensures ok { OnOk result (out.new.items ≡ out.old.items ++ to_each (targets_of below.entry.children.now below.entry.rights.now) below.entry.plus (record { token = tagged token.now tag; times = times })) }
     ensures grown { Grows out.old.items out.new.items }
     ensures capacity { vec_capacity out.old ≤ vec_capacity out.new }
 {
-    let nodes = below.nodes;
-    for node in nodes {
-        push_to(alloc, *node, below.plus, token, tag, times, out)?;
-    }
-    Ok(())
+    let plus = below.plus;
+    let output = Output { token, tag, times };
+    push_to_all(alloc, below.children, Side::Left, plus, output, out)?;
+    push_to_all(alloc, below.rights, Side::Right, plus, output, out)
 }
 
 /// How often a token of this sum stands.
@@ -93,7 +121,7 @@ pub(crate) fn push_if(
     cell: Cell,
     out: &mut Vec<Task>,
 ) -> Result<(), OutOfMemory>
-    ensures ok { OnOk result (out.new.items ≡ out.old.items ++ children_of below.entry.nodes.now below.entry.plus (put_if holds (tagged token.now tag) cell.sum)) }
+    ensures ok { OnOk result (out.new.items ≡ out.old.items ++ children_of (targets_of below.entry.children.now below.entry.rights.now) below.entry.plus (put_if holds (tagged token.now tag) cell.sum)) }
     ensures grown { Grows out.old.items out.new.items }
     ensures capacity { vec_capacity out.old ≤ vec_capacity out.new }
 {

@@ -2,12 +2,12 @@
 ghost use Rattle.std.specs.Prelude.{◌≡◌, ◌<◌, ◌==◌, ◌&&◌, ◌^◌, IfOk, IsSome, OnOk, false, pos, true, ℕ, ◌≤◌, vec_capacity};
 ghost use Rattle.std.specs.Option.{ForSome, option_copied, option_map_or};
 ghost use Rattle.work_store.specs.Stored.{held_of};
-ghost use Rattle.net_base.specs.declared.nodes.Kind.TheVariants.{Negated};
+ghost use Rattle.net_base.specs.Sound.{is_negated};
 ghost use Rattle.net_base.specs.declared.tasks.Side.TheVariants.{Right};
 ghost use Rattle.token_line.specs.Codes.{tokens_of};
 ghost use Rattle.token_line.specs.Pairs.{cell_of};
 ghost use Rattle.activation.specs.Acting.{AreKept};
-ghost use Rattle.activation.specs.Children.{Grows};
+ghost use Rattle.activation.specs.Children.{Grows, targets};
 ghost use Rattle.activation.specs.Effects.{IsGiven, effect_at, join_effect, right_effect};
 ghost use Rattle.activation.specs.Negating.{all_have_room, put_once};
 ghost use Rattle.activation.specs.Putting.{changes, left_entries};
@@ -25,10 +25,11 @@ use work_store::Store;
 /// What is still to be counted on the line once a task has given its children.
 #[derive(Clone, Copy)]
 pub(crate) struct Done {
-    /// How often right tokens stand that match the task's token, if that is a left one of a negated node; else 0.
+    /// How often right tokens stand that match the task's token, if that is a left one of a negated node or a group;
+    /// else 0.
     pub(crate) blockers: u64,
     /// Whether the task's token is one blocker more, or one less, of the left tokens that it matches: it is a right one
-    /// of a negated node, and stands once more or once less.
+    /// of a negated node or a group, and stands once more or once less.
     pub(crate) blocks: bool,
 }
 
@@ -59,6 +60,19 @@ fn moves(kept: Option<Cell>, task: &Task) -> bool
     }
 }
 
+/// The nodes to which this one gives: the tokens arrive there (`plus`) or leave.
+fn below(node: &Node, plus: bool) -> Below<'_>
+    ensures children { result.children.now ≡ node.now.children }
+    ensures rights { result.rights.now ≡ node.now.rights }
+    ensures plus { result.plus ≡ plus }
+{
+    Below {
+        children: node.children.as_slice(),
+        rights: node.rights.as_slice(),
+        plus,
+    }
+}
+
 /// What a task does at a join, which gives tasks only where the task changes how often its token stands.
 fn at_join(
     alloc: Global,
@@ -69,16 +83,12 @@ fn at_join(
     moves: bool,
     out: &mut Vec<Task>,
 ) -> Result<Done, OutOfMemory>
-    ensures ok { IfOk result (λ d. IsGiven node.now.children (join_effect node.now.joins (held_of store.now) (option_copied memory.entry) task.now moves) out.old.items out.new.items d) }
+    ensures ok { IfOk result (λ d. IsGiven (targets node.now) (join_effect node.now.joins (held_of store.now) (option_copied memory.entry) task.now moves) out.old.items out.new.items d) }
     ensures grown { Grows out.old.items out.new.items }
     ensures capacity { vec_capacity out.old ≤ vec_capacity out.new }
 {
     if moves {
-        let nodes = node.children.as_slice();
-        let below = Below {
-            nodes,
-            plus: task.plus,
-        };
+        let below = below(node, task.plus);
         let tests = node.joins.as_slice();
         give_by_join(alloc, store, tests, memory, task, below, out)?;
     }
@@ -88,7 +98,8 @@ fn at_join(
     })
 }
 
-/// What a left task does at a negated node, which this many right tokens match: its token is put out where none does.
+/// What a left task does at a negated node or a group, where this many right tokens match it: its token is put out if
+/// none does.
 fn at_left(
     alloc: Global,
     node: &Node,
@@ -97,16 +108,12 @@ fn at_left(
     blockers: u64,
     out: &mut Vec<Task>,
 ) -> Result<Done, OutOfMemory>
-    ensures ok { IfOk result (λ d. IsGiven node.now.children (record { plus = task.now.plus; puts = put_once (moves && (blockers == 0)) task.now.token; blockers = blockers; blocks = false }) out.old.items out.new.items d) }
+    ensures ok { IfOk result (λ d. IsGiven (targets node.now) (record { plus = task.now.plus; puts = put_once (moves && (blockers == 0)) task.now.token; blockers = blockers; blocks = false }) out.old.items out.new.items d) }
     ensures grown { Grows out.old.items out.new.items }
     ensures capacity { vec_capacity out.old ≤ vec_capacity out.new }
 {
     if moves && blockers == 0 {
-        let nodes = node.children.as_slice();
-        let below = Below {
-            nodes,
-            plus: task.plus,
-        };
+        let below = below(node, task.plus);
         push_to_each(alloc, below, &task.token, None, 1, out)?;
     }
     Ok(Done {
@@ -115,8 +122,8 @@ fn at_left(
     })
 }
 
-/// What a right task does at a negated node, if it changes how often its token stands: an insert takes back what was
-/// put out, and a delete puts it out again.
+/// What a right task does at a negated node or a group, if it changes how often its token stands: an insert takes back
+/// what was put out, and a delete puts it out again.
 fn at_right(
     alloc: Global,
     store: &Store,
@@ -126,19 +133,14 @@ fn at_right(
     moves: bool,
     out: &mut Vec<Task>,
 ) -> Result<Done, OutOfMemory>
-    ensures ok { IfOk result (λ d. IsGiven node.now.children (right_effect node.now.joins (held_of store.now) (option_copied memory.entry) task.now moves) out.old.items out.new.items d) }
+    ensures ok { IfOk result (λ d. IsGiven (targets node.now) (right_effect node.now (held_of store.now) (option_copied memory.entry) task.now moves) out.old.items out.new.items d) }
     ensures room { OnOk result (moves ≡ true → all_have_room task.now.plus (left_entries (option_copied memory.entry)) ≡ true) }
     ensures grown { Grows out.old.items out.new.items }
     ensures capacity { vec_capacity out.old ≤ vec_capacity out.new }
 {
     if moves {
-        let nodes = node.children.as_slice();
-        let below = Below {
-            nodes,
-            plus: !task.plus,
-        };
-        let tests = node.joins.as_slice();
-        give_by_flip(alloc, store, tests, memory, task, below, out)?;
+        let below = below(node, !task.plus);
+        give_by_flip(alloc, store, node, memory, task, below, out)?;
     }
     Ok(Done {
         blockers: 0,
@@ -158,23 +160,22 @@ pub(crate) fn do_at(
     out: &mut Vec<Task>,
 ) -> Result<Done, OutOfMemory>
     requires { kept ≡ cell_of (tokens_of (option_copied memory) task.now.side) task.now.token }
-    ensures ok { IfOk result (λ d. IsGiven node.now.children (effect_at node.now.kind node.now.joins (held_of store.now) (option_copied memory.entry) task.now (changes (option_map_or (λ c. c.sum) kept (pos 0)) task.now.plus)) out.old.items out.new.items d) }
-    ensures room { OnOk result (node.now.kind ≡ Negated → task.now.side ≡ Right → changes (option_map_or (λ c. c.sum) kept (pos 0)) task.now.plus ≡ true → all_have_room task.now.plus (left_entries (option_copied memory.entry)) ≡ true) }
+    ensures ok { IfOk result (λ d. IsGiven (targets node.now) (effect_at node.now (held_of store.now) (option_copied memory.entry) task.now (changes (option_map_or (λ c. c.sum) kept (pos 0)) task.now.plus)) out.old.items out.new.items d) }
+    ensures room { OnOk result (is_negated node.now.kind ≡ true → task.now.side ≡ Right → changes (option_map_or (λ c. c.sum) kept (pos 0)) task.now.plus ≡ true → all_have_room task.now.plus (left_entries (option_copied memory.entry)) ≡ true) }
     ensures grown { Grows out.old.items out.new.items }
     ensures capacity { vec_capacity out.old ≤ vec_capacity out.new }
 {
     let moves = moves(kept, task);
     match node.kind {
         Kind::Join => at_join(alloc, store, node, memory, task, moves, out),
-        Kind::Negated => match task.side {
+        Kind::Negated | Kind::Group { .. } => match task.side {
             Side::Left => {
-                let tests = node.joins.as_slice();
-                let blockers = blockers_for(store, tests, memory, kept, &task.token)?;
+                let blockers = blockers_for(store, node, memory, kept, &task.token)?;
                 at_left(alloc, node, task, moves, blockers, out)
             }
             Side::Right => at_right(alloc, store, node, memory, task, moves, out),
         },
-        Kind::Terminal { rule: _ } => Ok(Done {
+        Kind::Terminal { .. } => Ok(Done {
             blockers: 0,
             blocks: false,
         }),

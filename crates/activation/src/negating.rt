@@ -1,21 +1,21 @@
-//! What a negated node puts out for a task, and how often right tokens stand that match a left one, over the tokens of
-//! its line.
-ghost use Rattle.std.specs.Prelude.{◌≡◌, ◌+◌, ◌==◌, ◌&&◌, ◌++◌, IfOk, OnOk, if◌then◌else◌, slice_index, true, ◌≤◌, vec_capacity};
+//! What a negated node or a group puts out for a task, and how often right tokens stand that match a left one, over the
+//! tokens of its line. A right token matches the left ones that it goes with: at a group the one that it covers.
+ghost use Rattle.std.specs.Prelude.{◌≡◌, ◌+◌, ◌==◌, ◌&&◌, ◌++◌, IfOk, OnOk, if◌then◌else◌, true, ◌≤◌, vec_capacity};
 ghost use Rattle.std.specs.Option.{option_copied, option_map_or};
 ghost use Rattle.work_store.specs.Stored.{held_of};
-ghost use Rattle.net_base.specs.Tokens.{joins_hold};
+ghost use Rattle.net_base.specs.Tokens.{goes_with};
 ghost use Rattle.token_line.specs.Bags.{standing};
-ghost use Rattle.activation.specs.Children.{Grows, children_of};
+ghost use Rattle.activation.specs.Children.{Grows, children_of, targets_of};
 ghost use Rattle.activation.specs.Negating.{all_have_room, before_flip, has_room, number_matching, put_flipped};
 ghost use Rattle.activation.specs.Putting.{left_entries, right_entries};
 
 use crate::children::{Below, push_if, standing};
-use net_base::nodes::JoinTest;
+use net_base::nodes::Node;
 use net_base::tags::Tags;
 use net_base::tasks::Task;
 use ops_base::memory::OutOfMemory;
 use std::alloc::Global;
-use token_line::{Cell, Memory, Tokens, joins, tag_at};
+use token_line::{Cell, Memory, Tokens, goes_with};
 use work_store::Store;
 
 /// A sum that would not fit is answered as want of memory.
@@ -35,40 +35,39 @@ fn times(holds: bool, cell: Cell) -> u64
     if holds { standing(cell.sum) } else { 0 }
 }
 
-/// How often right tokens stand that match the left token: it looks at each.
+/// How often right tokens stand that match the left token: it looks at each of these, which have its code.
 fn number_matching(
     store: &Store,
-    tests: &[JoinTest],
+    node: &Node,
     token: &Tags,
     right: &Tokens,
 ) -> Result<u64, OutOfMemory>
-    ensures { IfOk result (λ n. n ≡ number_matching tests.now (held_of store.now) token.now right.now) }
+    ensures { IfOk result (λ n. n ≡ number_matching node.now (held_of store.now) token.now right.now) }
 {
     let mut count = 0;
     for place in 0..right.len() {
         let (other, cell) = right.pair(place);
-        let tag = tag_at(other.as_slice(), 0);
-        let holds = joins(store, tests, token.as_slice(), tag);
+        let holds = goes_with(store, node, token.as_slice(), other.as_slice());
         count = added(count, times(holds, cell))?;
     }
     Ok(count)
 }
 
-/// How often right tokens stand that match a left token of a negated node. It looks at them only where the left token
-/// is not kept yet.
+/// How often right tokens stand that match a left token of a negated node or a group. It looks at them only where the
+/// left token is not kept yet.
 pub(crate) fn blockers_for(
     store: &Store,
-    tests: &[JoinTest],
+    node: &Node,
     memory: Option<&Memory>,
     kept: Option<Cell>,
     token: &Tags,
 ) -> Result<u64, OutOfMemory>
-    ensures { IfOk result (λ n. n ≡ option_map_or (λ c. c.blockers) kept (number_matching tests.now (held_of store.now) token.now (right_entries (option_copied memory.entry)))) }
+    ensures { IfOk result (λ n. n ≡ option_map_or (λ c. c.blockers) kept (number_matching node.now (held_of store.now) token.now (right_entries (option_copied memory.entry)))) }
 {
     match kept {
         Some(cell) => Ok(cell.blockers),
         None => match memory {
-            Some(memory) => number_matching(store, tests, token, memory.right()),
+            Some(memory) => number_matching(store, node, token, memory.right()),
             None => Ok(0),
         },
     }
@@ -82,10 +81,10 @@ fn before_flip(plus: bool) -> u64
 }
 
 /// Whether a right token blocks the left one first, or frees it.
-fn flips(store: &Store, tests: &[JoinTest], token: &Tags, cell: Cell, tag: u64, plus: bool) -> bool
-    ensures { result ≡ ((cell.blockers == before_flip plus) && joins_hold tests.now (held_of store.now) token.now tag) }
+fn flips(store: &Store, node: &Node, token: &Tags, cell: Cell, right: &[u64], plus: bool) -> bool
+    ensures { result ≡ ((cell.blockers == before_flip plus) && goes_with node.now.kind node.now.joins (held_of store.now) token.now right.now) }
 {
-    cell.blockers == before_flip(plus) && joins(store, tests, token.as_slice(), tag)
+    cell.blockers == before_flip(plus) && goes_with(store, node, token.as_slice(), right)
 }
 
 /// Whether one blocker more, or one less, can be counted.
@@ -95,30 +94,31 @@ fn has_room(plus: bool, cell: Cell) -> bool
     !plus || cell.blockers < u64::MAX
 }
 
-/// The tasks by which a negated node takes back its left tokens for one right token more, or puts them out for one
-/// less: it looks at each left token. Where one has no room for another blocker, that is answered as want of memory.
+/// The tasks by which a negated node or a group takes back its left tokens for one right token more, or puts them out
+/// for one less: it looks at each left token with the code, of which a group has one, or a few where codes happen to be
+/// equal. Where one has no room for another blocker, that is answered as want of memory.
 fn give_flipped(
     alloc: Global,
     store: &Store,
-    tests: &[JoinTest],
+    node: &Node,
     task: &Task,
     left: &Tokens,
     below: Below,
     out: &mut Vec<Task>,
 ) -> Result<(), OutOfMemory>
-    ensures ok { OnOk result (out.new.items ≡ out.old.items ++ children_of below.entry.nodes.now below.entry.plus (put_flipped tests.now (held_of store.now) (slice_index task.now.token 0) task.now.plus left.now)) }
+    ensures ok { OnOk result (out.new.items ≡ out.old.items ++ children_of (targets_of below.entry.children.now below.entry.rights.now) below.entry.plus (put_flipped node.now (held_of store.now) task.now.token task.now.plus left.now)) }
     ensures room { OnOk result (all_have_room task.now.plus left.now ≡ true) }
     ensures grown { Grows out.old.items out.new.items }
     ensures capacity { vec_capacity out.old ≤ vec_capacity out.new }
 {
-    let tag = tag_at(task.token.as_slice(), 0);
+    let right = task.token.as_slice();
     let plus = task.plus;
     for place in 0..left.len() {
         let (token, cell) = left.pair(place);
         if !has_room(plus, cell) {
             return Err(OutOfMemory);
         }
-        let holds = flips(store, tests, token, cell, tag, plus);
+        let holds = flips(store, node, token, cell, right, plus);
         push_if(alloc, holds, below, token, None, cell, out)?;
     }
     Ok(())
@@ -128,19 +128,19 @@ fn give_flipped(
 pub(crate) fn give_by_flip(
     alloc: Global,
     store: &Store,
-    tests: &[JoinTest],
+    node: &Node,
     memory: Option<&Memory>,
     task: &Task,
     below: Below,
     out: &mut Vec<Task>,
 ) -> Result<(), OutOfMemory>
-    ensures ok { OnOk result (out.new.items ≡ out.old.items ++ children_of below.entry.nodes.now below.entry.plus (put_flipped tests.now (held_of store.now) (slice_index task.now.token 0) task.now.plus (left_entries (option_copied memory.entry)))) }
+    ensures ok { OnOk result (out.new.items ≡ out.old.items ++ children_of (targets_of below.entry.children.now below.entry.rights.now) below.entry.plus (put_flipped node.now (held_of store.now) task.now.token task.now.plus (left_entries (option_copied memory.entry)))) }
     ensures room { OnOk result (all_have_room task.now.plus (left_entries (option_copied memory.entry)) ≡ true) }
     ensures grown { Grows out.old.items out.new.items }
     ensures capacity { vec_capacity out.old ≤ vec_capacity out.new }
 {
     match memory {
-        Some(memory) => give_flipped(alloc, store, tests, task, memory.left(), below, out),
+        Some(memory) => give_flipped(alloc, store, node, task, memory.left(), below, out),
         None => Ok(()),
     }
 }

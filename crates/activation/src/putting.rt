@@ -2,7 +2,7 @@
 ghost use Rattle.std.specs.Prelude.{◌≡◌, ◌++◌, OnOk, ◌≤◌, vec_capacity};
 ghost use Rattle.std.specs.Option.{option_copied};
 ghost use Rattle.work_store.specs.Stored.{held_of};
-ghost use Rattle.activation.specs.Children.{Grows, children_of};
+ghost use Rattle.activation.specs.Children.{Grows, children_of, targets_of};
 ghost use Rattle.activation.specs.Putting.{changes, put_for, put_for_left, put_for_right};
 
 use crate::children::{Below, push_if};
@@ -32,7 +32,7 @@ fn give_for_left(
     below: Below,
     out: &mut Vec<Task>,
 ) -> Result<(), OutOfMemory>
-    ensures ok { OnOk result (out.new.items ≡ out.old.items ++ children_of below.entry.nodes.now below.entry.plus (put_for_left tests.now (held_of store.now) token.now right.now)) }
+    ensures ok { OnOk result (out.new.items ≡ out.old.items ++ children_of (targets_of below.entry.children.now below.entry.rights.now) below.entry.plus (put_for_left tests.now (held_of store.now) token.now right.now)) }
     ensures grown { Grows out.old.items out.new.items }
     ensures capacity { vec_capacity out.old ≤ vec_capacity out.new }
 {
@@ -55,7 +55,7 @@ fn give_for_right(
     below: Below,
     out: &mut Vec<Task>,
 ) -> Result<(), OutOfMemory>
-    ensures ok { OnOk result (out.new.items ≡ out.old.items ++ children_of below.entry.nodes.now below.entry.plus (put_for_right tests.now (held_of store.now) tag left.now)) }
+    ensures ok { OnOk result (out.new.items ≡ out.old.items ++ children_of (targets_of below.entry.children.now below.entry.rights.now) below.entry.plus (put_for_right tests.now (held_of store.now) tag left.now)) }
     ensures grown { Grows out.old.items out.new.items }
     ensures capacity { vec_capacity out.old ≤ vec_capacity out.new }
 {
@@ -79,7 +79,7 @@ pub(crate) fn give_by_join(
     below: Below,
     out: &mut Vec<Task>,
 ) -> Result<(), OutOfMemory>
-    ensures ok { OnOk result (out.new.items ≡ out.old.items ++ children_of below.entry.nodes.now below.entry.plus (put_for tests.now (held_of store.now) (option_copied memory.entry) task.now.side task.now.token)) }
+    ensures ok { OnOk result (out.new.items ≡ out.old.items ++ children_of (targets_of below.entry.children.now below.entry.rights.now) below.entry.plus (put_for tests.now (held_of store.now) (option_copied memory.entry) task.now.side task.now.token)) }
     ensures grown { Grows out.old.items out.new.items }
     ensures capacity { vec_capacity out.old ≤ vec_capacity out.new }
 {

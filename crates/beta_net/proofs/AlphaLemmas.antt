@@ -1,5 +1,5 @@
 -- An alpha that is found, or one alpha more.
-use Rattle.std.proofs.Common.{◌≡◌, ℕ, List, [], ◌∷◌, ◌++◌, length, map, slice_get, Some, refl, ap, ap₂, subst, sym, ◌∙◌, arith, ◌⊎◌, inl, inr, append-nil, ◌<◌, get_or, Bool, true, false, true≢false, ◌↔◌, IsTrue}
+use Rattle.std.proofs.Common.{◌≡◌, ℕ, List, [], ◌∷◌, ◌++◌, length, map, slice_get, Some, refl, ap, ap₂, subst, sym, ◌∙◌, arith, ◌⊎◌, inl, inr, append-nil, ◌<◌, get_or, Bool, false, true≢false, ◌↔◌, IsTrue}
 use Rattle.ops_base.specs.declared.conditions.Test.{Test}
 use Rattle.net_base.specs.declared.nodes.Alpha.{Alpha}
 use Rattle.beta_net.specs.declared.alphas.Alphas.{Alphas}

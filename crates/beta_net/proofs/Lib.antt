@@ -2,15 +2,16 @@ pub mod Lists
 pub mod ChainLemmas
 pub mod PathLemmas
 pub mod LinkLemmas
+pub mod PrefixLemmas
 pub mod RuleLemmas
 pub mod BuildLemmas
 pub mod AlphaLemmas
 pub mod NodeLemmas
 pub mod ChildLemmas
+pub mod RightLemmas
 pub mod DownLemmas
 pub mod SoundLemmas
 pub mod NetLemmas
 pub mod Picks
-pub mod PrefixLemmas
 pub mod ShapeLemmas
 pub mod WholeLemmas

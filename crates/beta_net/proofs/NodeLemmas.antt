@@ -1,22 +1,58 @@
 -- One node more.
-use Rattle.std.proofs.Common.{◌≡◌, ℕ, zero, suc, ◌+◌, ◌<◌, List, [], ◌∷◌, ◌++◌, length, slice_get, get_or, Some, refl, ap, subst, sym, ◌∙◌, arith, inl, inr, length-append}
+use Rattle.std.proofs.Common.{◌≡◌, ℕ, zero, suc, ◌+◌, ◌<◌, List, [], ◌∷◌, ◌++◌, length, slice_get, get_or, Option, Some, refl, ap, subst, sym, ◌∙◌, arith, inl, inr, length-append, append-nil}
 use Rattle.net_base.specs.declared.nodes.Node.{Node}
 use Rattle.net_base.specs.declared.nodes.Alpha.{Alpha}
+use Rattle.net_base.specs.declared.normal.NormalCondition.{NormalCondition}
+use Rattle.net_base.specs.declared.normal.NormalPart.{NormalPart}
+use Rattle.net_base.specs.declared.normal.NormalPart.TheVariants as part
+use Rattle.net_base.specs.Normal.{alpha_tests, join_tests}
 use Rattle.beta_net.specs.declared.links.Link.{Link}
-use Rattle.beta_net.specs.declared.links.End.{End}
+use Rattle.beta_net.specs.declared.paths.End.{End}
 use Rattle.beta_net.specs.declared.alphas.Alphas.{Alphas}
-use Rattle.beta_net.specs.Built.{IsNodeOf, IsTerminalNode, AddsNode, AddsTerminals, AreNodes, AreUsed, AreDistinct, IsDraft}
+use Rattle.beta_net.specs.Built.{kind_of, AddsAlpha, AreAlphas, IsPartNode, IsGroupNode, IsNodeOf, IsTerminalNode, AddsNode, AddsTerminals, AreNodes, AreUsed, AreDistinct, IsDraft}
 use Rattle.beta_net.specs.Children.{AreBare}
+use Rattle.beta_net.specs.Rights.{AreRightless}
 use Rattle.beta_net.proofs.Lists.{get_left, get_lt, get_of, get_push}
 
-node_stays : (alphas more : List Alpha) (l : Link) (x : Node) → IsNodeOf alphas l x → IsNodeOf (alphas ++ more) l x
-node_stays alphas more l x h = record {
+part_stays : (alphas more : List Alpha) (place : ℕ) (above : Option ℕ) (p : NormalPart) (x : Node) → IsPartNode alphas place above p x → IsPartNode (alphas ++ more) place above p x
+part_stays alphas more place above (part.One c) x h = record {
   kind = h.kind;
-  parent = h.parent;
   class = h.class;
   alpha = record { alpha = h.alpha.alpha; at = get_left alphas more x.alpha h.alpha.alpha h.alpha.at; is = h.alpha.is };
   joins = h.joins;
-  depth = h.depth;
+}
+part_stays alphas more place above (part.Group cs) x h = h
+
+node_stays : (alphas more : List Alpha) (l : Link) (x : Node) → IsNodeOf alphas l x → IsNodeOf (alphas ++ more) l x
+node_stays alphas more l x h = record { parent = h.parent; depth = h.depth; part = part_stays alphas more l.place l.above l.part x h.part }
+
+-- the node of a condition's link
+pub condition_node : (old new : Alphas) (l : Link) (c : NormalCondition) (x : Node) → l.part ≡ part.One c → AddsAlpha old new c.class (alpha_tests l.place c.tests) x.alpha → x.kind ≡ kind_of c → x.class ≡ c.class → x.joins ≡ join_tests l.place c.tests
+    → x.parent ≡ l.parent → x.depth ≡ l.depth → x.children ≡ [] → x.rights ≡ [] → AddsNode old new l x
+condition_node old new l c x e a kind class joins parent depth childless rightless = record {
+  more = a.more;
+  grown = a.grown;
+  node = record {
+    parent = parent;
+    depth = depth;
+    part = subst (λ p. IsPartNode new.list.items l.place l.above p x) (sym e) (record { kind = kind; class = class; alpha = a.has; joins = joins });
+  };
+  childless = childless;
+  rightless = rightless;
+  only = λ m b at. elim (a.only m b at) [ inl h ↦ inl h | inr h ↦ inr (record { condition = c; part_is = e; is = h }) ];
+  alphas = a.alphas;
+}
+
+-- the node of a group's link
+pub group_node : (t : Alphas) (l : Link) (cs : List NormalCondition) (x : Node) → AreAlphas t → l.part ≡ part.Group cs → IsGroupNode l.place l.above cs x → x.parent ≡ l.parent → x.depth ≡ l.depth → x.children ≡ [] → x.rights ≡ [] → AddsNode t t l x
+group_node t l cs x a e h parent depth childless rightless = record {
+  more = [];
+  grown = sym (append-nil t.list.items);
+  node = record { parent = parent; depth = depth; part = subst (λ p. IsPartNode t.list.items l.place l.above p x) (sym e) h };
+  childless = childless;
+  rightless = rightless;
+  only = λ m b at. inl at;
+  alphas = a;
 }
 
 pub nodes_next : (links : List Link) (old new : Alphas) (nodes nodes' : List Node) (l : Link) (x : Node) (i : ℕ) → i < length links → l ≡ get_or links i l → length nodes ≡ i → AddsNode old new l x → nodes' ≡ nodes ++ x ∷ [] → AreNodes links old.list.items nodes → AreNodes links new.list.items nodes'
@@ -37,20 +73,27 @@ no_nodes links alphas nodes e n x at = let lt = get_lt [] n x (ap (λ ls. slice_
 pub none_used : (links : List Link) (alphas : List Alpha) → alphas ≡ [] → AreUsed links alphas
 none_used links alphas e m a at = let lt = get_lt [] m a (ap (λ ls. slice_get ls m) (sym e) ∙ at) in absurd (omega arith)
 
+pub rightless_next : (old new : List Node) (x : Node) → AreRightless old → new ≡ old ++ x ∷ [] → x.rights ≡ [] → AreRightless new
+rightless_next old new x h e none k y at = elim (get_push old x k y (ap (λ ls. slice_get ls k) (sym e) ∙ at)) [ inl g ↦ h k y g | inr g ↦ (ap (λ (z : Node). z.rights) g.1 ∙ none) ]
+
+pub none_rightless : (nodes : List Node) → nodes ≡ [] → AreRightless nodes
+none_rightless nodes e n x at = let lt = get_lt [] n x (ap (λ ls. slice_get ls n) (sym e) ∙ at) in absurd (omega arith)
+
 pub none_bare : (nodes : List Node) → nodes ≡ [] → AreBare nodes
 none_bare nodes e n x at = let lt = get_lt [] n x (ap (λ ls. slice_get ls n) (sym e) ∙ at) in absurd (omega arith)
 
 pub no_terminals : (nodes : List Node) (ends : List End) → AddsTerminals nodes nodes ends 0
-no_terminals nodes ends = record { count = omega arith; each = λ n x at. inl at; bare = λ h. h }
+no_terminals nodes ends = record { count = omega arith; each = λ n x at. inl at; bare = λ h. h; rightless = λ h. h }
 
-terminals_next : (old now new : List Node) (ends : List End) (k : ℕ) (e : End) (x : Node) → slice_get ends k ≡ Some e → IsTerminalNode k e x → x.children ≡ [] → new ≡ now ++ x ∷ [] → AddsTerminals old now ends k → AddsTerminals old new ends (k + 1)
-terminals_next old now new ends k e x here t none grown h = record {
+terminals_next : (old now new : List Node) (ends : List End) (k : ℕ) (e : End) (x : Node) → slice_get ends k ≡ Some e → IsTerminalNode k e x → x.children ≡ [] → x.rights ≡ [] → new ≡ now ++ x ∷ [] → AddsTerminals old now ends k → AddsTerminals old new ends (k + 1)
+terminals_next old now new ends k e x here t none neither grown h = record {
   count = (let c = h.count in omega (arith, c, ap length grown, length-append now (x ∷ [])));
   each = λ n y at. elim (get_push now x n y (ap (λ ls. slice_get ls n) (sym grown) ∙ at)) [
     | inl g ↦ h.each n y g
     | inr g ↦ inr (k, e, g.0 ∙ h.count, here, subst (IsTerminalNode k e) (sym g.1) t)
   ];
   bare = λ b. bare_next now new x (h.bare b) grown none;
+  rightless = λ b. rightless_next now new x (h.rightless b) grown neither;
 }
 
 pub lowered : (links : List Link) (ends : List End) (alphas : List Alpha) (old new : List Node) → AreNodes links alphas old → length old ≡ length links → AreDistinct alphas → AreUsed links alphas → AddsTerminals old new ends (length ends) → IsDraft links ends alphas new
@@ -70,6 +113,6 @@ get_read (e ∷ ends) zero d lt = refl
 get_read (e ∷ ends) (suc i) d lt = get_read ends i d (omega arith)
 
 -- the end that was read, whatever would stand past the last one
-pub terminal_read : (old now new : List Node) (ends : List End) (k : ℕ) (d : End) (x : Node) → k < length ends → IsTerminalNode k (get_or ends k d) x → x.children ≡ [] → new ≡ now ++ x ∷ [] → AddsTerminals old now ends k → AddsTerminals old new ends (k + 1)
-terminal_read old now new ends k d x lt t none grown h =
-    terminals_next old now new ends k (get_or ends k d) x (get_read ends k d lt) t none grown h
+pub terminal_read : (old now new : List Node) (ends : List End) (k : ℕ) (d : End) (x : Node) → k < length ends → IsTerminalNode k (get_or ends k d) x → x.children ≡ [] → x.rights ≡ [] → new ≡ now ++ x ∷ [] → AddsTerminals old now ends k → AddsTerminals old new ends (k + 1)
+terminal_read old now new ends k d x lt t none neither grown h =
+    terminals_next old now new ends k (get_or ends k d) x (get_read ends k d lt) t none neither grown h

@@ -1,37 +1,40 @@
 -- What the links of all rules are, and how alphas and nodes follow them.
-use Rattle.std.specs.Prelude.{◌≡◌, ◌+◌, ℕ, List, [], ◌++◌, map, length, slice_get, Some, if◌then◌else◌, ◌⊎◌}
+use Rattle.std.specs.Prelude.{◌≡◌, ◌+◌, ℕ, List, [], ◌++◌, map, length, slice_get, Option, Some, unwrap_or, if◌then◌else◌, ◌⊎◌}
 use Rattle.ops_base.specs.declared.conditions.Test.{Test}
 use Rattle.ops_base.specs.declared.rules.Rule.{Rule}
 use Rattle.net_base.specs.declared.nodes.Kind.{Kind}
-use Rattle.net_base.specs.declared.nodes.Kind.TheVariants.{Join, Negated, Terminal}
+use Rattle.net_base.specs.declared.nodes.Kind.TheVariants.{Join, Negated, Group, Terminal}
 use Rattle.net_base.specs.declared.nodes.Node.{Node}
 use Rattle.net_base.specs.declared.nodes.Alpha.{Alpha}
 use Rattle.net_base.specs.declared.normal.NormalCondition.{NormalCondition}
+use Rattle.net_base.specs.declared.normal.NormalPart.{NormalPart}
+use Rattle.net_base.specs.declared.normal.NormalPart.TheVariants as part
 use Rattle.net_base.specs.Normal.{alpha_tests, join_tests}
-use Rattle.net_base.specs.Shape.{IsPrefix}
-use Rattle.net_base.specs.Sound.{HasChildren}
+use Rattle.net_base.specs.Shape.{IsPath}
+use Rattle.net_base.specs.Sound.{HasChildren, HasRights}
 use Rattle.beta_net.specs.declared.links.Link.{Link}
-use Rattle.beta_net.specs.declared.links.End.{End}
+use Rattle.beta_net.specs.declared.paths.End.{End}
 use Rattle.beta_net.specs.declared.alphas.Alphas.{Alphas}
 use Rattle.beta_net.specs.Codes.{alpha_code}
 use Rattle.beta_net.specs.Linked.{path_to, AreLinks, IsEndOf}
 use Rattle.beta_net.specs.Children.{AreBare}
+use Rattle.beta_net.specs.Rights.{AreRightless}
 
 -- ---- links of rules
 
--- the rules that have an end have it where their conditions end
+-- the rules that have an end have it where their parts end
 abbrev pub HaveEnds : List Link → List End → List Rule → Type 0
 HaveEnds links ends rules = (k : ℕ) (r : Rule) (e : End) → slice_get rules k ≡ Some r → slice_get ends k ≡ Some e → IsEndOf links r.conditions e
 
-abbrev pub ArePrefixes : List Link → List Rule → Type 0
-ArePrefixes links rules = (m : ℕ) (l : Link) → slice_get links m ≡ Some l → IsPrefix rules (path_to links l.parent) l.condition
+abbrev pub ArePaths : List Link → List Rule → Type 0
+ArePaths links rules = (m : ℕ) (l : Link) → slice_get links m ≡ Some l → IsPath rules (path_to links l.parent) l.part
 
--- each rule has its end, and each link is a prefix of a rule
+-- each rule has its end, and each link is a path of a rule
 pub record AreBuilt (links : List Link) (ends : List End) (rules : List Rule) : Type 0 where
   pub linked : AreLinks links
   pub count : length ends ≡ length rules
   pub ended : HaveEnds links ends rules
-  pub prefixes : ArePrefixes links rules
+  pub paths : ArePaths links rules
 
 -- ---- alphas
 
@@ -72,17 +75,34 @@ abbrev pub kind_of : NormalCondition → Kind
 kind_of c = if c.negated then Negated else Join
 
 -- the alpha of a link's condition
-abbrev pub IsAlphaOf : Link → Alpha → Type 0
-IsAlphaOf l a = IsAlpha l.condition.class (alpha_tests l.place l.condition.tests) a
+pub record IsAlphaOf (l : Link) (a : Alpha) : Type 0 where
+  pub condition : NormalCondition
+  pub part_is : l.part ≡ part.One condition
+  pub is : IsAlpha condition.class (alpha_tests l.place condition.tests) a
+
+-- the node of a condition after this many positive ones
+pub record IsConditionNode (alphas : List Alpha) (place : ℕ) (c : NormalCondition) (x : Node) : Type 0 where
+  pub kind : x.kind ≡ kind_of c
+  pub class : x.class ≡ c.class
+  pub alpha : HasAlpha alphas c.class (alpha_tests place c.tests) x.alpha
+  pub joins : x.joins ≡ join_tests place c.tests
+
+-- the node of a group after this many positive conditions, with its last member
+pub record IsGroupNode (place : ℕ) (above : Option ℕ) (cs : List NormalCondition) (x : Node) : Type 0 where
+  pub kind : x.kind ≡ Group (unwrap_or above 0) place (length cs)
+  pub class : x.class ≡ 0
+  pub alpha : x.alpha ≡ 0
+  pub joins : x.joins ≡ []
+
+abbrev pub IsPartNode : List Alpha → ℕ → Option ℕ → NormalPart → Node → Type 0
+IsPartNode alphas place above (part.One c) x = IsConditionNode alphas place c x
+IsPartNode alphas place above (part.Group cs) x = IsGroupNode place above cs x
 
 -- the node of a link
 pub record IsNodeOf (alphas : List Alpha) (l : Link) (x : Node) : Type 0 where
-  pub kind : x.kind ≡ kind_of l.condition
   pub parent : x.parent ≡ l.parent
-  pub class : x.class ≡ l.condition.class
-  pub alpha : HasAlpha alphas l.condition.class (alpha_tests l.place l.condition.tests) x.alpha
-  pub joins : x.joins ≡ join_tests l.place l.condition.tests
   pub depth : x.depth ≡ l.depth
+  pub part : IsPartNode alphas l.place l.above l.part x
 
 -- the terminal of rule k
 pub record IsTerminalNode (k : ℕ) (e : End) (x : Node) : Type 0 where
@@ -98,7 +118,8 @@ pub record AddsNode (old new : Alphas) (l : Link) (x : Node) : Type 0 where
   pub more : List Alpha
   pub grown : new.list.items ≡ old.list.items ++ more
   pub node : IsNodeOf new.list.items l x
-  pub bare : x.children ≡ []
+  pub childless : x.children ≡ []
+  pub rightless : x.rights ≡ []
   pub only : (m : ℕ) (a : Alpha) → slice_get new.list.items m ≡ Some a → (slice_get old.list.items m ≡ Some a) ⊎ IsAlphaOf l a
   pub alphas : AreAlphas new
 
@@ -122,6 +143,7 @@ pub record AddsTerminals (old new : List Node) (ends : List End) (bound : ℕ) :
   pub each : (n : ℕ) (x : Node) → slice_get new n ≡ Some x
       → (slice_get old n ≡ Some x) ⊎ ((k : ℕ) × (e : End) × (n ≡ length old + k) × (slice_get ends k ≡ Some e) × IsTerminalNode k e x)
   pub bare : AreBare old → AreBare new
+  pub rightless : AreRightless old → AreRightless new
 
 -- a node for each link and for each end
 pub record IsDraft (links : List Link) (ends : List End) (alphas : List Alpha) (nodes : List Node) : Type 0 where
@@ -137,3 +159,4 @@ pub record IsCompiled (rules : List Rule) (alphas : List Alpha) (nodes : List No
   pub built : AreBuilt links ends rules
   pub draft : IsDraft links ends alphas nodes
   pub children : HasChildren nodes
+  pub rights : HasRights nodes

@@ -1,6 +1,7 @@
--- Codes by which conditions and alphas are looked up. Nothing is asked of them but that the same ones have the same code.
+-- Codes by which conditions, groups and alphas are looked up. Nothing is asked of them but that the same ones have the
+-- same code.
 use Rattle.std.specs.Prelude.{ℕ, ◌+◌, ◌*◌, ◌%◌, ◌^◌, List, [], ◌∷◌, Option, Some, None, if◌then◌else◌}
-use Rattle.std.specs.Int.{cast_unsigned, w64}
+use Rattle.std.specs.Int.{cast_unsigned, w128}
 use Rattle.ops_base.specs.declared.values.Value.{Value}
 use Rattle.ops_base.specs.declared.values.Value.TheVariants.{Symbol, Whole}
 use Rattle.ops_base.specs.declared.conditions.Operand.{Operand}
@@ -10,6 +11,8 @@ use Rattle.net_base.specs.declared.normal.NormalOperand.{NormalOperand}
 use Rattle.net_base.specs.declared.normal.NormalOperand.TheVariants as normal
 use Rattle.net_base.specs.declared.normal.NormalTest.{NormalTest}
 use Rattle.net_base.specs.declared.normal.NormalCondition.{NormalCondition}
+use Rattle.net_base.specs.declared.normal.NormalPart.{NormalPart}
+use Rattle.net_base.specs.declared.normal.NormalPart.TheVariants.{One, Group}
 use Rattle.net_base.specs.Counting.{pred_number}
 
 unfoldable pub mixed : ℕ → ℕ → ℕ
@@ -17,7 +20,7 @@ mixed code x = ((code * 6364136223846793005) % 2 ^ 64 + x) % 2 ^ 64
 
 abbrev pub value_code : ℕ → Value → ℕ
 value_code code (Symbol s) = mixed (mixed code 1) s.0
-value_code code (Whole n) = mixed (mixed code 2) (cast_unsigned w64 n)
+value_code code (Whole n) = mixed (mixed code 2) (cast_unsigned w128 n % 2 ^ 64)
 
 abbrev pub values_code : ℕ → List Value → ℕ
 values_code code [] = code
@@ -45,8 +48,16 @@ abbrev pub parent_code : Option ℕ → ℕ
 parent_code None = 1
 parent_code (Some p) = mixed 2 p
 
-abbrev pub condition_code : Option ℕ → NormalCondition → ℕ
-condition_code parent c = normal_tests_code (mixed (mixed (parent_code parent) (if c.negated then 1 else 0)) c.class) c.tests
+abbrev pub condition_code : ℕ → NormalCondition → ℕ
+condition_code code c = normal_tests_code (mixed (mixed code (if c.negated then 1 else 0)) c.class) c.tests
+
+abbrev pub members_code : ℕ → List NormalCondition → ℕ
+members_code code [] = code
+members_code code (c ∷ cs) = members_code (condition_code code c) cs
+
+abbrev pub part_code : Option ℕ → NormalPart → ℕ
+part_code parent (One c) = condition_code (mixed (parent_code parent) 6) c
+part_code parent (Group cs) = members_code (mixed (parent_code parent) 7) cs
 
 abbrev pub alpha_code : ℕ → List Test → ℕ
 alpha_code class tests = tests_code (mixed 1 class) tests

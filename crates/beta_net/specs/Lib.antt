@@ -1,5 +1,6 @@
 pub mod Codes
 pub mod Chained
 pub mod Linked
-pub mod Built
 pub mod Children
+pub mod Rights
+pub mod Built

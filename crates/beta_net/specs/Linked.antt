@@ -1,35 +1,69 @@
--- Links: the prefixes of rules' normal conditions, each once.
-use Rattle.std.specs.Prelude.{◌≡◌, ◌<◌, ◌+◌, ℕ, zero, suc, List, [], ◌∷◌, ◌++◌, map, length, slice_get, Option, Some, None, ◌⊎◌}
+-- Links: the paths of rules' normal parts, each once.
+use Rattle.std.specs.Prelude.{◌≡◌, ◌<◌, ◌+◌, ℕ, zero, suc, Bool, false, not, List, [], ◌∷◌, ◌++◌, map, length, slice_get, Option, Some, None, ◌⊎◌, if◌then◌else◌}
+use Rattle.std.specs.List.{AllByRecursion}
 use Rattle.ops_base.specs.declared.conditions.Condition.{Condition}
+use Rattle.ops_base.specs.declared.conditions.Part.{Part}
+use Rattle.ops_base.specs.declared.conditions.Part.TheVariants as part
+use Rattle.net_base.specs.declared.normal.Binder.{Binder}
 use Rattle.net_base.specs.declared.normal.NormalCondition.{NormalCondition}
-use Rattle.net_base.specs.Normal.{normal_conditions}
-use Rattle.net_base.specs.Shape.{positives, StandsIn}
+use Rattle.net_base.specs.declared.normal.NormalPart.{NormalPart}
+use Rattle.net_base.specs.declared.normal.NormalPart.TheVariants.{One, Group}
+use Rattle.net_base.specs.Normal.{binders_after, normal_of, normal_members, normal_parts}
+use Rattle.net_base.specs.Shape.{positives, as_parts, IsIn}
 use Rattle.beta_net.specs.declared.links.Link.{Link}
 use Rattle.beta_net.specs.declared.links.Links.{Links}
-use Rattle.beta_net.specs.declared.links.End.{End}
-use Rattle.beta_net.specs.Codes.{condition_code}
+use Rattle.beta_net.specs.declared.paths.End.{End}
+use Rattle.beta_net.specs.Codes.{part_code}
 
--- ---- the conditions of a prefix
+-- ---- the parts of a path
 
-abbrev pub path_above : (ℕ → List NormalCondition) → Option ℕ → List NormalCondition
+abbrev pub path_above : (ℕ → List NormalPart) → Option ℕ → List NormalPart
 path_above paths None = []
 path_above paths (Some p) = paths p
 
-abbrev pub path_at : (ℕ → List NormalCondition) → Option Link → List NormalCondition
+abbrev pub path_at : (ℕ → List NormalPart) → Option Link → List NormalPart
 path_at paths None = []
-path_at paths (Some l) = path_above paths l.parent ++ l.condition ∷ []
+path_at paths (Some l) = path_above paths l.parent ++ l.part ∷ []
 
 -- of each link whose number is below the bound
-abbrev pub path_below : ℕ → List Link → ℕ → List NormalCondition
+abbrev pub path_below : ℕ → List Link → ℕ → List NormalPart
 path_below zero links n = []
 path_below (suc k) links n = path_at (path_below k links) (slice_get links n)
 
--- the conditions from the first one down to that of a link
-abbrev pub path : List Link → ℕ → List NormalCondition
+-- the parts from the first one down to that of a link
+abbrev pub path : List Link → ℕ → List NormalPart
 path links n = path_below (suc n) links n
 
-abbrev pub path_to : List Link → Option ℕ → List NormalCondition
+abbrev pub path_to : List Link → Option ℕ → List NormalPart
 path_to links o = path_above (path links) o
+
+abbrev pub depth_in : Option Link → ℕ
+depth_in None = 0
+depth_in (Some l) = l.depth
+
+abbrev pub depth_to : List Link → Option ℕ → ℕ
+depth_to links None = 0
+depth_to links (Some p) = depth_in (slice_get links p)
+
+-- ---- one part of a rule after this many positive conditions
+
+abbrev pub normal_part : ℕ → Part → List Binder → NormalPart
+normal_part place (part.One c) binders = One (normal_of place c binders)
+normal_part place (part.Group cs) binders = Group (normal_members place cs binders)
+
+abbrev pub is_positive : Part → Bool
+is_positive (part.One c) = not c.negated
+is_positive (part.Group cs) = false
+
+-- the binders in sight after it
+abbrev pub binders_past : ℕ → Part → List Binder → List Binder
+binders_past place (part.One c) binders = if c.negated then binders else binders_after place c.tests binders
+binders_past place (part.Group cs) binders = binders
+
+-- the binders after all members of a group
+abbrev pub binders_past_members : ℕ → List Condition → List Binder → List Binder
+binders_past_members place [] binders = binders
+binders_past_members place (c ∷ cs) binders = binders_past_members (suc place) cs (binders_after place c.tests binders)
 
 -- ---- links
 
@@ -37,55 +71,97 @@ abbrev pub IsWithin : Option ℕ → ℕ → Type 0
 IsWithin o n = (p : ℕ) → o ≡ Some p → p < n
 
 abbrev pub link_code : Link → ℕ
-link_code l = condition_code l.parent l.condition
+link_code l = part_code l.parent l.part
 
--- l is the link of this parent and condition
-abbrev pub IsOf : Option ℕ → NormalCondition → Link → Type 0
-IsOf parent c l = (l.parent ≡ parent) × (l.condition ≡ c)
+-- l is the link of this parent and part
+abbrev pub IsOf : Option ℕ → NormalPart → Link → Type 0
+IsOf parent p l = (l.parent ≡ parent) × (l.part ≡ p)
 
--- each parent comes before, and no two links have one parent and condition
+abbrev pub ArePositive : List NormalCondition → Type 0
+ArePositive cs = AllByRecursion (λ (c : NormalCondition). c.negated ≡ false) cs
+
+-- a condition stands below its parent, a group below the path of its members
+abbrev pub StandsBelow : List Link → Option ℕ → Option ℕ → NormalPart → Type 0
+StandsBelow links parent above (One c) = above ≡ parent
+StandsBelow links parent above (Group cs) = ArePositive cs × (path_to links above ≡ path_to links parent ++ as_parts cs)
+
+-- link n is as it is to be
+pub record IsFit (links : List Link) (n : ℕ) (l : Link) : Type 0 where
+  pub parent : IsWithin l.parent n
+  pub above : IsWithin l.above n
+  pub place : l.place ≡ positives (path_to links l.parent)
+  pub depth : l.depth ≡ depth_to links l.above + 1
+  pub below : StandsBelow links l.parent l.above l.part
+
+-- no two links have one parent and part
 pub record AreLinks (links : List Link) : Type 0 where
-  pub parents : (n : ℕ) (l : Link) → slice_get links n ≡ Some l → IsWithin l.parent n
-  pub places : (n : ℕ) (l : Link) → slice_get links n ≡ Some l → l.place ≡ positives (path_to links l.parent)
-  pub depths : (n : ℕ) (l : Link) → slice_get links n ≡ Some l → l.depth ≡ length (path_to links l.parent) + 1
-  pub distinct : (n m : ℕ) (l k : Link) → slice_get links n ≡ Some l → slice_get links m ≡ Some k → IsOf l.parent l.condition k → n ≡ m
+  pub each : (n : ℕ) (l : Link) → slice_get links n ≡ Some l → IsFit links n l
+  pub distinct : (n m : ℕ) (l k : Link) → slice_get links n ≡ Some l → slice_get links m ≡ Some k → IsOf l.parent l.part k → n ≡ m
 
 pub record IsLinked (t : Links) : Type 0 where
   pub links : AreLinks t.list.items
   pub codes : t.chains ≡ map link_code t.list.items
 
--- n is a link of this parent and condition
-pub record Stands (links : List Link) (parent : Option ℕ) (c : NormalCondition) (n : ℕ) : Type 0 where
+-- n is a link of this parent and part
+pub record Stands (links : List Link) (parent : Option ℕ) (p : NormalPart) (n : ℕ) : Type 0 where
   pub link : Link
   pub at : slice_get links n ≡ Some link
-  pub of : IsOf parent c link
+  pub of : IsOf parent p link
 
--- no link is of this parent and condition
-abbrev pub IsNew : List Link → Option ℕ → NormalCondition → Type 0
-IsNew links parent c = (n : ℕ) → Stands links parent c n → ⊥
+-- no link is of this parent and part
+abbrev pub IsNew : List Link → Option ℕ → NormalPart → Type 0
+IsNew links parent p = (n : ℕ) → Stands links parent p n → ⊥
 
--- n is a link of this parent and condition, and all links before stay
-pub record Adds (old new : Links) (parent : Option ℕ) (c : NormalCondition) (n : ℕ) : Type 0 where
+-- n is a link of this parent and part, and all links before stay
+pub record Adds (old new : Links) (parent : Option ℕ) (p : NormalPart) (n : ℕ) : Type 0 where
   pub more : List Link
   pub grown : new.list.items ≡ old.list.items ++ more
-  pub stands : Stands new.list.items parent c n
+  pub stands : Stands new.list.items parent p n
   pub only : (m : ℕ) (l : Link) → slice_get new.list.items m ≡ Some l → (m ≡ n) ⊎ (slice_get old.list.items m ≡ Some l)
   pub linked : IsLinked new
 
--- a rule with these conditions ends here
-pub record IsEndOf (links : List Link) (cs : List Condition) (e : End) : Type 0 where
-  pub within : IsWithin e.parent (length links)
-  pub down : path_to links e.parent ≡ normal_conditions 0 cs []
-  pub depth : e.depth ≡ length (path_to links e.parent) + 1
+-- ---- links of a rule
 
--- each link is old, or a prefix of the rule
-abbrev pub HasPrefixes : List Link → List Link → List Condition → Type 0
-HasPrefixes old new cs = (m : ℕ) (l : Link) → slice_get new m ≡ Some l → (slice_get old m ≡ Some l) ⊎ StandsIn (normal_conditions 0 cs []) (path_to new l.parent) l.condition
-
--- the links of the rule's prefixes, and all links before
-pub record AddsRule (old new : Links) (cs : List Condition) (e : End) : Type 0 where
+-- all links before stay, and each link is old or of such a path
+pub record Grows (old new : Links) (Such : List NormalPart → NormalPart → Type 0) : Type 0 where
   pub more : List Link
   pub grown : new.list.items ≡ old.list.items ++ more
-  pub ends : IsEndOf new.list.items cs e
-  pub prefixes : HasPrefixes old.list.items new.list.items cs
+  pub only : (m : ℕ) (l : Link) → slice_get new.list.items m ≡ Some l → (slice_get old.list.items m ≡ Some l) ⊎ Such (path_to new.list.items l.parent) l.part
   pub linked : IsLinked new
+
+-- a member of a group after q, and what stands before it
+pub record IsMemberAfter (q : List NormalPart) (cs : List NormalCondition) (before : List NormalPart) (p : NormalPart) : Type 0 where
+  pub front : List NormalCondition
+  pub member : NormalCondition
+  pub behind : List NormalCondition
+  pub all_is : cs ≡ front ++ member ∷ behind
+  pub before_is : before ≡ q ++ as_parts front
+  pub part_is : p ≡ One member
+
+-- the links of these members after a parent, where o is the last
+pub record AddsMembers (old new : Links) (parent : Option ℕ) (cs : List NormalCondition) (o : Option ℕ) : Type 0 where
+  pub grows : Grows old new (IsMemberAfter (path_to old.list.items parent) cs)
+  pub within : IsWithin o (length new.list.items)
+  pub down : path_to new.list.items o ≡ path_to old.list.items parent ++ as_parts cs
+
+-- a part after q, or a member of it
+abbrev pub IsPartAfter : List NormalPart → NormalPart → List NormalPart → NormalPart → Type 0
+IsPartAfter q (One c) before p = (before ≡ q) × (p ≡ One c)
+IsPartAfter q (Group cs) before p = ((before ≡ q) × (p ≡ Group cs)) ⊎ IsMemberAfter q cs before p
+
+-- the links of this part after a parent, where n is its own
+pub record AddsPart (old new : Links) (parent : Option ℕ) (p : NormalPart) (n : ℕ) : Type 0 where
+  pub grows : Grows old new (IsPartAfter (path_to old.list.items parent) p)
+  pub low : n < length new.list.items
+  pub down : path new.list.items n ≡ path_to old.list.items parent ++ p ∷ []
+
+-- a rule with these parts ends here
+pub record IsEndOf (links : List Link) (ps : List Part) (e : End) : Type 0 where
+  pub within : IsWithin e.parent (length links)
+  pub down : path_to links e.parent ≡ normal_parts 0 ps []
+  pub depth : e.depth ≡ depth_to links e.parent + 1
+
+-- the links of the rule's paths, and all links before
+pub record AddsRule (old new : Links) (ps : List Part) (e : End) : Type 0 where
+  pub grows : Grows old new (IsIn (normal_parts 0 ps []))
+  pub ends : IsEndOf new.list.items ps e

@@ -1,13 +1,17 @@
-//! Codes by which conditions and alphas are looked up. The same ones have the same code, and different ones rarely do.
+//! Codes by which conditions, groups and alphas are looked up. The same ones have the same code, and different ones
+//! rarely do.
 ghost use Rattle.std.specs.Prelude.{◌≡◌};
 ghost use Rattle.net_base.specs.Counting.{pred_number};
-ghost use Rattle.beta_net.specs.Codes.{mixed, value_code, values_code, operand_code, normal_operand_code, tests_code, normal_tests_code, parent_code, condition_code, alpha_code};
+ghost use Rattle.beta_net.specs.Codes.{mixed, value_code, values_code, operand_code, normal_operand_code, tests_code, normal_tests_code, parent_code, condition_code, members_code, part_code, alpha_code};
 
-use net_base::normal::{NormalCondition, NormalOperand, NormalTest};
+use net_base::normal::{NormalCondition, NormalOperand, NormalPart, NormalTest};
 use ops_base::conditions::{Operand, Test};
 use ops_base::values::{Pred, Value};
 
 const FACTOR: u64 = 6_364_136_223_846_793_005;
+
+// How many codes there are.
+const CODES: u128 = 1 << 64;
 
 #[tactic(auto, unfolding(crate::specs::Codes::mixed))]
 fn mixed(code: u64, x: u64) -> u64
@@ -35,7 +39,7 @@ fn value_code(code: u64, value: Value) -> u64
 {
     match value {
         Value::Symbol(symbol) => mixed(mixed(code, 1), symbol.0),
-        Value::Whole(number) => mixed(mixed(code, 2), number.cast_unsigned()),
+        Value::Whole(number) => { mixed(mixed(code, 2), (number.cast_unsigned() % CODES) as u64) }
     }
 }
 
@@ -109,13 +113,33 @@ fn parent_code(parent: Option<usize>) -> u64
     }
 }
 
-/// The code of a condition after this parent.
-pub fn condition_code(parent: Option<usize>, condition: &NormalCondition) -> u64
-    ensures { result ≡ condition_code parent condition.now }
+fn condition_code(code: u64, condition: &NormalCondition) -> u64
+    ensures { result ≡ condition_code code condition.now }
 {
     let sign = if condition.negated { 1 } else { 0 };
-    let code = mixed(mixed(parent_code(parent), sign), condition.class as u64);
-    normal_tests_code(code, condition.tests.as_slice())
+    let start = mixed(mixed(code, sign), condition.class as u64);
+    normal_tests_code(start, condition.tests.as_slice())
+}
+
+fn members_code(code: u64, members: &[NormalCondition]) -> u64
+    ensures { result ≡ members_code code members.now }
+{
+    let mut all = code;
+    for member in members {
+        all = condition_code(all, member);
+    }
+    all
+}
+
+/// The code of a part after this parent.
+pub fn part_code(parent: Option<usize>, part: &NormalPart) -> u64
+    ensures { result ≡ part_code parent part.now }
+{
+    let code = parent_code(parent);
+    match part {
+        NormalPart::One(condition) => condition_code(mixed(code, 6), condition),
+        NormalPart::Group(members) => members_code(mixed(code, 7), members.as_slice()),
+    }
 }
 
 /// The code of an alpha.

@@ -12,44 +12,50 @@ mod children;
 mod code;
 mod links;
 mod lower;
+mod paths;
+mod rights;
 mod same;
 #[cfg(test)]
 mod tests;
 
 use crate::children::add_children;
-use crate::links::build;
 use crate::lower::{Draft, lower};
+use crate::paths::build;
+use crate::rights::add_rights;
 use net_base::net::Net;
 use ops_base::list::Listed;
 use ops_base::memory::OutOfMemory;
 use ops_base::programs::Program;
-use ops_base::rules::Rule;
 use std::alloc::Global;
 
-/// The alphas and nodes of these productions.
-fn draft_of(alloc: Global, rules: &[Rule]) -> Result<Draft, OutOfMemory>
-    ensures { IfOk result (λ d. IsCompiled rules.now d.alphas.items d.nodes.items) }
+/// The alphas and nodes of the program's productions.
+fn draft_of(alloc: Global, program: &Program) -> Result<Draft, OutOfMemory>
+    ensures { IfOk result (λ d. IsCompiled program.now.rules d.alphas.items d.nodes.items) }
 {
-    let built = build(alloc, rules)?;
+    let built = build(alloc, program.rules.as_slice())?;
     let mut draft = lower(alloc, built.links.list.as_slice(), built.ends.as_slice())?;
     add_children(&mut draft.nodes)?;
+    add_rights(&mut draft.nodes)?;
     Ok(draft)
 }
 
-/// The network of the program's productions. Two conditions share a node exactly where the same conditions stand before
-/// them and they have one sign, one class and the same tests that do not bind, in one order; and two nodes share an
-/// alpha where they have one class and the same tests of one element alone.
+/// The network of the program's productions. Two conditions share a node exactly where the same parts stand before them
+/// and they have one sign, one class and the same tests that do not bind, in one order. A member of a group has the sign
+/// of a positive condition, and before it stand the parts before the group and then the members before it. Two groups
+/// share a node exactly where the same parts stand before them and their members share their nodes. Two nodes
+/// share an alpha where they have one class and the same tests of one element alone.
 ///
-/// Each condition is looked up by its code among those of the same code, and so is each alpha. A test of a variable
-/// looks back over the variables that the production binds.
+/// Each condition is looked up by its code among those of the same code, and so is each group, by the codes of its
+/// members, and each alpha. A test of a variable looks back over the variables that the production binds. The members
+/// of a group are read twice.
 pub fn compile(alloc: Global, program: &Program) -> Result<Net, OutOfMemory>
     ensures network { IfOk result (λ net. NetOf net program.now.rules) }
     ensures shape { IfOk result (λ net. IsShape program.now.rules (counts_of net.alphas net.nodes)) }
 
-    // A node for each prefix, with the tests of its last condition, and nothing else.
+    // A node for each path, with the tests of its last part, and nothing else.
     ensures built { IfOk result (λ net. IsCompiled program.now.rules net.alphas net.nodes) }
 {
-    let draft = draft_of(alloc, program.rules.as_slice())?;
+    let draft = draft_of(alloc, program)?;
     let alphas = Listed::from_vec(draft.alphas);
     let nodes = Listed::from_vec(draft.nodes);
     let net = Net::new(alloc, alphas, nodes)?;

@@ -1,7 +1,7 @@
-//! Whether two tests, or two lists of tests, are the same.
+//! Whether two tests, conditions or groups are the same.
 ghost use Rattle.std.specs.Prelude.{◌≡◌, ◌↔◌, IsTrue};
 
-use net_base::normal::{NormalCondition, NormalOperand, NormalTest};
+use net_base::normal::{NormalCondition, NormalOperand, NormalPart, NormalTest};
 use ops_base::conditions::{Operand, Test};
 use ops_base::values::Value;
 
@@ -81,5 +81,17 @@ impl Same for NormalCondition {
         self.negated == other.negated
             && self.class == other.class
             && same_items(self.tests.as_slice(), other.tests.as_slice())
+    }
+}
+
+impl Same for NormalPart {
+    fn same(&self, other: &Self) -> bool {
+        match (self, other) {
+            (NormalPart::One(c), NormalPart::One(d)) => c.same(d),
+            (NormalPart::Group(cs), NormalPart::Group(ds)) => {
+                same_items(cs.as_slice(), ds.as_slice())
+            }
+            _ => false,
+        }
     }
 }

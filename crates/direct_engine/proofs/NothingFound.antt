@@ -6,7 +6,8 @@ use Rattle.std.specs.List.{list_all}
 use Rattle.std.proofs.lemmas.Bool.{and_parts}
 use Rattle.ops_base.specs.declared.elements.Class.{Class}
 use Rattle.ops_base.specs.declared.elements.Element.{Element}
-use Rattle.ops_base.specs.declared.conditions.Condition.{Condition}
+use Rattle.ops_base.specs.declared.conditions.Part.{Part}
+use Rattle.ops_base.specs.declared.conditions.Part.TheVariants.{One, Group}
 use Rattle.ops_base.specs.declared.matching.Binding.{Binding}
 use Rattle.ops_base.specs.declared.rules.Rule.{Rule}
 use Rattle.ops_base.specs.declared.rules.Inst.{Inst}
@@ -17,13 +18,14 @@ use Rattle.ops_base.specs.Valid.{longest_list, fits, are_distinct, is_valid, cla
 use Rattle.ops_base.proofs.Members.{contains_from_member, member_from_contains}
 
 -- a positive condition is met by no element
-first_not_met : (cs : List Condition) (tags : List ℕ) → first_is_positive cs ≡ true → Meets [] cs [] tags → ⊥
+first_not_met : (parts : List Part) (tags : List ℕ) → first_is_positive parts ≡ true → Meets [] parts [] tags → ⊥
 first_not_met [] tags positive meets = cc
-first_not_met (c ∷ cs) tags positive meets = by c.negated positive meets
+first_not_met (Group cs ∷ parts) tags positive meets = cc
+first_not_met (One c ∷ parts) tags positive meets = by c.negated positive meets
   where
     by : (b : Bool) → not b ≡ true
-        → MatchBool b (((e : Element) → Contains [] e → match_of c e [] ≡ None) × Meets [] cs [] tags)
-        ((e : Element) × (next : List Binding) × (rest : List ℕ) × Contains [] e × (match_of c e [] ≡ Some next) × (tags ≡ e.tag ∷ rest) × Meets [] cs next rest)
+        → MatchBool b (((e : Element) → Contains [] e → match_of c e [] ≡ None) × Meets [] parts [] tags)
+        ((e : Element) × (next : List Binding) × (rest : List ℕ) × Contains [] e × (match_of c e [] ≡ Some next) × (tags ≡ e.tag ∷ rest) × Meets [] parts next rest)
         → ⊥
     by true positive meets = cc
     by false positive meets = member_from_contains meets.0 [] meets.3

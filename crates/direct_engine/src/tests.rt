@@ -3,7 +3,7 @@ ghost use Rattle.std.specs.Prelude.{◌≡◌, [], ◌∷◌, false, IfOk};
 ghost use Rattle.work_store.specs.Stored.{nothing_stored};
 
 use crate::DirectEngine;
-use ops_base::conditions::Condition;
+use ops_base::conditions::{Condition, Part};
 use ops_base::elements::{Change, Class, Element};
 use ops_base::list::Listed;
 use ops_base::memory::OutOfMemory;
@@ -41,14 +41,14 @@ fn class(alloc: Global, name: u64) -> Class
 }
 
 /// Of a class, with no test.
-fn condition(alloc: Global, class: usize, negated: bool) -> Condition
-    ensures { result ≡ record { class = class; negated = negated; tests = [] } }
+fn condition(alloc: Global, class: usize, negated: bool) -> Part
+    ensures { result ≡ Part.One (record { class = class; negated = negated; tests = [] }) }
 {
-    Condition {
+    Part::One(Condition {
         class,
         negated,
         tests: Listed::new(alloc),
-    }
+    })
 }
 
 /// `(p free (a) - (b) --> )`

@@ -30,7 +30,7 @@ use Rattle.free_engine.specs.contracts.slots.Slot as Slot
 use Rattle.free_engine.specs.contracts.slots.SlotEntry as SlotEntry
 use Rattle.free_engine.specs.contracts.slots.SlotName as SlotName
 use Rattle.free_engine.specs.contracts.slots.SlotKept.TheImpl.{ghosts}
-use Rattle.free_engine.specs.contracts.turns.Crew as Crew
+use Rattle.free_engine.specs.contracts.phase.Phase as Phase
 use Rattle.serial_engine.proofs.Crossing.{children_send, deed_send, line_send}
 
 snapshot_send : (Y : RattleType) → IsSend (Snapshot.the_row Y)
@@ -78,37 +78,13 @@ ref_to a R = ShrRef a.mir a.lft R
 ref_sync : (a : NamedLft) (R : RattleType) → IsSync R → IsSync (as_row (row_field (ref_to a R)))
 ref_sync a R s = as_row_sync (row_field (ref_to a R)) (shr_sync a.mir a.lft R s)
 
--- of a closure over the handle, the allocator, cells, the network, the store, the gate, the first tasks and the crew
-abbrev lent : (R G Y : RattleType) (a b d e f h i j : NamedLft) → List RattleType
-lent R G Y a b d e f h i j =
-    (shr_ref_field a (param 0 R) tt).row
-    ∷ (shr_ref_field b Global.the_row tt).row
-    ∷ (shr_ref_field d (Cells.the_row Slot.the_row SlotEntry.the_row SlotName.the_row ghosts) tt).row
-    ∷ (shr_ref_field e Net.the_row tt).row
-    ∷ (shr_ref_field f Store.the_row tt).row
-    ∷ (shr_ref_field h (param 1 G) tt).row
-    ∷ (shr_ref_field i (Snapshot.the_row Y) tt).row
-    ∷ (shr_ref_field j Crew.the_row tt).row
-    ∷ []
+phase_sync : (d : NamedLft) → IsSync (Phase.the_row d)
+phase_sync d = search (cells_sync, NetCrosses.the_sync, StoreCrosses.the_sync, sendable, crosses) depth 80 fits 20000
 
-pub work_sync : (R G : RattleType) → IsSync R → IsSync G → (Y : RattleType) (name : Sym) (a b d e f h i j : NamedLft) → IsSync (TupleAt name (lent R G Y a b d e f h i j))
-work_sync R G ys zs Y name a b d e f h i j =
-    let alloc : IsSync Global.the_row = search (sendable, crosses) depth 20 in
-    let crew : IsSync Crew.the_row = search (sendable, crosses) depth 20 in
-    let cells = Cells.the_row Slot.the_row SlotEntry.the_row SlotName.the_row ghosts in
-    declared_sync (type_at name (lent R G Y a b d e f h i j)) (
-      ref_sync a (param 0 R) (param_sync 0 R ys),
-      (
-        ref_sync b Global.the_row alloc,
-        (
-          ref_sync d cells cells_sync,
-          (
-            ref_sync e Net.the_row NetCrosses.the_sync,
-            (
-              ref_sync f Store.the_row StoreCrosses.the_sync,
-              (ref_sync h (param 1 G) (param_sync 1 G zs), (ref_sync i (Snapshot.the_row Y) (snapshot_sync Y), (ref_sync j Crew.the_row crew, tt))),
-            ),
-          ),
-        ),
-      ),
-    )
+-- of a closure over the handle, what the phase works over, and the gate
+abbrev lent : (R G : RattleType) (a b d e : NamedLft) → List RattleType
+lent R G a b d e = (shr_ref_field a (param 0 R) tt).row ∷ (shr_ref_field b (Phase.the_row d) tt).row ∷ (shr_ref_field e (param 1 G) tt).row ∷ []
+
+pub work_sync : (R G : RattleType) → IsSync R → IsSync G → (name : Sym) (a b d e : NamedLft) → IsSync (TupleAt name (lent R G a b d e))
+work_sync R G ys zs name a b d e =
+    declared_sync (type_at name (lent R G a b d e)) (ref_sync a (param 0 R) (param_sync 0 R ys), (ref_sync b (Phase.the_row d) (phase_sync d), (ref_sync e (param 1 G) (param_sync 1 G zs), tt)))

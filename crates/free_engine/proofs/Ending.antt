@@ -7,7 +7,7 @@ use Rattle.net_base.specs.declared.tasks.Task.{Task}
 use Rattle.step_core.specs.Worlds.{placed}
 use Rattle.turn_table.proofs.Lists.{at-slice_get}
 use Rattle.free_engine.specs.declared.slots.Slot.{Slot}
-use Rattle.free_engine.specs.declared.slots.Slot.TheVariants.{Queue, Row as OfRow}
+use Rattle.free_engine.specs.declared.slots.Slot.TheVariants.{Pool as InPool, Line as InLine}
 use Rattle.free_engine.specs.Tables.{BeganWith, IsRowOf, lines_in}
 use Rattle.free_engine.specs.Turns.{HasPool, HasRow}
 use Rattle.free_engine.specs.Ends.{SetUpLaw, EndLaw}
@@ -15,12 +15,12 @@ use Rattle.free_engine.proofs.Draining.{drain_law}
 use Rattle.free_engine.proofs.Shared.{share_law}
 
 began : (net : Net) (s : Stored) (workers : ℕ) (first : List Task) (x : Slot) → HasPool net s workers first x → BeganWith first x
-began net s workers first (Queue q) has = has.began
-began net s workers first (OfRow l) has = has
+began net s workers first (InPool q) has = has.began
+began net s workers first (InLine l) has = has
 
 is_row : (net : Net) (s : Stored) (lines i : ℕ) (x : Slot) → HasRow net s lines i x → IsRowOf net.nodes s lines i x
-is_row net s lines i (Queue q) has = has
-is_row net s lines i (OfRow l) has = record { has_nodes = ap (λ n. n.nodes) has.has_net; has_store = has.has_store; of_lines = has.of_lines; number = has.is_number }
+is_row net s lines i (InPool q) has = has
+is_row net s lines i (InLine l) has = record { has_nodes = ap (λ n. n.nodes) has.has_net; has_store = has.has_store; of_lines = has.of_lines; number = has.is_number }
 
 parts : (xs : List Slot) (n : ℕ) → length xs ≡ n + 1 → (y : Slot) × (ys : List Slot) × (xs ≡ y ∷ ys) × (length ys ≡ n)
 parts [] n e = absurd (omega arith)

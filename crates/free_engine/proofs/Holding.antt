@@ -18,7 +18,7 @@ use Rattle.task_pool.specs.declared.pool.PoolEntry.{PoolEntry}
 use Rattle.task_pool.specs.declared.pool.PoolEntry.TheVariants.{Take, Finish, Stop}
 use Rattle.task_pool.specs.Pools.{holds_after, holds_from, holds, IsQuiet, first_stop}
 use Rattle.free_engine.specs.declared.slots.Slot.{Slot}
-use Rattle.free_engine.specs.declared.slots.Slot.TheVariants.{Queue, Row as OfRow}
+use Rattle.free_engine.specs.declared.slots.Slot.TheVariants.{Pool as InPool, Line as InLine}
 use Rattle.free_engine.specs.declared.slots.SlotEntry.{SlotEntry}
 use Rattle.free_engine.specs.declared.slots.SlotEntry.TheVariants.{OfPool, OfLine}
 use Rattle.free_engine.specs.Slots.{entries, name, signature, worker_of, pool_list, IsPool, IsSlotFor, workers_in, nodes_in, store_in, first_in}
@@ -50,9 +50,9 @@ slots-snoc w b (OfPool x ∷ es) e = slots-snoc w (holds_after w b x) es e
 slots-snoc w b (OfLine x ∷ es) e = slots-snoc w b es e
 
 pub comes_holds : (w : ℕ) (y : Slot) (own : List (Row SlotEntry)) → IsPool y → signed_by signature (w + 1) (entries y) ≡ signed_by signature (w + 1) (given_to 0 own) → holds w (pool_list y) ≡ has_taken w own
-comes_holds w (Queue q) own is mine =
-    sym (slots_pool w false q.value.pool.entries.items) ∙ (sym (slots_signed w false (entries (Queue q))) ∙ (ap (holds_slots w false) mine ∙ slots_signed w false (given_to 0 own)))
-comes_holds w (OfRow l) own is mine = absurd is
+comes_holds w (InPool q) own is mine =
+    sym (slots_pool w false q.value.pool.entries.items) ∙ (sym (slots_signed w false (entries (InPool q))) ∙ (ap (holds_slots w false) mine ∙ slots_signed w false (given_to 0 own)))
+comes_holds w (InLine l) own is mine = absurd is
 
 -- the row of a take, of a line's entry, of a finish
 pub took : (w : ℕ) (t : Task) (own own' : List (Row SlotEntry)) → own' ≡ own ++ a_row w 0 (OfPool (Take w t)) → has_taken w own' ≡ true
@@ -69,10 +69,10 @@ let_go w cs own own' is = ap (has_taken w) is ∙ (ap (holds_slots w false) (giv
 -- ---- slots of one name
 
 pool_same : (net : Net) (s : Stored) (workers : ℕ) (first : List Task) (y x : Slot) → name y ≡ name x → HasPool net s workers first x → HasPool net s workers first y
-pool_same net s workers first (Queue q) (OfRow m) e has = absurd has
-pool_same net s workers first (OfRow l) (Queue r) e has = absurd (cc)
-pool_same net s workers first (OfRow l) (OfRow m) e has = has
-pool_same net s workers first (Queue q) (Queue r) e has =
+pool_same net s workers first (InPool q) (InLine m) e has = absurd has
+pool_same net s workers first (InLine l) (InPool r) e has = absurd (cc)
+pool_same net s workers first (InLine l) (InLine m) e has = has
+pool_same net s workers first (InPool q) (InPool r) e has =
     let a : q.value.net ≡ r.value.net = cc in
     let b : q.value.store ≡ r.value.store = cc in
     let c : q.value.pool.workers ≡ r.value.pool.workers = cc in
@@ -84,10 +84,10 @@ pool_same net s workers first (Queue q) (Queue r) e has =
     }
 
 row_same : (net : Net) (s : Stored) (lines i : ℕ) (y x : Slot) → name y ≡ name x → HasRow net s lines i x → HasRow net s lines i y
-row_same net s lines i (OfRow l) (Queue r) e has = absurd has
-row_same net s lines i (Queue q) (OfRow m) e has = absurd (cc)
-row_same net s lines i (Queue q) (Queue r) e has = has
-row_same net s lines i (OfRow l) (OfRow m) e has =
+row_same net s lines i (InLine l) (InPool r) e has = absurd has
+row_same net s lines i (InPool q) (InLine m) e has = absurd (cc)
+row_same net s lines i (InPool q) (InPool r) e has = has
+row_same net s lines i (InLine l) (InLine m) e has =
     let a : l.value.net ≡ m.value.net = cc in
     let b : l.value.store ≡ m.value.store = cc in
     let c : l.value.lines ≡ m.value.lines = cc in
@@ -106,16 +106,16 @@ module _ (net : Net) (s : Stored) (lines workers : ℕ) (first : List Task) (val
   comes_row i came = row_same net s lines i y came.first came.same_name (cells.rows i came.first (subst (λ l. IsAt l (i + 1) came.first) same came.begins))
 
 pub is_pool : (net : Net) (s : Stored) (workers : ℕ) (first : List Task) (y : Slot) → HasPool net s workers first y → IsPool y
-is_pool net s workers first (Queue q) has = tt
-is_pool net s workers first (OfRow l) has = has
+is_pool net s workers first (InPool q) has = tt
+is_pool net s workers first (InLine l) has = has
 
 pub pool_facts : (net : Net) (s : Stored) (workers : ℕ) (first : List Task) (y : Slot) → HasPool net s workers first y → (workers_in y ≡ workers) × (nodes_in y ≡ net.nodes) × (store_in y ≡ s) × (first_in y ≡ first)
-pool_facts net s workers first (Queue q) has = (has.of_workers, ap (λ n. n.nodes) has.has_net, has.has_store, has.began)
-pool_facts net s workers first (OfRow l) has = absurd has
+pool_facts net s workers first (InPool q) has = (has.of_workers, ap (λ n. n.nodes) has.has_net, has.has_store, has.began)
+pool_facts net s workers first (InLine l) has = absurd has
 
 pub is_slot : (net : Net) (s : Stored) (lines i : ℕ) (x : Task) (y : Slot) → HasRow net s lines i y → line_number (held_of s) net.nodes lines x.node x.side x.token ≡ i → IsSlotFor net s x y
-is_slot net s lines i x (Queue q) has at = has
-is_slot net s lines i x (OfRow l) has at = record {
+is_slot net s lines i x (InPool q) has at = has
+is_slot net s lines i x (InLine l) has at = record {
   has_net = has.has_net;
   has_store = has.has_store;
   here = ap (λ n. line_number (held_of s) net.nodes n x.node x.side x.token) has.of_lines ∙ (at ∙ sym has.is_number);
@@ -123,8 +123,8 @@ is_slot net s lines i x (OfRow l) has at = record {
 
 -- a list of entries in memory is not longer than memory
 pub few : (y : Slot) → length (entries y) < 2 ^ 63
-few (Queue q) = let v = q.value.pool.entries in let a = v.ok.0 in let b = v.ok.1 in let c = v.small in let d = length-map (λ (e : PoolEntry). OfPool e) v.items in omega (arith, a, b, c, d)
-few (OfRow l) = let v = l.value.line.entries in let a = v.ok.0 in let b = v.ok.1 in let c = v.small in let d = length-map (λ (e : Entry). OfLine e) v.items in omega (arith, a, b, c, d)
+few (InPool q) = let v = q.value.pool.entries in let a = v.ok.0 in let b = v.ok.1 in let c = v.small in let d = length-map (λ (e : PoolEntry). OfPool e) v.items in omega (arith, a, b, c, d)
+few (InLine l) = let v = l.value.line.entries in let a = v.ok.0 in let b = v.ok.1 in let c = v.small in let d = length-map (λ (e : Entry). OfLine e) v.items in omega (arith, a, b, c, d)
 
 at_end : {A : Type 0} (xs : List A) (x : A) → IsAt (xs ++ x ∷ []) (length xs) x
 at_end [] x = refl

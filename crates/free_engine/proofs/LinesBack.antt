@@ -13,7 +13,7 @@ use Rattle.activation.specs.Acting.{IsCounted}
 use Rattle.step_core.specs.Machine.{Seen}
 use Rattle.step_core.specs.Worlds.{AreNumbered, seen}
 use Rattle.free_engine.specs.declared.slots.Slot.{Slot}
-use Rattle.free_engine.specs.declared.slots.Slot.TheVariants.{Queue, Row}
+use Rattle.free_engine.specs.declared.slots.Slot.TheVariants.{Pool as InPool, Line as InLine}
 use Rattle.free_engine.specs.Counts.{AreFresh}
 use Rattle.free_engine.specs.Openings.{AreRows, IsOpened, IsRowOfLine, rows_in}
 use Rattle.free_engine.specs.Slots.{IsFresh}
@@ -24,16 +24,16 @@ use Rattle.free_engine.specs.Turns.{HasPool, HasRow, IsSetUp}
 
 module _ (net : Net) (s : Stored) where
   row_of : (lines i : ℕ) (l : Line) (x : Slot) → IsRowOfLine net s lines l x → l.number ≡ i → HasRow net s lines i x
-  row_of lines i l (Queue q) is number = absurd is
-  row_of lines i l (Row c) is number = record { has_net = is.has_net; has_store = is.has_store; of_lines = is.of_lines; is_number = ap (λ (z : Line). z.number) is.is_line ∙ number }
+  row_of lines i l (InPool q) is number = absurd is
+  row_of lines i l (InLine c) is number = record { has_net = is.has_net; has_store = is.has_store; of_lines = is.of_lines; is_number = ap (λ (z : Line). z.number) is.is_line ∙ number }
 
   row_fresh : (lines : ℕ) (l : Line) (x : Slot) → IsRowOfLine net s lines l x → IsFresh x
-  row_fresh lines l (Queue q) is = absurd is
-  row_fresh lines l (Row c) is = is.was_line ∙ sym is.is_line
+  row_fresh lines l (InPool q) is = absurd is
+  row_fresh lines l (InLine c) is = is.was_line ∙ sym is.is_line
 
   row_seen : (lines : ℕ) (l : Line) (x : Slot) → IsRowOfLine net s lines l x → seen_in x ≡ seen l
-  row_seen lines l (Queue q) is = absurd is
-  row_seen lines l (Row c) is = ap seen is.is_line
+  row_seen lines l (InPool q) is = absurd is
+  row_seen lines l (InLine c) is = ap seen is.is_line
 
   rows_length : (lines : ℕ) (ls : List Line) (xs : List Slot) → AreRows net s lines ls xs → length xs ≡ length ls
   rows_length lines [] [] are = refl
@@ -90,33 +90,33 @@ module _ (nodes : List Node) (s : Stored) (lines : ℕ) where
 
   back_seen : (i : ℕ) (xs : List Slot) → AreFrom i xs → map seen_in xs ≡ map seen (rows_in xs)
   back_seen i [] are = refl
-  back_seen i (Queue q ∷ xs) are = absurd (are zero (Queue q) refl)
-  back_seen i (Row l ∷ xs) are = ap (λ (zs : List Seen). seen l.value.line ∷ zs) (back_seen (suc i) xs (next_from i (Row l) xs are))
+  back_seen i (InPool q ∷ xs) are = absurd (are zero (InPool q) refl)
+  back_seen i (InLine l ∷ xs) are = ap (λ (zs : List Seen). seen l.value.line ∷ zs) (back_seen (suc i) xs (next_from i (InLine l) xs are))
 
   back_length : (i : ℕ) (xs : List Slot) → AreFrom i xs → length (rows_in xs) ≡ length xs
   back_length i [] are = refl
-  back_length i (Queue q ∷ xs) are = absurd (are zero (Queue q) refl)
-  back_length i (Row l ∷ xs) are = let h = back_length (suc i) xs (next_from i (Row l) xs are) in omega (arith, h)
+  back_length i (InPool q ∷ xs) are = absurd (are zero (InPool q) refl)
+  back_length i (InLine l ∷ xs) are = let h = back_length (suc i) xs (next_from i (InLine l) xs are) in omega (arith, h)
 
   back_number : (i : ℕ) (xs : List Slot) → AreFrom i xs → (k : ℕ) (l : Line) → slice_get (rows_in xs) k ≡ Some l → l.number ≡ k + i
   back_number i [] are k l at = absurd (cc)
-  back_number i (Queue q ∷ xs) are k l at = absurd (are zero (Queue q) refl)
-  back_number i (Row m ∷ xs) are zero l at = let same : m.value.line ≡ l = cc in ap (λ (z : Line). z.number) (sym same) ∙ (are zero (Row m) refl).number
-  back_number i (Row m ∷ xs) are (suc k) l at = back_number (suc i) xs (next_from i (Row m) xs are) k l at ∙ (let e : k + suc i ≡ suc k + i = omega arith in e)
+  back_number i (InPool q ∷ xs) are k l at = absurd (are zero (InPool q) refl)
+  back_number i (InLine m ∷ xs) are zero l at = let same : m.value.line ≡ l = cc in ap (λ (z : Line). z.number) (sym same) ∙ (are zero (InLine m) refl).number
+  back_number i (InLine m ∷ xs) are (suc k) l at = back_number (suc i) xs (next_from i (InLine m) xs are) k l at ∙ (let e : k + suc i ≡ suc k + i = omega arith in e)
 
   back_counted : (i : ℕ) (xs : List Slot) → AreFrom i xs → AllByRecursion (IsCounted nodes s) (rows_in xs)
   back_counted i [] are = tt
-  back_counted i (Queue q ∷ xs) are = absurd (are zero (Queue q) refl)
-  back_counted i (Row l ∷ xs) are =
-      let is = are zero (Row l) refl in (
+  back_counted i (InPool q ∷ xs) are = absurd (are zero (InPool q) refl)
+  back_counted i (InLine l ∷ xs) are =
+      let is = are zero (InLine l) refl in (
         subst (λ z. IsCounted nodes z l.value.line) is.has_store (subst (λ (ns : List Node). IsCounted ns l.value.store.value l.value.line) is.has_nodes l.value.counted),
-        back_counted (suc i) xs (next_from i (Row l) xs are),
+        back_counted (suc i) xs (next_from i (InLine l) xs are),
       )
 
   module _ (first : List Task) (values : List Slot) (t : IsTable nodes s lines first values) where
     skip : (x : Slot) (xs : List Slot) → BeganWith first x → rows_in (x ∷ xs) ≡ rows_in xs
-    skip (Queue q) xs began = refl
-    skip (Row l) xs began = absurd began
+    skip (InPool q) xs began = refl
+    skip (InLine l) xs began = absurd began
 
     rows_are : rows_in values ≡ rows_in t.rows
     rows_are = ap rows_in t.is ∙ skip t.pool t.rows t.began

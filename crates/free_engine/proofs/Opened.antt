@@ -5,7 +5,7 @@ use Rattle.net_base.specs.declared.net.Net.{Net}
 use Rattle.net_base.specs.declared.tasks.Task.{Task}
 use Rattle.token_line.specs.declared.line.Line.{Line}
 use Rattle.free_engine.specs.declared.slots.Slot.{Slot}
-use Rattle.free_engine.specs.declared.slots.Slot.TheVariants.{Queue, Row}
+use Rattle.free_engine.specs.declared.slots.Slot.TheVariants.{Pool as InPool, Line as InLine}
 use Rattle.free_engine.specs.Openings.{AreRows, IsOpened, IsRowOfLine, rows_in}
 
 module _ (net : Net) (s : Stored) where
@@ -28,5 +28,5 @@ module _ (net : Net) (s : Stored) where
 
 pub rows_in-snoc : (xs : List Slot) (y : Slot) → rows_in (xs ++ y ∷ []) ≡ rows_in xs ++ rows_in (y ∷ [])
 rows_in-snoc [] y = refl
-rows_in-snoc (Queue p ∷ xs) y = rows_in-snoc xs y
-rows_in-snoc (Row l ∷ xs) y = ap (λ (ls : List Line). l.value.line ∷ ls) (rows_in-snoc xs y)
+rows_in-snoc (InPool p ∷ xs) y = rows_in-snoc xs y
+rows_in-snoc (InLine l ∷ xs) y = ap (λ (ls : List Line). l.value.line ∷ ls) (rows_in-snoc xs y)

@@ -22,7 +22,7 @@ use Rattle.task_pool.specs.declared.pool.PoolEntry.{PoolEntry}
 use Rattle.task_pool.specs.Pools.{IsRun, begun, played, IsQuiet}
 use Rattle.task_pool.proofs.PoolLaws.{balance, quiet_law}
 use Rattle.free_engine.specs.declared.slots.Slot.{Slot}
-use Rattle.free_engine.specs.declared.slots.Slot.TheVariants.{Queue, Row as OfRow}
+use Rattle.free_engine.specs.declared.slots.Slot.TheVariants.{Pool as InPool, Line as InLine}
 use Rattle.free_engine.specs.declared.slots.SlotEntry.{SlotEntry}
 use Rattle.free_engine.specs.declared.slots.SlotEntry.TheVariants.{OfPool}
 use Rattle.free_engine.specs.Slots.{IsFresh, entries, name, signature}
@@ -87,29 +87,29 @@ at_map (x ∷ xs) (suc i) l e = at_map xs i l e
 -- ---- slots of one name
 
 same_before : (y x : Slot) → name y ≡ name x → before (seen_in y) ≡ before (seen_in x)
-same_before (Queue q) (Queue r) e = refl
-same_before (Queue q) (OfRow m) e = absurd (cc)
-same_before (OfRow l) (Queue r) e = absurd (cc)
-same_before (OfRow l) (OfRow m) e =
+same_before (InPool q) (InPool r) e = refl
+same_before (InPool q) (InLine m) e = absurd (cc)
+same_before (InLine l) (InPool r) e = absurd (cc)
+same_before (InLine l) (InLine m) e =
     let first : l.value.first ≡ m.value.first = cc in
     bag_ext (before (seen l.value.line)) (before (seen m.value.line)) (λ n s t. l.value.begins n s t ∙ (ap (λ f. before (seen f.value) n s t) first ∙ sym (m.value.begins n s t)))
 
 pool_kind : (first : List Task) (y x : Slot) → name y ≡ name x → BeganWith first x → BeganWith first y
-pool_kind first (Queue q) (Queue r) e is = let f : q.value.pool.first ≡ r.value.pool.first = cc in ap (λ z. z.value.items) f ∙ is
-pool_kind first (Queue q) (OfRow m) e is = absurd is
-pool_kind first (OfRow l) (Queue r) e is = absurd (cc)
-pool_kind first (OfRow l) (OfRow m) e is = is
+pool_kind first (InPool q) (InPool r) e is = let f : q.value.pool.first ≡ r.value.pool.first = cc in ap (λ z. z.value.items) f ∙ is
+pool_kind first (InPool q) (InLine m) e is = absurd is
+pool_kind first (InLine l) (InPool r) e is = absurd (cc)
+pool_kind first (InLine l) (InLine m) e is = is
 
 no_entries : (first : List Task) (x : Slot) → BeganWith first x → IsFresh x → entries x ≡ []
-no_entries first (Queue q) began fresh = ap (map OfPool) fresh
-no_entries first (OfRow l) began fresh = absurd began
+no_entries first (InPool q) began fresh = ap (map OfPool) fresh
+no_entries first (InLine l) began fresh = absurd began
 
 module _ (nodes : List Node) (s : Stored) (lines : ℕ) where
   row_kind : (i : ℕ) (y x : Slot) → name y ≡ name x → IsRowOf nodes s lines i x → IsRowOf nodes s lines i y
-  row_kind i (Queue q) (Queue r) e is = is
-  row_kind i (Queue q) (OfRow m) e is = absurd (cc)
-  row_kind i (OfRow l) (Queue r) e is = absurd is
-  row_kind i (OfRow l) (OfRow m) e is =
+  row_kind i (InPool q) (InPool r) e is = is
+  row_kind i (InPool q) (InLine m) e is = absurd (cc)
+  row_kind i (InLine l) (InPool r) e is = absurd is
+  row_kind i (InLine l) (InLine m) e is =
       let net : l.value.net ≡ m.value.net = cc in
       let store : l.value.store ≡ m.value.store = cc in
       let count : l.value.lines ≡ m.value.lines = cc in
@@ -124,9 +124,9 @@ module _ (nodes : List Node) (s : Stored) (lines : ℕ) where
   phase i l = IsPhase (held_of s) nodes (placed (held_of s) nodes lines) i l
 
   row_kept : (i : ℕ) (y x : Slot) → name y ≡ name x → IsFresh x → IsRowOf nodes s lines i y → phase i (seen_in x) → phase i (seen_in y)
-  row_kept i (Queue q) x e fresh is was = absurd is
-  row_kept i (OfRow l) (Queue r) e fresh is was = absurd (cc)
-  row_kept i (OfRow l) (OfRow m) e fresh is was =
+  row_kept i (InPool q) x e fresh is was = absurd is
+  row_kept i (InLine l) (InPool r) e fresh is was = absurd (cc)
+  row_kept i (InLine l) (InLine m) e fresh is was =
       let first : l.value.first ≡ m.value.first = cc in
       let from : seen l.value.first.value ≡ seen m.value.line = ap (λ f. seen f.value) first ∙ ap seen fresh in
       let keeps = subst (λ k. KeepsPhase nodes s lines k l.value.first.value l.value.line) is.number
@@ -139,8 +139,8 @@ module _ (nodes : List Node) (s : Stored) (lines : ℕ) where
 
 pool_balance : (first : List Task) (y : Slot) → BeganWith first y → (list : List PoolEntry) → IsQuiet first list → (rest : List SlotEntry) → map OfPool list ++ rest ≡ entries y
     → (h : Task → ℕ) → weigh (taken h) (entries y) ≡ sum_by h first + weigh (given h) (entries y)
-pool_balance first (OfRow l) began list quiet rest e h = absurd began
-pool_balance first (Queue q) began list quiet rest e h =
+pool_balance first (InLine l) began list quiet rest e h = absurd began
+pool_balance first (InPool q) began list quiet rest e h =
     let es = q.value.pool.entries.items in
     let m = of_pool list es rest e in
     let run : IsRun (begun first) es = subst (λ f. IsRun (begun f) es) began q.value.pool.played.run in

@@ -16,7 +16,7 @@ use Rattle.task_pool.specs.declared.pool.PoolEntry.{PoolEntry}
 use Rattle.task_pool.specs.declared.pool.PoolEntry.TheVariants.{Take, Finish, Stop}
 use Rattle.task_pool.specs.Pools.{taken_in, given_in}
 use Rattle.free_engine.specs.declared.slots.Slot.{Slot}
-use Rattle.free_engine.specs.declared.slots.Slot.TheVariants.{Queue, Row as OfRow}
+use Rattle.free_engine.specs.declared.slots.Slot.TheVariants.{Pool as InPool, Line as InLine}
 use Rattle.free_engine.specs.declared.slots.SlotEntry.{SlotEntry}
 use Rattle.free_engine.specs.declared.slots.SlotEntry.TheVariants.{OfPool, OfLine}
 use Rattle.free_engine.specs.Slots.{entries}
@@ -93,12 +93,12 @@ module _ (h : Task → ℕ) where
   line_made (e ∷ es) = let i = line_made es in let c = sum_by-cons (λ (x : Entry). sum_by h x.children) e es in omega (arith, i, c)
 
   slot_entered : (x : Slot) → weigh (entered h) (entries x) ≡ sum_by (λ (e : Entry). h e.task) (seen_in x).entries
-  slot_entered (Queue q) = none_entered q.value.pool.entries.items
-  slot_entered (OfRow l) = line_entered l.value.line.entries.items
+  slot_entered (InPool q) = none_entered q.value.pool.entries.items
+  slot_entered (InLine l) = line_entered l.value.line.entries.items
 
   slot_made : (x : Slot) → weigh (made h) (entries x) ≡ sum_by (λ (e : Entry). sum_by h e.children) (seen_in x).entries
-  slot_made (Queue q) = none_made q.value.pool.entries.items
-  slot_made (OfRow l) = line_made l.value.line.entries.items
+  slot_made (InPool q) = none_made q.value.pool.entries.items
+  slot_made (InLine l) = line_made l.value.line.entries.items
 
   slots_entered : (xs : List Slot) → weigh (λ (x : Slot). weigh (entered h) (entries x)) xs ≡ sum_by (λ (e : Entry). h e.task) (entries_of (map seen_in xs))
   slots_entered [] = refl

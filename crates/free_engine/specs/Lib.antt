@@ -7,6 +7,7 @@ pub mod Slots
 pub mod Tables
 pub mod Counts
 pub mod Turns
+pub mod SetUp
 pub mod Ends
 pub mod Openings
 pub mod Teams

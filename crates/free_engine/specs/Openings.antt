@@ -6,7 +6,7 @@ use Rattle.net_base.specs.declared.tasks.Task.{Task}
 use Rattle.token_line.specs.declared.line.Line.{Line}
 use Rattle.free_engine.specs.declared.cells.LineCell.{LineCell}
 use Rattle.free_engine.specs.declared.slots.Slot.{Slot}
-use Rattle.free_engine.specs.declared.slots.Slot.TheVariants.{Queue, Row}
+use Rattle.free_engine.specs.declared.slots.Slot.TheVariants.{Pool as InPool, Line as InLine}
 use Rattle.free_engine.specs.Slots.{IsFresh}
 use Rattle.free_engine.specs.Turns.{HasPool}
 
@@ -20,8 +20,8 @@ pub record IsOfLine (net : Net) (s : Stored) (lines : ℕ) (line : Line) (c : Li
 
 -- the same of a slot
 abbrev pub IsRowOfLine : Net → Stored → ℕ → Line → Slot → Type 0
-IsRowOfLine net s lines line (Queue q) = ⊥
-IsRowOfLine net s lines line (Row l) = IsOfLine net s lines line l.value
+IsRowOfLine net s lines line (InPool q) = ⊥
+IsRowOfLine net s lines line (InLine l) = IsOfLine net s lines line l.value
 
 -- each of these lines stands in its slot
 abbrev pub AreRows : Net → Stored → ℕ → List Line → List Slot → Type 0
@@ -42,5 +42,5 @@ pub record IsOpened (net : Net) (s : Stored) (workers : ℕ) (first : List Task)
 -- the lines in slots
 abbrev pub rows_in : List Slot → List Line
 rows_in [] = []
-rows_in (Queue q ∷ xs) = rows_in xs
-rows_in (Row l ∷ xs) = l.value.line ∷ rows_in xs
+rows_in (InPool q ∷ xs) = rows_in xs
+rows_in (InLine l ∷ xs) = l.value.line ∷ rows_in xs

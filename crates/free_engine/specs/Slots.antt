@@ -12,7 +12,7 @@ use Rattle.task_pool.specs.declared.pool.Taken.TheVariants.{Task as ATask, Again
 use Rattle.task_pool.specs.Pools.{IsQuiet, first_stop, played}
 use Rattle.free_engine.specs.declared.cells.LineCell.{LineCell}
 use Rattle.free_engine.specs.declared.slots.Slot.{Slot}
-use Rattle.free_engine.specs.declared.slots.Slot.TheVariants.{Queue, Row}
+use Rattle.free_engine.specs.declared.slots.Slot.TheVariants.{Pool as InPool, Line as InLine}
 use Rattle.free_engine.specs.declared.slots.SlotEntry.{SlotEntry}
 use Rattle.free_engine.specs.declared.slots.SlotEntry.TheVariants.{OfPool, OfLine}
 use Rattle.free_engine.specs.declared.slots.SlotName.{SlotName}
@@ -20,13 +20,13 @@ use Rattle.free_engine.specs.declared.slots.SlotName.TheVariants.{PoolName, Line
 
 -- the entries of a slot, of one type
 abbrev pub entries : Slot → List SlotEntry
-entries (Queue q) = map OfPool q.value.pool.entries.items
-entries (Row l) = map OfLine l.value.line.entries.items
+entries (InPool q) = map OfPool q.value.pool.entries.items
+entries (InLine l) = map OfLine l.value.line.entries.items
 
 -- what no turn changes
 abbrev pub name : Slot → SlotName
-name (Queue q) = PoolName q.value.pool.first q.value.pool.workers q.value.net q.value.store
-name (Row l) = LineName l.value.line.number l.value.lines l.value.first l.value.net l.value.store
+name (InPool q) = PoolName q.value.pool.first q.value.pool.workers q.value.net q.value.store
+name (InLine l) = LineName l.value.line.number l.value.lines l.value.first l.value.net l.value.store
 
 -- the worker of a pool's entry
 abbrev pub worker_of : PoolEntry → ℕ
@@ -41,36 +41,36 @@ signature (OfLine e) = None
 
 -- the pool stands in the slot
 abbrev pub IsPool : Slot → Type 0
-IsPool (Queue q) = Unit {0}
-IsPool (Row l) = ⊥
+IsPool (InPool q) = Unit {0}
+IsPool (InLine l) = ⊥
 
 -- a pool that has no entry yet, or a line that stands as when its cell was made
 abbrev pub IsFresh : Slot → Type 0
-IsFresh (Queue q) = q.value.pool.entries.items ≡ []
-IsFresh (Row l) = l.value.first.value ≡ l.value.line
+IsFresh (InPool q) = q.value.pool.entries.items ≡ []
+IsFresh (InLine l) = l.value.first.value ≡ l.value.line
 
 -- ---- what turns do
 
 -- the entries of the pool in the slot, and what else of the slot no turn changes
 abbrev pub pool_list : Slot → List PoolEntry
-pool_list (Queue q) = q.value.pool.entries.items
-pool_list (Row l) = []
+pool_list (InPool q) = q.value.pool.entries.items
+pool_list (InLine l) = []
 
 abbrev pub first_in : Slot → List Task
-first_in (Queue q) = q.value.pool.first.value.items
-first_in (Row l) = []
+first_in (InPool q) = q.value.pool.first.value.items
+first_in (InLine l) = []
 
 abbrev pub workers_in : Slot → ℕ
-workers_in (Queue q) = q.value.pool.workers.value
-workers_in (Row l) = 0
+workers_in (InPool q) = q.value.pool.workers.value
+workers_in (InLine l) = 0
 
 abbrev pub nodes_in : Slot → List Node
-nodes_in (Queue q) = q.value.net.value.nodes
-nodes_in (Row l) = l.value.net.value.nodes
+nodes_in (InPool q) = q.value.net.value.nodes
+nodes_in (InLine l) = l.value.net.value.nodes
 
 abbrev pub store_in : Slot → Stored
-store_in (Queue q) = q.value.store.value
-store_in (Row l) = l.value.store.value
+store_in (InPool q) = q.value.store.value
+store_in (InLine l) = l.value.store.value
 
 -- this task has the line in the slot, over this network and store
 pub record IsLineFor (net : Net) (s : Stored) (x : Task) (c : LineCell) : Type 0 where
@@ -80,8 +80,8 @@ pub record IsLineFor (net : Net) (s : Stored) (x : Task) (c : LineCell) : Type 0
 
 -- the same of a slot
 abbrev pub IsSlotFor : Net → Stored → Task → Slot → Type 0
-IsSlotFor net s x (Queue q) = ⊥
-IsSlotFor net s x (Row l) = IsLineFor net s x l.value
+IsSlotFor net s x (InPool q) = ⊥
+IsSlotFor net s x (InLine l) = IsLineFor net s x l.value
 
 -- no task waits, and this many are unfinished, one at least
 pub record AreUnfinished (first : List Task) (es : List PoolEntry) (n : ℕ) : Type 0 where

@@ -7,7 +7,7 @@ use Rattle.step_core.specs.Machine.{Seen}
 use Rattle.step_core.specs.Worlds.{seen}
 use Rattle.free_engine.specs.declared.cells.LineCell.{LineCell}
 use Rattle.free_engine.specs.declared.slots.Slot.{Slot}
-use Rattle.free_engine.specs.declared.slots.Slot.TheVariants.{Queue, Row}
+use Rattle.free_engine.specs.declared.slots.Slot.TheVariants.{Pool as InPool, Line as InLine}
 
 -- line i of this many, over this network and store
 pub record IsLineOf (nodes : List Node) (s : Stored) (lines i : ℕ) (c : LineCell) : Type 0 where
@@ -18,13 +18,13 @@ pub record IsLineOf (nodes : List Node) (s : Stored) (lines i : ℕ) (c : LineCe
 
 -- the same of a slot
 abbrev pub IsRowOf : List Node → Stored → ℕ → ℕ → Slot → Type 0
-IsRowOf nodes s lines i (Queue q) = ⊥
-IsRowOf nodes s lines i (Row l) = IsLineOf nodes s lines i l.value
+IsRowOf nodes s lines i (InPool q) = ⊥
+IsRowOf nodes s lines i (InLine l) = IsLineOf nodes s lines i l.value
 
 -- a pool that began with these tasks
 abbrev pub BeganWith : List Task → Slot → Type 0
-BeganWith first (Queue q) = q.value.pool.first.value.items ≡ first
-BeganWith first (Row l) = ⊥
+BeganWith first (InPool q) = q.value.pool.first.value.items ≡ first
+BeganWith first (InLine l) = ⊥
 
 -- a line on which nothing stands
 abbrev pub nothing_seen : Seen
@@ -32,8 +32,8 @@ nothing_seen = record { sums = λ n s t. pos 0; entries = [] }
 
 -- what is seen of the line in a slot
 abbrev pub seen_in : Slot → Seen
-seen_in (Queue q) = nothing_seen
-seen_in (Row l) = seen l.value.line
+seen_in (InPool q) = nothing_seen
+seen_in (InLine l) = seen l.value.line
 
 -- what is seen of the lines, which stand in the cells after the pool's
 abbrev pub lines_in : List Slot → List Seen

@@ -1,18 +1,15 @@
 -- What is known of all workers of a shared phase.
 use Rattle.std.specs.Prelude.{◌≡◌, ◌<◌, ◌≤◌, ℕ, ◌+◌, List, [], length, Bool, IsTrue, slice_index_or}
-use Rattle.work_store.specs.Stored.{Stored}
-use Rattle.net_base.specs.declared.net.Net.{Net}
 use Rattle.net_base.specs.declared.tasks.Task.{Task}
 use Rattle.turn_table.specs.declared.cells.Cells.{Cells}
 use Rattle.turn_table.specs.declared.passes.Pass.{Pass}
 use Rattle.turn_table.specs.declared.views.Share.{Share}
 use Rattle.turn_table.specs.Log.{IsAt}
-use Rattle.turn_table.specs.Turns.{IsFirstOf, IsPassOf, first_values, knows, number, splits, split_off}
+use Rattle.turn_table.specs.Turns.{IsFirstOf, IsPassOf, knows, number, splits, split_off}
 use Rattle.free_engine.specs.declared.slots.Slot.{Slot}
 use Rattle.free_engine.specs.declared.slots.SlotEntry.{SlotEntry}
 use Rattle.free_engine.specs.declared.slots.SlotName.{SlotName}
 use Rattle.free_engine.specs.Counts.{HasWorked, SawQuiet}
-use Rattle.free_engine.specs.Turns.{IsSetUp}
 
 -- the cells of slots, and their passes
 abbrev pub SlotCells : Type 0
@@ -33,10 +30,8 @@ abbrev pub AreReady : SlotCells → List SlotPass → Type 0
 AreReady cells passes = (i : ℕ) (d : SlotPass) → i < length passes → IsPassOf cells (slice_index_or passes i d) × (number (slice_index_or passes i d) ≡ i + 1) × ((knows (slice_index_or passes i d)).own ≡ [])
 
 -- a worker may begin with this pass
-pub record CanWork (net : Net) (s : Stored) (lines workers : ℕ) (first : List Task) (cells : SlotCells) (p : SlotPass) : Type 0 where
+pub record CanWork (workers : ℕ) (cells : SlotCells) (p : SlotPass) : Type 0 where
   pub pass : IsPassOf cells p
-  pub cells_are : IsSetUp net s lines workers first (first_values cells)
-  pub some_lines : 0 < lines
   pub some : 0 < number p
   pub few : number p ≤ workers
   pub fresh : (knows p).own ≡ []

@@ -15,7 +15,7 @@ use Rattle.task_pool.specs.Pools.{holds_after}
 use Rattle.free_engine.specs.declared.cells.LineCell.{LineCell}
 use Rattle.free_engine.specs.declared.cells.PoolCell.{PoolCell}
 use Rattle.free_engine.specs.declared.slots.Slot.{Slot}
-use Rattle.free_engine.specs.declared.slots.Slot.TheVariants.{Queue, Row}
+use Rattle.free_engine.specs.declared.slots.Slot.TheVariants.{Pool as InPool, Line as InLine}
 use Rattle.free_engine.specs.declared.slots.SlotEntry.{SlotEntry}
 use Rattle.free_engine.specs.declared.slots.SlotEntry.TheVariants.{OfPool, OfLine}
 use Rattle.free_engine.specs.Slots.{AreUnfinished}
@@ -39,13 +39,13 @@ pub record IsRowFor (net : Net) (s : Stored) (lines i : ℕ) (c : LineCell) : Ty
 
 -- such a pool stands in the slot
 abbrev pub HasPool : Net → Stored → ℕ → List Task → Slot → Type 0
-HasPool net s workers first (Queue q) = IsPoolFor net s workers first q.value
-HasPool net s workers first (Row l) = ⊥
+HasPool net s workers first (InPool q) = IsPoolFor net s workers first q.value
+HasPool net s workers first (InLine l) = ⊥
 
 -- such a line stands in the slot
 abbrev pub HasRow : Net → Stored → ℕ → ℕ → Slot → Type 0
-HasRow net s lines i (Queue q) = ⊥
-HasRow net s lines i (Row l) = IsRowFor net s lines i l.value
+HasRow net s lines i (InPool q) = ⊥
+HasRow net s lines i (InLine l) = IsRowFor net s lines i l.value
 
 -- the pool in cell 0, and line i in cell i + 1
 pub record IsSetUp (net : Net) (s : Stored) (lines workers : ℕ) (first : List Task) (values : List Slot) : Type 0 where

@@ -11,7 +11,7 @@ ghost use Rattle.step_core.specs.Worlds.{AreNumbered, ArePartsReady, IsReady, nu
 ghost use Rattle.serial_engine.specs.Running.{IsBundleOf, Went};
 ghost use Rattle.serial_engine.specs.Carrying.{CarriesOn};
 
-use crate::sharing::share;
+use crate::team::share;
 use net_base::net::Net;
 use net_base::tasks::{Side, Task};
 use ops_base::elements::Change;

@@ -1,12 +1,16 @@
-//! The workers of a shared phase: each gets a pass and a thread, and all are joined.
-ghost use Rattle.std.specs.Prelude.{◌≡◌, ◌<◌, ◌≤◌, [], IfOk, IsTrue, OnOk, length};
+//! A shared phase: lines and tasks in flight go into cells, each worker gets a pass and a thread, all are joined, and
+//! the lines come back.
+ghost use Rattle.std.specs.Prelude.{◌≡◌, ◌<◌, ◌≤◌, ◌^◌, [], All, IfOk, IsTrue, OnOk, length, map};
+ghost use Rattle.step_core.specs.Worlds.{AreNumbered, ArePartsReady};
 ghost use Rattle.turn_table.specs.Turns.{first_values, knows, number};
-ghost use Rattle.free_engine.specs.Counts.{SawQuiet};
+ghost use Rattle.free_engine.specs.Openings.{IsOpened};
 ghost use Rattle.free_engine.specs.Teams.{AllEnded, AllJoined, AreReady, CanWork, HasEnded, Leads};
-ghost use Rattle.free_engine.specs.Turns.{IsSetUp};
+ghost use Rattle.free_engine.specs.Counts.{SawQuiet};
+ghost use Rattle.activation.specs.Acting.{IsCounted};
+ghost use Rattle.serial_engine.specs.Carrying.{CarriesOn};
 
-use crate::slots::Slot;
-use crate::turns::Crew;
+use crate::phase::Phase;
+use crate::slots::{Slot, lines_of, open};
 use crate::working::{Ended, work};
 use net_base::net::Net;
 use net_base::tasks::Task;
@@ -16,8 +20,36 @@ use std::alloc::Global;
 use std::snapshot::Snapshot;
 use std::sync::Wait;
 use std::thread::{Threads, map_vec};
+use step_core::Parts;
+use token_line::Line;
 use turn_table::{Cells, Pass};
 use work_store::Store;
+
+/// The cells, their first pass, and the passes of the workers.
+pub type Started = (Cells<Slot>, Pass<Slot>, Vec<Pass<Slot>>);
+
+/// Cells of a pool of the tasks in flight and of the lines, and a pass for each of this many workers. It moves each
+/// line, and takes memory for each line and each worker. Where memory runs out the lines are let go.
+pub fn start(
+    alloc: Global,
+    net: &Net,
+    store: &Store,
+    parts: Parts,
+    workers: usize,
+) -> Result<Started, OutOfMemory>
+    requires ready { ArePartsReady net.now.nodes store.now parts }
+    requires few { workers ≤ 4294967296 }
+    ensures opened { IfOk result (λ r. IsOpened net.now store.now workers parts.flight.items (length parts.lines.items) parts.lines.items (first_values r.0)) }
+    ensures leads { IfOk result (λ r. Leads r.0 workers workers r.1) }
+    ensures none { IfOk result (λ r. (knows r.1).joined ≡ []) }
+    ensures passes { IfOk result (λ r. AreReady r.0 r.2.items) }
+    ensures count { IfOk result (λ r. length r.2.items ≡ workers) }
+{
+    let slots = open(alloc, net, store, parts, workers)?;
+    let (cells, mut first) = Cells::new(alloc, slots)?;
+    let passes = split_all(alloc, &cells, &mut first, workers)?;
+    Ok((cells, first, passes))
+}
 
 /// A pass for each worker, in the order of their numbers.
 pub fn split_all(
@@ -44,22 +76,15 @@ pub fn split_all(
 /// A worker at work. True where it did whole rounds until the pool was quiet.
 pub fn work_with<R: Wait, G: Gate>(
     rt: &R,
-    alloc: Global,
-    cells: &Cells<Slot>,
-    pass: Pass<Slot>,
-    net: &Net,
-    store: &Store,
+    phase: &Phase<'_>,
     gate: &G,
-    first: &Snapshot<Vec<Task>>,
-    crew: Crew,
+    pass: Pass<Slot>,
 ) -> (Pass<Slot>, bool)
-    requires { CanWork net.now store.now crew.lines crew.workers first.now.value.items cells.now pass }
-    ensures { HasEnded crew.lines first.now.value.items cells.now (number pass) result }
+    requires { CanWork phase.now.workers phase.now.cells.now pass }
+    ensures { HasEnded phase.now.lines phase.now.first.now.value.items phase.now.cells.now (number pass) result }
 {
     let worker = pass.number() - 1;
-    let Ended { pass, whole } = work(
-        rt, alloc, cells, pass, net, store, gate, first, crew, worker,
-    );
+    let Ended { pass, whole } = work(rt, phase, gate, pass, worker);
     (pass, whole)
 }
 
@@ -67,29 +92,22 @@ pub fn work_with<R: Wait, G: Gate>(
 /// thread can't be started, its work is done on the thread that wanted to start it. It waits for all of them.
 pub fn work_all<R: Threads + Wait + Sync, G: Gate>(
     rt: &R,
-    alloc: Global,
-    cells: &Cells<Slot>,
-    passes: Vec<Pass<Slot>>,
-    net: &Net,
-    store: &Store,
+    phase: &Phase<'_>,
     gate: &G,
-    first: &Snapshot<Vec<Task>>,
-    crew: Crew,
+    passes: Vec<Pass<Slot>>,
 ) -> Result<Vec<(Pass<Slot>, bool)>, OutOfMemory>
-    requires ready { AreReady cells.now passes.items }
-    requires count { length passes.items ≡ crew.workers }
-    requires cells { IsSetUp net.now store.now crew.lines crew.workers first.now.value.items (first_values cells.now) }
-    requires lines { 0 < crew.lines }
+    requires ready { AreReady phase.now.cells.now passes.items }
+    requires count { length passes.items ≡ phase.now.workers }
     ensures count { IfOk result (λ v. length v.items ≡ length passes.items) }
-    ensures each { IfOk result (λ v. AllEnded crew.lines first.now.value.items cells.now v.items) }
+    ensures each { IfOk result (λ v. AllEnded phase.now.lines phase.now.first.now.value.items phase.now.cells.now v.items) }
 {
     let ended = map_vec(
         rt,
         passes,
         &|pass: Pass<Slot>| -> (Pass<Slot>, bool)
-            requires { CanWork net.now store.now crew.lines crew.workers first.now.value.items cells.now pass }
-            ensures { HasEnded crew.lines first.entry.now.value.items cells.entry.now (number pass) result }
-        { work_with(rt, alloc, cells, pass, net, store, gate, first, crew) },
+            requires { CanWork phase.now.workers phase.now.cells.now pass }
+            ensures { HasEnded phase.entry.now.lines phase.entry.now.first.now.value.items phase.entry.now.cells.now (number pass) result }
+        { work_with(rt, phase, gate, pass) },
     )?;
     Ok(ended)
 }
@@ -120,4 +138,78 @@ pub fn join_all(
         cells.join(first, one.0);
     }
     whole
+}
+
+/// The lines, once each of this many workers was joined, and each did whole rounds until the pool was quiet. Each phase
+/// that was on its way in the lines that were opened is on its way in these, and no task waits. It moves each line
+/// twice, and waits for nothing. Where memory runs out the lines are let go.
+pub fn close(
+    alloc: Global,
+    net: &Net,
+    store: &Store,
+    cells: Cells<Slot>,
+    pass: Pass<Slot>,
+    opened: &Snapshot<Parts>,
+    workers: usize,
+) -> Result<Vec<Line>, OutOfMemory>
+    requires opened { IsOpened net.now store.now workers opened.now.value.flight.items (length opened.now.value.lines.items) opened.now.value.lines.items (first_values cells) }
+    requires numbered { AreNumbered opened.now.value.lines.items }
+    requires leads { Leads cells workers 0 pass }
+    requires joined { AllJoined (length opened.now.value.lines.items) workers (knows pass).joined }
+    requires saw { SawQuiet opened.now.value.flight.items (knows pass).seen }
+    ensures carries { IfOk result (λ v. CarriesOn net.now.alphas net.now.nodes store.now opened.now.value.lines.items opened.now.value.flight.items v.items []) }
+    ensures counted { IfOk result (λ v. All (IsCounted net.now.nodes store.now) v.items) }
+    ensures numbers { IfOk result (λ v. map (λ l. l.number) v.items ≡ map (λ l. l.number) opened.now.value.lines.items) }
+{
+    // Contracts alone look at these.
+    let _net = net;
+    let _store = store;
+    let _opened = opened;
+    let _workers = workers;
+    match cells.close(pass) {
+        Ok(closed) => lines_of(alloc, closed.cells),
+        Err(_) => Err(OutOfMemory),
+    }
+}
+
+/// Does the tasks in flight, and all that comes of them, by this many workers. It starts a thread for each but one,
+/// moves each line twice, and waits for all workers. Where memory runs out at one of them the others end too.
+pub(crate) fn share<R: Threads + Wait + Sync, G: Gate>(
+    rt: &R,
+    alloc: Global,
+    net: &Net,
+    store: &Store,
+    gate: &G,
+    parts: Parts,
+    workers: usize,
+) -> Result<Vec<Line>, OutOfMemory>
+    requires some { 1 ≤ workers }
+    requires few { workers ≤ 2 ^ 32 }
+    requires lines { 1 ≤ length parts.lines.items }
+    requires numbered { AreNumbered parts.lines.items }
+    requires ready { ArePartsReady net.now.nodes store.now parts }
+    ensures carries { IfOk result (λ v. CarriesOn net.now.alphas net.now.nodes store.now parts.lines.items parts.flight.items v.items []) }
+    ensures counted { IfOk result (λ v. All (IsCounted net.now.nodes store.now) v.items) }
+    ensures numbers { IfOk result (λ v. map (λ l. l.number) v.items ≡ map (λ l. l.number) parts.lines.items) }
+{
+    let count = parts.lines.len();
+    let opened = Snapshot::of(&parts);
+    let tasks = Snapshot::of(&parts.flight);
+    let (cells, mut pass, passes) = start(alloc, net, store, parts, workers)?;
+    let phase = Phase {
+        alloc,
+        cells: &cells,
+        net,
+        store,
+        first: &tasks,
+        lines: count,
+        workers,
+    };
+    let ended = work_all(rt, &phase, gate, passes)?;
+    let whole = join_all(&cells, &mut pass, ended, &tasks, count);
+    if whole {
+        close(alloc, net, store, cells, pass, &opened, workers)
+    } else {
+        Err(OutOfMemory)
+    }
 }

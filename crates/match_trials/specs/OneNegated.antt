@@ -7,6 +7,6 @@ use Rattle.net_base.specs.declared.nodes.Node.{Node}
 -- that one
 abbrev pub one_negated : List Node
 one_negated =
-    record { kind = Join; parent = None; class = 0; alpha = 0; joins = []; children = 1 ∷ []; depth = 1 }
-    ∷ record { kind = Negated; parent = Some 0; class = 0; alpha = 0; joins = []; children = 2 ∷ []; depth = 2 }
-    ∷ record { kind = Terminal 0; parent = Some 1; class = 0; alpha = 0; joins = []; children = []; depth = 3 } ∷ []
+    record { kind = Join; parent = None; class = 0; alpha = 0; joins = []; children = 1 ∷ []; rights = []; depth = 1 }
+    ∷ record { kind = Negated; parent = Some 0; class = 0; alpha = 0; joins = []; children = 2 ∷ []; rights = []; depth = 2 }
+    ∷ record { kind = Terminal 0; parent = Some 1; class = 0; alpha = 0; joins = []; children = []; rights = []; depth = 3 } ∷ []

@@ -10,9 +10,9 @@ use Rattle.net_base.specs.declared.nodes.Node.{Node}
 -- below that
 abbrev pub two_joins : List Node
 two_joins =
-    record { kind = Join; parent = None; class = 0; alpha = 0; joins = []; children = 1 ∷ []; depth = 1 }
-    ∷ record { kind = Join; parent = Some 0; class = 1; alpha = 1; joins = record { field = 0; pred = Eq; place = 0; other = 0 } ∷ []; children = 2 ∷ []; depth = 2 }
-    ∷ record { kind = Terminal 0; parent = Some 1; class = 0; alpha = 0; joins = []; children = []; depth = 3 } ∷ []
+    record { kind = Join; parent = None; class = 0; alpha = 0; joins = []; children = 1 ∷ []; rights = []; depth = 1 }
+    ∷ record { kind = Join; parent = Some 0; class = 1; alpha = 1; joins = record { field = 0; pred = Eq; place = 0; other = 0 } ∷ []; children = 2 ∷ []; rights = []; depth = 2 }
+    ∷ record { kind = Terminal 0; parent = Some 1; class = 0; alpha = 0; joins = []; children = []; rights = []; depth = 3 } ∷ []
 
 -- an element whose one field is 7
 abbrev pub element_of : ℕ → ℕ → Element

@@ -20,7 +20,7 @@ use token_line::Line;
 use work_store::Store;
 
 // an element with one field
-fn element(alloc: Global, tag: u64, value: i64) -> Result<Element, OutOfMemory>
+fn element(alloc: Global, tag: u64, value: i128) -> Result<Element, OutOfMemory>
     ensures { IfOk result (λ e. e.tag ≡ tag) }
 {
     let fields = Listed::from_array(alloc, [Value::Whole(value)])?;
@@ -65,6 +65,7 @@ fn net_of_one_join(alloc: Global) -> Result<Net, OutOfMemory>
         alpha: 0,
         joins: Listed::new(alloc),
         children: Listed::from_array(alloc, [1])?,
+        rights: Listed::new(alloc),
         depth: 1,
     };
     let terminal = Node {
@@ -74,6 +75,7 @@ fn net_of_one_join(alloc: Global) -> Result<Net, OutOfMemory>
         alpha: 0,
         joins: Listed::new(alloc),
         children: Listed::new(alloc),
+        rights: Listed::new(alloc),
         depth: 2,
     };
     let alphas = Listed::from_array(alloc, [alpha])?;
@@ -189,6 +191,7 @@ fn net_of_one_negated(alloc: Global) -> Result<Net, OutOfMemory>
         alpha: 0,
         joins: Listed::new(alloc),
         children: Listed::from_array(alloc, [1])?,
+        rights: Listed::new(alloc),
         depth: 1,
     };
     let negated = Node {
@@ -198,6 +201,7 @@ fn net_of_one_negated(alloc: Global) -> Result<Net, OutOfMemory>
         alpha: 0,
         joins: Listed::new(alloc),
         children: Listed::from_array(alloc, [2])?,
+        rights: Listed::new(alloc),
         depth: 2,
     };
     let terminal = Node {
@@ -207,6 +211,7 @@ fn net_of_one_negated(alloc: Global) -> Result<Net, OutOfMemory>
         alpha: 0,
         joins: Listed::new(alloc),
         children: Listed::new(alloc),
+        rights: Listed::new(alloc),
         depth: 3,
     };
     let alphas = Listed::from_array(alloc, [alpha])?;

@@ -5,7 +5,7 @@ ghost use Rattle.token_line.specs.Coded.{HasCodes};
 ghost use Rattle.token_line.specs.Lines.{blockers_in, sum_in};
 
 use net_base::net::Net;
-use net_base::nodes::JoinTest;
+use net_base::nodes::{JoinTest, Kind, Node};
 use net_base::tags::Tags;
 use net_base::tasks::{Side, Task};
 use ops_base::elements::Element;
@@ -134,7 +134,7 @@ fn many_tokens_of_several_codes_come_and_go(rt: HostRuntime) -> Result<(), Fail>
 }
 
 // an element with one field
-fn element(alloc: Global, tag: u64, value: i64) -> Result<Element, OutOfMemory>
+fn element(alloc: Global, tag: u64, value: i128) -> Result<Element, OutOfMemory>
     ensures { IfOk result (λ e. e.tag ≡ tag) }
 {
     let mut fields = Listed::new(alloc);
@@ -187,16 +187,30 @@ fn blockers(alloc: Global, line: &Line) -> Result<Option<u64>, OutOfMemory> {
     Ok(spot.kept().map(|cell| cell.blockers))
 }
 
+// a negated node that asks for one value
+fn negated(alloc: Global) -> Result<Node, OutOfMemory> {
+    Ok(Node {
+        kind: Kind::Negated,
+        parent: None,
+        class: 0,
+        alpha: 0,
+        joins: Listed::from_array(alloc, [compare(Pred::Eq)])?,
+        children: Listed::new(alloc),
+        rights: Listed::new(alloc),
+        depth: 1,
+    })
+}
+
 #[test]
 fn a_left_token_is_blocked_by_what_matches(rt: HostRuntime) -> Result<(), Fail> {
     let mut store = Store::new(rt.alloc());
     store.add(element(rt.alloc(), 1, 40)?)?;
     store.add(element(rt.alloc(), 2, 40)?)?;
-    let tests = [compare(Pred::Eq)];
+    let node = negated(rt.alloc())?;
     let mut line = line_of_one(rt.alloc(), 2)?;
-    line.block(&store, &tests, 3, 5, 1, true);
+    line.block(&store, &node, 3, 5, &[1], true);
     assert_eq!(rt; blockers(rt.alloc(), &line)?, Some(3));
-    line.block(&store, &tests, 3, 5, 1, false);
+    line.block(&store, &node, 3, 5, &[1], false);
     assert_eq!(rt; blockers(rt.alloc(), &line)?, Some(2));
     Ok(())
 }

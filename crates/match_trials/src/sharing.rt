@@ -63,6 +63,7 @@ fn twin(alloc: Global) -> Result<Net, OutOfMemory> {
         alpha: 0,
         joins: Listed::new(alloc),
         children: Listed::from_array(alloc, [1])?,
+        rights: Listed::new(alloc),
         depth: 1,
     };
     let second = Node {
@@ -72,6 +73,7 @@ fn twin(alloc: Global) -> Result<Net, OutOfMemory> {
         alpha: 0,
         joins: Listed::from_array(alloc, [same])?,
         children: Listed::from_array(alloc, [2])?,
+        rights: Listed::new(alloc),
         depth: 2,
     };
     let terminal = Node {
@@ -81,6 +83,7 @@ fn twin(alloc: Global) -> Result<Net, OutOfMemory> {
         alpha: 0,
         joins: Listed::new(alloc),
         children: Listed::new(alloc),
+        rights: Listed::new(alloc),
         depth: 3,
     };
     let alphas = Listed::from_array(alloc, [alpha(alloc, 0)])?;

@@ -18,14 +18,14 @@ use step_core::world::{Step, World};
 use token_line::{code_of, line_of};
 use work_store::Store;
 
-fn element(alloc: Global, tag: u64, class: usize) -> Result<Element, OutOfMemory>
+pub(crate) fn element(alloc: Global, tag: u64, class: usize) -> Result<Element, OutOfMemory>
     ensures { IfOk result (λ e. e ≡ element_of tag class) }
 {
     let fields = Listed::from_array(alloc, [Value::Whole(7)])?;
     Ok(Element { tag, class, fields })
 }
 
-fn alpha(alloc: Global, class: usize) -> Alpha
+pub(crate) fn alpha(alloc: Global, class: usize) -> Alpha
     ensures { result ≡ record { class = class; tests = [] } }
 {
     Alpha {
@@ -44,6 +44,7 @@ fn first_join(alloc: Global) -> Result<Node, OutOfMemory>
         alpha: 0,
         joins: Listed::new(alloc),
         children: Listed::from_array(alloc, [1])?,
+        rights: Listed::new(alloc),
         depth: 1,
     })
 }
@@ -64,6 +65,7 @@ fn second_join(alloc: Global) -> Result<Node, OutOfMemory>
         alpha: 1,
         joins: Listed::from_array(alloc, [test])?,
         children: Listed::from_array(alloc, [2])?,
+        rights: Listed::new(alloc),
         depth: 2,
     })
 }
@@ -78,6 +80,7 @@ fn terminal(alloc: Global) -> Node
         alpha: 0,
         joins: Listed::new(alloc),
         children: Listed::new(alloc),
+        rights: Listed::new(alloc),
         depth: 3,
     }
 }
@@ -104,14 +107,13 @@ fn store_of_two(alloc: Global) -> Result<Store, OutOfMemory>
     Ok(store)
 }
 
-fn take(
+pub(crate) fn take(
     alloc: Global,
     net: &Net,
     store: &Store,
     world: &mut World,
     step: &Step,
 ) -> Result<(), OutOfMemory>
-    requires net { net.now.nodes ≡ two_joins }
     requires ready { IsReady net.now.nodes store.now world.old }
     requires within { IsWithin store.now world.old step.now }
     ensures { IsReady net.now.nodes store.now world.new }
@@ -120,7 +122,7 @@ fn take(
 }
 
 // the element of that tag comes
-fn come(
+pub(crate) fn come(
     alloc: Global,
     net: &Net,
     store: &Store,
@@ -128,7 +130,6 @@ fn come(
     tag: u64,
     class: usize,
 ) -> Result<(), OutOfMemory>
-    requires net { net.now.nodes ≡ two_joins }
     requires ready { IsReady net.now.nodes store.now world.old }
     requires held { held_of store.now tag ≡ Some (element_of tag class) }
     ensures { IsReady net.now.nodes store.now world.new }
@@ -139,7 +140,6 @@ fn come(
 
 // four lines, and the element 1 has come
 fn first_world(alloc: Global, net: &Net, store: &Store) -> Result<World, OutOfMemory>
-    requires net { net.now.nodes ≡ two_joins }
     requires held { held_of store.now 1 ≡ Some (element_of 1 0) }
     ensures { IfOk result (λ w. IsReady net.now.nodes store.now w) }
 {
@@ -149,14 +149,13 @@ fn first_world(alloc: Global, net: &Net, store: &Store) -> Result<World, OutOfMe
 }
 
 // activates the task at that place, if it is there
-fn activate(
+pub(crate) fn activate(
     alloc: Global,
     net: &Net,
     store: &Store,
     world: &mut World,
     index: usize,
 ) -> Result<(), OutOfMemory>
-    requires net { net.now.nodes ≡ two_joins }
     requires ready { IsReady net.now.nodes store.now world.old }
     ensures { IsReady net.now.nodes store.now world.new }
 {
@@ -167,8 +166,12 @@ fn activate(
 }
 
 // finishes the last entry, if one is done
-fn finish(alloc: Global, net: &Net, store: &Store, world: &mut World) -> Result<(), OutOfMemory>
-    requires net { net.now.nodes ≡ two_joins }
+pub(crate) fn finish(
+    alloc: Global,
+    net: &Net,
+    store: &Store,
+    world: &mut World,
+) -> Result<(), OutOfMemory>
     requires ready { IsReady net.now.nodes store.now world.old }
     ensures { IsReady net.now.nodes store.now world.new }
 {
@@ -179,15 +182,20 @@ fn finish(alloc: Global, net: &Net, store: &Store, world: &mut World) -> Result<
     Ok(())
 }
 
-// takes step after step, the last task first
-fn settle(alloc: Global, net: &Net, store: &Store, world: &mut World) -> Result<(), OutOfMemory>
-    requires net { net.now.nodes ≡ two_joins }
+// takes step after step, the last task first, and leaves the first tasks in flight, so many
+pub(crate) fn settle_behind(
+    alloc: Global,
+    net: &Net,
+    store: &Store,
+    world: &mut World,
+    waiting: usize,
+) -> Result<(), OutOfMemory>
     requires ready { IsReady net.now.nodes store.now world.old }
     ensures { IsReady net.now.nodes store.now world.new }
 {
     for _turn in 0..20 {
         let tasks = world.in_flight();
-        if tasks > 0 {
+        if tasks > waiting {
             activate(alloc, net, store, world, tasks - 1)?;
         }
         finish(alloc, net, store, world)?;
@@ -195,9 +203,21 @@ fn settle(alloc: Global, net: &Net, store: &Store, world: &mut World) -> Result<
     Ok(())
 }
 
+// the same, and leaves none
+pub(crate) fn settle(
+    alloc: Global,
+    net: &Net,
+    store: &Store,
+    world: &mut World,
+) -> Result<(), OutOfMemory>
+    requires ready { IsReady net.now.nodes store.now world.old }
+    ensures { IsReady net.now.nodes store.now world.new }
+{
+    settle_behind(alloc, net, store, world, 0)
+}
+
 // does the last task, as long as there is one
 fn work(alloc: Global, net: &Net, store: &Store, world: &mut World) -> Result<(), OutOfMemory>
-    requires net { net.now.nodes ≡ two_joins }
     requires ready { IsReady net.now.nodes store.now world.old }
     ensures { IsReady net.now.nodes store.now world.new }
 {
@@ -334,6 +354,28 @@ fn equal_values_have_one_code(rt: HostRuntime) -> Result<(), Fail> {
     let store = store_of_two(rt.alloc())?;
     assert_eq!(rt; code(rt.alloc(), &net, &store, Side::Left, 1)?, 38);
     assert_eq!(rt; code(rt.alloc(), &net, &store, Side::Right, 2)?, 38);
+    Ok(())
+}
+
+// an element of class 1 whose one field is 7 more than 2^64
+fn wide_element(alloc: Global, tag: u64) -> Result<Element, OutOfMemory>
+    ensures { IfOk result (λ e. e.tag ≡ tag) }
+{
+    let value = Value::Whole(18_446_744_073_709_551_623);
+    let fields = Listed::from_array(alloc, [value])?;
+    Ok(Element {
+        tag,
+        class: 1,
+        fields,
+    })
+}
+
+#[test]
+fn a_code_goes_by_64_bits_of_a_value(rt: HostRuntime) -> Result<(), Fail> {
+    let net = net_of_two_joins(rt.alloc())?;
+    let mut store = store_of_two(rt.alloc())?;
+    store.add(wide_element(rt.alloc(), 3)?)?;
+    assert_eq!(rt; code(rt.alloc(), &net, &store, Side::Right, 3)?, 38);
     Ok(())
 }
 

@@ -1,5 +1,5 @@
 -- What is looked up: numbers of list items, the index of the alphas, and what an element finds in it.
-use Rattle.std.proofs.Common.{◌≡◌, ◌≢◌, ℕ, zero, suc, ◌+◌, ◌<◌, Bool, true, false, cond, not, ◌||◌, ◌&&◌, ◌==◌, List, [], ◌∷◌, ◌++◌, length, slice_get, Option, Some, None, refl, sym, ap, subst, ◌∙◌, arith, add-one, append-nil, inl, inr}
+use Rattle.std.proofs.Common.{◌≡◌, ◌≢◌, ℕ, zero, suc, ◌+◌, ◌<◌, Bool, true, false, cond, ◌||◌, ◌&&◌, ◌==◌, List, [], ◌∷◌, ◌++◌, length, slice_get, Option, Some, None, refl, sym, ap, subst, ◌∙◌, arith, add-one, append-nil, inl, inr}
 use Rattle.std.specs.List.{list_any, list_all, flat_map, All, AllPairs, Contains}
 use Rattle.std.specs.Prelude.{IsTrue}
 use Rattle.std.proofs.lemmas.Bool.{eqb-true, eqb-false, and_parts, and_from}
@@ -16,7 +16,7 @@ use Rattle.ops_base.proofs.Members.{IsMember, all_from_members, contains_from_me
 use Rattle.net_base.specs.declared.nodes.Alpha.{Alpha}
 use Rattle.net_base.specs.declared.nodes.Node.{Node}
 use Rattle.net_base.specs.declared.rows.Rows.{Rows}
-use Rattle.net_base.specs.Sound.{is_terminal}
+use Rattle.net_base.specs.Sound.{takes_elements}
 use Rattle.net_base.specs.declared.keys.Constant.{Constant}
 use Rattle.net_base.specs.declared.keys.Key.{Key}
 use Rattle.net_base.specs.declared.alpha_index.AlphaIndex.{AlphaIndex}
@@ -33,19 +33,19 @@ pub numbers_more : {X : Type 0} (test : X → Bool) (xs : List X) (i : ℕ) (x :
 numbers_more test xs i x at = ap (numbers_below test xs) (add-one i) ∙ ap (λ o. numbers_below test xs i ++ number_if test o i) at
 
 -- one node more takes the elements of its alpha
-pub takers_more : (nodes : List Node) (i : ℕ) (x : Node) (old new : Rows) → slice_get nodes i ≡ Some x → is_terminal x.kind ≡ false → AddsTo old new x.alpha i
+pub takers_more : (nodes : List Node) (i : ℕ) (x : Node) (old new : Rows) → slice_get nodes i ≡ Some x → takes_elements x.kind ≡ true → AddsTo old new x.alpha i
     → ((alpha : ℕ) → row_at old alpha ≡ numbers_below (takes_from alpha) nodes i) → (alpha : ℕ) → row_at new alpha ≡ numbers_below (takes_from alpha) nodes (i + 1)
 takers_more nodes i x old new at lives adds h alpha =
     adds alpha ∙ (ap (λ ns. ns ++ cond (x.alpha == alpha) (i ∷ []) []) (h alpha)
-    ∙ sym (numbers_more (takes_from alpha) nodes i x at ∙ ap (λ b. numbers_below (takes_from alpha) nodes i ++ cond (not b && (x.alpha == alpha)) (i ∷ []) []) lives))
+    ∙ sym (numbers_more (takes_from alpha) nodes i x at ∙ ap (λ b. numbers_below (takes_from alpha) nodes i ++ cond (b && (x.alpha == alpha)) (i ∷ []) []) lives))
 
--- a terminal takes none
-pub takers_same : (nodes : List Node) (i : ℕ) (x : Node) (rows : Rows) → slice_get nodes i ≡ Some x → is_terminal x.kind ≡ true
+-- another node takes none
+pub takers_same : (nodes : List Node) (i : ℕ) (x : Node) (rows : Rows) → slice_get nodes i ≡ Some x → takes_elements x.kind ≡ false
     → ((alpha : ℕ) → row_at rows alpha ≡ numbers_below (takes_from alpha) nodes i) → (alpha : ℕ) → row_at rows alpha ≡ numbers_below (takes_from alpha) nodes (i + 1)
 takers_same nodes i x rows at ends h alpha =
     h alpha
     ∙ sym (numbers_more (takes_from alpha) nodes i x at
-    ∙ (ap (λ b. numbers_below (takes_from alpha) nodes i ++ cond (not b && (x.alpha == alpha)) (i ∷ []) []) ends ∙ append-nil (numbers_below (takes_from alpha) nodes i)))
+    ∙ (ap (λ b. numbers_below (takes_from alpha) nodes i ++ cond (b && (x.alpha == alpha)) (i ∷ []) []) ends ∙ append-nil (numbers_below (takes_from alpha) nodes i)))
 
 -- one alpha more
 pub index_more : (alphas : List Alpha) (i : ℕ) (a : Alpha) (old new : AlphaIndex) → slice_get alphas i ≡ Some a → IsIndexBelow alphas i old → AddsAlpha old new i a → IsIndexBelow alphas (i + 1) new

@@ -7,20 +7,23 @@ use Rattle.std.specs.Bool.{MatchBool}
 use Rattle.std.specs.List.{list_all}
 use Rattle.ops_base.specs.declared.elements.Element.{Element}
 use Rattle.ops_base.specs.declared.conditions.Condition.{Condition}
+use Rattle.ops_base.specs.declared.conditions.Part.{Part}
+use Rattle.ops_base.specs.declared.conditions.Part.TheVariants.{One, Group}
 use Rattle.ops_base.specs.declared.matching.Binding.{Binding}
 use Rattle.ops_base.specs.Matching.{match_of, after_tests}
-use Rattle.ops_base.specs.Instances.{Meets}
+use Rattle.ops_base.specs.Instances.{Extends, Meets}
 use Rattle.ops_base.proofs.Members.{IsMember, member_from_contains, contains_from_member}
 use Rattle.ops_base.proofs.InOrder.{AllBefore, TagBelow, tags_in_order}
 use Rattle.net_base.specs.declared.nodes.Alpha.{Alpha}
 use Rattle.net_base.specs.declared.normal.Binder.{Binder}
-use Rattle.net_base.specs.Normal.{AreBelow, binders_after, normal_tests, normal_conditions, alpha_tests, join_tests}
-use Rattle.net_base.specs.Tokens.{Elements, Tokens, elements_of, alpha_test_holds, passes_alpha, join_test_holds, joins_hold, count_below, times_passed, memory_gives, root_gives}
+use Rattle.net_base.specs.Normal.{AreBelow, binders_after, normal_tests, normal_members, normal_parts, alpha_tests, join_tests}
+use Rattle.net_base.specs.Tokens.{Elements, Tokens, elements_of, alpha_test_holds, passes_alpha, join_test_holds, joins_hold, sum_to, times_passed, memory_gives, root_gives}
 use Rattle.net_base.specs.Network.{IsWm}
-use Rattle.net_base.proofs.Variables.{bindings_at, AreBound, HaveBound, below_up, below_after}
+use Rattle.net_base.proofs.Variables.{bindings_at, AreBound, MembersBound, HaveBound, below_up, below_after}
 use Rattle.net_base.proofs.OneElement.{after_tests_is}
 use Rattle.net_base.proofs.TwoParts.{at_other, at_own, two_parts}
-use Rattle.net_base.proofs.Steps.{Step, none_joins, take_one, matches, steps_of}
+use Rattle.net_base.proofs.Steps.{Single, Step, Alone, Many, none_joins, none_takes, take_one, takes, matches, singles_of, steps_of}
+use Rattle.net_base.proofs.Tuples.{AreSmall, tuples_none, tuples_each}
 
 -- a further tag changes no value of the binders before
 grown : (el : Elements) (t : List ℕ) (x : ℕ) (bs : List Binder) → AreBelow (length t) bs → bindings_at el t bs ≡ bindings_at el (t ++ x ∷ []) bs
@@ -56,13 +59,16 @@ member_in (f ∷ es) tag e q = by_tag (λ r. member_in es tag e r) (f.tag == tag
 pub member_of : (wm : List Element) (tag : ℕ) (e : Element) → elements_of wm tag ≡ Some e → Contains wm e × (e.tag ≡ tag)
 member_of wm tag e q = let m = member_in wm tag e q in (contains_from_member e wm m.0, m.1)
 
-tag_below : (wm : List Element) → IsWm wm → (e : Element) → Contains wm e → e.tag < 2 ^ 64
+pub tag_below : (wm : List Element) → IsWm wm → (e : Element) → Contains wm e → e.tag < 2 ^ 64
 tag_below wm w e m = All-contains (λ (e : Element). e.tag < 2 ^ 64) wm e w.small m
 
 -- ---- sums below a bound
 
+abbrev count_below : ℕ → (ℕ → Bool) → Tokens → ℕ
+count_below n test right = sum_to n (λ k. cond (test k) (right (k ∷ [])) 0)
+
 count_none : (n : ℕ) (p : ℕ → Bool) (r : Tokens) → ((k : ℕ) → p k ≡ true → r (k ∷ []) ≡ 0) → count_below n p r ≡ 0
-unfolding count_below
+unfolding sum_to
 count_none zero p r h = refl
 count_none (suc k) p r h = let a = by_test (p k) refl in let b = count_none k p r h in omega arith
   where
@@ -71,7 +77,7 @@ count_none (suc k) p r h = let a = by_test (p k) refl in let b = count_none k p 
     by_test false e = refl
 
 count_each : (n : ℕ) (p : ℕ → Bool) (r : Tokens) → count_below n p r ≡ 0 → (k : ℕ) → k < n → p k ≡ true → r (k ∷ []) ≡ 0
-unfolding count_below
+unfolding sum_to
 count_each zero p r h k lt t = absurd (omega arith)
 count_each (suc n) p r h k lt t = by_same (λ g l. count_each n p r g k l t) (k == n) refl
   where
@@ -88,9 +94,9 @@ count_each (suc n) p r h k lt t = by_same (λ g l. count_each n p r g k l t) (k 
 abbrev alpha_at : ℕ → Condition → List Binder → Alpha
 alpha_at m c bs = record { class = c.class; tests = alpha_tests m (normal_tests m c.tests bs) }
 
--- the condition's own step after m positive ones
-abbrev own : ℕ → Condition → List Binder → Step
-own m c bs = record { negated = c.negated; alpha = Some (alpha_at m c bs); tests = join_tests m (normal_tests m c.tests bs) }
+-- the condition's own alpha and join tests after m positive ones
+abbrev own : ℕ → Condition → List Binder → Single
+own m c bs = record { alpha = Some (alpha_at m c bs); tests = join_tests m (normal_tests m c.tests bs) }
 
 -- the match of one element: its alpha tests, and its join tests with the tags before
 match_is : (wm : List Element) (c : Condition) (bs : List Binder) (t : List ℕ) (x : ℕ) (e : Element) → AreBelow (length t) bs → AreBound (length t) c.tests bs → elements_of wm x ≡ Some e
@@ -124,8 +130,12 @@ neither false b m h t = refl
 take_is_one : (j : Bool) (r g : ℕ) → j ≡ true → r ≡ 1 → g ≡ 1 → cond j (r * g) 0 ≡ 1
 take_is_one j r g a b c = ap₂ (λ x y. cond x (y * g) 0) a b ∙ ap (λ z. 1 * z) c
 
-abbrev pub steps_from : ℕ → List Condition → List Binder → List Step
-steps_from m cs bs = steps_of m (normal_conditions m cs bs)
+abbrev pub steps_from : ℕ → List Part → List Binder → List Step
+steps_from m ps bs = steps_of m (normal_parts m ps bs)
+
+-- the members of a group after m positive conditions
+abbrev members_from : ℕ → List Condition → List Binder → List Single
+members_from m cs bs = singles_of m (normal_members m cs bs)
 
 abbrev joined : List Element → Condition → List Binder → List ℕ → ℕ → Bool
 joined wm c bs t x = joins_hold (own (length t) c bs).tests (elements_of wm) t x
@@ -159,16 +169,16 @@ none_from wm w c bs t low bound h e m =
 -- ---- the walk
 
 -- the steps after those of the condition c, which is negated where b says so
-abbrev more_steps : Bool → ℕ → Condition → List Condition → List Binder → List Step
+abbrev more_steps : Bool → ℕ → Condition → List Part → List Binder → List Step
 more_steps b m c cs bs =
-    cond b (steps_of m (cond b (normal_conditions m cs bs) (normal_conditions (suc m) cs (binders_after m c.tests bs))))
-    (steps_of (suc m) (cond b (normal_conditions m cs bs) (normal_conditions (suc m) cs (binders_after m c.tests bs))))
+    cond b (steps_of m (cond b (normal_parts m cs bs) (normal_parts (suc m) cs (binders_after m c.tests bs))))
+    (steps_of (suc m) (cond b (normal_parts m cs bs) (normal_parts (suc m) cs (binders_after m c.tests bs))))
 
 abbrev pub matched : List Element → List Step → List ℕ → Tokens
 matched wm ss t tags = matches (2 ^ 64) (elements_of wm) wm ss t tags
 
 -- one step of the walk, which is negated where b says so
-abbrev one_step : Bool → List Element → Step → List Step → List ℕ → Tokens
+abbrev one_step : Bool → List Element → Single → List Step → List ℕ → Tokens
 one_step b wm s ss t tags =
     cond b (cond (none_joins (2 ^ 64) (elements_of wm) wm s t) (matched wm ss t tags) 0)
     (take_one (elements_of wm) wm s (λ u ys. matched wm ss u ys) t tags)
@@ -176,13 +186,13 @@ one_step b wm s ss t tags =
 abbrev pub valued : List Element → List ℕ → List Binder → List Binding
 valued wm t bs = bindings_at (elements_of wm) t bs
 
-abbrev MeetsNegated : List Element → Condition → List Condition → List Binding → List ℕ → Type 0
+abbrev MeetsNegated : List Element → Condition → List Part → List Binding → List ℕ → Type 0
 MeetsNegated wm c cs bindings tags = ((e : Element) → Contains wm e → match_of c e bindings ≡ None) × Meets wm cs bindings tags
 
-abbrev MeetsPositive : List Element → Condition → List Condition → List Binding → List ℕ → Type 0
+abbrev MeetsPositive : List Element → Condition → List Part → List Binding → List ℕ → Type 0
 MeetsPositive wm c cs bindings tags = (e : Element) × (next : List Binding) × (rest : List ℕ) × Contains wm e × (match_of c e bindings ≡ Some next) × (tags ≡ e.tag ∷ rest) × Meets wm cs next rest
 
-abbrev MoreBound : Bool → ℕ → Condition → List Condition → List Binder → Type 0
+abbrev MoreBound : Bool → ℕ → Condition → List Part → List Binder → Type 0
 MoreBound b m c cs bs = MatchBool b (HaveBound m cs bs) (HaveBound (suc m) cs (binders_after m c.tests bs))
 
 length_push : (t : List ℕ) (x : ℕ) → length (t ++ x ∷ []) ≡ suc (length t)
@@ -192,29 +202,8 @@ length_push t x = omega (arith, length-append t (x ∷ []))
 below_next : (t : List ℕ) (x : ℕ) (c : Condition) (bs : List Binder) → AreBelow (length t) bs → AreBelow (length (t ++ x ∷ [])) (binders_after (length t) c.tests bs)
 below_next t x c bs low = subst (λ m. AreBelow m (binders_after (length t) c.tests bs)) (sym (length_push t x)) (below_after (length t) c.tests bs (below_up (length t) bs low))
 
-have_next : (t : List ℕ) (x : ℕ) (c : Condition) (cs : List Condition) (bs : List Binder) → HaveBound (suc (length t)) cs (binders_after (length t) c.tests bs) → HaveBound (length (t ++ x ∷ [])) cs (binders_after (length t) c.tests bs)
+have_next : (t : List ℕ) (x : ℕ) (c : Condition) (cs : List Part) (bs : List Binder) → HaveBound (suc (length t)) cs (binders_after (length t) c.tests bs) → HaveBound (length (t ++ x ∷ [])) cs (binders_after (length t) c.tests bs)
 have_next t x c cs bs have = subst (λ m. HaveBound m cs (binders_after (length t) c.tests bs)) (sym (length_push t x)) have
-
--- what the rule accepts its steps accept once
-pub accepts : (wm : List Element) → IsWm wm → (cs : List Condition) (bs : List Binder) (t tags : List ℕ) → AreBelow (length t) bs → HaveBound (length t) cs bs → Meets wm cs (valued wm t bs) tags → matched wm (steps_from (length t) cs bs) t tags ≡ 1
-accepts wm w [] bs t tags low have i = ap root_gives i
-accepts wm w (c ∷ cs) bs t tags low have i = by_sign (λ bs' t' tags' l h j. accepts wm w cs bs' t' tags' l h j) c.negated have.1 i
-  where
-    by_sign : ((bs' : List Binder) (t' tags' : List ℕ) → AreBelow (length t') bs' → HaveBound (length t') cs bs' → Meets wm cs (valued wm t' bs') tags' → matched wm (steps_from (length t') cs bs') t' tags' ≡ 1)
-        → (b : Bool) → MoreBound b (length t) c cs bs → MatchBool b (MeetsNegated wm c cs (valued wm t bs) tags) (MeetsPositive wm c cs (valued wm t bs) tags)
-        → one_step b wm (own (length t) c bs) (more_steps b (length t) c cs bs) t tags ≡ 1
-    by_sign ih true more i = ap (λ b. cond b (matched wm (steps_from (length t) cs bs) t tags) 0) (none_to wm c bs t low have.0 i.0) ∙ ih bs t tags low more i.1
-    by_sign ih false more i =
-        let e = i.0 in
-        let is = found_of wm w e i.3 in
-        let p = both (passes_alpha (alpha_at (length t) c bs) e) (joined wm c bs t e.tag) (valued wm (t ++ e.tag ∷ []) (binders_after (length t) c.tests bs)) i.1 (sym (match_is wm c bs t e.tag e low have.0 is) ∙ i.4) in
-        let right : memory_gives wm (own (length t) c bs).alpha (e.tag ∷ []) ≡ 1 = ap (times_passed (own (length t) c bs).alpha) is ∙ ap (λ b. cond b 1 0) p.0 in
-        let meets : Meets wm cs (valued wm (t ++ e.tag ∷ []) (binders_after (length t) c.tests bs)) i.2 = subst (λ b. Meets wm cs b i.2) (sym p.2) i.6 in
-        let go = ih (binders_after (length t) c.tests bs) (t ++ e.tag ∷ []) i.2 (below_next t e.tag c bs low) (have_next t e.tag c cs bs more) meets in
-        let go' : matched wm (steps_from (suc (length t)) cs (binders_after (length t) c.tests bs)) (t ++ e.tag ∷ []) i.2 ≡ 1 =
-        ap (λ m. matched wm (steps_from m cs (binders_after (length t) c.tests bs)) (t ++ e.tag ∷ []) i.2) (sym (length_push t e.tag)) ∙ go in
-        ap (λ ys. take_one (elements_of wm) wm (own (length t) c bs) (λ u zs. matched wm (more_steps false (length t) c cs bs) u zs) t ys) i.5
-        ∙ take_is_one (joined wm c bs t e.tag) (memory_gives wm (own (length t) c bs).alpha (e.tag ∷ [])) (matched wm (more_steps false (length t) c cs bs) (t ++ e.tag ∷ []) i.2) p.1 right go'
 
 -- a positive step that is taken once
 one_taken : (j : Bool) (r g : ℕ) → cond j (r * g) 0 ≡ 1 → r ≤ 1 → (j ≡ true) × (r ≡ 1) × (g ≡ 1)
@@ -235,16 +224,135 @@ is_one : (b : Bool) → ◌≡◌ {A = ℕ} (cond b 1 0) 1 → b ≡ true
 is_one true h = refl
 is_one false h = absurd (omega arith)
 
-times_least : (a : Option Alpha) (o : Option Element) → times_passed a o ≤ 1
+pub times_least : (a : Option Alpha) (o : Option Element) → times_passed a o ≤ 1
 times_least None o = omega arith
 times_least (Some a) None = omega arith
 times_least (Some a) (Some e) = at_most_one (passes_alpha a e)
 
+-- ---- the members of a group
+
+members_next : (t : List ℕ) (x : ℕ) (c : Condition) (cs : List Condition) (bs : List Binder) → MembersBound (suc (length t)) cs (binders_after (length t) c.tests bs) → MembersBound (length (t ++ x ∷ [])) cs (binders_after (length t) c.tests bs)
+members_next t x c cs bs have = subst (λ m. MembersBound m cs (binders_after (length t) c.tests bs)) (sym (length_push t x)) have
+
+abbrev taken : List Element → List Single → List ℕ → Tokens
+taken wm ss t v = takes (elements_of wm) wm ss t v
+
+count_members : (m : ℕ) (cs : List Condition) (bs : List Binder) → length (members_from m cs bs) ≡ length cs
+count_members m [] bs = refl
+count_members m (c ∷ cs) bs = ap suc (count_members (suc m) cs (binders_after m c.tests bs))
+
+-- tags that the members take
+record Taken (wm : List Element) (cs : List Condition) (bs : List Binder) (t : List ℕ) : Type 0 where
+  tags : List ℕ
+  count : length tags ≡ length cs
+  small : AreSmall (2 ^ 64) tags
+  once : taken wm (members_from (length t) cs bs) t tags ≡ 1
+
+-- where the bindings can be extended, the members take tags
+members_accept : (wm : List Element) → IsWm wm → (cs : List Condition) (bs : List Binder) (t : List ℕ) → AreBelow (length t) bs → MembersBound (length t) cs bs → Extends wm cs (valued wm t bs) → Taken wm cs bs t
+members_accept wm w [] bs t low have i = record { tags = []; count = refl; small = tt; once = refl }
+members_accept wm w (c ∷ cs) bs t low have i =
+    let e = i.0 in
+    let is = found_of wm w e i.2 in
+    let p = both (passes_alpha (alpha_at (length t) c bs) e) (joined wm c bs t e.tag) (valued wm (t ++ e.tag ∷ []) (binders_after (length t) c.tests bs)) i.1 (sym (match_is wm c bs t e.tag e low have.0 is) ∙ i.3) in
+    let right : memory_gives wm (own (length t) c bs).alpha (e.tag ∷ []) ≡ 1 = ap (times_passed (own (length t) c bs).alpha) is ∙ ap (λ b. cond b 1 0) p.0 in
+    let meets : Extends wm cs (valued wm (t ++ e.tag ∷ []) (binders_after (length t) c.tests bs)) = subst (λ b. Extends wm cs b) (sym p.2) i.4 in
+    let go = members_accept wm w cs (binders_after (length t) c.tests bs) (t ++ e.tag ∷ []) (below_next t e.tag c bs low) (members_next t e.tag c cs bs have.1) meets in
+    let go' : taken wm (members_from (suc (length t)) cs (binders_after (length t) c.tests bs)) (t ++ e.tag ∷ []) go.tags ≡ 1 =
+    ap (λ m. taken wm (members_from m cs (binders_after (length t) c.tests bs)) (t ++ e.tag ∷ []) go.tags) (sym (length_push t e.tag)) ∙ go.once in
+    record {
+      tags = e.tag ∷ go.tags;
+      count = ap suc go.count;
+      small = (tag_below wm w e i.2, go.small);
+      once = take_is_one (joined wm c bs t e.tag) (memory_gives wm (own (length t) c bs).alpha (e.tag ∷ [])) (taken wm (members_from (suc (length t)) cs (binders_after (length t) c.tests bs)) (t ++ e.tag ∷ []) go.tags) p.1 right go';
+    }
+
+-- where the members take tags, the bindings can be extended
+members_accepted : (wm : List Element) → IsWm wm → (cs : List Condition) (bs : List Binder) (t v : List ℕ) → AreBelow (length t) bs → MembersBound (length t) cs bs → taken wm (members_from (length t) cs bs) t v ≡ 1 → Extends wm cs (valued wm t bs)
+members_accepted wm w [] bs t v low have h = tt
+members_accepted wm w (c ∷ cs) bs t [] low have h = absurd (omega arith)
+members_accepted wm w (c ∷ cs) bs t (x ∷ xs) low have h =
+    let p = one_taken (joined wm c bs t x) (memory_gives wm (own (length t) c bs).alpha (x ∷ [])) (taken wm (members_from (suc (length t)) cs (binders_after (length t) c.tests bs)) (t ++ x ∷ []) xs) h (times_least (own (length t) c bs).alpha (elements_of wm x)) in
+    by_element (λ bs' t' l v j. members_accepted wm w cs bs' t' xs l v j) (elements_of wm x) refl p.0 p.1 p.2
+  where
+    by_element : ((bs' : List Binder) (t' : List ℕ) → AreBelow (length t') bs' → MembersBound (length t') cs bs' → taken wm (members_from (length t') cs bs') t' xs ≡ 1 → Extends wm cs (valued wm t' bs'))
+        → (o : Option Element) → elements_of wm x ≡ o → joined wm c bs t x ≡ true → times_passed (own (length t) c bs).alpha o ≡ 1
+        → taken wm (members_from (suc (length t)) cs (binders_after (length t) c.tests bs)) (t ++ x ∷ []) xs ≡ 1
+        → Extends wm (c ∷ cs) (valued wm t bs)
+    by_element ih None is j p g = absurd (omega arith)
+    by_element ih (Some e) is j p g =
+        let m = member_of wm x e is in
+        let a = is_one (passes_alpha (alpha_at (length t) c bs) e) p in
+        let q = match_is wm c bs t x e low have.0 is ∙ ap₂ (λ y z. cond (y && z) (Some (valued wm (t ++ x ∷ []) (binders_after (length t) c.tests bs))) None) a j in
+        let g' = ap (λ m. taken wm (members_from m cs (binders_after (length t) c.tests bs)) (t ++ x ∷ []) xs) (length_push t x) ∙ g in
+        (e, valued wm (t ++ x ∷ []) (binders_after (length t) c.tests bs), m.0, q, ih (binders_after (length t) c.tests bs) (t ++ x ∷ []) (below_next t x c bs low) (members_next t x c cs bs have.1) g')
+
+product_least : (j : Bool) (r g : ℕ) → r ≤ 1 → g ≤ 1 → cond j (r * g) 0 ≤ 1
+product_least true zero g a b = omega arith
+product_least true (suc zero) g a b = omega arith
+product_least true (suc (suc r)) g a b = absurd (omega arith)
+product_least false r g a b = omega arith
+
+taken_least : (wm : List Element) (ss : List Single) (t v : List ℕ) → taken wm ss t v ≤ 1
+taken_least wm [] t [] = omega arith
+taken_least wm [] t (x ∷ xs) = omega arith
+taken_least wm (s ∷ ss) t [] = omega arith
+taken_least wm (s ∷ ss) t (x ∷ xs) =
+    product_least (joins_hold s.tests (elements_of wm) t x) (memory_gives wm s.alpha (x ∷ [])) (taken wm ss (t ++ x ∷ []) xs) (times_least s.alpha (elements_of wm x)) (taken_least wm ss (t ++ x ∷ []) xs)
+
+not_one : (n : ℕ) → n ≤ 1 → (n ≡ 1 → ⊥) → n ≡ 0
+not_one zero le h = refl
+not_one (suc zero) le h = absurd (h refl)
+not_one (suc (suc n)) le h = absurd (omega arith)
+
+abbrev group_count : List Element → List Single → List ℕ → ℕ
+group_count wm ss t = Rattle.net_base.specs.Tokens.count_from (2 ^ 64) (length ss) (λ v. true) (λ v. takes (elements_of wm) wm ss t v) []
+
+group_to : (wm : List Element) → IsWm wm → (cs : List Condition) (bs : List Binder) (t : List ℕ) → AreBelow (length t) bs → MembersBound (length t) cs bs → (Extends wm cs (valued wm t bs) → ⊥) → none_takes (2 ^ 64) (elements_of wm) wm (members_from (length t) cs bs) t ≡ true
+group_to wm w cs bs t low have h =
+    let ss = members_from (length t) cs bs in
+    eq-eqb (group_count wm ss t) 0
+    (tuples_none (2 ^ 64) (length ss) (λ v. true) (λ v. takes (elements_of wm) wm ss t v) []
+    (λ v e s p. not_one (taken wm ss t v) (taken_least wm ss t v) (λ one. h (members_accepted wm w cs bs t v low have one))))
+
+group_from : (wm : List Element) → IsWm wm → (cs : List Condition) (bs : List Binder) (t : List ℕ) → AreBelow (length t) bs → MembersBound (length t) cs bs → none_takes (2 ^ 64) (elements_of wm) wm (members_from (length t) cs bs) t ≡ true → Extends wm cs (valued wm t bs) → ⊥
+group_from wm w cs bs t low have h i =
+    let ss = members_from (length t) cs bs in
+    let k = members_accept wm w cs bs t low have i in
+    let z = tuples_each (2 ^ 64) (length ss) (λ v. true) (λ v. takes (elements_of wm) wm ss t v) [] k.tags (eqb-true (group_count wm ss t) 0 h) (k.count ∙ sym (count_members (length t) cs bs)) k.small refl in
+    absurd (omega (arith, z, k.once))
+
+-- what the rule accepts its steps accept once
+pub accepts : (wm : List Element) → IsWm wm → (cs : List Part) (bs : List Binder) (t tags : List ℕ) → AreBelow (length t) bs → HaveBound (length t) cs bs → Meets wm cs (valued wm t bs) tags → matched wm (steps_from (length t) cs bs) t tags ≡ 1
+accepts wm w [] bs t tags low have i = ap root_gives i
+accepts wm w (Group ms ∷ cs) bs t tags low have i =
+    ap (λ b. cond b (matched wm (steps_from (length t) cs bs) t tags) 0) (group_to wm w ms bs t low have.0 i.0) ∙ accepts wm w cs bs t tags low have.1 i.1
+accepts wm w (One c ∷ cs) bs t tags low have i = by_sign (λ bs' t' tags' l h j. accepts wm w cs bs' t' tags' l h j) c.negated have.1 i
+  where
+    by_sign : ((bs' : List Binder) (t' tags' : List ℕ) → AreBelow (length t') bs' → HaveBound (length t') cs bs' → Meets wm cs (valued wm t' bs') tags' → matched wm (steps_from (length t') cs bs') t' tags' ≡ 1)
+        → (b : Bool) → MoreBound b (length t) c cs bs → MatchBool b (MeetsNegated wm c cs (valued wm t bs) tags) (MeetsPositive wm c cs (valued wm t bs) tags)
+        → one_step b wm (own (length t) c bs) (more_steps b (length t) c cs bs) t tags ≡ 1
+    by_sign ih true more i = ap (λ b. cond b (matched wm (steps_from (length t) cs bs) t tags) 0) (none_to wm c bs t low have.0 i.0) ∙ ih bs t tags low more i.1
+    by_sign ih false more i =
+        let e = i.0 in
+        let is = found_of wm w e i.3 in
+        let p = both (passes_alpha (alpha_at (length t) c bs) e) (joined wm c bs t e.tag) (valued wm (t ++ e.tag ∷ []) (binders_after (length t) c.tests bs)) i.1 (sym (match_is wm c bs t e.tag e low have.0 is) ∙ i.4) in
+        let right : memory_gives wm (own (length t) c bs).alpha (e.tag ∷ []) ≡ 1 = ap (times_passed (own (length t) c bs).alpha) is ∙ ap (λ b. cond b 1 0) p.0 in
+        let meets : Meets wm cs (valued wm (t ++ e.tag ∷ []) (binders_after (length t) c.tests bs)) i.2 = subst (λ b. Meets wm cs b i.2) (sym p.2) i.6 in
+        let go = ih (binders_after (length t) c.tests bs) (t ++ e.tag ∷ []) i.2 (below_next t e.tag c bs low) (have_next t e.tag c cs bs more) meets in
+        let go' : matched wm (steps_from (suc (length t)) cs (binders_after (length t) c.tests bs)) (t ++ e.tag ∷ []) i.2 ≡ 1 =
+        ap (λ m. matched wm (steps_from m cs (binders_after (length t) c.tests bs)) (t ++ e.tag ∷ []) i.2) (sym (length_push t e.tag)) ∙ go in
+        ap (λ ys. take_one (elements_of wm) wm (own (length t) c bs) (λ u zs. matched wm (more_steps false (length t) c cs bs) u zs) t ys) i.5
+        ∙ take_is_one (joined wm c bs t e.tag) (memory_gives wm (own (length t) c bs).alpha (e.tag ∷ [])) (matched wm (more_steps false (length t) c cs bs) (t ++ e.tag ∷ []) i.2) p.1 right go'
+
 -- what the steps accept the rule accepts
-pub accepted : (wm : List Element) → IsWm wm → (cs : List Condition) (bs : List Binder) (t tags : List ℕ) → AreBelow (length t) bs → HaveBound (length t) cs bs → matched wm (steps_from (length t) cs bs) t tags ≡ 1 → Meets wm cs (valued wm t bs) tags
+pub accepted : (wm : List Element) → IsWm wm → (cs : List Part) (bs : List Binder) (t tags : List ℕ) → AreBelow (length t) bs → HaveBound (length t) cs bs → matched wm (steps_from (length t) cs bs) t tags ≡ 1 → Meets wm cs (valued wm t bs) tags
 accepted wm w [] bs t [] low have h = refl
 accepted wm w [] bs t (x ∷ xs) low have h = absurd (omega arith)
-accepted wm w (c ∷ cs) bs t tags low have h = by_sign (λ bs' t' tags' l v j. accepted wm w cs bs' t' tags' l v j) c.negated have.1 h
+accepted wm w (Group ms ∷ cs) bs t tags low have h =
+    let p = none_taken (none_takes (2 ^ 64) (elements_of wm) wm (members_from (length t) ms bs) t) (matched wm (steps_from (length t) cs bs) t tags) h in
+    (λ i. group_from wm w ms bs t low have.0 p.0 i, accepted wm w cs bs t tags low have.1 p.1)
+accepted wm w (One c ∷ cs) bs t tags low have h = by_sign (λ bs' t' tags' l v j. accepted wm w cs bs' t' tags' l v j) c.negated have.1 h
   where
     by_element : ((bs' : List Binder) (t' tags' : List ℕ) → AreBelow (length t') bs' → HaveBound (length t') cs bs' → matched wm (steps_from (length t') cs bs') t' tags' ≡ 1 → Meets wm cs (valued wm t' bs') tags')
         → HaveBound (suc (length t)) cs (binders_after (length t) c.tests bs)
@@ -277,12 +385,6 @@ accepted wm w (c ∷ cs) bs t tags low have h = by_sign (λ bs' t' tags' l v j. 
 
 -- ---- at most once
 
-product_least : (j : Bool) (r g : ℕ) → r ≤ 1 → g ≤ 1 → cond j (r * g) 0 ≤ 1
-product_least true zero g a b = omega arith
-product_least true (suc zero) g a b = omega arith
-product_least true (suc (suc r)) g a b = absurd (omega arith)
-product_least false r g a b = omega arith
-
 kept_least : (b : Bool) (g : ℕ) → g ≤ 1 → cond b g 0 ≤ 1
 kept_least true g h = h
 kept_least false g h = omega arith
@@ -290,7 +392,8 @@ kept_least false g h = omega arith
 pub matched_least : (wm : List Element) (ss : List Step) (t tags : List ℕ) → matched wm ss t tags ≤ 1
 matched_least wm [] t [] = omega arith
 matched_least wm [] t (x ∷ xs) = omega arith
-matched_least wm (s ∷ ss) t tags = by_sign (λ u ys. matched_least wm ss u ys) s.negated
+matched_least wm (Many width ms ∷ ss) t tags = kept_least (none_takes (2 ^ 64) (elements_of wm) wm ms t) (matched wm ss t tags) (matched_least wm ss t tags)
+matched_least wm (Alone b s ∷ ss) t tags = by_sign (λ u ys. matched_least wm ss u ys) b
   where
     by_tags : ((u ys : List ℕ) → matched wm ss u ys ≤ 1) → (ys : List ℕ) → take_one (elements_of wm) wm s (λ u zs. matched wm ss u zs) t ys ≤ 1
     by_tags ih [] = omega arith

@@ -4,6 +4,7 @@ pub mod TwoParts
 pub mod AlphaAlone
 pub mod Places
 pub mod Steps
+pub mod Tuples
 pub mod Chains
 pub mod Paths
 pub mod Instantiations

@@ -20,7 +20,9 @@ use Rattle.net_base.specs.declared.normal.NormalOperand.{NormalOperand}
 use Rattle.net_base.specs.declared.normal.NormalOperand.TheVariants as normal
 use Rattle.net_base.specs.declared.normal.NormalTest.{NormalTest}
 use Rattle.net_base.specs.declared.normal.NormalCondition.{NormalCondition}
-use Rattle.net_base.specs.Counting.{pred_number, are_same_preds, are_same_operands, are_same_tests, are_same_normal_operands, are_same_normal_tests, are_same_conditions, Prefix, are_same_prefixes, are_same_alpha_lists}
+use Rattle.net_base.specs.declared.normal.NormalPart.{NormalPart}
+use Rattle.net_base.specs.declared.normal.NormalPart.TheVariants.{One, Group}
+use Rattle.net_base.specs.Counting.{pred_number, are_same_preds, are_same_operands, are_same_tests, are_same_normal_operands, are_same_normal_tests, are_same_conditions, are_same_parts, Path, are_same_paths, are_same_alpha_lists}
 
 -- of lists, where that of their items is so
 each_Decides : {A : Type 0} {E : A → A → Bool} → ((a b : A) → Decides (E a b) (a ≡ b)) → (xs ys : List A) → Decides (pointwise E xs ys) (xs ≡ ys)
@@ -121,7 +123,7 @@ normal_test_Decides t u =
     (Decides-and (t.field == u.field) (are_same_preds t.pred u.pred) (Decides-eqb t.field u.field) (pred_Decides t.pred u.pred))
     (normal_operand_Decides t.operand u.operand))
 
--- ---- conditions, prefixes and alpha lists
+-- ---- conditions, paths and alpha lists
 
 same_conditions : (c d : NormalCondition) → c.negated ≡ d.negated → c.class ≡ d.class → c.tests ≡ d.tests → c ≡ d
 same_conditions c d n k t = λ i. record { negated = n i; class = k i; tests = t i }
@@ -137,10 +139,16 @@ condition_Decides c d =
 same_pairs : {X Y : Type 0} (a b : X × Y) → a.0 ≡ b.0 → a.1 ≡ b.1 → a ≡ b
 same_pairs a b e f = λ k. (e k, f k)
 
-pub are_same_prefixes-Decides : (p q : Prefix) → Decides (are_same_prefixes p q) (p ≡ q)
-are_same_prefixes-Decides p q =
-    Decides-like (are_same_prefixes p q) (λ h. same_pairs p q h.0 h.1) (λ e. (ap (λ (w : Prefix). w.0) e, ap (λ (w : Prefix). w.1) e))
-    (Decides-and (pointwise are_same_conditions p.0 q.0) (are_same_conditions p.1 q.1) (each_Decides condition_Decides p.0 q.0) (condition_Decides p.1 q.1))
+part_Decides : (p q : NormalPart) → Decides (are_same_parts p q) (p ≡ q)
+part_Decides (One c) (One d) = (λ e. ap One ((condition_Decides c d).0 e), λ e. (condition_Decides c d).1 (cc))
+part_Decides (One c) (Group ds) = (λ e. cc, λ e. cc)
+part_Decides (Group cs) (One d) = (λ e. cc, λ e. cc)
+part_Decides (Group cs) (Group ds) = (λ e. ap Group ((each_Decides condition_Decides cs ds).0 e), λ e. (each_Decides condition_Decides cs ds).1 (cc))
+
+pub are_same_paths-Decides : (p q : Path) → Decides (are_same_paths p q) (p ≡ q)
+are_same_paths-Decides p q =
+    Decides-like (are_same_paths p q) (λ h. same_pairs p q h.0 h.1) (λ e. (ap (λ (w : Path). w.0) e, ap (λ (w : Path). w.1) e))
+    (Decides-and (pointwise are_same_parts p.0 q.0) (are_same_parts p.1 q.1) (each_Decides part_Decides p.0 q.0) (part_Decides p.1 q.1))
 
 pub are_same_alpha_lists-Decides : (a b : ℕ × List Test) → Decides (are_same_alpha_lists a b) (a ≡ b)
 are_same_alpha_lists-Decides a b =

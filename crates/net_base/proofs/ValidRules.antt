@@ -1,6 +1,7 @@
 -- In a valid program each variable that is compared with is bound before, and each rule begins with a positive condition.
-use Rattle.std.proofs.Common.{◌≡◌, ℕ, zero, suc, Bool, true, false, cond, ◌==◌, ◌&&◌, ◌||◌, List, [], ◌∷◌, ◌++◌, map, fold, slice_get, Option, Some, None, refl, sym, ap, ◌∙◌}
+use Rattle.std.proofs.Common.{◌≡◌, ℕ, zero, suc, Bool, true, false, cond, ◌==◌, ◌&&◌, ◌||◌, List, [], ◌∷◌, ◌++◌, length, not, map, fold, slice_get, Option, Some, None, refl, sym, ap, ◌∙◌}
 use Rattle.std.specs.Bool.{MatchBool}
+use Rattle.std.proofs.lemmas.Bool.{leb-true}
 use Rattle.std.specs.List.{list_all}
 use Rattle.ops_base.specs.declared.values.Pred.{Pred}
 use Rattle.ops_base.specs.declared.elements.Class.{Class}
@@ -8,13 +9,16 @@ use Rattle.ops_base.specs.declared.conditions.Operand.{Operand}
 use Rattle.ops_base.specs.declared.conditions.Operand.TheVariants.{Constant, OneOf, Variable}
 use Rattle.ops_base.specs.declared.conditions.Test.{Test}
 use Rattle.ops_base.specs.declared.conditions.Condition.{Condition}
+use Rattle.ops_base.specs.declared.conditions.Part.{Part}
+use Rattle.ops_base.specs.declared.conditions.Part.TheVariants.{One, Group}
 use Rattle.ops_base.specs.declared.commands.Command.{Command}
 use Rattle.ops_base.specs.declared.rules.Rule.{Rule}
-use Rattle.ops_base.specs.Valid.{Sight, is_in, sight_with, sight_after_tests, nothing_in_sight, class_of, operand_is_valid, test_is_valid, tests_are_valid, condition_is_valid, conditions_are_valid, first_is_positive, rule_is_valid, is_valid}
+use Rattle.ops_base.specs.Valid.{Sight, is_in, sight_with, sight_after_tests, nothing_in_sight, class_of, operand_is_valid, test_is_valid, tests_are_valid, condition_is_valid, members_are_valid, sight_after_members, part_is_valid, parts_are_valid, first_is_positive, rule_is_valid, is_valid}
 use Rattle.net_base.specs.declared.normal.Origin.{Origin}
 use Rattle.net_base.specs.declared.normal.Binder.{Binder}
 use Rattle.net_base.specs.Normal.{binders_with, binders_after}
-use Rattle.net_base.proofs.Variables.{IsBound, AreBound, HaveBound, at_place}
+use Rattle.net_base.proofs.Variables.{IsBound, AreBound, MembersBound, HaveBound, at_place}
+use Rattle.net_base.proofs.Places.{AreGroupsOfTwo}
 
 left_of : (a b : Bool) → (a && b) ≡ true → a ≡ true
 left_of true b e = refl
@@ -78,18 +82,33 @@ tests_bound k place s (t ∷ ts) bs e v =
     by_binds ih true o w = ih (sight_with s t.operand) (binders_with bs t.operand (at_place place t)) (with_bound s bs t.operand (at_place place t) e) w
     by_binds ih false o w = let g = ih s bs e w in ((operand_bound s t.pred bs t.operand e o, g.0), g.1)
 
-have_bound : (classes : List Class) (place : ℕ) (s : Sight) (cs : List Condition) (bs : List Binder) → s.bound ≡ variables_of bs → conditions_are_valid classes s cs ≡ true → HaveBound place cs bs
+members_bound : (classes : List Class) (place : ℕ) (s : Sight) (cs : List Condition) (bs : List Binder) → s.bound ≡ variables_of bs → members_are_valid classes s cs ≡ true → MembersBound place cs bs
+members_bound classes place s [] bs e v = tt
+members_bound classes place s (c ∷ cs) bs e v =
+    let g = tests_bound (class_of classes c.class) place s c.tests bs e (right_of _ _ (right_of _ _ (left_of _ _ v))) in
+    (g.0, members_bound classes (suc place) (sight_after_tests s c.tests) cs (binders_after place c.tests bs) g.1 (right_of (not c.negated && condition_is_valid classes s c) _ v))
+
+have_bound : (classes : List Class) (place : ℕ) (s : Sight) (ps : List Part) (bs : List Binder) → s.bound ≡ variables_of bs → parts_are_valid classes s ps ≡ true → HaveBound place ps bs
 have_bound classes place s [] bs e v = tt
-have_bound classes place s (c ∷ cs) bs e v =
+have_bound classes place s (Group cs ∷ ps) bs e v = (
+  members_bound classes place s cs bs e (right_of _ _ (left_of _ _ v)),
+  have_bound classes place (record { bound = s.bound; given = (sight_after_members s cs).given }) ps bs e (right_of (part_is_valid classes s (Group cs)) _ v),
+)
+have_bound classes place s (One c ∷ ps) bs e v =
     let g = tests_bound (class_of classes c.class) place s c.tests bs e (right_of _ _ (left_of _ _ v)) in
-    (g.0, by_sign (λ p r ds q w. have_bound classes p r cs ds q w) c.negated g.1 (right_of (condition_is_valid classes s c) _ v))
+    (g.0, by_sign (λ p r ds q w. have_bound classes p r ps ds q w) c.negated g.1 (right_of (condition_is_valid classes s c) _ v))
   where
-    by_sign : ((p : ℕ) (r : Sight) (ds : List Binder) → r.bound ≡ variables_of ds → conditions_are_valid classes r cs ≡ true → HaveBound p cs ds) → (b : Bool)
+    by_sign : ((p : ℕ) (r : Sight) (ds : List Binder) → r.bound ≡ variables_of ds → parts_are_valid classes r ps ≡ true → HaveBound p ps ds) → (b : Bool)
         → (sight_after_tests s c.tests).bound ≡ variables_of (binders_after place c.tests bs)
-        → conditions_are_valid classes (cond b (record { bound = s.bound; given = (sight_after_tests s c.tests).given }) (sight_after_tests s c.tests)) cs ≡ true
-        → MatchBool b (HaveBound place cs bs) (HaveBound (suc place) cs (binders_after place c.tests bs))
+        → parts_are_valid classes (cond b (record { bound = s.bound; given = (sight_after_tests s c.tests).given }) (sight_after_tests s c.tests)) ps ≡ true
+        → MatchBool b (HaveBound place ps bs) (HaveBound (suc place) ps (binders_after place c.tests bs))
     by_sign ih true q w = ih place (record { bound = s.bound; given = (sight_after_tests s c.tests).given }) bs e w
     by_sign ih false q w = ih (suc place) (sight_after_tests s c.tests) (binders_after place c.tests bs) q w
+
+groups_of_two : (classes : List Class) (s : Sight) (ps : List Part) → parts_are_valid classes s ps ≡ true → AreGroupsOfTwo ps
+groups_of_two classes s [] v = tt
+groups_of_two classes s (One c ∷ ps) v = (tt, groups_of_two classes _ ps (right_of (condition_is_valid classes s c) _ v))
+groups_of_two classes s (Group cs ∷ ps) v = (leb-true 2 (length cs) (left_of _ _ (left_of _ _ v)), groups_of_two classes _ ps (right_of (part_is_valid classes s (Group cs)) _ v))
 
 each_holds : {X : Type 0} (p : X → Bool) (xs : List X) (k : ℕ) (x : X) → list_all p xs ≡ true → slice_get xs k ≡ Some x → p x ≡ true
 each_holds p [] k x e at = cc
@@ -98,6 +117,7 @@ each_holds p (y ∷ xs) (suc k) x e at = each_holds p xs k x (right_of (p y) _ e
 
 pub record IsValidRule (r : Rule) : Type 0 where
   pub bound : HaveBound 0 r.conditions []
+  pub groups : AreGroupsOfTwo r.conditions
   pub positive : first_is_positive r.conditions ≡ true
 
 valid_rule : (classes : List Class) (text : ℕ) (r : Rule) → rule_is_valid classes text r ≡ true → IsValidRule r
@@ -105,6 +125,7 @@ valid_rule classes text r v =
     let third = left_of _ _ (left_of _ _ (left_of _ _ (left_of _ _ (left_of _ _ (left_of _ _ (left_of _ _ v)))))) in
     record {
       bound = have_bound classes 0 nothing_in_sight r.conditions [] refl (right_of _ _ third);
+      groups = groups_of_two classes nothing_in_sight r.conditions (right_of _ _ third);
       positive = left_of _ _ (left_of _ _ third);
     }
 

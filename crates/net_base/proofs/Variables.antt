@@ -6,6 +6,8 @@ use Rattle.ops_base.specs.declared.conditions.Operand.{Operand}
 use Rattle.ops_base.specs.declared.conditions.Operand.TheVariants.{Constant, OneOf, Variable}
 use Rattle.ops_base.specs.declared.conditions.Test.{Test}
 use Rattle.ops_base.specs.declared.conditions.Condition.{Condition}
+use Rattle.ops_base.specs.declared.conditions.Part.{Part}
+use Rattle.ops_base.specs.declared.conditions.Part.TheVariants.{One, Group}
 use Rattle.ops_base.specs.declared.matching.Binding.{Binding}
 use Rattle.ops_base.specs.Matching.{value_of}
 use Rattle.net_base.specs.declared.normal.Origin.{Origin}
@@ -61,10 +63,15 @@ AreBound place [] bs = Unit {0}
 AreBound place (t ∷ ts) bs =
     MatchBool t.binds (AreBound place ts (binders_with bs t.operand (at_place place t))) (IsBound bs t.operand × AreBound place ts bs)
 
-abbrev pub HaveBound : ℕ → List Condition → List Binder → Type 0
+abbrev pub MembersBound : ℕ → List Condition → List Binder → Type 0
+MembersBound place [] bs = Unit {0}
+MembersBound place (c ∷ cs) bs = AreBound place c.tests bs × MembersBound (suc place) cs (binders_after place c.tests bs)
+
+abbrev pub HaveBound : ℕ → List Part → List Binder → Type 0
 HaveBound place [] bs = Unit {0}
-HaveBound place (c ∷ cs) bs =
-    AreBound place c.tests bs × MatchBool c.negated (HaveBound place cs bs) (HaveBound (suc place) cs (binders_after place c.tests bs))
+HaveBound place (One c ∷ ps) bs =
+    AreBound place c.tests bs × MatchBool c.negated (HaveBound place ps bs) (HaveBound (suc place) ps (binders_after place c.tests bs))
+HaveBound place (Group cs ∷ ps) bs = MembersBound place cs bs × HaveBound place ps bs
 
 -- ---- where binders look
 

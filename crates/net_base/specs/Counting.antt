@@ -1,6 +1,6 @@
 -- How large the network of rules is, as numbers that can be computed.
 use mathlib.Core.Bool.{beq}
-use Rattle.std.specs.Prelude.{ℕ, Bool, false, not, ◌==◌, ◌&&◌, List, [], ◌∷◌, ◌++◌, length, map, filter, flat_map}
+use Rattle.std.specs.Prelude.{ℕ, Bool, false, not, ◌==◌, ◌&&◌, List, [], ◌∷◌, ◌++◌, length, filter, flat_map}
 use Rattle.std.specs.Cmp.Lexicographic.{pointwise}
 use Rattle.std.specs.Set.{distinct_count}
 use Rattle.ops_base.specs.Values.{are_same}
@@ -14,9 +14,11 @@ use Rattle.net_base.specs.declared.normal.NormalOperand.{NormalOperand}
 use Rattle.net_base.specs.declared.normal.NormalOperand.TheVariants as normal
 use Rattle.net_base.specs.declared.normal.NormalTest.{NormalTest}
 use Rattle.net_base.specs.declared.normal.NormalCondition.{NormalCondition}
+use Rattle.net_base.specs.declared.normal.NormalPart.{NormalPart}
+use Rattle.net_base.specs.declared.normal.NormalPart.TheVariants.{One, Group}
 use Rattle.net_base.specs.declared.counts.Counts.{Counts}
 use Rattle.net_base.specs.Normal.{alpha_tests}
-use Rattle.net_base.specs.Shape.{normal_form, positives}
+use Rattle.net_base.specs.Shape.{normal_form, is_negative, positives}
 
 -- ---- what is the same
 
@@ -53,39 +55,54 @@ are_same_normal_tests t u = t.field == u.field && are_same_preds t.pred u.pred &
 abbrev pub are_same_conditions : NormalCondition → NormalCondition → Bool
 are_same_conditions c d = beq c.negated d.negated && c.class == d.class && pointwise are_same_normal_tests c.tests d.tests
 
--- ---- prefixes
+abbrev pub are_same_parts : NormalPart → NormalPart → Bool
+are_same_parts (One c) (One d) = are_same_conditions c d
+are_same_parts (Group cs) (Group ds) = pointwise are_same_conditions cs ds
+are_same_parts _ _ = false
 
--- a non-empty prefix, given by what stands before its last condition and by that one
-abbrev pub Prefix : Type 0
-Prefix = List NormalCondition × NormalCondition
+-- ---- paths
 
-abbrev pub are_same_prefixes : Prefix → Prefix → Bool
-are_same_prefixes p q = pointwise are_same_conditions p.0 q.0 && are_same_conditions p.1 q.1
+-- a path, given by what stands before its last part and by that one
+abbrev pub Path : Type 0
+Path = List NormalPart × NormalPart
 
--- the prefixes of conditions that come after these
-abbrev pub prefixes_behind : List NormalCondition → List NormalCondition → List Prefix
-prefixes_behind before [] = []
-prefixes_behind before (c ∷ cs) = (before, c) ∷ prefixes_behind (before ++ c ∷ []) cs
+abbrev pub are_same_paths : Path → Path → Bool
+are_same_paths p q = pointwise are_same_parts p.0 q.0 && are_same_parts p.1 q.1
+
+-- the paths of members that come after these parts
+abbrev pub member_paths : List NormalPart → List NormalCondition → List Path
+member_paths before [] = []
+member_paths before (c ∷ cs) = (before, One c) ∷ member_paths (before ++ One c ∷ []) cs
+
+-- the paths of parts that come after these
+abbrev pub paths_behind : List NormalPart → List NormalPart → List Path
+paths_behind before [] = []
+paths_behind before (One c ∷ ps) = (before, One c) ∷ paths_behind (before ++ One c ∷ []) ps
+paths_behind before (Group cs ∷ ps) = member_paths before cs ++ (before, Group cs) ∷ paths_behind (before ++ Group cs ∷ []) ps
 
 -- those of all rules, rule by rule
-abbrev pub prefixes_of : List Rule → List Prefix
-prefixes_of rules = flat_map (λ r. prefixes_behind [] (normal_form r)) rules
+abbrev pub paths_of : List Rule → List Path
+paths_of rules = flat_map (λ r. paths_behind [] (normal_form r)) rules
 
--- the class and the alpha tests of a prefix's last condition
-abbrev pub alpha_list : Prefix → ℕ × List Test
-alpha_list p = (p.1.class, alpha_tests (positives p.0) p.1.tests)
+abbrev pub alpha_list : List NormalPart → NormalPart → List (ℕ × List Test)
+alpha_list before (One c) = (c.class, alpha_tests (positives before) c.tests) ∷ []
+alpha_list before (Group cs) = []
+
+-- the class and the alpha tests of a path's last part, where that is a condition
+abbrev pub alpha_list_of : Path → List (ℕ × List Test)
+alpha_list_of p = alpha_list p.0 p.1
 
 abbrev pub are_same_alpha_lists : ℕ × List Test → ℕ × List Test → Bool
 are_same_alpha_lists a b = a.0 == b.0 && pointwise are_same_tests a.1 b.1
 
 -- ---- the numbers
 
--- the distinct pairs of a class and a list of alpha tests, the distinct prefixes that end in a positive condition and
--- those that end in a negated one, and the rules
+-- the distinct pairs of a class and a list of alpha tests, the distinct paths that end in a positive condition and
+-- those that end in a negated one or a group, and the rules
 abbrev pub shape_of : List Rule → Counts
 shape_of rules = record {
-  alpha = distinct_count are_same_alpha_lists (map alpha_list (prefixes_of rules));
-  join = distinct_count are_same_prefixes (filter (λ p. not p.1.negated) (prefixes_of rules));
-  negated = distinct_count are_same_prefixes (filter (λ p. p.1.negated) (prefixes_of rules));
+  alpha = distinct_count are_same_alpha_lists (flat_map alpha_list_of (paths_of rules));
+  join = distinct_count are_same_paths (filter (λ p. not (is_negative p.1)) (paths_of rules));
+  negated = distinct_count are_same_paths (filter (λ p. is_negative p.1) (paths_of rules));
   terminal = length rules;
 }

@@ -1,5 +1,5 @@
 -- Which alphas an element can pass, and which nodes take the elements of an alpha.
-use Rattle.std.specs.Prelude.{◌≡◌, ◌≢◌, ◌<◌, ◌==◌, ◌&&◌, ℕ, zero, suc, Bool, true, not, List, [], ◌∷◌, ◌++◌, length, flat_map, slice_get, Option, Some, None, AllPairs, IsTrue, if◌then◌else◌}
+use Rattle.std.specs.Prelude.{◌≡◌, ◌≢◌, ◌<◌, ◌==◌, ◌&&◌, ℕ, zero, suc, Bool, true, List, [], ◌∷◌, ◌++◌, length, flat_map, slice_get, Option, Some, None, AllPairs, IsTrue, if◌then◌else◌}
 use Rattle.std.specs.List.{list_any}
 use Rattle.ops_base.specs.declared.values.Pred.{Pred}
 use Rattle.ops_base.specs.declared.values.Pred.TheVariants.{Eq}
@@ -14,7 +14,7 @@ use Rattle.net_base.specs.declared.nodes.Alpha.{Alpha}
 use Rattle.net_base.specs.declared.keys.Constant.{Constant}
 use Rattle.net_base.specs.declared.keys.Key.{Key}
 use Rattle.net_base.specs.declared.alpha_index.AlphaIndex.{AlphaIndex}
-use Rattle.net_base.specs.Sound.{is_terminal}
+use Rattle.net_base.specs.Sound.{takes_elements}
 use Rattle.net_base.specs.Keys.{same_key}
 use Rattle.net_base.specs.Lists.{list_at}
 use Rattle.net_base.specs.Rows.{row_at}
@@ -33,7 +33,7 @@ numbers_below test xs (suc i) = numbers_below test xs i ++ number_if test (slice
 -- ---- what takes the elements of an alpha
 
 abbrev pub takes_from : ℕ → Node → Bool
-takes_from alpha x = not (is_terminal x.kind) && (x.alpha == alpha)
+takes_from alpha x = takes_elements x.kind && (x.alpha == alpha)
 
 -- the nodes whose right tokens are the elements that pass this alpha, in their order
 abbrev pub takers_of : List Node → ℕ → List ℕ

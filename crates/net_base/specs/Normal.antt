@@ -5,6 +5,8 @@ use Rattle.ops_base.specs.declared.conditions.Operand.{Operand}
 use Rattle.ops_base.specs.declared.conditions.Operand.TheVariants as operand
 use Rattle.ops_base.specs.declared.conditions.Test.{Test}
 use Rattle.ops_base.specs.declared.conditions.Condition.{Condition}
+use Rattle.ops_base.specs.declared.conditions.Part.{Part}
+use Rattle.ops_base.specs.declared.conditions.Part.TheVariants.{One, Group}
 use Rattle.net_base.specs.declared.nodes.JoinTest.{JoinTest}
 use Rattle.net_base.specs.declared.nodes.Alpha.{Alpha}
 use Rattle.net_base.specs.declared.normal.Origin.{Origin}
@@ -13,6 +15,8 @@ use Rattle.net_base.specs.declared.normal.NormalOperand.{NormalOperand}
 use Rattle.net_base.specs.declared.normal.NormalOperand.TheVariants as normal
 use Rattle.net_base.specs.declared.normal.NormalTest.{NormalTest}
 use Rattle.net_base.specs.declared.normal.NormalCondition.{NormalCondition}
+use Rattle.net_base.specs.declared.normal.NormalPart.{NormalPart}
+use Rattle.net_base.specs.declared.normal.NormalPart.TheVariants as part
 
 -- ---- variables
 
@@ -60,12 +64,22 @@ normal_tests place (t ∷ ts) binders =
 abbrev pub normal_of : ℕ → Condition → List Binder → NormalCondition
 normal_of place c binders = record { negated = c.negated; class = c.class; tests = normal_tests place c.tests binders }
 
--- The normal conditions of conditions after this many positive ones. What a negated condition binds is out of sight after it.
-abbrev pub normal_conditions : ℕ → List Condition → List Binder → List NormalCondition
-normal_conditions place [] binders = []
-normal_conditions place (c ∷ cs) binders =
-    normal_of place c binders
-    ∷ (if c.negated then normal_conditions place cs binders else normal_conditions (suc place) cs (binders_after place c.tests binders))
+-- a member of a group, which is positive
+abbrev pub normal_member : ℕ → Condition → List Binder → NormalCondition
+normal_member place c binders = record { negated = false; class = c.class; tests = normal_tests place c.tests binders }
+
+-- the members of a group, each after those before it
+abbrev pub normal_members : ℕ → List Condition → List Binder → List NormalCondition
+normal_members place [] binders = []
+normal_members place (c ∷ cs) binders = normal_member place c binders ∷ normal_members (suc place) cs (binders_after place c.tests binders)
+
+-- The parts after this many positive conditions. What a negated condition or a group binds is out of sight after it.
+abbrev pub normal_parts : ℕ → List Part → List Binder → List NormalPart
+normal_parts place [] binders = []
+normal_parts place (One c ∷ ps) binders =
+    part.One (normal_of place c binders)
+    ∷ (if c.negated then normal_parts place ps binders else normal_parts (suc place) ps (binders_after place c.tests binders))
+normal_parts place (Group cs ∷ ps) binders = part.Group (normal_members place cs binders) ∷ normal_parts place ps binders
 
 -- ---- tests of one element alone
 

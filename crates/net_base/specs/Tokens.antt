@@ -1,5 +1,5 @@
 -- What stands at each node of a network over a working memory.
-use Rattle.std.specs.Prelude.{ℕ, zero, suc, ◌+◌, ◌*◌, ◌^◌, Bool, true, ◌&&◌, List, [], ◌∷◌, find, slice_get, slice_index, Option, Some, None, ◌==◌, if◌then◌else◌}
+use Rattle.std.specs.Prelude.{ℕ, zero, suc, ◌+◌, ◌*◌, ◌^◌, Bool, true, false, ◌&&◌, List, [], ◌∷◌, ◌++◌, take, bytes_eq, find, slice_get, slice_index, Option, Some, None, ◌==◌, if◌then◌else◌}
 use Rattle.std.specs.List.{list_all, list_any}
 use Rattle.ops_base.specs.declared.values.Value.{Value}
 use Rattle.ops_base.specs.declared.values.Pred.{Pred}
@@ -10,7 +10,7 @@ use Rattle.ops_base.specs.declared.elements.Element.{Element}
 use Rattle.ops_base.specs.Values.{nil, are_same, holds_of}
 use Rattle.ops_base.specs.WorkingMemory.{field_of}
 use Rattle.net_base.specs.declared.nodes.Kind.{Kind}
-use Rattle.net_base.specs.declared.nodes.Kind.TheVariants.{Join, Negated, Terminal}
+use Rattle.net_base.specs.declared.nodes.Kind.TheVariants.{Join, Negated, Group, Terminal}
 use Rattle.net_base.specs.declared.nodes.JoinTest.{JoinTest}
 use Rattle.net_base.specs.declared.nodes.Node.{Node}
 use Rattle.net_base.specs.declared.nodes.Alpha.{Alpha}
@@ -55,6 +55,26 @@ join_test_holds elements t e j =
 abbrev pub joins_hold : List JoinTest → Elements → List ℕ → ℕ → Bool
 joins_hold tests elements t e = list_all (join_test_holds elements t e) tests
 
+-- ---- which right tokens go with a left one
+
+-- the right token begins with the left one, which has `width` tags
+abbrev pub covers : ℕ → List ℕ → List ℕ → Bool
+covers width t r = bytes_eq t (take width r)
+
+-- At a join or a negated node a right token is the tag of one element, at a group a token of its giver.
+abbrev pub goes_with : Kind → List JoinTest → Elements → List ℕ → List ℕ → Bool
+goes_with Join tests elements t r = joins_hold tests elements t (slice_index r 0)
+goes_with Negated tests elements t r = joins_hold tests elements t (slice_index r 0)
+goes_with (Group giver width members) tests elements t r = covers width t r
+goes_with (Terminal rule) tests elements t r = false
+
+-- how many tags a right token has
+abbrev pub right_width : Kind → ℕ
+right_width Join = 1
+right_width Negated = 1
+right_width (Group giver width members) = width + members
+right_width (Terminal rule) = 0
+
 -- ---- what a node puts out
 
 -- how often each token stands
@@ -70,10 +90,20 @@ abbrev pub last : ℕ → List ℕ → ℕ
 last x [] = x
 last x (y ∷ ys) = last y ys
 
--- how often right tokens stand whose tag is below the bound and passes the test
-unfoldable pub count_below : ℕ → (ℕ → Bool) → Tokens → ℕ
-count_below zero test right = 0
-count_below (suc k) test right = (if test k then right (k ∷ []) else 0) + count_below k test right
+-- the sum of a number for each tag below the bound
+unfoldable pub sum_to : ℕ → (ℕ → ℕ) → ℕ
+sum_to zero f = 0
+sum_to (suc k) f = f k + sum_to k f
+
+-- how often right tokens stand that pass the test, of those that begin with these tags and have so many more, each
+-- below the bound
+abbrev pub count_from : ℕ → ℕ → (List ℕ → Bool) → Tokens → List ℕ → ℕ
+count_from tags zero test right r = if test r then right r else 0
+count_from tags (suc more) test right r = sum_to tags (λ k. count_from tags more test right (r ++ k ∷ []))
+
+-- how often right tokens stand that go with the left token, where all tags are below the bound
+abbrev pub count_with : ℕ → Kind → List JoinTest → Elements → List ℕ → Tokens → ℕ
+count_with tags kind tests elements t right = count_from tags (right_width kind) (goes_with kind tests elements t) right []
 
 -- each left token with the tag of each right token that joins it
 abbrev pub out_of_join : List JoinTest → Elements → Tokens → Tokens → Tokens
@@ -81,15 +111,15 @@ out_of_join tests elements left right [] = 0
 out_of_join tests elements left right (x ∷ xs) =
     if joins_hold tests elements (front x xs) (last x xs) then left (front x xs) * right (last x xs ∷ []) else 0
 
--- each left token that no right token joins
-abbrev pub out_of_negated : ℕ → List JoinTest → Elements → Tokens → Tokens → Tokens
-out_of_negated tags tests elements left right t =
-    if count_below tags (joins_hold tests elements t) right == 0 then left t else 0
+-- each left token with which no right token goes
+abbrev pub out_of_negated : ℕ → Kind → List JoinTest → Elements → Tokens → Tokens → Tokens
+out_of_negated tags kind tests elements left right t = if count_with tags kind tests elements t right == 0 then left t else 0
 
 -- what a node puts out, of its left and right tokens, where all tags are below `tags`
 abbrev pub out_of : ℕ → Elements → Kind → List JoinTest → Tokens → Tokens → Tokens
 out_of tags elements Join tests left right t = out_of_join tests elements left right t
-out_of tags elements Negated tests left right t = out_of_negated tags tests elements left right t
+out_of tags elements Negated tests left right t = out_of_negated tags Negated tests elements left right t
+out_of tags elements (Group giver width members) tests left right t = out_of_negated tags (Group giver width members) tests elements left right t
 out_of tags elements (Terminal rule) tests left right t = left t
 
 -- ---- what a node is given
@@ -111,6 +141,7 @@ left_giver node = giver_of_parent node.parent
 abbrev pub giver_of_kind : Kind → Giver
 giver_of_kind Join = Memory
 giver_of_kind Negated = Memory
+giver_of_kind (Group giver width members) = Out giver
 giver_of_kind (Terminal rule) = Nothing
 
 abbrev pub right_giver : Node → Giver

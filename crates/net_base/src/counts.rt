@@ -1,6 +1,6 @@
 //! How large a network is.
 
-/// The numbers of alphas and of nodes of each kind.
+/// The numbers of alphas and of nodes of each kind. A group is counted among the negated nodes.
 #[derive(Clone, Copy, Debug, PartialEq, Eq)]
 pub struct Counts {
     pub alpha: usize,

@@ -1,7 +1,7 @@
 //! Networks, each sound by its type.
 ghost use Rattle.std.specs.Prelude.{◌≡◌, ◌≢◌, ℕ, [], All, AllPairs, Contains, IfOk, IsTrue, OnOk, Some, count_by, slice_get};
 ghost use Rattle.net_base.specs.declared.nodes.Alpha.{Alpha};
-ghost use Rattle.net_base.specs.Sound.{IsSound, is_join, is_negated, is_terminal};
+ghost use Rattle.net_base.specs.Sound.{IsSound, is_join, is_negated, is_terminal, takes_elements};
 ghost use Rattle.net_base.specs.Shape.{counts_of};
 ghost use Rattle.net_base.specs.Tokens.{passes_alpha};
 ghost use Rattle.net_base.specs.Rows.{row_at};
@@ -20,8 +20,9 @@ use std::alloc::Global;
 /// Numbers of nodes or of alphas. Up to 16 take no memory.
 pub type Numbers = SmallVec<usize, 16>;
 
-/// A network. The parent of each node has a smaller number, all numbers of nodes, of alphas and of places in a left
-/// token are in range, and the children of a node are just the nodes that name it as parent.
+/// A network. The parent of each node and the giver of each group have smaller numbers, all numbers of nodes, of alphas
+/// and of places in a left token are in range, the children of a node are exactly the nodes that name it as parent, and
+/// its `rights` exactly the groups that name it as giver.
 #[derive(Drop)]
 pub struct Net {
     alphas: Listed<Alpha>,
@@ -38,8 +39,7 @@ fn is_join(kind: Kind) -> bool
 {
     match kind {
         Kind::Join => true,
-        Kind::Negated => false,
-        Kind::Terminal { rule: _ } => false,
+        Kind::Negated | Kind::Group { .. } | Kind::Terminal { .. } => false,
     }
 }
 
@@ -47,9 +47,8 @@ fn is_negated(kind: Kind) -> bool
     ensures { result ≡ is_negated kind }
 {
     match kind {
-        Kind::Join => false,
-        Kind::Negated => true,
-        Kind::Terminal { rule: _ } => false,
+        Kind::Negated | Kind::Group { .. } => true,
+        Kind::Join | Kind::Terminal { .. } => false,
     }
 }
 
@@ -57,9 +56,17 @@ fn is_terminal(kind: Kind) -> bool
     ensures { result ≡ is_terminal kind }
 {
     match kind {
-        Kind::Join => false,
-        Kind::Negated => false,
-        Kind::Terminal { rule: _ } => true,
+        Kind::Terminal { .. } => true,
+        Kind::Join | Kind::Negated | Kind::Group { .. } => false,
+    }
+}
+
+fn takes_elements(kind: Kind) -> bool
+    ensures { result ≡ takes_elements kind }
+{
+    match kind {
+        Kind::Join | Kind::Negated => true,
+        Kind::Group { .. } | Kind::Terminal { .. } => false,
     }
 }
 
@@ -81,13 +88,13 @@ fn terminals(nodes: &[Node]) -> usize
     nodes.iter().filter(|x| is_terminal(x.kind)).count()
 }
 
-/// The nodes that take the elements of each alpha.
+/// The nodes that take the elements of each alpha: join and negated nodes.
 fn takers(alloc: Global, nodes: &[Node]) -> Result<Rows, OutOfMemory>
     ensures { IfOk result (λ r. (alpha : ℕ) → row_at r alpha ≡ takers_of nodes.now alpha) }
 {
     let mut takers = Rows::new(alloc);
     for (number, node) in nodes.iter().enumerate() {
-        if !is_terminal(node.kind) {
+        if takes_elements(node.kind) {
             takers.add(alloc, node.alpha, number)?;
         }
     }
@@ -144,15 +151,16 @@ impl Net {
         self.index.find(element, found)
     }
 
-    /// The nodes whose right tokens are the elements that pass this alpha, in their order. Takes no
-    /// memory, and looks for nothing.
+    /// The join and negated nodes of this alpha, in their order: their right tokens are the elements that pass it.
+    /// Takes no memory, and looks for nothing.
     pub fn takers(&self, alpha: usize) -> &[usize]
         ensures { result.now ≡ takers_of self.now.nodes alpha }
     {
         self.takers.at(alpha)
     }
 
-    /// How many alphas it has, and how many nodes of each kind. It looks at each node three times, and takes no memory.
+    /// How many alphas it has, and how many nodes of each kind. The nodes of a group's members are counted as joins,
+    /// and its own as a negated node. It looks at each node three times, and takes no memory.
     pub fn counts(&self) -> Counts
         ensures { result ≡ counts_of self.now.alphas self.now.nodes }
     {

@@ -6,12 +6,22 @@ use ops_base::values::Pred;
 
 #[derive(Clone, Copy, Debug, PartialEq, Eq)]
 pub enum Kind {
-    /// Of a positive condition: it joins an element to a token.
+    /// Of a positive condition or a member of a group: it joins an element to a token.
     Join,
     /// Of a negated condition: it lets a token pass while no element meets it.
     Negated,
+    /// Of a group: it lets a token pass while no token of its giver, the node of the group's last member, begins with
+    /// that token. `width` is the number of tags of its left tokens, and a token of the giver has one tag more for each
+    /// of the group's `members`.
+    Group {
+        giver: usize,
+        width: usize,
+        members: usize,
+    },
     /// Below the last condition of a production.
-    Terminal { rule: usize },
+    Terminal {
+        rule: usize,
+    },
 }
 
 /// Compares a field of the right element with the field `other` of the element at `place` of the left token.
@@ -23,8 +33,10 @@ pub struct JoinTest {
     pub other: usize,
 }
 
-/// A node's left tokens come from its parent, and from the root where it has none. Its right tokens are the elements
-/// that pass its alpha. A terminal has no right tokens, and its class and alpha are not used.
+/// A node's left tokens come from its parent, and from the root where it has none. The right tokens of a join or a
+/// negated node are the elements that pass its alpha, those of a group are the tokens of its giver, and a terminal has
+/// none. The class and alpha of a group or a terminal are 0 and are not used, although there may be an alpha 0: no
+/// element goes to such a node.
 #[derive(Drop)]
 pub struct Node {
     pub kind: Kind,
@@ -34,6 +46,8 @@ pub struct Node {
     pub joins: Listed<JoinTest>,
     /// The nodes whose parent it is.
     pub children: Listed<usize>,
+    /// The groups whose giver it is.
+    pub rights: Listed<usize>,
     /// How many nodes a token passes from the root to here, this one counted.
     pub depth: usize,
 }

@@ -3,9 +3,9 @@
 use ops_base::list::Listed;
 use ops_base::values::{Pred, Value};
 
-/// A field of the element of a condition, given by how many positive conditions stand before that one. For a positive
-/// condition this number is the place of its element in a token; for a negated one it stands for the element that is
-/// looked at.
+/// A field of the element of a condition, given by how many positive conditions stand before that one. A member of a
+/// group counts the members before it too. For a positive condition or a member this number is the place of its element
+/// in a token; for a negated condition it stands for the element that is looked at.
 #[derive(Clone, Copy, Debug, PartialEq, Eq)]
 pub struct Origin {
     pub place: usize,
@@ -35,9 +35,17 @@ pub struct NormalTest {
     pub operand: NormalOperand,
 }
 
+/// A condition without the tests that bind. A member of a group is not negated.
 #[derive(Drop)]
 pub struct NormalCondition {
     pub negated: bool,
     pub class: usize,
     pub tests: Listed<NormalTest>,
+}
+
+/// A part of a left side in normal form: a condition, or the members of a group.
+#[derive(Drop)]
+pub enum NormalPart {
+    One(NormalCondition),
+    Group(Listed<NormalCondition>),
 }

@@ -12,7 +12,8 @@ pub enum Side {
     Right,
 }
 
-/// A token arrives at one side of a node (`plus`), or leaves it. A right token is the tag of one element.
+/// A token arrives at one side of a node (`plus`), or leaves it. A right token is the tag of one element, at a group a
+/// token of its giver.
 #[derive(Drop)]
 pub struct Task {
     pub node: usize,

@@ -11,11 +11,13 @@ use Rattle.std.specs.List.{flat_map, All, AllPairs, AllByRecursion}
 use Rattle.std.specs.List.Sorted.{IsStrictlySortedBy}
 use Rattle.ops_base.specs.declared.elements.Element.{Element}
 use Rattle.ops_base.specs.declared.conditions.Condition.{Condition}
+use Rattle.ops_base.specs.declared.conditions.Part.{Part}
+use Rattle.ops_base.specs.declared.conditions.Part.TheVariants.{One, Group}
 use Rattle.ops_base.specs.declared.direct.Partial.{Partial}
 use Rattle.ops_base.specs.declared.matching.Binding.{Binding}
 use Rattle.ops_base.specs.Matching.{match_of}
 use Rattle.ops_base.specs.WorkingMemory.{tags_of, HasRisingTags}
-use Rattle.ops_base.specs.ConflictSet.{lengthened, extended, some_meets, at_condition, walk, empty_partial, matches_of}
+use Rattle.ops_base.specs.ConflictSet.{lengthened, extended, some_meets, at_condition, at_part, some_extend, walk, empty_partial, matches_of}
 use Rattle.ops_base.specs.Instances.{TagsBefore}
 use Rattle.ops_base.proofs.Members.{IsMember, member_cases, flat_map_member, map_member, all_from_members, members_from_each}
 use Rattle.ops_base.proofs.WalkFinds.{lengthened_is, negated_is}
@@ -107,17 +109,25 @@ tags_before-prefix (x ∷ xs) f g h = inr (refl, tags_before-prefix xs f g h)
 abbrev grown : Bool → ℕ → ℕ
 grown negated n = cond negated n (n + 1)
 
+-- an instantiation has no tag for this part
+abbrev takes_no_tag : Part → Bool
+takes_no_tag (One c) = c.negated
+takes_no_tag (Group cs) = true
+
 abbrev pub AllLong : ℕ → List Partial → Type 0
 AllLong n ps = (p : Partial) → IsMember p ps → length p.tags ≡ n
 
 -- a step adds tags at the end, as many for each partial match
-pub record Added (c : Condition) (p q : Partial) : Type 0 where
+pub record Added (part : Part) (p q : Partial) : Type 0 where
   pub front : List ℕ
   pub tags : q.tags ≡ p.tags ++ front
-  pub long : length q.tags ≡ grown c.negated (length p.tags)
+  pub long : length q.tags ≡ grown (takes_no_tag part) (length p.tags)
 
-added_is : (wm : List Element) (c : Condition) (p q : Partial) → IsMember q (at_condition wm c p) → Added c p q
-added_is wm c p q m = let r = by_sign c.negated m in record { front = r.0; tags = r.1; long = r.2 }
+added_is : (wm : List Element) (part : Part) (p q : Partial) → IsMember q (at_part wm part p) → Added part p q
+added_is wm (Group cs) p q m =
+    let e = ap (λ (w : Partial). w.tags) (negated_is p q (some_extend wm cs p.bindings) m).1 in
+    record { front = []; tags = e ∙ sym (append-nil p.tags); long = ap length e }
+added_is wm (One c) p q m = let r = by_sign c.negated m in record { front = r.0; tags = r.1; long = r.2 }
   where
     by_sign : (b : Bool)
         → IsMember q (cond b (cond (not (some_meets wm c p.bindings)) (p ∷ []) []) (flat_map (extended c p) wm))
@@ -135,16 +145,17 @@ lengthened_in_order : (p : Partial) (tag : ℕ) (o : Option (List Binding)) → 
 lengthened_in_order p tag None = tt
 lengthened_in_order p tag (Some b) = (λ q m. absurd m, tt)
 
--- what one partial match gives at one condition is in order
-step_in_order : (wm : List Element) (c : Condition) (p : Partial) → HasRisingTags wm → AllBefore PartialBefore (at_condition wm c p)
-step_in_order wm c p h = by_sign c.negated
-  where
-    kept : (some : Bool) → AllBefore PartialBefore (cond (not some) (p ∷ []) [])
-    kept true = tt
-    kept false = (λ q m. absurd m, tt)
+kept_in_order : (p : Partial) (some : Bool) → AllBefore PartialBefore (cond (not some) (p ∷ []) [])
+kept_in_order p true = tt
+kept_in_order p false = (λ q m. absurd m, tt)
 
+-- what one partial match gives at one part is in order
+step_in_order : (wm : List Element) (part : Part) (p : Partial) → HasRisingTags wm → AllBefore PartialBefore (at_part wm part p)
+step_in_order wm (Group cs) p h = kept_in_order p (some_extend wm cs p.bindings)
+step_in_order wm (One c) p h = by_sign c.negated
+  where
     by_sign : (b : Bool) → AllBefore PartialBefore (cond b (cond (not (some_meets wm c p.bindings)) (p ∷ []) []) (flat_map (extended c p) wm))
-    by_sign true = kept (some_meets wm c p.bindings)
+    by_sign true = kept_in_order p (some_meets wm c p.bindings)
     by_sign false =
         all_before-flat_map TagBelow PartialBefore (extended c p) wm (tags_in_order wm h)
         (λ e m. lengthened_in_order p e.tag (match_of c e p.bindings))
@@ -156,9 +167,9 @@ step_in_order wm c p h = by_sign c.negated
         subst P (sym a) (subst Q (sym b) (tags_before-prefix p.tags (e.tag ∷ []) (f.tag ∷ []) (inl below))))
 
 -- partial matches of one length in order give partial matches in order
-pub condition_in_order : (wm : List Element) (c : Condition) (ps : List Partial) (n : ℕ) → HasRisingTags wm → AllLong n ps → AllBefore PartialBefore ps → AllBefore PartialBefore (flat_map (at_condition wm c) ps)
-condition_in_order wm c ps n h long a =
-    all_before-flat_map PartialBefore PartialBefore (at_condition wm c) ps a (λ p m. step_in_order wm c p h)
+pub part_in_order : (wm : List Element) (c : Part) (ps : List Partial) (n : ℕ) → HasRisingTags wm → AllLong n ps → AllBefore PartialBefore ps → AllBefore PartialBefore (flat_map (at_part wm c) ps)
+part_in_order wm c ps n h long a =
+    all_before-flat_map PartialBefore PartialBefore (at_part wm c) ps a (λ p m. step_in_order wm c p h)
     (λ p r mp mr before q s mq ms.
     let e = added_is wm c p q mq in
     let f = added_is wm c r s ms in
@@ -167,18 +178,18 @@ condition_in_order wm c ps n h long a =
     subst P (sym e.tags) (subst Q (sym f.tags) (tags_before-append p.tags r.tags e.front f.front (long p mp ∙ sym (long r mr)) before)))
 
 -- partial matches of one length give partial matches of one length
-pub condition_long : (wm : List Element) (c : Condition) (ps : List Partial) (n : ℕ) → AllLong n ps → AllLong (grown c.negated n) (flat_map (at_condition wm c) ps)
-condition_long wm c ps n long q m =
-    let b = flat_map_member (at_condition wm c) q ps m in
-    (added_is wm c b.0 q b.2).long ∙ ap (grown c.negated) (long b.0 b.1)
+pub part_long : (wm : List Element) (c : Part) (ps : List Partial) (n : ℕ) → AllLong n ps → AllLong (grown (takes_no_tag c) n) (flat_map (at_part wm c) ps)
+part_long wm c ps n long q m =
+    let b = flat_map_member (at_part wm c) q ps m in
+    (added_is wm c b.0 q b.2).long ∙ ap (grown (takes_no_tag c)) (long b.0 b.1)
 
-pub walk_in_order : (wm : List Element) (cs : List Condition) (ps : List Partial) (n : ℕ) → HasRisingTags wm → AllLong n ps → AllBefore PartialBefore ps → AllBefore PartialBefore (walk wm cs ps)
+pub walk_in_order : (wm : List Element) (cs : List Part) (ps : List Partial) (n : ℕ) → HasRisingTags wm → AllLong n ps → AllBefore PartialBefore ps → AllBefore PartialBefore (walk wm cs ps)
 walk_in_order wm [] ps n h long a = a
 walk_in_order wm (c ∷ cs) ps n h long a =
-    walk_in_order wm cs (flat_map (at_condition wm c) ps) (grown c.negated n) h (condition_long wm c ps n long) (condition_in_order wm c ps n h long a)
+    walk_in_order wm cs (flat_map (at_part wm c) ps) (grown (takes_no_tag c) n) h (part_long wm c ps n long) (part_in_order wm c ps n h long a)
 
 -- the whole matches of some conditions are in the order of their tags
-pub matches_in_order : (wm : List Element) (cs : List Condition) → HasRisingTags wm → AllBefore PartialBefore (matches_of wm cs)
+pub matches_in_order : (wm : List Element) (cs : List Part) → HasRisingTags wm → AllBefore PartialBefore (matches_of wm cs)
 matches_in_order wm cs h = walk_in_order wm cs (empty_partial ∷ []) 0 h no_tags (λ q m. absurd m, tt)
   where
     no_tags : AllLong 0 (empty_partial ∷ [])

@@ -6,19 +6,29 @@ use Rattle.std.specs.Ordering.{nat_cmp, ordering_then}
 use Rattle.std.specs.Cmp.Lexicographic.{slice_cmp}
 use Rattle.ops_base.specs.declared.elements.Element.{Element}
 use Rattle.ops_base.specs.declared.conditions.Condition.{Condition}
+use Rattle.ops_base.specs.declared.conditions.Part.{Part}
+use Rattle.ops_base.specs.declared.conditions.Part.TheVariants.{One, Group}
 use Rattle.ops_base.specs.declared.rules.Rule.{Rule}
 use Rattle.ops_base.specs.declared.rules.Inst.{Inst}
 use Rattle.ops_base.specs.declared.matching.Binding.{Binding}
 use Rattle.ops_base.specs.Matching.{match_of}
 
--- Walking the conditions from these bindings, the tags name an element of working memory for each positive condition,
--- which it meets, and no element of working memory meets a negated one. At the end no tag is left.
-abbrev pub Meets : List Element → List Condition → List Binding → List ℕ → Type 0
+-- There are elements of working memory, one for each condition, the same one allowed twice, of which each meets its
+-- condition under the bindings that those before it left.
+abbrev pub Extends : List Element → List Condition → List Binding → Type 0
+Extends wm [] bindings = Unit {0}
+Extends wm (c ∷ cs) bindings = (e : Element) × (next : List Binding) × Contains wm e × (match_of c e bindings ≡ Some next) × Extends wm cs next
+
+-- Walking the parts from these bindings, the tags name an element of working memory for each positive condition, which
+-- it meets, no element of working memory meets a negated one, and no elements extend the bindings by the conditions of a
+-- group. At the end no tag is left.
+abbrev pub Meets : List Element → List Part → List Binding → List ℕ → Type 0
 Meets wm [] bindings tags = tags ≡ []
-Meets wm (c ∷ cs) bindings tags =
+Meets wm (One c ∷ ps) bindings tags =
     MatchBool c.negated
-    (((e : Element) → Contains wm e → match_of c e bindings ≡ None) × Meets wm cs bindings tags)
-    ((e : Element) × (next : List Binding) × (rest : List ℕ) × Contains wm e × (match_of c e bindings ≡ Some next) × (tags ≡ e.tag ∷ rest) × Meets wm cs next rest)
+    (((e : Element) → Contains wm e → match_of c e bindings ≡ None) × Meets wm ps bindings tags)
+    ((e : Element) × (next : List Binding) × (rest : List ℕ) × Contains wm e × (match_of c e bindings ≡ Some next) × (tags ≡ e.tag ∷ rest) × Meets wm ps next rest)
+Meets wm (Group cs ∷ ps) bindings tags = (Extends wm cs bindings → ⊥) × Meets wm ps bindings tags
 
 -- a rule with tags that meet its conditions
 abbrev pub IsInst : List Rule → List Element → Inst → Type 0

@@ -11,3 +11,4 @@ pub mod Valid
 pub mod Names
 pub mod FaultTexts
 pub mod Symbols
+pub mod Constants

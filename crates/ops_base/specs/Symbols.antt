@@ -8,6 +8,8 @@ use Rattle.ops_base.specs.declared.elements.Class.{Class}
 use Rattle.ops_base.specs.declared.conditions.Operand.{Operand}
 use Rattle.ops_base.specs.declared.conditions.Operand.TheVariants as operand
 use Rattle.ops_base.specs.declared.conditions.Condition.{Condition}
+use Rattle.ops_base.specs.declared.conditions.Part.{Part}
+use Rattle.ops_base.specs.declared.conditions.Part.TheVariants.{One, Group}
 use Rattle.ops_base.specs.declared.actions.Term.{Term}
 use Rattle.ops_base.specs.declared.actions.Term.TheVariants as term
 use Rattle.ops_base.specs.declared.actions.Put.{Put}
@@ -39,6 +41,10 @@ operand_held n (operand.Variable v) = true
 abbrev pub condition_held : ℕ → Condition → Bool
 condition_held n c = list_all (λ t. operand_held n t.operand) c.tests
 
+abbrev pub part_held : ℕ → Part → Bool
+part_held n (One c) = condition_held n c
+part_held n (Group cs) = list_all (condition_held n) cs
+
 abbrev pub term_held : ℕ → Term → Bool
 term_held n (term.Constant v) = value_held n v
 term_held n _ = true
@@ -58,7 +64,7 @@ action_held n (action.Bind v t) = term_held n t
 action_held n _ = true
 
 abbrev pub rule_held : ℕ → Rule → Bool
-rule_held n r = symbol_held n r.name && list_all (condition_held n) r.conditions && list_all (action_held n) r.actions
+rule_held n r = symbol_held n r.name && list_all (part_held n) r.conditions && list_all (action_held n) r.actions
 
 abbrev pub fixed_held : ℕ → Fixed → Bool
 fixed_held n f = list_all (value_held n) f.values

@@ -1,6 +1,6 @@
 -- Which classes, rules and commands make a program.
 use Rattle.std.specs.Prelude.{ℕ, ◌+◌, ◌^◌, List, [], ◌∷◌, ◌++◌, length, map, count_by, Bool, true, false, not, ◌==◌, ◌&&◌, ◌||◌, nat_lt, nat_le, if◌then◌else◌, Option, Some, None, is_some, unwrap_or, slice_get}
-use Rattle.std.specs.List.{list_all, list_any}
+use Rattle.std.specs.List.{flat_map, list_all, list_any}
 use Rattle.ops_base.specs.declared.values.Pred.{Pred}
 use Rattle.ops_base.specs.declared.values.Pred.TheVariants as pred
 use Rattle.ops_base.specs.declared.elements.Class.{Class}
@@ -8,6 +8,8 @@ use Rattle.ops_base.specs.declared.conditions.Operand.{Operand}
 use Rattle.ops_base.specs.declared.conditions.Operand.TheVariants as operand
 use Rattle.ops_base.specs.declared.conditions.Test.{Test}
 use Rattle.ops_base.specs.declared.conditions.Condition.{Condition}
+use Rattle.ops_base.specs.declared.conditions.Part.{Part}
+use Rattle.ops_base.specs.declared.conditions.Part.TheVariants.{One, Group}
 use Rattle.ops_base.specs.declared.actions.Term.{Term}
 use Rattle.ops_base.specs.declared.actions.Term.TheVariants as term
 use Rattle.ops_base.specs.declared.actions.Put.{Put}
@@ -29,8 +31,9 @@ longest_list = 16777216
 abbrev pub most_fields : ℕ
 most_fields = 126
 
+-- the condition elements of a production, members of groups counted
 abbrev pub most_conditions : ℕ
-most_conditions = 64
+most_conditions = 256
 
 abbrev pub fits : {X : Type 0} → List X → Bool
 fits xs = nat_le (length xs) longest_list
@@ -111,31 +114,65 @@ abbrev pub condition_is_valid : List Class → Sight → Condition → Bool
 condition_is_valid classes s c =
     nat_lt c.class (length classes) && fits c.tests && tests_are_valid (class_of classes c.class) s c.tests
 
-abbrev pub conditions_are_valid : List Class → Sight → List Condition → Bool
-conditions_are_valid classes s [] = true
-conditions_are_valid classes s (c ∷ cs) =
-    condition_is_valid classes s c && conditions_are_valid classes (sight_after_condition s c) cs
+-- the members of a group, each of which sees what those before it bind
+abbrev pub members_are_valid : List Class → Sight → List Condition → Bool
+members_are_valid classes s [] = true
+members_are_valid classes s (c ∷ cs) =
+    not c.negated && condition_is_valid classes s c && members_are_valid classes (sight_after_tests s c.tests) cs
 
-abbrev pub sight_after_conditions : Sight → List Condition → Sight
-sight_after_conditions s [] = s
-sight_after_conditions s (c ∷ cs) = sight_after_conditions (sight_after_condition s c) cs
+abbrev pub sight_after_members : Sight → List Condition → Sight
+sight_after_members s [] = s
+sight_after_members s (c ∷ cs) = sight_after_members (sight_after_tests s c.tests) cs
+
+-- what a group binds is out of sight after it
+abbrev pub sight_after_part : Sight → Part → Sight
+sight_after_part s (One c) = sight_after_condition s c
+sight_after_part s (Group cs) = record { bound = s.bound; given = (sight_after_members s cs).given }
+
+abbrev pub part_is_valid : List Class → Sight → Part → Bool
+part_is_valid classes s (One c) = condition_is_valid classes s c
+part_is_valid classes s (Group cs) = nat_le 2 (length cs) && members_are_valid classes s cs
+
+abbrev pub parts_are_valid : List Class → Sight → List Part → Bool
+parts_are_valid classes s [] = true
+parts_are_valid classes s (p ∷ ps) = part_is_valid classes s p && parts_are_valid classes (sight_after_part s p) ps
+
+abbrev pub sight_after_parts : Sight → List Part → Sight
+sight_after_parts s [] = s
+sight_after_parts s (p ∷ ps) = sight_after_parts (sight_after_part s p) ps
 
 abbrev pub nothing_in_sight : Sight
 nothing_in_sight = record { bound = []; given = [] }
 
 -- the classes of the positive conditions, in order: those of the first cells
-abbrev pub cells_of : List Condition → List ℕ
+abbrev pub cells_of : List Part → List ℕ
 cells_of [] = []
-cells_of (c ∷ cs) = if c.negated then cells_of cs else c.class ∷ cells_of cs
+cells_of (One c ∷ ps) = if c.negated then cells_of ps else c.class ∷ cells_of ps
+cells_of (Group cs ∷ ps) = cells_of ps
+
+-- the conditions of a part
+abbrev pub elements_in : Part → List Condition
+elements_in (One c) = c ∷ []
+elements_in (Group cs) = cs
+
+-- all conditions, members of groups among them
+abbrev pub elements_of : List Part → List Condition
+elements_of ps = flat_map elements_in ps
 
 -- one per condition, and one per test that does not bind
-abbrev pub specificity : List Condition → ℕ
-specificity [] = 0
-specificity (c ∷ cs) = 1 + count_by (λ t. not t.binds) c.tests + specificity cs
+abbrev pub specificity_of : List Condition → ℕ
+specificity_of [] = 0
+specificity_of (c ∷ cs) = 1 + count_by (λ t. not t.binds) c.tests + specificity_of cs
 
-abbrev pub first_is_positive : List Condition → Bool
+-- the same, members of groups included
+abbrev pub specificity : List Part → ℕ
+specificity [] = 0
+specificity (p ∷ ps) = specificity_of (elements_in p) + specificity ps
+
+abbrev pub first_is_positive : List Part → Bool
 first_is_positive [] = false
-first_is_positive (c ∷ cs) = not c.negated
+first_is_positive (One c ∷ ps) = not c.negated
+first_is_positive (Group cs ∷ ps) = false
 
 -- ---- right sides
 
@@ -208,8 +245,8 @@ known_after_actions k [] = k
 known_after_actions k (a ∷ rest) = known_after_actions (known_after k a) rest
 
 -- what a right side knows at its start
-abbrev pub known_of : List Condition → Known
-known_of cs = let sight = sight_after_conditions nothing_in_sight cs in record { bound = sight.bound; given = sight.given; cells = cells_of cs; made = None }
+abbrev pub known_of : List Part → Known
+known_of ps = let sight = sight_after_parts nothing_in_sight ps in record { bound = sight.bound; given = sight.given; cells = cells_of ps; made = None }
 
 -- what it knows at its end
 abbrev pub known_at_end : Rule → Known
@@ -219,8 +256,8 @@ known_at_end r = known_after_actions (known_of r.conditions) r.actions
 
 abbrev pub rule_is_valid : List Class → ℕ → Rule → Bool
 rule_is_valid classes text r =
-    first_is_positive r.conditions && nat_le (length r.conditions) most_conditions
-    && conditions_are_valid classes nothing_in_sight r.conditions
+    first_is_positive r.conditions && nat_le (length (elements_of r.conditions)) most_conditions
+    && parts_are_valid classes nothing_in_sight r.conditions
     && fits r.actions && actions_are_valid classes (known_of r.conditions) r.actions
     && (r.specificity == specificity r.conditions)
     && list_all (λ v. nat_lt v r.variables) (known_at_end r).given && (r.cells == length (known_at_end r).cells)

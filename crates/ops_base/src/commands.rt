@@ -1,13 +1,14 @@
 //! The commands of a program.
 
+use crate::constants::Constants;
 use crate::list::Listed;
-use crate::values::{Sym, Value};
+use crate::values::Sym;
 
 /// The constants given for one attribute.
 #[derive(Debug, Drop)]
 pub struct Fixed {
     pub field: usize,
-    pub values: Listed<Value>,
+    pub values: Constants,
 }
 
 /// How instantiations are ordered.

@@ -27,3 +27,12 @@ pub struct Condition {
     pub negated: bool,
     pub tests: Listed<Test>,
 }
+
+/// A part of a left side: a condition, or a group.
+#[derive(Debug, Drop)]
+pub enum Part {
+    One(Condition),
+    /// Its members, two or more and none negated. A group holds if no list of elements, one for each member and the same
+    /// one allowed twice, meets the members in order.
+    Group(Listed<Condition>),
+}

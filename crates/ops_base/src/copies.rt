@@ -3,7 +3,7 @@ ghost use Rattle.std.specs.Prelude.{◌≡◌, IfOk};
 
 use crate::actions::{Action, Item, Put, Term};
 use crate::commands::{Command, Fixed};
-use crate::conditions::{Condition, Operand, Test};
+use crate::conditions::{Condition, Operand, Part, Test};
 use crate::elements::{Class, Element};
 use crate::list::Listed;
 use crate::memory::OutOfMemory;
@@ -12,12 +12,12 @@ use crate::rules::{Inst, Rule};
 use std::alloc::Global;
 
 /// What stands in the lists of a program, and is copied with all that it holds.
-trait Part: Drop {
+trait Piece: Drop {
     fn copy(&self, alloc: Global) -> Result<Self, OutOfMemory>
         ensures { IfOk result (λ c. c ≡ self.now) };
 }
 
-fn copies<T: Part>(alloc: Global, items: &[T]) -> Result<Listed<T>, OutOfMemory>
+fn copies<T: Piece>(alloc: Global, items: &[T]) -> Result<Listed<T>, OutOfMemory>
     ensures { IfOk result (λ c. c ≡ items.now) }
 {
     let mut copies = Vec::new(alloc);
@@ -59,7 +59,7 @@ impl Inst {
     }
 }
 
-impl Part for Class {
+impl Piece for Class {
     fn copy(&self, alloc: Global) -> Result<Class, OutOfMemory> {
         Ok(Class {
             name: self.name,
@@ -81,7 +81,7 @@ impl Operand {
     }
 }
 
-impl Part for Test {
+impl Piece for Test {
     fn copy(&self, alloc: Global) -> Result<Test, OutOfMemory> {
         Ok(Test {
             field: self.field,
@@ -92,7 +92,7 @@ impl Part for Test {
     }
 }
 
-impl Part for Condition {
+impl Piece for Condition {
     fn copy(&self, alloc: Global) -> Result<Condition, OutOfMemory> {
         Ok(Condition {
             class: self.class,
@@ -102,7 +102,16 @@ impl Part for Condition {
     }
 }
 
-impl Part for Term {
+impl Piece for Part {
+    fn copy(&self, alloc: Global) -> Result<Part, OutOfMemory> {
+        Ok(match self {
+            Part::One(condition) => Part::One(condition.copy(alloc)?),
+            Part::Group(members) => Part::Group(copies(alloc, members.as_slice())?),
+        })
+    }
+}
+
+impl Piece for Term {
     fn copy(&self, alloc: Global) -> Result<Term, OutOfMemory> {
         Ok(match self {
             Term::Constant(value) => Term::Constant(*value),
@@ -119,7 +128,7 @@ impl Part for Term {
     }
 }
 
-impl Part for Put {
+impl Piece for Put {
     fn copy(&self, alloc: Global) -> Result<Put, OutOfMemory> {
         Ok(Put {
             field: self.field,
@@ -128,7 +137,7 @@ impl Part for Put {
     }
 }
 
-impl Part for Item {
+impl Piece for Item {
     fn copy(&self, alloc: Global) -> Result<Item, OutOfMemory> {
         Ok(match self {
             Item::Print(term) => Item::Print(term.copy(alloc)?),
@@ -139,7 +148,7 @@ impl Part for Item {
     }
 }
 
-impl Part for Action {
+impl Piece for Action {
     fn copy(&self, alloc: Global) -> Result<Action, OutOfMemory> {
         Ok(match self {
             Action::Make { class, puts } => Action::Make {
@@ -183,13 +192,13 @@ impl Rule {
     }
 }
 
-impl Part for Rule {
+impl Piece for Rule {
     fn copy(&self, alloc: Global) -> Result<Rule, OutOfMemory> {
         Rule::copy(self, alloc)
     }
 }
 
-impl Part for Fixed {
+impl Piece for Fixed {
     fn copy(&self, alloc: Global) -> Result<Fixed, OutOfMemory> {
         Ok(Fixed {
             field: self.field,
@@ -211,7 +220,7 @@ fn copy_pattern(
     }
 }
 
-impl Part for Command {
+impl Piece for Command {
     fn copy(&self, alloc: Global) -> Result<Command, OutOfMemory> {
         Ok(match self {
             Command::Make { class, puts } => Command::Make {

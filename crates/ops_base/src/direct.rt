@@ -2,11 +2,11 @@
 ghost use Rattle.std.specs.Prelude.{◌≡◌, List, ℕ, ◌++◌, ◌∷◌, [], OnOk, IfOk, true, false};
 ghost use Rattle.std.specs.List.{flat_map};
 ghost use Rattle.ops_base.specs.WorkingMemory.{HasRisingTags, shown};
-ghost use Rattle.ops_base.specs.ConflictSet.{some_meets, extended, at_condition, walk, empty_partial, matches_of, insts_of, conflict_set};
+ghost use Rattle.ops_base.specs.ConflictSet.{some_meets, some_extend, extended, at_condition, at_part, walk, empty_partial, matches_of, insts_of, conflict_set};
 ghost use Rattle.ops_base.specs.Instances.{IsConflictSet, AreOf};
 ghost use Rattle.ops_base.specs.declared.rules.Inst.{Inst};
 
-use crate::conditions::Condition;
+use crate::conditions::{Condition, Part};
 use crate::elements::Element;
 use crate::list::Listed;
 use crate::matching::{Binding, matched};
@@ -33,6 +33,30 @@ fn some_element_meets(
     for e in wm {
         if matched(alloc, condition, e, bindings)?.is_some() {
             return Ok(true);
+        }
+    }
+    Ok(false)
+}
+
+/// Whether there are elements, one for each condition, that meet the conditions in order, each under the bindings that
+/// those before it left. It tries the elements of the first condition in turn, and goes on to the rest with each that
+/// meets it, until one way reaches the end: at worst it looks at as many lists as there are.
+fn some_extend(
+    alloc: Global,
+    wm: &[&Element],
+    conditions: &[Condition],
+    bindings: &[Binding],
+) -> Result<bool, OutOfMemory>
+    ensures { IfOk result (λ b. b ≡ some_extend (shown wm.now) conditions.now bindings.now) }
+{
+    let Some((first, rest)) = conditions.split_first() else {
+        return Ok(true);
+    };
+    for e in wm {
+        if let Some(next) = matched(alloc, first, e, bindings)? {
+            if some_extend(alloc, wm, rest, &next)? {
+                return Ok(true);
+            }
         }
     }
     Ok(false)
@@ -85,35 +109,52 @@ fn pass_condition(
     Ok(())
 }
 
+/// Adds what one partial match gives at one part.
+fn pass_part(
+    alloc: Global,
+    wm: &[&Element],
+    part: &Part,
+    from: Partial,
+    found: &mut Vec<Partial>,
+) -> Result<(), OutOfMemory>
+    ensures { OnOk result (found.new.items ≡ found.old.items ++ at_part (shown wm.now) part.now from) }
+{
+    match part {
+        Part::One(condition) => pass_condition(alloc, wm, condition, from, found)?,
+        Part::Group(members) => {
+            if !some_extend(alloc, wm, members.as_slice(), from.bindings.as_slice())? {
+                found.push(from)?;
+            }
+        }
+    }
+    Ok(())
+}
+
 fn pass_all(
     alloc: Global,
     wm: &[&Element],
-    condition: &Condition,
+    part: &Part,
     from: Vec<Partial>,
 ) -> Result<Vec<Partial>, OutOfMemory>
-    ensures { IfOk result (λ v. v.items ≡ flat_map (at_condition (shown wm.now) condition.now) from.items) }
+    ensures { IfOk result (λ v. v.items ≡ flat_map (at_part (shown wm.now) part.now) from.items) }
 {
     let mut found = Vec::new(alloc);
     for p in from {
-        pass_condition(alloc, wm, condition, p, &mut found)?;
+        pass_part(alloc, wm, part, p, &mut found)?;
     }
     Ok(found)
 }
 
-fn walk_conditions(
-    alloc: Global,
-    wm: &[&Element],
-    conditions: &[Condition],
-) -> Result<Vec<Partial>, OutOfMemory>
-    ensures { IfOk result (λ v. v.items ≡ matches_of (shown wm.now) conditions.now) }
+fn walk_parts(alloc: Global, wm: &[&Element], parts: &[Part]) -> Result<Vec<Partial>, OutOfMemory>
+    ensures { IfOk result (λ v. v.items ≡ matches_of (shown wm.now) parts.now) }
 {
     let mut found = Vec::new(alloc);
     found.push(Partial {
         tags: Listed::new(alloc),
         bindings: Listed::new(alloc),
     })?;
-    for condition in conditions {
-        found = pass_all(alloc, wm, condition, found)?;
+    for part in parts {
+        found = pass_all(alloc, wm, part, found)?;
     }
     Ok(found)
 }
@@ -133,7 +174,7 @@ fn insts(alloc: Global, rules: &[Rule], wm: &[&Element]) -> Result<Vec<Inst>, Ou
 {
     let mut found = Vec::new(alloc);
     for (rule, r) in rules.iter().enumerate() {
-        let partials = walk_conditions(alloc, wm, r.conditions.as_slice())?;
+        let partials = walk_parts(alloc, wm, r.conditions.as_slice())?;
         add_insts(rule, partials, &mut found)?;
     }
     Ok(found)
@@ -141,7 +182,8 @@ fn insts(alloc: Global, rules: &[Rule], wm: &[&Element]) -> Result<Vec<Inst>, Ou
 
 /// The conflict set, in the order of rule number and then tags, each instantiation once. No element is copied. Each
 /// condition looks at every element for each partial match before it, a negated one until an element meets it, and
-/// copies the bindings for each element of its class.
+/// copies the bindings for each element of its class. A group does so for each member, until a list of elements meets
+/// all members.
 pub fn direct_set_of(
     alloc: Global,
     program: &Program,

@@ -20,7 +20,7 @@ pub enum Op {
 /// top, the left operand above the right one, and puts what it gives of them there.
 #[derive(Clone, Copy, Debug, PartialEq, Eq)]
 pub enum Step {
-    Number(i64),
+    Number(i128),
     /// A variable by its number.
     Variable(usize),
     Apply(Op),
@@ -48,7 +48,7 @@ impl Model for Expr {
 }
 
 impl Expr {
-    pub fn number(alloc: Global, n: i64) -> Result<Expr, OutOfMemory>
+    pub fn number(alloc: Global, n: i128) -> Result<Expr, OutOfMemory>
         ensures { IfOk result (λ e. e ≡ number n) }
     {
         let steps = vec![in alloc; Step::Number(n)]?;

@@ -5,6 +5,7 @@
 pub mod actions;
 pub mod commands;
 pub mod conditions;
+pub mod constants;
 pub mod copies;
 pub mod direct;
 pub mod dominance;
@@ -21,7 +22,8 @@ pub mod values;
 
 pub use actions::{Action, Item, Put, Term};
 pub use commands::{Command, Fixed, Strategy};
-pub use conditions::{Condition, Operand, Test};
+pub use conditions::{Condition, Operand, Part, Test};
+pub use constants::Constants;
 pub use elements::{Change, Class, Element};
 pub use endings::{ActKind, Ending, Fault, Limit};
 pub use expression::{Expr, Op, Step};

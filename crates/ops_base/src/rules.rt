@@ -4,7 +4,7 @@ ghost use Rattle.std.specs.Ordering.{MatchOrdering};
 ghost use Rattle.ops_base.specs.Instances.{Before, by_rule_and_tags};
 
 use crate::actions::Action;
-use crate::conditions::Condition;
+use crate::conditions::Part;
 use crate::list::Listed;
 use crate::values::Sym;
 use std::cmp::Ordering;
@@ -13,9 +13,10 @@ use std::cmp::Ordering;
 #[derive(Debug, Drop)]
 pub struct Rule {
     pub name: Sym,
-    pub conditions: Listed<Condition>,
+    /// The left side, in text order.
+    pub conditions: Listed<Part>,
     pub actions: Listed<Action>,
-    /// One per condition, and one per test that does not bind.
+    /// One per condition, members of groups included, and one per test that does not bind.
     pub specificity: u32,
     /// A number above the number of every variable in it.
     pub variables: usize,

@@ -11,7 +11,7 @@ pub const NIL: Sym = Sym(0);
 #[derive(Clone, Copy, Debug, PartialEq, Eq, Hash)]
 pub enum Value {
     Symbol(Sym),
-    Whole(i64),
+    Whole(i128),
 }
 
 /// The value `nil`, which is what a field holds that was given none.

@@ -1,5 +1,5 @@
 -- Brackets: the words of a form that is closed do not end too early, and those of a form that is open do not end.
-use Rattle.std.proofs.Common.{◌≡◌, ℕ, ◌+◌, ◌-◌, ◌≤◌, Bool, true, false, cond, not, ◌&&◌, ◌||◌, ◌==◌, List, [], ◌∷◌, length, Option, Some, None, Result, Ok, Err, refl, sym, ap, subst, ◌∙◌, arith, true≢false, position, slice_get, nat_lt}
+use Rattle.std.proofs.Common.{◌≡◌, ℕ, ◌+◌, ◌-◌, ◌≤◌, Bool, true, false, cond, not, ◌&&◌, ◌||◌, ◌==◌, List, [], ◌∷◌, length, Option, Some, None, Result, Ok, Err, refl, sym, ap, subst, ◌∙◌, arith, true≢false, position, slice_get, nat_lt, nat_le}
 use Rattle.std.proofs.lemmas.Bool.{and_parts, cond_both, eqb-true, eqb-false, not-true}
 use Rattle.ops_base.specs.Names.{Spellings}
 use Rattle.ops_base.specs.declared.values.Sym.{Sym}
@@ -12,7 +12,7 @@ use Rattle.ops_base.specs.declared.actions.Term.{Term}
 use Rattle.ops_base.specs.declared.actions.Term.TheVariants as term
 use Rattle.ops_base.specs.declared.endings.Fault.{Fault}
 use Rattle.ops_base.specs.Expression.{Formula}
-use Rattle.ops_base.specs.Valid.{most_fields, most_conditions, class_of, is_vector}
+use Rattle.ops_base.specs.Valid.{most_fields, most_conditions, elements_of, class_of, is_vector}
 use Rattle.ops_tokens.specs.declared.token.Token.{Token}
 use Rattle.ops_tokens.specs.declared.token.TokenKind.{TokenKind}
 use Rattle.ops_tokens.specs.declared.token.TokenKind.TheVariants as kind
@@ -20,8 +20,8 @@ use Rattle.ops_tokens.specs.Tokens.{spelling}
 use Rattle.ops_grammar.specs.declared.words.Word.{Word}
 use Rattle.ops_grammar.specs.declared.words.Keyword.{Keyword}
 use Rattle.ops_grammar.specs.declared.words.Keyword.TheVariants as keyword
-use Rattle.ops_grammar.specs.Words.{keyword_of, names_with, word_of, words_from}
-use Rattle.ops_grammar.specs.Grammar.{Use, InPattern, InPut, InFixed, Target, ToPut, ToTerms, ToConstants, ToItem, ToBind, TagUse, ToRemove, NameUse, Column, Wanted, Forms, Form, ClassDeclared, Attributes, VectorName, VectorNames, RuleName, FirstPattern, Patterns, Pattern, Braced, ElementName, ClosesBrace, ClassName, Terms, Attribute, Several, Place, Tests, Tested, Choice, Atom, ValueFor, Function, ExpressionUnit, ExpressionRest, Bracketed, SourceCell, SourceAttribute, SourceEnd, Actions, ActionWord, Modified, BoundName, BoundValue, CellName, Cell, Cells, Items, ItemWord, Columns, Count, StrategyName, TagOrAll, Tags, Shown, NamedRule, NamedRules, Level, Closes, State, Step, Next, Refuses, Outcome, is_left, is_right, is_left_brace, is_right_brace, is_caret, is_name, is_variable, is_arrow, is_literal, is_minus, opens_choice, closes_choice, pred_of, constant_of, value_of, atom_of, is_one_of, number_of, bound_value, EndsWhole, may_declare, may_produce, is_class, is_rule, is_second, makes_second, vector_declared, vector_name, form, class_at, attributes_of, behind_attribute, field_at, terms, within, one_of_several, with_several, place, element_at, element_name, cell_bound, variable_tested, constant_tested, tested, predicated, test, chosen, atom_at, term_at, bound_at, constant_at, is_of_action, value_for, Waiting, most_brackets, is_compute, operation_of, unit_bound, unit_at, bracket_at, expression_unit, bracketed, operation_at, expression_ended, with_formula, no_formula, expression_rest, completed, function, source_named, source_cell, source_class, source_at, source_attribute, takes_several, is_inf, ends_at_inf, source_end, action_word, cell_of, with_designated, with_modified, small_of, item_word, columns_at, count_of, counted, count, strategy_of, strategy_set, strategy_name, is_all, tag_at, tag_or_all, tags, class_name, shown, named_rule, named_rules, level_of, level_set, level, step, ends, after, goes}
+use Rattle.ops_grammar.specs.Words.{keyword_of, names_with, word_of, keyword_before, word_before, words_from}
+use Rattle.ops_grammar.specs.Grammar.{Use, InPattern, InPut, InFixed, Target, ToPut, ToTerms, ToConstants, ToItem, ToBind, TagUse, ToRemove, NameUse, Column, Wanted, Forms, Form, ClassDeclared, Attributes, VectorName, VectorNames, RuleName, FirstPattern, Patterns, Pattern, GroupBrace, Members, Braced, ElementName, ClosesBrace, ClassName, Terms, Attribute, Several, Place, Tests, Tested, Choice, Atom, ValueFor, Function, ExpressionUnit, ExpressionRest, Bracketed, SourceCell, SourceAttribute, SourceEnd, Actions, ActionWord, Modified, BoundName, BoundValue, CellName, Cell, Cells, Items, ItemWord, Columns, Count, StrategyName, TagOrAll, Tags, Shown, NamedRule, NamedRules, Level, Closes, State, Step, Next, Refuses, Outcome, is_left, is_right, is_left_brace, is_right_brace, is_caret, is_name, is_variable, is_arrow, is_literal, is_minus, begins_group, has_room, opens_choice, closes_choice, pred_of, constant_of, value_of, atom_of, is_one_of, number_of, bound_value, EndsWhole, may_declare, may_produce, is_class, is_rule, is_second, makes_second, vector_declared, vector_name, form, class_at, attributes_of, behind_attribute, field_at, terms, within, one_of_several, with_several, place, element_at, element_name, cell_bound, variable_tested, constant_tested, tested, predicated, test, chosen, atom_at, term_at, bound_at, constant_at, is_of_action, value_for, Waiting, most_brackets, is_compute, operation_of, unit_bound, unit_at, bracket_at, expression_unit, bracketed, operation_at, expression_ended, with_formula, no_formula, expression_rest, completed, function, source_named, source_cell, source_class, source_at, source_attribute, takes_several, is_inf, ends_at_inf, source_end, action_word, cell_of, with_designated, with_modified, small_of, item_word, columns_at, count_of, counted, count, strategy_of, strategy_set, strategy_name, is_all, tag_at, tag_or_all, tags, class_name, shown, named_rule, named_rules, level_of, level_set, level, step, ends, after, goes}
 use Rattle.ops_forms.specs.Forms.{open_behind, is_last, closes_last, stays_open, opens}
 
 -- ---- what is owed
@@ -108,6 +108,8 @@ in_form_owes (RuleName ∷ ws) i h = let p = and_parts (in_form ws) (stands ws) 
 in_form_owes (FirstPattern ∷ ws) i h = let p = and_parts (in_form ws) (stands ws) h in in_form_owes ws p.0 p.1
 in_form_owes (Patterns ∷ ws) i h = let p = and_parts (in_form ws) (stands ws) h in in_form_owes ws p.0 p.1
 in_form_owes (Pattern ∷ ws) i h = let p = and_parts (in_form ws) (stands ws) h in in_form_owes ws p.0 p.1
+in_form_owes (GroupBrace ∷ ws) i h = let p = and_parts (in_form ws) (stands ws) h in in_form_owes ws p.0 p.1
+in_form_owes (Members n ∷ ws) i h = let p = and_parts (in_form ws) (stands ws) h in in_form_owes ws p.0 p.1
 in_form_owes (Braced ∷ ws) i h = let p = and_parts (in_form ws) (stands ws) h in in_form_owes ws p.0 p.1
 in_form_owes (ElementName ∷ ws) i h = let p = and_parts (in_form ws) (stands ws) h in in_form_owes ws p.0 p.1
 in_form_owes (ClosesBrace ∷ ws) i h = let p = and_parts (in_form ws) (stands ws) h in in_form_owes ws p.0 p.1
@@ -214,6 +216,10 @@ closing_known _ e o = absurd (true≢false (sym e))
 minus_known : (k : Keyword) → is_minus k ≡ true → k ≡ keyword.Other → ⊥
 minus_known keyword.Minus e o = absurd (cc)
 minus_known _ e o = absurd (true≢false (sym e))
+
+group_known : (k : Keyword) → begins_group k ≡ true → k ≡ keyword.Other → ⊥
+group_known keyword.GroupMinus e o = absurd (cc)
+group_known _ e o = absurd (true≢false (sym e))
 
 inf_known : (k : Keyword) → is_inf k ≡ true → k ≡ keyword.Other → ⊥
 inf_known keyword.Inf e o = absurd (cc)
@@ -586,17 +592,25 @@ module _ (w : Word) (quiet : (n : ℕ) → (w.keyword ≡ keyword.Other → ⊥)
   step_balanced (FirstPattern ∷ ws) s h =
       cond_both (is_left w.kind) _ _ (B (FirstPattern ∷ ws)) (λ e. ((and_parts (in_form ws) (stands ws) h).1, opened ws e))
       (λ _. cond_both (is_left_brace w.kind) _ _ (B (FirstPattern ∷ ws)) (λ e. (h, sym (left_brace_keeps w.kind (owed ws) e)))
-      (λ _. cond_both (is_minus w.keyword) _ _ (B (FirstPattern ∷ ws)) (λ _. tt) (λ _. tt)))
+      (λ _. cond_both (is_minus w.keyword || begins_group w.keyword) _ _ (B (FirstPattern ∷ ws)) (λ _. tt) (λ _. tt)))
   step_balanced (Patterns ∷ ws) s h =
       cond_both (is_arrow w.keyword) _ _ (B (Patterns ∷ ws)) (λ e. ((and_parts (in_form ws) (stands ws) h).1, sym (quiet (owed ws) (arrow_known w.keyword e))))
       (λ _. cond_both (is_left w.kind) _ _ (B (Patterns ∷ ws))
-      (λ e. cond_both (nat_lt (length s.conditions) most_conditions) _ _ (B (Patterns ∷ ws)) (λ _. (h, opened (Patterns ∷ ws) e)) (λ _. tt))
+      (λ e. cond_both (nat_lt (length (elements_of s.conditions)) most_conditions) _ _ (B (Patterns ∷ ws)) (λ _. (h, opened (Patterns ∷ ws) e)) (λ _. tt))
       (λ _. cond_both (is_left_brace w.kind) _ _ (B (Patterns ∷ ws))
-      (λ e. cond_both (nat_lt (length s.conditions) most_conditions) _ _ (B (Patterns ∷ ws)) (λ _. (h, sym (left_brace_keeps w.kind (owed ws) e))) (λ _. tt))
+      (λ e. cond_both (nat_lt (length (elements_of s.conditions)) most_conditions) _ _ (B (Patterns ∷ ws)) (λ _. (h, sym (left_brace_keeps w.kind (owed ws) e))) (λ _. tt))
       (λ _. cond_both (is_minus w.keyword) _ _ (B (Patterns ∷ ws))
-      (λ e. cond_both (nat_lt (length s.conditions) most_conditions) _ _ (B (Patterns ∷ ws)) (λ _. (h, sym (quiet (owed ws) (minus_known w.keyword e)))) (λ _. tt)) (λ _. tt))))
+      (λ e. cond_both (nat_lt (length (elements_of s.conditions)) most_conditions) _ _ (B (Patterns ∷ ws)) (λ _. (h, sym (quiet (owed ws) (minus_known w.keyword e)))) (λ _. tt))
+      (λ _. cond_both (begins_group w.keyword) _ _ (B (Patterns ∷ ws)) (λ e. (h, sym (quiet (owed ws) (group_known w.keyword e)))) (λ _. tt)))))
   step_balanced (Pattern ∷ ws) s h =
       cond_both (is_left w.kind) _ _ (B (Pattern ∷ ws)) (λ e. ((and_parts (in_form ws) (stands ws) h).1, opened ws e)) (λ _. tt)
+  step_balanced (GroupBrace ∷ ws) s h =
+      cond_both (is_left_brace w.kind) _ _ (B (GroupBrace ∷ ws)) (λ e. (h, sym (left_brace_keeps w.kind (owed ws) e))) (λ _. tt)
+  step_balanced (Members n ∷ ws) s h =
+      cond_both (is_right_brace w.kind && nat_le 2 n) _ _ (B (Members n ∷ ws))
+      (λ e. ((and_parts (in_form ws) (stands ws) h).1, sym (right_brace_keeps w.kind (owed ws) (and_parts (is_right_brace w.kind) (nat_le 2 n) e).0)))
+      (λ _. cond_both (is_left w.kind) _ _ (B (Members n ∷ ws))
+      (λ e. cond_both (has_room s) _ _ (B (Members n ∷ ws)) (λ _. (h, opened ws e)) (λ _. tt)) (λ _. tt))
   step_balanced (Braced ∷ ws) s h =
       cond_both (is_left w.kind) _ _ (B (Braced ∷ ws)) (λ e. (h, opened ws e)) (λ _. element_name_balanced (Pattern ∷ ClosesBrace ∷ ws) s h)
   step_balanced (ElementName ∷ ws) s h = element_name_balanced ws s (and_parts (in_form ws) (stands ws) h).1
@@ -682,8 +696,11 @@ ends_cut (Forms ∷ []) s h e = absurd (omega arith)
 ends_cut (Forms ∷ (v ∷ ws)) s h e = absurd (true≢false (sym h))
 ends_cut (w ∷ ws) s h e = tt
 
-quiet_word : (names : Spellings) (t : Token) (s : List ℕ) (n : ℕ) → ((word_of names t s).keyword ≡ keyword.Other → ⊥) → open_behind n t.kind ≡ n
-quiet_word names t s n known = keyword_keeps t.kind s n known
+other_before : (k : Keyword) (ts : List Token) → k ≡ keyword.Other → keyword_before k ts ≡ keyword.Other
+other_before k ts e = ap (λ (k : Keyword). keyword_before k ts) e
+
+quiet_word : (names : Spellings) (t : Token) (s : List ℕ) (ts : List Token) (n : ℕ) → ((word_before (word_of names t s) ts).keyword ≡ keyword.Other → ⊥) → open_behind n t.kind ≡ n
+quiet_word names t s ts n known = keyword_keeps t.kind s n (λ other. known (other_before (keyword_of t.kind s) ts other))
 
 read_on : (rest : List Wanted → State → Outcome) (w : Word) (n : ℕ) (r : Step) → Balanced n r → ((ws : List Wanted) (s : State) → stands ws ≡ true → owed ws ≡ n → NotCut (rest ws s)) → NotCut (after rest w r)
 read_on rest w n (Next ws s) h f = f ws s h.0 h.1
@@ -706,10 +723,10 @@ pub closed_reads : (text : List ℕ) (ts : List Token) (names : Spellings) (n : 
 unfolding goes
 closed_reads text [] names n ws s h e c = absurd (true≢false (sym c))
 closed_reads text (t ∷ ts) names n ws s h e c =
-    let w = word_of names t (spelling text t) in
+    let w = word_before (word_of names t (spelling text t)) ts in
     let names' = names_with names t.kind (spelling text t) in
     let m = open_behind n t.kind in
-    read_on (goes (words_from text names' ts)) w m (step w ws s) (rw e at (step_balanced w (quiet_word names t (spelling text t)) ws s h))
+    read_on (goes (words_from text names' ts)) w m (step w ws s) (rw e at (step_balanced w (quiet_word names t (spelling text t) ts) ws s h))
     (λ ws' s' h' e'. either_end (NotCut (goes (words_from text names' ts) ws' s')) (m == 0) m ts refl c
     (λ none last. subst (λ (us : List Token). NotCut (goes (words_from text names' us) ws' s')) (sym last) (ends_read ws' s' h' (e' ∙ none)))
     (λ more. closed_reads text ts names' m ws' s' h' e' more))
@@ -719,12 +736,12 @@ pub open_goes_on : (text : List ℕ) (ts : List Token) (names : Spellings) (n : 
 unfolding goes
 open_goes_on text [] names n ws s h e some c = ends_cut ws s h (omega arith)
 open_goes_on text (t ∷ ts) names n ws s h e some c =
-    let w = word_of names t (spelling text t) in
+    let w = word_before (word_of names t (spelling text t)) ts in
     let names' = names_with names t.kind (spelling text t) in
     let m = open_behind n t.kind in
     let parts = and_parts (not (m == 0)) (stays_open m ts) c in
     let apart : (m ≡ 0) → ⊥ = eqb-false m 0 (not-true _ parts.0) in
-    cut_on (goes (words_from text names' ts)) w m (step w ws s) (rw e at (step_balanced w (quiet_word names t (spelling text t)) ws s h))
+    cut_on (goes (words_from text names' ts)) w m (step w ws s) (rw e at (step_balanced w (quiet_word names t (spelling text t) ts) ws s h))
     (λ ws' s' h' e'. open_goes_on text ts names' m ws' s' h' e' (omega arith) parts.1)
 
 -- so from its first bracket on
@@ -732,10 +749,10 @@ pub open_form_goes_on : (text : List ℕ) (ts : List Token) (names : Spellings) 
 unfolding goes
 open_form_goes_on text [] names s o c = absurd (true≢false (sym o))
 open_form_goes_on text (t ∷ ts) names s o c =
-    let w = word_of names t (spelling text t) in
+    let w = word_before (word_of names t (spelling text t)) ts in
     let names' = names_with names t.kind (spelling text t) in
     let m = open_behind 0 t.kind in
     let parts = and_parts (not (m == 0)) (stays_open m ts) c in
     let apart : (m ≡ 0) → ⊥ = eqb-false m 0 (not-true _ parts.0) in
-    cut_on (goes (words_from text names' ts)) w m (step w (Forms ∷ []) s) (step_balanced w (quiet_word names t (spelling text t)) (Forms ∷ []) s refl)
+    cut_on (goes (words_from text names' ts)) w m (step w (Forms ∷ []) s) (step_balanced w (quiet_word names t (spelling text t) ts) (Forms ∷ []) s refl)
     (λ ws' s' h' e'. open_goes_on text ts names' m ws' s' h' e' (omega arith) parts.1)

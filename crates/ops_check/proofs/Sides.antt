@@ -2,7 +2,7 @@
 use Rattle.std.proofs.Common.{◌≡◌, ℕ, ◌-◌, List, [], ◌∷◌, ◌++◌, length, slice_get, Some, refl, sym, ap, ◌∙◌, arith}
 use Rattle.std.proofs.Math.ListN.{length-append}
 use Rattle.ops_base.specs.declared.actions.Action.{Action}
-use Rattle.ops_base.specs.declared.conditions.Condition.{Condition}
+use Rattle.ops_base.specs.declared.conditions.Part.{Part}
 use Rattle.ops_base.specs.Valid.{cells_of}
 use Rattle.ops_grammar.specs.declared.words.Named.{Named}
 use Rattle.ops_grammar.specs.declared.words.Word.{Word}
@@ -28,7 +28,7 @@ bracket_at words rest b =
 some_is : (v w : Word) → Some v ≡ Some w → v ≡ w
 some_is v w e = cc
 
-module _ (s : State) (conditions : List Condition) (values elements : List Named) (variables : ℕ) where
+module _ (s : State) (conditions : List Part) (values elements : List Named) (variables : ℕ) where
   -- what is in sight after the left side
   abbrev pub sighted : Sight
   sighted =
@@ -51,7 +51,7 @@ module _ (s : State) (conditions : List Condition) (values elements : List Named
       }
 
   -- the right side is read after it, and its bracket adds the rule
-  pub right_is_read : s ≡ left_begun s → (words rest : List Word) (actions : List Action) (sight : Sight) (r : ReadsRight s.classes sighted words rest actions sight) (new : State) (bracket : Word) → slice_get words (length words - length rest - 1) ≡ Some bracket → (items : List Condition) → items ≡ conditions → new ≡ with_rule (right_read (record s { conditions = items }) actions sight r.further) bracket.past → (more : List Word) (ws : List Wanted) → goes (words ++ more) (Actions ∷ ws) behind ≡ goes (rest ++ more) ws new
+  pub right_is_read : s ≡ left_begun s → (words rest : List Word) (actions : List Action) (sight : Sight) (r : ReadsRight s.classes sighted words rest actions sight) (new : State) (bracket : Word) → slice_get words (length words - length rest - 1) ≡ Some bracket → (items : List Part) → items ≡ conditions → new ≡ with_rule (right_read (record s { conditions = items }) actions sight r.further) bracket.past → (more : List Word) (ws : List Wanted) → goes (words ++ more) (Actions ∷ ws) behind ≡ goes (rest ++ more) ws new
   right_is_read begun words rest actions sight r new bracket there items same ended more ws =
       let at : r.behind.last ≡ bracket = some_is _ _ (sym (bracket_at words rest r.behind) ∙ there) in
       right_goes s.classes sighted words rest actions sight r behind sees more ws

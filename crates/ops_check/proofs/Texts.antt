@@ -1,19 +1,23 @@
 -- What a text is read as, form by form.
-use Rattle.std.proofs.Common.{◌≡◌, ℕ, ◌<◌, ◌≤◌, Bool, true, false, true≢false, List, [], ◌∷◌, ◌++◌, length, Option, None, Some, Result, Ok, Err, refl, sym, ap, ◌∙◌}
+use Rattle.std.proofs.Common.{◌≡◌, ℕ, ◌<◌, ◌≤◌, ◌==◌, Bool, true, false, cond, true≢false, arith, List, [], ◌∷◌, ◌++◌, length, Option, None, Some, Result, Ok, Err, refl, sym, ap, ◌∙◌}
 use Rattle.std.proofs.lemmas.List.{append-nil}
-use Rattle.std.proofs.lemmas.Bool.{lt-ltb, le-ltb}
+use Rattle.std.proofs.lemmas.Bool.{lt-ltb, le-ltb, eqb-true, eqb-false}
 use Rattle.ops_base.specs.Valid.{longest_list}
 use Rattle.ops_base.specs.declared.endings.Fault.{Fault}
 use Rattle.ops_base.specs.declared.endings.Fault.TheVariants as fault
 use Rattle.ops_base.specs.Names.{Spellings, only_nil}
 use Rattle.ops_tokens.specs.Tokens.{spelling}
 use Rattle.ops_tokens.specs.declared.token.Token.{Token}
+use Rattle.ops_tokens.specs.declared.token.TokenKind.{TokenKind}
+use Rattle.ops_tokens.specs.declared.token.TokenKind.TheVariants as kind
 use Rattle.ops_tokens.specs.declared.token.LexFault.{LexFault}
 use Rattle.ops_grammar.specs.declared.words.Word.{Word}
-use Rattle.ops_grammar.specs.Words.{Lexed, lexed_at, words_from, names_from, names_with, word_of}
-use Rattle.ops_grammar.specs.Grammar.{Forms, State, Outcome, ends, step, goes, nothing_read}
+use Rattle.ops_grammar.specs.declared.words.Keyword.{Keyword}
+use Rattle.ops_grammar.specs.declared.words.Keyword.TheVariants as keyword
+use Rattle.ops_grammar.specs.Words.{Lexed, lexed_at, words_from, names_from, names_with, word_of, keyword_of, keyword_before}
+use Rattle.ops_grammar.specs.Grammar.{Forms, is_left, State, Outcome, ends, step, goes, nothing_read}
 use Rattle.ops_grammar.specs.Reads.{Read, Placed, reads, is_numeric, fault_of, between_forms, cut_off}
-use Rattle.ops_forms.specs.Forms.{IsForm, IsStray, token, atom, led, none_by, opens, Ends}
+use Rattle.ops_forms.specs.Forms.{IsForm, IsStray, token, atom, led, none_by, opens, open_behind, is_last, closes_last, Ends}
 use Rattle.ops_forms.specs.declared.form.Form.{Form}
 use Rattle.ops_forms.specs.declared.form.FormEnd.{FormEnd}
 use Rattle.ops_forms.specs.declared.form.FormEnd.TheVariants as end
@@ -25,9 +29,62 @@ use Rattle.ops_check.proofs.Balance.{NotCut, NotDone, closed_reads, open_form_go
 
 -- ---- words of tokens and more
 
-words_append : (text : List ℕ) (names : Spellings) (ts us : List Token) → words_from text names (ts ++ us) ≡ words_from text names ts ++ words_from text (names_from text names ts) us
-words_append text names [] us = refl
-words_append text names (t ∷ ts) us = ap (λ (ws : List Word). word_of names t (spelling text t) ∷ ws) (words_append text (names_with names t.kind (spelling text t)) ts us)
+-- these words are followed by those, whatever stands last in front and first behind
+abbrev AreApart : List Token → List Token → Type 0
+AreApart ts us = (text : List ℕ) (names : Spellings) → words_from text names (ts ++ us) ≡ words_from text names ts ++ words_from text (names_from text names ts) us
+
+none_behind : (ts : List Token) → AreApart ts []
+none_behind ts text names = ap (words_from text names) (append-nil ts) ∙ sym (append-nil (words_from text names ts))
+
+bracket_before : (k : TokenKind) (n : ℕ) (s : List ℕ) → 1 ≤ n → open_behind n k ≡ 0 → (us : List Token) → keyword_before (keyword_of k s) us ≡ keyword_of k s
+bracket_before kind.Right n s some e us = refl
+bracket_before kind.Left n s some e us = refl
+bracket_before _ n s some e us = absurd (omega (arith, some, e))
+
+same_before : (k : Keyword) (v : Token) (ts us : List Token) → keyword_before k (v ∷ ts ++ us) ≡ keyword_before k (v ∷ ts)
+same_before keyword.Minus v ts us = refl
+same_before _ v ts us = refl
+
+still_open : (b : Bool) (m : ℕ) (v : Token) (ts : List Token) → (m == 0) ≡ b → cond b false (closes_last m (v ∷ ts)) ≡ true → (1 ≤ m) × (closes_last m (v ∷ ts) ≡ true)
+still_open true m v ts is c = absurd (true≢false (sym c))
+still_open false m v ts is c = let apart : m ≡ 0 → ⊥ = eqb-false m 0 is in (omega arith, c)
+
+all_closed : (b : Bool) (m : ℕ) → (m == 0) ≡ b → cond b true false ≡ true → m ≡ 0
+all_closed true m is c = eqb-true m 0 is
+all_closed false m is c = absurd (true≢false (sym c))
+
+-- the words of tokens that end with the bracket that closes them
+closed_apart : (ts us : List Token) (n : ℕ) → 1 ≤ n → closes_last n ts ≡ true → AreApart ts us
+closed_apart [] us n some c text names = absurd (true≢false (sym c))
+closed_apart (t ∷ []) us n some c text names =
+    let s = spelling text t in
+    let shut = all_closed (open_behind n t.kind == 0) (open_behind n t.kind) refl c in
+    ap (λ (k : Keyword). record (word_of names t s) { keyword = k } ∷ words_from text (names_with names t.kind s) us)
+    (bracket_before t.kind n s some shut us ∙ sym (bracket_before t.kind n s some shut []))
+closed_apart (t ∷ (v ∷ ts)) us n some c text names =
+    let s = spelling text t in
+    let names' = names_with names t.kind s in
+    let on = still_open (open_behind n t.kind == 0) (open_behind n t.kind) v ts refl c in
+    ap (λ (k : Keyword). record (word_of names t s) { keyword = k } ∷ words_from text names' (v ∷ ts ++ us)) (same_before (keyword_of t.kind s) v ts us)
+    ∙ ap (λ (ws : List Word). record (word_of names t s) { keyword = keyword_before (keyword_of t.kind s) (v ∷ ts) } ∷ ws) (closed_apart (v ∷ ts) us (open_behind n t.kind) on.0 on.1 text names')
+
+-- the words of a form that is closed
+left_before : (k : TokenKind) (s : List ℕ) → is_left k ≡ true → (us : List Token) → keyword_before (keyword_of k s) us ≡ keyword_of k s
+left_before kind.Left s is us = refl
+left_before _ s is us = absurd (true≢false (sym is))
+
+closed_behind : (k : TokenKind) (ts : List Token) → is_left k ≡ true → cond (open_behind 0 k == 0) (is_last ts) (closes_last (open_behind 0 k) ts) ≡ true → closes_last 1 ts ≡ true
+closed_behind kind.Left ts is c = c
+closed_behind _ ts is c = absurd (true≢false (sym is))
+
+form_apart : (ts us : List Token) → opens ts ≡ true → closes_last 0 ts ≡ true → AreApart ts us
+form_apart [] us o c text names = absurd (true≢false (sym o))
+form_apart (t ∷ ts) us o c text names =
+    let s = spelling text t in
+    let names' = names_with names t.kind s in
+    ap (λ (k : Keyword). record (word_of names t s) { keyword = k } ∷ words_from text names' (ts ++ us))
+    (left_before t.kind s o (ts ++ us) ∙ sym (left_before t.kind s o ts))
+    ∙ ap (λ (ws : List Word). record (word_of names t s) { keyword = keyword_before (keyword_of t.kind s) ts } ∷ ws) (closed_apart ts us 1 (omega arith) (closed_behind t.kind ts o c) text names')
 
 names_append : (text : List ℕ) (names : Spellings) (ts us : List Token) → names_from text names (ts ++ us) ≡ names_from text (names_from text names ts) us
 names_append text names [] us = refl
@@ -64,19 +121,19 @@ stray_fault text names from at s (atom f e numeric place) = rw place (rw numeric
 -- ---- a form
 
 -- the text is read on from after the tokens
-led_reads : (text : List ℕ) (names : Spellings) (from : ℕ) (s new : State) (ts : List Token) (l : Lexed) → lexed_at text from ≡ led ts l → ((more : List Word) → goes (words_from text names ts ++ more) (Forms ∷ []) s ≡ goes more (Forms ∷ []) new) → rest_of text names from s ≡ rest_by text (names_from text names ts) new l
-led_reads text names from s new ts l e goes_on =
-    ap (rest_by text names s) e ∙ rw (words_append text names ts l.tokens, names_append text names ts l.tokens, goes_on (words_from text (names_from text names ts) l.tokens)) refl
+led_reads : (text : List ℕ) (names : Spellings) (from : ℕ) (s new : State) (ts : List Token) (l : Lexed) → AreApart ts l.tokens → lexed_at text from ≡ led ts l → ((more : List Word) → goes (words_from text names ts ++ more) (Forms ∷ []) s ≡ goes more (Forms ∷ []) new) → rest_of text names from s ≡ rest_by text (names_from text names ts) new l
+led_reads text names from s new ts l apart e goes_on =
+    ap (rest_by text names s) e ∙ rw (apart text names, names_append text names ts l.tokens, goes_on (words_from text (names_from text names ts) l.tokens)) refl
 
 -- a word of the tokens is refused
-led_refused : (text : List ℕ) (names : Spellings) (from : ℕ) (s : State) (ts : List Token) (l : Lexed) (f : Fault) (w : Word) → lexed_at text from ≡ led ts l → ((more : List Word) → goes (words_from text names ts ++ more) (Forms ∷ []) s ≡ Err (f, Some w)) → rest_of text names from s ≡ Err (record { fault = f; at = w.first })
-led_refused text names from s ts l f w e fails =
-    ap (rest_by text names s) e ∙ rw (words_append text names ts l.tokens, fails (words_from text (names_from text names ts) l.tokens)) refl
+led_refused : (text : List ℕ) (names : Spellings) (from : ℕ) (s : State) (ts : List Token) (l : Lexed) (f : Fault) (w : Word) → AreApart ts l.tokens → lexed_at text from ≡ led ts l → ((more : List Word) → goes (words_from text names ts ++ more) (Forms ∷ []) s ≡ Err (f, Some w)) → rest_of text names from s ≡ Err (record { fault = f; at = w.first })
+led_refused text names from s ts l f w apart e fails =
+    ap (rest_by text names s) e ∙ rw (apart text names, fails (words_from text (names_from text names ts) l.tokens)) refl
 
 -- the tokens are all, and the form is open after them
 led_cut : (text : List ℕ) (names : Spellings) (from : ℕ) (s : State) (ts : List Token) (stop : Option LexFault) (f : Fault) → lexed_at text from ≡ led ts (none_by stop) → goes (words_from text names ts ++ []) (Forms ∷ []) s ≡ Err (f, None) → rest_of text names from s ≡ Err (cut_off (length text) stop)
 led_cut text names from s ts stop f e cut =
-    ap (rest_by text names s) e ∙ rw (words_append text names ts [], cut) refl
+    ap (rest_by text names s) e ∙ rw (none_behind ts text names, cut) refl
 
 abbrev is_at_word : Outcome → Bool
 is_at_word (Err (f, Some w)) = true
@@ -94,7 +151,7 @@ not_done (Err g) s h e = absurd (cc)
 -- the tokens of a form are read, however they end
 form_read_by : (text : List ℕ) (names : Spellings) (from past : ℕ) (s new : State) (ts : List Token) (e : FormEnd) → opens ts ≡ true → Ends text from ts past e → ((more : List Word) → goes (words_from text names ts ++ more) (Forms ∷ []) s ≡ goes more (Forms ∷ []) new) → rest_of text names from s ≡ rest_of text (names_from text names ts) past new
 unfolding goes ends
-form_read_by text names from past s new ts end.Closed o h goes_on = led_reads text names from s new ts (lexed_at text past) h.1 goes_on
+form_read_by text names from past s new ts end.Closed o h goes_on = led_reads text names from s new ts (lexed_at text past) (form_apart ts (lexed_at text past).tokens o h.0) h.1 goes_on
 form_read_by text names from past s new ts (end.Fault f) o h goes_on =
     absurd (not_done _ new (open_form_goes_on text ts names s o h.0) (ap (λ (ws : List Word). goes ws (Forms ∷ []) s) (sym (append-nil (words_from text names ts))) ∙ goes_on []))
 form_read_by text names from past s new ts end.Text o h goes_on =
@@ -105,15 +162,16 @@ pub form_read : (text : List ℕ) (names later : Spellings) (from : ℕ) (s new 
 form_read text names later from s new form words h made held goes_on =
     rw held (form_read_by text names from form.past s new form.tokens.items form.end h.opens h.ends (λ more. ap (λ (ws : List Word). goes (ws ++ more) (Forms ∷ []) s) (sym made) ∙ goes_on more))
 
-form_refused_by : (text : List ℕ) (names : Spellings) (from past : ℕ) (s : State) (ts : List Token) (e : FormEnd) (f : Fault) (w : Word) → Ends text from ts past e → ((more : List Word) → goes (words_from text names ts ++ more) (Forms ∷ []) s ≡ Err (f, Some w)) → rest_of text names from s ≡ Err (record { fault = f; at = w.first })
-form_refused_by text names from past s ts end.Closed f w h fails = led_refused text names from s ts (lexed_at text past) f w h.1 fails
-form_refused_by text names from past s ts (end.Fault x) f w h fails = led_refused text names from s ts (none_by (Some x)) f w h.1 fails
-form_refused_by text names from past s ts end.Text f w h fails = led_refused text names from s ts (none_by None) f w h.1 fails
+form_refused_by : (text : List ℕ) (names : Spellings) (from past : ℕ) (s : State) (ts : List Token) (e : FormEnd) (f : Fault) (w : Word) → opens ts ≡ true → Ends text from ts past e → ((more : List Word) → goes (words_from text names ts ++ more) (Forms ∷ []) s ≡ Err (f, Some w)) → rest_of text names from s ≡ Err (record { fault = f; at = w.first })
+form_refused_by text names from past s ts end.Closed f w o h fails =
+    led_refused text names from s ts (lexed_at text past) f w (form_apart ts (lexed_at text past).tokens o h.0) h.1 fails
+form_refused_by text names from past s ts (end.Fault x) f w o h fails = led_refused text names from s ts (none_by (Some x)) f w (none_behind ts) h.1 fails
+form_refused_by text names from past s ts end.Text f w o h fails = led_refused text names from s ts (none_by None) f w (none_behind ts) h.1 fails
 
 form_refused : (text : List ℕ) (names : Spellings) (from : ℕ) (s : State) (form : Form) (words : List Word) (f : Fault) (w : Word) → IsForm text from form → words ≡ words_from text names form.tokens.items
     → ((more : List Word) → goes (words ++ more) (Forms ∷ []) s ≡ Err (f, Some w)) → rest_of text names from s ≡ Err (record { fault = f; at = w.first })
 form_refused text names from s form words f w h made fails =
-    form_refused_by text names from form.past s form.tokens.items form.end f w h.ends (λ more. ap (λ (ws : List Word). goes (ws ++ more) (Forms ∷ []) s) (sym made) ∙ fails more)
+    form_refused_by text names from form.past s form.tokens.items form.end f w h.opens h.ends (λ more. ap (λ (ws : List Word). goes (ws ++ more) (Forms ∷ []) s) (sym made) ∙ fails more)
 
 form_cut_by : (text : List ℕ) (names : Spellings) (from past : ℕ) (s : State) (ts : List Token) (e : FormEnd) (f : Fault) → Ends text from ts past e → goes (words_from text names ts ++ []) (Forms ∷ []) s ≡ Err (f, None) → rest_of text names from s ≡ Err (cut_off (length text) (stop_of e))
 form_cut_by text names from past s ts end.Closed f h cut =

@@ -7,6 +7,7 @@ ghost use Rattle.ops_check.specs.Walks.{view, target_of};
 
 use crate::given::GivenCommands;
 use ops_base::commands::{Command, Fixed};
+use ops_base::constants::Constants;
 use ops_base::elements::Class;
 use ops_base::list::Listed;
 use ops_base::rules::Rule;
@@ -191,8 +192,7 @@ impl Draft {
     fn add_fixed(&mut self, field: usize, value: Value) -> Result<(), Refusal>
         ensures { Becomes (view self.new) (with_fixed (view self.old) field value) result }
     {
-        let mut values = Listed::new(self.alloc);
-        values.push(value)?;
+        let values = Constants::one(value);
         self.fixed.push(Fixed { field, values })?;
         Ok(())
     }

@@ -1,7 +1,7 @@
 //! What ends while a text is read: values become a field of an element, its fields a command, and two sides a
 //! production.
 ghost use Rattle.std.specs.Prelude.{◌≡◌, ◌+◌, ◌++◌, List, ℕ, not, count_by, SomeIff, ◌<◌, ◌^◌};
-ghost use Rattle.ops_base.specs.Valid.{cells_of, specificity};
+ghost use Rattle.ops_base.specs.Valid.{cells_of, elements_in, specificity, specificity_of};
 ghost use Rattle.ops_grammar.specs.Grammar.{with_several, with_element, with_rule, fixed_command, InFixed};
 ghost use Rattle.ops_forms.specs.WordWalks.{Becomes};
 ghost use Rattle.ops_rhs.specs.RightSides.{right_read};
@@ -9,7 +9,8 @@ ghost use Rattle.ops_check.specs.Walks.{view, shows};
 
 use crate::draft::{Draft, ElementUse};
 use ops_base::commands::{Command, Fixed};
-use ops_base::conditions::Condition;
+use ops_base::conditions::{Condition, Part};
+use ops_base::constants::Constants;
 use ops_base::list::Listed;
 use ops_base::rules::Rule;
 use ops_forms::refusals::Refusal;
@@ -22,24 +23,26 @@ impl Draft {
         ensures { Becomes (view self.new) (with_several InFixed field (view self.old)) result }
     {
         let none = Vec::new(self.alloc);
-        let values = Listed::from_vec(mem::replace(&mut self.constants, none));
+        let values = Constants::several(Listed::from_vec(mem::replace(&mut self.constants, none)));
         self.fixed.push(Fixed { field, values })?;
         Ok(())
     }
 
-    // a `make` or a `ppwm` ends
+    // A `make` or a `ppwm` ends. Its fields take no more room than they need.
     pub fn end_fixed(&mut self) -> Result<(), Refusal>
         ensures { Becomes (view self.new) (with_element InFixed (view self.old)) result }
     {
         let none = Vec::new(self.alloc);
-        let puts = Listed::from_vec(mem::replace(&mut self.fixed, none));
+        let mut puts = mem::replace(&mut self.fixed, none);
+        puts.shrink_to_fit();
+        let puts = Listed::from_vec(puts);
         self.add_command(fixed_command(self.element_use, self.class, puts))
     }
 
     // A production ends, with these conditions and this right side, before the byte `past`.
     pub fn end_rule(
         &mut self,
-        conditions: Vec<Condition>,
+        conditions: Vec<Part>,
         right: RightSide,
         past: usize,
     ) -> Result<(), Refusal>
@@ -83,9 +86,28 @@ fn fixed_command(element_use: ElementUse, class: usize, puts: Listed<Fixed>) -> 
     }
 }
 
-// one per condition, and one per test that does not bind
-fn specificity(conditions: &[Condition]) -> Option<u32>
-    ensures { SomeIff result (specificity conditions.now < 2 ^ 32) (specificity conditions.now) }
+// one per condition, members of groups among them, and one per test that does not bind
+fn specificity(parts: &[Part]) -> Option<u32>
+    ensures { SomeIff result (specificity parts.now < 2 ^ 32) (specificity parts.now) }
+{
+    let mut total: u32 = 0;
+    for part in parts {
+        total = total.checked_add(specificity_in(part)?)?;
+    }
+    Some(total)
+}
+
+fn specificity_in(part: &Part) -> Option<u32>
+    ensures { SomeIff result (specificity_of (elements_in part.now) < 2 ^ 32) (specificity_of (elements_in part.now)) }
+{
+    match part {
+        Part::One(condition) => specificity_of(condition),
+        Part::Group(members) => specificity_of_all(members.as_slice()),
+    }
+}
+
+fn specificity_of_all(conditions: &[Condition]) -> Option<u32>
+    ensures { SomeIff result (specificity_of conditions.now < 2 ^ 32) (specificity_of conditions.now) }
 {
     let mut total: u32 = 0;
     for condition in conditions {

@@ -8,7 +8,7 @@ ghost use Rattle.ops_lhs.specs.LeftSides.{left_read};
 ghost use Rattle.ops_check.specs.Walks.{view};
 
 use crate::draft::Draft;
-use ops_base::conditions::Condition;
+use ops_base::conditions::Part;
 use ops_base::endings::Fault;
 use ops_base::memory::OutOfMemory;
 use ops_forms::kinds::is_name;
@@ -75,7 +75,7 @@ impl Draft {
 }
 
 // the conditions of a left side, and what it leaves in sight
-fn seen_behind(alloc: Global, left: LeftSide) -> Result<(Vec<Condition>, Sight), OutOfMemory>
+fn seen_behind(alloc: Global, left: LeftSide) -> Result<(Vec<Part>, Sight), OutOfMemory>
     ensures conditions { IfOk result (λ r. r.0.items ≡ left.conditions.items) }
     ensures sight { IfOk result (λ r. r.1 ≡ record { values = left.values; elements = left.elements; cells = cells_of left.conditions.items; conditions = cells_from 0 left.conditions.items; variables = left.variables }) }
 {

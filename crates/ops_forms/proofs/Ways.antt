@@ -1,12 +1,12 @@
 -- Steps of the walk over words, with more words after.
-use Rattle.std.proofs.Common.{◌≡◌, ℕ, ◌==◌, true, false, slice_get, position, ◌||◌, List, [], ◌∷◌, ◌++◌, None, Some, Result, Ok, Err, refl, ◌∙◌, if◌then◌else◌}
+use Rattle.std.proofs.Common.{◌≡◌, ℕ, suc, ◌==◌, ◌&&◌, nat_le, true, false, slice_get, position, ◌||◌, List, [], ◌∷◌, ◌++◌, None, Some, Result, Ok, Err, refl, ◌∙◌, if◌then◌else◌}
 use Rattle.std.specs.Borrow.{Bor}
 use Rattle.ops_base.specs.declared.elements.Class.{Class}
 use Rattle.ops_base.specs.declared.values.Pred.{Pred}
 use Rattle.ops_base.specs.declared.endings.Fault.TheVariants as fault
 use Rattle.ops_base.specs.Valid.{is_vector}
 use Rattle.ops_grammar.specs.declared.words.Word.{Word}
-use Rattle.ops_grammar.specs.Grammar.{Use, Target, Wanted, VectorName, VectorNames, Patterns, Pattern, Braced, ElementName, ClosesBrace, Terms, ClassName, Attribute, Several, Cell, Cells, Items, ItemWord, Place, Tests, Tested, ValueFor, ToItem, State, Next, after, step, goes, is_left, is_right, is_right_brace, is_caret, is_arrow, is_name, behind_attribute, vector_name, more_patterns, element_name, place, test, tested, value_for, one_of_several, cell}
+use Rattle.ops_grammar.specs.Grammar.{Use, Target, Wanted, VectorName, VectorNames, Patterns, Pattern, Braced, ElementName, ClosesBrace, Terms, ClassName, Attribute, Several, Cell, Cells, Items, ItemWord, Place, Tests, Tested, ValueFor, ToItem, State, Next, after, step, goes, is_left, is_right, is_right_brace, is_caret, is_arrow, is_name, behind_attribute, vector_name, more_patterns, element_name, place, test, tested, value_for, one_of_several, cell, Members, member}
 use Rattle.ops_forms.specs.declared.refusals.Refusal.{Refusal}
 use Rattle.ops_forms.specs.declared.refusals.Refusal.TheVariants as refusal
 use Rattle.ops_forms.specs.WordWalks.{Way, Fails, Goes}
@@ -81,6 +81,11 @@ value_first t words rest more w ws s e = rw e refl
 pub patterns_first : (words rest more : List Word) (w : Word) (ws : List Wanted) (s : State) → words ≡ w ∷ rest → is_arrow w.keyword ≡ false → goes (words ++ more) (Patterns ∷ ws) s ≡ after (goes (rest ++ more)) w (more_patterns w (Patterns ∷ ws) s)
 unfolding goes step
 patterns_first words rest more w ws s e other = rw (e, other) refl
+
+-- one member more
+pub members_first : (n : ℕ) (words rest more : List Word) (w : Word) (ws : List Wanted) (s : State) → words ≡ w ∷ rest → (is_right_brace w.kind && nat_le 2 n) ≡ false → goes (words ++ more) (Members n ∷ ws) s ≡ after (goes (rest ++ more)) w (member w (Members (suc n) ∷ ws) s)
+unfolding goes step
+members_first n words rest more w ws s e other = rw (e, other) refl
 
 -- ---- classes and attributes
 

@@ -1,6 +1,6 @@
 //! What a word may be where something is wanted.
 ghost use Rattle.std.specs.Prelude.{◌≡◌, ◌||◌};
-ghost use Rattle.ops_grammar.specs.Grammar.{is_left, is_right, is_left_brace, is_right_brace, is_caret, is_name, is_variable, is_arrow, is_literal, is_minus, opens_choice, closes_choice, is_inf, is_compute, operation_of, pred_of, constant_of, atom_of, value_of, natural_of, small_of, count_of, strategy_of, is_all, level_of};
+ghost use Rattle.ops_grammar.specs.Grammar.{is_left, is_right, is_left_brace, is_right_brace, is_caret, is_name, is_variable, is_arrow, is_literal, is_minus, begins_group, opens_choice, closes_choice, is_inf, is_compute, operation_of, pred_of, constant_of, atom_of, value_of, natural_of, small_of, count_of, strategy_of, is_all, level_of};
 
 use ops_base::commands::Strategy;
 use ops_base::expression::Op;
@@ -85,6 +85,13 @@ pub fn is_minus(keyword: Keyword) -> bool
     matches!(keyword, Keyword::Minus)
 }
 
+/// Whether a word is `-` before a group.
+pub fn begins_group(keyword: Keyword) -> bool
+    ensures { result ≡ begins_group keyword }
+{
+    matches!(keyword, Keyword::GroupMinus)
+}
+
 /// Whether a word is `<<`, before constants.
 pub fn opens_choice(keyword: Keyword) -> bool
     ensures { result ≡ opens_choice keyword }
@@ -119,7 +126,7 @@ pub fn operation_of(keyword: Keyword) -> Option<Op>
 {
     match keyword {
         Keyword::Plus => Some(Op::Add),
-        Keyword::Minus => Some(Op::Sub),
+        Keyword::Minus | Keyword::GroupMinus => Some(Op::Sub),
         Keyword::Times => Some(Op::Mul),
         Keyword::Literal => Some(Op::Div),
         Keyword::Remainder => Some(Op::Rem),
@@ -179,10 +186,10 @@ pub fn value_of(kind: TokenKind, name: Sym) -> Option<Value>
 }
 
 /// The number that a whole number from 1 on is.
-pub fn natural_of(number: i64) -> Option<usize>
+pub fn natural_of(number: i128) -> Option<u128>
     ensures { result ≡ natural_of number }
 {
-    match usize::try_from(number) {
+    match u128::try_from(number) {
         Ok(0) | Err(_) => None,
         Ok(natural) => Some(natural),
     }
@@ -209,7 +216,7 @@ pub fn count_of(kind: TokenKind) -> Option<u64>
         return None;
     };
     match u64::try_from(number) {
-        Ok(count) if 1 <= count => Some(count),
+        Ok(count) if 1 <= count && count < 1 << 63 => Some(count),
         _ => None,
     }
 }

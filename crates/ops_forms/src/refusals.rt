@@ -84,6 +84,18 @@ pub fn fields_passed<T>(word: Word) -> Result<T, Refusal>
     )
 }
 
+/// Refuses a word that would begin a condition more than a production may have.
+pub fn conditions_passed<T>(word: Word) -> Result<T, Refusal>
+    ensures { result ≡ Err (Refusal.At (Fault.LimitPassed Limit.Conditions) (Some word)) }
+{
+    refused(
+        Fault::LimitPassed {
+            limit: Limit::Conditions,
+        },
+        word,
+    )
+}
+
 // the first word and those after it
 pub fn first_of(words: &[Word]) -> Result<(Word, &[Word]), Refusal>
     ensures { Takes words.now result }

@@ -23,7 +23,7 @@ pub struct Scope {
     pub elements: Declared<Named>,
     /// The class of each cell.
     pub cells: Listed<usize>,
-    /// The cell of each condition, `None` for a negated one.
+    /// The cell of each part of the left side, `None` for a negated condition or a group.
     pub conditions: Listed<Option<usize>>,
     /// How many numbers of variables were given.
     pub variables: usize,

@@ -1,7 +1,7 @@
 //! The words of a text.
 ghost use Rattle.std.specs.Prelude.{◌≡◌, bytes_eq, All, IfOk, OnOk};
 ghost use Rattle.ops_tokens.specs.Tokens.{spelling, LiesIn};
-ghost use Rattle.ops_grammar.specs.Words.{keyword_of, keyword_of_symbol, keyword_of_function, keyword_of_command, keyword_of_operator, has_name, names_with, name_in, word_of, words_from, names_from};
+ghost use Rattle.ops_grammar.specs.Words.{keyword_of, keyword_of_symbol, keyword_of_function, keyword_of_command, keyword_of_operator, has_name, names_with, name_in, word_of, word_before, keyword_before, words_from, names_from};
 
 use ops_base::memory::OutOfMemory;
 use ops_base::symbols::Names;
@@ -23,10 +23,44 @@ pub fn words_of(
     ensures names { OnOk result (names.new ≡ names_from text.now names.old tokens.now) }
 {
     let mut words = Vec::with_capacity(alloc, tokens.len())?;
-    for token in tokens {
-        words.push(word_of(names, text, *token)?)?;
+    let mut rest = tokens;
+    'words: loop {
+        let Some((token, after)) = rest.split_first() else {
+            return Ok(words);
+        };
+        let word = word_of(names, text, *token)?;
+        words.push(word_before(word, after))?;
+        rest = after;
     }
-    Ok(words)
+}
+
+// the word before these tokens
+fn word_before(word: Word, rest: &[Token]) -> Word
+    ensures { result ≡ word_before word rest.now }
+{
+    Word {
+        kind: word.kind,
+        keyword: keyword_before(word.keyword, rest),
+        name: word.name,
+        first: word.first,
+        past: word.past,
+    }
+}
+
+// a `-` right before an opening brace begins a group
+fn keyword_before(keyword: Keyword, rest: &[Token]) -> Keyword
+    ensures { result ≡ keyword_before keyword rest.now }
+{
+    match keyword {
+        Keyword::Minus => match rest.first() {
+            Some(token) => match token.kind {
+                TokenKind::LeftBrace => Keyword::GroupMinus,
+                _ => Keyword::Minus,
+            },
+            None => Keyword::Minus,
+        },
+        other => other,
+    }
 }
 
 fn word_of(names: &mut Names, text: &[u8], token: Token) -> Result<Word, OutOfMemory>

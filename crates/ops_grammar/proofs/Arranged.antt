@@ -1,5 +1,5 @@
 -- While a text is read, an attribute of a class is its vector attribute exactly where its name is one of a vector attribute.
-use Rattle.std.proofs.Common.{◌≡◌, ℕ, zero, suc, ◌+◌, ◌-◌, ◌<◌, Bool, true, false, ◌&&◌, ◌||◌, ◌==◌, cond, List, [], ◌∷◌, ◌++◌, length, take, length-take, refl, sym, ap, subst, ◌∙◌, arith, Option, Some, None, Result, Ok, Err, nat_lt, unwrap_or, slice_get, position, get_or, true≢false}
+use Rattle.std.proofs.Common.{◌≡◌, ℕ, zero, suc, ◌+◌, ◌-◌, ◌<◌, Bool, true, false, ◌&&◌, ◌||◌, ◌==◌, cond, List, [], ◌∷◌, ◌++◌, length, take, length-take, refl, sym, ap, subst, ◌∙◌, arith, Option, Some, None, Result, Ok, Err, nat_lt, unwrap_or, slice_get, position, get_or, true≢false, nat_le}
 use Rattle.std.specs.List.{list_any, All}
 use Rattle.std.proofs.lemmas.Bool.{and_from, and_parts, or_parts, cond_both, eqb-true, eq-eqb, ltb-true}
 use Rattle.std.proofs.lemmas.List.{get_or-take}
@@ -21,13 +21,13 @@ use Rattle.ops_base.specs.declared.actions.Item.TheVariants as item
 use Rattle.ops_base.specs.declared.commands.Command.TheVariants as command
 use Rattle.ops_base.specs.declared.commands.Strategy.{Strategy}
 use Rattle.ops_base.specs.declared.endings.Fault.{Fault}
-use Rattle.ops_base.specs.Valid.{most_fields, most_conditions, no_class, class_of, is_vector}
+use Rattle.ops_base.specs.Valid.{most_fields, most_conditions, no_class, class_of, is_vector, elements_of}
 use Rattle.ops_tokens.specs.declared.token.TokenKind.{TokenKind}
 use Rattle.ops_tokens.specs.declared.token.TokenKind.TheVariants as kind
 use Rattle.ops_grammar.specs.declared.words.Word.{Word}
 use Rattle.ops_grammar.specs.declared.words.Keyword.{Keyword}
 use Rattle.ops_grammar.specs.declared.words.Keyword.TheVariants as keyword
-use Rattle.ops_grammar.specs.Grammar.{Use, InPattern, InPut, InFixed, Target, ToTest, ToPut, ToFixed, ToTerms, ToConstants, ToItem, ToBind, Ends, EndsHalt, EndsCrlf, EndsCs, EndsExit, EndsWhole, Column, TagUse, ToRemove, NameUse, Wanted, Forms, Form, ClassDeclared, Attributes, VectorName, VectorNames, RuleName, FirstPattern, Patterns, Pattern, Braced, ElementName, ClosesBrace, ClassName, Terms, Attribute, Several, Place, Tests, Tested, Choice, Atom, ValueFor, Function, ExpressionUnit, ExpressionRest, Bracketed, SourceCell, SourceAttribute, SourceEnd, Actions, ActionWord, Modified, BoundName, BoundValue, CellName, Cell, Cells, Items, ItemWord, Columns, Count, StrategyName, TagOrAll, Tags, Shown, NamedRule, NamedRules, Level, Closes, State, Step, Next, Refuses, is_left, is_right, is_left_brace, is_right_brace, is_caret, is_name, is_variable, is_arrow, is_literal, is_minus, opens_choice, closes_choice, pred_of, constant_of, atom_of, value_of, small_of, is_one_of, number_of, may_declare, may_produce, is_class, is_rule, form, class_declared, arranged, has_vector, with_class, is_second, attribute_declared, attributes, with_vector, makes_second, vector_declared, vector_name, class_at, class_name, attributes_of, behind_attribute, field_at, with_test, with_put, with_item, with_bind, with_constant, with_bound, variable_tested, constant_tested, tested, predicated, test, place, tests, with_choice, chosen, choice, atom_at, term_at, bound_at, constant_at, is_of_action, value_for, function, no_formula, with_formula, most_brackets, completed, is_compute, operation_of, unit_bound, unit_at, expression_unit, bracketed, operation_at, expression_ended, expression_rest, Waiting, source_named, source_cell, source_class, source_at, source_attribute, takes_several, ends_at_inf, source_end, with_element, terms, within, one_of_several, with_several, several, left_begun, left_ended, right_begun, rule_name, first_pattern, one_more, more_patterns, patterns, element_at, element_name, braced, with_bound_element, with_rule, actions, action_word, with_designated, cell_of, classes_of_cells, with_modified, bound_name, bound_value, with_cell, cell_bound, cell_name, with_remove, cells, with_write, items, item_word, column_item, columns_at, ended, with_command, count_of, counted, count, strategy_of, strategy_set, strategy_name, tag_at, is_all, tag_or_all, with_tags, tags, shown, named_rule, with_named, named_rules, level_of, level_set, level, step, nothing_read}
+use Rattle.ops_grammar.specs.Grammar.{Use, InPattern, InPut, InFixed, Target, ToTest, ToPut, ToFixed, ToTerms, ToConstants, ToItem, ToBind, Ends, EndsHalt, EndsCrlf, EndsCs, EndsExit, EndsWhole, Column, TagUse, ToRemove, NameUse, Wanted, Forms, Form, ClassDeclared, Attributes, VectorName, VectorNames, RuleName, FirstPattern, Patterns, Pattern, Braced, ElementName, ClosesBrace, ClassName, Terms, Attribute, Several, Place, Tests, Tested, Choice, Atom, ValueFor, Function, ExpressionUnit, ExpressionRest, Bracketed, SourceCell, SourceAttribute, SourceEnd, Actions, ActionWord, Modified, BoundName, BoundValue, CellName, Cell, Cells, Items, ItemWord, Columns, Count, StrategyName, TagOrAll, Tags, Shown, NamedRule, NamedRules, Level, Closes, State, Step, Next, Refuses, is_left, is_right, is_left_brace, is_right_brace, is_caret, is_name, is_variable, is_arrow, is_literal, is_minus, opens_choice, closes_choice, pred_of, constant_of, atom_of, value_of, small_of, is_one_of, number_of, may_declare, may_produce, is_class, is_rule, form, class_declared, arranged, has_vector, with_class, is_second, attribute_declared, attributes, with_vector, makes_second, vector_declared, vector_name, class_at, class_name, attributes_of, behind_attribute, field_at, with_test, with_put, with_item, with_bind, with_constant, with_bound, variable_tested, constant_tested, tested, predicated, test, place, tests, with_choice, chosen, choice, atom_at, term_at, bound_at, constant_at, is_of_action, value_for, function, no_formula, with_formula, most_brackets, completed, is_compute, operation_of, unit_bound, unit_at, expression_unit, bracketed, operation_at, expression_ended, expression_rest, Waiting, source_named, source_cell, source_class, source_at, source_attribute, takes_several, ends_at_inf, source_end, with_element, terms, within, one_of_several, with_several, several, left_begun, left_ended, right_begun, rule_name, first_pattern, one_more, more_patterns, patterns, element_at, element_name, braced, with_bound_element, with_rule, actions, action_word, with_designated, cell_of, classes_of_cells, with_modified, bound_name, bound_value, with_cell, cell_bound, cell_name, with_remove, cells, with_write, items, item_word, column_item, columns_at, ended, with_command, count_of, counted, count, strategy_of, strategy_set, strategy_name, tag_at, is_all, tag_or_all, with_tags, tags, shown, named_rule, with_named, named_rules, level_of, level_set, level, step, nothing_read, begins_group, GroupBrace, Members, members, with_group, with_member, with_one, has_room}
 use Rattle.ops_grammar.specs.Spelling.{unnamed, attribute_name, last_field}
 use Rattle.ops_grammar.proofs.PlainClasses.{IsArranged, IsAttributes, class_arranged, classes_arranged, attributes_begun, attribute_pushed}
 
@@ -342,7 +342,7 @@ module _ (w : Word) where
   -- ---- the end of an element
 
   element_stays : (u : Use) (ws : List Wanted) (s : State) → Rests ws s → AreArranged ws (with_element u s)
-  element_stays InPattern ws s h = rests ws (with_element InPattern s) h
+  element_stays InPattern ws s h = cond_both s.grouped _ _ (λ t. StayArranged (Next ws t)) (λ _. rests ws (with_member s) h) (λ _. rests ws (with_one s) h)
   element_stays InPut ws s h = rests ws (with_element InPut s) h
   element_stays InFixed ws s h = rests ws (with_element InFixed s) h
 
@@ -385,17 +385,23 @@ module _ (w : Word) where
   first_pattern_stays ws s h =
       cond_both (is_left w.kind) _ _ StayArranged (λ _. h)
       (λ _. cond_both (is_left_brace w.kind) _ _ StayArranged (λ _. h)
-      (λ _. cond_both (is_minus w.keyword) _ _ StayArranged (λ _. tt) (λ _. tt)))
+      (λ _. cond_both (is_minus w.keyword || begins_group w.keyword) _ _ StayArranged (λ _. tt) (λ _. tt)))
 
   one_more_stays : (ws : List Wanted) (s : State) → AreArranged ws s → StayArranged (one_more ws s)
-  one_more_stays ws s h = cond_both (nat_lt (length s.conditions) most_conditions) _ _ StayArranged (λ _. h) (λ _. tt)
+  one_more_stays ws s h = cond_both (nat_lt (length (elements_of s.conditions)) most_conditions) _ _ StayArranged (λ _. h) (λ _. tt)
 
   more_patterns_stay : (ws : List Wanted) (s : State) → Rests ws s → StayArranged (more_patterns w ws s)
   more_patterns_stay ws s h =
       cond_both (is_left w.kind) _ _ StayArranged (λ _. one_more_stays (ClassName ∷ Terms InPattern ∷ ws) s h)
       (λ _. cond_both (is_left_brace w.kind) _ _ StayArranged (λ _. one_more_stays (Braced ∷ ws) s h)
       (λ _. cond_both (is_minus w.keyword) _ _ StayArranged
-      (λ _. one_more_stays (Pattern ∷ ws) (record s { negated = true; around = length s.values }) h) (λ _. tt)))
+      (λ _. one_more_stays (Pattern ∷ ws) (record s { negated = true; around = length s.values }) h)
+      (λ _. cond_both (begins_group w.keyword) _ _ StayArranged (λ _. h) (λ _. tt))))
+
+  members_stay : (n : ℕ) (ws : List Wanted) (s : State) → Rests ws s → StayArranged (members n w ws s)
+  members_stay n ws s h =
+      cond_both (is_right_brace w.kind && nat_le 2 n) _ _ StayArranged (λ _. rests ws (with_group s) h)
+      (λ _. cond_both (is_left w.kind) _ _ StayArranged (λ _. cond_both (has_room s) _ _ StayArranged (λ _. h) (λ _. tt)) (λ _. tt))
 
   patterns_stay : (ws : List Wanted) (s : State) → Rests ws s → StayArranged (patterns w ws s)
   patterns_stay ws s h = cond_both (is_arrow w.keyword) _ _ StayArranged (λ _. rests ws (right_begun (left_ended s)) h) (λ _. more_patterns_stay (Patterns ∷ ws) s h)
@@ -538,6 +544,8 @@ stays_arranged w (VectorNames ∷ ws) s h = cond_both (is_right w.kind) _ _ Stay
 stays_arranged w (RuleName ∷ ws) s h = rule_name_stays w ws s h
 stays_arranged w (FirstPattern ∷ ws) s h = first_pattern_stays w ws s h
 stays_arranged w (Patterns ∷ ws) s h = patterns_stay w ws s h
+stays_arranged w (GroupBrace ∷ ws) s h = cond_both (is_left_brace w.kind) _ _ StayArranged (λ _. h) (λ _. tt)
+stays_arranged w (Members n ∷ ws) s h = members_stay w n ws s h
 stays_arranged w (Pattern ∷ ws) s h = cond_both (is_left w.kind) _ _ StayArranged (λ _. h) (λ _. tt)
 stays_arranged w (Braced ∷ ws) s h = braced_stays w ws s h
 stays_arranged w (ElementName ∷ ws) s h = element_name_stays w ws s h

@@ -1,14 +1,14 @@
 -- What is wanted can be completed.
 use Rattle.std.specs.Prelude.{List, [], ◌∷◌, pos}
-use Rattle.std.proofs.Common.{◌≡◌, Bool, true, false, refl}
-use Rattle.std.proofs.lemmas.Bool.{eq-eqb}
+use Rattle.std.proofs.Common.{◌≡◌, Bool, true, false, refl, suc, arith}
+use Rattle.std.proofs.lemmas.Bool.{eq-eqb, le-leb}
 use Rattle.ops_base.specs.declared.values.Sym.{Sym}
 use Rattle.ops_tokens.specs.declared.token.TokenKind.TheVariants as kind
 use Rattle.ops_grammar.specs.declared.words.Word.{Word}
 use Rattle.ops_grammar.specs.declared.words.Keyword.{Keyword}
 use Rattle.ops_grammar.specs.declared.words.Keyword.TheVariants as keyword
-use Rattle.ops_grammar.specs.Grammar.{Use, InPattern, InPut, InFixed, Wanted, Forms, Form, ClassDeclared, Attributes, VectorName, VectorNames, RuleName, FirstPattern, Patterns, Pattern, Braced, ElementName, ClosesBrace, ClassName, Terms, Attribute, Several, Place, Tests, Tested, Choice, Atom, ValueFor, Function, ExpressionUnit, ExpressionRest, Bracketed, SourceCell, SourceAttribute, SourceEnd, Actions, ActionWord, Modified, BoundName, BoundValue, CellName, Cell, Cells, Items, ItemWord, Columns, Count, StrategyName, TagOrAll, Tags, Shown, NamedRule, NamedRules, Level, Closes, is_name, is_one_of, behind_attribute}
-use Rattle.ops_grammar.specs.Derivation.{with_name, Derives, nothing, no_form, a_class, no_attribute, a_vector, no_more_vectors, a_rule, a_first, a_whole_pattern, a_name_before, an_element_name, a_closed_brace, an_arrow, a_run, no_count, no_strategy_name, all_tags, no_more_tags, all_shown, a_named_rule, no_more_rules, no_level, a_class_name, no_term, a_scalar_attribute, a_vector_attribute, no_more_of_several, a_value, a_unit, a_bracketed_expression, no_operation, a_substr, a_source, a_source_attribute, the_same_again, an_atom, no_more_tests, an_operand, a_tested_operand, no_more_choices, no_action, to_halt, a_modified, a_bound_name, no_bound_value, a_cell_name, a_cell, no_more_cells, no_item, a_crlf, some_columns, a_closing}
+use Rattle.ops_grammar.specs.Grammar.{Use, InPattern, InPut, InFixed, Wanted, Forms, Form, ClassDeclared, Attributes, VectorName, VectorNames, RuleName, FirstPattern, Patterns, Pattern, Braced, ElementName, ClosesBrace, ClassName, Terms, Attribute, Several, Place, Tests, Tested, Choice, Atom, ValueFor, Function, ExpressionUnit, ExpressionRest, Bracketed, SourceCell, SourceAttribute, SourceEnd, Actions, ActionWord, Modified, BoundName, BoundValue, CellName, Cell, Cells, Items, ItemWord, Columns, Count, StrategyName, TagOrAll, Tags, Shown, NamedRule, NamedRules, Level, Closes, is_name, is_one_of, behind_attribute, GroupBrace, Members}
+use Rattle.ops_grammar.specs.Derivation.{with_name, Derives, nothing, no_form, a_class, no_attribute, a_vector, no_more_vectors, a_rule, a_first, a_whole_pattern, a_name_before, an_element_name, a_closed_brace, an_arrow, a_run, no_count, no_strategy_name, all_tags, no_more_tags, all_shown, a_named_rule, no_more_rules, no_level, a_class_name, no_term, a_scalar_attribute, a_vector_attribute, no_more_of_several, a_value, a_unit, a_bracketed_expression, no_operation, a_substr, a_source, a_source_attribute, the_same_again, an_atom, no_more_tests, an_operand, a_tested_operand, no_more_choices, no_action, to_halt, a_modified, a_bound_name, no_bound_value, a_cell_name, a_cell, no_more_cells, no_item, a_crlf, some_columns, a_closing, a_group, a_member, no_member}
 
 abbrev closing : Word
 closing = record { kind = kind.Right; keyword = keyword.Other; name = record { 0 = 0 }; first = 0; past = 0 }
@@ -29,6 +29,9 @@ number = record { kind = kind.Whole (pos 1); keyword = keyword.Other; name = rec
 
 abbrev variable : Word
 variable = record { kind = kind.Variable; keyword = keyword.Other; name = record { 0 = 0 }; first = 0; past = 0 }
+
+abbrev opening_brace : Word
+opening_brace = record { kind = kind.LeftBrace; keyword = keyword.Other; name = record { 0 = 0 }; first = 0; past = 0 }
 
 abbrev closing_brace : Word
 closing_brace = record { kind = kind.RightBrace; keyword = keyword.Other; name = record { 0 = 0 }; first = 0; past = 0 }
@@ -60,6 +63,8 @@ complete vs VectorName ws c = let k = c (with_name (record { 0 = 0 }) vs) in (na
 complete vs VectorNames ws c = (closing ∷ (c vs).0, no_more_vectors refl (c vs).1)
 complete vs RuleName ws c = (named keyword.Other ∷ (c vs).0, a_rule refl (c vs).1)
 complete vs FirstPattern ws c = (opening ∷ named keyword.Other ∷ closing ∷ (c vs).0, a_first refl (a_class_name refl (no_term refl (c vs).1)))
+complete vs GroupBrace ws c = (opening_brace ∷ opening ∷ named keyword.Other ∷ closing ∷ opening ∷ named keyword.Other ∷ closing ∷ closing_brace ∷ (c vs).0, a_group refl (a_member refl (a_class_name refl (no_term refl (a_member refl (a_class_name refl (no_term refl (no_member refl refl (c vs).1))))))))
+complete vs (Members n) ws c = (opening ∷ named keyword.Other ∷ closing ∷ opening ∷ named keyword.Other ∷ closing ∷ closing_brace ∷ (c vs).0, a_member refl (a_class_name refl (no_term refl (a_member refl (a_class_name refl (no_term refl (no_member refl (le-leb 2 (suc (suc n)) (omega arith)) (c vs).1)))))))
 complete vs Patterns ws c = (named keyword.Arrow ∷ (c vs).0, an_arrow refl (c vs).1)
 complete vs Pattern ws c = (opening ∷ named keyword.Other ∷ closing ∷ (c vs).0, a_whole_pattern refl (a_class_name refl (no_term refl (c vs).1)))
 complete vs Braced ws c =

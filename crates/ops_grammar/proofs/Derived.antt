@@ -1,5 +1,5 @@
 -- What a word does, against the grammar alone.
-use Rattle.std.proofs.Common.{◌≡◌, ℕ, suc, arith, ◌+◌, Bool, true, false, not, ◌&&◌, ◌||◌, List, [], ◌∷◌, ◌++◌, ◌∙◌, cond, refl, sym, ap, Option, Some, None, Result, Ok, Err, true≢false, subst, ◌==◌, nat_lt, length, is_some, position, slice_get}
+use Rattle.std.proofs.Common.{◌≡◌, ℕ, suc, arith, ◌+◌, Bool, true, false, not, ◌&&◌, ◌||◌, List, [], ◌∷◌, ◌++◌, ◌∙◌, cond, refl, sym, ap, Option, Some, None, Result, Ok, Err, true≢false, subst, ◌==◌, nat_lt, length, is_some, position, slice_get, nat_le}
 use Rattle.std.proofs.lemmas.Bool.{cond_both, or_right, and_from, and_parts}
 use Rattle.ops_base.specs.declared.values.Sym.{Sym}
 use Rattle.ops_base.specs.declared.values.Value.{Value}
@@ -11,14 +11,14 @@ use Rattle.ops_base.specs.declared.expression.Op.{Op}
 use Rattle.ops_base.specs.declared.commands.Strategy.{Strategy}
 use Rattle.ops_base.specs.declared.endings.Fault.{Fault}
 use Rattle.ops_base.specs.Expression.{Formula}
-use Rattle.ops_base.specs.Valid.{most_fields, most_conditions, class_of, is_vector}
+use Rattle.ops_base.specs.Valid.{most_fields, most_conditions, class_of, is_vector, elements_of}
 use Rattle.ops_tokens.specs.declared.token.TokenKind.{TokenKind}
 use Rattle.ops_tokens.specs.declared.token.TokenKind.TheVariants as kind
 use Rattle.ops_grammar.specs.declared.words.Word.{Word}
 use Rattle.ops_grammar.specs.declared.words.Keyword.{Keyword}
 use Rattle.ops_grammar.specs.declared.words.Keyword.TheVariants as keyword
-use Rattle.ops_grammar.specs.Grammar.{Use, InPattern, InPut, InFixed, Target, ToTest, ToPut, ToFixed, ToTerms, ToConstants, ToItem, ToBind, Ends, EndsHalt, EndsCrlf, EndsCs, EndsExit, EndsWhole, TagUse, ToRemove, NameUse, Column, Wanted, Forms, Form, ClassDeclared, Attributes, VectorName, VectorNames, RuleName, FirstPattern, Patterns, Pattern, Braced, ElementName, ClosesBrace, ClassName, Terms, Attribute, Several, Place, Tests, Tested, Choice, Atom, ValueFor, Function, Waiting, ExpressionUnit, ExpressionRest, Bracketed, SourceCell, SourceAttribute, SourceEnd, Actions, ActionWord, Modified, BoundName, BoundValue, CellName, Cell, Cells, Items, ItemWord, Columns, Count, StrategyName, TagOrAll, Tags, Shown, NamedRule, NamedRules, Level, Closes, State, Step, Next, Refuses, is_left, is_right, is_left_brace, is_right_brace, is_caret, is_name, is_variable, is_arrow, is_literal, is_inf, is_minus, opens_choice, closes_choice, pred_of, constant_of, value_of, atom_of, small_of, is_one_of, number_of, may_declare, may_produce, is_class, is_rule, form, class_declared, is_second, attributes, makes_second, vector_declared, vector_name, vector_names, class_at, class_name, attributes_of, behind_attribute, field_at, attribute, with_bind, with_constant, variable_tested, constant_tested, tested, predicated, test, place, tests, chosen, choice, atom_at, term_at, bound_at, constant_at, is_of_action, value_for, most_brackets, no_formula, with_formula, unit_bound, unit_at, expression_unit, bracketed, is_compute, operation_of, operation_at, expression_ended, expression_rest, function, source_named, source_cell, source_class, source_at, source_attribute, takes_several, ends_at_inf, source_end, with_element, terms, within, one_of_several, with_several, several, rule_name, first_pattern, one_more, patterns, pattern, element_at, element_name, braced, closes_brace, actions, action_word, cell_of, with_designated, cell, with_modified, modified, bound_name, bound_value, cell_bound, cell_name, cells, items, item_word, columns_at, counted, count_of, count, strategy_set, strategy_of, strategy_name, tag_at, is_all, tag_or_all, tags, shown, named_rule, named_rules, level_of, level_set, level, ended, closes, forms, step}
-use Rattle.ops_grammar.specs.Derivation.{is_whole, is_designator, is_operand, is_value, is_choice, with_name, Derives, a_form, a_literalize, a_class, an_attribute, no_attribute, a_vector_declaration, a_vector, one_more_vector, no_more_vectors, a_production, a_rule, a_first, a_braced_first, a_negated_first, a_pattern, a_braced_pattern, a_negated_pattern, a_whole_pattern, a_name_before, a_name_behind, an_element_name, a_closed_brace, an_arrow, a_make, a_run, a_count, no_count, a_strategy, a_strategy_name, no_strategy_name, a_remove_command, all_tags, a_first_tag, a_wm, one_more_tag, no_more_tags, a_ppwm, a_shown_class, all_shown, a_cs, an_exit, a_pm, a_pbreak, a_named_rule, one_more_rule, no_more_rules, a_watch, a_level, no_level, a_class_name, a_term, no_term, a_scalar_attribute, a_vector_attribute, one_more_place, one_more_term, one_more_constant, no_more_of_several, a_value, a_literal_value, a_function, a_compute, a_genatom, an_accept, a_unit, a_bracketed_unit, a_bracketed_compute, a_bracketed_expression, an_operation, no_operation, a_substr, a_source, a_source_attribute, the_same_again, up_to_inf, an_atom, a_conjunction, no_more_tests, an_operand, a_literal, a_predicate, a_disjunction, one_more_operand, one_more_literal, one_more_predicate, one_more_disjunction, a_tested_operand, a_tested_literal, one_more_choice, no_more_choices, an_action, no_action, to_make, to_modify, to_bind, to_cbind, to_remove, to_write, to_halt, a_modified, a_bound_name, a_bound_value, no_bound_value, a_cell_name, a_cell, one_more_cell, no_more_cells, an_item, a_literal_item, an_item_form, no_item, a_crlf, a_tab, a_right, a_function_item, some_columns, a_closing, is_no_form}
+use Rattle.ops_grammar.specs.Grammar.{Use, InPattern, InPut, InFixed, Target, ToTest, ToPut, ToFixed, ToTerms, ToConstants, ToItem, ToBind, Ends, EndsHalt, EndsCrlf, EndsCs, EndsExit, EndsWhole, TagUse, ToRemove, NameUse, Column, Wanted, Forms, Form, ClassDeclared, Attributes, VectorName, VectorNames, RuleName, FirstPattern, Patterns, Pattern, Braced, ElementName, ClosesBrace, ClassName, Terms, Attribute, Several, Place, Tests, Tested, Choice, Atom, ValueFor, Function, Waiting, ExpressionUnit, ExpressionRest, Bracketed, SourceCell, SourceAttribute, SourceEnd, Actions, ActionWord, Modified, BoundName, BoundValue, CellName, Cell, Cells, Items, ItemWord, Columns, Count, StrategyName, TagOrAll, Tags, Shown, NamedRule, NamedRules, Level, Closes, State, Step, Next, Refuses, is_left, is_right, is_left_brace, is_right_brace, is_caret, is_name, is_variable, is_arrow, is_literal, is_inf, is_minus, opens_choice, closes_choice, pred_of, constant_of, value_of, atom_of, small_of, is_one_of, number_of, may_declare, may_produce, is_class, is_rule, form, class_declared, is_second, attributes, makes_second, vector_declared, vector_name, vector_names, class_at, class_name, attributes_of, behind_attribute, field_at, attribute, with_bind, with_constant, variable_tested, constant_tested, tested, predicated, test, place, tests, chosen, choice, atom_at, term_at, bound_at, constant_at, is_of_action, value_for, most_brackets, no_formula, with_formula, unit_bound, unit_at, expression_unit, bracketed, is_compute, operation_of, operation_at, expression_ended, expression_rest, function, source_named, source_cell, source_class, source_at, source_attribute, takes_several, ends_at_inf, source_end, with_element, terms, within, one_of_several, with_several, several, rule_name, first_pattern, one_more, patterns, pattern, element_at, element_name, braced, closes_brace, actions, action_word, cell_of, with_designated, cell, with_modified, modified, bound_name, bound_value, cell_bound, cell_name, cells, items, item_word, columns_at, counted, count_of, count, strategy_set, strategy_of, strategy_name, tag_at, is_all, tag_or_all, tags, shown, named_rule, named_rules, level_of, level_set, level, ended, closes, forms, step, begins_group, GroupBrace, Members, members, group, has_room}
+use Rattle.ops_grammar.specs.Derivation.{is_whole, is_designator, is_operand, is_value, is_choice, with_name, Derives, a_form, a_literalize, a_class, an_attribute, no_attribute, a_vector_declaration, a_vector, one_more_vector, no_more_vectors, a_production, a_rule, a_first, a_braced_first, a_negated_first, a_pattern, a_braced_pattern, a_negated_pattern, a_whole_pattern, a_name_before, a_name_behind, an_element_name, a_closed_brace, an_arrow, a_make, a_run, a_count, no_count, a_strategy, a_strategy_name, no_strategy_name, a_remove_command, all_tags, a_first_tag, a_wm, one_more_tag, no_more_tags, a_ppwm, a_shown_class, all_shown, a_cs, an_exit, a_pm, a_pbreak, a_named_rule, one_more_rule, no_more_rules, a_watch, a_level, no_level, a_class_name, a_term, no_term, a_scalar_attribute, a_vector_attribute, one_more_place, one_more_term, one_more_constant, no_more_of_several, a_value, a_literal_value, a_function, a_compute, a_genatom, an_accept, a_unit, a_bracketed_unit, a_bracketed_compute, a_bracketed_expression, an_operation, no_operation, a_substr, a_source, a_source_attribute, the_same_again, up_to_inf, an_atom, a_conjunction, no_more_tests, an_operand, a_literal, a_predicate, a_disjunction, one_more_operand, one_more_literal, one_more_predicate, one_more_disjunction, a_tested_operand, a_tested_literal, one_more_choice, no_more_choices, an_action, no_action, to_make, to_modify, to_bind, to_cbind, to_remove, to_write, to_halt, a_modified, a_bound_name, a_bound_value, no_bound_value, a_cell_name, a_cell, one_more_cell, no_more_cells, an_item, a_literal_item, an_item_form, no_item, a_crlf, a_tab, a_right, a_function_item, some_columns, a_closing, is_no_form, a_group, a_member, no_member, a_group_first, a_group_pattern}
 use Rattle.ops_grammar.proofs.Completed.{completed, attribute_completed}
 use Rattle.ops_grammar.proofs.Arranged.{AreArranged, StayArranged, stays_arranged, kind_agrees}
 
@@ -55,7 +55,7 @@ constant_vectors ToItem s v = refl
 constant_vectors ToBind s v = bind_vectors (number_of s.variable s.values) s (term.Constant v)
 
 pub element_vectors : (u : Use) (s : State) → (with_element u s).vectors ≡ s.vectors
-element_vectors InPattern s = refl
+element_vectors InPattern s = cond_both s.grouped _ _ (λ (t : State). t.vectors ≡ s.vectors) (λ _. refl) (λ _. refl)
 element_vectors InPut s = refl
 element_vectors InFixed s = refl
 
@@ -177,17 +177,36 @@ module _ (w : Word) (ws : List Wanted) (s : State) where
       (λ e. cond_both (is_rule s w.name) _ _ (Continues s.vectors (RuleName ∷ ws) w) (λ _ _. behind (RuleName ∷ ws) ws (λ ts d. a_rule e d)) (λ _. (λ h. h, λ ts d. a_rule e d)))
       (λ _ f. no_fault f)
 
+  negated_first : (b c : Bool) → is_minus w.keyword ≡ b → begins_group w.keyword ≡ c → (b || c) ≡ true → (ts : List Word) × Derives s.vectors (FirstPattern ∷ ws) (w ∷ ts)
+  negated_first true c is of e = behind (FirstPattern ∷ ws) (Pattern ∷ ws) (λ ts d. a_negated_first is d)
+  negated_first false true is of e = behind (FirstPattern ∷ ws) (GroupBrace ∷ ws) (λ ts d. a_group_first of d)
+  negated_first false false is of e = absurd (true≢false (sym e))
+
   first_pattern_continues : Continues s.vectors (FirstPattern ∷ ws) w (first_pattern w ws s)
   first_pattern_continues =
       cond_both (is_left w.kind) _ _ (Continues s.vectors (FirstPattern ∷ ws) w) (λ e. (λ h. h, λ ts d. a_first e d))
       (λ _. cond_both (is_left_brace w.kind) _ _ (Continues s.vectors (FirstPattern ∷ ws) w) (λ e. (λ h. h, λ ts d. a_braced_first e d))
-      (λ _. cond_both (is_minus w.keyword) _ _ (Continues s.vectors (FirstPattern ∷ ws) w) (λ e _. behind (FirstPattern ∷ ws) (Pattern ∷ ws) (λ ts d. a_negated_first e d))
+      (λ _. cond_both (is_minus w.keyword || begins_group w.keyword) _ _ (Continues s.vectors (FirstPattern ∷ ws) w) (λ e _. negated_first (is_minus w.keyword) (begins_group w.keyword) refl refl e)
       (λ _ f. no_fault f)))
+
+  -- one more member
+  members_continue : (n : ℕ) → Continues s.vectors (Members n ∷ ws) w (members n w ws s)
+  members_continue n =
+      cond_both (is_right_brace w.kind && nat_le 2 n) _ _ (Continues s.vectors (Members n ∷ ws) w)
+      (λ e. let each = and_parts (is_right_brace w.kind) (nat_le 2 n) e in (λ h. h, λ ts d. no_member each.0 each.1 d))
+      (λ _. cond_both (is_left w.kind) _ _ (Continues s.vectors (Members n ∷ ws) w)
+      (λ e. cond_both (has_room s) _ _ (Continues s.vectors (Members n ∷ ws) w) (λ _. (λ h. h, λ ts d. a_member e d))
+      (λ _ _. behind_names s.vectors (Members n ∷ ws) (ClassName ∷ Terms InPattern ∷ Members (suc n) ∷ ws) (λ ts d. a_member e d)))
+      (λ _ f. no_fault f))
+
+  group_continues : Continues s.vectors (GroupBrace ∷ ws) w (group w ws s)
+  group_continues =
+      cond_both (is_left_brace w.kind) _ _ (Continues s.vectors (GroupBrace ∷ ws) w) (λ e. (λ h. h, λ ts d. a_group e d)) (λ _ f. no_fault f)
 
   -- one more condition, or none where there is no room
   one_more_continues : (ws' : List Wanted) (s' : State) → Stays (Patterns ∷ ws) ws' → ((ts : List Word) → Derives s'.vectors ws' ts → Derives s.vectors (Patterns ∷ ws) (w ∷ ts)) → Continues s.vectors (Patterns ∷ ws) w (one_more ws' s')
   one_more_continues ws' s' stay more =
-      cond_both (nat_lt (length s'.conditions) most_conditions) _ _ (Continues s.vectors (Patterns ∷ ws) w) (λ _. (stay, more)) (λ _ _. behind_names s'.vectors (Patterns ∷ ws) ws' more)
+      cond_both (nat_lt (length (elements_of s'.conditions)) most_conditions) _ _ (Continues s.vectors (Patterns ∷ ws) w) (λ _. (stay, more)) (λ _ _. behind_names s'.vectors (Patterns ∷ ws) ws' more)
 
   patterns_continue : Continues s.vectors (Patterns ∷ ws) w (patterns w ws s)
   patterns_continue =
@@ -198,7 +217,8 @@ module _ (w : Word) (ws : List Wanted) (s : State) where
       (λ e. one_more_continues (Braced ∷ Patterns ∷ ws) s (λ h. h) (λ ts d. a_braced_pattern e d))
       (λ _. cond_both (is_minus w.keyword) _ _ (Continues s.vectors (Patterns ∷ ws) w)
       (λ e. one_more_continues (Pattern ∷ Patterns ∷ ws) (record s { negated = true; around = length s.values }) (λ h. h) (λ ts d. a_negated_pattern e d))
-      (λ _ f. no_fault f))))
+      (λ _. cond_both (begins_group w.keyword) _ _ (Continues s.vectors (Patterns ∷ ws) w) (λ e. (λ h. h, λ ts d. a_group_pattern e d))
+      (λ _ f. no_fault f)))))
 
   pattern_continues : Continues s.vectors (Pattern ∷ ws) w (pattern w ws s)
   pattern_continues =
@@ -623,6 +643,8 @@ step_continues w (VectorNames ∷ ws) s a = vector_names_continue w ws s
 step_continues w (RuleName ∷ ws) s a = rule_name_continues w ws s
 step_continues w (FirstPattern ∷ ws) s a = first_pattern_continues w ws s
 step_continues w (Patterns ∷ ws) s a = patterns_continue w ws s
+step_continues w (GroupBrace ∷ ws) s a = group_continues w ws s
+step_continues w (Members n ∷ ws) s a = members_continue w ws s n
 step_continues w (Pattern ∷ ws) s a = pattern_continues w ws s
 step_continues w (Braced ∷ ws) s a = braced_continues w ws s
 step_continues w (ElementName ∷ ws) s a = element_name_continues w ws s (ElementName ∷ ws) ws (λ h. h) (λ e ts d. an_element_name e d)

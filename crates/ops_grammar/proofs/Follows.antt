@@ -1,30 +1,30 @@
 -- What the machine does at a word that the grammar derives.
-use Rattle.std.proofs.Common.{◌≡◌, ℕ, suc, arith, ◌+◌, ◌-◌, Bool, true, false, not, ◌&&◌, ◌||◌, ◌==◌, List, [], ◌∷◌, ◌++◌, length, take, refl, sym, ap, subst, ◌∙◌, cond, ◌⊎◌, inl, inr, Option, Some, None, Result, Ok, Err, true≢false, nat_lt, is_some, position, slice_get}
+use Rattle.std.proofs.Common.{◌≡◌, ℕ, suc, arith, ◌+◌, ◌-◌, Bool, true, false, not, ◌&&◌, ◌||◌, ◌==◌, List, [], ◌∷◌, ◌++◌, length, take, refl, sym, ap, subst, ◌∙◌, cond, ◌⊎◌, inl, inr, Option, Some, None, Result, Ok, Err, true≢false, nat_lt, is_some, position, slice_get, nat_le}
 use Rattle.std.specs.List.{list_any}
 use Rattle.std.proofs.lemmas.Bool.{cond_both, and_parts, and_from, or_left, or_right}
 use Rattle.ops_base.specs.declared.values.Sym.{Sym}
 use Rattle.ops_base.specs.declared.values.Value.{Value}
 use Rattle.ops_base.specs.declared.values.Pred.{Pred}
 use Rattle.ops_base.specs.declared.values.Pred.TheVariants as pred
-use Rattle.ops_base.specs.declared.conditions.Condition.{Condition}
+use Rattle.ops_base.specs.declared.conditions.Part.{Part}
 use Rattle.ops_base.specs.declared.actions.Term.{Term}
 use Rattle.ops_base.specs.declared.actions.Term.TheVariants as term
 use Rattle.ops_base.specs.declared.expression.Op.{Op}
 use Rattle.ops_base.specs.declared.commands.Strategy.{Strategy}
 use Rattle.ops_base.specs.declared.endings.Fault.{Fault}
 use Rattle.ops_base.specs.Expression.{Formula}
-use Rattle.ops_base.specs.Valid.{most_fields, most_conditions, class_of, is_vector}
+use Rattle.ops_base.specs.Valid.{most_fields, most_conditions, class_of, is_vector, elements_of}
 use Rattle.ops_tokens.specs.declared.token.TokenKind.{TokenKind}
 use Rattle.ops_tokens.specs.declared.token.TokenKind.TheVariants as kind
 use Rattle.ops_grammar.specs.declared.words.Word.{Word}
 use Rattle.ops_grammar.specs.declared.words.Keyword.{Keyword}
 use Rattle.ops_grammar.specs.declared.words.Keyword.TheVariants as keyword
-use Rattle.ops_grammar.specs.Grammar.{Use, InPattern, InPut, InFixed, Target, ToTest, ToPut, ToTerms, ToConstants, ToItem, ToBind, EndsWhole, ToRemove, Column, Wanted, Forms, Attribute, VectorNames, Patterns, Pattern, Braced, ClosesBrace, ClassName, Terms, Several, Place, Tests, Choice, ValueFor, Function, Waiting, ExpressionUnit, ExpressionRest, Bracketed, SourceEnd, Atom, Tested, BoundValue, Cells, Items, ItemWord, Tags, Closes, State, Step, Next, Refuses, is_left, is_right, is_left_brace, is_right_brace, is_caret, is_name, is_variable, is_arrow, is_literal, is_inf, is_minus, opens_choice, closes_choice, pred_of, constant_of, value_of, atom_of, natural_of, small_of, is_one_of, number_of, may_declare, may_produce, is_class, is_rule, is_second, makes_second, vector_declared, form, class_at, attributes_of, behind_attribute, field_at, with_bind, with_constant, variable_tested, constant_tested, tested, predicated, test, place, tests, chosen, atom_at, term_at, bound_at, constant_at, is_of_action, value_for, most_brackets, no_formula, with_formula, unit_bound, unit_at, expression_unit, is_compute, operation_of, operation_at, expression_ended, function, source_named, source_class, source_at, takes_several, ends_at_inf, source_end, with_element, terms, within, one_of_several, with_several, several, one_more, element_at, action_word, designated, numbered_cell, named_cell, cell_of, with_designated, with_modified, cell_bound, item_word, columns_at, counted, count_of, strategy_set, strategy_of, tag_at, is_all, level_of, level_set, ended, step}
-use Rattle.ops_grammar.specs.Derivation.{is_designator, is_operand, is_value, with_name, Derives, nothing, no_form, a_form, a_literalize, a_class, an_attribute, no_attribute, a_vector_declaration, a_vector, one_more_vector, no_more_vectors, a_production, a_rule, a_first, a_braced_first, a_negated_first, a_pattern, a_braced_pattern, a_negated_pattern, a_whole_pattern, a_name_before, a_name_behind, an_element_name, a_closed_brace, an_arrow, a_make, a_run, a_count, no_count, a_strategy, a_strategy_name, no_strategy_name, a_remove_command, all_tags, a_first_tag, a_wm, one_more_tag, no_more_tags, a_ppwm, a_shown_class, all_shown, a_cs, an_exit, a_pm, a_pbreak, a_named_rule, one_more_rule, no_more_rules, a_watch, a_level, no_level, a_class_name, a_term, no_term, a_scalar_attribute, a_vector_attribute, one_more_place, one_more_term, one_more_constant, no_more_of_several, a_value, a_literal_value, a_function, a_compute, a_genatom, an_accept, a_unit, a_bracketed_unit, a_bracketed_compute, a_bracketed_expression, an_operation, no_operation, a_substr, a_source, a_source_attribute, the_same_again, up_to_inf, an_atom, a_conjunction, no_more_tests, an_operand, a_literal, a_predicate, a_disjunction, one_more_operand, one_more_literal, one_more_predicate, one_more_disjunction, a_tested_operand, a_tested_literal, one_more_choice, no_more_choices, an_action, no_action, to_make, to_modify, to_bind, to_cbind, to_remove, to_write, to_halt, a_modified, a_bound_name, a_bound_value, no_bound_value, a_cell_name, a_cell, one_more_cell, no_more_cells, an_item, a_literal_item, an_item_form, no_item, a_crlf, a_tab, a_right, a_function_item, some_columns, a_closing, is_no_form}
+use Rattle.ops_grammar.specs.Grammar.{Use, InPattern, InPut, InFixed, Target, ToTest, ToPut, ToTerms, ToConstants, ToItem, ToBind, EndsWhole, ToRemove, Column, Wanted, Forms, Attribute, VectorNames, Patterns, Pattern, Braced, ClosesBrace, ClassName, Terms, Several, Place, Tests, Choice, ValueFor, Function, Waiting, ExpressionUnit, ExpressionRest, Bracketed, SourceEnd, Atom, Tested, BoundValue, Cells, Items, ItemWord, Tags, Closes, State, Step, Next, Refuses, is_left, is_right, is_left_brace, is_right_brace, is_caret, is_name, is_variable, is_arrow, is_literal, is_inf, is_minus, opens_choice, closes_choice, pred_of, constant_of, value_of, atom_of, natural_of, small_of, is_one_of, number_of, may_declare, may_produce, is_class, is_rule, is_second, makes_second, vector_declared, form, class_at, attributes_of, behind_attribute, field_at, with_bind, with_constant, variable_tested, constant_tested, tested, predicated, test, place, tests, chosen, atom_at, term_at, bound_at, constant_at, is_of_action, value_for, most_brackets, no_formula, with_formula, unit_bound, unit_at, expression_unit, is_compute, operation_of, operation_at, expression_ended, function, source_named, source_class, source_at, takes_several, ends_at_inf, source_end, with_element, terms, within, one_of_several, with_several, several, one_more, element_at, action_word, designated, numbered_cell, named_cell, cell_of, with_designated, with_modified, cell_bound, item_word, columns_at, counted, count_of, strategy_set, strategy_of, tag_at, is_all, level_of, level_set, ended, step, is_absent, begins_group, has_room}
+use Rattle.ops_grammar.specs.Derivation.{is_designator, is_operand, is_value, with_name, Derives, nothing, no_form, a_form, a_literalize, a_class, an_attribute, no_attribute, a_vector_declaration, a_vector, one_more_vector, no_more_vectors, a_production, a_rule, a_first, a_braced_first, a_negated_first, a_pattern, a_braced_pattern, a_negated_pattern, a_whole_pattern, a_name_before, a_name_behind, an_element_name, a_closed_brace, an_arrow, a_make, a_run, a_count, no_count, a_strategy, a_strategy_name, no_strategy_name, a_remove_command, all_tags, a_first_tag, a_wm, one_more_tag, no_more_tags, a_ppwm, a_shown_class, all_shown, a_cs, an_exit, a_pm, a_pbreak, a_named_rule, one_more_rule, no_more_rules, a_watch, a_level, no_level, a_class_name, a_term, no_term, a_scalar_attribute, a_vector_attribute, one_more_place, one_more_term, one_more_constant, no_more_of_several, a_value, a_literal_value, a_function, a_compute, a_genatom, an_accept, a_unit, a_bracketed_unit, a_bracketed_compute, a_bracketed_expression, an_operation, no_operation, a_substr, a_source, a_source_attribute, the_same_again, up_to_inf, an_atom, a_conjunction, no_more_tests, an_operand, a_literal, a_predicate, a_disjunction, one_more_operand, one_more_literal, one_more_predicate, one_more_disjunction, a_tested_operand, a_tested_literal, one_more_choice, no_more_choices, an_action, no_action, to_make, to_modify, to_bind, to_cbind, to_remove, to_write, to_halt, a_modified, a_bound_name, a_bound_value, no_bound_value, a_cell_name, a_cell, one_more_cell, no_more_cells, an_item, a_literal_item, an_item_form, no_item, a_crlf, a_tab, a_right, a_function_item, some_columns, a_closing, is_no_form, a_group, a_member, no_member, a_group_first, a_group_pattern}
 use Rattle.ops_grammar.proofs.Arranged.{AreArranged, kind_agrees}
 use Rattle.ops_grammar.proofs.Derived.{forms_last, bind_vectors, constant_vectors, element_vectors, ended_vectors}
 use Rattle.ops_grammar.proofs.Moved.{at_any_place, several_at_any_place, whatever_waits}
-use Rattle.ops_grammar.proofs.Proper.{is_other, is_mark, may_have, is_proper, arrow_marks, literal_marks, minus_marks, opening_marks, pred_marks, literal_no_opening, literal_no_pred, minus_no_arrow, pred_no_opening, not_met, mark_kind, no_mark}
+use Rattle.ops_grammar.proofs.Proper.{is_other, is_mark, may_have, is_proper, arrow_marks, literal_marks, minus_marks, opening_marks, pred_marks, literal_no_opening, literal_no_pred, minus_no_arrow, pred_no_opening, not_met, mark_kind, no_mark, group_marks, group_no_arrow, group_no_minus}
 
 -- What derives goes on where the word is taken, and the word is refused in a form at most.
 abbrev pub Went : Word → List Word → Step → Type 0
@@ -53,6 +53,14 @@ left_not_right _ e = refl
 pub designator_not_right : (k : TokenKind) → is_designator k ≡ true → is_right k ≡ false
 designator_not_right kind.Right e = absurd (true≢false (sym e))
 designator_not_right _ e = refl
+
+left_not_right_brace : (k : TokenKind) → is_left k ≡ true → is_right_brace k ≡ false
+left_not_right_brace kind.Left e = refl
+left_not_right_brace _ e = absurd (true≢false (sym e))
+
+and_false : (a b : Bool) → a ≡ false → (a && b) ≡ false
+and_false false b e = refl
+and_false true b e = absurd (true≢false e)
 
 left_brace_not_left : (k : TokenKind) → is_left_brace k ≡ true → is_left k ≡ false
 left_brace_not_left kind.Left e = absurd (true≢false (sym e))
@@ -374,16 +382,16 @@ module _ (w : Word) (ts : List Word) where
 
     -- one more condition
     one_more_goes : (is_proper w ≡ true → Derives s.vectors ws ts) → Went w ts (one_more ws s)
-    one_more_goes h = cond_both (nat_lt (length s.conditions) most_conditions) _ _ (Went w ts) (λ _. h) (λ _. refl)
+    one_more_goes h = cond_both (nat_lt (length (elements_of s.conditions)) most_conditions) _ _ (Went w ts) (λ _. h) (λ _. refl)
 
     -- a word that designates no cell is refused in a form
     abbrev InForm : Result ℕ Fault → Type 0
     InForm (Ok c) = Unit {0}
     InForm (Err f) = is_no_form f ≡ false
 
-    designated_in_form : (before : ℕ) (o : Option Condition) → InForm (designated before o s)
+    designated_in_form : (before : ℕ) (o : Option Part) → InForm (designated before o s)
     designated_in_form before (Some c) =
-        cond_both c.negated _ _ InForm (λ _. refl) (λ _. cond_both (list_any (λ c. c.negated) (take before s.conditions)) _ _ InForm (λ _. refl) (λ _. tt))
+        cond_both (is_absent c) _ _ InForm (λ _. refl) (λ _. cond_both (list_any is_absent (take before s.conditions)) _ _ InForm (λ _. refl) (λ _. tt))
     designated_in_form before None = refl
 
     numbered_in_form : (o : Option ℕ) → InForm (numbered_cell o s)
@@ -556,7 +564,7 @@ derived_goes ws words s a (a_braced_first {w = w} {ts = ts} e d) last =
 derived_goes ws words s a (a_negated_first {w = w} {ts = ts} e d) last =
     cond_both (is_left w.kind) _ _ (Went w ts) (λ left proper. no_mark w is_left refl (minus_marks w.keyword e) left proper)
     (λ _. cond_both (is_left_brace w.kind) _ _ (Went w ts) (λ brace proper. no_mark w is_left_brace refl (minus_marks w.keyword e) brace proper)
-    (λ _. met w ts (is_minus w.keyword) _ _ e refl))
+    (λ _. met w ts (is_minus w.keyword || begins_group w.keyword) _ _ (or_left _ _ e) refl))
 derived_goes ws words s a (a_pattern {ws = rest} {w = w} {ts = ts} e d) last =
     cond_both (is_arrow w.keyword) _ _ (Went w ts) (λ arrow proper. no_mark w is_left refl (arrow_marks w.keyword arrow) e proper)
     (λ _. met w ts (is_left w.kind) _ _ e (one_more_goes w ts (ClassName ∷ Terms InPattern ∷ Patterns ∷ rest) s (λ _. d)))
@@ -571,6 +579,23 @@ derived_goes ws words s a (a_negated_pattern {ws = rest} {w = w} {ts = ts} e d) 
     (λ _. cond_both (is_left_brace w.kind) _ _ (Went w ts)
     (λ brace. one_more_goes w ts (Braced ∷ Patterns ∷ rest) s (λ proper. no_mark w is_left_brace refl (minus_marks w.keyword e) brace proper))
     (λ _. met w ts (is_minus w.keyword) _ _ e (one_more_goes w ts (Pattern ∷ Patterns ∷ rest) (record s { negated = true; around = length s.values }) (λ _. d)))))
+derived_goes ws words s a (a_group_first {w = w} {ts = ts} e d) last =
+    cond_both (is_left w.kind) _ _ (Went w ts) (λ left proper. no_mark w is_left refl (group_marks w.keyword e) left proper)
+    (λ _. cond_both (is_left_brace w.kind) _ _ (Went w ts) (λ brace proper. no_mark w is_left_brace refl (group_marks w.keyword e) brace proper)
+    (λ _. met w ts (is_minus w.keyword || begins_group w.keyword) _ _ (or_right _ _ e) refl))
+derived_goes ws words s a (a_group_pattern {ws = rest} {w = w} {ts = ts} e d) last =
+    unmet w ts (is_arrow w.keyword) _ _ (group_no_arrow w.keyword e)
+    (cond_both (is_left w.kind) _ _ (Went w ts)
+    (λ left. one_more_goes w ts (ClassName ∷ Terms InPattern ∷ Patterns ∷ rest) s (λ proper. no_mark w is_left refl (group_marks w.keyword e) left proper))
+    (λ _. cond_both (is_left_brace w.kind) _ _ (Went w ts)
+    (λ brace. one_more_goes w ts (Braced ∷ Patterns ∷ rest) s (λ proper. no_mark w is_left_brace refl (group_marks w.keyword e) brace proper))
+    (λ _. unmet w ts (is_minus w.keyword) _ _ (group_no_minus w.keyword e) (met w ts (begins_group w.keyword) _ _ e (λ _. d)))))
+derived_goes ws words s a (a_group {w = w} {ts = ts} e d) last = met w ts (is_left_brace w.kind) _ _ e (λ _. d)
+derived_goes ws words s a (a_member {n = n} {ws = rest} {w = w} {ts = ts} e d) last =
+    unmet w ts (is_right_brace w.kind && nat_le 2 n) _ _ (and_false _ _ (left_not_right_brace w.kind e))
+    (met w ts (is_left w.kind) _ _ e (cond_both (has_room s) _ _ (Went w ts) (λ _ _. d) (λ _. refl)))
+derived_goes ws words s a (no_member {n = n} {w = w} {ts = ts} e two d) last =
+    met w ts (is_right_brace w.kind && nat_le 2 n) _ _ (and_from _ _ e two) (λ _. d)
 derived_goes ws words s a (a_whole_pattern {w = w} {ts = ts} e d) last = met w ts (is_left w.kind) _ _ e (λ _. d)
 derived_goes ws words s a (a_name_before {ws = rest} {w = w} {ts = ts} e d) last =
     unmet w ts (is_left w.kind) _ _ (variable_not_left w.kind e)

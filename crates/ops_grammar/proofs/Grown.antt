@@ -14,6 +14,8 @@ use Rattle.ops_base.specs.declared.conditions.Operand.{Operand}
 use Rattle.ops_base.specs.declared.conditions.Operand.TheVariants as operand
 use Rattle.ops_base.specs.declared.conditions.Test.{Test}
 use Rattle.ops_base.specs.declared.conditions.Condition.{Condition}
+use Rattle.ops_base.specs.declared.conditions.Part.{Part}
+use Rattle.ops_base.specs.declared.conditions.Part.TheVariants.{One, Group}
 use Rattle.ops_base.specs.declared.actions.Term.{Term}
 use Rattle.ops_base.specs.declared.actions.Term.TheVariants as term
 use Rattle.ops_base.specs.declared.actions.Put.{Put}
@@ -22,12 +24,12 @@ use Rattle.ops_base.specs.declared.actions.Action.TheVariants as action
 use Rattle.ops_base.specs.declared.rules.Rule.{Rule}
 use Rattle.ops_base.specs.declared.commands.Command.{Command}
 use Rattle.ops_base.specs.declared.commands.Command.TheVariants as command
-use Rattle.ops_base.specs.Valid.{longest_list, most_fields, most_conditions, fits, is_in, are_distinct, no_class, class_of, class_is_valid, is_attribute, is_vector, is_field, Sight, operand_is_valid, tests_are_valid, sight_after_tests, nothing_in_sight, cells_of, is_cell, specificity, known_of, Known, known_after, term_is_valid, put_is_valid, action_is_valid, fixed_is_valid, command_is_valid}
+use Rattle.ops_base.specs.Valid.{longest_list, most_fields, most_conditions, fits, is_in, are_distinct, no_class, class_of, class_is_valid, is_attribute, is_vector, is_field, Sight, operand_is_valid, tests_are_valid, sight_after_tests, nothing_in_sight, cells_of, is_cell, specificity, known_of, Known, known_after, term_is_valid, put_is_valid, action_is_valid, fixed_is_valid, command_is_valid, elements_of}
 use Rattle.ops_grammar.specs.declared.words.Named.{Named}
 use Rattle.ops_grammar.specs.Grammar.{is_one_of, number_of, renumbered, precedes_classes, arranged, has_vector, with_vector_last, put_action}
 use Rattle.ops_grammar.proofs.Lists.{all_push, all_none, all_weaker, all_at, all_in, any_some, distinct_push, in_map, cond_alike, length-parted, parted_distinct}
-use Rattle.ops_grammar.proofs.Parts.{tests_push, sight_push, conditions_push, sight_conditions_push, actions_push, known_push, first_push, some_cell, cells_push}
-use Rattle.ops_grammar.proofs.Sound.{IsProgram, IsDeclaring, IsClass, numbers, Variables, seen, all_below, IsHead, known, Side, Knows, IsBody, IsNamed}
+use Rattle.ops_grammar.proofs.Parts.{tests_push, sight_push, conditions_push, sight_conditions_push, actions_push, known_push, first_push, some_cell, cells_push, elements_push, members_push, sight_members_push, first_push_group, elements_push_group}
+use Rattle.ops_grammar.proofs.Sound.{IsProgram, IsDeclaring, IsClass, numbers, Variables, seen, all_below, IsHead, known, Side, Knows, IsBody, IsNamed, inside}
 
 pub fits_below : {X : Type 0} (xs : List X) (n : ℕ) → length xs ≤ n → n ≤ longest_list → fits xs ≡ true
 fits_below xs n short le = le-leb (length xs) longest_list (omega arith)
@@ -187,20 +189,22 @@ abbrev pub behind_condition : Variables → Variables
 behind_condition v = record v { values = cond v.negated (take v.around v.values) v.values; negated = false }
 
 module _ (text : ℕ) (classes : List Class) (rules : List Rule) (commands : List Command) (name : Sym) where
-  pub head_begun : IsProgram text classes rules commands → list_any (λ r. r.name.0 == name.0) rules ≡ false → IsHead text classes rules commands name (record { values = []; given = 0; negated = false; around = 0; elements = [] }) [] []
+  pub head_begun : IsProgram text classes rules commands → list_any (λ r. r.name.0 == name.0) rules ≡ false → IsHead text classes rules commands name (record { values = []; given = 0; negated = false; around = 0; elements = []; grouped = false; members = [] }) [] []
   head_begun p e =
-      record { program = p; is_new = e; few = omega arith; valid = refl; first = λ some. absurd (omega arith); bound = refl; below = refl; room = λ n. omega arith; outside = λ n. refl; counted = refl; elements = refl }
+      record { program = p; is_new = e; few = omega arith; valid = refl; within = refl; alone = λ _. refl; first = λ some. absurd (omega arith); bound = refl; below = refl; room = λ n. omega arith; outside = λ n. refl; counted = refl; elements = refl }
 
-  pub test_kept : (v : Variables) (conditions : List Condition) (tests : List Test) (f : ℕ) (p : Pred) (o : Operand) → IsHead text classes rules commands name v conditions tests
+  pub test_kept : (v : Variables) (conditions : List Part) (tests : List Test) (f : ℕ) (p : Pred) (o : Operand) → IsHead text classes rules commands name v conditions tests
       → IsHead text classes rules commands name v conditions (tests ++ record { field = f; pred = p; operand = o; binds = false } ∷ [])
   test_kept v conditions tests f p o h =
       let t : Test = record { field = f; pred = p; operand = o; binds = false } in
-      let same = sight_push (seen conditions) tests t in
+      let same = sight_push (inside v conditions) tests t in
       record {
         program = h.program;
         is_new = h.is_new;
         few = h.few;
         valid = h.valid;
+        within = h.within;
+        alone = h.alone;
         first = h.first;
         bound = ap (λ (s : Sight). s.bound) same ∙ h.bound;
         below = ap (λ (s : Sight). all_below v.given s.given) same ∙ h.below;
@@ -210,36 +214,49 @@ module _ (text : ℕ) (classes : List Class) (rules : List Rule) (commands : Lis
         elements = h.elements;
       }
 
-  pub test_bound : (v : Variables) (conditions : List Condition) (tests : List Test) (f : ℕ) (variable : Sym) → IsHead text classes rules commands name v conditions tests
+  pub test_bound : (v : Variables) (conditions : List Part) (tests : List Test) (f : ℕ) (variable : Sym) → IsHead text classes rules commands name v conditions tests
       → IsHead text classes rules commands name (with_one v variable) conditions (tests ++ record { field = f; pred = pred.Eq; operand = operand.Variable v.given; binds = true } ∷ [])
   test_bound v conditions tests f variable h =
       let t : Test = record { field = f; pred = pred.Eq; operand = operand.Variable v.given; binds = true } in
-      let same = sight_push (seen conditions) tests t in
+      let same = sight_push (inside v conditions) tests t in
       let one : Named = record { name = variable; number = v.given } in
       record {
         program = h.program;
         is_new = h.is_new;
         few = h.few;
         valid = h.valid;
+        within = h.within;
+        alone = h.alone;
         first = h.first;
         bound = ap (λ (s : Sight). s.bound) same ∙ ap (λ (ns : List ℕ). ns ++ v.given ∷ []) h.bound ∙ sym (map-append (λ n. n.number) v.values (one ∷ []));
-        below = ap (λ (s : Sight). all_below (v.given + 1) s.given) same ∙ below_next v.given (sight_after_tests (seen conditions) tests).given h.below;
+        below = ap (λ (s : Sight). all_below (v.given + 1) s.given) same ∙ below_next v.given (sight_after_tests (inside v conditions) tests).given h.below;
         room = λ n. let le = h.room n in omega (arith, le, length-append v.values (one ∷ []));
         outside = λ n. h.outside n ∙ ap numbers (sym (take-append-le v.around v.values (one ∷ []) (h.room n)));
         counted = ap (all_below (v.given + 1)) (map-append (λ n. n.number) v.values (one ∷ [])) ∙ below_next v.given (numbers v.values) h.counted;
         elements = h.elements;
       }
 
-  pub test_valid : (c : Class) (conditions : List Condition) (tests : List Test) (f : ℕ) (p : Pred) (o : Operand) (binds : Bool) → tests_are_valid c (seen conditions) tests ≡ true → is_field c f ≡ true
-      → operand_is_valid (sight_after_tests (seen conditions) tests) p binds o ≡ true
-      → tests_are_valid c (seen conditions) (tests ++ record { field = f; pred = p; operand = o; binds = binds } ∷ []) ≡ true
-  test_valid c conditions tests f p o binds fields field valid =
-      tests_push c (seen conditions) tests (record { field = f; pred = p; operand = o; binds = binds }) fields (and_from _ _ field valid)
+  pub test_valid : (c : Class) (v : Variables) (conditions : List Part) (tests : List Test) (f : ℕ) (p : Pred) (o : Operand) (binds : Bool) → tests_are_valid c (inside v conditions) tests ≡ true → is_field c f ≡ true
+      → operand_is_valid (sight_after_tests (inside v conditions) tests) p binds o ≡ true
+      → tests_are_valid c (inside v conditions) (tests ++ record { field = f; pred = p; operand = o; binds = binds } ∷ []) ≡ true
+  test_valid c v conditions tests f p o binds fields field valid =
+      tests_push c (inside v conditions) tests (record { field = f; pred = p; operand = o; binds = binds }) fields (and_from _ _ field valid)
+
+  abbrev HeadOf : Variables → List Part → List Test → Type 0
+  HeadOf v conditions tests = IsHead text classes rules commands name v conditions tests
+
+  -- where no group is read
+  abbrev plainly : Variables → Variables
+  plainly v = record v { grouped = false; members = [] }
+
+  plainly_is : (v : Variables) → v.grouped ≡ false → v.members ≡ [] → v ≡ plainly v
+  plainly_is v e none =
+      ap (λ (ms : List Condition). let u : Variables = record v { members = ms } in u) none ∙ ap (λ (b : Bool). let u : Variables = record v { grouped = b; members = [] } in u) e
 
   -- what is in sight after the condition
-  behind_bound : (b : Bool) (v : Variables) (conditions : List Condition) (tests : List Test) → v.negated ≡ b → IsHead text classes rules commands name v conditions tests
+  behind_bound : (b : Bool) (v : Variables) (conditions : List Part) (tests : List Test) → v.negated ≡ b → HeadOf (plainly v) conditions tests
       → (cond b (record { bound = (seen conditions).bound; given = (sight_after_tests (seen conditions) tests).given }) (sight_after_tests (seen conditions) tests)).bound ≡ numbers (cond b (take v.around v.values) v.values)
-  behind_bound true v conditions tests is h = h.outside is
+  behind_bound true v conditions tests is h = h.outside (or_left _ _ is)
   behind_bound false v conditions tests is h = h.bound
 
   behind_below : (b : Bool) (k : ℕ) (s t : Sight) → all_below k t.given ≡ true → all_below k (cond b (record { bound = s.bound; given = t.given }) t).given ≡ true
@@ -250,34 +267,71 @@ module _ (text : ℕ) (classes : List Class) (rules : List Rule) (commands : Lis
   behind_counted true k n values h = first_below k n values h
   behind_counted false k n values h = h
 
-  pub condition_added : (class : ℕ) (v : Variables) (conditions : List Condition) (tests : List Test) → IsHead text classes rules commands name v conditions tests → length conditions < most_conditions → class < length classes → fits tests ≡ true
+  plain_added : (class : ℕ) (v : Variables) (conditions : List Part) (tests : List Test) → HeadOf (plainly v) conditions tests → length (elements_of conditions) < most_conditions → class < length classes → fits tests ≡ true
       → tests_are_valid (class_of classes class) (seen conditions) tests ≡ true → (length conditions ≡ 0 → v.negated ≡ false)
-      → IsHead text classes rules commands name (behind_condition v) (conditions ++ record { class = class; negated = v.negated; tests = tests } ∷ []) []
-  condition_added class v conditions tests h room within short fields positive =
+      → HeadOf (behind_condition (plainly v)) (conditions ++ One (record { class = class; negated = v.negated; tests = tests }) ∷ []) []
+  plain_added class v conditions tests h room within short fields positive =
       let c : Condition = record { class = class; negated = v.negated; tests = tests } in
-      let same = sight_conditions_push nothing_in_sight conditions c in
+      let same = sight_conditions_push nothing_in_sight conditions (One c) in
       record {
         program = h.program;
         is_new = h.is_new;
-        few = omega (arith, length-append conditions (c ∷ []));
-        valid = conditions_push classes nothing_in_sight conditions c h.valid (and_from _ _ (and_from _ _ (lt-ltb _ _ within) short) fields);
+        few = omega (arith, elements_push conditions c, room);
+        valid = conditions_push classes nothing_in_sight conditions (One c) h.valid (and_from _ _ (and_from _ _ (lt-ltb _ _ within) short) fields);
+        within = refl;
+        alone = λ _. refl;
         first = λ some. first_push conditions c h.first positive;
         bound = ap (λ (s : Sight). s.bound) same ∙ behind_bound v.negated v conditions tests refl h;
         below = ap (λ (s : Sight). all_below v.given s.given) same ∙ behind_below v.negated v.given (seen conditions) (sight_after_tests (seen conditions) tests) h.below;
         room = λ n. absurd (true≢false (sym n));
         outside = λ n. absurd (true≢false (sym n));
         counted = behind_counted v.negated v.given v.around v.values h.counted;
-        elements = below_grown (length (cells_of conditions)) (length (cells_of (conditions ++ c ∷ []))) (numbers v.elements) (cells_push conditions c) h.elements;
+        elements = below_grown (length (cells_of conditions)) (length (cells_of (conditions ++ One c ∷ []))) (numbers v.elements) (cells_push conditions (One c)) h.elements;
       }
 
-  -- a negated condition begins
-  pub negated_begun : (v : Variables) (conditions : List Condition) → IsHead text classes rules commands name v conditions [] → IsHead text classes rules commands name (record v { negated = true; around = length v.values }) conditions []
-  negated_begun v conditions h =
+  pub condition_added : (class : ℕ) (v : Variables) (conditions : List Part) (tests : List Test) → HeadOf v conditions tests → length (elements_of conditions) < most_conditions → class < length classes → fits tests ≡ true
+      → tests_are_valid (class_of classes class) (inside v conditions) tests ≡ true → (length conditions ≡ 0 → v.negated ≡ false) → v.grouped ≡ false
+      → HeadOf (behind_condition v) (conditions ++ One (record { class = class; negated = v.negated; tests = tests }) ∷ []) []
+  condition_added class v conditions tests h room within short fields positive e =
+      let same = plainly_is v e (h.alone e) in
+      let all : List Part = conditions ++ One (record { class = class; negated = v.negated; tests = tests }) ∷ [] in
+      subst (λ (u : Variables). HeadOf (behind_condition u) all []) (sym same)
+      (plain_added class v conditions tests (subst (λ (u : Variables). HeadOf u conditions tests) same h) room within short
+      (subst (λ (u : Variables). tests_are_valid (class_of classes class) (inside u conditions) tests ≡ true) same fields) positive)
+
+  -- a member of a group more
+  pub member_added : (class : ℕ) (v : Variables) (conditions : List Part) (tests : List Test) → HeadOf v conditions tests → length (elements_of conditions) + length v.members < most_conditions → class < length classes → fits tests ≡ true
+      → tests_are_valid (class_of classes class) (inside v conditions) tests ≡ true → v.grouped ≡ true
+      → HeadOf (record v { members = v.members ++ record { class = class; negated = false; tests = tests } ∷ [] }) conditions []
+  member_added class v conditions tests h room within short fields e =
+      let c : Condition = record { class = class; negated = false; tests = tests } in
+      let same = sight_members_push (seen conditions) v.members c in
+      record {
+        program = h.program;
+        is_new = h.is_new;
+        few = omega (arith, length-append v.members (c ∷ []), room);
+        valid = h.valid;
+        within = members_push classes (seen conditions) v.members c h.within (and_from _ _ (and_from _ _ (lt-ltb _ _ within) short) fields);
+        alone = λ n. absurd (true≢false (sym e ∙ n));
+        first = h.first;
+        bound = ap (λ (s : Sight). s.bound) same ∙ h.bound;
+        below = ap (λ (s : Sight). all_below v.given s.given) same ∙ h.below;
+        room = h.room;
+        outside = h.outside;
+        counted = h.counted;
+        elements = h.elements;
+      }
+
+  -- a group begins
+  plain_group : (v : Variables) (conditions : List Part) → HeadOf (plainly v) conditions [] → HeadOf (record v { grouped = true; around = length v.values; members = [] }) conditions []
+  plain_group v conditions h =
       record {
         program = h.program;
         is_new = h.is_new;
         few = h.few;
         valid = h.valid;
+        within = refl;
+        alone = λ _. refl;
         first = h.first;
         bound = h.bound;
         below = h.below;
@@ -287,8 +341,57 @@ module _ (text : ℕ) (classes : List Class) (rules : List Rule) (commands : Lis
         elements = h.elements;
       }
 
+  pub group_opened : (v : Variables) (conditions : List Part) → HeadOf v conditions [] → v.grouped ≡ false → HeadOf (record v { grouped = true; around = length v.values; members = [] }) conditions []
+  group_opened v conditions h e = plain_group v conditions (subst (λ (u : Variables). HeadOf u conditions []) (plainly_is v e (h.alone e)) h)
+
+  -- a group ends
+  pub group_added : (v : Variables) (conditions : List Part) → HeadOf v conditions [] → 0 < length conditions → 2 ≤ length v.members → v.grouped ≡ true
+      → HeadOf (record v { values = take v.around v.values; negated = false; grouped = false; members = [] }) (conditions ++ Group v.members ∷ []) []
+  group_added v conditions h some two e =
+      let same = sight_conditions_push nothing_in_sight conditions (Group v.members) in
+      record {
+        program = h.program;
+        is_new = h.is_new;
+        few = omega (arith, elements_push_group conditions v.members, h.few);
+        valid = conditions_push classes nothing_in_sight conditions (Group v.members) h.valid (and_from _ _ (le-leb _ _ two) h.within);
+        within = refl;
+        alone = λ _. refl;
+        first = λ _. first_push_group conditions v.members some (h.first some);
+        bound = ap (λ (s : Sight). s.bound) same ∙ h.outside (or_right _ _ e);
+        below = ap (λ (s : Sight). all_below v.given s.given) same ∙ h.below;
+        room = λ n. absurd (true≢false (sym n));
+        outside = λ n. absurd (true≢false (sym n));
+        counted = first_below v.given v.around v.values h.counted;
+        elements = below_grown (length (cells_of conditions)) (length (cells_of (conditions ++ Group v.members ∷ []))) (numbers v.elements) (cells_push conditions (Group v.members)) h.elements;
+      }
+
+  -- a negated condition begins
+  plain_negated : (v : Variables) (conditions : List Part) → HeadOf (plainly v) conditions [] → HeadOf (record (plainly v) { negated = true; around = length v.values }) conditions []
+  plain_negated v conditions h =
+      record {
+        program = h.program;
+        is_new = h.is_new;
+        few = h.few;
+        valid = h.valid;
+        within = refl;
+        alone = λ _. refl;
+        first = h.first;
+        bound = h.bound;
+        below = h.below;
+        room = λ n. omega arith;
+        outside = λ n. h.bound ∙ ap numbers (sym (take_all (length v.values) v.values (omega arith)));
+        counted = h.counted;
+        elements = h.elements;
+      }
+
+  pub negated_begun : (v : Variables) (conditions : List Part) → HeadOf v conditions [] → v.grouped ≡ false → HeadOf (record v { negated = true; around = length v.values }) conditions []
+  negated_begun v conditions h e =
+      let same = plainly_is v e (h.alone e) in
+      subst (λ (u : Variables). HeadOf (record u { negated = true; around = length u.values }) conditions []) (sym same)
+      (plain_negated v conditions (subst (λ (u : Variables). HeadOf u conditions []) same h))
+
   -- an element variable more, which names the cell of the last condition
-  pub element_bound : (v : Variables) (conditions : List Condition) (tests : List Test) (variable : Sym) → IsHead text classes rules commands name v conditions tests → 0 < length conditions
+  pub element_bound : (v : Variables) (conditions : List Part) (tests : List Test) (variable : Sym) → IsHead text classes rules commands name v conditions tests → 0 < length conditions
       → IsHead text classes rules commands name (record v { elements = v.elements ++ record { name = variable; number = length (cells_of conditions) - 1 } ∷ [] }) conditions tests
   element_bound v conditions tests variable h some =
       let one : Named = record { name = variable; number = length (cells_of conditions) - 1 } in
@@ -298,6 +401,8 @@ module _ (text : ℕ) (classes : List Class) (rules : List Rule) (commands : Lis
         is_new = h.is_new;
         few = h.few;
         valid = h.valid;
+        within = h.within;
+        alone = h.alone;
         first = h.first;
         bound = h.bound;
         below = h.below;
@@ -311,13 +416,14 @@ module _ (text : ℕ) (classes : List Class) (rules : List Rule) (commands : Lis
   -- ---- right sides
 
   -- a left side ends, where no condition is negated any more
-  pub body_begun : (v : Variables) (conditions : List Condition) → IsHead text classes rules commands name v conditions [] → 0 < length conditions
-      → IsBody text classes rules commands name (record v { negated = false; around = 0 }) conditions (record { made = None; further = [] }) []
-  body_begun v conditions h some =
+  pub body_begun : (v : Variables) (conditions : List Part) → IsHead text classes rules commands name v conditions [] → 0 < length conditions → v.grouped ≡ false
+      → IsBody text classes rules commands name (record v { negated = false; around = 0; grouped = false; members = [] }) conditions (record { made = None; further = [] }) []
+  body_begun v conditions first some e =
+      let h = subst (λ (u : Variables). HeadOf u conditions []) (plainly_is v e (first.alone e)) first in
       record {
         program = h.program;
         is_new = h.is_new;
-        few = h.few;
+        few = omega (arith, h.few);
         left = h.valid;
         some = h.first some;
         valid = refl;
@@ -331,7 +437,7 @@ module _ (text : ℕ) (classes : List Class) (rules : List Rule) (commands : Lis
         };
       }
 
-  pub action_added : (v v' : Variables) (conditions : List Condition) (r r' : Side) (xs : List Action) (a : Action) → IsBody text classes rules commands name v conditions r xs → action_is_valid classes (known conditions xs) a ≡ true
+  pub action_added : (v v' : Variables) (conditions : List Part) (r r' : Side) (xs : List Action) (a : Action) → IsBody text classes rules commands name v conditions r xs → action_is_valid classes (known conditions xs) a ≡ true
       → Knows (known_after (known conditions xs) a) v' conditions r' → IsBody text classes rules commands name v' conditions r' (xs ++ a ∷ [])
   action_added v v' conditions r r' xs a h valid knows =
       record {
@@ -344,7 +450,7 @@ module _ (text : ℕ) (classes : List Class) (rules : List Rule) (commands : Lis
         knows = subst (λ (k : Known). Knows k v' conditions r') (sym (known_push (known_of conditions) xs a)) knows;
       }
 
-  pub rule_added : (v : Variables) (conditions : List Condition) (r : Side) (xs : List Action) (first past : ℕ) → IsBody text classes rules commands name v conditions r xs → fits xs ≡ true → first ≤ past → past ≤ text
+  pub rule_added : (v : Variables) (conditions : List Part) (r : Side) (xs : List Action) (first past : ℕ) → IsBody text classes rules commands name v conditions r xs → fits xs ≡ true → first ≤ past → past ≤ text
       → IsProgram text classes (rules ++ record { name = name; conditions = conditions; actions = xs; specificity = specificity conditions; variables = v.given; cells = length (cells_of conditions ++ r.further); first = first; past = past } ∷ []) commands
   rule_added v conditions r xs first past h short ordered within =
       record {
@@ -359,15 +465,15 @@ module _ (text : ℕ) (classes : List Class) (rules : List Rule) (commands : Lis
 -- ---- right sides
 
 -- a variable that is in sight is known
-pub value_known : {k : Known} {v : Variables} {conditions : List Condition} {r : Side} (name : Sym) (n : ℕ) → Knows k v conditions r → number_of name v.values ≡ Some n → is_in n k.bound ≡ true
+pub value_known : {k : Known} {v : Variables} {conditions : List Part} {r : Side} (name : Sym) (n : ℕ) → Knows k v conditions r → number_of name v.values ≡ Some n → is_in n k.bound ≡ true
 value_known {k = k} {v = v} name n h e = all_in (λ m. is_in m k.bound) (numbers v.values) n h.bound (number_in name v.values n e)
 
 -- an element variable names a cell
-pub element_known : {k : Known} {v : Variables} {conditions : List Condition} {r : Side} (name : Sym) (n : ℕ) → Knows k v conditions r → number_of name v.elements ≡ Some n → is_cell k n ≡ true
+pub element_known : {k : Known} {v : Variables} {conditions : List Part} {r : Side} (name : Sym) (n : ℕ) → Knows k v conditions r → number_of name v.elements ≡ Some n → is_cell k n ≡ true
 element_known {k = k} {v = v} name n h e = all_in (λ m. nat_lt m (length k.cells)) (numbers v.elements) n h.elements (number_in name v.elements n e)
 
 -- what is known after an action
-module _ (k : Known) (v : Variables) (conditions : List Condition) (r : Side) (h : Knows k v conditions r) where
+module _ (k : Known) (v : Variables) (conditions : List Part) (r : Side) (h : Knows k v conditions r) where
   made_known : (o : Option ℕ) (class : ℕ) → o ≡ Some class → Knows (record k { made = o }) v conditions (record r { made = Some class })
   made_known o class e = record { bound = h.bound; given = h.given; counted = h.counted; cells = h.cells; elements = h.elements; made = e }
 

@@ -11,7 +11,7 @@ use Rattle.ops_tokens.specs.declared.token.TokenKind.{TokenKind}
 use Rattle.ops_tokens.specs.declared.token.TokenKind.TheVariants as kind
 use Rattle.ops_grammar.specs.declared.words.Word.{Word}
 use Rattle.ops_grammar.specs.declared.words.Keyword.TheVariants as keyword
-use Rattle.ops_grammar.specs.Grammar.{InPattern, InPut, InFixed, ToConstants, Wanted, Form, ClassDeclared, Attributes, VectorName, VectorNames, RuleName, FirstPattern, Patterns, Braced, ElementName, ClassName, Attribute, Several, Shown, Tested, ValueFor, ExpressionUnit, Bracketed, SourceCell, SourceAttribute, Modified, BoundValue, CellName, Cell, Cells, Items, State, Step, Next, Refuses, is_left, is_right, is_caret, is_name, is_variable, is_literal, value_of, is_one_of, number_of, is_second, attributes, bound_at, constant_at, is_of_action, value_for, within, several, step}
+use Rattle.ops_grammar.specs.Grammar.{InPattern, InPut, InFixed, ToConstants, Wanted, Form, ClassDeclared, Attributes, VectorName, VectorNames, RuleName, FirstPattern, Patterns, Braced, ElementName, ClassName, Attribute, Several, Shown, Tested, ValueFor, ExpressionUnit, Bracketed, SourceCell, SourceAttribute, Modified, BoundValue, CellName, Cell, Cells, Items, State, Step, Next, Refuses, is_left, is_right, is_caret, is_name, is_variable, is_literal, value_of, is_one_of, number_of, is_second, attributes, bound_at, constant_at, is_of_action, value_for, within, several, step, Members}
 use Rattle.ops_grammar.specs.Derivation.{is_no_form}
 use Rattle.ops_grammar.specs.Reasons.{fault_number, is_declaration, wants_form, wants_class, wants_attribute, is_declared, gives_second, is_full, nests_deepest, wants_condition, wants_first, wants_bound, designates, wants_cell, is_bad_designator, Because}
 use Rattle.ops_grammar.specs.Standing.{IsLowest}
@@ -124,6 +124,7 @@ cell_least _ e = absurd (true≢false (sym e))
 
 condition_least : (ws : List Wanted) → wants_condition ws ≡ true → least_at ws ≡ 18
 condition_least (Patterns ∷ ws) e = refl
+condition_least (Members n ∷ ws) e = refl
 condition_least _ e = absurd (true≢false (sym e))
 
 full_least : (ws : List Wanted) (s : State) → is_full ws s ≡ true → least_at ws ≤ 18

@@ -5,10 +5,12 @@ use Rattle.std.proofs.lemmas.Bool.{or_from, or_left, or_right, lt-ltb, ltb-true,
 use Rattle.std.proofs.lemmas.List.Folds.{list_any-append}
 use Rattle.ops_base.specs.declared.conditions.Test.{Test}
 use Rattle.ops_base.specs.declared.conditions.Condition.{Condition}
+use Rattle.ops_base.specs.declared.conditions.Part.{Part}
+use Rattle.ops_base.specs.declared.conditions.Part.TheVariants.{One, Group}
 use Rattle.ops_base.specs.declared.actions.Action.{Action}
 use Rattle.ops_base.specs.declared.actions.Action.TheVariants as action
 use Rattle.ops_base.specs.Valid.{is_in, cells_of}
-use Rattle.ops_grammar.specs.Spelling.{Numbered, after_test, after_tests, after_condition, after_conditions, InSight, after_action, after_actions}
+use Rattle.ops_grammar.specs.Spelling.{Numbered, after_test, after_tests, after_condition, after_conditions, InSight, after_action, after_actions, after_members, after_part}
 use Rattle.ops_grammar.proofs.Lists.{all_push, all_weaker, not_below}
 
 -- ---- numbers
@@ -53,9 +55,17 @@ closed_given false k after le h e = e
 pub after_condition-given : (k : Numbered) (c : Condition) → are_given k ≡ true → are_given (after_condition k c) ≡ true
 after_condition-given k c h = closed_given c.negated k (after_tests k c.tests) (given_up c.tests k) h (after_tests-given c.tests k h)
 
-pub after_conditions-given : (cs : List Condition) (k : Numbered) → are_given k ≡ true → are_given (after_conditions k cs) ≡ true
+members_up : (cs : List Condition) (k : Numbered) → k.given ≤ (after_members k cs).given
+members_up [] k = omega arith
+members_up (c ∷ cs) k = let one = given_up c.tests k in let rest = members_up cs (after_tests k c.tests) in omega (arith, one, rest)
+
+pub after_group-given : (k : Numbered) (cs : List Condition) → are_given k ≡ true → are_given (after_part k (Group cs)) ≡ true
+after_group-given k cs h = given_more k.sight k.given (after_members k cs).given (members_up cs k) h
+
+pub after_conditions-given : (cs : List Part) (k : Numbered) → are_given k ≡ true → are_given (after_conditions k cs) ≡ true
 after_conditions-given [] k h = h
-after_conditions-given (c ∷ cs) k h = after_conditions-given cs (after_condition k c) (after_condition-given k c h)
+after_conditions-given (One c ∷ cs) k h = after_conditions-given cs (after_condition k c) (after_condition-given k c h)
+after_conditions-given (Group ms ∷ cs) k h = after_conditions-given cs (after_part k (Group ms)) (given_more k.sight k.given (after_members k ms).given (members_up ms k) h)
 
 bind_given : (b : Bool) (k : InSight) → are_given k.variables ≡ true
     → (let m : InSight = cond b k (record k { variables = record { sight = k.variables.sight ++ k.variables.given ∷ []; given = suc k.variables.given } }) in are_given m.variables ≡ true)
@@ -113,6 +123,7 @@ cell_more true c cells all more e = e
 cell_more false c cells all more e = ap (λ (xs : List ℕ). c ∷ xs) e
 
 -- the cells of conditions after others
-pub cells-append : (cs ds : List Condition) → cells_of (cs ++ ds) ≡ cells_of cs ++ cells_of ds
+pub cells-append : (cs ds : List Part) → cells_of (cs ++ ds) ≡ cells_of cs ++ cells_of ds
 cells-append [] ds = refl
-cells-append (c ∷ cs) ds = cell_more c.negated c.class (cells_of cs) (cells_of (cs ++ ds)) (cells_of ds) (cells-append cs ds)
+cells-append (Group ms ∷ cs) ds = cells-append cs ds
+cells-append (One c ∷ cs) ds = cell_more c.negated c.class (cells_of cs) (cells_of (cs ++ ds)) (cells_of ds) (cells-append cs ds)

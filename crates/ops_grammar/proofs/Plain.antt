@@ -1,5 +1,5 @@
 -- What holds of what was read so far, so that it has a spelling.
-use Rattle.std.proofs.Common.{◌≡◌, ℕ, suc, ◌+◌, ◌<◌, ◌≤◌, Bool, true, false, not, ◌||◌, ◌==◌, cond, List, [], ◌∷◌, ◌++◌, length, take, map, refl, sym, ap, ◌∙◌, arith, Option, Some, None, nat_lt, true≢false}
+use Rattle.std.proofs.Common.{◌≡◌, ℕ, suc, ◌+◌, ◌<◌, ◌≤◌, Bool, true, false, not, ◌||◌, ◌==◌, cond, List, [], ◌∷◌, ◌++◌, length, take, map, refl, sym, ap, ◌∙◌, arith, Option, Some, None, nat_lt, true≢false, ◌&&◌}
 use Rattle.std.specs.List.{list_all, All}
 use Rattle.std.proofs.lemmas.Bool.{and_parts, and_from, or_left, or_right, eq-eqb, ltb-true, lt-ltb, cond_both}
 use Rattle.ops_base.specs.declared.values.Sym.{Sym}
@@ -7,15 +7,17 @@ use Rattle.ops_base.specs.declared.values.Pred.{Pred}
 use Rattle.ops_base.specs.declared.elements.Class.{Class}
 use Rattle.ops_base.specs.declared.conditions.Test.{Test}
 use Rattle.ops_base.specs.declared.conditions.Condition.{Condition}
+use Rattle.ops_base.specs.declared.conditions.Part.{Part}
+use Rattle.ops_base.specs.declared.conditions.Part.TheVariants.{One, Group}
 use Rattle.ops_base.specs.declared.actions.Action.{Action}
 use Rattle.ops_base.specs.declared.rules.Rule.{Rule}
 use Rattle.ops_base.specs.declared.commands.Command.{Command}
-use Rattle.ops_base.specs.Valid.{most_fields, most_conditions, is_in, class_of, is_attribute, is_vector, is_field, is_natural, first_is_positive, cells_of, fixed_is_valid}
+use Rattle.ops_base.specs.Valid.{most_fields, most_conditions, is_in, class_of, is_attribute, is_vector, is_field, is_natural, first_is_positive, cells_of, fixed_is_valid, elements_of}
 use Rattle.ops_grammar.specs.declared.words.Named.{Named}
-use Rattle.ops_grammar.specs.Grammar.{Use, InPattern, InPut, InFixed, Target, ToTest, ToPut, ToFixed, ToTerms, ToConstants, ToItem, ToBind, EndsHalt, EndsCrlf, EndsCs, EndsExit, EndsWhole, Column, TagUse, NameUse, ToPrint, Wanted, Forms, Form, ClassDeclared, Attributes, VectorName, VectorNames, RuleName, FirstPattern, Patterns, Pattern, Braced, ElementName, ClosesBrace, ClassName, Terms, Attribute, Several, Place, Tests, Tested, Choice, Atom, ValueFor, Function, Waiting, ExpressionUnit, ExpressionRest, Bracketed, SourceCell, SourceAttribute, SourceEnd, Actions, ActionWord, Modified, BoundName, BoundValue, CellName, Cell, Cells, Items, ItemWord, Columns, Count, StrategyName, TagOrAll, Tags, Shown, NamedRule, NamedRules, Level, Closes, State, Step, Next, Refuses, number_of, renumbered, precedes_classes, is_of_action, most_brackets, function_depth, classes_of_cells, source_class}
-use Rattle.ops_grammar.specs.Spelling.{Numbered, nothing_numbered, test_is_plain, after_test, tests_are_plain, after_tests, after_condition, condition_is_plain, conditions_are_plain, after_conditions, InSight, at_arrow, class_of_cell, after_action, after_actions, term_is_plain, put_is_plain, item_is_plain, action_is_plain, actions_are_plain, rule_is_plain, command_is_plain}
+use Rattle.ops_grammar.specs.Grammar.{Use, InPattern, InPut, InFixed, Target, ToTest, ToPut, ToFixed, ToTerms, ToConstants, ToItem, ToBind, EndsHalt, EndsCrlf, EndsCs, EndsExit, EndsWhole, Column, TagUse, NameUse, ToPrint, Wanted, Forms, Form, ClassDeclared, Attributes, VectorName, VectorNames, RuleName, FirstPattern, Patterns, Pattern, Braced, ElementName, ClosesBrace, ClassName, Terms, Attribute, Several, Place, Tests, Tested, Choice, Atom, ValueFor, Function, Waiting, ExpressionUnit, ExpressionRest, Bracketed, SourceCell, SourceAttribute, SourceEnd, Actions, ActionWord, Modified, BoundName, BoundValue, CellName, Cell, Cells, Items, ItemWord, Columns, Count, StrategyName, TagOrAll, Tags, Shown, NamedRule, NamedRules, Level, Closes, State, Step, Next, Refuses, number_of, renumbered, precedes_classes, is_of_action, most_brackets, function_depth, classes_of_cells, source_class, GroupBrace, Members}
+use Rattle.ops_grammar.specs.Spelling.{Numbered, nothing_numbered, test_is_plain, after_test, tests_are_plain, after_tests, after_condition, after_part, condition_is_plain, part_is_plain, conditions_are_plain, after_conditions, InSight, at_arrow, class_of_cell, after_action, after_actions, term_is_plain, put_is_plain, item_is_plain, action_is_plain, actions_are_plain, rule_is_plain, command_is_plain, after_members, members_are_plain}
 use Rattle.ops_grammar.proofs.Lists.{all_weaker}
-use Rattle.ops_grammar.proofs.Sound.{Braces, behind, behind_pattern, HasTags, HasNames}
+use Rattle.ops_grammar.proofs.Sound.{Braces, behind, HasTags, HasNames, at}
 use Rattle.ops_grammar.proofs.PlainClasses.{IsArranged, IsAttributes}
 use Rattle.ops_grammar.proofs.PlainFormulas.{IsOperand, AreOperands, AreOpen}
 
@@ -34,11 +36,13 @@ abbrev pub numbered_in : List Named → ℕ → Numbered
 numbered_in values variables = record { sight = numbers_in values; given = variables }
 
 -- the left side of a rule up to some tests of a condition
-pub record IsLeft (classes : List Class) (values elements : List Named) (variables : ℕ) (negated : Bool) (around : ℕ) (conditions : List Condition) (tests : List Test) : Type 0 where
+pub record IsLeft (classes : List Class) (values elements : List Named) (variables : ℕ) (negated : Bool) (around : ℕ) (conditions : List Part) (tests : List Test) (grouped : Bool) (members : List Condition) : Type 0 where
   pub plain : conditions_are_plain classes nothing_numbered conditions ≡ true
-  pub count : after_tests (after_conditions nothing_numbered conditions) tests ≡ numbered_in values variables
-  pub within : negated ≡ true → around ≤ length values
-  pub sight : negated ≡ true → numbers_in (take around values) ≡ (after_conditions nothing_numbered conditions).sight
+  pub inside : members_are_plain classes (after_conditions nothing_numbered conditions) members ≡ true
+  pub alone : grouped ≡ false → members ≡ []
+  pub count : after_tests (after_members (after_conditions nothing_numbered conditions) members) tests ≡ numbered_in values variables
+  pub within : (negated || grouped) ≡ true → around ≤ length values
+  pub sight : (negated || grouped) ≡ true → numbers_in (take around values) ≡ (after_conditions nothing_numbered conditions).sight
   pub cells : list_all (λ e. nat_lt e.number (length (cells_of conditions))) elements ≡ true
 
 -- the class of an element that was made, where one was
@@ -47,9 +51,9 @@ made_is_class classes None = true
 made_is_class classes (Some class) = nat_lt class (length classes)
 
 -- a rule up to some actions, after which so much is in sight
-pub record IsRight (classes : List Class) (conditions : List Condition) (k : InSight) (elements : List Named) (actions : List Action) : Type 0 where
+pub record IsRight (classes : List Class) (conditions : List Part) (k : InSight) (elements : List Named) (actions : List Action) : Type 0 where
   pub positive : first_is_positive conditions ≡ true
-  pub few : length conditions ≤ most_conditions
+  pub few : length (elements_of conditions) ≤ most_conditions
   pub left : conditions_are_plain classes nothing_numbered conditions ≡ true
   pub plain : actions_are_plain classes (at_arrow conditions) actions ≡ true
   pub sight : after_actions (at_arrow conditions) actions ≡ k
@@ -58,15 +62,15 @@ pub record IsRight (classes : List Class) (conditions : List Condition) (k : InS
   pub made : made_is_class classes k.made ≡ true
 
 -- the first condition is positive, where this one stands after those
-abbrev pub begins_positive : List Condition → Bool → Bool
+abbrev pub begins_positive : List Part → Bool → Bool
 begins_positive [] negated = not negated
-begins_positive (c ∷ cs) negated = not c.negated
+begins_positive ps negated = first_is_positive ps
 
 abbrev pub Base : State → Type 0
 Base s = IsBase s.vectors s.classes s.rules s.commands
 
 abbrev pub Left : State → Type 0
-Left s = IsLeft s.classes s.values s.elements s.variables s.negated s.around s.conditions s.tests
+Left s = IsLeft s.classes s.values s.elements s.variables s.negated s.around s.conditions s.tests s.grouped s.members
 
 -- what is in sight in a right side
 abbrev pub in_sight : State → InSight
@@ -79,8 +83,12 @@ Right s = IsRight s.classes s.conditions (in_sight s) s.elements s.actions
 abbrev pub Declaring : State → Type 0
 Declaring s = Base s × (length s.rules ≡ 0) × (list_all precedes_classes s.commands ≡ true)
 
+-- what is numbered before a test
+abbrev pub numbered_inside : State → Numbered
+numbered_inside s = after_members (after_conditions nothing_numbered s.conditions) s.members
+
 abbrev pub Around : Use → State → Type 0
-Around InPattern s = Base s × Left s × (length s.conditions < most_conditions) × (begins_positive s.conditions s.negated ≡ true)
+Around InPattern s = Base s × Left s × (length (elements_of s.conditions) + length s.members < most_conditions) × (begins_positive s.conditions s.negated ≡ true) × (s.grouped ≡ true → first_is_positive s.conditions ≡ true)
 Around InPut s = Base s × Right s
 Around InFixed s = Base s
 
@@ -96,7 +104,7 @@ IsOfCell None k class = Unit {0}
 IsOfCell (Some cell) k class = (cell < length k.cells) × (class ≡ class_of_cell k cell)
 
 abbrev pub HasFields : Use → State → Type 0
-HasFields InPattern s = tests_are_plain (class_of s.classes s.class) (after_conditions nothing_numbered s.conditions) s.tests ≡ true
+HasFields InPattern s = tests_are_plain (class_of s.classes s.class) (numbered_inside s) s.tests ≡ true
 HasFields InPut s = (list_all (put_is_plain s.classes (in_sight s) (class_of s.classes s.class)) s.puts ≡ true) × IsOfCell s.modified (in_sight s) s.class
 HasFields InFixed s = list_all (fixed_is_valid (class_of s.classes s.class)) s.fixed ≡ true
 
@@ -114,7 +122,12 @@ HasItems s = Base s × Right s × (list_all (item_is_plain s.classes (in_sight s
 -- the conditions of a rule up to the last of them
 abbrev pub Conditions : State → Type 0
 Conditions s =
-    Base s × Left s × (s.tests ≡ []) × (first_is_positive s.conditions ≡ true) × (length s.conditions ≤ most_conditions) × (s.negated ≡ false)
+    Base s × Left s × (s.tests ≡ []) × (first_is_positive s.conditions ≡ true) × (length (elements_of s.conditions) ≤ most_conditions) × (s.negated ≡ false) × (s.grouped ≡ false)
+
+-- those and the members of a group up to the last of them
+abbrev pub AmongMembers : ℕ → State → Type 0
+AmongMembers n s =
+    Base s × Left s × (s.tests ≡ []) × (first_is_positive s.conditions ≡ true) × (length (elements_of s.conditions) + length s.members ≤ most_conditions) × (s.grouped ≡ true) × (length s.members ≡ n)
 
 -- a command up to its next tag, or to its next name
 abbrev pub AtTags : TagUse → State → Type 0
@@ -153,6 +166,10 @@ pub record Spot : Type 0 where
   pub more : Option ℕ
   pub among : Bool
   pub vector : ℕ
+
+-- where a group is read, it stands in that
+abbrev pub placed : State → Spot → Spot
+placed s p = record p { braces = at s p.braces }
 
 -- a place of a pattern, with another one after it or none
 abbrev pub HasPlace : Option ℕ → ℕ → State → Type 0
@@ -201,34 +218,36 @@ pub data IsPlainly (s : State) : List Wanted → Type 0 where
   at_vector_name : Declaring s → IsPlainly s (VectorName ∷ VectorNames ∷ Forms ∷ [])
   at_vector_names : Declaring s → IsPlainly s (VectorNames ∷ Forms ∷ [])
   at_rule_name : Base s → IsPlainly s (RuleName ∷ FirstPattern ∷ Patterns ∷ Actions ∷ Forms ∷ [])
-  at_first_pattern : Base s × Left s × (s.tests ≡ []) × (length s.conditions ≡ 0) × (s.negated ≡ false) → IsPlainly s (FirstPattern ∷ Patterns ∷ Actions ∷ Forms ∷ [])
+  at_first_pattern : Base s × Left s × (s.tests ≡ []) × (length s.conditions ≡ 0) × (s.negated ≡ false) × (s.grouped ≡ false) → IsPlainly s (FirstPattern ∷ Patterns ∷ Actions ∷ Forms ∷ [])
   at_patterns : Conditions s → IsPlainly s (Patterns ∷ Actions ∷ Forms ∷ [])
-  at_pattern : (b : Braces) → Around InPattern s × (s.tests ≡ []) → IsPlainly s (Pattern ∷ behind_pattern b)
-  at_braced : Around InPattern s × (s.tests ≡ []) → IsPlainly s (Braced ∷ Patterns ∷ Actions ∷ Forms ∷ [])
+  at_pattern : (b : Braces) → Around InPattern s × (s.tests ≡ []) → IsPlainly s (Pattern ∷ behind (at s b) InPattern)
+  at_group : Conditions s → IsPlainly s (GroupBrace ∷ Patterns ∷ Actions ∷ Forms ∷ [])
+  at_members : (n : ℕ) → AmongMembers n s → IsPlainly s (Members n ∷ Patterns ∷ Actions ∷ Forms ∷ [])
+  at_braced : (Around InPattern s × (s.tests ≡ [])) × (s.grouped ≡ false) → IsPlainly s (Braced ∷ Patterns ∷ Actions ∷ Forms ∷ [])
   at_element_name : Conditions s → IsPlainly s (ElementName ∷ ClosesBrace ∷ Patterns ∷ Actions ∷ Forms ∷ [])
   at_closes_brace : Conditions s → IsPlainly s (ClosesBrace ∷ Patterns ∷ Actions ∷ Forms ∷ [])
-  at_class_name : (b : Braces) → (u : Use) → Around u s × IsBegun u s → IsPlainly s (ClassName ∷ Terms u ∷ behind b u)
-  at_terms : (b : Braces) → (u : Use) → IsElement u s → IsPlainly s (Terms u ∷ behind b u)
-  at_attribute : (b : Braces) → (u : Use) → IsElement u s → IsPlainly s (Attribute u ∷ behind b u)
-  at_several : (b : Braces) → (u : Use) → (f : ℕ) → HasSeveral u f s → IsPlainly s (Several u f ∷ behind b u)
-  at_place : (b : Braces) → (more : Option ℕ) → (f : ℕ) → HasPlace more f s → IsPlainly s (Place f ∷ behind_place b more)
-  at_tests : (b : Braces) → (more : Option ℕ) → (f : ℕ) → HasPlace more f s → IsPlainly s (Tests f ∷ behind_place b more)
-  at_tested : (p : Spot) → (f : ℕ) → (q : Pred) → HasPlace p.more f s → IsPlainly s (Tested f q ∷ behind_test p.braces p.more p.among f)
-  at_choice : (p : Spot) → (f : ℕ) → HasPlace p.more f s → IsPlainly s (Choice f ∷ behind_test p.braces p.more p.among f)
-  at_atom : (p : Spot) → (t : Target) → HasTarget p t s → IsPlainly s (Atom t ∷ behind_target p t)
-  at_value : (p : Spot) → (t : Target) → HasTarget p t s → IsPlainly s (ValueFor t ∷ behind_target p t)
-  at_function : (p : Spot) → (t : Target) → HasTarget p t s → is_of_action t ≡ true → IsPlainly s (Function t ∷ behind_target p t)
-  at_expression_unit : (p : Spot) → (t : Target) → (d : ℕ) → (ws : List Wanted) → HasTarget p t s → is_of_action t ≡ true → AreOpen (numbers_in s.values) t (behind_target p t) d ws → IsPlainly s (ExpressionUnit d ∷ ws)
+  at_class_name : (b : Braces) → (u : Use) → Around u s × IsBegun u s → IsPlainly s (ClassName ∷ Terms u ∷ behind (at s b) u)
+  at_terms : (b : Braces) → (u : Use) → IsElement u s → IsPlainly s (Terms u ∷ behind (at s b) u)
+  at_attribute : (b : Braces) → (u : Use) → IsElement u s → IsPlainly s (Attribute u ∷ behind (at s b) u)
+  at_several : (b : Braces) → (u : Use) → (f : ℕ) → HasSeveral u f s → IsPlainly s (Several u f ∷ behind (at s b) u)
+  at_place : (b : Braces) → (more : Option ℕ) → (f : ℕ) → HasPlace more f s → IsPlainly s (Place f ∷ behind_place (at s b) more)
+  at_tests : (b : Braces) → (more : Option ℕ) → (f : ℕ) → HasPlace more f s → IsPlainly s (Tests f ∷ behind_place (at s b) more)
+  at_tested : (p : Spot) → (f : ℕ) → (q : Pred) → HasPlace p.more f s → IsPlainly s (Tested f q ∷ behind_test (at s p.braces) p.more p.among f)
+  at_choice : (p : Spot) → (f : ℕ) → HasPlace p.more f s → IsPlainly s (Choice f ∷ behind_test (at s p.braces) p.more p.among f)
+  at_atom : (p : Spot) → (t : Target) → HasTarget p t s → IsPlainly s (Atom t ∷ behind_target (placed s p) t)
+  at_value : (p : Spot) → (t : Target) → HasTarget p t s → IsPlainly s (ValueFor t ∷ behind_target (placed s p) t)
+  at_function : (p : Spot) → (t : Target) → HasTarget p t s → is_of_action t ≡ true → IsPlainly s (Function t ∷ behind_target (placed s p) t)
+  at_expression_unit : (p : Spot) → (t : Target) → (d : ℕ) → (ws : List Wanted) → HasTarget p t s → is_of_action t ≡ true → AreOpen (numbers_in s.values) t (behind_target (placed s p) t) d ws → IsPlainly s (ExpressionUnit d ∷ ws)
   at_last_rest : (p : Spot) → (t : Target) → (waiting : List Waiting) → HasTarget p t s → is_of_action t ≡ true → IsOperand (numbers_in s.values) function_depth true s.formula → AreOperands (numbers_in s.values) function_depth waiting
-      → IsPlainly s (ExpressionRest function_depth waiting (Some t) ∷ behind_target p t)
+      → IsPlainly s (ExpressionRest function_depth waiting (Some t) ∷ behind_target (placed s p) t)
   at_bracketed_rest : (p : Spot) → (t : Target) → (d : ℕ) → (waiting : List Waiting) → (ws : List Wanted) → HasTarget p t s → is_of_action t ≡ true → IsOperand (numbers_in s.values) (suc d) true s.formula → nat_lt d most_brackets ≡ true
-      → AreOperands (numbers_in s.values) (suc d) waiting → AreOpen (numbers_in s.values) t (behind_target p t) d ws → IsPlainly s (ExpressionRest (suc d) waiting None ∷ ws)
-  at_bracketed : (p : Spot) → (t : Target) → (d : ℕ) → (ws : List Wanted) → HasTarget p t s → is_of_action t ≡ true → nat_lt d most_brackets ≡ true → AreOpen (numbers_in s.values) t (behind_target p t) d ws
+      → AreOperands (numbers_in s.values) (suc d) waiting → AreOpen (numbers_in s.values) t (behind_target (placed s p) t) d ws → IsPlainly s (ExpressionRest (suc d) waiting None ∷ ws)
+  at_bracketed : (p : Spot) → (t : Target) → (d : ℕ) → (ws : List Wanted) → HasTarget p t s → is_of_action t ≡ true → nat_lt d most_brackets ≡ true → AreOpen (numbers_in s.values) t (behind_target (placed s p) t) d ws
       → IsPlainly s (Bracketed (suc d) ∷ ws)
-  at_source_cell : (p : Spot) → (t : Target) → HasTarget p t s → is_of_action t ≡ true → IsPlainly s (SourceCell ∷ SourceAttribute t ∷ behind_target p t)
-  at_source_attribute : (p : Spot) → (t : Target) → HasTarget p t s → is_of_action t ≡ true → IsSource s → IsPlainly s (SourceAttribute t ∷ behind_target p t)
+  at_source_cell : (p : Spot) → (t : Target) → HasTarget p t s → is_of_action t ≡ true → IsPlainly s (SourceCell ∷ SourceAttribute t ∷ behind_target (placed s p) t)
+  at_source_attribute : (p : Spot) → (t : Target) → HasTarget p t s → is_of_action t ≡ true → IsSource s → IsPlainly s (SourceAttribute t ∷ behind_target (placed s p) t)
   at_source_end : (p : Spot) → (t : Target) → (name : Sym) → HasTarget p t s → is_of_action t ≡ true → IsSource s → is_attribute (source_class s) s.source_field ≡ true
-      → IsPlainly s (SourceEnd t name ∷ Closes EndsWhole ∷ behind_target p t)
+      → IsPlainly s (SourceEnd t name ∷ Closes EndsWhole ∷ behind_target (placed s p) t)
   at_actions : Base s × Right s → IsPlainly s (Actions ∷ Forms ∷ [])
   at_action_word : Base s × Right s → IsPlainly s (ActionWord ∷ Actions ∷ Forms ∷ [])
   at_modified : Base s × Right s × (s.puts ≡ []) → IsPlainly s (Modified ∷ Terms InPut ∷ Actions ∷ Forms ∷ [])
@@ -269,15 +288,15 @@ tests_push c [] k t h e = and_from _ _ e refl
 tests_push c (x ∷ ts) k t h e =
     let each = and_parts (test_is_plain c k x) (tests_are_plain c (after_test k x) ts) h in and_from _ _ each.0 (tests_push c ts (after_test k x) t each.1 e)
 
-pub after_conditions-push : (cs : List Condition) (k : Numbered) (c : Condition) → after_conditions k (cs ++ c ∷ []) ≡ after_condition (after_conditions k cs) c
+pub after_conditions-push : (cs : List Part) (k : Numbered) (c : Part) → after_conditions k (cs ++ c ∷ []) ≡ after_part (after_conditions k cs) c
 after_conditions-push [] k c = refl
-after_conditions-push (x ∷ cs) k c = after_conditions-push cs (after_condition k x) c
+after_conditions-push (x ∷ cs) k c = after_conditions-push cs (after_part k x) c
 
-pub conditions_push : (classes : List Class) (cs : List Condition) (k : Numbered) (c : Condition) → conditions_are_plain classes k cs ≡ true → condition_is_plain classes (after_conditions k cs) c ≡ true → conditions_are_plain classes k (cs ++ c ∷ []) ≡ true
+pub conditions_push : (classes : List Class) (cs : List Part) (k : Numbered) (c : Part) → conditions_are_plain classes k cs ≡ true → part_is_plain classes (after_conditions k cs) c ≡ true → conditions_are_plain classes k (cs ++ c ∷ []) ≡ true
 conditions_push classes [] k c h e = and_from _ _ e refl
 conditions_push classes (x ∷ cs) k c h e =
-    let each = and_parts (condition_is_plain classes k x) (conditions_are_plain classes (after_condition k x) cs) h in
-    and_from _ _ each.0 (conditions_push classes cs (after_condition k x) c each.1 e)
+    let each = and_parts (part_is_plain classes k x) (conditions_are_plain classes (after_part k x) cs) h in
+    and_from _ _ each.0 (conditions_push classes cs (after_part k x) c each.1 e)
 
 pub after_actions-push : (xs : List Action) (k : InSight) (a : Action) → after_actions k (xs ++ a ∷ []) ≡ after_action (after_actions k xs) a
 after_actions-push [] k a = refl
@@ -289,6 +308,21 @@ actions_push classes (x ∷ xs) k a h e =
     let each = and_parts (action_is_plain classes k x) (actions_are_plain classes (after_action k x) xs) h in
     and_from _ _ each.0 (actions_push classes xs (after_action k x) a each.1 e)
 
+pub after_members-push : (cs : List Condition) (k : Numbered) (c : Condition) → after_members k (cs ++ c ∷ []) ≡ after_tests (after_members k cs) c.tests
+after_members-push [] k c = refl
+after_members-push (x ∷ cs) k c = after_members-push cs (after_tests k x.tests) c
+
+pub members_push : (classes : List Class) (cs : List Condition) (k : Numbered) (c : Condition) → members_are_plain classes k cs ≡ true → (not c.negated && condition_is_plain classes (after_members k cs) c) ≡ true → members_are_plain classes k (cs ++ c ∷ []) ≡ true
+members_push classes [] k c h e = and_from _ _ e refl
+members_push classes (x ∷ cs) k c h e =
+    let each = and_parts (not x.negated && condition_is_plain classes k x) (members_are_plain classes (after_tests k x.tests) cs) h in
+    and_from _ _ each.0 (members_push classes cs (after_tests k x.tests) c each.1 e)
+
+pub positive_push : (ps : List Part) (cs : List Condition) → first_is_positive ps ≡ true → first_is_positive (ps ++ Group cs ∷ []) ≡ true
+positive_push [] cs h = absurd (true≢false (sym h))
+positive_push (One d ∷ ps) cs h = h
+positive_push (Group ds ∷ ps) cs h = h
+
 -- what is in sight after a condition
 pub condition_counted : (b : Bool) (around : ℕ) (k after : Numbered) (values : List Named) (variables : ℕ) → after ≡ numbered_in values variables → (b ≡ true → numbers_in (take around values) ≡ k.sight)
     → cond b (record { sight = k.sight; given = after.given }) after ≡ numbered_in (cond b (take around values) values) variables
@@ -298,15 +332,16 @@ condition_counted true around k after values variables count sight =
 
 -- ---- the first condition
 
-pub begun_positive : (cs : List Condition) (c : Condition) → begins_positive cs c.negated ≡ true → first_is_positive (cs ++ c ∷ []) ≡ true
+pub begun_positive : (cs : List Part) (c : Condition) → begins_positive cs c.negated ≡ true → first_is_positive (cs ++ One c ∷ []) ≡ true
 begun_positive [] c h = h
-begun_positive (x ∷ cs) c h = h
+begun_positive (One x ∷ cs) c h = h
+begun_positive (Group ms ∷ cs) c h = h
 
-pub begins_first : (cs : List Condition) (b : Bool) → length cs ≡ 0 → b ≡ false → begins_positive cs b ≡ true
+pub begins_first : (cs : List Part) (b : Bool) → length cs ≡ 0 → b ≡ false → begins_positive cs b ≡ true
 begins_first [] b none e = ap not e
 begins_first (x ∷ cs) b none e = absurd (omega (arith, none))
 
-pub begins_behind : (cs : List Condition) (b : Bool) → first_is_positive cs ≡ true → begins_positive cs b ≡ true
+pub begins_behind : (cs : List Part) (b : Bool) → first_is_positive cs ≡ true → begins_positive cs b ≡ true
 begins_behind [] b h = absurd (true≢false (sym h))
 begins_behind (x ∷ cs) b h = h
 
@@ -327,14 +362,16 @@ cells_by true c xs ys le = le
 cells_by false c xs ys le = omega (arith, le)
 
 -- a condition more takes no cell away
-pub cells_more : (cs : List Condition) (c : Condition) → length (cells_of cs) ≤ length (cells_of (cs ++ c ∷ []))
+pub cells_more : (cs : List Part) (c : Part) → length (cells_of cs) ≤ length (cells_of (cs ++ c ∷ []))
 cells_more [] c = omega arith
-cells_more (x ∷ cs) c = cells_by x.negated x.class (cells_of cs) (cells_of (cs ++ c ∷ [])) (cells_more cs c)
+cells_more (Group ms ∷ cs) c = cells_more cs c
+cells_more (One x ∷ cs) c = cells_by x.negated x.class (cells_of cs) (cells_of (cs ++ c ∷ [])) (cells_more cs c)
 
 -- the first condition has a cell
-pub some_cell : (cs : List Condition) → first_is_positive cs ≡ true → 0 < length (cells_of cs)
+pub some_cell : (cs : List Part) → first_is_positive cs ≡ true → 0 < length (cells_of cs)
 some_cell [] h = absurd (true≢false (sym h))
-some_cell (c ∷ cs) h = cond_both c.negated _ _ (λ (ns : List ℕ). 0 < length ns) (λ is. absurd (true≢false (sym h ∙ ap not is))) (λ _. omega arith)
+some_cell (Group ms ∷ cs) h = absurd (true≢false (sym h))
+some_cell (One c ∷ cs) h = cond_both c.negated _ _ (λ (ns : List ℕ). 0 < length ns) (λ is. absurd (true≢false (sym h ∙ ap not is))) (λ _. omega arith)
 
 numbers_below : (b : Bool) (m n k : ℕ) (rest : Option ℕ) → cond b (Some m) rest ≡ Some n → nat_lt m k ≡ true → (rest ≡ Some n → nat_lt n k ≡ true) → nat_lt n k ≡ true
 numbers_below true m n k rest e lt ih = let same : m ≡ n = cc in ap (λ (i : ℕ). nat_lt i k) (sym same) ∙ lt
@@ -369,9 +406,11 @@ cells_are_by : (b : Bool) (classes : List Class) (class : ℕ) (xs : List ℕ) �
 cells_are_by true classes class xs lt h = h
 cells_are_by false classes class xs lt h = and_from _ _ lt h
 
-pub cells_are : (classes : List Class) (cs : List Condition) (k : Numbered) → conditions_are_plain classes k cs ≡ true → list_all (λ c. nat_lt c (length classes)) (cells_of cs) ≡ true
+pub cells_are : (classes : List Class) (cs : List Part) (k : Numbered) → conditions_are_plain classes k cs ≡ true → list_all (λ c. nat_lt c (length classes)) (cells_of cs) ≡ true
 cells_are classes [] k h = refl
-cells_are classes (c ∷ cs) k h =
+cells_are classes (Group ms ∷ cs) k h =
+    cells_are classes cs (after_part k (Group ms)) (and_parts (part_is_plain classes k (Group ms)) (conditions_are_plain classes (after_part k (Group ms)) cs) h).1
+cells_are classes (One c ∷ cs) k h =
     let each = and_parts (condition_is_plain classes k c) (conditions_are_plain classes (after_condition k c) cs) h in
     let here = and_parts (nat_lt c.class (length classes)) (tests_are_plain (class_of classes c.class) k c.tests) each.0 in
     cells_are_by c.negated classes c.class (cells_of cs) here.0 (cells_are classes cs (after_condition k c) each.1)

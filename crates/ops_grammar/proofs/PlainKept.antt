@@ -17,18 +17,19 @@ use Rattle.ops_base.specs.declared.conditions.Test.{Test}
 use Rattle.ops_base.specs.declared.actions.Term.{Term}
 use Rattle.ops_base.specs.declared.actions.Term.TheVariants as term
 use Rattle.ops_base.specs.declared.conditions.Condition.{Condition}
+use Rattle.ops_base.specs.declared.conditions.Part.{Part}
 use Rattle.ops_base.specs.declared.actions.Action.{Action}
 use Rattle.ops_base.specs.declared.actions.Action.TheVariants as action
 use Rattle.ops_base.specs.declared.commands.Command.{Command}
 use Rattle.ops_base.specs.declared.commands.Command.TheVariants as command
-use Rattle.ops_base.specs.Valid.{most_fields, most_conditions, no_class, class_of, is_vector, is_in, first_is_positive, cells_of, specificity, fixed_is_valid}
+use Rattle.ops_base.specs.Valid.{most_fields, most_conditions, no_class, class_of, is_vector, is_in, first_is_positive, cells_of, specificity, fixed_is_valid, elements_of}
 use Rattle.ops_grammar.specs.declared.words.Named.{Named}
 use Rattle.ops_grammar.specs.Grammar.{InPattern, InPut, InFixed, Use, State, number_of, precedes_classes, with_test, with_put, with_fixed, with_bound, with_bind, with_several, with_bound_element, classes_of_cells, put_action, with_element, with_cell, with_rule, left_ended, right_begun}
-use Rattle.ops_grammar.specs.Spelling.{Numbered, nothing_numbered, operand_is_plain, after_test, after_tests, after_conditions, InSight, at_arrow, after_action, term_is_plain, put_is_plain, action_is_plain, rule_is_plain, command_is_plain}
+use Rattle.ops_grammar.specs.Spelling.{Numbered, nothing_numbered, operand_is_plain, after_test, after_tests, after_conditions, InSight, at_arrow, after_action, term_is_plain, put_is_plain, action_is_plain, rule_is_plain, command_is_plain, after_members}
 use Rattle.ops_grammar.proofs.Lists.{all_push}
 use Rattle.ops_grammar.proofs.Numbering.{are_given, next_apart, after_conditions-given, after_actions-given}
 use Rattle.ops_grammar.proofs.PlainClasses.{IsArranged}
-use Rattle.ops_grammar.proofs.Plain.{numbers_in, numbered_in, made_is_class, in_sight, IsBase, IsRight, Base, Left, Right, Conditions, IsOfCell, IsElement, HasAttribute, IsVector, HasField, HasSeveral, after_tests-push, tests_push, after_actions-push, actions_push, number_sighted, some_cell, below_more, renumbered_below, cells_are}
+use Rattle.ops_grammar.proofs.Plain.{numbers_in, numbered_in, made_is_class, in_sight, IsBase, IsRight, Base, Left, Right, Conditions, IsOfCell, IsElement, HasAttribute, IsVector, HasField, HasSeveral, after_tests-push, tests_push, after_actions-push, actions_push, number_sighted, some_cell, below_more, renumbered_below, cells_are, numbered_inside}
 
 pub command_kept : (s : State) (c : Command) → Base s → command_is_plain s.classes c ≡ true → IsBase s.vectors s.classes s.rules (s.commands ++ c ∷ [])
 command_kept s c g plain = record { arranged = g.arranged; rules_plain = g.rules_plain; commands_plain = all_push (command_is_plain s.classes) s.commands c g.commands_plain plain }
@@ -61,21 +62,22 @@ test_kept s f p o g a plain =
     record {
       around = (
         g.around.0,
-        record { plain = left.plain; count = after_tests-push s.tests (after_conditions nothing_numbered s.conditions) t ∙ left.count; within = left.within; sight = left.sight; cells = left.cells },
+        record { plain = left.plain; inside = left.inside; alone = left.alone; count = after_tests-push s.tests (numbered_inside s) t ∙ left.count; within = left.within; sight = left.sight; cells = left.cells },
         g.around.2,
         g.around.3,
+        g.around.4,
       );
       class = g.class;
-      fields = tests_push (class_of s.classes s.class) s.tests (after_conditions nothing_numbered s.conditions) t g.fields
+      fields = tests_push (class_of s.classes s.class) s.tests (numbered_inside s) t g.fields
           (and_from _ _ a (subst (λ (k : Numbered). operand_is_plain k p false o ≡ true) (sym left.count) plain));
     }
 
-bound_counted : (s : State) (f : ℕ) (name : Sym) → Left s → after_tests (after_conditions nothing_numbered s.conditions) (s.tests ++ record { field = f; pred = pred.Eq; operand = operand.Variable s.variables; binds = true } ∷ []) ≡ numbered_in (s.values ++ record { name = name; number = s.variables } ∷ []) (s.variables + 1)
+bound_counted : (s : State) (f : ℕ) (name : Sym) → Left s → after_tests (numbered_inside s) (s.tests ++ record { field = f; pred = pred.Eq; operand = operand.Variable s.variables; binds = true } ∷ []) ≡ numbered_in (s.values ++ record { name = name; number = s.variables } ∷ []) (s.variables + 1)
 bound_counted s f name left =
     let t : Test = record { field = f; pred = pred.Eq; operand = operand.Variable s.variables; binds = true } in
     let v : Named = record { name = name; number = s.variables } in
     let next : suc s.variables ≡ s.variables + 1 = omega arith in
-    after_tests-push s.tests (after_conditions nothing_numbered s.conditions) t
+    after_tests-push s.tests (numbered_inside s) t
     ∙ ap (λ (k : Numbered). after_test k t) left.count
     ∙ ap (λ (ns : List ℕ). let k : Numbered = record { sight = ns; given = suc s.variables } in k) (sym (map-append (λ (v : Named). v.number) s.values (v ∷ [])))
     ∙ ap (numbered_in (s.values ++ v ∷ [])) next
@@ -91,6 +93,8 @@ test_bound s f name g a =
         g.around.0,
         record {
           plain = left.plain;
+          inside = left.inside;
+          alone = left.alone;
           count = bound_counted s f name left;
           within = λ is. let le = left.within is in omega (arith, more, le);
           sight = λ is. ap numbers_in (take-append-le s.around s.values (v ∷ []) (left.within is)) ∙ left.sight is;
@@ -98,9 +102,10 @@ test_bound s f name g a =
         },
         g.around.2,
         g.around.3,
+        g.around.4,
       );
       class = g.class;
-      fields = tests_push (class_of s.classes s.class) s.tests (after_conditions nothing_numbered s.conditions) t g.fields
+      fields = tests_push (class_of s.classes s.class) s.tests (numbered_inside s) t g.fields
           (and_from _ _ a (eq-eqb s.variables _ (sym (ap (λ (k : Numbered). k.given) left.count))));
     }
 
@@ -192,13 +197,14 @@ constant_pushed s f v g room =
 -- ---- productions
 
 -- what is in sight where no test of a condition was read
-counted_before : (s : State) → Left s → s.tests ≡ [] → after_conditions nothing_numbered s.conditions ≡ numbered_in s.values s.variables
-counted_before s left none =
-    subst (λ (ts : List Test). after_tests (after_conditions nothing_numbered s.conditions) ts ≡ numbered_in s.values s.variables) none left.count
+pub counted_before : (s : State) → Left s → s.tests ≡ [] → s.grouped ≡ false → after_conditions nothing_numbered s.conditions ≡ numbered_in s.values s.variables
+counted_before s left none e =
+    ap (λ (ms : List Condition). after_members (after_conditions nothing_numbered s.conditions) ms) (sym (left.alone e))
+    ∙ subst (λ (ts : List Test). after_tests (numbered_inside s) ts ≡ numbered_in s.values s.variables) none left.count
 
 -- Nothing but what the conditions leave is in sight at the arrow.
-pub right_kept : (s : State) → Left s → s.tests ≡ [] → first_is_positive s.conditions ≡ true → length s.conditions ≤ most_conditions → Right (right_begun (left_ended s))
-right_kept s left none positive few =
+pub right_kept : (s : State) → Left s → s.tests ≡ [] → first_is_positive s.conditions ≡ true → length (elements_of s.conditions) ≤ most_conditions → s.grouped ≡ false → Right (right_begun (left_ended s))
+right_kept s left none positive few e =
     let cells = cells_of s.conditions in
     let whole : cells ≡ cells ++ [] = sym (append-nil cells) in
     let from : Numbered → List ℕ → InSight = λ k xs. record { variables = k; cells = xs; made = None } in
@@ -207,20 +213,22 @@ right_kept s left none positive few =
       few = few;
       left = left.plain;
       plain = refl;
-      sight = ap (λ (k : Numbered). from k cells) (counted_before s left none) ∙ ap (from (numbered_in s.values s.variables)) whole;
+      sight = ap (λ (k : Numbered). from k cells) (counted_before s left none e) ∙ ap (from (numbered_in s.values s.variables)) whole;
       named = subst (λ (xs : List ℕ). list_all (λ e. nat_lt e.number (length xs)) s.elements ≡ true) whole left.cells;
       cells = subst (λ (xs : List ℕ). list_all (λ c. nat_lt c (length s.classes)) xs ≡ true) whole (cells_are s.classes s.conditions nothing_numbered left.plain);
       made = refl;
     }
 
 -- the variables in sight before a negated condition are those around it
-pub negated_begun : (s : State) → Left s → s.tests ≡ [] → Left (record s { negated = true; around = length s.values })
-negated_begun s left none =
+pub negated_begun : (s : State) → Left s → s.tests ≡ [] → s.grouped ≡ false → Left (record s { negated = true; around = length s.values })
+negated_begun s left none e =
     record {
       plain = left.plain;
+      inside = left.inside;
+      alone = left.alone;
       count = left.count;
       within = λ _. omega arith;
-      sight = λ _. ap numbers_in (take_all (length s.values) s.values (omega arith)) ∙ sym (ap (λ (k : Numbered). k.sight) (counted_before s left none));
+      sight = λ _. ap numbers_in (take_all (length s.values) s.values (omega arith)) ∙ sym (ap (λ (k : Numbered). k.sight) (counted_before s left none e));
       cells = left.cells;
     }
 
@@ -245,6 +253,8 @@ element_bound s g =
       g.0,
       record {
         plain = left.plain;
+        inside = left.inside;
+        alone = left.alone;
         count = left.count;
         within = left.within;
         sight = left.sight;
@@ -254,12 +264,13 @@ element_bound s g =
       g.3,
       g.4,
       g.5,
+      g.6,
     )
 
 -- ---- right sides
 
 -- an action more, after which so much is in sight
-module _ (classes : List Class) (conditions : List Condition) (k to : InSight) (elements named : List Named) (actions : List Action) (a : Action) where
+module _ (classes : List Class) (conditions : List Part) (k to : InSight) (elements named : List Named) (actions : List Action) (a : Action) where
   action_more : IsRight classes conditions k elements actions → action_is_plain classes k a ≡ true → after_action k a ≡ to → list_all (λ e. nat_lt e.number (length to.cells)) named ≡ true → list_all (λ c. nat_lt c (length classes)) to.cells ≡ true → made_is_class classes to.made ≡ true
       → IsRight classes conditions to named (actions ++ a ∷ [])
   action_more g plain leads below cells made =

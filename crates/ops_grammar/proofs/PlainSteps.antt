@@ -1,10 +1,11 @@
 -- Each word leads from what has a spelling to what has one.
-use Rattle.std.proofs.Common.{◌≡◌, ℕ, suc, ◌+◌, ◌-◌, ◌<◌, Bool, true, false, ◌&&◌, ◌||◌, ◌==◌, cond, List, [], ◌∷◌, ◌++◌, length, take, refl, sym, ap, ◌∙◌, arith, Option, Some, None, Result, Ok, Err, nat_lt, nat_le, pos, unwrap_or, slice_get, position, get_or, length-append, subst, true≢false}
+use Rattle.std.proofs.Common.{◌≡◌, ℕ, suc, ◌+◌, ◌-◌, ◌<◌, Bool, true, false, ◌&&◌, ◌||◌, ◌==◌, cond, List, [], ◌∷◌, ◌++◌, length, take, refl, sym, ap, ◌∙◌, arith, Option, Some, None, Result, Ok, Err, nat_lt, nat_le, pos, unwrap_or, slice_get, position, get_or, length-append, subst, true≢false, ◌≤◌}
 use Rattle.std.specs.List.{list_all, list_any}
-use Rattle.std.proofs.lemmas.Bool.{cond_both, and_parts, and_from, or_left, or_right, eqb-true, lt-ltb, ltb-true}
+use Rattle.std.proofs.lemmas.Bool.{cond_both, and_parts, and_from, or_left, or_right, eqb-true, lt-ltb, ltb-true, leb-true, le-leb}
 use Rattle.std.proofs.lemmas.List.Elements.{All-push}
 use Rattle.std.proofs.lemmas.List.Quantifiers.{position-Some}
 use Rattle.std.proofs.lemmas.Option.{slice_get-get_or}
+use Rattle.std.proofs.lemmas.List.{take_all}
 use Rattle.ops_base.specs.declared.values.Sym.{Sym}
 use Rattle.ops_base.specs.declared.values.Value.{Value}
 use Rattle.ops_base.specs.declared.values.Pred.{Pred}
@@ -12,7 +13,10 @@ use Rattle.ops_base.specs.declared.values.Pred.TheVariants as pred
 use Rattle.ops_base.specs.declared.elements.Class.{Class}
 use Rattle.ops_base.specs.declared.conditions.Operand.{Operand}
 use Rattle.ops_base.specs.declared.conditions.Operand.TheVariants as operand
+use Rattle.ops_base.specs.declared.conditions.Test.{Test}
 use Rattle.ops_base.specs.declared.conditions.Condition.{Condition}
+use Rattle.ops_base.specs.declared.conditions.Part.{Part}
+use Rattle.ops_base.specs.declared.conditions.Part.TheVariants.{One, Group}
 use Rattle.ops_base.specs.declared.expression.Op.{Op}
 use Rattle.ops_base.specs.Expression.{Formula}
 use Rattle.ops_base.specs.Expression as formula
@@ -27,21 +31,21 @@ use Rattle.ops_base.specs.declared.commands.Command.TheVariants as command
 use Rattle.ops_base.specs.declared.commands.Strategy.{Strategy}
 use Rattle.ops_base.specs.declared.endings.Fault.{Fault}
 use Rattle.ops_base.specs.declared.endings.Fault.TheVariants as fault
-use Rattle.ops_base.specs.Valid.{most_fields, most_conditions, no_class, class_of, is_attribute, is_vector, is_column, is_natural, cells_of, fixed_is_valid}
+use Rattle.ops_base.specs.Valid.{most_fields, most_conditions, no_class, class_of, is_attribute, is_vector, is_column, is_natural, cells_of, fixed_is_valid, elements_of, first_is_positive}
 use Rattle.ops_tokens.specs.declared.token.TokenKind.{TokenKind}
 use Rattle.ops_tokens.specs.declared.token.TokenKind.TheVariants as kind
 use Rattle.ops_grammar.specs.declared.words.Word.{Word}
 use Rattle.ops_grammar.specs.declared.words.Keyword.{Keyword}
 use Rattle.ops_grammar.specs.declared.words.Keyword.TheVariants as keyword
-use Rattle.ops_grammar.specs.Grammar.{Use, InPattern, InPut, InFixed, Target, ToTest, ToPut, ToFixed, ToTerms, ToConstants, ToItem, ToBind, EndsWhole, Column, ToTab, ToRight, TagUse, ToRemove, ToShow, NameUse, ToPrint, ToBreak, Wanted, Forms, Attributes, VectorNames, Patterns, Pattern, ClosesBrace, Terms, Several, Choice, ExpressionRest, SourceAttribute, Actions, Cells, Items, Tags, NamedRules, Closes, is_left, is_right, is_left_brace, is_right_brace, is_caret, is_name, is_variable, is_arrow, is_literal, is_minus, opens_choice, closes_choice, pred_of, constant_of, atom_of, value_of, natural_of, small_of, is_one_of, number_of, precedes_classes, may_declare, may_produce, is_class, is_rule, form, class_declared, is_second, attribute_declared, attributes, arranged, has_vector, makes_second, vector_declared, vector_name, class_at, class_name, attributes_of, behind_attribute, field_at, with_test, with_item, with_constant, with_bound, variable_tested, constant_tested, tested, predicated, test, with_choice, chosen, choice, atom_at, term_at, bound_at, constant_at, is_of_action, value_for, function, function_depth, most_brackets, no_formula, with_formula, Waiting, completed, is_compute, operation_of, unit_bound, unit_at, expression_unit, bracketed, operation_at, expression_rest, source_named, source_class, source_at, takes_several, is_inf, ends_at_inf, source_end, with_command, fixed_command, with_element, with_several, terms, within, one_of_several, several, place, one_more, patterns, element_at, element_name, action_word, classes_of_cells, designated, numbered_cell, named_cell, cell_of, with_designated, with_modified, bound_value, cell_bound, item_word, column_item, columns_at, count_of, counted, count, strategy_of, strategy_set, strategy_name, tag_at, is_all, tag_or_all, tag_command, tags, shown, named_rule, name_command, named_rules, level_of, level_set, level, State, Step, Next, Refuses, step}
-use Rattle.ops_grammar.specs.Spelling.{nothing_numbered, tests_are_plain, after_tests, after_conditions, InSight, cell_is_plain, term_is_plain, put_is_plain, item_is_plain, command_is_plain}
+use Rattle.ops_grammar.specs.Grammar.{Use, InPattern, InPut, InFixed, Target, ToTest, ToPut, ToFixed, ToTerms, ToConstants, ToItem, ToBind, EndsWhole, Column, ToTab, ToRight, TagUse, ToRemove, ToShow, NameUse, ToPrint, ToBreak, Wanted, Forms, Attributes, VectorNames, Patterns, Pattern, ClosesBrace, Terms, Several, Choice, ExpressionRest, SourceAttribute, Actions, Cells, Items, Tags, NamedRules, Closes, is_left, is_right, is_left_brace, is_right_brace, is_caret, is_name, is_variable, is_arrow, is_literal, is_minus, opens_choice, closes_choice, pred_of, constant_of, atom_of, value_of, natural_of, small_of, is_one_of, number_of, precedes_classes, may_declare, may_produce, is_class, is_rule, form, class_declared, is_second, attribute_declared, attributes, arranged, has_vector, makes_second, vector_declared, vector_name, class_at, class_name, attributes_of, behind_attribute, field_at, with_test, with_item, with_constant, with_bound, variable_tested, constant_tested, tested, predicated, test, with_choice, chosen, choice, atom_at, term_at, bound_at, constant_at, is_of_action, value_for, function, function_depth, most_brackets, no_formula, with_formula, Waiting, completed, is_compute, operation_of, unit_bound, unit_at, expression_unit, bracketed, operation_at, expression_rest, source_named, source_class, source_at, takes_several, is_inf, ends_at_inf, source_end, with_command, fixed_command, with_element, with_several, terms, within, one_of_several, several, place, one_more, patterns, element_at, element_name, action_word, classes_of_cells, designated, numbered_cell, named_cell, cell_of, with_designated, with_modified, bound_value, cell_bound, item_word, column_item, columns_at, count_of, counted, count, strategy_of, strategy_set, strategy_name, tag_at, is_all, tag_or_all, tag_command, tags, shown, named_rule, name_command, named_rules, level_of, level_set, level, State, Step, Next, Refuses, step, is_absent, begins_group, members, group, with_member, with_one, has_room, ClassName}
+use Rattle.ops_grammar.specs.Spelling.{nothing_numbered, tests_are_plain, after_tests, after_conditions, InSight, cell_is_plain, term_is_plain, put_is_plain, item_is_plain, command_is_plain, after_members, members_are_plain, Numbered}
 use Rattle.ops_grammar.proofs.Lists.{all_push, all_none, all_at}
-use Rattle.ops_grammar.proofs.Parts.{has_cell}
-use Rattle.ops_grammar.proofs.Sound.{Braces, Bare, NamedBefore, NamedBehind, behind, HasTags, HasNames}
+use Rattle.ops_grammar.proofs.Parts.{has_cell, elements_push, no_elements, elements_push_group}
+use Rattle.ops_grammar.proofs.Sound.{Braces, Bare, NamedBefore, NamedBehind, behind, HasTags, HasNames, at, outer, AsMember, several_at}
 use Rattle.ops_grammar.proofs.PlainClasses.{IsArranged, IsAttributes, class_arranged, classes_arranged, attributes_begun, attribute_pushed}
 use Rattle.ops_grammar.proofs.PlainFormulas.{IsOperand, AreOperands, AreOpen, outermost, bracket, operand_completed, operand_bracketed}
-use Rattle.ops_grammar.proofs.Plain.{numbers_in, in_sight, Base, Right, Declaring, Around, IsBegun, IsOfCell, IsElement, Conditions, HasCells, HasItems, AtTags, AtNames, HasAttribute, IsVector, HasMore, HasSeveral, IsSource, Spot, HasPlace, HasTarget, behind_place, behind_test, behind_target, IsPlainly, at_forms, at_form, at_class_declared, at_attributes, at_vector_name, at_vector_names, at_rule_name, at_first_pattern, at_patterns, at_pattern, at_braced, at_element_name, at_closes_brace, at_class_name, at_terms, at_attribute, at_several, at_place, at_tests, at_tested, at_choice, at_atom, at_value, at_function, at_expression_unit, at_last_rest, at_bracketed_rest, at_bracketed, at_source_cell, at_source_attribute, at_source_end, at_actions, at_action_word, at_modified, at_bound_name, at_bound_value, at_cell_name, at_cell, at_cells, at_items, at_item_word, at_columns, at_whole, at_crlf, at_halt, at_count, at_strategy_name, at_tag_or_all, at_tags, at_shown, at_named_rule, at_named_rules, at_level, at_cs, at_exit, Keeps, after_conditions-push, conditions_push, condition_counted, begun_positive, begins_first, begins_behind, number_sighted, cells_more, number_below, below_more}
-use Rattle.ops_grammar.proofs.PlainKept.{command_kept, commands_still, action_kept, element_kept, bind_kept, cell_kept, test_kept, test_bound, choosing, put_kept, fixed_kept, several_begun, several_kept, term_pushed, constant_pushed, right_kept, negated_begun, rule_kept, element_bound}
+use Rattle.ops_grammar.proofs.Plain.{numbers_in, in_sight, Base, Right, Declaring, Around, IsBegun, IsOfCell, IsElement, Conditions, HasCells, HasItems, AtTags, AtNames, HasAttribute, IsVector, HasMore, HasSeveral, IsSource, Spot, HasPlace, HasTarget, behind_place, behind_test, behind_target, IsPlainly, at_forms, at_form, at_class_declared, at_attributes, at_vector_name, at_vector_names, at_rule_name, at_first_pattern, at_patterns, at_pattern, at_braced, at_element_name, at_closes_brace, at_class_name, at_terms, at_attribute, at_several, at_place, at_tests, at_tested, at_choice, at_atom, at_value, at_function, at_expression_unit, at_last_rest, at_bracketed_rest, at_bracketed, at_source_cell, at_source_attribute, at_source_end, at_actions, at_action_word, at_modified, at_bound_name, at_bound_value, at_cell_name, at_cell, at_cells, at_items, at_item_word, at_columns, at_whole, at_crlf, at_halt, at_count, at_strategy_name, at_tag_or_all, at_tags, at_shown, at_named_rule, at_named_rules, at_level, at_cs, at_exit, Keeps, after_conditions-push, conditions_push, condition_counted, begun_positive, begins_first, begins_behind, number_sighted, cells_more, number_below, below_more, placed, numbered_inside, AmongMembers, at_group, at_members, members_push, after_members-push, positive_push, numbered_in, Left}
+use Rattle.ops_grammar.proofs.PlainKept.{command_kept, commands_still, action_kept, element_kept, bind_kept, cell_kept, test_kept, test_bound, choosing, put_kept, fixed_kept, several_begun, several_kept, term_pushed, constant_pushed, right_kept, negated_begun, rule_kept, element_bound, counted_before}
 
 -- ---- designators
 
@@ -50,10 +54,10 @@ designated_by true m before c e = absurd (cc)
 designated_by false true before c e = absurd (cc)
 designated_by false false before c e = (refl, refl, cc)
 
-designated_there : (s : State) (before : ℕ) (o : Option Condition) (c : ℕ) → slice_get s.conditions before ≡ o → designated before o s ≡ Ok c → c < length (classes_of_cells s)
+designated_there : (s : State) (before : ℕ) (o : Option Part) (c : ℕ) → slice_get s.conditions before ≡ o → designated before o s ≡ Ok c → c < length (classes_of_cells s)
 designated_there s before None c e found = absurd (cc)
 designated_there s before (Some d) c e found =
-    let parts = designated_by d.negated (list_any (λ c. c.negated) (take before s.conditions)) before c found in
+    let parts = designated_by (is_absent d) (list_any is_absent (take before s.conditions)) before c found in
     let lt = has_cell s.conditions before d e parts.0 parts.1 in
     let same = parts.2 in
     omega (arith, length-append (cells_of s.conditions) s.further, lt, same)
@@ -148,7 +152,7 @@ forming p _ s x is g = absurd (true≢false (sym is))
 item_pushed : (s : State) (i : Item) → HasItems s → item_is_plain s.classes (in_sight s) i ≡ true → HasItems (with_item s i)
 item_pushed s i g plain = (g.0, g.1, all_push (item_is_plain s.classes (in_sight s)) s.items i g.2 plain)
 
-term_keeps : (p : Spot) (t : Target) (x : Term) (s : State) → HasTarget p t s → term_is_plain s.classes (in_sight s) (takes_several t) x ≡ true → Keeps (term_at t x (behind_target p t) s)
+term_keeps : (p : Spot) (t : Target) (x : Term) (s : State) → HasTarget p t s → term_is_plain s.classes (in_sight s) (takes_several t) x ≡ true → Keeps (term_at t x (behind_target (placed s p) t) s)
 term_keeps p (ToPut f) x s g plain = at_terms p.braces InPut (put_kept s f x g.0 g.1 plain)
 term_keeps p ToTerms x s g plain = at_several p.braces InPut p.vector (term_pushed s p.vector x g plain)
 term_keeps p ToItem x s g plain = at_items (item_pushed s (item.Print x) g plain)
@@ -236,27 +240,27 @@ module _ (w : Word) where
   spot b more among vector = record { braces = b; more = more; among = among; vector = vector }
 
   element_named : (u : Use) (s : State) (c : ℕ) → Around u s × IsBegun u s → c < length s.classes → IsElement u (record s { class = c })
-  element_named InPattern s c h lt = record { around = h.0; class = lt; fields = ap (tests_are_plain (class_of s.classes c) (after_conditions nothing_numbered s.conditions)) h.1 }
+  element_named InPattern s c h lt = record { around = h.0; class = lt; fields = ap (tests_are_plain (class_of s.classes c) (numbered_inside s)) h.1 }
   element_named InPut s c h lt = record { around = h.0; class = lt; fields = (ap (list_all (put_is_plain s.classes (in_sight s) (class_of s.classes c))) h.1.0, subst (λ (m : Option ℕ). IsOfCell m (in_sight s) c) (sym h.1.1) tt) }
   element_named InFixed s c h lt = record { around = h.0; class = lt; fields = ap (list_all (fixed_is_valid (class_of s.classes c))) h.1 }
 
-  class_at_keeps : (b : Braces) (u : Use) (s : State) → Around u s × IsBegun u s → (o : Option ℕ) → position (λ c. c.name.0 == w.name.0) s.classes ≡ o → Keeps (class_at o (Terms u ∷ behind b u) s)
+  class_at_keeps : (b : Braces) (u : Use) (s : State) → Around u s × IsBegun u s → (o : Option ℕ) → position (λ c. c.name.0 == w.name.0) s.classes ≡ o → Keeps (class_at o (Terms u ∷ behind (at s b) u) s)
   class_at_keeps b u s g (Some c) e = at_terms b u (element_named u s c g (position-Some (λ c. c.name.0 == w.name.0) s.classes c no_class e).0)
   class_at_keeps b u s g None e = tt
 
-  class_name_keeps : (b : Braces) (u : Use) (s : State) → Around u s × IsBegun u s → Keeps (class_name w (Terms u ∷ behind b u) s)
+  class_name_keeps : (b : Braces) (u : Use) (s : State) → Around u s × IsBegun u s → Keeps (class_name w (Terms u ∷ behind (at s b) u) s)
   class_name_keeps b u s g = cond_both (is_name w.kind) _ _ Keeps (λ _. class_at_keeps b u s g (position (λ c. c.name.0 == w.name.0) s.classes) refl) (λ _. tt)
 
-  attribute_keeps : (b : Braces) (u : Use) (f : ℕ) (s : State) → IsElement u s → HasAttribute s f → IsVector s f false → Keeps (Next (behind_attribute u f ∷ Terms u ∷ behind b u) s)
+  attribute_keeps : (b : Braces) (u : Use) (f : ℕ) (s : State) → IsElement u s → HasAttribute s f → IsVector s f false → Keeps (Next (behind_attribute u f ∷ Terms u ∷ behind (at s b) u) s)
   attribute_keeps b InPattern f s g a v = at_place b None f (g, or_left _ _ a, tt)
   attribute_keeps b InPut f s g a v = at_value (spot b None false f) (ToPut f) (g, a)
   attribute_keeps b InFixed f s g a v = at_value (spot b None false f) (ToFixed f) (g, a, v)
 
-  field_keeps : (b : Braces) (u : Use) (f : ℕ) (s : State) → IsElement u s → HasAttribute s f → Keeps (field_at u (Some f) (behind b u) s)
+  field_keeps : (b : Braces) (u : Use) (f : ℕ) (s : State) → IsElement u s → HasAttribute s f → Keeps (field_at u (Some f) (behind (at s b) u) s)
   field_keeps b u f s g a =
       cond_both (is_vector (class_of s.classes s.class) f) _ _ Keeps (λ v. at_several b u f (several_begun u s f g a v)) (λ v. attribute_keeps b u f s g a v)
 
-  field_at_keeps : (b : Braces) (u : Use) (s : State) → IsElement u s → (o : Option ℕ) → position (λ a. a.0 == w.name.0) (attributes_of (slice_get s.classes s.class)) ≡ o → Keeps (field_at u o (behind b u) s)
+  field_at_keeps : (b : Braces) (u : Use) (s : State) → IsElement u s → (o : Option ℕ) → position (λ a. a.0 == w.name.0) (attributes_of (slice_get s.classes s.class)) ≡ o → Keeps (field_at u o (behind (at s b) u) s)
   field_at_keeps b u s g None e = tt
   field_at_keeps b u s g (Some f) e =
       let c = get_or s.classes s.class no_class in
@@ -266,11 +270,11 @@ module _ (w : Word) where
 
   -- ---- tests
 
-  place_ends : (b : Braces) (more : Option ℕ) (s : State) → IsElement InPattern s → HasMore more s → Keeps (Next (behind_place b more) s)
+  place_ends : (b : Braces) (more : Option ℕ) (s : State) → IsElement InPattern s → HasMore more s → Keeps (Next (behind_place (at s b) more) s)
   place_ends b None s g m = at_terms b InPattern g
   place_ends b (Some f) s g m = at_several b InPattern f (g, m)
 
-  test_goes_on : (b : Braces) (more : Option ℕ) (among : Bool) (f : ℕ) (s : State) → HasPlace more f s → Keeps (Next (behind_test b more among f) s)
+  test_goes_on : (b : Braces) (more : Option ℕ) (among : Bool) (f : ℕ) (s : State) → HasPlace more f s → Keeps (Next (behind_test (at s b) more among f) s)
   test_goes_on b more true f s g = at_tests b more f g
   test_goes_on b more false f s g = place_ends b more s g.0 g.2
 
@@ -292,7 +296,7 @@ module _ (w : Word) where
 
   -- ---- values
 
-  constant_keeps : (p : Spot) (t : Target) (v : Value) (s : State) → HasTarget p t s → Keeps (Next (behind_target p t) (with_constant t s v))
+  constant_keeps : (p : Spot) (t : Target) (v : Value) (s : State) → HasTarget p t s → Keeps (Next (behind_target (placed s p) t) (with_constant t s v))
   constant_keeps p (ToTest f q) v s g = test_goes_on p.braces p.more p.among f (with_test s f q (operand.Constant v) false) (test_kept s f q (operand.Constant v) g.0 g.1 refl, g.1, more_tested p.more s f q (operand.Constant v) false g.2)
   constant_keeps p (ToPut f) v s g = at_terms p.braces InPut (put_kept s f (term.Constant v) g.0 g.1 refl)
   constant_keeps p (ToFixed f) v s g = at_terms p.braces InFixed (fixed_kept s f v g.0 g.1 g.2)
@@ -301,69 +305,69 @@ module _ (w : Word) where
   constant_keeps p ToItem v s g = at_items (item_pushed s (item.Print (term.Constant v)) g refl)
   constant_keeps p ToBind v s g = term_keeps p ToBind (term.Constant v) s g refl
 
-  bound_keeps : (p : Spot) (t : Target) (s : State) → HasTarget p t s → (o : Option ℕ) → number_of w.name s.values ≡ o → Keeps (bound_at t o (behind_target p t) s)
+  bound_keeps : (p : Spot) (t : Target) (s : State) → HasTarget p t s → (o : Option ℕ) → number_of w.name s.values ≡ o → Keeps (bound_at t o (behind_target (placed s p) t) s)
   bound_keeps p t s g (Some n) e = term_keeps p t (term.Variable n) s g (number_sighted w.name s.values n e)
   bound_keeps p t s g None e = tt
 
-  constant_at_keeps : (p : Spot) (t : Target) (s : State) → HasTarget p t s → (o : Option Value) → Keeps (constant_at t w o (behind_target p t) s)
+  constant_at_keeps : (p : Spot) (t : Target) (s : State) → HasTarget p t s → (o : Option Value) → Keeps (constant_at t w o (behind_target (placed s p) t) s)
   constant_at_keeps p t s g (Some v) = constant_keeps p t v s g
   constant_at_keeps p t s g None = cond_both (is_variable w.kind) _ _ Keeps (λ _. bound_keeps p t s g (number_of w.name s.values) refl) (λ _. tt)
 
-  value_keeps : (p : Spot) (t : Target) (s : State) → HasTarget p t s → Keeps (value_for t w (behind_target p t) s)
+  value_keeps : (p : Spot) (t : Target) (s : State) → HasTarget p t s → Keeps (value_for t w (behind_target (placed s p) t) s)
   value_keeps p t s g =
       cond_both (is_literal w.keyword) _ _ Keeps (λ _. at_atom p t g)
       (λ _. cond_both (is_left w.kind && is_of_action t) _ _ Keeps (λ left. at_function p t g (and_parts (is_left w.kind) (is_of_action t) left).1)
       (λ _. constant_at_keeps p t s g (value_of w.kind w.name)))
 
-  atom_keeps : (p : Spot) (t : Target) (s : State) → HasTarget p t s → (o : Option Value) → Keeps (atom_at t o (behind_target p t) s)
+  atom_keeps : (p : Spot) (t : Target) (s : State) → HasTarget p t s → (o : Option Value) → Keeps (atom_at t o (behind_target (placed s p) t) s)
   atom_keeps p t s g (Some v) = constant_keeps p t v s g
   atom_keeps p t s g None = tt
 
   -- ---- functions
 
-  function_keeps : (p : Spot) (t : Target) (s : State) → HasTarget p t s → is_of_action t ≡ true → (k : Keyword) → Keeps (function t k (behind_target p t) s)
+  function_keeps : (p : Spot) (t : Target) (s : State) → HasTarget p t s → is_of_action t ≡ true → (k : Keyword) → Keeps (function t k (behind_target (placed s p) t) s)
   function_keeps p t s g is keyword.Substr = at_source_cell p t g is
-  function_keeps p t s g is keyword.Compute = at_expression_unit p t function_depth (ExpressionRest function_depth [] (Some t) ∷ behind_target p t) g is (outermost [] tt)
-  function_keeps p t s g is keyword.Genatom = closing_keeps t term.Fresh (behind_target p t) s (term_keeps p t term.Fresh s g refl)
-  function_keeps p t s g is keyword.Accept = closing_keeps t term.Accept (behind_target p t) s (term_keeps p t term.Accept s g refl)
+  function_keeps p t s g is keyword.Compute = at_expression_unit p t function_depth (ExpressionRest function_depth [] (Some t) ∷ behind_target (placed s p) t) g is (outermost [] tt)
+  function_keeps p t s g is keyword.Genatom = closing_keeps t term.Fresh (behind_target (placed s p) t) s (term_keeps p t term.Fresh s g refl)
+  function_keeps p t s g is keyword.Accept = closing_keeps t term.Accept (behind_target (placed s p) t) s (term_keeps p t term.Accept s g refl)
   function_keeps p t s g is _ = tt
 
   -- ---- compute
 
   -- what is wanted after a unit, where it is an operand
-  open_leads : (p : Spot) (t : Target) (s : State) (d : ℕ) (ws : List Wanted) → HasTarget p t s → is_of_action t ≡ true → IsOperand (numbers_in s.values) d true s.formula → AreOpen (numbers_in s.values) t (behind_target p t) d ws → IsPlainly s ws
+  open_leads : (p : Spot) (t : Target) (s : State) (d : ℕ) (ws : List Wanted) → HasTarget p t s → is_of_action t ≡ true → IsOperand (numbers_in s.values) d true s.formula → AreOpen (numbers_in s.values) t (behind_target (placed s p) t) d ws → IsPlainly s ws
   open_leads p t s d ws g is f (outermost waiting waits) = at_last_rest p t waiting g is f waits
   open_leads p t s d ws g is f (bracket outside waiting further lt waits brackets) = at_bracketed_rest p t outside waiting further g is f lt waits brackets
 
-  unit_bound_keeps : (p : Spot) (t : Target) (s : State) (d : ℕ) (ws : List Wanted) → HasTarget p t s → is_of_action t ≡ true → AreOpen (numbers_in s.values) t (behind_target p t) d ws → (name : Sym) (o : Option ℕ) → number_of name s.values ≡ o → Keeps (unit_bound o ws s)
+  unit_bound_keeps : (p : Spot) (t : Target) (s : State) (d : ℕ) (ws : List Wanted) → HasTarget p t s → is_of_action t ≡ true → AreOpen (numbers_in s.values) t (behind_target (placed s p) t) d ws → (name : Sym) (o : Option ℕ) → number_of name s.values ≡ o → Keeps (unit_bound o ws s)
   unit_bound_keeps p t s d ws g is brackets name (Some n) e = open_leads p t (with_formula s (formula.variable n)) d ws (forming p t s (formula.variable n) is g) is (refl, number_sighted name s.values n e) brackets
   unit_bound_keeps p t s d ws g is brackets name None e = tt
 
-  unit_keeps : (p : Spot) (t : Target) (s : State) (d : ℕ) (ws : List Wanted) → HasTarget p t s → is_of_action t ≡ true → AreOpen (numbers_in s.values) t (behind_target p t) d ws → (k : TokenKind) (name : Sym) → Keeps (unit_at k name ws s)
+  unit_keeps : (p : Spot) (t : Target) (s : State) (d : ℕ) (ws : List Wanted) → HasTarget p t s → is_of_action t ≡ true → AreOpen (numbers_in s.values) t (behind_target (placed s p) t) d ws → (k : TokenKind) (name : Sym) → Keeps (unit_at k name ws s)
   unit_keeps p t s d ws g is brackets (kind.Whole n) name = open_leads p t (with_formula s (formula.number n)) d ws (forming p t s (formula.number n) is g) is (refl, refl) brackets
   unit_keeps p t s d ws g is brackets kind.Variable name = unit_bound_keeps p t s d ws g is brackets name (number_of name s.values) refl
   unit_keeps p t s d ws g is brackets _ name = tt
 
-  expression_unit_keeps : (p : Spot) (t : Target) (s : State) (d : ℕ) (ws : List Wanted) → HasTarget p t s → is_of_action t ≡ true → AreOpen (numbers_in s.values) t (behind_target p t) d ws → Keeps (expression_unit d w ws s)
+  expression_unit_keeps : (p : Spot) (t : Target) (s : State) (d : ℕ) (ws : List Wanted) → HasTarget p t s → is_of_action t ≡ true → AreOpen (numbers_in s.values) t (behind_target (placed s p) t) d ws → Keeps (expression_unit d w ws s)
   expression_unit_keeps p t s d ws g is brackets =
       cond_both (is_left w.kind) _ _ Keeps (λ _. cond_both (nat_lt d most_brackets) _ _ Keeps (λ lt. at_bracketed p t d ws g is lt brackets) (λ _. tt))
       (λ _. unit_keeps p t s d ws g is brackets w.kind w.name)
 
-  bracketed_keeps : (p : Spot) (t : Target) (s : State) (d : ℕ) (ws : List Wanted) → HasTarget p t s → is_of_action t ≡ true → nat_lt d most_brackets ≡ true → AreOpen (numbers_in s.values) t (behind_target p t) d ws → Keeps (bracketed (suc d) w ws s)
+  bracketed_keeps : (p : Spot) (t : Target) (s : State) (d : ℕ) (ws : List Wanted) → HasTarget p t s → is_of_action t ≡ true → nat_lt d most_brackets ≡ true → AreOpen (numbers_in s.values) t (behind_target (placed s p) t) d ws → Keeps (bracketed (suc d) w ws s)
   bracketed_keeps p t s d ws g is lt brackets =
       let inside = ExpressionRest (suc d) [] None ∷ ws in
       cond_both (is_compute w.keyword) _ _ Keeps (λ _. at_expression_unit p t (suc d) inside g is (bracket d [] ws lt tt brackets)) (λ _. expression_unit_keeps p t s (suc d) inside g is (bracket d [] ws lt tt brackets))
 
   -- an operation, or the end of the expression of a function
   last_operation_keeps : (p : Spot) (t : Target) (s : State) (waiting : List Waiting) → HasTarget p t s → is_of_action t ≡ true → IsOperand (numbers_in s.values) function_depth true s.formula → AreOperands (numbers_in s.values) function_depth waiting
-      → (o : Option Op) → Keeps (operation_at function_depth waiting (Some t) o (behind_target p t) s)
+      → (o : Option Op) → Keeps (operation_at function_depth waiting (Some t) o (behind_target (placed s p) t) s)
   last_operation_keeps p t s waiting g is f waits (Some o) =
       let more : List Waiting = record { left = s.formula; op = o } ∷ waiting in
-      at_expression_unit p t function_depth (ExpressionRest function_depth more (Some t) ∷ behind_target p t) g is (outermost more (f, waits))
+      at_expression_unit p t function_depth (ExpressionRest function_depth more (Some t) ∷ behind_target (placed s p) t) g is (outermost more (f, waits))
   last_operation_keeps p t s waiting g is f waits None = tt
 
   last_rest_keeps : (p : Spot) (t : Target) (s : State) (waiting : List Waiting) → HasTarget p t s → is_of_action t ≡ true → IsOperand (numbers_in s.values) function_depth true s.formula → AreOperands (numbers_in s.values) function_depth waiting
-      → Keeps (expression_rest function_depth waiting (Some t) w (behind_target p t) s)
+      → Keeps (expression_rest function_depth waiting (Some t) w (behind_target (placed s p) t) s)
   last_rest_keeps p t s waiting g is f waits =
       let whole = operand_completed (numbers_in s.values) function_depth waiting s.formula f waits in
       cond_both (is_right w.kind) _ _ Keeps
@@ -372,7 +376,7 @@ module _ (w : Word) where
 
   -- an operation, or the end of an expression in brackets
   module _ (p : Spot) (t : Target) (s : State) (d : ℕ) (waiting : List Waiting) (ws : List Wanted) (g : HasTarget p t s) (is : is_of_action t ≡ true) (f : IsOperand (numbers_in s.values) (suc d) true s.formula) (lt : nat_lt d most_brackets ≡ true)
-      (waits : AreOperands (numbers_in s.values) (suc d) waiting) (brackets : AreOpen (numbers_in s.values) t (behind_target p t) d ws) where
+      (waits : AreOperands (numbers_in s.values) (suc d) waiting) (brackets : AreOpen (numbers_in s.values) t (behind_target (placed s p) t) d ws) where
     bracketed_operation_keeps : (o : Option Op) → Keeps (operation_at (suc d) waiting None o ws s)
     bracketed_operation_keeps (Some o) =
         let more : List Waiting = record { left = s.formula; op = o } ∷ waiting in
@@ -388,24 +392,24 @@ module _ (w : Word) where
 
   -- ---- substr
 
-  source_named_keeps : (p : Spot) (t : Target) (s : State) → HasTarget p t s → is_of_action t ≡ true → (o : Option ℕ) → number_of w.name s.elements ≡ o → Keeps (source_named o (SourceAttribute t ∷ behind_target p t) s)
+  source_named_keeps : (p : Spot) (t : Target) (s : State) → HasTarget p t s → is_of_action t ≡ true → (o : Option ℕ) → number_of w.name s.elements ≡ o → Keeps (source_named o (SourceAttribute t ∷ behind_target (placed s p) t) s)
   source_named_keeps p t s g is (Some c) e =
       let right = (acting p t s is g).1 in
       at_source_attribute p t (sourcing p t s c s.source_field is g) is (ltb-true _ _ (number_below w.name s.elements c (length (classes_of_cells s)) right.named e))
   source_named_keeps p t s g is None e = tt
 
   source_at_keeps : (p : Spot) (t : Target) (s : State) → HasTarget p t s → is_of_action t ≡ true → IsSource s → (o : Option ℕ) → position (λ a. a.0 == w.name.0) (source_class s).attrs ≡ o
-      → Keeps (source_at t w.name o (behind_target p t) s)
+      → Keeps (source_at t w.name o (behind_target (placed s p) t) s)
   source_at_keeps p t s g is there (Some f) e =
       let lt : f < length (source_class s).attrs = (position-Some (λ a. a.0 == w.name.0) (source_class s).attrs f (record { 0 = 0 }) e).0 in
       at_source_end p t w.name (sourcing p t s s.source f is g) is there (lt-ltb _ _ lt)
   source_at_keeps p t s g is there None e = tt
 
   source_end_keeps : (p : Spot) (t : Target) (name : Sym) (s : State) → HasTarget p t s → is_of_action t ≡ true → IsSource s → is_attribute (source_class s) s.source_field ≡ true
-      → Keeps (source_end t name w (Closes EndsWhole ∷ behind_target p t) s)
+      → Keeps (source_end t name w (Closes EndsWhole ∷ behind_target (placed s p) t) s)
   source_end_keeps p t name s g is there has =
       let plain = source_plain s (acting p t s is g).1 there in
-      let ends : (x : Term) → term_is_plain s.classes (in_sight s) (takes_several t) x ≡ true → Keeps (term_at t x (Closes EndsWhole ∷ behind_target p t) s) = λ x h. closing_keeps t x (behind_target p t) s (term_keeps p t x s g h) in
+      let ends : (x : Term) → term_is_plain s.classes (in_sight s) (takes_several t) x ≡ true → Keeps (term_at t x (Closes EndsWhole ∷ behind_target (placed s p) t) s) = λ x h. closing_keeps t x (behind_target (placed s p) t) s (term_keeps p t x s g h) in
       cond_both (ends_at_inf w s) _ _ Keeps
       (λ inf. cond_both (takes_several t) _ _ Keeps
       (λ several.
@@ -420,35 +424,35 @@ module _ (w : Word) where
   behind_it p f = behind_test p.braces p.more p.among f
 
   variable_keeps : (p : Spot) (f : ℕ) (q : Pred) (s : State) → HasPlace p.more f s → (o : Option ℕ) → number_of w.name s.values ≡ o
-      → Keeps (variable_tested f q o w.name (behind_it p f) s)
+      → Keeps (variable_tested f q o w.name (behind_it (placed s p) f) s)
   variable_keeps p f q s g (Some n) e =
       test_goes_on p.braces p.more p.among f (with_test s f q (operand.Variable n) false)
       (test_kept s f q (operand.Variable n) g.0 g.1 (number_sighted w.name s.values n e), g.1, more_tested p.more s f q (operand.Variable n) false g.2)
   variable_keeps p f pred.Eq s g None e = test_goes_on p.braces p.more p.among f (with_bound s f w.name) (test_bound s f w.name g.0 g.1, g.1, more_bound p.more s f w.name g.2)
   variable_keeps p f _ s g None e = tt
 
-  operand_keeps : (p : Spot) (f : ℕ) (q : Pred) (s : State) → HasPlace p.more f s → (o : Option Value) → Keeps (constant_tested f q w o (behind_it p f) s)
+  operand_keeps : (p : Spot) (f : ℕ) (q : Pred) (s : State) → HasPlace p.more f s → (o : Option Value) → Keeps (constant_tested f q w o (behind_it (placed s p) f) s)
   operand_keeps p f q s g (Some v) = constant_keeps p (ToTest f q) v s g
   operand_keeps p f q s g None = cond_both (is_variable w.kind) _ _ Keeps (λ _. variable_keeps p f q s g (number_of w.name s.values) refl) (λ _. tt)
 
-  tested_keeps : (p : Spot) (f : ℕ) (q : Pred) (s : State) → HasPlace p.more f s → Keeps (tested f q w (behind_it p f) s)
+  tested_keeps : (p : Spot) (f : ℕ) (q : Pred) (s : State) → HasPlace p.more f s → Keeps (tested f q w (behind_it (placed s p) f) s)
   tested_keeps p f q s g = cond_both (is_literal w.keyword) _ _ Keeps (λ _. at_atom p (ToTest f q) g) (λ _. operand_keeps p f q s g (constant_of w.kind w.name))
 
-  predicated_keeps : (p : Spot) (f : ℕ) (s : State) → HasPlace p.more f s → (o : Option Pred) → Keeps (predicated f w o (behind_it p f) s)
+  predicated_keeps : (p : Spot) (f : ℕ) (s : State) → HasPlace p.more f s → (o : Option Pred) → Keeps (predicated f w o (behind_it (placed s p) f) s)
   predicated_keeps p f s g (Some q) = at_tested p f q g
   predicated_keeps p f s g None = tested_keeps p f pred.Eq s g
 
-  test_keeps : (p : Spot) (f : ℕ) (s : State) → HasPlace p.more f s → Keeps (test f w (behind_it p f) s)
+  test_keeps : (p : Spot) (f : ℕ) (s : State) → HasPlace p.more f s → Keeps (test f w (behind_it (placed s p) f) s)
   test_keeps p f s g = cond_both (opens_choice w.keyword) _ _ Keeps (λ _. at_choice p f (place_choosing p.more f s [] g)) (λ _. predicated_keeps p f s g (pred_of w.keyword))
 
-  place_keeps : (b : Braces) (more : Option ℕ) (f : ℕ) (s : State) → HasPlace more f s → Keeps (place f w (behind_place b more) s)
+  place_keeps : (b : Braces) (more : Option ℕ) (f : ℕ) (s : State) → HasPlace more f s → Keeps (place f w (behind_place (at s b) more) s)
   place_keeps b more f s g = cond_both (is_left_brace w.kind) _ _ Keeps (λ _. at_tests b more f g) (λ _. test_keeps (spot b more false f) f s g)
 
-  chosen_keeps : (p : Spot) (f : ℕ) (s : State) → HasPlace p.more f s → (o : Option Value) → Keeps (chosen o (Choice f ∷ behind_it p f) s)
+  chosen_keeps : (p : Spot) (f : ℕ) (s : State) → HasPlace p.more f s → (o : Option Value) → Keeps (chosen o (Choice f ∷ behind_it (placed s p) f) s)
   chosen_keeps p f s g (Some v) = at_choice p f (place_choosing p.more f s (s.choice ++ v ∷ []) g)
   chosen_keeps p f s g None = tt
 
-  choice_keeps : (p : Spot) (f : ℕ) (s : State) → HasPlace p.more f s → Keeps (choice f w (behind_it p f) s)
+  choice_keeps : (p : Spot) (f : ℕ) (s : State) → HasPlace p.more f s → Keeps (choice f w (behind_it (placed s p) f) s)
   choice_keeps p f s g =
       cond_both (closes_choice w.keyword) _ _ Keeps
       (λ _. test_goes_on p.braces p.more p.among f (with_choice s f)
@@ -457,36 +461,78 @@ module _ (w : Word) where
 
   -- ---- the end of an element
 
-  conditions_keep : (b : Braces) (s : State) → Conditions s → Keeps (Next (behind b InPattern) s)
+  stands : (b : Braces) (front : List Wanted) (s : State) → s.grouped ≡ false → IsPlainly s (front ++ behind (at s b) InPattern) → IsPlainly s (front ++ behind (outer b) InPattern)
+  stands b front s e = subst (λ (c : Bool). IsPlainly s (front ++ behind (cond c (AsMember (length s.members)) (outer b)) InPattern)) e
+
+  stands_among : (m : ℕ) (front : List Wanted) (s : State) → s.grouped ≡ true → length s.members ≡ m → IsPlainly s (front ++ behind (at s Bare) InPattern) → IsPlainly s (front ++ behind (AsMember m) InPattern)
+  stands_among m front s e count r =
+      subst (λ (k : ℕ). IsPlainly s (front ++ behind (AsMember k) InPattern)) count
+      (subst (λ (c : Bool). IsPlainly s (front ++ behind (cond c (AsMember (length s.members)) Bare) InPattern)) e r)
+
+  no_members : (s : State) → Left s → s.grouped ≡ false → length s.members ≡ 0
+  no_members s h e = ap (λ (ms : List Condition). length ms) (h.alone e)
+
+  conditions_keep : (b : Braces) (s : State) → Conditions s → Keeps (Next (behind (outer b) InPattern) s)
   conditions_keep Bare s g = at_patterns g
   conditions_keep NamedBefore s g = at_closes_brace g
   conditions_keep NamedBehind s g = at_element_name g
+  conditions_keep (AsMember m) s g = at_patterns g
 
-  element_keeps : (b : Braces) (u : Use) (s : State) → IsElement u s → Keeps (Next (behind b u) (with_element u s))
-  element_keeps b InPattern s g =
-      let c : Condition = record { class = s.class; negated = s.negated; tests = s.tests } in
-      let k = after_conditions nothing_numbered s.conditions in
-      let left = g.around.1 in
-      let more = length-append s.conditions (c ∷ []) in
-      let room = g.around.2 in
-      conditions_keep b (with_element InPattern s) (
-        g.around.0,
-        record {
-          plain = conditions_push s.classes s.conditions nothing_numbered c left.plain (and_from _ _ (lt-ltb _ _ g.class) g.fields);
-          count = after_conditions-push s.conditions nothing_numbered c ∙ condition_counted s.negated s.around k (after_tests k s.tests) s.values s.variables left.count left.sight;
-          within = λ is. absurd (true≢false (sym is));
-          sight = λ is. absurd (true≢false (sym is));
-          cells = below_more s.elements (length (cells_of s.conditions)) (length (cells_of (s.conditions ++ c ∷ []))) (cells_more s.conditions c) left.cells;
-        },
-        refl,
-        begun_positive s.conditions c g.around.3,
-        omega (arith, more, room),
-        refl,
-      )
+  element_keeps : (b : Braces) (u : Use) (s : State) → IsElement u s → Keeps (Next (behind (at s b) u) (with_element u s))
+  element_keeps b InPattern s g = by s.grouped refl
+    where
+      by : (d : Bool) → s.grouped ≡ d → Keeps (Next (behind (cond d (AsMember (length s.members)) (outer b)) InPattern) (cond d (with_member s) (with_one s)))
+      by true e =
+          let c : Condition = record { class = s.class; negated = false; tests = s.tests } in
+          let k = after_conditions nothing_numbered s.conditions in
+          let left = g.around.1 in
+          at_members (suc (length s.members)) (
+            g.around.0,
+            record {
+              plain = left.plain;
+              inside = members_push s.classes s.members k c left.inside (and_from _ _ (lt-ltb _ _ g.class) g.fields);
+              alone = λ n. absurd (true≢false (sym e ∙ n));
+              count = after_members-push s.members k c ∙ left.count;
+              within = left.within;
+              sight = left.sight;
+              cells = left.cells;
+            },
+            refl,
+            g.around.4 e,
+            omega (arith, length-append s.members (c ∷ []), g.around.2),
+            e,
+            omega (arith, length-append s.members (c ∷ [])),
+          )
+      by false e =
+          let c : Condition = record { class = s.class; negated = s.negated; tests = s.tests } in
+          let k = after_conditions nothing_numbered s.conditions in
+          let left = g.around.1 in
+          let none = left.alone e in
+          let all = after_conditions nothing_numbered (s.conditions ++ One c ∷ []) in
+          let count = ap (λ (ms : List Condition). after_tests (after_members k ms) s.tests) (sym none) ∙ left.count in
+          let fields = subst (λ (ms : List Condition). tests_are_plain (class_of s.classes s.class) (after_members k ms) s.tests ≡ true) none g.fields in
+          conditions_keep b (with_one s) (
+            g.around.0,
+            record {
+              plain = conditions_push s.classes s.conditions nothing_numbered (One c) left.plain (and_from _ _ (lt-ltb _ _ g.class) fields);
+              inside = ap (λ (ms : List Condition). members_are_plain s.classes all ms) none;
+              alone = left.alone;
+              count = ap (λ (ms : List Condition). after_members all ms) none ∙ after_conditions-push s.conditions nothing_numbered (One c)
+                  ∙ condition_counted s.negated s.around k (after_tests k s.tests) s.values s.variables count (λ is. left.sight (or_left _ _ is));
+              within = λ is. absurd (true≢false (sym is ∙ e));
+              sight = λ is. absurd (true≢false (sym is ∙ e));
+              cells = below_more s.elements (length (cells_of s.conditions)) (length (cells_of (s.conditions ++ One c ∷ []))) (cells_more s.conditions (One c)) left.cells;
+            },
+            refl,
+            begun_positive s.conditions c g.around.3,
+            omega (arith, elements_push s.conditions c, g.around.2),
+            refl,
+            e,
+          )
   element_keeps b InPut s g = at_actions (g.around.0, element_kept s g)
   element_keeps b InFixed s g = at_forms (command_kept s (fixed_command s.shows s.class s.fixed) g.around (constants_plain s.classes s.shows s.class s.fixed g.class g.fields))
 
-  terms_keep : (b : Braces) (u : Use) (s : State) → IsElement u s → Keeps (terms u w (behind b u) s)
+  terms_keep : (b : Braces) (u : Use) (s : State) → IsElement u s → Keeps (terms u w (behind (at s b) u) s)
   terms_keep b u s g =
       cond_both (is_right w.kind) _ _ Keeps (λ _. element_keeps b u s g) (λ _. cond_both (is_caret w.kind) _ _ Keeps (λ _. at_attribute b u g) (λ _. tt))
 
@@ -497,34 +543,92 @@ module _ (w : Word) where
   within_keeps false (Next ws s) keeps = tt
   within_keeps false (Refuses f) keeps = tt
 
-  one_of_several_keeps : (b : Braces) (u : Use) (f : ℕ) (s : State) → HasSeveral u f s → Keeps (one_of_several u f w (behind b u) s)
+  one_of_several_keeps : (b : Braces) (u : Use) (f : ℕ) (s : State) → HasSeveral u f s → Keeps (one_of_several u f w (behind (at s b) u) s)
   one_of_several_keeps b InPattern f s g =
-      within_keeps (nat_lt f most_fields) (place f w (behind_place b (Some (f + 1))) s)
+      within_keeps (nat_lt f most_fields) (place f w (behind_place (at s b) (Some (f + 1))) s)
       (λ room. place_keeps b (Some (f + 1)) f s (g.0, or_right _ _ (and_from _ _ g.1 room), g.1))
   one_of_several_keeps b InPut f s g = value_keeps (spot b None false f) ToTerms s g
   one_of_several_keeps b InFixed f s g =
-      within_keeps (nat_lt (f + length s.constants) most_fields) (value_for ToConstants w (Several InFixed f ∷ behind b InFixed) s)
+      within_keeps (nat_lt (f + length s.constants) most_fields) (value_for ToConstants w (Several InFixed f ∷ behind (at s b) InFixed) s)
       (λ room. value_keeps (spot b None false f) ToConstants s (g, ltb-true _ _ room))
 
-  several_keep : (b : Braces) (u : Use) (f : ℕ) (s : State) → HasSeveral u f s → Keeps (several u f w (behind b u) s)
+  several_keep : (b : Braces) (u : Use) (f : ℕ) (s : State) → HasSeveral u f s → Keeps (several u f w (behind (at s b) u) s)
   several_keep b u f s g =
-      cond_both (is_right w.kind || is_caret w.kind) _ _ Keeps (λ _. terms_keep b u (with_several u f s) (several_kept u s f g)) (λ _. one_of_several_keeps b u f s g)
+      cond_both (is_right w.kind || is_caret w.kind) _ _ Keeps (λ _. subst (λ (c : Braces). Keeps (terms u w (behind c u) (with_several u f s))) (several_at u f s b) (terms_keep b u (with_several u f s) (several_kept u s f g))) (λ _. one_of_several_keeps b u f s g)
 
   -- ---- productions
 
   -- one more condition
-  one_more_keeps : (ws : List Wanted) (s : State) → (length s.conditions < most_conditions → IsPlainly s ws) → Keeps (one_more ws s)
-  one_more_keeps ws s h = cond_both (nat_lt (length s.conditions) most_conditions) _ _ Keeps (λ lt. h (ltb-true _ _ lt)) (λ _. tt)
+  one_more_keeps : (ws : List Wanted) (s : State) → (length (elements_of s.conditions) < most_conditions → IsPlainly s ws) → Keeps (one_more ws s)
+  one_more_keeps ws s h = cond_both (nat_lt (length (elements_of s.conditions)) most_conditions) _ _ Keeps (λ lt. h (ltb-true _ _ lt)) (λ _. tt)
 
   patterns_keep : (s : State) → Conditions s → Keeps (patterns w (Actions ∷ Forms ∷ []) s)
   patterns_keep s g =
-      cond_both (is_arrow w.keyword) _ _ Keeps (λ _. at_actions (g.0, right_kept s g.1 g.2 g.3 g.4))
+      let none = no_members s g.1 g.6 in
+      let outside : s.grouped ≡ true → first_is_positive s.conditions ≡ true = λ _. g.3 in
+      cond_both (is_arrow w.keyword) _ _ Keeps (λ _. at_actions (g.0, right_kept s g.1 g.2 g.3 g.4 g.6))
       (λ _. cond_both (is_left w.kind) _ _ Keeps
-      (λ _. one_more_keeps _ s (λ lt. at_class_name Bare InPattern ((g.0, g.1, lt, begins_behind s.conditions s.negated g.3), g.2)))
+      (λ _. one_more_keeps _ s (λ lt. stands Bare (ClassName ∷ Terms InPattern ∷ []) s g.6 (at_class_name Bare InPattern ((g.0, g.1, omega (arith, lt, none), begins_behind s.conditions s.negated g.3, outside), g.2))))
       (λ _. cond_both (is_left_brace w.kind) _ _ Keeps
-      (λ _. one_more_keeps _ s (λ lt. at_braced ((g.0, g.1, lt, begins_behind s.conditions s.negated g.3), g.2)))
+      (λ _. one_more_keeps _ s (λ lt. at_braced (((g.0, g.1, omega (arith, lt, none), begins_behind s.conditions s.negated g.3, outside), g.2), g.6)))
       (λ _. cond_both (is_minus w.keyword) _ _ Keeps
-      (λ _. one_more_keeps _ (record s { negated = true; around = length s.values }) (λ lt. at_pattern Bare ((g.0, negated_begun s g.1 g.2, lt, begins_behind s.conditions true g.3), g.2))) (λ _. tt))))
+      (λ _. let begun : State = record s { negated = true; around = length s.values } in
+      one_more_keeps _ begun (λ lt. stands Bare (Pattern ∷ []) begun g.6 (at_pattern Bare ((g.0, negated_begun s g.1 g.2 g.6, omega (arith, lt, none), begins_behind s.conditions true g.3, outside), g.2))))
+      (λ _. cond_both (begins_group w.keyword) _ _ Keeps (λ _. at_group g) (λ _. tt)))))
+
+  group_keeps : (s : State) → Conditions s → Keeps (group w (Patterns ∷ Actions ∷ Forms ∷ []) s)
+  group_keeps s g =
+      let count = counted_before s g.1 g.2 g.6 in
+      cond_both (is_left_brace w.kind) _ _ Keeps
+      (λ _. at_members 0 (
+        g.0,
+        record {
+          plain = g.1.plain;
+          inside = refl;
+          alone = λ _. refl;
+          count = count;
+          within = λ _. omega arith;
+          sight = λ _. ap numbers_in (take_all (length s.values) s.values (omega arith)) ∙ sym (ap (λ (k : Numbered). k.sight) count);
+          cells = g.1.cells;
+        },
+        refl,
+        g.3,
+        omega (arith, g.4),
+        refl,
+        refl,
+      )) (λ _. tt)
+
+  members_keep : (m : ℕ) (s : State) → AmongMembers m s → Keeps (members m w (Patterns ∷ Actions ∷ Forms ∷ []) s)
+  members_keep m s g =
+      let left = g.1 in
+      let k = after_conditions nothing_numbered s.conditions in
+      cond_both (is_right_brace w.kind && nat_le 2 m) _ _ Keeps
+      (λ e.
+      let two : 2 ≤ m = leb-true 2 m (and_parts (is_right_brace w.kind) (nat_le 2 m) e).1 in
+      let counted = subst (λ (ts : List Test). after_tests (after_members k s.members) ts ≡ numbered_in s.values s.variables) g.2 left.count in
+      let count = after_conditions-push s.conditions nothing_numbered (Group s.members)
+      ∙ condition_counted true s.around k (after_members k s.members) s.values s.variables counted (λ _. left.sight (or_right _ _ g.5)) in
+      at_patterns (
+        g.0,
+        record {
+          plain = conditions_push s.classes s.conditions nothing_numbered (Group s.members) left.plain (and_from _ _ (le-leb 2 (length s.members) (omega (arith, two, g.6))) left.inside);
+          inside = refl;
+          alone = λ _. refl;
+          count = subst (λ (ts : List Test). after_tests (after_conditions nothing_numbered (s.conditions ++ Group s.members ∷ [])) ts ≡ numbered_in (take s.around s.values) s.variables) (sym g.2) count;
+          within = λ is. absurd (true≢false (sym is));
+          sight = λ is. absurd (true≢false (sym is));
+          cells = below_more s.elements (length (cells_of s.conditions)) (length (cells_of (s.conditions ++ Group s.members ∷ []))) (cells_more s.conditions (Group s.members)) left.cells;
+        },
+        g.2,
+        positive_push s.conditions s.members g.3,
+        omega (arith, elements_push_group s.conditions s.members, g.4),
+        refl,
+        refl,
+      ))
+      (λ _. cond_both (is_left w.kind) _ _ Keeps
+      (λ _. cond_both (has_room s) _ _ Keeps
+      (λ room. stands_among m (ClassName ∷ Terms InPattern ∷ []) s g.5 g.6
+      (at_class_name Bare InPattern ((g.0, g.1, ltb-true _ _ room, begins_behind s.conditions s.negated g.3, λ _. g.3), g.2))) (λ _. tt)) (λ _. tt))
 
   -- an element variable in front of what may follow
   element_at_keeps : (ws : List Wanted) (s : State) → IsPlainly (record s { element = w.name }) ws → (o : Option ℕ) → Keeps (element_at o w.name ws s)
@@ -657,17 +761,21 @@ module _ (w : Word) where
   step_keeps s ws (at_vector_names g) = cond_both (is_right w.kind) _ _ Keeps (λ _. at_forms g.0) (λ _. vector_name_keeps s g)
   step_keeps s ws (at_rule_name g) =
       cond_both (is_name w.kind) _ _ Keeps
-      (λ _. cond_both (is_rule s w.name) _ _ Keeps (λ _. tt) (λ _. at_first_pattern (g, record { plain = refl; count = refl; within = λ is. absurd (true≢false (sym is)); sight = λ is. absurd (true≢false (sym is)); cells = refl }, refl, refl, refl))) (λ _. tt)
+      (λ _. cond_both (is_rule s w.name) _ _ Keeps (λ _. tt) (λ _. at_first_pattern (g, record { plain = refl; inside = refl; alone = λ _. refl; count = refl; within = λ is. absurd (true≢false (sym is)); sight = λ is. absurd (true≢false (sym is)); cells = refl }, refl, refl, refl, refl))) (λ _. tt)
   step_keeps s ws (at_first_pattern g) =
-      let none = g.3 in
-      cond_both (is_left w.kind) _ _ Keeps (λ _. at_class_name Bare InPattern ((g.0, g.1, omega (arith, none), begins_first s.conditions s.negated g.3 g.4), g.2))
-      (λ _. cond_both (is_left_brace w.kind) _ _ Keeps (λ _. at_braced ((g.0, g.1, omega (arith, none), begins_first s.conditions s.negated g.3 g.4), g.2))
-      (λ _. cond_both (is_minus w.keyword) _ _ Keeps (λ _. tt) (λ _. tt)))
+      let none = no_elements s.conditions g.3 in
+      let alone = no_members s g.1 g.5 in
+      let outside : s.grouped ≡ true → first_is_positive s.conditions ≡ true = λ of. absurd (true≢false (sym of ∙ g.5)) in
+      cond_both (is_left w.kind) _ _ Keeps (λ _. stands Bare (ClassName ∷ Terms InPattern ∷ []) s g.5 (at_class_name Bare InPattern ((g.0, g.1, omega (arith, none, alone), begins_first s.conditions s.negated g.3 g.4, outside), g.2)))
+      (λ _. cond_both (is_left_brace w.kind) _ _ Keeps (λ _. at_braced (((g.0, g.1, omega (arith, none, alone), begins_first s.conditions s.negated g.3 g.4, outside), g.2), g.5))
+      (λ _. cond_both (is_minus w.keyword || begins_group w.keyword) _ _ Keeps (λ _. tt) (λ _. tt)))
   step_keeps s ws (at_patterns g) = patterns_keep s g
+  step_keeps s ws (at_group g) = group_keeps s g
+  step_keeps s ws (at_members m g) = members_keep m s g
   step_keeps s ws (at_pattern b g) = cond_both (is_left w.kind) _ _ Keeps (λ _. at_class_name b InPattern g) (λ _. tt)
   step_keeps s ws (at_braced g) =
-      cond_both (is_left w.kind) _ _ Keeps (λ _. at_class_name NamedBehind InPattern g)
-      (λ _. element_name_keeps (Pattern ∷ ClosesBrace ∷ Patterns ∷ Actions ∷ Forms ∷ []) s (at_pattern NamedBefore g))
+      cond_both (is_left w.kind) _ _ Keeps (λ _. stands NamedBehind (ClassName ∷ Terms InPattern ∷ []) s g.1 (at_class_name NamedBehind InPattern g.0))
+      (λ _. element_name_keeps (Pattern ∷ ClosesBrace ∷ Patterns ∷ Actions ∷ Forms ∷ []) s (stands NamedBefore (Pattern ∷ []) (record s { element = w.name }) g.1 (at_pattern NamedBefore g.0)))
   step_keeps s ws (at_element_name g) = element_name_keeps (ClosesBrace ∷ Patterns ∷ Actions ∷ Forms ∷ []) s (at_closes_brace g)
   step_keeps s ws (at_closes_brace g) = cond_both (is_right_brace w.kind) _ _ Keeps (λ _. at_patterns (element_bound s g)) (λ _. tt)
   step_keeps s ws (at_class_name b u g) = class_name_keeps b u s g

@@ -12,8 +12,8 @@ use Rattle.ops_tokens.specs.Tokens.{spelling}
 use Rattle.ops_grammar.specs.declared.words.Word.{Word}
 use Rattle.ops_grammar.specs.declared.words.Keyword.{Keyword}
 use Rattle.ops_grammar.specs.declared.words.Keyword.TheVariants as keyword
-use Rattle.ops_grammar.specs.Words.{keyword_of, keyword_of_symbol, keyword_of_operator, names_with, words_from}
-use Rattle.ops_grammar.specs.Grammar.{is_arrow, is_literal, is_minus, opens_choice, pred_of}
+use Rattle.ops_grammar.specs.Words.{keyword_of, keyword_of_symbol, keyword_of_operator, names_with, words_from, minus_before, keyword_before}
+use Rattle.ops_grammar.specs.Grammar.{is_arrow, is_literal, is_minus, opens_choice, pred_of, begins_group}
 
 abbrev pub is_other : Keyword → Bool
 is_other keyword.Other = true
@@ -33,6 +33,7 @@ is_mark keyword.OpenChoice = true
 is_mark keyword.CloseChoice = true
 is_mark keyword.Literal = true
 is_mark keyword.Minus = true
+is_mark keyword.GroupMinus = true
 is_mark _ = false
 
 -- An operator has a keyword of operators or none, a plain symbol one of symbols or none, and every other word has none.
@@ -118,10 +119,24 @@ proper_kind kind.Operator s = operator_proper s
 proper_kind _ s = refl
 
 -- Each word of a text has a keyword that its kind may have.
+minus_proper : (k : TokenKind) → may_have kind.Operator (minus_before k) ≡ true
+minus_proper kind.LeftBrace = refl
+minus_proper _ = refl
+
+minus_is : (k : TokenKind) (ts : List Token) → may_have k keyword.Minus ≡ true → may_have k (keyword_before keyword.Minus ts) ≡ true
+minus_is k [] h = h
+minus_is kind.Operator (t ∷ ts) h = minus_proper t.kind
+minus_is kind.Symbol (t ∷ ts) h = absurd (true≢false (sym h))
+minus_is _ (t ∷ ts) h = absurd (true≢false (sym h))
+
+before_proper : (k : TokenKind) (w : Keyword) (ts : List Token) → may_have k w ≡ true → may_have k (keyword_before w ts) ≡ true
+before_proper k keyword.Minus ts h = minus_is k ts h
+before_proper k _ ts h = h
+
 pub words_proper : (text : List ℕ) (names : Spellings) (ts : List Token) → list_all is_proper (words_from text names ts) ≡ true
 words_proper text names [] = refl
 words_proper text names (t ∷ ts) =
-    and_from _ _ (proper_kind t.kind (spelling text t)) (words_proper text (names_with names t.kind (spelling text t)) ts)
+    and_from _ _ (before_proper t.kind _ ts (proper_kind t.kind (spelling text t))) (words_proper text (names_with names t.kind (spelling text t)) ts)
 
 -- ---- which keywords are those of operators
 
@@ -136,6 +151,10 @@ literal_marks _ e = absurd (true≢false (sym e))
 pub minus_marks : (k : Keyword) → is_minus k ≡ true → is_mark k ≡ true
 minus_marks keyword.Minus e = refl
 minus_marks _ e = absurd (true≢false (sym e))
+
+pub group_marks : (k : Keyword) → begins_group k ≡ true → is_mark k ≡ true
+group_marks keyword.GroupMinus e = refl
+group_marks _ e = absurd (true≢false (sym e))
 
 pub opening_marks : (k : Keyword) → opens_choice k ≡ true → is_mark k ≡ true
 opening_marks keyword.OpenChoice e = refl
@@ -163,6 +182,14 @@ literal_no_pred _ e = absurd (true≢false (sym e))
 pub minus_no_arrow : (k : Keyword) → is_minus k ≡ true → is_arrow k ≡ false
 minus_no_arrow keyword.Minus e = refl
 minus_no_arrow _ e = absurd (true≢false (sym e))
+
+pub group_no_arrow : (k : Keyword) → begins_group k ≡ true → is_arrow k ≡ false
+group_no_arrow keyword.GroupMinus e = refl
+group_no_arrow _ e = absurd (true≢false (sym e))
+
+pub group_no_minus : (k : Keyword) → begins_group k ≡ true → is_minus k ≡ false
+group_no_minus keyword.GroupMinus e = refl
+group_no_minus _ e = absurd (true≢false (sym e))
 
 pub pred_no_opening : (k : Keyword) (p : Pred) → pred_of k ≡ Some p → opens_choice k ≡ false
 pred_no_opening keyword.OpenChoice p e = absurd (cc)

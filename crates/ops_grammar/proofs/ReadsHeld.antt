@@ -1,5 +1,5 @@
 -- Each symbol of what is read is the place of a spelling that is held.
-use Rattle.std.proofs.Common.{◌≡◌, ℕ, ◌+◌, ◌<◌, ◌≤◌, Bool, true, false, not, cond, ◌==◌, ◌&&◌, ◌||◌, List, [], ◌∷◌, ◌++◌, length, map, refl, sym, ap, ◌∙◌, arith, Option, Some, None, Result, Ok, Err, IfSome, nat_lt, length-append, position, slice_get}
+use Rattle.std.proofs.Common.{◌≡◌, ℕ, ◌+◌, ◌<◌, ◌≤◌, Bool, true, false, not, cond, ◌==◌, ◌&&◌, ◌||◌, List, [], ◌∷◌, ◌++◌, length, map, refl, sym, ap, ◌∙◌, arith, Option, Some, None, Result, Ok, Err, IfSome, nat_lt, length-append, position, slice_get, nat_le}
 use Rattle.std.specs.Prelude.{filter, bytes_eq}
 use Rattle.std.specs.List.{list_all}
 use Rattle.std.proofs.lemmas.Bool.{and_parts, and_from, cond_both, lt-ltb, ltb-true}
@@ -14,6 +14,7 @@ use Rattle.ops_base.specs.declared.conditions.Operand.{Operand}
 use Rattle.ops_base.specs.declared.conditions.Operand.TheVariants as operand
 use Rattle.ops_base.specs.declared.conditions.Test.{Test}
 use Rattle.ops_base.specs.declared.conditions.Condition.{Condition}
+use Rattle.ops_base.specs.declared.conditions.Part.TheVariants.{One, Group}
 use Rattle.ops_base.specs.declared.actions.Term.{Term}
 use Rattle.ops_base.specs.declared.actions.Term.TheVariants as term
 use Rattle.ops_base.specs.declared.actions.Put.{Put}
@@ -31,7 +32,7 @@ use Rattle.ops_base.specs.declared.commands.Strategy.{Strategy}
 use Rattle.ops_base.specs.declared.endings.Fault.{Fault}
 use Rattle.ops_base.specs.declared.endings.Fault.TheVariants as fault
 use Rattle.ops_base.specs.Names.{Spellings, only_nil, place_of, with_spelling}
-use Rattle.ops_base.specs.Valid.{longest_list, most_fields, most_conditions, class_of, is_vector, specificity}
+use Rattle.ops_base.specs.Valid.{longest_list, most_fields, most_conditions, class_of, is_vector, specificity, elements_of}
 use Rattle.ops_tokens.specs.declared.token.TokenKind.{TokenKind}
 use Rattle.ops_tokens.specs.declared.token.TokenKind.TheVariants as kind
 use Rattle.ops_tokens.specs.declared.token.LexFault.{LexFault}
@@ -40,10 +41,10 @@ use Rattle.ops_tokens.specs.Tokens.{spelling}
 use Rattle.ops_grammar.specs.declared.words.Word.{Word}
 use Rattle.ops_grammar.specs.declared.words.Keyword.{Keyword}
 use Rattle.ops_grammar.specs.declared.words.Keyword.TheVariants as keyword
-use Rattle.ops_grammar.specs.Words.{lexed, has_name, names_with, word_of, words_from, names_from}
-use Rattle.ops_grammar.specs.Grammar.{Use, Target, Ends, Column, TagUse, NameUse, Waiting, Wanted, State, Step, is_left, is_right, is_left_brace, is_right_brace, is_caret, is_name, is_variable, is_arrow, is_literal, is_minus, opens_choice, closes_choice, pred_of, constant_of, atom_of, value_of, small_of, is_one_of, number_of, may_declare, may_produce, is_class, is_rule, form, class_declared, arranged, has_vector, with_class, is_second, attribute_declared, attributes, with_vector_last, with_vector, makes_second, vector_declared, vector_name, vector_names, class_at, class_name, attributes_of, field_at, attribute, with_test, with_put, with_fixed, with_item, with_bind, with_constant, with_bound, variable_tested, constant_tested, tested, predicated, test, place, tests, with_choice, chosen, choice, atom_at, term_at, bound_at, constant_at, is_of_action, value_for, most_brackets, no_formula, with_formula, completed, unit_bound, unit_at, expression_unit, bracketed, is_compute, operation_of, operation_at, expression_ended, expression_rest, function, source_named, source_cell, source_class, source_at, source_attribute, takes_several, ends_at_inf, source_end, with_action, with_command, with_condition, put_action, fixed_command, with_element, terms, within, one_of_several, with_several, several, rule_name, first_pattern, one_more, more_patterns, patterns, pattern, element_at, element_name, braced, closes_brace, classes_of_cells, with_rule, actions, action_word, cell_of, with_designated, with_modified, bound_name, bound_value, cell_bound, cell_name, cells, items, item_word, column_item, columns_at, ended, closes, count_of, counted, count, strategy_of, strategy_set, strategy_name, tag_at, is_all, tag_or_all, tag_command, tags, shown, named_rule, name_command, named_rules, level_of, level_set, level, forms, step, Outcome, ends, after, goes, nothing_read, InPattern, InPut, InFixed, ToTest, ToPut, ToFixed, ToTerms, ToConstants, ToItem, ToBind, EndsHalt, EndsCrlf, EndsCs, EndsExit, EndsWhole, ToTab, ToRight, ToRemove, ToShow, ToPrint, ToBreak, Forms, Form, ClassDeclared, Attributes, VectorName, VectorNames, RuleName, FirstPattern, Patterns, Pattern, Braced, ElementName, ClosesBrace, ClassName, Terms, Attribute, Several, Place, Tests, Tested, Choice, Atom, ValueFor, Function, ExpressionUnit, ExpressionRest, Bracketed, SourceCell, SourceAttribute, SourceEnd, Actions, ActionWord, Modified, BoundName, BoundValue, CellName, Cell, Cells, Items, ItemWord, Columns, Count, StrategyName, TagOrAll, Tags, Shown, NamedRule, NamedRules, Level, Closes, Next, Refuses}
+use Rattle.ops_grammar.specs.Words.{lexed, has_name, names_with, word_of, words_from, names_from, word_before}
+use Rattle.ops_grammar.specs.Grammar.{Use, Target, Ends, Column, TagUse, NameUse, Waiting, Wanted, State, Step, is_left, is_right, is_left_brace, is_right_brace, is_caret, is_name, is_variable, is_arrow, is_literal, is_minus, opens_choice, closes_choice, pred_of, constant_of, atom_of, value_of, small_of, is_one_of, number_of, may_declare, may_produce, is_class, is_rule, form, class_declared, arranged, has_vector, with_class, is_second, attribute_declared, attributes, with_vector_last, with_vector, makes_second, vector_declared, vector_name, vector_names, class_at, class_name, attributes_of, field_at, attribute, with_test, with_put, with_fixed, with_item, with_bind, with_constant, with_bound, variable_tested, constant_tested, tested, predicated, test, place, tests, with_choice, chosen, choice, atom_at, term_at, bound_at, constant_at, is_of_action, value_for, most_brackets, no_formula, with_formula, completed, unit_bound, unit_at, expression_unit, bracketed, is_compute, operation_of, operation_at, expression_ended, expression_rest, function, source_named, source_cell, source_class, source_at, source_attribute, takes_several, ends_at_inf, source_end, with_action, with_command, with_condition, put_action, fixed_command, with_element, terms, within, one_of_several, with_several, several, rule_name, first_pattern, one_more, more_patterns, patterns, pattern, element_at, element_name, braced, closes_brace, classes_of_cells, with_rule, actions, action_word, cell_of, with_designated, with_modified, bound_name, bound_value, cell_bound, cell_name, cells, items, item_word, column_item, columns_at, ended, closes, count_of, counted, count, strategy_of, strategy_set, strategy_name, tag_at, is_all, tag_or_all, tag_command, tags, shown, named_rule, name_command, named_rules, level_of, level_set, level, forms, step, Outcome, ends, after, goes, nothing_read, InPattern, InPut, InFixed, ToTest, ToPut, ToFixed, ToTerms, ToConstants, ToItem, ToBind, EndsHalt, EndsCrlf, EndsCs, EndsExit, EndsWhole, ToTab, ToRight, ToRemove, ToShow, ToPrint, ToBreak, Forms, Form, ClassDeclared, Attributes, VectorName, VectorNames, RuleName, FirstPattern, Patterns, Pattern, Braced, ElementName, ClosesBrace, ClassName, Terms, Attribute, Several, Place, Tests, Tested, Choice, Atom, ValueFor, Function, ExpressionUnit, ExpressionRest, Bracketed, SourceCell, SourceAttribute, SourceEnd, Actions, ActionWord, Modified, BoundName, BoundValue, CellName, Cell, Cells, Items, ItemWord, Columns, Count, StrategyName, TagOrAll, Tags, Shown, NamedRule, NamedRules, Level, Closes, Next, Refuses, begins_group, GroupBrace, Members, members, group, with_group, with_member, with_one, has_room}
 use Rattle.ops_grammar.specs.Reads.{Read, Placed, verdict, read_lexed, reads}
-use Rattle.ops_base.specs.Symbols.{symbol_held, value_held, class_held, operand_held, condition_held, term_held, put_held, item_held, action_held, rule_held, fixed_held, command_held, is_held}
+use Rattle.ops_base.specs.Symbols.{symbol_held, value_held, class_held, operand_held, part_held, condition_held, term_held, put_held, item_held, action_held, rule_held, fixed_held, command_held, is_held}
 use Rattle.ops_grammar.proofs.Lists.{all_push}
 
 -- ---- lists
@@ -77,7 +78,8 @@ pub record AreHeld (n : ℕ) (s : State) : Type 0 where
   pub puts : list_all (put_held n) s.puts ≡ true
   pub fixed : list_all (fixed_held n) s.fixed ≡ true
   pub items : list_all (item_held n) s.items ≡ true
-  pub conditions : list_all (condition_held n) s.conditions ≡ true
+  pub conditions : list_all (part_held n) s.conditions ≡ true
+  pub members : list_all (condition_held n) s.members ≡ true
   pub actions : list_all (action_held n) s.actions ≡ true
   pub named : list_all (symbol_held n) s.named ≡ true
 
@@ -151,10 +153,21 @@ module _ (n : ℕ) where
 
   -- ---- conditions, elements and rules
 
-  condition_kept : (s : State) → AreHeld n s → AreHeld n (with_condition s)
-  condition_kept s h =
+  group_kept : (s : State) → AreHeld n s → AreHeld n (with_group s)
+  group_kept s h = assumption (refl, all_push (part_held n) s.conditions (Group s.members) h.conditions h.members)
+
+  member_kept : (s : State) → AreHeld n s → AreHeld n (with_member s)
+  member_kept s h =
+      let one : Condition = record { class = s.class; negated = false; tests = s.tests } in
+      assumption (refl, all_push (condition_held n) s.members one h.members h.tests)
+
+  one_kept : (s : State) → AreHeld n s → AreHeld n (with_one s)
+  one_kept s h =
       let one : Condition = record { class = s.class; negated = s.negated; tests = s.tests } in
-      assumption (refl, all_push (condition_held n) s.conditions one h.conditions h.tests)
+      assumption (refl, all_push (part_held n) s.conditions (One one) h.conditions h.tests)
+
+  condition_kept : (s : State) → AreHeld n s → AreHeld n (with_condition s)
+  condition_kept s h = cond_both s.grouped _ _ (AreHeld n) (λ _. member_kept s h) (λ _. one_kept s h)
 
   put_action_held : (o : Option ℕ) (class : ℕ) (puts : List Put) → list_all (put_held n) puts ≡ true → action_held n (put_action o class puts) ≡ true
   put_action_held None class puts h = h
@@ -446,16 +459,25 @@ module _ (n : ℕ) (w : Word) (named : symbol_held n w.name ≡ true) where
   first_pattern_keeps : (ws : List Wanted) (s : State) → AreHeld n s → Keeps n (first_pattern w ws s)
   first_pattern_keeps ws s h =
       cond_both (is_left w.kind) _ _ (Keeps n) (λ _. h)
-      (λ _. cond_both (is_left_brace w.kind) _ _ (Keeps n) (λ _. h) (λ _. cond_both (is_minus w.keyword) _ _ (Keeps n) (λ _. tt) (λ _. tt)))
+      (λ _. cond_both (is_left_brace w.kind) _ _ (Keeps n) (λ _. h) (λ _. cond_both (is_minus w.keyword || begins_group w.keyword) _ _ (Keeps n) (λ _. tt) (λ _. tt)))
 
   one_more_keeps : (ws : List Wanted) (s : State) → AreHeld n s → Keeps n (one_more ws s)
-  one_more_keeps ws s h = cond_both (nat_lt (length s.conditions) most_conditions) _ _ (Keeps n) (λ _. h) (λ _. tt)
+  one_more_keeps ws s h = cond_both (nat_lt (length (elements_of s.conditions)) most_conditions) _ _ (Keeps n) (λ _. h) (λ _. tt)
 
   more_patterns_keeps : (ws : List Wanted) (s : State) → AreHeld n s → Keeps n (more_patterns w ws s)
   more_patterns_keeps ws s h =
       cond_both (is_left w.kind) _ _ (Keeps n) (λ _. one_more_keeps (ClassName ∷ Terms InPattern ∷ ws) s h)
       (λ _. cond_both (is_left_brace w.kind) _ _ (Keeps n) (λ _. one_more_keeps (Braced ∷ ws) s h)
-      (λ _. cond_both (is_minus w.keyword) _ _ (Keeps n) (λ _. one_more_keeps (Pattern ∷ ws) (record s { negated = true; around = length s.values }) (assumption h)) (λ _. tt)))
+      (λ _. cond_both (is_minus w.keyword) _ _ (Keeps n) (λ _. one_more_keeps (Pattern ∷ ws) (record s { negated = true; around = length s.values }) (assumption h))
+      (λ _. cond_both (begins_group w.keyword) _ _ (Keeps n) (λ _. h) (λ _. tt))))
+
+  members_keeps : (m : ℕ) (ws : List Wanted) (s : State) → AreHeld n s → Keeps n (members m w ws s)
+  members_keeps m ws s h =
+      cond_both (is_right_brace w.kind && nat_le 2 m) _ _ (Keeps n) (λ _. let more = group_kept n s h in assumption (refl, more))
+      (λ _. cond_both (is_left w.kind) _ _ (Keeps n) (λ _. cond_both (has_room s) _ _ (Keeps n) (λ _. h) (λ _. tt)) (λ _. tt))
+
+  group_keeps : (ws : List Wanted) (s : State) → AreHeld n s → Keeps n (group w ws s)
+  group_keeps ws s h = cond_both (is_left_brace w.kind) _ _ (Keeps n) (λ _. assumption (refl, h)) (λ _. tt)
 
   patterns_keeps : (ws : List Wanted) (s : State) → AreHeld n s → Keeps n (patterns w ws s)
   patterns_keeps ws s h = cond_both (is_arrow w.keyword) _ _ (Keeps n) (λ _. assumption (refl, h)) (λ _. more_patterns_keeps (Patterns ∷ ws) s h)
@@ -631,6 +653,8 @@ module _ (n : ℕ) (w : Word) (named : symbol_held n w.name ≡ true) where
   step_keeps (RuleName ∷ ws) s h = rule_name_keeps ws s h
   step_keeps (FirstPattern ∷ ws) s h = first_pattern_keeps ws s h
   step_keeps (Patterns ∷ ws) s h = patterns_keeps ws s h
+  step_keeps (GroupBrace ∷ ws) s h = group_keeps ws s h
+  step_keeps (Members m ∷ ws) s h = members_keeps m ws s h
   step_keeps (Pattern ∷ ws) s h = pattern_keeps ws s h
   step_keeps (Braced ∷ ws) s h = braced_keeps ws s h
   step_keeps (ElementName ∷ ws) s h = element_name_keeps ws s h
@@ -724,7 +748,7 @@ unfolding goes
 goes_held source names [] n ws s some le h = ends_held n ws s h
 goes_held source names (t ∷ ts) n ws s some le h =
     let names' = names_with names t.kind (spelling source t) in
-    let w = word_of names t (spelling source t) in
+    let w = word_before (word_of names t (spelling source t)) ts in
     let lt : w.name.0 < length names'.held = name_held names (has_name t.kind) (spelling source t) some in
     let grown = names_grow names t.kind (spelling source t) in
     let others = names_grow_on source names' ts in

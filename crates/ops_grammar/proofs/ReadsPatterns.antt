@@ -11,13 +11,14 @@ use Rattle.ops_base.specs.declared.conditions.Operand.{Operand}
 use Rattle.ops_base.specs.declared.conditions.Operand.TheVariants as operand
 use Rattle.ops_base.specs.declared.conditions.Test.{Test}
 use Rattle.ops_base.specs.declared.conditions.Condition.{Condition}
+use Rattle.ops_base.specs.declared.conditions.Part.TheVariants.{One}
 use Rattle.ops_base.specs.Valid.{most_fields, class_is_valid, class_of, is_attribute, is_vector, is_field, is_in}
 use Rattle.ops_grammar.specs.declared.words.Word.{Word}
 use Rattle.ops_grammar.specs.declared.words.Named.{Named}
 use Rattle.ops_grammar.specs.declared.words.Keyword.{Keyword}
 use Rattle.ops_grammar.specs.declared.words.Keyword.TheVariants as keyword
 use Rattle.ops_grammar.specs.Grammar.{InPattern, Wanted, ClassName, Terms, Several, Place, Tests, Tested, Choice, State, Next, number_of, with_test, variable_tested, with_choice, with_condition, step, after, goes}
-use Rattle.ops_grammar.specs.Spelling.{Numbered, closing, spelled_name, spelled_value, spelled_variable, spelled_each, spelled_operator, keyword_of_pred, spelled_operand, opening_brace, closing_brace, untested, last_field, attribute_of, spelled_attribute, spelled_test, spelled_pattern, operand_is_plain, test_is_plain, after_test, tests_are_plain, after_tests, after_condition, condition_is_plain}
+use Rattle.ops_grammar.specs.Spelling.{Numbered, closing, spelled_name, spelled_value, spelled_variable, spelled_each, spelled_operator, keyword_of_pred, spelled_operand, opening_brace, closing_brace, untested, last_field, attribute_of, spelled_attribute, spelled_test, spelled_pattern, operand_is_plain, test_is_plain, after_test, tests_are_plain, after_tests, after_condition, condition_is_plain, after_members}
 use Rattle.ops_grammar.proofs.Places.{numbered, numbered-push, number_out, number_there}
 use Rattle.ops_grammar.proofs.Numbering.{are_given, next_apart, after_test-given, sight_prefix}
 use Rattle.ops_grammar.proofs.ReadsBack.{by_word, class_parts}
@@ -253,25 +254,56 @@ around_kept k tests =
 
 -- after a pattern, positive or negated
 behind_pattern : (b : Bool) (class : ℕ) (tests : List Test) (k : Numbered) (s : State) → (b ≡ true → s.around ≡ length (numbered k.sight))
-    → with_condition (tests_at (record s { class = class; negated = b }) (after_tests k tests) tests)
-    ≡ record (tests_at s (after_condition k (record { class = class; negated = b; tests = tests })) []) { class = class; negated = false; conditions = s.conditions ++ record { class = class; negated = b; tests = tests } ∷ [] }
+    → with_condition (tests_at (record s { class = class; negated = b; grouped = false }) (after_tests k tests) tests)
+    ≡ record (tests_at s (after_condition k (record { class = class; negated = b; tests = tests })) []) { class = class; negated = false; grouped = false; conditions = s.conditions ++ One (record { class = class; negated = b; tests = tests }) ∷ [] }
 behind_pattern false class tests k s around = refl
 behind_pattern true class tests k s around =
-    ap (λ (vs : List Named). record (tests_at s (after_tests k tests) []) { class = class; negated = false; values = vs; conditions = s.conditions ++ record { class = class; negated = true; tests = tests } ∷ [] })
+    ap (λ (vs : List Named). record (tests_at s (after_tests k tests) []) { class = class; negated = false; grouped = false; values = vs; conditions = s.conditions ++ One (record { class = class; negated = true; tests = tests }) ∷ [] })
     (ap (λ (n : ℕ). take n (numbered (after_tests k tests).sight)) (around refl) ∙ around_kept k tests)
 
 -- A pattern is read back.
 pub pattern-read : (c : Condition) (k : Numbered) (more : List Word) (ws : List Wanted) (s : State) → AreNamed s.classes → are_given k ≡ true → (c.negated ≡ true → s.around ≡ length (numbered k.sight)) → condition_is_plain s.classes k c ≡ true
-    → goes (spelled_pattern (class_of s.classes c.class) c.tests ++ more) (ClassName ∷ Terms InPattern ∷ ws) (tests_at (record s { negated = c.negated }) k []) ≡ goes more ws (record (tests_at s (after_condition k c) []) { class = c.class; negated = false; conditions = s.conditions ++ c ∷ [] })
+    → goes (spelled_pattern (class_of s.classes c.class) c.tests ++ more) (ClassName ∷ Terms InPattern ∷ ws) (tests_at (record s { negated = c.negated; grouped = false }) k []) ≡ goes more ws (record (tests_at s (after_condition k c) []) { class = c.class; negated = false; grouped = false; conditions = s.conditions ++ One c ∷ [] })
 pattern-read c k more ws s names given around plain =
     let d = class_of s.classes c.class in
     let parts = and_parts (nat_lt c.class (length s.classes)) (tests_are_plain d k c.tests) plain in
     let lt : c.class < length s.classes = ltb-true _ _ parts.0 in
-    let begun : State = record s { negated = c.negated } in
-    let named : State = record s { class = c.class; negated = c.negated } in
+    let begun : State = record s { negated = c.negated; grouped = false } in
+    let named : State = record s { class = c.class; negated = c.negated; grouped = false } in
     let body = spelled_each (spelled_test d) c.tests in
     by_word (spelled_name d.name) (body ++ closing ∷ [] ++ more) (ClassName ∷ Terms InPattern ∷ ws) (Terms InPattern ∷ ws) (tests_at begun k []) (tests_at named k []) (class_step c.class (Terms InPattern ∷ ws) (tests_at begun k []) names lt)
     ∙ ap (λ (x : List Word). goes x (Terms InPattern ∷ ws) (tests_at named k [])) (append_assoc body (closing ∷ []) more)
     ∙ tests-read c.tests k [] (closing ∷ more) ws named names lt given refl parts.1
     ∙ element_closed InPattern more ws (tests_at named (after_tests k c.tests) c.tests)
     ∙ ap (goes more ws) (behind_pattern c.negated c.class c.tests k s around)
+
+-- what is in sight around a group stands in front
+members_prefix : (cs : List Condition) (k : Numbered) → (more : List ℕ) × ((after_members k cs).sight ≡ k.sight ++ more)
+members_prefix [] k = ([], sym (append-nil k.sight))
+members_prefix (c ∷ cs) k =
+    let here = sight_prefix c.tests k in
+    let rest = members_prefix cs (after_tests k c.tests) in
+    (here.0 ++ rest.0, rest.1 ∙ ap (λ (ns : List ℕ). ns ++ rest.0) here.1 ∙ append_assoc k.sight here.0 rest.0)
+
+pub around_members : (k : Numbered) (cs : List Condition) → take (length (numbered k.sight)) (numbered (after_members k cs).sight) ≡ numbered k.sight
+around_members k cs =
+    let more = members_prefix cs k in
+    ap (λ (ns : List ℕ). take (length (numbered k.sight)) (numbered ns)) more.1
+    ∙ ap (take (length (numbered k.sight))) (map-append (λ n. record { name = record { 0 = n }; number = n }) k.sight more.0)
+    ∙ take_at (numbered k.sight) (numbered more.0) (length (numbered k.sight)) refl
+
+-- A member of a group is read back.
+pub member-read : (class : ℕ) (tests : List Test) (k : Numbered) (more : List Word) (ws : List Wanted) (s : State) → AreNamed s.classes → are_given k ≡ true → condition_is_plain s.classes k (record { class = class; negated = false; tests = tests }) ≡ true
+    → goes (spelled_pattern (class_of s.classes class) tests ++ more) (ClassName ∷ Terms InPattern ∷ ws) (tests_at (record s { grouped = true }) k [])
+    ≡ goes more ws (record (tests_at s (after_tests k tests) []) { class = class; grouped = true; members = s.members ++ record { class = class; negated = false; tests = tests } ∷ [] })
+member-read class tests k more ws s names given plain =
+    let d = class_of s.classes class in
+    let parts = and_parts (nat_lt class (length s.classes)) (tests_are_plain d k tests) plain in
+    let lt : class < length s.classes = ltb-true _ _ parts.0 in
+    let begun : State = record s { grouped = true } in
+    let named : State = record s { class = class; grouped = true } in
+    let body = spelled_each (spelled_test d) tests in
+    by_word (spelled_name d.name) (body ++ closing ∷ [] ++ more) (ClassName ∷ Terms InPattern ∷ ws) (Terms InPattern ∷ ws) (tests_at begun k []) (tests_at named k []) (class_step class (Terms InPattern ∷ ws) (tests_at begun k []) names lt)
+    ∙ ap (λ (x : List Word). goes x (Terms InPattern ∷ ws) (tests_at named k [])) (append_assoc body (closing ∷ []) more)
+    ∙ tests-read tests k [] (closing ∷ more) ws named names lt given refl parts.1
+    ∙ element_closed InPattern more ws (tests_at named (after_tests k tests) tests)

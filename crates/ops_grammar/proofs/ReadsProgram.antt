@@ -6,11 +6,12 @@ use Rattle.std.proofs.lemmas.Bool.{and_parts, or_left, or_right, ltb-true, leb-t
 use Rattle.std.proofs.lemmas.List.Folds.{list_any-append}
 use Rattle.ops_base.specs.declared.values.Sym.{Sym}
 use Rattle.ops_base.specs.declared.elements.Class.{Class}
-use Rattle.ops_base.specs.declared.conditions.Condition.{Condition}
+use Rattle.ops_base.specs.declared.conditions.Part.{Part}
+use Rattle.ops_base.specs.declared.conditions.Part.TheVariants.{One, Group}
 use Rattle.ops_base.specs.declared.rules.Rule.{Rule}
 use Rattle.ops_base.specs.declared.commands.Command.{Command}
 use Rattle.ops_base.specs.declared.commands.Command.TheVariants as command
-use Rattle.ops_base.specs.Valid.{most_conditions, are_distinct, class_of, class_is_valid, first_is_positive, is_natural, cells_of, specificity, fixed_is_valid}
+use Rattle.ops_base.specs.Valid.{most_conditions, are_distinct, class_of, class_is_valid, first_is_positive, is_natural, cells_of, specificity, fixed_is_valid, elements_of}
 use Rattle.ops_grammar.specs.declared.words.Word.{Word}
 use Rattle.ops_grammar.specs.declared.words.Named.{Named}
 use Rattle.ops_grammar.specs.declared.words.Keyword.TheVariants as keyword
@@ -62,6 +63,8 @@ idle rest classes rules commands =
       variables = rest.variables;
       negated = false;
       around = 0;
+      grouped = false;
+      members = [];
       conditions = [];
       actions = [];
       modified = None;
@@ -119,18 +122,19 @@ module _ (classes : List Class) (rules : List Rule) (more : List Word) (ws : Lis
   abbrev begun : Rest → Rule → State
   begun rest r = record (left_begun (idle rest classes rules [])) { first = r.first; name = r.name }
 
-  left_read : (r : Rule) (rest : Rest) (cs : List Condition) (words : List Word) → first_is_positive cs ≡ true → length cs ≤ most_conditions → conditions_are_plain classes nothing_numbered cs ≡ true
+  left_read : (r : Rule) (rest : Rest) (cs : List Part) (words : List Word) → first_is_positive cs ≡ true → length (elements_of cs) ≤ most_conditions → conditions_are_plain classes nothing_numbered cs ≡ true
       → goes (spelled_conditions classes 0 cs ++ words) (FirstPattern ∷ Patterns ∷ Actions ∷ Forms ∷ ws) (begun rest r)
       ≡ goes words (Patterns ∷ Actions ∷ Forms ∷ ws) (matched (begun rest r) (left_behind at_rule nothing_numbered cs) (after_conditions nothing_numbered cs) cs)
   left_read r rest [] words positive few plain = absurd (true≢false (sym positive))
-  left_read r rest (c ∷ cs) words positive few plain =
+  left_read r rest (Group ms ∷ cs) words positive few plain = absurd (true≢false (sym positive))
+  left_read r rest (One c ∷ cs) words positive few plain =
       let each = and_parts (condition_is_plain classes nothing_numbered c) (conditions_are_plain classes (after_condition nothing_numbered c) cs) plain in
       let after : Left = left_after at_rule nothing_numbered c in
       let others = spelled_conditions classes after.cell cs in
       let wanted : List Wanted = Patterns ∷ Actions ∷ Forms ∷ ws in
       ap (λ (x : List Word). goes x (FirstPattern ∷ wanted) (begun rest r)) (append_assoc (spelled_condition classes 0 c) others words)
       ∙ first-read c.class c.tests (others ++ words) wanted (begun rest r) at_rule nothing_numbered [] names refl c.negated (not-true _ positive) refl each.0
-      ∙ conditions-read cs words (Actions ∷ Forms ∷ ws) (begun rest r) after (after_condition nothing_numbered c) (c ∷ []) names (after_condition-given nothing_numbered c refl) (cells_behind (c ∷ []) at_rule nothing_numbered [] refl) few each.1
+      ∙ conditions-read cs words (Actions ∷ Forms ∷ ws) (begun rest r) after (after_condition nothing_numbered c) (One c ∷ []) names (after_condition-given nothing_numbered c refl) (cells_behind (One c ∷ []) at_rule nothing_numbered [] refl) few each.1
 
   abbrev whole : Rule → Rest → ℕ → ℕ → ℕ → Outcome
   whole r rest v p c = goes more (Forms ∷ ws) (idle (after_rule rest r) classes (rules ++ record { name = r.name; conditions = r.conditions; actions = r.actions; specificity = p; variables = v; cells = c; first = r.first; past = r.past } ∷ []) [])
@@ -149,7 +153,7 @@ module _ (classes : List Class) (rules : List Rule) (more : List Word) (ws : Lis
       let p3 = and_parts _ (r.variables == to.variables.given) p2.0 in
       let p4 = and_parts _ (actions_are_plain classes from r.actions) p3.0 in
       let p5 = and_parts _ (conditions_are_plain classes nothing_numbered r.conditions) p4.0 in
-      let p6 = and_parts (first_is_positive r.conditions) (nat_le (length r.conditions) most_conditions) p5.0 in
+      let p6 = and_parts (first_is_positive r.conditions) (nat_le (length (elements_of r.conditions)) most_conditions) p5.0 in
       let left = spelled_conditions classes 0 r.conditions in
       let right = spelled_actions classes from r.actions in
       let end : Word = record closing { past = r.past } in

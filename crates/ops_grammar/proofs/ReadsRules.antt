@@ -1,21 +1,24 @@
 -- What is spelled of the left side of a production is read back.
-use Rattle.std.proofs.Common.{◌≡◌, ℕ, suc, ◌-◌, ◌<◌, ◌≤◌, Bool, true, false, List, [], ◌∷◌, ◌++◌, length, refl, sym, ap, subst, ◌∙◌, arith, Option, append-nil, append_assoc, length-append, true≢false}
+use Rattle.std.proofs.Common.{◌≡◌, ℕ, suc, ◌-◌, ◌<◌, ◌≤◌, Bool, true, false, List, [], ◌∷◌, ◌++◌, length, refl, sym, ap, subst, ◌∙◌, arith, Option, append-nil, append_assoc, length-append, true≢false, nat_le, not, ◌&&◌, ◌+◌}
 use Rattle.std.specs.Prelude.{if◌then◌else◌}
-use Rattle.std.proofs.lemmas.Bool.{and_parts, lt-ltb}
+use Rattle.std.proofs.lemmas.Bool.{and_parts, lt-ltb, le-leb, leb-true, not-true}
 use Rattle.ops_base.specs.declared.values.Sym.{Sym}
 use Rattle.ops_base.specs.declared.conditions.Test.{Test}
 use Rattle.ops_base.specs.declared.conditions.Condition.{Condition}
-use Rattle.ops_base.specs.Valid.{most_conditions, class_of, cells_of}
+use Rattle.ops_base.specs.declared.conditions.Part.{Part}
+use Rattle.ops_base.specs.declared.conditions.Part.TheVariants.{One, Group}
+use Rattle.ops_base.specs.Valid.{most_conditions, class_of, cells_of, elements_of}
 use Rattle.ops_grammar.specs.declared.words.Word.{Word}
 use Rattle.ops_grammar.specs.declared.words.Named.{Named}
 use Rattle.ops_grammar.specs.declared.words.Keyword.TheVariants as keyword
-use Rattle.ops_grammar.specs.Grammar.{InPattern, Wanted, FirstPattern, Patterns, Pattern, Braced, ClosesBrace, ClassName, Terms, State, Outcome, number_of, element_at, with_bound_element, step, goes}
-use Rattle.ops_grammar.specs.Spelling.{Numbered, opening, opening_brace, closing_brace, spelled_operator, spelled_variable, spelled_pattern, spelled_condition, spelled_conditions, after_condition, condition_is_plain, conditions_are_plain, after_conditions}
+use Rattle.ops_grammar.specs.Grammar.{InPattern, Wanted, FirstPattern, Patterns, Pattern, Braced, ClosesBrace, ClassName, Terms, State, Outcome, number_of, element_at, with_bound_element, step, goes, Members, group_begun, with_group}
+use Rattle.ops_grammar.specs.Spelling.{Numbered, opening, opening_brace, closing_brace, spelled_operator, spelled_variable, spelled_pattern, spelled_condition, spelled_conditions, after_condition, condition_is_plain, conditions_are_plain, after_part, after_conditions, spelled_group, spelled_each, members_are_plain, after_members, after_tests, part_is_plain}
 use Rattle.ops_grammar.proofs.Places.{numbered, numbered-push, number_out}
-use Rattle.ops_grammar.proofs.Numbering.{are_given, after_condition-given, below, below_apart, cells-append}
+use Rattle.ops_grammar.proofs.Numbering.{are_given, after_condition-given, below, below_apart, cells-append, after_group-given, after_tests-given}
+use Rattle.ops_grammar.proofs.Parts.{elements-append}
 use Rattle.ops_grammar.proofs.ReadsBack.{by_word}
 use Rattle.ops_grammar.proofs.ReadsFacts.{AreNamed}
-use Rattle.ops_grammar.proofs.ReadsPatterns.{pattern-read}
+use Rattle.ops_grammar.proofs.ReadsPatterns.{pattern-read, member-read, around_members}
 
 -- ---- conditions
 
@@ -35,12 +38,21 @@ left_after l k c =
       cell = if c.negated then l.cell else suc l.cell;
     }
 
-abbrev pub left_behind : Left → Numbered → List Condition → Left
+-- the class of the last of some members
+abbrev pub class_behind : ℕ → List Condition → ℕ
+class_behind class [] = class
+class_behind class (c ∷ cs) = class_behind c.class cs
+
+abbrev pub left_past : Left → Numbered → Part → Left
+left_past l k (One c) = left_after l k c
+left_past l k (Group cs) = record { class = class_behind l.class cs; around = length (numbered k.sight); element = l.element; cell = l.cell }
+
+abbrev pub left_behind : Left → Numbered → List Part → Left
 left_behind l k [] = l
-left_behind l k (c ∷ cs) = left_behind (left_after l k c) (after_condition k c) cs
+left_behind l k (p ∷ ps) = left_behind (left_past l k p) (after_part k p) ps
 
 -- after these conditions
-abbrev pub matched : State → Left → Numbered → List Condition → State
+abbrev pub matched : State → Left → Numbered → List Part → State
 matched s l k done =
     record s {
       class = l.class;
@@ -50,6 +62,8 @@ matched s l k done =
       element = l.element;
       negated = false;
       around = l.around;
+      grouped = false;
+      members = [];
       tests = [];
       choice = [];
       terms = [];
@@ -58,29 +72,33 @@ matched s l k done =
     }
 
 -- one more condition has a cell where it is positive
-cells_count : (b : Bool) (class : ℕ) (tests : List Test) (done : List Condition) (cell : ℕ) → length (cells_of done) ≡ cell → length (cells_of (done ++ record { class = class; negated = b; tests = tests } ∷ [])) ≡ (if b then cell else suc cell)
+cells_count : (b : Bool) (class : ℕ) (tests : List Test) (done : List Part) (cell : ℕ) → length (cells_of done) ≡ cell → length (cells_of (done ++ One (record { class = class; negated = b; tests = tests }) ∷ [])) ≡ (if b then cell else suc cell)
 cells_count true class tests done cell e =
-    ap (λ (xs : List ℕ). length xs) (cells-append done (record { class = class; negated = true; tests = tests } ∷ []) ∙ append-nil (cells_of done)) ∙ e
+    ap (λ (xs : List ℕ). length xs) (cells-append done (One (record { class = class; negated = true; tests = tests }) ∷ []) ∙ append-nil (cells_of done)) ∙ e
 cells_count false class tests done cell e =
-    let all = ap (λ (xs : List ℕ). length xs) (cells-append done (record { class = class; negated = false; tests = tests } ∷ [])) in
+    let all = ap (λ (xs : List ℕ). length xs) (cells-append done (One (record { class = class; negated = false; tests = tests }) ∷ [])) in
     let sum = length-append (cells_of done) (class ∷ []) in omega (arith, all, sum, e)
 
-pub cells_behind : (cs : List Condition) (l : Left) (k : Numbered) (done : List Condition) → length (cells_of done) ≡ l.cell → length (cells_of (done ++ cs)) ≡ (left_behind l k cs).cell
-cells_behind [] l k done e = ap (λ (xs : List Condition). length (cells_of xs)) (append-nil done) ∙ e
-cells_behind (c ∷ cs) l k done e =
-    ap (λ (xs : List Condition). length (cells_of xs)) (sym (append_assoc done (c ∷ []) cs))
-    ∙ cells_behind cs (left_after l k c) (after_condition k c) (done ++ c ∷ []) (cells_count c.negated c.class c.tests done l.cell e)
+pub cells_behind : (cs : List Part) (l : Left) (k : Numbered) (done : List Part) → length (cells_of done) ≡ l.cell → length (cells_of (done ++ cs)) ≡ (left_behind l k cs).cell
+cells_behind [] l k done e = ap (λ (xs : List Part). length (cells_of xs)) (append-nil done) ∙ e
+cells_behind (Group ms ∷ cs) l k done e =
+    ap (λ (xs : List Part). length (cells_of xs)) (sym (append_assoc done (Group ms ∷ []) cs))
+    ∙ cells_behind cs (left_past l k (Group ms)) (after_part k (Group ms)) (done ++ Group ms ∷ [])
+    (ap (λ (xs : List ℕ). length xs) (cells-append done (Group ms ∷ []) ∙ append-nil (cells_of done)) ∙ e)
+cells_behind (One c ∷ cs) l k done e =
+    ap (λ (xs : List Part). length (cells_of xs)) (sym (append_assoc done (One c ∷ []) cs))
+    ∙ cells_behind cs (left_after l k c) (after_condition k c) (done ++ One c ∷ []) (cells_count c.negated c.class c.tests done l.cell e)
 
 module _ (words : List Word) (ws : List Wanted) (s : State) where
   first_begun : goes (opening_brace ∷ words) (FirstPattern ∷ ws) s ≡ goes words (Braced ∷ ws) s
   unfolding goes step
   first_begun = refl
 
-  braced_begun : length s.conditions < most_conditions → goes (opening_brace ∷ words) (Patterns ∷ ws) s ≡ goes words (Braced ∷ Patterns ∷ ws) s
+  braced_begun : length (elements_of s.conditions) < most_conditions → goes (opening_brace ∷ words) (Patterns ∷ ws) s ≡ goes words (Braced ∷ Patterns ∷ ws) s
   unfolding goes step
   braced_begun lt = rw (lt-ltb _ _ lt) refl
 
-  negated_begun : length s.conditions < most_conditions
+  negated_begun : length (elements_of s.conditions) < most_conditions
       → goes (spelled_operator keyword.Minus ∷ opening ∷ words) (Patterns ∷ ws) s ≡ goes words (ClassName ∷ Terms InPattern ∷ Patterns ∷ ws) (record s { negated = true; around = length s.values })
   unfolding goes step
   negated_begun lt = rw (lt-ltb _ _ lt) refl
@@ -117,25 +135,25 @@ name_bound n words ws s from named e count led =
     ∙ ap (λ (ns : List Named). goes words ws (record s { elements = ns ++ record { name = record { 0 = n }; number = n } ∷ [] })) e
     ∙ ap (λ (ns : List Named). goes words ws (record s { elements = ns })) (sym (numbered-push (below n) n))
 
-module _ (class : ℕ) (tests : List Test) (more : List Word) (ws : List Wanted) (s : State) (l : Left) (k : Numbered) (done : List Condition) (names : AreNamed s.classes) (given : are_given k ≡ true) where
-  negated_read : length done < most_conditions → condition_is_plain s.classes k (record { class = class; negated = true; tests = tests }) ≡ true
+module _ (class : ℕ) (tests : List Test) (more : List Word) (ws : List Wanted) (s : State) (l : Left) (k : Numbered) (done : List Part) (names : AreNamed s.classes) (given : are_given k ≡ true) where
+  negated_read : length (elements_of done) < most_conditions → condition_is_plain s.classes k (record { class = class; negated = true; tests = tests }) ≡ true
       → goes (spelled_operator keyword.Minus ∷ opening ∷ spelled_pattern (class_of s.classes class) tests ++ more) (Patterns ∷ ws) (matched s l k done)
-      ≡ goes more (Patterns ∷ ws) (matched s (left_after l k (record { class = class; negated = true; tests = tests })) (after_condition k (record { class = class; negated = true; tests = tests })) (done ++ record { class = class; negated = true; tests = tests } ∷ []))
+      ≡ goes more (Patterns ∷ ws) (matched s (left_after l k (record { class = class; negated = true; tests = tests })) (after_condition k (record { class = class; negated = true; tests = tests })) (done ++ One (record { class = class; negated = true; tests = tests }) ∷ []))
   negated_read few plain =
       let c : Condition = record { class = class; negated = true; tests = tests } in
-      ◌∙◌ {c = goes more (Patterns ∷ ws) (matched s (left_after l k c) (after_condition k c) (done ++ c ∷ []))} (negated_begun (spelled_pattern (class_of s.classes class) tests ++ more) ws (matched s l k done) few)
+      ◌∙◌ {c = goes more (Patterns ∷ ws) (matched s (left_after l k c) (after_condition k c) (done ++ One c ∷ []))} (negated_begun (spelled_pattern (class_of s.classes class) tests ++ more) ws (matched s l k done) few)
       (pattern-read c k more (Patterns ∷ ws) (record (matched s l k done) { around = length (numbered k.sight) }) names given (λ _. refl) plain)
 
   -- the element variable has the next cell
   braced_read : length (cells_of done) ≡ l.cell → condition_is_plain s.classes k (record { class = class; negated = false; tests = tests }) ≡ true
       → goes (spelled_variable l.cell ∷ opening ∷ spelled_pattern (class_of s.classes class) tests ++ closing_brace ∷ more) (Braced ∷ ws) (matched s l k done)
-      ≡ goes more ws (matched s (left_after l k (record { class = class; negated = false; tests = tests })) (after_condition k (record { class = class; negated = false; tests = tests })) (done ++ record { class = class; negated = false; tests = tests } ∷ []))
+      ≡ goes more ws (matched s (left_after l k (record { class = class; negated = false; tests = tests })) (after_condition k (record { class = class; negated = false; tests = tests })) (done ++ One (record { class = class; negated = false; tests = tests }) ∷ []))
   braced_read cells plain =
       let c : Condition = record { class = class; negated = false; tests = tests } in
       let body = spelled_pattern (class_of s.classes class) tests in
       let named : State = record (matched s l k done) { element = record { 0 = l.cell } } in
-      let count : length (cells_of (done ++ c ∷ [])) ≡ suc l.cell = cells_count false class tests done l.cell cells in
-      let end : State = matched s (left_after l k c) (after_condition k c) (done ++ c ∷ []) in
+      let count : length (cells_of (done ++ One c ∷ [])) ≡ suc l.cell = cells_count false class tests done l.cell cells in
+      let end : State = matched s (left_after l k c) (after_condition k c) (done ++ One c ∷ []) in
       ◌∙◌ {c = goes more ws end} (name_read l.cell (body ++ closing_brace ∷ more) ws (matched s l k done) refl) (
       name_bound l.cell more ws (record end { elements = numbered (below l.cell) }) (goes (body ++ closing_brace ∷ more) (ClassName ∷ Terms InPattern ∷ ClosesBrace ∷ ws) named) refl refl count
       (pattern-read c k (closing_brace ∷ more) (ClosesBrace ∷ ws) named names given (λ e. absurd (true≢false (sym e))) plain)
@@ -144,7 +162,7 @@ module _ (class : ℕ) (tests : List Test) (more : List Word) (ws : List Wanted)
   -- The first condition is read back.
   pub first-read : (b : Bool) → b ≡ false → length (cells_of done) ≡ l.cell → condition_is_plain s.classes k (record { class = class; negated = b; tests = tests }) ≡ true
       → goes (spelled_condition s.classes l.cell (record { class = class; negated = b; tests = tests }) ++ more) (FirstPattern ∷ ws) (matched s l k done)
-      ≡ goes more ws (matched s (left_after l k (record { class = class; negated = b; tests = tests })) (after_condition k (record { class = class; negated = b; tests = tests })) (done ++ record { class = class; negated = b; tests = tests } ∷ []))
+      ≡ goes more ws (matched s (left_after l k (record { class = class; negated = b; tests = tests })) (after_condition k (record { class = class; negated = b; tests = tests })) (done ++ One (record { class = class; negated = b; tests = tests }) ∷ []))
   first-read true positive cells plain = absurd (true≢false positive)
   first-read false positive cells plain =
       let body = spelled_pattern (class_of s.classes class) tests in
@@ -153,11 +171,11 @@ module _ (class : ℕ) (tests : List Test) (more : List Word) (ws : List Wanted)
       ∙ ap (λ (x : List Word). goes x (Braced ∷ ws) (matched s l k done)) (append_assoc front (closing_brace ∷ []) more)
       ∙ braced_read cells plain
 
-module _ (class : ℕ) (tests : List Test) (more : List Word) (ws : List Wanted) (s : State) (l : Left) (k : Numbered) (done : List Condition) (names : AreNamed s.classes) (given : are_given k ≡ true) where
+module _ (class : ℕ) (tests : List Test) (more : List Word) (ws : List Wanted) (s : State) (l : Left) (k : Numbered) (done : List Part) (names : AreNamed s.classes) (given : are_given k ≡ true) where
   -- A condition after the first is read back.
-  condition-read : (b : Bool) → length done < most_conditions → length (cells_of done) ≡ l.cell → condition_is_plain s.classes k (record { class = class; negated = b; tests = tests }) ≡ true
+  condition-read : (b : Bool) → length (elements_of done) < most_conditions → length (cells_of done) ≡ l.cell → condition_is_plain s.classes k (record { class = class; negated = b; tests = tests }) ≡ true
       → goes (spelled_condition s.classes l.cell (record { class = class; negated = b; tests = tests }) ++ more) (Patterns ∷ ws) (matched s l k done)
-      ≡ goes more (Patterns ∷ ws) (matched s (left_after l k (record { class = class; negated = b; tests = tests })) (after_condition k (record { class = class; negated = b; tests = tests })) (done ++ record { class = class; negated = b; tests = tests } ∷ []))
+      ≡ goes more (Patterns ∷ ws) (matched s (left_after l k (record { class = class; negated = b; tests = tests })) (after_condition k (record { class = class; negated = b; tests = tests })) (done ++ One (record { class = class; negated = b; tests = tests }) ∷ []))
   condition-read true few cells plain = negated_read class tests more ws s l k done names given few plain
   condition-read false few cells plain =
       let body = spelled_pattern (class_of s.classes class) tests in
@@ -166,17 +184,96 @@ module _ (class : ℕ) (tests : List Test) (more : List Word) (ws : List Wanted)
       ∙ ap (λ (x : List Word). goes x (Braced ∷ Patterns ∷ ws) (matched s l k done)) (append_assoc front (closing_brace ∷ []) more)
       ∙ braced_read class tests more (Patterns ∷ ws) s l k done names given cells plain
 
+-- ---- groups
+
+-- among the members of a group, after these
+abbrev grouped_at : State → Left → Numbered → List Part → ℕ → List Condition → Numbered → State
+grouped_at s l k done class ms inner =
+    record (matched s l k done) {
+      class = class;
+      values = numbered inner.sight;
+      variables = inner.given;
+      around = length (numbered k.sight);
+      grouped = true;
+      members = ms;
+    }
+
+module _ (words : List Word) (ws : List Wanted) (s : State) where
+  group_opened : goes (spelled_operator keyword.GroupMinus ∷ opening_brace ∷ words) (Patterns ∷ ws) s ≡ goes words (Members 0 ∷ Patterns ∷ ws) (group_begun s)
+  unfolding goes step
+  group_opened = refl
+
+  member_begun : (n : ℕ) → length (elements_of s.conditions) + length s.members < most_conditions → goes (opening ∷ words) (Members n ∷ ws) s ≡ goes words (ClassName ∷ Terms InPattern ∷ Members (suc n) ∷ ws) s
+  unfolding goes step
+  member_begun n lt = rw (lt-ltb _ _ lt) refl
+
+  group_closed : (n : ℕ) → 2 ≤ n → goes (closing_brace ∷ words) (Members n ∷ ws) s ≡ goes words ws (with_group s)
+  unfolding goes step
+  group_closed n le = rw (le-leb 2 n le) refl
+
+members-read : (cs : List Condition) (more : List Word) (ws : List Wanted) (s : State) (l : Left) (k : Numbered) (done : List Part) (class : ℕ) (ms : List Condition) (inner : Numbered) → AreNamed s.classes → are_given inner ≡ true
+    → length (elements_of done) + length (ms ++ cs) ≤ most_conditions → members_are_plain s.classes inner cs ≡ true
+    → goes (spelled_each (λ c. opening ∷ spelled_pattern (class_of s.classes c.class) c.tests) cs ++ more) (Members (length ms) ∷ ws) (grouped_at s l k done class ms inner)
+    ≡ goes more (Members (length (ms ++ cs)) ∷ ws) (grouped_at s l k done (class_behind class cs) (ms ++ cs) (after_members inner cs))
+members-read [] more ws s l k done class ms inner names given few plain =
+    ap (λ (xs : List Condition). goes more (Members (length xs) ∷ ws) (grouped_at s l k done class xs inner)) (sym (append-nil ms))
+members-read (c ∷ cs) more ws s l k done class ms inner names given few plain =
+    let each = and_parts (not c.negated && condition_is_plain s.classes inner c) (members_are_plain s.classes (after_tests inner c.tests) cs) plain in
+    let parts = and_parts (not c.negated) (condition_is_plain s.classes inner c) each.0 in
+    let positive : record { class = c.class; negated = false; tests = c.tests } ≡ c = ap (λ (b : Bool). let d : Condition = record { class = c.class; negated = b; tests = c.tests } in d) (sym (not-true c.negated parts.0)) in
+    let body = spelled_pattern (class_of s.classes c.class) c.tests in
+    let rest = spelled_each (λ c. opening ∷ spelled_pattern (class_of s.classes c.class) c.tests) cs in
+    let here : State = grouped_at s l k done class ms inner in
+    let next : Numbered = after_tests inner c.tests in
+    let count : suc (length ms) ≡ length (ms ++ c ∷ []) = omega (arith, length-append ms (c ∷ [])) in
+    ap (λ (x : List Word). goes x (Members (length ms) ∷ ws) here) (append_assoc (opening ∷ body) rest more)
+    ∙ member_begun (body ++ (rest ++ more)) ws here (length ms) (omega (arith, few, length-append ms (c ∷ cs)))
+    ∙ member-read c.class c.tests inner (rest ++ more) (Members (suc (length ms)) ∷ ws) here names given (ap (condition_is_plain s.classes inner) positive ∙ parts.1)
+    ∙ ap (λ (d : Condition). goes (rest ++ more) (Members (suc (length ms)) ∷ ws) (grouped_at s l k done c.class (ms ++ d ∷ []) next)) positive
+    ∙ ap (λ (n : ℕ). goes (rest ++ more) (Members n ∷ ws) (grouped_at s l k done c.class (ms ++ c ∷ []) next)) count
+    ∙ members-read cs more ws s l k done c.class (ms ++ c ∷ []) next names (after_tests-given c.tests inner given)
+    (subst (λ (xs : List Condition). length (elements_of done) + length xs ≤ most_conditions) (sym (append_assoc ms (c ∷ []) cs)) few) each.1
+    ∙ ap (λ (xs : List Condition). goes more (Members (length xs) ∷ ws) (grouped_at s l k done (class_behind c.class cs) xs (after_members next cs))) (append_assoc ms (c ∷ []) cs)
+
+-- A group is read back.
+group-read : (cs : List Condition) (more : List Word) (ws : List Wanted) (s : State) (l : Left) (k : Numbered) (done : List Part) → AreNamed s.classes → are_given k ≡ true
+    → length (elements_of done) + length cs ≤ most_conditions → 2 ≤ length cs → members_are_plain s.classes k cs ≡ true
+    → goes (spelled_group s.classes cs ++ more) (Patterns ∷ ws) (matched s l k done) ≡ goes more (Patterns ∷ ws) (matched s (left_past l k (Group cs)) (after_part k (Group cs)) (done ++ Group cs ∷ []))
+group-read cs more ws s l k done names given few two plain =
+    let each = spelled_each (λ c. opening ∷ spelled_pattern (class_of s.classes c.class) c.tests) cs in
+    let end : State = matched s (left_past l k (Group cs)) (after_part k (Group cs)) (done ++ Group cs ∷ []) in
+    group_opened ((each ++ closing_brace ∷ []) ++ more) ws (matched s l k done)
+    ∙ ap (λ (x : List Word). goes x (Members 0 ∷ Patterns ∷ ws) (group_begun (matched s l k done))) (append_assoc each (closing_brace ∷ []) more)
+    ∙ members-read cs (closing_brace ∷ more) (Patterns ∷ ws) s l k done l.class [] k names given few plain
+    ∙ group_closed more (Patterns ∷ ws) (grouped_at s l k done (class_behind l.class cs) cs (after_members k cs)) (length cs) two
+    ∙ ap (λ (vs : List Named). goes more (Patterns ∷ ws) (record end { values = vs })) (around_members k cs)
+
 -- The conditions after the first are read back.
-pub conditions-read : (cs : List Condition) (more : List Word) (ws : List Wanted) (s : State) (l : Left) (k : Numbered) (done : List Condition) → AreNamed s.classes → are_given k ≡ true → length (cells_of done) ≡ l.cell → length (done ++ cs) ≤ most_conditions → conditions_are_plain s.classes k cs ≡ true
+pub conditions-read : (cs : List Part) (more : List Word) (ws : List Wanted) (s : State) (l : Left) (k : Numbered) (done : List Part) → AreNamed s.classes → are_given k ≡ true → length (cells_of done) ≡ l.cell → length (elements_of (done ++ cs)) ≤ most_conditions → conditions_are_plain s.classes k cs ≡ true
     → goes (spelled_conditions s.classes l.cell cs ++ more) (Patterns ∷ ws) (matched s l k done) ≡ goes more (Patterns ∷ ws) (matched s (left_behind l k cs) (after_conditions k cs) (done ++ cs))
-conditions-read [] more ws s l k done names given cells few plain = ap (λ (xs : List Condition). goes more (Patterns ∷ ws) (matched s l k xs)) (sym (append-nil done))
-conditions-read (c ∷ cs) more ws s l k done names given cells few plain =
+conditions-read [] more ws s l k done names given cells few plain = ap (λ (xs : List Part). goes more (Patterns ∷ ws) (matched s l k xs)) (sym (append-nil done))
+conditions-read (Group ms ∷ cs) more ws s l k done names given cells few plain =
+    let each = and_parts (part_is_plain s.classes k (Group ms)) (conditions_are_plain s.classes (after_part k (Group ms)) cs) plain in
+    let parts = and_parts (nat_le 2 (length ms)) (members_are_plain s.classes k ms) each.0 in
+    let after : Left = left_past l k (Group ms) in
+    let next : Numbered = after_part k (Group ms) in
+    let rest = spelled_conditions s.classes l.cell cs in
+    let all : done ++ Group ms ∷ [] ++ cs ≡ done ++ Group ms ∷ cs = append_assoc done (Group ms ∷ []) cs in
+    ap (λ (x : List Word). goes x (Patterns ∷ ws) (matched s l k done)) (append_assoc (spelled_group s.classes ms) rest more)
+    ∙ group-read ms (rest ++ more) ws s l k done names given
+    (omega (arith, few, ap (λ (xs : List Condition). length xs) (elements-append done (Group ms ∷ cs)), length-append (elements_of done) (elements_of (Group ms ∷ cs)), length-append ms (elements_of cs)))
+    (leb-true _ _ parts.0) parts.1
+    ∙ conditions-read cs more ws s after next (done ++ Group ms ∷ []) names (after_group-given k ms given)
+    (ap (λ (xs : List ℕ). length xs) (cells-append done (Group ms ∷ []) ∙ append-nil (cells_of done)) ∙ cells)
+    (subst (λ (xs : List Part). length (elements_of xs) ≤ most_conditions) (sym all) few) each.1
+    ∙ ap (λ (xs : List Part). goes more (Patterns ∷ ws) (matched s (left_behind after next cs) (after_conditions next cs) xs)) all
+conditions-read (One c ∷ cs) more ws s l k done names given cells few plain =
     let each = and_parts (condition_is_plain s.classes k c) (conditions_are_plain s.classes (after_condition k c) cs) plain in
     let after : Left = left_after l k c in
     let rest = spelled_conditions s.classes after.cell cs in
-    let all : done ++ c ∷ [] ++ cs ≡ done ++ c ∷ cs = append_assoc done (c ∷ []) cs in
+    let all : done ++ One c ∷ [] ++ cs ≡ done ++ One c ∷ cs = append_assoc done (One c ∷ []) cs in
     ap (λ (x : List Word). goes x (Patterns ∷ ws) (matched s l k done)) (append_assoc (spelled_condition s.classes l.cell c) rest more)
-    ∙ condition-read c.class c.tests (rest ++ more) ws s l k done names given c.negated (omega (arith, length-append done (c ∷ cs))) cells each.0
-    ∙ conditions-read cs more ws s after (after_condition k c) (done ++ c ∷ []) names (after_condition-given k c given) (cells_count c.negated c.class c.tests done l.cell cells)
-    (subst (λ (xs : List Condition). length xs ≤ most_conditions) (sym all) few) each.1
-    ∙ ap (λ (xs : List Condition). goes more (Patterns ∷ ws) (matched s (left_behind after (after_condition k c) cs) (after_conditions (after_condition k c) cs) xs)) all
+    ∙ condition-read c.class c.tests (rest ++ more) ws s l k done names given c.negated (omega (arith, few, ap (λ (xs : List Condition). length xs) (elements-append done (One c ∷ cs)), length-append (elements_of done) (elements_of (One c ∷ cs)))) cells each.0
+    ∙ conditions-read cs more ws s after (after_condition k c) (done ++ One c ∷ []) names (after_condition-given k c given) (cells_count c.negated c.class c.tests done l.cell cells)
+    (subst (λ (xs : List Part). length (elements_of xs) ≤ most_conditions) (sym all) few) each.1
+    ∙ ap (λ (xs : List Part). goes more (Patterns ∷ ws) (matched s (left_behind after (after_condition k c) cs) (after_conditions (after_condition k c) cs) xs)) all

@@ -9,7 +9,7 @@ use Rattle.ops_tokens.specs.Tokens.{StandsFrom, token_at, spelling}
 use Rattle.ops_tokens.specs.declared.token.Token.{Token}
 use Rattle.ops_tokens.proofs.Clauses.{token-place}
 use Rattle.ops_grammar.specs.declared.words.Word.{Word}
-use Rattle.ops_grammar.specs.Words.{Lexed, lexed, lexed_from, lexed_after, word_of, words_from, names_from, names_with}
+use Rattle.ops_grammar.specs.Words.{Lexed, lexed, lexed_from, lexed_after, word_of, words_from, names_from, names_with, word_before}
 use Rattle.ops_grammar.specs.Grammar.{Wanted, Forms, State, Step, Next, Refuses, Outcome, step, ends, after, goes, nothing_read}
 use Rattle.ops_grammar.specs.Reads.{Read, Placed, verdict, read_lexed, reads}
 use Rattle.ops_grammar.proofs.Grown.{fits_below}
@@ -62,7 +62,7 @@ unfolding goes
 goes_done source names [] text n ws s fit placed short read = ends_done text n ws s fit placed short read
 goes_done source names (t ∷ ts) text n ws s fit placed short read =
     let names' = names_with names t.kind (spelling source t) in
-    let w = word_of names t (spelling source t) in
+    let w = word_before (word_of names t (spelling source t)) ts in
     goes_by text t.past w (words_from source names' ts) (step w ws s) (λ ws' s' short' read'. goes_done source names' ts text t.past ws' s' fit placed.3 short' read')
     (step_leads text n w fit (record { begins = placed.0; some = placed.1; within = placed.2 }) s ws short read)
 

@@ -8,7 +8,7 @@ use Rattle.ops_tokens.specs.declared.token.Token.{Token}
 use Rattle.ops_tokens.specs.Tokens.{StandsFrom, token_at, spelling}
 use Rattle.ops_tokens.proofs.Clauses.{token-place, token-fault}
 use Rattle.ops_grammar.specs.declared.words.Word.{Word}
-use Rattle.ops_grammar.specs.Words.{Lexed, lexed, lexed_from, lexed_after, word_of, words_from, names_from, names_with}
+use Rattle.ops_grammar.specs.Words.{Lexed, lexed, lexed_from, lexed_after, word_of, words_from, names_from, names_with, word_before}
 use Rattle.ops_grammar.specs.Grammar.{Wanted, Forms, State, Step, Next, Refuses, Outcome, step, ends, after, goes, nothing_read}
 use Rattle.ops_grammar.specs.Reads.{Read, Placed, verdict, read_lexed, reads}
 use Rattle.ops_grammar.proofs.ReadsValid.{ArePlaced, lexed_placed}
@@ -49,7 +49,7 @@ unfolding goes
 goes_within source names [] n from ws s placed = ends_within n ws s
 goes_within source names (t ∷ ts) n from ws s placed =
     let names' = names_with names t.kind (spelling source t) in
-    let w = word_of names t (spelling source t) in
+    let w = word_before (word_of names t (spelling source t)) ts in
     goes_by n (goes (words_from source names' ts)) w (omega (arith, placed.1, placed.2)) (λ ws' s'. goes_within source names' ts n t.past ws' s' placed.3) (step w ws s)
 
 verdict_within : (n : ℕ) (names : Spellings) (stop : Option LexFault) (o : Outcome) → StopsWithin n stop → FailsWithin n o → IfErr (verdict n names stop o) (λ p. p.at ≤ n)

@@ -1,12 +1,12 @@
 -- Why a word is refused.
-use Rattle.std.proofs.Common.{◌≡◌, ℕ, suc, ◌+◌, ◌-◌, ◌<◌, Bool, true, false, not, ◌&&◌, ◌||◌, ◌==◌, cond, List, [], ◌∷◌, length, take, refl, sym, ap, subst, ◌∙◌, arith, Option, Some, None, Result, Ok, Err, nat_lt, is_some, position, slice_get, true≢false}
+use Rattle.std.proofs.Common.{◌≡◌, ℕ, suc, ◌+◌, ◌-◌, ◌<◌, Bool, true, false, not, ◌&&◌, ◌||◌, ◌==◌, cond, List, [], ◌∷◌, length, take, refl, sym, ap, subst, ◌∙◌, arith, Option, Some, None, Result, Ok, Err, nat_lt, is_some, position, slice_get, true≢false, nat_le}
 use Rattle.std.specs.List.{list_any, position_or_len}
 use Rattle.std.proofs.lemmas.Bool.{cond_both, and_from, and_parts, lt-ltb}
 use Rattle.ops_base.specs.declared.values.Sym.{Sym}
 use Rattle.ops_base.specs.declared.values.Value.{Value}
 use Rattle.ops_base.specs.declared.values.Pred.{Pred}
 use Rattle.ops_base.specs.declared.values.Pred.TheVariants as pred
-use Rattle.ops_base.specs.declared.conditions.Condition.{Condition}
+use Rattle.ops_base.specs.declared.conditions.Part.{Part}
 use Rattle.ops_base.specs.declared.actions.Term.{Term}
 use Rattle.ops_base.specs.declared.actions.Term.TheVariants as term
 use Rattle.ops_base.specs.declared.expression.Op.{Op}
@@ -14,13 +14,13 @@ use Rattle.ops_base.specs.declared.commands.Strategy.{Strategy}
 use Rattle.ops_base.specs.declared.endings.Fault.{Fault}
 use Rattle.ops_base.specs.Expression.{Formula}
 use Rattle.ops_base.specs.declared.endings.Fault.TheVariants as fault
-use Rattle.ops_base.specs.Valid.{most_fields, most_conditions, class_of, is_vector, is_equality}
+use Rattle.ops_base.specs.Valid.{most_fields, most_conditions, class_of, is_vector, is_equality, elements_of}
 use Rattle.ops_tokens.specs.declared.token.TokenKind.{TokenKind}
 use Rattle.ops_tokens.specs.declared.token.TokenKind.TheVariants as kind
 use Rattle.ops_grammar.specs.declared.words.Word.{Word}
 use Rattle.ops_grammar.specs.declared.words.Keyword.{Keyword}
 use Rattle.ops_grammar.specs.declared.words.Keyword.TheVariants as keyword
-use Rattle.ops_grammar.specs.Grammar.{Use, InPattern, InPut, InFixed, Target, ToTest, ToPut, ToFixed, ToTerms, ToConstants, ToItem, ToBind, EndsWhole, TagUse, ToRemove, NameUse, Column, Wanted, Forms, Form, ClassDeclared, Attributes, VectorName, VectorNames, RuleName, FirstPattern, Patterns, Pattern, Braced, ElementName, ClosesBrace, ClassName, Terms, Attribute, Several, Place, Tests, Tested, Choice, Atom, ValueFor, Function, Waiting, ExpressionUnit, ExpressionRest, Bracketed, SourceCell, SourceAttribute, SourceEnd, Actions, ActionWord, Modified, BoundName, BoundValue, CellName, Cell, Cells, Items, ItemWord, Columns, Count, StrategyName, TagOrAll, Tags, Shown, NamedRule, NamedRules, Level, Closes, State, Step, Next, Refuses, is_left, is_right, is_left_brace, is_right_brace, is_caret, is_name, is_variable, is_arrow, is_literal, is_minus, opens_choice, closes_choice, pred_of, constant_of, value_of, atom_of, natural_of, small_of, is_one_of, number_of, may_declare, may_produce, is_class, is_rule, is_second, makes_second, vector_name, form, class_at, attributes_of, field_at, variable_tested, constant_tested, tested, predicated, test, place, chosen, atom_at, term_at, bound_at, constant_at, is_of_action, value_for, most_brackets, no_formula, with_formula, unit_bound, unit_at, expression_unit, bracketed, completed, is_compute, operation_of, operation_at, expression_ended, expression_rest, function, source_named, source_class, source_at, takes_several, ends_at_inf, source_end, within, one_of_several, several, element_at, element_name, action_word, designated, numbered_cell, named_cell, cell_of, with_designated, with_modified, cell_bound, item_word, columns_at, counted, count_of, count, strategy_set, strategy_of, strategy_name, tag_at, is_all, tag_or_all, tags, shown, named_rule, named_rules, level_of, level_set, level, step}
+use Rattle.ops_grammar.specs.Grammar.{Use, InPattern, InPut, InFixed, Target, ToTest, ToPut, ToFixed, ToTerms, ToConstants, ToItem, ToBind, EndsWhole, TagUse, ToRemove, NameUse, Column, Wanted, Forms, Form, ClassDeclared, Attributes, VectorName, VectorNames, RuleName, FirstPattern, Patterns, Pattern, Braced, ElementName, ClosesBrace, ClassName, Terms, Attribute, Several, Place, Tests, Tested, Choice, Atom, ValueFor, Function, Waiting, ExpressionUnit, ExpressionRest, Bracketed, SourceCell, SourceAttribute, SourceEnd, Actions, ActionWord, Modified, BoundName, BoundValue, CellName, Cell, Cells, Items, ItemWord, Columns, Count, StrategyName, TagOrAll, Tags, Shown, NamedRule, NamedRules, Level, Closes, State, Step, Next, Refuses, is_left, is_right, is_left_brace, is_right_brace, is_caret, is_name, is_variable, is_arrow, is_literal, is_minus, opens_choice, closes_choice, pred_of, constant_of, value_of, atom_of, natural_of, small_of, is_one_of, number_of, may_declare, may_produce, is_class, is_rule, is_second, makes_second, vector_name, form, class_at, attributes_of, field_at, variable_tested, constant_tested, tested, predicated, test, place, chosen, atom_at, term_at, bound_at, constant_at, is_of_action, value_for, most_brackets, no_formula, with_formula, unit_bound, unit_at, expression_unit, bracketed, completed, is_compute, operation_of, operation_at, expression_ended, expression_rest, function, source_named, source_class, source_at, takes_several, ends_at_inf, source_end, within, one_of_several, several, element_at, element_name, action_word, designated, numbered_cell, named_cell, cell_of, with_designated, with_modified, cell_bound, item_word, columns_at, counted, count_of, count, strategy_set, strategy_of, strategy_name, tag_at, is_all, tag_or_all, tags, shown, named_rule, named_rules, level_of, level_set, level, step, is_absent, begins_group, GroupBrace, Members, has_room}
 use Rattle.ops_grammar.specs.Derivation.{is_designator}
 use Rattle.ops_grammar.specs.Reasons.{no_form_fault, is_declaration, wants_class, gives_second, is_full, nests_deepest, wants_bound, is_bound, is_positive, is_condition, designates, is_unclear, designates_unclearly, wants_cell, is_bad_designator, Because}
 use Rattle.ops_grammar.proofs.Arranged.{AreArranged, functions_fit}
@@ -269,11 +269,11 @@ module _ (w : Word) (ws : List Wanted) (s : State) where
   -- where a cell is wanted
   module _ (here : List Wanted) (wants : wants_cell here ≡ true) (bad : no_form_fault here ≡ fault.BadForm)
       (none : is_designator w.kind ≡ true → designates w.kind w.name s ≡ false → is_bad_designator here w s ≡ true) where
-    designated_reason : is_designator w.kind ≡ true → (before : ℕ) (o : Option Condition) → designates w.kind w.name s ≡ is_positive o
-        → designates_unclearly w.kind s ≡ list_any (λ c. c.negated) (take before s.conditions) → Reasoned here (designated before o s)
+    designated_reason : is_designator w.kind ≡ true → (before : ℕ) (o : Option Part) → designates w.kind w.name s ≡ is_positive o
+        → designates_unclearly w.kind s ≡ list_any is_absent (take before s.conditions) → Reasoned here (designated before o s)
     designated_reason is before (Some c) e unclear =
-        cond_both c.negated _ _ (Reasoned here) (λ negated. none is (e ∙ ap not negated))
-        (λ positive. cond_both (list_any (λ c. c.negated) (take before s.conditions)) _ _ (Reasoned here) (λ among. (wants, e ∙ ap not positive, unclear ∙ among)) (λ _. tt))
+        cond_both (is_absent c) _ _ (Reasoned here) (λ negated. none is (e ∙ ap not negated))
+        (λ positive. cond_both (list_any is_absent (take before s.conditions)) _ _ (Reasoned here) (λ among. (wants, e ∙ ap not positive, unclear ∙ among)) (λ _. tt))
     designated_reason is before None e unclear = none is e
 
     numbered_reason : is_designator w.kind ≡ true → (o : Option ℕ) → designates w.kind w.name s ≡ is_condition s o → designates_unclearly w.kind s ≡ is_unclear s o → Reasoned here (numbered_cell o s)
@@ -391,15 +391,21 @@ step_reason w (RuleName ∷ ws) s arranged =
 step_reason w (FirstPattern ∷ ws) s arranged =
     cond_both (is_left w.kind) _ _ (HasReason (FirstPattern ∷ ws) w s) (λ _. tt)
     (λ _. cond_both (is_left_brace w.kind) _ _ (HasReason (FirstPattern ∷ ws) w s) (λ _. tt)
-    (λ _. cond_both (is_minus w.keyword) _ _ (HasReason (FirstPattern ∷ ws) w s) (λ e. (e, refl)) (λ _. refl)))
+    (λ _. cond_both (is_minus w.keyword || begins_group w.keyword) _ _ (HasReason (FirstPattern ∷ ws) w s) (λ e. (e, refl)) (λ _. refl)))
 step_reason w (Patterns ∷ ws) s arranged =
     cond_both (is_arrow w.keyword) _ _ (HasReason (Patterns ∷ ws) w s) (λ _. tt)
     (λ _. cond_both (is_left w.kind) _ _ (HasReason (Patterns ∷ ws) w s)
-    (λ _. cond_both (nat_lt (length s.conditions) most_conditions) _ _ (HasReason (Patterns ∷ ws) w s) (λ _. tt) (λ full. (refl, full)))
+    (λ _. cond_both (nat_lt (length (elements_of s.conditions)) most_conditions) _ _ (HasReason (Patterns ∷ ws) w s) (λ _. tt) (λ full. (refl, ap not full)))
     (λ _. cond_both (is_left_brace w.kind) _ _ (HasReason (Patterns ∷ ws) w s)
-    (λ _. cond_both (nat_lt (length s.conditions) most_conditions) _ _ (HasReason (Patterns ∷ ws) w s) (λ _. tt) (λ full. (refl, full)))
+    (λ _. cond_both (nat_lt (length (elements_of s.conditions)) most_conditions) _ _ (HasReason (Patterns ∷ ws) w s) (λ _. tt) (λ full. (refl, ap not full)))
     (λ _. cond_both (is_minus w.keyword) _ _ (HasReason (Patterns ∷ ws) w s)
-    (λ _. cond_both (nat_lt (length s.conditions) most_conditions) _ _ (HasReason (Patterns ∷ ws) w s) (λ _. tt) (λ full. (refl, full))) (λ _. refl))))
+    (λ _. cond_both (nat_lt (length (elements_of s.conditions)) most_conditions) _ _ (HasReason (Patterns ∷ ws) w s) (λ _. tt) (λ full. (refl, ap not full)))
+    (λ _. cond_both (begins_group w.keyword) _ _ (HasReason (Patterns ∷ ws) w s) (λ _. tt) (λ _. refl)))))
+step_reason w (GroupBrace ∷ ws) s arranged = cond_both (is_left_brace w.kind) _ _ (HasReason (GroupBrace ∷ ws) w s) (λ _. tt) (λ _. refl)
+step_reason w (Members n ∷ ws) s arranged =
+    cond_both (is_right_brace w.kind && nat_le 2 n) _ _ (HasReason (Members n ∷ ws) w s) (λ _. tt)
+    (λ _. cond_both (is_left w.kind) _ _ (HasReason (Members n ∷ ws) w s)
+    (λ _. cond_both (has_room s) _ _ (HasReason (Members n ∷ ws) w s) (λ _. tt) (λ full. (refl, ap not full))) (λ _. refl))
 step_reason w (Pattern ∷ ws) s arranged = cond_both (is_left w.kind) _ _ (HasReason (Pattern ∷ ws) w s) (λ _. tt) (λ _. refl)
 step_reason w (Braced ∷ ws) s arranged =
     cond_both (is_left w.kind) _ _ (HasReason (Braced ∷ ws) w s) (λ _. tt)

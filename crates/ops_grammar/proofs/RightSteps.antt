@@ -2,7 +2,7 @@
 use Rattle.std.proofs.Common.{◌≡◌, ℕ, ◌-◌, ◌<◌, ◌≤◌, Bool, true, false, cond, List, [], ◌∷◌, ◌++◌, length, refl, sym, ap, subst, ◌∙◌, arith, Option, Some, None, Result, Ok, Err, pos, length-append, unwrap_or, slice_get, is_some, take}
 use Rattle.std.specs.List.{list_all, list_any}
 use Rattle.std.proofs.lemmas.Bool.{and_from, cond_both, eq-eqb, lt-ltb}
-use Rattle.ops_base.specs.declared.conditions.Condition.{Condition}
+use Rattle.ops_base.specs.declared.conditions.Part.{Part}
 use Rattle.ops_base.specs.declared.actions.Item.{Item}
 use Rattle.ops_base.specs.declared.actions.Item.TheVariants as item
 use Rattle.ops_base.specs.declared.actions.Action.{Action}
@@ -15,7 +15,7 @@ use Rattle.ops_tokens.specs.declared.token.TokenKind.TheVariants as kind
 use Rattle.ops_grammar.specs.declared.words.Word.{Word}
 use Rattle.ops_grammar.specs.declared.words.Keyword.{Keyword}
 use Rattle.ops_grammar.specs.declared.words.Keyword.TheVariants as keyword
-use Rattle.ops_grammar.specs.Grammar.{InPut, EndsHalt, EndsCrlf, EndsWhole, Column, ToTab, ToRight, Forms, Terms, Actions, BoundValue, Cells, Items, Closes, State, Next, is_left, is_right, is_variable, natural_of, small_of, number_of, classes_of_cells, put_action, renumbered, actions, action_word, designated, numbered_cell, named_cell, cell_of, with_designated, cell, with_modified, modified, bound_name, cell_bound, cell_name, cells, items, item_word, column_item, columns_at, closes}
+use Rattle.ops_grammar.specs.Grammar.{InPut, EndsHalt, EndsCrlf, EndsWhole, Column, ToTab, ToRight, Forms, Terms, Actions, BoundValue, Cells, Items, Closes, State, Next, is_left, is_right, is_variable, natural_of, small_of, number_of, classes_of_cells, put_action, renumbered, actions, action_word, designated, numbered_cell, named_cell, cell_of, with_designated, cell, with_modified, modified, bound_name, cell_bound, cell_name, cells, items, item_word, column_item, columns_at, closes, is_absent}
 use Rattle.ops_grammar.proofs.Lists.{all_push}
 use Rattle.ops_grammar.proofs.Parts.{has_cell}
 use Rattle.ops_grammar.proofs.Sound.{IsShort, IsBody, known_in, Knows, IsNamed, HasCells, HasItems, Program, Body, Bare, variables_of, side_of, at_forms, at_class_name, at_terms, InWrite, at_value_end, at_actions, at_action_word, at_modified, at_bound_name, at_bound_value, at_cell_name, at_action_end, at_cell, at_cells, at_items, at_item_word, at_columns, at_crlf, at_halt, Leads}
@@ -60,11 +60,11 @@ module _ (text n : ℕ) (w : Word) (fit : text ≤ longest_list) (placed : IsPla
   IsCell s (Ok c) = is_cell (known_in s) c ≡ true
   IsCell s (Err f) = Unit {0}
 
-  designated_cell : (s : State) → Body text s → (k : ℕ) (o : Option Condition) → slice_get s.conditions k ≡ o → IsCell s (designated k o s)
+  designated_cell : (s : State) → Body text s → (k : ℕ) (o : Option Part) → slice_get s.conditions k ≡ o → IsCell s (designated k o s)
   designated_cell s g k None at = tt
   designated_cell s g k (Some c) at =
-      cond_both c.negated _ _ (IsCell s) (λ _. tt)
-      (λ positive. cond_both (list_any (λ d. d.negated) (take k s.conditions)) _ _ (IsCell s) (λ _. tt)
+      cond_both (is_absent c) _ _ (IsCell s) (λ _. tt)
+      (λ positive. cond_both (list_any is_absent (take k s.conditions)) _ _ (IsCell s) (λ _. tt)
       (λ plain.
       let lt = has_cell s.conditions k c at positive plain in
       let same = ap length g.knows.cells in

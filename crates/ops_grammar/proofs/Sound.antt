@@ -1,18 +1,19 @@
 -- What holds of what was read so far, for each thing that may be wanted next.
-use Rattle.std.proofs.Common.{◌≡◌, ℕ, ◌+◌, ◌<◌, ◌≤◌, Bool, true, false, ◌==◌, List, [], ◌∷◌, ◌++◌, length, map, take, nat_lt, Option, Some, None, unwrap_or, slice_get}
+use Rattle.std.proofs.Common.{◌≡◌, ℕ, ◌+◌, ◌<◌, ◌≤◌, Bool, true, false, ◌==◌, List, [], ◌∷◌, ◌++◌, length, map, take, nat_lt, Option, Some, None, unwrap_or, slice_get, suc, ◌||◌, if◌then◌else◌, refl}
 use Rattle.std.specs.List.{list_all, list_any}
 use Rattle.ops_base.specs.declared.values.Sym.{Sym}
 use Rattle.ops_base.specs.declared.values.Pred.{Pred}
 use Rattle.ops_base.specs.declared.elements.Class.{Class}
 use Rattle.ops_base.specs.declared.conditions.Test.{Test}
 use Rattle.ops_base.specs.declared.conditions.Condition.{Condition}
+use Rattle.ops_base.specs.declared.conditions.Part.{Part}
 use Rattle.ops_base.specs.declared.actions.Action.{Action}
 use Rattle.ops_base.specs.declared.rules.Rule.{Rule}
 use Rattle.ops_base.specs.declared.commands.Command.{Command}
 use Rattle.ops_base.specs.Expression.{Formula, all_variables}
-use Rattle.ops_base.specs.Valid.{most_fields, most_conditions, are_distinct, class_of, class_is_valid, is_attribute, is_vector, is_field, is_in, Sight, tests_are_valid, sight_after_tests, conditions_are_valid, sight_after_conditions, nothing_in_sight, first_is_positive, cells_of, known_of, is_cell, class_of_cell, is_natural, Known, known_after_actions, term_is_valid, put_is_valid, item_is_valid, actions_are_valid, rule_is_valid, fixed_is_valid, command_is_valid}
+use Rattle.ops_base.specs.Valid.{most_fields, most_conditions, are_distinct, class_of, class_is_valid, is_attribute, is_vector, is_field, is_in, Sight, tests_are_valid, sight_after_tests, parts_are_valid, sight_after_parts, nothing_in_sight, first_is_positive, cells_of, known_of, is_cell, class_of_cell, is_natural, Known, known_after_actions, term_is_valid, put_is_valid, item_is_valid, actions_are_valid, rule_is_valid, fixed_is_valid, command_is_valid, elements_of, members_are_valid, sight_after_members}
 use Rattle.ops_grammar.specs.declared.words.Named.{Named}
-use Rattle.ops_grammar.specs.Grammar.{Use, InPattern, InPut, InFixed, Target, ToTest, ToPut, ToFixed, ToTerms, ToConstants, ToItem, ToBind, EndsHalt, EndsCrlf, EndsCs, EndsExit, EndsWhole, Column, TagUse, ToRemove, ToShow, NameUse, ToPrint, ToBreak, Wanted, Forms, Form, ClassDeclared, Attributes, VectorName, VectorNames, RuleName, FirstPattern, Patterns, Pattern, Braced, ElementName, ClosesBrace, ClassName, Terms, Attribute, Several, Place, Tests, Tested, Choice, Atom, ValueFor, Function, Waiting, ExpressionUnit, ExpressionRest, Bracketed, SourceCell, SourceAttribute, SourceEnd, Actions, ActionWord, Modified, BoundName, BoundValue, CellName, Cell, Cells, Items, ItemWord, Columns, Count, StrategyName, TagOrAll, Tags, Shown, NamedRule, NamedRules, Level, Closes, precedes_classes, State, Step, Next, Refuses}
+use Rattle.ops_grammar.specs.Grammar.{Use, InPattern, InPut, InFixed, Target, ToTest, ToPut, ToFixed, ToTerms, ToConstants, ToItem, ToBind, EndsHalt, EndsCrlf, EndsCs, EndsExit, EndsWhole, Column, TagUse, ToRemove, ToShow, NameUse, ToPrint, ToBreak, Wanted, Forms, Form, ClassDeclared, Attributes, VectorName, VectorNames, RuleName, FirstPattern, Patterns, Pattern, Braced, ElementName, ClosesBrace, ClassName, Terms, Attribute, Several, Place, Tests, Tested, Choice, Atom, ValueFor, Function, Waiting, ExpressionUnit, ExpressionRest, Bracketed, SourceCell, SourceAttribute, SourceEnd, Actions, ActionWord, Modified, BoundName, BoundValue, CellName, Cell, Cells, Items, ItemWord, Columns, Count, StrategyName, TagOrAll, Tags, Shown, NamedRule, NamedRules, Level, Closes, precedes_classes, State, Step, Next, Refuses, GroupBrace, Members, with_several}
 
 -- the form that is read began before the first place, and no list is longer than that place, but those of attributes
 -- with values are not longer than the second
@@ -57,30 +58,43 @@ pub record Variables : Type 0 where
   pub negated : Bool
   pub around : ℕ
   pub elements : List Named
+  -- of a group that is read
+  pub grouped : Bool
+  pub members : List Condition
 
 -- what is in sight after the conditions
-abbrev pub seen : List Condition → Sight
-seen conditions = sight_after_conditions nothing_in_sight conditions
+abbrev pub seen : List Part → Sight
+seen conditions = sight_after_parts nothing_in_sight conditions
+
+-- and after the members of a group that is read
+abbrev pub inside : Variables → List Part → Sight
+inside v conditions = sight_after_members (seen conditions) v.members
+
+-- the variables around are put back at the end: of a negated condition, or of a group
+abbrev pub keeps_around : Variables → Bool
+keeps_around v = v.negated || v.grouped
 
 abbrev pub all_below : ℕ → List ℕ → Bool
 all_below k ns = list_all (λ n. nat_lt n k) ns
 
 -- the left side of a rule up to some tests of a condition
-pub record IsHead (text : ℕ) (classes : List Class) (rules : List Rule) (commands : List Command) (name : Sym) (v : Variables) (conditions : List Condition) (tests : List Test) : Type 0 where
+pub record IsHead (text : ℕ) (classes : List Class) (rules : List Rule) (commands : List Command) (name : Sym) (v : Variables) (conditions : List Part) (tests : List Test) : Type 0 where
   pub program : IsProgram text classes rules commands
   pub is_new : list_any (λ r. r.name.0 == name.0) rules ≡ false
-  pub few : length conditions ≤ most_conditions
-  pub valid : conditions_are_valid classes nothing_in_sight conditions ≡ true
+  pub few : length (elements_of conditions) + length v.members ≤ most_conditions
+  pub valid : parts_are_valid classes nothing_in_sight conditions ≡ true
+  pub within : members_are_valid classes (seen conditions) v.members ≡ true
+  pub alone : v.grouped ≡ false → v.members ≡ []
   pub first : 0 < length conditions → first_is_positive conditions ≡ true
-  pub bound : (sight_after_tests (seen conditions) tests).bound ≡ numbers v.values
-  pub below : all_below v.given (sight_after_tests (seen conditions) tests).given ≡ true
-  pub room : v.negated ≡ true → v.around ≤ length v.values
-  pub outside : v.negated ≡ true → (seen conditions).bound ≡ numbers (take v.around v.values)
+  pub bound : (sight_after_tests (inside v conditions) tests).bound ≡ numbers v.values
+  pub below : all_below v.given (sight_after_tests (inside v conditions) tests).given ≡ true
+  pub room : keeps_around v ≡ true → v.around ≤ length v.values
+  pub outside : keeps_around v ≡ true → (seen conditions).bound ≡ numbers (take v.around v.values)
   pub counted : all_below v.given (numbers v.values) ≡ true
   pub elements : all_below (length (cells_of conditions)) (numbers v.elements) ≡ true
 
 -- what the right side of a rule knows after some actions
-abbrev pub known : List Condition → List Action → Known
+abbrev pub known : List Part → List Action → Known
 known conditions actions = known_after_actions (known_of conditions) actions
 
 -- the class of the element that a right side made last, and the classes of the cells that it named
@@ -89,7 +103,7 @@ pub record Side : Type 0 where
   pub further : List ℕ
 
 -- what is in sight is what the right side knows
-pub record Knows (k : Known) (v : Variables) (conditions : List Condition) (r : Side) : Type 0 where
+pub record Knows (k : Known) (v : Variables) (conditions : List Part) (r : Side) : Type 0 where
   pub bound : list_all (λ n. is_in n k.bound) (numbers v.values) ≡ true
   pub given : all_below v.given k.given ≡ true
   pub counted : all_below v.given (numbers v.values) ≡ true
@@ -98,17 +112,17 @@ pub record Knows (k : Known) (v : Variables) (conditions : List Condition) (r : 
   pub made : k.made ≡ r.made
 
 -- a rule up to some actions
-pub record IsBody (text : ℕ) (classes : List Class) (rules : List Rule) (commands : List Command) (name : Sym) (v : Variables) (conditions : List Condition) (r : Side) (actions : List Action) : Type 0 where
+pub record IsBody (text : ℕ) (classes : List Class) (rules : List Rule) (commands : List Command) (name : Sym) (v : Variables) (conditions : List Part) (r : Side) (actions : List Action) : Type 0 where
   pub program : IsProgram text classes rules commands
   pub is_new : list_any (λ r. r.name.0 == name.0) rules ≡ false
-  pub few : length conditions ≤ most_conditions
-  pub left : conditions_are_valid classes nothing_in_sight conditions ≡ true
+  pub few : length (elements_of conditions) ≤ most_conditions
+  pub left : parts_are_valid classes nothing_in_sight conditions ≡ true
   pub some : first_is_positive conditions ≡ true
   pub valid : actions_are_valid classes (known_of conditions) actions ≡ true
   pub knows : Knows (known conditions actions) v conditions r
 
 abbrev pub variables_of : State → Variables
-variables_of s = record { values = s.values; given = s.variables; negated = s.negated; around = s.around; elements = s.elements }
+variables_of s = record { values = s.values; given = s.variables; negated = s.negated; around = s.around; elements = s.elements; grouped = s.grouped; members = s.members }
 
 abbrev pub side_of : State → Side
 side_of s = record { made = s.made; further = s.further }
@@ -131,7 +145,7 @@ known_in s = known s.conditions s.actions
 
 -- where an element stands
 abbrev pub Around : Use → ℕ → State → Type 0
-Around InPattern text s = Head text s × (length s.conditions < most_conditions) × (length s.conditions ≡ 0 → s.negated ≡ false)
+Around InPattern text s = Head text s × (length (elements_of s.conditions) + length s.members < most_conditions) × (length s.conditions ≡ 0 → s.negated ≡ false) × (s.grouped ≡ true → 0 < length s.conditions)
 Around InPut text s = Body text s
 Around InFixed text s = Program text s
 
@@ -159,7 +173,7 @@ IsOfClass InFixed s = Unit {0}
 
 -- the attributes that were read
 abbrev pub HasFields : Use → State → Type 0
-HasFields InPattern s = tests_are_valid (class_of s.classes s.class) (sight_after_conditions nothing_in_sight s.conditions) s.tests ≡ true
+HasFields InPattern s = tests_are_valid (class_of s.classes s.class) (inside (variables_of s) s.conditions) s.tests ≡ true
 HasFields InPut s = list_all (put_is_valid s.classes (known_in s) (class_of s.classes s.class)) s.puts ≡ true
 HasFields InFixed s = list_all (fixed_is_valid (class_of s.classes s.class)) s.fixed ≡ true
 
@@ -173,12 +187,23 @@ pub data Braces : Type 0 where
   Bare : Braces
   NamedBefore : Braces
   NamedBehind : Braces
+  -- among the members of a group, of which so many stand before
+  AsMember : (count : ℕ) → Braces
 
 -- what is wanted after a pattern
 abbrev pub behind_pattern : Braces → List Wanted
 behind_pattern Bare = Patterns ∷ Actions ∷ Forms ∷ []
 behind_pattern NamedBefore = ClosesBrace ∷ Patterns ∷ Actions ∷ Forms ∷ []
 behind_pattern NamedBehind = ElementName ∷ ClosesBrace ∷ Patterns ∷ Actions ∷ Forms ∷ []
+behind_pattern (AsMember n) = Members (suc n) ∷ Patterns ∷ Actions ∷ Forms ∷ []
+
+-- a pattern stands in a group, where one is read
+abbrev pub outer : Braces → Braces
+outer (AsMember n) = Bare
+outer b = b
+
+abbrev pub at : State → Braces → Braces
+at s b = if s.grouped then AsMember (length s.members) else outer b
 
 -- what is wanted after an element
 abbrev pub behind : Braces → Use → List Wanted
@@ -222,7 +247,11 @@ BeforePattern text s = Around InPattern text s × IsEmpty InPattern s
 
 -- a left side after a pattern
 abbrev pub AfterPattern : ℕ → State → Type 0
-AfterPattern text s = Head text s × (s.tests ≡ []) × (0 < length s.conditions)
+AfterPattern text s = Head text s × (s.tests ≡ []) × (0 < length s.conditions) × (s.grouped ≡ false)
+
+-- a left side among the members of a group
+abbrev pub AmongMembers : ℕ → ℕ → State → Type 0
+AmongMembers n text s = Head text s × (s.tests ≡ []) × (0 < length s.conditions) × (s.grouped ≡ true) × (length s.members ≡ n)
 
 -- a right side up to an action with some cells, or with some items
 abbrev pub HasCells : ℕ → State → Type 0
@@ -314,6 +343,12 @@ AtTags u text s = Program text s × (list_all is_natural s.tags ≡ true) × Has
 abbrev pub AtNames : NameUse → ℕ → State → Type 0
 AtNames u text s = Program text s × HasNames u s.named
 
+-- the end of several values leaves a group as it is
+pub several_at : (u : Use) (f : ℕ) (s : State) (b : Braces) → at (with_several u f s) b ≡ at s b
+several_at InPattern f s b = refl
+several_at InPut f s b = refl
+several_at InFixed f s b = refl
+
 -- what may be wanted, and what then holds
 pub data IsRead (text : ℕ) (s : State) : List Wanted → Type 0 where
   at_forms : (Program text s) → IsRead text s (Forms ∷ [])
@@ -323,21 +358,23 @@ pub data IsRead (text : ℕ) (s : State) : List Wanted → Type 0 where
   at_vector_name : (Declaring text s) → IsRead text s (VectorName ∷ VectorNames ∷ Forms ∷ [])
   at_vector_names : (Declaring text s) → IsRead text s (VectorNames ∷ Forms ∷ [])
   at_rule_name : (Program text s) → IsRead text s (RuleName ∷ FirstPattern ∷ Patterns ∷ Actions ∷ Forms ∷ [])
-  at_first_pattern : (Head text s × (s.tests ≡ []) × (length s.conditions ≡ 0) × (s.negated ≡ false)) → IsRead text s (FirstPattern ∷ Patterns ∷ Actions ∷ Forms ∷ [])
+  at_first_pattern : (Head text s × (s.tests ≡ []) × (length s.conditions ≡ 0) × (s.negated ≡ false) × (s.grouped ≡ false)) → IsRead text s (FirstPattern ∷ Patterns ∷ Actions ∷ Forms ∷ [])
   at_patterns : (AfterPattern text s) → IsRead text s (Patterns ∷ Actions ∷ Forms ∷ [])
-  at_pattern : (b : Braces) → (BeforePattern text s) → IsRead text s (Pattern ∷ behind b InPattern)
-  at_braced : (BeforePattern text s) → IsRead text s (Braced ∷ Patterns ∷ Actions ∷ Forms ∷ [])
+  at_group : (AfterPattern text s) → IsRead text s (GroupBrace ∷ Patterns ∷ Actions ∷ Forms ∷ [])
+  at_members : (n : ℕ) → AmongMembers n text s → IsRead text s (Members n ∷ Patterns ∷ Actions ∷ Forms ∷ [])
+  at_pattern : (b : Braces) → (BeforePattern text s) → IsRead text s (Pattern ∷ behind (at s b) InPattern)
+  at_braced : (BeforePattern text s × (s.grouped ≡ false)) → IsRead text s (Braced ∷ Patterns ∷ Actions ∷ Forms ∷ [])
   at_element_name : (AfterPattern text s) → IsRead text s (ElementName ∷ ClosesBrace ∷ Patterns ∷ Actions ∷ Forms ∷ [])
   at_closes_brace : (AfterPattern text s) → IsRead text s (ClosesBrace ∷ Patterns ∷ Actions ∷ Forms ∷ [])
-  at_class_name : (b : Braces) → (u : Use) → (Around u text s × IsEmpty u s × IsOfClass u s) → IsRead text s (ClassName ∷ Terms u ∷ behind b u)
-  at_terms : (b : Braces) → (u : Use) → (IsElement u text s) → IsRead text s (Terms u ∷ behind b u)
-  at_attribute : (b : Braces) → (u : Use) → (IsElement u text s) → IsRead text s (Attribute u ∷ behind b u)
-  at_several : (b : Braces) → (u : Use) → (f : ℕ) → AtSeveral u text s f → IsRead text s (Several u f ∷ behind b u)
-  at_place : (b : Braces) → (more : Option ℕ) → (f : ℕ) → AtPlace more text s f → IsRead text s (Place f ∷ behind_place b more)
-  at_tests : (b : Braces) → (more : Option ℕ) → (f : ℕ) → AtPlace more text s f → IsRead text s (Tests f ∷ behind_place b more)
-  at_tested : (b : Braces) → (more : Option ℕ) → (f : ℕ) → (p : Pred) → (among : Bool) → AtPlace more text s f → IsRead text s (Tested f p ∷ behind_test b more f among)
-  at_choice : (b : Braces) → (more : Option ℕ) → (f : ℕ) → (among : Bool) → AtPlace more text s f → IsRead text s (Choice f ∷ behind_test b more f among)
-  at_test_atom : (b : Braces) → (more : Option ℕ) → (f : ℕ) → (p : Pred) → (among : Bool) → AtPlace more text s f → IsRead text s (Atom (ToTest f p) ∷ behind_test b more f among)
+  at_class_name : (b : Braces) → (u : Use) → (Around u text s × IsEmpty u s × IsOfClass u s) → IsRead text s (ClassName ∷ Terms u ∷ behind (at s b) u)
+  at_terms : (b : Braces) → (u : Use) → (IsElement u text s) → IsRead text s (Terms u ∷ behind (at s b) u)
+  at_attribute : (b : Braces) → (u : Use) → (IsElement u text s) → IsRead text s (Attribute u ∷ behind (at s b) u)
+  at_several : (b : Braces) → (u : Use) → (f : ℕ) → AtSeveral u text s f → IsRead text s (Several u f ∷ behind (at s b) u)
+  at_place : (b : Braces) → (more : Option ℕ) → (f : ℕ) → AtPlace more text s f → IsRead text s (Place f ∷ behind_place (at s b) more)
+  at_tests : (b : Braces) → (more : Option ℕ) → (f : ℕ) → AtPlace more text s f → IsRead text s (Tests f ∷ behind_place (at s b) more)
+  at_tested : (b : Braces) → (more : Option ℕ) → (f : ℕ) → (p : Pred) → (among : Bool) → AtPlace more text s f → IsRead text s (Tested f p ∷ behind_test (at s b) more f among)
+  at_choice : (b : Braces) → (more : Option ℕ) → (f : ℕ) → (among : Bool) → AtPlace more text s f → IsRead text s (Choice f ∷ behind_test (at s b) more f among)
+  at_test_atom : (b : Braces) → (more : Option ℕ) → (f : ℕ) → (p : Pred) → (among : Bool) → AtPlace more text s f → IsRead text s (Atom (ToTest f p) ∷ behind_test (at s b) more f among)
   at_fixed_value : (f : ℕ) → AtField InFixed text s f → IsRead text s (ValueFor (ToFixed f) ∷ Terms InFixed ∷ behind Bare InFixed)
   at_fixed_atom : (f : ℕ) → AtField InFixed text s f → IsRead text s (Atom (ToFixed f) ∷ Terms InFixed ∷ behind Bare InFixed)
   at_constants_atom : (f : ℕ) → AtSeveral InFixed text s f → (f + length s.constants < most_fields) → IsRead text s (Atom ToConstants ∷ Several InFixed f ∷ behind Bare InFixed)

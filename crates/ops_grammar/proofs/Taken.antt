@@ -1,5 +1,5 @@
 -- What holds of a word that is taken, besides the grammar.
-use Rattle.std.proofs.Common.{◌≡◌, ℕ, zero, suc, ◌+◌, ◌-◌, ◌<◌, Bool, true, false, not, ◌==◌, ◌&&◌, ◌||◌, List, [], ◌∷◌, length, take, refl, sym, ap, subst, ◌∙◌, arith, Option, Some, None, Result, Ok, Err, nat_lt, is_some, position, slice_get, get_or, true≢false}
+use Rattle.std.proofs.Common.{◌≡◌, ℕ, zero, suc, ◌+◌, ◌-◌, ◌<◌, Bool, true, false, not, ◌==◌, ◌&&◌, ◌||◌, List, [], ◌∷◌, length, take, refl, sym, ap, subst, ◌∙◌, arith, Option, Some, None, Result, Ok, Err, nat_lt, is_some, position, slice_get, get_or, true≢false, nat_le}
 use Rattle.std.specs.List.{list_any}
 use Rattle.std.proofs.lemmas.Bool.{cond_both, and_parts, or_left, or_right}
 use Rattle.std.proofs.lemmas.List.Quantifiers.{position-Some}
@@ -7,16 +7,16 @@ use Rattle.ops_base.specs.declared.values.Sym.{Sym}
 use Rattle.ops_base.specs.declared.values.Value.{Value}
 use Rattle.ops_base.specs.declared.values.Pred.{Pred}
 use Rattle.ops_base.specs.declared.values.Pred.TheVariants as pred
-use Rattle.ops_base.specs.declared.conditions.Condition.{Condition}
+use Rattle.ops_base.specs.declared.conditions.Part.{Part}
 use Rattle.ops_base.specs.declared.actions.Term.TheVariants as term
 use Rattle.ops_base.specs.declared.endings.Fault.{Fault}
-use Rattle.ops_base.specs.Valid.{most_fields, most_conditions, no_class, class_of, is_vector}
+use Rattle.ops_base.specs.Valid.{most_fields, most_conditions, no_class, class_of, is_vector, elements_of}
 use Rattle.ops_tokens.specs.declared.token.TokenKind.{TokenKind}
 use Rattle.ops_tokens.specs.declared.token.TokenKind.TheVariants as kind
 use Rattle.ops_grammar.specs.declared.words.Word.{Word}
 use Rattle.ops_grammar.specs.declared.words.Keyword.{Keyword}
 use Rattle.ops_grammar.specs.declared.words.Keyword.TheVariants as keyword
-use Rattle.ops_grammar.specs.Grammar.{Use, InPattern, InPut, InFixed, Target, ToPut, ToTerms, ToConstants, ToItem, ToBind, Wanted, Form, ClassDeclared, Attributes, VectorName, VectorNames, RuleName, Patterns, Pattern, Braced, ElementName, ClosesBrace, ClassName, Terms, Attribute, Several, Tested, ValueFor, ExpressionUnit, ExpressionRest, Bracketed, EndsWhole, SourceCell, SourceAttribute, SourceEnd, Modified, BoundValue, CellName, Cell, Cells, Items, Shown, Closes, State, Step, Next, Refuses, is_left, is_right, is_left_brace, is_caret, is_name, is_variable, is_arrow, is_literal, is_minus, constant_of, value_of, natural_of, is_one_of, number_of, may_declare, may_produce, is_class, is_rule, is_second, makes_second, vector_name, form, class_at, attributes_of, field_at, variable_tested, constant_tested, tested, term_at, bound_at, constant_at, is_of_action, value_for, most_brackets, unit_bound, unit_at, expression_unit, is_compute, source_named, source_class, source_at, takes_several, ends_at_inf, place, terms, within, one_of_several, with_several, several, element_at, element_name, designated, numbered_cell, named_cell, cell_of, with_designated, with_modified, cell_bound, step}
+use Rattle.ops_grammar.specs.Grammar.{Use, InPattern, InPut, InFixed, Target, ToPut, ToTerms, ToConstants, ToItem, ToBind, Wanted, Form, ClassDeclared, Attributes, VectorName, VectorNames, RuleName, Patterns, Pattern, Braced, ElementName, ClosesBrace, ClassName, Terms, Attribute, Several, Tested, ValueFor, ExpressionUnit, ExpressionRest, Bracketed, EndsWhole, SourceCell, SourceAttribute, SourceEnd, Modified, BoundValue, CellName, Cell, Cells, Items, Shown, Closes, State, Step, Next, Refuses, is_left, is_right, is_left_brace, is_caret, is_name, is_variable, is_arrow, is_literal, is_minus, constant_of, value_of, natural_of, is_one_of, number_of, may_declare, may_produce, is_class, is_rule, is_second, makes_second, vector_name, form, class_at, attributes_of, field_at, variable_tested, constant_tested, tested, term_at, bound_at, constant_at, is_of_action, value_for, most_brackets, unit_bound, unit_at, expression_unit, is_compute, source_named, source_class, source_at, takes_several, ends_at_inf, place, terms, within, one_of_several, with_several, several, element_at, element_name, designated, numbered_cell, named_cell, cell_of, with_designated, with_modified, cell_bound, step, is_absent, begins_group, Members, has_room, is_right_brace}
 use Rattle.ops_grammar.specs.Derivation.{is_designator}
 use Rattle.ops_grammar.proofs.Follows.{name_not_right, designator_not_right, variable_not_left}
 use Rattle.ops_grammar.specs.Reasons.{gives_second, is_full, is_positive, is_condition, designates, is_unclear, designates_unclearly}
@@ -75,7 +75,8 @@ Fits (Attributes ∷ ws) w s = is_name w.kind ≡ true → (is_one_of w.name s.a
 Fits (VectorName ∷ ws) w s = gives_second (VectorName ∷ []) w.name s ≡ false
 Fits (VectorNames ∷ ws) w s = is_name w.kind ≡ true → gives_second (VectorName ∷ []) w.name s ≡ false
 Fits (RuleName ∷ ws) w s = is_rule s w.name ≡ false
-Fits (Patterns ∷ ws) w s = is_arrow w.keyword ≡ false → nat_lt (length s.conditions) most_conditions ≡ true
+Fits (Patterns ∷ ws) w s = is_arrow w.keyword ≡ false → begins_group w.keyword ≡ false → nat_lt (length (elements_of s.conditions)) most_conditions ≡ true
+Fits (Members n ∷ ws) w s = is_left w.kind ≡ true → has_room s ≡ true
 Fits (Braced ∷ ws) w s = is_left w.kind ≡ false → ElementFits w s
 Fits (ElementName ∷ ws) w s = ElementFits w s
 Fits (ClassName ∷ ws) w s = is_class s w.name ≡ true
@@ -240,11 +241,11 @@ module _ (w : Word) (ws : List Wanted) (s : State) where
   source_at_fits t None e = tt
 
   -- a cell
-  designated_fits : (before : ℕ) (o : Option Condition) → IfDesignated ((is_positive o ≡ true) × (list_any (λ c. c.negated) (take before s.conditions) ≡ false)) (designated before o s)
+  designated_fits : (before : ℕ) (o : Option Part) → IfDesignated ((is_positive o ≡ true) × (list_any is_absent (take before s.conditions) ≡ false)) (designated before o s)
   designated_fits before (Some c) =
-      let P : Type 0 = (not c.negated ≡ true) × (list_any (λ c. c.negated) (take before s.conditions) ≡ false) in
-      cond_both c.negated _ _ (IfDesignated P) (λ _. tt)
-      (λ positive. cond_both (list_any (λ c. c.negated) (take before s.conditions)) _ _ (IfDesignated P) (λ _. tt) (λ clear. (ap not positive, clear)))
+      let P : Type 0 = (not (is_absent c) ≡ true) × (list_any is_absent (take before s.conditions) ≡ false) in
+      cond_both (is_absent c) _ _ (IfDesignated P) (λ _. tt)
+      (λ positive. cond_both (list_any is_absent (take before s.conditions)) _ _ (IfDesignated P) (λ _. tt) (λ clear. (ap not positive, clear)))
   designated_fits before None = tt
 
   numbered_fits : (o : Option ℕ) → IfDesignated ((is_condition s o ≡ true) × (is_unclear s o ≡ false)) (numbered_cell o s)
@@ -320,6 +321,10 @@ module _ (w : Word) (ws : List Wanted) (s : State) where
       (λ e. weaker (Unit {0}) P (λ _ no. clash (is_right w.kind || is_caret w.kind) e no) _ (whatever (terms u w ws (with_several u f s))))
       (λ _. weaker ((is_full (Several u f ∷ []) s ≡ false) × OneFits u w s) P (λ h _. h) _ (one_of_several_fits u f))
 
+right_brace_not_left : (k : TokenKind) → is_right_brace k ≡ true → is_left k ≡ false
+right_brace_not_left kind.RightBrace e = refl
+right_brace_not_left _ e = absurd (true≢false (sym e))
+
 step_fits : (w : Word) (ws : List Wanted) (s : State) → IfTaken (Fits ws w s) (step w ws s)
 unfolding step
 step_fits w (Form ∷ ws) s = form_fits w ws s w.keyword
@@ -342,9 +347,14 @@ step_fits w (RuleName ∷ ws) s =
 step_fits w (Patterns ∷ ws) s =
     let P : Type 0 = Fits (Patterns ∷ ws) w s in
     cond_both (is_arrow w.keyword) _ _ (IfTaken P) (λ arrow other. clash (is_arrow w.keyword) arrow other)
-    (λ _. cond_both (is_left w.kind) _ _ (IfTaken P) (λ _. cond_both (nat_lt (length s.conditions) most_conditions) _ _ (IfTaken P) (λ room _. room) (λ _. tt))
-    (λ _. cond_both (is_left_brace w.kind) _ _ (IfTaken P) (λ _. cond_both (nat_lt (length s.conditions) most_conditions) _ _ (IfTaken P) (λ room _. room) (λ _. tt))
-    (λ _. cond_both (is_minus w.keyword) _ _ (IfTaken P) (λ _. cond_both (nat_lt (length s.conditions) most_conditions) _ _ (IfTaken P) (λ room _. room) (λ _. tt)) (λ _. tt))))
+    (λ _. cond_both (is_left w.kind) _ _ (IfTaken P) (λ _. cond_both (nat_lt (length (elements_of s.conditions)) most_conditions) _ _ (IfTaken P) (λ room _ _. room) (λ _. tt))
+    (λ _. cond_both (is_left_brace w.kind) _ _ (IfTaken P) (λ _. cond_both (nat_lt (length (elements_of s.conditions)) most_conditions) _ _ (IfTaken P) (λ room _ _. room) (λ _. tt))
+    (λ _. cond_both (is_minus w.keyword) _ _ (IfTaken P) (λ _. cond_both (nat_lt (length (elements_of s.conditions)) most_conditions) _ _ (IfTaken P) (λ room _ _. room) (λ _. tt))
+    (λ _. cond_both (begins_group w.keyword) _ _ (IfTaken P) (λ of _ no. absurd (true≢false (sym of ∙ no))) (λ _. tt)))))
+step_fits w (Members n ∷ ws) s =
+    let P : Type 0 = Fits (Members n ∷ ws) w s in
+    cond_both (is_right_brace w.kind && nat_le 2 n) _ _ (IfTaken P) (λ brace left. clash (is_left w.kind) left (right_brace_not_left w.kind (and_parts (is_right_brace w.kind) (nat_le 2 n) brace).0))
+    (λ _. cond_both (is_left w.kind) _ _ (IfTaken P) (λ _. cond_both (has_room s) _ _ (IfTaken P) (λ room _. room) (λ _. tt)) (λ _. tt))
 step_fits w (Braced ∷ ws) s =
     let P : Type 0 = Fits (Braced ∷ ws) w s in
     cond_both (is_left w.kind) _ _ (IfTaken P) (λ left other. clash (is_left w.kind) left other)

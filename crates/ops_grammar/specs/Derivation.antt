@@ -1,5 +1,5 @@
 -- The grammar alone: which words may stand where something is wanted, whatever was declared and bound before them.
-use Rattle.std.specs.Prelude.{◌≡◌, ℕ, suc, List, [], ◌∷◌, ◌++◌, if◌then◌else◌, Bool, true, false, not, ◌&&◌, ◌||◌, ◌==◌, Option, Some, None, is_some}
+use Rattle.std.specs.Prelude.{◌≡◌, ℕ, suc, List, [], ◌∷◌, ◌++◌, if◌then◌else◌, Bool, true, false, not, ◌&&◌, ◌||◌, ◌==◌, Option, Some, None, is_some, nat_le}
 use Rattle.ops_base.specs.declared.values.Sym.{Sym}
 use Rattle.ops_base.specs.declared.values.Pred.{Pred}
 use Rattle.ops_base.specs.declared.values.Pred.TheVariants as pred
@@ -9,7 +9,7 @@ use Rattle.ops_tokens.specs.declared.token.TokenKind.{TokenKind}
 use Rattle.ops_tokens.specs.declared.token.TokenKind.TheVariants as kind
 use Rattle.ops_grammar.specs.declared.words.Word.{Word}
 use Rattle.ops_grammar.specs.declared.words.Keyword.TheVariants as keyword
-use Rattle.ops_grammar.specs.Grammar.{Use, InPattern, InPut, InFixed, Target, ToTest, ToTerms, ToConstants, ToItem, ToBind, Ends, EndsHalt, EndsCrlf, EndsCs, EndsExit, EndsWhole, TagUse, ToRemove, ToShow, NameUse, ToPrint, ToBreak, Column, ToTab, ToRight, Wanted, Forms, Form, ClassDeclared, Attributes, VectorName, VectorNames, RuleName, FirstPattern, Patterns, Pattern, Braced, ElementName, ClosesBrace, ClassName, Terms, Attribute, Several, Place, Tests, Tested, Choice, Atom, ValueFor, Function, Waiting, ExpressionUnit, ExpressionRest, Bracketed, SourceCell, SourceAttribute, SourceEnd, Actions, ActionWord, Modified, BoundName, BoundValue, CellName, Cell, Cells, Items, ItemWord, Columns, Count, StrategyName, TagOrAll, Tags, Shown, NamedRule, NamedRules, Level, Closes, is_left, is_right, is_left_brace, is_right_brace, is_caret, is_name, is_variable, is_literal, is_inf, operation_of, function_depth, is_of_action, takes_several, is_minus, opens_choice, closes_choice, pred_of, constant_of, value_of, atom_of, small_of, count_of, strategy_of, is_all, level_of, is_one_of, behind_attribute}
+use Rattle.ops_grammar.specs.Grammar.{Use, InPattern, InPut, InFixed, Target, ToTest, ToTerms, ToConstants, ToItem, ToBind, Ends, EndsHalt, EndsCrlf, EndsCs, EndsExit, EndsWhole, TagUse, ToRemove, ToShow, NameUse, ToPrint, ToBreak, Column, ToTab, ToRight, Wanted, Forms, Form, ClassDeclared, Attributes, VectorName, VectorNames, RuleName, FirstPattern, Patterns, Pattern, Braced, ElementName, ClosesBrace, ClassName, Terms, Attribute, Several, Place, Tests, Tested, Choice, Atom, ValueFor, Function, Waiting, ExpressionUnit, ExpressionRest, Bracketed, SourceCell, SourceAttribute, SourceEnd, Actions, ActionWord, Modified, BoundName, BoundValue, CellName, Cell, Cells, Items, ItemWord, Columns, Count, StrategyName, TagOrAll, Tags, Shown, NamedRule, NamedRules, Level, Closes, is_left, is_right, is_left_brace, is_right_brace, is_caret, is_name, is_variable, is_literal, is_inf, operation_of, function_depth, is_of_action, takes_several, is_minus, opens_choice, closes_choice, pred_of, constant_of, value_of, atom_of, small_of, count_of, strategy_of, is_all, level_of, is_one_of, behind_attribute, GroupBrace, Members, begins_group}
 
 -- WHOLE
 abbrev pub is_whole : TokenKind → Bool
@@ -66,6 +66,12 @@ pub data Derives : List Sym → List Wanted → List Word → Type 0 where
   a_pattern : {vs : List Sym} {ws : List Wanted} {w : Word} {ts : List Word} → is_left w.kind ≡ true → Derives vs (ClassName ∷ Terms InPattern ∷ Patterns ∷ ws) ts → Derives vs (Patterns ∷ ws) (w ∷ ts)
   a_braced_pattern : {vs : List Sym} {ws : List Wanted} {w : Word} {ts : List Word} → is_left_brace w.kind ≡ true → Derives vs (Braced ∷ Patterns ∷ ws) ts → Derives vs (Patterns ∷ ws) (w ∷ ts)
   a_negated_pattern : {vs : List Sym} {ws : List Wanted} {w : Word} {ts : List Word} → is_minus w.keyword ≡ true → Derives vs (Pattern ∷ Patterns ∷ ws) ts → Derives vs (Patterns ∷ ws) (w ∷ ts)
+  a_group_first : {vs : List Sym} {ws : List Wanted} {w : Word} {ts : List Word} → begins_group w.keyword ≡ true → Derives vs (GroupBrace ∷ ws) ts → Derives vs (FirstPattern ∷ ws) (w ∷ ts)
+  a_group_pattern : {vs : List Sym} {ws : List Wanted} {w : Word} {ts : List Word} → begins_group w.keyword ≡ true → Derives vs (GroupBrace ∷ Patterns ∷ ws) ts → Derives vs (Patterns ∷ ws) (w ∷ ts)
+  -- - { pattern pattern pattern* }
+  a_group : {vs : List Sym} {ws : List Wanted} {w : Word} {ts : List Word} → is_left_brace w.kind ≡ true → Derives vs (Members 0 ∷ ws) ts → Derives vs (GroupBrace ∷ ws) (w ∷ ts)
+  a_member : {vs : List Sym} {n : ℕ} {ws : List Wanted} {w : Word} {ts : List Word} → is_left w.kind ≡ true → Derives vs (ClassName ∷ Terms InPattern ∷ Members (suc n) ∷ ws) ts → Derives vs (Members n ∷ ws) (w ∷ ts)
+  no_member : {vs : List Sym} {n : ℕ} {ws : List Wanted} {w : Word} {ts : List Word} → is_right_brace w.kind ≡ true → nat_le 2 n ≡ true → Derives vs ws ts → Derives vs (Members n ∷ ws) (w ∷ ts)
   a_whole_pattern : {vs : List Sym} {ws : List Wanted} {w : Word} {ts : List Word} → is_left w.kind ≡ true → Derives vs (ClassName ∷ Terms InPattern ∷ ws) ts → Derives vs (Pattern ∷ ws) (w ∷ ts)
   -- positive = { VARIABLE pattern } | { pattern VARIABLE }
   a_name_before : {vs : List Sym} {ws : List Wanted} {w : Word} {ts : List Word} → is_variable w.kind ≡ true → Derives vs (Pattern ∷ ClosesBrace ∷ ws) ts → Derives vs (Braced ∷ ws) (w ∷ ts)

@@ -11,6 +11,8 @@ use Rattle.ops_base.specs.declared.conditions.Operand.{Operand}
 use Rattle.ops_base.specs.declared.conditions.Operand.TheVariants as operand
 use Rattle.ops_base.specs.declared.conditions.Test.{Test}
 use Rattle.ops_base.specs.declared.conditions.Condition.{Condition}
+use Rattle.ops_base.specs.declared.conditions.Part.{Part}
+use Rattle.ops_base.specs.declared.conditions.Part.TheVariants as part
 use Rattle.ops_base.specs.declared.expression.Op.{Op}
 use Rattle.ops_base.specs.declared.expression.Op.TheVariants as op
 use Rattle.ops_base.specs.declared.actions.Term.{Term}
@@ -31,7 +33,7 @@ use Rattle.ops_base.specs.declared.endings.Fault.TheVariants as fault
 use Rattle.ops_base.specs.declared.endings.Limit.TheVariants as limit
 use Rattle.ops_base.specs.Expression.{Formula}
 use Rattle.ops_base.specs.Expression as formula
-use Rattle.ops_base.specs.Valid.{most_fields, most_conditions, class_of, is_vector, is_column, is_natural, specificity, cells_of}
+use Rattle.ops_base.specs.Valid.{most_fields, most_conditions, class_of, is_vector, is_column, is_natural, specificity, cells_of, elements_of}
 use Rattle.ops_tokens.specs.declared.token.TokenKind.{TokenKind}
 use Rattle.ops_tokens.specs.declared.token.TokenKind.TheVariants as kind
 use Rattle.ops_grammar.specs.declared.words.Word.{Word}
@@ -108,6 +110,10 @@ pub data Wanted : Type 0 where
   Patterns : Wanted
   -- ( CLASS term* )
   Pattern : Wanted
+  -- { pattern pattern pattern* }
+  GroupBrace : Wanted
+  -- pattern* }, after this many members of the group, which has two or more
+  Members : (count : ℕ) → Wanted
   -- VARIABLE pattern } | pattern VARIABLE }
   Braced : Wanted
   -- VARIABLE
@@ -223,7 +229,10 @@ pub record State : Type 0 where
   pub variables : ℕ
   pub negated : Bool
   pub around : ℕ
-  pub conditions : List Condition
+  -- whether a group is read, and its members
+  pub grouped : Bool
+  pub members : List Condition
+  pub conditions : List Part
   pub actions : List Action
   -- the cell that a `modify` names, none in a `make`; the class of the element that this right side made last; the
   -- classes of the cells that its `cbind` named; the variable of a `bind`; the cell and the field of a `substr`; and
@@ -290,6 +299,11 @@ abbrev pub is_minus : Keyword → Bool
 is_minus keyword.Minus = true
 is_minus _ = false
 
+-- - before { and a group
+abbrev pub begins_group : Keyword → Bool
+begins_group keyword.GroupMinus = true
+begins_group _ = false
+
 -- << before constants
 abbrev pub opens_choice : Keyword → Bool
 opens_choice keyword.OpenChoice = true
@@ -313,6 +327,7 @@ is_compute _ = false
 abbrev pub operation_of : Keyword → Option Op
 operation_of keyword.Plus = Some op.Add
 operation_of keyword.Minus = Some op.Sub
+operation_of keyword.GroupMinus = Some op.Sub
 operation_of keyword.Times = Some op.Mul
 operation_of keyword.Literal = Some op.Div
 operation_of keyword.Remainder = Some op.Rem
@@ -753,14 +768,33 @@ source_end t name w ws s =
 abbrev pub with_command : State → Command → State
 with_command s c = record s { commands = s.commands ++ c ∷ [] }
 
+-- a member of a group ends
+abbrev pub with_member : State → State
+with_member s =
+    record s { members = s.members ++ record { class = s.class; negated = false; tests = s.tests } ∷ []; tests = [] }
+
 -- A condition ends. The variables of a negated one are out of sight after it.
-abbrev pub with_condition : State → State
-with_condition s =
+abbrev pub with_one : State → State
+with_one s =
     record s {
-      conditions = s.conditions ++ record { class = s.class; negated = s.negated; tests = s.tests } ∷ [];
+      conditions = s.conditions ++ part.One (record { class = s.class; negated = s.negated; tests = s.tests }) ∷ [];
       tests = [];
       values = if s.negated then take s.around s.values else s.values;
       negated = false;
+    }
+
+abbrev pub with_condition : State → State
+with_condition s = if s.grouped then with_member s else with_one s
+
+-- A group ends. The variables that it bound are out of sight after it.
+abbrev pub with_group : State → State
+with_group s =
+    record s {
+      conditions = s.conditions ++ part.Group s.members ∷ [];
+      values = take s.around s.values;
+      negated = false;
+      grouped = false;
+      members = [];
     }
 
 -- a `make` of this class, or a `modify` of the cell
@@ -827,13 +861,15 @@ left_begun s =
       variables = 0;
       negated = false;
       around = 0;
+      grouped = false;
+      members = [];
       conditions = [];
     }
 
 -- a left side ends: its conditions, and the variables that they bind, are all that it leaves
 abbrev pub left_ended : State → State
 left_ended s =
-    record s { class = 0; tests = []; choice = []; terms = []; constants = []; element = record { 0 = 0 }; negated = false; around = 0 }
+    record s { class = 0; tests = []; choice = []; terms = []; constants = []; element = record { 0 = 0 }; negated = false; around = 0; grouped = false; members = [] }
 
 -- a right side begins, or has ended: nothing of another is left
 abbrev pub right_begun : State → State
@@ -865,20 +901,45 @@ abbrev pub first_pattern : Word → List Wanted → State → Step
 first_pattern w ws s =
     if is_left w.kind then Next (ClassName ∷ Terms InPattern ∷ ws) s
     else if is_left_brace w.kind then Next (Braced ∷ ws) s
-    else if is_minus w.keyword then Refuses fault.FirstNegated
+    else if is_minus w.keyword || begins_group w.keyword then Refuses fault.FirstNegated
     else Refuses fault.BadForm
 
 -- one more condition, where there is room for one
 abbrev pub one_more : List Wanted → State → Step
-one_more ws s = if nat_lt (length s.conditions) most_conditions then Next ws s else Refuses (fault.LimitPassed limit.Conditions)
+one_more ws s = if nat_lt (length (elements_of s.conditions)) most_conditions then Next ws s else Refuses (fault.LimitPassed limit.Conditions)
 
--- positive | - pattern
+-- positive | - pattern | - { pattern pattern pattern* }
 abbrev pub more_patterns : Word → List Wanted → State → Step
 more_patterns w ws s =
     if is_left w.kind then one_more (ClassName ∷ Terms InPattern ∷ ws) s
     else if is_left_brace w.kind then one_more (Braced ∷ ws) s
     else if is_minus w.keyword then one_more (Pattern ∷ ws) (record s { negated = true; around = length s.values })
+    else if begins_group w.keyword then Next (GroupBrace ∷ ws) s
     else Refuses fault.BadForm
+
+-- a group begins, and has no member yet
+abbrev pub group_begun : State → State
+group_begun s = record s { grouped = true; around = length s.values; members = []; tests = [] }
+
+-- { pattern pattern pattern* }
+abbrev pub group : Word → List Wanted → State → Step
+group w ws s = if is_left_brace w.kind then Next (Members 0 ∷ ws) (group_begun s) else Refuses fault.BadForm
+
+-- there is room for one more member
+abbrev pub has_room : State → Bool
+has_room s = nat_lt (length (elements_of s.conditions) + length s.members) most_conditions
+
+abbrev pub one_member : List Wanted → State → Step
+one_member ws s = if has_room s then Next ws s else Refuses (fault.LimitPassed limit.Conditions)
+
+-- pattern
+abbrev pub member : Word → List Wanted → State → Step
+member w ws s = if is_left w.kind then one_member (ClassName ∷ Terms InPattern ∷ ws) s else Refuses fault.BadForm
+
+-- pattern* }
+abbrev pub members : ℕ → Word → List Wanted → State → Step
+members n w ws s =
+    if is_right_brace w.kind && nat_le 2 n then Next ws (with_group s) else member w (Members (suc n) ∷ ws) s
 
 abbrev pub patterns : Word → List Wanted → State → Step
 patterns w ws s = if is_arrow w.keyword then Next ws (right_begun (left_ended s)) else more_patterns w (Patterns ∷ ws) s
@@ -943,11 +1004,16 @@ action_word _ ws s = Refuses fault.BadForm
 
 -- ---- designators
 
+-- no cell comes with this part
+abbrev pub is_absent : Part → Bool
+is_absent (part.One c) = c.negated
+is_absent (part.Group cs) = true
+
 -- The condition that is designated is positive, and so is each before it; its cell has the number of conditions before it.
-abbrev pub designated : ℕ → Option Condition → State → Result ℕ Fault
-designated before (Some c) s =
-    if c.negated then Err fault.BadDesignator
-    else if list_any (λ c. c.negated) (take before s.conditions) then Err fault.AmbiguousDesignator
+abbrev pub designated : ℕ → Option Part → State → Result ℕ Fault
+designated before (Some p) s =
+    if is_absent p then Err fault.BadDesignator
+    else if list_any is_absent (take before s.conditions) then Err fault.AmbiguousDesignator
     else Ok before
 designated before None s = Err fault.BadDesignator
 
@@ -1162,6 +1228,8 @@ step w (RuleName ∷ ws) s = rule_name w ws s
 step w (FirstPattern ∷ ws) s = first_pattern w ws s
 step w (Patterns ∷ ws) s = patterns w ws s
 step w (Pattern ∷ ws) s = pattern w ws s
+step w (GroupBrace ∷ ws) s = group w ws s
+step w (Members n ∷ ws) s = members n w ws s
 step w (Braced ∷ ws) s = braced w ws s
 step w (ElementName ∷ ws) s = element_name w ws s
 step w (ClosesBrace ∷ ws) s = closes_brace w ws s
@@ -1247,6 +1315,8 @@ nothing_read =
       variables = 0;
       negated = false;
       around = 0;
+      grouped = false;
+      members = [];
       conditions = [];
       actions = [];
       modified = None;

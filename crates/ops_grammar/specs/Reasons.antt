@@ -1,18 +1,18 @@
 -- Why a word is refused: what each fault says of the word, of what is wanted there and of what was read before.
-use Rattle.std.specs.Prelude.{◌≡◌, ℕ, ◌+◌, ◌-◌, List, [], ◌∷◌, length, take, Bool, true, false, not, ◌&&◌, nat_lt, Option, Some, None, is_some, slice_get}
+use Rattle.std.specs.Prelude.{◌≡◌, ℕ, ◌+◌, ◌-◌, List, [], ◌∷◌, length, take, Bool, true, false, not, ◌&&◌, ◌||◌, nat_lt, Option, Some, None, is_some, slice_get}
 use Rattle.std.specs.List.{list_any}
 use Rattle.ops_base.specs.declared.values.Sym.{Sym}
-use Rattle.ops_base.specs.declared.conditions.Condition.{Condition}
+use Rattle.ops_base.specs.declared.conditions.Part.{Part}
 use Rattle.ops_base.specs.declared.endings.Fault.{Fault}
 use Rattle.ops_base.specs.declared.endings.Fault.TheVariants as fault
 use Rattle.ops_base.specs.declared.endings.Limit.TheVariants as limit
-use Rattle.ops_base.specs.Valid.{most_fields, most_conditions, is_equality}
+use Rattle.ops_base.specs.Valid.{most_fields, most_conditions, is_equality, elements_of}
 use Rattle.ops_tokens.specs.declared.token.TokenKind.{TokenKind}
 use Rattle.ops_tokens.specs.declared.token.TokenKind.TheVariants as kind
 use Rattle.ops_grammar.specs.declared.words.Word.{Word}
 use Rattle.ops_grammar.specs.declared.words.Keyword.{Keyword}
 use Rattle.ops_grammar.specs.declared.words.Keyword.TheVariants as keyword
-use Rattle.ops_grammar.specs.Grammar.{InPattern, InPut, InFixed, ToTest, ToFixed, ToConstants, Wanted, Forms, Form, ClassDeclared, Attributes, VectorName, VectorNames, RuleName, FirstPattern, Patterns, Braced, ElementName, ClassName, Attribute, Several, Shown, Tested, ValueFor, ExpressionUnit, Bracketed, SourceCell, SourceAttribute, Modified, BoundValue, CellName, Cell, Cells, Items, State, most_brackets, is_left, is_name, is_variable, is_minus, natural_of, is_one_of, number_of, may_declare, may_produce, is_class, is_rule, is_second, makes_second, attributes_of, source_class}
+use Rattle.ops_grammar.specs.Grammar.{InPattern, InPut, InFixed, ToTest, ToFixed, ToConstants, Wanted, Forms, Form, ClassDeclared, Attributes, VectorName, VectorNames, RuleName, FirstPattern, Patterns, Braced, ElementName, ClassName, Attribute, Several, Shown, Tested, ValueFor, ExpressionUnit, Bracketed, SourceCell, SourceAttribute, Modified, BoundValue, CellName, Cell, Cells, Items, State, most_brackets, is_left, is_name, is_variable, is_minus, natural_of, is_one_of, number_of, may_declare, may_produce, is_class, is_rule, is_second, makes_second, attributes_of, source_class, is_absent, Members, has_room, begins_group}
 use Rattle.ops_grammar.specs.Derivation.{is_designator}
 
 -- the numbers of the faults, by which one of several at a word is chosen
@@ -100,7 +100,13 @@ nests_deepest ws = false
 -- a further condition
 abbrev pub wants_condition : List Wanted → Bool
 wants_condition (Patterns ∷ ws) = true
+wants_condition (Members n ∷ ws) = true
 wants_condition ws = false
+
+-- there is no room for one more
+abbrev pub is_crowded : List Wanted → State → Bool
+is_crowded (Members n ∷ ws) s = not (has_room s)
+is_crowded ws s = not (nat_lt (length (elements_of s.conditions)) most_conditions)
 
 -- the first condition of a production
 abbrev pub wants_first : List Wanted → Bool
@@ -127,8 +133,8 @@ is_bound (ValueFor ToConstants ∷ ws) name s = false
 is_bound (Several InFixed f ∷ ws) name s = false
 is_bound ws name s = is_some (number_of name s.values)
 
-abbrev pub is_positive : Option Condition → Bool
-is_positive (Some c) = not c.negated
+abbrev pub is_positive : Option Part → Bool
+is_positive (Some p) = not (is_absent p)
 is_positive None = false
 
 abbrev pub is_condition : State → Option ℕ → Bool
@@ -142,7 +148,7 @@ designates kind.Variable name s = is_some (number_of name s.elements)
 designates _ name s = false
 
 abbrev pub is_unclear : State → Option ℕ → Bool
-is_unclear s (Some n) = list_any (λ c. c.negated) (take (n - 1) s.conditions)
+is_unclear s (Some n) = list_any is_absent (take (n - 1) s.conditions)
 is_unclear s None = false
 
 -- the number of a condition after a negated one
@@ -180,11 +186,11 @@ Because fault.LateProduction w ws s = (wants_form ws ≡ true) × (w.keyword ≡
 Because fault.UnboundVariable w ws s = (wants_bound ws ≡ true) × (is_variable w.kind ≡ true) × (is_bound ws w.name s ≡ false)
 Because fault.BadDesignator w ws s = is_bad_designator ws w s ≡ true
 Because (fault.LimitPassed limit.Fields) w ws s = is_full ws s ≡ true
-Because (fault.LimitPassed limit.Conditions) w ws s = (wants_condition ws ≡ true) × (nat_lt (length s.conditions) most_conditions ≡ false)
+Because (fault.LimitPassed limit.Conditions) w ws s = (wants_condition ws ≡ true) × (is_crowded ws s ≡ true)
 Because (fault.LimitPassed limit.Nesting) w ws s = (is_left w.kind ≡ true) × (nests_deepest ws ≡ true)
 Because fault.Stray w ws s = no_form_fault ws ≡ fault.Stray
 Because fault.UnknownCommand w ws s = no_form_fault ws ≡ fault.UnknownCommand
 Because fault.BadForm w ws s = no_form_fault ws ≡ fault.BadForm
-Because fault.FirstNegated w ws s = (is_minus w.keyword ≡ true) × (wants_first ws ≡ true)
+Because fault.FirstNegated w ws s = ((is_minus w.keyword || begins_group w.keyword) ≡ true) × (wants_first ws ≡ true)
 Because fault.AmbiguousDesignator w ws s = (wants_cell ws ≡ true) × (designates w.kind w.name s ≡ true) × (designates_unclearly w.kind s ≡ true)
 Because _ w ws s = ⊥

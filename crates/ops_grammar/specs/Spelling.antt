@@ -16,6 +16,8 @@ use Rattle.ops_base.specs.declared.conditions.Operand.{Operand}
 use Rattle.ops_base.specs.declared.conditions.Operand.TheVariants as operand
 use Rattle.ops_base.specs.declared.conditions.Test.{Test}
 use Rattle.ops_base.specs.declared.conditions.Condition.{Condition}
+use Rattle.ops_base.specs.declared.conditions.Part.{Part}
+use Rattle.ops_base.specs.declared.conditions.Part.TheVariants.{One, Group}
 use Rattle.ops_base.specs.declared.expression.Op.{Op}
 use Rattle.ops_base.specs.declared.expression.Op.TheVariants as op
 use Rattle.ops_base.specs.Expression.{Formula, all_variables}
@@ -28,12 +30,12 @@ use Rattle.ops_base.specs.declared.actions.Item.TheVariants as item
 use Rattle.ops_base.specs.declared.actions.Action.{Action}
 use Rattle.ops_base.specs.declared.actions.Action.TheVariants as action
 use Rattle.ops_base.specs.declared.rules.Rule.{Rule}
-use Rattle.ops_base.specs.Valid.{most_conditions, are_distinct, class_is_valid, class_of, is_attribute, is_vector, is_field, is_equality, is_in, is_column, is_natural, first_is_positive, cells_of, specificity, fixed_is_valid}
+use Rattle.ops_base.specs.Valid.{most_conditions, are_distinct, class_is_valid, class_of, is_attribute, is_vector, is_field, is_equality, is_in, is_column, is_natural, first_is_positive, cells_of, specificity, fixed_is_valid, elements_of}
 use Rattle.ops_tokens.specs.declared.token.TokenKind.TheVariants as kind
 use Rattle.ops_grammar.specs.declared.words.Word.{Word}
 use Rattle.ops_grammar.specs.declared.words.Keyword.{Keyword}
 use Rattle.ops_grammar.specs.declared.words.Keyword.TheVariants as keyword
-use Rattle.ops_grammar.specs.Grammar.{is_one_of, most_brackets, function_depth}
+use Rattle.ops_grammar.specs.Grammar.{is_one_of, most_brackets, function_depth, is_absent}
 
 -- ---- words, where their places do not matter
 
@@ -195,11 +197,20 @@ spelled_condition classes cell c =
     if c.negated then spelled_operator keyword.Minus ∷ opening ∷ spelled_pattern (class_of classes c.class) c.tests
     else opening_brace ∷ spelled_variable cell ∷ opening ∷ spelled_pattern (class_of classes c.class) c.tests ++ closing_brace ∷ []
 
--- conditions, of which the next positive one has that cell
-abbrev pub spelled_conditions : List Class → ℕ → List Condition → List Word
+-- - { pattern pattern pattern* }
+abbrev pub spelled_group : List Class → List Condition → List Word
+spelled_group classes cs =
+    spelled_operator keyword.GroupMinus ∷ opening_brace ∷ spelled_each (λ c. opening ∷ spelled_pattern (class_of classes c.class) c.tests) cs ++ closing_brace ∷ []
+
+abbrev pub spelled_part : List Class → ℕ → Part → List Word
+spelled_part classes cell (One c) = spelled_condition classes cell c
+spelled_part classes cell (Group cs) = spelled_group classes cs
+
+-- parts, of which the next positive condition has that cell
+abbrev pub spelled_conditions : List Class → ℕ → List Part → List Word
 spelled_conditions classes cell [] = []
-spelled_conditions classes cell (c ∷ cs) =
-    spelled_condition classes cell c ++ spelled_conditions classes (if c.negated then cell else suc cell) cs
+spelled_conditions classes cell (p ∷ ps) =
+    spelled_part classes cell p ++ spelled_conditions classes (if is_absent p then cell else suc cell) ps
 
 -- the numbers of the variables in sight, in the order in which they came, and how many were given
 pub record Numbered : Type 0 where
@@ -235,13 +246,31 @@ after_condition k c = if c.negated then record { sight = k.sight; given = (after
 abbrev pub condition_is_plain : List Class → Numbered → Condition → Bool
 condition_is_plain classes k c = nat_lt c.class (length classes) && tests_are_plain (class_of classes c.class) k c.tests
 
-abbrev pub conditions_are_plain : List Class → Numbered → List Condition → Bool
-conditions_are_plain classes k [] = true
-conditions_are_plain classes k (c ∷ cs) = condition_is_plain classes k c && conditions_are_plain classes (after_condition k c) cs
+-- a member sees what those before it bind
+abbrev pub after_members : Numbered → List Condition → Numbered
+after_members k [] = k
+after_members k (c ∷ cs) = after_members (after_tests k c.tests) cs
 
-abbrev pub after_conditions : Numbered → List Condition → Numbered
+abbrev pub members_are_plain : List Class → Numbered → List Condition → Bool
+members_are_plain classes k [] = true
+members_are_plain classes k (c ∷ cs) = not c.negated && condition_is_plain classes k c && members_are_plain classes (after_tests k c.tests) cs
+
+-- What a group binds is out of sight after it.
+abbrev pub after_part : Numbered → Part → Numbered
+after_part k (One c) = after_condition k c
+after_part k (Group cs) = record { sight = k.sight; given = (after_members k cs).given }
+
+abbrev pub part_is_plain : List Class → Numbered → Part → Bool
+part_is_plain classes k (One c) = condition_is_plain classes k c
+part_is_plain classes k (Group cs) = nat_le 2 (length cs) && members_are_plain classes k cs
+
+abbrev pub conditions_are_plain : List Class → Numbered → List Part → Bool
+conditions_are_plain classes k [] = true
+conditions_are_plain classes k (p ∷ ps) = part_is_plain classes k p && conditions_are_plain classes (after_part k p) ps
+
+abbrev pub after_conditions : Numbered → List Part → Numbered
 after_conditions k [] = k
-after_conditions k (c ∷ cs) = after_conditions (after_condition k c) cs
+after_conditions k (p ∷ ps) = after_conditions (after_part k p) ps
 
 abbrev pub nothing_numbered : Numbered
 nothing_numbered = record { sight = []; given = 0 }
@@ -255,7 +284,7 @@ pub record InSight : Type 0 where
   pub made : Option ℕ
 
 -- after the arrow
-abbrev pub at_arrow : List Condition → InSight
+abbrev pub at_arrow : List Part → InSight
 at_arrow conditions = record { variables = after_conditions nothing_numbered conditions; cells = cells_of conditions; made = None }
 
 abbrev pub class_of_cell : InSight → ℕ → ℕ
@@ -414,7 +443,7 @@ spelled_rule classes r =
 
 abbrev pub rule_is_plain : List Class → Rule → Bool
 rule_is_plain classes r =
-    first_is_positive r.conditions && nat_le (length r.conditions) most_conditions && conditions_are_plain classes nothing_numbered r.conditions
+    first_is_positive r.conditions && nat_le (length (elements_of r.conditions)) most_conditions && conditions_are_plain classes nothing_numbered r.conditions
     && actions_are_plain classes (at_arrow r.conditions) r.actions
     && (r.variables == (after_actions (at_arrow r.conditions) r.actions).variables.given) && (r.specificity == specificity r.conditions)
     && (r.cells == length (after_actions (at_arrow r.conditions) r.actions).cells)

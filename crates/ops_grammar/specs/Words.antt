@@ -99,10 +99,23 @@ abbrev pub word_of : Spellings → Token → List ℕ → Word
 word_of names t s =
     record { kind = t.kind; keyword = keyword_of t.kind s; name = record { 0 = name_in names t.kind s }; first = t.first; past = t.past }
 
+-- a - right before an opening brace begins a group
+abbrev pub minus_before : TokenKind → Keyword
+minus_before kind.LeftBrace = keyword.GroupMinus
+minus_before _ = keyword.Minus
+
+abbrev pub keyword_before : Keyword → List Token → Keyword
+keyword_before keyword.Minus (t ∷ ts) = minus_before t.kind
+keyword_before k ts = k
+
+-- the word before these tokens
+abbrev pub word_before : Word → List Token → Word
+word_before w ts = record w { keyword = keyword_before w.keyword ts }
+
 -- the words of tokens of a text, where these names are held before them
 abbrev pub words_from : List ℕ → Spellings → List Token → List Word
 words_from text names [] = []
-words_from text names (t ∷ ts) = word_of names t (spelling text t) ∷ words_from text (names_with names t.kind (spelling text t)) ts
+words_from text names (t ∷ ts) = word_before (word_of names t (spelling text t)) ts ∷ words_from text (names_with names t.kind (spelling text t)) ts
 
 -- the names that are held after them
 abbrev pub names_from : List ℕ → Spellings → List Token → Spellings

@@ -95,6 +95,8 @@ pub enum Keyword {
     Literal,
     /// `-`
     Minus,
+    /// `-` right before a brace, as it begins a group.
+    GroupMinus,
     /// A word of any other spelling, or one that is no plain symbol and no operator.
     Other,
 }

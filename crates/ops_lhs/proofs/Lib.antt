@@ -1,4 +1,3 @@
 pub mod Borders
-pub mod Cells
 pub mod Rooms
 pub mod Ways

@@ -1,11 +1,11 @@
 -- Steps of the walk over a left side, in every state around it.
-use Rattle.std.proofs.Common.{◌≡◌, ℕ, ◌≤◌, List, ◌∷◌, take, Result, Ok, Err, ◌∙◌, arith}
+use Rattle.std.proofs.Common.{◌≡◌, ℕ, ◌≤◌, false, ◌||◌, List, ◌∷◌, take, Result, Ok, Err, refl, ◌∙◌, arith}
 use Rattle.ops_base.specs.declared.elements.Class.{Class}
 use Rattle.ops_grammar.specs.declared.words.Word.{Word}
-use Rattle.ops_grammar.specs.Grammar.{InPattern, Wanted, Terms, State}
+use Rattle.ops_grammar.specs.Grammar.{Use, InPattern, Wanted, Terms, Several, State, after, step, is_right, is_caret, one_of_several}
 use Rattle.ops_forms.specs.declared.refusals.Refusal.{Refusal}
 use Rattle.ops_lhs.specs.declared.left.Left.{Left}
-use Rattle.ops_forms.specs.PlaceWalks.{Way, GoesOn, CutGoesOn, CutWay, Onward, IsFrom}
+use Rattle.ops_forms.specs.PlaceWalks.{Way, GoesOn, CutGoesOn, CutWay, Onward, goes_onward, IsFrom}
 use Rattle.ops_forms.proofs.Walks.{fails_under, fails_anywhere}
 use Rattle.ops_lhs.specs.Taking.{seen, GoesToTerms, Among, GoesToTermsAmong, PeekGoesToTerms, PeekGoesToTermsAmong}
 
@@ -30,3 +30,8 @@ peek_terms_as_among classes from by words at same new (Err e) le h = tt
 pub peek_place_to_terms : (by : CutWay) (words : List Word) (new : Left) (r : Result ℕ Refusal) → CutGoesOn by words (λ s. seen s new) r → PeekGoesToTerms (λ cut on ws s. by cut on (Terms InPattern ∷ ws) s) words new r
 peek_place_to_terms by words new (Ok next) h = λ n lt on ws s. h n (omega (arith, lt)) on (Terms InPattern ∷ ws) s
 peek_place_to_terms by words new (Err e) h = tt
+
+-- one place more of the vector attribute
+pub several_onward : (u : Use) (f : ℕ) (on : Onward) (words rest : List Word) (w : Word) (ws : List Wanted) (s : State) → words ≡ w ∷ rest → (is_right w.kind || is_caret w.kind) ≡ false → goes_onward on words (Several u f ∷ ws) s ≡ after (goes_onward on rest) w (one_of_several u f w ws s)
+unfolding goes_onward step
+several_onward u f on words rest w ws s e other = rw (e, other) refl

@@ -1,7 +1,7 @@
 -- What a left side is read as.
 use Rattle.std.specs.Prelude.{◌≡◌, ℕ, ◌+◌, ◌-◌, ◌≤◌, List, ◌∷◌, ◌++◌, drop, slice_get, true, Some, None}
 use Rattle.ops_base.specs.declared.elements.Class.{Class}
-use Rattle.ops_base.specs.declared.conditions.Condition.{Condition}
+use Rattle.ops_base.specs.declared.conditions.Part.{Part}
 use Rattle.ops_base.specs.declared.endings.Fault.{Fault}
 use Rattle.ops_base.specs.declared.endings.Fault.TheVariants as fault
 use Rattle.ops_base.specs.Valid.{cells_of}
@@ -29,14 +29,14 @@ left_way words s = λ more ws. goes (words ++ more) (FirstPattern ∷ Patterns �
 
 -- the state after a left side: its conditions, the variables and element variables that they bind, how many numbers of
 -- variables they gave, and nothing else of it, nor of a right side
-abbrev pub left_read : State → List Condition → List Named → List Named → ℕ → State
+abbrev pub left_read : State → List Part → List Named → List Named → ℕ → State
 left_read s conditions values elements variables =
     record (right_begun (left_begun s)) { values = values; elements = elements; variables = variables; conditions = conditions }
 
 -- Where these classes are declared, the words that are read are this left side up to its arrow: whatever words stand
 -- after them, it goes on there from the state that the left side leaves, whatever else was read before and is wanted
 -- afterwards.
-pub record ReadsLeft (classes : List Class) (words rest : List Word) (conditions : List Condition) (values elements : List Named) (variables : ℕ) : Type 0 where
+pub record ReadsLeft (classes : List Class) (words rest : List Word) (conditions : List Part) (values elements : List Named) (variables : ℕ) : Type 0 where
   pub read : List Word
   pub split : words ≡ read ++ rest
   pub reads : (s : State) → s.classes ≡ classes → (more : List Word) (ws : List Wanted) → left_way read s more ws ≡ goes more ws (left_read s conditions values elements variables)
@@ -62,7 +62,7 @@ pub record IsArrowAt (text : List ℕ) (tokens : List Token) (place : ℕ) : Typ
 
 -- The tokens from a place on are read as these conditions up to the arrow at that place, and the scope is what the
 -- conditions leave in sight.
-pub record IsLeftSide (old new : Scope) (tokens : List Token) (from : ℕ) (conditions : List Condition) (place : ℕ) : Type 0 where
+pub record IsLeftSide (old new : Scope) (tokens : List Token) (from : ℕ) (conditions : List Part) (place : ℕ) : Type 0 where
   pub begins : from ≤ place
   pub arrow : IsArrowAt old.text.items tokens place
   pub reads : ReadsLeft old.classes (words_of_scope old tokens from) (drop (place + 1 - from) (words_of_scope old tokens from)) conditions new.values new.elements new.variables

@@ -22,6 +22,8 @@ seen s l =
       variables = l.variables;
       negated = l.negated;
       around = l.around;
+      grouped = l.grouped;
+      members = l.members.items;
       conditions = l.conditions.items;
     }
 

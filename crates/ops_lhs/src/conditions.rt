@@ -5,16 +5,13 @@ ghost use Rattle.ops_forms.specs.PlaceWalks.{GoesAmong, IsFrom, IsBehind, CutGoe
 ghost use Rattle.ops_lhs.specs.LeftSides.{IsArrow};
 ghost use Rattle.ops_lhs.specs.Taking.{seen, ReadsAmong, ActsAmong, Among, CutActsAmong, CutReadsAmong};
 
-use crate::left::Left;
-use ops_base::endings::{Fault, Limit};
-use ops_forms::kinds::{is_arrow, is_left, is_left_brace, is_minus};
-use ops_forms::refusals::refused;
+use crate::left::{Left, has_room};
+use ops_base::endings::Fault;
+use ops_forms::kinds::{begins_group, is_arrow, is_left, is_left_brace, is_minus};
+use ops_forms::refusals::{conditions_passed, refused};
 use ops_forms::walking::first_of;
 use ops_forms::{Classes, Refusal};
 use ops_grammar::Word;
-
-/// How many conditions a production may have.
-const MOST_CONDITIONS: usize = 64;
 
 impl Left {
     // first condition* -->
@@ -51,7 +48,7 @@ impl Left {
         if is_left_brace(word.kind) {
             return self.braced(classes, words, rest);
         }
-        if is_minus(word.keyword) {
+        if is_minus(word.keyword) || begins_group(word.keyword) {
             return refused(Fault::FirstNegated, word);
         }
         refused(Fault::BadForm, word)
@@ -75,7 +72,8 @@ impl Left {
         }
     }
 
-    // positive | - pattern, of which the first word is taken, where there is room for one more
+    // positive | - pattern | - { pattern pattern pattern* }, of which the first word is taken; where there is room for one
+    // more, but a group's members ask for it themselves
     fn condition_from(
         &mut self,
         classes: &Classes,
@@ -88,15 +86,13 @@ impl Left {
         ensures within { IsFrom at result }
     {
         if !is_left(word.kind) && !is_left_brace(word.kind) && !is_minus(word.keyword) {
+            if begins_group(word.keyword) {
+                return self.group(classes, words, at);
+            }
             return refused(Fault::BadForm, word);
         }
-        if self.conditions.len() >= MOST_CONDITIONS {
-            return refused(
-                Fault::LimitPassed {
-                    limit: Limit::Conditions,
-                },
-                word,
-            );
+        if !has_room(&self.conditions, 0) {
+            return conditions_passed(word);
         }
         if is_left(word.kind) {
             return self.class_and_terms(classes, words, at);

@@ -1,11 +1,11 @@
 //! What was read so far of a left side, and how it grows.
-ghost use Rattle.std.specs.Prelude.{◌≡◌, length};
-ghost use Rattle.ops_base.specs.Valid.{cells_of};
-ghost use Rattle.ops_grammar.specs.Grammar.{nothing_read, left_begun, with_test, with_bound, with_choice, with_condition, with_bound_element};
+ghost use Rattle.std.specs.Prelude.{◌≡◌, ◌+◌, length, nat_lt};
+ghost use Rattle.ops_base.specs.Valid.{cells_of, elements_of, most_conditions};
+ghost use Rattle.ops_grammar.specs.Grammar.{nothing_read, left_begun, with_test, with_bound, with_choice, with_member, with_one, with_condition, group_begun, with_group, with_bound_element};
 ghost use Rattle.ops_forms.specs.WordWalks.{Becomes};
 ghost use Rattle.ops_lhs.specs.Taking.{view};
 
-use ops_base::conditions::{Condition, Operand, Test};
+use ops_base::conditions::{Condition, Operand, Part, Test};
 use ops_base::list::Listed;
 use ops_base::values::{NIL, Pred, Sym, Value};
 use ops_forms::{Declared, Named, Refusal};
@@ -32,9 +32,13 @@ pub struct Left {
     pub variables: usize,
     /// Whether the condition that is being read is negated.
     pub negated: bool,
-    /// How many variables are in sight around a negated condition.
+    /// How many variables are in sight around a negated condition or a group.
     pub around: usize,
-    pub conditions: Vec<Condition>,
+    /// Whether a group is being read.
+    pub grouped: bool,
+    /// The members of that group that were read.
+    pub members: Vec<Condition>,
+    pub conditions: Vec<Part>,
     pub alloc: Global,
 }
 
@@ -52,6 +56,8 @@ impl Left {
             variables: 0,
             negated: false,
             around: 0,
+            grouped: false,
+            members: Vec::new(alloc),
             conditions: Vec::new(alloc),
             alloc,
         }
@@ -94,21 +100,66 @@ impl Left {
         self.add_test(field, Pred::Eq, Operand::OneOf(values), false)
     }
 
-    // A condition ends. The variables of a negated one are out of sight after it.
+    // a condition ends, which is a member of a group or a part of its own
     pub fn end_condition(&mut self) -> Result<(), Refusal>
         ensures { Becomes (view self.new) (with_condition (view self.old)) result }
     {
+        if self.grouped {
+            return self.end_member();
+        }
+        self.end_one()
+    }
+
+    fn end_member(&mut self) -> Result<(), Refusal>
+        ensures { Becomes (view self.new) (with_member (view self.old)) result }
+    {
         let none = Vec::new(self.alloc);
         let tests = Listed::from_vec(mem::replace(&mut self.tests, none));
-        self.conditions.push(Condition {
+        self.members.push(Condition {
+            class: self.class,
+            negated: false,
+            tests,
+        })?;
+        Ok(())
+    }
+
+    // The variables of a negated condition are out of sight after it.
+    fn end_one(&mut self) -> Result<(), Refusal>
+        ensures { Becomes (view self.new) (with_one (view self.old)) result }
+    {
+        let none = Vec::new(self.alloc);
+        let tests = Listed::from_vec(mem::replace(&mut self.tests, none));
+        self.conditions.push(Part::One(Condition {
             class: self.class,
             negated: self.negated,
             tests,
-        })?;
+        }))?;
         if self.negated {
             self.values.truncate(self.around);
         }
         self.negated = false;
+        Ok(())
+    }
+
+    pub fn begin_group(&mut self)
+        ensures { view self.new ≡ group_begun (view self.old) }
+    {
+        self.grouped = true;
+        self.around = self.values.len();
+        self.members.clear();
+        self.tests.clear();
+    }
+
+    // The variables of a group are out of sight after it.
+    pub fn end_group(&mut self) -> Result<(), Refusal>
+        ensures { Becomes (view self.new) (with_group (view self.old)) result }
+    {
+        let none = Vec::new(self.alloc);
+        let members = Listed::from_vec(mem::replace(&mut self.members, none));
+        self.conditions.push(Part::Group(members))?;
+        self.values.truncate(self.around);
+        self.negated = false;
+        self.grouped = false;
         Ok(())
     }
 
@@ -127,12 +178,41 @@ impl Left {
 }
 
 /// How many cells an instantiation of conditions has: one per positive condition.
-#[tactic(auto, using(crate::proofs::Cells::cells_counted))]
-fn count_cells(conditions: &[Condition]) -> usize
-    ensures { result ≡ length (cells_of conditions.now) }
+fn count_cells(parts: &[Part]) -> usize
+    ensures { result ≡ length (cells_of parts.now) }
 {
-    conditions
-        .iter()
-        .filter(|condition| !condition.negated)
-        .count()
+    let mut cells = 0;
+    for part in parts {
+        if let Part::One(condition) = part {
+            if !condition.negated {
+                cells += 1;
+            }
+        }
+    }
+    cells
+}
+
+/// How many conditions a production may have, members of groups counted.
+const MOST_CONDITIONS: usize = 256;
+
+/// Whether there is room for one more condition after these parts and this many members of the next one. Takes time in
+/// proportion to the parts.
+pub fn has_room(parts: &[Part], members: usize) -> bool
+    ensures { result ≡ nat_lt (length (elements_of parts.now) + members) most_conditions }
+{
+    if MOST_CONDITIONS <= members {
+        return false;
+    }
+    let mut room = MOST_CONDITIONS - members;
+    for part in parts {
+        let count = match part {
+            Part::One(_) => 1,
+            Part::Group(members) => members.len(),
+        };
+        if room <= count {
+            return false;
+        }
+        room -= count;
+    }
+    true
 }

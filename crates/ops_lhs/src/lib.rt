@@ -6,6 +6,7 @@
 
 mod conditions;
 mod elements;
+mod groups;
 mod left;
 mod patterns;
 mod reading;

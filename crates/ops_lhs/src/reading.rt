@@ -7,7 +7,7 @@ ghost use Rattle.ops_forms.specs.PlaceWalks.{fault_of};
 use crate::left::Left;
 use crate::sides::LeftSide;
 use crate::sight::show;
-use ops_base::conditions::Condition;
+use ops_base::conditions::Part;
 use ops_forms::walking::fault_of;
 use ops_forms::{Classes, ReadFault, Refusal, Scope, words_of};
 use ops_grammar::Word;
@@ -45,7 +45,7 @@ pub fn read_lhs(
     scope: &mut Scope,
     tokens: &[Token],
     from: usize,
-) -> Result<(Vec<Condition>, usize), ReadFault>
+) -> Result<(Vec<Part>, usize), ReadFault>
     requires lie { All (λ t. LiesIn scope.old.text.items t) tokens.now }
     requires within { from ≤ length tokens.now }
     ensures ok { IfOk result (λ r. IsLeftSide scope.old scope.new tokens.now from r.0.items r.1) }

@@ -4,14 +4,14 @@ ghost use Rattle.ops_base.specs.Valid.{cells_of};
 ghost use Rattle.ops_forms.specs.Sights.{cells_from};
 
 use crate::sides::LeftSide;
-use ops_base::conditions::Condition;
+use ops_base::conditions::Part;
 use ops_base::list::Listed;
 use ops_base::memory::OutOfMemory;
 use ops_forms::Scope;
 use std::alloc::Global;
 
 // Leaves in the scope what the left side leaves in sight, and nothing of an earlier one, and answers the conditions.
-pub fn show(alloc: Global, scope: &mut Scope, side: LeftSide) -> Result<Vec<Condition>, OutOfMemory>
+pub fn show(alloc: Global, scope: &mut Scope, side: LeftSide) -> Result<Vec<Part>, OutOfMemory>
     ensures conditions { IfOk result (λ conditions. conditions.items ≡ side.conditions.items) }
     ensures ok { OnOk result (scope.new ≡ record scope.old { values = side.values; elements = side.elements; variables = side.variables; cells = cells_of side.conditions.items; conditions = cells_from 0 side.conditions.items }) }
     ensures err { OnErr result (scope.new ≡ scope.old) }
@@ -26,37 +26,41 @@ pub fn show(alloc: Global, scope: &mut Scope, side: LeftSide) -> Result<Vec<Cond
     Ok(side.conditions)
 }
 
-/// The class of each cell. Takes time in proportion to the conditions, as `cells_of_conditions` does.
-pub fn classes_of_cells(
-    alloc: Global,
-    conditions: &[Condition],
-) -> Result<Listed<usize>, OutOfMemory>
-    ensures { IfOk result (λ cells. cells ≡ cells_of conditions.now) }
+/// The class of each cell. Takes time in proportion to the parts, as `cells_of_conditions` does.
+pub fn classes_of_cells(alloc: Global, parts: &[Part]) -> Result<Listed<usize>, OutOfMemory>
+    ensures { IfOk result (λ cells. cells ≡ cells_of parts.now) }
 {
     let mut cells = Listed::new(alloc);
-    for condition in conditions {
-        if !condition.negated {
-            cells.push(condition.class)?;
+    for part in parts {
+        if let Part::One(condition) = part {
+            if !condition.negated {
+                cells.push(condition.class)?;
+            }
         }
     }
     Ok(cells)
 }
 
-/// The cell of each condition, `None` for a negated one.
+/// The cell of each part, `None` for a negated condition or a group.
 pub fn cells_of_conditions(
     alloc: Global,
-    conditions: &[Condition],
+    parts: &[Part],
 ) -> Result<Listed<Option<usize>>, OutOfMemory>
-    ensures { IfOk result (λ cells. cells ≡ cells_from 0 conditions.now) }
+    ensures { IfOk result (λ cells. cells ≡ cells_from 0 parts.now) }
 {
     let mut cells = Listed::new(alloc);
     let mut next = 0;
-    for condition in conditions {
-        if condition.negated {
-            cells.push(None)?;
-        } else {
-            cells.push(Some(next))?;
-            next += 1;
+    for part in parts {
+        match part {
+            Part::One(condition) => {
+                if condition.negated {
+                    cells.push(None)?;
+                } else {
+                    cells.push(Some(next))?;
+                    next += 1;
+                }
+            }
+            Part::Group(_) => cells.push(None)?,
         }
     }
     Ok(cells)

@@ -16,7 +16,7 @@ use Rattle.ops_tokens.specs.declared.accept.AcceptFault.{AcceptFault}
 use Rattle.ops_tokens.specs.declared.accept.AcceptFault.TheVariants as fault
 use Rattle.ops_meaning.specs.Kept.{KeepsNames}
 use Rattle.ops_meaning.specs.Layout.{rule_name, last_line}
-use Rattle.ops_base.specs.Symbols.{symbol_held, condition_held, action_held, rule_held}
+use Rattle.ops_base.specs.Symbols.{symbol_held, part_held, action_held, rule_held}
 
 pub names_stay : (names : Spellings) → KeepsNames names names
 names_stay names i s h = h
@@ -71,8 +71,8 @@ name_held : (held : ℕ) (rules : List Rule) (n : ℕ) → 0 < held → list_all
 name_held held [] n some h = some
 name_held held (r ∷ rules) zero some h =
     let whole = first_and (rule_held held r) (list_all (rule_held held) rules) h in
-    let front = first_and (symbol_held held r.name && list_all (condition_held held) r.conditions) (list_all (action_held held) r.actions) whole.0 in
-    ltb-true r.name.0 held (first_and (symbol_held held r.name) (list_all (condition_held held) r.conditions) front.0).0
+    let front = first_and (symbol_held held r.name && list_all (part_held held) r.conditions) (list_all (action_held held) r.actions) whole.0 in
+    ltb-true r.name.0 held (first_and (symbol_held held r.name) (list_all (part_held held) r.conditions) front.0).0
 name_held held (r ∷ rules) (suc n) some h = name_held held rules n some (first_and (rule_held held r) (list_all (rule_held held) rules) h).1
 
 -- The line is the same with the names as they were when the rules were read.

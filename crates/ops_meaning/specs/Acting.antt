@@ -8,6 +8,8 @@ use Rattle.ops_base.specs.declared.elements.Element.{Element}
 use Rattle.ops_base.specs.declared.elements.Change.{Change}
 use Rattle.ops_base.specs.declared.elements.Change.TheVariants as change
 use Rattle.ops_base.specs.declared.conditions.Condition.{Condition}
+use Rattle.ops_base.specs.declared.conditions.Part.{Part}
+use Rattle.ops_base.specs.declared.conditions.Part.TheVariants.{One, Group}
 use Rattle.ops_base.specs.declared.matching.Binding.{Binding}
 use Rattle.ops_base.specs.declared.actions.Term.{Term}
 use Rattle.ops_base.specs.declared.actions.Term.TheVariants as term
@@ -51,12 +53,14 @@ abbrev pub matched_by : Condition → Option Element → List Binding → List B
 matched_by c None bindings = bindings
 matched_by c (Some e) bindings = unwrap_or (match_of c e bindings) bindings
 
--- the bindings that the elements of these tags give, one for each positive condition
-abbrev pub bindings_of : List Element → List Condition → List ℕ → List Binding → List Binding
+-- the bindings that the elements of these tags give, one for each positive condition: a group takes no tag and binds
+-- nothing
+abbrev pub bindings_of : List Element → List Part → List ℕ → List Binding → List Binding
 bindings_of wm [] tags bindings = bindings
-bindings_of wm (c ∷ cs) [] bindings = bindings
-bindings_of wm (c ∷ cs) (t ∷ ts) bindings =
-    if c.negated then bindings_of wm cs (t ∷ ts) bindings else bindings_of wm cs ts (matched_by c (element_of wm t) bindings)
+bindings_of wm (part ∷ parts) [] bindings = bindings
+bindings_of wm (One c ∷ parts) (t ∷ ts) bindings =
+    if c.negated then bindings_of wm parts (t ∷ ts) bindings else bindings_of wm parts ts (matched_by c (element_of wm t) bindings)
+bindings_of wm (Group cs ∷ parts) (t ∷ ts) bindings = bindings_of wm parts (t ∷ ts) bindings
 
 -- an element of no working memory, whose tags begin at 1
 abbrev pub no_element : Element
@@ -66,7 +70,7 @@ no_element = record { tag = 0; class = 0; fields = [] }
 abbrev pub elements_of : List Element → List ℕ → List Element
 elements_of wm tags = map (λ t. unwrap_or (element_of wm t) no_element) tags
 
-abbrev pub conditions_of : List Rule → ℕ → List Condition
+abbrev pub conditions_of : List Rule → ℕ → List Part
 conditions_of rules n = unwrap_or (option_map (λ r. r.conditions) (slice_get rules n)) []
 
 abbrev pub actions_of : List Rule → ℕ → List Action

@@ -13,7 +13,7 @@ use Rattle.ops_tokens.specs.Numbers.{is_in_range}
 abbrev pub Computed : Type 0
 Computed = Result Value ActKind
 
--- the exact result, where it has 64 bits
+-- the exact result, where it has 128 bits
 abbrev pub in_range : ℤ → Computed
 in_range z = if is_in_range z then Ok (value.Whole z) else Err act_fault.Overflow
 

@@ -202,7 +202,7 @@ column_of column.Tab = ToTab
 column_of column.Right = ToRight
 
 -- the cell of the condition after this many, where this is what is kept of it: its number, where no negated condition
--- stands before it
+-- and no group stands before it
 abbrev pub cell_by : ℕ → Option (Option ℕ) → Result ℕ Fault
 cell_by before (Some (Some cell)) = if cell == before then Ok before else Err fault.AmbiguousDesignator
 cell_by before (Some None) = Err fault.BadDesignator

@@ -123,7 +123,7 @@ impl Right {
 }
 
 // The number of a condition is counted from 1.
-fn numbered_cell(around: &Around, number: i64) -> Result<usize, Fault>
+fn numbered_cell(around: &Around, number: i128) -> Result<usize, Fault>
     ensures { result ≡ numbered_by (natural_of number) around.now.conditions.now }
 {
     match natural_of(number) {
@@ -133,10 +133,13 @@ fn numbered_cell(around: &Around, number: i64) -> Result<usize, Fault>
 }
 
 // The cell of the condition that has this many conditions before it, if that condition is positive. Where one of those
-// before it is negated, its number and its cell differ, and the designator is ambiguous.
-fn designated(around: &Around, before: usize) -> Result<usize, Fault>
+// before it is negated or a group, its number and its cell differ, and the designator is ambiguous.
+fn designated(around: &Around, before: u128) -> Result<usize, Fault>
     ensures { result ≡ cell_by before (slice_get around.now.conditions.now before) }
 {
+    let Ok(before) = usize::try_from(before) else {
+        return Err(Fault::BadDesignator);
+    };
     match around.conditions.get(before) {
         Some(Some(cell)) if *cell == before => Ok(before),
         Some(Some(_)) => Err(Fault::AmbiguousDesignator),

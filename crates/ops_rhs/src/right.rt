@@ -12,7 +12,7 @@ use std::alloc::Global;
 use std::mem;
 
 /// What stands around a right side: the declared classes, the class of the cell of each positive condition, and the
-/// cell of each condition, `None` for a negated one.
+/// cell of each part of the left side, `None` for a negated condition or a group.
 #[derive(Clone, Copy)]
 pub struct Around<'a> {
     pub classes: &'a Classes,

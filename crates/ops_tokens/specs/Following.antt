@@ -45,7 +45,7 @@ Reaches kind.Caret text first past = past ≡ first + 1
 Reaches kind.Quoted text first past = (first + 2 ≤ past) × AreBars text first (past - 1)
 Reaches _ text first past = IsRunTo text first past
 
--- the value of a whole number is one of 64 bits
+-- the value of a whole number is one of 128 bits
 abbrev pub IsHeld : TokenKind → Type 0
 IsHeld (kind.Whole value) = is_in_range value ≡ true
 IsHeld _ = Unit {0}
@@ -67,7 +67,7 @@ pub data IsFaultAt (text : List ℕ) (first : ℕ) : LexFault → Type 0 where
   unclosed : first < length text → is_bar (slice_index text first) ≡ true → AllPass (λ b. not (is_bar b)) (drop (first + 1) text) → IsFaultAt text first (record { number = UNCLOSED; at = first })
   -- the spelling of a number that is not whole
   fraction : (past : ℕ) → IsRunTo text first past → IsFraction (slice_range text first past) → IsFaultAt text first (record { number = FRACTION_NUMBER; at = first })
-  -- a whole number of more than 64 bits
+  -- a whole number of more than 128 bits
   range : (past : ℕ) → IsRunTo text first past → IsWhole (slice_range text first past) → is_in_range (whole_value (slice_range text first past)) ≡ false → IsFaultAt text first (record { number = NUMBER_RANGE; at = first })
 
 -- the fault stands next, after a gap

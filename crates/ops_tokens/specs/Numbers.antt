@@ -24,6 +24,6 @@ magnitude s = decimal (take_while is_digit (unsigned s))
 abbrev pub whole_value : List ℕ → ℤ
 whole_value s = if is_negative s then neg_ℤ (pos (magnitude s)) else pos (magnitude s)
 
--- -9223372036854775808 to 9223372036854775807
+-- -170141183460469231731687303715884105728 to 170141183460469231731687303715884105727
 abbrev pub is_in_range : ℤ → Bool
-is_in_range z = int_le (negsuc 9223372036854775807) z && int_le z (pos 9223372036854775807)
+is_in_range z = int_le (negsuc 170141183460469231731687303715884105727) z && int_le z (pos 170141183460469231731687303715884105727)

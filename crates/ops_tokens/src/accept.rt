@@ -57,7 +57,7 @@ impl<T: Drop> From<AllocFailed<T>> for AcceptFault {
     }
 }
 
-/// Reads one atom: white space is skipped, and the byte after an atom without bars is not taken. A whole number of 64
+/// Reads one atom: white space is skipped, and the byte after an atom without bars is not taken. A whole number of 128
 /// bits is that number, and any other atom a symbol, in which a byte that no text may have is shown as `?`. Where
 /// nothing is left it is the symbol `end-of-file`. More than 1,048,576 bytes are too many, and a read that fails is
 /// answered as that. Each byte takes constant time.
@@ -126,7 +126,7 @@ fn quoted<I: Source>(
 }
 
 // the number that a run is
-fn number_of(run: &[u8]) -> Option<i64>
+fn number_of(run: &[u8]) -> Option<i128>
     ensures { SomeIff result (IsTrue (is_whole run.now && is_in_range (whole_value run.now))) (whole_value run.now) }
 {
     if is_whole(run) { whole_of(run) } else { None }

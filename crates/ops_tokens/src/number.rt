@@ -5,15 +5,15 @@ ghost use Rattle.ops_tokens.specs.Numbers.{decimal, unsigned, is_negative, whole
 
 use crate::bytes::{is_digit, is_sign};
 
-/// The value of the spelling of a whole number, or `None` where an `i64` cannot hold it.
-pub fn whole_of(spelling: &[u8]) -> Option<i64>
+/// The value of the spelling of a whole number, or `None` where an `i128` cannot hold it.
+pub fn whole_of(spelling: &[u8]) -> Option<i128>
     ensures { SomeIff result (IsTrue (is_in_range (whole_value spelling.now))) (whole_value spelling.now) }
 {
     let magnitude = decimal(unsigned(spelling))?;
     if is_negative(spelling) {
-        0i64.checked_sub_unsigned(magnitude)
+        0i128.checked_sub_unsigned(magnitude)
     } else {
-        0i64.checked_add_unsigned(magnitude)
+        0i128.checked_add_unsigned(magnitude)
     }
 }
 
@@ -34,10 +34,10 @@ fn is_negative(spelling: &[u8]) -> bool
 }
 
 // the number that the digits at the front spell
-fn decimal(bytes: &[u8]) -> Option<u64>
-    ensures { SomeIff result (decimal (take_while is_digit bytes.now) < 2 ^ 64) (decimal (take_while is_digit bytes.now)) }
+fn decimal(bytes: &[u8]) -> Option<u128>
+    ensures { SomeIff result (decimal (take_while is_digit bytes.now) < 2 ^ 128) (decimal (take_while is_digit bytes.now)) }
 {
-    let mut value: u64 = 0;
+    let mut value: u128 = 0;
     for byte in bytes {
         if !is_digit(*byte) {
             return Some(value);
@@ -48,9 +48,9 @@ fn decimal(bytes: &[u8]) -> Option<u64>
 }
 
 // the number with one digit more
-fn shifted(value: u64, digit: u8) -> Option<u64>
+fn shifted(value: u128, digit: u8) -> Option<u128>
     requires { IsTrue (is_digit digit) }
-    ensures { SomeIff result (10 * value + (digit - 48) < 2 ^ 64) (10 * value + (digit - 48)) }
+    ensures { SomeIff result (10 * value + (digit - 48) < 2 ^ 128) (10 * value + (digit - 48)) }
 {
-    value.checked_mul(10)?.checked_add(u64::from(digit - b'0'))
+    value.checked_mul(10)?.checked_add(u128::from(digit - b'0'))
 }

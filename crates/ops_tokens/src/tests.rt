@@ -81,7 +81,14 @@ fn accepts_numbers(rt: HostRuntime) -> Result<(), Fail> {
     let found = atoms(alloc, text, 3, Vec::new(alloc), 4)?;
     assert_eq!(rt;
         found.as_slice(),
-        b"5.-7.'12a''9223372036854775808'".as_slice()
+        b"5.-7.'12a'9223372036854775808.".as_slice()
+    );
+    let text =
+        b"170141183460469231731687303715884105727 170141183460469231731687303715884105728".as_slice();
+    let found = atoms(alloc, text, 7, Vec::new(alloc), 2)?;
+    assert_eq!(rt;
+        found.as_slice(),
+        b"170141183460469231731687303715884105727.'170141183460469231731687303715884105728'".as_slice()
     );
     Ok(())
 }

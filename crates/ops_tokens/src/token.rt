@@ -11,7 +11,7 @@ pub const BAD_BYTE: u8 = 1;
 pub const UNCLOSED: u8 = 2;
 /// An atom is spelled as a fraction.
 pub const FRACTION_NUMBER: u8 = 4;
-/// A whole number is below -9223372036854775808 or above 9223372036854775807.
+/// A whole number is below the least or above the greatest number of 128 bits.
 pub const NUMBER_RANGE: u8 = 5;
 
 /// What a token is: a bracket, a caret, an operator, a variable, a whole number with its value, a plain symbol, or a
@@ -25,7 +25,7 @@ pub enum TokenKind {
     Caret,
     Operator,
     Variable,
-    Whole(i64),
+    Whole(i128),
     Symbol,
     Quoted,
 }

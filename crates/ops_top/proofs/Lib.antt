@@ -3,8 +3,10 @@ pub mod Deliveries
 pub mod Sessions
 pub mod Contents
 pub mod Loads
-pub mod FilesAnswered
 pub mod Refusals
 pub mod StatusesOfText
 pub mod WholeGoes
 pub mod Answering
+pub mod Answered
+pub mod Runs
+pub mod Called

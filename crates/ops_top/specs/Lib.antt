@@ -5,5 +5,6 @@ pub mod Codes
 pub mod Told
 pub mod Calls
 pub mod Loads
-pub mod Freely
+pub mod Answered
+pub mod Jobs
 pub mod Quiet

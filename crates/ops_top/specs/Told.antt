@@ -1,7 +1,6 @@
 -- How a part of a run tells its outcome, or gives up.
-use Rattle.std.specs.Prelude.{◌≡◌, ℕ, ◌+◌, List, Bool, Option, Result, Ok, Err, ◌⊎◌}
+use Rattle.std.specs.Prelude.{◌≡◌, ℕ, List, Bool, Option, Result, Ok, Err}
 use Rattle.ops_base.specs.declared.endings.Ending.{Ending}
-use Rattle.ops_base.specs.declared.endings.Ending.TheVariants as ending
 use Rattle.ops_io.specs.Outside.{GrewBy, GrewByPrefix}
 use Rattle.ops_io.specs.Ports.{Port, Put, Stopped, Cause}
 use Rattle.ops_io.specs.declared.stop.Stop.{Stop}
@@ -36,13 +35,6 @@ PutsOrStops (Err why) old new bytes = Stopped why old new bytes
 abbrev pub TellsSession : Result Ending Stop → Port → Port → Bool → Spellings → List Rule → Effect Ending Meant → Type 0
 TellsSession (Ok f) old new summed names rules e = (f ≡ ending_of e.outcome) × Put old new (told summed names rules e).bytes
 TellsSession (Err why) old new summed names rules e = Stopped why old new (told summed names rules e).bytes
-
--- A read of the input failed exactly where that is the ending. Where the call gave up one may have failed, as where the
--- last line was refused.
-abbrev pub CountsTold : Result Ending Stop → ℕ → ℕ → Type 0
-CountsTold (Ok ending.ReadFault) before now = now ≡ before + 1
-CountsTold (Err why) before now = (now ≡ before) ⊎ (now ≡ before + 1)
-CountsTold (Ok f) before now = now ≡ before
 
 -- It took bytes of the input, and whatever may come after them, it tells the session over those and that.
 pub record TellsOn (r : Result Ending Stop) (before now : Inlet) (old new : Port) (summed : Bool) (names : Spellings) (rules : List Rule) (e : Coming → Effect Ending Meant) : Type 0 where

@@ -5,12 +5,11 @@ mod answer;
 mod closing;
 mod engines;
 mod files;
-mod hands;
+mod jobs;
 mod laws;
 mod lines;
 mod saying;
 mod top;
-mod words;
 
 pub use laws::firings_are_limited;
 pub use ops_base::endings::{ActKind, Fault, Limit};

@@ -1,6 +1,6 @@
 //! Saying one line, or the lines of a network, and no more.
-ghost use Rattle.std.specs.Prelude.{◌≡◌, ◌^◌, ◌<◌, IfOk};
-ghost use Rattle.ops_top.specs.Whole.{net_told, refused_at, unread, usage};
+ghost use Rattle.std.specs.Prelude.{◌≡◌, ◌^◌, ◌<◌, Err, IfOk};
+ghost use Rattle.ops_top.specs.Whole.{Reply, net_told, refused_at, unread, usage};
 ghost use Rattle.ops_top.specs.Told.{Delivers, status_after};
 
 use crate::lines::{fault_line, net_lines, unread_line, usage_line};
@@ -9,6 +9,7 @@ use ops_base::endings::Fault;
 use ops_base::programs::Program;
 use ops_io::{Out, Sink, Stop};
 use ops_meaning::Status;
+use ops_words::WordsFault;
 use std::alloc::Global;
 
 /// Writes these bytes, and answers the status.
@@ -24,12 +25,21 @@ fn say<K: Sink>(alloc: Global, bytes: &[u8], status: Status, sink: &mut K) -> Re
     Ok(status)
 }
 
-/// Answers words that don't fit.
-pub fn say_usage<K: Sink>(alloc: Global, sink: &mut K) -> Result<Status, Stop>
+/// Answers words that ask for no job.
+pub(crate) fn say_unfit<K: Sink>(
+    alloc: Global,
+    fault: WordsFault,
+    sink: &mut K,
+) -> Result<Status, Stop>
     requires faults { K.faults sink.old < 2 ^ 63 }
-    ensures { Delivers result usage (K.taken sink.old) (K.faults sink.old) (K.taken sink.new) (K.faults sink.new) }
+    ensures delivers { (reply : Reply) → (fault ≡ WordsFault.Usage → reply ≡ usage)
+        → Delivers result reply (K.taken sink.old) (K.faults sink.old) (K.taken sink.new) (K.faults sink.new) }
+    ensures short { fault ≡ WordsFault.OutOfMemory → result ≡ Err Stop.OutOfMemory }
 {
-    say(alloc, usage_line(), Status::Usage, sink)
+    match fault {
+        WordsFault::Usage => say(alloc, usage_line(), Status::Usage, sink),
+        WordsFault::OutOfMemory => Err(Stop::OutOfMemory),
+    }
 }
 
 /// Answers a file that can't be read.

@@ -1,5 +1,5 @@
 //! The top calls.
-ghost use Rattle.std.specs.Prelude.{◌≡◌, ◌^◌, ◌<◌, ◌⊎◌, ℕ, List, None, length, nat_lt, true, false, IfOk, IfSome};
+ghost use Rattle.std.specs.Prelude.{◌≡◌, ◌^◌, ◌<◌, ◌⊎◌, ℕ, List, None, length, nat_lt, true, false, IfSome};
 ghost use Rattle.std.specs.Io.KnownBytes.{prepend_known};
 ghost use Rattle.ops_jobs.specs.Words.{word_bytes};
 ghost use Rattle.ops_top.specs.Whole.{whole, unread, usage, Answers, GoesByConflictSetsAlone, ask_for_run, ask_to_wait, words_fit, files_of};
@@ -7,13 +7,11 @@ ghost use Rattle.ops_top.specs.Quiet.{words_ask};
 ghost use Rattle.ops_top.specs.Calls.{OfContents, OfInput, broken_load, last_of, all_told, TellsFailedWrite, TellsFailedRead, TellsWords, AskedForWords, RunsThrough, is_refused};
 ghost use Rattle.ops_top.specs.Codes.{code_of};
 
-use crate::hands::{run_alone, run_apart};
-use crate::saying::status_after;
-use ops_base::memory::OutOfMemory;
+use crate::jobs::{asks_to_wait, run_job, run_still};
+use crate::saying::{say_unfit, status_after};
 use ops_io::{Gate, Shelf, Sink, Source};
-use ops_jobs::{Engine, Job};
 use ops_meaning::Status;
-use ops_words::{WordsFault, read_words};
+use ops_words::read_words;
 use std::alloc::Global;
 use std::sync::Wait;
 use std::thread::Threads;
@@ -31,19 +29,6 @@ pub fn code(status: &Status) -> u8
         Status::ReadFault => 5,
         Status::WriteFault => 6,
         Status::OutOfMemory => 7,
-    }
-}
-
-/// Whether the words fit and ask for a session over the engine of free workers, whose workers wait for each other.
-fn do_wait(alloc: Global, words: &[String]) -> Result<bool, OutOfMemory>
-    ensures { IfOk result (λ b. b ≡ ask_to_wait (word_bytes words.now)) }
-{
-    match read_words(alloc, words) {
-        Ok(Job::Run { options, .. }) => Ok(options.engine == Engine::Free),
-        Ok(Job::Net { .. }) => Ok(false),
-        Ok(Job::Gen { options, .. }) => Ok(options.engine == Engine::Free),
-        Err(WordsFault::Usage) => Ok(false),
-        Err(WordsFault::OutOfMemory) => Err(OutOfMemory),
     }
 }
 
@@ -102,13 +87,15 @@ pub fn still_run<R: Threads + Clone + Drop + Send + Sync, H: Shelf, I: Source, K
         → H.faults shelf.new ≡ H.faults shelf.old → I.faults input.new ≡ I.faults input.old → K.faults sink.new ≡ K.faults sink.old
         → (status ≡ Status.Done) ⊎ (status ≡ Status.OutOfMemory)) }
 {
-    match do_wait(alloc, words) {
-        Ok(true) => None,
-        Ok(false) => {
-            let told = run_alone(rt, alloc, words, shelf, input, sink, gate);
-            Some(status_after(told))
+    match read_words(alloc, words) {
+        Ok(job) => {
+            if asks_to_wait(&job) {
+                return None;
+            }
+            let outcome = run_still(rt, alloc, &job, shelf, input, sink, gate);
+            Some(status_after(outcome))
         }
-        Err(OutOfMemory) => Some(Status::OutOfMemory),
+        Err(fault) => Some(status_after(say_unfit(alloc, fault, sink))),
     }
 }
 
@@ -165,6 +152,11 @@ pub fn ops_run<
         → H.faults shelf.new ≡ H.faults shelf.old → I.faults input.new ≡ I.faults input.old → K.faults sink.new ≡ K.faults sink.old
         → (result ≡ Status.Done) ⊎ (result ≡ Status.OutOfMemory) }
 {
-    let answered = run_apart(rt, alloc, words, shelf, input, sink, gate);
-    status_after(answered)
+    match read_words(alloc, words) {
+        Ok(job) => {
+            let answered = run_job(rt, alloc, &job, shelf, input, sink, gate);
+            status_after(answered)
+        }
+        Err(fault) => status_after(say_unfit(alloc, fault, sink)),
+    }
 }

@@ -5,12 +5,18 @@ use ops_base::endings::Fault;
 use ops_check::ProgramFault;
 
 // texts, each with its fault and its column
-const FAULTS: [(&[u8], Fault, u64); 15] = [
+const FAULTS: [(&[u8], Fault, u64); 17] = [
     (b"(run 0)", Fault::BadForm, 6),
     (b"(run -1)", Fault::BadForm, 6),
     (b"(run a)", Fault::BadForm, 6),
     (b"(run 1 2)", Fault::BadForm, 8),
-    (b"(run 9223372036854775808)", Fault::NumberRange, 6),
+    (b"(run 9223372036854775808)", Fault::BadForm, 6),
+    (b"(remove 9223372036854775808)", Fault::BadForm, 9),
+    (
+        b"(run 170141183460469231731687303715884105728)",
+        Fault::NumberRange,
+        6,
+    ),
     (b"(run 1", Fault::Unclosed, 7),
     (b"(strategy foo)", Fault::BadForm, 11),
     (b"(strategy |lex|)", Fault::BadForm, 11),

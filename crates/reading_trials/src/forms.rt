@@ -62,7 +62,10 @@ fn no_form_begins(rt: HostRuntime) {
         (b"; a\nrun", FormFault::Stray { at: 4 }),
         (b"^a", FormFault::Stray { at: 0 }),
         (b"  1.5", FormFault::Stray { at: 2 }),
-        (b" 9223372036854775808", FormFault::Stray { at: 1 }),
+        (
+            b" 170141183460469231731687303715884105728",
+            FormFault::Stray { at: 1 },
+        ),
         (b" |run", FormFault::Lex(unclosed)),
     ];
     for (text, fault) in rows {

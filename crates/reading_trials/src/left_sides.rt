@@ -1,7 +1,7 @@
 //! Texts of productions with what their left sides are read as.
 ghost use Rattle.std.specs.Prelude.{◌≡◌, IfOk};
 
-use ops_base::conditions::Condition;
+use ops_base::conditions::Part;
 use ops_base::elements::Class;
 use ops_base::endings::Fault;
 use ops_base::list::Listed;
@@ -45,7 +45,7 @@ fn scope_of(alloc: Global, text: &[u8]) -> Result<Scope, OutOfMemory>
 }
 
 // the left side of the production that is the text, whose name is its third token
-fn read(alloc: Global, text: &[u8]) -> Result<(Scope, Vec<Condition>, usize), ReadFault> {
+fn read(alloc: Global, text: &[u8]) -> Result<(Scope, Vec<Part>, usize), ReadFault> {
     let mut scope = scope_of(alloc, text)?;
     match read_form(alloc, text, 0) {
         Ok(Some(form)) => {
@@ -63,7 +63,10 @@ fn left_side_is_read(rt: HostRuntime) -> Result<(), ReadFault> {
     let (scope, conditions, place) = read(rt.alloc(), text)?;
     assert_eq!(rt; place, 33);
     assert_eq!(rt; conditions.len(), 3);
-    let tests = conditions[0].tests.as_slice();
+    let Part::One(first) = &conditions[0] else {
+        panic!(rt; "a group");
+    };
+    let tests = first.tests.as_slice();
     assert_eq!(rt; tests.len(), 3);
     assert_eq!(rt;
         (tests[2].field, tests[2].pred, tests[2].binds),
@@ -72,6 +75,31 @@ fn left_side_is_read(rt: HostRuntime) -> Result<(), ReadFault> {
     assert_eq!(rt;
         (scope.values.len(), scope.elements.len(), scope.variables),
         (2, 1, 3)
+    );
+    assert_eq!(rt; scope.cells.as_slice(), &[0, 1][..]);
+    assert_eq!(rt; scope.conditions.as_slice(), &[Some(0), None, Some(1)][..]);
+    Ok(())
+}
+
+#[test]
+fn group_is_read(rt: HostRuntime) -> Result<(), ReadFault> {
+    let text = b"(p r (a ^x <v>) - { (b ^z <u>) (b ^z > <u>) } (b) --> (halt))";
+    let (scope, conditions, place) = read(rt.alloc(), text)?;
+    assert_eq!(rt; place, 28);
+    assert_eq!(rt; conditions.len(), 3);
+    let Part::Group(members) = &conditions[1] else {
+        panic!(rt; "no group");
+    };
+    assert_eq!(rt; members.len(), 2);
+    for member in members.as_slice() {
+        assert_eq!(rt;
+            (member.class, member.negated, member.tests.len()),
+            (1, false, 1)
+        );
+    }
+    assert_eq!(rt;
+        (scope.values.len(), scope.elements.len(), scope.variables),
+        (1, 0, 2)
     );
     assert_eq!(rt; scope.cells.as_slice(), &[0, 1][..]);
     assert_eq!(rt; scope.conditions.as_slice(), &[Some(0), None, Some(1)][..]);

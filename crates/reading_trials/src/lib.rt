@@ -10,6 +10,8 @@ mod forms;
 #[cfg(test)]
 mod functions;
 #[cfg(test)]
+mod groups;
+#[cfg(test)]
 mod left_sides;
 #[cfg(test)]
 mod right_sides;

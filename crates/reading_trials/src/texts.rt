@@ -44,7 +44,7 @@ fn program_is_read(rt: HostRuntime) -> Result<(), ProgramFault> {
 }
 
 // texts, each with its fault, line and column
-const FAULTS: [(&[u8], Fault, u64, u64); 51] = [
+const FAULTS: [(&[u8], Fault, u64, u64); 52] = [
     (
         b"(literalize a n) (p r (a) -->) (make a ^n (substr <w> n n))",
         Fault::BadForm,
@@ -106,7 +106,7 @@ const FAULTS: [(&[u8], Fault, u64, u64); 51] = [
         b"(literalize a) (p r (a) - { <w> (a) } -->)",
         Fault::BadForm,
         1,
-        27,
+        29,
     ),
     (
         b"(literalize a) (p r { <w> (a) } --> (remove <v>))",
@@ -250,6 +250,12 @@ const FAULTS: [(&[u8], Fault, u64, u64); 51] = [
         37,
     ),
     (
+        b"(literalize a) (p r (a) --> (remove 99999999999999999999))",
+        Fault::BadDesignator,
+        1,
+        37,
+    ),
+    (
         b"(literalize a) (p r (a) (a) --> (remove 3))",
         Fault::BadDesignator,
         1,
@@ -262,7 +268,7 @@ const FAULTS: [(&[u8], Fault, u64, u64); 51] = [
         27,
     ),
     (
-        b"(literalize a n) (make a ^n 9223372036854775808)",
+        b"(literalize a n) (make a ^n 170141183460469231731687303715884105728)",
         Fault::NumberRange,
         1,
         29,
@@ -515,6 +521,34 @@ fn an_element_has_127_fields(rt: HostRuntime) -> Result<(), ProgramFault> {
         column: 302,
     };
     assert_eq!(rt; read_program(alloc, made_of(alloc, 127)?).err(), Some(at));
+    Ok(())
+}
+
+// a text of a production with this many conditions
+fn conditions_of(alloc: Global, count: usize) -> Result<Vec<u8>, OutOfMemory> {
+    let mut text = Vec::from_slice(alloc, b"(literalize a) (p r")?;
+    for _condition in 0..count {
+        text.extend_from_slice(b" (a)")?;
+    }
+    text.extend_from_slice(b" -->)")?;
+    Ok(text)
+}
+
+#[test]
+fn a_production_has_256_conditions(rt: HostRuntime) -> Result<(), ProgramFault> {
+    let alloc = rt.alloc();
+    assert!(rt; read_program(alloc, conditions_of(alloc, 256)?).is_ok());
+    let at = ProgramFault::At {
+        fault: Fault::LimitPassed {
+            limit: Limit::Conditions,
+        },
+        line: 1,
+        column: 1045,
+    };
+    assert_eq!(rt;
+        read_program(alloc, conditions_of(alloc, 257)?).err(),
+        Some(at)
+    );
     Ok(())
 }
 

@@ -124,7 +124,7 @@ pub fn compare(strategy: Strategy, a: &Key, b: &Key) -> Ordering
 #[cfg(test)]
 mod tests {
     use super::*;
-    use ops_base::conditions::Condition;
+    use ops_base::conditions::{Condition, Part};
     use ops_base::elements::Class;
     use ops_base::values::Sym;
     use std::test::Fail;
@@ -140,11 +140,11 @@ mod tests {
             vector: false,
         })?;
         let mut conditions = Vec::new(alloc);
-        conditions.push(Condition {
+        conditions.push(Part::One(Condition {
             class: 0,
             negated: false,
             tests: Listed::new(alloc),
-        })?;
+        }))?;
         let mut rules = Vec::new(alloc);
         rules.push(Rule {
             name: Sym(2),

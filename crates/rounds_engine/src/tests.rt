@@ -66,6 +66,7 @@ fn pair(alloc: Global) -> Result<Net, OutOfMemory> {
         alpha: 0,
         joins: Listed::new(alloc),
         children: Listed::from_array(alloc, [1])?,
+        rights: Listed::new(alloc),
         depth: 1,
     };
     let second = Node {
@@ -75,6 +76,7 @@ fn pair(alloc: Global) -> Result<Net, OutOfMemory> {
         alpha: 1,
         joins: Listed::from_array(alloc, [same])?,
         children: Listed::from_array(alloc, [2])?,
+        rights: Listed::new(alloc),
         depth: 2,
     };
     let terminal = Node {
@@ -84,6 +86,7 @@ fn pair(alloc: Global) -> Result<Net, OutOfMemory> {
         alpha: 0,
         joins: Listed::new(alloc),
         children: Listed::new(alloc),
+        rights: Listed::new(alloc),
         depth: 3,
     };
     let alphas = Listed::from_array(alloc, [alpha(alloc, 0), alpha(alloc, 1)])?;

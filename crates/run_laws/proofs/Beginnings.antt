@@ -6,12 +6,14 @@ use Rattle.std.proofs.lemmas.Bool.{eqb-true}
 use Rattle.std.proofs.lemmas.Bool.Decides.{nat_tests}
 use Rattle.std.proofs.lemmas.List.{append-nil}
 use Rattle.ops_base.specs.declared.conditions.Condition.{Condition}
+use Rattle.ops_base.specs.declared.conditions.Part.{Part}
+use Rattle.ops_base.specs.declared.conditions.Part.TheVariants.{One, Group}
 use Rattle.ops_base.specs.declared.direct.Partial.{Partial}
 use Rattle.ops_base.specs.declared.elements.Element.{Element}
 use Rattle.ops_base.specs.declared.matching.Binding.{Binding}
 use Rattle.ops_base.specs.declared.rules.Inst.{Inst}
 use Rattle.ops_base.specs.declared.rules.Rule.{Rule}
-use Rattle.ops_base.specs.ConflictSet.{extended, some_meets, at_condition, walk, empty_partial, matches_of, conflict_set}
+use Rattle.ops_base.specs.ConflictSet.{extended, some_meets, some_extend, at_part, walk, empty_partial, matches_of, conflict_set}
 use Rattle.ops_base.specs.Matching.{after_tests, match_of}
 use Rattle.ops_base.specs.Valid.{cells_of}
 use Rattle.ops_base.specs.WorkingMemory.{HasRisingTags, tags_of}
@@ -41,23 +43,28 @@ element_found wm e rising m = found_in wm e (tags_in_order wm rising) m
 
 -- ---- the walk
 
-none_left : (wm : List Element) (cs : List Condition) (bindings : List Binding) → bindings_of wm cs [] bindings ≡ bindings
+none_left : (wm : List Element) (parts : List Part) (bindings : List Binding) → bindings_of wm parts [] bindings ≡ bindings
 none_left wm [] bindings = refl
-none_left wm (c ∷ cs) bindings = refl
+none_left wm (part ∷ parts) bindings = refl
+
+-- a group takes no tag
+past_group : (wm : List Element) (cs : List Condition) (parts : List Part) (tags : List ℕ) (bindings : List Binding) → bindings_of wm (Group cs ∷ parts) tags bindings ≡ bindings_of wm parts tags bindings
+past_group wm cs parts [] bindings = sym (none_left wm parts bindings)
+past_group wm cs parts (t ∷ ts) bindings = refl
 
 -- a negated condition takes no tag
-past_negated : (wm : List Element) (c : Condition) (cs : List Condition) (tags : List ℕ) (bindings : List Binding) → c.negated ≡ true → bindings_of wm (c ∷ cs) tags bindings ≡ bindings_of wm cs tags bindings
-past_negated wm c cs [] bindings negated = sym (none_left wm cs bindings)
-past_negated wm c cs (t ∷ ts) bindings negated =
-    ap (λ b. cond b (bindings_of wm cs (t ∷ ts) bindings) (bindings_of wm cs ts (matched_by c (element_of wm t) bindings))) negated
+past_negated : (wm : List Element) (c : Condition) (parts : List Part) (tags : List ℕ) (bindings : List Binding) → c.negated ≡ true → bindings_of wm (One c ∷ parts) tags bindings ≡ bindings_of wm parts tags bindings
+past_negated wm c parts [] bindings negated = sym (none_left wm parts bindings)
+past_negated wm c parts (t ∷ ts) bindings negated =
+    ap (λ b. cond b (bindings_of wm parts (t ∷ ts) bindings) (bindings_of wm parts ts (matched_by c (element_of wm t) bindings))) negated
 
 -- a positive one takes the next tag, and binds as its element matches
-past_positive : (wm : List Element) (c : Condition) (cs : List Condition) (e : Element) (ts : List ℕ) (bindings next : List Binding) → c.negated ≡ false → element_of wm e.tag ≡ Some e → match_of c e bindings ≡ Some next
-    → bindings_of wm (c ∷ cs) (e.tag ∷ ts) bindings ≡ bindings_of wm cs ts next
-past_positive wm c cs e ts bindings next positive found matched =
-    ap (λ b. cond b (bindings_of wm cs (e.tag ∷ ts) bindings) (bindings_of wm cs ts (matched_by c (element_of wm e.tag) bindings))) positive
-    ∙ ap (λ o. bindings_of wm cs ts (matched_by c o bindings)) found
-    ∙ ap (λ o. bindings_of wm cs ts (unwrap_or o bindings)) matched
+past_positive : (wm : List Element) (c : Condition) (parts : List Part) (e : Element) (ts : List ℕ) (bindings next : List Binding) → c.negated ≡ false → element_of wm e.tag ≡ Some e → match_of c e bindings ≡ Some next
+    → bindings_of wm (One c ∷ parts) (e.tag ∷ ts) bindings ≡ bindings_of wm parts ts next
+past_positive wm c parts e ts bindings next positive found matched =
+    ap (λ b. cond b (bindings_of wm parts (e.tag ∷ ts) bindings) (bindings_of wm parts ts (matched_by c (element_of wm e.tag) bindings))) positive
+    ∙ ap (λ o. bindings_of wm parts ts (matched_by c o bindings)) found
+    ∙ ap (λ o. bindings_of wm parts ts (unwrap_or o bindings)) matched
 
 abbrev pub classes_in : List Element → List ℕ
 classes_in es = map (λ e. e.class) es
@@ -72,30 +79,39 @@ matched_class c e bindings next is = by (e.class == c.class) refl is
 
 -- What the walk finds goes on from one of these partial matches, with the bindings that the further tags give. The
 -- elements of these tags are in working memory.
-pub record Followed (wm : List Element) (cs : List Condition) (ps : List Partial) (q : Partial) : Type 0 where
+pub record Followed (wm : List Element) (parts : List Part) (ps : List Partial) (q : Partial) : Type 0 where
   pub from : Partial
   pub begun : IsMember from ps
   pub rest : List ℕ
   pub tags : q.tags ≡ from.tags ++ rest
-  pub bindings : bindings_of wm cs rest from.bindings ≡ q.bindings
+  pub bindings : bindings_of wm parts rest from.bindings ≡ q.bindings
   pub cells : tags_of (elements_of wm rest) ≡ rest
-  pub classes : classes_in (elements_of wm rest) ≡ cells_of cs
+  pub classes : classes_in (elements_of wm rest) ≡ cells_of parts
   pub elements : (e : Element) → IsMember e (elements_of wm rest) → IsMember e wm
 
 module _ (wm : List Element) (rising : HasRisingTags wm) where
-  stepped : (c : Condition) (cs : List Condition) (p q : Partial) (rest : List ℕ) → IsMember q (at_condition wm c p) → tags_of (elements_of wm rest) ≡ rest → classes_in (elements_of wm rest) ≡ cells_of cs → ((e : Element) → IsMember e (elements_of wm rest) → IsMember e wm)
-      → (front : List ℕ) × (q.tags ≡ p.tags ++ front) × (bindings_of wm (c ∷ cs) (front ++ rest) p.bindings ≡ bindings_of wm cs rest q.bindings)
-      × (tags_of (elements_of wm (front ++ rest)) ≡ front ++ rest) × (classes_in (elements_of wm (front ++ rest)) ≡ cells_of (c ∷ cs)) × ((e : Element) → IsMember e (elements_of wm (front ++ rest)) → IsMember e wm)
-  stepped c cs p q rest m cells classes elements = by c.negated refl m
+  stepped : (part : Part) (parts : List Part) (p q : Partial) (rest : List ℕ) → IsMember q (at_part wm part p) → tags_of (elements_of wm rest) ≡ rest → classes_in (elements_of wm rest) ≡ cells_of parts → ((e : Element) → IsMember e (elements_of wm rest) → IsMember e wm)
+      → (front : List ℕ) × (q.tags ≡ p.tags ++ front) × (bindings_of wm (part ∷ parts) (front ++ rest) p.bindings ≡ bindings_of wm parts rest q.bindings)
+      × (tags_of (elements_of wm (front ++ rest)) ≡ front ++ rest) × (classes_in (elements_of wm (front ++ rest)) ≡ cells_of (part ∷ parts)) × ((e : Element) → IsMember e (elements_of wm (front ++ rest)) → IsMember e wm)
+  stepped (Group members) parts p q rest m cells classes elements =
+      let n = negated_is p q (some_extend wm members p.bindings) m in (
+        [],
+        ap (λ (w : Partial). w.tags) n.1 ∙ sym (append-nil p.tags),
+        past_group wm members parts rest p.bindings ∙ ap (λ (w : Partial). bindings_of wm parts rest w.bindings) (sym n.1),
+        cells,
+        classes,
+        elements,
+      )
+  stepped (One c) parts p q rest m cells classes elements = by c.negated refl m
     where
       by : (b : Bool) → c.negated ≡ b → IsMember q (cond b (cond (not (some_meets wm c p.bindings)) (p ∷ []) []) (flat_map (extended c p) wm))
-          → (front : List ℕ) × (q.tags ≡ p.tags ++ front) × (bindings_of wm (c ∷ cs) (front ++ rest) p.bindings ≡ bindings_of wm cs rest q.bindings)
-          × (tags_of (elements_of wm (front ++ rest)) ≡ front ++ rest) × (classes_in (elements_of wm (front ++ rest)) ≡ cond b (cells_of cs) (c.class ∷ cells_of cs)) × ((e : Element) → IsMember e (elements_of wm (front ++ rest)) → IsMember e wm)
+          → (front : List ℕ) × (q.tags ≡ p.tags ++ front) × (bindings_of wm (One c ∷ parts) (front ++ rest) p.bindings ≡ bindings_of wm parts rest q.bindings)
+          × (tags_of (elements_of wm (front ++ rest)) ≡ front ++ rest) × (classes_in (elements_of wm (front ++ rest)) ≡ cond b (cells_of parts) (c.class ∷ cells_of parts)) × ((e : Element) → IsMember e (elements_of wm (front ++ rest)) → IsMember e wm)
       by true is m =
           let n = negated_is p q (some_meets wm c p.bindings) m in (
             [],
             ap (λ (w : Partial). w.tags) n.1 ∙ sym (append-nil p.tags),
-            past_negated wm c cs rest p.bindings is ∙ ap (λ (w : Partial). bindings_of wm cs rest w.bindings) (sym n.1),
+            past_negated wm c parts rest p.bindings is ∙ ap (λ (w : Partial). bindings_of wm parts rest w.bindings) (sym n.1),
             cells,
             classes,
             elements,
@@ -106,7 +122,7 @@ module _ (wm : List Element) (rising : HasRisingTags wm) where
           let found = element_found wm f.0 rising f.1 in (
             f.0.tag ∷ [],
             l.1,
-            past_positive wm c cs f.0 rest p.bindings q.bindings is found l.0,
+            past_positive wm c parts f.0 rest p.bindings q.bindings is found l.0,
             ap (λ o. (unwrap_or o no_element).tag ∷ tags_of (elements_of wm rest)) found ∙ ap (λ ts. f.0.tag ∷ ts) cells,
             ap (λ o. (unwrap_or o no_element).class ∷ classes_in (elements_of wm rest)) found ∙ ap (λ n. n ∷ classes_in (elements_of wm rest)) (matched_class c f.0 p.bindings q.bindings l.0) ∙ ap (λ ns. c.class ∷ ns) classes,
             one_more f.0 f.1 found,
@@ -118,12 +134,12 @@ module _ (wm : List Element) (rising : HasRisingTags wm) where
               subst P (sym (same ∙ ap (λ o. unwrap_or o no_element) found)) there
           one_more x there found e (inr m) = elements e m
 
-  pub followed : (cs : List Condition) (ps : List Partial) (q : Partial) → IsMember q (walk wm cs ps) → Followed wm cs ps q
+  pub followed : (parts : List Part) (ps : List Partial) (q : Partial) → IsMember q (walk wm parts ps) → Followed wm parts ps q
   followed [] ps q m = record { from = q; begun = m; rest = []; tags = sym (append-nil q.tags); bindings = refl; cells = refl; classes = refl; elements = λ e m. absurd m }
-  followed (c ∷ cs) ps q m =
-      let r = followed cs (flat_map (at_condition wm c) ps) q m in
-      let b = flat_map_member (at_condition wm c) r.from ps r.begun in
-      let s = stepped c cs b.0 r.from r.rest b.2 r.cells r.classes r.elements in record {
+  followed (part ∷ parts) ps q m =
+      let r = followed parts (flat_map (at_part wm part) ps) q m in
+      let b = flat_map_member (at_part wm part) r.from ps r.begun in
+      let s = stepped part parts b.0 r.from r.rest b.2 r.cells r.classes r.elements in record {
         from = b.0;
         begun = b.1;
         rest = s.0 ++ r.rest;
@@ -135,23 +151,23 @@ module _ (wm : List Element) (rising : HasRisingTags wm) where
       }
 
   -- a whole match has the bindings that its tags give
-  pub record Whole (cs : List Condition) (q : Partial) : Type 0 where
-    pub bindings : bindings_of wm cs q.tags [] ≡ q.bindings
+  pub record Whole (parts : List Part) (q : Partial) : Type 0 where
+    pub bindings : bindings_of wm parts q.tags [] ≡ q.bindings
     pub cells : tags_of (elements_of wm q.tags) ≡ q.tags
-    pub classes : classes_in (elements_of wm q.tags) ≡ cells_of cs
+    pub classes : classes_in (elements_of wm q.tags) ≡ cells_of parts
     pub elements : (e : Element) → IsMember e (elements_of wm q.tags) → IsMember e wm
 
-  pub whole_match : (cs : List Condition) (q : Partial) → IsMember q (matches_of wm cs) → Whole cs q
-  whole_match cs q m = let r = followed cs (empty_partial ∷ []) q m in by r.from r.begun r.rest r.tags r.bindings r.cells r.classes r.elements
+  pub whole_match : (parts : List Part) (q : Partial) → IsMember q (matches_of wm parts) → Whole parts q
+  whole_match parts q m = let r = followed parts (empty_partial ∷ []) q m in by r.from r.begun r.rest r.tags r.bindings r.cells r.classes r.elements
     where
-      by : (from : Partial) → IsMember from (empty_partial ∷ []) → (rest : List ℕ) → q.tags ≡ from.tags ++ rest → bindings_of wm cs rest from.bindings ≡ q.bindings
-          → tags_of (elements_of wm rest) ≡ rest → classes_in (elements_of wm rest) ≡ cells_of cs → ((e : Element) → IsMember e (elements_of wm rest) → IsMember e wm) → Whole cs q
+      by : (from : Partial) → IsMember from (empty_partial ∷ []) → (rest : List ℕ) → q.tags ≡ from.tags ++ rest → bindings_of wm parts rest from.bindings ≡ q.bindings
+          → tags_of (elements_of wm rest) ≡ rest → classes_in (elements_of wm rest) ≡ cells_of parts → ((e : Element) → IsMember e (elements_of wm rest) → IsMember e wm) → Whole parts q
       by from (inl is) rest t b k n l =
           let same : q.tags ≡ rest = t ∙ ap (λ (w : Partial). w.tags ++ rest) is in
           let P : List ℕ → Type 0 = λ ts. tags_of (elements_of wm ts) ≡ ts in
           let Q : List ℕ → Type 0 = λ ts. (e : Element) → IsMember e (elements_of wm ts) → IsMember e wm in
           record {
-            bindings = ap (λ ts. bindings_of wm cs ts []) same ∙ ap (λ (w : Partial). bindings_of wm cs rest w.bindings) (sym is) ∙ b;
+            bindings = ap (λ ts. bindings_of wm parts ts []) same ∙ ap (λ (w : Partial). bindings_of wm parts rest w.bindings) (sym is) ∙ b;
             cells = subst P (sym same) k;
             classes = ap (λ ts. classes_in (elements_of wm ts)) same ∙ n;
             elements = subst Q (sym same) l;

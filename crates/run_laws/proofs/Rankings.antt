@@ -6,7 +6,8 @@ use Rattle.std.proofs.lemmas.Bool.{and_parts, eqb-true}
 use Rattle.std.proofs.lemmas.List.Kept.{AllPairs-filter}
 use Rattle.ops_base.specs.declared.commands.Strategy.{Strategy}
 use Rattle.ops_base.specs.declared.commands.Command.{Command}
-use Rattle.ops_base.specs.declared.conditions.Condition.{Condition}
+use Rattle.ops_base.specs.declared.conditions.Part.{Part}
+use Rattle.ops_base.specs.declared.conditions.Part.TheVariants.{One, Group}
 use Rattle.ops_base.specs.declared.elements.Element.{Element}
 use Rattle.ops_base.specs.declared.matching.Binding.{Binding}
 use Rattle.ops_base.specs.declared.rules.Inst.{Inst}
@@ -99,13 +100,14 @@ only_ranking rules m other rising p =
 -- ---- what dominance looks at
 
 -- the tags of an instantiation begin with one, where the first condition is positive
-first_tag_there : (wm : List Element) (cs : List Condition) (tags : List ℕ) → first_is_positive cs ≡ true → Meets wm cs [] tags → is_some (slice_get tags 0) ≡ true
+first_tag_there : (wm : List Element) (parts : List Part) (tags : List ℕ) → first_is_positive parts ≡ true → Meets wm parts [] tags → is_some (slice_get tags 0) ≡ true
 first_tag_there wm [] tags h i = absurd (cc)
-first_tag_there wm (c ∷ cs) tags h i = by c.negated h i
+first_tag_there wm (Group cs ∷ parts) tags h i = absurd (cc)
+first_tag_there wm (One c ∷ parts) tags h i = by c.negated h i
   where
     by : (b : Bool) → not b ≡ true
-        → MatchBool b (((e : Element) → Contains wm e → match_of c e [] ≡ None) × Meets wm cs [] tags)
-        ((e : Element) × (next : List Binding) × (rest : List ℕ) × Contains wm e × (match_of c e [] ≡ Some next) × (tags ≡ e.tag ∷ rest) × Meets wm cs next rest)
+        → MatchBool b (((e : Element) → Contains wm e → match_of c e [] ≡ None) × Meets wm parts [] tags)
+        ((e : Element) × (next : List Binding) × (rest : List ℕ) × Contains wm e × (match_of c e [] ≡ Some next) × (tags ≡ e.tag ∷ rest) × Meets wm parts next rest)
         → is_some (slice_get tags 0) ≡ true
     by true h i = absurd (cc)
     by false h i = ap (λ ts. is_some (slice_get ts 0)) i.5

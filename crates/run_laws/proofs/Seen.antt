@@ -8,6 +8,8 @@ use Rattle.ops_base.specs.declared.actions.Action.{Action}
 use Rattle.ops_base.specs.declared.commands.Command.{Command}
 use Rattle.ops_base.specs.declared.commands.Command.TheVariants as command
 use Rattle.ops_base.specs.declared.conditions.Condition.{Condition}
+use Rattle.ops_base.specs.declared.conditions.Part.{Part}
+use Rattle.ops_base.specs.declared.conditions.Part.TheVariants.{One, Group}
 use Rattle.ops_base.specs.declared.conditions.Test.{Test}
 use Rattle.ops_base.specs.declared.direct.Partial.{Partial}
 use Rattle.ops_base.specs.declared.elements.Class.{Class}
@@ -17,7 +19,7 @@ use Rattle.ops_base.specs.declared.endings.Ending.TheVariants as ending
 use Rattle.ops_base.specs.declared.matching.Binding.{Binding}
 use Rattle.ops_base.specs.declared.rules.Inst.{Inst}
 use Rattle.ops_base.specs.declared.rules.Rule.{Rule}
-use Rattle.ops_base.specs.ConflictSet.{at_condition, walk}
+use Rattle.ops_base.specs.ConflictSet.{at_part, walk}
 use Rattle.ops_base.specs.Matching.{after_test, after_tests}
 use Rattle.ops_base.specs.Names.{Spellings}
 use Rattle.ops_io.specs.Coming.{Coming}
@@ -27,7 +29,7 @@ use Rattle.ops_meaning.specs.Effects.{Effect, writes, going_on, outcome_as}
 use Rattle.ops_meaning.specs.Layout.{firing_bytes}
 use Rattle.ops_meaning.specs.Running.{Course, Turned, Session, LastFiring, begun, turn, has_break, line_of_count, line_of_pause, last_of, one_less, given_by, ended_in, turned_of, with_course, is_exit, firing, run_on, next_to_fire, command_done, commands_done}
 use Rattle.run_laws.specs.Cuts.{GoesOnWith, HasMore, cut_after}
-use Rattle.run_laws.specs.Finding.{EachAction, WalkFinds, condition_finds, test_finds, tests_find}
+use Rattle.run_laws.specs.Finding.{EachAction, LeadTo, MembersFind, PartFinds, WalkFinds, condition_finds, test_finds, tests_find}
 use Rattle.run_laws.specs.Firings.{IfGoesOn, EachOfRun, EachOfCommand, EachOfCommands, EachFiring}
 
 -- ---- left sides
@@ -46,11 +48,28 @@ test_seen c e (b ∷ before) after t bindings next h is =
     by None rest h is = absurd (cc)
     by (Some found) rest h is = rest found h is
 
-pub condition_seen : (classes : List Class) (wm : List Element) (before after : List Condition) (c : Condition) (ps : List Partial) (p : Partial) (e : Element)
-    → WalkFinds classes wm (before ++ c ∷ after) ps → Contains (walk wm before ps) p → Contains wm e → condition_finds classes c p.bindings e ≡ true
-condition_seen classes wm [] after c ps p e each k m = each.0 p e k m
-condition_seen classes wm (b ∷ before) after c ps p e each k m =
-    condition_seen classes wm before after c (flat_map (at_condition wm b) ps) p e each.1 k m
+part_seen : (classes : List Class) (wm : List Element) (before after : List Part) (part : Part) (ps : List Partial) (p : Partial)
+    → WalkFinds classes wm (before ++ part ∷ after) ps → Contains (walk wm before ps) p → PartFinds classes wm part p.bindings
+part_seen classes wm [] after part ps p each k = each.0 p k
+part_seen classes wm (b ∷ before) after part ps p each k =
+    part_seen classes wm before after part (flat_map (at_part wm b) ps) p each.1 k
+
+pub condition_seen : (classes : List Class) (wm : List Element) (before after : List Part) (c : Condition) (ps : List Partial) (p : Partial) (e : Element)
+    → WalkFinds classes wm (before ++ One c ∷ after) ps → Contains (walk wm before ps) p → Contains wm e → condition_finds classes c p.bindings e ≡ true
+condition_seen classes wm before after c ps p e each k m = part_seen classes wm before after (One c) ps p each k e m
+
+led_to : (classes : List Class) (wm : List Element) (first rest : List Condition) (c : Condition) (from to : List Binding) (e : Element)
+    → MembersFind classes wm (first ++ c ∷ rest) from → LeadTo wm first from to → Contains wm e → condition_finds classes c to e ≡ true
+led_to classes wm [] rest c from to e each same m =
+    let P : List Binding → Type 0 = λ b. condition_finds classes c b e ≡ true in subst P same (each e m).0
+led_to classes wm (b ∷ first) rest c from to e each led m =
+    led_to classes wm first rest c led.1 to e ((each led.0 led.2).1 led.1 led.3) led.4 m
+
+pub member_seen : (classes : List Class) (wm : List Element) (before after : List Part) (first rest : List Condition) (c : Condition) (ps : List Partial) (p : Partial) (next : List Binding) (e : Element)
+    → WalkFinds classes wm (before ++ Group (first ++ c ∷ rest) ∷ after) ps → Contains (walk wm before ps) p → LeadTo wm first p.bindings next → Contains wm e
+    → condition_finds classes c next e ≡ true
+member_seen classes wm before after first rest c ps p next e each k led m =
+    led_to classes wm first rest c p.bindings next e (part_seen classes wm before after (Group (first ++ c ∷ rest)) ps p each k) led m
 
 -- ---- actions
 

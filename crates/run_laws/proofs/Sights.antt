@@ -1,11 +1,13 @@
 -- What the validity of conditions takes as in sight is bound, at each condition and where the right side begins.
 use Rattle.std.proofs.Common.{◌≡◌, ℕ, zero, suc, List, [], ◌∷◌, length, Bool, true, false, cond, not, ◌==◌, ◌&&◌, ◌||◌, Some, None, option_map, refl, ap, sym, ◌∙◌, subst, nat_lt, slice_get, unwrap_or}
-use Rattle.std.specs.Prelude.{Contains, option_and_then}
+use Rattle.std.specs.Prelude.{Contains, nat_le, option_and_then}
 use Rattle.std.specs.List.{flat_map, list_all}
 use Rattle.std.proofs.lemmas.Bool.{and_parts, and_from}
 use Rattle.ops_base.specs.declared.actions.Action.{Action}
 use Rattle.ops_base.specs.declared.commands.Command.{Command}
 use Rattle.ops_base.specs.declared.conditions.Condition.{Condition}
+use Rattle.ops_base.specs.declared.conditions.Part.{Part}
+use Rattle.ops_base.specs.declared.conditions.Part.TheVariants.{One, Group}
 use Rattle.ops_base.specs.declared.conditions.Operand.{Operand}
 use Rattle.ops_base.specs.declared.conditions.Operand.TheVariants as operand
 use Rattle.ops_base.specs.declared.conditions.Test.{Test}
@@ -17,15 +19,15 @@ use Rattle.ops_base.specs.declared.rules.Inst.{Inst}
 use Rattle.ops_base.specs.declared.rules.Rule.{Rule}
 use Rattle.ops_base.specs.declared.values.Pred.{Pred}
 use Rattle.ops_base.specs.declared.values.Value.{Value}
-use Rattle.ops_base.specs.ConflictSet.{extended, some_meets, at_condition, walk, empty_partial, matches_of, conflict_set}
+use Rattle.ops_base.specs.ConflictSet.{extended, some_meets, some_extend, at_condition, at_part, walk, empty_partial, matches_of, conflict_set}
 use Rattle.ops_base.specs.Matching.{operand_holds, bound_to, after_tests, match_of}
-use Rattle.ops_base.specs.Valid.{Sight, fits, class_of, is_field, operand_is_valid, test_is_valid, tests_are_valid, condition_is_valid, conditions_are_valid, sight_with, sight_after, sight_after_tests, sight_after_condition, sight_after_conditions, nothing_in_sight, cells_of, known_of, actions_are_valid, rule_is_valid, is_valid}
+use Rattle.ops_base.specs.Valid.{Sight, fits, class_of, is_field, operand_is_valid, test_is_valid, tests_are_valid, condition_is_valid, members_are_valid, part_is_valid, parts_are_valid, sight_with, sight_after, sight_after_tests, sight_after_condition, sight_after_part, sight_after_parts, nothing_in_sight, cells_of, known_of, actions_are_valid, rule_is_valid, is_valid}
 use Rattle.ops_base.specs.WorkingMemory.{field_of, HasRisingTags}
 use Rattle.ops_base.proofs.ConflictSetLaws.{conflict_set-is}
 use Rattle.ops_base.proofs.Members.{IsMember, flat_map_member, member_from_contains}
 use Rattle.ops_base.proofs.WalkFinds.{lengthened_is, negated_is, meets-matches_of}
 use Rattle.ops_meaning.specs.Acting.{Setting, Given, elements_of, conditions_of, actions_of, begun}
-use Rattle.run_laws.specs.Finding.{is_class, operand_finds, tests_find, WalkFinds, AllFind}
+use Rattle.run_laws.specs.Finding.{is_class, operand_finds, tests_find, condition_finds, MembersFind, PartFinds, WalkFinds, AllFind}
 use Rattle.run_laws.proofs.Beginnings.{classes_in, whole_match, bindings_begun}
 use Rattle.run_laws.proofs.Knowing.{AreBound, bound_more, Holds, there, actions_find}
 
@@ -72,16 +74,25 @@ module _ (wm : List Element) where
           let l = lengthened_is p q f.0.tag (match_of c f.0 p.bindings) f.2 in
           matched_seen c f.0 s p.bindings q.bindings h l.0
 
+  -- a group leaves the bindings as they are
+  part_seen : (part : Part) (s : Sight) (p q : Partial) → AreBound s.bound p.bindings → IsMember q (at_part wm part p) → AreBound (sight_after_part s part).bound q.bindings
+  part_seen (One c) s p q h m = condition_seen c s p q h m
+  part_seen (Group cs) s p q h m =
+      let n = negated_is p q (some_extend wm cs p.bindings) m in
+      let P : Partial → Type 0 = λ w. AreBound s.bound w.bindings in
+      subst P (sym n.1) h
+
   abbrev AllSeen : Sight → List Partial → Type 0
   AllSeen s ps = (p : Partial) → IsMember p ps → AreBound s.bound p.bindings
 
-  step_seen : (c : Condition) (s : Sight) (ps : List Partial) → AllSeen s ps → AllSeen (sight_after_condition s c) (flat_map (at_condition wm c) ps)
-  step_seen c s ps h q m =
-      let b = flat_map_member (at_condition wm c) q ps m in condition_seen c s b.0 q (h b.0 b.1) b.2
+  step_seen : (part : Part) (s : Sight) (ps : List Partial) → AllSeen s ps → AllSeen (sight_after_part s part) (flat_map (at_part wm part) ps)
+  step_seen part s ps h q m =
+      let b = flat_map_member (at_part wm part) q ps m in part_seen part s b.0 q (h b.0 b.1) b.2
 
-  walk_seen : (cs : List Condition) (s : Sight) (ps : List Partial) → AllSeen s ps → AllSeen (sight_after_conditions s cs) (walk wm cs ps)
+  walk_seen : (parts : List Part) (s : Sight) (ps : List Partial) → AllSeen s ps → AllSeen (sight_after_parts s parts) (walk wm parts ps)
   walk_seen [] s ps h = h
-  walk_seen (c ∷ cs) s ps h = walk_seen cs (sight_after_condition s c) (flat_map (at_condition wm c) ps) (step_seen c s ps h)
+  walk_seen (part ∷ parts) s ps h =
+      walk_seen parts (sight_after_part s part) (flat_map (at_part wm part) ps) (step_seen part s ps h)
 
 nothing_seen : (p : Partial) → IsMember p (empty_partial ∷ []) → AreBound nothing_in_sight.bound p.bindings
 nothing_seen p m v within = absurd (cc)
@@ -108,15 +119,34 @@ tests_found c e (t ∷ ts) s bindings h v =
     by false true ih f o w = and_from _ _ (and_from _ _ f (operand_found s t.pred t.operand bindings h o)) (ih s bindings h w)
     by false false ih f o w = and_from _ _ (and_from _ _ f (operand_found s t.pred t.operand bindings h o)) refl
 
-pub walk_found : (classes : List Class) (wm : List Element) (cs : List Condition) (s : Sight) (ps : List Partial) → AllSeen wm s ps → conditions_are_valid classes s cs ≡ true → WalkFinds classes wm cs ps
+condition_found : (classes : List Class) (c : Condition) (s : Sight) (e : Element) (bindings : List Binding) → AreBound s.bound bindings → condition_is_valid classes s c ≡ true → condition_finds classes c bindings e ≡ true
+condition_found classes c s e bindings h v =
+    let one = and_parts (nat_lt c.class (length classes) && fits c.tests) (tests_are_valid (class_of classes c.class) s c.tests) v in
+    let front = and_parts (nat_lt c.class (length classes)) (fits c.tests) one.0 in
+    and_from (is_class classes c.class) (tests_find (class_of classes c.class) e c.tests bindings) (there classes c.class front.0)
+    (tests_found (class_of classes c.class) e c.tests s bindings h one.1)
+
+members_found : (classes : List Class) (wm : List Element) (cs : List Condition) (s : Sight) (bindings : List Binding) → AreBound s.bound bindings → members_are_valid classes s cs ≡ true → MembersFind classes wm cs bindings
+members_found classes wm [] s bindings h v = tt
+members_found classes wm (c ∷ cs) s bindings h v =
+    let whole = and_parts (not c.negated && condition_is_valid classes s c) (members_are_valid classes (sight_after_tests s c.tests) cs) v in
+    let one = and_parts (not c.negated) (condition_is_valid classes s c) whole.0 in
+    λ e m. (
+      condition_found classes c s e bindings h one.1,
+      λ next is. members_found classes wm cs (sight_after_tests s c.tests) next (matched_seen c e s bindings next h is) whole.1,
+    )
+
+part_found : (classes : List Class) (wm : List Element) (part : Part) (s : Sight) (bindings : List Binding) → AreBound s.bound bindings → part_is_valid classes s part ≡ true → PartFinds classes wm part bindings
+part_found classes wm (One c) s bindings h v = λ e m. condition_found classes c s e bindings h v
+part_found classes wm (Group cs) s bindings h v =
+    members_found classes wm cs s bindings h (and_parts (nat_le 2 (length cs)) (members_are_valid classes s cs) v).1
+
+pub walk_found : (classes : List Class) (wm : List Element) (parts : List Part) (s : Sight) (ps : List Partial) → AllSeen wm s ps → parts_are_valid classes s parts ≡ true → WalkFinds classes wm parts ps
 walk_found classes wm [] s ps h v = tt
-walk_found classes wm (c ∷ cs) s ps h v =
-    let whole = and_parts (condition_is_valid classes s c) (conditions_are_valid classes (sight_after_condition s c) cs) v in
-    let one = and_parts (nat_lt c.class (length classes) && fits c.tests) (tests_are_valid (class_of classes c.class) s c.tests) whole.0 in
-    let front = and_parts (nat_lt c.class (length classes)) (fits c.tests) one.0 in (
-      λ p e m n. and_from (is_class classes c.class) (tests_find (class_of classes c.class) e c.tests p.bindings) (there classes c.class front.0)
-          (tests_found (class_of classes c.class) e c.tests s p.bindings (h p (member_from_contains p ps m)) one.1),
-      walk_found classes wm cs (sight_after_condition s c) (flat_map (at_condition wm c) ps) (step_seen wm c s ps h) whole.1,
+walk_found classes wm (part ∷ parts) s ps h v =
+    let whole = and_parts (part_is_valid classes s part) (parts_are_valid classes (sight_after_part s part) parts) v in (
+      λ p m. part_found classes wm part s p.bindings (h p (member_from_contains p ps m)) whole.0,
+      walk_found classes wm parts (sight_after_part s part) (flat_map (at_part wm part) ps) (step_seen wm part s ps h) whole.1,
     )
 
 -- ---- valid productions
@@ -130,7 +160,7 @@ pub rule_valid : (classes : List Class) (rules : List Rule) (commands : List Com
 rule_valid classes rules commands text k r h at =
     each_at (rule_is_valid classes text) rules k r (and_parts _ _ (and_parts _ _ (and_parts _ _ (and_parts _ _ h).0).0).0).1 at
 
-pub sides_valid : (classes : List Class) (text : ℕ) (r : Rule) → rule_is_valid classes text r ≡ true → (conditions_are_valid classes nothing_in_sight r.conditions ≡ true) × (actions_are_valid classes (known_of r.conditions) r.actions ≡ true)
+pub sides_valid : (classes : List Class) (text : ℕ) (r : Rule) → rule_is_valid classes text r ≡ true → (parts_are_valid classes nothing_in_sight r.conditions ≡ true) × (actions_are_valid classes (known_of r.conditions) r.actions ≡ true)
 sides_valid classes text r h =
     let fifth = (and_parts _ _ (and_parts _ _ (and_parts _ _ (and_parts _ _ (and_parts _ _ h).0).0).0).0).0 in
     let third = (and_parts _ _ (and_parts _ _ fifth).0).0 in
@@ -142,24 +172,26 @@ left_side_finds s commands wm k r h at =
     walk_found s.classes wm r.conditions nothing_in_sight (empty_partial ∷ []) nothing_seen sides.0
 
 -- the classes of the positive conditions are there
-cells_there : (classes : List Class) (s : Sight) (cs : List Condition) → conditions_are_valid classes s cs ≡ true → list_all (λ c. nat_lt c (length classes)) (cells_of cs) ≡ true
+cells_there : (classes : List Class) (s : Sight) (parts : List Part) → parts_are_valid classes s parts ≡ true → list_all (λ c. nat_lt c (length classes)) (cells_of parts) ≡ true
 cells_there classes s [] h = refl
-cells_there classes s (c ∷ cs) h =
-    let whole = and_parts (condition_is_valid classes s c) (conditions_are_valid classes (sight_after_condition s c) cs) h in
+cells_there classes s (Group cs ∷ parts) h =
+    cells_there classes (sight_after_part s (Group cs)) parts (and_parts (part_is_valid classes s (Group cs)) (parts_are_valid classes (sight_after_part s (Group cs)) parts) h).1
+cells_there classes s (One c ∷ parts) h =
+    let whole = and_parts (condition_is_valid classes s c) (parts_are_valid classes (sight_after_condition s c) parts) h in
     let one = and_parts (nat_lt c.class (length classes) && fits c.tests) (tests_are_valid (class_of classes c.class) s c.tests) whole.0 in
-    by c.negated (and_parts (nat_lt c.class (length classes)) (fits c.tests) one.0).0 (cells_there classes (sight_after_condition s c) cs whole.1)
+    by c.negated (and_parts (nat_lt c.class (length classes)) (fits c.tests) one.0).0 (cells_there classes (sight_after_condition s c) parts whole.1)
   where
-    by : (b : Bool) → nat_lt c.class (length classes) ≡ true → list_all (λ c. nat_lt c (length classes)) (cells_of cs) ≡ true
-        → list_all (λ c. nat_lt c (length classes)) (cond b (cells_of cs) (c.class ∷ cells_of cs)) ≡ true
+    by : (b : Bool) → nat_lt c.class (length classes) ≡ true → list_all (λ c. nat_lt c (length classes)) (cells_of parts) ≡ true
+        → list_all (λ c. nat_lt c (length classes)) (cond b (cells_of parts) (c.class ∷ cells_of parts)) ≡ true
     by true here rest = rest
     by false here rest = and_from _ _ here rest
 
 -- what is known where the right side of an instantiation begins is so
-pub begun_knows : (s : Setting) (g : Given) (i : Inst) (r : Rule) → HasRisingTags g.wm → conditions_of s.rules i.rule ≡ r.conditions → conditions_are_valid s.classes nothing_in_sight r.conditions ≡ true
+pub begun_knows : (s : Setting) (g : Given) (i : Inst) (r : Rule) → HasRisingTags g.wm → conditions_of s.rules i.rule ≡ r.conditions → parts_are_valid s.classes nothing_in_sight r.conditions ≡ true
     → (q : Partial) → IsMember q (matches_of g.wm r.conditions) → q.tags ≡ i.tags → Holds s.classes (known_of r.conditions) (begun s i g).bindings (begun s i g).cells []
 begun_knows s g i r rising same valid q m t =
     let w = whole_match g.wm rising r.conditions q m in
-    let P : List Binding → Type 0 = AreBound (sight_after_conditions nothing_in_sight r.conditions).bound in
+    let P : List Binding → Type 0 = AreBound (sight_after_parts nothing_in_sight r.conditions).bound in
     record {
       variables = subst P (bindings_begun s g i r rising same q m t) (walk_seen g.wm r.conditions nothing_in_sight (empty_partial ∷ []) nothing_seen q m);
       cells = ap (λ ts. classes_in (elements_of g.wm ts)) (sym t) ∙ w.classes;

@@ -13,6 +13,8 @@ use Rattle.ops_base.specs.declared.commands.Command.{Command}
 use Rattle.ops_base.specs.declared.commands.Command.TheVariants as command
 use Rattle.ops_base.specs.declared.commands.Fixed.{Fixed}
 use Rattle.ops_base.specs.declared.conditions.Condition.{Condition}
+use Rattle.ops_base.specs.declared.conditions.Part.{Part}
+use Rattle.ops_base.specs.declared.conditions.Part.TheVariants.{One, Group}
 use Rattle.ops_base.specs.declared.conditions.Operand.{Operand}
 use Rattle.ops_base.specs.declared.conditions.Operand.TheVariants as operand
 use Rattle.ops_base.specs.declared.conditions.Test.{Test}
@@ -22,9 +24,9 @@ use Rattle.ops_base.specs.declared.elements.Change.TheVariants as change
 use Rattle.ops_base.specs.declared.elements.Class.{Class}
 use Rattle.ops_base.specs.declared.elements.Element.{Element}
 use Rattle.ops_base.specs.declared.matching.Binding.{Binding}
-use Rattle.ops_base.specs.ConflictSet.{at_condition}
+use Rattle.ops_base.specs.ConflictSet.{at_part}
 use Rattle.ops_base.specs.Expression.{all_variables}
-use Rattle.ops_base.specs.Matching.{value_of, after_test}
+use Rattle.ops_base.specs.Matching.{value_of, after_test, match_of}
 use Rattle.ops_base.specs.Valid.{class_of, is_attribute, is_field, is_vector}
 use Rattle.ops_base.specs.WorkingMemory.{change_done}
 use Rattle.ops_io.specs.Output.{column_after}
@@ -55,13 +57,35 @@ tests_find c e (t ∷ ts) bindings =
 abbrev pub condition_finds : List Class → Condition → List Binding → Element → Bool
 condition_finds classes c bindings e = is_class classes c.class && tests_find (class_of classes c.class) e c.tests bindings
 
--- From these partial matches on, at each condition that the walk comes to, each test that an element comes to finds all
--- that it names.
-abbrev pub WalkFinds : List Class → List Element → List Condition → List Partial → Type 0
+-- From these bindings on, at each member of a group to which elements that meet those before it lead, each test that an
+-- element comes to finds all that it names.
+abbrev pub MembersFind : List Class → List Element → List Condition → List Binding → Type 0
+MembersFind classes wm [] bindings = Unit {0}
+MembersFind classes wm (c ∷ cs) bindings =
+    (e : Element) → Contains wm e
+    → IsTrue (condition_finds classes c bindings e)
+    × ((next : List Binding) → match_of c e bindings ≡ Some next → MembersFind classes wm cs next)
+
+-- the same at each condition of a part
+abbrev pub PartFinds : List Class → List Element → Part → List Binding → Type 0
+PartFinds classes wm (One c) bindings =
+    (e : Element) → Contains wm e → IsTrue (condition_finds classes c bindings e)
+PartFinds classes wm (Group cs) bindings = MembersFind classes wm cs bindings
+
+-- From these partial matches on, at each condition that the walk comes to, members of groups among them, each test that
+-- an element comes to finds all that it names.
+abbrev pub WalkFinds : List Class → List Element → List Part → List Partial → Type 0
 WalkFinds classes wm [] ps = Unit {0}
-WalkFinds classes wm (c ∷ cs) ps =
-    ((p : Partial) (e : Element) → Contains ps p → Contains wm e → IsTrue (condition_finds classes c p.bindings e))
-    × WalkFinds classes wm cs (flat_map (at_condition wm c) ps)
+WalkFinds classes wm (part ∷ parts) ps =
+    ((p : Partial) → Contains ps p → PartFinds classes wm part p.bindings)
+    × WalkFinds classes wm parts (flat_map (at_part wm part) ps)
+
+-- Elements of working memory, one for each condition, lead from the one bindings to the other: each meets its condition
+-- under the bindings that those before it left.
+abbrev pub LeadTo : List Element → List Condition → List Binding → List Binding → Type 0
+LeadTo wm [] from to = from ≡ to
+LeadTo wm (c ∷ cs) from to =
+    (e : Element) × (next : List Binding) × Contains wm e × (match_of c e from ≡ Some next) × LeadTo wm cs next to
 
 -- ---- right sides
 

@@ -6,6 +6,8 @@ ghost use Rattle.ops_base.specs.declared.actions.Term.{Term};
 ghost use Rattle.ops_base.specs.declared.commands.Command.{Command};
 ghost use Rattle.ops_base.specs.declared.commands.Fixed.{Fixed};
 ghost use Rattle.ops_base.specs.declared.conditions.Condition.{Condition};
+ghost use Rattle.ops_base.specs.declared.conditions.Part.{Part};
+ghost use Rattle.ops_base.specs.declared.conditions.Part.TheVariants.{One, Group};
 ghost use Rattle.ops_base.specs.declared.conditions.Test.{Test};
 ghost use Rattle.ops_base.specs.declared.direct.Partial.{Partial};
 ghost use Rattle.ops_base.specs.declared.elements.Change.TheVariants.{Remove};
@@ -28,7 +30,7 @@ ghost use Rattle.run_laws.specs.Beginning.{BeginsAsMatched};
 ghost use Rattle.run_laws.specs.Cuts.{GoesOnWith};
 ghost use Rattle.run_laws.specs.Elements.{AreFieldsOf, AreWhole};
 ghost use Rattle.run_laws.specs.Ending.{IsOfSession};
-ghost use Rattle.run_laws.specs.Finding.{AllFind, EachAction, RemovalsFind, SeesTheSame, WalkFinds, command_finds, condition_finds, is_single, test_finds, tests_find};
+ghost use Rattle.run_laws.specs.Finding.{AllFind, EachAction, LeadTo, RemovalsFind, SeesTheSame, WalkFinds, command_finds, condition_finds, is_single, test_finds, tests_find};
 ghost use Rattle.run_laws.specs.Firings.{EachFiring, FindsAll};
 ghost use Rattle.run_laws.specs.Patterns.{condition_with, meeting};
 ghost use Rattle.run_laws.specs.Placing.{StandAt};
@@ -42,8 +44,8 @@ pub fn right_sides_begin_as_matched()
         → HasRisingTags g.wm → Contains (conflict_set s.rules g.wm) i → BeginsAsMatched s g i }
 {}
 
-/// In a valid program each test that an element comes to finds its class, the number of its field, and the variable
-/// that it compares with.
+/// In a valid program each test that an element comes to, also at a member of a group, finds its class, the number of
+/// its field, and the variable that it compares with.
 pub fn left_sides_find_what_they_name()
     ensures { (s : Setting) (commands : List Command) (wm : List Element) (n : ℕ) (r : Rule)
         → AreValid s commands → slice_get s.rules n ≡ Some r → WalkFinds s.classes wm r.conditions (empty_partial ∷ []) }
@@ -136,16 +138,21 @@ pub fn standing_is_ranked()
         → HasRisingTags m.wm → IsRanking rules m other → other ≡ standing_by (conflict_set rules) rules m }
 {}
 
-/// What is said of each test, each condition and each action in turn is said of any that is come to, after those before
-/// it. What is said of each firing of a session is said of any firing that a run goes on with.
+/// What is said of each test, each condition, each member of a group and each action in turn is said of any that is come
+/// to, after those before it. What is said of each firing of a session is said of any firing that a run goes on with.
 pub fn nothing_is_passed_over()
     ensures tests { (c : Class) (e : Element) (before after : List Test) (t : Test) (bindings next : List Binding)
         → IsTrue (tests_find c e (before ++ t ∷ after) bindings) → after_tests before e bindings ≡ Some next
         → IsTrue (test_finds c t next) }
-    ensures conditions { (classes : List Class) (wm : List Element) (before after : List Condition) (c : Condition)
+    ensures conditions { (classes : List Class) (wm : List Element) (before after : List Part) (c : Condition)
         → (ps : List Partial) (p : Partial) (e : Element)
-        → WalkFinds classes wm (before ++ c ∷ after) ps → Contains (walk wm before ps) p → Contains wm e
+        → WalkFinds classes wm (before ++ One c ∷ after) ps → Contains (walk wm before ps) p → Contains wm e
         → IsTrue (condition_finds classes c p.bindings e) }
+    ensures members { (classes : List Class) (wm : List Element) (before after : List Part) (first rest : List Condition) (c : Condition)
+        → (ps : List Partial) (p : Partial) (next : List Binding) (e : Element)
+        → WalkFinds classes wm (before ++ Group (first ++ c ∷ rest) ∷ after) ps → Contains (walk wm before ps) p
+        → LeadTo wm first p.bindings next → Contains wm e
+        → IsTrue (condition_finds classes c next e) }
     ensures actions { (test : Action → Doing → Bool) (s : Setting) (column n : ℕ) (before after : List Action) (a : Action) (d e : Doing)
         → EachAction (λ a d. IsTrue (test a d)) s column (before ++ a ∷ after) d
         → (actions_done s column n before d).outcome ≡ Ok e → IsTrue (test a e) }

@@ -9,12 +9,13 @@ use Rattle.std.proofs.lemmas.List.{append-nil}
 use Rattle.std.proofs.lemmas.List.Elements.{All-nil}
 use Rattle.ops_base.specs.declared.actions.Action.{Action}
 use Rattle.ops_base.specs.declared.conditions.Condition.{Condition}
+use Rattle.ops_base.specs.declared.conditions.Part.TheVariants.{One}
 use Rattle.ops_base.specs.declared.direct.Partial.{Partial}
 use Rattle.ops_base.specs.declared.elements.Element.{Element}
 use Rattle.ops_base.specs.declared.matching.Binding.{Binding}
 use Rattle.ops_base.specs.declared.rules.Inst.{Inst}
 use Rattle.ops_base.specs.declared.rules.Rule.{Rule}
-use Rattle.ops_base.specs.ConflictSet.{lengthened, extended, some_meets, at_condition, empty_partial, insts_of}
+use Rattle.ops_base.specs.ConflictSet.{lengthened, extended, some_meets, at_part, empty_partial, insts_of}
 use Rattle.ops_base.specs.Dominance.{specificity_of}
 use Rattle.ops_base.specs.Instances.{Before, IsInOrder, IsConflictSet}
 use Rattle.ops_base.specs.Refraction.{is_among, unfired}
@@ -60,13 +61,13 @@ stops (e ∷ wm) = by (e.class == 1) (stops wm)
     by true rest = refl
     by false rest = rest
 
-left_by : (wm es : List Element) (b : Bool) → some_meets wm second [] ≡ b → flat_map (at_condition wm second) (map part es) ≡ cond b [] (map part es)
+left_by : (wm es : List Element) (b : Bool) → some_meets wm second [] ≡ b → flat_map (at_part wm (One second)) (map part es) ≡ cond b [] (map part es)
 left_by wm [] true is = refl
 left_by wm [] false is = refl
 left_by wm (e ∷ es) true is =
-    ap (λ b. cond (not b) (part e ∷ []) [] ++ flat_map (at_condition wm second) (map part es)) is ∙ left_by wm es true is
+    ap (λ b. cond (not b) (part e ∷ []) [] ++ flat_map (at_part wm (One second)) (map part es)) is ∙ left_by wm es true is
 left_by wm (e ∷ es) false is =
-    ap (λ b. cond (not b) (part e ∷ []) [] ++ flat_map (at_condition wm second) (map part es)) is
+    ap (λ b. cond (not b) (part e ∷ []) [] ++ flat_map (at_part wm (One second)) (map part es)) is
     ∙ ap (λ ps. part e ∷ ps) (left_by wm es false is)
 
 insts : (es : List Element) → insts_of 0 (map part es) ≡ map inst_of es
@@ -81,8 +82,8 @@ insts_by false es = insts es
 pub production_quiet : (actions : List Action) (cells : ℕ) → AreQuiet (production actions cells ∷ [])
 production_quiet actions cells wm =
     let found = flat_map (extended first empty_partial) wm in
-    ap (λ ps. insts_of 0 (flat_map (at_condition wm second) ps) ++ []) (append-nil found ∙ parts_of wm)
-    ∙ append-nil (insts_of 0 (flat_map (at_condition wm second) (map part (filter is_a wm))))
+    ap (λ ps. insts_of 0 (flat_map (at_part wm (One second)) ps) ++ []) (append-nil found ∙ parts_of wm)
+    ∙ append-nil (insts_of 0 (flat_map (at_part wm (One second)) (map part (filter is_a wm))))
     ∙ ap (insts_of 0) (left_by wm (filter is_a wm) (list_any is_stop wm) (stops wm))
     ∙ insts_by (list_any is_stop wm) (filter is_a wm)
 

@@ -1,7 +1,8 @@
 -- The programs of the tests are valid.
 use Rattle.std.proofs.Common.{◌≡◌, ◌∙◌, ℕ, ℤ, List, [], ◌∷◌, length, true, false}
 use Rattle.ops_base.specs.declared.commands.Command.{Command}
-use Rattle.ops_base.specs.declared.conditions.Condition.{Condition}
+use Rattle.ops_base.specs.declared.conditions.Part.{Part}
+use Rattle.ops_base.specs.declared.conditions.Part.TheVariants.{One}
 use Rattle.ops_base.specs.declared.conditions.Operand.TheVariants.{Constant}
 use Rattle.ops_base.specs.declared.elements.Class.{Class}
 use Rattle.ops_base.specs.declared.rules.Rule.{Rule}
@@ -12,17 +13,17 @@ use Rattle.ops_base.specs.Valid.{is_valid}
 abbrev pub class_of : ℕ → Class
 class_of name = record { name = record { 0 = name }; attrs = record { 0 = 9 } ∷ []; vector = false }
 
-abbrev pub condition_any : ℕ → Condition
-condition_any class = record { class = class; negated = false; tests = [] }
+abbrev pub condition_any : ℕ → Part
+condition_any class = One (record { class = class; negated = false; tests = [] })
 
-abbrev pub condition_with : ℕ → ℤ → Condition
-condition_with class n = record {
+abbrev pub condition_with : ℕ → ℤ → Part
+condition_with class n = One (record {
   class = class;
   negated = false;
   tests = record { field = 0; pred = Eq; operand = Constant (Whole n); binds = false } ∷ [];
-}
+})
 
-abbrev pub rule_of : ℕ → List Condition → ℕ → Rule
+abbrev pub rule_of : ℕ → List Part → ℕ → Rule
 rule_of name conditions specificity = record {
   name = record { 0 = name };
   conditions = conditions;

@@ -2,7 +2,8 @@
 use Rattle.std.specs.Prelude.{◌≡◌, ◌==◌, ℕ, List, [], ◌∷◌, map, filter, Bool, true, false, if◌then◌else◌}
 use Rattle.std.specs.List.{list_any}
 use Rattle.ops_base.specs.declared.actions.Action.{Action}
-use Rattle.ops_base.specs.declared.conditions.Condition.{Condition}
+use Rattle.ops_base.specs.declared.conditions.Part.{Part}
+use Rattle.ops_base.specs.declared.conditions.Part.TheVariants.{One}
 use Rattle.ops_base.specs.declared.elements.Class.{Class}
 use Rattle.ops_base.specs.declared.elements.Element.{Element}
 use Rattle.ops_base.specs.declared.rules.Inst.{Inst}
@@ -15,8 +16,9 @@ abbrev pub classes : List Class
 classes = record { name = record { 0 = 1 }; attrs = []; vector = false } ∷ record { name = record { 0 = 2 }; attrs = []; vector = false } ∷ []
 
 -- `(a) - (stop)`
-abbrev pub left_side : List Condition
-left_side = record { class = 0; negated = false; tests = [] } ∷ record { class = 1; negated = true; tests = [] } ∷ []
+abbrev pub left_side : List Part
+left_side =
+    One (record { class = 0; negated = false; tests = [] }) ∷ One (record { class = 1; negated = true; tests = [] }) ∷ []
 
 -- a production with this left side, these actions and this many cells
 abbrev pub production : List Action → ℕ → Rule

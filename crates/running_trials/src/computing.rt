@@ -19,20 +19,55 @@ const BEFORE: &[u8] = b"(literalize box size name)
 const AFTER: &[u8] = b")))";
 
 /// What is computed, and what it gives.
-const COMPUTED: [(&[u8], Computed); 16] = [
+const COMPUTED: [(&[u8], Computed); 21] = [
     (b"3 + 4", Ok(Value::Whole(7))),
-    (b"9223372036854775807 + 1", Err(ActKind::Overflow)),
+    (
+        b"170141183460469231731687303715884105726 + 1",
+        Ok(Value::Whole(i128::MAX)),
+    ),
+    (
+        b"170141183460469231731687303715884105727 + 1",
+        Err(ActKind::Overflow),
+    ),
     (b"3 - 4", Ok(Value::Whole(-1))),
-    (b"-9223372036854775808 - 1", Err(ActKind::Overflow)),
+    (
+        b"-170141183460469231731687303715884105727 - 1",
+        Ok(Value::Whole(i128::MIN)),
+    ),
+    (
+        b"-170141183460469231731687303715884105728 - 1",
+        Err(ActKind::Overflow),
+    ),
     (b"-3 * 4", Ok(Value::Whole(-12))),
-    (b"4294967296 * 2147483648", Err(ActKind::Overflow)),
+    (
+        b"9223372036854775807 * 9223372036854775807",
+        Ok(Value::Whole(85_070_591_730_234_615_847_396_907_784_232_501_249)),
+    ),
+    (
+        b"-9223372036854775808 * 18446744073709551616",
+        Ok(Value::Whole(i128::MIN)),
+    ),
+    (
+        b"9223372036854775808 * 18446744073709551616",
+        Err(ActKind::Overflow),
+    ),
     (b"-7 // 2", Ok(Value::Whole(-3))),
     (b"1 // 0", Err(ActKind::ZeroDivisor)),
-    (b"-9223372036854775808 // -1", Err(ActKind::Overflow)),
+    (
+        b"-9223372036854775808 // -1",
+        Ok(Value::Whole(9_223_372_036_854_775_808)),
+    ),
+    (
+        b"-170141183460469231731687303715884105728 // -1",
+        Err(ActKind::Overflow),
+    ),
     (b"-7 \\\\ 2", Ok(Value::Whole(-1))),
     (b"7 \\\\ -2", Ok(Value::Whole(1))),
     (b"1 \\\\ 0", Err(ActKind::ZeroDivisor)),
-    (b"-9223372036854775808 \\\\ -1", Ok(Value::Whole(0))),
+    (
+        b"-170141183460469231731687303715884105728 \\\\ -1",
+        Ok(Value::Whole(0)),
+    ),
     (b"2 * 3 + <n>", Ok(Value::Whole(20))),
     (b"<s>", Ok(NOTHING)),
     (b"<s> + 1 // 0", Err(ActKind::ZeroDivisor)),

@@ -5,7 +5,7 @@ ghost use Rattle.conflict_index.specs.Indexed.{insts_of, KeepsSpecificities};
 
 use conflict_index::Index;
 use ops_base::commands::Strategy;
-use ops_base::conditions::{Condition, Operand, Test};
+use ops_base::conditions::{Condition, Operand, Part, Test};
 use ops_base::elements::Class;
 use ops_base::list::Listed;
 use ops_base::memory::OutOfMemory;
@@ -59,23 +59,23 @@ fn class(alloc: Global, name: u64) -> Result<Class, OutOfMemory>
 }
 
 /// Of any element of the class.
-fn any(alloc: Global, class: usize) -> Condition
-    ensures { result ≡ record { class = class; negated = false; tests = [] } }
+fn any(alloc: Global, class: usize) -> Part
+    ensures { result ≡ Part.One (record { class = class; negated = false; tests = [] }) }
 {
-    Condition {
+    Part::One(Condition {
         class,
         negated: false,
         tests: Listed::new(alloc),
-    }
+    })
 }
 
 /// Of an element of the class with this `n`.
-fn with_n(alloc: Global, class: usize, n: i64) -> Result<Condition, OutOfMemory>
-    ensures { IfOk result (λ c. c ≡ record {
+fn with_n(alloc: Global, class: usize, n: i128) -> Result<Part, OutOfMemory>
+    ensures { IfOk result (λ part. part ≡ Part.One (record {
       class = class;
       negated = false;
       tests = record { field = 0; pred = Pred.Eq; operand = Operand.Constant (Value.Whole n); binds = false } ∷ [];
-    }) }
+    })) }
 {
     let test = Test {
         field: 0,
@@ -84,14 +84,14 @@ fn with_n(alloc: Global, class: usize, n: i64) -> Result<Condition, OutOfMemory>
         binds: false,
     };
     let tests = one(alloc, test)?;
-    Ok(Condition {
+    Ok(Part::One(Condition {
         class,
         negated: false,
         tests,
-    })
+    }))
 }
 
-fn rule(alloc: Global, name: u64, conditions: Listed<Condition>, specificity: u32) -> Rule
+fn rule(alloc: Global, name: u64, conditions: Listed<Part>, specificity: u32) -> Rule
     ensures { result ≡ record {
       name = record { 0 = name };
       conditions = conditions;

@@ -3,7 +3,7 @@ ghost use Rattle.std.specs.Prelude.{◌≡◌, ◌∷◌, [], IfOk, false, pos};
 
 use ops_base::actions::Action;
 use ops_base::commands::Command;
-use ops_base::conditions::{Condition, Operand, Test};
+use ops_base::conditions::{Condition, Operand, Part, Test};
 use ops_base::elements::{Class, Element};
 use ops_base::expression::{Expr, Op};
 use ops_base::list::Listed;
@@ -42,12 +42,46 @@ fn condition(alloc: Global) -> Result<Condition, OutOfMemory>
     })
 }
 
-/// `(p drop { <e> (box ^size << 3 nil >>) } --> (remove <e>) (halt))`
+/// `(box)`
+fn any(alloc: Global) -> Condition
+    ensures { result ≡ record { class = 0; negated = false; tests = [] } }
+{
+    Condition {
+        class: 0,
+        negated: false,
+        tests: Listed::new(alloc),
+    }
+}
+
+/// `- { (box) (box ^size << 3 nil >>) }`
+fn group(alloc: Global) -> Result<Part, OutOfMemory>
+    ensures { IfOk result (λ part. part ≡ Part.Group (
+        record { class = 0; negated = false; tests = [] }
+        ∷ record {
+          class = 0;
+          negated = false;
+          tests
+              = record {
+                field = 0;
+                pred = Pred.Eq;
+                operand = Operand.OneOf (Value.Whole (pos 3) ∷ Value.Symbol (record { 0 = 0 }) ∷ []);
+                binds = false;
+              } ∷ [];
+        } ∷ [])) }
+{
+    let members = [any(alloc), condition(alloc)?];
+    Ok(Part::Group(Listed::from_array(alloc, members)?))
+}
+
+/// `(p drop { <e> (box) } - { (box) (box ^size << 3 nil >>) } --> (remove <e>) (halt))`
 fn rule(alloc: Global) -> Result<Rule, OutOfMemory>
     ensures { IfOk result (λ r. r ≡ record {
       name = record { 0 = 5 };
       conditions
-          = record {
+          = Part.One (record { class = 0; negated = false; tests = [] })
+          ∷ Part.Group (
+          record { class = 0; negated = false; tests = [] }
+          ∷ record {
             class = 0;
             negated = false;
             tests
@@ -57,9 +91,9 @@ fn rule(alloc: Global) -> Result<Rule, OutOfMemory>
                   operand = Operand.OneOf (Value.Whole (pos 3) ∷ Value.Symbol (record { 0 = 0 }) ∷ []);
                   binds = false;
                 } ∷ [];
-          } ∷ [];
+          } ∷ []) ∷ [];
       actions = Action.Remove (0 ∷ []) ∷ Action.Halt ∷ [];
-      specificity = 2;
+      specificity = 4;
       variables = 0;
       cells = 1;
       first = 1;
@@ -68,11 +102,12 @@ fn rule(alloc: Global) -> Result<Rule, OutOfMemory>
 {
     let cells = Listed::from_array(alloc, [0])?;
     let actions = Listed::from_array(alloc, [Action::Remove { cells }, Action::Halt])?;
+    let parts = [Part::One(any(alloc)), group(alloc)?];
     Ok(Rule {
         name: Sym(5),
-        conditions: Listed::from_array(alloc, [condition(alloc)?])?,
+        conditions: Listed::from_array(alloc, parts)?,
         actions,
-        specificity: 2,
+        specificity: 4,
         variables: 0,
         cells: 1,
         first: 1,
@@ -106,10 +141,17 @@ fn rules(rt: HostRuntime) -> Result<(), Fail> {
     let alloc = rt.alloc();
     let copy = rule(alloc)?.copy(alloc)?;
     assert_eq!(rt; copy.name, Sym(5));
-    assert_eq!(rt; (copy.specificity, copy.variables, copy.cells), (2, 0, 1));
+    assert_eq!(rt; (copy.specificity, copy.variables, copy.cells), (4, 0, 1));
     assert_eq!(rt; (copy.first, copy.past), (1, 4));
-    assert_eq!(rt; copy.conditions.len(), 1);
-    let test = &copy.conditions.as_slice()[0].tests.as_slice()[0];
+    let [Part::One(first), Part::Group(members)] = copy.conditions.as_slice() else {
+        return Err(Fail::from("not a condition and a group"));
+    };
+    assert_eq!(rt; (first.negated, first.tests.len()), (false, 0));
+    let [any, of_size] = members.as_slice() else {
+        return Err(Fail::from("not two members"));
+    };
+    assert_eq!(rt; (any.negated, any.tests.len()), (false, 0));
+    let test = &of_size.tests.as_slice()[0];
     if let Operand::OneOf(sizes) = &test.operand {
         let wanted = [Value::Whole(3), NOTHING];
         assert_eq!(rt; sizes.as_slice(), wanted.as_slice());

@@ -9,7 +9,7 @@ use act_phase::ActFault;
 use cycle::State;
 use ops_base::actions::Action;
 use ops_base::commands::Strategy;
-use ops_base::conditions::Condition;
+use ops_base::conditions::{Condition, Part};
 use ops_base::elements::{Change, Class, Element};
 use ops_base::list::Listed;
 use ops_base::memory::OutOfMemory;
@@ -49,14 +49,14 @@ fn class(alloc: Global, name: u64) -> Class
     }
 }
 
-fn condition(alloc: Global, class: usize, negated: bool) -> Condition
-    ensures { result ≡ record { class = class; negated = negated; tests = [] } }
+fn condition(alloc: Global, class: usize, negated: bool) -> Part
+    ensures { result ≡ Part.One (record { class = class; negated = negated; tests = [] }) }
 {
-    Condition {
+    Part::One(Condition {
         class,
         negated,
         tests: Listed::new(alloc),
-    }
+    })
 }
 
 /// `(literalize a) (literalize stop) (p .. (a) - (stop) --> ..)`

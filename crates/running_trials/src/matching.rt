@@ -38,7 +38,7 @@ fn predicates(rt: HostRuntime) {
     }
 }
 
-fn element(alloc: Global, tag: u64, class: usize, n: i64) -> Result<Element, OutOfMemory>
+fn element(alloc: Global, tag: u64, class: usize, n: i128) -> Result<Element, OutOfMemory>
     ensures { IfOk result (λ e. e.tag ≡ tag) }
 {
     let fields = Listed::from_array(alloc, [Value::Whole(n)])?;

@@ -37,6 +37,23 @@ fn symbols_and_values(rt: HostRuntime) -> Result<(), Fail> {
 }
 
 #[test]
+fn numbers_of_the_most_bytes(rt: HostRuntime) -> Result<(), Fail> {
+    let alloc = rt.alloc();
+    let names = Names::new(alloc)?;
+    let mut sink = sink(alloc)?;
+    let mut out = Out::new(alloc)?;
+    put_value(&mut out, &mut sink, &names, &Value::Whole(i128::MIN))?;
+    put_lead(&mut out, &mut sink, Lead::Apart, 39)?;
+    put_value(&mut out, &mut sink, &names, &Value::Whole(i128::MAX))?;
+    out.flush(&mut sink)?;
+    let both = b"-170141183460469231731687303715884105728 170141183460469231731687303715884105727";
+    assert_eq!(rt; sink.written(), both.as_slice());
+    assert_eq!(rt; value_length(&names, &Value::Whole(i128::MIN)), 40);
+    assert_eq!(rt; value_length(&names, &Value::Whole(i128::MAX)), 39);
+    Ok(())
+}
+
+#[test]
 fn columns(rt: HostRuntime) -> Result<(), Fail> {
     let alloc = rt.alloc();
     let mut sink = sink(alloc)?;

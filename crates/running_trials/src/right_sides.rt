@@ -3,7 +3,7 @@ ghost use Rattle.std.specs.Prelude.{◌≡◌, ◌∷◌, [], IfOk, true, false}
 
 use act_phase::{ActFault, Acted, act};
 use ops_base::actions::{Action, Item, Put, Term};
-use ops_base::conditions::{Condition, Operand, Test};
+use ops_base::conditions::{Condition, Operand, Part, Test};
 use ops_base::elements::{Change, Class, Element};
 use ops_base::list::Listed;
 use ops_base::memory::OutOfMemory;
@@ -42,13 +42,13 @@ fn class(alloc: Global) -> Result<Class, OutOfMemory>
 }
 
 /// `(box ^size <n>)`
-fn condition(alloc: Global) -> Result<Condition, OutOfMemory>
-    ensures { IfOk result (λ c. c ≡ record {
+fn condition(alloc: Global) -> Result<Part, OutOfMemory>
+    ensures { IfOk result (λ part. part ≡ Part.One (record {
       class = 0;
       negated = false;
       tests
           = record { field = 0; pred = Pred.Eq; operand = Operand.Variable 0; binds = true } ∷ [];
-    }) }
+    })) }
 {
     let test = Test {
         field: 0,
@@ -56,11 +56,11 @@ fn condition(alloc: Global) -> Result<Condition, OutOfMemory>
         operand: Operand::Variable(0),
         binds: true,
     };
-    Ok(Condition {
+    Ok(Part::One(Condition {
         class: 0,
         negated: false,
         tests: one(alloc, test)?,
-    })
+    }))
 }
 
 /// One box with tag 1, of size 7.

@@ -59,6 +59,7 @@ fn twin(alloc: Global) -> Result<Net, OutOfMemory> {
         alpha: 0,
         joins: Listed::new(alloc),
         children: Listed::from_array(alloc, [1])?,
+        rights: Listed::new(alloc),
         depth: 1,
     };
     let second = Node {
@@ -68,6 +69,7 @@ fn twin(alloc: Global) -> Result<Net, OutOfMemory> {
         alpha: 0,
         joins: Listed::from_array(alloc, [same])?,
         children: Listed::from_array(alloc, [2])?,
+        rights: Listed::new(alloc),
         depth: 2,
     };
     let terminal = Node {
@@ -77,6 +79,7 @@ fn twin(alloc: Global) -> Result<Net, OutOfMemory> {
         alpha: 0,
         joins: Listed::new(alloc),
         children: Listed::new(alloc),
+        rights: Listed::new(alloc),
         depth: 3,
     };
     let alphas = Listed::from_array(alloc, [alpha(alloc, 0)])?;
@@ -93,6 +96,7 @@ fn free(alloc: Global) -> Result<Net, OutOfMemory> {
         alpha: 0,
         joins: Listed::new(alloc),
         children: Listed::from_array(alloc, [1])?,
+        rights: Listed::new(alloc),
         depth: 1,
     };
     let negated = Node {
@@ -102,6 +106,7 @@ fn free(alloc: Global) -> Result<Net, OutOfMemory> {
         alpha: 1,
         joins: Listed::new(alloc),
         children: Listed::from_array(alloc, [2])?,
+        rights: Listed::new(alloc),
         depth: 2,
     };
     let terminal = Node {
@@ -111,6 +116,7 @@ fn free(alloc: Global) -> Result<Net, OutOfMemory> {
         alpha: 0,
         joins: Listed::new(alloc),
         children: Listed::new(alloc),
+        rights: Listed::new(alloc),
         depth: 3,
     };
     let alphas = Listed::from_array(alloc, [alpha(alloc, 0), alpha(alloc, 1)])?;

@@ -21,18 +21,24 @@ use ops_base::programs::Program;
 use ops_base::symbols::Names;
 use ops_io::{Input, Out, Sink, Source, Stop};
 use std::alloc::Global;
+use std::mem;
 use work_store::{Matcher, Settled};
 
-/// What is known of a session once its commands are done.
+/// What is known of a session once its commands are done. It is not given back piece by piece: the program is about to
+/// end, and that would take a walk over all that it holds.
 fn ended<M: Matcher>(done: Result<Session<M>, Ending>) -> Result<Ending, Stop>
     ensures { result ≡ ended M.stored done }
 {
     match done {
-        Ok(session) => Ok(Ending::Done {
-            firings: session.state.firings(),
-            elements: session.state.store().len() as u64,
-            last_tag: session.state.last_tag(),
-        }),
+        Ok(session) => {
+            let ending = Ending::Done {
+                firings: session.state.firings(),
+                elements: session.state.store().len() as u64,
+                last_tag: session.state.last_tag(),
+            };
+            mem::forget(session);
+            Ok(ending)
+        }
         Err(Ending::WriteFault) => Err(Stop::Write),
         Err(Ending::OutOfMemory) => Err(Stop::OutOfMemory),
         Err(ending) => Ok(ending),

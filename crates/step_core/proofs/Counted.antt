@@ -7,7 +7,7 @@ use Rattle.net_base.specs.declared.nodes.Node.{Node}
 use Rattle.net_base.specs.declared.tasks.Side.{Side}
 use Rattle.net_base.specs.declared.tasks.Side.TheVariants.{Left}
 use Rattle.net_base.specs.declared.nodes.Kind.{Kind}
-use Rattle.net_base.specs.declared.nodes.Kind.TheVariants.{Join, Negated, Terminal}
+use Rattle.net_base.specs.declared.nodes.Kind.TheVariants.{Join, Negated, Group, Terminal}
 use Rattle.net_base.specs.Sound.{IsSound, is_join, is_negated, left_width}
 use Rattle.token_line.specs.declared.line.Line.{Line}
 use Rattle.token_line.specs.Held.{Fits}
@@ -30,7 +30,7 @@ counted_same nodes s old new counted same numbers codes told = record {
   counts = λ n x t at negated some.
       numbers n t
       ∙ (counted.counts n x t at negated (λ z. some (same n Left t ∙ z))
-      ∙ sym (ap (λ b. matching (held_of s) x.joins b n t) (bag_ext (sum_in new) (sum_in old) same)));
+      ∙ sym (ap (λ b. matching (held_of s) x b n t) (bag_ext (sum_in new) (sum_in old) same)));
   filed = λ n c side t some. counted.filed n c side t (codes n c side t some);
 }
 
@@ -66,4 +66,5 @@ counted_begun alphas nodes sound s lines bound i l begun = record {
     no_negated : {X : Type 0} (k : Kind) → is_negated k ≡ true → is_join k ≡ true → X
     no_negated Join negated join = absurd (cc)
     no_negated Negated negated join = absurd (cc)
+    no_negated (Group giver width members) negated join = absurd (cc)
     no_negated (Terminal rule) negated join = absurd (cc)

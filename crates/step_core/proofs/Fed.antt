@@ -1,5 +1,5 @@
 -- The tasks that changes feed are what working memory gives more.
-use Rattle.std.proofs.Common.{◌≡◌, ◌≢◌, ◌<◌, ℕ, zero, suc, Bool, true, false, cond, not, ◌&&◌, List, [], ◌∷◌, ◌++◌, pos, negsuc, ◌+ℤ◌, refl, sym, ap, ap₂, subst, ◌∙◌, arith, length, slice_get, Option, Some, None}
+use Rattle.std.proofs.Common.{◌≡◌, ◌≢◌, ◌<◌, ℕ, zero, suc, Bool, true, false, cond, ◌&&◌, List, [], ◌∷◌, ◌++◌, pos, negsuc, ◌+ℤ◌, refl, sym, ap, ap₂, subst, ◌∙◌, arith, length, slice_get, Option, Some, None}
 use Rattle.std.specs.List.{AllByRecursion}
 use Rattle.std.proofs.lemmas.Int.{ints}
 use Rattle.std.proofs.lemmas.Option.{slice_get_within}
@@ -11,13 +11,13 @@ use Rattle.ops_base.specs.declared.elements.Change.TheVariants.{Add, Remove}
 use Rattle.ops_base.specs.WorkingMemory.{without_tag, change_done, done, last_after, Lawful}
 use Rattle.ops_base.proofs.Changes.{first_lawful, rest_lawful}
 use Rattle.net_base.specs.declared.nodes.Kind.{Kind}
-use Rattle.net_base.specs.declared.nodes.Kind.TheVariants.{Join, Negated, Terminal}
+use Rattle.net_base.specs.declared.nodes.Kind.TheVariants.{Join, Negated, Group, Terminal}
 use Rattle.net_base.specs.declared.nodes.Node.{Node}
 use Rattle.net_base.specs.declared.nodes.Alpha.{Alpha}
 use Rattle.net_base.specs.declared.tasks.Side.{Side}
 use Rattle.net_base.specs.declared.tasks.Side.TheVariants.{Left, Right}
 use Rattle.net_base.specs.declared.tasks.Task.{Task}
-use Rattle.net_base.specs.Sound.{is_terminal}
+use Rattle.net_base.specs.Sound.{takes_elements}
 use Rattle.net_base.specs.Tokens.{Elements, Memory, giver_of_parent, giver_of_kind, right_giver, elements_of, passes_alpha, times_passed, memory_gives, given, given_in, tokens}
 use Rattle.token_line.specs.Bags.{sign, signs}
 use Rattle.token_line.specs.Lawful.{giver_in, giver_of}
@@ -47,9 +47,10 @@ task_at-fed alphas nodes plus tag e i (Some x) at = by x.kind refl (passes_in (s
     if_passed is true = (ap (λ o. giver_in o Right) at ∙ is, tt)
     if_passed is false = tt
 
-    by : (k : Kind) → x.kind ≡ k → (b : Bool) → AllByRecursion (IsFed nodes) (tasks (not (is_terminal k) && b))
+    by : (k : Kind) → x.kind ≡ k → (b : Bool) → AllByRecursion (IsFed nodes) (tasks (takes_elements k && b))
     by Join is b = if_passed (ap giver_of_kind is) b
     by Negated is b = if_passed (ap giver_of_kind is) b
+    by (Group giver width members) is b = tt
     by (Terminal rule) is b = tt
 
 tasks_below-fed : (alphas : List Alpha) (nodes : List Node) (plus : Bool) (tag : ℕ) (e : Option Element) (i : ℕ) → AllByRecursion (IsFed nodes) (tasks_below alphas nodes plus tag e i)
@@ -114,7 +115,7 @@ module _ (alphas : List Alpha) (nodes : List Node) (plus : Bool) (tag : ℕ) (e 
   -- over what stands of each element: of this one it changes by its sign, of no other
   fed_change : (wm wm' : List Element) → ((k : ℕ) → tag ≢ k → elements_of wm' k ≡ elements_of wm k)
       → ((a : Option Alpha) → cond (passes_in a e) (sign plus) (pos 0) +ℤ pos (times_passed a (elements_of wm tag)) ≡ pos (times_passed a (elements_of wm' tag)))
-      → (n : ℕ) (x : Node) → slice_get nodes n ≡ Some x → is_terminal x.kind ≡ false → (t : List ℕ)
+      → (n : ℕ) (x : Node) → slice_get nodes n ≡ Some x → takes_elements x.kind ≡ true → (t : List ℕ)
       → signs n Right t (tasks_below alphas nodes plus tag e (length nodes)) +ℤ pos (memory_gives wm (slice_get alphas x.alpha) t) ≡ pos (memory_gives wm' (slice_get alphas x.alpha) t)
   fed_change wm wm' others own n x at takes t = by t
     where
@@ -125,7 +126,7 @@ module _ (alphas : List Alpha) (nodes : List Node) (plus : Bool) (tag : ℕ) (e 
       none u ne = sum_is u ∙ other_token n u (Some x) ne
 
       own_is : is_fed alphas e x ≡ passes_in (slice_get alphas x.alpha) e
-      own_is = ap (λ b. not b && passes_in (slice_get alphas x.alpha) e) takes
+      own_is = ap (λ b. b && passes_in (slice_get alphas x.alpha) e) takes
 
       by : (u : List ℕ) → signs n Right u (tasks_below alphas nodes plus tag e (length nodes)) +ℤ pos (memory_gives wm (slice_get alphas x.alpha) u) ≡ pos (memory_gives wm' (slice_get alphas x.alpha) u)
       by [] = let a = none [] (λ q. absurd (cc)) in omega (arith, ints, a)
@@ -163,20 +164,21 @@ goes e (Some a) = by (passes_alpha a e)
 pub record TakesElements (alphas : List Alpha) (nodes : List Node) (n : ℕ) (s : Side) : Type 0 where
   pub node : Node
   pub at : slice_get nodes n ≡ Some node
-  pub takes : is_terminal node.kind ≡ false
+  pub takes : takes_elements node.kind ≡ true
   pub right : s ≡ Right
   pub gives : (wm : List Element) (t : List ℕ) → sums_over wm alphas nodes n Right t ≡ pos (memory_gives wm (slice_get alphas node.alpha) t)
 
-pub takes_elements : (alphas : List Alpha) (nodes : List Node) (n : ℕ) (s : Side) → giver_of nodes n s ≡ Memory → TakesElements alphas nodes n s
-takes_elements alphas nodes n s of_memory = by_node (slice_get nodes n) s refl of_memory
+pub element_side : (alphas : List Alpha) (nodes : List Node) (n : ℕ) (s : Side) → giver_of nodes n s ≡ Memory → TakesElements alphas nodes n s
+element_side alphas nodes n s of_memory = by_node (slice_get nodes n) s refl of_memory
   where
     by_parent : (o : Option ℕ) → giver_of_parent o ≡ Memory → ⊥
     by_parent None g = cc
     by_parent (Some p) g = cc
 
-    by_kind : (k : Kind) → giver_of_kind k ≡ Memory → is_terminal k ≡ false
+    by_kind : (k : Kind) → giver_of_kind k ≡ Memory → takes_elements k ≡ true
     by_kind Join g = refl
     by_kind Negated g = refl
+    by_kind (Group giver width members) g = absurd (cc)
     by_kind (Terminal rule) g = absurd (cc)
 
     by_node : (o : Option Node) (side : Side) → slice_get nodes n ≡ o → giver_in o side ≡ Memory → TakesElements alphas nodes n side
@@ -194,7 +196,7 @@ takes_elements alphas nodes n s of_memory = by_node (slice_get nodes n) s refl o
 -- an empty working memory gives nothing
 pub nothing_given : (alphas : List Alpha) (nodes : List Node) (n : ℕ) (s : Side) (t : List ℕ) → giver_of nodes n s ≡ Memory → sums_over [] alphas nodes n s t ≡ pos 0
 nothing_given alphas nodes n s t of_memory =
-    let is = takes_elements alphas nodes n s of_memory in
+    let is = element_side alphas nodes n s of_memory in
     ap (λ side. sums_over [] alphas nodes n side t) is.right ∙ (is.gives [] t ∙ none (slice_get alphas is.node.alpha) t)
   where
     passes : (a : Option Alpha) → pos (times_passed a None) ≡ pos 0
@@ -208,7 +210,7 @@ nothing_given alphas nodes n s t of_memory =
 
 module _ (elements : Elements) (alphas : List Alpha) (nodes : List Node) where
   change_gives : (last : ℕ) (wm : List Element) (c : Change) → IsKnown elements last wm → Lawful wm last (c ∷ []) → NamesAdded elements (c ∷ [])
-      → (n : ℕ) (x : Node) → slice_get nodes n ≡ Some x → is_terminal x.kind ≡ false → (t : List ℕ)
+      → (n : ℕ) (x : Node) → slice_get nodes n ≡ Some x → takes_elements x.kind ≡ true → (t : List ℕ)
       → signs n Right t (fed_by elements alphas nodes c) +ℤ pos (memory_gives wm (slice_get alphas x.alpha) t) ≡ pos (memory_gives (change_done wm c) (slice_get alphas x.alpha) t)
   change_gives last wm (Add e) k lawful names =
       fed_change alphas nodes true e.tag (Some e) wm (wm ++ e ∷ []) (λ j ne. find_other wm e j (grind (arith, nat_tests)))
@@ -221,7 +223,7 @@ module _ (elements : Elements) (alphas : List Alpha) (nodes : List Node) where
       ∙ (goes there.0 a ∙ sym (ap (λ o. pos (times_passed a o)) (find_gone wm tag))))
 
   fed_gives : (last : ℕ) (wm : List Element) (cs : List Change) → IsKnown elements last wm → Lawful wm last cs → NamesAdded elements cs
-      → (n : ℕ) (x : Node) → slice_get nodes n ≡ Some x → is_terminal x.kind ≡ false → (t : List ℕ)
+      → (n : ℕ) (x : Node) → slice_get nodes n ≡ Some x → takes_elements x.kind ≡ true → (t : List ℕ)
       → signs n Right t (fed_by_all elements alphas nodes cs) +ℤ pos (memory_gives wm (slice_get alphas x.alpha) t) ≡ pos (memory_gives (done wm cs) (slice_get alphas x.alpha) t)
   fed_gives last wm [] k lawful names n x at takes t = omega (arith, ints)
   fed_gives last wm (c ∷ cs) k lawful names n x at takes t =
@@ -237,7 +239,7 @@ module _ (elements : Elements) (alphas : List Alpha) (nodes : List Node) where
       → (n : ℕ) (s : Side) (t : List ℕ) → giver_of nodes n s ≡ Memory
       → signs n s t (fed_by_all elements alphas nodes cs) +ℤ sums_over wm alphas nodes n s t ≡ sums_over (done wm cs) alphas nodes n s t
   fed_is_given last wm cs k lawful names n s t of_memory =
-      let is = takes_elements alphas nodes n s of_memory in
+      let is = element_side alphas nodes n s of_memory in
       subst (λ side. signs n side t (fed_by_all elements alphas nodes cs) +ℤ sums_over wm alphas nodes n side t ≡ sums_over (done wm cs) alphas nodes n side t) (sym is.right)
       (let a = is.gives wm t in
       let b = is.gives (done wm cs) t in

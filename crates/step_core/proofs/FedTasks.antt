@@ -1,17 +1,17 @@
 -- The tasks of an element fit where the store holds the tag.
-use Rattle.std.proofs.Common.{◌≡◌, ℕ, zero, suc, ◌<◌, Bool, true, false, cond, not, ◌&&◌, List, [], ◌∷◌, refl, sym, ap, subst, ◌∙◌, length, get_or, slice_get, Option, Some, None, IsSome, ◌++◌, Result, Ok, Err, OnOk, OnErr}
+use Rattle.std.proofs.Common.{◌≡◌, ℕ, zero, suc, ◌<◌, Bool, true, false, cond, ◌&&◌, List, [], ◌∷◌, refl, sym, ap, subst, ◌∙◌, length, get_or, slice_get, Option, Some, None, IsSome, ◌++◌, Result, Ok, Err, OnOk, OnErr}
 use Rattle.std.specs.List.{All, AllByRecursion}
 use Rattle.std.proofs.lemmas.List.Elements.{All-append, All-cons, All-nil, All-from_recursion}
 use Rattle.std.proofs.lemmas.Option.{slice_get_read}
 use Rattle.ops_base.specs.declared.elements.Element.{Element}
 use Rattle.work_store.specs.Stored.{Stored, held_of}
 use Rattle.net_base.specs.declared.nodes.Kind.{Kind}
-use Rattle.net_base.specs.declared.nodes.Kind.TheVariants.{Join, Negated, Terminal}
+use Rattle.net_base.specs.declared.nodes.Kind.TheVariants.{Join, Negated, Group, Terminal}
 use Rattle.net_base.specs.declared.nodes.Node.{Node}
 use Rattle.net_base.specs.declared.nodes.Alpha.{Alpha}
 use Rattle.net_base.specs.declared.tasks.Side.TheVariants.{Right}
 use Rattle.net_base.specs.declared.tasks.Task.{Task}
-use Rattle.net_base.specs.Sound.{is_terminal}
+use Rattle.net_base.specs.Sound.{takes_elements}
 use Rattle.token_line.specs.Held.{TaskFits, is_wide}
 use Rattle.token_line.proofs.Fitting.{fits_at}
 use Rattle.step_core.specs.Machine.{passes_in, task_at, tasks_below}
@@ -38,9 +38,10 @@ module _ (s : Stored) (alphas : List Alpha) (nodes : List Node) (plus : Bool) (t
       width_of : (k : Kind) → x.kind ≡ k → is_wide nodes (record x { kind = k }) Right (tag ∷ []) ≡ true → is_wide nodes x Right (tag ∷ []) ≡ true
       width_of k is = subst (λ z. is_wide nodes (record x { kind = z }) Right (tag ∷ []) ≡ true) (sym is)
 
-      by : (k : Kind) → x.kind ≡ k → (b : Bool) → AllByRecursion (TaskFits nodes s) (tasks (not (is_terminal k) && b))
+      by : (k : Kind) → x.kind ≡ k → (b : Bool) → AllByRecursion (TaskFits nodes s) (tasks (takes_elements k && b))
       by Join is b = if_passed (width_of Join is refl) b
       by Negated is b = if_passed (width_of Negated is refl) b
+      by (Group giver width members) is b = tt
       by (Terminal rule) is b = tt
 
   fit_below : (i : ℕ) → AllByRecursion (TaskFits nodes s) (tasks_below alphas nodes plus tag e i)

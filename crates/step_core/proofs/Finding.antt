@@ -11,7 +11,7 @@ use Rattle.ops_base.proofs.Members.{IsMember, member_cases, member_left, member_
 use Rattle.ops_base.proofs.Filtered.{filter_member, member-filter, all_before-filter}
 use Rattle.ops_base.proofs.InOrder.{AllBefore, TagBelow, all_before-append, all_before-flat_map, all_before-map, all_pairs_from_before, tags_in_order}
 use Rattle.net_base.specs.declared.nodes.Kind.{Kind}
-use Rattle.net_base.specs.declared.nodes.Kind.TheVariants.{Join, Negated, Terminal}
+use Rattle.net_base.specs.declared.nodes.Kind.TheVariants.{Join, Negated, Group, Terminal}
 use Rattle.net_base.specs.declared.nodes.Node.{Node}
 use Rattle.net_base.specs.declared.nodes.Alpha.{Alpha}
 use Rattle.net_base.specs.Sound.{IsSound, left_width}
@@ -59,6 +59,7 @@ all_in_tags wm (x ∷ t) a = (in_tags wm x a.0.0 a.0.1, all_in_tags wm t a.1)
 is_of-true : (k : ℕ) (q : Kind) → is_of k q ≡ true → q ≡ Terminal k
 is_of-true k Join e = absurd (cc)
 is_of-true k Negated e = absurd (cc)
+is_of-true k (Group giver width members) e = absurd (cc)
 is_of-true k (Terminal rule) e = ap Terminal ((Decides-eqb rule k).0 e)
 
 is_of-itself : (k : ℕ) (q : Kind) → q ≡ Terminal k → is_of k q ≡ true

@@ -9,14 +9,14 @@ use Rattle.ops_base.specs.Instances.{IsInst, IsConflictSet}
 use Rattle.ops_base.specs.WorkingMemory.{HasRisingTags}
 use Rattle.ops_base.proofs.Members.{IsMember, contains_from_member}
 use Rattle.net_base.specs.declared.nodes.Kind.{Kind}
-use Rattle.net_base.specs.declared.nodes.Kind.TheVariants.{Join, Negated, Terminal}
+use Rattle.net_base.specs.declared.nodes.Kind.TheVariants.{Join, Negated, Group, Terminal}
 use Rattle.net_base.specs.declared.nodes.Node.{Node}
 use Rattle.net_base.specs.declared.nodes.Alpha.{Alpha}
 use Rattle.net_base.specs.declared.net.Net.{Net}
 use Rattle.net_base.specs.Network.{IsWm, NetOf, IsTerminalOf}
 use Rattle.net_base.specs.Sound.{IsSound, width_below, left_width, added_tags, width_above, is_join}
 use Rattle.net_base.specs.Tokens.{left_tokens, right_tokens, tokens, out_of, elements_of}
-use Rattle.step_core.proofs.Given.{parents_first, tokens_are_out}
+use Rattle.step_core.proofs.Given.{givers_first, tokens_are_out}
 use Rattle.step_core.proofs.Named.{IsIn, IsToken, left_are_tokens}
 use Rattle.step_core.specs.Found.{found_over}
 use Rattle.step_core.specs.Settling.{IsFound}
@@ -26,7 +26,7 @@ module _ (net : Net) (rules : List Rule) (wm : List Element) (is : NetOf net rul
   -- at a terminal what stands is what comes
   out_is_left : (n k : ℕ) (x : Node) → slice_get net.nodes n ≡ Some x → x.kind ≡ Terminal k → (t : List ℕ) → tokens wm net.alphas net.nodes n t ≡ left_tokens wm net.alphas net.nodes n t
   out_is_left n k x at kind t =
-      tokens_are_out wm net.alphas net.nodes (parents_first net.alphas net.nodes net.sound) n x t at
+      tokens_are_out wm net.alphas net.nodes (givers_first net.alphas net.nodes net.sound) n x t at
       ∙ ap (λ (q : Kind). out_of (2 ^ 64) (elements_of wm) q x.joins (left_tokens wm net.alphas net.nodes n) (right_tokens wm net.alphas net.nodes n) t) kind
 
   here : (n k : ℕ) (x : Node) → slice_get net.nodes n ≡ Some x → x.kind ≡ Terminal k → IsTerminalOf net rules k n
@@ -68,6 +68,7 @@ module _ (alphas : List Alpha) (nodes : List Node) (sound : IsSound alphas nodes
       joined : (q : Kind) → is_join q ≡ true → 1 ≤ added_tags q
       joined Join e = omega arith
       joined Negated e = absurd (cc)
+      joined (Group g w q) e = absurd (cc)
       joined (Terminal rule) e = absurd (cc)
 
       by : ((p m : ℕ) (y : Node) → p < n → slice_get nodes p ≡ Some y → 1 ≤ width_below k nodes p) → (p : Option ℕ) → x.parent ≡ p → 1 ≤ width_above (width_below k nodes) x.parent + added_tags x.kind
@@ -88,6 +89,7 @@ module _ (alphas : List Alpha) (nodes : List Node) (sound : IsSound alphas nodes
       no_join : (q : Kind) → q ≡ Terminal i.rule → is_join q ≡ true → ⊥
       no_join Join e j = cc
       no_join Negated e j = cc
+      no_join (Group g w q) e j = cc
       no_join (Terminal rule) e j = cc
 
       by : (t : List ℕ) → AllByRecursion (IsIn []) t → length t ≡ left_width nodes f.node.parent → (p : Option ℕ) → f.node.parent ≡ p → ⊥

@@ -4,7 +4,7 @@ use Rattle.std.specs.List.{filter}
 use Rattle.std.specs.Option.{option_map_or}
 use Rattle.std.specs.Prelude.{flat_map}
 use Rattle.net_base.specs.declared.nodes.Kind.{Kind}
-use Rattle.net_base.specs.declared.nodes.Kind.TheVariants.{Join, Negated, Terminal}
+use Rattle.net_base.specs.declared.nodes.Kind.TheVariants.{Join, Negated, Group, Terminal}
 use Rattle.net_base.specs.declared.nodes.Node.{Node}
 use Rattle.net_base.specs.declared.tasks.Side.{Side}
 use Rattle.net_base.specs.declared.tasks.Side.TheVariants.{Left, Right}
@@ -26,6 +26,7 @@ not_last (Some x) Left e = by x.kind e
     by : (k : Kind) → is_terminal k ≡ false → rule_in (Some (record x { kind = k })) Left ≡ None
     by Join e = refl
     by Negated e = refl
+    by (Group giver width members) e = refl
     by (Terminal rule) e = absurd (cc)
 
 module _ (nodes : List Node) (l : Seen) where

@@ -4,12 +4,13 @@ use Rattle.std.specs.List.{AllByRecursion}
 use Rattle.ops_base.specs.declared.elements.Element.{Element}
 use Rattle.ops_base.specs.Values.{holds_of}
 use Rattle.net_base.specs.declared.nodes.Kind.{Kind}
-use Rattle.net_base.specs.declared.nodes.Kind.TheVariants.{Join, Negated, Terminal}
+use Rattle.net_base.specs.declared.nodes.Kind.TheVariants.{Join, Negated, Group, Terminal}
 use Rattle.net_base.specs.declared.nodes.JoinTest.{JoinTest}
 use Rattle.net_base.specs.declared.nodes.Node.{Node}
 use Rattle.net_base.specs.declared.nodes.Alpha.{Alpha}
-use Rattle.net_base.specs.Sound.{added_tags, width_above, width_of_node, width_below, width, left_width}
-use Rattle.net_base.specs.Tokens.{Elements, Tokens, front, last, count_below, joins_hold, field_in, out_of, root_gives, times_passed, memory_gives, given, giver_of_parent, giver_of_kind, left_giver, right_giver, elements_of, tokens_of_node, tokens_below, tokens, given_in, left_tokens, right_tokens}
+use Rattle.net_base.specs.Sound.{added_tags, takes_elements, width_above, width_of_node, width_below, width, left_width}
+use Rattle.net_base.specs.Tokens.{Elements, Tokens, front, last, count_with, goes_with, joins_hold, field_in, out_of, root_gives, times_passed, memory_gives, given, giver_of_parent, giver_of_kind, left_giver, right_giver, elements_of, tokens_of_node, tokens_below, tokens, given_in, left_tokens, right_tokens}
+use Rattle.activation.proofs.CountBelow.{count_same}
 
 -- a tag of an element of working memory
 abbrev pub IsIn : List Element → ℕ → Type 0
@@ -60,17 +61,19 @@ memory_tokens wm a (tag ∷ []) ne = record { long = refl; all = (passed_some a 
 memory_tokens wm a (tag ∷ x ∷ xs) ne = absurd (ne refl)
 
 -- what a node puts out of tokens
-out_tokens : (tags : ℕ) (el : Elements) (wm : List Element) (m : ℕ) (kind : Kind) (tests : List JoinTest) (l r : Tokens) → AreTokens wm m l → AreTokens wm 1 r → AreTokens wm (m + added_tags kind) (out_of tags el kind tests l r)
+out_tokens : (tags : ℕ) (el : Elements) (wm : List Element) (m : ℕ) (kind : Kind) (tests : List JoinTest) (l r : Tokens) → AreTokens wm m l → (takes_elements kind ≡ true → AreTokens wm 1 r) → AreTokens wm (m + added_tags kind) (out_of tags el kind tests l r)
 out_tokens tags el wm m Join tests l r left right [] ne = absurd (ne refl)
 out_tokens tags el wm m Join tests l r left right (x ∷ xs) ne =
     let both = product_some (l (front x xs)) (r (last x xs ∷ [])) (kept_some (joins_hold tests el (front x xs) (last x xs)) (l (front x xs) * r (last x xs ∷ [])) ne) in
     let a = left (front x xs) both.0 in
     record {
       long = omega (arith, a.long, front_length x xs);
-      all = all_of_front (IsIn wm) x xs a.all (right (last x xs ∷ []) both.1).all.0;
+      all = all_of_front (IsIn wm) x xs a.all (right refl (last x xs ∷ []) both.1).all.0;
     }
 out_tokens tags el wm m Negated tests l r left right t ne =
-    let a = left t (kept_some (count_below tags (joins_hold tests el t) r == 0) (l t) ne) in record { long = omega (arith, a.long); all = a.all }
+    let a = left t (kept_some (count_with tags Negated tests el t r == 0) (l t) ne) in record { long = omega (arith, a.long); all = a.all }
+out_tokens tags el wm m (Group giver w k) tests l r left right t ne =
+    let a = left t (kept_some (count_with tags (Group giver w k) tests el t r == 0) (l t) ne) in record { long = omega (arith, a.long); all = a.all }
 out_tokens tags el wm m (Terminal rule) tests l r left right t ne =
     let a = left t ne in record { long = omega (arith, a.long); all = a.all }
 
@@ -79,10 +82,11 @@ left_tokens_of : (wm : List Element) (memory : Tokens) (widths : ℕ → ℕ) (o
 left_tokens_of wm memory widths outs each None t ne = root_tokens wm t ne
 left_tokens_of wm memory widths outs each (Some p) t ne = each p t ne
 
-right_tokens_of : (wm : List Element) (alpha : Option Alpha) (outs : ℕ → Tokens) (kind : Kind) → AreTokens wm 1 (given (giver_of_kind kind) (memory_gives wm alpha) outs)
-right_tokens_of wm alpha outs Join t ne = memory_tokens wm alpha t ne
-right_tokens_of wm alpha outs Negated t ne = memory_tokens wm alpha t ne
-right_tokens_of wm alpha outs (Terminal rule) t ne = absurd (ne refl)
+right_tokens_of : (wm : List Element) (alpha : Option Alpha) (outs : ℕ → Tokens) (kind : Kind) → takes_elements kind ≡ true → AreTokens wm 1 (given (giver_of_kind kind) (memory_gives wm alpha) outs)
+right_tokens_of wm alpha outs Join takes t ne = memory_tokens wm alpha t ne
+right_tokens_of wm alpha outs Negated takes t ne = memory_tokens wm alpha t ne
+right_tokens_of wm alpha outs (Group giver w k) takes t ne = absurd (cc)
+right_tokens_of wm alpha outs (Terminal rule) takes t ne = absurd (cc)
 
 module _ (tags : ℕ) (el : Elements) (wm : List Element) (alphas : List Alpha) (nodes : List Node) where
   -- the tokens of a node have its width
@@ -98,7 +102,7 @@ module _ (tags : ℕ) (el : Elements) (wm : List Element) (alphas : List Alpha) 
           (given (left_giver x) (memory_gives wm (slice_get alphas x.alpha)) (tokens_below k tags el wm alphas nodes))
           (given (right_giver x) (memory_gives wm (slice_get alphas x.alpha)) (tokens_below k tags el wm alphas nodes))
           (left_tokens_of wm (memory_gives wm (slice_get alphas x.alpha)) (width_below k nodes) (tokens_below k tags el wm alphas nodes) ih x.parent)
-          (right_tokens_of wm (slice_get alphas x.alpha) (tokens_below k tags el wm alphas nodes) x.kind) u some
+          (λ takes. right_tokens_of wm (slice_get alphas x.alpha) (tokens_below k tags el wm alphas nodes) x.kind takes) u some
 
 module _ (wm : List Element) (alphas : List Alpha) (nodes : List Node) where
   pub left_are_tokens : (n : ℕ) (x : Node) → slice_get nodes n ≡ Some x → AreTokens wm (left_width nodes x.parent) (left_tokens wm alphas nodes n)
@@ -106,9 +110,15 @@ module _ (wm : List Element) (alphas : List Alpha) (nodes : List Node) where
       left_tokens_of wm (memory_gives wm (slice_get alphas x.alpha)) (width nodes) (tokens wm alphas nodes) (λ p u some. node_tokens (2 ^ 64) (elements_of wm) wm alphas nodes (suc p) p u some) x.parent t
       (λ e. ne (ap (λ o. given_in wm alphas nodes left_giver o t) at ∙ e))
 
-  pub right_are_tokens : (n : ℕ) (x : Node) → slice_get nodes n ≡ Some x → AreTokens wm 1 (right_tokens wm alphas nodes n)
-  right_are_tokens n x at t ne =
-      right_tokens_of wm (slice_get alphas x.alpha) (tokens wm alphas nodes) x.kind t (λ e. ne (ap (λ o. given_in wm alphas nodes right_giver o t) at ∙ e))
+  -- the right tokens of a group are those of its giver
+  pub group_tokens : (n : ℕ) (x : Node) → slice_get nodes n ≡ Some x → (g w m : ℕ) → x.kind ≡ Group g w m → AreTokens wm (width nodes g) (right_tokens wm alphas nodes n)
+  group_tokens n x at g w m kind t ne =
+      node_tokens (2 ^ 64) (elements_of wm) wm alphas nodes (suc g) g t
+      (λ e. ne (ap (λ o. given_in wm alphas nodes right_giver o t) at ∙ (ap (λ k. given (giver_of_kind k) (memory_gives wm (slice_get alphas x.alpha)) (tokens wm alphas nodes) t) kind ∙ e)))
+
+  pub right_are_tokens : (n : ℕ) (x : Node) → slice_get nodes n ≡ Some x → takes_elements x.kind ≡ true → AreTokens wm 1 (right_tokens wm alphas nodes n)
+  right_are_tokens n x at takes t ne =
+      right_tokens_of wm (slice_get alphas x.alpha) (tokens wm alphas nodes) x.kind takes t (λ e. ne (ap (λ o. given_in wm alphas nodes right_giver o t) at ∙ e))
 
 -- ---- other functions that name the elements of working memory
 
@@ -138,16 +148,11 @@ module _ (elements : Elements) (wm : List Element) (name : NameWm elements wm) w
   either_none false true = refl
   either_none false false = refl
 
-  count_same : (p q : ℕ → Bool) (r : Tokens) → ((k : ℕ) → r (k ∷ []) ≢ 0 → p k ≡ q k) → (k : ℕ) → count_below k p r ≡ count_below k q r
-  unfolding count_below
-  count_same p q r same zero = refl
-  count_same p q r same (suc k) = ap₂ ◌+◌ (by (r (k ∷ [])) refl) (count_same p q r same k)
-    where
-      by : (v : ℕ) → r (k ∷ []) ≡ v → cond (p k) v 0 ≡ cond (q k) v 0
-      by zero e = either_none (p k) (q k)
-      by (suc v) e = ap (λ b. cond b (suc v) 0) (same k (λ z. absurd (omega arith)))
+  first_in : (u : List ℕ) → IsToken wm 1 u → IsIn wm (slice_index u 0)
+  first_in [] is = let z = is.long in absurd (omega (arith, z))
+  first_in (x ∷ xs) is = is.all.0
 
-  pub out_same : (tags m : ℕ) (kind : Kind) (tests : List JoinTest) (l r : Tokens) → AreTokens wm m l → AreTokens wm 1 r → AllByRecursion (λ j. j.place < m) tests
+  pub out_same : (tags m : ℕ) (kind : Kind) (tests : List JoinTest) (l r : Tokens) → AreTokens wm m l → (takes_elements kind ≡ true → AreTokens wm 1 r) → AllByRecursion (λ j. j.place < m) tests
       → (t : List ℕ) → out_of tags elements kind tests l r t ≡ out_of tags (elements_of wm) kind tests l r t
   out_same tags m Join tests l r left right low [] = refl
   out_same tags m Join tests l r left right low (x ∷ xs) = by (l (front x xs)) (r (last x xs ∷ [])) refl refl
@@ -160,17 +165,22 @@ module _ (elements : Elements) (wm : List Element) (name : NameWm elements wm) w
       by (suc v) zero e f = subst (λ z. cond (here elements) z 0 ≡ cond (here (elements_of wm)) z 0) (omega arith) (either_none (here elements) (here (elements_of wm)))
       by (suc v) (suc w) e f =
           let a = left (front x xs) (λ z. absurd (omega arith)) in
-          let b = right (last x xs ∷ []) (λ z. absurd (omega arith)) in
+          let b = right refl (last x xs ∷ []) (λ z. absurd (omega arith)) in
           ap (λ j. cond j (suc v * suc w) 0) (joins_same m (front x xs) (last x xs) a b.all.0 tests low)
   out_same tags m Negated tests l r left right low t = by (l t) refl
     where
       free : Elements → Bool
-      free el = count_below tags (joins_hold tests el t) r == 0
+      free el = count_with tags Negated tests el t r == 0
 
       by : (v : ℕ) → l t ≡ v → cond (free elements) v 0 ≡ cond (free (elements_of wm)) v 0
       by zero e = either_none (free elements) (free (elements_of wm))
       by (suc v) e =
           let a = left t (λ z. absurd (omega arith)) in
           ap (λ c. cond (c == 0) (suc v) 0)
-          (count_same (joins_hold tests elements t) (joins_hold tests (elements_of wm) t) r (λ k some. joins_same m t k a (right (k ∷ []) some).all.0 tests low) tags)
+          (count_same tags 1 (goes_with Negated tests elements t) (goes_with Negated tests (elements_of wm) t) r r [] (λ u. by_right u a (r u) refl))
+        where
+          by_right : (u : List ℕ) → IsToken wm m t → (k : ℕ) → r u ≡ k → cond (goes_with Negated tests elements t u) (r u) 0 ≡ cond (goes_with Negated tests (elements_of wm) t u) (r u) 0
+          by_right u a zero none = subst (λ z. cond (goes_with Negated tests elements t u) z 0 ≡ cond (goes_with Negated tests (elements_of wm) t u) z 0) (sym none) (either_none (goes_with Negated tests elements t u) (goes_with Negated tests (elements_of wm) t u))
+          by_right u a (suc k) some = ap (λ b. cond b (r u) 0) (joins_same m t (slice_index u 0) a (first_in u (right refl u (λ z. absurd (omega arith)))) tests low)
+  out_same tags m (Group giver w k) tests l r left right low t = refl
   out_same tags m (Terminal rule) tests l r left right low t = refl

@@ -7,7 +7,7 @@ use Rattle.work_store.specs.Stored.{Stored, held_of}
 use Rattle.net_base.specs.declared.nodes.Alpha.{Alpha}
 use Rattle.net_base.specs.declared.nodes.JoinTest.{JoinTest}
 use Rattle.net_base.specs.declared.nodes.Kind.{Kind}
-use Rattle.net_base.specs.declared.nodes.Kind.TheVariants.{Join, Negated, Terminal}
+use Rattle.net_base.specs.declared.nodes.Kind.TheVariants.{Join, Negated, Group, Terminal}
 use Rattle.net_base.specs.declared.nodes.Node.{Node}
 use Rattle.net_base.specs.declared.tasks.Side.{Side}
 use Rattle.net_base.specs.declared.tasks.Side.TheVariants.{Left, Right}
@@ -16,7 +16,7 @@ use Rattle.net_base.specs.Sound.{IsSound}
 use Rattle.net_base.specs.Tokens.{Elements, field_in}
 use Rattle.token_line.specs.Held.{Agrees, TaskFits, is_wide}
 use Rattle.token_line.proofs.Fitting.{left_length, node_of, one_length}
-use Rattle.token_line.specs.Numbers.{value_code, mixed, is_equal, equalities, own_value, own_codes, codes_at, code_of, line_number, tested_at, tested_codes}
+use Rattle.token_line.specs.Numbers.{value_code, mixed, is_equal, equalities, own_value, own_codes, codes_at, code_of, line_number, kept_at, kept_codes}
 
 module _ (s : Stored) (elements : Elements) (agrees : Agrees s elements) where
   pub same_element : (tag : ℕ) → IsSome (held_of s tag) → elements tag ≡ held_of s tag
@@ -51,15 +51,18 @@ module _ (s : Stored) (elements : Elements) (agrees : Agrees s elements) where
     own_codes_same : (nodes : List Node) (x : Node) (k : Kind) (side : Side) → is_wide nodes (record x { kind = k }) side t ≡ true → (is_wide nodes (record x { kind = k }) Left t ≡ true → AllByRecursion (λ j. j.place < length t) x.joins)
         → own_codes elements k x.joins side t ≡ own_codes (held_of s) k x.joins side t
     own_codes_same nodes x Join Left width low = left_codes x.joins (low width)
-    own_codes_same nodes x Join Right width low = right_codes (equalities x.joins) (omega (arith, one_length Join t width))
+    own_codes_same nodes x Join Right width low = right_codes (equalities x.joins) (omega (arith, one_length Join t refl width))
     own_codes_same nodes x Negated Left width low = left_codes x.joins (low width)
-    own_codes_same nodes x Negated Right width low = right_codes (equalities x.joins) (omega (arith, one_length Negated t width))
+    own_codes_same nodes x Negated Right width low = right_codes (equalities x.joins) (omega (arith, one_length Negated t refl width))
+    own_codes_same nodes x (Group giver w members) side width low = refl
     own_codes_same nodes x (Terminal rule) side width low = refl
 
-    tested_same : (nodes : List Node) (x : Node) (side : Side) → is_wide nodes x side t ≡ true → (is_wide nodes x Left t ≡ true → AllByRecursion (λ j. j.place < length t) x.joins)
-        → tested_codes elements x.joins side t ≡ tested_codes (held_of s) x.joins side t
-    tested_same nodes x Left width low = left_codes x.joins (low width)
-    tested_same nodes x Right width low = right_codes (equalities x.joins) (omega (arith, one_length x.kind t width))
+    kept_codes_same : (nodes : List Node) (x : Node) (k : Kind) (side : Side) → is_wide nodes (record x { kind = k }) side t ≡ true → (is_wide nodes (record x { kind = k }) Left t ≡ true → AllByRecursion (λ j. j.place < length t) x.joins)
+        → kept_codes elements k x.joins side t ≡ kept_codes (held_of s) k x.joins side t
+    kept_codes_same nodes x Join side width low = own_codes_same nodes x Join side width low
+    kept_codes_same nodes x Negated side width low = own_codes_same nodes x Negated side width low
+    kept_codes_same nodes x (Group giver w members) side width low = refl
+    kept_codes_same nodes x (Terminal rule) side width low = refl
 
   module _ (alphas : List Alpha) (nodes : List Node) (sound : IsSound alphas nodes) (x : Task) (fits : TaskFits nodes s x) where
     its_node : (node : Node) × (slice_get nodes x.node ≡ Some node)
@@ -74,8 +77,8 @@ module _ (s : Stored) (elements : Elements) (agrees : Agrees s elements) where
     pub one_code : code_of elements nodes x.node x.side x.token ≡ code_of (held_of s) nodes x.node x.side x.token
     one_code =
         ap (λ codes. fold mixed x.node codes)
-        (ap (λ o. tested_at elements o x.side x.token) its_node.1
-        ∙ (tested_same x.token fits.held nodes its_node.0 x.side (fits.width its_node.0 its_node.1) low ∙ ap (λ o. tested_at (held_of s) o x.side x.token) (sym its_node.1)))
+        (ap (λ o. kept_at elements o x.side x.token) its_node.1
+        ∙ (kept_codes_same x.token fits.held nodes its_node.0 its_node.0.kind x.side (fits.width its_node.0 its_node.1) low ∙ ap (λ o. kept_at (held_of s) o x.side x.token) (sym its_node.1)))
 
     place_at : (lines : ℕ) → line_number elements nodes lines x.node x.side x.token ≡ line_number (held_of s) nodes lines x.node x.side x.token
     place_at lines =

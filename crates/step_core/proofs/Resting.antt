@@ -1,6 +1,6 @@
 -- Lines at rest are as well counted, and placed, for any other store that holds working memory.
-use Rattle.std.proofs.Common.{◌≡◌, ◌≢◌, ℕ, zero, suc, ◌<◌, ◌^◌, ◌==◌, Bool, true, false, List, [], ◌∷◌, length, map, ℤ, pos, negsuc, refl, sym, ap, subst, ◌∙◌, arith, get_or, slice_get, Option, Some, None, IsSome}
-use Rattle.std.specs.List.{All, AllByRecursion}
+use Rattle.std.proofs.Common.{◌≡◌, ◌≢◌, ℕ, zero, suc, ◌+◌, ◌^◌, ◌==◌, Bool, true, false, List, [], ◌∷◌, length, map, ℤ, pos, negsuc, refl, sym, ap, subst, ◌∙◌, arith, get_or, slice_get, Option, Some, None, IsSome}
+use Rattle.std.specs.List.{AllByRecursion}
 use Rattle.std.specs.Option.{option_map, option_or}
 use Rattle.std.proofs.lemmas.Int.{ints}
 use Rattle.std.proofs.lemmas.Bool.Decides.{Decides-eqb}
@@ -10,28 +10,30 @@ use Rattle.ops_base.specs.declared.elements.Element.{Element}
 use Rattle.work_store.specs.Stored.{Stored, held_of, of_tag}
 use Rattle.net_base.specs.declared.nodes.Alpha.{Alpha}
 use Rattle.net_base.specs.declared.nodes.Kind.{Kind}
-use Rattle.net_base.specs.declared.nodes.Kind.TheVariants.{Join, Negated, Terminal}
+use Rattle.net_base.specs.declared.nodes.Kind.TheVariants.{Join, Negated, Group, Terminal}
 use Rattle.net_base.specs.declared.nodes.Node.{Node}
 use Rattle.net_base.specs.declared.tasks.Side.{Side}
 use Rattle.net_base.specs.declared.tasks.Side.TheVariants.{Left, Right}
-use Rattle.net_base.specs.Sound.{IsSound, left_width}
-use Rattle.net_base.specs.Tokens.{given, given_in, giver_of_kind, left_giver, right_giver, memory_gives, tokens, joins_hold}
+use Rattle.net_base.specs.Sound.{IsSound, takes_elements, width}
+use Rattle.net_base.specs.Tokens.{given, given_in, giver_of_kind, left_giver, right_giver, memory_gives, tokens, right_tokens, goes_with, right_width}
 use Rattle.token_line.specs.declared.line.Line.{Line}
 use Rattle.token_line.specs.Bags.{Bag, standing_at}
-use Rattle.token_line.specs.Held.{Agrees, Fits, is_one}
+use Rattle.token_line.specs.Held.{Agrees, Fits, is_right_wide}
 use Rattle.token_line.proofs.Fitting.{fits_at, left_is_wide}
 use Rattle.token_line.specs.Lines.{sum_in}
 use Rattle.token_line.specs.Numbers.{code_of}
 use Rattle.token_line.proofs.Filed.{filed_stands}
 use Rattle.activation.specs.Acting.{IsCounted, matching}
-use Rattle.activation.proofs.Agreed.{IsHeld, joins_agree}
+use Rattle.activation.proofs.Agreed.{IsHeld}
+use Rattle.activation.proofs.Acted.{giver_wide}
+use Rattle.activation.proofs.AtNode.{both_go}
 use Rattle.activation.proofs.CountBelow.{count_same}
 use Rattle.activation.proofs.JoinChange.{agreed}
 use Rattle.activation.proofs.PutOutLemmas.{standing_some}
 use Rattle.step_core.specs.Machine.{Placing}
 use Rattle.step_core.specs.Phases.{total, HoldJust, sums_over, now}
 use Rattle.step_core.specs.Worlds.{placed, seen}
-use Rattle.step_core.proofs.Named.{IsIn, IsToken, left_are_tokens, right_are_tokens}
+use Rattle.step_core.proofs.Named.{IsIn, IsToken, group_tokens, left_are_tokens, right_are_tokens}
 use Rattle.step_core.proofs.Placed.{one_code, one_place}
 use Rattle.step_core.specs.Settling.{HoldsWm, RestLaw}
 
@@ -94,30 +96,37 @@ module _ (alphas : List Alpha) (nodes : List Node) (wm : List Element) where
     all_held [] a = tt
     all_held (x ∷ t) a = (held_in x a.0, all_held t a.1)
 
-    fits_of : (n : ℕ) (side : Side) (t : List ℕ) → sums_over wm alphas nodes n side t ≢ pos 0 → Fits nodes s n side t
-    fits_of n Left t some = by (slice_get nodes n) refl
+    fits_of : IsSound alphas nodes → (n : ℕ) (side : Side) (t : List ℕ) → sums_over wm alphas nodes n side t ≢ pos 0 → Fits nodes s n side t
+    fits_of sound n Left t some = by (slice_get nodes n) refl
       where
         by : (o : Option Node) → slice_get nodes n ≡ o → Fits nodes s n Left t
         by None at = absurd (some (ap (λ o. pos (given_in wm alphas nodes left_giver o t)) at))
         by (Some x) at =
             let is = left_are_tokens wm alphas nodes n x at t (λ z. some (ap pos z)) in
             fits_at nodes s n x at Left t (left_is_wide nodes x t is.long) (All-from_recursion (λ tag. IsSome (held_of s tag)) t (all_held t is.all))
-    fits_of n Right t some = by (slice_get nodes n) refl
+    fits_of sound n Right t some = by (slice_get nodes n) refl
       where
         by : (o : Option Node) → slice_get nodes n ≡ o → Fits nodes s n Right t
         by None at = absurd (some (ap (λ o. pos (given_in wm alphas nodes right_giver o t)) at))
-        by (Some x) at = fits_at nodes s n x at Right t (wide x.kind refl) (All-from_recursion (λ tag. IsSome (held_of s tag)) t (all_held t is.all))
+        by (Some x) at = by_kind x.kind refl
           where
-            is : IsToken wm 1 t
-            is = right_are_tokens wm alphas nodes n x at t (λ z. some (ap pos z))
+            there : right_tokens wm alphas nodes n t ≢ 0
+            there z = some (ap pos z)
 
-            one : (length t == 1) ≡ true
-            one = (Decides-eqb (length t) 1).1 is.long
+            fitting : (m : ℕ) → IsToken wm m t → is_right_wide x.kind t ≡ true → Fits nodes s n Right t
+            fitting m is wide = fits_at nodes s n x at Right t wide (All-from_recursion (λ tag. IsSome (held_of s tag)) t (all_held t is.all))
 
-            wide : (k : Kind) → x.kind ≡ k → is_one k t ≡ true
-            wide Join q = one
-            wide Negated q = one
-            wide (Terminal rule) q = absurd (some (ap pos (ap (λ o. given_in wm alphas nodes right_giver o t) at ∙ ap (λ k. given (giver_of_kind k) (memory_gives wm (slice_get alphas x.alpha)) (tokens wm alphas nodes) t) q)))
+            by_kind : (k : Kind) → x.kind ≡ k → Fits nodes s n Right t
+            by_kind Join q =
+                let is = right_are_tokens wm alphas nodes n x at (ap takes_elements q) t there in
+                fitting 1 is (subst (λ k. is_right_wide k t ≡ true) (sym q) ((Decides-eqb (length t) 1).1 is.long))
+            by_kind Negated q =
+                let is = right_are_tokens wm alphas nodes n x at (ap takes_elements q) t there in
+                fitting 1 is (subst (λ k. is_right_wide k t ≡ true) (sym q) ((Decides-eqb (length t) 1).1 is.long))
+            by_kind (Group g w m) q =
+                let is = group_tokens wm alphas nodes n x at g w m q t there in
+                fitting (width nodes g) is (subst (λ k. is_right_wide k t ≡ true) (sym q) ((Decides-eqb (length t) (w + m)).1 (is.long ∙ giver_wide alphas nodes sound n x at g w m q)))
+            by_kind (Terminal rule) q = absurd (there (ap (λ o. given_in wm alphas nodes right_giver o t) at ∙ ap (λ k. given (giver_of_kind k) (memory_gives wm (slice_get alphas x.alpha)) (tokens wm alphas nodes) t) q))
 
   -- the store of working memory alone
   abbrev alone : Stored
@@ -140,31 +149,26 @@ module _ (alphas : List Alpha) (nodes : List Node) (wm : List Element) where
     places : (s : Stored) → HoldsWm wm s → (lines n : ℕ) (side : Side) (t : List ℕ) → sums_over wm alphas nodes n side t ≢ pos 0
         → placed (held_of s) nodes lines n side t ≡ placed (held_of alone) nodes lines n side t
     places s holds lines n side t some =
-        one_place alone (held_of s) (agrees s holds) alphas nodes sound lines (record { node = n; side = side; plus = true; token = t }) (fits_of alone alone_holds n side t some)
+        one_place alone (held_of s) (agrees s holds) alphas nodes sound lines (record { node = n; side = side; plus = true; token = t }) (fits_of alone alone_holds sound n side t some)
 
     codes : (s : Stored) → HoldsWm wm s → (n : ℕ) (side : Side) (t : List ℕ) → sums_over wm alphas nodes n side t ≢ pos 0
         → code_of (held_of s) nodes n side t ≡ code_of (held_of alone) nodes n side t
     codes s holds n side t some =
-        one_code alone (held_of s) (agrees s holds) alphas nodes sound (record { node = n; side = side; plus = true; token = t }) (fits_of alone alone_holds n side t some)
+        one_code alone (held_of s) (agrees s holds) alphas nodes sound (record { node = n; side = side; plus = true; token = t }) (fits_of alone alone_holds sound n side t some)
 
     module _ (l : Line) (stand : (n : ℕ) (side : Side) (t : List ℕ) → sum_in l n side t ≢ pos 0 → sums_over wm alphas nodes n side t ≢ pos 0) where
       matches : (s : Stored) → HoldsWm wm s → (n : ℕ) (x : Node) (t : List ℕ) → slice_get nodes n ≡ Some x → sum_in l n Left t ≢ pos 0
-          → matching (held_of s) x.joins (sum_in l) n t ≡ matching (held_of alone) x.joins (sum_in l) n t
+          → matching (held_of s) x (sum_in l) n t ≡ matching (held_of alone) x (sum_in l) n t
       matches s holds n x t at some =
-          count_same (2 ^ 64) (joins_hold x.joins (held_of s) t) (joins_hold x.joins (held_of alone) t) (standing_at (sum_in l) n Right) (standing_at (sum_in l) n Right)
-          (λ k low. sym (agreed (joins_hold x.joins (held_of s) t k) (joins_hold x.joins (held_of alone) t k) (standing_at (sum_in l) n Right (k ∷ []))
-          (λ stood. joins_agree alone (held_of s) (agrees s holds) x.joins t k
-          (subst (λ w. All (λ j. j.place < w) x.joins) (sym is.long) (sound.each n x at).places)
-          (All-from_recursion (IsHeld alone) t (all_held alone alone_holds t is.all))
-          (held_in alone alone_holds k (right_are_tokens wm alphas nodes n x at (k ∷ []) (λ z. stand n Right (k ∷ []) (standing_some (sum_in l n Right (k ∷ [])) stood) (ap pos z))).all.0))))
-        where
-          is : IsToken wm (left_width nodes x.parent) t
-          is = left_are_tokens wm alphas nodes n x at t (λ z. stand n Left t some (ap pos z))
+          count_same (2 ^ 64) (right_width x.kind) (goes_with x.kind x.joins (held_of s) t) (goes_with x.kind x.joins (held_of alone) t) (standing_at (sum_in l) n Right) (standing_at (sum_in l) n Right) []
+          (λ v. sym (agreed (goes_with x.kind x.joins (held_of s) t v) (goes_with x.kind x.joins (held_of alone) t v) (standing_at (sum_in l) n Right v)
+          (λ stood. both_go nodes alone n x at alphas sound (held_of s) (agrees s holds) t v (fits_of alone alone_holds sound n Left t (stand n Left t some))
+          (fits_of alone alone_holds sound n Right v (stand n Right v (standing_some (sum_in l n Right v) stood))))))
 
       counted_moves : (s s' : Stored) → HoldsWm wm s → HoldsWm wm s' → IsCounted nodes s l → IsCounted nodes s' l
       counted_moves s s' holds holds' counted = record {
         told = counted.told;
-        fit = λ n side t some. fits_of s' holds' n side t (stand n side t some);
+        fit = λ n side t some. fits_of s' holds' sound n side t (stand n side t some);
         counts = λ n x t at negated some. counted.counts n x t at negated some ∙ (matches s holds n x t at some ∙ sym (matches s' holds' n x t at some));
         filed = λ n c side t has.
             let some = stand n side t (filed_stands l n c side t has) in

@@ -4,14 +4,14 @@ use Rattle.std.specs.List.{AllByRecursion}
 use Rattle.std.proofs.lemmas.List.Elements.{recursion_from_All}
 use Rattle.net_base.specs.declared.nodes.Alpha.{Alpha}
 use Rattle.net_base.specs.declared.nodes.Kind.{Kind}
-use Rattle.net_base.specs.declared.nodes.Kind.TheVariants.{Join, Negated, Terminal}
+use Rattle.net_base.specs.declared.nodes.Kind.TheVariants.{Join, Negated, Group, Terminal}
 use Rattle.net_base.specs.declared.nodes.Node.{Node}
 use Rattle.net_base.specs.declared.tasks.Side.{Side}
 use Rattle.net_base.specs.declared.tasks.Side.TheVariants.{Left, Right}
 use Rattle.net_base.specs.declared.nodes.JoinTest.{JoinTest}
 use Rattle.net_base.specs.Sound.{IsSound, is_join, left_width}
 use Rattle.net_base.specs.Tokens.{Elements, giver_of_parent, giver_of_kind}
-use Rattle.token_line.specs.Numbers.{code_of, mixed, tested_at, tested_codes}
+use Rattle.token_line.specs.Numbers.{code_of, mixed, kept_at, kept_codes}
 use Rattle.token_line.specs.Lawful.{giver_in, giver_of}
 use Rattle.step_core.specs.Machine.{root_part}
 
@@ -31,6 +31,7 @@ root_token alphas nodes sound n side t some = by (slice_get nodes n) refl side s
     by_kind : (k : Kind) (side : Side) → pos (root_part (giver_of_kind k) t) ≢ pos 0 → IsRootToken nodes n side t
     by_kind Join side some = absurd (some refl)
     by_kind Negated side some = absurd (some refl)
+    by_kind (Group giver width members) side some = absurd (some refl)
     by_kind (Terminal rule) side some = absurd (some refl)
 
     by_parent : (x : Node) → slice_get nodes n ≡ Some x → (p : Option ℕ) → x.parent ≡ p → (t : List ℕ) → pos (root_part (giver_of_parent p) t) ≢ pos 0 → IsRootToken nodes n Left t
@@ -58,4 +59,16 @@ module _ (alphas : List Alpha) (nodes : List Node) (sound : IsSound alphas nodes
 
   -- so its number is the code
   pub root_code : (elements : Elements) → code_of elements nodes n side t ≡ n
-  root_code elements = ap (λ codes. fold mixed n codes) (ap (λ o. tested_at elements o side t) is.at ∙ ap (λ tests. tested_codes elements tests side t) root_tests)
+  root_code elements =
+      ap (λ codes. fold mixed n codes)
+      (ap (λ o. kept_at elements o side t) is.at ∙ (ap (λ tests. kept_codes elements is.node.kind tests side t) root_tests ∙ none is.node.kind is.join))
+    where
+      none : (k : Kind) → is_join k ≡ true → kept_codes elements k [] side t ≡ []
+      none Join e = by side
+        where
+          by : (d : Side) → kept_codes elements Join [] d t ≡ []
+          by Left = refl
+          by Right = refl
+      none Negated e = absurd (cc)
+      none (Group giver width members) e = absurd (cc)
+      none (Terminal rule) e = refl

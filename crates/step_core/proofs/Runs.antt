@@ -6,7 +6,7 @@ use Rattle.std.proofs.lemmas.Grind.{flat_map-append}
 use Rattle.std.proofs.lemmas.Bool.Decides.{nat_tests}
 use mathlib.Core.Path.{fun_ext}
 use Rattle.net_base.specs.declared.nodes.Kind.{Kind}
-use Rattle.net_base.specs.declared.nodes.Kind.TheVariants.{Join, Negated, Terminal}
+use Rattle.net_base.specs.declared.nodes.Kind.TheVariants.{Join, Negated, Group, Terminal}
 use Rattle.net_base.specs.declared.nodes.Node.{Node}
 use Rattle.net_base.specs.declared.nodes.Alpha.{Alpha}
 use Rattle.net_base.specs.declared.tasks.Side.{Side}
@@ -193,6 +193,7 @@ start_quiet elements alphas nodes sound p t = by_node (slice_get nodes p) refl
     no_right : (k : Kind) → root_part (giver_of_kind k) ≡ (λ u. 0)
     no_right Join = refl
     no_right Negated = refl
+    no_right (Group giver width members) = refl
     no_right (Terminal rule) = refl
 
     by_node : (o : Option Node) → slice_get nodes p ≡ o → out_in elements o (root_part (giver_in o Left)) (root_part (giver_in o Right)) t ≡ 0
@@ -203,6 +204,7 @@ start_quiet elements alphas nodes sound p t = by_node (slice_get nodes p) refl
         by_kind : (k : Kind) → is_join k ≡ true → (l : Tokens) → out_of (2 ^ 64) elements k x.joins l (λ u. 0) t ≡ 0
         by_kind Join is l = no_join x l t
         by_kind Negated is l = absurd (cc)
+        by_kind (Group giver width members) is l = absurd (cc)
         by_kind (Terminal rule) is l = absurd (cc)
 
         by_parent : (o : Option ℕ) → x.parent ≡ o → out_in elements (Some x) (root_part (giver_of_parent o)) (λ u. 0) t ≡ 0

@@ -4,7 +4,7 @@ use mathlib.Core.Path.{fun_ext}
 use Rattle.std.proofs.lemmas.List.Elements.{recursion_from_All}
 use Rattle.ops_base.specs.declared.elements.Element.{Element}
 use Rattle.net_base.specs.declared.nodes.Kind.{Kind}
-use Rattle.net_base.specs.declared.nodes.Kind.TheVariants.{Join, Negated, Terminal}
+use Rattle.net_base.specs.declared.nodes.Kind.TheVariants.{Join, Negated, Group, Terminal}
 use Rattle.net_base.specs.declared.nodes.JoinTest.{JoinTest}
 use Rattle.net_base.specs.declared.nodes.Node.{Node}
 use Rattle.net_base.specs.declared.nodes.Alpha.{Alpha}
@@ -16,7 +16,7 @@ use Rattle.token_line.specs.Bags.{Bag, standing, standing_at}
 use Rattle.token_line.specs.Lawful.{giver_in, giver_of, out_in, out_at}
 use Rattle.step_core.specs.Phases.{sums_over}
 use Rattle.step_core.specs.Laws.{put_out}
-use Rattle.step_core.proofs.Given.{parents_first, left_below, right_none, tokens_are_out, tokens_none}
+use Rattle.step_core.proofs.Given.{parents_first, givers_first, groups_later, left_below, right_below, tokens_are_out, tokens_none}
 use Rattle.step_core.proofs.Named.{NameWm, left_are_tokens, right_are_tokens, out_same}
 
 pub put_out_same : (elements : Elements) (nodes : List Node) (memory memory' b : Bag) (g : Giver) (n : ℕ) (s : Side) (t : List ℕ) → (g ≡ Memory → memory n s t ≡ memory' n s t)
@@ -33,7 +33,7 @@ giver_below alphas nodes sound n s p is = by_node (slice_get nodes n) s refl is
     by_node : (o : Option Node) (side : Side) → slice_get nodes n ≡ o → giver_in o side ≡ Out p → p < n
     by_node None side at g = absurd (cc)
     by_node (Some x) Left at g = left_below nodes (parents_first alphas nodes sound) n x p at g
-    by_node (Some x) Right at g = absurd (right_none x p g)
+    by_node (Some x) Right at g = right_below nodes (groups_later alphas nodes sound) n x p at g
 
 module _ (elements : Elements) (alphas : List Alpha) (nodes : List Node) (sound : IsSound alphas nodes) (wm : List Element) (name : NameWm elements wm) where
   -- what a node puts out over the sums of its tokens over working memory
@@ -41,13 +41,13 @@ module _ (elements : Elements) (alphas : List Alpha) (nodes : List Node) (sound 
   out_is_tokens b p are t = by_node (slice_get nodes p) refl
     where
       by_node : (o : Option Node) → slice_get nodes p ≡ o → out_in elements o (standing_at b p Left) (standing_at b p Right) t ≡ tokens wm alphas nodes p t
-      by_node None at = sym (tokens_none wm alphas nodes (parents_first alphas nodes sound) p t at)
+      by_node None at = sym (tokens_none wm alphas nodes (givers_first alphas nodes sound) p t at)
       by_node (Some x) at =
           ap₂ (λ l r. out_of (2 ^ 64) elements x.kind x.joins l r t) (fun_ext (λ u. ap standing (are Left u))) (fun_ext (λ u. ap standing (are Right u)))
           ∙ (out_same elements wm name (2 ^ 64) (left_width nodes x.parent) x.kind x.joins (left_tokens wm alphas nodes p) (right_tokens wm alphas nodes p)
-          (left_are_tokens wm alphas nodes p x at) (right_are_tokens wm alphas nodes p x at)
+          (left_are_tokens wm alphas nodes p x at) (λ takes. right_are_tokens wm alphas nodes p x at takes)
           (recursion_from_All (λ (j : JoinTest). j.place < left_width nodes x.parent) x.joins (sound.each p x at).places) t
-          ∙ sym (tokens_are_out wm alphas nodes (parents_first alphas nodes sound) p x t at))
+          ∙ sym (tokens_are_out wm alphas nodes (givers_first alphas nodes sound) p x t at))
 
   -- what stands over working memory is what the givers put out
   pub over_is_given : (b : Bag) (n : ℕ) (s : Side) (t : List ℕ) → ((p : ℕ) (s' : Side) (u : List ℕ) → p < n → b p s' u ≡ sums_over wm alphas nodes p s' u)
@@ -67,6 +67,10 @@ module _ (elements : Elements) (alphas : List Alpha) (nodes : List Node) (sound 
           by_kind : (k : Kind) → x.kind ≡ k → put_out elements nodes (sums_over wm alphas nodes) b (giver_of_kind k) n Right t ≡ sums_over wm alphas nodes n Right t
           by_kind Join e = refl
           by_kind Negated e = refl
+          by_kind (Group g w m) e =
+              let low : g < n = groups_later alphas nodes sound n x g w m at e in
+              ap pos (out_is_tokens b g (λ s' u. below g s' u low) t)
+              ∙ sym (ap (λ o. pos (given_in wm alphas nodes right_giver o t)) at ∙ ap (λ k. pos (given (giver_of_kind k) (memory_gives wm (slice_get alphas x.alpha)) (tokens wm alphas nodes) t)) e)
           by_kind (Terminal rule) e =
               sym (ap (λ o. pos (given_in wm alphas nodes right_giver o t)) at ∙ ap (λ k. pos (given (giver_of_kind k) (memory_gives wm (slice_get alphas x.alpha)) (tokens wm alphas nodes) t)) e)
 

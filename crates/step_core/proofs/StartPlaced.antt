@@ -13,7 +13,7 @@ use Rattle.step_core.proofs.Settled.{giver_below}
 pub is_placed : PlacedLaw
 is_placed elements alphas nodes lines sound some = record {
   sound = sound;
-  one_line = λ n x t e at inner joined. joined_on_one_line elements nodes lines n x t e at inner joined;
+  one_line = λ n x t r at c. joined_on_one_line elements nodes lines n x t r at c;
   below = λ n s t. below n s t;
 }
   where

@@ -8,7 +8,7 @@ use Rattle.std.proofs.Math.Seq.{take-suc}
 use Rattle.work_store.specs.Stored.{Stored}
 use Rattle.net_base.specs.declared.nodes.Alpha.{Alpha}
 use Rattle.net_base.specs.declared.nodes.Kind.{Kind}
-use Rattle.net_base.specs.declared.nodes.Kind.TheVariants.{Join, Negated, Terminal}
+use Rattle.net_base.specs.declared.nodes.Kind.TheVariants.{Join, Negated, Group, Terminal}
 use Rattle.net_base.specs.declared.nodes.Node.{Node}
 use Rattle.net_base.specs.declared.tasks.Side.{Side}
 use Rattle.net_base.specs.declared.tasks.Side.TheVariants.{Left}
@@ -33,6 +33,8 @@ use Rattle.step_core.proofs.RootTokens.{IsRootToken, root_tests, root_token}
 no_codes : (elements : Elements) (k : Kind) → own_codes elements k [] Left [] ≡ []
 no_codes elements Join = refl
 no_codes elements Negated = refl
+no_codes elements (Group giver zero members) = refl
+no_codes elements (Group giver (suc width) members) = refl
 no_codes elements (Terminal rule) = refl
 
 module _ (alphas : List Alpha) (nodes : List Node) (sound : IsSound alphas nodes) (elements : Elements) (lines : ℕ) where

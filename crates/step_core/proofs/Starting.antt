@@ -6,7 +6,7 @@ use Rattle.std.proofs.lemmas.Bool.{cases_eq}
 use Rattle.std.proofs.lemmas.Bool.Decides.{nat_tests}
 use Rattle.std.proofs.lemmas.Option.{same_Some}
 use Rattle.net_base.specs.declared.nodes.Kind.{Kind}
-use Rattle.net_base.specs.declared.nodes.Kind.TheVariants.{Join, Negated, Terminal}
+use Rattle.net_base.specs.declared.nodes.Kind.TheVariants.{Join, Negated, Group, Terminal}
 use Rattle.net_base.specs.declared.nodes.Node.{Node}
 use Rattle.net_base.specs.declared.tasks.Side.{Side}
 use Rattle.net_base.specs.declared.tasks.Side.TheVariants.{Left, Right}
@@ -76,6 +76,7 @@ unused_is_begun nodes lines ls are = record {
 root_of_kind : (k : Kind) (t : List ℕ) → root_part (giver_of_kind k) t ≡ 0
 root_of_kind Join t = refl
 root_of_kind Negated t = refl
+root_of_kind (Group giver width members) t = refl
 root_of_kind (Terminal rule) t = refl
 
 module _ (nodes : List Node) (k : ℕ) (x : Node) (at : slice_get nodes k ≡ Some x) where

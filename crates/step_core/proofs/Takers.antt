@@ -1,5 +1,5 @@
 -- The nodes that take an element, found by the alphas that it can pass, and put in order.
-use Rattle.std.proofs.Common.{◌≡◌, ◌≢◌, ℕ, zero, suc, ◌<◌, Bool, true, false, cond, not, ◌==◌, eqb, List, [], ◌∷◌, ◌++◌, length, map, slice_get, Option, Some, None, refl, sym, ap, ap₂, subst, ◌∙◌, arith, append-nil, inl, inr, ◌≤◌, take, drop}
+use Rattle.std.proofs.Common.{◌≡◌, ◌≢◌, ℕ, zero, suc, ◌<◌, Bool, true, false, cond, ◌==◌, eqb, List, [], ◌∷◌, ◌++◌, length, map, slice_get, Option, Some, None, refl, sym, ap, ap₂, subst, ◌∙◌, arith, append-nil, inl, inr, ◌≤◌, take, drop}
 use Rattle.std.specs.List.{flat_map, All, AllPairs, Contains, refill}
 use Rattle.std.specs.List.Sorted.{IsPermutation, IsSorted, IsStrictlyIncreasing}
 use Rattle.std.specs.Prelude.{IsTrue}
@@ -17,7 +17,7 @@ use Rattle.ops_base.specs.declared.elements.Element.{Element}
 use Rattle.ops_base.proofs.Members.{IsMember, members_from_each, member_from_contains, contains_from_member, member_cases, member-flat_map, flat_map_member}
 use Rattle.net_base.specs.declared.nodes.Node.{Node}
 use Rattle.net_base.specs.declared.nodes.Alpha.{Alpha}
-use Rattle.net_base.specs.Sound.{is_terminal}
+use Rattle.net_base.specs.Sound.{takes_elements}
 use Rattle.net_base.specs.Tokens.{passes_alpha}
 use Rattle.net_base.specs.Feeds.{number_if, numbers_below, takes_from, takers_of}
 use Rattle.net_base.proofs.Apart.{NoTwice, no_twice-flat_map, pairs_from_no_twice, no_twice_from_pairs}
@@ -28,19 +28,19 @@ use Rattle.step_core.specs.Feeding.{IsTaker, AreTakers, taken_by, right_task}
 -- ---- what the alphas add up to
 
 module _ (alphas : List Alpha) (nodes : List Node) (e : Element) where
-  taken_member : (n a : ℕ) (x : Node) → slice_get nodes n ≡ Some x → not (is_terminal x.kind) ≡ true → x.alpha ≡ a → passes_in (slice_get alphas a) (Some e) ≡ true → IsMember n (taken_by alphas nodes e a)
+  taken_member : (n a : ℕ) (x : Node) → slice_get nodes n ≡ Some x → takes_elements x.kind ≡ true → x.alpha ≡ a → passes_in (slice_get alphas a) (Some e) ≡ true → IsMember n (taken_by alphas nodes e a)
   taken_member n a x at open' is passes =
       subst (λ b. IsMember n (cond b (takers_of nodes a) [])) (sym passes)
-      (number_in (takes_from a) nodes n x at (and_from (not (is_terminal x.kind)) (x.alpha == a) open' ((Decides-eqb x.alpha a).1 is)) (length nodes) (get_low nodes n x at))
+      (number_in (takes_from a) nodes n x at (and_from (takes_elements x.kind) (x.alpha == a) open' ((Decides-eqb x.alpha a).1 is)) (length nodes) (get_low nodes n x at))
 
   taker_of : (n a : ℕ) (b : Bool) → passes_in (slice_get alphas a) (Some e) ≡ b → IsMember n (cond b (takers_of nodes a) []) → IsTaker alphas nodes e n
   taker_of n a true q m =
       let r = number_of (takes_from a) nodes n (length nodes) m in
-      let parts = and_parts (not (is_terminal r.item.kind)) (r.item.alpha == a) r.passes in
+      let parts = and_parts (takes_elements r.item.kind) (r.item.alpha == a) r.passes in
       record {
         node = r.item;
         at = r.at;
-        fed = and_from (not (is_terminal r.item.kind)) (passes_in (slice_get alphas r.item.alpha) (Some e)) parts.0
+        fed = and_from (takes_elements r.item.kind) (passes_in (slice_get alphas r.item.alpha) (Some e)) parts.0
             (ap (λ k. passes_in (slice_get alphas k) (Some e)) (eqb-true r.item.alpha a parts.1) ∙ q);
       }
   taker_of n a false q m = absurd m
@@ -57,7 +57,7 @@ module _ (alphas : List Alpha) (nodes : List Node) (e : Element) where
   alpha_of : (n a : ℕ) (b : Bool) → IsMember n (cond b (takers_of nodes a) []) → (x : Node) × (slice_get nodes n ≡ Some x) × (x.alpha ≡ a)
   alpha_of n a true m =
       let r = number_of (takes_from a) nodes n (length nodes) m in
-      (r.item, r.at, eqb-true r.item.alpha a (and_parts (not (is_terminal r.item.kind)) (r.item.alpha == a) r.passes).1)
+      (r.item, r.at, eqb-true r.item.alpha a (and_parts (takes_elements r.item.kind) (r.item.alpha == a) r.passes).1)
   alpha_of n a false m = absurd m
 
   -- a node takes the elements of one alpha
@@ -72,7 +72,7 @@ module _ (alphas : List Alpha) (nodes : List Node) (e : Element) where
   pub are_takers : (candidates ns : List ℕ) → AllPairs (λ n m. n ≢ m) candidates → ((n : ℕ) (a : Alpha) → slice_get alphas n ≡ Some a → IsTrue (passes_alpha a e) → Contains candidates n) → ns ≡ flat_map (taken_by alphas nodes e) candidates → AreTakers alphas nodes e ns
   are_takers candidates ns apart has is = record {
     each = λ n t.
-        let parts = and_parts (not (is_terminal t.node.kind)) (passes_in (slice_get alphas t.node.alpha) (Some e)) t.fed in
+        let parts = and_parts (takes_elements t.node.kind) (passes_in (slice_get alphas t.node.alpha) (Some e)) t.fed in
         let among = member_from_contains t.node.alpha candidates (alpha_among candidates has t.node.alpha (slice_get alphas t.node.alpha) refl parts.1) in
         subst (λ ms. Contains ms n) (sym is) (contains_from_member n (flat_map (taken_by alphas nodes e) candidates)
         (member-flat_map (taken_by alphas nodes e) n t.node.alpha candidates among (taken_member n t.node.alpha t.node t.at parts.0 refl parts.1)));

@@ -4,7 +4,7 @@ use Rattle.std.proofs.lemmas.Int.{ints}
 use Rattle.std.proofs.lemmas.Option.{slice_get_within, slice_get_cases}
 use Rattle.ops_base.specs.declared.elements.Element.{Element}
 use Rattle.net_base.specs.declared.nodes.Kind.{Kind}
-use Rattle.net_base.specs.declared.nodes.Kind.TheVariants.{Join, Negated, Terminal}
+use Rattle.net_base.specs.declared.nodes.Kind.TheVariants.{Join, Negated, Group, Terminal}
 use Rattle.net_base.specs.declared.nodes.Node.{Node}
 use Rattle.net_base.specs.declared.nodes.Alpha.{Alpha}
 use Rattle.net_base.specs.declared.tasks.Side.TheVariants.{Left}
@@ -15,7 +15,7 @@ use Rattle.net_base.proofs.Steps.{IsOrdered}
 use Rattle.net_base.proofs.Terminals.{tokens_least}
 use Rattle.step_core.specs.Phases.{total}
 use Rattle.step_core.specs.Laws.{OnceLaw, TerminalLaw}
-use Rattle.step_core.proofs.Given.{parents_first, tokens_are_out}
+use Rattle.step_core.proofs.Given.{givers_first, tokens_are_out}
 
 -- ---- at most once
 
@@ -53,7 +53,7 @@ once_law wm alphas nodes sound n t = (by_left (slice_get nodes n) refl, by_right
   where
     by_parent : (o : Option ℕ) (x : Node) → slice_get nodes n ≡ Some x → x.parent ≡ o → given (giver_of_parent o) (memory_gives wm (slice_get alphas x.alpha)) (tokens wm alphas nodes) t ≤ 1
     by_parent None x at e = root_least t
-    by_parent (Some p) x at e = let above = ordered alphas nodes sound n x p at e in tokens_least wm alphas nodes (ordered alphas nodes sound) p above.1 above.2 t
+    by_parent (Some p) x at e = tokens_least wm alphas nodes p t
 
     by_left : (o : Option Node) → slice_get nodes n ≡ o → given_in wm alphas nodes left_giver o t ≤ 1
     by_left None at = omega arith
@@ -62,6 +62,7 @@ once_law wm alphas nodes sound n t = (by_left (slice_get nodes n) refl, by_right
     by_kind : (k : Kind) (a : Option Alpha) → given (giver_of_kind k) (memory_gives wm a) (tokens wm alphas nodes) t ≤ 1
     by_kind Join a = memory_least wm a t
     by_kind Negated a = memory_least wm a t
+    by_kind (Group g w m) a = tokens_least wm alphas nodes g t
     by_kind (Terminal rule) a = omega arith
 
     by_right : (o : Option Node) → given_in wm alphas nodes right_giver o t ≤ 1
@@ -84,7 +85,7 @@ terminal_law net rules line wm bags is well hold n k x at kind t = (
     sum_is : total bags n Left t ≡ pos (tokens wm net.alphas net.nodes n t)
     sum_is =
         hold.all n Left t
-        ∙ ap pos (sym (tokens_are_out wm net.alphas net.nodes (parents_first net.alphas net.nodes net.sound) n x t at
+        ∙ ap pos (sym (tokens_are_out wm net.alphas net.nodes (givers_first net.alphas net.nodes net.sound) n x t at
         ∙ ap (λ (q : Kind). out_of (2 ^ 64) (elements_of wm) q x.joins (left_tokens wm net.alphas net.nodes n) (right_tokens wm net.alphas net.nodes n) t) kind))
 
     by : (v : ℕ) → total bags n Left t ≡ pos v → v ≤ 1 → (total bags n Left t ≡ pos 1) ⊎ (total bags n Left t ≡ pos 0)

@@ -13,7 +13,7 @@ use Rattle.ops_base.proofs.InOrder.{AllBefore, all_before-map, all_pairs_from_be
 use Rattle.ops_base.proofs.Members.{IsMember, contains_from_member, member_from_contains, flat_map_member, map_member, member-map}
 use Rattle.net_base.specs.declared.nodes.Alpha.{Alpha}
 use Rattle.net_base.specs.declared.nodes.Kind.{Kind}
-use Rattle.net_base.specs.declared.nodes.Kind.TheVariants.{Join, Negated, Terminal}
+use Rattle.net_base.specs.declared.nodes.Kind.TheVariants.{Join, Negated, Group, Terminal}
 use Rattle.net_base.specs.declared.nodes.Node.{Node}
 use Rattle.net_base.specs.declared.tasks.Side.{Side}
 use Rattle.net_base.specs.declared.tasks.Side.TheVariants.{Left, Right}
@@ -148,6 +148,7 @@ module _ (nodes : List Node) (alphas : List Alpha) (sound : IsSound alphas nodes
     by_kind x sum y at Right side k kind = sym (no_part x (λ y' at' side' kind' token. (let f = sym side ∙ side' in cc)))
     by_kind x sum y at Left side Join kind = sym (no_part x (λ y' at' side' kind' token. (let g = sym at ∙ at' in let f : y ≡ y' = cc in let h = sym kind ∙ (ap (λ (w : Node). w.kind) f ∙ kind') in cc)))
     by_kind x sum y at Left side Negated kind = sym (no_part x (λ y' at' side' kind' token. (let g = sym at ∙ at' in let f : y ≡ y' = cc in let h = sym kind ∙ (ap (λ (w : Node). w.kind) f ∙ kind') in cc)))
+    by_kind x sum y at Left side (Group g w q) kind = sym (no_part x (λ y' at' side' kind' token. (let g = sym at ∙ at' in let f : y ≡ y' = cc in let h = sym kind ∙ (ap (λ (w : Node). w.kind) f ∙ kind') in cc)))
     by_kind x sum y at Left side (Terminal k) kind = at_terminal x sum y at side k kind (is_same i (inst k x.token)) refl
 
     one_moved : (x : Task) (sum : ℤ) → moved_change i (moved_to (rule_in (slice_get nodes x.node) x.side) x sum) ≡ sign_at n Left i.tags x
@@ -201,6 +202,7 @@ module _ (nodes : List Node) (alphas : List Alpha) (sound : IsSound alphas nodes
       by_kind' y at Right side q kind n = absurd n
       by_kind' y at Left side Join kind n = absurd n
       by_kind' y at Left side Negated kind n = absurd n
+      by_kind' y at Left side (Group g w q) kind n = absurd n
       by_kind' y at Left side (Terminal r) kind n = at_rule y at side r kind n
 
       by_node : (o : Option Node) → slice_get nodes x.node ≡ o → IsMember m (moved_to (rule_in o x.side) x (l.sums x.node Left x.token)) → IsOfTask l m

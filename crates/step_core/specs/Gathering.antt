@@ -5,7 +5,7 @@ use Rattle.std.specs.Ordering.{eq_by_cmp}
 use Rattle.ops_base.specs.declared.rules.Inst.{Inst}
 use Rattle.ops_base.specs.Instances.{by_rule_and_tags}
 use Rattle.net_base.specs.declared.nodes.Kind.{Kind}
-use Rattle.net_base.specs.declared.nodes.Kind.TheVariants.{Join, Negated, Terminal}
+use Rattle.net_base.specs.declared.nodes.Kind.TheVariants.{Join, Negated, Group, Terminal}
 use Rattle.net_base.specs.declared.nodes.Node.{Node}
 use Rattle.net_base.specs.declared.tasks.Side.{Side}
 use Rattle.net_base.specs.declared.tasks.Side.TheVariants.{Left, Right}
@@ -22,6 +22,7 @@ use Rattle.step_core.specs.Found.{inst}
 abbrev pub rule_of : Kind → Option ℕ
 rule_of Join = None
 rule_of Negated = None
+rule_of (Group giver width members) = None
 rule_of (Terminal rule) = Some rule
 
 -- the rule of the terminal to which a task brings a left token

@@ -48,7 +48,7 @@ IsBalanced elements nodes memory b pending =
 
 -- ---- premises
 
--- the network is sound, an element and a left token that it joins have one line, and there are this many lines
+-- the network is sound, tokens that go together have one line, and there are this many lines
 pub record IsPlaced (elements : Elements) (alphas : List Alpha) (nodes : List Node) (line : Placing) (lines : ℕ) : Type 0 where
   pub sound : IsSound alphas nodes
   pub one_line : KeepsOneLine elements nodes line

@@ -1,5 +1,5 @@
 -- The steps of a match: a change is fed, a task is activated on its line, an entry is finished, the lines are cleared.
-use Rattle.std.specs.Prelude.{◌≡◌, ℕ, zero, suc, ◌+◌, ◌-◌, Bool, true, false, not, ◌&&◌, List, [], ◌∷◌, ◌++◌, pos, length, map, flat_map, remove, slice_get, Option, Some, None, ◌==◌, if◌then◌else◌}
+use Rattle.std.specs.Prelude.{◌≡◌, ℕ, zero, suc, ◌+◌, ◌-◌, Bool, true, false, ◌&&◌, List, [], ◌∷◌, ◌++◌, pos, length, map, flat_map, remove, slice_get, Option, Some, None, ◌==◌, if◌then◌else◌}
 use Rattle.ops_base.specs.declared.elements.Element.{Element}
 use Rattle.ops_base.specs.declared.elements.Change.{Change}
 use Rattle.ops_base.specs.declared.elements.Change.TheVariants.{Add, Remove}
@@ -8,8 +8,8 @@ use Rattle.net_base.specs.declared.nodes.Alpha.{Alpha}
 use Rattle.net_base.specs.declared.tasks.Side.{Side}
 use Rattle.net_base.specs.declared.tasks.Side.TheVariants.{Left, Right}
 use Rattle.net_base.specs.declared.tasks.Task.{Task}
-use Rattle.net_base.specs.Sound.{is_terminal}
-use Rattle.net_base.specs.Tokens.{Elements, Tokens, Giver, Nothing, Root, Memory, Out, passes_alpha, joins_hold, root_gives}
+use Rattle.net_base.specs.Sound.{takes_elements}
+use Rattle.net_base.specs.Tokens.{Elements, Tokens, Giver, Nothing, Root, Memory, Out, passes_alpha, goes_with, root_gives}
 use Rattle.token_line.specs.declared.line.Entry.{Entry}
 use Rattle.token_line.specs.Bags.{Bag, after}
 use Rattle.token_line.specs.Lawful.{giver_of, IsLawful}
@@ -23,11 +23,11 @@ Placing = ℕ → Side → List ℕ → ℕ
 abbrev pub place_of : Placing → Task → ℕ
 place_of line x = line x.node x.side x.token
 
--- a left token and an element that it joins have one line
+-- a left token and a right token that goes with it have one line
 abbrev pub KeepsOneLine : Elements → List Node → Placing → Type 0
 KeepsOneLine elements nodes line =
-    (n : ℕ) (x : Node) (t : List ℕ) (e : ℕ) → slice_get nodes n ≡ Some x → is_terminal x.kind ≡ false
-    → joins_hold x.joins elements t e ≡ true → line n Left t ≡ line n Right (e ∷ [])
+    (n : ℕ) (x : Node) (t r : List ℕ) → slice_get nodes n ≡ Some x
+    → goes_with x.kind x.joins elements t r ≡ true → line n Left t ≡ line n Right r
 
 -- what is seen of a line: its sums, and the entries since its list was last empty
 pub record Seen : Type 0 where
@@ -61,7 +61,7 @@ passes_in (Some a) (Some e) = passes_alpha a e
 
 -- the node takes elements, and its alpha lets this one pass
 abbrev pub is_fed : List Alpha → Option Element → Node → Bool
-is_fed alphas e x = not (is_terminal x.kind) && passes_in (slice_get alphas x.alpha) e
+is_fed alphas e x = takes_elements x.kind && passes_in (slice_get alphas x.alpha) e
 
 -- the task of an element for node i, if there is one
 abbrev pub task_at : List Alpha → Bool → ℕ → Option Element → ℕ → Option Node → List Task

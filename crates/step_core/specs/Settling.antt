@@ -61,7 +61,7 @@ FoundNoneLaw = (alphas : List Alpha) (nodes : List Node) → IsSound alphas node
 abbrev pub PlacedLaw : Type 0
 PlacedLaw = (elements : Elements) (alphas : List Alpha) (nodes : List Node) (lines : ℕ) → IsSound alphas nodes → 1 ≤ lines → IsPlaced elements alphas nodes (placed elements nodes lines) lines
 
--- a child's node comes after its parent's
+-- a child's node comes after the node that gives to it
 abbrev pub ChildLaw : Type 0
 ChildLaw = (alphas : List Alpha) (nodes : List Node) (p : ℕ) (x : Task) → IsSound alphas nodes → IsChildOf nodes p x → (p < x.node) × (x.node < length nodes)
 

@@ -54,7 +54,8 @@ fn rule_of(net: &Net, task: &Task) -> Option<usize>
     match net.nodes().get(task.node) {
         Some(node) => match (task.side, node.kind) {
             (Side::Left, Kind::Terminal { rule }) => Some(rule),
-            (Side::Left, Kind::Join | Kind::Negated) | (Side::Right, _) => None,
+            (Side::Left, Kind::Join | Kind::Negated | Kind::Group { .. }) => None,
+            (Side::Right, _) => None,
         },
         None => None,
     }

@@ -38,7 +38,7 @@ pub fn of_symbols(decides: OfSymbols, a: Sym, b: Sym) -> bool
 }
 
 /// Decides between two numbers.
-pub fn of_numbers(decides: OfNumbers, x: i64, y: i64) -> bool
+pub fn of_numbers(decides: OfNumbers, x: i128, y: i128) -> bool
     ensures { result ≡ numbers_decide decides x y }
 {
     match decides {

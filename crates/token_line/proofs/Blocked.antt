@@ -1,4 +1,4 @@
--- Left tokens after one right token more or less, which matches some of them.
+-- Left tokens after one right token more or less, which goes with some of them.
 use Rattle.std.proofs.Common.{◌≡◌, ◌≢◌, ℕ, zero, suc, ◌+◌, ◌<◌, Bool, true, false, cond, List, [], ◌∷◌, map, length, slice_get, slice_index_or, Some, pos, refl, sym, ap, subst, ◌∙◌, add-one, bytes_eq, IfSome}
 use Rattle.std.specs.List.{All}
 use Rattle.std.specs.Map.{lookup}

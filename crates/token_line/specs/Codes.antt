@@ -40,7 +40,7 @@ abbrev pub cell_in : Memories → Side → List ℕ → Option Cell
 cell_in m s t = first_some (λ c. cell_under m c s t) (codes_of m)
 
 -- what is kept of a token once one right token more or less has come: it counts where the token is one that it is for,
--- if it matches
+-- if it goes with that
 abbrev pub cell_blocked : Bool → Bool → Bool → Option Cell → Option Cell
 cell_blocked here matches plus o = if here then option_map (blocked matches plus) o else o
 

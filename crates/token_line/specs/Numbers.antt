@@ -1,12 +1,12 @@
 -- The code of a token, and the number of the line on which it stands.
-use Rattle.std.specs.Prelude.{ℕ, ◌+◌, ◌*◌, ◌%◌, ◌^◌, Bool, true, false, List, [], map, filter, fold, slice_get, slice_index, Option, Some, None}
-use Rattle.std.specs.Int.{cast_unsigned, w64}
+use Rattle.std.specs.Prelude.{ℕ, ◌+◌, ◌*◌, ◌%◌, ◌^◌, Bool, true, false, List, [], map, filter, fold, take, slice_get, slice_index, Option, Some, None}
+use Rattle.std.specs.Int.{cast_unsigned, w128}
 use Rattle.ops_base.specs.declared.values.Value.{Value}
 use Rattle.ops_base.specs.declared.values.Value.TheVariants.{Symbol, Whole}
 use Rattle.ops_base.specs.declared.values.Pred.{Pred}
 use Rattle.ops_base.specs.declared.values.Pred.TheVariants.{Eq, Ne, Lt, Le, Gt, Ge, SameKind}
 use Rattle.net_base.specs.declared.nodes.Kind.{Kind}
-use Rattle.net_base.specs.declared.nodes.Kind.TheVariants.{Join, Negated, Terminal}
+use Rattle.net_base.specs.declared.nodes.Kind.TheVariants.{Join, Negated, Group, Terminal}
 use Rattle.net_base.specs.declared.nodes.JoinTest.{JoinTest}
 use Rattle.net_base.specs.declared.nodes.Node.{Node}
 use Rattle.net_base.specs.declared.tasks.Side.{Side}
@@ -16,7 +16,7 @@ use Rattle.net_base.specs.Tokens.{Elements, field_in}
 -- a symbol's number, or a whole number modulo 2 ^ 64, not negative
 abbrev pub value_code : Value → ℕ
 value_code (Symbol s) = s.0
-value_code (Whole n) = cast_unsigned w64 n
+value_code (Whole n) = cast_unsigned w128 n % 2 ^ 64
 
 unfoldable pub mixed : ℕ → ℕ → ℕ
 mixed h code = (31 * h + code) % 2 ^ 64
@@ -43,10 +43,18 @@ own_value elements Right t j = field_in (elements (slice_index t 0)) j.field
 abbrev pub tested_codes : Elements → List JoinTest → Side → List ℕ → List ℕ
 tested_codes elements tests s t = map (λ j. value_code (own_value elements s t j)) (equalities tests)
 
--- what a token's line goes by: its values at the equality tests; at a terminal, which has no test, its tags
+-- what a token's code goes by: its values at the equality tests, and at a group its first tags
+abbrev pub kept_codes : Elements → Kind → List JoinTest → Side → List ℕ → List ℕ
+kept_codes elements Join tests s t = tested_codes elements tests s t
+kept_codes elements Negated tests s t = tested_codes elements tests s t
+kept_codes elements (Group giver width members) tests s t = take width t
+kept_codes elements (Terminal rule) tests s t = []
+
+-- what its line goes by: the same, but at a terminal its tags
 abbrev pub own_codes : Elements → Kind → List JoinTest → Side → List ℕ → List ℕ
 own_codes elements Join tests s t = tested_codes elements tests s t
 own_codes elements Negated tests s t = tested_codes elements tests s t
+own_codes elements (Group giver width members) tests s t = take width t
 own_codes elements (Terminal rule) tests s t = t
 
 abbrev pub codes_at : Elements → Option Node → Side → List ℕ → List ℕ
@@ -57,10 +65,10 @@ codes_at elements (Some node) s t = own_codes elements node.kind node.joins s t
 abbrev pub line_number : Elements → List Node → ℕ → ℕ → Side → List ℕ → ℕ
 line_number elements nodes lines n s t = fold mixed n (codes_at elements (slice_get nodes n) s t) % lines
 
-abbrev pub tested_at : Elements → Option Node → Side → List ℕ → List ℕ
-tested_at elements None s t = []
-tested_at elements (Some node) s t = tested_codes elements node.joins s t
+abbrev pub kept_at : Elements → Option Node → Side → List ℕ → List ℕ
+kept_at elements None s t = []
+kept_at elements (Some node) s t = kept_codes elements node.kind node.joins s t
 
--- the code of a token at one side of a node: the node's number, with the token's values at the equality tests mixed in
+-- the code of a token at one side of a node: the node's number, with what the code goes by mixed in
 abbrev pub code_of : Elements → List Node → ℕ → Side → List ℕ → ℕ
-code_of elements nodes n s t = fold mixed n (tested_at elements (slice_get nodes n) s t)
+code_of elements nodes n s t = fold mixed n (kept_at elements (slice_get nodes n) s t)

@@ -27,7 +27,7 @@ blockers_of kept t = blockers_kept (cell_of kept t)
 abbrev pub counted : Bool → ℕ → ℕ
 counted plus k = if plus then k + 1 else k - 1
 
--- what is kept of a left token once one right token more or less has come, if that one matches
+-- what is kept of a left token once one right token more or less has come, if it goes with that one
 abbrev pub blocked : Bool → Bool → Cell → Cell
 blocked matches plus c = record { sum = c.sum; blockers = if matches then counted plus c.blockers else c.blockers }
 

@@ -1,12 +1,12 @@
-//! Whether a node joins an element to a left token.
+//! Whether a right token goes with a left one at a node: an element that it joins, or at a group a longer token.
 ghost use Rattle.std.specs.Prelude.{◌≡◌, slice_index};
 ghost use Rattle.std.specs.Option.{option_copied};
 ghost use Rattle.ops_base.specs.Values.{holds_of};
 ghost use Rattle.work_store.specs.Stored.{held_of};
-ghost use Rattle.net_base.specs.Tokens.{field_in, joins_hold};
+ghost use Rattle.net_base.specs.Tokens.{covers, field_in, goes_with, joins_hold};
 ghost use Rattle.token_line.specs.Joins.{joins_with};
 
-use net_base::nodes::JoinTest;
+use net_base::nodes::{JoinTest, Kind, Node};
 use ops_base::elements::Element;
 use ops_base::matching::holds;
 use ops_base::values::{NOTHING, Value};
@@ -64,4 +64,28 @@ pub fn joins(store: &Store, tests: &[JoinTest], token: &[u64], tag: u64) -> bool
     ensures { result ≡ joins_hold tests.now (held_of store.now) token.now tag }
 {
     joins_element(store, tests, token, store.kept(tag))
+}
+
+/// Whether the right token covers the left one: its first tags, as many as this width, are the left token.
+fn covers(width: usize, left: &[u64], right: &[u64]) -> bool
+    ensures { result ≡ covers width left.now right.now }
+{
+    if width <= right.len() {
+        left == &right[..width]
+    } else {
+        left == right
+    }
+}
+
+/// Whether the right token goes with the left one at this node: at a join or a negated node where all tests hold of its
+/// element, at a group where it covers the left one, and at a terminal never. It looks up an element for each test, or
+/// compares the tags of the left token. It takes no memory.
+pub fn goes_with(store: &Store, node: &Node, left: &[u64], right: &[u64]) -> bool
+    ensures { result ≡ goes_with node.now.kind node.now.joins (held_of store.now) left.now right.now }
+{
+    match node.kind {
+        Kind::Join | Kind::Negated => joins(store, node.joins.as_slice(), left, tag_at(right, 0)),
+        Kind::Group { width, .. } => covers(width, left, right),
+        Kind::Terminal { .. } => false,
+    }
 }

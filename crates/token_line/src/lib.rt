@@ -15,7 +15,7 @@ pub mod tokens;
 
 pub use children::Children;
 pub use deed::Deed;
-pub use joining::{joins, joins_element, tag_at};
+pub use joining::{goes_with, joins, joins_element, tag_at};
 pub use line::{Entry, Line};
 pub use memory::Memory;
 pub use number::{Place, code_of, line_of, place_of};

@@ -4,7 +4,7 @@ ghost use Rattle.std.specs.Option.{option_copied};
 ghost use Rattle.work_store.specs.Stored.{held_of};
 ghost use Rattle.net_base.specs.declared.tasks.Side.{Side};
 ghost use Rattle.net_base.specs.declared.tasks.Side.TheVariants.{Left, Right};
-ghost use Rattle.net_base.specs.Tokens.{joins_hold};
+ghost use Rattle.net_base.specs.Tokens.{goes_with};
 ghost use Rattle.token_line.specs.Bags.{after, are_same_sides, is_at, sign};
 ghost use Rattle.token_line.specs.Codes.{AreApart, HaveSums, cell_among, cell_blocked, filed_among};
 ghost use Rattle.token_line.specs.Spots.{IsSpotAmong};
@@ -17,7 +17,7 @@ use crate::memory::Memory;
 use crate::small_map::SmallMap;
 use crate::spot::{Spot, spot_in, sum_of};
 use crate::tokens::Cell;
-use net_base::nodes::JoinTest;
+use net_base::nodes::Node;
 use net_base::tags::Tags;
 use net_base::tasks::{Side, Task};
 use ops_base::memory::OutOfMemory;
@@ -151,24 +151,24 @@ fn put_and_tell(
     }
 }
 
-/// One right token more, or one less, for each left token of the node with this code that it matches.
+/// One right token more, or one less, for each left token of the node with this code that it goes with.
 fn block(
     memories: &mut SmallMap<usize, Memories>,
     store: &Store,
-    tests: &[JoinTest],
+    of: &Node,
     node: usize,
     code: u64,
-    tag: u64,
+    right: &[u64],
     plus: bool,
 )
     requires room { plus ≡ true → (t : List ℕ) → sum_kept (filed_among memories.old node code Left t) ≢ pos 0 → blockers_kept (filed_among memories.old node code Left t) < 2 ^ 64 - 1 }
-    ensures { (n c : ℕ) (s : Side) (t : List ℕ) → filed_among memories.new n c s t ≡ cell_blocked ((n == node) && ((c == code) && are_same_sides s Left)) (joins_hold tests.now (held_of store.now) t tag) plus (filed_among memories.old n c s t) }
+    ensures { (n c : ℕ) (s : Side) (t : List ℕ) → filed_among memories.new n c s t ≡ cell_blocked ((n == node) && ((c == code) && are_same_sides s Left)) (goes_with of.now.kind of.now.joins (held_of store.now) t right.now) plus (filed_among memories.old n c s t) }
 {
     let _apart = memories.len();
     if let Some(place) = memories.find(&node) {
         memories
             .value_mut(place)
-            .block(store, tests, code, tag, plus);
+            .block(store, of, code, right, plus);
     }
 }
 
@@ -339,27 +339,28 @@ impl Line {
         Ok(())
     }
 
-    /// One right token more, or one less, for each left token of the node that it matches: these have its code. It
-    /// looks at each left token of the node with this code, and takes no memory.
+    /// One right token more, or one less, for each left token of the node that it goes with: these have its code. `of`
+    /// is the node of that number. It looks at each left token of the node with this code: at a group that is the one
+    /// that it covers, and another only where their codes happen to be equal. It takes no memory.
     pub fn block(
         &mut self,
         store: &Store,
-        tests: &[JoinTest],
+        of: &Node,
         node: usize,
         code: u64,
-        tag: u64,
+        right: &[u64],
         plus: bool,
     )
         requires room { plus ≡ true → (t : List ℕ) → IsFiled self.old node code Left t → blockers_in self.old node t < 2 ^ 64 - 1 }
-        requires code { (t : List ℕ) → sum_in self.old node Left t ≢ pos 0 → joins_hold tests.now (held_of store.now) t tag ≡ true → IsFiled self.old node code Left t }
-        ensures blockers { (n : ℕ) (t : List ℕ) → sum_in self.new n Left t ≢ pos 0 → blockers_in self.new n t ≡ (if (n == node) && joins_hold tests.now (held_of store.now) t tag then counted plus (blockers_in self.old n t) else blockers_in self.old n t) }
+        requires code { (t : List ℕ) → sum_in self.old node Left t ≢ pos 0 → goes_with of.now.kind of.now.joins (held_of store.now) t right.now ≡ true → IsFiled self.old node code Left t }
+        ensures blockers { (n : ℕ) (t : List ℕ) → sum_in self.new n Left t ≢ pos 0 → blockers_in self.new n t ≡ (if (n == node) && goes_with of.now.kind of.now.joins (held_of store.now) t right.now then counted plus (blockers_in self.old n t) else blockers_in self.old n t) }
         ensures sums { (n : ℕ) (s : Side) (t : List ℕ) → sum_in self.new n s t ≡ sum_in self.old n s t }
         ensures entries { self.new.entries.items ≡ self.old.entries.items }
         ensures told { self.new.told.items ≡ self.old.told.items }
         ensures number { self.new.number ≡ self.old.number }
         ensures filed { KeepsCodes self.old self.new }
     {
-        block(&mut self.memories, store, tests, node, code, tag, plus);
+        block(&mut self.memories, store, of, node, code, right, plus);
     }
 
     /// Begins a phase: nothing was done. Takes no memory.

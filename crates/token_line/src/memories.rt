@@ -5,7 +5,7 @@ ghost use Rattle.std.specs.Option.{option_copied};
 ghost use Rattle.work_store.specs.Stored.{held_of};
 ghost use Rattle.net_base.specs.declared.tasks.Side.{Side};
 ghost use Rattle.net_base.specs.declared.tasks.Side.TheVariants.{Left};
-ghost use Rattle.net_base.specs.Tokens.{joins_hold};
+ghost use Rattle.net_base.specs.Tokens.{goes_with};
 ghost use Rattle.token_line.specs.Bags.{are_same_sides};
 ghost use Rattle.token_line.specs.Codes.{cell_blocked, cell_in, cell_under, first_some, kept_among, memory_under, tokens_of};
 ghost use Rattle.token_line.specs.Pairs.{cell_of, place_of};
@@ -15,7 +15,7 @@ use crate::memory::Memory;
 use crate::small_map::SmallMap;
 use crate::spot::Spot;
 use crate::tokens::Cell;
-use net_base::nodes::JoinTest;
+use net_base::nodes::Node;
 use net_base::tags::Tags;
 use net_base::tasks::{Side, Task};
 use ops_base::memory::OutOfMemory;
@@ -159,22 +159,15 @@ impl Memories {
         }
     }
 
-    /// One right token more, or one less, for each left token with this code that it matches. Takes no memory.
-    pub(crate) fn block(
-        &mut self,
-        store: &Store,
-        tests: &[JoinTest],
-        code: u64,
-        tag: u64,
-        plus: bool,
-    )
+    /// One right token more, or one less, for each left token with this code that it goes with. Takes no memory.
+    pub(crate) fn block(&mut self, store: &Store, of: &Node, code: u64, right: &[u64], plus: bool)
         requires room { plus ≡ true → (t : List ℕ) → sum_kept (cell_under self.old code Left t) ≢ pos 0 → blockers_kept (cell_under self.old code Left t) < 2 ^ 64 - 1 }
-        ensures { (c : ℕ) (s : Side) (t : List ℕ) → cell_under self.new c s t ≡ cell_blocked ((c == code) && are_same_sides s Left) (joins_hold tests.now (held_of store.now) t tag) plus (cell_under self.old c s t) }
+        ensures { (c : ℕ) (s : Side) (t : List ℕ) → cell_under self.new c s t ≡ cell_blocked ((c == code) && are_same_sides s Left) (goes_with of.now.kind of.now.joins (held_of store.now) t right.now) plus (cell_under self.old c s t) }
     {
         if code == self.code {
-            self.first.block(store, tests, tag, plus);
+            self.first.block(store, of, right, plus);
         } else {
-            block_among(&mut self.others, store, tests, code, tag, plus);
+            block_among(&mut self.others, store, of, code, right, plus);
         }
     }
 }
@@ -183,16 +176,16 @@ impl Memories {
 fn block_among(
     others: &mut SmallMap<u64, Memory>,
     store: &Store,
-    tests: &[JoinTest],
+    of: &Node,
     code: u64,
-    tag: u64,
+    right: &[u64],
     plus: bool,
 )
     requires room { plus ≡ true → (t : List ℕ) → sum_kept (kept_among others.old code Left t) ≢ pos 0 → blockers_kept (kept_among others.old code Left t) < 2 ^ 64 - 1 }
-    ensures { (c : ℕ) (s : Side) (t : List ℕ) → kept_among others.new c s t ≡ cell_blocked ((c == code) && are_same_sides s Left) (joins_hold tests.now (held_of store.now) t tag) plus (kept_among others.old c s t) }
+    ensures { (c : ℕ) (s : Side) (t : List ℕ) → kept_among others.new c s t ≡ cell_blocked ((c == code) && are_same_sides s Left) (goes_with of.now.kind of.now.joins (held_of store.now) t right.now) plus (kept_among others.old c s t) }
 {
     let _apart = others.len();
     if let Some(place) = others.find(&code) {
-        others.value_mut(place).block(store, tests, tag, plus);
+        others.value_mut(place).block(store, of, right, plus);
     }
 }

@@ -1,16 +1,16 @@
 //! The tokens of one node with one code on one line, each with its sum: the inserts less the deletes that arrived. With
-//! each left token a number is kept: at a negated node, how often right tokens stand that match it.
+//! each left token a number is kept: at a negated node or a group, how often right tokens stand that go with it.
 ghost use Rattle.std.specs.Prelude.{◌≡◌, ◌≢◌, ◌<◌, ◌&&◌, ◌-◌, ◌^◌, ◌↔◌, [], IfSome, IsTrue, List, OnErr, OnOk, bytes_eq, if◌then◌else◌, pos, true, ℕ};
 ghost use Rattle.std.specs.Option.{option_map};
 ghost use Rattle.work_store.specs.Stored.{held_of};
 ghost use Rattle.net_base.specs.declared.tasks.Side.{Side};
-ghost use Rattle.net_base.specs.Tokens.{joins_hold};
+ghost use Rattle.net_base.specs.Tokens.{goes_with};
 ghost use Rattle.token_line.specs.Bags.{are_same_sides};
 ghost use Rattle.token_line.specs.Pairs.{ArePairs, cell_of, place_of};
 ghost use Rattle.token_line.specs.Sums.{blocked, blockers_of, kept_sum, side_of};
 
 use crate::tokens::{Cell, Tokens};
-use net_base::nodes::JoinTest;
+use net_base::nodes::Node;
 use net_base::tags::Tags;
 use net_base::tasks::Side;
 use ops_base::memory::OutOfMemory;
@@ -99,12 +99,12 @@ impl Memory {
         }
     }
 
-    /// One right token more, or one less, for each left token that it matches. Takes no memory.
-    pub(crate) fn block(&mut self, store: &Store, tests: &[JoinTest], tag: u64, plus: bool)
+    /// One right token more, or one less, for each left token that it goes with. Takes no memory.
+    pub(crate) fn block(&mut self, store: &Store, of: &Node, right: &[u64], plus: bool)
         requires room { plus ≡ true → (t : List ℕ) → kept_sum self.old.left t ≢ pos 0 → blockers_of self.old.left t < 2 ^ 64 - 1 }
-        ensures left { (t : List ℕ) → cell_of self.new.left t ≡ option_map (blocked (joins_hold tests.now (held_of store.now) t tag) plus) (cell_of self.old.left t) }
+        ensures left { (t : List ℕ) → cell_of self.new.left t ≡ option_map (blocked (goes_with of.now.kind of.now.joins (held_of store.now) t right.now) plus) (cell_of self.old.left t) }
         ensures right { self.new.right ≡ self.old.right }
     {
-        self.left.block(store, tests, tag, plus);
+        self.left.block(store, of, right, plus);
     }
 }

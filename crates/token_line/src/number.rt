@@ -1,8 +1,8 @@
-//! The code of a token, and the number of the line on which it stands. Tokens that a node can join have one code, and
-//! one line.
-ghost use Rattle.std.specs.Prelude.{◌≡◌, ◌<◌, ◌≤◌, fold, map};
+//! The code of a token, and the number of the line on which it stands. Tokens that go together at a node have one code,
+//! and one line.
+ghost use Rattle.std.specs.Prelude.{◌≡◌, ◌<◌, ◌≤◌, fold, map, take};
 ghost use Rattle.work_store.specs.Stored.{held_of};
-ghost use Rattle.token_line.specs.Numbers.{code_of, equalities, is_equal, line_number, mixed, own_codes, own_value, tested_codes, value_code};
+ghost use Rattle.token_line.specs.Numbers.{code_of, equalities, is_equal, line_number, mixed, kept_codes, own_codes, own_value, value_code};
 
 use crate::joining::{field_of, tag_at};
 use net_base::net::Net;
@@ -18,12 +18,17 @@ pub struct Place {
     pub code: u64,
 }
 
+/// How many codes there are.
+const CODES: u128 = 1 << 64;
+
+/// A whole number's code is the number modulo 2^64: numbers that differ may have one, and then their tokens stand in
+/// one memory.
 fn value_code(value: Value) -> u64
     ensures { result ≡ value_code value }
 {
     match value {
         Value::Symbol(symbol) => symbol.0,
-        Value::Whole(number) => number.cast_unsigned(),
+        Value::Whole(number) => (number.cast_unsigned() % CODES) as u64,
     }
 }
 
@@ -72,26 +77,57 @@ pub(crate) fn with_token(store: &Store, node: &Node, side: Side, tags: &[u64], c
         Kind::Join | Kind::Negated => {
             with_values(store, side, tags, node.joins.as_slice(), code)
         }
-        Kind::Terminal { rule: _ } => tags.iter().copied().fold(code, mixed),
+        Kind::Group { width, .. } => with_first_tags(tags, width, code),
+        Kind::Terminal { .. } => with_tags(tags, code),
     }
 }
 
-/// The code of the task's token, which goes by its node and by its values at the equality tests. It looks at each test
-/// of the node, and takes no memory.
+/// The code, with tags mixed in.
+fn with_tags(tags: &[u64], code: u64) -> u64
+    ensures { result ≡ fold mixed code tags.now }
+{
+    tags.iter().copied().fold(code, mixed)
+}
+
+/// The code, with the first tags mixed in, as many as this width.
+fn with_first_tags(tags: &[u64], width: usize, code: u64) -> u64
+    ensures { result ≡ fold mixed code (take width tags.now) }
+{
+    if width <= tags.len() {
+        with_tags(&tags[..width], code)
+    } else {
+        with_tags(tags, code)
+    }
+}
+
+/// The code, with all that the token's code goes by mixed in.
+fn with_kept(store: &Store, node: &Node, side: Side, tags: &[u64], code: u64) -> u64
+    ensures { result ≡ fold mixed code (kept_codes (held_of store.now) node.now.kind node.now.joins side tags.now) }
+{
+    match node.kind {
+        Kind::Join | Kind::Negated => {
+            with_values(store, side, tags, node.joins.as_slice(), code)
+        }
+        Kind::Group { width, .. } => with_first_tags(tags, width, code),
+        Kind::Terminal { .. } => code,
+    }
+}
+
+/// The code of the task's token, which goes by its node and by its values at the equality tests, and at a group by its
+/// first tags, as many as the left tokens have. It looks at each test of the node, or at each of these tags, and takes
+/// no memory.
 pub fn code_of(net: &Net, store: &Store, task: &Task) -> u64
     ensures { result ≡ code_of (held_of store.now) net.now.nodes task.now.node task.now.side task.now.token }
 {
     let start = task.node as u64;
     match net.nodes().get(task.node) {
-        Some(node) => {
-            let tests = node.joins.as_slice();
-            with_values(store, task.side, task.token.as_slice(), tests, start)
-        }
+        Some(node) => with_kept(store, node, task.side, task.token.as_slice(), start),
         None => start,
     }
 }
 
-/// The line of the task's token, where there are this many lines. Looks at each test of the node, and takes no memory.
+/// The line of the task's token, where there are this many lines. It goes by what the code goes by, but at a terminal
+/// by all tags. It looks at each test of the node, or at each of these tags, and takes no memory.
 pub fn line_of(net: &Net, store: &Store, task: &Task, lines: usize) -> usize
     requires { 1 ≤ lines }
     ensures number { result ≡ line_number (held_of store.now) net.now.nodes lines task.now.node task.now.side task.now.token }
@@ -106,19 +142,25 @@ pub fn line_of(net: &Net, store: &Store, task: &Task, lines: usize) -> usize
 }
 
 /// What the token's line goes by, before the number of lines is known, and its code: two numbers from one look at the
-/// tests.
+/// tests or the tags.
 fn both_codes(store: &Store, node: &Node, side: Side, tags: &[u64], start: u64) -> (u64, u64)
     ensures number { result.0 ≡ fold mixed start (own_codes (held_of store.now) node.now.kind node.now.joins side tags.now) }
-    ensures code { result.1 ≡ fold mixed start (tested_codes (held_of store.now) node.now.joins side tags.now) }
+    ensures code { result.1 ≡ fold mixed start (kept_codes (held_of store.now) node.now.kind node.now.joins side tags.now) }
 {
-    let code = with_values(store, side, tags, node.joins.as_slice(), start);
     match node.kind {
-        Kind::Join | Kind::Negated => (code, code),
-        Kind::Terminal { rule: _ } => (tags.iter().copied().fold(start, mixed), code),
+        Kind::Join | Kind::Negated => {
+            let code = with_values(store, side, tags, node.joins.as_slice(), start);
+            (code, code)
+        }
+        Kind::Group { width, .. } => {
+            let code = with_first_tags(tags, width, start);
+            (code, code)
+        }
+        Kind::Terminal { .. } => (with_tags(tags, start), start),
     }
 }
 
-/// What `line_of` and `code_of` answer, for one look at each test of the node. Takes no memory.
+/// What `line_of` and `code_of` answer, for one look at each test of the node or each tag. Takes no memory.
 pub fn place_of(net: &Net, store: &Store, task: &Task, lines: usize) -> Place
     requires { 1 ≤ lines }
     ensures line { result.line ≡ line_number (held_of store.now) net.now.nodes lines task.now.node task.now.side task.now.token }

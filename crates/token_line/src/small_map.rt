@@ -127,6 +127,10 @@ impl<K: Eq + Hash + Drop, V: Drop> Room<K, V> {
             }
             Room::Many(map) => {
                 map.swap_remove_index(place);
+                if map.is_empty() {
+                    let alloc = *map.allocator();
+                    *self = Room::Few(Vec::new(alloc));
+                }
             }
         }
     }

@@ -5,21 +5,22 @@ ghost use Rattle.std.specs.Map.{keys_of, lookup};
 ghost use Rattle.std.specs.Option.{option_map};
 ghost use Rattle.indexmap.specs.IndexMap.{set_value_at};
 ghost use Rattle.work_store.specs.Stored.{held_of};
-ghost use Rattle.net_base.specs.Tokens.{joins_hold};
+ghost use Rattle.net_base.specs.Tokens.{goes_with};
 ghost use Rattle.token_line.specs.Pairs.{ArePairs, cell_of, place_of};
 ghost use Rattle.token_line.specs.Sums.{blocked, blockers_of, counted, kept_sum};
 
-use crate::joining::joins;
+use crate::joining::goes_with;
 use crate::small_map::SmallMap;
-use net_base::nodes::JoinTest;
+use net_base::nodes::Node;
 use net_base::tags::Tags;
 use ops_base::memory::OutOfMemory;
 use std::alloc::Global;
 use std::marker::Model;
 use work_store::Store;
 
-/// What is kept of a token: its sum, and a number of blockers. With a left token of a negated node that is how often
-/// right tokens stand that match it, which is for the caller to see to; with other tokens nothing goes by it.
+/// What is kept of a token: its sum, and a number of blockers. With a left token of a negated node or a group that is
+/// how often right tokens stand that go with it, which is for the caller to see to. With other tokens nothing goes by
+/// it.
 #[derive(Clone, Copy, Debug, PartialEq, Eq)]
 pub struct Cell {
     pub sum: i64,
@@ -174,14 +175,14 @@ impl Tokens {
         Ok(())
     }
 
-    /// One right token more, or one less, for the left token at a place, if it matches.
-    fn block_at(&mut self, place: usize, store: &Store, tests: &[JoinTest], tag: u64, plus: bool)
+    /// One right token more, or one less, for the left token at a place, if it goes with that.
+    fn block_at(&mut self, place: usize, store: &Store, of: &Node, right: &[u64], plus: bool)
         requires within { place < length self.old }
         requires room { plus ≡ true → IfSome (slice_get self.old place) (λ e. e.1.blockers < 2 ^ 64 - 1) }
-        ensures { IfSome (slice_get self.old place) (λ e. self.new ≡ set_value_at self.old place (blocked (joins_hold tests.now (held_of store.now) e.0 tag) plus e.1)) }
+        ensures { IfSome (slice_get self.old place) (λ e. self.new ≡ set_value_at self.old place (blocked (goes_with of.now.kind of.now.joins (held_of store.now) e.0 right.now) plus e.1)) }
     {
         let (token, cell) = self.pair(place);
-        let blockers = if joins(store, tests, token.as_slice(), tag) {
+        let blockers = if goes_with(store, of, token.as_slice(), right) {
             counted(cell.blockers, plus)
         } else {
             cell.blockers
@@ -190,13 +191,13 @@ impl Tokens {
         self.set(place, Cell { sum, blockers });
     }
 
-    /// One right token more, or one less, for each left token that matches. Takes no memory.
-    pub(crate) fn block(&mut self, store: &Store, tests: &[JoinTest], tag: u64, plus: bool)
+    /// One right token more, or one less, for each left token that it goes with. Takes no memory.
+    pub(crate) fn block(&mut self, store: &Store, of: &Node, right: &[u64], plus: bool)
         requires room { plus ≡ true → (t : List ℕ) → kept_sum self.old t ≢ pos 0 → blockers_of self.old t < 2 ^ 64 - 1 }
-        ensures { (t : List ℕ) → cell_of self.new t ≡ option_map (blocked (joins_hold tests.now (held_of store.now) t tag) plus) (cell_of self.old t) }
+        ensures { (t : List ℕ) → cell_of self.new t ≡ option_map (blocked (goes_with of.now.kind of.now.joins (held_of store.now) t right.now) plus) (cell_of self.old t) }
     {
         for place in 0..self.len() {
-            self.block_at(place, store, tests, tag, plus);
+            self.block_at(place, store, of, right, plus);
         }
     }
 }

@@ -1,6 +1,4 @@
-use Rattle.std.proofs.Common.{subst, List, length}
-use Rattle.ops_base.specs.declared.rules.Rule.{Rule}
-use Rattle.beta_net.specs.Built.{IsCompiled}
+use Rattle.std.proofs.Common.{length}
 use Rattle.beta_net.proofs.WholeLemmas.{all_valid, compiled_sound, compiled_net, compiled_shape, same_compiled}
 use Rattle.beta_net.proofs.compile.Goals as goal
 
@@ -8,14 +6,14 @@ pub new-requires : goal.new-requires
 new-requires c =
     let rules = c.args.program.now.rules in
     let valid = all_valid c.args.program.now.classes rules c.args.program.now.commands (length c.args.program.now.text) c.args.program.now.valid in
-    let made = subst (λ (z : List Rule). IsCompiled z c.in_ok-draft.draft.alphas.items c.in_ok-draft.draft.nodes.items) c.as_slice.ensures c.in_ok-draft.ensures in
+    let made = c.in_ok-draft.ensures in
     compiled_sound rules c.from_vec-alphas.result c.from_vec-nodes.result valid (same_compiled rules c.in_ok-draft.draft.alphas.items c.from_vec-alphas.result c.in_ok-draft.draft.nodes.items c.from_vec-nodes.result c.from_vec-alphas.ensures c.from_vec-nodes.ensures made)
 
 pub returns-clause-network : goal.returns-clause-network
 returns-clause-network c =
     let rules = c.args.program.now.rules in
     let valid = all_valid c.args.program.now.classes rules c.args.program.now.commands (length c.args.program.now.text) c.args.program.now.valid in
-    let made = subst (λ (z : List Rule). IsCompiled z c.in_ok-draft.draft.alphas.items c.in_ok-draft.draft.nodes.items) c.as_slice.ensures c.in_ok-draft.ensures in
+    let made = c.in_ok-draft.ensures in
     let own = same_compiled rules c.in_ok-draft.draft.alphas.items c.from_vec-alphas.result c.in_ok-draft.draft.nodes.items c.from_vec-nodes.result c.from_vec-alphas.ensures c.from_vec-nodes.ensures made in
     compiled_net rules c.in_ok-net.net valid (same_compiled rules c.from_vec-alphas.result c.in_ok-net.net.alphas c.from_vec-nodes.result c.in_ok-net.net.nodes c.in_ok-net.ensures.alphas c.in_ok-net.ensures.nodes own)
 
@@ -23,6 +21,6 @@ pub returns-clause-shape : goal.returns-clause-shape
 returns-clause-shape c =
     let rules = c.args.program.now.rules in
     let valid = all_valid c.args.program.now.classes rules c.args.program.now.commands (length c.args.program.now.text) c.args.program.now.valid in
-    let made = subst (λ (z : List Rule). IsCompiled z c.in_ok-draft.draft.alphas.items c.in_ok-draft.draft.nodes.items) c.as_slice.ensures c.in_ok-draft.ensures in
+    let made = c.in_ok-draft.ensures in
     let own = same_compiled rules c.in_ok-draft.draft.alphas.items c.from_vec-alphas.result c.in_ok-draft.draft.nodes.items c.from_vec-nodes.result c.from_vec-alphas.ensures c.from_vec-nodes.ensures made in
     compiled_shape rules c.in_ok-net.net.alphas c.in_ok-net.net.nodes valid (same_compiled rules c.from_vec-alphas.result c.in_ok-net.net.alphas c.from_vec-nodes.result c.in_ok-net.net.nodes c.in_ok-net.ensures.alphas c.in_ok-net.ensures.nodes own)

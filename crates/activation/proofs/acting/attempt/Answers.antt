@@ -13,7 +13,7 @@ use Rattle.token_line.specs.Lines.{IsAlone, IsFiled, KeepsCodesBut, blockers_in,
 use Rattle.token_line.specs.Numbers.{code_of}
 use Rattle.token_line.specs.Sums.{counted}
 use Rattle.activation.specs.Acting.{lasts_of}
-use Rattle.activation.specs.Children.{children_at, children_of}
+use Rattle.activation.specs.Children.{children_at, children_of, targets}
 use Rattle.activation.specs.Effects.{Effect, effect_at}
 use Rattle.activation.specs.Negating.{is_matched}
 use Rattle.activation.specs.Putting.{changes}
@@ -48,7 +48,7 @@ count_blockers-requires-clause-room c = λ blocks more t has.
     let node = c.node_of-node.result.now in
     let old = c.args.line.now in
     let done = c.in_ok-done.ensures.ok in
-    let e : Effect = effect_at node.kind node.joins (held_of s) (option_copied c.find.result.1) x (changes (option_map_or (λ (k : Cell). k.sum) c.kept.result (pos 0)) x.plus) in
+    let e : Effect = effect_at node (held_of s) (option_copied c.find.result.1) x (changes (option_map_or (λ (k : Cell). k.sum) c.kept.result (pos 0)) x.plus) in
     let is =
     done_effect c.args.net.now.alphas nodes c.node_of-node.ensures.sound s old x c.requires.fits c.requires.counted node c.node_of-node.ensures.node
     (c.args.code) (sym c.requires.code)
@@ -69,7 +69,7 @@ count_blockers-requires-clause-code c = λ blocks t some joined.
     let node = c.node_of-node.result.now in
     let old = c.args.line.now in
     let done = c.in_ok-done.ensures.ok in
-    let e : Effect = effect_at node.kind node.joins (held_of s) (option_copied c.find.result.1) x (changes (option_map_or (λ (k : Cell). k.sum) c.kept.result (pos 0)) x.plus) in
+    let e : Effect = effect_at node (held_of s) (option_copied c.find.result.1) x (changes (option_map_or (λ (k : Cell). k.sum) c.kept.result (pos 0)) x.plus) in
     let is =
     done_effect c.args.net.now.alphas nodes c.node_of-node.ensures.sound s old x c.requires.fits c.requires.counted node c.node_of-node.ensures.node
     (c.args.code) (sym c.requires.code)
@@ -90,7 +90,7 @@ returns-clause-ok c =
     let old = c.args.line.now in
     let before = c.args.out.now.items in
     let done = c.in_ok-done.ensures.ok in
-    let e : Effect = effect_at node.kind node.joins (held_of s) (option_copied c.find.result.1) x (changes (option_map_or (λ (k : Cell). k.sum) c.kept.result (pos 0)) x.plus) in
+    let e : Effect = effect_at node (held_of s) (option_copied c.find.result.1) x (changes (option_map_or (λ (k : Cell). k.sum) c.kept.result (pos 0)) x.plus) in
     let is =
     done_effect c.args.net.now.alphas nodes c.node_of-node.ensures.sound s old x c.requires.fits c.requires.counted node c.node_of-node.ensures.node
     (c.args.code) (sym c.requires.code)
@@ -99,7 +99,7 @@ returns-clause-ok c =
     c.in_ok-done.ensures.room in
     let entry : Entry = record { task = x; children = c.since-children.result } in
     let len : c.len-before.result ≡ length before = omega (arith, c.len-before.ensures, c.args.out.now.ok.0) in
-    let kids : c.since-children.result ≡ children_of node.children e.plus e.puts = c.since-children.ensures ∙ drop_grown before c.do_at.new.out.items (children_of node.children e.plus e.puts) c.len-before.result len done.given in
+    let kids : c.since-children.result ≡ children_of (targets node) e.plus e.puts = c.since-children.ensures ∙ drop_grown before c.do_at.new.out.items (children_of (targets node) e.plus e.puts) c.len-before.result len done.given in
     acted c.args.net.now.alphas nodes c.node_of-node.ensures.sound s x c.requires.fits old c.count_blockers.new.line before c.do_at.new.out.items e entry is refl
     (kids ∙ ap (λ o. children_at o e.plus e.puts) (sym c.node_of-node.ensures.node))
     (λ n side t. c.count_blockers.ensures.sums n side t ∙ c.in_ok-add_at.ensures.sums n side t)
@@ -114,7 +114,7 @@ returns-clause-counted c =
     let old = c.args.line.now in
     let new = c.count_blockers.new.line in
     let done = c.in_ok-done.ensures.ok in
-    let e : Effect = effect_at node.kind node.joins (held_of s) (option_copied c.find.result.1) x (changes (option_map_or (λ (k : Cell). k.sum) c.kept.result (pos 0)) x.plus) in
+    let e : Effect = effect_at node (held_of s) (option_copied c.find.result.1) x (changes (option_map_or (λ (k : Cell). k.sum) c.kept.result (pos 0)) x.plus) in
     let is =
     done_effect c.args.net.now.alphas nodes c.node_of-node.ensures.sound s old x c.requires.fits c.requires.counted node c.node_of-node.ensures.node
     (c.args.code) (sym c.requires.code)

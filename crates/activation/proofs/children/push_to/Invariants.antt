@@ -7,6 +7,6 @@ use Rattle.activation.proofs.children.push_to.Given as goal
 
 abbrev pub invariant-loop-time : goal.invariant-loop-time
 invariant-loop-time l = record {
-  made : l.out.items ≡ l.initial.out.items ++ replicate l._time (child l.plus (tagged l.token l.tag) l.node);
+  made : l.out.items ≡ l.initial.out.items ++ replicate l._time (child l.plus (tagged l.output.token.now l.output.tag) (l.side, l.node));
   capacity : vec_capacity l.initial.out ≤ vec_capacity l.out;
 }

@@ -6,4 +6,4 @@ use Rattle.activation.proofs.negating.number_matching.Given as goal
 
 abbrev pub invariant-loop-place : goal.invariant-loop-place
 invariant-loop-place l =
-    l.count + number_matching l.tests (held_of l.store) l.token (drop l.place l.right) ≡ number_matching l.tests (held_of l.store) l.token l.right
+    l.count + number_matching l.node (held_of l.store) l.token (drop l.place l.right) ≡ number_matching l.node (held_of l.store) l.token l.right

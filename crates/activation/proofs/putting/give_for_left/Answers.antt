@@ -2,7 +2,7 @@
 use Rattle.std.proofs.Common.{arith, ◌∙◌, ◌++◌, ◌∷◌, [], ap, ap₂, slice_index}
 use Rattle.work_store.specs.Stored.{held_of}
 use Rattle.net_base.specs.Tokens.{joins_hold}
-use Rattle.activation.specs.Children.{children_of}
+use Rattle.activation.specs.Children.{children_of, targets_of}
 use Rattle.activation.specs.Putting.{put_for_left, put_if}
 use Rattle.activation.proofs.Growth.{Pair, grows_more, next_given}
 use Rattle.activation.proofs.putting.give_for_left.Goals as goal
@@ -12,7 +12,7 @@ loop-place-preserved c =
     let tests = c.args.tests.now in
     let elements = held_of c.args.store.now in
     let token = c.args.token.now in
-    let nodes = c.args.below.nodes.now in
+    let nodes = targets_of c.args.below.children.now c.args.below.rights.now in
     let plus = c.args.below.plus in
     let e : Pair = (c.pair.result.0.now, c.pair.result.1) in
     let before = c.loop-place.out.items in

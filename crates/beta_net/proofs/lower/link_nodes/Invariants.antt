@@ -1,6 +1,7 @@
 use Rattle.std.proofs.Common.{◌≡◌, length}
 use Rattle.beta_net.specs.Built.{AreAlphas, AreNodes, AreUsed}
 use Rattle.beta_net.specs.Children.{AreBare}
+use Rattle.beta_net.specs.Rights.{AreRightless}
 use Rattle.beta_net.proofs.lower.link_nodes.Given as goal
 
 abbrev pub invariant-loop-link : goal.invariant-loop-link
@@ -10,4 +11,5 @@ invariant-loop-link l = record {
   count : length l.nodes.items ≡ l.link-index;
   used : AreUsed l.links l.alphas.list.items;
   bare : AreBare l.nodes.items;
+  rightless : AreRightless l.nodes.items;
 }

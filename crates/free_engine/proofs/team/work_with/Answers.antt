@@ -12,7 +12,7 @@ returns g c = let r = c.work-pass.result in
       pass = c.work-pass.ensures.pass;
       number_is = omega (arith, of, some, is_number);
       whole = λ w is all. (
-        subst (λ k. HasWorked c.args.crew.lines k (knows r.pass).own) (let e : c.number-worker.result - 1 ≡ w = omega (arith, of, is) in e) (c.work-pass.ensures.worked all),
+        subst (λ k. HasWorked c.args.phase.now.lines k (knows r.pass).own) (let e : c.number-worker.result - 1 ≡ w = omega (arith, of, is) in e) (c.work-pass.ensures.worked all),
         c.work-pass.ensures.saw all,
       );
     }

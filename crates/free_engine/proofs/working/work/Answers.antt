@@ -7,10 +7,10 @@ use Rattle.free_engine.proofs.working.work.Goals as goal
 pub loop-preserved-in-Done : goal.loop-preserved-in-Done
 loop-preserved-in-Done g c =
     let w : ℕ = c.args.worker in
-    let lines : ℕ = c.args.crew.lines in
+    let lines : ℕ = c.args.phase.now.lines in
     let p = knows c.loop.pass in
     let q = knows c.do_round-next.result.0 in
-    let did = subst (RoundDone lines w c.args.first.now.value.items p q) c.in-Done.is c.do_round-next.ensures.own in record {
+    let did = subst (RoundDone lines w c.args.phase.now.first.now.value.items p q) c.in-Done.is c.do_round-next.ensures.own in record {
       can_next = tt;
       finite = tt;
       pass = c.do_round-next.ensures.pass;

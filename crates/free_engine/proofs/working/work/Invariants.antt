@@ -8,8 +8,8 @@ abbrev pub invariant-loop : goal.invariant-loop
 invariant-loop g l = record {
   can_next : (goal.iterator-loop g).can_next l.iterator';
   finite : (goal.iterator-loop g).is_finite l.iterator';
-  pass : IsPassOf l.cells l.pass;
+  pass : IsPassOf l.phase.cells.now l.pass;
   number : number l.pass ≡ l.worker + 1;
-  worked : HasWorked l.crew.lines l.worker (knows l.pass).own;
+  worked : HasWorked l.phase.lines l.worker (knows l.pass).own;
   free : has_taken l.worker (knows l.pass).own ≡ false;
 }

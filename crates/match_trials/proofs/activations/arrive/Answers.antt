@@ -13,7 +13,7 @@ use Rattle.match_trials.specs.OneJoin.{one_join}
 use Rattle.match_trials.proofs.activations.arrive.Goals as goal
 
 abbrev join : Node
-join = record { kind = Join; parent = None; class = 0; alpha = 0; joins = []; children = 1 ∷ []; depth = 1 }
+join = record { kind = Join; parent = None; class = 0; alpha = 0; joins = []; children = 1 ∷ []; rights = []; depth = 1 }
 
 left_fits : (s : Stored) → Fits one_join s 0 Left []
 left_fits s = fits_at one_join s 0 join refl Left [] refl (All-nil (λ tag. IsSome (held_of s tag)))

@@ -13,7 +13,7 @@ use Rattle.match_trials.specs.OneNegated.{one_negated}
 use Rattle.match_trials.proofs.activations.meet.Goals as goal
 
 abbrev negated : Node
-negated = record { kind = Negated; parent = Some 0; class = 0; alpha = 0; joins = []; children = 2 ∷ []; depth = 2 }
+negated = record { kind = Negated; parent = Some 0; class = 0; alpha = 0; joins = []; children = 2 ∷ []; rights = []; depth = 2 }
 
 one_wide : (side : Side) (tag : ℕ) → is_wide one_negated negated side (tag ∷ []) ≡ true
 one_wide Left tag = refl

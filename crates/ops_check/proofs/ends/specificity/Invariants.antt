@@ -2,6 +2,6 @@ use Rattle.std.proofs.Common.{◌≡◌, ◌+◌, ◌<◌, ◌^◌, drop}
 use Rattle.ops_base.specs.Valid.{specificity}
 use Rattle.ops_check.proofs.ends.specificity.Given as goal
 
-abbrev pub invariant-loop-condition : goal.invariant-loop-condition
-invariant-loop-condition l =
-    (l.total + specificity (drop l.condition-index l.conditions) ≡ specificity l.conditions) × (l.total < 2 ^ 32)
+abbrev pub invariant-loop-part : goal.invariant-loop-part
+invariant-loop-part l =
+    (l.total + specificity (drop l.part-index l.parts) ≡ specificity l.parts) × (l.total < 2 ^ 32)

@@ -1,5 +1,5 @@
 use Rattle.std.proofs.Common.{◌-◌, ◌∙◌, sym, subst, refl, length, List, arith}
-use Rattle.ops_base.specs.declared.conditions.Condition.{Condition}
+use Rattle.ops_base.specs.declared.conditions.Part.{Part}
 use Rattle.ops_grammar.specs.declared.words.Word.{Word}
 use Rattle.ops_forms.specs.declared.scope.Scope.{Scope}
 use Rattle.ops_forms.specs.PlaceWalks.{words_of_scope}
@@ -36,7 +36,7 @@ returns-in-Ok-clause-ok c =
     let behind = subst (λ (ws : List Word). AreBehindArrow ws rest) made c.in-Ok.ensures.behind in
     let reads = subst (λ (ws : List Word). ReadsLeft scope.classes ws rest side.conditions.items side.values side.elements side.variables) made c.in-Ok.ensures.ok in
     let names = c.in_ok-words.ensures.names ∙ names_made scope tokens from c.as_slice.result.now c.as_slice.ensures.value in
-    subst (λ (cs : List Condition). IsLeftSide scope c.show.new.scope tokens from cs place) (sym c.in_ok-conditions-in-Ok.ensures.conditions)
+    subst (λ (cs : List Part). IsLeftSide scope c.show.new.scope tokens from cs place) (sym c.in_ok-conditions-in-Ok.ensures.conditions)
     (subst (λ (new : Scope). IsLeftSide scope new tokens from side.conditions.items place) (sym c.in_ok-conditions-in-Ok.ensures.ok)
     (left_side_is scope tokens from rest c.requires.within behind _ side.conditions.items reads names refl refl))
 

@@ -1,4 +1,5 @@
-use Rattle.std.proofs.Common.{◌∙◌, ap, arith, map, w64, SFits, rules}
+use Rattle.std.proofs.Common.{◌∙◌, ap, arith, map, SFits, rules}
+use Rattle.std.specs.Int.{w128}
 use Rattle.std.proofs.lemmas.Result.{err_from_is_err_and}
 use Rattle.std.proofs.lemmas.Int.{to_z-of_z}
 use Rattle.ops_tokens.specs.Accepting.{shown}
@@ -13,7 +14,7 @@ returns-in_err-bytes-clause-accepts g c =
 pub returns-in-Some-clause-accepts : goal.returns-in-Some-clause-accepts
 returns-in-Some-clause-accepts g c =
     let number = rw c.deref.ensures.value at c.in-Some.ensures in
-    let fits : SFits w64 c.in-Some.number = search rules in
+    let fits : SFits w128 c.in-Some.number = search rules in
     simp to_z-of_z (run_accepts _ _ _ _ _ _ c.in_ok-bytes.bytes.items c.requires.first c.in_ok-bytes.ensures.0 c.in_ok-bytes.ensures.1 (gives_number _ _ _ number))
 
 pub returns-clause-accepts : goal.returns-clause-accepts

@@ -13,12 +13,12 @@ pub returns-then-not-is_digit : goal.returns-then-not-is_digit
 returns-then-not-is_digit c =
     let spelled : c.loop-byte.value ≡ decimal (take_while is_digit c.args.bytes.now) =
     c.loop-byte.invariant.value ∙ sym (digits_end c.args.bytes.now c.loop-byte.byte-index (omega arith) c.loop-byte.invariant.digits (λ _. sym c.is_digit.ensures ∙ c.if-not-is_digit.true)) in
-    (subst (λ (n : ℕ). n < 2 ^ 64) spelled c.loop-byte.invariant.fits, spelled)
+    (subst (λ (n : ℕ). n < 2 ^ 128) spelled c.loop-byte.invariant.fits, spelled)
 
 pub returns-in_err-value : goal.returns-in_err-value
 returns-in_err-value c =
     rw c.from_residual.ensures
-    (too_large c.args.bytes.now c.loop-byte.byte-index (2 ^ 64) c.loop-byte-test.true c.loop-byte.invariant.digits (sym c.is_digit.ensures ∙ c.if-not-is_digit.false)
+    (too_large c.args.bytes.now c.loop-byte.byte-index (2 ^ 128) c.loop-byte-test.true c.loop-byte.invariant.digits (sym c.is_digit.ensures ∙ c.if-not-is_digit.false)
     (λ below. c.in_err-value.ensures (rw c.loop-byte.invariant.value below)))
 
 pub loop-byte-preserved : goal.loop-byte-preserved
@@ -32,4 +32,4 @@ pub returns : goal.returns
 returns c =
     let spelled : c.loop-byte.value ≡ decimal (take_while is_digit c.args.bytes.now) =
     c.loop-byte.invariant.value ∙ sym (digits_end c.args.bytes.now c.loop-byte.byte-index (omega arith) c.loop-byte.invariant.digits (λ lt. absurd (omega arith))) in
-    (subst (λ (n : ℕ). n < 2 ^ 64) spelled c.loop-byte.invariant.fits, spelled)
+    (subst (λ (n : ℕ). n < 2 ^ 128) spelled c.loop-byte.invariant.fits, spelled)

@@ -1,57 +1,67 @@
-use Rattle.std.proofs.Common.{Err, refl}
-use Rattle.ops_io.specs.declared.stop.Stop.TheVariants as stop
+use Rattle.std.proofs.Common.{◌≡◌, Err, refl, sym, ap, ◌∙◌}
+use Rattle.ops_jobs.specs.CommandLine.{job_of}
 use Rattle.ops_jobs.specs.Words.{word_bytes}
-use Rattle.ops_top.specs.Whole.{Reply, files_of}
-use Rattle.ops_top.specs.Told.{Delivers}
-use Rattle.ops_top.proofs.Deliveries.{untold}
-use Rattle.ops_top.proofs.FilesAnswered.{short_deliver, also_quiet}
-use Rattle.ops_top.proofs.Answering.{whole_answers, whole_answers_quietly, whole_tells_write, whole_fits_words, unfit_answers, runs_to_end}
-use Rattle.ops_top.proofs.Loads.{none_broken}
+use Rattle.ops_top.specs.Jobs.{shelved}
+use Rattle.ops_top.proofs.Called.{called}
+use Rattle.ops_top.proofs.Runs.{words_run, unfit_run, job_waits, unfit_waits}
 use Rattle.ops_top.proofs.WholeGoes.{whole_goes}
 use Rattle.ops_top.proofs.top.still_run.Goals as goal
 
-pub returns-in-Ok-false-clause-write : goal.returns-in-Ok-false-clause-write
-returns-in-Ok-false-clause-write g c =
-    rw c.status_after.ensures (whole_tells_write c.run_alone-told.result (word_bytes c.args.words.now) _ _ _ _ _ _ _ _ _ c.run_alone-told.ensures.delivers)
+pub returns-else-asks_to_wait : goal.returns-else-asks_to_wait
+returns-else-asks_to_wait g c =
+    let ws = word_bytes c.args.words.now in
+    let run = words_run (job_of ws) c.in-Ok.job c.run_still-outcome.result (g.H.Shelf.told c.args.shelf.now) _ _ _ _ _ c.in-Ok.ensures.fits c.run_still-outcome.ensures.runs in
+    let p = called ws c.run_still-outcome.result _ _ _ _ _ _ run c.status_after.result c.status_after.ensures in
+    record {
+      none = λ is. absurd (cc);
+      some = λ waits. job_waits (job_of ws) c.in-Ok.job _ c.in-Ok.ensures.fits (sym c.asks_to_wait.ensures ∙ c.if-asks_to_wait.false) waits;
+      nothing = λ is. absurd (cc);
+      answers = p.answers;
+      sets = whole_goes ws;
+      write = p.write;
+      reads = p.reads;
+      unread = p.unread;
+      words = p.words;
+      usage = p.usage;
+      names = p.names;
+      unasked = p.unasked;
+      told = c.run_still-outcome.ensures.told;
+      input = p.input;
+      quiet = p.quiet;
+      untouched = p.untouched;
+      refused = p.refused;
+      unloaded = p.unloaded;
+      complete = p.complete;
+    }
 
-pub returns-in-Ok-false-clause-answers : goal.returns-in-Ok-false-clause-answers
-returns-in-Ok-false-clause-answers g c =
-    rw c.status_after.ensures (whole_answers c.run_alone-told.result (word_bytes c.args.words.now) _ _ _ _ _ _ _ _ _ c.run_alone-told.ensures.delivers)
+pub returns-then-asks_to_wait-clause-sets : goal.returns-then-asks_to_wait-clause-sets
+returns-then-asks_to_wait-clause-sets g c = whole_goes (word_bytes c.args.words.now)
 
-pub returns-in-Ok-false-clause-words : goal.returns-in-Ok-false-clause-words
-returns-in-Ok-false-clause-words g c =
-    rw c.status_after.ensures (whole_fits_words c.run_alone-told.result (word_bytes c.args.words.now) _ _ _ _ _ _ _ _ _ c.run_alone-told.ensures.delivers)
-
-pub returns-in-Ok-false-clause-usage : goal.returns-in-Ok-false-clause-usage
-returns-in-Ok-false-clause-usage g c =
-    rw c.status_after.ensures (unfit_answers c.run_alone-told.result (word_bytes c.args.words.now) _ _ _ _ _ _ _ _ _ c.run_alone-told.ensures.delivers)
-
-pub returns-in-Ok-false-clause-complete : goal.returns-in-Ok-false-clause-complete
-returns-in-Ok-false-clause-complete g c =
-    rw c.status_after.ensures
-    (λ through same inputs sinks. runs_to_end _ (word_bytes c.args.words.now) _ _ _ _
-    (whole_tells_write c.run_alone-told.result (word_bytes c.args.words.now) _ _ _ _ _ _ _ _ _ c.run_alone-told.ensures.delivers) sinks _ _ _ _ _ _ (none_broken _ _ _ _ same) inputs
-    (whole_answers c.run_alone-told.result (word_bytes c.args.words.now) _ _ _ _ _ _ _ _ _ c.run_alone-told.ensures.delivers) through)
-
-pub returns-in-Ok-false-clause-sets : goal.returns-in-Ok-false-clause-sets
-returns-in-Ok-false-clause-sets g c = whole_goes (word_bytes c.args.words.now)
-
-pub returns-in-Ok-true-clause-sets : goal.returns-in-Ok-true-clause-sets
-returns-in-Ok-true-clause-sets g c = whole_goes (word_bytes c.args.words.now)
-
-pub returns-in-Err-clause-sets : goal.returns-in-Err-clause-sets
-returns-in-Err-clause-sets g c = whole_goes (word_bytes c.args.words.now)
-
-pub returns-in-Ok-false-clause-quiet : goal.returns-in-Ok-false-clause-quiet
-returns-in-Ok-false-clause-quiet g c =
-    rw c.status_after.ensures (whole_answers_quietly c.run_alone-told.result (word_bytes c.args.words.now) _ _ _ _ _ _ _ _ _ _ _ c.run_alone-told.ensures.quiet)
-
-pub returns-in-Err-clause-answers : goal.returns-in-Err-clause-answers
-returns-in-Err-clause-answers g c =
-    let D : Reply → Type 0 = λ o. Delivers (Err stop.OutOfMemory) o (g.K.Sink.taken c.args.sink.now) (g.K.Sink.faults c.args.sink.now) (g.K.Sink.taken c.args.sink.now) (g.K.Sink.faults c.args.sink.now) in
-    whole_answers (Err stop.OutOfMemory) (word_bytes c.args.words.now) _ _ _ _ _ _ _ _ _
-    (short_deliver (word_bytes c.args.words.now) (g.H.Shelf.told c.args.shelf.now) _ _ _ D (λ o. untold o (g.K.Sink.taken c.args.sink.now) (g.K.Sink.faults c.args.sink.now)))
-
-pub returns-in-Err-clause-quiet : goal.returns-in-Err-clause-quiet
-returns-in-Err-clause-quiet g c =
-    also_quiet _ _ _ (g.H.Shelf.told c.args.shelf.now) (files_of (word_bytes c.args.words.now)) refl (returns-in-Err-clause-answers g c)
+pub returns-in-Err : goal.returns-in-Err
+returns-in-Err g c =
+    let ws = word_bytes c.args.words.now in
+    let run =
+    unfit_run (job_of ws) c.say_unfit.result (g.H.Shelf.told c.args.shelf.now) (c.args.input.now ≡ c.args.input.now) (shelved (g.H.Shelf.names c.args.shelf.now) (g.H.Shelf.faults c.args.shelf.now)) (g.I.Source.left c.args.input.now) _ _
+    (g.I.Source.faults c.args.input.now) _ _ c.in-Err.fault (λ is. c.in-Err.ensures.usage (ap Err is)) c.say_unfit.ensures.delivers refl in
+    let p = called ws c.say_unfit.result _ _ _ _ _ _ run c.status_after-in-Err.result c.status_after-in-Err.ensures in
+    record {
+      none = λ is. absurd (cc);
+      some = λ waits. c.status_after-in-Err.ensures ∙ unfit_waits (job_of ws) c.say_unfit.result c.in-Err.fault (λ is. c.in-Err.ensures.usage (ap Err is)) c.say_unfit.ensures.short waits;
+      nothing = λ is. absurd (cc);
+      answers = p.answers;
+      sets = whole_goes ws;
+      write = p.write;
+      reads = p.reads;
+      unread = p.unread;
+      words = p.words;
+      usage = p.usage;
+      names = p.names;
+      unasked = p.unasked;
+      told = λ n. refl;
+      input = p.input;
+      quiet = p.quiet;
+      untouched = p.untouched;
+      refused = p.refused;
+      unloaded = p.unloaded;
+      complete = p.complete;
+    }

@@ -1,5 +1,5 @@
 use Rattle.std.specs.Prelude.{IsTrue}
-use Rattle.run_laws.proofs.Seen.{test_seen, condition_seen, action_seen, firing_seen}
+use Rattle.run_laws.proofs.Seen.{test_seen, condition_seen, member_seen, action_seen, firing_seen}
 use Rattle.run_laws.proofs.laws.nothing_is_passed_over.Goals as goal
 
 pub returns-clause-tests : goal.returns-clause-tests
@@ -7,6 +7,9 @@ returns-clause-tests c = test_seen
 
 pub returns-clause-conditions : goal.returns-clause-conditions
 returns-clause-conditions c = condition_seen
+
+pub returns-clause-members : goal.returns-clause-members
+returns-clause-members c = member_seen
 
 pub returns-clause-actions : goal.returns-clause-actions
 returns-clause-actions c = λ test. action_seen (λ a d. IsTrue (test a d))

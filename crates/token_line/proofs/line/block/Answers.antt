@@ -5,7 +5,7 @@ use Rattle.std.proofs.lemmas.Cmp.{nat_eq_equiv}
 use Rattle.indexmap.specs.IndexMap.{set_value_at}
 use Rattle.work_store.specs.Stored.{held_of}
 use Rattle.net_base.specs.declared.tasks.Side.TheVariants.{Left}
-use Rattle.net_base.specs.Tokens.{joins_hold}
+use Rattle.net_base.specs.Tokens.{goes_with}
 use Rattle.token_line.specs.Bags.{are_same_sides}
 use Rattle.token_line.specs.Codes.{cell_blocked, memory_of, tokens_of}
 use Rattle.token_line.specs.Pairs.{cell_of}
@@ -29,7 +29,7 @@ returns-in-Some c = λ n k s t.
     let place = c.in-Some.place in
     let new = c.block.new.self in
     let was = c.value_mut.result.now in
-    let matches = joins_hold c.args.tests.now (held_of c.args.store.now) t c.args.tag in
+    let matches = goes_with c.args.of.now.kind c.args.of.now.joins (held_of c.args.store.now) t c.args.right.now in
     let here = (k == c.args.code) && are_same_sides s Left in
     let is = sym c.find.ensures ∙ c.in-Some.is in
     let at = found_at (nat_eq c.args.node) old place was is c.value_mut.ensures.value in
@@ -41,7 +41,7 @@ returns-in-Some c = λ n k s t.
 pub returns-in_default : goal.returns-in_default
 returns-in_default c = λ n k s t.
     let old = c.args.memories.now in
-    let matches = joins_hold c.args.tests.now (held_of c.args.store.now) t c.args.tag in
+    let matches = goes_with c.args.of.now.kind c.args.of.now.joins (held_of c.args.store.now) t c.args.right.now in
     let here = (k == c.args.code) && are_same_sides s Left in
     keep_seen (λ q. lookup (nat_eq q) old) (λ q. lookup (nat_eq q) old) c.args.node n (λ o. cell_of (tokens_of (memory_of o k) s) t)
     (λ h o. cell_blocked h matches c.args.plus o) (same_where_not matches c.args.plus) here

@@ -1,6 +1,6 @@
 use Rattle.std.proofs.Common.{◌++◌, ◌∙◌, ap, sym, subst, List}
 use Rattle.std.proofs.lemmas.Result.{err_from_is_err_and}
-use Rattle.ops_base.specs.declared.conditions.Condition.{Condition}
+use Rattle.ops_base.specs.declared.conditions.Part.{Part}
 use Rattle.ops_base.specs.Valid.{cells_of}
 use Rattle.ops_lhs.specs.LeftSides.{left_read}
 use Rattle.ops_rhs.specs.declared.sides.Sight.{Sight}
@@ -17,7 +17,7 @@ returns-clause-reads c =
     let right = c.in_ok-right.right in
     let reads = subst (λ (x : Sight). ReadsRight s.classes x c.args.words.now c.in_ok-right.rest.now right.actions.items right.sight) c.in_ok-conditions.ensures.sight c.in_ok-right.ensures.ok in
     right_is_read s conditions left.values left.elements left.variables c.requires.begun c.args.words.now c.in_ok-right.rest.now right.actions.items right.sight reads (view c.end_rule.new.self) c.word_before-bracket.result c.word_before-bracket.ensures
-    c.in_ok-conditions.conditions.items c.in_ok-conditions.ensures.conditions (c.in_ok-end_rule.ensures reads.further (reads.cells ∙ ap (λ (cs : List Condition). cells_of cs ++ reads.further) (sym c.in_ok-conditions.ensures.conditions)))
+    c.in_ok-conditions.conditions.items c.in_ok-conditions.ensures.conditions (c.in_ok-end_rule.ensures reads.further (reads.cells ∙ ap (λ (cs : List Part). cells_of cs ++ reads.further) (sym c.in_ok-conditions.ensures.conditions)))
 
 pub returns-in_err-right-clause-reads : goal.returns-in_err-right-clause-reads
 returns-in_err-right-clause-reads c =

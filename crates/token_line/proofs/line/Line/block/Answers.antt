@@ -1,6 +1,6 @@
 -- Each token keeps its sum and its code, and the left ones that the right token matches have one blocker more, or one less.
 use Rattle.std.proofs.Common.{◌<◌, ◌-◌, ◌^◌, subst}
-use Rattle.net_base.specs.Tokens.{joins_hold}
+use Rattle.net_base.specs.Tokens.{goes_with}
 use Rattle.net_base.specs.declared.tasks.Side.TheVariants.{Left}
 use Rattle.work_store.specs.Stored.{held_of}
 use Rattle.token_line.specs.Codes.{filed_among}
@@ -20,9 +20,9 @@ block-requires c = record {
 pub returns-clause-blockers : goal.returns-clause-blockers
 returns-clause-blockers c =
     block_numbers c.args.plus c.args.self.now.memories c.block.new.memories c.args.self.now.apart c.args.node c.args.code
-    (λ t. joins_hold c.args.tests.now (held_of c.args.store.now) t c.args.tag) c.block.ensures c.requires.code
+    (λ t. goes_with c.args.of.now.kind c.args.of.now.joins (held_of c.args.store.now) t c.args.right.now) c.block.ensures c.requires.code
 
 pub returns-clause-sums : goal.returns-clause-sums
 returns-clause-sums c =
     block_sums c.args.plus c.args.self.now.memories c.block.new.memories c.args.self.now.apart c.args.node c.args.code
-    (λ t. joins_hold c.args.tests.now (held_of c.args.store.now) t c.args.tag) c.block.ensures
+    (λ t. goes_with c.args.of.now.kind c.args.of.now.joins (held_of c.args.store.now) t c.args.right.now) c.block.ensures
