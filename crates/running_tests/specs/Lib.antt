@@ -1,0 +1,2 @@
+-- What the matcher of the tests finds.
+pub mod Quiet

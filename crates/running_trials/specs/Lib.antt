@@ -1,2 +1,0 @@
--- What the matcher of the trials finds.
-pub mod Quiet
