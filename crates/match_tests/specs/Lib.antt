@@ -1,5 +1,2 @@
 -- The networks of the tests.
-pub mod OneGroup
-pub mod OneJoin
-pub mod OneNegated
-pub mod TwoJoins
+pub mod Networks

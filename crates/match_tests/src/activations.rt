@@ -2,34 +2,18 @@
 ghost use Rattle.std.specs.Prelude.{◌≡◌, IfOk, IsSome};
 ghost use Rattle.work_store.specs.Stored.{held_of};
 ghost use Rattle.activation.specs.Acting.{IsCounted};
-ghost use Rattle.match_tests.specs.OneJoin.{one_join};
-ghost use Rattle.match_tests.specs.OneNegated.{one_negated};
+ghost use Rattle.match_tests.specs.Networks.{one_join, one_negated};
 
+use crate::networks::{element, one_join, one_negated};
 use activation::activate;
 use net_base::net::Net;
-use net_base::nodes::{Alpha, Kind, Node};
 use net_base::tags::Tags;
 use net_base::tasks::{Side, Task};
-use ops_base::elements::Element;
-use ops_base::list::Listed;
 use ops_base::memory::OutOfMemory;
-use ops_base::values::Value;
 use std::alloc::Global;
 use std::test::Fail;
 use token_line::Line;
 use work_store::Store;
-
-// an element with one field
-fn element(alloc: Global, tag: u64, value: i128) -> Result<Element, OutOfMemory>
-    ensures { IfOk result (λ e. e.tag ≡ tag) }
-{
-    let fields = Listed::from_array(alloc, [Value::Whole(value)])?;
-    Ok(Element {
-        tag,
-        class: 0,
-        fields,
-    })
-}
 
 // a token arrives or leaves at a node
 pub(crate) fn task(
@@ -50,44 +34,11 @@ pub(crate) fn task(
     })
 }
 
-// a join at the root, of elements of class 0, with a terminal below
-fn net_of_one_join(alloc: Global) -> Result<Net, OutOfMemory>
-    ensures { IfOk result (λ net. net.nodes ≡ one_join) }
-{
-    let alpha = Alpha {
-        class: 0,
-        tests: Listed::new(alloc),
-    };
-    let join = Node {
-        kind: Kind::Join,
-        parent: None,
-        class: 0,
-        alpha: 0,
-        joins: Listed::new(alloc),
-        children: Listed::from_array(alloc, [1])?,
-        rights: Listed::new(alloc),
-        depth: 1,
-    };
-    let terminal = Node {
-        kind: Kind::Terminal { rule: 0 },
-        parent: Some(0),
-        class: 0,
-        alpha: 0,
-        joins: Listed::new(alloc),
-        children: Listed::new(alloc),
-        rights: Listed::new(alloc),
-        depth: 2,
-    };
-    let alphas = Listed::from_array(alloc, [alpha])?;
-    let nodes = Listed::from_array(alloc, [join, terminal])?;
-    Net::new(alloc, alphas, nodes)
-}
-
 fn store_of_one(alloc: Global) -> Result<Store, OutOfMemory>
     ensures { IfOk result (λ s. IsSome (held_of s 1)) }
 {
     let mut store = Store::new(alloc);
-    store.add(element(alloc, 1, 40)?)?;
+    store.add(element(alloc, 1, 0)?)?;
     Ok(store)
 }
 
@@ -120,7 +71,7 @@ fn arrive(
 
 #[test]
 fn a_join_at_work(rt: HostRuntime) -> Result<(), Fail> {
-    let net = net_of_one_join(rt.alloc())?;
+    let net = one_join(rt.alloc())?;
     let store = store_of_one(rt.alloc())?;
     let mut line = Line::new(rt.alloc(), 0);
     let mut out = Vec::new(rt.alloc());
@@ -176,58 +127,15 @@ fn a_join_at_work(rt: HostRuntime) -> Result<(), Fail> {
     Ok(())
 }
 
-// a join at the root, a negated node below it, and a terminal below that one
-fn net_of_one_negated(alloc: Global) -> Result<Net, OutOfMemory>
-    ensures { IfOk result (λ net. net.nodes ≡ one_negated) }
-{
-    let alpha = Alpha {
-        class: 0,
-        tests: Listed::new(alloc),
-    };
-    let join = Node {
-        kind: Kind::Join,
-        parent: None,
-        class: 0,
-        alpha: 0,
-        joins: Listed::new(alloc),
-        children: Listed::from_array(alloc, [1])?,
-        rights: Listed::new(alloc),
-        depth: 1,
-    };
-    let negated = Node {
-        kind: Kind::Negated,
-        parent: Some(0),
-        class: 0,
-        alpha: 0,
-        joins: Listed::new(alloc),
-        children: Listed::from_array(alloc, [2])?,
-        rights: Listed::new(alloc),
-        depth: 2,
-    };
-    let terminal = Node {
-        kind: Kind::Terminal { rule: 0 },
-        parent: Some(1),
-        class: 0,
-        alpha: 0,
-        joins: Listed::new(alloc),
-        children: Listed::new(alloc),
-        rights: Listed::new(alloc),
-        depth: 3,
-    };
-    let alphas = Listed::from_array(alloc, [alpha])?;
-    let nodes = Listed::from_array(alloc, [join, negated, terminal])?;
-    Net::new(alloc, alphas, nodes)
-}
-
 fn store_of_three(alloc: Global) -> Result<Store, OutOfMemory>
     ensures first { IfOk result (λ s. IsSome (held_of s 1)) }
     ensures second { IfOk result (λ s. IsSome (held_of s 2)) }
     ensures third { IfOk result (λ s. IsSome (held_of s 3)) }
 {
     let mut store = Store::new(alloc);
-    store.add(element(alloc, 1, 40)?)?;
-    store.add(element(alloc, 2, 40)?)?;
-    store.add(element(alloc, 3, 40)?)?;
+    store.add(element(alloc, 1, 0)?)?;
+    store.add(element(alloc, 2, 0)?)?;
+    store.add(element(alloc, 3, 0)?)?;
     Ok(store)
 }
 
@@ -279,7 +187,7 @@ fn come_and_go(
 
 #[test]
 fn a_negated_node_at_work(rt: HostRuntime) -> Result<(), Fail> {
-    let net = net_of_one_negated(rt.alloc())?;
+    let net = one_negated(rt.alloc())?;
     let store = store_of_three(rt.alloc())?;
     let mut out = Vec::new(rt.alloc());
     let numbers = come_and_go(rt.alloc(), &net, &store, &mut out)?;

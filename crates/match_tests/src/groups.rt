@@ -2,121 +2,22 @@
 ghost use Rattle.std.specs.Prelude.{◌≡◌, ◌≤◌, IfOk, IsSome, Some};
 ghost use Rattle.work_store.specs.Stored.{held_of};
 ghost use Rattle.activation.specs.Acting.{IsCounted};
-ghost use Rattle.match_tests.specs.OneGroup.{first_join, first_member, group_of_two, one_group, second_member, terminal_below};
-ghost use Rattle.match_tests.specs.TwoJoins.{element_of};
+ghost use Rattle.match_tests.specs.Networks.{element_of, one_group};
 ghost use Rattle.step_core.specs.Worlds.{IsReady};
 
 use crate::activations::task;
-use crate::worlds::{alpha, come, settle, store_of_two, take};
+use crate::networks::{one_group, store_of_two};
+use crate::worlds::{come, settle, take};
 use activation::activate;
 use net_base::net::Net;
-use net_base::nodes::{Kind, Node};
 use net_base::tasks::{Side, Task};
 use ops_base::elements::Change;
-use ops_base::list::Listed;
 use ops_base::memory::OutOfMemory;
 use std::alloc::Global;
 use std::test::Fail;
 use step_core::world::{Step, World};
 use token_line::{Line, line_of};
 use work_store::Store;
-
-fn first_join(alloc: Global) -> Result<Node, OutOfMemory>
-    ensures { IfOk result (λ x. x ≡ first_join) }
-{
-    Ok(Node {
-        kind: Kind::Join,
-        parent: None,
-        class: 0,
-        alpha: 0,
-        joins: Listed::new(alloc),
-        children: Listed::from_array(alloc, [1, 3])?,
-        rights: Listed::new(alloc),
-        depth: 1,
-    })
-}
-
-fn first_member(alloc: Global) -> Result<Node, OutOfMemory>
-    ensures { IfOk result (λ x. x ≡ first_member) }
-{
-    Ok(Node {
-        kind: Kind::Join,
-        parent: Some(0),
-        class: 1,
-        alpha: 1,
-        joins: Listed::new(alloc),
-        children: Listed::from_array(alloc, [2])?,
-        rights: Listed::new(alloc),
-        depth: 2,
-    })
-}
-
-fn second_member(alloc: Global) -> Result<Node, OutOfMemory>
-    ensures { IfOk result (λ x. x ≡ second_member) }
-{
-    Ok(Node {
-        kind: Kind::Join,
-        parent: Some(1),
-        class: 1,
-        alpha: 1,
-        joins: Listed::new(alloc),
-        children: Listed::new(alloc),
-        rights: Listed::from_array(alloc, [3])?,
-        depth: 3,
-    })
-}
-
-fn group_of_two(alloc: Global) -> Result<Node, OutOfMemory>
-    ensures { IfOk result (λ x. x ≡ group_of_two) }
-{
-    Ok(Node {
-        kind: Kind::Group {
-            giver: 2,
-            width: 1,
-            members: 2,
-        },
-        parent: Some(0),
-        class: 0,
-        alpha: 0,
-        joins: Listed::new(alloc),
-        children: Listed::from_array(alloc, [4])?,
-        rights: Listed::new(alloc),
-        depth: 4,
-    })
-}
-
-fn terminal_below(alloc: Global) -> Node
-    ensures { result ≡ terminal_below }
-{
-    Node {
-        kind: Kind::Terminal { rule: 0 },
-        parent: Some(3),
-        class: 0,
-        alpha: 0,
-        joins: Listed::new(alloc),
-        children: Listed::new(alloc),
-        rights: Listed::new(alloc),
-        depth: 5,
-    }
-}
-
-// `(p x (a) - { (b) (b) } -->)`
-fn net_of_one_group(alloc: Global) -> Result<Net, OutOfMemory>
-    ensures { IfOk result (λ net. net.nodes ≡ one_group) }
-{
-    let alphas = Listed::from_array(alloc, [alpha(alloc, 0), alpha(alloc, 1)])?;
-    let nodes = Listed::from_array(
-        alloc,
-        [
-            first_join(alloc)?,
-            first_member(alloc)?,
-            second_member(alloc)?,
-            group_of_two(alloc)?,
-            terminal_below(alloc),
-        ],
-    )?;
-    Net::new(alloc, alphas, nodes)
-}
 
 // the token of element 1 arrives at the left of the group, or leaves it
 fn left_token(
@@ -199,7 +100,7 @@ fn come_and_go(
 
 #[test]
 fn a_token_that_is_covered_twice_waits_for_both(rt: HostRuntime) -> Result<(), Fail> {
-    let net = net_of_one_group(rt.alloc())?;
+    let net = one_group(rt.alloc())?;
     let store = store_of_two(rt.alloc())?;
     let mut out = Vec::new(rt.alloc());
     let numbers = come_and_go(rt.alloc(), &net, &store, &mut out)?;
@@ -250,7 +151,7 @@ fn cancel(
 
 #[test]
 fn deletes_before_their_inserts_cancel(rt: HostRuntime) -> Result<(), Fail> {
-    let net = net_of_one_group(rt.alloc())?;
+    let net = one_group(rt.alloc())?;
     let store = store_of_two(rt.alloc())?;
     let mut out = Vec::new(rt.alloc());
     let numbers = cancel(rt.alloc(), &net, &store, &mut out)?;
@@ -267,12 +168,7 @@ fn standing(alloc: Global, net: &Net, store: &Store, world: &World) -> Result<i6
 }
 
 // so many lines, and element 1 has come
-fn world_of_one(
-    alloc: Global,
-    net: &Net,
-    store: &Store,
-    lines: usize,
-) -> Result<World, OutOfMemory>
+fn world_of_one(alloc: Global, net: &Net, store: &Store, lines: usize) -> Result<World, OutOfMemory>
     requires some { 1 ≤ lines }
     requires held { held_of store.now 1 ≡ Some (element_of 1 0) }
     ensures { IfOk result (λ w. IsReady net.now.nodes store.now w) }
@@ -312,12 +208,7 @@ fn second_goes(
 }
 
 // how often the token stands before element 2 comes, while it is there, and once it has gone
-fn numbers(
-    alloc: Global,
-    net: &Net,
-    store: &Store,
-    lines: usize,
-) -> Result<[i64; 3], OutOfMemory>
+fn numbers(alloc: Global, net: &Net, store: &Store, lines: usize) -> Result<[i64; 3], OutOfMemory>
     requires some { 1 ≤ lines }
     requires first { held_of store.now 1 ≡ Some (element_of 1 0) }
     requires second { held_of store.now 2 ≡ Some (element_of 2 1) }
@@ -332,7 +223,7 @@ fn numbers(
 
 #[test]
 fn one_line_and_many_agree(rt: HostRuntime) -> Result<(), Fail> {
-    let net = net_of_one_group(rt.alloc())?;
+    let net = one_group(rt.alloc())?;
     let store = store_of_two(rt.alloc())?;
     assert_eq!(rt; numbers(rt.alloc(), &net, &store, 1)?, [1, 0, 1]);
     assert_eq!(rt; numbers(rt.alloc(), &net, &store, 4)?, [1, 0, 1]);

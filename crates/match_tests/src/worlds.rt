@@ -1,111 +1,22 @@
 //! Worlds at work over a small network, with ample memory.
-ghost use Rattle.std.specs.Prelude.{◌≡◌, [], IfOk, Some, slice_get};
+ghost use Rattle.std.specs.Prelude.{◌≡◌, IfOk, Some};
 ghost use Rattle.work_store.specs.Stored.{held_of};
-ghost use Rattle.match_tests.specs.TwoJoins.{element_of, two_joins};
+ghost use Rattle.match_tests.specs.Networks.{element_of};
 ghost use Rattle.step_core.specs.Worlds.{IsReady, IsWithin};
 
+use crate::networks::{element, pair, store_of_two};
 use net_base::net::Net;
-use net_base::nodes::{Alpha, JoinTest, Kind, Node};
 use net_base::tags::Tags;
 use net_base::tasks::{Side, Task};
 use ops_base::elements::{Change, Element};
 use ops_base::list::Listed;
 use ops_base::memory::OutOfMemory;
-use ops_base::values::{Pred, Value};
+use ops_base::values::Value;
 use std::alloc::Global;
 use std::test::Fail;
 use step_core::world::{Step, World};
 use token_line::{code_of, line_of};
 use work_store::Store;
-
-pub(crate) fn element(alloc: Global, tag: u64, class: usize) -> Result<Element, OutOfMemory>
-    ensures { IfOk result (λ e. e ≡ element_of tag class) }
-{
-    let fields = Listed::from_array(alloc, [Value::Whole(7)])?;
-    Ok(Element { tag, class, fields })
-}
-
-pub(crate) fn alpha(alloc: Global, class: usize) -> Alpha
-    ensures { result ≡ record { class = class; tests = [] } }
-{
-    Alpha {
-        class,
-        tests: Listed::new(alloc),
-    }
-}
-
-fn first_join(alloc: Global) -> Result<Node, OutOfMemory>
-    ensures { IfOk result (λ x. slice_get two_joins 0 ≡ Some x) }
-{
-    Ok(Node {
-        kind: Kind::Join,
-        parent: None,
-        class: 0,
-        alpha: 0,
-        joins: Listed::new(alloc),
-        children: Listed::from_array(alloc, [1])?,
-        rights: Listed::new(alloc),
-        depth: 1,
-    })
-}
-
-fn second_join(alloc: Global) -> Result<Node, OutOfMemory>
-    ensures { IfOk result (λ x. slice_get two_joins 1 ≡ Some x) }
-{
-    let test = JoinTest {
-        field: 0,
-        pred: Pred::Eq,
-        place: 0,
-        other: 0,
-    };
-    Ok(Node {
-        kind: Kind::Join,
-        parent: Some(0),
-        class: 1,
-        alpha: 1,
-        joins: Listed::from_array(alloc, [test])?,
-        children: Listed::from_array(alloc, [2])?,
-        rights: Listed::new(alloc),
-        depth: 2,
-    })
-}
-
-fn terminal(alloc: Global) -> Node
-    ensures { slice_get two_joins 2 ≡ Some result }
-{
-    Node {
-        kind: Kind::Terminal { rule: 0 },
-        parent: Some(1),
-        class: 0,
-        alpha: 0,
-        joins: Listed::new(alloc),
-        children: Listed::new(alloc),
-        rights: Listed::new(alloc),
-        depth: 3,
-    }
-}
-
-fn net_of_two_joins(alloc: Global) -> Result<Net, OutOfMemory>
-    ensures { IfOk result (λ net. net.nodes ≡ two_joins) }
-{
-    let alphas = Listed::from_array(alloc, [alpha(alloc, 0), alpha(alloc, 1)])?;
-    let nodes = Listed::from_array(
-        alloc,
-        [first_join(alloc)?, second_join(alloc)?, terminal(alloc)],
-    )?;
-    Net::new(alloc, alphas, nodes)
-}
-
-// element 1 is of class 0, and element 2 of class 1
-pub(crate) fn store_of_two(alloc: Global) -> Result<Store, OutOfMemory>
-    ensures first { IfOk result (λ s. held_of s 1 ≡ Some (element_of 1 0)) }
-    ensures second { IfOk result (λ s. held_of s 2 ≡ Some (element_of 2 1)) }
-{
-    let mut store = Store::new(alloc);
-    store.add(element(alloc, 1, 0)?)?;
-    store.add(element(alloc, 2, 1)?)?;
-    Ok(store)
-}
 
 pub(crate) fn take(
     alloc: Global,
@@ -264,7 +175,7 @@ fn found(alloc: Global, net: &Net, store: &Store, world: &World) -> Result<i64, 
 
 #[test]
 fn two_elements_reach_the_terminal(rt: HostRuntime) -> Result<(), Fail> {
-    let net = net_of_two_joins(rt.alloc())?;
+    let net = pair(rt.alloc())?;
     let store = store_of_two(rt.alloc())?;
     let mut world = first_world(rt.alloc(), &net, &store)?;
     come(rt.alloc(), &net, &store, &mut world, 2, 1)?;
@@ -290,7 +201,7 @@ fn two_elements_reach_the_terminal(rt: HostRuntime) -> Result<(), Fail> {
 
 #[test]
 fn a_delete_before_its_insert_cancels(rt: HostRuntime) -> Result<(), Fail> {
-    let net = net_of_two_joins(rt.alloc())?;
+    let net = pair(rt.alloc())?;
     let store = store_of_two(rt.alloc())?;
     let mut world = first_world(rt.alloc(), &net, &store)?;
     take(
@@ -318,7 +229,7 @@ fn a_delete_before_its_insert_cancels(rt: HostRuntime) -> Result<(), Fail> {
 // The codes of the lines: 0 of the first join, 31 + 7 of the second one, and ((2 * 31) + 1) * 31 + 2 of the terminal.
 #[test]
 fn lines_with_entries_are_named(rt: HostRuntime) -> Result<(), Fail> {
-    let net = net_of_two_joins(rt.alloc())?;
+    let net = pair(rt.alloc())?;
     let store = store_of_two(rt.alloc())?;
     let mut world = first_world(rt.alloc(), &net, &store)?;
     come(rt.alloc(), &net, &store, &mut world, 2, 1)?;
@@ -350,7 +261,7 @@ fn code(alloc: Global, net: &Net, store: &Store, side: Side, tag: u64) -> Result
 
 #[test]
 fn equal_values_have_one_code(rt: HostRuntime) -> Result<(), Fail> {
-    let net = net_of_two_joins(rt.alloc())?;
+    let net = pair(rt.alloc())?;
     let store = store_of_two(rt.alloc())?;
     assert_eq!(rt; code(rt.alloc(), &net, &store, Side::Left, 1)?, 38);
     assert_eq!(rt; code(rt.alloc(), &net, &store, Side::Right, 2)?, 38);
@@ -372,7 +283,7 @@ fn wide_element(alloc: Global, tag: u64) -> Result<Element, OutOfMemory>
 
 #[test]
 fn a_code_goes_by_64_bits_of_a_value(rt: HostRuntime) -> Result<(), Fail> {
-    let net = net_of_two_joins(rt.alloc())?;
+    let net = pair(rt.alloc())?;
     let mut store = store_of_two(rt.alloc())?;
     store.add(wide_element(rt.alloc(), 3)?)?;
     assert_eq!(rt; code(rt.alloc(), &net, &store, Side::Right, 3)?, 38);
@@ -381,7 +292,7 @@ fn a_code_goes_by_64_bits_of_a_value(rt: HostRuntime) -> Result<(), Fail> {
 
 #[test]
 fn a_world_is_put_together_of_its_parts(rt: HostRuntime) -> Result<(), Fail> {
-    let net = net_of_two_joins(rt.alloc())?;
+    let net = pair(rt.alloc())?;
     let store = store_of_two(rt.alloc())?;
     let mut world = first_world(rt.alloc(), &net, &store)?;
     come(rt.alloc(), &net, &store, &mut world, 2, 1)?;

@@ -3,8 +3,6 @@
 
 mod engine;
 mod phases;
-#[cfg(test)]
-mod tests;
 
 pub use engine::SerialEngine;
 pub use phases::{do_changes, feed_all, settle, work_all};

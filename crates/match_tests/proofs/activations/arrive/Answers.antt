@@ -2,18 +2,17 @@
 use Rattle.std.proofs.Common.{◌≡◌, ℕ, Bool, List, [], ◌∷◌, IsSome, None, refl, sym, subst}
 use Rattle.std.proofs.lemmas.List.Elements.{All-cons, All-nil}
 use Rattle.work_store.specs.Stored.{Stored, held_of}
-use Rattle.net_base.specs.declared.nodes.Kind.TheVariants.{Join}
 use Rattle.net_base.specs.declared.nodes.Node.{Node}
 use Rattle.net_base.specs.declared.tasks.Side.{Side}
 use Rattle.net_base.specs.declared.tasks.Side.TheVariants.{Left, Right}
 use Rattle.net_base.specs.declared.tasks.Task.{Task}
 use Rattle.token_line.specs.Held.{Fits, TaskFits}
 use Rattle.token_line.proofs.Fitting.{fits_at}
-use Rattle.match_tests.specs.OneJoin.{one_join}
+use Rattle.match_tests.specs.Networks.{one_join, root_with}
 use Rattle.match_tests.proofs.activations.arrive.Goals as goal
 
 abbrev join : Node
-join = record { kind = Join; parent = None; class = 0; alpha = 0; joins = []; children = 1 ∷ []; rights = []; depth = 1 }
+join = root_with (1 ∷ [])
 
 left_fits : (s : Stored) → Fits one_join s 0 Left []
 left_fits s = fits_at one_join s 0 join refl Left [] refl (All-nil (λ tag. IsSome (held_of s tag)))

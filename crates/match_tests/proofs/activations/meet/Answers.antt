@@ -9,11 +9,11 @@ use Rattle.net_base.specs.declared.tasks.Side.TheVariants.{Left, Right}
 use Rattle.net_base.specs.declared.tasks.Task.{Task}
 use Rattle.token_line.specs.Held.{Fits, TaskFits, is_wide}
 use Rattle.token_line.proofs.Fitting.{fits_at}
-use Rattle.match_tests.specs.OneNegated.{one_negated}
+use Rattle.match_tests.specs.Networks.{one_negated, second_of}
 use Rattle.match_tests.proofs.activations.meet.Goals as goal
 
 abbrev negated : Node
-negated = record { kind = Negated; parent = Some 0; class = 0; alpha = 0; joins = []; children = 2 ∷ []; rights = []; depth = 2 }
+negated = second_of Negated 0 []
 
 one_wide : (side : Side) (tag : ℕ) → is_wide one_negated negated side (tag ∷ []) ≡ true
 one_wide Left tag = refl

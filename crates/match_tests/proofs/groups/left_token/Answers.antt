@@ -7,7 +7,7 @@ use Rattle.net_base.specs.declared.tasks.Side.TheVariants.{Left}
 use Rattle.net_base.specs.declared.tasks.Task.{Task}
 use Rattle.token_line.specs.Held.{Fits, TaskFits}
 use Rattle.token_line.proofs.Fitting.{fits_at}
-use Rattle.match_tests.specs.OneGroup.{group_of_two, one_group}
+use Rattle.match_tests.specs.Networks.{group_of_two, one_group}
 use Rattle.match_tests.proofs.groups.left_token.Goals as goal
 
 one_fits : (s : Stored) → IsSome (held_of s 1) → Fits one_group s 3 Left (1 ∷ [])

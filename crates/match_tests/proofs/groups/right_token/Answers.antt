@@ -7,7 +7,7 @@ use Rattle.net_base.specs.declared.tasks.Side.TheVariants.{Right}
 use Rattle.net_base.specs.declared.tasks.Task.{Task}
 use Rattle.token_line.specs.Held.{Fits, TaskFits}
 use Rattle.token_line.proofs.Fitting.{fits_at}
-use Rattle.match_tests.specs.OneGroup.{group_of_two, one_group}
+use Rattle.match_tests.specs.Networks.{group_of_two, one_group}
 use Rattle.match_tests.proofs.groups.right_token.Goals as goal
 
 three_fit : (s : Stored) (last : ℕ) → IsSome (held_of s 1) → IsSome (held_of s 2) → IsSome (held_of s last) → Fits one_group s 3 Right (1 ∷ 2 ∷ last ∷ [])

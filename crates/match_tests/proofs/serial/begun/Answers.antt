@@ -4,7 +4,7 @@ use Rattle.ops_base.specs.declared.elements.Change.{Change}
 use Rattle.ops_base.specs.declared.elements.Change.TheVariants.{Add}
 use Rattle.ops_base.specs.WorkingMemory.{done}
 use Rattle.work_store.specs.Stored.{Stored, nothing_stored}
-use Rattle.serial_engine.proofs.tests.begun.Goals as goal
+use Rattle.match_tests.proofs.serial.begun.Goals as goal
 
 -- where nothing is stored one element is added
 one_is_added : (s : Stored) (e f : Element) (cs : List Change) → s ≡ nothing_stored → cs ≡ Add e ∷ [] → e ≡ f → done s.elements cs ≡ f ∷ []

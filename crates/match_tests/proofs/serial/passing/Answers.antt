@@ -5,7 +5,7 @@ use Rattle.ops_base.specs.declared.elements.Change.TheVariants.{Add, Remove}
 use Rattle.ops_base.specs.WorkingMemory.{Lawful}
 use Rattle.ops_base.proofs.Members.{contains_from_member}
 use Rattle.work_store.specs.Stored.{Stored, nothing_stored}
-use Rattle.serial_engine.proofs.tests.passing.Goals as goal
+use Rattle.match_tests.proofs.serial.passing.Goals as goal
 
 -- where nothing is stored one element is added and removed
 one_comes_and_goes : (s : Stored) (e : Element) (cs : List Change) → s ≡ nothing_stored → e.tag ≡ 1 → cs ≡ Add e ∷ Remove 1 ∷ [] → Lawful s.elements s.last cs

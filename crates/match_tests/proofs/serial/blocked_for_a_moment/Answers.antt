@@ -7,7 +7,7 @@ use Rattle.ops_base.specs.declared.elements.Change.{Change}
 use Rattle.ops_base.specs.declared.elements.Change.TheVariants.{Add, Remove}
 use Rattle.ops_base.specs.WorkingMemory.{tags_of, Lawful}
 use Rattle.ops_base.proofs.Members.{contains_from_member}
-use Rattle.serial_engine.proofs.tests.blocked_for_a_moment.Goals as goal
+use Rattle.match_tests.proofs.serial.blocked_for_a_moment.Goals as goal
 
 -- beside one element a second is added and removed
 second_comes_and_goes : (wm : List Element) (e f : Element) (last : ℕ) (cs : List Change) → wm ≡ e ∷ [] → last ≡ 1 → f.tag ≡ 2 → cs ≡ Add f ∷ Remove 2 ∷ [] → Lawful wm last cs

@@ -1,0 +1,2 @@
+-- That networks of the tests are sound.
+pub mod Soundness
