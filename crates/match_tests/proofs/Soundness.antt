@@ -1,6 +1,6 @@
 -- A network is sound where a test of each of its nodes holds, and its last node is its one terminal. The test computes, so
 -- that a network that stands written out is sound by `refl`.
-use Rattle.std.proofs.Common.{◌≡◌, ℕ, zero, suc, ◌+◌, ◌<◌, ◌≤◌, Bool, true, false, not, ◌&&◌, ◌||◌, ◌==◌, ltb, leb, List, [], ◌∷◌, length, slice_get, bytes_eq, Option, Some, None, refl, sym, ap, subst, ◌∙◌, arith}
+use Rattle.std.proofs.Common.{◌≡◌, ℕ, zero, suc, ◌+◌, ◌<◌, ◌≤◌, Bool, true, false, not, ◌&&◌, ◌||◌, ◌==◌, ltb, leb, List, [], ◌∷◌, length, slice_get, bytes_eq, Option, Some, None, refl, sym, ap, subst, ◌∙◌, arith, true≢false}
 use Rattle.std.specs.List.{All}
 use Rattle.std.proofs.lemmas.Bool.{leb-true}
 use Rattle.std.proofs.lemmas.Bool.Decides.{Decides-eqb, Decides-ltb}
@@ -35,36 +35,36 @@ where_false false b h e = h
 
 -- ---- the parts of the test
 
-parent_before : ℕ → Option ℕ → Bool
+abbrev parent_before : ℕ → Option ℕ → Bool
 parent_before n None = true
 parent_before n (Some p) = ltb p n
 
-root_joins : Option ℕ → Kind → Bool
+abbrev root_joins : Option ℕ → Kind → Bool
 root_joins None k = is_join k
 root_joins (Some p) k = true
 
-has_class : Option Alpha → ℕ → Bool
+abbrev has_class : Option Alpha → ℕ → Bool
 has_class None c = false
 has_class (Some a) c = a.class == c
 
-are_placed : ℕ → List JoinTest → Bool
+abbrev are_placed : ℕ → List JoinTest → Bool
 are_placed w [] = true
 are_placed w (j ∷ js) = ltb j.place w && are_placed w js
 
-is_bare : Node → Bool
+abbrev is_bare : Node → Bool
 is_bare x = (length x.joins == 0) && ((x.class == 0) && (x.alpha == 0))
 
-is_end : Node → Bool
+abbrev is_end : Node → Bool
 is_end x = (length x.children == 0) && (length x.rights == 0)
 
-is_group : List Node → ℕ → Node → Kind → Bool
+abbrev is_group : List Node → ℕ → Node → Kind → Bool
 is_group nodes n x (Group g w m) = ltb g n && ((w == left_width nodes x.parent) && (leb 2 m && goes_up nodes m x.parent g))
 is_group nodes n x Join = true
 is_group nodes n x Negated = true
 is_group nodes n x (Terminal rule) = true
 
 -- node n is as it is to be; only the last one may be a terminal
-is_sound_at : List Alpha → List Node → ℕ → Node → Bool
+abbrev is_sound_at : List Alpha → List Node → ℕ → Node → Bool
 is_sound_at alphas nodes n x =
     (parent_before n x.parent && (root_joins x.parent x.kind && (x.depth == depth_above nodes (deepest x.kind x.parent) + 1)))
     && (((not (takes_elements x.kind) || has_class (slice_get alphas x.alpha) x.class) && (takes_elements x.kind || is_bare x))
@@ -72,12 +72,12 @@ is_sound_at alphas nodes n x =
     && ((not (is_terminal x.kind) || (is_end x && (n + 1 == length nodes)))
     && (bytes_eq x.children (children_below nodes (length nodes) n) && bytes_eq x.rights (rights_below nodes (length nodes) n)))))
 
-are_sound : List Alpha → List Node → ℕ → List Node → Bool
+abbrev are_sound : List Alpha → List Node → ℕ → List Node → Bool
 are_sound alphas nodes n [] = true
 are_sound alphas nodes n (x ∷ xs) = is_sound_at alphas nodes n x && are_sound alphas nodes (suc n) xs
 
 -- the test of a whole network
-pub passes : List Alpha → List Node → Bool
+abbrev pub passes : List Alpha → List Node → Bool
 passes alphas nodes = are_sound alphas nodes 0 nodes
 
 -- ---- what each part says
@@ -95,7 +95,7 @@ class_of None c h a e = absurd (cc)
 class_of (Some b) c h a e = let s : b ≡ a = cc in subst (λ (y : Alpha). y.class ≡ c) s ((Decides-eqb b.class c).0 h)
 
 there : (alphas : List Alpha) (n : ℕ) (o : Option Alpha) (c : ℕ) → slice_get alphas n ≡ o → has_class o c ≡ true → n < length alphas
-there alphas n None c at h = absurd (cc)
+there alphas n None c at h = absurd (true≢false (sym h))
 there alphas n (Some a) c at h = slice_get_within alphas n a at
 
 placed : (w : ℕ) (js : List JoinTest) → are_placed w js ≡ true → All (λ j. j.place < w) js
@@ -137,19 +137,19 @@ group_of nodes n x k h g w m e = group_parts nodes n x g w m (subst (λ z. is_gr
 -- ---- one node
 
 module _ (alphas : List Alpha) (nodes : List Node) (n : ℕ) (x : Node) (holds : is_sound_at alphas nodes n x ≡ true) where
-  up : Bool
+  abbrev up : Bool
   up = parent_before n x.parent && (root_joins x.parent x.kind && (x.depth == depth_above nodes (deepest x.kind x.parent) + 1))
 
-  fed : Bool
+  abbrev fed : Bool
   fed = (not (takes_elements x.kind) || has_class (slice_get alphas x.alpha) x.class) && (takes_elements x.kind || is_bare x)
 
-  tested : Bool
+  abbrev tested : Bool
   tested = are_placed (left_width nodes x.parent) x.joins && is_group nodes n x x.kind
 
-  given : Bool
+  abbrev given : Bool
   given = bytes_eq x.children (children_below nodes (length nodes) n) && bytes_eq x.rights (rights_below nodes (length nodes) n)
 
-  ending : Bool
+  abbrev ending : Bool
   ending = not (is_terminal x.kind) || (is_end x && (n + 1 == length nodes))
 
   up_holds : up ≡ true
@@ -189,20 +189,20 @@ module _ (alphas : List Alpha) (nodes : List Node) (n : ℕ) (x : Node) (holds :
   end_part : is_terminal x.kind ≡ true → (is_end x && (n + 1 == length nodes)) ≡ true
   end_part e = where_true (is_terminal x.kind) (is_end x && (n + 1 == length nodes)) ending_holds e
 
-  pub is_last : is_terminal x.kind ≡ true → n + 1 ≡ length nodes
+  is_last : is_terminal x.kind ≡ true → n + 1 ≡ length nodes
   is_last e = (Decides-eqb (n + 1) (length nodes)).0 (right_of (is_end x) (n + 1 == length nodes) (end_part e))
 
-  pub children_are : x.children ≡ children_below nodes (length nodes) n
+  children_are : x.children ≡ children_below nodes (length nodes) n
   children_are =
       (bytes_eq-Decides x.children (children_below nodes (length nodes) n)).0
       (left_of (bytes_eq x.children (children_below nodes (length nodes) n)) (bytes_eq x.rights (rights_below nodes (length nodes) n)) given_holds)
 
-  pub rights_are : x.rights ≡ rights_below nodes (length nodes) n
+  rights_are : x.rights ≡ rights_below nodes (length nodes) n
   rights_are =
       (bytes_eq-Decides x.rights (rights_below nodes (length nodes) n)).0
       (right_of (bytes_eq x.children (children_below nodes (length nodes) n)) (bytes_eq x.rights (rights_below nodes (length nodes) n)) given_holds)
 
-  pub sound_at : IsSoundAt alphas nodes n x
+  sound_at : IsSoundAt alphas nodes n x
   sound_at = record {
     parent = parent_of n x.parent (left_of (parent_before n x.parent) (root_joins x.parent x.kind && (x.depth == depth_above nodes (deepest x.kind x.parent) + 1)) up_holds);
     root = root_of x.parent x.kind (left_of (root_joins x.parent x.kind) (x.depth == depth_above nodes (deepest x.kind x.parent) + 1) root_part);
@@ -220,19 +220,21 @@ module _ (alphas : List Alpha) (nodes : List Node) (n : ℕ) (x : Node) (holds :
 -- ---- all nodes
 
 at_each : (alphas : List Alpha) (nodes : List Node) (k : ℕ) (xs : List Node) → are_sound alphas nodes k xs ≡ true
-    → (n : ℕ) (x : Node) → slice_get xs n ≡ Some x → is_sound_at alphas nodes (n + k) x ≡ true
+    → (n : ℕ) (x : Node) → slice_get xs n ≡ Some x → is_sound_at alphas nodes (k + n) x ≡ true
 at_each alphas nodes k [] h n x at = absurd (cc)
 at_each alphas nodes k (y ∷ ys) h zero x at =
     let s : y ≡ x = cc in
-    subst (λ z. is_sound_at alphas nodes k z ≡ true) s (left_of (is_sound_at alphas nodes k y) (are_sound alphas nodes (suc k) ys) h)
+    let first : k ≡ k + 0 = omega arith in
+    subst (λ m. is_sound_at alphas nodes m x ≡ true) first
+    (subst (λ z. is_sound_at alphas nodes k z ≡ true) s (left_of (is_sound_at alphas nodes k y) (are_sound alphas nodes (suc k) ys) h))
 at_each alphas nodes k (y ∷ ys) h (suc n) x at =
     let rest = right_of (is_sound_at alphas nodes k y) (are_sound alphas nodes (suc k) ys) h in
-    let same : n + suc k ≡ suc n + k = omega arith in
+    let same : suc k + n ≡ k + suc n = omega arith in
     subst (λ m. is_sound_at alphas nodes m x ≡ true) same (at_each alphas nodes (suc k) ys rest n x at)
 
 module _ (alphas : List Alpha) (nodes : List Node) (holds : passes alphas nodes ≡ true) where
   here : (n : ℕ) (x : Node) → slice_get nodes n ≡ Some x → is_sound_at alphas nodes n x ≡ true
-  here n x at = let same : n + 0 ≡ n = omega arith in subst (λ m. is_sound_at alphas nodes m x ≡ true) same (at_each alphas nodes 0 nodes holds n x at)
+  here n x at = let same : 0 + n ≡ n = omega arith in subst (λ m. is_sound_at alphas nodes m x ≡ true) same (at_each alphas nodes 0 nodes holds n x at)
 
   terminal_is : (x : Node) (k : ℕ) → x.kind ≡ Terminal k → is_terminal x.kind ≡ true
   terminal_is x k e = ap is_terminal e
