@@ -24,7 +24,8 @@ fn two_come<'a, R: Threads + Wait + Sync>(
     engine.settle_freely(rt, alloc, changes.as_slice())
 }
 
-// each pairs with each: two right tasks and then two left ones at the second node, and four at the terminal
+// Each pairs with each: two tasks at the first join, on line 0; two right and two left ones at the second join, on line
+// (31 + 7) % 4; and four at the terminal, that of the tags s and t on line ((2 * 31 + s) * 31 + t) % 4.
 #[test]
 fn workers_find_all_pairs(rt: HostRuntime) -> Result<(), Fail> {
     let alloc = rt.alloc();
@@ -35,7 +36,7 @@ fn workers_find_all_pairs(rt: HostRuntime) -> Result<(), Fail> {
         gone,
     } = two_come(&rt, alloc, &gate)?;
     assert_eq!(rt; (come.len(), gone.len()), (4, 0));
-    assert_eq!(rt; gate.calls(), 10);
+    assert_eq!(rt; gate.counted(), (10, 4 * 2 + 2 + 3 + 1 + 2));
     assert_eq!(rt; matcher.lines().len(), 4);
     Ok(())
 }

@@ -22,16 +22,18 @@ use step_core::{Parts, World};
 use token_line::Line;
 use work_store::Store;
 
-/// Counts the calls of worker 0 by ones, and those of worker 1 by hundreds.
+/// Counts the calls of worker 0 by ones, and those of worker 1 by hundreds. It also adds up the numbers of their lines.
 #[derive(Drop)]
 struct Counting {
     calls: AtomicU64,
+    lines: AtomicU64,
 }
 
 impl Gate for Counting {
-    fn enter(&self, worker: usize, _line: usize) {
+    fn enter(&self, worker: usize, line: usize) {
         let call = if worker == 0 { 1 } else { 100 };
         self.calls.fetch_add(call, Ordering::SeqCst);
+        self.lines.fetch_add(line as u64, Ordering::SeqCst);
     }
 }
 
@@ -150,6 +152,7 @@ fn two_shards_do_a_round(rt: HostRuntime) -> Result<(), Fail> {
     let world = begun(alloc, &net, &store)?;
     let gate = Counting {
         calls: AtomicU64::new(0),
+        lines: AtomicU64::new(0),
     };
     let lines = world.lines().len();
     assert_eq!(rt; (lines, world.in_flight()), (4, 2));
@@ -176,6 +179,8 @@ fn two_shards_do_a_round(rt: HostRuntime) -> Result<(), Fail> {
             }
         }
     }
+    // lines 0 and (31 + 7) % 4
     assert_eq!(rt; gate.calls.load(Ordering::SeqCst), 101);
+    assert_eq!(rt; gate.lines.load(Ordering::SeqCst), 2);
     Ok(())
 }
