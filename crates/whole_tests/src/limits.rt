@@ -135,6 +135,29 @@ fn large_conflict_set(rt: HostRuntime) -> Result<(), Fail> {
     Ok(())
 }
 
+/// The conflict set has 4,096 members, and each is listed.
+const LISTED: &[u8] = b"(literalize a) (p cross (a) (a) (a) (a) --> )
+(make a)(make a)(make a)(make a)(make a)(make a)(make a)(make a)
+(cs)
+";
+
+#[test]
+fn listed_conflict_set(rt: HostRuntime) -> Result<(), Fail> {
+    let alloc = rt.alloc();
+    for engine in ENGINES {
+        let mut input = MemSource::new(Vec::new(alloc), 1, Vec::new(alloc));
+        let mut sink = MemSink::new(alloc, 100_000, 100_000, Vec::new(alloc))?;
+        let status = answer_to(&rt, alloc, engine, LISTED, &mut input, &mut sink)?;
+        assert_eq!(rt; status, Status::Done);
+        let written = sink.written();
+        assert_eq!(rt; written.starts_with(b"cross 8 8 8 8\n"), true);
+        assert_eq!(rt; written.ends_with(b"\ncross 1 1 1 1\n"), true);
+        let lines = written.iter().filter(|byte| **byte == b'\n').count();
+        assert_eq!(rt; lines, 4_096);
+    }
+    Ok(())
+}
+
 /// Words of a workload whose workers share one line.
 const CROWDED: [&[&str]; 2] = [
     &[
