@@ -1,6 +1,6 @@
 -- The world as code has it: what of it is the machine's, and what its steps ask for.
 use Rattle.std.specs.Prelude.{◌≡◌, ◌<◌, ◌++◌, ℕ, List, [], length, map, slice_get, Some, All}
-use Rattle.work_store.specs.Stored.{Stored}
+use Rattle.work_store.specs.Stored.{Stored, held_of}
 use Rattle.net_base.specs.declared.nodes.Node.{Node}
 use Rattle.net_base.specs.declared.nodes.Alpha.{Alpha}
 use Rattle.net_base.specs.declared.tasks.Task.{Task}
@@ -39,6 +39,10 @@ step_of (Finish j) = Machine.Finish j
 -- each token on the line whose number its code gives, where there are this many lines
 abbrev pub placed : Elements → List Node → ℕ → Placing
 placed elements nodes lines n s t = line_number elements nodes lines n s t
+
+-- the line of a task, where there are this many lines
+abbrev pub line_of_task : Stored → List Node → ℕ → Task → ℕ
+line_of_task s nodes lines x = place_of (placed (held_of s) nodes lines) x
 
 -- this step leads from the old world to the new one, over every choice of elements that has those of the store
 abbrev pub Takes : List Alpha → List Node → Stored → World → Machine.Step → World → Type 0

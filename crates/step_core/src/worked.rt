@@ -7,7 +7,7 @@ ghost use Rattle.token_line.specs.Held.{TaskFits};
 ghost use Rattle.activation.specs.Acting.{IsCounted};
 ghost use Rattle.step_core.specs.Machine.{cleared};
 ghost use Rattle.step_core.specs.Worked.{AreWorked};
-ghost use Rattle.step_core.specs.Worlds.{ActsOn, seen};
+ghost use Rattle.step_core.specs.Worlds.{ActsOn, line_of_task, seen};
 
 use activation::activate_coded;
 use net_base::net::Net;
@@ -40,7 +40,7 @@ pub(crate) fn act_on<F: Fn(usize)>(
     task: &Task,
     out: &mut Vec<Task>,
 ) -> Result<(), OutOfMemory>
-    requires enter { F.IsAlwaysCallable enter.now }
+    requires enter { F.pre enter.now (line_of_task store.now net.now.nodes (length lines.old.items) task.now) }
     requires some { 1 ≤ length lines.old.items }
     requires told { AreWorked lines.old.items worked.old.items }
     requires fits { TaskFits net.now.nodes store.now task.now }

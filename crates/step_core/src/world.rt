@@ -57,8 +57,8 @@ impl World {
     ghost use Rattle.token_line.specs.Held.{Agrees};
     ghost use Rattle.step_core.specs.Laws.{IsPlaced};
     ghost use Rattle.step_core.specs.Machine.{place_of};
-    ghost use Rattle.step_core.specs.Working.{IsWorked, but_last};
-    ghost use Rattle.step_core.specs.Worlds.{AreNumbered, ArePartsReady, IsReady, IsWithin, Takes, joined, numbers_of, placed, seen, step_of, world_of};
+    ghost use Rattle.step_core.specs.Working.{IsLast, IsWorked, but_last};
+    ghost use Rattle.step_core.specs.Worlds.{AreNumbered, ArePartsReady, IsReady, IsWithin, Takes, joined, line_of_task, numbers_of, placed, seen, step_of, world_of};
 
     /// This many lines, with nothing under way. It makes each line and looks at each node.
     pub fn start(alloc: Global, net: &Net, lines: usize) -> Result<World, OutOfMemory>
@@ -249,7 +249,7 @@ impl World {
         enter: &F,
         index: usize,
     ) -> Result<(), OutOfMemory>
-        requires enter { F.IsAlwaysCallable enter.now }
+        requires enter { (x : Task) → slice_get self.old.flight.items index ≡ Some x → F.pre enter.now (line_of_task store.now net.now.nodes (length self.old.lines.items) x) }
         requires ready { IsReady net.now.nodes store.now self.old }
         requires within { index < length self.old.flight.items }
         ensures worked { OnOk result (IsWorked net.now.alphas net.now.nodes store.now self.old index (remove self.old.flight.items index) self.new) }
@@ -288,7 +288,7 @@ impl World {
         store: &Store,
         enter: &F,
     ) -> Result<(), OutOfMemory>
-        requires enter { F.IsAlwaysCallable enter.now }
+        requires enter { (x : Task) → IsLast self.old x → F.pre enter.now (line_of_task store.now net.now.nodes (length self.old.lines.items) x) }
         requires ready { IsReady net.now.nodes store.now self.old }
         requires some { 1 ≤ length self.old.flight.items }
         ensures worked { OnOk result (IsWorked net.now.alphas net.now.nodes store.now self.old (length self.old.flight.items - 1) (but_last self.old.flight.items) self.new) }
