@@ -20,10 +20,10 @@ pub(crate) struct Below<'a> {
 }
 
 /// The token, with the tag after it where there is one.
-fn lengthened(alloc: Global, token: &Tags, tag: Option<u64>) -> Result<Tags, OutOfMemory>
+fn lengthened(alloc: Global, token: &[u64], tag: Option<u64>) -> Result<Tags, OutOfMemory>
     ensures { IfOk result (λ t. t ≡ tagged token.now tag) }
 {
-    let mut made = token.copy(alloc)?;
+    let mut made = Tags::from_slice(alloc, token)?;
     if let Some(tag) = tag {
         made.push(tag)?;
     }
@@ -33,7 +33,7 @@ fn lengthened(alloc: Global, token: &Tags, tag: Option<u64>) -> Result<Tags, Out
 /// A token that a node puts out, with the tag after it where there is one, and how often.
 #[derive(Clone, Copy)]
 struct Output<'a> {
-    token: &'a Tags,
+    token: &'a [u64],
     tag: Option<u64>,
     times: u64,
 }
@@ -88,7 +88,7 @@ fn push_to_all(
 pub(crate) fn push_to_each(
     alloc: Global,
     below: Below,
-    token: &Tags,
+    token: &[u64],
     tag: Option<u64>,
     times: u64,
     out: &mut Vec<Task>,
@@ -116,7 +116,7 @@ pub(crate) fn push_if(
     alloc: Global,
     holds: bool,
     below: Below,
-    token: &Tags,
+    token: &[u64],
     tag: Option<u64>,
     cell: Cell,
     out: &mut Vec<Task>,

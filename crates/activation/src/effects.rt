@@ -114,7 +114,7 @@ fn at_left(
 {
     if moves && blockers == 0 {
         let below = below(node, task.plus);
-        push_to_each(alloc, below, &task.token, None, 1, out)?;
+        push_to_each(alloc, below, task.token.as_slice(), None, 1, out)?;
     }
     Ok(Done {
         blockers,

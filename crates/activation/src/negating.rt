@@ -47,7 +47,7 @@ fn number_matching(
     let mut count = 0;
     for place in 0..right.len() {
         let (other, cell) = right.pair(place);
-        let holds = goes_with(store, node, token.as_slice(), other.as_slice());
+        let holds = goes_with(store, node, token.as_slice(), other);
         count = added(count, times(holds, cell))?;
     }
     Ok(count)
@@ -81,10 +81,10 @@ fn before_flip(plus: bool) -> u64
 }
 
 /// Whether a right token blocks the left one first, or frees it.
-fn flips(store: &Store, node: &Node, token: &Tags, cell: Cell, right: &[u64], plus: bool) -> bool
+fn flips(store: &Store, node: &Node, token: &[u64], cell: Cell, right: &[u64], plus: bool) -> bool
     ensures { result ≡ ((cell.blockers == before_flip plus) && goes_with node.now.kind node.now.joins (held_of store.now) token.now right.now) }
 {
-    cell.blockers == before_flip(plus) && goes_with(store, node, token.as_slice(), right)
+    cell.blockers == before_flip(plus) && goes_with(store, node, token, right)
 }
 
 /// Whether one blocker more, or one less, can be counted.

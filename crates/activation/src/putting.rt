@@ -7,7 +7,6 @@ ghost use Rattle.activation.specs.Putting.{changes, put_for, put_for_left, put_f
 
 use crate::children::{Below, push_if};
 use net_base::nodes::JoinTest;
-use net_base::tags::Tags;
 use net_base::tasks::{Side, Task};
 use ops_base::memory::OutOfMemory;
 use std::alloc::Global;
@@ -27,7 +26,7 @@ fn give_for_left(
     alloc: Global,
     store: &Store,
     tests: &[JoinTest],
-    token: &Tags,
+    token: &[u64],
     right: &Tokens,
     below: Below,
     out: &mut Vec<Task>,
@@ -38,8 +37,8 @@ fn give_for_left(
 {
     for place in 0..right.len() {
         let (other, cell) = right.pair(place);
-        let tag = tag_at(other.as_slice(), 0);
-        let holds = joins(store, tests, token.as_slice(), tag);
+        let tag = tag_at(other, 0);
+        let holds = joins(store, tests, token, tag);
         push_if(alloc, holds, below, token, Some(tag), cell, out)?;
     }
     Ok(())
@@ -62,7 +61,7 @@ fn give_for_right(
     let element = store.kept(tag);
     for place in 0..left.len() {
         let (token, cell) = left.pair(place);
-        let holds = joins_element(store, tests, token.as_slice(), element);
+        let holds = joins_element(store, tests, token, element);
         push_if(alloc, holds, below, token, Some(tag), cell, out)?;
     }
     Ok(())
@@ -89,7 +88,15 @@ pub(crate) fn give_by_join(
     match task.side {
         Side::Left => {
             let right = memory.right();
-            give_for_left(alloc, store, tests, &task.token, right, below, out)
+            give_for_left(
+                alloc,
+                store,
+                tests,
+                task.token.as_slice(),
+                right,
+                below,
+                out,
+            )
         }
         Side::Right => {
             let tag = tag_at(task.token.as_slice(), 0);

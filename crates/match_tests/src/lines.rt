@@ -15,16 +15,16 @@ use ops_base::values::{Pred, Value};
 use std::alloc::Global;
 use std::test::Fail;
 use token_line::children::Children;
-use token_line::joining::joins;
+use token_line::joining::{joins, tag_at};
 use token_line::line::Line;
 use token_line::number::{code_of, line_of};
 use work_store::Store;
 
-// the token of a tag arrives or leaves at node 3
-fn task_of(alloc: Global, side: Side, plus: bool, tag: u64) -> Result<Task, OutOfMemory>
-    ensures { IfOk result (λ x. x.token ≡ tag ∷ []) }
+// the token of these tags arrives or leaves at node 3
+fn task_of(alloc: Global, side: Side, plus: bool, tags: &[u64]) -> Result<Task, OutOfMemory>
+    ensures { IfOk result (λ x. x.token ≡ tags.now) }
 {
-    let token = Tags::from_slice(alloc, &[tag])?;
+    let token = Tags::from_slice(alloc, tags)?;
     Ok(Task {
         node: 3,
         side,
@@ -33,26 +33,27 @@ fn task_of(alloc: Global, side: Side, plus: bool, tag: u64) -> Result<Task, OutO
     })
 }
 
-// the same on a line where every third tag has one code
+// the same on a line where every third first tag has one code
 fn bring(
     alloc: Global,
     line: &mut Line,
     side: Side,
     plus: bool,
-    tag: u64,
+    tags: &[u64],
 ) -> Result<(), OutOfMemory>
     requires { HasCodes (λ t. slice_index t 0 % 3) line.old }
     ensures { HasCodes (λ t. slice_index t 0 % 3) line.new }
 {
-    let task = task_of(alloc, side, plus, tag)?;
-    line.add(alloc, tag % 3, &task, Children::none(alloc), 0)
+    let task = task_of(alloc, side, plus, tags)?;
+    let code = tag_at(tags, 0) % 3;
+    line.add(alloc, code, &task, Children::none(alloc), 0)
 }
 
 fn come(alloc: Global, line: &mut Line, side: Side, plus: bool) -> Result<(), OutOfMemory>
     requires { HasCodes (λ t. slice_index t 0 % 3) line.old }
     ensures { HasCodes (λ t. slice_index t 0 % 3) line.new }
 {
-    bring(alloc, line, side, plus, 2)
+    bring(alloc, line, side, plus, &[2])
 }
 
 // the sums of that token at a node
@@ -108,7 +109,7 @@ fn bring_all(alloc: Global, line: &mut Line, plus: bool, bound: u64) -> Result<(
     ensures { HasCodes (λ t. slice_index t 0 % 3) line.new }
 {
     for tag in 0..bound {
-        bring(alloc, line, Side::Left, plus, tag)?;
+        bring(alloc, line, Side::Left, plus, &[tag])?;
     }
     Ok(())
 }
@@ -116,20 +117,46 @@ fn bring_all(alloc: Global, line: &mut Line, plus: bool, bound: u64) -> Result<(
 #[test]
 fn many_tokens_of_several_codes_come_and_go(rt: HostRuntime) -> Result<(), Fail> {
     let mut line = Line::new(rt.alloc(), 7);
-    bring_all(rt.alloc(), &mut line, true, 30)?;
+    bring_all(rt.alloc(), &mut line, true, 60)?;
     assert_eq!(rt;
         (kept(&line, 0), kept(&line, 1)),
-        (Some((10, 0)), Some((10, 0)))
+        (Some((20, 0)), Some((20, 0)))
     );
-    assert_eq!(rt; (kept(&line, 2), kept(&line, 3)), (Some((10, 0)), None));
+    assert_eq!(rt; (kept(&line, 2), kept(&line, 3)), (Some((20, 0)), None));
     assert_eq!(rt;
         (sums(rt.alloc(), &line, 3)?, sums(rt.alloc(), &line, 4)?),
         ((1, 0), (0, 0))
     );
-    bring_all(rt.alloc(), &mut line, false, 29)?;
+    bring_all(rt.alloc(), &mut line, false, 59)?;
     assert_eq!(rt; (kept(&line, 1), kept(&line, 2)), (None, Some((1, 0))));
-    bring_all(rt.alloc(), &mut line, false, 30)?;
-    assert_eq!(rt; kept(&line, 0), Some((10, 0)));
+    bring_all(rt.alloc(), &mut line, false, 60)?;
+    assert_eq!(rt; kept(&line, 0), Some((20, 0)));
+    Ok(())
+}
+
+// three tokens of one code arrive at the left, or leave; the last one has two tags
+fn bring_lengths(alloc: Global, line: &mut Line, plus: bool) -> Result<(), OutOfMemory>
+    requires { HasCodes (λ t. slice_index t 0 % 3) line.old }
+    ensures { HasCodes (λ t. slice_index t 0 % 3) line.new }
+{
+    bring(alloc, line, Side::Left, plus, &[2])?;
+    bring(alloc, line, Side::Left, plus, &[5])?;
+    bring(alloc, line, Side::Left, plus, &[2, 5])
+}
+
+#[test]
+fn tokens_of_two_lengths_stand_together(rt: HostRuntime) -> Result<(), Fail> {
+    let mut line = Line::new(rt.alloc(), 7);
+    bring_lengths(rt.alloc(), &mut line, true)?;
+    assert_eq!(rt; (kept(&line, 2), done(&line)), (Some((3, 0)), (3, 0)));
+    come(rt.alloc(), &mut line, Side::Left, false)?;
+    come(rt.alloc(), &mut line, Side::Left, true)?;
+    assert_eq!(rt;
+        (kept(&line, 2), sums(rt.alloc(), &line, 3)?),
+        (Some((3, 0)), (1, 0))
+    );
+    bring_lengths(rt.alloc(), &mut line, false)?;
+    assert_eq!(rt; kept(&line, 2), None);
     Ok(())
 }
 
@@ -175,7 +202,7 @@ fn line_of_one(alloc: Global, blockers: u64) -> Result<Line, OutOfMemory>
     ensures codes { IfOk result (HasCodes (λ t. 5)) }
 {
     let mut line = Line::new(alloc, 7);
-    let task = task_of(alloc, Side::Left, true, 2)?;
+    let task = task_of(alloc, Side::Left, true, &[2])?;
     line.add(alloc, 5, &task, Children::none(alloc), blockers)?;
     Ok(line)
 }
@@ -223,7 +250,7 @@ fn no_nodes(alloc: Global) -> Result<Net, OutOfMemory> {
 fn a_line_has_a_number_within_bounds(rt: HostRuntime) -> Result<(), Fail> {
     let net = no_nodes(rt.alloc())?;
     let store = Store::new(rt.alloc());
-    let task = task_of(rt.alloc(), Side::Left, true, 2)?;
+    let task = task_of(rt.alloc(), Side::Left, true, &[2])?;
     assert_eq!(rt; line_of(&net, &store, &task, 2), 1);
     assert_eq!(rt; code_of(&net, &store, &task), 3);
     Ok(())

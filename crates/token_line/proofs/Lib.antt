@@ -6,3 +6,4 @@ pub mod LineLemmas
 pub mod Filed
 pub mod Coded
 pub mod Blocked
+mod TokenRoomLemmas

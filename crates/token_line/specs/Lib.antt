@@ -6,6 +6,7 @@ pub mod OneLine
 pub mod Pairs
 pub mod SmallMap
 pub mod SmallMapLends
+pub mod TokenRooms
 pub mod Sums
 pub mod Codes
 pub mod Spots

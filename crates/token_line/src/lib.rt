@@ -11,6 +11,7 @@ pub mod memory;
 pub mod number;
 mod small_map;
 mod spot;
+mod token_room;
 pub mod tokens;
 
 pub use children::Children;

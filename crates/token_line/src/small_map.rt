@@ -13,7 +13,7 @@ use std::hash::Hash;
 use std::marker::Model;
 use std::mem;
 
-/// At most this many pairs are kept as a list.
+/// At most this many pairs are kept as a list, where the caller names no other number.
 const FEW: usize = 8;
 
 // The map is boxed, since most rooms never have one.
@@ -135,18 +135,28 @@ impl<K: Eq + Hash + Drop, V: Drop> Room<K, V> {
         }
     }
 
-    /// Makes a map of a full list. Where memory runs out, nothing has changed.
-    fn widen(&mut self, alloc: Global) -> Result<(), OutOfMemory>
+    /// Makes a map of a list of as many pairs as `few` says. Where memory runs out, nothing has changed.
+    fn widen(&mut self, alloc: Global, few: usize) -> Result<(), OutOfMemory>
         requires { IsDistinct K.eq (keys_of (pairs_in self.old)) }
         ensures { pairs_in self.new ≡ pairs_in self.old }
     {
         if let Room::Few(list) = self
-            && list.len() >= FEW
+            && list.len() >= few
         {
             let map = IndexMap::with_capacity(alloc, 2 * list.len())?;
             let mut map = Box::new(alloc, map)?;
             fill(&mut map, mem::replace(list, Vec::new(alloc)));
             *self = Room::Many(map);
+        }
+        Ok(())
+    }
+
+    /// Takes room for this many pairs more in a list.
+    fn reserve(&mut self, more: usize) -> Result<(), OutOfMemory>
+        ensures { pairs_in self.new ≡ pairs_in self.old }
+    {
+        if let Room::Few(list) = self {
+            list.reserve_exact(more)?;
         }
         Ok(())
     }
@@ -245,6 +255,13 @@ impl<K: Eq + Hash + Drop, V: Drop> SmallMap<K, V> {
         self.room.remove(place);
     }
 
+    /// Takes room for this many pairs more, where the pairs are few. Where memory runs out, nothing has changed.
+    pub(crate) fn reserve(&mut self, more: usize) -> Result<(), OutOfMemory>
+        ensures { self.new ≡ self.old }
+    {
+        self.room.reserve(more)
+    }
+
     /// Keeps a new pair after the others. The ninth makes a map of the list. Where memory runs out, nothing has
     /// changed.
     pub(crate) fn push(&mut self, alloc: Global, key: K, value: V) -> Result<(), OutOfMemory>
@@ -252,7 +269,22 @@ impl<K: Eq + Hash + Drop, V: Drop> SmallMap<K, V> {
         ensures ok { OnOk result (self.new ≡ self.old ++ (key, value) ∷ []) }
         ensures err { OnErr result (self.new ≡ self.old) }
     {
-        self.room.widen(alloc)?;
+        self.push_within(alloc, FEW, key, value)
+    }
+
+    /// The same, but that at most as many pairs as `few` says are kept as a list.
+    pub(crate) fn push_within(
+        &mut self,
+        alloc: Global,
+        few: usize,
+        key: K,
+        value: V,
+    ) -> Result<(), OutOfMemory>
+        requires { lookup (K.eq key) self.old ≡ None }
+        ensures ok { OnOk result (self.new ≡ self.old ++ (key, value) ∷ []) }
+        ensures err { OnErr result (self.new ≡ self.old) }
+    {
+        self.room.widen(alloc, few)?;
         self.room.push(key, value)
     }
 }

@@ -10,7 +10,7 @@ ghost use Rattle.token_line.specs.Pairs.{ArePairs, cell_of, place_of};
 ghost use Rattle.token_line.specs.Sums.{blocked, blockers_of, counted, kept_sum};
 
 use crate::joining::goes_with;
-use crate::small_map::SmallMap;
+use crate::token_room::TokenRoom;
 use net_base::nodes::Node;
 use net_base::tags::Tags;
 use ops_base::memory::OutOfMemory;
@@ -30,7 +30,7 @@ pub struct Cell {
 /// Tokens, each with its cell; none has the sum 0.
 #[derive(Drop)]
 pub struct Tokens {
-    pairs: SmallMap<Tags, Cell>,
+    room: TokenRoom,
 }
 
 impl Model for Tokens {
@@ -40,10 +40,11 @@ impl Model for Tokens {
     ghost Value = { List (List ℕ × Cell) };
 
     ghost use Rattle.token_line.specs.Pairs.{ArePairs};
+    ghost use Rattle.token_line.specs.TokenRooms.{tokens_in};
 
-    ghost view = { λ c. c.pairs };
+    ghost view = { λ c. tokens_in c.room };
 
-    ghost invariant = { λ c. ArePairs c.pairs };
+    ghost invariant = { λ c. ArePairs (tokens_in c.room) };
 }
 
 /// One more, or one less, if there is one.
@@ -64,7 +65,7 @@ impl Tokens {
         ensures { result ≡ [] }
     {
         Tokens {
-            pairs: SmallMap::new(alloc),
+            room: TokenRoom::new(alloc),
         }
     }
 
@@ -73,24 +74,23 @@ impl Tokens {
         ensures len { result ≡ length self.now }
         ensures pairs { ArePairs self.now }
     {
-        self.pairs.len()
+        self.room.len()
     }
 
     /// Takes no memory.
     pub fn is_empty(&self) -> bool
         ensures { IsTrue result ↔ (self.now ≡ []) }
     {
-        self.pairs.is_empty()
+        self.room.len() == 0
     }
 
     /// The token at a place, and what is kept of it. Takes no memory.
-    pub fn pair(&self, place: usize) -> (&Tags, Cell)
+    pub fn pair(&self, place: usize) -> (&[u64], Cell)
         requires { place < length self.now }
         ensures pair { slice_get self.now place ≡ Some (result.0.now, result.1) }
         ensures some { result.1.sum ≢ pos 0 }
     {
-        let (token, cell) = self.pairs.pair(place);
-        (token, *cell)
+        self.room.pair(place)
     }
 
     /// The place of a token. It compares the token with each where they are few, and hashes it where they are many.
@@ -98,7 +98,7 @@ impl Tokens {
     pub fn find(&self, token: &Tags) -> Option<usize>
         ensures { result ≡ place_of self.now token.now }
     {
-        self.pairs.find(token)
+        self.room.find(token)
     }
 
     /// What is kept of a token that has this place. Takes no memory.
@@ -120,19 +120,19 @@ impl Tokens {
         requires some { cell.sum ≢ pos 0 }
         ensures { self.new ≡ set_value_at self.old place cell }
     {
-        *self.pairs.value_mut(place) = cell;
+        self.room.set(place, cell);
     }
 
     /// The last token takes the place of the one that is there. Takes no memory.
-    pub(crate) fn remove(&mut self, place: usize)
+    pub(crate) fn remove(&mut self, alloc: Global, place: usize)
         requires { place < length self.old }
         ensures { IfSome (slice_get self.old place) (λ e. self.new ≡ swap_remove self.old place e) }
     {
-        self.pairs.remove(place);
+        self.room.remove(alloc, place);
     }
 
-    /// Keeps a new token after the others. The ninth makes a map of the list. Where memory runs out, nothing has
-    /// changed.
+    /// Keeps a new token after the others. The first takes no memory if it has one tag, and later ones take it now and
+    /// then. Where memory runs out, nothing has changed.
     pub(crate) fn push(
         &mut self,
         alloc: Global,
@@ -144,7 +144,7 @@ impl Tokens {
         ensures ok { OnOk result (self.new ≡ self.old ++ (token.now, cell) ∷ []) }
         ensures err { OnErr result (self.new ≡ self.old) }
     {
-        self.pairs.push(alloc, token.copy(alloc)?, cell)
+        self.room.push(alloc, token, cell)
     }
 
     /// Keeps something else of a token that has this place, or keeps it no more. Where memory runs out, nothing has
@@ -170,7 +170,7 @@ impl Tokens {
         };
         match cell {
             Some(cell) => self.set(place, cell),
-            None => self.remove(place),
+            None => self.remove(alloc, place),
         }
         Ok(())
     }
@@ -182,7 +182,7 @@ impl Tokens {
         ensures { IfSome (slice_get self.old place) (λ e. self.new ≡ set_value_at self.old place (blocked (goes_with of.now.kind of.now.joins (held_of store.now) e.0 right.now) plus e.1)) }
     {
         let (token, cell) = self.pair(place);
-        let blockers = if goes_with(store, of, token.as_slice(), right) {
+        let blockers = if goes_with(store, of, token, right) {
             counted(cell.blockers, plus)
         } else {
             cell.blockers

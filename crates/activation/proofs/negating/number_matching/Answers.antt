@@ -1,5 +1,5 @@
 -- The right token at the place is counted as often as it stands, if it matches.
-use Rattle.std.proofs.Common.{◌≡◌, ◌∙◌, ◌+◌, add-one, ap, ap₂, arith, cond, drop, suc}
+use Rattle.std.proofs.Common.{◌≡◌, ◌∙◌, ◌+◌, add-one, ap, arith, cond, drop, suc}
 use Rattle.work_store.specs.Stored.{held_of}
 use Rattle.net_base.specs.Tokens.{goes_with}
 use Rattle.token_line.specs.Bags.{standing}
@@ -15,7 +15,7 @@ loop-place-preserved c =
     let right = c.args.right.now in
     let i = c.loop-place.place in
     let e : Pair = (c.pair.result.0.now, c.pair.result.1) in
-    let holds = c.goes_with-holds.ensures ∙ ap₂ (λ t r. goes_with node.kind node.joins elements t r) c.as_slice.ensures c.as_slice-in-loop-place.ensures in
+    let holds = c.goes_with-holds.ensures ∙ ap (λ t. goes_with node.kind node.joins elements t e.0) c.as_slice.ensures in
     let here : c.times.result ≡ cond (goes_with node.kind node.joins elements token e.0) (standing e.1.sum) 0 = c.times.ensures ∙ ap (λ b. cond b (standing e.1.sum) 0) holds in
     let first : number_matching node elements token (drop i right)
     ≡ cond (goes_with node.kind node.joins elements token e.0) (standing e.1.sum) 0 + number_matching node elements token (drop (suc i) right) =

@@ -16,8 +16,8 @@ loop-place-preserved c =
     let plus = c.args.below.plus in
     let e : Pair = (c.pair.result.0.now, c.pair.result.1) in
     let before = c.loop-place.out.items in
-    let tag = c.tag_at-tag.ensures ∙ ap (λ t. slice_index t 0) c.as_slice.ensures in
-    let holds = c.joins-holds.ensures ∙ ap₂ (λ t k. joins_hold tests elements t k) c.as_slice-in-loop-place.ensures tag in
+    let tag = c.tag_at-tag.ensures in
+    let holds = c.joins-holds.ensures ∙ ap (joins_hold tests elements token) tag in
     let more = c.in_ok-push_if.ensures.ok ∙ ap₂ (λ b k. before ++ children_of nodes plus (put_if b (token ++ k ∷ []) e.1.sum)) holds tag in
     record {
       made =

@@ -17,7 +17,7 @@ loop-place-preserved c =
     let plus = c.args.below.plus in
     let e : Pair = (c.pair.result.0.now, c.pair.result.1) in
     let before = c.loop-place.out.items in
-    let holds = c.joins_element-holds.ensures ∙ (ap (joins_with tests elements c.as_slice.result.now) c.kept-element.ensures ∙ ap (λ t. joins_hold tests elements t tag) c.as_slice.ensures) in
+    let holds = c.joins_element-holds.ensures ∙ ap (joins_with tests elements e.0) c.kept-element.ensures in
     let more = c.in_ok-push_if.ensures.ok ∙ ap (λ b. before ++ children_of nodes plus (put_if b (e.0 ++ tag ∷ []) e.1.sum)) holds in
     record {
       made =

@@ -4,7 +4,7 @@ use Rattle.std.specs.List.{IsDistinct}
 use Rattle.std.specs.Map.{keys_of, lookup}
 use Rattle.token_line.specs.SmallMap.{pairs_in}
 use Rattle.token_line.proofs.SmallMapLemmas.{pushed_or_not}
-use Rattle.token_line.proofs.small_map.SmallMap.push.Goals as goal
+use Rattle.token_line.proofs.small_map.SmallMap.push_within.Goals as goal
 
 pub invariant_of-self-2 : goal.invariant_of-self-2
 invariant_of-self-2 g c =
