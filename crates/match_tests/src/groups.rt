@@ -200,7 +200,8 @@ fn second_goes(
     store: &Store,
     world: &mut World,
 ) -> Result<(), OutOfMemory>
-    requires { IsReady net.now.nodes store.now world.old }
+    requires ready { IsReady net.now.nodes store.now world.old }
+    requires held { held_of store.now 2 ≡ Some (element_of 2 1) }
     ensures { IsReady net.now.nodes store.now world.new }
 {
     take(alloc, net, store, world, &Step::Feed(Change::Remove(2)))?;

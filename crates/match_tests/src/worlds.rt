@@ -284,7 +284,7 @@ fn wide_element(alloc: Global, tag: u64) -> Result<Element, OutOfMemory>
 #[test]
 fn a_code_goes_by_64_bits_of_a_value(rt: HostRuntime) -> Result<(), Fail> {
     let net = pair(rt.alloc())?;
-    let mut store = store_of_two(rt.alloc())?;
+    let mut store = Store::new(rt.alloc());
     store.add(wide_element(rt.alloc(), 3)?)?;
     assert_eq!(rt; code(rt.alloc(), &net, &store, Side::Right, 3)?, 38);
     Ok(())
