@@ -13,7 +13,7 @@ use Rattle.ops_base.proofs.Members.{IsMember, member_from_contains, contains_fro
 use Rattle.resolution.specs.declared.keys.Key.{Key}
 use Rattle.resolution.specs.Keys.{same_keys}
 use Rattle.conflict_index.specs.declared.rank.Held.{Held}
-use Rattle.conflict_index.specs.declared.rank.Rank.{Rank}
+use Rattle.conflict_index.specs.Rank.{Rank}
 use Rattle.conflict_index.specs.Indexed.{Member, Indexed, insts_of, key_with}
 use Rattle.conflict_index.specs.Ranking.{compare_ranks}
 use Rattle.conflict_index.specs.Keeping.{held_member, fired_member, all_members, members_of, rank_with, ranked_anew, AreToldApart, AreRanked, AreKeyed, IsKept, HasSame}

@@ -1,4 +1,6 @@
 pub mod Members
+pub mod Downwards
+pub mod Halves
 pub mod Ranks
 pub mod Sorted
 pub mod Placing

@@ -28,7 +28,7 @@ use Rattle.resolution.specs.declared.keys.Key.{Key}
 use Rattle.resolution.specs.Keys.{compare_keys, same_keys}
 use Rattle.resolution.proofs.SameKeys.{same_parts, same_keys-Decides, tied_keys}
 use Rattle.conflict_index.specs.declared.rank.Held.{Held}
-use Rattle.conflict_index.specs.declared.rank.Rank.{Rank}
+use Rattle.conflict_index.specs.Rank.{Rank}
 use Rattle.conflict_index.specs.Ranking.{under, compare_by_strategy, compare_ranks, compare_ranks_total}
 use Rattle.conflict_index.specs.Keeping.{Gains, Loses, AreToldApart}
 

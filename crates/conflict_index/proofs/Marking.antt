@@ -22,7 +22,7 @@ use Rattle.ops_base.proofs.RefractionLaws.{is_same_inst-Decides}
 use Rattle.resolution.specs.declared.keys.Key.{Key}
 use Rattle.resolution.specs.Keys.{same_keys}
 use Rattle.conflict_index.specs.declared.rank.Held.{Held}
-use Rattle.conflict_index.specs.declared.rank.Rank.{Rank}
+use Rattle.conflict_index.specs.Rank.{Rank}
 use Rattle.conflict_index.specs.Applying.{marked}
 use Rattle.conflict_index.specs.Indexed.{Member, insts_of, key_with}
 use Rattle.conflict_index.specs.Ranking.{compare_ranks, compare_ranks_total}

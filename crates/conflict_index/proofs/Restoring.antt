@@ -13,7 +13,7 @@ use Rattle.ops_base.proofs.Filtered.{filter_member, member-filter}
 use Rattle.ops_base.proofs.Members.{IsMember, member_from_contains, contains_from_member}
 use Rattle.ops_base.proofs.RefractionLaws.{is_among-Decides}
 use Rattle.conflict_index.specs.declared.rank.Held.{Held}
-use Rattle.conflict_index.specs.declared.rank.Rank.{Rank}
+use Rattle.conflict_index.specs.Rank.{Rank}
 use Rattle.conflict_index.specs.Ranking.{compare_ranks, compare_ranks_total}
 use Rattle.conflict_index.proofs.Sorted.{same_in_order, entries_before}
 

@@ -14,7 +14,7 @@ use Rattle.resolution.specs.declared.keys.Key.{Key}
 use Rattle.resolution.specs.Keys.{same_keys}
 use Rattle.ops_base.specs.Refraction.{is_same_inst}
 use Rattle.conflict_index.specs.declared.rank.Held.{Held}
-use Rattle.conflict_index.specs.declared.rank.Rank.{Rank}
+use Rattle.conflict_index.specs.Rank.{Rank}
 use Rattle.conflict_index.specs.Indexed.{Member, key_with}
 use Rattle.conflict_index.specs.Ranking.{compare_ranks}
 

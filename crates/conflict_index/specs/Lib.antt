@@ -2,5 +2,6 @@
 pub mod Indexed
 pub mod Applying
 pub mod Selecting
+pub mod Rank
 pub mod Ranking
 pub mod Keeping

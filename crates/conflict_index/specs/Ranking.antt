@@ -10,7 +10,7 @@ use Rattle.ops_base.specs.declared.commands.Strategy.TheVariants.{Lex, Mea}
 use Rattle.resolution.specs.declared.keys.Key.{Key}
 use Rattle.resolution.specs.Keys.{compare_keys}
 use Rattle.resolution.proofs.KeyLaws.{compare_keys_total}
-use Rattle.conflict_index.specs.declared.rank.Rank.{Rank}
+use Rattle.conflict_index.specs.Rank.{Rank}
 
 -- the keys decide under one strategy, and all that is ranked under LEX is below what is ranked under MEA
 abbrev pub under : Strategy → Strategy → Ordering → Ordering

@@ -9,8 +9,9 @@ ghost use Rattle.conflict_index.specs.Applying.{IsApplied, IsPart, IsApart, mark
 ghost use Rattle.conflict_index.specs.Selecting.{IsFirst, IsAt};
 
 use crate::order::ByDominance;
+use crate::rank::Rank;
 use crate::standing::{
-    Fired, Waiting, add, is_last, mark_in_place, put, ranked_anew, ranks_of, remove_all,
+    Fired, Waiting, add, is_last, mark_in_place, put, rank_each, ranked_anew, remove_all,
 };
 use ops_base::commands::Strategy;
 use ops_base::memory::OutOfMemory;
@@ -27,6 +28,8 @@ pub struct Index {
     strategy: Strategy,
     waiting: Waiting,
     fired: Fired,
+    /// Ranks of what has gone, which are kept for their memory alone: the next that go take it over.
+    leaving: Vec<Rank>,
 }
 
 impl Model for Index {
@@ -51,6 +54,7 @@ impl Index {
             strategy: Strategy::Lex,
             waiting: BTreeMap::new(alloc),
             fired: HashMap::new(alloc),
+            leaving: Vec::new(alloc),
         }
     }
 
@@ -65,9 +69,12 @@ impl Index {
     /// changed.
     ///
     /// It costs what goes and what comes, and not what stays: for each a key is made, which copies the tags twice and
-    /// sorts one of the copies. The key is looked for by a number of comparisons that grows with the logarithm of the
-    /// number of members. For each that comes the tags are copied once more. Only where room for more marks is made, or
-    /// where memory runs out while members are added, it goes over those that are there.
+    /// sorts one of the copies. Of what comes the key takes memory once, and the tags are copied once more. Of what goes
+    /// the key takes memory only where more go at once, or with more tags, than before. What goes is looked for by a
+    /// hash, and where it has not fired, as the place of what comes is: by a number of comparisons that grows with the
+    /// logarithm of the number of members. A comparison ends with one number where the tags that the strategy compares
+    /// first differ. Only where room for more marks is made, or where memory runs out while members are added, it goes
+    /// over those that are there.
     pub fn apply(
         &mut self,
         program: &Program,
@@ -86,10 +93,11 @@ impl Index {
         ensures kept { OnOk result (KeepsSpecificities program.now.rules self.new.members) }
         ensures err { OnErr result (self.new ≡ self.old) }
     {
-        let leaving = ranks_of(self.alloc, self.strategy, program, gone)?;
+        rank_each(&mut self.leaving, self.alloc, self.strategy, program, gone)?;
         self.fired.reserve(self.waiting.len() + come.len())?;
         add(self.alloc, self.strategy, program, &mut self.waiting, come)?;
-        remove_all(&mut self.waiting, &mut self.fired, leaving.as_slice());
+        let leaving = &self.leaving.as_slice()[..gone.len()];
+        remove_all(&mut self.waiting, &mut self.fired, leaving);
         Ok(())
     }
 

@@ -3,6 +3,7 @@
 #![tactic(auto)]
 
 mod index;
+mod key;
 mod laws;
 mod order;
 mod rank;

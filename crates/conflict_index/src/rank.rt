@@ -1,20 +1,37 @@
 //! What stands in the order of dominance, and where.
-ghost use Rattle.std.specs.Prelude.{◌≡◌, Some, refl};
+ghost use Rattle.std.specs.Prelude.{◌≡◌, ◌<◌, length, OnOk, Some, refl};
 ghost use Rattle.std.specs.Cmp.{partial_equiv_from_equiv, eq_by_cmp_equiv, partial_order_from_agreeing_total};
 ghost use Rattle.std.specs.Ordering.{eq_by_cmp};
+ghost use Rattle.conflict_index.specs.Keeping.{rank_in};
 ghost use Rattle.conflict_index.specs.Ranking.{compare_by_strategy, compare_ranks, compare_ranks_total};
 
+use crate::key::{FlatKey, compare};
 use ops_base::commands::Strategy;
+use ops_base::memory::OutOfMemory;
+use ops_base::programs::Program;
 use ops_base::rules::Inst;
-use resolution::{Key, compare};
 use std::cmp::Ordering;
+use std::marker::Model;
 
-/// A key with the strategy by which it is compared. All ranks of one index have the strategy in force. Ranks that
-/// compare as equal are equal.
+/// A key with the strategy by which it is compared, seen as these two. All ranks of one index have the strategy in
+/// force. Ranks that compare as equal are equal.
 #[derive(Drop)]
 pub(crate) struct Rank {
-    pub(crate) strategy: Strategy,
-    pub(crate) key: Key,
+    /// The tag that the strategy compares first. Where two differ, they decide, and no list is looked at.
+    top: u64,
+    strategy: Strategy,
+    pub(crate) key: FlatKey,
+}
+
+impl Model for Rank {
+    ghost use Rattle.std.specs.Prelude.{◌≡◌};
+    ghost use Rattle.conflict_index.specs.Rank.{Rank as Seen, top_of};
+
+    ghost Value = { Seen };
+
+    ghost view = { λ r. record { strategy = r.strategy; key = r.key } };
+
+    ghost invariant = { λ r. r.top ≡ top_of r.strategy r.key };
 }
 
 /// What stands at a rank. It has fired only if it was marked while another dominated it.
@@ -58,8 +75,11 @@ impl Ord for Rank {
     ghost matches_eq = { λ a b. refl };
 
     fn cmp(&self, other: &Rank) -> Ordering {
+        if self.top != other.top && self.strategy == other.strategy {
+            return self.top.cmp(&other.top);
+        }
         match compare_by_strategy(self, other) {
-            Ordering::Equal => self.key.first.cmp(&other.key.first),
+            Ordering::Equal => self.key.first().cmp(&other.key.first()),
             decided => decided,
         }
     }
@@ -72,5 +92,34 @@ fn compare_by_strategy(a: &Rank, b: &Rank) -> Ordering
         (Strategy::Lex, Strategy::Mea) => Ordering::Less,
         (Strategy::Mea, Strategy::Lex) => Ordering::Greater,
         (strategy, _) => compare(strategy, &a.key, &b.key),
+    }
+}
+
+impl Rank {
+    /// Takes no memory.
+    pub(crate) fn new(strategy: Strategy, key: FlatKey) -> Rank
+        ensures { result ≡ record { strategy = strategy; key = key } }
+    {
+        Rank {
+            top: key.top(strategy),
+            strategy,
+            key,
+        }
+    }
+
+    /// Becomes the rank of another instantiation. It takes memory only where that has more tags than any before.
+    pub(crate) fn become_of(
+        &mut self,
+        strategy: Strategy,
+        program: &Program,
+        inst: &Inst,
+    ) -> Result<(), OutOfMemory>
+        requires { inst.now.rule < length program.now.rules }
+        ensures { OnOk result (self.new ≡ rank_in strategy program.now.rules inst.now) }
+    {
+        let done = self.key.become_of(program, inst);
+        self.strategy = strategy;
+        self.top = self.key.top(strategy);
+        done
     }
 }

@@ -1,5 +1,5 @@
 //! The two maps of an index: members in the order of dominance, and those that have fired by their keys.
-ghost use Rattle.std.specs.Prelude.{◌≡◌, ◌≢◌, ◌+◌, ◌<◌, ◌≤◌, ◌++◌, ◌∷◌, [], List, IsTrue, map, filter, length, not, IfOk, OnOk, OnErr, Contains, None, ◌⊎◌};
+ghost use Rattle.std.specs.Prelude.{◌≡◌, ◌≢◌, ◌+◌, ◌<◌, ◌≤◌, ◌++◌, ◌∷◌, [], List, IsTrue, map, filter, take, length, not, IfOk, OnOk, OnErr, Contains, None, ◌⊎◌};
 ghost use Rattle.std.specs.HashMap.{spare, get};
 ghost use Rattle.std.specs.List.Sorted.{IsStrictlySortedBy};
 ghost use Rattle.std.specs.List.{IsDistinct};
@@ -8,18 +8,18 @@ ghost use Rattle.ops_base.specs.Instances.{AreOf};
 ghost use Rattle.ops_base.specs.Refraction.{is_among, is_same_inst};
 ghost use Rattle.resolution.specs.Keys.{same_keys};
 ghost use Rattle.conflict_index.specs.Keeping.{rank_in, arrival, ranked_anew, AreToldApart, Gains, Loses, HasSame, marked_held};
-ghost use Rattle.conflict_index.specs.declared.rank.Rank.{Rank};
+ghost use Rattle.conflict_index.specs.Rank.{Rank};
 ghost use Rattle.conflict_index.specs.declared.rank.Held.{Held};
 ghost use Rattle.ops_base.specs.declared.rules.Inst.{Inst};
 ghost use Rattle.resolution.specs.declared.keys.Key.{Key};
 ghost use Rattle.conflict_index.specs.Ranking.{compare_ranks};
 
+use crate::key::FlatKey;
 use crate::rank::{Held, Rank};
 use ops_base::commands::Strategy;
 use ops_base::memory::OutOfMemory;
 use ops_base::programs::Program;
 use ops_base::rules::Inst;
-use resolution::{Key, key};
 use std::alloc::Global;
 use std::collections::{BTreeMap, HashMap};
 
@@ -27,7 +27,7 @@ use std::collections::{BTreeMap, HashMap};
 pub(crate) type Waiting = BTreeMap<Rank, Held>;
 
 /// Those that fired when they were dominant.
-pub(crate) type Fired = HashMap<Key, Inst>;
+pub(crate) type Fired = HashMap<FlatKey, Inst>;
 
 fn is_same(i: &Inst, j: &Inst) -> bool
     ensures { result ≡ is_same_inst i.now j.now }
@@ -50,30 +50,58 @@ fn rank_of(
     requires { inst.now.rule < length program.now.rules }
     ensures { IfOk result (λ r. r ≡ rank_in strategy program.now.rules inst.now) }
 {
-    let key = key(alloc, program, inst)?;
-    Ok(Rank { strategy, key })
+    let key = FlatKey::of(alloc, program, inst)?;
+    Ok(Rank::new(strategy, key))
 }
 
-/// The rank of each. Of each it copies the tags twice, and sorts one of the copies.
-pub(crate) fn ranks_of(
+/// Makes the rank at a place that of an instantiation, or adds it at the end.
+fn set_rank(
+    ranks: &mut Vec<Rank>,
+    at: usize,
+    alloc: Global,
+    strategy: Strategy,
+    program: &Program,
+    inst: &Inst,
+) -> Result<(), OutOfMemory>
+    requires rule { inst.now.rule < length program.now.rules }
+    requires place { at ≤ length ranks.old.items }
+    ensures ok { OnOk result (take (at + 1) ranks.new.items
+        ≡ take at ranks.old.items ++ rank_in strategy program.now.rules inst.now ∷ []) }
+    ensures there { OnOk result (at < length ranks.new.items) }
+{
+    if at < ranks.len() {
+        ranks[at].become_of(strategy, program, inst)
+    } else {
+        let rank = rank_of(alloc, strategy, program, inst)?;
+        ranks.push(rank)?;
+        Ok(())
+    }
+}
+
+/// Makes the first of these ranks those of the instantiations. Of each it copies the tags twice, and sorts one of the
+/// copies. It takes memory only where there are more of them, or more tags, than at any time before.
+pub(crate) fn rank_each(
+    ranks: &mut Vec<Rank>,
     alloc: Global,
     strategy: Strategy,
     program: &Program,
     insts: &[Inst],
-) -> Result<Vec<Rank>, OutOfMemory>
+) -> Result<(), OutOfMemory>
     requires { AreOf program.now.rules insts.now }
-    ensures { IfOk result (λ v. v.items ≡ map (rank_in strategy program.now.rules) insts.now) }
+    ensures ok { OnOk result (take (length insts.now) ranks.new.items
+        ≡ map (rank_in strategy program.now.rules) insts.now) }
+    ensures there { OnOk result (length insts.now ≤ length ranks.new.items) }
 {
-    let mut ranks = Vec::with_capacity(alloc, insts.len())?;
+    let mut at = 0;
     for inst in insts {
-        let rank = rank_of(alloc, strategy, program, inst)?;
-        ranks.push(rank)?;
+        set_rank(ranks, at, alloc, strategy, program, inst)?;
+        at += 1;
     }
-    Ok(ranks)
+    Ok(())
 }
 
-/// Adds a copy of each with its rank, as far as memory goes. Of each it copies the tags three times, and sorts one of
-/// the copies.
+/// Adds a copy of each with its rank, as far as memory goes. Of each it copies the tags three times, sorts one of the
+/// copies, and takes memory twice.
 fn add_all(
     alloc: Global,
     strategy: Strategy,
@@ -136,8 +164,8 @@ pub(crate) fn add(
     }
 }
 
-/// Removes those of these ranks from where they stand, each in one of the two maps: it looks among those that have
-/// fired only where a rank does not wait. Takes no memory.
+/// Removes those of these ranks from where they stand, each in one of the two maps: it looks among those that wait only
+/// where a rank has not fired. Takes no memory.
 pub(crate) fn remove_all(waiting: &mut Waiting, fired: &mut Fired, ranks: &[Rank])
     requires ordered { IsStrictlySortedBy compare_ranks (keys_of waiting.old.entries) }
     requires unique { IsDistinct same_keys (keys_of fired.old.entries) }
@@ -150,8 +178,8 @@ pub(crate) fn remove_all(waiting: &mut Waiting, fired: &mut Fired, ranks: &[Rank
     ensures unique { IsDistinct same_keys (keys_of fired.new.entries) }
 {
     for rank in ranks {
-        if waiting.remove(rank).is_none() {
-            let _had_fired = fired.remove(&rank.key);
+        if fired.remove(&rank.key).is_none() {
+            let _had_waited = waiting.remove(rank);
         }
     }
 }
@@ -181,7 +209,7 @@ pub(crate) fn mark_in_place(waiting: &mut Waiting, inst: &Inst)
 }
 
 /// Puts a mark where there is room for it.
-pub(crate) fn put(fired: &mut Fired, key: Key, inst: Inst)
+pub(crate) fn put(fired: &mut Fired, key: FlatKey, inst: Inst)
     requires room { 0 < spare fired.old }
     requires unique { IsDistinct same_keys (keys_of fired.old.entries) }
     requires absent { get same_keys fired.old key ≡ None }
@@ -211,7 +239,7 @@ pub(crate) fn ranked_anew(
         let key = rank.key.copy(alloc)?;
         let inst = held.inst.copy(alloc)?;
         let fired = held.fired;
-        ranked.insert(Rank { strategy, key }, Held { inst, fired })?;
+        ranked.insert(Rank::new(strategy, key), Held { inst, fired })?;
     }
     Ok(ranked)
 }

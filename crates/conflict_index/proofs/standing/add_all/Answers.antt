@@ -3,7 +3,7 @@ use Rattle.std.specs.Prelude.{Contains, is_some}
 use Rattle.std.proofs.lemmas.List.{drop_more, drop_all}
 use Rattle.ops_base.specs.declared.rules.Inst.{Inst}
 use Rattle.conflict_index.specs.declared.rank.Held.{Held}
-use Rattle.conflict_index.specs.declared.rank.Rank.{Rank}
+use Rattle.conflict_index.specs.Rank.{Rank}
 use Rattle.conflict_index.specs.Keeping.{arrival}
 use Rattle.conflict_index.proofs.Lookups.{added_one, adds_up, added_all, one_more_at_most}
 use Rattle.conflict_index.proofs.standing.add_all.Goals as goal

@@ -1,7 +1,7 @@
 use Rattle.std.proofs.Common.{◌≡◌, ◌-◌, length, slice_get, Some, ap, sym, ◌∙◌}
 use Rattle.ops_base.proofs.RefractionLaws.{is_same_inst-Decides}
 use Rattle.conflict_index.specs.declared.rank.Held.{Held}
-use Rattle.conflict_index.specs.declared.rank.Rank.{Rank}
+use Rattle.conflict_index.specs.Rank.{Rank}
 use Rattle.conflict_index.proofs.Lookups.{last_of}
 use Rattle.conflict_index.proofs.standing.is_last.Goals as goal
 

@@ -8,7 +8,7 @@ use Rattle.std.specs.List.{IsDistinct}
 use Rattle.std.specs.List.Sorted.{IsStrictlySortedBy}
 use Rattle.std.specs.Map.{keys_of}
 use Rattle.resolution.specs.Keys.{same_keys}
-use Rattle.conflict_index.specs.declared.rank.Rank.{Rank}
+use Rattle.conflict_index.specs.Rank.{Rank}
 use Rattle.conflict_index.specs.Keeping.{Loses}
 use Rattle.conflict_index.specs.Ranking.{compare_ranks}
 use Rattle.conflict_index.proofs.standing.remove_all.Given as goal

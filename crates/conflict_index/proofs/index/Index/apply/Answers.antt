@@ -1,7 +1,7 @@
-use Rattle.std.proofs.Common.{◌≡◌, List, map, ap, ◌∙◌, subst, arith}
+use Rattle.std.proofs.Common.{◌≡◌, List, length, take, map, ap, ◌∙◌, subst, arith}
 use Rattle.std.specs.Prelude.{Result, Ok, Err, OnErr}
 use Rattle.std.specs.HashMap.{spare}
-use Rattle.conflict_index.specs.declared.rank.Rank.{Rank}
+use Rattle.conflict_index.specs.Rank.{Rank}
 use Rattle.conflict_index.specs.Applying.{IsApplied}
 use Rattle.conflict_index.specs.Indexed.{Member, Indexed}
 use Rattle.conflict_index.specs.Keeping.{rank_in, Loses, members_of}
@@ -9,8 +9,8 @@ use Rattle.conflict_index.proofs.Kept.{same_from_permutation, moved_view, moved_
 use Rattle.conflict_index.proofs.Applying.{CanApply, can_apply, come_apart, come_among, told_apart, keys_apart, IsChanged, changed_kept, changed_is, changed_keeps}
 use Rattle.conflict_index.proofs.index.Index.apply.Goals as goal
 
-pub invariant_of-self : goal.invariant_of-self
-invariant_of-self c =
+pub invariant_of-self-in_err-reserve : goal.invariant_of-self-in_err-reserve
+invariant_of-self-in_err-reserve c =
     moved_kept c.self.inside.strategy c.self.inside.waiting.entries c.self.inside.waiting.entries c.self.inside.fired.entries c.reserve.new.self.entries (spare c.self.inside.fired) (spare c.reserve.new.self)
     c.self.invariant (λ i. c.self.inside.waiting.entries) (same_from_permutation c.self.inside.fired.entries c.reserve.new.self.entries c.reserve.ensures.entries.0)
     c.reserve.ensures.unique c.reserve.ensures.spare
@@ -63,19 +63,20 @@ returns-in_err-add-clause-err c =
     ∙ c.self.view_is)
 
 -- what was known at the call
-can : (c : goal.After-drop-leaving-2) → CanApply c.self.inside.strategy c.args.program.now.rules c.args.gone.now c.args.come.now c.self.inside.waiting.entries c.self.inside.fired.entries (spare c.self.inside.fired)
+can : (c : goal.After-remove_all) → CanApply c.self.inside.strategy c.args.program.now.rules c.args.gone.now c.args.come.now c.self.inside.waiting.entries c.self.inside.fired.entries (spare c.self.inside.fired)
 can c =
     can_apply c.self.inside.strategy c.args.program.now.rules c.args.gone.now c.args.come.now c.self.inside.waiting.entries c.self.inside.fired.entries (spare c.self.inside.fired)
     c.args.self.now c.self.view_is c.self.invariant c.requires.part c.requires.apart c.requires.specificities
 
 -- what was done
-changed : (c : goal.After-drop-leaving-2)
+changed : (c : goal.After-remove_all)
     → IsChanged c.self.inside.strategy c.args.program.now.rules c.args.gone.now c.args.come.now c.self.inside.waiting.entries c.add.new.waiting.entries c.remove_all.new.waiting.entries
     c.self.inside.fired.entries c.reserve.new.self.entries c.remove_all.new.fired.entries
 changed c =
     let L : List Rank → Type 0 = λ rs. Loses rs c.add.new.waiting.entries c.remove_all.new.waiting.entries in
     let M : List Rank → Type 0 = λ rs. Loses (map (λ (r : Rank). r.key) rs) c.reserve.new.self.entries c.remove_all.new.fired.entries in
-    let ranks : c.as_slice.result.now ≡ map (rank_in c.self.inside.strategy c.args.program.now.rules) c.args.gone.now = c.as_slice.ensures.value ∙ c.in_ok-leaving.ensures in
+    let ranks : take (length c.args.gone.now) c.as_slice.result.now ≡ map (rank_in c.self.inside.strategy c.args.program.now.rules) c.args.gone.now =
+    ap (λ (rs : List Rank). take (length c.args.gone.now) rs) c.as_slice.ensures.value ∙ c.in_ok-rank_each.ensures.ok in
     record {
       gains = c.in_ok-add.ensures.ok;
       loses = subst L ranks c.remove_all.ensures.waiting;
