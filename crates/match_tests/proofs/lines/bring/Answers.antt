@@ -6,5 +6,5 @@ use Rattle.match_tests.proofs.lines.bring.Goals as goal
 pub add-requires : goal.add-requires
 add-requires c =
     let x = c.in_ok-task.task in
-    coded_alone (λ t. slice_index t 0 % 3) c.args.line.now c.requires x.node (c.tag_at.result % 3) x.side x.token
-    (ap (λ k. k % 3) (c.tag_at.ensures ∙ ap (λ t. slice_index t 0) (sym c.in_ok-task.ensures)))
+    coded_alone (λ t. slice_index t 0 % 3) c.args.line.now c.requires x.node (c.tag_at-code.result % 3) x.side x.token
+    (ap (λ k. k % 3) (c.tag_at-code.ensures ∙ ap (λ t. slice_index t 0) (sym c.in_ok-task.ensures)))
