@@ -53,7 +53,7 @@ pub record StillDoes {E S : Type 0} (start now : Scene) (whole rest : Coming →
 
 -- ---- without input and output
 
--- What a call answers that gives this, where want of memory is free.
+-- What a call answers that gives this; out of memory may be answered at any time.
 abbrev pub Gives : {X S : Type 0} → (X → S) → Result X Mishap → Result S Missed → Type 0
 Gives view (Ok x) what = what ≡ Ok (view x)
 Gives view (Err (mishap.Fault kind)) what = what ≡ Err (Fault kind)

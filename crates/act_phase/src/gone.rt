@@ -9,12 +9,12 @@ use std::alloc::Global;
 use std::collections::BTreeSet;
 
 /// How many tags take no memory. Few right sides remove more elements.
-const FEW: usize = 8;
+const FEW_TAGS: usize = 8;
 
 /// Tags that were removed: the first few where they stand, and only those beyond in a set, which takes memory for each.
 #[derive(Drop)]
 pub(crate) struct Gone {
-    few: SmallVec<u64, FEW>,
+    few: SmallVec<u64, FEW_TAGS>,
     more: BTreeSet<u64>,
 }
 
@@ -47,7 +47,7 @@ impl Gone {
         ensures ok { OnOk result ((t : ℕ) → is_among self.new t ≡ (if t == tag then true else is_among self.old t)) }
         ensures err { OnErr result (self.new ≡ self.old) }
     {
-        if self.few.len() < FEW {
+        if self.few.len() < FEW_TAGS {
             self.few.push(tag)?;
         } else {
             self.more.insert(tag)?;

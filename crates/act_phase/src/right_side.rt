@@ -346,7 +346,7 @@ fn act_all<I: Source, K: Sink>(
 /// all that was put is written. Where `watch` is 2, what an action has removed and made is printed once it is done: an
 /// element of the left side is looked up in the store for that, and for one that the right side has made itself it goes
 /// back over the changes to where it was made. A session is over long before the tags are, so that one beyond 64 bits
-/// is answered as want of memory.
+/// is answered as out of memory.
 pub fn act<I: Source, K: Sink>(
     alloc: Global,
     program: &Program,

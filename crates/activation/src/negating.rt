@@ -18,7 +18,7 @@ use std::alloc::Global;
 use token_line::{Cell, Memory, Tokens, goes_with};
 use work_store::Store;
 
-/// A sum that would not fit is answered as want of memory.
+/// A sum that would not fit is answered as out of memory.
 fn added(count: u64, more: u64) -> Result<u64, OutOfMemory>
     ensures { IfOk result (λ n. n ≡ count + more) }
 {
@@ -96,7 +96,7 @@ fn has_room(plus: bool, cell: Cell) -> bool
 
 /// The tasks by which a negated node or a group takes back its left tokens for one right token more, or puts them out
 /// for one less: it looks at each left token with the code, of which a group has one, or a few where codes happen to be
-/// equal. Where one has no room for another blocker, that is answered as want of memory.
+/// equal. If one has no room for another blocker, that is answered as out of memory.
 fn give_flipped(
     alloc: Global,
     store: &Store,

@@ -12,9 +12,9 @@ use ops_base::memory::OutOfMemory;
 
 /// The alphas, chained by the codes of their classes and tests.
 #[derive(Drop)]
-pub struct Alphas {
-    pub list: Vec<Alpha>,
-    pub chains: Chains,
+pub(crate) struct Alphas {
+    pub(crate) list: Vec<Alpha>,
+    pub(crate) chains: Chains,
 }
 
 fn is_alpha_of(alpha: &Alpha, class: usize, tests: &[Test]) -> bool
@@ -56,7 +56,7 @@ fn add(alphas: &mut Alphas, alpha: Alpha) -> Result<usize, OutOfMemory>
 }
 
 /// The number of the alpha of this class and these tests, new or old.
-pub fn number_of(
+pub(crate) fn number_of(
     alphas: &mut Alphas,
     class: usize,
     tests: Listed<Test>,

@@ -15,7 +15,7 @@ struct Entry {
 
 /// Contracts see the codes of the numbers, in their order.
 #[derive(Drop)]
-pub struct Chains {
+pub(crate) struct Chains {
     entries: Vec<Entry>,
     newest: HashMap<u64, usize>,
 }
@@ -34,7 +34,7 @@ impl Model for Chains {
 
 impl Chains {
     /// Takes no memory.
-    pub fn new(alloc: Global) -> Chains
+    pub(crate) fn new(alloc: Global) -> Chains
         ensures { result ≡ [] }
     {
         Chains {
@@ -44,14 +44,14 @@ impl Chains {
     }
 
     /// The last number of this code, found by its key.
-    pub fn newest(&self, code: u64) -> Option<usize>
+    pub(crate) fn newest(&self, code: u64) -> Option<usize>
         ensures { IsLast self.now code (length self.now) result }
     {
         self.newest.get(&code).copied()
     }
 
     /// The number before this one that has the same code.
-    pub fn earlier(&self, n: usize) -> Option<usize>
+    pub(crate) fn earlier(&self, n: usize) -> Option<usize>
         requires { n < length self.now }
         ensures { (code : ℕ) → slice_get self.now n ≡ Some code → IsLast self.now code n result }
     {
@@ -59,7 +59,7 @@ impl Chains {
     }
 
     /// Gives the next number this code.
-    pub fn add(&mut self, code: u64) -> Result<(), OutOfMemory>
+    pub(crate) fn add(&mut self, code: u64) -> Result<(), OutOfMemory>
         ensures { OnOk result (self.new ≡ self.old ++ code ∷ []) }
     {
         let n = self.entries.as_slice().len();

@@ -23,7 +23,7 @@ fn add_child(nodes: &mut Vec<Node>, p: usize, n: usize) -> Result<(), OutOfMemor
 }
 
 /// Gives each node its children, in one pass over the nodes.
-pub fn add_children(nodes: &mut Vec<Node>) -> Result<(), OutOfMemory>
+pub(crate) fn add_children(nodes: &mut Vec<Node>) -> Result<(), OutOfMemory>
     requires ordered { AreOrdered nodes.old.items }
     requires bare { AreBare nodes.old.items }
     ensures { OnOk result (AreFilled nodes.old.items nodes.new.items (length nodes.old.items)) }

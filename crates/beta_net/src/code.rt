@@ -132,7 +132,7 @@ fn members_code(code: u64, members: &[NormalCondition]) -> u64
 }
 
 /// The code of a part after this parent.
-pub fn part_code(parent: Option<usize>, part: &NormalPart) -> u64
+pub(crate) fn part_code(parent: Option<usize>, part: &NormalPart) -> u64
     ensures { result ≡ part_code parent part.now }
 {
     let code = parent_code(parent);
@@ -143,7 +143,7 @@ pub fn part_code(parent: Option<usize>, part: &NormalPart) -> u64
 }
 
 /// The code of an alpha.
-pub fn alpha_code(class: usize, tests: &[Test]) -> u64
+pub(crate) fn alpha_code(class: usize, tests: &[Test]) -> u64
     ensures { result ≡ alpha_code class tests.now }
 {
     tests_code(mixed(1, class as u64), tests)

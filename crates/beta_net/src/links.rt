@@ -10,22 +10,22 @@ use ops_base::memory::OutOfMemory;
 
 /// A path: what stands before its last part, and that part.
 #[derive(Drop)]
-pub struct Link {
-    pub parent: Option<usize>,
+pub(crate) struct Link {
+    pub(crate) parent: Option<usize>,
     /// The link by which its depth goes: for a group that of its last member, for a condition its parent.
-    pub above: Option<usize>,
+    pub(crate) above: Option<usize>,
     /// How many positive conditions stand before the last part, members of its group included.
-    pub place: usize,
+    pub(crate) place: usize,
     /// How many nodes a token passes down to it.
-    pub depth: usize,
-    pub part: NormalPart,
+    pub(crate) depth: usize,
+    pub(crate) part: NormalPart,
 }
 
 /// The paths so far, chained by the codes of their keys.
 #[derive(Drop)]
-pub struct Links {
-    pub list: Vec<Link>,
-    pub chains: Chains,
+pub(crate) struct Links {
+    pub(crate) list: Vec<Link>,
+    pub(crate) chains: Chains,
 }
 
 fn is_same_parent(a: Option<usize>, b: Option<usize>) -> bool
@@ -76,7 +76,7 @@ fn add(links: &mut Links, link: Link) -> Result<usize, OutOfMemory>
 }
 
 /// The number of this link, new or old.
-pub fn number_of(links: &mut Links, link: Link) -> Result<usize, OutOfMemory>
+pub(crate) fn number_of(links: &mut Links, link: Link) -> Result<usize, OutOfMemory>
     requires linked { IsLinked links.old }
     requires fit { IsFit links.old.list.items (length links.old.list.items) link }
     ensures { IfOk result (λ n. Adds links.old links.new link.parent link.part n) }
@@ -93,7 +93,7 @@ pub fn number_of(links: &mut Links, link: Link) -> Result<usize, OutOfMemory>
 }
 
 /// The depth of what stands below this link.
-pub fn depth_below(links: &Links, above: Option<usize>) -> usize
+pub(crate) fn depth_below(links: &Links, above: Option<usize>) -> usize
     requires linked { IsLinked links.now }
     requires within { IsWithin above (length links.now.list.items) }
     ensures { result ≡ depth_to links.now.list.items above + 1 }

@@ -18,9 +18,9 @@ use std::alloc::Global;
 
 /// Alphas and nodes that are not yet a `Net`.
 #[derive(Drop)]
-pub struct Draft {
-    pub alphas: Vec<Alpha>,
-    pub nodes: Vec<Node>,
+pub(crate) struct Draft {
+    pub(crate) alphas: Vec<Alpha>,
+    pub(crate) nodes: Vec<Node>,
 }
 
 fn kind_of(condition: &NormalCondition) -> Kind
@@ -151,7 +151,7 @@ fn add_terminals(alloc: Global, nodes: &mut Vec<Node>, ends: &[End]) -> Result<(
 }
 
 /// A node for each link, and a terminal for each end.
-pub fn lower(alloc: Global, links: &[Link], ends: &[End]) -> Result<Draft, OutOfMemory>
+pub(crate) fn lower(alloc: Global, links: &[Link], ends: &[End]) -> Result<Draft, OutOfMemory>
     ensures draft { IfOk result (λ d. IsDraft links.now ends.now d.alphas.items d.nodes.items) }
     ensures bare { IfOk result (λ d. AreBare d.nodes.items) }
     ensures rightless { IfOk result (λ d. AreRightless d.nodes.items) }

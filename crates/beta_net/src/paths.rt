@@ -19,16 +19,16 @@ use std::alloc::Global;
 
 /// Where a production's parts end, and the depth of what stands below them.
 #[derive(Drop)]
-pub struct End {
-    pub parent: Option<usize>,
-    pub depth: usize,
+pub(crate) struct End {
+    pub(crate) parent: Option<usize>,
+    pub(crate) depth: usize,
 }
 
 /// The paths of all productions, and the end of each production.
 #[derive(Drop)]
-pub struct Built {
-    pub links: Links,
-    pub ends: Vec<End>,
+pub(crate) struct Built {
+    pub(crate) links: Links,
+    pub(crate) ends: Vec<End>,
 }
 
 /// The path of this condition, new or old.
@@ -238,7 +238,7 @@ fn add_rule(alloc: Global, links: &mut Links, parts: &[Part]) -> Result<End, Out
 
 /// The paths of the productions, and where each ends.
 #[tactic(auto, using(crate::proofs::BuildLemmas::no_links, crate::proofs::BuildLemmas::none_ended, crate::proofs::BuildLemmas::no_paths))]
-pub fn build(alloc: Global, rules: &[Rule]) -> Result<Built, OutOfMemory>
+pub(crate) fn build(alloc: Global, rules: &[Rule]) -> Result<Built, OutOfMemory>
     ensures { IfOk result (λ b. AreBuilt b.links.list.items b.ends.items rules.now) }
 {
     let mut links = Links {

@@ -32,7 +32,7 @@ fn add_right(nodes: &mut Vec<Node>, p: usize, n: usize) -> Result<(), OutOfMemor
 }
 
 /// Gives each node the numbers of the groups whose giver it is, in one pass over the nodes.
-pub fn add_rights(nodes: &mut Vec<Node>) -> Result<(), OutOfMemory>
+pub(crate) fn add_rights(nodes: &mut Vec<Node>) -> Result<(), OutOfMemory>
     requires ordered { AreGiversBefore nodes.old.items }
     requires rightless { AreRightless nodes.old.items }
     ensures { OnOk result (AreGiven nodes.old.items nodes.new.items (length nodes.old.items)) }

@@ -5,13 +5,13 @@ use net_base::normal::{NormalCondition, NormalOperand, NormalPart, NormalTest};
 use ops_base::conditions::{Operand, Test};
 use ops_base::values::Value;
 
-pub trait Same {
+pub(crate) trait Same {
     fn same(&self, other: &Self) -> bool
         ensures { IsTrue result ↔ (self.now ≡ other.now) };
 }
 
 /// Looks at one item after another up to the first two that differ.
-pub fn same_items<T: Same>(a: &[T], b: &[T]) -> bool
+pub(crate) fn same_items<T: Same>(a: &[T], b: &[T]) -> bool
     ensures { IsTrue result ↔ (a.now ≡ b.now) }
 {
     let mut left = a;

@@ -25,7 +25,7 @@ use work_store::Store;
 /// A line, with what it was when its cell was made, and the network and the store of the phase. Contracts alone see
 /// these and the number of all lines.
 #[derive(Drop)]
-pub struct LineCell {
+pub(crate) struct LineCell {
     pub(crate) line: Line,
     pub(crate) lines: usize,
     pub(crate) first: Snapshot<Line>,
@@ -38,7 +38,7 @@ pub struct LineCell {
 
 /// The pool, with the network and the store of the phase, which contracts alone see.
 #[derive(Drop)]
-pub struct PoolCell {
+pub(crate) struct PoolCell {
     pub(crate) pool: Pool,
     pub(crate) net: Snapshot<Net>,
     pub(crate) store: Snapshot<Store>,
@@ -48,7 +48,7 @@ pub struct PoolCell {
 impl LineCell {
     /// Does a task whose line this is and whose code this is: it becomes an entry with the children that are put out.
     /// It costs what `activation::activate_coded` costs. Where memory runs out nothing has changed.
-    pub fn activate(
+    pub(crate) fn activate(
         &mut self,
         alloc: Global,
         net: &Net,
@@ -81,7 +81,7 @@ impl LineCell {
 
 impl PoolCell {
     /// Takes a task, which fits. It costs what `Pool::take` costs.
-    pub fn take(&mut self, worker: usize) -> Taken
+    pub(crate) fn take(&mut self, worker: usize) -> Taken
         requires worker { worker < self.old.pool.workers.value }
         requires free { holds worker self.old.pool.entries.items ≡ false }
         ensures says { TakeSays worker self.old.pool.first.value.items self.old.pool.entries.items self.new.pool.entries.items result }
@@ -95,7 +95,7 @@ impl PoolCell {
     }
 
     /// Finishes the task that the worker holds. Its children fit. Where memory runs out nothing has changed.
-    pub fn finish(
+    pub(crate) fn finish(
         &mut self,
         alloc: Global,
         worker: usize,
@@ -118,7 +118,7 @@ impl PoolCell {
     }
 
     /// The worker leaves the task that it holds, and no task is taken from then on. Takes no memory.
-    pub fn stop(&mut self, worker: usize)
+    pub(crate) fn stop(&mut self, worker: usize)
         requires holds { holds worker self.old.pool.entries.items ≡ true }
         ensures entries { self.new.pool.entries.items ≡ self.old.pool.entries.items ++ StopEntry worker ∷ [] }
         ensures first { self.new.pool.first ≡ self.old.pool.first }

@@ -37,17 +37,17 @@ pub(crate) struct Sharing {
 }
 
 /// How many tasks in flight end the work on the calling thread.
-const MANY: usize = 256;
+const MANY_IN_FLIGHT: usize = 256;
 
 /// How many tasks in flight are worth a worker more.
-const FEWEST: usize = 64;
+const TASKS_FOR_A_WORKER: usize = 64;
 
 /// How many tasks in flight end the work on the calling thread, if they can be shared at all.
 fn most_alone(sharing: Sharing) -> Option<usize> {
     if sharing.workers == 1 {
         None
     } else {
-        Some(MANY)
+        Some(MANY_IN_FLIGHT)
     }
 }
 
@@ -64,7 +64,7 @@ fn team_size(tasks: usize, workers: usize) -> usize
     ensures some { 1 ≤ result }
     ensures few { result ≤ workers }
 {
-    let wanted = (tasks / FEWEST).saturating_add(1).max(2);
+    let wanted = (tasks / TASKS_FOR_A_WORKER).saturating_add(1).max(2);
     if wanted < workers { wanted } else { workers }
 }
 
@@ -172,7 +172,7 @@ fn work_taken<R: Threads + Wait + Sync, G: Gate>(
     ensures workers { OnOk result (sharing.new.workers ≡ sharing.old.workers) }
 {
     let team = team_size(world.in_flight(), sharing.workers);
-    let is_first = !sharing.shared && world.in_flight() < MANY;
+    let is_first = !sharing.shared && world.in_flight() < MANY_IN_FLIGHT;
     let parts = world.into_parts();
     if !is_first && !are_worth_it(net, store, &parts.lines, &parts.flight) {
         return finish_alone(alloc, net, store, gate, parts);

@@ -22,19 +22,19 @@ use work_store::Store;
 
 /// What stands in a cell: the pool, or a line.
 #[derive(Drop)]
-pub enum Slot {
+pub(crate) enum Slot {
     Pool(Box<PoolCell>),
     Line(Box<LineCell>),
 }
 
 /// An entry of either. No value of it is made.
-pub enum SlotEntry {
+pub(crate) enum SlotEntry {
     OfPool(PoolEntry),
     OfLine(Entry),
 }
 
 /// What no turn changes. No value of it is made.
-pub enum SlotName {
+pub(crate) enum SlotName {
     PoolName {
         first: Snapshot<Vec<Task>>,
         workers: Snapshot<usize>,
@@ -116,7 +116,7 @@ fn line_slot(
 
 /// The pool of the tasks in flight, and then the lines. It moves each line, and takes memory for each. Where memory
 /// runs out the lines are let go.
-pub fn open(
+pub(crate) fn open(
     alloc: Global,
     net: &Net,
     store: &Store,
@@ -139,7 +139,7 @@ pub fn open(
 }
 
 /// The lines in the slots, in their order. It moves each, and lets the pool go.
-pub fn lines_of(alloc: Global, slots: Vec<Slot>) -> Result<Vec<Line>, OutOfMemory>
+pub(crate) fn lines_of(alloc: Global, slots: Vec<Slot>) -> Result<Vec<Line>, OutOfMemory>
     ensures { IfOk result (λ v. v.items ≡ rows_in slots.items) }
 {
     let mut lines = Vec::new(alloc);

@@ -26,11 +26,11 @@ use turn_table::{Cells, Pass};
 use work_store::Store;
 
 /// The cells, their first pass, and the passes of the workers.
-pub type Started = (Cells<Slot>, Pass<Slot>, Vec<Pass<Slot>>);
+pub(crate) type Started = (Cells<Slot>, Pass<Slot>, Vec<Pass<Slot>>);
 
 /// Cells of a pool of the tasks in flight and of the lines, and a pass for each of this many workers. It moves each
 /// line, and takes memory for each line and each worker. Where memory runs out the lines are let go.
-pub fn start(
+pub(crate) fn start(
     alloc: Global,
     net: &Net,
     store: &Store,
@@ -52,7 +52,7 @@ pub fn start(
 }
 
 /// A pass for each worker, in the order of their numbers.
-pub fn split_all(
+pub(crate) fn split_all(
     alloc: Global,
     cells: &Cells<Slot>,
     first: &mut Pass<Slot>,
@@ -74,7 +74,7 @@ pub fn split_all(
 }
 
 /// A worker at work. True where it did whole rounds until the pool was quiet.
-pub fn work_with<R: Wait, G: Gate>(
+pub(crate) fn work_with<R: Wait, G: Gate>(
     rt: &R,
     phase: &Phase<'_>,
     gate: &G,
@@ -90,7 +90,7 @@ pub fn work_with<R: Wait, G: Gate>(
 
 /// All workers at once, each with its pass in a thread of its own, and one of them on the calling thread. Where a
 /// thread can't be started, its work is done on the thread that wanted to start it. It waits for all of them.
-pub fn work_all<R: Threads + Wait + Sync, G: Gate>(
+pub(crate) fn work_all<R: Threads + Wait + Sync, G: Gate>(
     rt: &R,
     phase: &Phase<'_>,
     gate: &G,
@@ -113,7 +113,7 @@ pub fn work_all<R: Threads + Wait + Sync, G: Gate>(
 }
 
 /// Joins all. True where each did whole rounds until the pool was quiet.
-pub fn join_all(
+pub(crate) fn join_all(
     cells: &Cells<Slot>,
     first: &mut Pass<Slot>,
     ended: Vec<(Pass<Slot>, bool)>,
@@ -143,7 +143,7 @@ pub fn join_all(
 /// The lines, once each of this many workers was joined, and each did whole rounds until the pool was quiet. Each phase
 /// that was on its way in the lines that were opened is on its way in these, and no task waits. It moves each line
 /// twice, and waits for nothing. Where memory runs out the lines are let go.
-pub fn close(
+pub(crate) fn close(
     alloc: Global,
     net: &Net,
     store: &Store,

@@ -26,7 +26,7 @@ use turn_table::Pass;
 use work_store::Store;
 
 /// A take of the pool in the slot, at the cost of `Pool::take`.
-pub fn take_in(slot: &mut Slot, worker: usize) -> Taken
+pub(crate) fn take_in(slot: &mut Slot, worker: usize) -> Taken
     requires pool { IsPool slot.old }
     requires worker { worker < workers_in slot.old }
     requires free { holds worker (pool_list slot.old) ≡ false }
@@ -41,7 +41,7 @@ pub fn take_in(slot: &mut Slot, worker: usize) -> Taken
 }
 
 /// A finish of the pool in the slot. Where memory runs out nothing has changed.
-pub fn finish_in(
+pub(crate) fn finish_in(
     slot: &mut Slot,
     alloc: Global,
     worker: usize,
@@ -65,7 +65,7 @@ pub fn finish_in(
 }
 
 /// A stop of the pool in the slot. Takes no memory.
-pub fn stop_in(slot: &mut Slot, worker: usize)
+pub(crate) fn stop_in(slot: &mut Slot, worker: usize)
     requires pool { IsPool slot.old }
     requires holds { holds worker (pool_list slot.old) ≡ true }
     ensures name { name slot.new ≡ name slot.old }
@@ -79,7 +79,7 @@ pub fn stop_in(slot: &mut Slot, worker: usize)
 
 /// An activation of a task with this code, on the line in the slot, at the cost of `activation::activate_coded`. Where
 /// memory runs out nothing has changed.
-pub fn activate_in(
+pub(crate) fn activate_in(
     slot: &mut Slot,
     alloc: Global,
     net: &Net,
@@ -107,7 +107,7 @@ pub fn activate_in(
 }
 
 /// Takes a task from the pool. It waits for a turn of the pool.
-pub fn take_task<R: Wait>(
+pub(crate) fn take_task<R: Wait>(
     rt: &R,
     phase: &Phase<'_>,
     pass: Pass<Slot>,
@@ -132,7 +132,7 @@ pub fn take_task<R: Wait>(
 }
 
 /// Does a task on its line, after the gate, and answers whether there was memory. It waits for a turn of the line.
-pub fn do_task<R: Wait, G: Gate>(
+pub(crate) fn do_task<R: Wait, G: Gate>(
     rt: &R,
     phase: &Phase<'_>,
     gate: &G,
@@ -170,7 +170,7 @@ pub fn do_task<R: Wait, G: Gate>(
 }
 
 /// Finishes the task that was taken last, and answers whether there was memory. It waits for a turn of the pool.
-pub fn finish_task<R: Wait>(
+pub(crate) fn finish_task<R: Wait>(
     rt: &R,
     phase: &Phase<'_>,
     pass: Pass<Slot>,
@@ -194,7 +194,12 @@ pub fn finish_task<R: Wait>(
 }
 
 /// Tells the others that this worker has no memory. It waits for a turn of the pool.
-pub fn stop<R: Wait>(rt: &R, phase: &Phase<'_>, pass: Pass<Slot>, worker: usize) -> Pass<Slot>
+pub(crate) fn stop<R: Wait>(
+    rt: &R,
+    phase: &Phase<'_>,
+    pass: Pass<Slot>,
+    worker: usize,
+) -> Pass<Slot>
     requires pass { IsPassOf phase.now.cells.now pass }
     requires number { number pass ≡ worker + 1 }
     requires holds { has_taken worker (knows pass).own ≡ true }
@@ -210,7 +215,7 @@ pub fn stop<R: Wait>(rt: &R, phase: &Phase<'_>, pass: Pass<Slot>, worker: usize)
 /// How a round of a worker ended: a task is done and finished; no task waits now; none ever will; or memory ran out,
 /// here or at another worker.
 #[derive(Clone, Copy)]
-pub enum RoundEnd {
+pub(crate) enum RoundEnd {
     Done,
     Nothing,
     Quiet,

@@ -53,13 +53,13 @@ fn do_round<R: Wait, G: Gate>(
 
 /// A worker's pass at the end, and whether all its rounds are whole and it saw the pool quiet.
 #[derive(Drop)]
-pub struct Ended {
-    pub pass: Pass<Slot>,
-    pub whole: bool,
+pub(crate) struct Ended {
+    pub(crate) pass: Pass<Slot>,
+    pub(crate) whole: bool,
 }
 
 /// Rounds until the pool is quiet, or memory runs out here or at another worker. Where no task waits it backs off.
-pub fn work<R: Wait, G: Gate>(
+pub(crate) fn work<R: Wait, G: Gate>(
     rt: &R,
     phase: &Phase<'_>,
     gate: &G,

@@ -167,7 +167,7 @@ fn standing(alloc: Global, net: &Net, store: &Store, world: &World) -> Result<i6
     Ok(lines[number].left_sum(4, &task.token))
 }
 
-// so many lines, and element 1 has come
+// that number of lines, and element 1 has come
 fn world_of_one(alloc: Global, net: &Net, store: &Store, lines: usize) -> Result<World, OutOfMemory>
     requires some { 1 ≤ lines }
     requires held { held_of store.now 1 ≡ Some (element_of 1 0) }

@@ -93,7 +93,7 @@ pub(crate) fn finish(
     Ok(())
 }
 
-// takes step after step, the last task first, and leaves the first tasks in flight, so many
+// takes step after step, the last task first, and leaves that number of first tasks in flight
 pub(crate) fn settle_behind(
     alloc: Global,
     net: &Net,

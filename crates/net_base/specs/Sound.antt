@@ -118,7 +118,7 @@ abbrev pub up_node : (ℕ → Bool) → Option Node → Bool
 up_node go None = false
 up_node go (Some x) = is_join x.kind && up_parent go x.parent
 
--- going up so many joins from node n leads to this parent
+-- going up that number of joins from node n leads to this parent
 abbrev pub goes_up : List Node → ℕ → Option ℕ → ℕ → Bool
 goes_up nodes zero parent n = is_parent parent n
 goes_up nodes (suc k) parent n = up_node (goes_up nodes k parent) (slice_get nodes n)

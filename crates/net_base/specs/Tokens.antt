@@ -95,8 +95,8 @@ unfoldable pub sum_to : ℕ → (ℕ → ℕ) → ℕ
 sum_to zero f = 0
 sum_to (suc k) f = f k + sum_to k f
 
--- how often right tokens stand that pass the test, of those that begin with these tags and have so many more, each
--- below the bound
+-- the number of right tokens that pass the test, of those that begin with these tags and have that number of tags
+-- more, each below the bound
 abbrev pub count_from : ℕ → ℕ → (List ℕ → Bool) → Tokens → List ℕ → ℕ
 count_from tags zero test right r = if test r then right r else 0
 count_from tags (suc more) test right r = sum_to tags (λ k. count_from tags more test right (r ++ k ∷ []))

@@ -13,7 +13,7 @@ use ops_grammar::Word;
 impl Draft {
     // [NAT] )
     #[tactic(auto, unfolding(ops_grammar::specs::Grammar::goes, ops_grammar::specs::Grammar::step, ops_grammar::specs::Grammar::ends))]
-    pub fn run<'a>(&mut self, words: &'a [Word]) -> Result<&'a [Word], Refusal>
+    pub(crate) fn run<'a>(&mut self, words: &'a [Word]) -> Result<&'a [Word], Refusal>
         ensures reads { Reads Count (view self.old) (view self.new) words.now result }
         ensures within { IsWithin words.now result }
     {
@@ -32,7 +32,7 @@ impl Draft {
 
     // ) | lex ) | mea )
     #[tactic(auto, unfolding(ops_grammar::specs::Grammar::goes, ops_grammar::specs::Grammar::step, ops_grammar::specs::Grammar::ends))]
-    pub fn strategy<'a>(&mut self, words: &'a [Word]) -> Result<&'a [Word], Refusal>
+    pub(crate) fn strategy<'a>(&mut self, words: &'a [Word]) -> Result<&'a [Word], Refusal>
         ensures reads { Reads StrategyName (view self.old) (view self.new) words.now result }
         ensures within { IsWithin words.now result }
     {
@@ -51,7 +51,7 @@ impl Draft {
 
     // ) | 0 ) | 1 ) | 2 )
     #[tactic(auto, unfolding(ops_grammar::specs::Grammar::goes, ops_grammar::specs::Grammar::step, ops_grammar::specs::Grammar::ends))]
-    pub fn watch<'a>(&mut self, words: &'a [Word]) -> Result<&'a [Word], Refusal>
+    pub(crate) fn watch<'a>(&mut self, words: &'a [Word]) -> Result<&'a [Word], Refusal>
         ensures reads { Reads Level (view self.old) (view self.new) words.now result }
         ensures within { IsWithin words.now result }
     {
@@ -71,7 +71,7 @@ impl Draft {
 
 impl Draft {
     // )
-    pub fn cs<'a>(&mut self, words: &'a [Word]) -> Result<&'a [Word], Refusal>
+    pub(crate) fn cs<'a>(&mut self, words: &'a [Word]) -> Result<&'a [Word], Refusal>
         ensures reads { Reads (Closes EndsCs) (view self.old) (view self.new) words.now result }
         ensures within { IsWithin words.now result }
     {
@@ -81,7 +81,7 @@ impl Draft {
     }
 
     // )
-    pub fn exit<'a>(&mut self, words: &'a [Word]) -> Result<&'a [Word], Refusal>
+    pub(crate) fn exit<'a>(&mut self, words: &'a [Word]) -> Result<&'a [Word], Refusal>
         ensures reads { Reads (Closes EndsExit) (view self.old) (view self.new) words.now result }
         ensures within { IsWithin words.now result }
     {

@@ -13,7 +13,7 @@ use ops_grammar::Word;
 
 impl Draft {
     // NAME NAME* )
-    pub fn declaration<'a>(&mut self, words: &'a [Word]) -> Result<&'a [Word], Refusal>
+    pub(crate) fn declaration<'a>(&mut self, words: &'a [Word]) -> Result<&'a [Word], Refusal>
         ensures reads { Goes (λ more ws. goes (words.now ++ more) (ClassDeclared ∷ Attributes ∷ ws) (view self.old)) (view self.new) result }
         ensures within { IsWithin words.now result }
     {
@@ -72,7 +72,10 @@ impl Draft {
 impl Draft {
     // NAME NAME* )
     #[tactic(auto, unfolding(ops_grammar::specs::Grammar::goes, ops_grammar::specs::Grammar::step, ops_grammar::specs::Grammar::ends))]
-    pub fn vector_declaration<'a>(&mut self, words: &'a [Word]) -> Result<&'a [Word], Refusal>
+    pub(crate) fn vector_declaration<'a>(
+        &mut self,
+        words: &'a [Word],
+    ) -> Result<&'a [Word], Refusal>
         ensures reads { Goes (λ more ws. goes (words.now ++ more) (VectorName ∷ VectorNames ∷ ws) (view self.old)) (view self.new) result }
         ensures within { IsWithin words.now result }
     {

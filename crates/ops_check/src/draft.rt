@@ -19,28 +19,28 @@ use std::alloc::Global;
 
 /// Where a constant of a command goes: to a scalar attribute, or among the values of the vector attribute.
 #[derive(Clone, Copy, Debug, PartialEq, Eq)]
-pub enum Target {
+pub(crate) enum Target {
     Fixed { field: usize },
     Constants,
 }
 
 /// What the tags of a command are for.
 #[derive(Clone, Copy, Debug, PartialEq, Eq)]
-pub enum TagUse {
+pub(crate) enum TagUse {
     Remove,
     Show,
 }
 
 /// What the names of a command are for.
 #[derive(Clone, Copy, Debug, PartialEq, Eq)]
-pub enum NameUse {
+pub(crate) enum NameUse {
     Print,
     Break,
 }
 
 /// What the element of a command is for: it is made, or the elements that have its values are shown.
 #[derive(Clone, Copy, Debug, PartialEq, Eq)]
-pub enum ElementUse {
+pub(crate) enum ElementUse {
     Make,
     Show,
 }
@@ -49,40 +49,40 @@ pub enum ElementUse {
 /// of the state of the definition's walk (`State` in the specs/Grammar.antt of ops_grammar), which hands values from
 /// one method to the next.
 #[derive(Drop)]
-pub struct Draft {
-    pub classes: Classes,
-    pub rules: Declared<Rule>,
-    pub commands: GivenCommands,
+pub(crate) struct Draft {
+    pub(crate) classes: Classes,
+    pub(crate) rules: Declared<Rule>,
+    pub(crate) commands: GivenCommands,
     /// The names of vector attributes.
-    pub vectors: Declared<Sym>,
+    pub(crate) vectors: Declared<Sym>,
     /// The name of the class or the production that is being read.
-    pub name: Sym,
+    pub(crate) name: Sym,
     /// The first byte of the form that is being read.
-    pub first: usize,
+    pub(crate) first: usize,
     /// The attributes of the class that is being read.
-    pub attrs: Vec<Sym>,
+    pub(crate) attrs: Vec<Sym>,
     /// The class of the element of a command.
-    pub class: usize,
+    pub(crate) class: usize,
     /// The values of the vector attribute that is being read in a command.
-    pub constants: Vec<Value>,
+    pub(crate) constants: Vec<Value>,
     /// The fields of the element of a command, with their values.
-    pub fixed: Vec<Fixed>,
-    pub element_use: ElementUse,
+    pub(crate) fixed: Vec<Fixed>,
+    pub(crate) element_use: ElementUse,
     /// The tags of a command.
-    pub tags: Vec<u64>,
+    pub(crate) tags: Vec<u64>,
     /// The names of a command.
-    pub named: Vec<Sym>,
+    pub(crate) named: Vec<Sym>,
     /// The value variables that a production leaves in sight, until the next one begins.
-    pub values: Declared<Named>,
+    pub(crate) values: Declared<Named>,
     /// The element variables that it leaves in sight.
-    pub elements: Declared<Named>,
+    pub(crate) elements: Declared<Named>,
     /// How many variables it gave a number.
-    pub variables: usize,
-    pub alloc: Global,
+    pub(crate) variables: usize,
+    pub(crate) alloc: Global,
 }
 
 impl Draft {
-    pub fn new(alloc: Global) -> Draft
+    pub(crate) fn new(alloc: Global) -> Draft
         ensures { view result ≡ nothing_read }
     {
         Draft {
@@ -107,58 +107,58 @@ impl Draft {
     }
 
     // whether a class may still be declared: no production was read, and no command after which a declaration is late
-    pub fn may_declare(&self) -> bool
+    pub(crate) fn may_declare(&self) -> bool
         ensures { result ≡ may_declare (view self.now) }
     {
         self.rules.len() == 0 && self.commands.may_declare()
     }
 
     // whether a production may still be read: no command was read after which it is late
-    pub fn may_produce(&self) -> bool
+    pub(crate) fn may_produce(&self) -> bool
         ensures { result ≡ may_produce (view self.now) }
     {
         self.commands.may_produce()
     }
 
-    pub fn is_class(&self, name: Sym) -> bool
+    pub(crate) fn is_class(&self, name: Sym) -> bool
         ensures { result ≡ is_class (view self.now) name }
     {
         self.classes.place_of(name).is_some()
     }
 
-    pub fn is_rule(&self, name: Sym) -> bool
+    pub(crate) fn is_rule(&self, name: Sym) -> bool
         ensures { result ≡ is_rule (view self.now) name }
     {
         self.rules.place_of(name).is_some()
     }
 
-    pub fn is_attribute(&self, name: Sym) -> bool
+    pub(crate) fn is_attribute(&self, name: Sym) -> bool
         ensures { result ≡ is_one_of name (view self.now).attrs }
     {
         self.attrs.iter().any(|attr| *attr == name)
     }
 
-    pub fn is_vector_name(&self, name: Sym) -> bool
+    pub(crate) fn is_vector_name(&self, name: Sym) -> bool
         ensures { result ≡ is_one_of name (view self.now).vectors }
     {
         is_one_of(name, &self.vectors)
     }
 
     // whether the class that is read would have a second vector attribute by this name
-    pub fn is_second(&self, name: Sym) -> bool
+    pub(crate) fn is_second(&self, name: Sym) -> bool
         ensures { result ≡ is_second name (view self.now) }
     {
         is_one_of(name, &self.vectors) && has_vector(&self.vectors, &self.attrs)
     }
 
     // whether a class would get a second vector attribute by this name
-    pub fn makes_second(&self, name: Sym) -> bool
+    pub(crate) fn makes_second(&self, name: Sym) -> bool
         ensures { result ≡ makes_second name (view self.now).classes }
     {
         self.classes.makes_second(name)
     }
 
-    pub fn class_of(&self, name: Sym) -> Option<usize>
+    pub(crate) fn class_of(&self, name: Sym) -> Option<usize>
         ensures { result ≡ position (λ c. c.name.0 == name.0) (view self.now).classes }
     {
         self.classes.place_of(name)
@@ -166,7 +166,7 @@ impl Draft {
 }
 
 impl Draft {
-    pub fn end_class(&mut self) -> Result<(), Refusal>
+    pub(crate) fn end_class(&mut self) -> Result<(), Refusal>
         ensures { Becomes (view self.new) (with_class (view self.old)) result }
     {
         let attrs = arranged(self.alloc, &self.vectors, &self.attrs)?;
@@ -181,7 +181,7 @@ impl Draft {
     }
 
     // A name becomes one of a vector attribute.
-    pub fn add_vector(&mut self, name: Sym) -> Result<(), Refusal>
+    pub(crate) fn add_vector(&mut self, name: Sym) -> Result<(), Refusal>
         ensures { Becomes (view self.new) (with_vector (view self.old) name) result }
     {
         self.vectors.push(name)?;
@@ -197,7 +197,7 @@ impl Draft {
         Ok(())
     }
 
-    pub fn add_command(&mut self, command: Command) -> Result<(), Refusal>
+    pub(crate) fn add_command(&mut self, command: Command) -> Result<(), Refusal>
         ensures { Becomes (view self.new) (with_command (view self.old) command) result }
     {
         self.commands.push(command)?;
@@ -206,7 +206,7 @@ impl Draft {
 }
 
 impl Draft {
-    pub fn add_constant(&mut self, target: Target, value: Value) -> Result<(), Refusal>
+    pub(crate) fn add_constant(&mut self, target: Target, value: Value) -> Result<(), Refusal>
         ensures { Becomes (view self.new) (with_constant (target_of target) (view self.old) value) result }
     {
         match target {
@@ -220,7 +220,7 @@ impl Draft {
 
     // whether the field is the vector attribute of the class that was named. The definition is total: the class was
     // found by its name, so it is there.
-    pub fn is_vector(&self, field: usize) -> bool
+    pub(crate) fn is_vector(&self, field: usize) -> bool
         ensures { result ≡ is_vector (class_of (view self.now).classes (view self.now).class) field }
     {
         match self.classes.get(self.class) {
@@ -230,7 +230,7 @@ impl Draft {
     }
 
     // the field of an attribute of the class that was named
-    pub fn field_of(&self, name: Sym) -> Option<usize>
+    pub(crate) fn field_of(&self, name: Sym) -> Option<usize>
         ensures { result ≡ position (λ a. a.0 == name.0) (attributes_of (slice_get (view self.now).classes (view self.now).class)) }
     {
         self.classes.get(self.class)?.field_of(name)

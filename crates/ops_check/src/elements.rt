@@ -13,7 +13,7 @@ use ops_grammar::Word;
 
 impl Draft {
     // CLASS fixed* )
-    pub fn make<'a>(&mut self, words: &'a [Word]) -> Result<&'a [Word], Refusal>
+    pub(crate) fn make<'a>(&mut self, words: &'a [Word]) -> Result<&'a [Word], Refusal>
         ensures reads { Goes (λ more ws. goes (words.now ++ more) (ClassName ∷ Terms InFixed ∷ ws) (record (view self.old) { fixed = []; shows = false })) (view self.new) result }
         ensures within { IsWithin words.now result }
     {
@@ -24,7 +24,7 @@ impl Draft {
 
     // CLASS fixed* ) | )
     #[tactic(auto, unfolding(ops_grammar::specs::Grammar::goes, ops_grammar::specs::Grammar::step, ops_grammar::specs::Grammar::ends))]
-    pub fn ppwm<'a>(&mut self, words: &'a [Word]) -> Result<&'a [Word], Refusal>
+    pub(crate) fn ppwm<'a>(&mut self, words: &'a [Word]) -> Result<&'a [Word], Refusal>
         ensures reads { Reads Shown (view self.old) (view self.new) words.now result }
         ensures within { IsWithin words.now result }
     {

@@ -19,7 +19,7 @@ use std::mem;
 
 impl Draft {
     // the values of the vector attribute of a command end
-    pub fn end_constants(&mut self, field: usize) -> Result<(), Refusal>
+    pub(crate) fn end_constants(&mut self, field: usize) -> Result<(), Refusal>
         ensures { Becomes (view self.new) (with_several InFixed field (view self.old)) result }
     {
         let none = Vec::new(self.alloc);
@@ -29,7 +29,7 @@ impl Draft {
     }
 
     // A `make` or a `ppwm` ends. Its fields take no more room than they need.
-    pub fn end_fixed(&mut self) -> Result<(), Refusal>
+    pub(crate) fn end_fixed(&mut self) -> Result<(), Refusal>
         ensures { Becomes (view self.new) (with_element InFixed (view self.old)) result }
     {
         let none = Vec::new(self.alloc);
@@ -40,7 +40,7 @@ impl Draft {
     }
 
     // A production ends, with these conditions and this right side, before the byte `past`.
-    pub fn end_rule(
+    pub(crate) fn end_rule(
         &mut self,
         conditions: Vec<Part>,
         right: RightSide,

@@ -35,7 +35,7 @@ impl From<OutOfMemory> for ProgramFault {
 
 /// Why a text is no program, by the byte at which the fault stands.
 #[derive(Clone, Copy, Debug, PartialEq, Eq)]
-pub enum TextFault {
+pub(crate) enum TextFault {
     At { fault: Fault, at: usize },
     OutOfMemory,
 }
@@ -49,7 +49,7 @@ impl From<OutOfMemory> for TextFault {
 }
 
 // the fault of bytes that are no token, in a form
-pub fn fault_of(fault: LexFault) -> Fault
+pub(crate) fn fault_of(fault: LexFault) -> Fault
     ensures { result ≡ fault_of fault }
 {
     match fault.number {
@@ -77,7 +77,7 @@ fn cut_off(end: FormEnd, length: usize) -> TextFault
 }
 
 /// Where a refusal stands in a text of this length: at its word, or where the tokens of its form end.
-pub fn fault_at(refusal: Refusal, end: FormEnd, length: usize) -> TextFault
+pub(crate) fn fault_at(refusal: Refusal, end: FormEnd, length: usize) -> TextFault
     ensures { result ≡ fault_at refusal end length }
 {
     match refusal {

@@ -13,7 +13,7 @@ use ops_grammar::{Keyword, Word};
 impl Draft {
     // form*
     #[tactic(auto, unfolding(ops_grammar::specs::Grammar::goes, ops_grammar::specs::Grammar::step, ops_grammar::specs::Grammar::ends))]
-    pub fn forms(&mut self, words: &[Word]) -> Result<(), Refusal>
+    pub(crate) fn forms(&mut self, words: &[Word]) -> Result<(), Refusal>
         ensures { ReadsAll (view self.old) (view self.new) words.now result }
     {
         let mut rest = words;

@@ -11,7 +11,7 @@ use std::marker::Model;
 /// The commands that were read, in order. What may still stand after them is kept, and known without a look through
 /// them.
 #[derive(Drop)]
-pub struct GivenCommands {
+pub(crate) struct GivenCommands {
     list: Vec<Command>,
     /// Whether a declaration may stand after each of them.
     before_classes: bool,
@@ -33,7 +33,7 @@ impl Model for GivenCommands {
 }
 
 impl GivenCommands {
-    pub fn new(alloc: Global) -> GivenCommands
+    pub(crate) fn new(alloc: Global) -> GivenCommands
         ensures { result ≡ [] }
     {
         GivenCommands {
@@ -44,7 +44,7 @@ impl GivenCommands {
     }
 
     /// Where memory runs out nothing has changed.
-    pub fn push(&mut self, command: Command) -> Result<(), OutOfMemory>
+    pub(crate) fn push(&mut self, command: Command) -> Result<(), OutOfMemory>
         ensures ok { OnOk result (self.new ≡ self.old ++ command ∷ []) }
         ensures err { OnErr result (self.new ≡ self.old) }
     {
@@ -57,20 +57,20 @@ impl GivenCommands {
     }
 
     // whether a class may be declared after each of the commands
-    pub fn may_declare(&self) -> bool
+    pub(crate) fn may_declare(&self) -> bool
         ensures { result ≡ list_all precedes_classes self.now }
     {
         self.before_classes
     }
 
     // whether a production may stand after each of them
-    pub fn may_produce(&self) -> bool
+    pub(crate) fn may_produce(&self) -> bool
         ensures { result ≡ list_all precedes_rules self.now }
     {
         self.before_rules
     }
 
-    pub fn into_vec(self) -> Vec<Command>
+    pub(crate) fn into_vec(self) -> Vec<Command>
         ensures { result.items ≡ self }
     {
         self.list

@@ -17,7 +17,7 @@ use std::mem;
 impl Draft {
     // NAME NAME* )
     #[tactic(auto, unfolding(ops_grammar::specs::Grammar::goes, ops_grammar::specs::Grammar::step, ops_grammar::specs::Grammar::ends))]
-    pub fn pm<'a>(&mut self, words: &'a [Word]) -> Result<&'a [Word], Refusal>
+    pub(crate) fn pm<'a>(&mut self, words: &'a [Word]) -> Result<&'a [Word], Refusal>
         ensures reads { Goes (λ more ws. goes (words.now ++ more) (NamedRule ∷ NamedRules ToPrint ∷ ws) (record (view self.old) { named = [] })) (view self.new) result }
         ensures within { IsWithin words.now result }
     {
@@ -31,7 +31,7 @@ impl Draft {
     }
 
     // NAME* )
-    pub fn pbreak<'a>(&mut self, words: &'a [Word]) -> Result<&'a [Word], Refusal>
+    pub(crate) fn pbreak<'a>(&mut self, words: &'a [Word]) -> Result<&'a [Word], Refusal>
         ensures reads { Reads (NamedRules ToBreak) (record (view self.old) { named = [] }) (view self.new) words.now result }
         ensures within { IsWithin words.now result }
     {

@@ -20,7 +20,7 @@ use std::alloc::Global;
 
 impl Draft {
     // NAME first condition* --> action* )
-    pub fn production<'a>(&mut self, words: &'a [Word]) -> Result<&'a [Word], Refusal>
+    pub(crate) fn production<'a>(&mut self, words: &'a [Word]) -> Result<&'a [Word], Refusal>
         ensures reads { Goes (λ more ws. goes (words.now ++ more) (RuleName ∷ FirstPattern ∷ Patterns ∷ Actions ∷ ws) (view self.old)) (view self.new) result }
         ensures within { IsWithin words.now result }
     {

@@ -14,7 +14,7 @@ use ops_grammar::Word;
 impl Draft {
     // rconstant*, up to what is no more of them
     #[tactic(auto, unfolding(ops_grammar::specs::Grammar::goes, ops_grammar::specs::Grammar::step, ops_grammar::specs::Grammar::ends))]
-    pub fn several_constants<'a>(
+    pub(crate) fn several_constants<'a>(
         &mut self,
         field: usize,
         words: &'a [Word],

@@ -16,7 +16,7 @@ use std::mem;
 impl Draft {
     // NAT NAT* ) | * )
     #[tactic(auto, unfolding(ops_grammar::specs::Grammar::goes, ops_grammar::specs::Grammar::step, ops_grammar::specs::Grammar::ends))]
-    pub fn remove<'a>(&mut self, words: &'a [Word]) -> Result<&'a [Word], Refusal>
+    pub(crate) fn remove<'a>(&mut self, words: &'a [Word]) -> Result<&'a [Word], Refusal>
         ensures reads { Reads TagOrAll (record (view self.old) { tags = [] }) (view self.new) words.now result }
         ensures within { IsWithin words.now result }
     {
@@ -34,7 +34,7 @@ impl Draft {
     }
 
     // NAT* )
-    pub fn wm<'a>(&mut self, words: &'a [Word]) -> Result<&'a [Word], Refusal>
+    pub(crate) fn wm<'a>(&mut self, words: &'a [Word]) -> Result<&'a [Word], Refusal>
         ensures reads { Reads (Tags ToShow) (record (view self.old) { tags = [] }) (view self.new) words.now result }
         ensures within { IsWithin words.now result }
     {

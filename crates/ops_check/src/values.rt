@@ -12,7 +12,11 @@ use ops_grammar::Word;
 impl Draft {
     // rconstant
     #[tactic(auto, unfolding(ops_grammar::specs::Grammar::goes, ops_grammar::specs::Grammar::step, ops_grammar::specs::Grammar::ends))]
-    pub fn value<'a>(&mut self, target: Target, words: &'a [Word]) -> Result<&'a [Word], Refusal>
+    pub(crate) fn value<'a>(
+        &mut self,
+        target: Target,
+        words: &'a [Word],
+    ) -> Result<&'a [Word], Refusal>
         ensures reads { Reads (ValueFor (target_of target)) (view self.old) (view self.new) words.now result }
         ensures within { IsWithin words.now result }
     {
@@ -21,7 +25,7 @@ impl Draft {
     }
 
     // rconstant, of which the first word is taken; a variable is bound nowhere in a command
-    pub fn value_from<'a>(
+    pub(crate) fn value_from<'a>(
         &mut self,
         target: Target,
         word: Word,

@@ -14,7 +14,7 @@ use std::alloc::Global;
 use thiserror::Error;
 
 /// For how many tokens there is room at first: most forms have no more.
-const ROOM: usize = 32;
+const TOKENS_AT_FIRST: usize = 32;
 
 /// How the tokens of a form end.
 #[derive(Clone, Copy, Debug, PartialEq, Eq)]
@@ -100,7 +100,7 @@ impl FormReader {
         requires lies { LiesIn text.now left }
         ensures { IfOk result (λ form. (from : ℕ) → from ≤ length text.now → token_at text.now from ≡ Ok (Some left) → IsForm text.now from form) }
     {
-        let mut tokens = Vec::with_capacity(alloc, ROOM)?;
+        let mut tokens = Vec::with_capacity(alloc, TOKENS_AT_FIRST)?;
         tokens.push(left)?;
         let mut past = left.past;
         let mut depth = 1;

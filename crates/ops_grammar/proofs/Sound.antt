@@ -187,7 +187,7 @@ pub data Braces : Type 0 where
   Bare : Braces
   NamedBefore : Braces
   NamedBehind : Braces
-  -- among the members of a group, of which so many stand before
+  -- among the members of a group, of which that number stand before
   AsMember : (count : ℕ) → Braces
 
 -- what is wanted after a pattern

@@ -159,7 +159,7 @@ end_behind true left = ([], (refl, refl))
 end_behind false None = ([], tt)
 end_behind false (Some bytes) = (bytes, refl)
 
--- any input may come to its end without a failure
+-- any input may end without a failure
 pub may_end : (i : Inlet) → (c : Coming) × MayCome i c × (c.fails ≡ false)
 may_end i =
     let m = end_behind i.buffer.ended i.left in

@@ -22,7 +22,7 @@ pub record Put (old new : Port) (bytes : List ℕ) : Type 0 where
   pub whole : IsTrue new.out.whole
   pub faults : new.faults ≡ old.faults
 
--- The count of failures tells a refused write from want of memory.
+-- The count of failures tells a refused write from memory that ran out.
 abbrev pub Cause : Stop → ℕ → ℕ → Type 0
 Cause stop.Write before now = now ≡ before + 1
 Cause stop.OutOfMemory before now = now ≡ before

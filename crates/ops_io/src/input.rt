@@ -1,5 +1,5 @@
 //! The input buffer, which shows the next byte of a source and reads by the piece.
-ghost use Rattle.std.specs.Prelude.{◌≡◌, ◌^◌, ◌<◌, ◌⊎◌, [], drop, length, IfOk, IfNone, OnErr, IsTrue, false};
+ghost use Rattle.std.specs.Prelude.{◌≡◌, ◌^◌, ◌<◌, ◌≤◌, ◌⊎◌, [], drop, length, IfOk, IfNone, OnErr, IsTrue, false};
 ghost use Rattle.ops_io.specs.Outside.{CountsFailure};
 ghost use Rattle.ops_io.specs.Input.{IsFirst, StaysAhead};
 
@@ -9,7 +9,7 @@ use std::alloc::Global;
 use std::marker::Model;
 
 /// How many bytes are read at once at most.
-const PIECE: usize = 4096;
+const READ_SIZE: usize = 4096;
 
 /// Bytes that were read and not yet taken. They stand in `buffer` from `at` up to `end`.
 #[derive(Drop)]
@@ -23,13 +23,13 @@ pub struct Input {
 impl Model for Input {
     ghost use Rattle.std.specs.Prelude.{◌≡◌, ◌≤◌, drop, take, vec_len};
     ghost use Rattle.ops_io.specs.Input.{InputState};
-    ghost use Rattle.ops_io.specs.declared.input.TheConstants.{PIECE};
+    ghost use Rattle.ops_io.specs.declared.input.TheConstants.{READ_SIZE};
 
     ghost Value = { InputState };
 
     ghost view = { λ i. record { held = drop i.at (take i.end i.buffer.items); ended = i.ended } };
 
-    ghost invariant = { λ i. (i.at ≤ i.end) × (i.end ≤ vec_len i.buffer) × (vec_len i.buffer ≡ PIECE) };
+    ghost invariant = { λ i. (i.at ≤ i.end) × (i.end ≤ vec_len i.buffer) × (vec_len i.buffer ≡ READ_SIZE) };
 }
 
 impl Input {
@@ -37,7 +37,7 @@ impl Input {
     pub fn new(alloc: Global) -> Result<Input, OutOfMemory>
         ensures { IfOk result (λ input. input ≡ record { held = []; ended = false }) }
     {
-        let buffer = vec![in alloc; 0; PIECE]?;
+        let buffer = vec![in alloc; 0; READ_SIZE]?;
         Ok(Input {
             buffer,
             at: 0,
@@ -54,6 +54,7 @@ impl Input {
         ensures end { IfOk result (λ byte. IfNone byte (IsTrue self.new.ended)) }
         ensures ahead { StaysAhead self.old self.new (I.left source.old) (I.left source.new) }
         ensures cause { CountsFailure (I.faults source.old) (I.faults source.new) result }
+        ensures size { length self.new.held ≤ READ_SIZE }
 
         // Where a byte is held or the end was seen, nothing is read.
         ensures unread { (0 < length self.old.held) ⊎ IsTrue self.old.ended

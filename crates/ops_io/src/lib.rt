@@ -2,6 +2,7 @@
 #![tactic(auto)]
 
 mod input;
+pub mod laws;
 mod memory;
 mod out;
 mod outside;

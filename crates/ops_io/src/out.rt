@@ -16,7 +16,7 @@ use thiserror::Error;
 pub struct WriteFailed;
 
 /// How many bytes the buffer holds at most.
-const ROOM: usize = 8192;
+const BUFFER_SIZE: usize = 8192;
 
 /// Bytes that are put and not yet written. It is used no more after a call that was refused.
 #[derive(Drop)]
@@ -30,13 +30,13 @@ pub struct Out {
 impl Model for Out {
     ghost use Rattle.std.specs.Prelude.{◌≤◌, vec_len, vec_capacity};
     ghost use Rattle.ops_io.specs.Output.{OutState};
-    ghost use Rattle.ops_io.specs.declared.out.TheConstants.{ROOM};
+    ghost use Rattle.ops_io.specs.declared.out.TheConstants.{BUFFER_SIZE};
 
     ghost Value = { OutState };
 
     ghost view = { λ o. record { held = o.held.items; column = o.column; whole = o.whole } };
 
-    ghost invariant = { λ o. (ROOM ≤ vec_capacity o.held) × (vec_len o.held ≤ ROOM) };
+    ghost invariant = { λ o. (BUFFER_SIZE ≤ vec_capacity o.held) × (vec_len o.held ≤ BUFFER_SIZE) };
 }
 
 /// Writes all of these bytes, in as many calls as the sink needs.
@@ -79,7 +79,7 @@ impl Out {
     pub fn new(alloc: Global) -> Result<Out, OutOfMemory>
         ensures { IfOk result (λ out. out ≡ record { held = []; column = 0; whole = true }) }
     {
-        let held = Vec::with_capacity(alloc, ROOM)?;
+        let held = Vec::with_capacity(alloc, BUFFER_SIZE)?;
         Ok(Out {
             held,
             column: 0,
@@ -117,14 +117,14 @@ impl Out {
 
     /// How many more bytes the buffer can hold.
     fn room(&self) -> usize
-        ensures room { result + length self.now.held ≡ ROOM }
+        ensures room { result + length self.now.held ≡ BUFFER_SIZE }
     {
-        ROOM - self.held.len()
+        BUFFER_SIZE - self.held.len()
     }
 
     /// Adds bytes that there is room for.
     fn hold(&mut self, bytes: &[u8])
-        requires { length self.old.held + length bytes.now ≤ ROOM }
+        requires { length self.old.held + length bytes.now ≤ BUFFER_SIZE }
         ensures { self.new ≡ record self.old { held = self.old.held ++ bytes.now; column = column_after self.old.column bytes.now } }
     {
         match self.held.extend_from_slice(bytes) {
@@ -141,11 +141,12 @@ impl Out {
         ensures puts { PutsBytes result (port (K.taken sink.old) (K.faults sink.old) self.old)
             (port (K.taken sink.new) (K.faults sink.new) self.new) bytes.now }
         ensures broken { OnErr result (self.new.whole ≡ false) }
+        ensures size { length self.new.held ≤ BUFFER_SIZE }
 
-        // Where what it holds and these bytes are 8,192 bytes at most, no call of the sink is made, and they are held
-        // too.
-        ensures unwritten { length self.old.held + length bytes.now ≤ ROOM → (sink.new ≡ sink.old) × IsOk result }
-        ensures gathered { length self.old.held + length bytes.now ≤ ROOM
+        // Where what it holds and these bytes are no more than the buffer holds, no call of the sink is made, and they
+        // are held too.
+        ensures unwritten { length self.old.held + length bytes.now ≤ BUFFER_SIZE → (sink.new ≡ sink.old) × IsOk result }
+        ensures gathered { length self.old.held + length bytes.now ≤ BUFFER_SIZE
             → self.new ≡ record self.old { held = self.old.held ++ bytes.now; column = column_after self.old.column bytes.now } }
     {
         let mut rest = bytes;

@@ -126,14 +126,14 @@ impl<W: Write> Sink for StdSink<W> {
 }
 
 /// How many bytes a file is read by.
-const PIECE: usize = 4096;
+const READ_SIZE: usize = 4096;
 
 /// What is left of a file, or None where that is more than `room` bytes. It reads at most a piece past the room.
 fn read_all<F: Read>(alloc: Global, file: &mut F, room: usize) -> Result<Option<Vec<u8>>, LoadError>
     ensures room { IfOk result (λ text. IfSome text (λ bytes. length bytes.items ≤ room)) }
     ensures whole { IfOk result (λ text. IfSome (F.remaining file.old) (λ bytes. IsWhole bytes room text)) }
 {
-    let mut piece = [0u8; PIECE];
+    let mut piece = [0u8; READ_SIZE];
     let mut text = Vec::new(alloc);
     loop {
         let Ok(count) = file.read(&mut piece) else {

@@ -63,7 +63,7 @@ KeepsLimit limit r = MatchResult r (λ k. k.course.firings ≤ limit) (TellsLimi
 abbrev pub IsLimited : Setting → ℕ → List Command → Spellings → Type 0
 IsLimited s limit commands names = (coming : Coming) → KeepsLimit limit (session_of s limit commands names coming).outcome
 
--- A run with a number that comes to its end makes at most this many firings.
+-- A run with a number that finishes makes at most this many firings.
 abbrev pub IsCounted : ℕ → Setting → Course → Type 0
 IsCounted left s m =
     (breaks : List Bool) (column n : ℕ) → IfOk (run_on left s breaks column None (Some n) m).outcome (λ k. k.firings ≤ m.firings + n)

@@ -97,7 +97,7 @@ accepted names c =
 
 -- ---- what a call leaves
 
--- The answer is what is accepted of this, where that is still to come; want of memory is free.
+-- The answer is what is accepted of this, where that is still to come; out of memory may be answered at any time.
 abbrev pub Answers : Result Value AcceptFault → Spellings → Coming → Result Accepted AcceptFault → Type 0
 Answers (Ok v) names rest what = what ≡ Ok (record { value = v; names = names; coming = rest })
 Answers (Err fault.TooLong) names rest what = what ≡ Err fault.TooLong

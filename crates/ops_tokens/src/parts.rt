@@ -10,7 +10,7 @@ use ops_io::{Input, Source};
 use std::alloc::Global;
 
 /// How many bytes one `accept` takes at most.
-pub const MOST: usize = 1_048_576;
+pub const LONGEST_ATOM: usize = 1_048_576;
 
 /// What a byte may be part of.
 #[derive(Clone, Copy)]
@@ -55,7 +55,7 @@ pub fn take_of<I: Source>(
     if !is_of(part, byte) {
         return Ok(None);
     }
-    if taken == MOST {
+    if taken == LONGEST_ATOM {
         return Err(AcceptFault::TooLong);
     }
     input.take();

@@ -100,8 +100,7 @@ AskedForWords s words false old new = new ≡ old
 abbrev pub last_of : List (List ℕ) → List ℕ
 last_of names = slice_index_or names (length names - 1) []
 
--- The program's session comes to its end, within its limit, over this input. A job that asks for its network always
--- comes to its end.
+-- The program's session finishes, within its limit, over this input. A job that asks for its network always finishes.
 abbrev pub program_runs_through : Job → Coming → List ℕ → Read → Bool
 program_runs_through (Run options files) coming text p = is_ok (session_of (setting_read text p) options.limit p.commands p.names coming).outcome
 program_runs_through (Net files) coming text p = true
@@ -121,8 +120,8 @@ abbrev pub job_runs_over : Option Job → List (Option (List ℕ)) → List ℕ 
 job_runs_over None contents left = false
 job_runs_over (Some job) contents left = gathered_runs_through job (record { bytes = left; fails = false }) (gathered_for job contents)
 
--- The words fit, and the files of these contents, or the workload, are a program whose session comes to its end, within
--- its limit, over an input of these bytes, or whose network is asked for.
+-- The words fit, and the files of these contents, or the workload, are a program whose session finishes, within its limit,
+-- over an input of these bytes, or whose network is asked for.
 abbrev pub runs_over : List (List ℕ) → List (Option (List ℕ)) → List ℕ → Bool
 runs_over words contents left = job_runs_over (job_of words) contents left
 
@@ -131,8 +130,8 @@ abbrev pub all_told : (List ℕ → Option (Option (List ℕ))) → List (List �
 all_told told [] = Some []
 all_told told (name ∷ names) = option_and_then (λ content. option_map (λ contents. content ∷ contents) (all_told told names)) (told name)
 
--- The words fit, the files are there, and they are a program whose session comes to its end, within its limit, over the
--- input that is left, or whose network is asked for; where the source does not tell that, over every input that ends.
+-- The words fit, the files are there, and they are a program whose session finishes, within its limit, over the input that
+-- is left, or whose network is asked for; if the source does not say that, over every input that ends.
 abbrev pub RunsThrough : List (List ℕ) → Option (List (Option (List ℕ))) → Option (List ℕ) → Type 0
 RunsThrough words (Some contents) (Some left) = runs_over words contents left ≡ true
 RunsThrough words (Some contents) None = (left : List ℕ) → runs_over words contents left ≡ true

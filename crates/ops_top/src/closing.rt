@@ -52,7 +52,7 @@ fn put_ending<K: Sink>(
 
 /// Puts the line after a session: the one that tells its ending, or its summary, where it came to its end and is to be
 /// summed up.
-pub fn put_closing<K: Sink>(
+pub(crate) fn put_closing<K: Sink>(
     alloc: Global,
     program: &Program,
     names: &Names,

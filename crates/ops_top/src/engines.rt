@@ -35,7 +35,7 @@ use work_store::{Matcher, Settled};
 #[derive(Clone, Copy)]
 pub(crate) struct Plan {
     pub(crate) options: Options,
-    /// Whether it is summed up where it comes to its end.
+    /// Whether it is summed up at its end.
     pub(crate) is_summed: bool,
 }
 

@@ -13,7 +13,7 @@ use std::alloc::Global;
 
 /// Why the files of a program are no text.
 #[derive(Clone, Copy)]
-pub enum FilesFault<'n> {
+pub(crate) enum FilesFault<'n> {
     /// The file of this name can't be read.
     Unread(&'n str),
     /// They are longer than a text may be.
@@ -76,7 +76,7 @@ fn add_file<'n, H: Shelf>(
 }
 
 /// Loads the files of these names in their order, and asks the shelf no more once one can't be had.
-pub fn load_files<'n, H: Shelf>(
+pub(crate) fn load_files<'n, H: Shelf>(
     alloc: Global,
     names: &'n [String],
     shelf: &mut H,

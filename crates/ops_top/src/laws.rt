@@ -6,7 +6,7 @@ ghost use Rattle.ops_meaning.specs.Acting.{Setting};
 ghost use Rattle.ops_meaning.specs.Kept.{IsCounted, IsLimited};
 ghost use Rattle.ops_meaning.specs.Running.{Course};
 
-/// A session that comes to its end made at most as many firings as its limit says, over all its runs; where it ends by
+/// A session that finishes made at most as many firings as its limit says, over all its runs; where it ends by
 /// the limit, the limit that is printed is its own. A run with a number that does not end the session made at most this
 /// many.
 pub fn firings_are_limited()

@@ -11,14 +11,14 @@ use ops_base::memory::OutOfMemory;
 use std::alloc::Global;
 
 /// The line that answers words that don't fit.
-pub fn usage_line() -> &'static [u8]
+pub(crate) fn usage_line() -> &'static [u8]
     ensures { result.now ≡ usage_line }
 {
     b"usage: ops [--match direct|serial|rounds|free] [--workers N] [--lines L] [--limit N] FILE.. | ops --gen SEED SIZE | ops --net FILE..\n"
 }
 
 /// The line that answers a file that can't be read.
-pub fn unread_line(alloc: Global, name: &[u8]) -> Result<Vec<u8>, OutOfMemory>
+pub(crate) fn unread_line(alloc: Global, name: &[u8]) -> Result<Vec<u8>, OutOfMemory>
     ensures { IfOk result (λ v. v.items ≡ unread_line name.now) }
 {
     let mut line = Vec::from_slice(alloc, b"ops: cannot read ")?;
@@ -28,7 +28,7 @@ pub fn unread_line(alloc: Global, name: &[u8]) -> Result<Vec<u8>, OutOfMemory>
 }
 
 /// The line that answers a text with a fault.
-pub fn fault_line(
+pub(crate) fn fault_line(
     alloc: Global,
     fault: Fault,
     line: u64,
@@ -48,7 +48,7 @@ pub fn fault_line(
 }
 
 /// The line that sums up a session that came to its end, without its LF.
-pub fn summary_line(
+pub(crate) fn summary_line(
     alloc: Global,
     firings: u64,
     elements: u64,
@@ -79,7 +79,7 @@ fn add_count(lines: &mut Vec<u8>, name: &[u8], count: usize) -> Result<(), OutOf
 }
 
 /// The lines that tell how large a network is.
-pub fn net_lines(alloc: Global, counts: Counts) -> Result<Vec<u8>, OutOfMemory>
+pub(crate) fn net_lines(alloc: Global, counts: Counts) -> Result<Vec<u8>, OutOfMemory>
     ensures { IfOk result (λ v. v.items ≡ net_lines counts) }
 {
     let mut lines = Vec::new(alloc);

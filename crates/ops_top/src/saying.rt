@@ -43,7 +43,7 @@ pub(crate) fn say_unfit<K: Sink>(
 }
 
 /// Answers a file that can't be read.
-pub fn say_unread<K: Sink>(alloc: Global, name: &[u8], sink: &mut K) -> Result<Status, Stop>
+pub(crate) fn say_unread<K: Sink>(alloc: Global, name: &[u8], sink: &mut K) -> Result<Status, Stop>
     requires faults { K.faults sink.old < 2 ^ 63 }
     ensures delivers { Delivers result (unread name.now) (K.taken sink.old) (K.faults sink.old) (K.taken sink.new) (K.faults sink.new) }
     ensures said { IfOk result (λ s. s ≡ Status.ReadFault) }
@@ -53,7 +53,7 @@ pub fn say_unread<K: Sink>(alloc: Global, name: &[u8], sink: &mut K) -> Result<S
 }
 
 /// Answers a text with a fault at this line and column.
-pub fn refuse<K: Sink>(
+pub(crate) fn refuse<K: Sink>(
     alloc: Global,
     fault: Fault,
     line: u64,
@@ -75,7 +75,11 @@ pub fn refuse<K: Sink>(
 }
 
 /// Compiles the program and tells how large its network is.
-pub fn say_network<K: Sink>(alloc: Global, program: &Program, sink: &mut K) -> Result<Status, Stop>
+pub(crate) fn say_network<K: Sink>(
+    alloc: Global,
+    program: &Program,
+    sink: &mut K,
+) -> Result<Status, Stop>
     requires faults { K.faults sink.old < 2 ^ 63 }
     ensures delivers { Delivers result (net_told program.now.rules)
         (K.taken sink.old) (K.faults sink.old) (K.taken sink.new) (K.faults sink.new) }
@@ -87,7 +91,7 @@ pub fn say_network<K: Sink>(alloc: Global, program: &Program, sink: &mut K) -> R
 }
 
 /// The status of a call that may have given up.
-pub fn status_after(told: Result<Status, Stop>) -> Status
+pub(crate) fn status_after(told: Result<Status, Stop>) -> Status
     ensures { result ≡ status_after told }
 {
     match told {

@@ -42,7 +42,7 @@ fn job_by(generated: bool, network: bool, options: Options, names: FileList) -> 
     }
 }
 
-/// Reads the words of the command line, without the program's name. Want of memory may come for any words.
+/// Reads the words of the command line, without the program's name. Any words may be answered as out of memory.
 pub fn read_words(alloc: Global, words: &[String]) -> Result<Job, WordsFault>
     ensures fits { IfOk result (λ job. job_of (word_bytes words.now) ≡ Some job) }
     ensures limits { IfOk result KeepsLimits }

@@ -11,7 +11,7 @@ use std::alloc::Global;
 use token_line::{Place, place_of};
 
 /// How many tasks the shards beside the largest one must have, on average, to be worth a thread each.
-const FEWEST: usize = 64;
+const LEAST_TASKS_FOR_A_WORKER: usize = 64;
 
 /// A task with the number of its line, and its code.
 #[derive(Drop)]
@@ -162,5 +162,5 @@ pub(crate) fn pays(shards: &[Shard], met: bool) -> bool {
         all = all.saturating_add(tasks);
         most = most.max(tasks);
     }
-    busy > 1 && (!met || all.saturating_sub(most) >= FEWEST.saturating_mul(busy - 1))
+    busy > 1 && (!met || all.saturating_sub(most) >= LEAST_TASKS_FOR_A_WORKER.saturating_mul(busy - 1))
 }

@@ -11,7 +11,7 @@ use Rattle.ops_meaning.specs.Acting.{Setting, Given, begun}
 abbrev pub begun_match : Setting → Given → Inst → Partial
 begun_match s g i = record { tags = i.tags; bindings = (begun s i g).bindings }
 
--- The instantiation is of a rule. The walk over the rule's conditions comes to its end at these tags with these
+-- The instantiation is of a rule. The walk over the rule's conditions ends at these tags with these
 -- bindings, and with no others. The cells hold the elements of these tags, each of which is in working memory.
 pub record BeginsAsMatched (s : Setting) (g : Given) (i : Inst) : Type 0 where
   pub rule : Rule

@@ -66,7 +66,7 @@ pub fn right_sides_find_what_they_name()
 
 /// In each firing of a session of a valid program the elements of working memory and of the cells have just the fields
 /// of their classes, and the right side begins as matched and finds all that it names. So it is in any firing that a
-/// run goes on with. A session that comes to its end leaves such elements.
+/// run goes on with. A session that finishes leaves such elements.
 pub fn firings_find_what_they_name()
     ensures firings { (s : Setting) (limit : ℕ) (commands : List Command) (names : Spellings) (coming : Coming)
         → AreValid s commands → EachFiring FindsAll s limit commands names coming }
@@ -108,8 +108,8 @@ pub fn instantiations_have_ranks()
         → AreValid s commands → HasRisingTags wm → Contains (conflict_set s.rules wm) i → HasRank s.rules i }
 {}
 
-/// Whatever the program, no session ends in a refused write or in want of memory. It ends in a read fault only where
-/// its input fails.
+/// Whatever the program, no session ends in a refused write or as out of memory. It ends in a read fault only if its
+/// input fails.
 pub fn only_the_input_fails()
     ensures { (s : Setting) (limit : ℕ) (commands : List Command) (names : Spellings) (coming : Coming)
         → IsOfSession coming.fails (ending_of (session_of s limit commands names coming).outcome) }

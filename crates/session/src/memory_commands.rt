@@ -31,7 +31,7 @@ use std::alloc::Global;
 use std::collections::BTreeSet;
 use work_store::{Matcher, Settled, Store};
 
-/// The tag of the next element. Want of memory tells that there is none.
+/// The tag of the next element. If there is none, that is answered as out of memory.
 fn next_tag(last: u64) -> Result<u64, OutOfMemory>
     ensures { IfOk result (λ tag. tag ≡ last + 1) }
 {

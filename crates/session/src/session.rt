@@ -18,7 +18,7 @@ use work_store::{Matcher, Settled};
 /// network engine holds the entries of such a piece at once and not those of all makes. The direct engine matches
 /// working memory anew in each phase: since working memory doubles at least from one piece to the next, all pieces
 /// together cost less than three times what one phase for all would.
-const PIECE: usize = 1024;
+const PENDING_LIMIT: usize = 1024;
 
 /// A session between two of its commands. Before the first run nothing is marked as fired, so that no mark can be lost:
 /// top-level makes wait there, and many of them are made in one phase, for which the conflict set is found once.
@@ -110,7 +110,7 @@ pub(crate) fn settle_piece<M: Matcher, H: Fn(M, &[Change]) -> Result<Settled<M>,
     ensures under_way { IfOk result (IsUnderWay M.stored M.stands_for program.now.rules) }
 {
     let waiting = session.pending.len();
-    if waiting < PIECE || waiting < session.state.store().len() {
+    if waiting < PENDING_LIMIT || waiting < session.state.store().len() {
         return Ok(session);
     }
     settle(alloc, hand, program, session)

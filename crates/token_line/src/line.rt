@@ -43,7 +43,7 @@ pub struct Line {
     ghost some: { HaveSums memories },
 }
 
-/// The sum after one insert or delete more. One that would not fit is answered as want of memory.
+/// The sum after one insert or delete more. One that would not fit is answered as out of memory.
 fn stepped(sum: &i64, plus: bool) -> Result<i64, OutOfMemory>
     ensures { IfOk result (λ new. new ≡ sum.now +ℤ sign plus) }
 {

@@ -14,7 +14,7 @@ use std::marker::Model;
 use std::mem;
 
 /// At most this many pairs are kept as a list, where the caller names no other number.
-const FEW: usize = 8;
+const FEW_PAIRS: usize = 8;
 
 // The map is boxed, since most rooms never have one.
 #[derive(Drop)]
@@ -269,7 +269,7 @@ impl<K: Eq + Hash + Drop, V: Drop> SmallMap<K, V> {
         ensures ok { OnOk result (self.new ≡ self.old ++ (key, value) ∷ []) }
         ensures err { OnErr result (self.new ≡ self.old) }
     {
-        self.push_within(alloc, FEW, key, value)
+        self.push_within(alloc, FEW_PAIRS, key, value)
     }
 
     /// The same, but that at most as many pairs as `few` says are kept as a list.

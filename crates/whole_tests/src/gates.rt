@@ -66,7 +66,7 @@ fn activations_counted(rt: HostRuntime) -> Result<(), Fail> {
 
 /// Words that run a workload, each with the least number of activations and one that is too large. Direct matching
 /// makes none, and takes too long for a test on more items.
-const MANY: [(&[&str], u64, u64); 4] = [
+const GATED_RUNS: [(&[&str], u64, u64); 4] = [
     (&["--gen", "7", "400", "--match", "serial"], 1_001, 20_000),
     (&["--gen", "7", "400", "--match", "rounds"], 1_001, 20_000),
     (&["--gen", "7", "400", "--match", "free"], 1_001, 20_000),
@@ -76,7 +76,7 @@ const MANY: [(&[&str], u64, u64); 4] = [
 #[test]
 fn activations_of_a_workload(rt: HostRuntime) -> Result<(), Fail> {
     let alloc = rt.alloc();
-    for (words, least, past) in MANY {
+    for (words, least, past) in GATED_RUNS {
         let gate = Counting {
             calls: AtomicU64::new(0),
         };

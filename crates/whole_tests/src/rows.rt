@@ -420,7 +420,7 @@ fn workloads(rt: HostRuntime) -> Result<(), Fail> {
     Ok(())
 }
 
-/// A session that does not come to its end has no summary.
+/// A session that does not finish has no summary.
 #[test]
 fn limited_workload(rt: HostRuntime) -> Result<(), Fail> {
     let alloc = rt.alloc();

@@ -15,7 +15,7 @@ use std::alloc::Global;
 use std::marker::Model;
 
 // The greatest number of slots.
-const MOST: usize = 1 << 62;
+const MOST_CHAPTERS: usize = 1 << 62;
 
 /// Slots by their tags. Tag t has place t % 64 of a page, which is place t / 64 % 64 of chapter t / 4096. A page
 /// without a slot and a chapter without a page are let go.
@@ -232,7 +232,7 @@ fn add_to_all(
     ensures ok { OnOk result (all_entries chapters.new ≡ insert_entry nat_cmp (all_entries chapters.old) tag slot) }
     ensures err { OnErr result (all_entries chapters.new ≡ all_entries chapters.old) }
 {
-    if chapters.held >= MOST {
+    if chapters.held >= MOST_CHAPTERS {
         return Err(OutOfMemory);
     }
     let at = (tag / 4096) as usize;

@@ -124,7 +124,7 @@ impl Store {
     /// Adds an element with a tag above all others. Where memory runs out nothing has changed. Takes the same time
     /// whatever the number of elements, but where a room for tags or slots doubles, and where tags are left out: there
     /// it grows with their number over 4,096. Beside the elements themselves the store takes memory in proportion to
-    /// the greatest tag over 4,096, so a tag far above the others may be refused for want of memory.
+    /// the greatest tag over 4,096, so a tag far above the others may be refused as out of memory.
     pub fn add(&mut self, element: Element) -> Result<(), OutOfMemory>
         requires { self.old.last < element.tag }
         ensures ok { OnOk result (self.new ≡ record { elements = self.old.elements ++ element ∷ []; kept = self.old.kept; last = element.tag }) }

@@ -32,7 +32,7 @@ add_to_chapter-requires-clause-small c =
     let there = place_is _ _ _ _ c.in_ok-reach.ensures.ok c.index_mut.ensures.value c.in-Some.is in
     let fewer = chapter_fewer c.args.tag c.reach.new.self c.in-Some.chapter far.0 c.in_ok-reach.ensures.ok there (chapter_there c.args.tag c.reach.new.self c.in-Some.chapter far.0 there) in
     let held = c.reach.ensures.held in
-    let below = c.if-chapters-ge-MOST.false in
+    let below = c.if-chapters-ge-MOST_CHAPTERS.false in
     omega arith
 
 pub add_to_chapter-requires-clause-absent : goal.add_to_chapter-requires-clause-absent
@@ -69,7 +69,7 @@ returns-in_ok-add_to_chapter-in-Some c =
     let was = (chapter_there c.args.tag c.reach.new.self c.in-Some.chapter far.0 there).row.counted in
     let now = made.chapter.row.counted in
     let more = made.held in
-    let changed = all_added c.args.tag c.reach.new.self all (Some c.in-Some.chapter) chapter c.args.slot far.0 c.in_ok-reach.ensures.ok there refl refl made.chapter (omega arith) made.ok (omega (arith, c.if-chapters-ge-MOST.false, c.reach.ensures.held)) in
+    let changed = all_added c.args.tag c.reach.new.self all (Some c.in-Some.chapter) chapter c.args.slot far.0 c.in_ok-reach.ensures.ok there refl refl made.chapter (omega arith) made.ok (omega (arith, c.if-chapters-ge-MOST_CHAPTERS.false, c.reach.ensures.held)) in
     record {
       chapters = changed.0;
       ok = changed.1 ∙ ap (λ es. insert_entry nat_cmp es c.args.tag c.args.slot) far.1;
@@ -97,7 +97,7 @@ returns-in_ok-new_chapter-in-None c =
     let chapter = c.in_ok-new_chapter-in-None.field-0 in
     let all : Row (Row (Row Slot)) = record { places = with_item (with_item c.reach.new.self.places (c.args.tag / 4096) c.index_mut.result.now) (c.args.tag / 4096) (Some chapter); held = c.reach.new.self.held + 1 } in
     let made = c.in_ok-new_chapter-in-None.ensures in
-    let changed = all_added c.args.tag c.reach.new.self all None chapter c.args.slot far.0 c.in_ok-reach.ensures.ok there (set-set c.reach.new.self.places.items (c.args.tag / 4096) c.index_mut.result.now (Some chapter)) refl made.chapter (ap length made.entries) made.entries (omega (arith, c.if-chapters-ge-MOST.false, c.reach.ensures.held)) in
+    let changed = all_added c.args.tag c.reach.new.self all None chapter c.args.slot far.0 c.in_ok-reach.ensures.ok there (set-set c.reach.new.self.places.items (c.args.tag / 4096) c.index_mut.result.now (Some chapter)) refl made.chapter (ap length made.entries) made.entries (omega (arith, c.if-chapters-ge-MOST_CHAPTERS.false, c.reach.ensures.held)) in
     record {
       chapters = changed.0;
       ok = changed.1 ∙ ap (λ es. insert_entry nat_cmp es c.args.tag c.args.slot) far.1;
