@@ -141,7 +141,7 @@ impl Out {
         ensures puts { PutsBytes result (port (K.taken sink.old) (K.faults sink.old) self.old)
             (port (K.taken sink.new) (K.faults sink.new) self.new) bytes.now }
         ensures broken { OnErr result (self.new.whole ≡ false) }
-        ensures size { length self.new.held ≤ BUFFER_SIZE }
+        ensures size { OnOk result (length self.new.held ≤ BUFFER_SIZE) }
 
         // Where what it holds and these bytes are no more than the buffer holds, no call of the sink is made, and they
         // are held too.
