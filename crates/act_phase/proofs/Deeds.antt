@@ -7,15 +7,15 @@ use Rattle.ops_io.specs.declared.stop.Stop.{Stop}
 use Rattle.ops_io.specs.declared.stop.Stop.TheVariants as stop
 use Rattle.ops_io.proofs.ComingLemmas.{took_nothing}
 use Rattle.ops_io.proofs.PortLemmas.{put_nothing, put_short, flushed_put}
-use Rattle.ops_meaning.specs.Acting.{Mishap as Missed, Fault}
+use Rattle.ops_meaning.specs.Acting.{ActionError as Missed, Fault}
 use Rattle.ops_meaning.specs.Effects.{Effect, writes, ends_with, silent, followed_by, and_then, outcome_as, Failure, OfPort, OfEffect, Fails, CountsReads}
 use Rattle.ops_meaning.proofs.EffectLemmas.{Leaves, fails_stopped}
 use Rattle.ops_meaning.proofs.InletLemmas.{leaves_on, fails_on, on_ok, on_err, leaves_apart, fails_apart, pending_on_start, pending_on_last, pending_on_step, pending_on_stop}
 use Rattle.ops_meaning.proofs.NamesKept.{names_stay, names_then}
 use Rattle.act_phase.specs.Deeds.{Scene, GoesOn, Does, Acts, StillDoes, Gives}
 use Rattle.act_phase.specs.Outcomes.{fails_by}
-use Rattle.act_phase.specs.declared.outcome.Mishap.{Mishap}
-use Rattle.act_phase.specs.declared.outcome.Mishap.TheVariants as mishap
+use Rattle.act_phase.specs.declared.outcome.ActionError.{ActionError}
+use Rattle.act_phase.specs.declared.outcome.ActionError.TheVariants as mishap
 
 goes_further : {a b c : Port} → GoesOn a b → GoesOn b c → GoesOn a c
 goes_further p q = record { whole = q.whole; faults = q.faults ∙ p.faults }
@@ -167,7 +167,7 @@ module _ {E T : Type 0} {a b c : Scene} {whole : Coming → Effect E T} {rest : 
   silent_fails seen r {part = part} next h p q is = still_fails seen r (λ _ s. silent (next s)) h p q (after b.port.out.column rest next part is)
 
 -- a call that neither reads nor puts
-pub does_given : {X S T : Type 0} {view : X → S} (left : Coming → S → T) (r : Result X Mishap) (what : Result S Missed) (a : Scene) → IsTrue a.port.out.whole → Gives view r what → Acts (λ x d. left d (view x)) r a a (λ d. silent (outcome_as (left d) (λ m. m) what))
+pub does_given : {X S T : Type 0} {view : X → S} (left : Coming → S → T) (r : Result X ActionError) (what : Result S Missed) (a : Scene) → IsTrue a.port.out.whole → Gives view r what → Acts (λ x d. left d (view x)) r a a (λ d. silent (outcome_as (left d) (λ m. m) what))
 does_given left (Ok x) what a w g = does_nothing x a _ w (λ d. ap (λ o. silent (outcome_as (left d) (λ m. m) o)) g)
 does_given left (Err (mishap.Fault kind)) what a w g = does_end (mishap.Fault kind) (Fault kind) a _ refl refl w (λ d. ap (λ o. silent (outcome_as (left d) (λ m. m) o)) g)
 does_given left (Err mishap.Read) what a w g = absurd g
@@ -176,9 +176,9 @@ does_given left (Err mishap.OutOfMemory) what a w g =
     does_stop stop.OutOfMemory mishap.OutOfMemory a a.port _ refl refl (λ d. put_short a.port a.port [] [] (put_nothing a.port w))
 
 -- memory ran out in it
-pub gives_short : {X S : Type 0} (view : X → S) (r : Result X Mishap) (what : Result S Missed) → IsErrAnd r (λ f. f ≡ mishap.OutOfMemory) → Gives view r what
+pub gives_short : {X S : Type 0} (view : X → S) (r : Result X ActionError) (what : Result S Missed) → IsErrAnd r (λ f. f ≡ mishap.OutOfMemory) → Gives view r what
 gives_short view (Ok x) what h = absurd h
-gives_short view (Err f) what h = let P : Mishap → Type 0 = λ f. Gives view (Err f) what in subst P (sym h) tt
+gives_short view (Err f) what h = let P : ActionError → Type 0 = λ f. Gives view (Err f) what in subst P (sym h) tt
 
 -- ---- failed reads
 

@@ -15,7 +15,7 @@ use Rattle.ops_base.specs.Valid.{class_of}
 use Rattle.ops_base.specs.Values.{nil}
 use Rattle.ops_base.specs.WorkingMemory.{field_of, scalar_count}
 use Rattle.ops_io.specs.Coming.{Coming}
-use Rattle.ops_meaning.specs.Acting.{Mishap as Missed, Doing as Meant, Valued, evaluated, computed_as}
+use Rattle.ops_meaning.specs.Acting.{ActionError as Missed, ActState as Meant, Valued, evaluated, computed_as}
 use Rattle.ops_meaning.specs.Acting.{accepted_as as accepted_in}
 use Rattle.ops_meaning.specs.Computing.{Computed, computed}
 use Rattle.ops_meaning.specs.Effects.{Effect, writes, silent, followed_by, outcome_as}
@@ -26,8 +26,8 @@ use Rattle.ops_tokens.specs.declared.accept.AcceptFault.{AcceptFault}
 use Rattle.ops_tokens.specs.declared.accept.AcceptFault.TheVariants as accept_fault
 use Rattle.act_phase.specs.Deeds.{Scene, Acts, Gives, value_found, atom_found}
 use Rattle.act_phase.specs.State.{State, doing_of, held_in, valued_of}
-use Rattle.act_phase.specs.declared.outcome.Mishap.{Mishap}
-use Rattle.act_phase.specs.declared.outcome.Mishap.TheVariants as mishap
+use Rattle.act_phase.specs.declared.outcome.ActionError.{ActionError}
+use Rattle.act_phase.specs.declared.outcome.ActionError.TheVariants as mishap
 use Rattle.act_phase.specs.declared.values.Values.{Values}
 use Rattle.act_phase.specs.declared.values.Values.TheVariants as values
 use Rattle.act_phase.proofs.Deeds.{does_nothing, does_given, still_all, still_done, still_short, silent_step, silent_fails}
@@ -67,7 +67,7 @@ fresh_ok {view = view} x a next e fresh w is =
     record { performs = p.performs; reads = p.reads; names = subst (KeepsNames a.names) (sym fresh) (fresh_keeps a.names); goes_on = p.goes_on }
 
 -- memory ran out, and nothing has changed
-pub fresh_err : {X S : Type 0} {view : X → Coming → S} (r : Result X Mishap) (a : Scene) (next : Spellings) (e : Coming → Effect Missed S) → IsErrAnd r (λ f. f ≡ mishap.OutOfMemory) → next ≡ a.names → IsTrue a.port.out.whole → Acts view r a (record a { names = next }) e
+pub fresh_err : {X S : Type 0} {view : X → Coming → S} (r : Result X ActionError) (a : Scene) (next : Spellings) (e : Coming → Effect Missed S) → IsErrAnd r (λ f. f ≡ mishap.OutOfMemory) → next ≡ a.names → IsTrue a.port.out.whole → Acts view r a (record a { names = next }) e
 fresh_err {view = view} r a next e h same w =
     let P : Spellings → Type 0 = λ n. Acts view r a (record a { names = n }) e in
     subst P (sym same) (still_short r mishap.OutOfMemory h refl refl (still_all a e w))
@@ -94,7 +94,7 @@ module _ (classes : List Class) (doing : State) (t : Term) (f : Formula) (is : t
   compute_ok v g =
       still_done (values.One v) (silent_step (λ v. Ok v) (still_all a (evaluates classes doing t a.names) w) (does_given {view = λ (v : Value). v} (λ d. valued_by (doing_of doing a.names d)) (Ok v) what a w g) computes) (λ d. refl)
 
-  pub compute_err : {Y : Type 0} (seen : Y → Coming → Valued) (r : Result Y Mishap) (f : Mishap) → IsErrAnd r (λ g. g ≡ f) → Gives (λ v. v) (Err f) what → Acts seen r a a (evaluates classes doing t a.names)
+  pub compute_err : {Y : Type 0} (seen : Y → Coming → Valued) (r : Result Y ActionError) (f : ActionError) → IsErrAnd r (λ g. g ≡ f) → Gives (λ v. v) (Err f) what → Acts seen r a a (evaluates classes doing t a.names)
   compute_err seen r f h g =
       silent_fails seen r (λ v. Ok v) h (still_all a (evaluates classes doing t a.names) w) (does_given {view = λ (v : Value). v} (λ d. valued_by (doing_of doing a.names d)) (Err f) what a w g) computes
 
@@ -117,6 +117,6 @@ module _ (classes : List Class) (doing : State) (t : Term) (is : t ≡ term.Acce
       → Acts (λ v d. valued_of v (doing_of doing next d)) (Ok (values.One v)) a b (evaluates classes doing t a.names)
   accept_ok v next p = still_done (values.One v) (silent_step (valued_with doing) (still_all a (evaluates classes doing t a.names) w) p (accepts classes doing t a.names is)) (λ d. refl)
 
-  pub accept_err : {Y : Type 0} (seen : Y → Coming → Valued) (r : Result Y Mishap) (f : Mishap) (next : Spellings) → IsErrAnd r (λ g. g ≡ f) → Acts (λ v d. record { value = v; names = next; coming = d }) (Err f) a b (λ d. silent (atom_found (accepted a.names d)))
+  pub accept_err : {Y : Type 0} (seen : Y → Coming → Valued) (r : Result Y ActionError) (f : ActionError) (next : Spellings) → IsErrAnd r (λ g. g ≡ f) → Acts (λ v d. record { value = v; names = next; coming = d }) (Err f) a b (λ d. silent (atom_found (accepted a.names d)))
       → Acts seen r a b (evaluates classes doing t a.names)
   accept_err seen r f next h p = silent_fails seen r (valued_with doing) h (still_all a (evaluates classes doing t a.names) w) p (accepts classes doing t a.names is)

@@ -44,7 +44,7 @@ use Rattle.ops_tokens.specs.Accepting.{Accepted, Atom, Number, Spelled, accepted
 use Rattle.ops_tokens.specs.Numbers.{is_in_range}
 use Rattle.ops_tokens.specs.declared.accept.AcceptFault.{AcceptFault}
 use Rattle.ops_tokens.specs.declared.accept.AcceptFault.TheVariants as accept_fault
-use Rattle.ops_meaning.specs.Acting.{Setting, Doing, Mishap, in_action, Given, Acted, Valued, Filled, no_element, element_of, elements_of, matched_by, bindings_of, conditions_of, actions_of, cell_of, value_in, evaluated, computed_as, accepted_as, first_of, value_placed, values_placed, placed, terms_placed, emptied, puts_made, puts_over, made_fields, modified_fields, has_tag, changed, next_element, added, removed, modified, made_by, made_last, bound, printed, lead_after, item_done, items_done, changes_told, action_done, actions_done, begun, left_by, acted}
+use Rattle.ops_meaning.specs.Acting.{Setting, ActState, ActionError, in_action, Given, Acted, Valued, Filled, no_element, element_of, elements_of, matched_by, bindings_of, conditions_of, actions_of, cell_of, value_in, evaluated, computed_as, accepted_as, first_of, value_placed, values_placed, placed, terms_placed, emptied, puts_made, puts_over, made_fields, modified_fields, has_tag, changed, next_element, added, removed, modified, made_by, made_last, bound, printed, lead_after, item_done, items_done, changes_told, action_done, actions_done, begun, left_by, acted}
 use Rattle.ops_meaning.specs.Computing.{Computed, in_range, with_divisor, is_zero, operated, applied, computed}
 use Rattle.ops_meaning.specs.Effects.{followed_by, outcome_as}
 use Rattle.ops_meaning.specs.Layout.{Lead, Apart}
@@ -226,14 +226,14 @@ accepts_held names c =
 -- ---- a right side
 
 -- At least this many symbols are held, and all that stand in the bindings, the cells and the changes so far.
-pub record HeldDoing (n : ℕ) (d : Doing) : Type 0 where
+pub record HeldDoing (n : ℕ) (d : ActState) : Type 0 where
   pub more : n ≤ length d.names.held
   pub bindings : list_all (binding_held (length d.names.held)) d.bindings ≡ true
   pub cells : list_all (element_held (length d.names.held)) d.cells ≡ true
   pub changes : list_all (change_held (length d.names.held)) d.changes ≡ true
 
 -- What evaluating leaves before which there were this many names: all its values are held.
-pub record HeldValues (n before : ℕ) (vs : List Value) (d : Doing) : Type 0 where
+pub record HeldValues (n before : ℕ) (vs : List Value) (d : ActState) : Type 0 where
   pub doing : HeldDoing n d
   pub values : list_all (value_held (length d.names.held)) vs ≡ true
   pub grown : before ≤ length d.names.held
@@ -244,7 +244,7 @@ pub record HeldActed (n : ℕ) (a : Acted) : Type 0 where
   pub changes : list_all (change_held (length a.names.held)) a.changes ≡ true
 
 module _ (n : ℕ) (some : 0 < n) where
-  abbrev Held : Doing → Type 0
+  abbrev Held : ActState → Type 0
   Held d = HeldDoing n d
 
   abbrev HeldValued : ℕ → Valued → Type 0
@@ -253,14 +253,14 @@ module _ (n : ℕ) (some : 0 < n) where
   abbrev HeldFilled : ℕ → Filled → Type 0
   HeldFilled before f = HeldValues n before f.fields f.doing
 
-  abbrev count : Doing → ℕ
+  abbrev count : ActState → ℕ
   count d = length d.names.held
 
-  some_in : (d : Doing) → Held d → 0 < count d
+  some_in : (d : ActState) → Held d → 0 < count d
   some_in d p = omega (arith, some, p.more)
 
   -- the same with more names and another input
-  held_with : (d : Doing) (names : Spellings) (coming : Coming) → Held d → count d ≤ length names.held → Held (record d { names = names; coming = coming })
+  held_with : (d : ActState) (names : Spellings) (coming : Coming) → Held d → count d ≤ length names.held → Held (record d { names = names; coming = coming })
   held_with d names coming p le = record {
     more = omega (arith, p.more, le);
     bindings = all_weaken (binding_held (count d)) (binding_held (length names.held)) (λ b. value_more (count d) (length names.held) le b.value) d.bindings p.bindings;
@@ -268,23 +268,23 @@ module _ (n : ℕ) (some : 0 < n) where
     changes = changes_more (count d) (length names.held) le d.changes p.changes;
   }
 
-  variable_held : (d : Doing) (v : ℕ) → Held d → value_held (count d) (value_in d v) ≡ true
+  variable_held : (d : ActState) (v : ℕ) → Held d → value_held (count d) (value_in d v) ≡ true
   variable_held d v p = bound_held (count d) (some_in d p) v d.bindings None (nil_held (count d) (some_in d p)) p.bindings
 
-  one_value : (d : Doing) (v : Value) → Held d → value_held (count d) v ≡ true → HeldValues n (count d) (v ∷ []) d
+  one_value : (d : ActState) (v : Value) → Held d → value_held (count d) v ≡ true → HeldValues n (count d) (v ∷ []) d
   one_value d v p h = record { doing = p; values = and_from _ _ h refl; grown = omega arith }
 
-  computed_as_held : (d : Doing) (c : Computed) (p : Held d) → ComputedHeld (count d) (some_in d p) c → MatchResult (computed_as d c) (HeldValued (count d)) Any
+  computed_as_held : (d : ActState) (c : Computed) (p : Held d) → ComputedHeld (count d) (some_in d p) c → MatchResult (computed_as d c) (HeldValued (count d)) Any
   computed_as_held d (Ok v) p h = one_value d v p h
   computed_as_held d (Err k) p h = tt
 
-  accepted_as_held : (d : Doing) (r : Result Accepted AcceptFault) → Held d → AcceptedHeld d.names r → MatchResult (accepted_as d r) (HeldValued (count d)) Any
+  accepted_as_held : (d : ActState) (r : Result Accepted AcceptFault) → Held d → AcceptedHeld d.names r → MatchResult (accepted_as d r) (HeldValued (count d)) Any
   accepted_as_held d (Ok a) p h = record { doing = held_with d a.names a.coming p h.0; values = and_from _ _ h.1 refl; grown = h.0 }
   accepted_as_held d (Err accept_fault.TooLong) p h = tt
   accepted_as_held d (Err accept_fault.Read) p h = tt
   accepted_as_held d (Err accept_fault.OutOfMemory) p h = tt
 
-  evaluated_held : (classes : List Class) (t : Term) (d : Doing) → term_held n t ≡ true → Held d → MatchResult (evaluated classes t d) (HeldValued (count d)) Any
+  evaluated_held : (classes : List Class) (t : Term) (d : ActState) → term_held n t ≡ true → Held d → MatchResult (evaluated classes t d) (HeldValued (count d)) Any
   evaluated_held classes (term.Constant v) d h p = one_value d v p (value_more n (count d) p.more v h)
   evaluated_held classes (term.Variable v) d h p = one_value d (value_in d v) p (variable_held d v p)
   evaluated_held classes (term.One cell field) d h p =
@@ -306,7 +306,7 @@ module _ (n : ℕ) (some : 0 < n) where
 
   -- ---- fields
 
-  placed_held : (before : ℕ) (d : Doing) (o : Option (List Value)) → Held d → before ≤ count d → HoldsOf (list_all (value_held (count d))) o → MatchResult (placed d o) (HeldFilled before) Any
+  placed_held : (before : ℕ) (d : ActState) (o : Option (List Value)) → Held d → before ≤ count d → HoldsOf (list_all (value_held (count d))) o → MatchResult (placed d o) (HeldFilled before) Any
   placed_held before d (Some fields) p le h = record { doing = p; values = h; grown = le }
   placed_held before d None p le h = tt
 
@@ -338,7 +338,7 @@ module _ (n : ℕ) (some : 0 < n) where
 
   -- ---- changes
 
-  added_held : (d : Doing) (class : ℕ) (fields : List Value) → Held d → list_all (value_held (count d)) fields ≡ true → Held (added d class fields)
+  added_held : (d : ActState) (class : ℕ) (fields : List Value) → Held d → list_all (value_held (count d)) fields ≡ true → Held (added d class fields)
   added_held d class fields p h = record {
     more = p.more;
     bindings = p.bindings;
@@ -346,17 +346,17 @@ module _ (n : ℕ) (some : 0 < n) where
     changes = all_push (change_held (count d)) d.changes (change.Add (next_element d class fields)) p.changes h;
   }
 
-  taken_held : (d : Doing) (tag : ℕ) → Held d → Held (changed d (change.Remove tag))
+  taken_held : (d : ActState) (tag : ℕ) → Held d → Held (changed d (change.Remove tag))
   taken_held d tag p = record { more = p.more; bindings = p.bindings; cells = p.cells; changes = all_push (change_held (count d)) d.changes (change.Remove tag) p.changes refl }
 
-  removed_held : (d : Doing) (tag : ℕ) → Held d → Held (removed d tag)
+  removed_held : (d : ActState) (tag : ℕ) → Held d → Held (removed d tag)
   removed_held d tag p = cond_both (has_tag d.wm tag) (changed d (change.Remove tag)) d Held (λ _. taken_held d tag p) (λ _. p)
 
-  all_removed : (cells : List ℕ) (d : Doing) → Held d → Held (fold (λ d c. removed d (cell_of d c).tag) d cells)
+  all_removed : (cells : List ℕ) (d : ActState) → Held d → Held (fold (λ d c. removed d (cell_of d c).tag) d cells)
   all_removed [] d p = p
   all_removed (c ∷ cells) d p = all_removed cells (removed d (cell_of d c).tag) (removed_held d (cell_of d c).tag p)
 
-  in_cell : (d : Doing) (cell class : ℕ) (cells : List Element) (e : Element) (fields : List Value) → Held d → list_all (element_held (count d)) cells ≡ true → e.fields ≡ fields → list_all (value_held (count d)) fields ≡ true
+  in_cell : (d : ActState) (cell class : ℕ) (cells : List Element) (e : Element) (fields : List Value) → Held d → list_all (element_held (count d)) cells ≡ true → e.fields ≡ fields → list_all (value_held (count d)) fields ≡ true
       → Held (record (added d class fields) { cells = slice_set cells cell e })
   in_cell d cell class cells e fields p h same k =
       let more = added_held d class fields p k in
@@ -367,7 +367,7 @@ module _ (n : ℕ) (some : 0 < n) where
         changes = more.changes;
       }
 
-  modified_held : (d : Doing) (cell : ℕ) (fields : List Value) → Held d → list_all (value_held (count d)) fields ≡ true → Held (modified d cell fields)
+  modified_held : (d : ActState) (cell : ℕ) (fields : List Value) → Held d → list_all (value_held (count d)) fields ≡ true → Held (modified d cell fields)
   modified_held d cell fields p h =
       let e = cell_of d cell in
       let new = next_element d e.class fields in
@@ -377,17 +377,17 @@ module _ (n : ℕ) (some : 0 < n) where
 
   -- ---- actions
 
-  printed_held : (before : ℕ) (lead : Lead) (column : ℕ) (r : Result Valued Mishap) → MatchResult r (HeldValued before) Any → MatchResult (printed lead column r).outcome Held Any
+  printed_held : (before : ℕ) (lead : Lead) (column : ℕ) (r : Result Valued ActionError) → MatchResult r (HeldValued before) Any → MatchResult (printed lead column r).outcome Held Any
   printed_held before lead column (Ok v) p = p.doing
   printed_held before lead column (Err m) p = p
 
-  item_done_held : (classes : List Class) (lead : Lead) (column : ℕ) (x : Item) (d : Doing) → item_held n x ≡ true → Held d → MatchResult (item_done classes lead column x d).outcome Held Any
+  item_done_held : (classes : List Class) (lead : Lead) (column : ℕ) (x : Item) (d : ActState) → item_held n x ≡ true → Held d → MatchResult (item_done classes lead column x d).outcome Held Any
   item_done_held classes lead column (item.Print t) d h p = printed_held (count d) lead column (evaluated classes t d) (evaluated_held classes t d h p)
   item_done_held classes lead column item.Crlf d h p = p
   item_done_held classes lead column (item.TabTo c) d h p = p
   item_done_held classes lead column (item.RightIn w) d h p = p
 
-  items_done_held : (classes : List Class) (lead : Lead) (column : ℕ) (items : List Item) (d : Doing) → list_all (item_held n) items ≡ true → Held d → MatchResult (items_done classes lead column items d).outcome Held Any
+  items_done_held : (classes : List Class) (lead : Lead) (column : ℕ) (items : List Item) (d : ActState) → list_all (item_held n) items ≡ true → Held d → MatchResult (items_done classes lead column items d).outcome Held Any
   items_done_held classes lead column [] d h p = p
   items_done_held classes lead column (x ∷ items) d h p =
       let parts = and_parts (item_held n x) (list_all (item_held n) items) h in
@@ -395,7 +395,7 @@ module _ (n : ℕ) (some : 0 < n) where
       goes_on Held Held Any e.bytes e.outcome (λ d. items_done classes (lead_after x) (column_after column e.bytes) items d) (item_done_held classes lead column x d parts.0 p)
       (λ d q. items_done_held classes (lead_after x) (column_after column e.bytes) items d parts.1 q)
 
-  action_done_held : (s : Setting) (column : ℕ) (a : Action) (d : Doing) → action_held n a ≡ true → Held d → MatchResult (action_done s column a d).outcome Held Any
+  action_done_held : (s : Setting) (column : ℕ) (a : Action) (d : ActState) → action_held n a ≡ true → Held d → MatchResult (action_done s column a d).outcome Held Any
   action_done_held s column (action.Make class puts) d h p =
       let c = class_of s.classes class in
       goes_on Held Held Any [] (followed_by (made_fields s.classes c puts d) (λ f. Ok (added f.doing class f.fields))) (changes_told s d (column_after column []))
@@ -427,7 +427,7 @@ module _ (n : ℕ) (some : 0 < n) where
   }
   action_done_held s column action.Halt d h p = record { more = p.more; bindings = p.bindings; cells = p.cells; changes = p.changes }
 
-  actions_done_held : (s : Setting) (column k : ℕ) (actions : List Action) (d : Doing) → list_all (action_held n) actions ≡ true → Held d → MatchResult (actions_done s column k actions d).outcome Held Any
+  actions_done_held : (s : Setting) (column k : ℕ) (actions : List Action) (d : ActState) → list_all (action_held n) actions ≡ true → Held d → MatchResult (actions_done s column k actions d).outcome Held Any
   actions_done_held s column k [] d h p = p
   actions_done_held s column k (a ∷ rest) d h p =
       let parts = and_parts (action_held n a) (list_all (action_held n) rest) h in

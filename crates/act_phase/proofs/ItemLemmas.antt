@@ -12,13 +12,13 @@ use Rattle.ops_io.specs.Coming.{Coming}
 use Rattle.ops_io.specs.Output.{column_after}
 use Rattle.ops_io.specs.Ports.{Port, Put, Stopped}
 use Rattle.ops_io.specs.declared.stop.Stop.TheVariants as stop
-use Rattle.ops_meaning.specs.Acting.{Mishap as Missed, Doing as Meant, Valued, evaluated, printed, item_done, items_done, lead_after}
+use Rattle.ops_meaning.specs.Acting.{ActionError as Missed, ActState as Meant, Valued, evaluated, printed, item_done, items_done, lead_after}
 use Rattle.ops_meaning.specs.Effects.{Effect, writes, silent, and_then}
 use Rattle.ops_meaning.specs.Layout.{Lead, Apart, value_bytes, values_bytes, tab_bytes}
 use Rattle.act_phase.specs.Deeds.{Scene, Acts, StillDoes}
 use Rattle.act_phase.specs.State.{State, doing_of, values_in, valued_of}
-use Rattle.act_phase.specs.declared.outcome.Mishap.{Mishap}
-use Rattle.act_phase.specs.declared.outcome.Mishap.TheVariants as mishap
+use Rattle.act_phase.specs.declared.outcome.ActionError.{ActionError}
+use Rattle.act_phase.specs.declared.outcome.ActionError.TheVariants as mishap
 use Rattle.act_phase.specs.declared.values.Values.{Values}
 use Rattle.act_phase.proofs.Deeds.{does_put, does_nothing, still_all, still_same, still_then, still_fails, still_last, still_refused}
 
@@ -34,7 +34,7 @@ module _ {T : Type 0} {a b : Scene} {whole : Coming → Effect Missed T} (s : Co
   pub bytes_put : {X : Type 0} (x : X) (port : Port) → Put b.port port bytes → Acts (λ _ d. s d) (Ok x) a (record b { port = port }) whole
   bytes_put x port put = still_last p (does_put x b port (λ d. writes bytes (s d)) (λ d. (refl, put)) (record { whole = put.whole; faults = put.faults }))
 
-  pub bytes_refused : {X : Type 0} {view : X → Coming → T} (r : Result X Mishap) (port : Port) → IsErrAnd r (λ f. f ≡ mishap.Write) → Stopped stop.Write b.port port bytes → Acts view r a (record b { port = port }) whole
+  pub bytes_refused : {X : Type 0} {view : X → Coming → T} (r : Result X ActionError) (port : Port) → IsErrAnd r (λ f. f ≡ mishap.Write) → Stopped stop.Write b.port port bytes → Acts view r a (record b { port = port }) whole
   bytes_refused r port h stopped = still_refused stop.Write r mishap.Write port h refl refl p (λ d. stopped)
 
 -- ---- the values of a term
@@ -54,7 +54,7 @@ module _ (classes : List Class) (doing : State) (t : Term) (lead : Lead) {a b : 
       (still_then (shows lead) (still_all a (λ d. item_done classes lead a.port.out.column (item.Print t) (doing_of doing a.names d)) w) p (λ d. printed_then lead a.port.out.column (evaluated classes t (doing_of doing a.names d))))
       (λ d. ap (λ vs. writes (values_bytes b.names lead b.port.out.column vs) (doing_of doing b.names d)) (sym same))
 
-  pub value_failed : {X Y : Type 0} {view : X → Coming → Valued} (seen : Y → Coming → Meant) (r : Result Y Mishap) (f : Mishap) → IsErrAnd r (λ g. g ≡ f) → Acts view (Err f) a b (λ d. silent (evaluated classes t (doing_of doing a.names d)))
+  pub value_failed : {X Y : Type 0} {view : X → Coming → Valued} (seen : Y → Coming → Meant) (r : Result Y ActionError) (f : ActionError) → IsErrAnd r (λ g. g ≡ f) → Acts view (Err f) a b (λ d. silent (evaluated classes t (doing_of doing a.names d)))
       → Acts seen r a b (λ d. item_done classes lead a.port.out.column (item.Print t) (doing_of doing a.names d))
   value_failed seen r f h p =
       still_fails seen r (shows lead) h (still_all a (λ d. item_done classes lead a.port.out.column (item.Print t) (doing_of doing a.names d)) w) p
@@ -74,7 +74,7 @@ module _ (classes : List Class) (doing : State) (lead : Lead) (items : List Item
         → StillDoes a c whole (λ d. items_done classes (lead_after x) c.port.out.column (drop (i + 1) items) (doing_of doing c.names d))
     item_put q = still_then behind_item p q (λ d. items_here b.port.out.column (doing_of doing b.names d))
 
-    pub item_failed : {X Y : Type 0} {view : X → Coming → Meant} (seen : Y → Coming → Meant) (r : Result Y Mishap) (f : Mishap) → IsErrAnd r (λ g. g ≡ f) → Acts view (Err f) b c (λ d. item_done classes lead b.port.out.column x (doing_of doing b.names d)) → Acts seen r a c whole
+    pub item_failed : {X Y : Type 0} {view : X → Coming → Meant} (seen : Y → Coming → Meant) (r : Result Y ActionError) (f : ActionError) → IsErrAnd r (λ g. g ≡ f) → Acts view (Err f) b c (λ d. item_done classes lead b.port.out.column x (doing_of doing b.names d)) → Acts seen r a c whole
     item_failed seen r f h q = still_fails seen r behind_item h p q (λ d. items_here b.port.out.column (doing_of doing b.names d))
 
 -- ---- tabs and widths

@@ -10,11 +10,11 @@ use Rattle.ops_base.specs.declared.values.Value.{Value}
 use Rattle.ops_base.specs.Names.{Spellings}
 use Rattle.ops_base.specs.Valid.{most_fields}
 use Rattle.ops_io.specs.Coming.{Coming}
-use Rattle.ops_meaning.specs.Acting.{Mishap as Missed, Doing as Meant, Valued, Filled, evaluated, values_placed, placed, terms_placed}
+use Rattle.ops_meaning.specs.Acting.{ActionError as Missed, ActState as Meant, Valued, Filled, evaluated, values_placed, placed, terms_placed}
 use Rattle.ops_meaning.specs.Effects.{Effect, silent, followed_by, outcome_as}
 use Rattle.act_phase.specs.Deeds.{Scene, Acts, StillDoes, Gives, fields_found}
 use Rattle.act_phase.specs.State.{State, doing_of, values_in, valued_of, filled_of}
-use Rattle.act_phase.specs.declared.outcome.Mishap.{Mishap}
+use Rattle.act_phase.specs.declared.outcome.ActionError.{ActionError}
 use Rattle.act_phase.specs.declared.values.Values.{Values}
 use Rattle.act_phase.proofs.Deeds.{does_given, still_same, silent_step, silent_fails}
 
@@ -77,7 +77,7 @@ module _ (classes : List Class) (doing : State) (terms : List Term) (at i : ℕ)
       → StillDoes a c whole (λ d. silent (behind_value classes at fields (drop (i + 1) terms) (valued_of v (doing_of doing c.names d))))
   term_ok v q = silent_step (behind_value classes at fields (drop (i + 1) terms)) p q (λ d. terms_here classes at i terms t fields (doing_of doing b.names d) within is)
 
-  pub term_err : {X Y : Type 0} {view : X → Coming → Valued} (seen : Y → Coming → Filled) (r : Result Y Mishap) (f : Mishap) → IsErrAnd r (λ g. g ≡ f) → Acts view (Err f) b c (λ d. silent (evaluated classes t (doing_of doing b.names d))) → Acts seen r a c whole
+  pub term_err : {X Y : Type 0} {view : X → Coming → Valued} (seen : Y → Coming → Filled) (r : Result Y ActionError) (f : ActionError) → IsErrAnd r (λ g. g ≡ f) → Acts view (Err f) b c (λ d. silent (evaluated classes t (doing_of doing b.names d))) → Acts seen r a c whole
   term_err seen r f h q =
       silent_fails seen r (behind_value classes at fields (drop (i + 1) terms)) h p q (λ d. terms_here classes at i terms t fields (doing_of doing b.names d) within is)
 
@@ -94,7 +94,7 @@ module _ (classes : List Class) (doing : State) (behind : List Term) (at : ℕ) 
       (λ d. ap (λ r. silent (followed_by r (behind_placed classes at fields behind (length (values_in v))))) (finds d ∙ ap (outcome_as (λ fields. filled_of fields (doing_of doing b.names d)) (λ m. m)) e)
       ∙ ap (λ vs. silent (terms_placed classes (at + length vs) behind (filled_of new (doing_of doing b.names d)))) (sym counted))
 
-  pub placed_err : {X Y : Type 0} (view : X → List Value) (seen : Y → Coming → Filled) (r : Result Y Mishap) (f : Mishap) → IsErrAnd r (λ g. g ≡ f) → Gives view (Err f) (fields_found (values_placed at vs fields)) → Acts seen r a b whole
+  pub placed_err : {X Y : Type 0} (view : X → List Value) (seen : Y → Coming → Filled) (r : Result Y ActionError) (f : ActionError) → IsErrAnd r (λ g. g ≡ f) → Gives view (Err f) (fields_found (values_placed at vs fields)) → Acts seen r a b whole
   placed_err view seen r f h g =
       silent_fails seen r (behind_placed classes at fields behind (length (values_in v))) h p
       (does_given {view = view} (λ d fields. filled_of fields (doing_of doing b.names d)) (Err f) (fields_found (values_placed at vs fields)) b p.goes_on.whole g)
@@ -114,5 +114,5 @@ module _ (all : List Put → Filled → Result Filled Missed) (step : Put → Fi
     pub put_ok : {X : Type 0} {x : X} (new : List Value) → Acts (λ _ d. filled_of new (doing_of doing c.names d)) (Ok x) b c (λ d. silent (part d)) → StillDoes a c whole (λ d. silent (all (drop (i + 1) puts) (filled_of new (doing_of doing c.names d))))
     put_ok new q = silent_step (all (drop (i + 1) puts)) p q (puts_here b.names part does)
 
-    pub put_err : {X Y : Type 0} {view : X → Coming → Filled} (seen : Y → Coming → Filled) (r : Result Y Mishap) (f : Mishap) → IsErrAnd r (λ g. g ≡ f) → Acts view (Err f) b c (λ d. silent (part d)) → Acts seen r a c whole
+    pub put_err : {X Y : Type 0} {view : X → Coming → Filled} (seen : Y → Coming → Filled) (r : Result Y ActionError) (f : ActionError) → IsErrAnd r (λ g. g ≡ f) → Acts view (Err f) b c (λ d. silent (part d)) → Acts seen r a c whole
     put_err seen r f h q = silent_fails seen r (all (drop (i + 1) puts)) h p q (puts_here b.names part does)

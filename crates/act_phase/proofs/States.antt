@@ -10,7 +10,7 @@ use Rattle.ops_base.specs.declared.elements.Change.TheVariants as change
 use Rattle.ops_base.specs.declared.matching.Binding.{Binding}
 use Rattle.ops_base.specs.declared.values.Value.{Value}
 use Rattle.ops_io.specs.Coming.{Coming}
-use Rattle.ops_meaning.specs.Acting.{Doing as Meant, has_tag, cell_of, next_element, added, removed, modified, changed, cell_bound, made_last}
+use Rattle.ops_meaning.specs.Acting.{ActState as Meant, has_tag, cell_of, next_element, added, removed, modified, changed, cell_bound, made_last}
 use Rattle.ops_base.proofs.Changes.{done_push}
 use Rattle.act_phase.specs.Changed.{Changed, GoesOnTo, memory_of, with_change, with_removed, with_added}
 use Rattle.act_phase.specs.State.{State, made_at, held_by, is_there, doing_of}

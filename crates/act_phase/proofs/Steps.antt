@@ -12,7 +12,7 @@ use Rattle.ops_base.specs.Symbols.{rule_held}
 use Rattle.ops_base.specs.WorkingMemory.{tags_of, Lawful}
 use Rattle.ops_io.specs.Coming.{Coming, preceded_by}
 use Rattle.ops_io.proofs.ComingLemmas.{may_end, steady_comes}
-use Rattle.ops_meaning.specs.Acting.{Setting, Mishap as Missed, Misdeed, Doing as Meant, Given, Acted as Done, action_done, actions_done, in_action, begun, left_by, acted, actions_of}
+use Rattle.ops_meaning.specs.Acting.{Setting, ActionError as Missed, Misdeed, ActState as Meant, Given, Acted as Done, action_done, actions_done, in_action, begun, left_by, acted, actions_of}
 use Rattle.ops_meaning.specs.Effects.{Effect, writes, silent, going_on, followed_by, and_then, told_as, outcome_as, failure_as, Failure, CountsReads}
 use Rattle.ops_meaning.specs.Kept.{WellKept, IsLawfulOver}
 use Rattle.ops_meaning.proofs.InletLemmas.{FailsOn, leaves_on, fails_on, on_ok, on_err, told_leaves_on, told_fails_on}
@@ -25,8 +25,8 @@ use Rattle.act_phase.specs.State.{State, doing_of}
 use Rattle.act_phase.specs.declared.outcome.Acted.{Acted}
 use Rattle.act_phase.specs.declared.outcome.ActFault.{ActFault}
 use Rattle.act_phase.specs.declared.outcome.ActFault.TheVariants as fault
-use Rattle.act_phase.specs.declared.outcome.Mishap.{Mishap}
-use Rattle.act_phase.specs.declared.outcome.Mishap.TheVariants as mishap
+use Rattle.act_phase.specs.declared.outcome.ActionError.{ActionError}
+use Rattle.act_phase.specs.declared.outcome.ActionError.TheVariants as mishap
 use Rattle.act_phase.proofs.HeldDoings.{HeldActed, Any, acted_held}
 use Rattle.act_phase.proofs.Deeds.{does_nothing, still_all, still_then, still_fails, still_done, still_short, silent_step, silent_fails}
 
@@ -39,11 +39,11 @@ module _ {S T : Type 0} (left : Coming → Result S Missed) (next : S → T) {a 
       still_done y (silent_step (λ s. Ok (next s)) (still_all a (λ d. silent (followed_by (left d) (λ s. Ok (next s)))) w) p (λ d. refl)) (λ d. ap (λ s. writes [] s) (sym (is d)))
 
   -- memory ran out
-  pub then_short : {X Y : Type 0} {view : X → Coming → S} {x : X} (seen : Y → Coming → T) (r : Result Y Mishap) → Acts view (Ok x) a b (λ d. silent (left d)) → IsErrAnd r (λ g. g ≡ mishap.OutOfMemory) → Acts seen r a b (λ d. silent (followed_by (left d) (λ s. Ok (next s))))
+  pub then_short : {X Y : Type 0} {view : X → Coming → S} {x : X} (seen : Y → Coming → T) (r : Result Y ActionError) → Acts view (Ok x) a b (λ d. silent (left d)) → IsErrAnd r (λ g. g ≡ mishap.OutOfMemory) → Acts seen r a b (λ d. silent (followed_by (left d) (λ s. Ok (next s))))
   then_short seen r p h = still_short r mishap.OutOfMemory h refl refl (silent_step (λ s. Ok (next s)) (still_all a (λ d. silent (followed_by (left d) (λ s. Ok (next s)))) w) p (λ d. refl))
 
   -- the values are missing
-  pub then_fails : {X Y : Type 0} {view : X → Coming → S} {f : Mishap} (seen : Y → Coming → T) (r : Result Y Mishap) → Acts view (Err f) a b (λ d. silent (left d)) → IsErrAnd r (λ g. g ≡ f) → Acts seen r a b (λ d. silent (followed_by (left d) (λ s. Ok (next s))))
+  pub then_fails : {X Y : Type 0} {view : X → Coming → S} {f : ActionError} (seen : Y → Coming → T) (r : Result Y ActionError) → Acts view (Err f) a b (λ d. silent (left d)) → IsErrAnd r (λ g. g ≡ f) → Acts seen r a b (λ d. silent (followed_by (left d) (λ s. Ok (next s))))
   then_fails seen r p h = silent_fails seen r (λ s. Ok (next s)) h (still_all a (λ d. silent (followed_by (left d) (λ s. Ok (next s)))) w) p (λ d. refl)
 
 -- an action that neither reads nor puts
@@ -65,7 +65,7 @@ numbered_ok {view = view} {x = x} number {a = a} {b = b} {e = e} p = record {
 }
 
 -- it has failed
-pub numbered_err : {X S : Type 0} {view : X → Coming → S} {m : Mishap} (number : ℕ) (f : ActFault) {a b : Scene} {e : Coming → Effect Missed S} → failure_of f ≡ failure_as (in_action number) (mishap_of m) → is_read f ≡ is_read_mishap m
+pub numbered_err : {X S : Type 0} {view : X → Coming → S} {m : ActionError} (number : ℕ) (f : ActFault) {a b : Scene} {e : Coming → Effect Missed S} → failure_of f ≡ failure_as (in_action number) (mishap_of m) → is_read f ≡ is_read_mishap m
     → Acts view (Err m) a b e → Does view failure_of is_read (Err f) a b (λ d. told_as (λ s. s) (in_action number) (e d))
 numbered_err {view = view} {m = m} number f {a = a} {b = b} {e = e} of same p = record {
   performs =

@@ -14,13 +14,13 @@ use Rattle.ops_base.proofs.Changes.{done_push}
 use Rattle.ops_io.specs.Coming.{Coming}
 use Rattle.ops_io.specs.Output.{column_after}
 use Rattle.ops_io.proofs.Known.{column-append}
-use Rattle.ops_meaning.specs.Acting.{Setting, Mishap as Missed, Doing as Meant, change_text, change_lines, action_done, cell_of, removed}
+use Rattle.ops_meaning.specs.Acting.{Setting, ActionError as Missed, ActState as Meant, change_text, change_lines, action_done, cell_of, removed}
 use Rattle.ops_meaning.specs.Effects.{Effect, writes, and_then}
 use Rattle.ops_meaning.specs.Layout.{fresh_line, line_at, lines_at, traced}
 use Rattle.act_phase.specs.Changed.{Changed, GoesOnTo, memory_of}
 use Rattle.act_phase.specs.Deeds.{Scene, Acts, StillDoes}
 use Rattle.act_phase.specs.State.{State, doing_of}
-use Rattle.act_phase.specs.declared.outcome.Mishap.{Mishap}
+use Rattle.act_phase.specs.declared.outcome.ActionError.{ActionError}
 use Rattle.act_phase.proofs.Deeds.{still_all, still_same, still_then, still_fails}
 
 -- ---- the lines
@@ -80,7 +80,7 @@ module _ (s : Setting) (old new : State) {a b : Scene} {part : Coming → Effect
       (λ d. ap (λ lines. writes (traced s.watch b.port.out.column lines) (doing_of new b.names d)) (sym (same_lines b.names s.classes old.working new.working n g is)))
 
   -- it has failed
-  pub never_told : {X Y : Type 0} {view : X → Coming → Meant} {f : Mishap} (seen : Y → Coming → Meant) (r : Result Y Mishap) → IsErrAnd r (λ g. g ≡ f) → Acts view (Err f) a b part → Acts seen r a b (with_lines s old.working a.port.out.column part)
+  pub never_told : {X Y : Type 0} {view : X → Coming → Meant} {f : ActionError} (seen : Y → Coming → Meant) (r : Result Y ActionError) → IsErrAnd r (λ g. g ≡ f) → Acts view (Err f) a b part → Acts seen r a b (with_lines s old.working a.port.out.column part)
   never_told seen r h p = still_fails seen r (told s old.working) h (still_all a (with_lines s old.working a.port.out.column part) w) p (λ d. refl)
 
 -- elements were removed, which is still to be printed

@@ -9,10 +9,10 @@ use Rattle.ops_base.specs.declared.elements.Change.{Change}
 use Rattle.ops_base.specs.declared.elements.Change.TheVariants as change
 use Rattle.ops_base.specs.WorkingMemory.{done, Lawful, last_after}
 use Rattle.ops_meaning.specs.Acting.{has_tag}
-use Rattle.act_phase.specs.declared.gone.Gone.{Gone}
+use Rattle.act_phase.specs.declared.gone.RemovedTags.{RemovedTags}
 
 -- the tag is one of those that were removed
-abbrev pub is_among : Gone → ℕ → Bool
+abbrev pub is_among : RemovedTags → ℕ → Bool
 is_among gone tag = list_any (λ t. t == tag) gone.few.items || contains nat_cmp gone.more tag
 
 -- working memory at the start, the changes since then in order, and the last tag that was given

@@ -7,7 +7,7 @@ use Rattle.ops_io.specs.Coming.{Coming, Inlet, inlet}
 use Rattle.ops_io.specs.Input.{InputState}
 use Rattle.ops_io.specs.Output.{OutState}
 use Rattle.ops_io.specs.Ports.{Port, port}
-use Rattle.ops_meaning.specs.Acting.{Mishap as Missed, Fault, Unread}
+use Rattle.ops_meaning.specs.Acting.{ActionError as Missed, Fault, Unread}
 use Rattle.ops_meaning.specs.Computing.{Computed}
 use Rattle.ops_meaning.specs.Kept.{KeepsNames}
 use Rattle.ops_meaning.specs.Effects.{Effect, Failure, PerformsOn, PendingOn, CountsReads}
@@ -15,8 +15,8 @@ use Rattle.ops_tokens.specs.Accepting.{Accepted}
 use Rattle.ops_tokens.specs.declared.accept.AcceptFault.{AcceptFault}
 use Rattle.ops_tokens.specs.declared.accept.AcceptFault.TheVariants as accept_fault
 use Rattle.act_phase.specs.Outcomes.{mishap_of, is_read_mishap, fails_by}
-use Rattle.act_phase.specs.declared.outcome.Mishap.{Mishap}
-use Rattle.act_phase.specs.declared.outcome.Mishap.TheVariants as mishap
+use Rattle.act_phase.specs.declared.outcome.ActionError.{ActionError}
+use Rattle.act_phase.specs.declared.outcome.ActionError.TheVariants as mishap
 
 -- what stands around a right side: the spellings in use, the input, and the output
 pub record Scene : Type 0 where
@@ -42,7 +42,7 @@ pub record Does {X F E S : Type 0} (view : X → Coming → S) (failure : F → 
   pub goes_on : OnOk r (GoesOn old.port new.port)
 
 -- the same of a part of one action
-abbrev pub Acts : {X S : Type 0} → (X → Coming → S) → Result X Mishap → Scene → Scene → (Coming → Effect Missed S) → Type 0
+abbrev pub Acts : {X S : Type 0} → (X → Coming → S) → Result X ActionError → Scene → Scene → (Coming → Effect Missed S) → Type 0
 Acts view r old new e = Does view mishap_of is_read_mishap r old new e
 
 -- Of the whole this rest is still to be done.
@@ -54,7 +54,7 @@ pub record StillDoes {E S : Type 0} (start now : Scene) (whole rest : Coming →
 -- ---- without input and output
 
 -- What a call answers that gives this; out of memory may be answered at any time.
-abbrev pub Gives : {X S : Type 0} → (X → S) → Result X Mishap → Result S Missed → Type 0
+abbrev pub Gives : {X S : Type 0} → (X → S) → Result X ActionError → Result S Missed → Type 0
 Gives view (Ok x) what = what ≡ Ok (view x)
 Gives view (Err (mishap.Fault kind)) what = what ≡ Err (Fault kind)
 Gives view (Err mishap.Read) what = ⊥

@@ -4,13 +4,13 @@ use Rattle.ops_base.specs.Names.{Spellings}
 use Rattle.ops_base.specs.declared.programs.Program.{Program}
 use Rattle.ops_io.specs.Coming.{Coming}
 use Rattle.ops_io.specs.declared.stop.Stop.TheVariants as stop
-use Rattle.ops_meaning.specs.Acting.{Setting, Acted as Meant, Misdeed, Bad, NoInput, Mishap as Missed, Fault, Unread}
+use Rattle.ops_meaning.specs.Acting.{Setting, Acted as Meant, Misdeed, Bad, NoInput, ActionError as Missed, Fault, Unread}
 use Rattle.ops_meaning.specs.Effects.{Failure, OfPort, OfEffect}
 use Rattle.act_phase.specs.declared.outcome.ActFault.{ActFault}
 use Rattle.act_phase.specs.declared.outcome.ActFault.TheVariants as fault
 use Rattle.act_phase.specs.declared.outcome.Acted.{Acted}
-use Rattle.act_phase.specs.declared.outcome.Mishap.{Mishap}
-use Rattle.act_phase.specs.declared.outcome.Mishap.TheVariants as mishap
+use Rattle.act_phase.specs.declared.outcome.ActionError.{ActionError}
+use Rattle.act_phase.specs.declared.outcome.ActionError.TheVariants as mishap
 
 -- what a right side of a program stands in at this trace level
 abbrev pub setting_of : Program → ℕ → Setting
@@ -26,7 +26,7 @@ failure_of fault.Write = OfPort stop.Write
 failure_of fault.OutOfMemory = OfPort stop.OutOfMemory
 
 -- the same of one action
-abbrev pub mishap_of : Mishap → Failure Missed
+abbrev pub mishap_of : ActionError → Failure Missed
 mishap_of (mishap.Fault kind) = OfEffect (Fault kind)
 mishap_of mishap.Read = OfEffect Unread
 mishap_of mishap.Write = OfPort stop.Write
@@ -40,7 +40,7 @@ is_read fault.Read = true
 is_read fault.Write = false
 is_read fault.OutOfMemory = false
 
-abbrev pub is_read_mishap : Mishap → Bool
+abbrev pub is_read_mishap : ActionError → Bool
 is_read_mishap (mishap.Fault kind) = false
 is_read_mishap mishap.Read = true
 is_read_mishap mishap.Write = false

@@ -6,7 +6,7 @@ use Rattle.ops_base.specs.declared.elements.Change.{Change}
 use Rattle.ops_base.specs.declared.matching.Binding.{Binding}
 use Rattle.ops_base.specs.declared.values.Value.{Value}
 use Rattle.ops_io.specs.Coming.{Coming}
-use Rattle.ops_meaning.specs.Acting.{Doing as Meant, Valued, Filled, element_of, no_element, made_by}
+use Rattle.ops_meaning.specs.Acting.{ActState as Meant, Valued, Filled, element_of, no_element, made_by}
 use Rattle.act_phase.specs.Changed.{Changed, memory_of}
 use Rattle.act_phase.specs.declared.state.Cell.{Cell}
 use Rattle.act_phase.specs.declared.state.Cell.TheVariants as cell

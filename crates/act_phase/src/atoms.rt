@@ -5,7 +5,7 @@ ghost use Rattle.ops_tokens.specs.Accepting.{accepted};
 ghost use Rattle.act_phase.specs.Deeds.{Acts, scene, atom_found};
 ghost use Rattle.act_phase.specs.Outcomes.{fails_by, is_read_mishap};
 
-use crate::outcome::Mishap;
+use crate::outcome::ActionError;
 use ops_base::endings::ActKind;
 use ops_base::symbols::Names;
 use ops_base::values::Value;
@@ -22,7 +22,7 @@ pub(crate) fn accept<I: Source, K: Sink>(
     source: &mut I,
     out: &mut Out,
     sink: &mut K,
-) -> Result<Value, Mishap>
+) -> Result<Value, ActionError>
     requires whole { IsTrue out.old.whole }
     requires writes { K.faults sink.old < 2 ^ 63 }
     requires reads { I.faults source.old < 2 ^ 63 }
@@ -35,8 +35,8 @@ pub(crate) fn accept<I: Source, K: Sink>(
     out.flush(sink)?;
     match accept_atom(alloc, names, input, source) {
         Ok(value) => Ok(value),
-        Err(AcceptFault::TooLong) => Err(Mishap::Fault(ActKind::InputTooLong)),
-        Err(AcceptFault::Read) => Err(Mishap::Read),
-        Err(AcceptFault::OutOfMemory) => Err(Mishap::OutOfMemory),
+        Err(AcceptFault::TooLong) => Err(ActionError::Fault(ActKind::InputTooLong)),
+        Err(AcceptFault::Read) => Err(ActionError::Read),
+        Err(AcceptFault::OutOfMemory) => Err(ActionError::OutOfMemory),
     }
 }

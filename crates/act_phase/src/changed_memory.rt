@@ -1,4 +1,4 @@
-//! `Working`, the working memory that a right side changes: the store that it began with, and its changes so far.
+//! `ChangedMemory`, the working memory that a right side changes: the store that it began with, and its changes so far.
 ghost use Rattle.std.specs.Prelude.{◌≡◌, ◌+◌, ◌-◌, ◌<◌, OnOk, Some, slice_get, take, unwrap_or};
 ghost use Rattle.std.specs.Option.{option_copied};
 ghost use Rattle.ops_base.specs.WorkingMemory.{done};
@@ -6,7 +6,7 @@ ghost use Rattle.ops_meaning.specs.Acting.{has_tag, element_of, no_element};
 ghost use Rattle.act_phase.specs.Changed.{memory_of, unchanged, with_removed, with_added, added_by, last_added, GoesOnTo};
 ghost use Rattle.act_phase.specs.State.{made_at};
 
-use crate::gone::Gone;
+use crate::removed_tags::RemovedTags;
 use ops_base::elements::{Change, Element};
 use ops_base::list::Listed;
 use ops_base::memory::OutOfMemory;
@@ -18,16 +18,16 @@ use work_store::Store;
 /// The changes of a right side so far, seen as those and the working memory that they began with. That is not copied:
 /// an element is present where it is in the store or was added, and was not removed.
 #[derive(Drop)]
-pub(crate) struct Working<'s> {
+pub(crate) struct ChangedMemory<'s> {
     store: &'s Store,
     changes: Vec<Change>,
     // The tags that were removed.
-    gone: Gone,
+    gone: RemovedTags,
     first_tag: u64,
     next_tag: u64,
 }
 
-impl<'s> Model for Working<'s> {
+impl<'s> Model for ChangedMemory<'s> {
     ghost use Rattle.std.specs.Prelude.{◌-◌};
     ghost use Rattle.act_phase.specs.Changed.{Changed, AreCounted, is_among};
 
@@ -63,19 +63,19 @@ fn last_added(changes: &[Change], tag: u64) -> Option<&Element>
     None
 }
 
-impl<'s> Working<'s> {
+impl<'s> ChangedMemory<'s> {
     /// Nothing is changed yet. Takes no memory.
-    pub(crate) fn new(alloc: Global, store: &'s Store, next_tag: u64) -> Working<'s>
+    pub(crate) fn new(alloc: Global, store: &'s Store, next_tag: u64) -> ChangedMemory<'s>
         requires { store.now.last < next_tag }
         ensures { result ≡ unchanged store.now.elements (next_tag - 1) }
     {
         // only the proof needs this: the store is looked at for what it keeps true
         let last = store.last();
         prove!(last < next_tag);
-        Working {
+        ChangedMemory {
             store,
             changes: Vec::new(alloc),
-            gone: Gone::new(alloc),
+            gone: RemovedTags::new(alloc),
             first_tag: next_tag,
             next_tag,
         }

@@ -10,8 +10,8 @@ ghost use Rattle.act_phase.specs.Deeds.{Acts, Gives, scene, fields_found};
 ghost use Rattle.act_phase.specs.Outcomes.{fails_by, is_read_mishap};
 ghost use Rattle.act_phase.specs.State.{doing_of, held_in, filled_of};
 
-use crate::outcome::Mishap;
-use crate::state::Doing;
+use crate::outcome::ActionError;
+use crate::state::ActState;
 use crate::values::evaluate;
 use ops_base::actions::Put;
 use ops_base::elements::{Class, MOST_FIELDS};
@@ -65,13 +65,13 @@ fn place_value(fields: &mut Vec<Value>, at: usize, value: Value) -> Result<(), O
 }
 
 /// Places values from a field on.
-fn place_values(fields: &mut Vec<Value>, from: usize, values: &[Value]) -> Result<(), Mishap>
+fn place_values(fields: &mut Vec<Value>, from: usize, values: &[Value]) -> Result<(), ActionError>
     ensures { Gives (λ _. fields.new.items) result (fields_found (values_placed from values.now fields.old.items)) }
 {
     let mut at = from;
     for value in values {
         if at >= MOST_FIELDS {
-            return Err(Mishap::Fault(ActKind::TooManyFields));
+            return Err(ActionError::Fault(ActKind::TooManyFields));
         }
         place_value(fields, at, *value)?;
         at += 1;
@@ -84,14 +84,14 @@ fn place_put<I: Source, K: Sink>(
     alloc: Global,
     classes: &[Class],
     names: &mut Names,
-    doing: &Doing<'_>,
+    doing: &ActState<'_>,
     put: &Put,
     fields: &mut Vec<Value>,
     input: &mut Input,
     source: &mut I,
     out: &mut Out,
     sink: &mut K,
-) -> Result<(), Mishap>
+) -> Result<(), ActionError>
     requires whole { IsTrue out.old.whole }
     requires writes { K.faults sink.old < 2 ^ 63 }
     requires reads { I.faults source.old < 2 ^ 63 }
@@ -116,14 +116,14 @@ pub(crate) fn made_fields<I: Source, K: Sink>(
     alloc: Global,
     classes: &[Class],
     names: &mut Names,
-    doing: &Doing<'_>,
+    doing: &ActState<'_>,
     class: usize,
     puts: &[Put],
     input: &mut Input,
     source: &mut I,
     out: &mut Out,
     sink: &mut K,
-) -> Result<Vec<Value>, Mishap>
+) -> Result<Vec<Value>, ActionError>
     requires whole { IsTrue out.old.whole }
     requires writes { K.faults sink.old < 2 ^ 63 }
     requires reads { I.faults source.old < 2 ^ 63 }
@@ -154,7 +154,7 @@ pub(crate) fn made_fields<I: Source, K: Sink>(
 }
 
 /// A copy of the fields of a cell's element.
-fn fields_of(alloc: Global, doing: &Doing<'_>, cell: usize) -> Result<Vec<Value>, OutOfMemory>
+fn fields_of(alloc: Global, doing: &ActState<'_>, cell: usize) -> Result<Vec<Value>, OutOfMemory>
     ensures { IfOk result (λ v. v.items ≡ (held_in doing.now cell).fields) }
 {
     let mut fields = Vec::new(alloc);
@@ -169,14 +169,14 @@ pub(crate) fn modified_fields<I: Source, K: Sink>(
     alloc: Global,
     classes: &[Class],
     names: &mut Names,
-    doing: &Doing<'_>,
+    doing: &ActState<'_>,
     cell: usize,
     puts: &[Put],
     input: &mut Input,
     source: &mut I,
     out: &mut Out,
     sink: &mut K,
-) -> Result<Vec<Value>, Mishap>
+) -> Result<Vec<Value>, ActionError>
     requires whole { IsTrue out.old.whole }
     requires writes { K.faults sink.old < 2 ^ 63 }
     requires reads { I.faults source.old < 2 ^ 63 }

@@ -11,8 +11,8 @@ ghost use Rattle.act_phase.specs.Deeds.{Acts, scene};
 ghost use Rattle.act_phase.specs.Outcomes.{fails_by, is_read_mishap};
 ghost use Rattle.act_phase.specs.State.{doing_of};
 
-use crate::outcome::Mishap;
-use crate::state::Doing;
+use crate::outcome::ActionError;
+use crate::state::ActState;
 use crate::values::evaluate;
 use ops_base::actions::{Item, Term};
 use ops_base::elements::Class;
@@ -89,14 +89,14 @@ fn print<I: Source, K: Sink>(
     alloc: Global,
     classes: &[Class],
     names: &mut Names,
-    doing: &Doing<'_>,
+    doing: &ActState<'_>,
     lead: Lead,
     term: &Term,
     input: &mut Input,
     source: &mut I,
     out: &mut Out,
     sink: &mut K,
-) -> Result<(), Mishap>
+) -> Result<(), ActionError>
     requires whole { IsTrue out.old.whole }
     requires writes { K.faults sink.old < 2 ^ 63 }
     requires reads { I.faults source.old < 2 ^ 63 }
@@ -116,14 +116,14 @@ fn put_item<I: Source, K: Sink>(
     alloc: Global,
     classes: &[Class],
     names: &mut Names,
-    doing: &Doing<'_>,
+    doing: &ActState<'_>,
     lead: Lead,
     item: &Item,
     input: &mut Input,
     source: &mut I,
     out: &mut Out,
     sink: &mut K,
-) -> Result<(), Mishap>
+) -> Result<(), ActionError>
     requires whole { IsTrue out.old.whole }
     requires writes { K.faults sink.old < 2 ^ 63 }
     requires reads { I.faults source.old < 2 ^ 63 }
@@ -149,13 +149,13 @@ pub(crate) fn put_items<I: Source, K: Sink>(
     alloc: Global,
     classes: &[Class],
     names: &mut Names,
-    doing: &Doing<'_>,
+    doing: &ActState<'_>,
     items: &[Item],
     input: &mut Input,
     source: &mut I,
     out: &mut Out,
     sink: &mut K,
-) -> Result<(), Mishap>
+) -> Result<(), ActionError>
     requires whole { IsTrue out.old.whole }
     requires writes { K.faults sink.old < 2 ^ 63 }
     requires reads { I.faults source.old < 2 ^ 63 }

@@ -3,7 +3,7 @@ ghost use Rattle.std.specs.Prelude.{◌≡◌};
 ghost use Rattle.ops_meaning.specs.Acting.{in_action};
 ghost use Rattle.ops_meaning.specs.Effects.{failure_as};
 ghost use Rattle.act_phase.specs.declared.outcome.ActFault.TheVariants as fault;
-ghost use Rattle.act_phase.specs.declared.outcome.Mishap.TheVariants as mishap;
+ghost use Rattle.act_phase.specs.declared.outcome.ActionError.TheVariants as mishap;
 
 use ops_base::elements::Change;
 use ops_base::endings::ActKind;
@@ -39,7 +39,7 @@ pub enum ActFault {
 
 /// Why an action was not done to its end.
 #[derive(Clone, Copy, Debug, PartialEq, Eq)]
-pub(crate) enum Mishap {
+pub(crate) enum ActionError {
     /// It can't be done.
     Fault(ActKind),
     /// The source failed.
@@ -66,23 +66,23 @@ impl From<WriteFailed> for ActFault {
     }
 }
 
-impl From<OutOfMemory> for Mishap {
+impl From<OutOfMemory> for ActionError {
     ghost from_gives = { λ _ why. why ≡ mishap.OutOfMemory };
 
     fn from(_error: OutOfMemory) -> Self {
-        Mishap::OutOfMemory
+        ActionError::OutOfMemory
     }
 }
 
-impl From<WriteFailed> for Mishap {
+impl From<WriteFailed> for ActionError {
     ghost from_gives = { λ _ why. why ≡ mishap.Write };
 
     fn from(_error: WriteFailed) -> Self {
-        Mishap::Write
+        ActionError::Write
     }
 }
 
-impl Mishap {
+impl ActionError {
     ghost use Rattle.act_phase.specs.Outcomes.{failure_of, mishap_of, is_read, is_read_mishap};
 
     /// The same, of the action with this number.
@@ -91,13 +91,13 @@ impl Mishap {
         ensures read { is_read result ≡ is_read_mishap self }
     {
         match self {
-            Mishap::Fault(kind) => ActFault::Bad {
+            ActionError::Fault(kind) => ActFault::Bad {
                 action: number,
                 kind,
             },
-            Mishap::Read => ActFault::Read,
-            Mishap::Write => ActFault::Write,
-            Mishap::OutOfMemory => ActFault::OutOfMemory,
+            ActionError::Read => ActFault::Read,
+            ActionError::Write => ActFault::Write,
+            ActionError::OutOfMemory => ActFault::OutOfMemory,
         }
     }
 }

@@ -18,8 +18,8 @@ ghost use Rattle.act_phase.specs.State.{doing_of};
 
 use crate::fields::{made_fields, modified_fields};
 use crate::items::put_items;
-use crate::outcome::{ActFault, Acted, Mishap};
-use crate::state::Doing;
+use crate::outcome::{ActFault, Acted, ActionError};
+use crate::state::ActState;
 use crate::traces::tell_changes;
 use crate::values::evaluate;
 use ops_base::actions::{Action, Put, Term};
@@ -38,14 +38,14 @@ fn make<I: Source, K: Sink>(
     alloc: Global,
     classes: &[Class],
     names: &mut Names,
-    doing: &mut Doing<'_>,
+    doing: &mut ActState<'_>,
     class: usize,
     puts: &[Put],
     input: &mut Input,
     source: &mut I,
     out: &mut Out,
     sink: &mut K,
-) -> Result<(), Mishap>
+) -> Result<(), ActionError>
     requires whole { IsTrue out.old.whole }
     requires writes { K.faults sink.old < 2 ^ 63 }
     requires reads { I.faults source.old < 2 ^ 63 }
@@ -69,14 +69,14 @@ fn modify<I: Source, K: Sink>(
     alloc: Global,
     classes: &[Class],
     names: &mut Names,
-    doing: &mut Doing<'_>,
+    doing: &mut ActState<'_>,
     cell: usize,
     puts: &[Put],
     input: &mut Input,
     source: &mut I,
     out: &mut Out,
     sink: &mut K,
-) -> Result<(), Mishap>
+) -> Result<(), ActionError>
     requires whole { IsTrue out.old.whole }
     requires writes { K.faults sink.old < 2 ^ 63 }
     requires reads { I.faults source.old < 2 ^ 63 }
@@ -100,14 +100,14 @@ fn bind<I: Source, K: Sink>(
     alloc: Global,
     classes: &[Class],
     names: &mut Names,
-    doing: &mut Doing<'_>,
+    doing: &mut ActState<'_>,
     variable: usize,
     term: &Term,
     input: &mut Input,
     source: &mut I,
     out: &mut Out,
     sink: &mut K,
-) -> Result<(), Mishap>
+) -> Result<(), ActionError>
     requires whole { IsTrue out.old.whole }
     requires writes { K.faults sink.old < 2 ^ 63 }
     requires reads { I.faults source.old < 2 ^ 63 }
@@ -125,7 +125,7 @@ fn bind<I: Source, K: Sink>(
 }
 
 /// Removes the elements of these cells.
-fn remove(doing: &mut Doing<'_>, cells: &[usize]) -> Result<(), OutOfMemory>
+fn remove(doing: &mut ActState<'_>, cells: &[usize]) -> Result<(), OutOfMemory>
     ensures does { OnOk result ((names : Spellings) (coming : Coming)
         → doing_of doing.new names coming ≡ fold (λ d c. removed d (cell_of d c).tag) (doing_of doing.old names coming) cells.now) }
     ensures goes_on { OnOk result (GoesOnTo doing.old.working doing.new.working) }
@@ -141,7 +141,7 @@ fn make_and_tell<I: Source, K: Sink>(
     alloc: Global,
     program: &Program,
     names: &mut Names,
-    doing: &mut Doing<'_>,
+    doing: &mut ActState<'_>,
     watch: u8,
     class: usize,
     puts: &[Put],
@@ -149,7 +149,7 @@ fn make_and_tell<I: Source, K: Sink>(
     source: &mut I,
     out: &mut Out,
     sink: &mut K,
-) -> Result<(), Mishap>
+) -> Result<(), ActionError>
     requires whole { IsTrue out.old.whole }
     requires writes { K.faults sink.old < 2 ^ 63 }
     requires reads { I.faults source.old < 2 ^ 63 }
@@ -173,7 +173,7 @@ fn modify_and_tell<I: Source, K: Sink>(
     alloc: Global,
     program: &Program,
     names: &mut Names,
-    doing: &mut Doing<'_>,
+    doing: &mut ActState<'_>,
     watch: u8,
     cell: usize,
     puts: &[Put],
@@ -181,7 +181,7 @@ fn modify_and_tell<I: Source, K: Sink>(
     source: &mut I,
     out: &mut Out,
     sink: &mut K,
-) -> Result<(), Mishap>
+) -> Result<(), ActionError>
     requires whole { IsTrue out.old.whole }
     requires writes { K.faults sink.old < 2 ^ 63 }
     requires reads { I.faults source.old < 2 ^ 63 }
@@ -205,14 +205,14 @@ fn act_one<I: Source, K: Sink>(
     alloc: Global,
     program: &Program,
     names: &mut Names,
-    doing: &mut Doing<'_>,
+    doing: &mut ActState<'_>,
     watch: u8,
     action: &Action,
     input: &mut Input,
     source: &mut I,
     out: &mut Out,
     sink: &mut K,
-) -> Result<(), Mishap>
+) -> Result<(), ActionError>
     requires whole { IsTrue out.old.whole }
     requires writes { K.faults sink.old < 2 ^ 63 }
     requires reads { I.faults source.old < 2 ^ 63 }
@@ -264,7 +264,7 @@ fn act_at<I: Source, K: Sink>(
     alloc: Global,
     program: &Program,
     names: &mut Names,
-    doing: &mut Doing<'_>,
+    doing: &mut ActState<'_>,
     watch: u8,
     number: usize,
     action: &Action,
@@ -314,7 +314,7 @@ fn act_all<I: Source, K: Sink>(
     alloc: Global,
     program: &Program,
     names: &mut Names,
-    doing: &mut Doing<'_>,
+    doing: &mut ActState<'_>,
     watch: u8,
     actions: &[Action],
     input: &mut Input,
@@ -393,7 +393,7 @@ pub fn act<I: Source, K: Sink>(
     prove!(last < next_tag);
     let conditions = conditions_of(program, inst.rule);
     let tags = inst.tags.as_slice();
-    let mut doing = Doing::new(alloc, store, conditions, tags, next_tag)?;
+    let mut doing = ActState::new(alloc, store, conditions, tags, next_tag)?;
     let actions = actions_of(program, inst.rule);
     act_all(
         alloc, program, names, &mut doing, watch, actions, input, source, out, sink,

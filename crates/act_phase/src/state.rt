@@ -1,4 +1,4 @@
-//! `Doing`, the whole state between two actions: working memory, bindings, cells, and whether `halt` was done.
+//! `ActState`, the whole state between two actions: working memory, bindings, cells, and whether `halt` was done.
 ghost use Rattle.std.specs.Prelude.{◌≡◌, ◌+◌, ◌-◌, ◌<◌, IfOk, OnOk, [], ◌∷◌, map, true, false, unwrap_or, length, slice_set, List};
 ghost use Rattle.std.specs.List.{list_all};
 ghost use Rattle.std.specs.Option.{option_copied};
@@ -10,7 +10,7 @@ ghost use Rattle.act_phase.specs.Outcomes.{acted_of};
 ghost use Rattle.act_phase.specs.State.{held_by, is_there, made_at, held_in, doing_of};
 
 use crate::bindings::bindings_of;
-use crate::changed_memory::Working;
+use crate::changed_memory::ChangedMemory;
 use crate::outcome::Acted;
 use ops_base::conditions::Part;
 use ops_base::elements::{Change, Element};
@@ -34,14 +34,14 @@ pub(crate) enum Cell {
 /// The state of a right side between two of its actions. A cell copies no element, and the changes only grow, so that
 /// the change that it names stays where it is.
 #[derive(Drop)]
-pub(crate) struct Doing<'s> {
-    working: Working<'s>,
+pub(crate) struct ActState<'s> {
+    working: ChangedMemory<'s>,
     bindings: Vec<Binding>,
     cells: Vec<Cell>,
     halted: bool,
 }
 
-impl<'s> Model for Doing<'s> {
+impl<'s> Model for ActState<'s> {
     ghost use Rattle.std.specs.Prelude.{◌≡◌, map, length, true};
     ghost use Rattle.std.specs.List.{list_all};
     ghost use Rattle.act_phase.specs.State.{State, held_by, is_there};
@@ -84,7 +84,7 @@ fn last_made(changes: &[Change]) -> Cell
     Cell::Nothing
 }
 
-impl<'s> Doing<'s> {
+impl<'s> ActState<'s> {
     /// Nothing is done yet.
     pub(crate) fn new(
         alloc: Global,
@@ -92,7 +92,7 @@ impl<'s> Doing<'s> {
         parts: &[Part],
         tags: &[u64],
         next_tag: u64,
-    ) -> Result<Doing<'s>, OutOfMemory>
+    ) -> Result<ActState<'s>, OutOfMemory>
         requires { store.now.last < next_tag }
         ensures { IfOk result (λ d. (names : Spellings) (coming : Coming) → doing_of d names coming ≡ record {
           wm = store.now.elements;
@@ -105,8 +105,8 @@ impl<'s> Doing<'s> {
           coming = coming;
         }) }
     {
-        Ok(Doing {
-            working: Working::new(alloc, store, next_tag),
+        Ok(ActState {
+            working: ChangedMemory::new(alloc, store, next_tag),
             bindings: bindings_of(alloc, store, parts, tags)?,
             cells: cells_of(alloc, store, tags)?,
             halted: false,
@@ -124,7 +124,7 @@ impl<'s> Doing<'s> {
         }
     }
 
-    pub(crate) fn working(&self) -> &Working<'s>
+    pub(crate) fn working(&self) -> &ChangedMemory<'s>
         ensures { result.now ≡ self.now.working }
     {
         &self.working

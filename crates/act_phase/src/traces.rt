@@ -5,7 +5,7 @@ ghost use Rattle.ops_io.specs.Ports.{port, PutsBytes};
 ghost use Rattle.ops_meaning.specs.Acting.{change_text, change_lines};
 ghost use Rattle.ops_meaning.specs.Layout.{line_at, traced};
 
-use crate::changed_memory::Working;
+use crate::changed_memory::ChangedMemory;
 use ops_base::elements::Change;
 use ops_base::programs::Program;
 use ops_base::symbols::Names;
@@ -16,7 +16,7 @@ use ops_print::{put_made_line, put_removed_line};
 fn tell_change<K: Sink>(
     program: &Program,
     names: &Names,
-    working: &Working<'_>,
+    working: &ChangedMemory<'_>,
     place: usize,
     change: &Change,
     out: &mut Out,
@@ -59,7 +59,7 @@ pub fn traces_elements(watch: u8) -> bool
 pub(crate) fn tell_changes<K: Sink>(
     program: &Program,
     names: &Names,
-    working: &Working<'_>,
+    working: &ChangedMemory<'_>,
     watch: u8,
     since: usize,
     out: &mut Out,

@@ -15,8 +15,8 @@ ghost use Rattle.act_phase.specs.State.{doing_of, held_in, values_in, valued_of}
 
 use crate::atoms::accept;
 use crate::expressions::computed;
-use crate::outcome::Mishap;
-use crate::state::Doing;
+use crate::outcome::ActionError;
+use crate::state::ActState;
 use ops_base::actions::Term;
 use ops_base::elements::{Class, Element};
 use ops_base::expression::Expr;
@@ -94,14 +94,14 @@ fn class(element: Option<&Element>) -> usize
 }
 
 /// The value of a variable, which is looked for among the bindings.
-fn value_in(doing: &Doing<'_>, variable: usize) -> Value
+fn value_in(doing: &ActState<'_>, variable: usize) -> Value
     ensures { result ≡ unwrap_or (value_of doing.now.bindings variable) nil }
 {
     bound_value(doing.bindings(), variable).unwrap_or(NOTHING)
 }
 
 /// The values of the vector attribute of a cell's element.
-fn row<'d>(classes: &[Class], doing: &'d Doing<'_>, cell: usize) -> &'d [Value]
+fn row<'d>(classes: &[Class], doing: &'d ActState<'_>, cell: usize) -> &'d [Value]
     ensures { let e = held_in doing.now cell in result.now ≡ drop (scalar_count (class_of classes.now e.class)) e.fields }
 {
     let element = doing.element(cell);
@@ -109,12 +109,12 @@ fn row<'d>(classes: &[Class], doing: &'d Doing<'_>, cell: usize) -> &'d [Value]
 }
 
 /// The value of an expression.
-fn compute(alloc: Global, doing: &Doing<'_>, expr: &Expr) -> Result<Value, Mishap>
+fn compute(alloc: Global, doing: &ActState<'_>, expr: &Expr) -> Result<Value, ActionError>
     ensures { Gives (λ v. v) result (value_found (computed (λ v. unwrap_or (value_of doing.now.bindings v) nil) expr.now)) }
 {
     match computed(alloc, doing.bindings(), expr)? {
         Ok(value) => Ok(value),
-        Err(kind) => Err(Mishap::Fault(kind)),
+        Err(kind) => Err(ActionError::Fault(kind)),
     }
 }
 
@@ -123,13 +123,13 @@ pub(crate) fn evaluate<'d, I: Source, K: Sink>(
     alloc: Global,
     classes: &[Class],
     names: &mut Names,
-    doing: &'d Doing<'_>,
+    doing: &'d ActState<'_>,
     term: &Term,
     input: &mut Input,
     source: &mut I,
     out: &mut Out,
     sink: &mut K,
-) -> Result<Values<'d>, Mishap>
+) -> Result<Values<'d>, ActionError>
     requires whole { IsTrue out.old.whole }
     requires writes { K.faults sink.old < 2 ^ 63 }
     requires reads { I.faults source.old < 2 ^ 63 }

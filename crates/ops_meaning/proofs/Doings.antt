@@ -22,7 +22,7 @@ use Rattle.ops_io.specs.Output.{column_after}
 use Rattle.ops_tokens.specs.Accepting.{Accepted, accepted}
 use Rattle.ops_tokens.specs.declared.accept.AcceptFault.{AcceptFault}
 use Rattle.ops_tokens.specs.declared.accept.AcceptFault.TheVariants as accept_fault
-use Rattle.ops_meaning.specs.Acting.{Setting, Doing, Mishap, Fault, Unread, Misdeed, Bad, NoInput, in_action, Given, Acted, Valued, Filled, evaluated, value_in, computed_as, accepted_as, values_placed, placed, terms_placed, puts_made, puts_over, made_fields, modified_fields, emptied, has_tag, cell_of, changed, next_element, added, removed, modified, bound, first_of, printed, lead_after, item_done, items_done, changes_told, action_done, actions_done, actions_of, begun, left_by, acted}
+use Rattle.ops_meaning.specs.Acting.{Setting, ActState, ActionError, Fault, Unread, Misdeed, Bad, NoInput, in_action, Given, Acted, Valued, Filled, evaluated, value_in, computed_as, accepted_as, values_placed, placed, terms_placed, puts_made, puts_over, made_fields, modified_fields, emptied, has_tag, cell_of, changed, next_element, added, removed, modified, bound, first_of, printed, lead_after, item_done, items_done, changes_told, action_done, actions_done, actions_of, begun, left_by, acted}
 use Rattle.ops_meaning.specs.Computing.{Computed, computed}
 use Rattle.ops_meaning.specs.Effects.{Effect, going_on, followed_by, outcome_as}
 use Rattle.ops_meaning.specs.Kept.{WellKept, KeepsNames, IsLawfulOver}
@@ -50,7 +50,7 @@ ok_goes P Q R (Ok s) p q = q s p
 ok_goes P Q R (Err e) p q = tt
 
 -- an action ends for want of input only where the input fails
-abbrev pub EndsAction : Bool → Mishap → Type 0
+abbrev pub EndsAction : Bool → ActionError → Type 0
 EndsAction fails (Fault k) = Unit {0}
 EndsAction fails Unread = fails ≡ true
 
@@ -62,7 +62,7 @@ EndsActions fails NoInput = fails ≡ true
 
 -- From this working memory and this last tag the changes so far are lawful and lead to what is there now; the symbols
 -- keep their spellings, and the input fails as it did.
-pub record KeptDoing (old : List Element) (given : ℕ) (names : Spellings) (fails : Bool) (d : Doing) : Type 0 where
+pub record KeptDoing (old : List Element) (given : ℕ) (names : Spellings) (fails : Bool) (d : ActState) : Type 0 where
   pub lawful : Lawful old given d.changes
   pub memory : done old d.changes ≡ d.wm
   pub last_tag : last_after given d.changes ≡ d.last
@@ -76,14 +76,14 @@ pub record KeptActed (old : List Element) (given : ℕ) (names : Spellings) (fai
   pub coming : a.coming.fails ≡ fails
 
 module _ (old : List Element) (given : ℕ) (names : Spellings) (fails : Bool) where
-  abbrev Kept : Doing → Type 0
+  abbrev Kept : ActState → Type 0
   Kept d = KeptDoing old given names fails d
 
-  abbrev Ends : Mishap → Type 0
+  abbrev Ends : ActionError → Type 0
   Ends m = EndsAction fails m
 
   -- the same working memory and changes, with other names and another input
-  kept_with : (d : Doing) (held : Spellings) (coming : Coming) → Kept d → KeepsNames d.names held → coming.fails ≡ d.coming.fails → Kept (record d { names = held; coming = coming })
+  kept_with : (d : ActState) (held : Spellings) (coming : Coming) → Kept d → KeepsNames d.names held → coming.fails ≡ d.coming.fails → Kept (record d { names = held; coming = coming })
   kept_with d held coming p keeps same = record {
     lawful = p.lawful;
     memory = p.memory;
@@ -93,7 +93,7 @@ module _ (old : List Element) (given : ℕ) (names : Spellings) (fails : Bool) w
   }
 
   -- the same, with other bindings and cells
-  kept_beside : (d : Doing) (bindings : List Binding) (cells : List Element) (halted : Bool) → Kept d → Kept (record d { bindings = bindings; cells = cells; halted = halted })
+  kept_beside : (d : ActState) (bindings : List Binding) (cells : List Element) (halted : Bool) → Kept d → Kept (record d { bindings = bindings; cells = cells; halted = halted })
   kept_beside d bindings cells halted p =
       record { lawful = p.lawful; memory = p.memory; last_tag = p.last_tag; keeps = p.keeps; coming = p.coming }
 
@@ -105,17 +105,17 @@ module _ (old : List Element) (given : ℕ) (names : Spellings) (fails : Bool) w
   abbrev KeptFilled : Filled → Type 0
   KeptFilled f = Kept f.doing
 
-  computed_kept : (d : Doing) (c : Computed) → Kept d → MatchResult (computed_as d c) KeptValued Ends
+  computed_kept : (d : ActState) (c : Computed) → Kept d → MatchResult (computed_as d c) KeptValued Ends
   computed_kept d (Ok v) p = p
   computed_kept d (Err k) p = tt
 
-  accepted_kept : (d : Doing) (r : Result Accepted AcceptFault) → Kept d → AcceptsWell d.names d.coming r → MatchResult (accepted_as d r) KeptValued Ends
+  accepted_kept : (d : ActState) (r : Result Accepted AcceptFault) → Kept d → AcceptsWell d.names d.coming r → MatchResult (accepted_as d r) KeptValued Ends
   accepted_kept d (Ok a) p well = kept_with d a.names a.coming p well.0 well.1
   accepted_kept d (Err accept_fault.TooLong) p well = tt
   accepted_kept d (Err accept_fault.Read) p well = sym p.coming ∙ well
   accepted_kept d (Err accept_fault.OutOfMemory) p well = absurd well
 
-  evaluated_kept : (classes : List Class) (t : Term) (d : Doing) → Kept d → MatchResult (evaluated classes t d) KeptValued Ends
+  evaluated_kept : (classes : List Class) (t : Term) (d : ActState) → Kept d → MatchResult (evaluated classes t d) KeptValued Ends
   evaluated_kept classes (term.Constant v) d p = p
   evaluated_kept classes (term.Variable v) d p = p
   evaluated_kept classes (term.One cell field) d p = p
@@ -126,7 +126,7 @@ module _ (old : List Element) (given : ℕ) (names : Spellings) (fails : Bool) w
 
   -- ---- fields
 
-  placed_kept : (d : Doing) (o : Option (List Value)) → Kept d → MatchResult (placed d o) KeptFilled Ends
+  placed_kept : (d : ActState) (o : Option (List Value)) → Kept d → MatchResult (placed d o) KeptFilled Ends
   placed_kept d (Some fields) p = p
   placed_kept d None p = tt
 
@@ -152,7 +152,7 @@ module _ (old : List Element) (given : ℕ) (names : Spellings) (fails : Bool) w
   -- ---- changes
 
   -- a lawful change more
-  change_kept : (d : Doing) (last : ℕ) (c : Change) → Kept d → Lawful d.wm d.last (c ∷ []) → last_after d.last (c ∷ []) ≡ last → Kept (changed (record d { last = last }) c)
+  change_kept : (d : ActState) (last : ℕ) (c : Change) → Kept d → Lawful d.wm d.last (c ∷ []) → last_after d.last (c ∷ []) ≡ last → Kept (changed (record d { last = last }) c)
   change_kept d last c p lawful is =
       let P : List Element → Type 0 = λ wm. Lawful wm (last_after given d.changes) (c ∷ []) in
       let Q : ℕ → Type 0 = λ n. Lawful d.wm n (c ∷ []) in
@@ -164,21 +164,21 @@ module _ (old : List Element) (given : ℕ) (names : Spellings) (fails : Bool) w
         coming = p.coming;
       }
 
-  one_added : (d : Doing) (class : ℕ) (fields : List Value) → Kept d → Kept (added d class fields)
+  one_added : (d : ActState) (class : ℕ) (fields : List Value) → Kept d → Kept (added d class fields)
   one_added d class fields p = change_kept d (d.last + 1) (change.Add (next_element d class fields)) p (omega arith, tt) refl
 
-  one_removed : (d : Doing) (tag : ℕ) → Kept d → Kept (removed d tag)
+  one_removed : (d : ActState) (tag : ℕ) → Kept d → Kept (removed d tag)
   one_removed d tag p = by (has_tag d.wm tag) refl
     where
       by : (b : Bool) → has_tag d.wm tag ≡ b → Kept (cond b (changed d (change.Remove tag)) d)
       by true is = change_kept d d.last (change.Remove tag) p (has_tag-Contains d.wm tag is, tt) refl
       by false is = p
 
-  all_removed : (cells : List ℕ) (d : Doing) → Kept d → Kept (fold (λ d c. removed d (cell_of d c).tag) d cells)
+  all_removed : (cells : List ℕ) (d : ActState) → Kept d → Kept (fold (λ d c. removed d (cell_of d c).tag) d cells)
   all_removed [] d p = p
   all_removed (c ∷ cells) d p = all_removed cells (removed d (cell_of d c).tag) (one_removed d (cell_of d c).tag p)
 
-  one_modified : (d : Doing) (cell : ℕ) (fields : List Value) → Kept d → Kept (modified d cell fields)
+  one_modified : (d : ActState) (cell : ℕ) (fields : List Value) → Kept d → Kept (modified d cell fields)
   one_modified d cell fields p =
       let e = cell_of d cell in
       let next = added (removed d e.tag) e.class fields in
@@ -186,24 +186,24 @@ module _ (old : List Element) (given : ℕ) (names : Spellings) (fails : Bool) w
 
   -- ---- actions
 
-  printed_kept : (lead : Lead) (column : ℕ) (r : Result Valued Mishap) → MatchResult r KeptValued Ends → MatchResult (printed lead column r).outcome Kept Ends
+  printed_kept : (lead : Lead) (column : ℕ) (r : Result Valued ActionError) → MatchResult r KeptValued Ends → MatchResult (printed lead column r).outcome Kept Ends
   printed_kept lead column (Ok v) p = p
   printed_kept lead column (Err m) p = p
 
-  item_kept : (classes : List Class) (lead : Lead) (column : ℕ) (x : Item) (d : Doing) → Kept d → MatchResult (item_done classes lead column x d).outcome Kept Ends
+  item_kept : (classes : List Class) (lead : Lead) (column : ℕ) (x : Item) (d : ActState) → Kept d → MatchResult (item_done classes lead column x d).outcome Kept Ends
   item_kept classes lead column (item.Print t) d p = printed_kept lead column (evaluated classes t d) (evaluated_kept classes t d p)
   item_kept classes lead column item.Crlf d p = p
   item_kept classes lead column (item.TabTo n) d p = p
   item_kept classes lead column (item.RightIn n) d p = p
 
-  items_kept : (classes : List Class) (lead : Lead) (column : ℕ) (items : List Item) (d : Doing) → Kept d → MatchResult (items_done classes lead column items d).outcome Kept Ends
+  items_kept : (classes : List Class) (lead : Lead) (column : ℕ) (items : List Item) (d : ActState) → Kept d → MatchResult (items_done classes lead column items d).outcome Kept Ends
   items_kept classes lead column [] d p = p
   items_kept classes lead column (x ∷ items) d p =
       let e = item_done classes lead column x d in
       goes_on Kept Kept Ends e.bytes e.outcome (λ d. items_done classes (lead_after x) (column_after column e.bytes) items d) (item_kept classes lead column x d p)
       (λ d q. items_kept classes (lead_after x) (column_after column e.bytes) items d q)
 
-  action_kept : (s : Setting) (column : ℕ) (a : Action) (d : Doing) → Kept d → MatchResult (action_done s column a d).outcome Kept Ends
+  action_kept : (s : Setting) (column : ℕ) (a : Action) (d : ActState) → Kept d → MatchResult (action_done s column a d).outcome Kept Ends
   action_kept s column (action.Make class puts) d p =
       goes_on Kept Kept Ends [] (followed_by (made_fields s.classes (class_of s.classes class) puts d) (λ f. Ok (added f.doing class f.fields))) (changes_told s d (column_after column []))
       (goes_behind KeptFilled Kept Ends (made_fields s.classes (class_of s.classes class) puts d) (λ f. Ok (added f.doing class f.fields))
@@ -222,11 +222,11 @@ module _ (old : List Element) (given : ℕ) (names : Spellings) (fails : Bool) w
   action_kept s column (action.Cbind cell) d p = kept_beside d d.bindings _ d.halted p
   action_kept s column action.Halt d p = kept_beside d d.bindings d.cells true p
 
-  ends_in : (n : ℕ) (m : Mishap) → Ends m → EndsActions fails (in_action n m)
+  ends_in : (n : ℕ) (m : ActionError) → Ends m → EndsActions fails (in_action n m)
   ends_in n (Fault kind) p = tt
   ends_in n Unread p = p
 
-  actions_kept : (s : Setting) (column n : ℕ) (actions : List Action) (d : Doing) → Kept d → MatchResult (actions_done s column n actions d).outcome Kept (EndsActions fails)
+  actions_kept : (s : Setting) (column n : ℕ) (actions : List Action) (d : ActState) → Kept d → MatchResult (actions_done s column n actions d).outcome Kept (EndsActions fails)
   actions_kept s column n [] d p = p
   actions_kept s column n (a ∷ rest) d p =
       let e = action_done s column a d in
@@ -234,7 +234,7 @@ module _ (old : List Element) (given : ℕ) (names : Spellings) (fails : Bool) w
       (goes_as Kept Kept Ends (EndsActions fails) (λ d. d) (in_action n) e.outcome (action_kept s column a d p) (λ d q. q) (ends_in n))
       (λ d q. actions_kept s (column_after column e.bytes) (suc n) rest d q)
 
-  left_lawful : (d : Doing) → WellKept old given → Kept d → IsLawfulOver old given (left_by d)
+  left_lawful : (d : ActState) → WellKept old given → Kept d → IsLawfulOver old given (left_by d)
   left_lawful d well p =
       let P : ℕ → Type 0 = λ n. WellKept (done old d.changes) n in
       let risen = lawful_risen old given d.changes p.lawful in
@@ -245,7 +245,7 @@ module _ (old : List Element) (given : ℕ) (names : Spellings) (fails : Bool) w
         risen = omega (arith, p.last_tag);
       }
 
-  left_kept : (d : Doing) → Kept d → KeptActed old given names fails (left_by d)
+  left_kept : (d : ActState) → Kept d → KeptActed old given names fails (left_by d)
   left_kept d p = record { lawful = λ well. left_lawful d well p; keeps = p.keeps; coming = p.coming }
 
 -- what a right side keeps, and why it ends

@@ -81,7 +81,7 @@ actions_of rules n = unwrap_or (option_map (λ r. r.actions) (slice_get rules n)
 -- working memory now and the changes that led to it, the last tag that was given, what the variables are bound to, the
 -- elements that the cells hold, whether `halt` was done, the spellings in use with the number of the last fresh atom,
 -- and the input that is still to come
-pub record Doing : Type 0 where
+pub record ActState : Type 0 where
   pub wm : List Element
   pub changes : List Change
   pub last : ℕ
@@ -92,24 +92,24 @@ pub record Doing : Type 0 where
   pub coming : Coming
 
 -- why an action ends before its end: it has a fault, or the input fails
-pub data Mishap : Type 0 where
-  Fault : (kind : ActKind) → Mishap
-  Unread : Mishap
+pub data ActionError : Type 0 where
+  Fault : (kind : ActKind) → ActionError
+  Unread : ActionError
 
 -- why a right side ends before its end: the action with this number, counted from 1, has a fault, or the input fails
 pub data Misdeed : Type 0 where
   Bad : (action : ℕ) → (kind : ActKind) → Misdeed
   NoInput : Misdeed
 
-abbrev pub in_action : ℕ → Mishap → Misdeed
+abbrev pub in_action : ℕ → ActionError → Misdeed
 in_action n (Fault kind) = Bad n kind
 in_action n Unread = NoInput
 
 -- One change is done.
-abbrev pub changed : Doing → Change → Doing
+abbrev pub changed : ActState → Change → ActState
 changed d c = record d { wm = change_done d.wm c; changes = d.changes ++ c ∷ [] }
 
-abbrev pub cell_of : Doing → ℕ → Element
+abbrev pub cell_of : ActState → ℕ → Element
 cell_of d cell = unwrap_or (slice_get d.cells cell) no_element
 
 -- ---- values
@@ -117,19 +117,19 @@ cell_of d cell = unwrap_or (slice_get d.cells cell) no_element
 -- the values of a term, and what evaluating it leaves
 pub record Valued : Type 0 where
   pub values : List Value
-  pub doing : Doing
+  pub doing : ActState
 
-abbrev pub valued : Doing → List Value → Result Valued Mishap
+abbrev pub valued : ActState → List Value → Result Valued ActionError
 valued d values = Ok (record { values = values; doing = d })
 
-abbrev pub value_in : Doing → ℕ → Value
+abbrev pub value_in : ActState → ℕ → Value
 value_in d variable = unwrap_or (value_of d.bindings variable) nil
 
-abbrev pub computed_as : Doing → Computed → Result Valued Mishap
+abbrev pub computed_as : ActState → Computed → Result Valued ActionError
 computed_as d (Ok v) = valued d (v ∷ [])
 computed_as d (Err kind) = Err (Fault kind)
 
-abbrev pub accepted_as : Doing → Result Accepted AcceptFault → Result Valued Mishap
+abbrev pub accepted_as : ActState → Result Accepted AcceptFault → Result Valued ActionError
 accepted_as d (Ok a) = valued (record d { names = a.names; coming = a.coming }) (a.value ∷ [])
 accepted_as d (Err accept_fault.TooLong) = Err (Fault act_fault.InputTooLong)
 accepted_as d (Err accept_fault.Read) = Err Unread
@@ -140,7 +140,7 @@ abbrev pub fresh_value : Spellings → Value
 fresh_value names = value.Symbol (record { 0 = length names.held })
 
 -- The values of a term. `substr` reads the element that the cell holds, also where that was removed.
-abbrev pub evaluated : List Class → Term → Doing → Result Valued Mishap
+abbrev pub evaluated : List Class → Term → ActState → Result Valued ActionError
 evaluated classes (term.Constant v) d = valued d (v ∷ [])
 evaluated classes (term.Variable v) d = valued d (value_in d v ∷ [])
 evaluated classes (term.One cell field) d = valued d (field_of (cell_of d cell) field ∷ [])
@@ -168,15 +168,15 @@ values_placed at (v ∷ vs) fields = option_and_then (λ next. values_placed (su
 -- the fields so far, and what evaluating their values has left
 pub record Filled : Type 0 where
   pub fields : List Value
-  pub doing : Doing
+  pub doing : ActState
 
 -- the values are placed, or there are too many of them
-abbrev pub placed : Doing → Option (List Value) → Result Filled Mishap
+abbrev pub placed : ActState → Option (List Value) → Result Filled ActionError
 placed d (Some fields) = Ok (record { fields = fields; doing = d })
 placed d None = Err (Fault act_fault.TooManyFields)
 
 -- The values of each term are placed before the next one is evaluated.
-abbrev pub terms_placed : List Class → ℕ → List Term → Filled → Result Filled Mishap
+abbrev pub terms_placed : List Class → ℕ → List Term → Filled → Result Filled ActionError
 terms_placed classes at [] f = Ok f
 terms_placed classes at (t ∷ ts) f =
     followed_by (evaluated classes t f.doing)
@@ -188,41 +188,41 @@ emptied c field fields = if is_vector c field then take field fields else fields
 
 -- `make` gives one attribute after another. Of two values for a scalar one the later counts, and the values of the
 -- vector attribute take the place of those that it had.
-abbrev pub puts_made : List Class → Class → List Put → Filled → Result Filled Mishap
+abbrev pub puts_made : List Class → Class → List Put → Filled → Result Filled ActionError
 puts_made classes c [] f = Ok f
 puts_made classes c (p ∷ ps) f =
     followed_by (terms_placed classes p.field p.terms (record f { fields = emptied c p.field f.fields })) (puts_made classes c ps)
 
-abbrev pub made_fields : List Class → Class → List Put → Doing → Result Filled Mishap
+abbrev pub made_fields : List Class → Class → List Put → ActState → Result Filled ActionError
 made_fields classes c puts d = puts_made classes c puts (record { fields = no_fields c; doing = d })
 
 -- `modify` gives them to the fields that the element has. Values of the vector attribute go over those that it had,
 -- from the first on.
-abbrev pub puts_over : List Class → List Put → Filled → Result Filled Mishap
+abbrev pub puts_over : List Class → List Put → Filled → Result Filled ActionError
 puts_over classes [] f = Ok f
 puts_over classes (p ∷ ps) f = followed_by (terms_placed classes p.field p.terms f) (puts_over classes ps)
 
-abbrev pub modified_fields : List Class → List Put → ℕ → Doing → Result Filled Mishap
+abbrev pub modified_fields : List Class → List Put → ℕ → ActState → Result Filled ActionError
 modified_fields classes puts cell d = puts_over classes puts (record { fields = (cell_of d cell).fields; doing = d })
 
 -- ---- make, modify, remove, cbind, bind
 
 -- the element with the next tag
-abbrev pub next_element : Doing → ℕ → List Value → Element
+abbrev pub next_element : ActState → ℕ → List Value → Element
 next_element d class fields = record { tag = d.last + 1; class = class; fields = fields }
 
-abbrev pub added : Doing → ℕ → List Value → Doing
+abbrev pub added : ActState → ℕ → List Value → ActState
 added d class fields = changed (record d { last = d.last + 1 }) (change.Add (next_element d class fields))
 
 abbrev pub has_tag : List Element → ℕ → Bool
 has_tag wm tag = list_any (λ e. e.tag == tag) wm
 
 -- Removing an absent element does nothing.
-abbrev pub removed : Doing → ℕ → Doing
+abbrev pub removed : ActState → ℕ → ActState
 removed d tag = if has_tag d.wm tag then changed d (change.Remove tag) else d
 
 -- The copy takes the place of the cell's element.
-abbrev pub modified : Doing → ℕ → List Value → Doing
+abbrev pub modified : ActState → ℕ → List Value → ActState
 modified d cell fields =
     let e = cell_of d cell in record (added (removed d e.tag) e.class fields) { cells = slice_set d.cells cell (next_element d e.class fields) }
 
@@ -235,10 +235,10 @@ abbrev pub made_last : List Change → Element
 made_last changes = fold made_by no_element changes
 
 -- `cbind` names a new cell, with the element that was made last.
-abbrev pub cell_bound : Doing → Doing
+abbrev pub cell_bound : ActState → ActState
 cell_bound d = record d { cells = d.cells ++ made_last d.changes ∷ [] }
 
-abbrev pub bound : Doing → ℕ → Value → Doing
+abbrev pub bound : ActState → ℕ → Value → ActState
 bound d variable value = record d { bindings = d.bindings ++ record { variable = variable; value = value } ∷ [] }
 
 -- ---- write
@@ -251,18 +251,18 @@ lead_after (item.TabTo n) = Close
 lead_after (item.RightIn n) = RightIn n
 
 -- a value is printed once it is evaluated
-abbrev pub printed : Lead → ℕ → Result Valued Mishap → Effect Mishap Doing
+abbrev pub printed : Lead → ℕ → Result Valued ActionError → Effect ActionError ActState
 printed lead column (Ok v) = writes (values_bytes v.doing.names lead column v.values) v.doing
 printed lead column (Err m) = ends_with m
 
 -- one item from a column on
-abbrev pub item_done : List Class → Lead → ℕ → Item → Doing → Effect Mishap Doing
+abbrev pub item_done : List Class → Lead → ℕ → Item → ActState → Effect ActionError ActState
 item_done classes lead column (item.Print t) d = printed lead column (evaluated classes t d)
 item_done classes lead column item.Crlf d = writes (10 ∷ []) d
 item_done classes lead column (item.TabTo n) d = writes (tab_bytes n column) d
 item_done classes lead column (item.RightIn n) d = writes [] d
 
-abbrev pub items_done : List Class → Lead → ℕ → List Item → Doing → Effect Mishap Doing
+abbrev pub items_done : List Class → Lead → ℕ → List Item → ActState → Effect ActionError ActState
 items_done classes lead column [] d = writes [] d
 items_done classes lead column (i ∷ is) d =
     and_then column (item_done classes lead column i d) (λ next d. items_done classes (lead_after i) next is d)
@@ -280,7 +280,7 @@ change_lines names classes wm [] = []
 change_lines names classes wm (c ∷ cs) = change_text names classes wm c ∷ change_lines names classes (change_done wm c) cs
 
 -- The changes since this one are printed, where elements are traced.
-abbrev pub changes_told : Setting → Doing → ℕ → Doing → Effect Mishap Doing
+abbrev pub changes_told : Setting → ActState → ℕ → ActState → Effect ActionError ActState
 changes_told s before column d =
     writes (traced s.watch column (change_lines d.names s.classes before.wm (drop (length before.changes) d.changes))) d
 
@@ -288,7 +288,7 @@ changes_told s before column d =
 
 -- What an action does from a column on. All values of an element are placed before it is removed or made, and what is
 -- removed and made is printed in that order.
-abbrev pub action_done : Setting → ℕ → Action → Doing → Effect Mishap Doing
+abbrev pub action_done : Setting → ℕ → Action → ActState → Effect ActionError ActState
 action_done s column (action.Make class puts) d =
     and_then column (silent (followed_by (made_fields s.classes (class_of s.classes class) puts d) (λ f. Ok (added f.doing class f.fields)))) (changes_told s d)
 action_done s column (action.Modify cell puts) d =
@@ -301,7 +301,7 @@ action_done s column (action.Cbind cell) d = writes [] (cell_bound d)
 action_done s column action.Halt d = writes [] (record d { halted = true })
 
 -- the actions in order, the first of which has this number
-abbrev pub actions_done : Setting → ℕ → ℕ → List Action → Doing → Effect Misdeed Doing
+abbrev pub actions_done : Setting → ℕ → ℕ → List Action → ActState → Effect Misdeed ActState
 actions_done s column n [] d = writes [] d
 actions_done s column n (a ∷ rest) d =
     and_then column (told_as (λ d. d) (in_action n) (action_done s column a d)) (λ next d. actions_done s next (suc n) rest d)
@@ -325,7 +325,7 @@ pub record Acted : Type 0 where
   pub coming : Coming
 
 -- before the first action
-abbrev pub begun : Setting → Inst → Given → Doing
+abbrev pub begun : Setting → Inst → Given → ActState
 begun s i g =
     record {
       wm = g.wm;
@@ -338,7 +338,7 @@ begun s i g =
       coming = g.coming;
     }
 
-abbrev pub left_by : Doing → Acted
+abbrev pub left_by : ActState → Acted
 left_by d = record { changes = d.changes; last = d.last; halted = d.halted; names = d.names; coming = d.coming }
 
 -- what the right side of an instantiation does from a column on

@@ -24,7 +24,7 @@ use Rattle.ops_base.specs.Matching.{value_of}
 use Rattle.ops_base.specs.Valid.{Known, is_in, is_cell, class_of, class_of_cell, is_attribute, is_vector, fits, term_is_valid, put_is_valid, puts_are_valid, item_is_valid, action_is_valid, actions_are_valid, known_after}
 use Rattle.ops_base.proofs.Bound.{value_of_last}
 use Rattle.ops_io.specs.Output.{column_after}
-use Rattle.ops_meaning.specs.Acting.{Setting, Doing, no_element, evaluated, made_fields, modified_fields, has_tag, cell_of, changed, next_element, added, removed, modified, made_by, made_last, cell_bound, bound, first_of, changes_told, action_done}
+use Rattle.ops_meaning.specs.Acting.{Setting, ActState, no_element, evaluated, made_fields, modified_fields, has_tag, cell_of, changed, next_element, added, removed, modified, made_by, made_last, cell_bound, bound, first_of, changes_told, action_done}
 use Rattle.ops_meaning.specs.Effects.{followed_by}
 use Rattle.ops_meaning.specs.Layout.{Apart}
 use Rattle.run_laws.specs.Finding.{is_bound, is_class, is_held, held_class, is_add, has_made, term_finds, is_single, put_finds, item_finds, action_finds, AllFind}
@@ -125,12 +125,12 @@ made_still classes changes tag c p = record {
 }
 
 module _ (classes : List Class) where
-  abbrev pub Knows : Known → Doing → Type 0
+  abbrev pub Knows : Known → ActState → Type 0
   Knows k d = Holds classes k d.bindings d.cells d.changes
 
   -- ---- a valid action finds what it names
 
-  module _ (k : Known) (d : Doing) (p : Knows k d) where
+  module _ (k : Known) (d : ActState) (p : Knows k d) where
     pub holds_there : (cell : ℕ) → is_cell k cell ≡ true → is_held classes d cell ≡ true
     holds_there cell within =
         let P : List ℕ → Type 0 = λ cs. nat_lt cell (length cs) ≡ true in
@@ -202,7 +202,7 @@ module _ (classes : List Class) where
   -- ---- what a valid action leaves
 
   module _ (k : Known) where
-    removed_knows : (tag : ℕ) (d : Doing) → Knows k d → Knows k (removed d tag)
+    removed_knows : (tag : ℕ) (d : ActState) → Knows k d → Knows k (removed d tag)
     removed_knows tag d p = by (has_tag d.wm tag)
       where
         by : (b : Bool) → Knows k (cond b (changed d (change.Remove tag)) d)
@@ -214,12 +214,12 @@ module _ (classes : List Class) where
         }
         by false = p
 
-    all_removed : (cells : List ℕ) (d : Doing) → Knows k d → Knows k (fold (λ d c. removed d (cell_of d c).tag) d cells)
+    all_removed : (cells : List ℕ) (d : ActState) → Knows k d → Knows k (fold (λ d c. removed d (cell_of d c).tag) d cells)
     all_removed [] d p = p
     all_removed (c ∷ cells) d p = all_removed cells (removed d (cell_of d c).tag) (removed_knows (cell_of d c).tag d p)
 
     -- an element was made, of a class that is there
-    added_knows : (d : Doing) (class : ℕ) (fields : List Value) → nat_lt class (length classes) ≡ true → Knows k d → Knows (record k { made = Some class }) (added d class fields)
+    added_knows : (d : ActState) (class : ℕ) (fields : List Value) → nat_lt class (length classes) ≡ true → Knows k d → Knows (record k { made = Some class }) (added d class fields)
     added_knows d class fields exists p = record {
       variables = p.variables;
       cells = p.cells;
@@ -228,7 +228,7 @@ module _ (classes : List Class) where
     }
 
     -- an element took the place of the one in a cell, of the same class
-    modified_knows : (d : Doing) (cell : ℕ) (fields : List Value) → is_cell k cell ≡ true → Knows k d → Knows (record k { made = slice_get k.cells cell }) (modified d cell fields)
+    modified_knows : (d : ActState) (cell : ℕ) (fields : List Value) → is_cell k cell ≡ true → Knows k d → Knows (record k { made = slice_get k.cells cell }) (modified d cell fields)
     modified_knows d cell fields within p =
         let e = cell_of d cell in
         let r = removed_knows e.tag d p in
@@ -243,7 +243,7 @@ module _ (classes : List Class) where
           made = λ c is. (let is_class : e.class ≡ c = sym same ∙ ap (λ o. unwrap_or o 0) is in subst (IsMade classes (before.changes ++ change.Add (next_element before e.class fields) ∷ [])) is_class (made_more classes before.changes (next_element before e.class fields) exists));
         }
 
-    bound_knows : (d : Doing) (v : ℕ) (value : Value) → Knows k d → Knows (record k { bound = k.bound ++ v ∷ []; given = k.given ++ v ∷ [] }) (bound d v value)
+    bound_knows : (d : ActState) (v : ℕ) (value : Value) → Knows k d → Knows (record k { bound = k.bound ++ v ∷ []; given = k.given ++ v ∷ [] }) (bound d v value)
     bound_knows d v value p = record {
       variables = bound_more k.bound d.bindings (record { variable = v; value = value }) p.variables;
       cells = p.cells;
@@ -251,7 +251,7 @@ module _ (classes : List Class) where
       made = p.made;
     }
 
-    cbound_knows : (d : Doing) (o : Option ℕ) → k.made ≡ o → is_some o ≡ true → Knows k d → Knows (record k { cells = k.cells ++ unwrap_or o 0 ∷ [] }) (cell_bound d)
+    cbound_knows : (d : ActState) (o : Option ℕ) → k.made ≡ o → is_some o ≡ true → Knows k d → Knows (record k { cells = k.cells ++ unwrap_or o 0 ∷ [] }) (cell_bound d)
     cbound_knows d None is some p = absurd (cc)
     cbound_knows d (Some c) is some p =
         let m = p.made c is in record {
@@ -266,17 +266,17 @@ abbrev HoldsIn : List Class → Known → List Binding → List Element → List
 HoldsIn classes k bindings elements changes wm = Holds classes k bindings elements changes
 
 -- a valid action leaves what is known after it
-pub action_knows : (s : Setting) (column : ℕ) (k : Known) (a : Action) (d : Doing) → Knows s.classes k d → action_is_valid s.classes k a ≡ true → IfOk (action_done s column a d).outcome (Knows s.classes (known_after k a))
+pub action_knows : (s : Setting) (column : ℕ) (k : Known) (a : Action) (d : ActState) → Knows s.classes k d → action_is_valid s.classes k a ≡ true → IfOk (action_done s column a d).outcome (Knows s.classes (known_after k a))
 action_knows s column k (action.Make class puts) d p h =
     let parts = and_parts (nat_lt class (length s.classes)) (puts_are_valid s.classes k (class_of s.classes class) puts) h in
-    let After : Doing → Type 0 = Knows s.classes (record k { made = Some class }) in
+    let After : ActState → Type 0 = Knows s.classes (record k { made = Some class }) in
     ok_on After After [] (followed_by (made_fields s.classes (class_of s.classes class) puts d) (λ f. Ok (added f.doing class f.fields))) (changes_told s d (column_after column []))
     (ok_behind (KeepsFilled (HoldsIn s.classes k) s.classes) After (made_fields s.classes (class_of s.classes class) puts d) (λ f. Ok (added f.doing class f.fields))
     (made_keeps (HoldsIn s.classes k) s.classes (class_of s.classes class) puts _ p) (λ f q. added_knows s.classes k f.doing class f.fields parts.0 q))
     (λ d q. q)
 action_knows s column k (action.Modify cell puts) d p h =
     let parts = and_parts (is_cell k cell) (puts_are_valid s.classes k (class_of_cell s.classes k cell) puts) h in
-    let After : Doing → Type 0 = Knows s.classes (record k { made = slice_get k.cells cell }) in
+    let After : ActState → Type 0 = Knows s.classes (record k { made = slice_get k.cells cell }) in
     ok_on After After [] (followed_by (modified_fields s.classes puts cell d) (λ f. Ok (modified f.doing cell f.fields))) (changes_told s d (column_after column []))
     (ok_behind (KeepsFilled (HoldsIn s.classes k) s.classes) After (modified_fields s.classes puts cell d) (λ f. Ok (modified f.doing cell f.fields))
     (over_keeps (HoldsIn s.classes k) s.classes puts _ p) (λ f q. modified_knows s.classes k f.doing cell f.fields parts.0 q))
@@ -291,7 +291,7 @@ action_knows s column k (action.Cbind cell) d p h =
 action_knows s column k action.Halt d p h = record { variables = p.variables; cells = p.cells; exist = p.exist; made = p.made }
 
 -- So valid actions find all that they name, one after another.
-pub actions_find : (s : Setting) (column : ℕ) (k : Known) (actions : List Action) (d : Doing) → Knows s.classes k d → actions_are_valid s.classes k actions ≡ true → AllFind s column actions d
+pub actions_find : (s : Setting) (column : ℕ) (k : Known) (actions : List Action) (d : ActState) → Knows s.classes k d → actions_are_valid s.classes k actions ≡ true → AllFind s column actions d
 actions_find s column k [] d p h = tt
 actions_find s column k (a ∷ rest) d p h =
     let parts = and_parts (action_is_valid s.classes k a) (actions_are_valid s.classes (known_after k a) rest) h in

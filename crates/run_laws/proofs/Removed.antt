@@ -14,7 +14,7 @@ use Rattle.ops_base.specs.WorkingMemory.{change_done, done, tags_of, without_tag
 use Rattle.ops_base.proofs.Changes.{done_push}
 use Rattle.ops_base.proofs.Members.{IsMember, member_from_contains}
 use Rattle.ops_io.specs.Output.{column_after}
-use Rattle.ops_meaning.specs.Acting.{Setting, Doing, evaluated, has_tag, element_of, cell_of, changed, next_element, added, removed, modified, made_fields, modified_fields, bound, first_of, changes_told, action_done}
+use Rattle.ops_meaning.specs.Acting.{Setting, ActState, evaluated, has_tag, element_of, cell_of, changed, next_element, added, removed, modified, made_fields, modified_fields, bound, first_of, changes_told, action_done}
 use Rattle.ops_meaning.specs.Effects.{followed_by}
 use Rattle.ops_meaning.specs.Layout.{Apart}
 use Rattle.ops_meaning.specs.Running.{removals}
@@ -54,7 +54,7 @@ module _ (wm : List Element) (before : List Change) where
   abbrev GoesTo : List Binding → List Element → List Change → List Element → Type 0
   GoesTo bindings elements changes now = Goes wm before changes now
 
-  abbrev GoesOn : Doing → Type 0
+  abbrev GoesOn : ActState → Type 0
   GoesOn d = Goes wm before d.changes d.wm
 
   -- one change more, which finds what it removes
@@ -67,28 +67,28 @@ module _ (wm : List Element) (before : List Change) where
         find = one_more wm p.more c p.find (subst P (sym p.memory) q);
       }
 
-  added_goes : (d : Doing) (class : ℕ) (fields : List Value) → GoesOn d → GoesOn (added d class fields)
+  added_goes : (d : ActState) (class : ℕ) (fields : List Value) → GoesOn d → GoesOn (added d class fields)
   added_goes d class fields p = change_goes d.changes d.wm (change.Add (next_element d class fields)) p tt
 
-  removed_goes : (tag : ℕ) (d : Doing) → GoesOn d → GoesOn (removed d tag)
+  removed_goes : (tag : ℕ) (d : ActState) → GoesOn d → GoesOn (removed d tag)
   removed_goes tag d p = by (has_tag d.wm tag) refl
     where
       by : (b : Bool) → has_tag d.wm tag ≡ b → GoesOn (cond b (changed d (change.Remove tag)) d)
       by true is = change_goes d.changes d.wm (change.Remove tag) p (found_by_tag d.wm tag is, tt)
       by false is = p
 
-  all_removed_goes : (cells : List ℕ) (d : Doing) → GoesOn d → GoesOn (fold (λ d c. removed d (cell_of d c).tag) d cells)
+  all_removed_goes : (cells : List ℕ) (d : ActState) → GoesOn d → GoesOn (fold (λ d c. removed d (cell_of d c).tag) d cells)
   all_removed_goes [] d p = p
   all_removed_goes (c ∷ cells) d p =
       all_removed_goes cells (removed d (cell_of d c).tag) (removed_goes (cell_of d c).tag d p)
 
-  modified_goes : (d : Doing) (cell : ℕ) (fields : List Value) → GoesOn d → GoesOn (modified d cell fields)
+  modified_goes : (d : ActState) (cell : ℕ) (fields : List Value) → GoesOn d → GoesOn (modified d cell fields)
   modified_goes d cell fields p =
       let e = cell_of d cell in
       let r = added_goes (removed d e.tag) e.class fields (removed_goes e.tag d p) in
       record { more = r.more; changes = r.changes; memory = r.memory; find = r.find }
 
-  action_goes : (s : Setting) (column : ℕ) (a : Action) (d : Doing) → GoesOn d → IfOk (action_done s column a d).outcome GoesOn
+  action_goes : (s : Setting) (column : ℕ) (a : Action) (d : ActState) → GoesOn d → IfOk (action_done s column a d).outcome GoesOn
   action_goes s column (action.Make class puts) d p =
       let start = made_fields s.classes (class_of s.classes class) puts d in
       ok_on GoesOn GoesOn [] (followed_by start (λ f. Ok (added f.doing class f.fields))) (changes_told s d (column_after column []))
@@ -108,7 +108,7 @@ module _ (wm : List Element) (before : List Change) where
   action_goes s column action.Halt d p = record { more = p.more; changes = p.changes; memory = p.memory; find = p.find }
 
 -- the changes of an action
-pub action_removes : (s : Setting) (column : ℕ) (a : Action) (d : Doing) → IfOk (action_done s column a d).outcome (λ next. RemovalsFind d.wm (drop (length d.changes) next.changes))
+pub action_removes : (s : Setting) (column : ℕ) (a : Action) (d : ActState) → IfOk (action_done s column a d).outcome (λ next. RemovalsFind d.wm (drop (length d.changes) next.changes))
 action_removes s column a d =
     ok_more (GoesOn d.wm d.changes) (λ next. RemovalsFind d.wm (drop (length d.changes) next.changes)) (action_done s column a d).outcome
     (action_goes d.wm d.changes s column a d (record { more = []; changes = sym (append-nil d.changes); memory = refl; find = tt }))

@@ -17,7 +17,7 @@ use Rattle.ops_base.specs.WorkingMemory.{scalar_count, no_fields}
 use Rattle.ops_tokens.specs.Accepting.{Accepted, accepted}
 use Rattle.ops_tokens.specs.declared.accept.AcceptFault.{AcceptFault}
 use Rattle.ops_tokens.specs.declared.accept.AcceptFault.TheVariants as accept_fault
-use Rattle.ops_meaning.specs.Acting.{Doing, Mishap, Valued, Filled, evaluated, value_in, computed_as, accepted_as, value_placed, values_placed, placed, terms_placed, puts_made, puts_over, emptied, first_of}
+use Rattle.ops_meaning.specs.Acting.{ActState, ActionError, Valued, Filled, evaluated, value_in, computed_as, accepted_as, value_placed, values_placed, placed, terms_placed, puts_made, puts_over, emptied, first_of}
 use Rattle.ops_meaning.specs.Computing.{Computed, computed}
 use Rattle.ops_meaning.specs.Running.{with_values, fixed_fields}
 use Rattle.run_laws.specs.Elements.{AreFieldsOf}
@@ -80,18 +80,18 @@ several_placed (v ∷ vs) at fields next within room is =
 abbrev IsOne : Valued → Type 0
 IsOne v = length v.values ≡ 1
 
-one_computed : (d : Doing) (c : Computed) → IfOk (computed_as d c) IsOne
+one_computed : (d : ActState) (c : Computed) → IfOk (computed_as d c) IsOne
 one_computed d (Ok v) = refl
 one_computed d (Err k) = tt
 
-one_accepted : (d : Doing) (r : Result Accepted AcceptFault) → IfOk (accepted_as d r) IsOne
+one_accepted : (d : ActState) (r : Result Accepted AcceptFault) → IfOk (accepted_as d r) IsOne
 one_accepted d (Ok a) = refl
 one_accepted d (Err accept_fault.TooLong) = tt
 one_accepted d (Err accept_fault.Read) = tt
 one_accepted d (Err accept_fault.OutOfMemory) = tt
 
 -- a single term gives one value
-pub one_evaluated : (classes : List Class) (t : Term) (d : Doing) → is_single t ≡ true → IfOk (evaluated classes t d) IsOne
+pub one_evaluated : (classes : List Class) (t : Term) (d : ActState) → is_single t ≡ true → IfOk (evaluated classes t d) IsOne
 one_evaluated classes (term.Constant v) d h = refl
 one_evaluated classes (term.Variable v) d h = refl
 one_evaluated classes (term.One cell field) d h = refl
@@ -110,14 +110,14 @@ single classes k (term.Rest cell) h = absurd (cc)
 single classes k term.Fresh h = refl
 single classes k term.Accept h = refl
 
-any_evaluated : (classes : List Class) (t : Term) (d : Doing) → IfOk (evaluated classes t d) (λ v. Unit {0})
+any_evaluated : (classes : List Class) (t : Term) (d : ActState) → IfOk (evaluated classes t d) (λ v. Unit {0})
 any_evaluated classes t d = by (evaluated classes t d)
   where
-    by : (r : Result Valued Mishap) → IfOk r (λ v. Unit {0})
+    by : (r : Result Valued ActionError) → IfOk r (λ v. Unit {0})
     by (Ok v) = tt
     by (Err m) = tt
 
-placed_grown : (d : Doing) (at : ℕ) (vs fields : List Value) → at ≤ length fields → length fields ≤ most_fields → IfOk (placed d (values_placed at vs fields)) (λ (g : Filled). Grown at (length vs) (length fields) (length g.fields))
+placed_grown : (d : ActState) (at : ℕ) (vs fields : List Value) → at ≤ length fields → length fields ≤ most_fields → IfOk (placed d (values_placed at vs fields)) (λ (g : Filled). Grown at (length vs) (length fields) (length g.fields))
 placed_grown d at vs fields within room = by (values_placed at vs fields) refl
   where
     by : (o : Option (List Value)) → values_placed at vs fields ≡ o → IfOk (placed d o) (λ (g : Filled). Grown at (length vs) (length fields) (length g.fields))
@@ -136,7 +136,7 @@ terms_grown classes at (t ∷ ts) f within room =
     (placed_grown v.doing at v.values f.fields within room)
     (λ g p. larger (length f.fields) (length g.fields) p.more (terms_placed classes (at + length v.values) ts g) (terms_grown classes (at + length v.values) ts g p.reach p.room)))
   where
-    larger : (n m : ℕ) → n ≤ m → (r : Result Filled Mishap) → IfOk r (IsLarger m) → IfOk r (IsLarger n)
+    larger : (n m : ℕ) → n ≤ m → (r : Result Filled ActionError) → IfOk r (IsLarger m) → IfOk r (IsLarger n)
     larger n m le (Ok g) p = (let first = p.0 in omega (arith, le), p.1)
     larger n m le (Err e) p = tt
 

@@ -24,7 +24,7 @@ use Rattle.ops_base.specs.Matching.{after_test, after_tests}
 use Rattle.ops_base.specs.Names.{Spellings}
 use Rattle.ops_io.specs.Coming.{Coming}
 use Rattle.ops_io.specs.Output.{column_after}
-use Rattle.ops_meaning.specs.Acting.{Setting, Doing, Mishap, Misdeed, Acted, in_action, action_done, actions_done, acted}
+use Rattle.ops_meaning.specs.Acting.{Setting, ActState, ActionError, Misdeed, Acted, in_action, action_done, actions_done, acted}
 use Rattle.ops_meaning.specs.Effects.{Effect, writes, going_on, outcome_as}
 use Rattle.ops_meaning.specs.Layout.{firing_bytes}
 use Rattle.ops_meaning.specs.Running.{Course, Turned, Session, LastFiring, begun, turn, has_break, line_of_count, line_of_pause, last_of, one_less, given_by, ended_in, turned_of, with_course, is_exit, firing, run_on, next_to_fire, command_done, commands_done}
@@ -73,18 +73,18 @@ member_seen classes wm before after first rest c ps p next e each k led m =
 
 -- ---- actions
 
-pub action_seen : (P : Action → Doing → Type 0) (s : Setting) (column n : ℕ) (before after : List Action) (a : Action) (d e : Doing)
+pub action_seen : (P : Action → ActState → Type 0) (s : Setting) (column n : ℕ) (before after : List Action) (a : Action) (d e : ActState)
     → EachAction P s column (before ++ a ∷ after) d → (actions_done s column n before d).outcome ≡ Ok e → P a e
 action_seen P s column n [] after a d e each is =
     let same : d ≡ e = cc in
-    let Q : Doing → Type 0 = P a in
+    let Q : ActState → Type 0 = P a in
     subst Q same each.0
 action_seen P s column n (b ∷ before) after a d e each is =
     let f = action_done s column b d in
     by f.bytes f.outcome (λ next h k. action_seen P s (column_after column f.bytes) (suc n) before after a next e h k) each.1 is
   where
-    by : (bytes : List ℕ) (o : Result Doing Mishap)
-        → ((next : Doing) → EachAction P s (column_after column bytes) (before ++ a ∷ after) next → (actions_done s (column_after column bytes) (suc n) before next).outcome ≡ Ok e → P a e)
+    by : (bytes : List ℕ) (o : Result ActState ActionError)
+        → ((next : ActState) → EachAction P s (column_after column bytes) (before ++ a ∷ after) next → (actions_done s (column_after column bytes) (suc n) before next).outcome ≡ Ok e → P a e)
         → IfOk o (λ next. EachAction P s (column_after column bytes) (before ++ a ∷ after) next)
         → (going_on bytes (outcome_as (λ d. d) (in_action n) o) (λ next. actions_done s (column_after column bytes) (suc n) before next)).outcome ≡ Ok e → P a e
     by bytes (Ok next) rest each is = rest next each is

@@ -16,7 +16,7 @@ use Rattle.ops_base.specs.WorkingMemory.{done, without_tag}
 use Rattle.ops_base.proofs.Filtered.{filter_member}
 use Rattle.ops_base.proofs.Members.{IsMember, all_from_members, member_cases}
 use Rattle.ops_io.specs.Output.{column_after}
-use Rattle.ops_meaning.specs.Acting.{Setting, Doing, no_element, evaluated, has_tag, cell_of, changed, next_element, added, removed, modified, made_fields, modified_fields, made_by, made_last, bound, first_of, changes_told, action_done, actions_done, in_action}
+use Rattle.ops_meaning.specs.Acting.{Setting, ActState, no_element, evaluated, has_tag, cell_of, changed, next_element, added, removed, modified, made_fields, modified_fields, made_by, made_last, bound, first_of, changes_told, action_done, actions_done, in_action}
 use Rattle.ops_meaning.specs.Effects.{followed_by, outcome_as}
 use Rattle.ops_meaning.specs.Layout.{Apart}
 use Rattle.run_laws.specs.Elements.{AreFieldsOf, IsWhole}
@@ -100,28 +100,28 @@ module _ (classes : List Class) (valid : list_all class_is_valid classes ≡ tru
   abbrev Kept : Known → List Binding → List Element → List Change → List Element → Type 0
   Kept k bindings elements changes wm = Holds classes k bindings elements changes × Wholes classes elements changes
 
-  abbrev pub AreWholes : Doing → Type 0
+  abbrev pub AreWholes : ActState → Type 0
   AreWholes d = Wholes classes d.cells d.changes
 
-  added_whole : (d : Doing) (class : ℕ) (fields : List Value) → is_class classes class ≡ true → AreFieldsOf (class_of classes class) (length fields) → AreWholes d → AreWholes (added d class fields)
+  added_whole : (d : ActState) (class : ℕ) (fields : List Value) → is_class classes class ≡ true → AreFieldsOf (class_of classes class) (length fields) → AreWholes d → AreWholes (added d class fields)
   added_whole d class fields exists room p = record {
     cells = p.cells;
     made = added_more classes d.changes (next_element d class fields) p.made (record { class = exists; fields = room });
   }
 
-  removed_whole : (tag : ℕ) (d : Doing) → AreWholes d → AreWholes (removed d tag)
+  removed_whole : (tag : ℕ) (d : ActState) → AreWholes d → AreWholes (removed d tag)
   removed_whole tag d p = by (has_tag d.wm tag)
     where
       by : (b : Bool) → AreWholes (cond b (changed d (change.Remove tag)) d)
       by true = record { cells = p.cells; made = removed_more classes d.changes tag p.made }
       by false = p
 
-  all_removed_whole : (cells : List ℕ) (d : Doing) → AreWholes d → AreWholes (fold (λ d c. removed d (cell_of d c).tag) d cells)
+  all_removed_whole : (cells : List ℕ) (d : ActState) → AreWholes d → AreWholes (fold (λ d c. removed d (cell_of d c).tag) d cells)
   all_removed_whole [] d p = p
   all_removed_whole (c ∷ cells) d p =
       all_removed_whole cells (removed d (cell_of d c).tag) (removed_whole (cell_of d c).tag d p)
 
-  modified_whole : (d : Doing) (cell : ℕ) (fields : List Value) → is_class classes (cell_of d cell).class ≡ true → AreFieldsOf (class_of classes (cell_of d cell).class) (length fields) → AreWholes d → AreWholes (modified d cell fields)
+  modified_whole : (d : ActState) (cell : ℕ) (fields : List Value) → is_class classes (cell_of d cell).class ≡ true → AreFieldsOf (class_of classes (cell_of d cell).class) (length fields) → AreWholes d → AreWholes (modified d cell fields)
   modified_whole d cell fields exists room p =
       let e = cell_of d cell in
       let r = removed_whole e.tag d p in
@@ -130,7 +130,7 @@ module _ (classes : List Class) (valid : list_all class_is_valid classes ≡ tru
         made = added_more classes (removed d e.tag).changes (next_element (removed d e.tag) e.class fields) r.made (record { class = exists; fields = room });
       }
 
-pub action_whole : (s : Setting) (valid : list_all class_is_valid s.classes ≡ true) (column : ℕ) (k : Known) (a : Action) (d : Doing) → Knows s.classes k d → AreWholes s.classes valid d → action_is_valid s.classes k a ≡ true
+pub action_whole : (s : Setting) (valid : list_all class_is_valid s.classes ≡ true) (column : ℕ) (k : Known) (a : Action) (d : ActState) → Knows s.classes k d → AreWholes s.classes valid d → action_is_valid s.classes k a ≡ true
     → IfOk (action_done s column a d).outcome (AreWholes s.classes valid)
 action_whole s valid column k (action.Make class puts) d p q h =
     let c = class_of s.classes class in
@@ -179,26 +179,26 @@ action_whole s valid column k (action.Cbind cell) d p q h =
 action_whole s valid column k action.Halt d p q h = record { cells = q.cells; made = q.made }
 
 -- valid actions make whole elements
-pub actions_whole : (s : Setting) (valid : list_all class_is_valid s.classes ≡ true) (column n : ℕ) (k : Known) (actions : List Action) (d : Doing) → Knows s.classes k d → AreWholes s.classes valid d → actions_are_valid s.classes k actions ≡ true
+pub actions_whole : (s : Setting) (valid : list_all class_is_valid s.classes ≡ true) (column n : ℕ) (k : Known) (actions : List Action) (d : ActState) → Knows s.classes k d → AreWholes s.classes valid d → actions_are_valid s.classes k actions ≡ true
     → IfOk (actions_done s column n actions d).outcome (AreWholes s.classes valid)
 actions_whole s valid column n k [] d p q h = q
 actions_whole s valid column n k (a ∷ rest) d p q h =
     let parts = and_parts (action_is_valid s.classes k a) (actions_are_valid s.classes (known_after k a) rest) h in
     let e = action_done s column a d in
-    let Both : Doing → Type 0 = λ d. Knows s.classes (known_after k a) d × AreWholes s.classes valid d in
+    let Both : ActState → Type 0 = λ d. Knows s.classes (known_after k a) d × AreWholes s.classes valid d in
     ok_on Both (AreWholes s.classes valid) e.bytes (outcome_as (λ d. d) (in_action n) e.outcome) (λ d. actions_done s (column_after column e.bytes) (suc n) rest d)
     (ok_as Both Both (λ d. d) (in_action n) e.outcome
     (ok_both (Knows s.classes (known_after k a)) (AreWholes s.classes valid) e.outcome (action_knows s column k a d p parts.0) (action_whole s valid column k a d p q parts.0)) (λ d r. r))
     (λ d r. actions_whole s valid (column_after column e.bytes) (suc n) (known_after k a) rest d r.0 r.1 parts.1)
 
 -- before each of them the cells hold whole elements
-pub actions_hold_whole : (s : Setting) (valid : list_all class_is_valid s.classes ≡ true) (column : ℕ) (k : Known) (actions : List Action) (d : Doing) → Knows s.classes k d → AreWholes s.classes valid d → actions_are_valid s.classes k actions ≡ true
+pub actions_hold_whole : (s : Setting) (valid : list_all class_is_valid s.classes ≡ true) (column : ℕ) (k : Known) (actions : List Action) (d : ActState) → Knows s.classes k d → AreWholes s.classes valid d → actions_are_valid s.classes k actions ≡ true
     → HoldWhole s column actions d
 actions_hold_whole s valid column k [] d p q h = tt
 actions_hold_whole s valid column k (a ∷ rest) d p q h =
     let parts = and_parts (action_is_valid s.classes k a) (actions_are_valid s.classes (known_after k a) rest) h in
     let e = action_done s column a d in
-    let Both : Doing → Type 0 = λ d. Knows s.classes (known_after k a) d × AreWholes s.classes valid d in (
+    let Both : ActState → Type 0 = λ d. Knows s.classes (known_after k a) d × AreWholes s.classes valid d in (
       all_from_members (IsWhole s.classes) d.cells q.cells,
       ok_more Both (HoldWhole s (column_after column e.bytes) rest) e.outcome
           (ok_both (Knows s.classes (known_after k a)) (AreWholes s.classes valid) e.outcome (action_knows s column k a d p parts.0) (action_whole s valid column k a d p q parts.0))

@@ -30,7 +30,7 @@ use Rattle.ops_base.specs.Matching.{value_of, after_test, match_of}
 use Rattle.ops_base.specs.Valid.{class_of, is_attribute, is_field, is_vector}
 use Rattle.ops_base.specs.WorkingMemory.{change_done}
 use Rattle.ops_io.specs.Output.{column_after}
-use Rattle.ops_meaning.specs.Acting.{Setting, Doing, cell_of, element_of, action_done}
+use Rattle.ops_meaning.specs.Acting.{Setting, ActState, cell_of, element_of, action_done}
 
 -- there is a class of this number
 abbrev pub is_class : List Class → ℕ → Bool
@@ -90,15 +90,15 @@ LeadTo wm (c ∷ cs) from to =
 -- ---- right sides
 
 -- the variable is bound
-abbrev pub is_bound : Doing → ℕ → Bool
+abbrev pub is_bound : ActState → ℕ → Bool
 is_bound d v = is_some (value_of d.bindings v)
 
 -- the cell holds an element, whose class is there
-abbrev pub is_held : List Class → Doing → ℕ → Bool
+abbrev pub is_held : List Class → ActState → ℕ → Bool
 is_held classes d cell = is_some (slice_get d.cells cell) && is_class classes (cell_of d cell).class
 
 -- the class of the element in a cell
-abbrev pub held_class : List Class → Doing → ℕ → Class
+abbrev pub held_class : List Class → ActState → ℕ → Class
 held_class classes d cell = class_of classes (cell_of d cell).class
 
 -- an element was made
@@ -106,7 +106,7 @@ abbrev pub is_add : Change → Bool
 is_add (change.Add e) = true
 is_add (change.Remove tag) = false
 
-abbrev pub has_made : Doing → Bool
+abbrev pub has_made : ActState → Bool
 has_made d = list_any is_add d.changes
 
 -- a term that gives one value, whatever there is
@@ -114,7 +114,7 @@ abbrev pub is_single : Term → Bool
 is_single (term.Rest cell) = false
 is_single _ = true
 
-abbrev pub term_finds : List Class → Doing → Term → Bool
+abbrev pub term_finds : List Class → ActState → Term → Bool
 term_finds classes d (term.Constant v) = true
 term_finds classes d (term.Variable v) = is_bound d v
 term_finds classes d (term.Compute formula) = all_variables (is_bound d) formula
@@ -123,10 +123,10 @@ term_finds classes d (term.Rest cell) = is_held classes d cell && (held_class cl
 term_finds classes d term.Fresh = true
 term_finds classes d term.Accept = true
 
-abbrev pub put_finds : List Class → Doing → Class → Put → Bool
+abbrev pub put_finds : List Class → ActState → Class → Put → Bool
 put_finds classes d c p = is_attribute c p.field && list_all (term_finds classes d) p.terms
 
-abbrev pub item_finds : List Class → Doing → Item → Bool
+abbrev pub item_finds : List Class → ActState → Item → Bool
 item_finds classes d (item.Print t) = term_finds classes d t
 item_finds classes d item.Crlf = true
 item_finds classes d (item.TabTo n) = true
@@ -135,7 +135,7 @@ item_finds classes d (item.RightIn n) = true
 -- Each variable that the action evaluates is bound, each cell that it names holds an element, each class that it names
 -- is there, and so is that of each such element, and each field is one of its class. The term of `bind` gives one
 -- value, and where a cell is bound to the element that was made last, one was made.
-abbrev pub action_finds : List Class → Doing → Action → Bool
+abbrev pub action_finds : List Class → ActState → Action → Bool
 action_finds classes d (action.Make class puts) =
     is_class classes class && list_all (put_finds classes d (class_of classes class)) puts
 action_finds classes d (action.Modify cell puts) =
@@ -147,18 +147,18 @@ action_finds classes d (action.Cbind cell) = has_made d
 action_finds classes d action.Halt = true
 
 -- From a column and a state on, P holds of each action with the state to which those before it lead.
-abbrev pub EachAction : (Action → Doing → Type 0) → Setting → ℕ → List Action → Doing → Type 0
+abbrev pub EachAction : (Action → ActState → Type 0) → Setting → ℕ → List Action → ActState → Type 0
 EachAction P s column [] d = Unit {0}
 EachAction P s column (a ∷ rest) d =
     let e = action_done s column a d in
     P a d × IfOk e.outcome (λ next. EachAction P s (column_after column e.bytes) rest next)
 
 -- Each action finds all that it names.
-abbrev pub AllFind : Setting → ℕ → List Action → Doing → Type 0
+abbrev pub AllFind : Setting → ℕ → List Action → ActState → Type 0
 AllFind s column actions d = EachAction (λ a d. IsTrue (action_finds s.classes d a)) s column actions d
 
 -- the bindings, the cells, the changes and working memory are the same
-abbrev pub SeesTheSame : Doing → Doing → Type 0
+abbrev pub SeesTheSame : ActState → ActState → Type 0
 SeesTheSame old new =
     (new.bindings ≡ old.bindings) × (new.cells ≡ old.cells) × (new.changes ≡ old.changes) × (new.wm ≡ old.wm)
 

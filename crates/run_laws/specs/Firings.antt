@@ -8,7 +8,7 @@ use Rattle.ops_base.specs.declared.rules.Inst.{Inst}
 use Rattle.ops_base.specs.Names.{Spellings}
 use Rattle.ops_io.specs.Coming.{Coming}
 use Rattle.ops_io.specs.Output.{column_after}
-use Rattle.ops_meaning.specs.Acting.{Setting, Doing, actions_of}
+use Rattle.ops_meaning.specs.Acting.{Setting, ActState, actions_of}
 use Rattle.ops_meaning.specs.Acting as acting
 use Rattle.ops_meaning.specs.Layout.{firing_bytes}
 use Rattle.ops_meaning.specs.Running.{Course, Session, LastFiring, begun, command_done, firing, given_by, is_exit, last_of, line_of_pause, next_to_fire, one_less}
@@ -56,7 +56,7 @@ abbrev pub column_after_line : Setting → ℕ → Inst → Course → ℕ
 column_after_line s column i m = column_after column (firing_bytes s.watch column m.names s.rules (m.firings + 1) i)
 
 -- before each action the cells hold whole elements
-abbrev pub HoldWhole : Setting → ℕ → List Action → Doing → Type 0
+abbrev pub HoldWhole : Setting → ℕ → List Action → ActState → Type 0
 HoldWhole s column actions d = EachAction (λ a d. AreWhole s.classes d.cells) s column actions d
 
 -- In a firing the elements of working memory are whole, and those of the cells too, the right side begins as matched,

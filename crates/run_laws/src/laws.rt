@@ -23,7 +23,7 @@ ghost use Rattle.ops_base.specs.Names.{Spellings};
 ghost use Rattle.ops_base.specs.Valid.{is_attribute};
 ghost use Rattle.ops_base.specs.WorkingMemory.{HasRisingTags, tags_of};
 ghost use Rattle.ops_io.specs.Coming.{Coming};
-ghost use Rattle.ops_meaning.specs.Acting.{Setting, Given, Doing, actions_of, action_done, actions_done, begun, evaluated, values_placed};
+ghost use Rattle.ops_meaning.specs.Acting.{Setting, Given, ActState, actions_of, action_done, actions_done, begun, evaluated, values_placed};
 ghost use Rattle.ops_meaning.specs.Layout.{inst_text};
 ghost use Rattle.ops_meaning.specs.Running.{Course, Session, command_done, element_lines, ending_of, lists, meets, removals, session_of, standing_by};
 ghost use Rattle.run_laws.specs.Beginning.{BeginsAsMatched};
@@ -58,9 +58,9 @@ pub fn right_sides_find_what_they_name()
     ensures actions { (s : Setting) (commands : List Command) (column : ℕ) (g : Given) (i : Inst)
         → AreValid s commands → HasRisingTags g.wm → Contains (conflict_set s.rules g.wm) i
         → AllFind s column (actions_of s.rules i.rule) (begun s i g) }
-    ensures terms { (classes : List Class) (t : Term) (d : Doing)
+    ensures terms { (classes : List Class) (t : Term) (d : ActState)
         → IfOk (evaluated classes t d) (λ v. SeesTheSame d v.doing) }
-    ensures one { (classes : List Class) (t : Term) (d : Doing)
+    ensures one { (classes : List Class) (t : Term) (d : ActState)
         → IsTrue (is_single t) → IfOk (evaluated classes t d) (λ v. length v.values ≡ 1) }
 {}
 
@@ -96,7 +96,7 @@ pub fn commands_find_what_they_name()
 
 /// What an action or a command removes is there when it is removed, so that a trace can show it.
 pub fn removals_find_what_they_name()
-    ensures actions { (s : Setting) (column : ℕ) (a : Action) (d : Doing)
+    ensures actions { (s : Setting) (column : ℕ) (a : Action) (d : ActState)
         → IfOk (action_done s column a d).outcome (λ next. RemovalsFind d.wm (drop (length d.changes) next.changes)) }
     ensures commands { (wm : List Element) (tags : List ℕ) → RemovalsFind wm (removals wm tags) }
     ensures all { (wm : List Element) → HasRisingTags wm → RemovalsFind wm (map Remove (tags_of wm)) }
@@ -153,7 +153,7 @@ pub fn nothing_is_passed_over()
         → WalkFinds classes wm (before ++ Group (first ++ c ∷ rest) ∷ after) ps → Contains (walk wm before ps) p
         → LeadTo wm first p.bindings next → Contains wm e
         → IsTrue (condition_finds classes c next e) }
-    ensures actions { (test : Action → Doing → Bool) (s : Setting) (column n : ℕ) (before after : List Action) (a : Action) (d e : Doing)
+    ensures actions { (test : Action → ActState → Bool) (s : Setting) (column n : ℕ) (before after : List Action) (a : Action) (d e : ActState)
         → EachAction (λ a d. IsTrue (test a d)) s column (before ++ a ∷ after) d
         → (actions_done s column n before d).outcome ≡ Ok e → IsTrue (test a e) }
     ensures firings { (test : Setting → ℕ → Inst → Course → Bool) (s : Setting) (limit n : ℕ) (before after : List Command) (count : Option ℕ)

@@ -1,6 +1,6 @@
 use Rattle.std.proofs.Common.{refl}
 use Rattle.ops_io.specs.declared.stop.Stop.TheVariants as stop
-use Rattle.act_phase.specs.declared.outcome.Mishap.TheVariants as mishap
+use Rattle.act_phase.specs.declared.outcome.ActionError.TheVariants as mishap
 use Rattle.act_phase.proofs.Deeds.{still_all, still_flushed, still_last, still_refused}
 use Rattle.act_phase.proofs.AtomLemmas.{accept_ok}
 use Rattle.act_phase.proofs.atoms.accept.Goals as goal

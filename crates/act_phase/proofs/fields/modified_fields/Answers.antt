@@ -3,7 +3,7 @@ use Rattle.ops_base.specs.declared.actions.Put.{Put}
 use Rattle.ops_meaning.specs.Acting.{Filled, puts_over, terms_placed}
 use Rattle.ops_meaning.specs.Effects.{silent}
 use Rattle.act_phase.specs.State.{doing_of, filled_of}
-use Rattle.act_phase.specs.declared.outcome.Mishap.TheVariants as mishap
+use Rattle.act_phase.specs.declared.outcome.ActionError.TheVariants as mishap
 use Rattle.act_phase.proofs.Deeds.{still_all, still_same, still_short}
 use Rattle.act_phase.proofs.Placing.{put_ok, put_err}
 use Rattle.act_phase.specs.Asking.{put_asks}

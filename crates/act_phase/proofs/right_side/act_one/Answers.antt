@@ -3,7 +3,7 @@ use Rattle.ops_base.specs.declared.actions.Action.TheVariants as action
 use Rattle.ops_meaning.specs.Effects.{writes}
 use Rattle.act_phase.specs.Outcomes.{setting_of}
 use Rattle.act_phase.specs.State.{doing_of}
-use Rattle.act_phase.specs.declared.outcome.Mishap.TheVariants as mishap
+use Rattle.act_phase.specs.declared.outcome.ActionError.TheVariants as mishap
 use Rattle.act_phase.proofs.Deeds.{still_all, still_short}
 use Rattle.act_phase.proofs.ItemLemmas.{bytes_put, bytes_refused}
 use Rattle.act_phase.proofs.Steps.{action_quiet}

@@ -2,7 +2,7 @@ use Rattle.std.proofs.Common.{ap, sym, ◌∙◌}
 use Rattle.ops_meaning.specs.Acting.{has_tag}
 use Rattle.act_phase.specs.Changed.{Changed, memory_of}
 use Rattle.act_phase.proofs.Counts.{counted_removed}
-use Rattle.act_phase.proofs.changed_memory.Working.remove.Goals as goal
+use Rattle.act_phase.proofs.changed_memory.ChangedMemory.remove.Goals as goal
 
 pub invariant_of-self-in-Ok : goal.invariant_of-self-in-Ok
 invariant_of-self-in-Ok c =

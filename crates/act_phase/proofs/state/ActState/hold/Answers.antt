@@ -3,7 +3,7 @@ use Rattle.act_phase.specs.State.{State}
 use Rattle.act_phase.specs.declared.state.Cell.TheVariants as cell
 use Rattle.act_phase.proofs.Cells.{below_is, there_set}
 use Rattle.act_phase.proofs.States.{state_set}
-use Rattle.act_phase.proofs.state.Doing.hold.Goals as goal
+use Rattle.act_phase.proofs.state.ActState.hold.Goals as goal
 
 pub invariant_of-self : goal.invariant_of-self
 invariant_of-self c =

@@ -1,7 +1,7 @@
 use Rattle.std.proofs.Common.{refl}
 use Rattle.act_phase.proofs.Cells.{still_there}
 use Rattle.act_phase.proofs.States.{state_removed}
-use Rattle.act_phase.proofs.state.Doing.remove_tag.Goals as goal
+use Rattle.act_phase.proofs.state.ActState.remove_tag.Goals as goal
 
 pub invariant_of-self : goal.invariant_of-self
 invariant_of-self c =

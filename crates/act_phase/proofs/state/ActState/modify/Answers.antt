@@ -2,7 +2,7 @@ use Rattle.std.proofs.Common.{◌∙◌, length, ap}
 use Rattle.ops_meaning.specs.Acting.{added, removed}
 use Rattle.act_phase.specs.State.{State, doing_of}
 use Rattle.act_phase.proofs.States.{doing_modified}
-use Rattle.act_phase.proofs.state.Doing.modify.Goals as goal
+use Rattle.act_phase.proofs.state.ActState.modify.Goals as goal
 
 pub returns-clause-does : goal.returns-clause-does
 returns-clause-does c = λ names coming.

@@ -1,6 +1,6 @@
 use Rattle.std.proofs.Common.{refl}
 use Rattle.act_phase.proofs.Counts.{counted_added}
-use Rattle.act_phase.proofs.changed_memory.Working.add.Goals as goal
+use Rattle.act_phase.proofs.changed_memory.ChangedMemory.add.Goals as goal
 
 pub invariant_of-self-2 : goal.invariant_of-self-2
 invariant_of-self-2 c =

@@ -1,5 +1,5 @@
 use Rattle.act_phase.proofs.Counts.{counted_first}
-use Rattle.act_phase.proofs.changed_memory.Working.new.Goals as goal
+use Rattle.act_phase.proofs.changed_memory.ChangedMemory.new.Goals as goal
 
 pub invariant_of-result : goal.invariant_of-result
 invariant_of-result c =

@@ -1,4 +1,4 @@
-//! `Gone`, the tags that a right side has removed.
+//! `RemovedTags`, the tags that a right side has removed.
 ghost use Rattle.std.specs.Prelude.{◌≡◌, OnOk, OnErr, if◌then◌else◌, ◌==◌, true, false, ℕ};
 ghost use Rattle.std.specs.List.{list_any};
 ghost use Rattle.act_phase.specs.Changed.{is_among};
@@ -13,7 +13,7 @@ const FEW_TAGS: usize = 8;
 
 /// Tags that were removed: the first few where they stand, and only those beyond in a set, which takes memory for each.
 #[derive(Drop)]
-pub(crate) struct Gone {
+pub(crate) struct RemovedTags {
     few: SmallVec<u64, FEW_TAGS>,
     more: BTreeSet<u64>,
 }
@@ -24,12 +24,12 @@ fn is_one_of(tags: &[u64], tag: u64) -> bool
     tags.iter().any(|each| *each == tag)
 }
 
-impl Gone {
+impl RemovedTags {
     /// No tag. Takes no memory.
-    pub(crate) fn new(alloc: Global) -> Gone
+    pub(crate) fn new(alloc: Global) -> RemovedTags
         ensures { (t : ℕ) → is_among result t ≡ false }
     {
-        Gone {
+        RemovedTags {
             few: SmallVec::new(alloc),
             more: BTreeSet::new(alloc),
         }

@@ -4,7 +4,7 @@ use Rattle.act_phase.specs.Changed.{Changed}
 use Rattle.act_phase.specs.State.{State}
 use Rattle.act_phase.proofs.Cells.{still_there}
 use Rattle.act_phase.proofs.States.{state_added}
-use Rattle.act_phase.proofs.state.Doing.make.Goals as goal
+use Rattle.act_phase.proofs.state.ActState.make.Goals as goal
 
 pub invariant_of-self : goal.invariant_of-self
 invariant_of-self c =

@@ -7,7 +7,7 @@ use Rattle.ops_base.specs.WorkingMemory.{done}
 use Rattle.ops_meaning.specs.Acting.{element_of}
 use Rattle.act_phase.specs.Changed.{Changed, last_added}
 use Rattle.act_phase.proofs.Found.{removed_found, removed_made}
-use Rattle.act_phase.proofs.changed_memory.Working.removed_at.Goals as goal
+use Rattle.act_phase.proofs.changed_memory.ChangedMemory.removed_at.Goals as goal
 
 pub returns-in-Some : goal.returns-in-Some
 returns-in-Some c =

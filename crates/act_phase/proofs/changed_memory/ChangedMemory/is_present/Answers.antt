@@ -2,7 +2,7 @@ use Rattle.std.proofs.Common.{◌<◌, ap, sym, ◌∙◌, arith}
 use Rattle.ops_meaning.specs.Acting.{has_tag}
 use Rattle.act_phase.specs.Changed.{Changed, memory_of, is_among}
 use Rattle.act_phase.proofs.Counts.{present_old}
-use Rattle.act_phase.proofs.changed_memory.Working.is_present.Goals as goal
+use Rattle.act_phase.proofs.changed_memory.ChangedMemory.is_present.Goals as goal
 
 pub returns : goal.returns
 returns c =
