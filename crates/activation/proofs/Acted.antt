@@ -21,9 +21,9 @@ use Rattle.token_line.specs.Held.{Agrees, Fits, TaskFits, is_right_wide}
 use Rattle.token_line.specs.Lawful.{IsChildOf, IsLawful, giver_of, out_at}
 use Rattle.token_line.specs.Lines.{sum_in}
 use Rattle.token_line.proofs.Fitting.{fits_at, left_is_wide, node_of}
-use Rattle.activation.specs.Children.{Target, child, children_at, children_of, targets, targets_of}
-use Rattle.activation.specs.Putting.{Put}
-use Rattle.activation.specs.Effects.{Effect}
+use Rattle.activation.specs.inner.Children.{Target, child, children_at, children_of, targets, targets_of}
+use Rattle.activation.specs.inner.Putting.{Put}
+use Rattle.activation.specs.inner.Effects.{Effect}
 use Rattle.activation.specs.Acting.{Acts, IsEffect, IsOutOf}
 use Rattle.activation.proofs.Childhood.{IsChild, are_children, child_is, giver_is, times_among}
 use Rattle.activation.proofs.PutOutLemmas.{one_added}

@@ -8,7 +8,7 @@ use Rattle.net_base.specs.declared.tasks.Side.{Side}
 use Rattle.net_base.specs.declared.tasks.Side.TheVariants.{Left, Right}
 use Rattle.net_base.specs.declared.tasks.Task.{Task}
 use Rattle.token_line.specs.Bags.{Bag, are_same_sides, is_at, sign, sign_at, after, standing, standing_at}
-use Rattle.activation.specs.Putting.{changes}
+use Rattle.activation.specs.inner.Putting.{changes}
 use Rattle.activation.proofs.JoinChange.{stays}
 
 both : (a b : Bool) → (a && b) ≡ true → (a ≡ true) × (b ≡ true)

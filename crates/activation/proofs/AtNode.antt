@@ -19,20 +19,20 @@ use Rattle.net_base.specs.declared.tasks.Side.TheVariants.{Left, Right}
 use Rattle.net_base.specs.Sound.{IsSound, left_width, takes_elements}
 use Rattle.net_base.specs.Tokens.{Elements, goes_with, joins_hold, right_width}
 use Rattle.token_line.specs.declared.line.Line.{Line}
-use Rattle.token_line.specs.declared.tokens.Cell.{Cell}
-use Rattle.token_line.specs.declared.memory.Memory.{Memory}
+use Rattle.token_line.specs.declared.tokens.TokenCount.{TokenCount}
+use Rattle.token_line.specs.declared.memory.CodeMemory.{CodeMemory}
 use Rattle.token_line.specs.Held.{Agrees, Fits}
 use Rattle.token_line.proofs.Filed.{alone_cell}
 use Rattle.token_line.proofs.Joined.{joined_with_one_code}
 use Rattle.token_line.proofs.Fitting.{left_length, one_length, right_length}
 use Rattle.token_line.specs.Bags.{standing}
-use Rattle.token_line.specs.Codes.{cell_among, tokens_of}
+use Rattle.token_line.specs.inner.Codes.{cell_among, tokens_of}
 use Rattle.token_line.specs.Lines.{IsAlone, IsFiled, blockers_in, filed_in, memory_at, sum_in}
 use Rattle.token_line.specs.Numbers.{code_of}
-use Rattle.token_line.specs.Pairs.{cell_of}
+use Rattle.token_line.specs.inner.Pairs.{cell_of}
 use Rattle.token_line.specs.Sums.{blockers_kept, kept_sum, sum_kept}
 use Rattle.token_line.proofs.PairLemmas.{cell_at as pair_found}
-use Rattle.activation.specs.Putting.{left_entries, right_entries}
+use Rattle.activation.specs.inner.Putting.{left_entries, right_entries}
 use Rattle.activation.specs.Acting.{AreKept, IsCounted}
 use Rattle.activation.proofs.Agreed.{IsHeld, joins_agree}
 use Rattle.activation.proofs.CountBelow.{AreLow}
@@ -40,15 +40,15 @@ use Rattle.activation.proofs.PutNumbers.{left_of, right_of, sum_at}
 
 -- ---- sums and look-ups
 
-found_sum : (o : Option Cell) → option_map_or (λ c. c.sum) o (pos 0) ≡ sum_at (λ (c : Cell). c.sum) o
+found_sum : (o : Option TokenCount) → option_map_or (λ c. c.sum) o (pos 0) ≡ sum_at (λ (c : TokenCount). c.sum) o
 found_sum None = refl
 found_sum (Some c) = refl
 
-pub right_kept : (o : Option Memory) (k : List ℕ) → kept_sum (tokens_of o Right) k ≡ right_of (right_entries o) k
+pub right_kept : (o : Option CodeMemory) (k : List ℕ) → kept_sum (tokens_of o Right) k ≡ right_of (right_entries o) k
 right_kept None k = refl
 right_kept (Some m) k = found_sum (cell_of m.right k)
 
-pub left_kept : (o : Option Memory) (k : List ℕ) → kept_sum (tokens_of o Left) k ≡ left_of (left_entries o) k
+pub left_kept : (o : Option CodeMemory) (k : List ℕ) → kept_sum (tokens_of o Left) k ≡ left_of (left_entries o) k
 left_kept None k = refl
 left_kept (Some m) k = found_sum (cell_of m.left k)
 
@@ -59,7 +59,7 @@ module _ (nodes : List Node) (s : Stored) (line : Line) (counted : IsCounted nod
   pub is_alone : (side : Side) (t : List ℕ) → IsAlone line n (code_of (held_of s) nodes n side t) side t
   is_alone side t d ne = by (filed_in line n d side t) refl
     where
-      by : (o : Option Cell) → filed_in line n d side t ≡ o → o ≡ None
+      by : (o : Option TokenCount) → filed_in line n d side t ≡ o → o ≡ None
       by None q = refl
       by (Some k) q = absurd (ne (counted.filed n d side t (subst IsSome (sym q) refl)))
 
@@ -104,26 +104,26 @@ module _ (nodes : List Node) (s : Stored) (line : Line) (counted : IsCounted nod
 -- ---- what is kept
 
 -- of each memory that there is
-abbrev pub Kept : Option Memory → Type 0
+abbrev pub Kept : Option CodeMemory → Type 0
 Kept o = ForSome o AreKept
 
-pub right_distinct : (o : Option Memory) → Kept o → IsDistinct bytes_eq (keys_of (right_entries o))
+pub right_distinct : (o : Option CodeMemory) → Kept o → IsDistinct bytes_eq (keys_of (right_entries o))
 unfolding IsDistinct
 right_distinct None kept = tt
 right_distinct (Some m) kept = (kept m refl).right.apart
 
-pub left_distinct : (o : Option Memory) → Kept o → IsDistinct bytes_eq (keys_of (left_entries o))
+pub left_distinct : (o : Option CodeMemory) → Kept o → IsDistinct bytes_eq (keys_of (left_entries o))
 unfolding IsDistinct
 left_distinct None kept = tt
 left_distinct (Some m) kept = (kept m refl).left.apart
 
 module _ (nodes : List Node) (s : Stored) (line : Line) (counted : IsCounted nodes s line) (n c : ℕ) where
   -- what is found under the code is what the line keeps
-  found_is : (side : Side) (t : List ℕ) (k : Cell) → cell_of (tokens_of (memory_at line n c) side) t ≡ Some k → cell_among line.memories n side t ≡ Some k
+  found_is : (side : Side) (t : List ℕ) (k : TokenCount) → cell_of (tokens_of (memory_at line n c) side) t ≡ Some k → cell_among line.memories n side t ≡ Some k
   found_is side t k found = filed_is nodes s line counted n c side t (subst IsSome (sym found) refl) ∙ found
 
-  right_fits_in : (o : Option Memory) → memory_at line n c ≡ o → Kept o → All (λ e. Fits nodes s n Right e.0) (right_entries o)
-  right_fits_in None mem kept i d within = All-nil (λ (e : List ℕ × Cell). Fits nodes s n Right e.0) i d within
+  right_fits_in : (o : Option CodeMemory) → memory_at line n c ≡ o → Kept o → All (λ e. Fits nodes s n Right e.0) (right_entries o)
+  right_fits_in None mem kept i d within = All-nil (λ (e : List ℕ × TokenCount). Fits nodes s n Right e.0) i d within
   right_fits_in (Some m) mem kept i d within =
       let are = kept m refl in
       let e = slice_index_or m.right i d in
@@ -131,8 +131,8 @@ module _ (nodes : List Node) (s : Stored) (line : Line) (counted : IsCounted nod
       let sum : sum_in line n Right e.0 ≡ e.1.sum = ap sum_kept (found_is Right e.0 e.1 (ap (λ o. cell_of (tokens_of o Right) e.0) mem ∙ found)) in
       counted.fit n Right e.0 (λ z. are.right.some e.0 e.1 found (sym sum ∙ z))
 
-  left_fits_in : (o : Option Memory) → memory_at line n c ≡ o → Kept o → All (λ e. Fits nodes s n Left e.0) (left_entries o)
-  left_fits_in None mem kept i d within = All-nil (λ (e : List ℕ × Cell). Fits nodes s n Left e.0) i d within
+  left_fits_in : (o : Option CodeMemory) → memory_at line n c ≡ o → Kept o → All (λ e. Fits nodes s n Left e.0) (left_entries o)
+  left_fits_in None mem kept i d within = All-nil (λ (e : List ℕ × TokenCount). Fits nodes s n Left e.0) i d within
   left_fits_in (Some m) mem kept i d within =
       let are = kept m refl in
       let e = slice_index_or m.left i d in
@@ -149,15 +149,15 @@ module _ (nodes : List Node) (s : Stored) (line : Line) (counted : IsCounted nod
   -- ---- a left token that is kept
 
   -- what the line says of a left token of a node is what is kept of it
-  pub record IsCell (t : List ℕ) (k : Cell) : Type 0 where
+  pub record IsCell (t : List ℕ) (k : TokenCount) : Type 0 where
     pub sum : sum_in line n Left t ≡ k.sum
     pub some : k.sum ≢ pos 0
     pub blockers : blockers_in line n t ≡ k.blockers
 
-  pub cell_at : Kept (memory_at line n c) → (t : List ℕ) (k : Cell) → lookup (bytes_eq t) (left_entries (memory_at line n c)) ≡ Some k → IsCell t k
+  pub cell_at : Kept (memory_at line n c) → (t : List ℕ) (k : TokenCount) → lookup (bytes_eq t) (left_entries (memory_at line n c)) ≡ Some k → IsCell t k
   cell_at kept t k = by (memory_at line n c) refl kept
     where
-      by : (o : Option Memory) → memory_at line n c ≡ o → Kept o → lookup (bytes_eq t) (left_entries o) ≡ Some k → IsCell t k
+      by : (o : Option CodeMemory) → memory_at line n c ≡ o → Kept o → lookup (bytes_eq t) (left_entries o) ≡ Some k → IsCell t k
       by None mem are found = cc
       by (Some m) mem are found =
           let is = found_is Left t k (ap (λ o. cell_of (tokens_of o Left) t) mem ∙ found) in

@@ -14,7 +14,7 @@ use Rattle.net_base.specs.Sound.{is_parent, is_giver, child_if, children_below, 
 use Rattle.net_base.specs.Tokens.{Out, giver_of_parent, giver_of_kind}
 use Rattle.token_line.specs.Bags.{are_same_sides}
 use Rattle.token_line.specs.Lawful.{giver_in, giver_of}
-use Rattle.activation.specs.Children.{Target, targets}
+use Rattle.activation.specs.inner.Children.{Target, targets}
 use Rattle.activation.proofs.Signed.{times_in, all_append}
 
 -- ---- who gives to a side

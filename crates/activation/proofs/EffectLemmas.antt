@@ -16,18 +16,18 @@ use Rattle.net_base.specs.declared.tasks.Side.TheVariants.{Left, Right}
 use Rattle.net_base.specs.declared.tasks.Task.{Task}
 use Rattle.net_base.specs.Sound.{IsSound, is_join, is_negated, is_terminal}
 use Rattle.token_line.specs.declared.line.Line.{Line}
-use Rattle.token_line.specs.declared.tokens.Cell.{Cell}
+use Rattle.token_line.specs.declared.tokens.TokenCount.{TokenCount}
 use Rattle.token_line.specs.Bags.{are_same_sides}
 use Rattle.token_line.specs.Held.{TaskFits}
-use Rattle.token_line.specs.declared.memory.Memory.{Memory}
-use Rattle.token_line.specs.Codes.{tokens_of}
+use Rattle.token_line.specs.declared.memory.CodeMemory.{CodeMemory}
+use Rattle.token_line.specs.inner.Codes.{tokens_of}
 use Rattle.token_line.specs.Lines.{IsFiled, blockers_in, filed_in, memory_at, sum_in}
 use Rattle.token_line.specs.Numbers.{code_of}
-use Rattle.token_line.specs.Pairs.{cell_of}
+use Rattle.token_line.specs.inner.Pairs.{cell_of}
 use Rattle.activation.specs.Acting.{IsCounted, IsEffect, IsOutOf, matching}
-use Rattle.activation.specs.Effects.{effect_at, effect_by, join_effect, left_effect, negated_effect, no_effect, right_effect}
-use Rattle.activation.specs.Negating.{all_have_room, has_room}
-use Rattle.activation.specs.Putting.{Put, changes, left_entries}
+use Rattle.activation.specs.inner.Effects.{effect_at, effect_by, join_effect, left_effect, negated_effect, no_effect, right_effect}
+use Rattle.activation.specs.inner.Negating.{all_have_room, has_room}
+use Rattle.activation.specs.inner.Putting.{Put, changes, left_entries}
 use Rattle.activation.proofs.Agreed.{IsHeld}
 use Rattle.activation.proofs.Arrived.{and_false}
 use Rattle.activation.proofs.AtNode.{Kept, cell_at, cell_is, same_node}
@@ -38,7 +38,7 @@ use Rattle.activation.proofs.PutOutLemmas.{put_by_join}
 
 -- ---- room
 
-room_of : (c : Cell) → has_room true c ≡ true → c.blockers < 2 ^ 64 - 1
+room_of : (c : TokenCount) → has_room true c ≡ true → c.blockers < 2 ^ 64 - 1
 room_of c e = (Decides-ltb c.blockers (2 ^ 64 - 1)).0 e
 
 -- where each left token that is kept under a code has room, so has each that the line keeps under it
@@ -46,17 +46,17 @@ room_at : (nodes : List Node) (s : Stored) (line : Line) → IsCounted nodes s l
     → (t : List ℕ) → IsFiled line n c Left t → blockers_in line n t < 2 ^ 64 - 1
 room_at nodes s line counted n c kept room t some = by (lookup (bytes_eq t) left) refl
   where
-    left : List (List ℕ × Cell)
+    left : List (List ℕ × TokenCount)
     left = left_entries (memory_at line n c)
 
     each : IfSome (lookup (bytes_eq t) left) (λ c. has_room true c ≡ true)
-    each = All-lookup (λ (c : Cell). has_room true c ≡ true) (bytes_eq t) left (AllPass-from_list_all (λ (e : List ℕ × Cell). has_room true e.1) left room)
+    each = All-lookup (λ (c : TokenCount). has_room true c ≡ true) (bytes_eq t) left (AllPass-from_list_all (λ (e : List ℕ × TokenCount). has_room true e.1) left room)
 
-    filed : (o : Option Memory) → lookup (bytes_eq t) (left_entries o) ≡ cell_of (tokens_of o Left) t
+    filed : (o : Option CodeMemory) → lookup (bytes_eq t) (left_entries o) ≡ cell_of (tokens_of o Left) t
     filed None = refl
     filed (Some m) = refl
 
-    by : (o : Option Cell) → lookup (bytes_eq t) left ≡ o → blockers_in line n t < 2 ^ 64 - 1
+    by : (o : Option TokenCount) → lookup (bytes_eq t) left ≡ o → blockers_in line n t < 2 ^ 64 - 1
     by None found = absurd (true≢false (sym some ∙ ap is_some (sym (filed (memory_at line n c)) ∙ found)))
     by (Some k) found =
         let here : has_room true k ≡ true = subst (λ o. IfSome o (λ d. has_room true d ≡ true)) found each in
@@ -181,10 +181,10 @@ module _ (alphas : List Alpha) (nodes : List Node) (sound : IsSound alphas nodes
       by (Terminal rule) q = terminal_is (ap is_terminal q)
 
   -- the same, of what was found on the line
-  pub done_effect : ((tag : ℕ) → IsHeld s tag → tag < 2 ^ 64) → (m : Option Memory) → m ≡ memory_at line x.node c → (o : Option Cell) → o ≡ filed_in line x.node c x.side x.token
-      → (is_negated node.kind ≡ true → x.side ≡ Right → changes (option_map_or (λ (c : Cell). c.sum) o (pos 0)) x.plus ≡ true → all_have_room x.plus (left_entries m) ≡ true)
-      → IsEffect nodes s line x (effect_at node (held_of s) m x (changes (option_map_or (λ (c : Cell). c.sum) o (pos 0)) x.plus))
+  pub done_effect : ((tag : ℕ) → IsHeld s tag → tag < 2 ^ 64) → (m : Option CodeMemory) → m ≡ memory_at line x.node c → (o : Option TokenCount) → o ≡ filed_in line x.node c x.side x.token
+      → (is_negated node.kind ≡ true → x.side ≡ Right → changes (option_map_or (λ (c : TokenCount). c.sum) o (pos 0)) x.plus ≡ true → all_have_room x.plus (left_entries m) ≡ true)
+      → IsEffect nodes s line x (effect_at node (held_of s) m x (changes (option_map_or (λ (c : TokenCount). c.sum) o (pos 0)) x.plus))
   done_effect small m is o kept_is room =
-      subst (λ k. IsEffect nodes s line x (effect_at node (held_of s) k x (changes (option_map_or (λ (c : Cell). c.sum) o (pos 0)) x.plus))) (sym is)
-      (effect_is small (changes (option_map_or (λ (c : Cell). c.sum) o (pos 0)) x.plus) (ap (λ z. changes (option_map_or (λ (c : Cell). c.sum) z (pos 0)) x.plus) (kept_is ∙ sym (cell_is nodes s line counts x.node c x.side x.token code)))
+      subst (λ k. IsEffect nodes s line x (effect_at node (held_of s) k x (changes (option_map_or (λ (c : TokenCount). c.sum) o (pos 0)) x.plus))) (sym is)
+      (effect_is small (changes (option_map_or (λ (c : TokenCount). c.sum) o (pos 0)) x.plus) (ap (λ z. changes (option_map_or (λ (c : TokenCount). c.sum) z (pos 0)) x.plus) (kept_is ∙ sym (cell_is nodes s line counts x.node c x.side x.token code)))
       (λ q e moved. ap (λ k. all_have_room x.plus (left_entries k)) (sym is) ∙ room q e moved))

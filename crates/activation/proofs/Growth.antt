@@ -2,10 +2,10 @@
 use Rattle.std.proofs.Common.{◌≡◌, ℕ, zero, suc, ◌+◌, ◌≤◌, Bool, List, [], ◌∷◌, ◌++◌, append_assoc, add-one, length, drop, take, slice_get, Some, refl, sym, ap, ap₂, ◌∙◌, arith}
 use Rattle.std.specs.List.{flat_map}
 use Rattle.net_base.specs.declared.tasks.Task.{Task}
-use Rattle.token_line.specs.declared.tokens.Cell.{Cell}
-use Rattle.token_line.specs.Pairs.{Pairs}
-use Rattle.activation.specs.Children.{Grows, Target, children_of, to_each}
-use Rattle.activation.specs.Putting.{Put}
+use Rattle.token_line.specs.declared.tokens.TokenCount.{TokenCount}
+use Rattle.token_line.specs.inner.Pairs.{Pairs}
+use Rattle.activation.specs.inner.Children.{Grows, Target, children_of, to_each}
+use Rattle.activation.specs.inner.Putting.{Put}
 
 pub append-nil : {X : Type 0} (xs : List X) → xs ++ [] ≡ xs
 append-nil [] = refl
@@ -38,7 +38,7 @@ drop_grown a c b n len is = ap₂ (λ k ts. drop k ts) len is ∙ by a
 -- ---- tokens, one after the other
 
 abbrev pub Pair : Type 0
-Pair = List ℕ × Cell
+Pair = List ℕ × TokenCount
 
 pub drop_at : {X : Type 0} (xs : List X) (i : ℕ) (x : X) → slice_get xs i ≡ Some x → drop i xs ≡ x ∷ drop (suc i) xs
 drop_at [] i x at = absurd (cc)

@@ -8,7 +8,7 @@ use Rattle.std.proofs.lemmas.Slice.Eq.{bytes_eq-Decides}
 use Rattle.net_base.specs.declared.nodes.JoinTest.{JoinTest}
 use Rattle.net_base.specs.Tokens.{Elements, Tokens, front, last, joins_hold, out_of_join}
 use Rattle.token_line.specs.Bags.{sign, standing}
-use Rattle.activation.specs.Putting.{Put, changes}
+use Rattle.activation.specs.inner.Putting.{Put, changes}
 use Rattle.activation.specs.Acting.{signed, number_put}
 
 -- ---- how often a token stands

@@ -13,16 +13,16 @@ use Rattle.net_base.specs.declared.tasks.Task.{Task}
 use Rattle.net_base.specs.Sound.{IsSound, is_negated}
 use Rattle.net_base.specs.Tokens.{Elements, count_with, goes_with, right_width}
 use Rattle.token_line.specs.declared.line.Line.{Line}
-use Rattle.token_line.specs.declared.tokens.Cell.{Cell}
-use Rattle.token_line.specs.declared.memory.Memory.{Memory}
+use Rattle.token_line.specs.declared.tokens.TokenCount.{TokenCount}
+use Rattle.token_line.specs.declared.memory.CodeMemory.{CodeMemory}
 use Rattle.token_line.specs.Bags.{Bag, after, standing, standing_at}
 use Rattle.token_line.specs.Held.{Agrees, Fits}
 use Rattle.token_line.specs.Lines.{memory_at, sum_in}
 use Rattle.token_line.specs.Numbers.{code_of}
 use Rattle.token_line.specs.Sums.{counted}
 use Rattle.activation.specs.Acting.{IsCounted, matching, signed}
-use Rattle.activation.specs.Negating.{blockers_for, number_matching}
-use Rattle.activation.specs.Putting.{changes, left_entries, right_entries}
+use Rattle.activation.specs.inner.Negating.{blockers_for, number_matching}
+use Rattle.activation.specs.inner.Putting.{changes, left_entries, right_entries}
 use Rattle.activation.proofs.Agreed.{IsHeld}
 use Rattle.activation.proofs.Arrived.{other_sum, own_sum}
 use Rattle.activation.proofs.AtNode.{Kept, both_go, cell_at, right_distinct, right_fits, right_joined, right_low, right_wide}
@@ -38,7 +38,7 @@ lookup_none k [] all = refl
 lookup_none k (e ∷ es) all = ap (λ b. cond b (Some e.1) (lookup (bytes_eq k) es)) all.0 ∙ lookup_none k es all.1
 
 -- the number over entries of one width, all tags below the bound
-number_is : (n : ℕ) (node : Node) (elements : Elements) (t : List ℕ) (es : List (List ℕ × Cell)) → IsDistinct bytes_eq (keys_of es) → AllByRecursion (λ e. length e.0 ≡ right_width node.kind) es
+number_is : (n : ℕ) (node : Node) (elements : Elements) (t : List ℕ) (es : List (List ℕ × TokenCount)) → IsDistinct bytes_eq (keys_of es) → AllByRecursion (λ e. length e.0 ≡ right_width node.kind) es
     → AllByRecursion (λ e. AreLow n e.0) es → number_matching node elements t es ≡ count_with n node.kind node.joins elements t (λ v. standing (right_of es v))
 unfolding IsDistinct
 number_is n node elements t [] distinct one low = sym (count_none n (right_width node.kind) (goes_with node.kind node.joins elements t) [])
@@ -47,9 +47,9 @@ number_is n node elements t (e ∷ es) distinct one low =
     let r : List ℕ → ℕ = λ v. standing (right_of es v) in
     let q : List ℕ → ℕ = λ v. standing (right_of (e ∷ es) v) in
     let same : (v : List ℕ) → v ≢ e.0 → r v ≡ q v =
-    λ v ne. ap (λ b. standing (sum_at (λ (c : Cell). c.sum) (cond b (Some e.1) (lookup (bytes_eq v) es)))) (sym (bytes_false v e.0 ne)) in
-    let gone : r e.0 ≡ 0 = ap (λ o. standing (sum_at (λ (c : Cell). c.sum) o)) (lookup_none e.0 es distinct.0) in
-    let here : q e.0 ≡ standing e.1.sum = ap (λ b. standing (sum_at (λ (c : Cell). c.sum) (cond b (Some e.1) (lookup (bytes_eq e.0) es)))) (bytes_true e.0 e.0 refl) in
+    λ v ne. ap (λ b. standing (sum_at (λ (c : TokenCount). c.sum) (cond b (Some e.1) (lookup (bytes_eq v) es)))) (sym (bytes_false v e.0 ne)) in
+    let gone : r e.0 ≡ 0 = ap (λ o. standing (sum_at (λ (c : TokenCount). c.sum) o)) (lookup_none e.0 es distinct.0) in
+    let here : q e.0 ≡ standing e.1.sum = ap (λ b. standing (sum_at (λ (c : TokenCount). c.sum) (cond b (Some e.1) (lookup (bytes_eq e.0) es)))) (bytes_true e.0 e.0 refl) in
     let before : cond (test e.0) (r e.0) 0 ≡ 0 = ap (λ z. cond (test e.0) z 0) gone ∙ nothing (test e.0) in
     let now : cond (test e.0) (q e.0) 0 ≡ cond (test e.0) (standing e.1.sum) 0 = ap (λ z. cond (test e.0) z 0) here in
     omega (arith, number_is n node elements t es distinct.1 one.1 low.1, count_one n (right_width node.kind) test r q [] e.0 one.0 low.0 same, before, now)
@@ -79,29 +79,29 @@ module _ (nodes : List Node) (s : Stored) (line : Line) (counted : IsCounted nod
         ∙ count_same (2 ^ 64) (right_width node.kind) (goes_with node.kind node.joins (held_of s) t) (goes_with node.kind node.joins (held_of s) t) (λ v. standing (right_of right v)) (standing_at (sum_in line) n Right) []
         (λ v. right_joined nodes s line counted n node at c t own v)
       where
-        right : List (List ℕ × Cell)
+        right : List (List ℕ × TokenCount)
         right = right_entries (memory_at line n c)
 
         wides : AllByRecursion (λ e. length e.0 ≡ right_width node.kind) right
         wides =
-            recursion_from_All (λ (e : List ℕ × Cell). length e.0 ≡ right_width node.kind) right
+            recursion_from_All (λ (e : List ℕ × TokenCount). length e.0 ≡ right_width node.kind) right
             (λ i d within. right_wide nodes s n node at (slice_index_or right i d).0 (right_fits nodes s line counted n c kept i d within))
 
         lows : AllByRecursion (λ e. AreLow (2 ^ 64) e.0) right
         lows =
-            recursion_from_All (λ (e : List ℕ × Cell). AreLow (2 ^ 64) e.0) right
+            recursion_from_All (λ (e : List ℕ × TokenCount). AreLow (2 ^ 64) e.0) right
             (λ i d within. right_low nodes s n node at small (slice_index_or right i d).0 (right_fits nodes s line counted n c kept i d within))
 
     -- what the line keeps with a left token, else counted
     pub blockers_are : blockers_for node (held_of s) (memory_at line n c) t ≡ matching (held_of s) node (sum_in line) n t
     blockers_are = by (memory_at line n c) refl
       where
-        by : (o : Option Memory) → memory_at line n c ≡ o → blockers_for node (held_of s) o t ≡ matching (held_of s) node (sum_in line) n t
+        by : (o : Option CodeMemory) → memory_at line n c ≡ o → blockers_for node (held_of s) o t ≡ matching (held_of s) node (sum_in line) n t
         by None mem = ap (λ o. number_matching node (held_of s) t (right_entries o)) (sym mem) ∙ number_over
         by (Some m) mem = of_cell (lookup (bytes_eq t) m.left) refl
           where
-            of_cell : (o : Option Cell) → lookup (bytes_eq t) m.left ≡ o
-                → option_map_or (λ (c : Cell). c.blockers) o (number_matching node (held_of s) t m.right) ≡ matching (held_of s) node (sum_in line) n t
+            of_cell : (o : Option TokenCount) → lookup (bytes_eq t) m.left ≡ o
+                → option_map_or (λ (c : TokenCount). c.blockers) o (number_matching node (held_of s) t m.right) ≡ matching (held_of s) node (sum_in line) n t
             of_cell None found = ap (λ o. number_matching node (held_of s) t (right_entries o)) (sym mem) ∙ number_over
             of_cell (Some k) found =
                 let is = cell_at nodes s line counted n c kept t k (ap (λ o. lookup (bytes_eq t) (left_entries o)) mem ∙ found) in

@@ -16,7 +16,7 @@ use Rattle.net_base.specs.declared.tasks.Task.{Task}
 use Rattle.net_base.specs.Sound.{IsSound, added_tags, is_negated}
 use Rattle.net_base.specs.Tokens.{Elements, goes_with, right_width}
 use Rattle.token_line.specs.declared.line.Line.{Line}
-use Rattle.token_line.specs.declared.tokens.Cell.{Cell}
+use Rattle.token_line.specs.declared.tokens.TokenCount.{TokenCount}
 use Rattle.token_line.specs.Bags.{after, standing, standing_at}
 use Rattle.token_line.specs.Held.{Agrees, Fits, TaskFits}
 use Rattle.token_line.specs.Lawful.{out_at}
@@ -24,8 +24,8 @@ use Rattle.token_line.specs.Lines.{memory_at, sum_in}
 use Rattle.token_line.specs.Numbers.{code_of}
 use Rattle.token_line.specs.Sums.{counted}
 use Rattle.activation.specs.Acting.{IsCounted, IsOutOf, matching, number_put, signed}
-use Rattle.activation.specs.Negating.{put_once, put_flipped, before_flip}
-use Rattle.activation.specs.Putting.{Put, changes, left_entries}
+use Rattle.activation.specs.inner.Negating.{put_once, put_flipped, before_flip}
+use Rattle.activation.specs.inner.Putting.{Put, changes, left_entries}
 use Rattle.activation.proofs.Agreed.{IsHeld}
 use Rattle.activation.proofs.Arrived.{other_sum, own_sum}
 use Rattle.activation.proofs.AtNode.{Kept, both_go, cell_at, joined_code, left_distinct, left_fits, left_long, left_sum_is, right_low, right_wide}
@@ -158,7 +158,7 @@ module _ (alphas : List Alpha) (nodes : List Node) (sound : IsSound alphas nodes
   -- ---- a right task
 
   module _ (e : x.side ≡ Right) (small : (tag : ℕ) → IsHeld s tag → tag < 2 ^ 64) (c : ℕ) (code : code_of (held_of s) nodes x.node x.side x.token ≡ c) (kept : Kept (memory_at line x.node c)) where
-    abbrev left : List (List ℕ × Cell)
+    abbrev left : List (List ℕ × TokenCount)
     left = left_entries (memory_at line x.node c)
 
     mine : Fits nodes s x.node Right x.token
@@ -187,7 +187,7 @@ module _ (alphas : List Alpha) (nodes : List Node) (sound : IsSound alphas nodes
         (flipped_number node (held_of s) x.token x.plus t left (left_distinct (memory_at line x.node c) kept))
         ∙ (by (lookup (bytes_eq t) left) refl ∙ ap (λ n. pos (cond (matching elements node (after (sum_in line) x) x.node t == 0) n 0)) (sym (left_stays t)))
       where
-        by : (o : Option Cell) → lookup (bytes_eq t) left ≡ o
+        by : (o : Option TokenCount) → lookup (bytes_eq t) left ≡ o
             → signed (not x.plus) (flipped_at node (held_of s) x.token x.plus t o) +ℤ pos (cond (matching elements node (sum_in line) x.node t == 0) (standing_at (sum_in line) x.node Left t) 0)
             ≡ pos (cond (matching elements node (after (sum_in line) x) x.node t == 0) (standing_at (sum_in line) x.node Left t) 0)
         by None found = of_joined (goes_with node.kind node.joins (held_of s) t x.token) refl (standing_at (sum_in line) x.node Left t) refl
@@ -205,7 +205,7 @@ module _ (alphas : List Alpha) (nodes : List Node) (sound : IsSound alphas nodes
                 → signed (not x.plus) 0 +ℤ pos (cond (matching elements node (sum_in line) x.node t == 0) (standing_at (sum_in line) x.node Left t) 0)
                 ≡ pos (cond (matching elements node (after (sum_in line) x) x.node t == 0) (standing_at (sum_in line) x.node Left t) 0)
             of_joined true q k r =
-                unstood (ap standing (left_sum_is nodes s line counts x.node c t (joined_code nodes s line counts x.node node at c x.token own_code t q) ∙ ap (λ o. sum_at (λ (k : Cell). k.sum) o) found))
+                unstood (ap standing (left_sum_is nodes s line counts x.node c t (joined_code nodes s line counts x.node node at c x.token own_code t q) ∙ ap (λ o. sum_at (λ (k : TokenCount). k.sum) o) found))
             of_joined false q zero r = unstood r
             of_joined false q (suc k) r =
                 let f = counts.fit x.node Left t (λ z. let bad : ◌≡◌ {A = ℕ} 0 (suc k) = sym (ap standing z) ∙ r in absurd (omega (arith, bad))) in
@@ -237,7 +237,7 @@ module _ (alphas : List Alpha) (nodes : List Node) (sound : IsSound alphas nodes
       fit =
           All-from_recursion (λ (p : Put). IsOutOf nodes s x.node p.token) (put_flipped node (held_of s) x.token x.plus left)
           (all_flipped node (held_of s) x.token x.plus (IsOutOf nodes s x.node) left
-          (recursion_from_All (λ (l : List ℕ × Cell). IsOutOf nodes s x.node l.0) left
+          (recursion_from_All (λ (l : List ℕ × TokenCount). IsOutOf nodes s x.node l.0) left
           (λ i d within. own_out (slice_index_or left i d).0 (left_fits nodes s line counts x.node c kept i d within))));
       change = λ elements t agrees. change_over (not x.plus) (put_flipped node (held_of s) x.token x.plus left) elements t (right_at elements t agrees);
     }

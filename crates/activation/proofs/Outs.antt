@@ -16,7 +16,7 @@ use Rattle.token_line.specs.Bags.{Bag, after, standing_at}
 use Rattle.token_line.specs.Held.{Agrees}
 use Rattle.token_line.specs.Lawful.{out_in, out_at}
 use Rattle.token_line.specs.Lines.{sum_in}
-use Rattle.activation.specs.Putting.{Put, changes}
+use Rattle.activation.specs.inner.Putting.{Put, changes}
 use Rattle.activation.specs.Acting.{IsOutOf, matching, number_put, signed}
 use Rattle.activation.proofs.Arrived.{still}
 use Rattle.activation.proofs.CountBelow.{count_same}

@@ -8,10 +8,10 @@ use Rattle.std.proofs.lemmas.Slice.Eq.{bytes_eq-Decides}
 use Rattle.net_base.specs.declared.nodes.JoinTest.{JoinTest}
 use Rattle.net_base.specs.declared.nodes.Node.{Node}
 use Rattle.net_base.specs.Tokens.{Elements, goes_with, joins_hold}
-use Rattle.token_line.specs.declared.tokens.Cell.{Cell}
+use Rattle.token_line.specs.declared.tokens.TokenCount.{TokenCount}
 use Rattle.token_line.specs.Bags.{standing}
-use Rattle.activation.specs.Negating.{put_flipped, before_flip}
-use Rattle.activation.specs.Putting.{Put, put_if, put_for_left, put_for_right}
+use Rattle.activation.specs.inner.Negating.{put_flipped, before_flip}
+use Rattle.activation.specs.inner.Putting.{Put, put_if, put_for_left, put_for_right}
 use Rattle.activation.specs.Acting.{number_put}
 use Rattle.activation.proofs.Signed.{all_append}
 
@@ -110,11 +110,11 @@ by_sum join made sum k (Some v) = refl
 
 -- ---- for a left token
 
-abbrev pub right_of : List (List ℕ × Cell) → List ℕ → ℤ
-right_of es k = sum_at (λ (c : Cell). c.sum) (lookup (bytes_eq k) es)
+abbrev pub right_of : List (List ℕ × TokenCount) → List ℕ → ℤ
+right_of es k = sum_at (λ (c : TokenCount). c.sum) (lookup (bytes_eq k) es)
 
 module _ (tests : List JoinTest) (elements : Elements) (t : List ℕ) where
-  by_keys : (k : ℕ) (es : List (List ℕ × Cell)) → AllByRecursion (λ e. length e.0 ≡ 1) es
+  by_keys : (k : ℕ) (es : List (List ℕ × TokenCount)) → AllByRecursion (λ e. length e.0 ≡ 1) es
       → AllByRecursion (λ e. bytes_eq (t ++ k ∷ []) (t ++ slice_index e.0 0 ∷ []) ≡ bytes_eq (k ∷ []) e.0) es
   by_keys k [] all = tt
   by_keys k (e ∷ es) all = (by e.0 all.0, by_keys k es all.1)
@@ -127,69 +127,69 @@ module _ (tests : List JoinTest) (elements : Elements) (t : List ℕ) where
       by (x ∷ y ∷ ys) one = absurd (omega arith)
 
   -- it with the tag k after it is put out as often as k stands, if they join
-  pub left_number : (k : ℕ) (es : List (List ℕ × Cell)) → IsDistinct bytes_eq (keys_of es) → AllByRecursion (λ e. length e.0 ≡ 1) es
+  pub left_number : (k : ℕ) (es : List (List ℕ × TokenCount)) → IsDistinct bytes_eq (keys_of es) → AllByRecursion (λ e. length e.0 ≡ 1) es
       → number_put (t ++ k ∷ []) (put_for_left tests elements t es) ≡ cond (joins_hold tests elements t k) (standing (right_of es (k ∷ []))) 0
   left_number k es distinct one =
-      number_one (λ q v. joins_hold tests elements t (slice_index q 0)) (λ q. t ++ slice_index q 0 ∷ []) (λ (c : Cell). c.sum) (t ++ k ∷ []) (k ∷ []) es distinct (by_keys k es one)
-      ∙ by_sum (λ q. joins_hold tests elements t (slice_index q 0)) (λ q. t ++ slice_index q 0 ∷ []) (λ (c : Cell). c.sum) (k ∷ []) (lookup (bytes_eq (k ∷ [])) es)
+      number_one (λ q v. joins_hold tests elements t (slice_index q 0)) (λ q. t ++ slice_index q 0 ∷ []) (λ (c : TokenCount). c.sum) (t ++ k ∷ []) (k ∷ []) es distinct (by_keys k es one)
+      ∙ by_sum (λ q. joins_hold tests elements t (slice_index q 0)) (λ q. t ++ slice_index q 0 ∷ []) (λ (c : TokenCount). c.sum) (k ∷ []) (lookup (bytes_eq (k ∷ [])) es)
 
-  all_of : (u : List ℕ) → ((x : ℕ) → u ≢ t ++ x ∷ []) → (es : List (List ℕ × Cell)) → AllByRecursion (λ e. bytes_eq u (t ++ slice_index e.0 0 ∷ []) ≡ false) es
+  all_of : (u : List ℕ) → ((x : ℕ) → u ≢ t ++ x ∷ []) → (es : List (List ℕ × TokenCount)) → AllByRecursion (λ e. bytes_eq u (t ++ slice_index e.0 0 ∷ []) ≡ false) es
   all_of u ne [] = tt
   all_of u ne (e ∷ es) = (bytes_false u (t ++ slice_index e.0 0 ∷ []) (ne (slice_index e.0 0)), all_of u ne es)
 
   -- a token that is not it with one tag more is not put out
-  pub left_none : (u : List ℕ) → ((x : ℕ) → u ≢ t ++ x ∷ []) → (es : List (List ℕ × Cell)) → number_put u (put_for_left tests elements t es) ≡ 0
-  left_none u ne es = number_none (λ q v. joins_hold tests elements t (slice_index q 0)) (λ q. t ++ slice_index q 0 ∷ []) (λ (c : Cell). c.sum) u es (all_of u ne es)
+  pub left_none : (u : List ℕ) → ((x : ℕ) → u ≢ t ++ x ∷ []) → (es : List (List ℕ × TokenCount)) → number_put u (put_for_left tests elements t es) ≡ 0
+  left_none u ne es = number_none (λ q v. joins_hold tests elements t (slice_index q 0)) (λ q. t ++ slice_index q 0 ∷ []) (λ (c : TokenCount). c.sum) u es (all_of u ne es)
 
-  pub all_left : (P : List ℕ → Type 0) (es : List (List ℕ × Cell)) → AllByRecursion (λ e. P (t ++ slice_index e.0 0 ∷ [])) es → AllByRecursion (λ p. P p.token) (put_for_left tests elements t es)
-  all_left P es all = all_puts (λ q v. joins_hold tests elements t (slice_index q 0)) (λ q. t ++ slice_index q 0 ∷ []) (λ (c : Cell). c.sum) P es all
+  pub all_left : (P : List ℕ → Type 0) (es : List (List ℕ × TokenCount)) → AllByRecursion (λ e. P (t ++ slice_index e.0 0 ∷ [])) es → AllByRecursion (λ p. P p.token) (put_for_left tests elements t es)
+  all_left P es all = all_puts (λ q v. joins_hold tests elements t (slice_index q 0)) (λ q. t ++ slice_index q 0 ∷ []) (λ (c : TokenCount). c.sum) P es all
 
 -- ---- for a right token
 
-abbrev pub left_of : List (List ℕ × Cell) → List ℕ → ℤ
-left_of es k = sum_at (λ (c : Cell). c.sum) (lookup (bytes_eq k) es)
+abbrev pub left_of : List (List ℕ × TokenCount) → List ℕ → ℤ
+left_of es k = sum_at (λ (c : TokenCount). c.sum) (lookup (bytes_eq k) es)
 
 module _ (tests : List JoinTest) (elements : Elements) (tag : ℕ) where
-  by_fronts : (f : List ℕ) (es : List (List ℕ × Cell)) → AllByRecursion (λ e. bytes_eq (f ++ tag ∷ []) (e.0 ++ tag ∷ []) ≡ bytes_eq f e.0) es
+  by_fronts : (f : List ℕ) (es : List (List ℕ × TokenCount)) → AllByRecursion (λ e. bytes_eq (f ++ tag ∷ []) (e.0 ++ tag ∷ []) ≡ bytes_eq f e.0) es
   by_fronts f [] = tt
   by_fronts f (e ∷ es) =
       (same_test (f ++ tag ∷ []) (e.0 ++ tag ∷ []) f e.0 (λ q. (same_from_push f e.0 tag tag q).0) (λ q. ap (λ z. z ++ tag ∷ []) q), by_fronts f es)
 
   -- a left token with its tag after it is put out as often as that token stands, if they join
-  pub right_number : (f : List ℕ) (es : List (List ℕ × Cell)) → IsDistinct bytes_eq (keys_of es)
+  pub right_number : (f : List ℕ) (es : List (List ℕ × TokenCount)) → IsDistinct bytes_eq (keys_of es)
       → number_put (f ++ tag ∷ []) (put_for_right tests elements tag es) ≡ cond (joins_hold tests elements f tag) (standing (left_of es f)) 0
   right_number f es distinct =
-      number_one (λ q v. joins_hold tests elements q tag) (λ q. q ++ tag ∷ []) (λ (c : Cell). c.sum) (f ++ tag ∷ []) f es distinct (by_fronts f es)
-      ∙ by_sum (λ q. joins_hold tests elements q tag) (λ q. q ++ tag ∷ []) (λ (c : Cell). c.sum) f (lookup (bytes_eq f) es)
+      number_one (λ q v. joins_hold tests elements q tag) (λ q. q ++ tag ∷ []) (λ (c : TokenCount). c.sum) (f ++ tag ∷ []) f es distinct (by_fronts f es)
+      ∙ by_sum (λ q. joins_hold tests elements q tag) (λ q. q ++ tag ∷ []) (λ (c : TokenCount). c.sum) f (lookup (bytes_eq f) es)
 
-  all_with : (u : List ℕ) → ((g : List ℕ) → u ≢ g ++ tag ∷ []) → (es : List (List ℕ × Cell)) → AllByRecursion (λ e. bytes_eq u (e.0 ++ tag ∷ []) ≡ false) es
+  all_with : (u : List ℕ) → ((g : List ℕ) → u ≢ g ++ tag ∷ []) → (es : List (List ℕ × TokenCount)) → AllByRecursion (λ e. bytes_eq u (e.0 ++ tag ∷ []) ≡ false) es
   all_with u ne [] = tt
   all_with u ne (e ∷ es) = (bytes_false u (e.0 ++ tag ∷ []) (ne e.0), all_with u ne es)
 
   -- a token that does not end with its tag is not put out
-  pub right_none : (u : List ℕ) → ((g : List ℕ) → u ≢ g ++ tag ∷ []) → (es : List (List ℕ × Cell)) → number_put u (put_for_right tests elements tag es) ≡ 0
-  right_none u ne es = number_none (λ q v. joins_hold tests elements q tag) (λ q. q ++ tag ∷ []) (λ (c : Cell). c.sum) u es (all_with u ne es)
+  pub right_none : (u : List ℕ) → ((g : List ℕ) → u ≢ g ++ tag ∷ []) → (es : List (List ℕ × TokenCount)) → number_put u (put_for_right tests elements tag es) ≡ 0
+  right_none u ne es = number_none (λ q v. joins_hold tests elements q tag) (λ q. q ++ tag ∷ []) (λ (c : TokenCount). c.sum) u es (all_with u ne es)
 
-  pub all_right : (P : List ℕ → Type 0) (es : List (List ℕ × Cell)) → AllByRecursion (λ e. P (e.0 ++ tag ∷ [])) es → AllByRecursion (λ p. P p.token) (put_for_right tests elements tag es)
-  all_right P es all = all_puts (λ q v. joins_hold tests elements q tag) (λ q. q ++ tag ∷ []) (λ (c : Cell). c.sum) P es all
+  pub all_right : (P : List ℕ → Type 0) (es : List (List ℕ × TokenCount)) → AllByRecursion (λ e. P (e.0 ++ tag ∷ [])) es → AllByRecursion (λ p. P p.token) (put_for_right tests elements tag es)
+  all_right P es all = all_puts (λ q v. joins_hold tests elements q tag) (λ q. q ++ tag ∷ []) (λ (c : TokenCount). c.sum) P es all
 
 -- ---- for a right token of a negated node
 
 module _ (node : Node) (elements : Elements) (r : List ℕ) (plus : Bool) where
   -- whether the left token is taken back or put out again
-  abbrev pub flips : List ℕ → Cell → Bool
+  abbrev pub flips : List ℕ → TokenCount → Bool
   flips q c = (c.blockers == before_flip plus) && goes_with node.kind node.joins elements q r
 
-  each_itself : (t : List ℕ) (es : List (List ℕ × Cell)) → AllByRecursion (λ e. bytes_eq t e.0 ≡ bytes_eq t e.0) es
+  each_itself : (t : List ℕ) (es : List (List ℕ × TokenCount)) → AllByRecursion (λ e. bytes_eq t e.0 ≡ bytes_eq t e.0) es
   each_itself t [] = tt
   each_itself t (e ∷ es) = (refl, each_itself t es)
 
   -- how often a left token flips, of what is kept of it
-  abbrev pub flipped_at : List ℕ → Option Cell → ℕ
+  abbrev pub flipped_at : List ℕ → Option TokenCount → ℕ
   flipped_at t o = times_at flips (λ q. q) (λ c. c.sum) t o
 
-  pub flipped_number : (t : List ℕ) (es : List (List ℕ × Cell)) → IsDistinct bytes_eq (keys_of es) → number_put t (put_flipped node elements r plus es) ≡ flipped_at t (lookup (bytes_eq t) es)
+  pub flipped_number : (t : List ℕ) (es : List (List ℕ × TokenCount)) → IsDistinct bytes_eq (keys_of es) → number_put t (put_flipped node elements r plus es) ≡ flipped_at t (lookup (bytes_eq t) es)
   flipped_number t es distinct = number_one flips (λ q. q) (λ c. c.sum) t t es distinct (each_itself t es)
 
-  pub all_flipped : (P : List ℕ → Type 0) (es : List (List ℕ × Cell)) → AllByRecursion (λ e. P e.0) es → AllByRecursion (λ p. P p.token) (put_flipped node elements r plus es)
+  pub all_flipped : (P : List ℕ → Type 0) (es : List (List ℕ × TokenCount)) → AllByRecursion (λ e. P e.0) es → AllByRecursion (λ p. P p.token) (put_flipped node elements r plus es)
   all_flipped P es all = all_puts flips (λ q. q) (λ c. c.sum) P es all

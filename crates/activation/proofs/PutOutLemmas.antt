@@ -15,13 +15,13 @@ use Rattle.net_base.specs.declared.tasks.Task.{Task}
 use Rattle.net_base.specs.Sound.{IsSound, added_tags, is_join, takes_elements}
 use Rattle.net_base.specs.Tokens.{Elements, goes_with, joins_hold, out_of_join}
 use Rattle.token_line.specs.declared.line.Line.{Line}
-use Rattle.token_line.specs.declared.tokens.Cell.{Cell}
+use Rattle.token_line.specs.declared.tokens.TokenCount.{TokenCount}
 use Rattle.token_line.specs.Bags.{after, standing, standing_at}
 use Rattle.token_line.specs.Held.{Agrees, Fits, TaskFits}
 use Rattle.token_line.specs.Lawful.{out_at}
 use Rattle.token_line.specs.Lines.{memory_at, sum_in}
 use Rattle.token_line.specs.Numbers.{code_of}
-use Rattle.activation.specs.Putting.{Put, changes, left_entries, put_for, put_for_left, put_for_right, right_entries}
+use Rattle.activation.specs.inner.Putting.{Put, changes, left_entries, put_for, put_for_left, put_for_right, right_entries}
 use Rattle.activation.specs.Acting.{IsCounted, IsOutOf, number_put, signed}
 use Rattle.activation.proofs.Agreed.{IsHeld}
 use Rattle.activation.proofs.Arrived.{other_sum, own_sum}
@@ -70,10 +70,10 @@ change_over nodes line x puts node elements t at join moved =
 module _ (alphas : List Alpha) (nodes : List Node) (sound : IsSound alphas nodes) (s : Stored) (line : Line) (x : Task) (fits : TaskFits nodes s x) (counted : IsCounted nodes s line)
     (node : Node) (at : slice_get nodes x.node ≡ Some node) (join : is_join node.kind ≡ true)
     (c : ℕ) (code : code_of (held_of s) nodes x.node x.side x.token ≡ c) (kept : Kept (memory_at line x.node c)) where
-  abbrev left : List (List ℕ × Cell)
+  abbrev left : List (List ℕ × TokenCount)
   left = left_entries (memory_at line x.node c)
 
-  abbrev right : List (List ℕ × Cell)
+  abbrev right : List (List ℕ × TokenCount)
   right = right_entries (memory_at line x.node c)
 
   held_at : (t : List ℕ) → Fits nodes s x.node Right t → IsHeld s (slice_index t 0)

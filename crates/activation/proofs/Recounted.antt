@@ -24,10 +24,10 @@ use Rattle.token_line.proofs.Fitting.{node_of}
 use Rattle.token_line.proofs.Joined.{joined_with_one_code}
 use Rattle.token_line.proofs.LineLemmas.{at_task}
 use Rattle.token_line.specs.Sums.{counted}
-use Rattle.activation.specs.Effects.{Effect}
+use Rattle.activation.specs.inner.Effects.{Effect}
 use Rattle.activation.specs.Acting.{IsCounted, IsEffect, is_last, lasts_of, matching}
-use Rattle.activation.specs.Negating.{is_matched}
-use Rattle.activation.specs.Putting.{changes}
+use Rattle.activation.specs.inner.Negating.{is_matched}
+use Rattle.activation.specs.inner.Putting.{changes}
 use Rattle.activation.proofs.Agreed.{IsHeld}
 use Rattle.activation.proofs.Arrived.{IsAt, and_false, at_place, is_at-true, other_sum, still}
 use Rattle.activation.proofs.AtNode.{right_low, right_wide, same_node}

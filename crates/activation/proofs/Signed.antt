@@ -5,8 +5,8 @@ use Rattle.std.proofs.lemmas.Int.{ints}
 use Rattle.net_base.specs.declared.tasks.Side.{Side}
 use Rattle.net_base.specs.declared.tasks.Task.{Task}
 use Rattle.token_line.specs.Bags.{are_same_sides, is_at, sign_at, signs}
-use Rattle.activation.specs.Children.{Target, child, to_each, children_of}
-use Rattle.activation.specs.Putting.{Put}
+use Rattle.activation.specs.inner.Children.{Target, child, to_each, children_of}
+use Rattle.activation.specs.inner.Putting.{Put}
 use Rattle.activation.specs.Acting.{signed, number_put}
 
 pub signed-zero : (plus : Bool) (k : ℕ) → k ≡ 0 → pos 0 ≡ signed plus k

@@ -10,15 +10,15 @@ use Rattle.net_base.specs.Sound.{is_negated, is_terminal, width}
 use Rattle.net_base.specs.Tokens.{Elements, count_with}
 use Rattle.token_line.specs.declared.line.Entry.{Entry}
 use Rattle.token_line.specs.declared.line.Line.{Line}
-use Rattle.token_line.specs.declared.memory.Memory.{Memory}
+use Rattle.token_line.specs.declared.memory.CodeMemory.{CodeMemory}
 use Rattle.token_line.specs.Bags.{Bag, after, are_same_sides, standing_at}
 use Rattle.token_line.specs.Held.{Agrees, Fits, TaskFits}
 use Rattle.token_line.specs.Lawful.{IsLawful, out_at}
 use Rattle.token_line.specs.Lines.{IsFiled, blockers_in, sum_in}
 use Rattle.token_line.specs.Numbers.{code_of}
-use Rattle.token_line.specs.Pairs.{ArePairs}
-use Rattle.activation.specs.Effects.{Effect}
-use Rattle.activation.specs.Putting.{Put, changes}
+use Rattle.token_line.specs.inner.Pairs.{ArePairs}
+use Rattle.activation.specs.inner.Effects.{Effect}
+use Rattle.activation.specs.inner.Putting.{Put, changes}
 
 -- ---- what is asked of a line
 
@@ -81,7 +81,7 @@ pub record IsEffect (nodes : List Node) (s : Stored) (line : Line) (x : Task) (e
       → blockers_in line x.node t < 2 ^ 64 - 1
 
 -- no token is kept twice on one side, and none with a sum of 0
-pub record AreKept (m : Memory) : Type 0 where
+pub record AreKept (m : CodeMemory) : Type 0 where
   pub left : ArePairs m.left
   pub right : ArePairs m.right
 

@@ -11,8 +11,8 @@ ghost use Rattle.token_line.specs.Lines.{IsFiled, KeepsCodes, blockers_in, sum_i
 ghost use Rattle.token_line.specs.Numbers.{code_of};
 ghost use Rattle.token_line.specs.Sums.{counted};
 ghost use Rattle.activation.specs.Acting.{Acts, IsCounted};
-ghost use Rattle.activation.specs.Children.{Grows};
-ghost use Rattle.activation.specs.Negating.{is_matched};
+ghost use Rattle.activation.specs.inner.Children.{Grows};
+ghost use Rattle.activation.specs.inner.Negating.{is_matched};
 
 use crate::effects::{do_at, tags_are_small, tokens_are_kept};
 use net_base::net::Net;
@@ -20,7 +20,7 @@ use net_base::nodes::{Kind, Node};
 use net_base::tasks::Task;
 use ops_base::memory::OutOfMemory;
 use std::alloc::Global;
-use token_line::{Children, Line, code_of};
+use token_line::{GhostTasks, Line, code_of};
 use work_store::Store;
 
 /// The node of the task.
@@ -104,7 +104,7 @@ fn attempt(
     tokens_are_kept(memory);
     tags_are_small(store);
     let done = do_at(alloc, store, node, memory, spot.kept(), task, out)?;
-    let children = Children::since(out, before);
+    let children = GhostTasks::since(out, before);
     line.add_at(alloc, &spot, task, children, done.blockers, is_told(node))?;
     count_blockers(net, store, line, node, task, code, done.blocks);
     Ok(())

@@ -1,14 +1,14 @@
 //! The tasks for the children of a node, of what the node puts out.
 ghost use Rattle.std.specs.Prelude.{◌≡◌, ◌++◌, IfOk, OnOk, map, replicate, ◌≤◌, vec_capacity};
 ghost use Rattle.token_line.specs.Bags.{standing};
-ghost use Rattle.activation.specs.Children.{Grows, child, children_of, targets_of, to_each};
-ghost use Rattle.activation.specs.Putting.{put_if, tagged};
+ghost use Rattle.activation.specs.inner.Children.{Grows, child, children_of, targets_of, to_each};
+ghost use Rattle.activation.specs.inner.Putting.{put_if, tagged};
 
 use net_base::tags::Tags;
 use net_base::tasks::{Side, Task};
 use ops_base::memory::OutOfMemory;
 use std::alloc::Global;
-use token_line::Cell;
+use token_line::TokenCount;
 
 /// The nodes to which a node gives, those on their left side and the groups on their right side, and whether what it
 /// puts out arrives there (`plus`) or leaves.
@@ -20,7 +20,7 @@ pub(crate) struct Below<'a> {
 }
 
 /// The token, with the tag after it where there is one.
-fn lengthened(alloc: Global, token: &[u64], tag: Option<u64>) -> Result<Tags, OutOfMemory>
+fn with_tag(alloc: Global, token: &[u64], tag: Option<u64>) -> Result<Tags, OutOfMemory>
     ensures { IfOk result (λ t. t ≡ tagged token.now tag) }
 {
     let mut made = Tags::from_slice(alloc, token)?;
@@ -53,7 +53,7 @@ fn push_to(
     ensures capacity { vec_capacity out.old ≤ vec_capacity out.new }
 {
     for _time in 0..output.times {
-        let token = lengthened(alloc, output.token, output.tag)?;
+        let token = with_tag(alloc, output.token, output.tag)?;
         out.push(Task {
             node,
             side,
@@ -118,7 +118,7 @@ pub(crate) fn push_if(
     below: Below,
     token: &[u64],
     tag: Option<u64>,
-    cell: Cell,
+    cell: TokenCount,
     out: &mut Vec<Task>,
 ) -> Result<(), OutOfMemory>
     ensures ok { OnOk result (out.new.items ≡ out.old.items ++ children_of (targets_of below.entry.children.now below.entry.rights.now) below.entry.plus (put_if holds (tagged token.now tag) cell.sum)) }

@@ -4,13 +4,13 @@ ghost use Rattle.std.specs.Option.{ForSome, option_copied, option_map_or};
 ghost use Rattle.work_store.specs.Stored.{held_of};
 ghost use Rattle.net_base.specs.Sound.{is_negated};
 ghost use Rattle.net_base.specs.declared.tasks.Side.TheVariants.{Right};
-ghost use Rattle.token_line.specs.Codes.{tokens_of};
-ghost use Rattle.token_line.specs.Pairs.{cell_of};
+ghost use Rattle.token_line.specs.inner.Codes.{tokens_of};
+ghost use Rattle.token_line.specs.inner.Pairs.{cell_of};
 ghost use Rattle.activation.specs.Acting.{AreKept};
-ghost use Rattle.activation.specs.Children.{Grows, targets};
-ghost use Rattle.activation.specs.Effects.{IsGiven, effect_at, join_effect, right_effect};
-ghost use Rattle.activation.specs.Negating.{all_have_room, put_once};
-ghost use Rattle.activation.specs.Putting.{changes, left_entries};
+ghost use Rattle.activation.specs.inner.Children.{Grows, targets};
+ghost use Rattle.activation.specs.inner.Effects.{IsGiven, effect_at, join_effect, right_effect};
+ghost use Rattle.activation.specs.inner.Negating.{all_have_room, put_once};
+ghost use Rattle.activation.specs.inner.Putting.{changes, left_entries};
 
 use crate::children::{Below, push_to_each};
 use crate::negating::{blockers_for, give_by_flip};
@@ -19,7 +19,7 @@ use net_base::nodes::{Kind, Node};
 use net_base::tasks::{Side, Task};
 use ops_base::memory::OutOfMemory;
 use std::alloc::Global;
-use token_line::{Cell, Memory};
+use token_line::{CodeMemory, TokenCount};
 use work_store::Store;
 
 /// What is still to be counted on the line once a task has given its children.
@@ -34,7 +34,7 @@ pub(crate) struct Done {
 }
 
 /// Both sides are looked at for what they say of their tokens alone.
-pub(crate) fn tokens_are_kept(memory: Option<&Memory>)
+pub(crate) fn tokens_are_kept(memory: Option<&CodeMemory>)
     ensures { ForSome (option_copied memory.entry) AreKept }
 {
     if let Some(memory) = memory {
@@ -51,7 +51,7 @@ pub(crate) fn tags_are_small(store: &Store)
 }
 
 /// Whether the task changes how often its token stands, of which so much is kept.
-fn moves(kept: Option<Cell>, task: &Task) -> bool
+fn moves(kept: Option<TokenCount>, task: &Task) -> bool
     ensures { result ≡ changes (option_map_or (λ c. c.sum) kept (pos 0)) task.now.plus }
 {
     match kept {
@@ -78,7 +78,7 @@ fn at_join(
     alloc: Global,
     store: &Store,
     node: &Node,
-    memory: Option<&Memory>,
+    memory: Option<&CodeMemory>,
     task: &Task,
     moves: bool,
     out: &mut Vec<Task>,
@@ -128,7 +128,7 @@ fn at_right(
     alloc: Global,
     store: &Store,
     node: &Node,
-    memory: Option<&Memory>,
+    memory: Option<&CodeMemory>,
     task: &Task,
     moves: bool,
     out: &mut Vec<Task>,
@@ -154,8 +154,8 @@ pub(crate) fn do_at(
     alloc: Global,
     store: &Store,
     node: &Node,
-    memory: Option<&Memory>,
-    kept: Option<Cell>,
+    memory: Option<&CodeMemory>,
+    kept: Option<TokenCount>,
     task: &Task,
     out: &mut Vec<Task>,
 ) -> Result<Done, OutOfMemory>

@@ -5,9 +5,9 @@ ghost use Rattle.std.specs.Option.{option_copied, option_map_or};
 ghost use Rattle.work_store.specs.Stored.{held_of};
 ghost use Rattle.net_base.specs.Tokens.{goes_with};
 ghost use Rattle.token_line.specs.Bags.{standing};
-ghost use Rattle.activation.specs.Children.{Grows, children_of, targets_of};
-ghost use Rattle.activation.specs.Negating.{all_have_room, before_flip, has_room, number_matching, put_flipped};
-ghost use Rattle.activation.specs.Putting.{left_entries, right_entries};
+ghost use Rattle.activation.specs.inner.Children.{Grows, children_of, targets_of};
+ghost use Rattle.activation.specs.inner.Negating.{all_have_room, before_flip, has_room, number_matching, put_flipped};
+ghost use Rattle.activation.specs.inner.Putting.{left_entries, right_entries};
 
 use crate::children::{Below, push_if, standing};
 use net_base::nodes::Node;
@@ -15,7 +15,7 @@ use net_base::tags::Tags;
 use net_base::tasks::Task;
 use ops_base::memory::OutOfMemory;
 use std::alloc::Global;
-use token_line::{Cell, Memory, Tokens, goes_with};
+use token_line::{CodeMemory, TokenCount, Tokens, goes_with};
 use work_store::Store;
 
 /// A sum that would not fit is answered as out of memory.
@@ -29,7 +29,7 @@ fn added(count: u64, more: u64) -> Result<u64, OutOfMemory>
 }
 
 /// How often a right token counts that matches, or does not.
-fn times(holds: bool, cell: Cell) -> u64
+fn times(holds: bool, cell: TokenCount) -> u64
     ensures { result ≡ (if holds then standing cell.sum else 0) }
 {
     if holds { standing(cell.sum) } else { 0 }
@@ -58,8 +58,8 @@ fn number_matching(
 pub(crate) fn blockers_for(
     store: &Store,
     node: &Node,
-    memory: Option<&Memory>,
-    kept: Option<Cell>,
+    memory: Option<&CodeMemory>,
+    kept: Option<TokenCount>,
     token: &Tags,
 ) -> Result<u64, OutOfMemory>
     ensures { IfOk result (λ n. n ≡ option_map_or (λ c. c.blockers) kept (number_matching node.now (held_of store.now) token.now (right_entries (option_copied memory.entry)))) }
@@ -81,14 +81,21 @@ fn before_flip(plus: bool) -> u64
 }
 
 /// Whether a right token blocks the left one first, or frees it.
-fn flips(store: &Store, node: &Node, token: &[u64], cell: Cell, right: &[u64], plus: bool) -> bool
+fn flips(
+    store: &Store,
+    node: &Node,
+    token: &[u64],
+    cell: TokenCount,
+    right: &[u64],
+    plus: bool,
+) -> bool
     ensures { result ≡ ((cell.blockers == before_flip plus) && goes_with node.now.kind node.now.joins (held_of store.now) token.now right.now) }
 {
     cell.blockers == before_flip(plus) && goes_with(store, node, token, right)
 }
 
 /// Whether one blocker more, or one less, can be counted.
-fn has_room(plus: bool, cell: Cell) -> bool
+fn has_room(plus: bool, cell: TokenCount) -> bool
     ensures { result ≡ has_room plus cell }
 {
     !plus || cell.blockers < u64::MAX
@@ -129,7 +136,7 @@ pub(crate) fn give_by_flip(
     alloc: Global,
     store: &Store,
     node: &Node,
-    memory: Option<&Memory>,
+    memory: Option<&CodeMemory>,
     task: &Task,
     below: Below,
     out: &mut Vec<Task>,

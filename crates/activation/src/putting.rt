@@ -2,15 +2,15 @@
 ghost use Rattle.std.specs.Prelude.{◌≡◌, ◌++◌, OnOk, ◌≤◌, vec_capacity};
 ghost use Rattle.std.specs.Option.{option_copied};
 ghost use Rattle.work_store.specs.Stored.{held_of};
-ghost use Rattle.activation.specs.Children.{Grows, children_of, targets_of};
-ghost use Rattle.activation.specs.Putting.{changes, put_for, put_for_left, put_for_right};
+ghost use Rattle.activation.specs.inner.Children.{Grows, children_of, targets_of};
+ghost use Rattle.activation.specs.inner.Putting.{changes, put_for, put_for_left, put_for_right};
 
 use crate::children::{Below, push_if};
 use net_base::nodes::JoinTest;
 use net_base::tasks::{Side, Task};
 use ops_base::memory::OutOfMemory;
 use std::alloc::Global;
-use token_line::{Memory, Tokens, joins, joins_element, tag_at};
+use token_line::{CodeMemory, Tokens, joins, joins_element, tag_at};
 use work_store::Store;
 
 /// Whether one insert or delete more changes how often a token of this sum stands. A delete that comes before its
@@ -73,7 +73,7 @@ pub(crate) fn give_by_join(
     alloc: Global,
     store: &Store,
     tests: &[JoinTest],
-    memory: Option<&Memory>,
+    memory: Option<&CodeMemory>,
     task: &Task,
     below: Below,
     out: &mut Vec<Task>,

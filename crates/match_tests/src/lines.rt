@@ -14,7 +14,7 @@ use ops_base::memory::OutOfMemory;
 use ops_base::values::{Pred, Value};
 use std::alloc::Global;
 use std::test::Fail;
-use token_line::children::Children;
+use token_line::GhostTasks;
 use token_line::joining::{joins, tag_at};
 use token_line::line::Line;
 use token_line::number::{code_of, line_of};
@@ -46,7 +46,7 @@ fn bring(
 {
     let task = task_of(alloc, side, plus, tags)?;
     let code = tag_at(tags, 0) % 3;
-    line.add(alloc, code, &task, Children::none(alloc), 0)
+    line.add(alloc, code, &task, GhostTasks::none(alloc), 0)
 }
 
 fn come(alloc: Global, line: &mut Line, side: Side, plus: bool) -> Result<(), OutOfMemory>
@@ -203,7 +203,7 @@ fn line_of_one(alloc: Global, blockers: u64) -> Result<Line, OutOfMemory>
 {
     let mut line = Line::new(alloc, 7);
     let task = task_of(alloc, Side::Left, true, &[2])?;
-    line.add(alloc, 5, &task, Children::none(alloc), blockers)?;
+    line.add(alloc, 5, &task, GhostTasks::none(alloc), blockers)?;
     Ok(line)
 }
 

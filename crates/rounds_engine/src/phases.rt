@@ -42,7 +42,11 @@ const MANY_IN_FLIGHT: usize = 256;
 
 /// How many tasks in flight end the work on the calling thread, if rounds can be shared at all.
 fn most_alone(shards: usize) -> Option<usize> {
-    if shards == 1 { None } else { Some(MANY_IN_FLIGHT) }
+    if shards == 1 {
+        None
+    } else {
+        Some(MANY_IN_FLIGHT)
+    }
 }
 
 /// The shard of the line of the task in flight at that place, at the cost of `World::line_at`.

@@ -8,7 +8,7 @@ use crate::ground::Ground;
 use net_base::tasks::Task;
 use ops_base::memory::OutOfMemory;
 use std::alloc::Global;
-use token_line::{Place, place_of};
+use token_line::{LineAndCode, place_of};
 
 /// How many tasks the shards beside the largest one must have, on average, to be worth a thread each.
 const LEAST_TASKS_FOR_A_WORKER: usize = 64;
@@ -110,7 +110,7 @@ pub(crate) fn deal(ground: &Ground<'_>, tasks: Vec<Task>) -> Result<Vec<Shard>, 
 {
     let mut dealt = bare_shards(ground.alloc, ground.shards, ground.lines)?;
     for task in tasks {
-        let Place { line, code } = place_of(ground.net, ground.store, &task, ground.lines);
+        let LineAndCode { line, code } = place_of(ground.net, ground.store, &task, ground.lines);
         let shard = shard_of(line, ground.shards, ground.lines);
         dealt[shard].take(Placed { line, code, task })?;
     }
@@ -162,5 +162,6 @@ pub(crate) fn pays(shards: &[Shard], met: bool) -> bool {
         all = all.saturating_add(tasks);
         most = most.max(tasks);
     }
-    busy > 1 && (!met || all.saturating_sub(most) >= LEAST_TASKS_FOR_A_WORKER.saturating_mul(busy - 1))
+    busy > 1
+        && (!met || all.saturating_sub(most) >= LEAST_TASKS_FOR_A_WORKER.saturating_mul(busy - 1))
 }

@@ -12,7 +12,7 @@ use Rattle.step_core.specs.Machine.{Placing, Seen, Steps, Clear, cleared}
 use Rattle.step_core.specs.Phases.{HoldJust, sums_over, now, IsBundle}
 use Rattle.step_core.specs.Laws.{AreEmpty, IsAtRest, SettleLaw}
 use Rattle.step_core.specs.Settling.{PlacedLaw}
-use Rattle.step_core.specs.Doing.{entry_of}
+use Rattle.step_core.specs.inner.Doing.{entry_of}
 use Rattle.step_core.specs.Worlds.{placed, seen, world_of, numbers_of}
 use Rattle.serial_engine.specs.Running.{HasRun, Went, IsBundleOf}
 use Rattle.serial_engine.proofs.StepLemmas.{same_count}

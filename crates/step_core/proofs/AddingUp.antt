@@ -19,7 +19,7 @@ use Rattle.ops_base.proofs.Members.{IsMember, member_cases, member_left, member_
 use Rattle.token_line.specs.Bags.{sign}
 use Rattle.step_core.specs.declared.gathering.Moved.{Moved}
 use Rattle.step_core.specs.declared.gathering.Total.{Total}
-use Rattle.step_core.specs.Gathering.{is_same, begun, counted_in, counted_last, added, is_of}
+use Rattle.step_core.specs.inner.Gathering.{is_same, begun, counted_in, counted_last, added, is_of}
 
 -- ---- the same instantiation
 

@@ -17,7 +17,7 @@ use Rattle.token_line.specs.Lines.{KeepsCodes, blockers_in, sum_in}
 use Rattle.token_line.proofs.Filed.{filed_stands}
 use Rattle.activation.specs.Acting.{IsCounted, lasts_of, matching}
 use Rattle.step_core.specs.Machine.{root_part}
-use Rattle.step_core.specs.Starts.{IsBegun}
+use Rattle.step_core.specs.inner.Starts.{IsBegun}
 use Rattle.step_core.proofs.Adding.{bag_ext}
 use Rattle.step_core.proofs.RootTokens.{IsRootToken, root_code, root_token}
 

@@ -15,7 +15,7 @@ use Rattle.activation.specs.Acting.{TellsOfLasts, is_last}
 use Rattle.step_core.specs.Machine.{Seen}
 use Rattle.step_core.specs.Phases.{tasks_of}
 use Rattle.step_core.specs.Worlds.{seen}
-use Rattle.step_core.specs.Gathering.{moved_by, moved_on, moved_to, rule_in}
+use Rattle.step_core.specs.inner.Gathering.{moved_by, moved_on, moved_to, rule_in}
 
 -- a task that comes to no terminal moves nothing
 not_last : (o : Option Node) (d : Side) → option_map_or (λ n. is_terminal n.kind) o false ≡ false → rule_in o d ≡ None

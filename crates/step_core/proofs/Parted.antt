@@ -7,7 +7,7 @@ use Rattle.net_base.proofs.Apart.{NoTwice}
 use Rattle.net_base.proofs.FeedLemmas.{number_in, number_of, numbers_apart, numbers_more, get_low}
 use Rattle.token_line.specs.declared.line.Entry.{Entry}
 use Rattle.token_line.specs.declared.line.Line.{Line}
-use Rattle.step_core.specs.Worked.{AreWorked, has_entries}
+use Rattle.step_core.specs.inner.Worked.{AreWorked, has_entries}
 
 not_false : (b : Bool) → not b ≡ false → b ≡ true
 not_false true q = refl

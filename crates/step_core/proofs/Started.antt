@@ -22,7 +22,7 @@ use Rattle.token_line.specs.Lines.{sum_in}
 use Rattle.token_line.specs.Numbers.{codes_at, mixed, own_codes}
 use Rattle.activation.specs.Acting.{IsCounted}
 use Rattle.step_core.specs.Machine.{Seen, root_part, sums_at_start, on_line, lines_at_start}
-use Rattle.step_core.specs.Starts.{AreBegun, IsBegun, given_below}
+use Rattle.step_core.specs.inner.Starts.{AreBegun, IsBegun, given_below}
 use Rattle.step_core.specs.Worlds.{placed, seen}
 use Rattle.step_core.proofs.Adding.{bag_ext}
 use Rattle.step_core.proofs.Counted.{counted_begun}

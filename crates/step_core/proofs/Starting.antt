@@ -18,7 +18,7 @@ use Rattle.token_line.specs.Lines.{IsFiled, KeepsCodesBut, filed_in, sum_in}
 use Rattle.token_line.proofs.Filed.{nothing}
 use Rattle.token_line.proofs.LineLemmas.{at_task}
 use Rattle.step_core.specs.Machine.{root_part}
-use Rattle.step_core.specs.Starts.{AreUnused, AreBegun, IsBare, IsBegun, given_below, root_task}
+use Rattle.step_core.specs.inner.Starts.{AreUnused, AreBegun, IsBare, IsBegun, given_below, root_task}
 use Rattle.step_core.proofs.Signs.{sign_at-none}
 
 -- ---- each in a list, with its number

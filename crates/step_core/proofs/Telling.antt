@@ -7,7 +7,7 @@ use Rattle.std.specs.Option.{option_to_list}
 use Rattle.ops_base.specs.declared.rules.Inst.{Inst}
 use Rattle.step_core.specs.declared.gathering.Moved.{Moved}
 use Rattle.step_core.specs.declared.gathering.Total.{Total}
-use Rattle.step_core.specs.Gathering.{AreToldBut, HaveAtHand, added, begun, counted_in, has_come, has_gone, is_same}
+use Rattle.step_core.specs.inner.Gathering.{AreToldBut, HaveAtHand, added, begun, counted_in, has_come, has_gone, is_same}
 use Rattle.step_core.proofs.AddingUp.{added-end, at_end, change_fits}
 
 -- ---- what an option holds

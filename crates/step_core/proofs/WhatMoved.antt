@@ -27,7 +27,7 @@ use Rattle.step_core.specs.Found.{inst}
 use Rattle.step_core.specs.Settling.{HaveOwnLines, IsGathered, Stands}
 use Rattle.step_core.specs.declared.gathering.Moved.{Moved}
 use Rattle.step_core.specs.declared.gathering.Total.{Total}
-use Rattle.step_core.specs.Gathering.{AreTold, added, has_come, has_gone, is_moved, is_same, moved_by, moved_on, moved_over, moved_to, rule_in}
+use Rattle.step_core.specs.inner.Gathering.{AreTold, added, has_come, has_gone, is_moved, is_same, moved_by, moved_on, moved_over, moved_to, rule_in}
 use Rattle.step_core.proofs.AddingUp.{AreTotals, ByInst, is_same-itself, is_same-true, moved_change, moved_change-append, moved_change-permutation, own_change, some_total, sorted_totals, total_change}
 use Rattle.step_core.proofs.Resting.{only_here}
 

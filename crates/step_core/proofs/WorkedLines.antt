@@ -4,7 +4,7 @@ use Rattle.std.proofs.lemmas.List.{length-set}
 use Rattle.std.proofs.lemmas.Option.{slice_get_read, slice_get_within}
 use Rattle.token_line.specs.declared.line.Entry.{Entry}
 use Rattle.token_line.specs.declared.line.Line.{Line}
-use Rattle.step_core.specs.Worked.{AreWorked}
+use Rattle.step_core.specs.inner.Worked.{AreWorked}
 use Rattle.step_core.proofs.ListPlaces.{get_left, get_last, get_push, get_set}
 
 module _ (ls : List Line) (k : ℕ) (old new : Line) (worked : List ℕ) (told : AreWorked ls worked) (low : k < length ls) (is : old ≡ get_or ls k old) where

@@ -14,10 +14,10 @@ use Rattle.net_base.specs.declared.nodes.Node.{Node}
 use Rattle.token_line.specs.declared.line.Entry.{Entry}
 use Rattle.token_line.specs.declared.line.Line.{Line}
 use Rattle.step_core.specs.Machine.{Seen}
-use Rattle.step_core.specs.Worked.{AreWorked}
+use Rattle.step_core.specs.inner.Worked.{AreWorked}
 use Rattle.step_core.specs.Worlds.{seen}
 use Rattle.step_core.specs.declared.gathering.Moved.{Moved}
-use Rattle.step_core.specs.Gathering.{moved_at, moved_in, moved_on, moved_over}
+use Rattle.step_core.specs.inner.Gathering.{moved_at, moved_in, moved_on, moved_over}
 use Rattle.step_core.proofs.AddingUp.{member_got, moved_change, moved_change-append}
 
 -- ---- sums over places

@@ -4,11 +4,8 @@ pub mod Phases
 pub mod Rounds
 pub mod Laws
 pub mod Feeding
-pub mod Starts
-pub mod Worked
-pub mod Doing
+pub mod inner
 pub mod Worlds
 pub mod Working
 pub mod Found
 pub mod Settling
-pub mod Gathering

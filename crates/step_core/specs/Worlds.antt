@@ -16,7 +16,7 @@ use Rattle.step_core.specs.declared.world.Step.{Step}
 use Rattle.step_core.specs.declared.world.Step.TheVariants.{Feed, Activate, Finish}
 use Rattle.step_core.specs.declared.world.World.{World}
 use Rattle.step_core.specs.declared.world.Parts.{Parts}
-use Rattle.step_core.specs.Doing.{entry_of}
+use Rattle.step_core.specs.inner.Doing.{entry_of}
 use Rattle.step_core.specs.Machine.{Placing, Seen, Steps, add_entry, place_of, sums_at}
 use Rattle.step_core.specs.Machine
 use Rattle.step_core.specs.Feeding.{IsKnown}

@@ -1,7 +1,7 @@
 //! What was done and is not finished yet.
 ghost use Rattle.std.specs.Prelude.{◌≡◌, ◌≤◌, ◌<◌, ◌+◌, ◌∷◌, ◌++◌, [], length, map, remove, set, slice_get, Some, vec_len, vec_capacity};
 ghost use Rattle.net_base.specs.declared.tasks.Task.{Task};
-ghost use Rattle.step_core.specs.Doing.{entry_of};
+ghost use Rattle.step_core.specs.inner.Doing.{entry_of};
 
 use net_base::tags::Tags;
 use net_base::tasks::{Side, Task};

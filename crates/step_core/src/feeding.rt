@@ -4,7 +4,7 @@ ghost use Rattle.std.specs.List.Sorted.{IsPermutation, IsSorted};
 ghost use Rattle.std.specs.Ordering.{nat_cmp};
 ghost use Rattle.net_base.specs.Tokens.{Elements};
 ghost use Rattle.token_line.specs.Held.{Agrees, TaskFits};
-ghost use Rattle.activation.specs.Children.{Grows};
+ghost use Rattle.activation.specs.inner.Children.{Grows};
 ghost use Rattle.step_core.specs.Machine.{fed_by, passes_in, tasks_below};
 ghost use Rattle.step_core.specs.Feeding.{AreTakers, IsKnown, right_task};
 

@@ -7,10 +7,10 @@ ghost use Rattle.ops_base.specs.Instances.{by_rule_and_tags};
 ghost use Rattle.token_line.specs.Bags.{sign};
 ghost use Rattle.activation.specs.Acting.{TellsOfLasts};
 ghost use Rattle.step_core.specs.Phases.{before, now, total};
-ghost use Rattle.step_core.specs.Worked.{AreWorked};
+ghost use Rattle.step_core.specs.inner.Worked.{AreWorked};
 ghost use Rattle.step_core.specs.Worlds.{seen};
 ghost use Rattle.step_core.specs.Found.{inst};
-ghost use Rattle.step_core.specs.Gathering.{AreTold, AreToldBut, added, begun, has_come, has_gone, is_same, moved_at, moved_by, moved_on, moved_over, rule_in};
+ghost use Rattle.step_core.specs.inner.Gathering.{AreTold, AreToldBut, added, begun, has_come, has_gone, is_same, moved_at, moved_by, moved_on, moved_over, rule_in};
 ghost use Rattle.step_core.specs.Settling.{HaveOwnLines, IsGathered};
 
 use net_base::net::Net;

@@ -4,14 +4,14 @@ ghost use Rattle.net_base.specs.declared.tasks.Side.{Side};
 ghost use Rattle.net_base.specs.declared.tasks.Side.TheVariants.{Left};
 ghost use Rattle.token_line.specs.Bags.{after};
 ghost use Rattle.token_line.specs.Lines.{IsAlone, KeepsCodesBut, sum_in};
-ghost use Rattle.step_core.specs.Starts.{AreBegun, AreUnused, root_task};
+ghost use Rattle.step_core.specs.inner.Starts.{AreBegun, AreUnused, root_task};
 
 use net_base::net::Net;
 use net_base::tags::Tags;
 use net_base::tasks::{Side, Task};
 use ops_base::memory::OutOfMemory;
 use std::alloc::Global;
-use token_line::{Children, Line};
+use token_line::{GhostTasks, Line};
 
 /// This many lines with no tokens.
 fn bare_lines(alloc: Global, count: usize) -> Result<Vec<Line>, OutOfMemory>
@@ -40,7 +40,7 @@ fn give_root(alloc: Global, line: &mut Line, node: usize) -> Result<(), OutOfMem
         plus: true,
         token: Tags::new(alloc),
     };
-    line.add(alloc, node as u64, &task, Children::none(alloc), 0)?;
+    line.add(alloc, node as u64, &task, GhostTasks::none(alloc), 0)?;
     line.clear_phase();
     Ok(())
 }

@@ -6,7 +6,7 @@ ghost use Rattle.net_base.specs.declared.nodes.Node.{Node};
 ghost use Rattle.token_line.specs.Held.{TaskFits};
 ghost use Rattle.activation.specs.Acting.{IsCounted};
 ghost use Rattle.step_core.specs.Machine.{cleared};
-ghost use Rattle.step_core.specs.Worked.{AreWorked};
+ghost use Rattle.step_core.specs.inner.Worked.{AreWorked};
 ghost use Rattle.step_core.specs.Worlds.{ActsOn, line_of_task, seen};
 
 use activation::activate_coded;

@@ -2,7 +2,7 @@
 //! cleared.
 ghost use Rattle.std.specs.Prelude.{◌≡◌, ◌≤◌, ◌<◌, ◌+◌, ◌-◌, length, remove, slice_get, Some};
 ghost use Rattle.net_base.specs.declared.tasks.Task.{Task};
-ghost use Rattle.step_core.specs.Worked.{AreWorked};
+ghost use Rattle.step_core.specs.inner.Worked.{AreWorked};
 
 use crate::done::{Done, deliver, lift, move_to_done};
 use crate::feeding::add_fed;

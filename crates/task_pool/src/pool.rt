@@ -11,7 +11,7 @@ use std::alloc::Global;
 use std::collections::VecDeque;
 use std::mem::replace;
 use std::snapshot::Snapshot;
-use token_line::{Children, Deed};
+use token_line::{GhostTask, GhostTasks};
 
 /// What a take answers: the first task that waits, or why there is none.
 #[derive(Drop)]
@@ -29,8 +29,8 @@ pub enum Taken {
 /// What a worker did in the pool. The tasks in it are for contracts alone.
 #[derive(Drop)]
 pub enum PoolEntry {
-    Take { worker: usize, task: Deed },
-    Finish { worker: usize, children: Children },
+    Take { worker: usize, task: GhostTask },
+    Finish { worker: usize, children: GhostTasks },
     Stop { worker: usize },
 }
 
@@ -102,7 +102,7 @@ impl Pool {
             Some(task) => {
                 self.entries.push_reserved(PoolEntry::Take {
                     worker,
-                    task: Deed::of(&task),
+                    task: GhostTask::of(&task),
                 });
                 self.unfinished += 1;
                 Taken::Task(task)
@@ -145,7 +145,7 @@ impl Pool {
         self.entries.reserve(waiting + self.unfinished + waiting)?;
         self.entries.push_reserved(PoolEntry::Finish {
             worker,
-            children: Children::since(children, 0),
+            children: GhostTasks::since(children, 0),
         });
         self.unfinished -= 1;
         deliver(&mut self.queue, replace(children, Vec::new(alloc)));

@@ -5,8 +5,8 @@ use Rattle.std.specs.Map.{lookup}
 use Rattle.std.specs.Option.{option_map, option_map_or}
 use Rattle.std.proofs.lemmas.Option.{slice_get-get_or}
 use Rattle.indexmap.specs.IndexMap.{set_value_at}
-use Rattle.token_line.specs.declared.tokens.Cell.{Cell}
-use Rattle.token_line.specs.Pairs.{ArePairs, Pairs, cell_of}
+use Rattle.token_line.specs.declared.tokens.TokenCount.{TokenCount}
+use Rattle.token_line.specs.inner.Pairs.{ArePairs, Pairs, cell_of}
 use Rattle.token_line.specs.Sums.{blocked, blockers_of, kept_sum}
 use Rattle.token_line.proofs.PairLemmas.{Pair, cell_at, no_pair, same_bytes}
 
@@ -86,6 +86,6 @@ pub room_at_each : (bound : ℕ) (kept : Pairs) → ArePairs kept → ((t : List
 room_at_each bound kept are room i d within =
     let e = slice_index_or kept i d in
     let at : cell_of kept e.0 ≡ Some e.1 = cell_at kept are i e.0 e.1 (slice_get-get_or kept i d within) in
-    let sum : kept_sum kept e.0 ≡ e.1.sum = ap (λ o. option_map_or (λ (c : Cell). c.sum) o (pos 0)) at in
-    let number : blockers_of kept e.0 ≡ e.1.blockers = ap (λ o. option_map_or (λ (c : Cell). c.blockers) o 0) at in
+    let sum : kept_sum kept e.0 ≡ e.1.sum = ap (λ o. option_map_or (λ (c : TokenCount). c.sum) o (pos 0)) at in
+    let number : blockers_of kept e.0 ≡ e.1.blockers = ap (λ o. option_map_or (λ (c : TokenCount). c.blockers) o 0) at in
     subst (λ k. k < bound) number (room e.0 (λ z. are.some e.0 e.1 at (sym sum ∙ z)))

@@ -3,7 +3,7 @@ use Rattle.std.proofs.Common.{◌≡◌, ◌≢◌, ℕ, ◌⊎◌, inl, inr, tr
 use Rattle.net_base.specs.declared.tasks.Side.{Side}
 use Rattle.net_base.specs.declared.tasks.Task.{Task}
 use Rattle.token_line.specs.declared.line.Line.{Line}
-use Rattle.token_line.specs.declared.tokens.Cell.{Cell}
+use Rattle.token_line.specs.declared.tokens.TokenCount.{TokenCount}
 use Rattle.token_line.specs.Bags.{is_at}
 use Rattle.token_line.specs.Coded.{HasCodes}
 use Rattle.token_line.specs.Lines.{IsAlone, IsFiled, KeepsCodes, KeepsCodesBut, filed_in, sum_in}
@@ -17,7 +17,7 @@ module _ (f : List ℕ → ℕ) where
   pub coded_alone : (line : Line) → HasCodes f line → (n c : ℕ) (s : Side) (t : List ℕ) → c ≡ f t → IsAlone line n c s t
   coded_alone line codes n c s t own d ne = by (filed_in line n d s t) refl
     where
-      by : (o : Option Cell) → filed_in line n d s t ≡ o → o ≡ None
+      by : (o : Option TokenCount) → filed_in line n d s t ≡ o → o ≡ None
       by None q = refl
       by (Some k) q = absurd (ne (codes n d s t (subst IsSome (sym q) refl) ∙ sym own))
 

@@ -8,13 +8,13 @@ use Rattle.net_base.specs.declared.tasks.Side.{Side}
 use Rattle.net_base.specs.declared.tasks.Side.TheVariants.{Left}
 use Rattle.net_base.specs.declared.tasks.Task.{Task}
 use Rattle.token_line.specs.declared.line.Line.{Line}
-use Rattle.token_line.specs.declared.memory.Memory.{Memory}
-use Rattle.token_line.specs.declared.memories.Memories.{Memories}
-use Rattle.token_line.specs.declared.tokens.Cell.{Cell}
+use Rattle.token_line.specs.declared.memory.CodeMemory.{CodeMemory}
+use Rattle.token_line.specs.declared.memories.NodeMemory.{NodeMemory}
+use Rattle.token_line.specs.declared.tokens.TokenCount.{TokenCount}
 use Rattle.token_line.specs.Bags.{are_same_sides, is_at}
-use Rattle.token_line.specs.Codes.{AreApart, HaveSums, cell_among, cell_blocked, cell_under, codes_among, filed_among, first_some, memory_of, tokens_of}
+use Rattle.token_line.specs.inner.Codes.{AreApart, HaveSums, cell_among, cell_blocked, cell_under, codes_among, filed_among, first_some, memory_of, tokens_of}
 use Rattle.token_line.specs.Lines.{IsFiled, filed_in, sum_in}
-use Rattle.token_line.specs.Pairs.{cell_of}
+use Rattle.token_line.specs.inner.Pairs.{cell_of}
 use Rattle.token_line.specs.Sums.{blocked, blockers_kept, counted, side_of, sum_kept}
 use Rattle.token_line.proofs.LineLemmas.{at_task}
 
@@ -52,14 +52,14 @@ module _ {X : Type 0} (f : ℕ → Option X) where
 -- ---- the tokens of one side of a node
 
 module _ (s : Side) (t : List ℕ) where
-  abbrev filed : Option Memories → ℕ → Option Cell
+  abbrev filed : Option NodeMemory → ℕ → Option TokenCount
   filed o c = cell_of (tokens_of (memory_of o c) s) t
 
-  abbrev first : Option Memories → Option Cell
+  abbrev first : Option NodeMemory → Option TokenCount
   first o = first_some (filed o) (codes_among o)
 
   -- nothing is kept under any code where nothing is under those that are there
-  all_none : (o : Option Memories) → first o ≡ None → (c : ℕ) → filed o c ≡ None
+  all_none : (o : Option NodeMemory) → first o ≡ None → (c : ℕ) → filed o c ≡ None
   all_none None none c = refl
   all_none (Some m) none c =
       let both = none_head (filed (Some m)) (filed (Some m) m.code) (first_some (filed (Some m)) (keys_of m.others)) none in
@@ -71,10 +71,10 @@ module _ (s : Side) (t : List ℕ) where
       by own (inr none) false q = none
 
   -- a token that is kept under no other code
-  pub alone_first : (o : Option Memories) (c : ℕ) → ((d : ℕ) → d ≢ c → filed o d ≡ None) → first o ≡ filed o c
+  pub alone_first : (o : Option NodeMemory) (c : ℕ) → ((d : ℕ) → d ≢ c → filed o d ≡ None) → first o ≡ filed o c
   alone_first o c alone = by (first o) refl
     where
-      by : (p : Option Cell) → first o ≡ p → p ≡ filed o c
+      by : (p : Option TokenCount) → first o ≡ p → p ≡ filed o c
       by None none = sym (all_none o none c)
       by (Some x) is = let own = some_first (filed o) (codes_among o) x is in at own.0 own.1 (cases_eq own.0 c)
         where
@@ -86,15 +86,15 @@ module _ (s : Side) (t : List ℕ) where
   some_is o x e = subst IsSome (sym e) refl
 
   -- each code that a token has is the one at which it is found, where there is but one
-  pub others_none : (o : Option Memories) (c : ℕ) → ((c d : ℕ) → IsSome (filed o c) → IsSome (filed o d) → c ≡ d) → IsSome (filed o c) → (d : ℕ) → d ≢ c → filed o d ≡ None
+  pub others_none : (o : Option NodeMemory) (c : ℕ) → ((c d : ℕ) → IsSome (filed o c) → IsSome (filed o d) → c ≡ d) → IsSome (filed o c) → (d : ℕ) → d ≢ c → filed o d ≡ None
   others_none o c apart some d ne = by (filed o d) refl
     where
-      by : (p : Option Cell) → filed o d ≡ p → p ≡ None
+      by : (p : Option TokenCount) → filed o d ≡ p → p ≡ None
       by None q = refl
       by (Some x) q = absurd (ne (apart d c (some_is (filed o d) x q) some))
 
   -- where each code has what follows from what it had, so has the token
-  module _ (old new : Option Memories) (change : ℕ → Option Cell → Option Cell) (none : (c : ℕ) → change c None ≡ None) (is : (c : ℕ) → filed new c ≡ change c (filed old c))
+  module _ (old new : Option NodeMemory) (change : ℕ → Option TokenCount → Option TokenCount) (none : (c : ℕ) → change c None ≡ None) (is : (c : ℕ) → filed new c ≡ change c (filed old c))
       (apart : (c d : ℕ) → IsSome (filed old c) → IsSome (filed old d) → c ≡ d) where
     record Changed (c : ℕ) : Type 0 where
       pub before : first old ≡ filed old c
@@ -107,7 +107,7 @@ module _ (s : Side) (t : List ℕ) where
         moved : (d : ℕ) → filed old d ≡ None → filed new d ≡ None
         moved d e = is d ∙ (ap (change d) e ∙ none d)
 
-        by : (p : Option Cell) → first old ≡ p → (c : ℕ) × Changed c
+        by : (p : Option TokenCount) → first old ≡ p → (c : ℕ) × Changed c
         by None q = (0, record { before = alone_first old 0 (λ d ne. all_none old q d); after = alone_first new 0 (λ d ne. moved d (all_none old q d)) })
         by (Some x) q =
             let own = some_first (filed old) (codes_among old) x q in
@@ -119,7 +119,7 @@ module _ (s : Side) (t : List ℕ) where
 
 -- ---- a node's first memory
 
-pub fresh_cells : (m : Memories) (code : ℕ) (first : Memory) → m.code ≡ code → m.first ≡ first → m.others ≡ []
+pub fresh_cells : (m : NodeMemory) (code : ℕ) (first : CodeMemory) → m.code ≡ code → m.first ≡ first → m.others ≡ []
     → (c : ℕ) (s : Side) (t : List ℕ) → cell_under m c s t ≡ cond (c == code) (cell_of (side_of first s) t) None
 fresh_cells m code first own is none c s t = ap (λ k. cell_of (tokens_of (cond (c == k) (Some m.first) (lookup (nat_eq c) m.others)) s) t) own ∙ by (c == code)
   where
@@ -153,7 +153,7 @@ nothing o none some = true≢false (sym some ∙ ap is_some none)
 
 -- ---- all memories of a line
 
-module _ (old : List (ℕ × Memories)) where
+module _ (old : List (ℕ × NodeMemory)) where
   pub alone_cell : (n c : ℕ) (s : Side) (t : List ℕ) → ((d : ℕ) → d ≢ c → filed_among old n d s t ≡ None) → cell_among old n s t ≡ filed_among old n c s t
   alone_cell n c s t alone = alone_first s t (lookup (nat_eq n) old) c alone
 
@@ -163,7 +163,7 @@ module _ (old : List (ℕ × Memories)) where
     filed_cell n c s t some = alone_cell n c s t (others_none s t (lookup (nat_eq n) old) c (λ a b. apart n a b s t) some)
 
     -- where the same is kept under each code
-    module _ (new : List (ℕ × Memories)) (same : (n c : ℕ) (s : Side) (t : List ℕ) → filed_among new n c s t ≡ filed_among old n c s t) where
+    module _ (new : List (ℕ × NodeMemory)) (same : (n c : ℕ) (s : Side) (t : List ℕ) → filed_among new n c s t ≡ filed_among old n c s t) where
       pub same_cells : (n : ℕ) (s : Side) (t : List ℕ) → cell_among new n s t ≡ cell_among old n s t
       same_cells n s t =
           let both = changes_first s t (lookup (nat_eq n) old) (lookup (nat_eq n) new) (λ c o. o) (λ c. refl) (λ c. same n c s t) (λ a b. apart n a b s t) in
@@ -187,7 +187,7 @@ filed_stands line n c s t some =
 pub kept_under : (line : Line) (n : ℕ) (s : Side) (t : List ℕ) → sum_in line n s t ≢ pos 0 → (c : ℕ) × IsFiled line n c s t
 kept_under line n s t ne = by (cell_among line.memories n s t) refl
   where
-    by : (o : Option Cell) → cell_among line.memories n s t ≡ o → (c : ℕ) × IsFiled line n c s t
+    by : (o : Option TokenCount) → cell_among line.memories n s t ≡ o → (c : ℕ) × IsFiled line n c s t
     by None q = absurd (ne (ap sum_kept q))
     by (Some k) q =
         let own = some_first (λ c. filed_in line n c s t) (codes_among (lookup (nat_eq n) line.memories)) k q in
@@ -195,7 +195,7 @@ kept_under line n s t ne = by (cell_among line.memories n s t) refl
 
 -- ---- once something else is kept of the token of a task
 
-module _ (old new : List (ℕ × Memories)) (apart : AreApart old) (x : Task) (code : ℕ) (cell : Option Cell)
+module _ (old new : List (ℕ × NodeMemory)) (apart : AreApart old) (x : Task) (code : ℕ) (cell : Option TokenCount)
     (alone : (d : ℕ) → d ≢ code → filed_among old x.node d x.side x.token ≡ None)
     (written : (n c : ℕ) (s : Side) (t : List ℕ) → filed_among new n c s t ≡ cond ((c == code) && is_at n s t x) cell (filed_among old n c s t)) where
   elsewhere : (n c : ℕ) (s : Side) (t : List ℕ) → is_at n s t x ≡ false → filed_among new n c s t ≡ filed_among old n c s t
@@ -239,13 +239,13 @@ module _ (old new : List (ℕ × Memories)) (apart : AreApart old) (x : Task) (c
       by true q = inr (own_code n c s t q some, refl)
       by false q = inl (subst IsSome (elsewhere n c s t q) some)
 
-pub put_sums : (old new : List (ℕ × Memories)) (x : Task) (code : ℕ) (cell : Option Cell) → IfSome cell (λ c. c.sum ≢ pos 0) → HaveSums old
+pub put_sums : (old new : List (ℕ × NodeMemory)) (x : Task) (code : ℕ) (cell : Option TokenCount) → IfSome cell (λ c. c.sum ≢ pos 0) → HaveSums old
     → ((n c : ℕ) (s : Side) (t : List ℕ) → filed_among new n c s t ≡ cond ((c == code) && is_at n s t x) cell (filed_among old n c s t)) → HaveSums new
 put_sums old new x code cell has sums written n c s t some =
     subst (λ o. sum_kept o ≢ pos 0) (sym (written n c s t)) (by ((c == code) && is_at n s t x) (subst IsSome (written n c s t) some))
   where
-    of_cell : (o : Option Cell) → IfSome o (λ c. c.sum ≢ pos 0) → IsSome o → sum_kept o ≢ pos 0
-    of_cell None has some = absurd (nothing {X = Cell} None refl some)
+    of_cell : (o : Option TokenCount) → IfSome o (λ c. c.sum ≢ pos 0) → IsSome o → sum_kept o ≢ pos 0
+    of_cell None has some = absurd (nothing {X = TokenCount} None refl some)
     of_cell (Some k) has some = has
 
     by : (b : Bool) → IsSome (cond b cell (filed_among old n c s t)) → sum_kept (cond b cell (filed_among old n c s t)) ≢ pos 0
@@ -254,7 +254,7 @@ put_sums old new x code cell has sums written n c s t some =
 
 -- ---- once a right token more or less has come
 
-pub kept_some : (o : Option Cell) → sum_kept o ≢ pos 0 → IsSome o
+pub kept_some : (o : Option TokenCount) → sum_kept o ≢ pos 0 → IsSome o
 kept_some None ne = absurd (ne refl)
 kept_some (Some c) ne = refl
 
@@ -263,22 +263,22 @@ module _ (plus : Bool) where
   none_blocked true matches = refl
   none_blocked false matches = refl
 
-  same_sum : (here matches : Bool) (o : Option Cell) → sum_kept (cell_blocked here matches plus o) ≡ sum_kept o
+  same_sum : (here matches : Bool) (o : Option TokenCount) → sum_kept (cell_blocked here matches plus o) ≡ sum_kept o
   same_sum true matches None = refl
   same_sum true matches (Some c) = refl
   same_sum false matches o = refl
 
-  some_blocked : (here matches : Bool) (o : Option Cell) → IsSome (cell_blocked here matches plus o) → IsSome o
+  some_blocked : (here matches : Bool) (o : Option TokenCount) → IsSome (cell_blocked here matches plus o) → IsSome o
   some_blocked true matches None some = some
   some_blocked true matches (Some c) some = refl
   some_blocked false matches o some = some
 
-  unmatched : (here : Bool) (o : Option Cell) → blockers_kept (cell_blocked here false plus o) ≡ blockers_kept o
+  unmatched : (here : Bool) (o : Option TokenCount) → blockers_kept (cell_blocked here false plus o) ≡ blockers_kept o
   unmatched true None = refl
   unmatched true (Some c) = refl
   unmatched false o = refl
 
-  module _ (old new : List (ℕ × Memories)) (apart : AreApart old) (node code : ℕ) (matches : List ℕ → Bool)
+  module _ (old new : List (ℕ × NodeMemory)) (apart : AreApart old) (node code : ℕ) (matches : List ℕ → Bool)
       (written : (n c : ℕ) (s : Side) (t : List ℕ) → filed_among new n c s t ≡ cell_blocked ((n == node) && ((c == code) && are_same_sides s Left)) (matches t) plus (filed_among old n c s t)) where
     module _ (n : ℕ) (s : Side) (t : List ℕ) where
       abbrev here : ℕ → Bool
@@ -301,7 +301,7 @@ module _ (plus : Bool) where
         subst (λ o. sum_kept o ≢ pos 0) (sym (written n c s t))
         (λ z. sums n c s t (block_codes n c s t some) (sym (same_sum (here n s t c) (matches t) (filed_among old n c s t)) ∙ z))
 
-    some_kept : (o : Option Cell) → sum_kept o ≢ pos 0 → (c : Cell) × (o ≡ Some c)
+    some_kept : (o : Option TokenCount) → sum_kept o ≢ pos 0 → (c : TokenCount) × (o ≡ Some c)
     some_kept None ne = absurd (ne refl)
     some_kept (Some c) ne = (c, refl)
 
@@ -319,7 +319,7 @@ module _ (plus : Bool) where
         stood : sum_kept (cell_among old n Left t) ≢ pos 0
         stood e = ne (block_sums n Left t ∙ e)
 
-        kept : (c : Cell) × (filed_among old n both.0 Left t ≡ Some c)
+        kept : (c : TokenCount) × (filed_among old n both.0 Left t ≡ Some c)
         kept = some_kept (filed_among old n both.0 Left t) (λ e. stood (ap sum_kept both.1.0 ∙ e))
 
         own : n ≡ node → matches t ≡ true → both.0 ≡ code

@@ -7,11 +7,11 @@ use Rattle.std.proofs.lemmas.Slice.Eq.{bytes_eq-Decides}
 use Rattle.net_base.specs.declared.tasks.Side.{Side}
 use Rattle.net_base.specs.declared.tasks.Side.TheVariants.{Left, Right}
 use Rattle.net_base.specs.declared.tasks.Task.{Task}
-use Rattle.token_line.specs.declared.memory.Memory.{Memory}
-use Rattle.token_line.specs.declared.tokens.Cell.{Cell}
+use Rattle.token_line.specs.declared.memory.CodeMemory.{CodeMemory}
+use Rattle.token_line.specs.declared.tokens.TokenCount.{TokenCount}
 use Rattle.token_line.specs.Bags.{are_same_sides, is_at, sign, sign_at}
-use Rattle.token_line.specs.Codes.{cell_blocked}
-use Rattle.token_line.specs.Pairs.{cell_of}
+use Rattle.token_line.specs.inner.Codes.{cell_blocked}
+use Rattle.token_line.specs.inner.Pairs.{cell_of}
 use Rattle.token_line.specs.Sums.{blocked, blockers_kept, side_of, sum_kept}
 
 -- ---- values by their nodes or codes
@@ -20,7 +20,7 @@ pub always_err : {T E P : Type 0} (r : Result T E) → P → OnErr r P
 always_err (Ok x) p = tt
 always_err (Err e) p = p
 
-pub bare : (m : Memory) → m.left ≡ [] → m.right ≡ [] → (s : Side) → side_of m s ≡ []
+pub bare : (m : CodeMemory) → m.left ≡ [] → m.right ≡ [] → (s : Side) → side_of m s ≡ []
 bare m left right Left = left
 bare m left right Right = right
 
@@ -69,14 +69,14 @@ module _ {V R : Type 0} (f g : ℕ → Option V) (n m : ℕ) (see : Option V →
 
 -- ---- blocked
 
-pub same_where_not : (matches plus : Bool) (o : Option Cell) → cell_blocked false matches plus o ≡ o
+pub same_where_not : (matches plus : Bool) (o : Option TokenCount) → cell_blocked false matches plus o ≡ o
 same_where_not matches plus o = refl
 
 pub none_blocked : (here matches plus : Bool) → None ≡ cell_blocked here matches plus None
 none_blocked true matches plus = refl
 none_blocked false matches plus = refl
 
-pub side_blocked : (old new : Memory) (matches : List ℕ → Bool) (plus : Bool) → ((t : List ℕ) → cell_of new.left t ≡ option_map (blocked (matches t) plus) (cell_of old.left t)) → new.right ≡ old.right
+pub side_blocked : (old new : CodeMemory) (matches : List ℕ → Bool) (plus : Bool) → ((t : List ℕ) → cell_of new.left t ≡ option_map (blocked (matches t) plus) (cell_of old.left t)) → new.right ≡ old.right
     → (s : Side) (t : List ℕ) → cell_of (side_of new s) t ≡ cell_blocked (are_same_sides s Left) (matches t) plus (cell_of (side_of old s) t)
 side_blocked old new matches plus left right Left t = left t
 side_blocked old new matches plus left right Right t = ap (λ kept. cell_of kept t) right
@@ -100,7 +100,7 @@ at_task P x n s t e here =
     let k = both (are_same_sides s x.side) (bytes_eq t x.token) h.1 in
     subst (λ m. P m s t) (sym (eqb-true n x.node h.0)) (subst (λ d. P x.node d t) (sym (same_sides s x.side k.0)) (subst (P x.node x.side) (sym ((bytes_eq-Decides t x.token).0 k.1)) here))
 
-module _ (old new : ℕ → Side → List ℕ → Option Cell) (x : Task) (cell : Option Cell) (cells : (n : ℕ) (s : Side) (t : List ℕ) → new n s t ≡ cond (is_at n s t x) cell (old n s t)) where
+module _ (old new : ℕ → Side → List ℕ → Option TokenCount) (x : Task) (cell : Option TokenCount) (cells : (n : ℕ) (s : Side) (t : List ℕ) → new n s t ≡ cond (is_at n s t x) cell (old n s t)) where
   pub add_sums : sum_kept cell ≡ sum_kept (old x.node x.side x.token) +ℤ sign x.plus → (n : ℕ) (s : Side) (t : List ℕ) → sum_kept (new n s t) ≡ sum_kept (old n s t) +ℤ sign_at n s t x
   unfolding sign_at
   add_sums sum n s t = ap sum_kept (cells n s t) ∙ by (is_at n s t x) refl
@@ -113,7 +113,7 @@ module _ (old new : ℕ → Side → List ℕ → Option Cell) (x : Task) (cell 
       → blockers_kept (new n Left t) ≡ cond (is_at n Left t x) blockers (blockers_kept (old n Left t))
   add_blockers blockers has n t some = ap blockers_kept (cells n Left t) ∙ by (is_at n Left t x) (subst (λ o. sum_kept o ≢ pos 0) (cells n Left t) some)
     where
-      of_cell : (o : Option Cell) → IfSome o (λ c. c.blockers ≡ blockers) → sum_kept o ≢ pos 0 → blockers_kept o ≡ blockers
+      of_cell : (o : Option TokenCount) → IfSome o (λ c. c.blockers ≡ blockers) → sum_kept o ≢ pos 0 → blockers_kept o ≡ blockers
       of_cell None h ne = absurd (ne refl)
       of_cell (Some c) h ne = h
 

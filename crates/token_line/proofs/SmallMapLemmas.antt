@@ -13,8 +13,8 @@ use Rattle.std.proofs.lemmas.Option.{get_or_from_slice_get, slice_get_cases, sli
 use Rattle.indexmap.specs.IndexMap.{IndexMap, insert_entry, set_value_at, spare}
 use Rattle.indexmap.proofs.CallerLemmas.{insert_entry-new}
 use Rattle.indexmap.proofs.MapLemmas.{absent_before, Found-position, lookup_permutation, some_index}
-use Rattle.token_line.specs.SmallMap.{pairs_in}
-use Rattle.token_line.specs.SmallMapLends.{list_with_value, room_with_value}
+use Rattle.token_line.specs.inner.SmallMap.{pairs_in}
+use Rattle.token_line.specs.inner.SmallMapLends.{list_with_value, room_with_value}
 use Rattle.token_line.specs.declared.small_map.Room.{Room}
 use Rattle.token_line.specs.declared.small_map.Room.TheVariants.{Few, Many}
 

@@ -12,23 +12,23 @@ use Rattle.std.specs.Map.{keys_of, lookup}
 use Rattle.std.specs.Option.{option_map}
 use Rattle.indexmap.proofs.MapLemmas.{absent_before}
 use Rattle.indexmap.specs.IndexMap.{set_value_at}
-use Rattle.token_line.specs.declared.tokens.Cell.{Cell}
+use Rattle.token_line.specs.declared.tokens.TokenCount.{TokenCount}
 use Rattle.token_line.specs.declared.token_room.TokenRoom.{TokenRoom}
 use Rattle.token_line.specs.declared.token_room.TokenRoom.TheVariants.{Elements}
-use Rattle.token_line.specs.Pairs.{Pairs, cell_of, place_of}
-use Rattle.token_line.specs.TokenRooms.{as_tokens, only_tag, tokens_in}
+use Rattle.token_line.specs.inner.Pairs.{Pairs, cell_of, place_of}
+use Rattle.token_line.specs.inner.TokenRooms.{as_tokens, only_tag, tokens_in}
 use Rattle.token_line.proofs.PairLemmas.{Pair, no_pair, place_found}
 use Rattle.token_line.proofs.SmallMapLemmas.{position-map}
 
 abbrev pub Tag : Type 0
-Tag = ℕ × Cell
+Tag = ℕ × TokenCount
 
 abbrev as_token : Tag → Pair
 as_token e = (e.0 ∷ [], e.1)
 
 -- ---- one is written, or taken out
 
-pub set_tags : (tags : List Tag) (i : ℕ) (c : Cell) → as_tokens (set_value_at tags i c) ≡ set_value_at (as_tokens tags) i c
+pub set_tags : (tags : List Tag) (i : ℕ) (c : TokenCount) → as_tokens (set_value_at tags i c) ≡ set_value_at (as_tokens tags) i c
 set_tags [] i c = refl
 set_tags (e ∷ es) zero c = refl
 set_tags (e ∷ es) (suc i) c = ap (λ l. as_token e ∷ l) (set_tags es i c)
@@ -77,7 +77,7 @@ pub found_by_tag : (room : TokenRoom) (tags : List Tag) (token : List ℕ) (t : 
 found_by_tag room tags token t r here own is =
     is ∙ (sym (place_tags tags t) ∙ ap₂ place_of (ap tokens_in (sym here)) (sym (only_is token t own)))
 
-no_tag : (o : Option Tag) (token : List ℕ) (c : Cell) → only_tag token ≡ None → option_map as_token o ≡ Some (token, c) → ⊥
+no_tag : (o : Option Tag) (token : List ℕ) (c : TokenCount) → only_tag token ≡ None → option_map as_token o ≡ Some (token, c) → ⊥
 no_tag None token c none at = absurd (cc)
 no_tag (Some e) token c none at =
     let whole : as_token e ≡ (token, c) = cc in
@@ -97,7 +97,7 @@ longer_missing room tags token here none = by (place_of (as_tokens tags) token) 
 
 -- ---- they are copied one after another
 
-module _ (kept : Pairs) (i : ℕ) (token : List ℕ) (c : Cell) (at : slice_get kept i ≡ Some (token, c)) where
+module _ (kept : Pairs) (i : ℕ) (token : List ℕ) (c : TokenCount) (at : slice_get kept i ≡ Some (token, c)) where
   this_is : slice_index_or kept i no_pair ≡ (token, c)
   this_is = get_or_from_slice_get kept i (token, c) no_pair at
 

@@ -5,21 +5,21 @@ use Rattle.std.specs.Map.{lookup}
 use Rattle.net_base.specs.declared.tasks.Side.{Side}
 use Rattle.net_base.specs.declared.tasks.Side.TheVariants.{Left}
 use Rattle.net_base.specs.declared.tasks.Task.{Task}
-use Rattle.token_line.specs.declared.memory.Memory.{Memory}
-use Rattle.token_line.specs.declared.tokens.Cell.{Cell}
+use Rattle.token_line.specs.declared.memory.CodeMemory.{CodeMemory}
+use Rattle.token_line.specs.declared.tokens.TokenCount.{TokenCount}
 use Rattle.token_line.specs.declared.line.Line.{Line}
-use Rattle.token_line.specs.declared.spot.Spot.{Spot}
+use Rattle.token_line.specs.declared.spot.TokenPlace.{TokenPlace}
 use Rattle.token_line.specs.Bags.{Bag, is_at}
-use Rattle.token_line.specs.Codes.{cell_among, filed_among, memory_of}
-use Rattle.token_line.specs.Spots.{IsSpotAmong}
+use Rattle.token_line.specs.inner.Codes.{cell_among, filed_among, memory_of}
+use Rattle.token_line.specs.inner.Spots.{IsSpotAmong}
 use Rattle.token_line.specs.Sums.{blockers_kept, sum_kept}
 
 -- the memory of a node's tokens with this code, none where it has none
-abbrev pub memory_at : Line → ℕ → ℕ → Option Memory
+abbrev pub memory_at : Line → ℕ → ℕ → Option CodeMemory
 memory_at line n c = memory_of (lookup (nat_eq n) line.memories) c
 
 -- what is kept of a token of one side of a node under a code
-abbrev pub filed_in : Line → ℕ → ℕ → Side → List ℕ → Option Cell
+abbrev pub filed_in : Line → ℕ → ℕ → Side → List ℕ → Option TokenCount
 filed_in line n c s t = filed_among line.memories n c s t
 
 -- the line keeps the token under this code
@@ -47,5 +47,5 @@ abbrev pub blockers_in : Line → ℕ → List ℕ → ℕ
 blockers_in line n t = blockers_kept (cell_among line.memories n Left t)
 
 -- the spot is that of a token of one side of a node
-abbrev pub IsSpot : Line → ℕ → Side → List ℕ → Spot → Type 0
+abbrev pub IsSpot : Line → ℕ → Side → List ℕ → TokenPlace → Type 0
 IsSpot line n s t p = IsSpotAmong line.memories n s t p

@@ -3,17 +3,17 @@ use Rattle.std.specs.Prelude.{◌+◌, ◌-◌, Bool, List, ℕ, ℤ, pos, Optio
 use Rattle.std.specs.Option.{option_map_or}
 use Rattle.net_base.specs.declared.tasks.Side.{Side}
 use Rattle.net_base.specs.declared.tasks.Side.TheVariants.{Left, Right}
-use Rattle.token_line.specs.declared.memory.Memory.{Memory}
-use Rattle.token_line.specs.declared.tokens.Cell.{Cell}
-use Rattle.token_line.specs.Pairs.{Pairs, cell_of}
+use Rattle.token_line.specs.declared.memory.CodeMemory.{CodeMemory}
+use Rattle.token_line.specs.declared.tokens.TokenCount.{TokenCount}
+use Rattle.token_line.specs.inner.Pairs.{Pairs, cell_of}
 
 -- the sum of a token of which this is kept, 0 where nothing is
-abbrev pub sum_kept : Option Cell → ℤ
-sum_kept o = option_map_or (λ (c : Cell). c.sum) o (pos 0)
+abbrev pub sum_kept : Option TokenCount → ℤ
+sum_kept o = option_map_or (λ (c : TokenCount). c.sum) o (pos 0)
 
 -- the number that is kept with it, 0 where nothing is
-abbrev pub blockers_kept : Option Cell → ℕ
-blockers_kept o = option_map_or (λ (c : Cell). c.blockers) o 0
+abbrev pub blockers_kept : Option TokenCount → ℕ
+blockers_kept o = option_map_or (λ (c : TokenCount). c.blockers) o 0
 
 -- the sum of a token, 0 where it is not kept
 abbrev pub kept_sum : Pairs → List ℕ → ℤ
@@ -28,10 +28,10 @@ abbrev pub counted : Bool → ℕ → ℕ
 counted plus k = if plus then k + 1 else k - 1
 
 -- what is kept of a left token once one right token more or less has come, if it goes with that one
-abbrev pub blocked : Bool → Bool → Cell → Cell
+abbrev pub blocked : Bool → Bool → TokenCount → TokenCount
 blocked matches plus c = record { sum = c.sum; blockers = if matches then counted plus c.blockers else c.blockers }
 
 -- the tokens of one side of the node whose memory it is
-abbrev pub side_of : Memory → Side → Pairs
+abbrev pub side_of : CodeMemory → Side → Pairs
 side_of m Left = m.left
 side_of m Right = m.right

@@ -1,8 +1,8 @@
 //! The lines of a match: on each stand tokens of both sides of nodes, with how often they came and went.
 #![tactic(auto)]
 
-pub mod children;
-pub mod deed;
+pub mod ghost_task;
+pub mod ghost_tasks;
 pub mod joining;
 pub mod laws;
 pub mod line;
@@ -14,11 +14,11 @@ mod spot;
 mod token_room;
 pub mod tokens;
 
-pub use children::Children;
-pub use deed::Deed;
+pub use ghost_task::GhostTask;
+pub use ghost_tasks::GhostTasks;
 pub use joining::{goes_with, joins, joins_element, tag_at};
 pub use line::{Entry, Line};
-pub use memory::Memory;
-pub use number::{Place, code_of, line_of, place_of};
-pub use spot::Spot;
-pub use tokens::{Cell, Tokens};
+pub use memory::CodeMemory;
+pub use number::{LineAndCode, code_of, line_of, place_of};
+pub use spot::TokenPlace;
+pub use tokens::{TokenCount, Tokens};

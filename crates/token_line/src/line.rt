@@ -6,17 +6,17 @@ ghost use Rattle.net_base.specs.declared.tasks.Side.{Side};
 ghost use Rattle.net_base.specs.declared.tasks.Side.TheVariants.{Left, Right};
 ghost use Rattle.net_base.specs.Tokens.{goes_with};
 ghost use Rattle.token_line.specs.Bags.{after, are_same_sides, is_at, sign};
-ghost use Rattle.token_line.specs.Codes.{AreApart, HaveSums, cell_among, cell_blocked, filed_among};
-ghost use Rattle.token_line.specs.Spots.{IsSpotAmong};
+ghost use Rattle.token_line.specs.inner.Codes.{AreApart, HaveSums, cell_among, cell_blocked, filed_among};
+ghost use Rattle.token_line.specs.inner.Spots.{IsSpotAmong};
 ghost use Rattle.token_line.specs.Sums.{blockers_kept, counted, sum_kept};
 
-use crate::children::Children;
-use crate::deed::Deed;
-use crate::memories::Memories;
-use crate::memory::Memory;
+use crate::ghost_task::GhostTask;
+use crate::ghost_tasks::GhostTasks;
+use crate::memories::NodeMemory;
+use crate::memory::CodeMemory;
 use crate::small_map::SmallMap;
-use crate::spot::{Spot, spot_in, sum_of};
-use crate::tokens::Cell;
+use crate::spot::{TokenPlace, spot_in, sum_of};
+use crate::tokens::TokenCount;
 use net_base::nodes::Node;
 use net_base::tags::Tags;
 use net_base::tasks::{Side, Task};
@@ -27,8 +27,8 @@ use work_store::Store;
 /// A task that was done, and the tasks that it gave. Contracts alone see both: an entry takes no bytes.
 #[derive(Drop)]
 pub struct Entry {
-    pub task: Deed,
-    pub children: Children,
+    pub task: GhostTask,
+    pub children: GhostTasks,
 }
 
 /// The tokens that stand on one line, by their nodes and codes, and what was done there since the phase began, in this
@@ -36,7 +36,7 @@ pub struct Entry {
 #[derive(Drop)]
 pub struct Line {
     number: usize,
-    memories: SmallMap<usize, Memories>,
+    memories: SmallMap<usize, NodeMemory>,
     entries: Vec<Entry>,
     told: Vec<Task>,
     ghost apart: { AreApart memories },
@@ -44,7 +44,7 @@ pub struct Line {
 }
 
 /// The sum after one insert or delete more. One that would not fit is answered as out of memory.
-fn stepped(sum: &i64, plus: bool) -> Result<i64, OutOfMemory>
+fn next_sum(sum: &i64, plus: bool) -> Result<i64, OutOfMemory>
     ensures { IfOk result (λ new. new ≡ sum.now +ℤ sign plus) }
 {
     let new = if plus {
@@ -59,7 +59,7 @@ fn stepped(sum: &i64, plus: bool) -> Result<i64, OutOfMemory>
 }
 
 /// What is kept of a token with this sum.
-fn cell_with(sum: &i64, blockers: u64) -> Option<Cell>
+fn cell_with(sum: &i64, blockers: u64) -> Option<TokenCount>
     ensures sum { sum_kept result ≡ sum.now }
     ensures some { IfSome result (λ c. c.sum ≢ pos 0) }
     ensures blockers { IfSome result (λ c. c.blockers ≡ blockers) }
@@ -68,7 +68,7 @@ fn cell_with(sum: &i64, blockers: u64) -> Option<Cell>
     if sum == 0 {
         None
     } else {
-        Some(Cell { sum, blockers })
+        Some(TokenCount { sum, blockers })
     }
 }
 
@@ -84,7 +84,7 @@ fn tell(told: &mut Vec<Task>, alloc: Global, task: &Task, is_told: bool) -> Resu
 }
 
 /// A node with no token left leaves the line.
-fn drop_if_empty(memories: &mut SmallMap<usize, Memories>, place: usize)
+fn drop_if_empty(memories: &mut SmallMap<usize, NodeMemory>, place: usize)
     requires { place < length memories.old }
     ensures { (n c : ℕ) (s : Side) (t : List ℕ) → filed_among memories.new n c s t ≡ filed_among memories.old n c s t }
 {
@@ -97,11 +97,11 @@ fn drop_if_empty(memories: &mut SmallMap<usize, Memories>, place: usize)
 
 /// Keeps something else of the token at the spot, or keeps it no more. Where memory runs out, nothing has changed.
 fn put(
-    memories: &mut SmallMap<usize, Memories>,
+    memories: &mut SmallMap<usize, NodeMemory>,
     alloc: Global,
-    spot: &Spot,
+    spot: &TokenPlace,
     task: &Task,
-    cell: Option<Cell>,
+    cell: Option<TokenCount>,
 ) -> Result<(), OutOfMemory>
     requires spot { IsSpotAmong memories.old task.now.node task.now.side task.now.token spot.now }
     requires some { IfSome cell (λ c. c.sum ≢ pos 0) }
@@ -116,7 +116,7 @@ fn put(
         }
         None => {
             let place = memories.len();
-            memories.push(alloc, task.node, Memories::new(alloc, spot.code))?;
+            memories.push(alloc, task.node, NodeMemory::new(alloc, spot.code))?;
             memories.value_mut(place).put(alloc, spot, task, cell)?;
         }
     }
@@ -125,12 +125,12 @@ fn put(
 
 /// The same, and reports the task, if it is to be reported.
 fn put_and_tell(
-    memories: &mut SmallMap<usize, Memories>,
+    memories: &mut SmallMap<usize, NodeMemory>,
     told: &mut Vec<Task>,
     alloc: Global,
-    spot: &Spot,
+    spot: &TokenPlace,
     task: &Task,
-    cell: Option<Cell>,
+    cell: Option<TokenCount>,
     is_told: bool,
 ) -> Result<(), OutOfMemory>
     requires spot { IsSpotAmong memories.old task.now.node task.now.side task.now.token spot.now }
@@ -153,7 +153,7 @@ fn put_and_tell(
 
 /// One right token more, or one less, for each left token of the node with this code that it goes with.
 fn block(
-    memories: &mut SmallMap<usize, Memories>,
+    memories: &mut SmallMap<usize, NodeMemory>,
     store: &Store,
     of: &Node,
     node: usize,
@@ -199,7 +199,7 @@ impl Line {
     }
 
     /// The tokens of a node with this code, none where it has none. Takes no memory.
-    pub fn memory(&self, node: usize, code: u64) -> Option<&Memory>
+    pub fn memory(&self, node: usize, code: u64) -> Option<&CodeMemory>
         ensures { option_copied result ≡ memory_at self.now node code }
     {
         match self.memories.get(&node) {
@@ -209,7 +209,7 @@ impl Line {
     }
 
     /// What is kept of a token of one side of a node, whatever its code.
-    fn cell(&self, node: usize, side: Side, token: &Tags) -> Option<Cell>
+    fn cell(&self, node: usize, side: Side, token: &Tags) -> Option<TokenCount>
         ensures { result ≡ cell_among self.now.memories node side token.now }
     {
         match self.memories.get(&node) {
@@ -237,7 +237,13 @@ impl Line {
     /// The spot of a token of one side of a node among those with its code, and the memory of these. It looks once for
     /// the node, for the code where the node has several on the line, and for the token: each is compared with the
     /// others where they are few, and hashed where they are many. Takes no memory.
-    pub fn find(&self, node: usize, code: u64, side: Side, token: &Tags) -> (Spot, Option<&Memory>)
+    pub fn find(
+        &self,
+        node: usize,
+        code: u64,
+        side: Side,
+        token: &Tags,
+    ) -> (TokenPlace, Option<&CodeMemory>)
         ensures spot { IsSpot self.now node side token.now result.0 }
         ensures code { result.0.code ≡ code }
         ensures memory { option_copied result.1 ≡ memory_at self.now node code }
@@ -274,7 +280,7 @@ impl Line {
         alloc: Global,
         code: u64,
         task: &Task,
-        children: Children,
+        children: GhostTasks,
         blockers: u64,
     ) -> Result<(), OutOfMemory>
         requires { IsAlone self.old task.now.node code task.now.side task.now.token }
@@ -299,9 +305,9 @@ impl Line {
     pub fn add_at(
         &mut self,
         alloc: Global,
-        spot: &Spot,
+        spot: &TokenPlace,
         task: &Task,
-        children: Children,
+        children: GhostTasks,
         blockers: u64,
         is_told: bool,
     ) -> Result<(), OutOfMemory>
@@ -320,7 +326,7 @@ impl Line {
         ensures same_filed { OnErr result (KeepsCodes self.old self.new) }
     {
         let had = spot.sum();
-        let sum = stepped(&had, task.plus)?;
+        let sum = next_sum(&had, task.plus)?;
         let cell = cell_with(&sum, blockers);
         self.entries.reserve(1)?;
         put_and_tell(
@@ -333,7 +339,7 @@ impl Line {
             is_told,
         )?;
         self.entries.push_reserved(Entry {
-            task: Deed::of(task),
+            task: GhostTask::of(task),
             children,
         });
         Ok(())

@@ -7,14 +7,14 @@ ghost use Rattle.net_base.specs.declared.tasks.Side.{Side};
 ghost use Rattle.net_base.specs.declared.tasks.Side.TheVariants.{Left};
 ghost use Rattle.net_base.specs.Tokens.{goes_with};
 ghost use Rattle.token_line.specs.Bags.{are_same_sides};
-ghost use Rattle.token_line.specs.Codes.{cell_blocked, cell_in, cell_under, first_some, kept_among, memory_under, tokens_of};
-ghost use Rattle.token_line.specs.Pairs.{cell_of, place_of};
+ghost use Rattle.token_line.specs.inner.Codes.{cell_blocked, cell_in, cell_under, first_some, kept_among, memory_under, tokens_of};
+ghost use Rattle.token_line.specs.inner.Pairs.{cell_of, place_of};
 ghost use Rattle.token_line.specs.Sums.{blockers_kept, sum_kept};
 
-use crate::memory::Memory;
+use crate::memory::CodeMemory;
 use crate::small_map::SmallMap;
-use crate::spot::Spot;
-use crate::tokens::Cell;
+use crate::spot::TokenPlace;
+use crate::tokens::TokenCount;
 use net_base::nodes::Node;
 use net_base::tags::Tags;
 use net_base::tasks::{Side, Task};
@@ -25,14 +25,14 @@ use work_store::Store;
 /// The memories of one node on one line, by the codes of their tokens. The one whose code came first stands apart from
 /// the others: where a line has tokens of one code alone, no room is taken for others.
 #[derive(Drop)]
-pub(crate) struct Memories {
+pub(crate) struct NodeMemory {
     code: u64,
-    first: Memory,
-    others: SmallMap<u64, Memory>,
+    first: CodeMemory,
+    others: SmallMap<u64, CodeMemory>,
 }
 
 /// A memory that has become empty leaves the others.
-fn drop_if_empty(others: &mut SmallMap<u64, Memory>, place: usize)
+fn drop_if_empty(others: &mut SmallMap<u64, CodeMemory>, place: usize)
     requires { place < length others.old }
     ensures { (c : ℕ) (s : Side) (t : List ℕ) → kept_among others.new c s t ≡ kept_among others.old c s t }
 {
@@ -45,11 +45,11 @@ fn drop_if_empty(others: &mut SmallMap<u64, Memory>, place: usize)
 
 /// Keeps something else of the token at the spot, or keeps it no more. Where memory runs out, nothing has changed.
 fn put_among(
-    others: &mut SmallMap<u64, Memory>,
+    others: &mut SmallMap<u64, CodeMemory>,
     alloc: Global,
-    spot: &Spot,
+    spot: &TokenPlace,
     task: &Task,
-    cell: Option<Cell>,
+    cell: Option<TokenCount>,
 ) -> Result<(), OutOfMemory>
     requires token { spot.now.token ≡ place_of (tokens_of (lookup (nat_eq spot.now.code) others.old) task.now.side) task.now.token }
     requires some { IfSome cell (λ c. c.sum ≢ pos 0) }
@@ -65,7 +65,7 @@ fn put_among(
             drop_if_empty(others, place);
         }
         None => {
-            let mut memory = Memory::new(alloc);
+            let mut memory = CodeMemory::new(alloc);
             memory.put(alloc, task.side, None, &task.token, cell)?;
             others.push(alloc, spot.code, memory)?;
         }
@@ -73,23 +73,23 @@ fn put_among(
     Ok(())
 }
 
-impl Memories {
+impl NodeMemory {
     /// No tokens, of which the first will have this code. Takes no memory.
-    pub(crate) fn new(alloc: Global, code: u64) -> Memories
+    pub(crate) fn new(alloc: Global, code: u64) -> NodeMemory
         ensures code { result.code ≡ code }
         ensures left { result.first.left ≡ [] }
         ensures right { result.first.right ≡ [] }
         ensures others { result.others ≡ [] }
     {
-        Memories {
+        NodeMemory {
             code,
-            first: Memory::new(alloc),
+            first: CodeMemory::new(alloc),
             others: SmallMap::new(alloc),
         }
     }
 
     /// The memory of the tokens with this code. It looks for the code where it is not the first. Takes no memory.
-    pub(crate) fn memory(&self, code: u64) -> Option<&Memory>
+    pub(crate) fn memory(&self, code: u64) -> Option<&CodeMemory>
         ensures { option_copied result ≡ memory_under self.now code }
     {
         if code == self.code {
@@ -99,7 +99,7 @@ impl Memories {
         }
     }
 
-    fn cell_under(&self, code: u64, side: Side, token: &Tags) -> Option<Cell>
+    fn cell_under(&self, code: u64, side: Side, token: &Tags) -> Option<TokenCount>
         ensures { result ≡ cell_under self.now code side token.now }
     {
         match self.memory(code) {
@@ -109,7 +109,7 @@ impl Memories {
     }
 
     /// What is kept of a token, whatever its code. It looks in one memory after another. Takes no memory.
-    pub(crate) fn cell(&self, side: Side, token: &Tags) -> Option<Cell>
+    pub(crate) fn cell(&self, side: Side, token: &Tags) -> Option<TokenCount>
         ensures { result ≡ cell_in self.now side token.now }
     {
         match self.cell_under(self.code, side, token) {
@@ -119,7 +119,7 @@ impl Memories {
     }
 
     /// The same with a code other than the first.
-    fn cell_of_others(&self, side: Side, token: &Tags) -> Option<Cell>
+    fn cell_of_others(&self, side: Side, token: &Tags) -> Option<TokenCount>
         ensures { result ≡ first_some (λ c. cell_under self.now c side token.now) (keys_of self.now.others) }
     {
         for place in 0..self.others.len() {
@@ -142,9 +142,9 @@ impl Memories {
     pub(crate) fn put(
         &mut self,
         alloc: Global,
-        spot: &Spot,
+        spot: &TokenPlace,
         task: &Task,
-        cell: Option<Cell>,
+        cell: Option<TokenCount>,
     ) -> Result<(), OutOfMemory>
         requires token { spot.now.token ≡ place_of (tokens_of (memory_under self.old spot.now.code) task.now.side) task.now.token }
         requires some { IfSome cell (λ c. c.sum ≢ pos 0) }
@@ -174,7 +174,7 @@ impl Memories {
 
 /// The same of one whose code is not the first.
 fn block_among(
-    others: &mut SmallMap<u64, Memory>,
+    others: &mut SmallMap<u64, CodeMemory>,
     store: &Store,
     of: &Node,
     code: u64,

@@ -6,10 +6,10 @@ ghost use Rattle.work_store.specs.Stored.{held_of};
 ghost use Rattle.net_base.specs.declared.tasks.Side.{Side};
 ghost use Rattle.net_base.specs.Tokens.{goes_with};
 ghost use Rattle.token_line.specs.Bags.{are_same_sides};
-ghost use Rattle.token_line.specs.Pairs.{ArePairs, cell_of, place_of};
+ghost use Rattle.token_line.specs.inner.Pairs.{ArePairs, cell_of, place_of};
 ghost use Rattle.token_line.specs.Sums.{blocked, blockers_of, kept_sum, side_of};
 
-use crate::tokens::{Cell, Tokens};
+use crate::tokens::{TokenCount, Tokens};
 use net_base::nodes::Node;
 use net_base::tags::Tags;
 use net_base::tasks::Side;
@@ -19,18 +19,18 @@ use work_store::Store;
 
 /// The tokens of one node on one line that have one code. A token whose sum is 0 is not kept.
 #[derive(Drop)]
-pub struct Memory {
+pub struct CodeMemory {
     left: Tokens,
     right: Tokens,
 }
 
-impl Memory {
+impl CodeMemory {
     /// No tokens. Takes no memory.
-    pub(crate) fn new(alloc: Global) -> Memory
+    pub(crate) fn new(alloc: Global) -> CodeMemory
         ensures left { result.left ≡ [] }
         ensures right { result.right ≡ [] }
     {
-        Memory {
+        CodeMemory {
             left: Tokens::new(alloc),
             right: Tokens::new(alloc),
         }
@@ -65,7 +65,7 @@ impl Memory {
     }
 
     /// What is kept of a token of one side. Takes no memory.
-    pub(crate) fn cell(&self, side: Side, token: &Tags) -> Option<Cell>
+    pub(crate) fn cell(&self, side: Side, token: &Tags) -> Option<TokenCount>
         ensures { result ≡ cell_of (side_of self.now side) token.now }
     {
         let tokens = self.side(side);
@@ -86,7 +86,7 @@ impl Memory {
         side: Side,
         place: Option<usize>,
         token: &Tags,
-        cell: Option<Cell>,
+        cell: Option<TokenCount>,
     ) -> Result<(), OutOfMemory>
         requires place { place ≡ place_of (side_of self.old side) token.now }
         requires some { IfSome cell (λ c. c.sum ≢ pos 0) }

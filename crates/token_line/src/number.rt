@@ -13,7 +13,7 @@ use work_store::Store;
 
 /// Where a task is done: the number of its line, and the code under which the line keeps its token.
 #[derive(Clone, Copy, Debug, PartialEq, Eq)]
-pub struct Place {
+pub struct LineAndCode {
     pub line: usize,
     pub code: u64,
 }
@@ -161,7 +161,7 @@ fn both_codes(store: &Store, node: &Node, side: Side, tags: &[u64], start: u64) 
 }
 
 /// What `line_of` and `code_of` answer, for one look at each test of the node or each tag. Takes no memory.
-pub fn place_of(net: &Net, store: &Store, task: &Task, lines: usize) -> Place
+pub fn place_of(net: &Net, store: &Store, task: &Task, lines: usize) -> LineAndCode
     requires { 1 ≤ lines }
     ensures line { result.line ≡ line_number (held_of store.now) net.now.nodes lines task.now.node task.now.side task.now.token }
     ensures code { result.code ≡ code_of (held_of store.now) net.now.nodes task.now.node task.now.side task.now.token }
@@ -172,7 +172,7 @@ pub fn place_of(net: &Net, store: &Store, task: &Task, lines: usize) -> Place
         Some(node) => both_codes(store, node, task.side, task.token.as_slice(), start),
         None => (start, start),
     };
-    Place {
+    LineAndCode {
         line: (number % lines as u64) as usize,
         code,
     }

@@ -36,7 +36,7 @@ impl<K: Eq + Hash, V> Model for SmallMap<K, V> {
 
     ghost use Rattle.std.specs.List.{IsDistinct};
     ghost use Rattle.std.specs.Map.{keys_of};
-    ghost use Rattle.token_line.specs.SmallMap.{pairs_in};
+    ghost use Rattle.token_line.specs.inner.SmallMap.{pairs_in};
 
     ghost view = { λ c. pairs_in c.room };
 
@@ -64,8 +64,8 @@ fn fill<K: Eq + Hash + Drop, V: Drop>(map: &mut IndexMap<K, V>, list: Vec<(K, V)
 }
 
 impl<K: Eq + Hash, V> Room<K, V> {
-    ghost use Rattle.token_line.specs.SmallMap.{pairs_in};
-    ghost use Rattle.token_line.specs.SmallMapLends.{room_lends};
+    ghost use Rattle.token_line.specs.inner.SmallMap.{pairs_in};
+    ghost use Rattle.token_line.specs.inner.SmallMapLends.{room_lends};
 
     fn len(&self) -> usize
         ensures { result ≡ length (pairs_in self.now) }
@@ -114,7 +114,7 @@ impl<K: Eq + Hash, V> Room<K, V> {
 }
 
 impl<K: Eq + Hash + Drop, V: Drop> Room<K, V> {
-    ghost use Rattle.token_line.specs.SmallMap.{pairs_in};
+    ghost use Rattle.token_line.specs.inner.SmallMap.{pairs_in};
 
     /// The last pair takes the place of the one that is there.
     fn remove(&mut self, place: usize)
@@ -183,7 +183,7 @@ impl<K: Eq + Hash + Drop, V: Drop> Room<K, V> {
 }
 
 impl<K: Eq + Hash, V> SmallMap<K, V> {
-    ghost use Rattle.token_line.specs.SmallMapLends.{map_lends};
+    ghost use Rattle.token_line.specs.inner.SmallMapLends.{map_lends};
 
     /// No pairs. Takes no memory.
     pub(crate) fn new(alloc: Global) -> SmallMap<K, V>

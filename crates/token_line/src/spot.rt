@@ -1,27 +1,27 @@
 //! Where a token is kept on a line.
 ghost use Rattle.std.specs.Prelude.{◌≡◌};
 ghost use Rattle.std.specs.Option.{option_copied};
-ghost use Rattle.token_line.specs.Codes.{tokens_of};
-ghost use Rattle.token_line.specs.Pairs.{cell_of, place_of};
+ghost use Rattle.token_line.specs.inner.Codes.{tokens_of};
+ghost use Rattle.token_line.specs.inner.Pairs.{cell_of, place_of};
 ghost use Rattle.token_line.specs.Sums.{sum_kept};
 
-use crate::memory::Memory;
-use crate::tokens::Cell;
+use crate::memory::CodeMemory;
+use crate::tokens::TokenCount;
 use net_base::tags::Tags;
 use net_base::tasks::Side;
 
 /// Where a token is kept on a line: the place of its node, its code, its own place among the tokens with that code, and
 /// what is kept of it. It tells nothing once the line has changed.
 #[derive(Clone, Copy)]
-pub struct Spot {
+pub struct TokenPlace {
     pub(crate) node: Option<usize>,
     pub(crate) code: u64,
     pub(crate) token: Option<usize>,
-    pub(crate) kept: Option<Cell>,
+    pub(crate) kept: Option<TokenCount>,
 }
 
 /// The sum of a token of which this is kept, 0 where nothing is.
-pub(crate) fn sum_of(kept: Option<Cell>) -> i64
+pub(crate) fn sum_of(kept: Option<TokenCount>) -> i64
     ensures { result ≡ sum_kept kept }
 {
     match kept {
@@ -30,7 +30,7 @@ pub(crate) fn sum_of(kept: Option<Cell>) -> i64
     }
 }
 
-impl Spot {
+impl TokenPlace {
     /// The sum of the token, 0 where it is not kept. Takes no memory.
     pub fn sum(&self) -> i64
         ensures { result ≡ sum_kept self.now.kept }
@@ -39,7 +39,7 @@ impl Spot {
     }
 
     /// What is kept of the token. Takes no memory.
-    pub fn kept(&self) -> Option<Cell>
+    pub fn kept(&self) -> Option<TokenCount>
         ensures { result ≡ self.now.kept }
     {
         self.kept
@@ -48,12 +48,12 @@ impl Spot {
 
 /// The spot of a token at the place of a node, in the memory of its code, where there are such.
 pub(crate) fn spot_in(
-    memory: Option<&Memory>,
+    memory: Option<&CodeMemory>,
     node: Option<usize>,
     code: u64,
     side: Side,
     token: &Tags,
-) -> Spot
+) -> TokenPlace
     ensures node { result.node ≡ node }
     ensures code { result.code ≡ code }
     ensures token { result.token ≡ place_of (tokens_of (option_copied memory.entry) side) token.now }
@@ -67,7 +67,7 @@ pub(crate) fn spot_in(
         }
         None => (None, None),
     };
-    Spot {
+    TokenPlace {
         node,
         code,
         token,

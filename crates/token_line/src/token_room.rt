@@ -3,11 +3,11 @@ ghost use Rattle.std.specs.Prelude.{◌≡◌, ◌≢◌, ◌<◌, ◌==◌, ◌
 ghost use Rattle.std.specs.List.{IsDistinct, swap_remove};
 ghost use Rattle.std.specs.Map.{keys_of};
 ghost use Rattle.indexmap.specs.IndexMap.{set_value_at};
-ghost use Rattle.token_line.specs.Pairs.{cell_of, place_of};
-ghost use Rattle.token_line.specs.TokenRooms.{only_tag, tokens_in};
+ghost use Rattle.token_line.specs.inner.Pairs.{cell_of, place_of};
+ghost use Rattle.token_line.specs.inner.TokenRooms.{only_tag, tokens_in};
 
 use crate::small_map::SmallMap;
-use crate::tokens::Cell;
+use crate::tokens::TokenCount;
 use net_base::tags::Tags;
 use ops_base::memory::OutOfMemory;
 use std::alloc::Global;
@@ -23,9 +23,9 @@ const FEW_TAGS: usize = 16;
 /// by their tags. Where a token of another length comes to them, all are kept as longer tokens.
 #[derive(Drop)]
 pub(crate) enum TokenRoom {
-    One { tag: u64, cell: Cell },
-    Elements(SmallMap<u64, Cell>),
-    Longer(SmallMap<Tags, Cell>),
+    One { tag: u64, cell: TokenCount },
+    Elements(SmallMap<u64, TokenCount>),
+    Longer(SmallMap<Tags, TokenCount>),
 }
 
 /// The tag of a token that has no other.
@@ -53,10 +53,10 @@ fn place_by_tag(token: &[u64], tag: u64) -> Option<usize>
 fn both(
     alloc: Global,
     first: u64,
-    of_first: Cell,
+    of_first: TokenCount,
     tag: u64,
-    cell: Cell,
-) -> Result<SmallMap<u64, Cell>, OutOfMemory>
+    cell: TokenCount,
+) -> Result<SmallMap<u64, TokenCount>, OutOfMemory>
     requires { first ≢ tag }
     ensures { IfOk result (λ m. m ≡ (first, of_first) ∷ (tag, cell) ∷ []) }
 {
@@ -85,7 +85,7 @@ impl TokenRoom {
         }
     }
 
-    pub(crate) fn pair(&self, place: usize) -> (&[u64], Cell)
+    pub(crate) fn pair(&self, place: usize) -> (&[u64], TokenCount)
         requires { place < length (tokens_in self.now) }
         ensures { slice_get (tokens_in self.now) place ≡ Some (result.0.now, result.1) }
     {
@@ -115,7 +115,7 @@ impl TokenRoom {
         }
     }
 
-    pub(crate) fn set(&mut self, place: usize, new: Cell)
+    pub(crate) fn set(&mut self, place: usize, new: TokenCount)
         requires { place < length (tokens_in self.old) }
         ensures { tokens_in self.new ≡ set_value_at (tokens_in self.old) place new }
     {
@@ -139,7 +139,7 @@ impl TokenRoom {
     }
 
     /// The tokens as longer ones, each copied.
-    fn as_longer(&self, alloc: Global) -> Result<SmallMap<Tags, Cell>, OutOfMemory>
+    fn as_longer(&self, alloc: Global) -> Result<SmallMap<Tags, TokenCount>, OutOfMemory>
         requires { IsDistinct bytes_eq (keys_of (tokens_in self.now)) }
         ensures { IfOk result (λ m. m ≡ tokens_in self.now) }
     {
@@ -152,7 +152,7 @@ impl TokenRoom {
     }
 
     /// Keeps a new token of this one tag after the others. Where memory runs out, nothing has changed.
-    fn push_tag(&mut self, alloc: Global, tag: u64, cell: Cell) -> Result<(), OutOfMemory>
+    fn push_tag(&mut self, alloc: Global, tag: u64, cell: TokenCount) -> Result<(), OutOfMemory>
         requires { cell_of (tokens_in self.old) (tag ∷ []) ≡ None }
         ensures ok { OnOk result (tokens_in self.new ≡ tokens_in self.old ++ (tag ∷ [], cell) ∷ []) }
         ensures err { OnErr result (tokens_in self.new ≡ tokens_in self.old) }
@@ -182,7 +182,12 @@ impl TokenRoom {
     }
 
     /// Keeps a new token after the others, as a longer one. Where memory runs out, nothing has changed.
-    fn push_longer(&mut self, alloc: Global, token: &Tags, cell: Cell) -> Result<(), OutOfMemory>
+    fn push_longer(
+        &mut self,
+        alloc: Global,
+        token: &Tags,
+        cell: TokenCount,
+    ) -> Result<(), OutOfMemory>
         requires apart { IsDistinct bytes_eq (keys_of (tokens_in self.old)) }
         requires absent { cell_of (tokens_in self.old) token.now ≡ None }
         ensures ok { OnOk result (tokens_in self.new ≡ tokens_in self.old ++ (token.now, cell) ∷ []) }
@@ -204,7 +209,7 @@ impl TokenRoom {
         &mut self,
         alloc: Global,
         token: &Tags,
-        cell: Cell,
+        cell: TokenCount,
     ) -> Result<(), OutOfMemory>
         requires apart { IsDistinct bytes_eq (keys_of (tokens_in self.old)) }
         requires absent { cell_of (tokens_in self.old) token.now ≡ None }

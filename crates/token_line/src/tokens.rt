@@ -6,7 +6,7 @@ ghost use Rattle.std.specs.Option.{option_map};
 ghost use Rattle.indexmap.specs.IndexMap.{set_value_at};
 ghost use Rattle.work_store.specs.Stored.{held_of};
 ghost use Rattle.net_base.specs.Tokens.{goes_with};
-ghost use Rattle.token_line.specs.Pairs.{ArePairs, cell_of, place_of};
+ghost use Rattle.token_line.specs.inner.Pairs.{ArePairs, cell_of, place_of};
 ghost use Rattle.token_line.specs.Sums.{blocked, blockers_of, counted, kept_sum};
 
 use crate::joining::goes_with;
@@ -22,7 +22,7 @@ use work_store::Store;
 /// how often right tokens stand that go with it, which is for the caller to see to. With other tokens nothing goes by
 /// it.
 #[derive(Clone, Copy, Debug, PartialEq, Eq)]
-pub struct Cell {
+pub struct TokenCount {
     pub sum: i64,
     pub blockers: u64,
 }
@@ -35,12 +35,12 @@ pub struct Tokens {
 
 impl Model for Tokens {
     ghost use Rattle.std.specs.Prelude.{ℕ, List};
-    ghost use Rattle.token_line.specs.declared.tokens.Cell.{Cell};
+    ghost use Rattle.token_line.specs.declared.tokens.TokenCount.{TokenCount};
 
-    ghost Value = { List (List ℕ × Cell) };
+    ghost Value = { List (List ℕ × TokenCount) };
 
-    ghost use Rattle.token_line.specs.Pairs.{ArePairs};
-    ghost use Rattle.token_line.specs.TokenRooms.{tokens_in};
+    ghost use Rattle.token_line.specs.inner.Pairs.{ArePairs};
+    ghost use Rattle.token_line.specs.inner.TokenRooms.{tokens_in};
 
     ghost view = { λ c. tokens_in c.room };
 
@@ -85,7 +85,7 @@ impl Tokens {
     }
 
     /// The token at a place, and what is kept of it. Takes no memory.
-    pub fn pair(&self, place: usize) -> (&[u64], Cell)
+    pub fn pair(&self, place: usize) -> (&[u64], TokenCount)
         requires { place < length self.now }
         ensures pair { slice_get self.now place ≡ Some (result.0.now, result.1) }
         ensures some { result.1.sum ≢ pos 0 }
@@ -102,7 +102,7 @@ impl Tokens {
     }
 
     /// What is kept of a token that has this place. Takes no memory.
-    pub(crate) fn kept(&self, token: &Tags, place: Option<usize>) -> Option<Cell>
+    pub(crate) fn kept(&self, token: &Tags, place: Option<usize>) -> Option<TokenCount>
         requires { place ≡ place_of self.now token.now }
         ensures { result ≡ cell_of self.now token.now }
     {
@@ -115,7 +115,7 @@ impl Tokens {
     }
 
     /// Keeps something else of the token at a place. Takes no memory.
-    pub(crate) fn set(&mut self, place: usize, cell: Cell)
+    pub(crate) fn set(&mut self, place: usize, cell: TokenCount)
         requires within { place < length self.old }
         requires some { cell.sum ≢ pos 0 }
         ensures { self.new ≡ set_value_at self.old place cell }
@@ -137,7 +137,7 @@ impl Tokens {
         &mut self,
         alloc: Global,
         token: &Tags,
-        cell: Cell,
+        cell: TokenCount,
     ) -> Result<(), OutOfMemory>
         requires absent { cell_of self.old token.now ≡ None }
         requires some { cell.sum ≢ pos 0 }
@@ -154,7 +154,7 @@ impl Tokens {
         alloc: Global,
         place: Option<usize>,
         token: &Tags,
-        cell: Option<Cell>,
+        cell: Option<TokenCount>,
     ) -> Result<(), OutOfMemory>
         requires place { place ≡ place_of self.old token.now }
         requires some { IfSome cell (λ c. c.sum ≢ pos 0) }
@@ -188,7 +188,7 @@ impl Tokens {
             cell.blockers
         };
         let sum = cell.sum;
-        self.set(place, Cell { sum, blockers });
+        self.set(place, TokenCount { sum, blockers });
     }
 
     /// One right token more, or one less, for each left token that it goes with. Takes no memory.

@@ -7,16 +7,16 @@ use Rattle.net_base.specs.declared.tasks.Side.TheVariants.{Left}
 use Rattle.net_base.specs.declared.tasks.Task.{Task}
 use Rattle.token_line.specs.declared.line.Line.{Line}
 use Rattle.token_line.specs.declared.line.Entry.{Entry}
-use Rattle.token_line.specs.declared.tokens.Cell.{Cell}
+use Rattle.token_line.specs.declared.tokens.TokenCount.{TokenCount}
 use Rattle.token_line.specs.Bags.{is_at}
 use Rattle.token_line.specs.Lines.{IsAlone, IsFiled, KeepsCodesBut, blockers_in, filed_in, sum_in}
 use Rattle.token_line.specs.Numbers.{code_of}
 use Rattle.token_line.specs.Sums.{counted}
 use Rattle.activation.specs.Acting.{lasts_of}
-use Rattle.activation.specs.Children.{children_at, children_of, targets}
-use Rattle.activation.specs.Effects.{Effect, effect_at}
-use Rattle.activation.specs.Negating.{is_matched}
-use Rattle.activation.specs.Putting.{changes}
+use Rattle.activation.specs.inner.Children.{children_at, children_of, targets}
+use Rattle.activation.specs.inner.Effects.{Effect, effect_at}
+use Rattle.activation.specs.inner.Negating.{is_matched}
+use Rattle.activation.specs.inner.Putting.{changes}
 use Rattle.activation.proofs.Acted.{acted}
 use Rattle.activation.proofs.AtNode.{Kept, is_alone}
 use Rattle.activation.proofs.EffectLemmas.{done_effect}
@@ -48,7 +48,7 @@ count_blockers-requires-clause-room c = λ blocks more t has.
     let node = c.node_of-node.result.now in
     let old = c.args.line.now in
     let done = c.in_ok-done.ensures.ok in
-    let e : Effect = effect_at node (held_of s) (option_copied c.find.result.1) x (changes (option_map_or (λ (k : Cell). k.sum) c.kept.result (pos 0)) x.plus) in
+    let e : Effect = effect_at node (held_of s) (option_copied c.find.result.1) x (changes (option_map_or (λ (k : TokenCount). k.sum) c.kept.result (pos 0)) x.plus) in
     let is =
     done_effect c.args.net.now.alphas nodes c.node_of-node.ensures.sound s old x c.requires.fits c.requires.counted node c.node_of-node.ensures.node
     (c.args.code) (sym c.requires.code)
@@ -69,7 +69,7 @@ count_blockers-requires-clause-code c = λ blocks t some joined.
     let node = c.node_of-node.result.now in
     let old = c.args.line.now in
     let done = c.in_ok-done.ensures.ok in
-    let e : Effect = effect_at node (held_of s) (option_copied c.find.result.1) x (changes (option_map_or (λ (k : Cell). k.sum) c.kept.result (pos 0)) x.plus) in
+    let e : Effect = effect_at node (held_of s) (option_copied c.find.result.1) x (changes (option_map_or (λ (k : TokenCount). k.sum) c.kept.result (pos 0)) x.plus) in
     let is =
     done_effect c.args.net.now.alphas nodes c.node_of-node.ensures.sound s old x c.requires.fits c.requires.counted node c.node_of-node.ensures.node
     (c.args.code) (sym c.requires.code)
@@ -90,7 +90,7 @@ returns-clause-ok c =
     let old = c.args.line.now in
     let before = c.args.out.now.items in
     let done = c.in_ok-done.ensures.ok in
-    let e : Effect = effect_at node (held_of s) (option_copied c.find.result.1) x (changes (option_map_or (λ (k : Cell). k.sum) c.kept.result (pos 0)) x.plus) in
+    let e : Effect = effect_at node (held_of s) (option_copied c.find.result.1) x (changes (option_map_or (λ (k : TokenCount). k.sum) c.kept.result (pos 0)) x.plus) in
     let is =
     done_effect c.args.net.now.alphas nodes c.node_of-node.ensures.sound s old x c.requires.fits c.requires.counted node c.node_of-node.ensures.node
     (c.args.code) (sym c.requires.code)
@@ -114,7 +114,7 @@ returns-clause-counted c =
     let old = c.args.line.now in
     let new = c.count_blockers.new.line in
     let done = c.in_ok-done.ensures.ok in
-    let e : Effect = effect_at node (held_of s) (option_copied c.find.result.1) x (changes (option_map_or (λ (k : Cell). k.sum) c.kept.result (pos 0)) x.plus) in
+    let e : Effect = effect_at node (held_of s) (option_copied c.find.result.1) x (changes (option_map_or (λ (k : TokenCount). k.sum) c.kept.result (pos 0)) x.plus) in
     let is =
     done_effect c.args.net.now.alphas nodes c.node_of-node.ensures.sound s old x c.requires.fits c.requires.counted node c.node_of-node.ensures.node
     (c.args.code) (sym c.requires.code)

@@ -1,8 +1,8 @@
 -- This many tasks are there.
 use Rattle.std.proofs.Common.{◌≡◌, ◌++◌, replicate, ◌≤◌}
 use Rattle.std.specs.Prelude.{vec_capacity}
-use Rattle.activation.specs.Children.{child}
-use Rattle.activation.specs.Putting.{tagged}
+use Rattle.activation.specs.inner.Children.{child}
+use Rattle.activation.specs.inner.Putting.{tagged}
 use Rattle.activation.proofs.children.push_to.Given as goal
 
 abbrev pub invariant-loop-time : goal.invariant-loop-time

@@ -1,8 +1,8 @@
 -- The tasks for the nodes before the index are there, and those that were there before.
 use Rattle.std.proofs.Common.{◌≡◌, ◌++◌, drop, map, ◌≤◌}
 use Rattle.std.specs.Prelude.{vec_capacity}
-use Rattle.activation.specs.Children.{Grows, to_each}
-use Rattle.activation.specs.Putting.{tagged}
+use Rattle.activation.specs.inner.Children.{Grows, to_each}
+use Rattle.activation.specs.inner.Putting.{tagged}
 use Rattle.activation.proofs.children.push_to_all.Given as goal
 
 abbrev pub invariant-loop-node : goal.invariant-loop-node

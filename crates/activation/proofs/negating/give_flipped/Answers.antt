@@ -2,9 +2,9 @@
 use Rattle.std.proofs.Common.{arith, ◌≡◌, ◌∙◌, ◌==◌, ◌&&◌, ◌++◌, add-one, ap, drop, suc, sym, true}
 use Rattle.work_store.specs.Stored.{held_of}
 use Rattle.net_base.specs.Tokens.{goes_with}
-use Rattle.activation.specs.Children.{children_of, targets_of}
-use Rattle.activation.specs.Negating.{all_have_room, before_flip, has_room, put_flipped}
-use Rattle.activation.specs.Putting.{put_if}
+use Rattle.activation.specs.inner.Children.{children_of, targets_of}
+use Rattle.activation.specs.inner.Negating.{all_have_room, before_flip, has_room, put_flipped}
+use Rattle.activation.specs.inner.Putting.{put_if}
 use Rattle.activation.proofs.Growth.{Pair, drop_at, grows_more, next_given}
 use Rattle.activation.proofs.negating.give_flipped.Goals as goal
 

@@ -2,8 +2,8 @@
 use Rattle.std.proofs.Common.{◌≡◌, ◌++◌, drop, ◌≤◌}
 use Rattle.std.specs.Prelude.{vec_capacity}
 use Rattle.work_store.specs.Stored.{held_of}
-use Rattle.activation.specs.Children.{Grows, children_of, targets_of}
-use Rattle.activation.specs.Negating.{all_have_room, put_flipped}
+use Rattle.activation.specs.inner.Children.{Grows, children_of, targets_of}
+use Rattle.activation.specs.inner.Negating.{all_have_room, put_flipped}
 use Rattle.activation.proofs.negating.give_flipped.Given as goal
 
 abbrev pub invariant-loop-place : goal.invariant-loop-place

@@ -3,7 +3,7 @@ use Rattle.std.proofs.Common.{◌≡◌, ◌∙◌, ◌+◌, add-one, ap, arith,
 use Rattle.work_store.specs.Stored.{held_of}
 use Rattle.net_base.specs.Tokens.{goes_with}
 use Rattle.token_line.specs.Bags.{standing}
-use Rattle.activation.specs.Negating.{number_matching}
+use Rattle.activation.specs.inner.Negating.{number_matching}
 use Rattle.activation.proofs.Growth.{Pair, drop_at}
 use Rattle.activation.proofs.negating.number_matching.Goals as goal
 

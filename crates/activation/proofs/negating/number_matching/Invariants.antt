@@ -1,7 +1,7 @@
 -- The right tokens before the place are counted.
 use Rattle.std.proofs.Common.{◌≡◌, ◌+◌, drop}
 use Rattle.work_store.specs.Stored.{held_of}
-use Rattle.activation.specs.Negating.{number_matching}
+use Rattle.activation.specs.inner.Negating.{number_matching}
 use Rattle.activation.proofs.negating.number_matching.Given as goal
 
 abbrev pub invariant-loop-place : goal.invariant-loop-place

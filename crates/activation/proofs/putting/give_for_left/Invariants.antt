@@ -2,8 +2,8 @@
 use Rattle.std.proofs.Common.{◌≡◌, ◌++◌, drop, ◌≤◌}
 use Rattle.std.specs.Prelude.{vec_capacity}
 use Rattle.work_store.specs.Stored.{held_of}
-use Rattle.activation.specs.Children.{Grows, children_of, targets_of}
-use Rattle.activation.specs.Putting.{put_for_left}
+use Rattle.activation.specs.inner.Children.{Grows, children_of, targets_of}
+use Rattle.activation.specs.inner.Putting.{put_for_left}
 use Rattle.activation.proofs.putting.give_for_left.Given as goal
 
 abbrev pub invariant-loop-place : goal.invariant-loop-place

@@ -3,8 +3,8 @@ use Rattle.std.proofs.Common.{arith, ◌∙◌, ◌++◌, ◌∷◌, [], ap}
 use Rattle.work_store.specs.Stored.{held_of}
 use Rattle.net_base.specs.Tokens.{joins_hold}
 use Rattle.token_line.specs.Joins.{joins_with}
-use Rattle.activation.specs.Children.{children_of, targets_of}
-use Rattle.activation.specs.Putting.{put_for_right, put_if}
+use Rattle.activation.specs.inner.Children.{children_of, targets_of}
+use Rattle.activation.specs.inner.Putting.{put_for_right, put_if}
 use Rattle.activation.proofs.Growth.{Pair, grows_more, next_given}
 use Rattle.activation.proofs.putting.give_for_right.Goals as goal
 

@@ -5,7 +5,7 @@ use Rattle.std.proofs.lemmas.List.{length-map}
 use Rattle.std.proofs.lemmas.List.Elements.{All-nil}
 use Rattle.work_store.specs.Stored.{held_of}
 use Rattle.token_line.specs.Held.{TaskFits}
-use Rattle.step_core.specs.Doing.{entry_of}
+use Rattle.step_core.specs.inner.Doing.{entry_of}
 use Rattle.step_core.specs.Worlds.{EntryFits, placed}
 use Rattle.serial_engine.proofs.PhaseLemmas.{done_stays, none_in_flight, none_is_done}
 use Rattle.serial_engine.proofs.StepLemmas.{same_count}

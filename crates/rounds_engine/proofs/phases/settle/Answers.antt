@@ -5,7 +5,7 @@ use Rattle.token_line.specs.declared.line.Line.{Line}
 use Rattle.activation.specs.Acting.{TellsOfLasts}
 use Rattle.step_core.specs.Phases.{before, now, total}
 use Rattle.step_core.specs.Settling.{HaveOwnLines, IsGathered}
-use Rattle.step_core.specs.Worked.{AreWorked}
+use Rattle.step_core.specs.inner.Worked.{AreWorked}
 use Rattle.step_core.specs.Worlds.{seen}
 use Rattle.serial_engine.proofs.SettleLemmas.{bundle, has_settled, rests}
 use Rattle.rounds_engine.proofs.phases.settle.Goals as goal

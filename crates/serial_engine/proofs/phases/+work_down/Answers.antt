@@ -2,7 +2,7 @@
 use Rattle.std.proofs.Common.{◌≡◌, ◌≤◌, ◌<◌, ◌+◌, ◌-◌, ℕ, [], ◌++◌, length, length-append, map, take, sym, ap, ◌∙◌, arith}
 use Rattle.std.proofs.lemmas.List.{take_all}
 use Rattle.token_line.specs.Lawful.{IsChildOf}
-use Rattle.step_core.specs.Doing.{entry_of}
+use Rattle.step_core.specs.inner.Doing.{entry_of}
 use Rattle.step_core.specs.Working.{but_last}
 use Rattle.serial_engine.proofs.StepLemmas.{length_but_last, some_left, one_less, last_is, has_last, some_level, child_below, went_on, worked_run}
 use Rattle.serial_engine.proofs.phases.+work_down.Goals as goal

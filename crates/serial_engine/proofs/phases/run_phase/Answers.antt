@@ -4,7 +4,7 @@ use Rattle.std.specs.List.{All}
 use Rattle.std.proofs.lemmas.List.Elements.{All-nil}
 use Rattle.work_store.specs.Stored.{held_of}
 use Rattle.token_line.specs.Held.{TaskFits}
-use Rattle.step_core.specs.Doing.{entry_of}
+use Rattle.step_core.specs.inner.Doing.{entry_of}
 use Rattle.step_core.specs.Worlds.{EntryFits, placed}
 use Rattle.serial_engine.proofs.PhaseLemmas.{counter_none, none_in_flight, none_is_done, done_stays, flight_stays, phase_bundle}
 use Rattle.serial_engine.proofs.phases.run_phase.Goals as goal

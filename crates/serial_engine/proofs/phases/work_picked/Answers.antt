@@ -1,7 +1,7 @@
 -- Where nothing is in flight no step is taken.
 use Rattle.std.proofs.Common.{length, map, ap}
 use Rattle.work_store.specs.Stored.{held_of}
-use Rattle.step_core.specs.Doing.{entry_of}
+use Rattle.step_core.specs.inner.Doing.{entry_of}
 use Rattle.step_core.specs.Worlds.{placed, world_of}
 use Rattle.serial_engine.proofs.StepLemmas.{no_run, worked_run}
 use Rattle.serial_engine.proofs.phases.work_picked.Goals as goal

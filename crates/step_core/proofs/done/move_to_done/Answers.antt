@@ -3,7 +3,7 @@ use Rattle.std.proofs.Common.{◌≡◌, ◌++◌, ◌∷◌, [], map, ap, ◌�
 use Rattle.std.proofs.lemmas.List.{map-append}
 use Rattle.std.proofs.lemmas.Option.{get_or_from_slice_get}
 use Rattle.net_base.specs.declared.tasks.Task.{Task}
-use Rattle.step_core.specs.Doing.{entry_of}
+use Rattle.step_core.specs.inner.Doing.{entry_of}
 use Rattle.step_core.proofs.done.move_to_done.Goals as goal
 
 pub returns-clause-done : goal.returns-clause-done

@@ -5,7 +5,7 @@ use Rattle.std.proofs.lemmas.Int.{to_z-of_z}
 use Rattle.ops_base.specs.declared.rules.Inst.{Inst}
 use Rattle.token_line.specs.Bags.{sign}
 use Rattle.step_core.specs.declared.gathering.Total.{Total}
-use Rattle.step_core.specs.Gathering.{AreToldBut, HaveAtHand, added, has_come, has_gone, is_same}
+use Rattle.step_core.specs.inner.Gathering.{AreToldBut, HaveAtHand, added, has_come, has_gone, is_same}
 use Rattle.step_core.proofs.Results.{on_ok_both}
 use Rattle.step_core.proofs.Telling.{chosen, counted_at_hand, some_is, turned}
 use Rattle.step_core.proofs.gathering.count.Goals as goal

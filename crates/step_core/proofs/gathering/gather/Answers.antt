@@ -2,7 +2,7 @@
 use Rattle.std.proofs.Common.{List, map, refl, subst}
 use Rattle.step_core.specs.Worlds.{seen}
 use Rattle.step_core.specs.declared.gathering.Moved.{Moved}
-use Rattle.step_core.specs.Gathering.{AreTold}
+use Rattle.step_core.specs.inner.Gathering.{AreTold}
 use Rattle.step_core.proofs.WhatMoved.{told_gathered}
 use Rattle.step_core.proofs.gathering.gather.Goals as goal
 

@@ -2,7 +2,7 @@
 use Rattle.std.proofs.Common.{List, map, subst}
 use Rattle.step_core.specs.Worlds.{seen}
 use Rattle.step_core.specs.declared.gathering.Moved.{Moved}
-use Rattle.step_core.specs.Gathering.{AreTold, moved_at}
+use Rattle.step_core.specs.inner.Gathering.{AreTold, moved_at}
 use Rattle.step_core.proofs.WhatMoved.{told_gathered}
 use Rattle.step_core.proofs.WorkedMoves.{all_within, worked_as_much, worked_within}
 use Rattle.step_core.proofs.gathering.gather_worked.Goals as goal

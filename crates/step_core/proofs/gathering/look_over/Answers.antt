@@ -2,7 +2,7 @@
 use Rattle.std.proofs.Common.{◌≡◌, ◌∙◌, ◌++◌, ap, length, take, arith}
 use Rattle.std.proofs.lemmas.List.{take_all}
 use Rattle.std.specs.Prelude.{flat_map}
-use Rattle.step_core.specs.Gathering.{moved_by}
+use Rattle.step_core.specs.inner.Gathering.{moved_by}
 use Rattle.step_core.specs.Worlds.{seen}
 use Rattle.step_core.proofs.Lasts.{told_moved}
 use Rattle.step_core.proofs.gathering.look_over.Goals as goal

@@ -2,7 +2,7 @@
 use Rattle.std.proofs.Common.{◌≡◌, ◌++◌, take}
 use Rattle.std.specs.Prelude.{flat_map}
 use Rattle.step_core.specs.Worlds.{seen}
-use Rattle.step_core.specs.Gathering.{moved_by}
+use Rattle.step_core.specs.inner.Gathering.{moved_by}
 use Rattle.step_core.proofs.gathering.look_over.Given as goal
 
 abbrev pub invariant-loop-task : goal.invariant-loop-task

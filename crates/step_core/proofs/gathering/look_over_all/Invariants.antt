@@ -1,7 +1,7 @@
 -- Some of the lines are looked over.
 use Rattle.std.proofs.Common.{◌≡◌, map, take}
 use Rattle.step_core.specs.Worlds.{seen}
-use Rattle.step_core.specs.Gathering.{moved_over}
+use Rattle.step_core.specs.inner.Gathering.{moved_over}
 use Rattle.step_core.proofs.gathering.look_over_all.Given as goal
 
 abbrev pub invariant-loop-line : goal.invariant-loop-line

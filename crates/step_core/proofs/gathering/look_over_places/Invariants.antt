@@ -1,7 +1,7 @@
 -- Some of the lines are looked over.
 use Rattle.std.proofs.Common.{◌≡◌, map, take}
 use Rattle.step_core.specs.Worlds.{seen}
-use Rattle.step_core.specs.Gathering.{moved_at}
+use Rattle.step_core.specs.inner.Gathering.{moved_at}
 use Rattle.step_core.proofs.gathering.look_over_places.Given as goal
 
 abbrev pub invariant-loop-place : goal.invariant-loop-place

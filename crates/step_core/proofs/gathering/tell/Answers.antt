@@ -5,7 +5,7 @@ use Rattle.std.proofs.lemmas.Iterator.Consumers.{YieldsList-end, YieldsList-turn
 use Rattle.std.proofs.lemmas.List.{map-id}
 use Rattle.step_core.specs.declared.gathering.Gathered.{Gathered}
 use Rattle.step_core.specs.declared.gathering.Moved.{Moved}
-use Rattle.step_core.specs.Gathering.{AreToldBut, added, has_come, has_gone}
+use Rattle.step_core.specs.inner.Gathering.{AreToldBut, added, has_come, has_gone}
 use Rattle.step_core.proofs.Telling.{all_told, chosen, hand_fits, none_told}
 use Rattle.step_core.proofs.gathering.tell.Goals as goal
 use Rattle.step_core.proofs.gathering.tell.Goals.{in-Some-hand+in_ok-tell_of, in_default}

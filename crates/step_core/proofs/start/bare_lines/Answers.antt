@@ -1,5 +1,5 @@
 use Rattle.std.proofs.Common.{subst, sym}
-use Rattle.step_core.specs.Starts.{AreUnused}
+use Rattle.step_core.specs.inner.Starts.{AreUnused}
 use Rattle.step_core.proofs.Starting.{unused_none, unused_more}
 use Rattle.step_core.proofs.start.bare_lines.Goals as goal
 

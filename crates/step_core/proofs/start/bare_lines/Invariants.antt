@@ -1,4 +1,4 @@
-use Rattle.step_core.specs.Starts.{AreUnused}
+use Rattle.step_core.specs.inner.Starts.{AreUnused}
 use Rattle.step_core.proofs.start.bare_lines.Given as goal
 
 abbrev pub invariant-loop-number : goal.invariant-loop-number

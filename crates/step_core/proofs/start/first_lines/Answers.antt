@@ -1,7 +1,7 @@
 -- A child of the root gets the empty token on its line, and the lines of another node stay as they are.
 use Rattle.std.proofs.Common.{◌≡◌, ◌+◌, ◌%◌, ◌<◌, length, refl, sym, ap, subst, arith}
 use Rattle.std.proofs.lemmas.Option.{slice_get_read}
-use Rattle.step_core.specs.Starts.{AreBegun}
+use Rattle.step_core.specs.inner.Starts.{AreBegun}
 use Rattle.step_core.proofs.FedTasks.{node_at}
 use Rattle.step_core.proofs.Starting.{unused_is_begun, not_at_root, root_given}
 use Rattle.step_core.proofs.start.first_lines.Goals as goal

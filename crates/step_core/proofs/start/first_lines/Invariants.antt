@@ -1,4 +1,4 @@
-use Rattle.step_core.specs.Starts.{AreBegun}
+use Rattle.step_core.specs.inner.Starts.{AreBegun}
 use Rattle.step_core.proofs.start.first_lines.Given as goal
 
 abbrev pub invariant-loop-number : goal.invariant-loop-number

@@ -6,7 +6,7 @@ use Rattle.work_store.specs.Stored.{held_of}
 use Rattle.token_line.specs.declared.line.Line.{Line}
 use Rattle.token_line.specs.Numbers.{line_number}
 use Rattle.activation.specs.Acting.{IsCounted}
-use Rattle.step_core.specs.Worked.{AreWorked}
+use Rattle.step_core.specs.inner.Worked.{AreWorked}
 use Rattle.step_core.proofs.Activating.{acts_on, seen_same, numbers_same}
 use Rattle.step_core.proofs.Results.{on_err}
 use Rattle.step_core.proofs.WorkedLines.{worked_more, worked_same}

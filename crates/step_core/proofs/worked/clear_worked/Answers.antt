@@ -3,7 +3,7 @@ use Rattle.std.proofs.Common.{◌++◌, sym, ap, subst, ◌∙◌, arith}
 use Rattle.std.specs.Option.{option_to_list}
 use Rattle.std.proofs.lemmas.List.{append-nil}
 use Rattle.activation.specs.Acting.{lasts_of}
-use Rattle.step_core.specs.Worked.{AreWorked}
+use Rattle.step_core.specs.inner.Worked.{AreWorked}
 use Rattle.step_core.proofs.Clearing.{all_kept, one_kept, seen_cleared, numbers_kept, length_kept, counted_kept}
 use Rattle.step_core.proofs.WorkedLines.{worked_less, named_within, all_rest}
 use Rattle.step_core.proofs.worked.clear_worked.Goals as goal

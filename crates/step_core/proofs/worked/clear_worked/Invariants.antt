@@ -1,5 +1,5 @@
 use Rattle.std.proofs.Common.{vec_len}
-use Rattle.step_core.specs.Worked.{AreWorked}
+use Rattle.step_core.specs.inner.Worked.{AreWorked}
 use Rattle.step_core.proofs.Clearing.{AreKept}
 use Rattle.step_core.proofs.worked.clear_worked.Given as goal
 

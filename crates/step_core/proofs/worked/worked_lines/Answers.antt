@@ -1,7 +1,7 @@
 use Rattle.std.proofs.Common.{◌≡◌, ap, ◌∙◌, length, refl, sym, arith}
 use Rattle.std.proofs.lemmas.Option.{slice_get_read}
 use Rattle.net_base.specs.Feeds.{numbers_below}
-use Rattle.step_core.specs.Worked.{has_entries}
+use Rattle.step_core.specs.inner.Worked.{has_entries}
 use Rattle.step_core.proofs.Parted.{are_worked, worked_more, worked_same}
 use Rattle.step_core.proofs.worked.worked_lines.Goals as goal
 use Rattle.step_core.proofs.worked.worked_lines.Goals.{then-not-is_empty+in_ok-push, else-not-is_empty}

@@ -7,8 +7,8 @@ use Rattle.work_store.specs.Stored.{held_of}
 use Rattle.net_base.specs.declared.tasks.Side.TheVariants.{Left}
 use Rattle.net_base.specs.Tokens.{goes_with}
 use Rattle.token_line.specs.Bags.{are_same_sides}
-use Rattle.token_line.specs.Codes.{cell_blocked, memory_of, tokens_of}
-use Rattle.token_line.specs.Pairs.{cell_of}
+use Rattle.token_line.specs.inner.Codes.{cell_blocked, memory_of, tokens_of}
+use Rattle.token_line.specs.inner.Pairs.{cell_of}
 use Rattle.token_line.specs.Sums.{blockers_kept, sum_kept}
 use Rattle.token_line.proofs.LineLemmas.{change_seen, keep_seen, none_blocked, same_where_not}
 use Rattle.token_line.proofs.SmallMapLemmas.{found_at, missing_value, written_lookup}

@@ -3,9 +3,9 @@ use Rattle.std.proofs.Common.{◌≡◌, IfSome, None, cond, nat_eq, subst, sym,
 use Rattle.std.specs.Map.{lookup}
 use Rattle.std.proofs.lemmas.Cmp.{nat_eq_equiv}
 use Rattle.std.proofs.lemmas.Map.Entries.{lookup_from_place}
-use Rattle.token_line.specs.Codes.{memory_of, tokens_of}
-use Rattle.token_line.specs.Pairs.{cell_of}
-use Rattle.token_line.specs.declared.memories.Memories.{Memories}
+use Rattle.token_line.specs.inner.Codes.{memory_of, tokens_of}
+use Rattle.token_line.specs.inner.Pairs.{cell_of}
+use Rattle.token_line.specs.declared.memories.NodeMemory.{NodeMemory}
 use Rattle.token_line.proofs.LineLemmas.{drop_seen}
 use Rattle.token_line.proofs.line.drop_if_empty.Goals as goal
 
@@ -14,7 +14,7 @@ returns-then-is_empty c = λ n k s t.
     let old = c.args.memories.now in
     let new = c.remove.new.self in
     let node = c.pair.result.0.now in
-    let gone = subst (λ o. IfSome o (λ (e : ℕ × Memories). (q : ℕ) → lookup (nat_eq q) new ≡ cond (nat_eq q e.0) None (lookup (nat_eq q) old))) c.pair.ensures c.remove.ensures.values in
+    let gone = subst (λ o. IfSome o (λ (e : ℕ × NodeMemory). (q : ℕ) → lookup (nat_eq q) new ≡ cond (nat_eq q e.0) None (lookup (nat_eq q) old))) c.pair.ensures c.remove.ensures.values in
     let own = lookup_from_place nat_eq_equiv old c.args.place node c.pair.result.1.now c.len-apart.ensures.apart c.pair.ensures in
     drop_seen (λ q. lookup (nat_eq q) old) (λ q. lookup (nat_eq q) new) node n (λ o. cell_of (tokens_of (memory_of o k) s) t) c.pair.result.1.now (gone n) own
     (sym (c.is_empty.ensures c.if-is_empty.true k s t))

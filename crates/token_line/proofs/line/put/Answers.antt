@@ -6,10 +6,10 @@ use Rattle.std.proofs.lemmas.Cmp.{nat_eq_equiv}
 use Rattle.indexmap.specs.IndexMap.{set_value_at}
 use Rattle.token_line.specs.Bags.{are_same_sides}
 use Rattle.net_base.specs.declared.tasks.Side.{Side}
-use Rattle.token_line.specs.declared.memories.Memories.{Memories}
-use Rattle.token_line.specs.declared.tokens.Cell.{Cell}
-use Rattle.token_line.specs.Codes.{cell_under, filed_among, memory_of, memory_under, tokens_of}
-use Rattle.token_line.specs.Pairs.{cell_of, place_of}
+use Rattle.token_line.specs.declared.memories.NodeMemory.{NodeMemory}
+use Rattle.token_line.specs.declared.tokens.TokenCount.{TokenCount}
+use Rattle.token_line.specs.inner.Codes.{cell_under, filed_among, memory_of, memory_under, tokens_of}
+use Rattle.token_line.specs.inner.Pairs.{cell_of, place_of}
 use Rattle.token_line.proofs.Filed.{fresh_cells, swapped}
 use Rattle.token_line.proofs.LineLemmas.{always_err, bare, put_seen, same_seen}
 use Rattle.token_line.proofs.SmallMapLemmas.{found_at, missing_value, push_lookup, set_last, value_last, within_set, written_lookup}
@@ -58,28 +58,28 @@ push-requires c =
     missing_value (nat_eq c.args.task.now.node) c.args.memories.now (sym c.requires.spot.node ∙ c.in-None.is)
 
 -- the memory that is new to the line stands last, and has nothing
-module _ (old pushed : List (ℕ × Memories)) (n code place : ℕ) (fresh was : Memories) (is : pushed ≡ old ++ (n, fresh) ∷ []) (last : place ≡ length old)
+module _ (old pushed : List (ℕ × NodeMemory)) (n code place : ℕ) (fresh was : NodeMemory) (is : pushed ≡ old ++ (n, fresh) ∷ []) (last : place ≡ length old)
     (got : slice_get (values_of pushed) place ≡ Some was) (own : fresh.code ≡ code) (left : fresh.first.left ≡ []) (right : fresh.first.right ≡ []) (others : fresh.others ≡ []) where
   was_fresh : was ≡ fresh
   was_fresh = (let same : Some was ≡ Some fresh = sym got ∙ (ap₂ (λ l k. slice_get (values_of l) k) is last ∙ value_last old n fresh) in cc)
 
   nothing : (k : ℕ) (s : Side) (t : List ℕ) → cell_under was k s t ≡ None
   nothing k s t =
-      ap (λ (m : Memories). cell_under m k s t) was_fresh
+      ap (λ (m : NodeMemory). cell_under m k s t) was_fresh
       ∙ (fresh_cells fresh code fresh.first own refl others k s t ∙ (ap (λ kept. cond (k == code) (cell_of kept t) None) (bare fresh.first left right s) ∙ both (k == code) None))
     where
-      both : (b : Bool) (o : Option Cell) → cond b o o ≡ o
+      both : (b : Bool) (o : Option TokenCount) → cond b o o ≡ o
       both true o = refl
       both false o = refl
 
   no_tokens : (s : Side) → tokens_of (memory_under was code) s ≡ []
   no_tokens s =
-      ap (λ (m : Memories). tokens_of (memory_under m code) s) was_fresh
+      ap (λ (m : NodeMemory). tokens_of (memory_under m code) s) was_fresh
       ∙ (ap (λ k. tokens_of (cond (code == k) (Some fresh.first) (lookup (nat_eq code) fresh.others)) s) own
       ∙ (ap (λ b. tokens_of (cond b (Some fresh.first) (lookup (nat_eq code) fresh.others)) s) ((Decides-eqb code code).1 refl) ∙ bare fresh.first left right s))
 
   -- once it is written
-  written : (new : Memories) → lookup (nat_eq n) old ≡ None → (m : ℕ) → lookup (nat_eq m) (set_value_at pushed place new) ≡ cond (nat_eq m n) (Some new) (lookup (nat_eq m) old)
+  written : (new : NodeMemory) → lookup (nat_eq n) old ≡ None → (m : ℕ) → lookup (nat_eq m) (set_value_at pushed place new) ≡ cond (nat_eq m n) (Some new) (lookup (nat_eq m) old)
   written new none m =
       ap (lookup (nat_eq m)) (ap₂ (λ l k. set_value_at l k new) is last ∙ set_last old n fresh new) ∙ push_lookup nat_eq_equiv old n new none m
 

@@ -4,9 +4,9 @@ use Rattle.std.specs.Map.{lookup}
 use Rattle.std.proofs.lemmas.Cmp.{nat_eq_equiv}
 use Rattle.indexmap.specs.IndexMap.{set_value_at}
 use Rattle.token_line.specs.Bags.{are_same_sides}
-use Rattle.token_line.specs.declared.memory.Memory.{Memory}
-use Rattle.token_line.specs.Codes.{tokens_of}
-use Rattle.token_line.specs.Pairs.{cell_of, place_of}
+use Rattle.token_line.specs.declared.memory.CodeMemory.{CodeMemory}
+use Rattle.token_line.specs.inner.Codes.{tokens_of}
+use Rattle.token_line.specs.inner.Pairs.{cell_of, place_of}
 use Rattle.token_line.specs.Sums.{side_of}
 use Rattle.token_line.proofs.LineLemmas.{always_err, bare, put_seen, same_seen}
 use Rattle.token_line.proofs.SmallMapLemmas.{found_at, missing_value, push_lookup, within_set, written_lookup}
@@ -34,7 +34,7 @@ returns-in_err-put-in-Some-clause-err c =
     let at = found_at (nat_eq code) old place was is c.value_mut.ensures.value in
     always_err c.from_residual.result
     (λ m s t. same_seen (λ q. lookup (nat_eq q) old) (λ q. lookup (nat_eq q) (set_value_at old place new)) code m (λ o. cell_of (tokens_of o s) t) was new
-    (written_lookup nat_eq_equiv old place code new c.len-apart.ensures.apart is m) at (ap (λ (x : Memory). cell_of (side_of x s) t) c.in_err-put-in-Some.ensures.err))
+    (written_lookup nat_eq_equiv old place code new c.len-apart.ensures.apart is m) at (ap (λ (x : CodeMemory). cell_of (side_of x s) t) c.in_err-put-in-Some.ensures.err))
 
 pub returns-in_ok-put-in-Some-clause-ok : goal.returns-in_ok-put-in-Some-clause-ok
 returns-in_ok-put-in-Some-clause-ok c = λ m s t.

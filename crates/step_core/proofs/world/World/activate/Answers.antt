@@ -7,7 +7,7 @@ use Rattle.net_base.specs.declared.tasks.Task.{Task}
 use Rattle.token_line.specs.declared.line.Entry.{Entry}
 use Rattle.token_line.specs.Held.{TaskFits}
 use Rattle.step_core.specs.declared.done.Done.{Done}
-use Rattle.step_core.specs.Doing.{entry_of}
+use Rattle.step_core.specs.inner.Doing.{entry_of}
 use Rattle.step_core.specs.Machine.{Activates}
 use Rattle.step_core.specs.Worlds.{EntryFits, placed, seen, world_of}
 use Rattle.step_core.proofs.Activating.{All-remove, world, entry_is, entry_fits, activates}

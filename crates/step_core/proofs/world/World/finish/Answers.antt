@@ -5,7 +5,7 @@ use Rattle.std.proofs.lemmas.List.Elements.{All-append}
 use Rattle.std.proofs.lemmas.Option.{get_or_from_slice_get, slice_get_read}
 use Rattle.token_line.specs.Held.{TaskFits}
 use Rattle.step_core.specs.declared.done.Done.{Done}
-use Rattle.step_core.specs.Doing.{entry_of}
+use Rattle.step_core.specs.inner.Doing.{entry_of}
 use Rattle.step_core.specs.Worlds.{EntryFits, seen}
 use Rattle.step_core.proofs.Activating.{All-remove, world}
 use Rattle.step_core.proofs.ListPlaces.{all_at, get_map, map-remove}

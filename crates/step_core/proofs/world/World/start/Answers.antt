@@ -4,7 +4,7 @@ use Rattle.std.specs.List.{All}
 use Rattle.std.proofs.lemmas.List.Elements.{All-nil}
 use Rattle.token_line.specs.Held.{TaskFits}
 use Rattle.step_core.specs.declared.done.Done.{Done}
-use Rattle.step_core.specs.Doing.{entry_of}
+use Rattle.step_core.specs.inner.Doing.{entry_of}
 use Rattle.step_core.specs.Machine.{lines_at_start}
 use Rattle.step_core.specs.Worlds.{EntryFits, placed}
 use Rattle.step_core.proofs.Activating.{world}

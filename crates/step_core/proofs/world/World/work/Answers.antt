@@ -7,7 +7,7 @@ use Rattle.std.proofs.lemmas.List.Elements.{All-append}
 use Rattle.work_store.specs.Stored.{held_of}
 use Rattle.net_base.specs.declared.tasks.Task.{Task}
 use Rattle.token_line.specs.Held.{TaskFits}
-use Rattle.step_core.specs.Doing.{entry_of}
+use Rattle.step_core.specs.inner.Doing.{entry_of}
 use Rattle.step_core.specs.Worlds.{ActsOn}
 use Rattle.step_core.proofs.Activating.{All-remove, works}
 use Rattle.step_core.proofs.ListPlaces.{all_at, get_last, remove_last}

@@ -5,7 +5,7 @@ use mir.Syntax.{w64}
 use mir.Val.{SFits}
 use Rattle.net_base.specs.declared.tasks.Side.TheVariants.{Left}
 use Rattle.token_line.specs.Bags.{sign}
-use Rattle.token_line.specs.Codes.{cell_among}
+use Rattle.token_line.specs.inner.Codes.{cell_among}
 use Rattle.token_line.specs.Sums.{blockers_kept, sum_kept}
 use Rattle.token_line.proofs.Filed.{alone_cell, put_apart, put_cells, put_codes, put_sums, same_cells}
 use Rattle.token_line.proofs.LineLemmas.{add_blockers, add_sums, always_err}

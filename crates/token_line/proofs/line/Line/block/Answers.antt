@@ -3,7 +3,7 @@ use Rattle.std.proofs.Common.{◌<◌, ◌-◌, ◌^◌, subst}
 use Rattle.net_base.specs.Tokens.{goes_with}
 use Rattle.net_base.specs.declared.tasks.Side.TheVariants.{Left}
 use Rattle.work_store.specs.Stored.{held_of}
-use Rattle.token_line.specs.Codes.{filed_among}
+use Rattle.token_line.specs.inner.Codes.{filed_among}
 use Rattle.token_line.specs.Sums.{blockers_kept}
 use Rattle.token_line.proofs.Filed.{block_numbers, block_sums, filed_cell, kept_some}
 use Rattle.token_line.proofs.line.Line.block.Goals as goal

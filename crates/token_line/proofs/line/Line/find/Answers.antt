@@ -2,8 +2,8 @@
 use Rattle.std.proofs.Common.{◌≡◌, ◌∙◌, ap, nat_eq, sym}
 use Rattle.std.specs.Map.{lookup}
 use Rattle.std.specs.Option.{option_copied}
-use Rattle.token_line.specs.Codes.{memory_of, tokens_of}
-use Rattle.token_line.specs.Pairs.{cell_of, place_of}
+use Rattle.token_line.specs.inner.Codes.{memory_of, tokens_of}
+use Rattle.token_line.specs.inner.Pairs.{cell_of, place_of}
 use Rattle.token_line.proofs.SmallMapLemmas.{found_value, missing_value}
 use Rattle.token_line.proofs.line.Line.find.Goals as goal
 

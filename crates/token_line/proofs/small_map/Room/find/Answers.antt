@@ -1,7 +1,7 @@
 -- A place among the keys is one among the pairs.
 use Rattle.std.proofs.Common.{ap, position, sym, ◌∙◌}
 use Rattle.std.specs.Map.{keys_of}
-use Rattle.token_line.specs.SmallMap.{pairs_in}
+use Rattle.token_line.specs.inner.SmallMap.{pairs_in}
 use Rattle.token_line.proofs.SmallMapLemmas.{position-map}
 use Rattle.token_line.proofs.small_map.Room.find.Goals as goal
 

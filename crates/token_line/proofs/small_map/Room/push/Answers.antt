@@ -2,7 +2,7 @@
 use Rattle.std.proofs.Common.{◌≡◌, ◌++◌, ◌∷◌, [], ◌∙◌, ap, sym}
 use Rattle.std.specs.Map.{lookup}
 use Rattle.indexmap.proofs.CallerLemmas.{insert_entry-new}
-use Rattle.token_line.specs.SmallMap.{pairs_in}
+use Rattle.token_line.specs.inner.SmallMap.{pairs_in}
 use Rattle.token_line.proofs.small_map.Room.push.Goals as goal
 
 pub returns-in_ok-insert-in-Many-clause-ok : goal.returns-in_ok-insert-in-Many-clause-ok

@@ -1,8 +1,8 @@
 -- The pair at the place keeps its key.
 use Rattle.std.proofs.Common.{◌≡◌, ◌<◌, ◌∙◌, Some, ap, length, refl, slice_get, subst, sym}
 use Rattle.std.proofs.lemmas.Option.{slice_get-get_or}
-use Rattle.token_line.specs.SmallMap.{pairs_in}
-use Rattle.token_line.specs.SmallMapLends.{list_with_value}
+use Rattle.token_line.specs.inner.SmallMap.{pairs_in}
+use Rattle.token_line.specs.inner.SmallMapLends.{list_with_value}
 use Rattle.token_line.specs.declared.small_map.Room.TheVariants.{Few}
 use Rattle.token_line.proofs.SmallMapLemmas.{value_of_pair}
 use Rattle.token_line.proofs.small_map.Room.value_mut.Goals as goal

@@ -2,7 +2,7 @@
 use Rattle.std.proofs.Common.{◌∙◌, ap, subst, sym}
 use Rattle.std.specs.List.{IsDistinct}
 use Rattle.std.specs.Map.{keys_of, lookup}
-use Rattle.token_line.specs.SmallMap.{pairs_in}
+use Rattle.token_line.specs.inner.SmallMap.{pairs_in}
 use Rattle.token_line.proofs.SmallMapLemmas.{pushed_or_not}
 use Rattle.token_line.proofs.small_map.SmallMap.push_within.Goals as goal
 

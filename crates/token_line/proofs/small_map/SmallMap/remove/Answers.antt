@@ -1,7 +1,7 @@
 -- The pairs that stay have the keys and values that they had.
 use Rattle.std.proofs.Common.{◌<◌, ◌≡◌, IfSome, None, cond, length, slice_get, subst, sym}
 use Rattle.std.specs.Map.{lookup}
-use Rattle.token_line.specs.SmallMap.{pairs_in}
+use Rattle.token_line.specs.inner.SmallMap.{pairs_in}
 use Rattle.token_line.proofs.SmallMapLemmas.{removed_apart, removed_values}
 use Rattle.token_line.proofs.small_map.SmallMap.remove.Goals as goal
 

@@ -3,7 +3,7 @@ use Rattle.std.proofs.Common.{◌∙◌, ap, refl, slice_get, subst, sym}
 use Rattle.std.specs.List.{IsDistinct}
 use Rattle.std.specs.Map.{keys_of, values_of}
 use Rattle.indexmap.specs.IndexMap.{set_value_at}
-use Rattle.token_line.specs.SmallMap.{pairs_in}
+use Rattle.token_line.specs.inner.SmallMap.{pairs_in}
 use Rattle.token_line.proofs.SmallMapLemmas.{keys_set, pairs_set}
 use Rattle.token_line.proofs.small_map.SmallMap.value_mut.Goals as goal
 

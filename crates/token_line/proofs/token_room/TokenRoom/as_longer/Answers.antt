@@ -1,7 +1,7 @@
 -- The next token is not among those before it, and is copied after them.
 use Rattle.std.proofs.Common.{◌∷◌, ◌++◌, ◌∙◌, List, [], ap₂, sym, ℕ}
-use Rattle.token_line.specs.Pairs.{Pairs, cell_of}
-use Rattle.token_line.specs.TokenRooms.{tokens_in}
+use Rattle.token_line.specs.inner.Pairs.{Pairs, cell_of}
+use Rattle.token_line.specs.inner.TokenRooms.{tokens_in}
 use Rattle.token_line.proofs.TokenRoomLemmas.{not_before, one_more}
 use Rattle.token_line.proofs.token_room.TokenRoom.as_longer.Goals as goal
 

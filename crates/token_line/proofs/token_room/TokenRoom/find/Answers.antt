@@ -1,6 +1,6 @@
 -- A token of one tag is found by its tag, and no other is there.
 use Rattle.std.proofs.Common.{sym, ◌∙◌, ap}
-use Rattle.token_line.specs.TokenRooms.{only_tag}
+use Rattle.token_line.specs.inner.TokenRooms.{only_tag}
 use Rattle.token_line.proofs.TokenRoomLemmas.{found_by_tag, longer_missing}
 use Rattle.token_line.proofs.token_room.TokenRoom.find.Goals as goal
 

@@ -1,7 +1,7 @@
 -- A tag is not there where its token is not.
 use Rattle.std.proofs.Common.{sym, ◌∙◌, ap, ◌∷◌, []}
-use Rattle.token_line.specs.Pairs.{cell_of}
-use Rattle.token_line.specs.TokenRooms.{tokens_in}
+use Rattle.token_line.specs.inner.Pairs.{cell_of}
+use Rattle.token_line.specs.inner.TokenRooms.{tokens_in}
 use Rattle.token_line.proofs.TokenRoomLemmas.{lookup_tags}
 use Rattle.token_line.proofs.token_room.TokenRoom.push_tag.Goals as goal
 

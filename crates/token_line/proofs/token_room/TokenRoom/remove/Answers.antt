@@ -1,7 +1,7 @@
 -- A tag is taken out as its token is.
 use Rattle.std.proofs.Common.{IfSome, ◌≡◌, slice_get, subst, sym}
 use Rattle.std.specs.List.{swap_remove}
-use Rattle.token_line.specs.TokenRooms.{as_tokens, tokens_in}
+use Rattle.token_line.specs.inner.TokenRooms.{as_tokens, tokens_in}
 use Rattle.token_line.proofs.TokenRoomLemmas.{removed_tags}
 use Rattle.token_line.proofs.token_room.TokenRoom.remove.Goals as goal
 

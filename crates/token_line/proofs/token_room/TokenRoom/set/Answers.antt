@@ -1,7 +1,7 @@
 -- A cell is written among the tags as it is among the tokens.
 use Rattle.std.proofs.Common.{sym, ◌∙◌, ap}
 use Rattle.indexmap.specs.IndexMap.{set_value_at}
-use Rattle.token_line.specs.TokenRooms.{tokens_in}
+use Rattle.token_line.specs.inner.TokenRooms.{tokens_in}
 use Rattle.token_line.proofs.TokenRoomLemmas.{set_tags}
 use Rattle.token_line.proofs.token_room.TokenRoom.set.Goals as goal
 

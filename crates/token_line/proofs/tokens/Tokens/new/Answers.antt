@@ -1,5 +1,5 @@
 -- No tokens are pairs.
-use Rattle.token_line.specs.TokenRooms.{tokens_in}
+use Rattle.token_line.specs.inner.TokenRooms.{tokens_in}
 use Rattle.token_line.proofs.PairLemmas.{no_pairs}
 use Rattle.token_line.proofs.tokens.Tokens.new.Goals as goal
 

@@ -1,5 +1,5 @@
 -- No token that is kept has the sum 0.
-use Rattle.token_line.specs.TokenRooms.{tokens_in}
+use Rattle.token_line.specs.inner.TokenRooms.{tokens_in}
 use Rattle.token_line.proofs.PairLemmas.{some_at}
 use Rattle.token_line.proofs.tokens.Tokens.pair.Goals as goal
 

@@ -1,7 +1,7 @@
 -- A new token joins those that were there, or nothing has changed.
 use Rattle.std.proofs.Common.{◌∙◌, ap}
-use Rattle.token_line.specs.Pairs.{cell_of}
-use Rattle.token_line.specs.TokenRooms.{tokens_in}
+use Rattle.token_line.specs.inner.Pairs.{cell_of}
+use Rattle.token_line.specs.inner.TokenRooms.{tokens_in}
 use Rattle.token_line.proofs.PairLemmas.{pushed_or_not}
 use Rattle.token_line.proofs.tokens.Tokens.push.Goals as goal
 

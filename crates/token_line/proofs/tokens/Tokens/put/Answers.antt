@@ -1,6 +1,6 @@
 -- What is kept of the token, by its place, and of every other token as before.
 use Rattle.std.proofs.Common.{◌∙◌, OnOk, Result, Ok, Err, ap, bytes_eq, cond, sym}
-use Rattle.token_line.specs.Pairs.{cell_of}
+use Rattle.token_line.specs.inner.Pairs.{cell_of}
 use Rattle.token_line.proofs.PairLemmas.{place_missing, push_by_place, remove_by_place, same_by_place, set_by_place}
 use Rattle.token_line.proofs.tokens.Tokens.put.Goals as goal
 

@@ -1,6 +1,6 @@
 -- The tokens that stay are as they were.
 use Rattle.std.proofs.Common.{◌<◌, length, subst, sym}
-use Rattle.token_line.specs.TokenRooms.{tokens_in}
+use Rattle.token_line.specs.inner.TokenRooms.{tokens_in}
 use Rattle.token_line.proofs.PairLemmas.{removed_are}
 use Rattle.token_line.proofs.tokens.Tokens.remove.Goals as goal
 

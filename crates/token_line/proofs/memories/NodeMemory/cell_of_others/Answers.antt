@@ -1,15 +1,15 @@
 -- Under a code that is done nothing is kept of the token, and what is left decides.
 use Rattle.std.proofs.Common.{◌∙◌, ℕ, Option, add-one, ap, drop, suc, sym}
 use Rattle.std.specs.Map.{keys_of}
-use Rattle.token_line.specs.declared.tokens.Cell.{Cell}
-use Rattle.token_line.specs.Codes.{cell_under, first_some}
+use Rattle.token_line.specs.declared.tokens.TokenCount.{TokenCount}
+use Rattle.token_line.specs.inner.Codes.{cell_under, first_some}
 use Rattle.token_line.proofs.Filed.{none_then, some_then}
 use Rattle.token_line.proofs.SmallMapLemmas.{keys_left}
-use Rattle.token_line.proofs.memories.Memories.cell_of_others.Goals as goal
+use Rattle.token_line.proofs.memories.NodeMemory.cell_of_others.Goals as goal
 
 pub loop-place-preserved : goal.loop-place-preserved
 loop-place-preserved c =
-    let f : ℕ → Option Cell = λ k. cell_under c.args.self.now k c.args.side c.args.token.now in
+    let f : ℕ → Option TokenCount = λ k. cell_under c.args.self.now k c.args.side c.args.token.now in
     let others = c.args.self.now.others in
     let i = c.loop-place.place in
     let code = c.pair.result.0.now in
@@ -20,7 +20,7 @@ loop-place-preserved c =
 
 pub returns-in-Some : goal.returns-in-Some
 returns-in-Some c =
-    let f : ℕ → Option Cell = λ k. cell_under c.args.self.now k c.args.side c.args.token.now in
+    let f : ℕ → Option TokenCount = λ k. cell_under c.args.self.now k c.args.side c.args.token.now in
     let others = c.args.self.now.others in
     let i = c.loop-place.place in
     let code = c.pair.result.0.now in

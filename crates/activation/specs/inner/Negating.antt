@@ -6,11 +6,11 @@ use Rattle.std.specs.Option.{option_map_or}
 use Rattle.net_base.specs.declared.nodes.Node.{Node}
 use Rattle.net_base.specs.declared.tasks.Task.{Task}
 use Rattle.net_base.specs.Tokens.{Elements, goes_with}
-use Rattle.token_line.specs.declared.tokens.Cell.{Cell}
-use Rattle.token_line.specs.declared.memory.Memory.{Memory}
+use Rattle.token_line.specs.declared.tokens.TokenCount.{TokenCount}
+use Rattle.token_line.specs.declared.memory.CodeMemory.{CodeMemory}
 use Rattle.token_line.specs.Bags.{standing}
-use Rattle.token_line.specs.Pairs.{Pairs, cell_of}
-use Rattle.activation.specs.Putting.{Put, put_if}
+use Rattle.token_line.specs.inner.Pairs.{Pairs, cell_of}
+use Rattle.activation.specs.inner.Putting.{Put, put_if}
 
 -- ---- how often right tokens stand that match a left one
 
@@ -21,7 +21,7 @@ number_matching node elements t (e ∷ right) =
     (if goes_with node.kind node.joins elements t e.0 then standing e.1.sum else 0) + number_matching node elements t right
 
 -- what is kept with the left token; where it is not kept, what stands now
-abbrev pub blockers_for : Node → Elements → Option Memory → List ℕ → ℕ
+abbrev pub blockers_for : Node → Elements → Option CodeMemory → List ℕ → ℕ
 blockers_for node elements None t = 0
 blockers_for node elements (Some m) t = option_map_or (λ c. c.blockers) (cell_of m.left t) (number_matching node elements t m.right)
 
@@ -42,7 +42,7 @@ put_flipped node elements r plus left = flat_map (λ e. put_if ((e.1.blockers ==
 
 -- ---- room for one blocker more
 
-abbrev pub has_room : Bool → Cell → Bool
+abbrev pub has_room : Bool → TokenCount → Bool
 has_room plus c = if plus then nat_lt c.blockers (2 ^ 64 - 1) else true
 
 abbrev pub all_have_room : Bool → Pairs → Bool

@@ -7,11 +7,11 @@ use std::snapshot::Snapshot;
 
 /// A task that takes no bytes. No code reads it here.
 #[derive(Drop)]
-pub struct Deed {
+pub struct GhostTask {
     task: Snapshot<Task>,
 }
 
-impl Model for Deed {
+impl Model for GhostTask {
     ghost use Rattle.net_base.specs.declared.tasks.Task.{Task};
 
     ghost Value = { Task };
@@ -19,12 +19,12 @@ impl Model for Deed {
     ghost view = { λ d. d.task.value };
 }
 
-impl Deed {
+impl GhostTask {
     /// That this task was done. Takes no memory.
-    pub fn of(task: &Task) -> Deed
+    pub fn of(task: &Task) -> GhostTask
         ensures { result ≡ task.now }
     {
-        Deed {
+        GhostTask {
             task: Snapshot::of(task),
         }
     }

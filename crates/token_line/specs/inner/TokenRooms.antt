@@ -1,9 +1,9 @@
 -- The tokens that a room holds.
 use Rattle.std.specs.Prelude.{ℕ, List, [], ◌∷◌, map, Option, Some, None}
-use Rattle.token_line.specs.declared.tokens.Cell.{Cell}
+use Rattle.token_line.specs.declared.tokens.TokenCount.{TokenCount}
 use Rattle.token_line.specs.declared.token_room.TokenRoom.{TokenRoom}
 use Rattle.token_line.specs.declared.token_room.TokenRoom.TheVariants.{One, Elements, Longer}
-use Rattle.token_line.specs.Pairs.{Pairs}
+use Rattle.token_line.specs.inner.Pairs.{Pairs}
 
 -- the tag of a token that has no other
 abbrev pub only_tag : List ℕ → Option ℕ
@@ -12,7 +12,7 @@ only_tag (tag ∷ []) = Some tag
 only_tag (tag ∷ next ∷ rest) = None
 
 -- each tag as a token
-abbrev pub as_tokens : List (ℕ × Cell) → Pairs
+abbrev pub as_tokens : List (ℕ × TokenCount) → Pairs
 as_tokens tags = map (λ e. (e.0 ∷ [], e.1)) tags
 
 abbrev pub tokens_in : TokenRoom → Pairs

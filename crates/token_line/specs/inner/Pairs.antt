@@ -3,13 +3,13 @@ use Rattle.std.specs.Prelude.{◌≢◌, ℕ, List, Option, pos, bytes_eq, posit
 use Rattle.std.specs.List.{IsDistinct}
 use Rattle.std.specs.Map.{keys_of, lookup}
 use Rattle.std.specs.Option.{ForSome}
-use Rattle.token_line.specs.declared.tokens.Cell.{Cell}
+use Rattle.token_line.specs.declared.tokens.TokenCount.{TokenCount}
 
 abbrev pub Pairs : Type 0
-Pairs = List (List ℕ × Cell)
+Pairs = List (List ℕ × TokenCount)
 
 -- what is kept of a token
-abbrev pub cell_of : Pairs → List ℕ → Option Cell
+abbrev pub cell_of : Pairs → List ℕ → Option TokenCount
 cell_of kept t = lookup (bytes_eq t) kept
 
 -- the place of a token

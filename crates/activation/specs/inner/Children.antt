@@ -5,7 +5,7 @@ use Rattle.net_base.specs.declared.nodes.Node.{Node}
 use Rattle.net_base.specs.declared.tasks.Side.{Side}
 use Rattle.net_base.specs.declared.tasks.Side.TheVariants.{Left, Right}
 use Rattle.net_base.specs.declared.tasks.Task.{Task}
-use Rattle.activation.specs.Putting.{Put}
+use Rattle.activation.specs.inner.Putting.{Put}
 
 -- the tasks that were there are still there, before any others
 abbrev pub Grows : List Task → List Task → Type 0

@@ -5,9 +5,9 @@ use Rattle.net_base.specs.declared.nodes.JoinTest.{JoinTest}
 use Rattle.net_base.specs.declared.tasks.Side.{Side}
 use Rattle.net_base.specs.declared.tasks.Side.TheVariants.{Left, Right}
 use Rattle.net_base.specs.Tokens.{Elements, joins_hold}
-use Rattle.token_line.specs.declared.memory.Memory.{Memory}
+use Rattle.token_line.specs.declared.memory.CodeMemory.{CodeMemory}
 use Rattle.token_line.specs.Bags.{standing}
-use Rattle.token_line.specs.Pairs.{Pairs}
+use Rattle.token_line.specs.inner.Pairs.{Pairs}
 
 -- a token that a node puts out, and how often
 pub record Put : Type 0 where
@@ -29,11 +29,11 @@ changes (negsuc n) false = false
 
 -- ---- the tokens of a node, none where no token of it ever came
 
-abbrev pub left_entries : Option Memory → Pairs
+abbrev pub left_entries : Option CodeMemory → Pairs
 left_entries None = []
 left_entries (Some m) = m.left
 
-abbrev pub right_entries : Option Memory → Pairs
+abbrev pub right_entries : Option CodeMemory → Pairs
 right_entries None = []
 right_entries (Some m) = m.right
 
@@ -52,6 +52,6 @@ abbrev pub put_for_right : List JoinTest → Elements → ℕ → Pairs → List
 put_for_right tests elements tag left = flat_map (λ e. put_if (joins_hold tests elements e.0 tag) (e.0 ++ tag ∷ []) e.1.sum) left
 
 -- the same of a task that changes how often its token stands, by the side of the token
-abbrev pub put_for : List JoinTest → Elements → Option Memory → Side → List ℕ → List Put
+abbrev pub put_for : List JoinTest → Elements → Option CodeMemory → Side → List ℕ → List Put
 put_for tests elements m Left t = put_for_left tests elements t (right_entries m)
 put_for tests elements m Right t = put_for_right tests elements (slice_index t 0) (left_entries m)

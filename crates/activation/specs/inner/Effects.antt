@@ -8,11 +8,11 @@ use Rattle.net_base.specs.declared.nodes.JoinTest.{JoinTest}
 use Rattle.net_base.specs.declared.nodes.Node.{Node}
 use Rattle.net_base.specs.declared.tasks.Task.{Task}
 use Rattle.net_base.specs.Tokens.{Elements}
-use Rattle.token_line.specs.declared.memory.Memory.{Memory}
+use Rattle.token_line.specs.declared.memory.CodeMemory.{CodeMemory}
 use Rattle.activation.specs.declared.effects.Done.{Done}
-use Rattle.activation.specs.Children.{Target, children_of}
-use Rattle.activation.specs.Putting.{Put, left_entries, put_for}
-use Rattle.activation.specs.Negating.{blockers_for, put_once, put_flipped}
+use Rattle.activation.specs.inner.Children.{Target, children_of}
+use Rattle.activation.specs.inner.Putting.{Put, left_entries, put_for}
+use Rattle.activation.specs.inner.Negating.{blockers_for, put_once, put_flipped}
 
 -- What a task does at its node: what is put out below, to arrive there or to leave; how often right tokens stand that
 -- match the task's token, if that is a left one of a negated node or a group, else 0; and whether the token is one
@@ -28,7 +28,7 @@ abbrev pub no_effect : Bool → Effect
 no_effect plus = record { plus = plus; puts = []; blockers = 0; blocks = false }
 
 -- at a join; `moves` says whether the task changes how often its token stands
-abbrev pub join_effect : List JoinTest → Elements → Option Memory → Task → Bool → Effect
+abbrev pub join_effect : List JoinTest → Elements → Option CodeMemory → Task → Bool → Effect
 join_effect tests elements m x moves = record {
   plus = x.plus;
   puts = if moves then put_for tests elements m x.side x.token else [];
@@ -37,7 +37,7 @@ join_effect tests elements m x moves = record {
 }
 
 -- of a left task at a negated node or a group
-abbrev pub left_effect : Node → Elements → Option Memory → Task → Bool → Effect
+abbrev pub left_effect : Node → Elements → Option CodeMemory → Task → Bool → Effect
 left_effect node elements m x moves = record {
   plus = x.plus;
   puts = put_once (moves && (blockers_for node elements m x.token == 0)) x.token;
@@ -46,7 +46,7 @@ left_effect node elements m x moves = record {
 }
 
 -- of a right task at one of these: an insert takes back what was put out, and a delete puts it out again
-abbrev pub right_effect : Node → Elements → Option Memory → Task → Bool → Effect
+abbrev pub right_effect : Node → Elements → Option CodeMemory → Task → Bool → Effect
 right_effect node elements m x moves = record {
   plus = not x.plus;
   puts = if moves then put_flipped node elements x.token x.plus (left_entries m) else [];
@@ -55,18 +55,18 @@ right_effect node elements m x moves = record {
 }
 
 -- of a task at one of these, by its side
-abbrev pub negated_effect : Side → Node → Elements → Option Memory → Task → Bool → Effect
+abbrev pub negated_effect : Side → Node → Elements → Option CodeMemory → Task → Bool → Effect
 negated_effect Left node elements m x moves = left_effect node elements m x moves
 negated_effect Right node elements m x moves = right_effect node elements m x moves
 
 -- at a node of this kind
-abbrev pub effect_by : Kind → Node → Elements → Option Memory → Task → Bool → Effect
+abbrev pub effect_by : Kind → Node → Elements → Option CodeMemory → Task → Bool → Effect
 effect_by Join node elements m x moves = join_effect node.joins elements m x moves
 effect_by Negated node elements m x moves = negated_effect x.side node elements m x moves
 effect_by (Group giver width members) node elements m x moves = negated_effect x.side node elements m x moves
 effect_by (Terminal rule) node elements m x moves = no_effect x.plus
 
-abbrev pub effect_at : Node → Elements → Option Memory → Task → Bool → Effect
+abbrev pub effect_at : Node → Elements → Option CodeMemory → Task → Bool → Effect
 effect_at node elements m x moves = effect_by node.kind node elements m x moves
 
 -- What the effect puts out came after the tasks that were there, for each of the nodes below; the rest is as the effect

@@ -8,12 +8,12 @@ use std::snapshot::Snapshot;
 
 /// A list of tasks that takes no bytes. The tasks themselves went on: no code reads them here.
 #[derive(Drop)]
-pub struct Children {
+pub struct GhostTasks {
     all: Snapshot<Vec<Task>>,
     from: Snapshot<usize>,
 }
 
-impl Model for Children {
+impl Model for GhostTasks {
     ghost use Rattle.std.specs.Prelude.{List, drop};
     ghost use Rattle.net_base.specs.declared.tasks.Task.{Task};
 
@@ -22,19 +22,19 @@ impl Model for Children {
     ghost view = { λ c. drop c.from.value c.all.value.items };
 }
 
-impl Children {
+impl GhostTasks {
     /// No tasks. Takes no memory.
-    pub fn none(alloc: Global) -> Children
+    pub fn none(alloc: Global) -> GhostTasks
         ensures { result ≡ [] }
     {
-        Children::since(&Vec::new(alloc), 0)
+        GhostTasks::since(&Vec::new(alloc), 0)
     }
 
     /// The tasks that stand in the list from that place on. Takes no memory.
-    pub fn since(all: &Vec<Task>, from: usize) -> Children
+    pub fn since(all: &Vec<Task>, from: usize) -> GhostTasks
         ensures { result ≡ drop from all.now.items }
     {
-        Children {
+        GhostTasks {
             all: Snapshot::of(all),
             from: Snapshot::of(&from),
         }

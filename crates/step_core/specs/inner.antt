@@ -1,0 +1,5 @@
+-- How the code keeps its lists and adds up: nothing here says what is right.
+pub mod Starts
+pub mod Worked
+pub mod Doing
+pub mod Gathering
