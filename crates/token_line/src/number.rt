@@ -1,13 +1,17 @@
 //! The code of a token, and the number of the line on which it stands. Tokens that go together at a node have one code,
 //! and one line.
 ghost use Rattle.std.specs.Prelude.{◌≡◌, ◌<◌, ◌≤◌, fold, map, take};
+ghost use Rattle.std.specs.Option.{option_copied};
 ghost use Rattle.work_store.specs.Stored.{held_of};
+ghost use Rattle.net_base.specs.declared.tasks.Side.TheVariants.{Left};
+ghost use Rattle.net_base.specs.Tokens.{field_in};
 ghost use Rattle.token_line.specs.Numbers.{code_of, equalities, is_equal, line_number, mixed, kept_codes, own_codes, own_value, value_code};
 
 use crate::joining::{field_of, tag_at};
 use net_base::net::Net;
 use net_base::nodes::{JoinTest, Kind, Node};
 use net_base::tasks::{Side, Task};
+use ops_base::elements::Element;
 use ops_base::values::{Pred, Value};
 use work_store::Store;
 
@@ -48,24 +52,36 @@ fn is_equal(pred: Pred) -> bool
     }
 }
 
-/// What the token has at the test: a field of the element that it names there.
-fn own_value(store: &Store, side: Side, tags: &[u64], test: &JoinTest) -> Value
-    ensures { result ≡ own_value (held_of store.now) side tags.now test.now }
+/// What a left token has at the test: a field of the element that it names there.
+fn left_value(store: &Store, tags: &[u64], test: &JoinTest) -> Value
+    ensures { result ≡ own_value (held_of store.now) Left tags.now test.now }
+{
+    field_of(store.kept(tag_at(tags, test.place)), test.other)
+}
+
+/// The code, with the token's values at the tests for equality mixed in. The element of a right token is looked up
+/// once.
+fn with_values(store: &Store, side: Side, tags: &[u64], tests: &[JoinTest], code: u64) -> u64
+    ensures { result ≡ fold mixed code (map (λ j. value_code (own_value (held_of store.now) side tags.now j)) (equalities tests.now)) }
 {
     match side {
-        Side::Left => field_of(store.kept(tag_at(tags, test.place)), test.other),
-        Side::Right => field_of(store.kept(tag_at(tags, 0)), test.field),
+        Side::Left => tests
+            .iter()
+            .filter(|test| is_equal(test.pred))
+            .map(|test| value_code(left_value(store, tags, test)))
+            .fold(code, mixed),
+        Side::Right => with_fields(store.kept(tag_at(tags, 0)), tests, code),
     }
 }
 
-/// The code, with the token's values at the tests for equality mixed in.
-fn with_values(store: &Store, side: Side, tags: &[u64], tests: &[JoinTest], code: u64) -> u64
-    ensures { result ≡ fold mixed code (map (λ j. value_code (own_value (held_of store.now) side tags.now j)) (equalities tests.now)) }
+/// The code, with the fields of this element at the tests for equality mixed in.
+fn with_fields(element: Option<&Element>, tests: &[JoinTest], code: u64) -> u64
+    ensures { result ≡ fold mixed code (map (λ j. value_code (field_in (option_copied element.entry) j.field)) (equalities tests.now)) }
 {
     tests
         .iter()
         .filter(|test| is_equal(test.pred))
-        .map(|test| value_code(own_value(store, side, tags, test)))
+        .map(|test| value_code(field_of(element, test.field)))
         .fold(code, mixed)
 }
 
