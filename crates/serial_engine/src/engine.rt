@@ -1,5 +1,5 @@
 //! The serial engine: a matcher over a network, which works one task after another.
-ghost use Rattle.std.specs.Prelude.{◌≡◌, ◌≤◌, All, IfOk, [], length, map};
+ghost use Rattle.std.specs.Prelude.{◌≡◌, ◌≤◌, All, IfOk, List, [], length, map};
 ghost use Rattle.work_store.specs.Stored.{held_of, nothing_stored};
 ghost use Rattle.activation.specs.Acting.{TellsOfLasts};
 ghost use Rattle.step_core.specs.Laws.{AreEmpty};
@@ -52,7 +52,9 @@ impl<G> Model for SerialEngine<G> {
 }
 
 impl<G: Gate + Drop> SerialEngine<G> {
+    ghost use Rattle.ops_base.specs.declared.rules.Rule.{Rule};
     ghost use Rattle.ops_base.specs.WorkingMemory.{Lawful, done, last_after};
+    ghost use Rattle.net_base.specs.Network.{NetOf};
     ghost use Rattle.work_store.specs.Settling.{IsSettled};
     ghost use Rattle.work_store.specs.Stored.{HoldsAlso, added_by};
     ghost use Rattle.step_core.specs.Found.{found_over};
@@ -120,6 +122,7 @@ impl<G: Gate + Drop> SerialEngine<G> {
         ensures elements { IfOk result (λ s. s.matcher.store.elements ≡ done self.store.elements changes.now) }
         ensures last { IfOk result (λ s. s.matcher.store.last ≡ last_after self.store.last changes.now) }
         ensures settled { IfOk result (λ s. IsSettled (found_over self.net.alphas self.net.nodes self.store.elements) (found_over s.matcher.net.alphas s.matcher.net.nodes s.matcher.store.elements) s.gone.items s.come.items) }
+        ensures stands { IfOk result (λ s. (rules : List Rule) → NetOf self.net rules → NetOf s.matcher.net rules) }
         ensures net { IfOk result (λ s. s.matcher.net ≡ self.net) }
         ensures kept { IfOk result (λ s. HoldsAlso (record self.store { kept = [] }) s.matcher.store (added_by changes.now)) }
         ensures bundle { IfOk result (λ s. IsBundle (held_of s.matcher.store) s.matcher.net.alphas s.matcher.net.nodes (placed (held_of s.matcher.store) s.matcher.net.nodes (length s.matcher.world.lines.items)) self.store.elements changes.now (map seen s.matcher.world.lines.items)) }
@@ -148,7 +151,6 @@ impl<G: Gate + Drop> SerialEngine<G> {
 }
 
 impl<G: Gate + Drop> Matcher for SerialEngine<G> {
-    ghost use Rattle.std.specs.Prelude.{List};
     ghost use Rattle.ops_base.specs.declared.rules.Rule.{Rule};
     ghost use Rattle.ops_base.specs.WorkingMemory.{Lawful, done, last_after};
     ghost use Rattle.work_store.specs.Settling.{IsSettled};

@@ -2,7 +2,7 @@
 ghost use Rattle.std.specs.Prelude.{◌≡◌, ◌+◌, ◌<◌, ◌≤◌, ◌++◌, [], ◌∷◌, false, true, None, length, IfOk, OnErr, OnOk, vec_len, vec_capacity};
 ghost use Rattle.std.specs.VecDeque.{deque_capacity, deque_len};
 ghost use Rattle.task_pool.specs.declared.pool.PoolEntry.TheVariants.{Finish as FinishEntry, Stop as StopEntry};
-ghost use Rattle.task_pool.specs.Pools.{HasPlayed, TakeSays, TakesFrom, holds};
+ghost use Rattle.task_pool.specs.Pools.{HasPlayed, IsRun, TakeSays, TakesFrom, begun, holds};
 ghost use Rattle.task_pool.specs.Facts.{played_prop};
 
 use net_base::tasks::Task;
@@ -80,8 +80,11 @@ impl Pool {
 
     /// What was done since `new`, in this order. Takes no memory.
     pub fn entries(&self) -> &[PoolEntry]
-        ensures { result.now ≡ self.now.entries.items }
+        ensures entries { result.now ≡ self.now.entries.items }
+        // A worker that holds no task took the first one that waited, and one that held a task finished or left it.
+        ensures run { IsRun (begun self.now.first.value.items) result.now }
     {
+        let _played = self.unfinished;
         self.entries.as_slice()
     }
 
