@@ -76,7 +76,7 @@ impl Matcher for DirectEngine {
     }
 
     /// Where there are changes it finds the whole conflict set again: for each rule it takes time in all of working
-    /// memory, however few the changes are. It keeps no removed element.
+    /// memory, however few the changes are.
     fn settle(
         self,
         alloc: Global,
