@@ -10,7 +10,7 @@ use Rattle.ops_base.specs.declared.elements.Change.{Change}
 use Rattle.ops_base.specs.declared.elements.Change.TheVariants as change
 use Rattle.ops_base.specs.WorkingMemory.{tags_of, without_tag, done, Lawful}
 use Rattle.ops_meaning.specs.Acting.{has_tag, element_of}
-use Rattle.work_store.proofs.ActState.{found_to_remove}
+use Rattle.work_store.proofs.Doing.{found_to_remove}
 use Rattle.work_store.proofs.Lists.{tag_is, above_differs}
 use Rattle.act_phase.specs.Changed.{AreCounted, added_by, last_added}
 use Rattle.act_phase.proofs.Counts.{has_tag-added, has_tag-without, found_there}

@@ -9,7 +9,7 @@ use Rattle.ops_base.specs.declared.elements.Change.{Change}
 use Rattle.ops_base.specs.declared.elements.Change.TheVariants as change
 use Rattle.ops_base.specs.WorkingMemory.{done, Lawful, last_after}
 use Rattle.ops_meaning.specs.Acting.{has_tag}
-use Rattle.act_phase.specs.declared.gone.RemovedTags.{RemovedTags}
+use Rattle.act_phase.specs.declared.removed_tags.RemovedTags.{RemovedTags}
 
 -- the tag is one of those that were removed
 abbrev pub is_among : RemovedTags → ℕ → Bool
