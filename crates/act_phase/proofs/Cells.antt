@@ -43,23 +43,23 @@ below_from place n h = grind (arith, nat_tests)
 pub below_is : (place n : ℕ) → place < n → nat_lt place n ≡ true
 below_is place n lt = grind (arith, nat_tests)
 
-held_stays : (start : List Element) (changes more : List Change) (c : Cell) → is_there (length changes) c ≡ true → held_by start (changes ++ more) c ≡ held_by start changes c
-held_stays start changes more (cell.Matched tag) there = refl
-held_stays start changes more (cell.Made place) there = made_stays changes more place (below_from place (length changes) there)
-held_stays start changes more cell.Nothing there = refl
+held_stays : (changes more : List Change) (c : Cell) → is_there (length changes) c ≡ true → held_by (changes ++ more) c ≡ held_by changes c
+held_stays changes more (cell.Matched e) there = refl
+held_stays changes more (cell.Made place) there = made_stays changes more place (below_from place (length changes) there)
+held_stays changes more cell.Nothing there = refl
 
 there_stays : (n m : ℕ) (c : Cell) → n ≤ m → is_there n c ≡ true → is_there m c ≡ true
-there_stays n m (cell.Matched tag) le there = refl
+there_stays n m (cell.Matched e) le there = refl
 there_stays n m (cell.Made place) le there = let lt = below_from place n there in below_is place m (omega (arith, lt, le))
 there_stays n m cell.Nothing le there = refl
 
 -- ---- all cells
 
-cells_stay : (start : List Element) (changes more : List Change) (cells : List Cell) → list_all (is_there (length changes)) cells ≡ true → map (held_by start (changes ++ more)) cells ≡ map (held_by start changes) cells
-cells_stay start changes more [] there = refl
-cells_stay start changes more (c ∷ cells) there =
+cells_stay : (changes more : List Change) (cells : List Cell) → list_all (is_there (length changes)) cells ≡ true → map (held_by (changes ++ more)) cells ≡ map (held_by changes) cells
+cells_stay changes more [] there = refl
+cells_stay changes more (c ∷ cells) there =
     let both = both_true (is_there (length changes) c) (list_all (is_there (length changes)) cells) there in
-    ap (λ e. e ∷ map (held_by start (changes ++ more)) cells) (held_stays start changes more c both.0) ∙ ap (λ es. held_by start changes c ∷ es) (cells_stay start changes more cells both.1)
+    ap (λ e. e ∷ map (held_by (changes ++ more)) cells) (held_stays changes more c both.0) ∙ ap (λ es. held_by changes c ∷ es) (cells_stay changes more cells both.1)
 
 cells_there : (n m : ℕ) (cells : List Cell) → n ≤ m → list_all (is_there n) cells ≡ true → list_all (is_there m) cells ≡ true
 cells_there n m [] le there = refl
@@ -68,10 +68,8 @@ cells_there n m (c ∷ cells) le there =
     ap (λ b. b && list_all (is_there m) cells) (there_stays n m c le both.0) ∙ cells_there n m cells le both.1
 
 module _ (w v : Changed) (cells : List Cell) (p : GoesOnTo w v) (there : list_all (is_there (length w.changes)) cells ≡ true) where
-  pub still_held : map (held_by v.start v.changes) cells ≡ map (held_by w.start w.changes) cells
-  still_held =
-      ap (λ start. map (held_by start v.changes) cells) p.start ∙ ap (λ changes. map (held_by w.start changes) cells) p.changes
-      ∙ cells_stay w.start w.changes p.more cells there
+  pub still_held : map (held_by v.changes) cells ≡ map (held_by w.changes) cells
+  still_held = ap (λ changes. map (held_by changes) cells) p.changes ∙ cells_stay w.changes p.more cells there
 
   pub still_there : list_all (is_there (length v.changes)) cells ≡ true
   still_there = cells_there (length w.changes) (length v.changes) cells (omega (arith, ap length p.changes, length-append w.changes p.more)) there

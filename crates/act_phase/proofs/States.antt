@@ -10,7 +10,7 @@ use Rattle.ops_base.specs.declared.elements.Change.TheVariants as change
 use Rattle.ops_base.specs.declared.matching.Binding.{Binding}
 use Rattle.ops_base.specs.declared.values.Value.{Value}
 use Rattle.ops_io.specs.Coming.{Coming}
-use Rattle.ops_meaning.specs.Acting.{ActState as Meant, has_tag, cell_of, next_element, added, removed, modified, changed, cell_bound, made_last}
+use Rattle.ops_meaning.specs.Acting.{ActState as Meant, Setting, has_tag, cell_of, next_element, added, removed, modified, changed, cell_bound, made_last}
 use Rattle.ops_base.proofs.Changes.{done_push}
 use Rattle.act_phase.specs.Changed.{Changed, GoesOnTo, memory_of, with_change, with_removed, with_added}
 use Rattle.act_phase.specs.State.{State, made_at, held_by, is_there, doing_of}
@@ -33,15 +33,15 @@ removed-last d tag = by (has_tag d.wm tag)
     by false = refl
 
 -- the state where the code keeps this
-abbrev pub state_of : Changed → List Binding → List Cell → Bool → State
-state_of w bindings cells halted = record { working = w; bindings = bindings; cells = map (held_by w.start w.changes) cells; halted = halted }
+abbrev pub state_of : Setting → Changed → List Binding → List Cell → Bool → State
+state_of setting w bindings cells halted = record { setting = setting; working = w; bindings = bindings; cells = map (held_by w.changes) cells; halted = halted }
 
 -- another cell in the place of one
-pub state_set : (w : Changed) (bindings : List Binding) (cells : List Cell) (halted : Bool) (s : State) → state_of w bindings cells halted ≡ s → (at place : ℕ)
-    → state_of w bindings (slice_set cells at (cell.Made place)) halted ≡ record s { cells = slice_set s.cells at (made_at s.working.changes place) }
-state_set w bindings cells halted s view_is at place =
-    let with_cells : List Element → State = λ cs. record (state_of w bindings cells halted) { cells = cs } in
-    ap with_cells (map-set (held_by w.start w.changes) cells at (cell.Made place))
+pub state_set : (setting : Setting) (w : Changed) (bindings : List Binding) (cells : List Cell) (halted : Bool) (s : State) → state_of setting w bindings cells halted ≡ s → (at place : ℕ)
+    → state_of setting w bindings (slice_set cells at (cell.Made place)) halted ≡ record s { cells = slice_set s.cells at (made_at s.working.changes place) }
+state_set setting w bindings cells halted s view_is at place =
+    let with_cells : List Element → State = λ cs. record (state_of setting w bindings cells halted) { cells = cs } in
+    ap with_cells (map-set (held_by w.changes) cells at (cell.Made place))
     ∙ ap (λ (s : State). record s { cells = slice_set s.cells at (made_at s.working.changes place) }) view_is
 
 -- with these names in use, and this input still to come
@@ -83,24 +83,24 @@ module _ (names : Spellings) (coming : Coming) where
 
   -- ---- with the cells as the code keeps them
 
-  module _ (w v : Changed) (bindings : List Binding) (cells : List Cell) (halted : Bool) (s : State) (view_is : state_of w bindings cells halted ≡ s) (p : GoesOnTo w v) (there : list_all (is_there (length w.changes)) cells ≡ true) where
-    cells_as : seen (state_of v bindings cells halted) ≡ seen (record (state_of w bindings cells halted) { working = v })
+  module _ (setting : Setting) (w v : Changed) (bindings : List Binding) (cells : List Cell) (halted : Bool) (s : State) (view_is : state_of setting w bindings cells halted ≡ s) (p : GoesOnTo w v) (there : list_all (is_there (length w.changes)) cells ≡ true) where
+    cells_as : seen (state_of setting v bindings cells halted) ≡ seen (record (state_of setting w bindings cells halted) { working = v })
     cells_as =
-        let with_cells : List Element → Meant = λ cs. seen (record (state_of v bindings cells halted) { cells = cs }) in
+        let with_cells : List Element → Meant = λ cs. seen (record (state_of setting v bindings cells halted) { cells = cs }) in
         ap with_cells (still_held w v cells p there)
 
-    pub state_added : (class : ℕ) (fields : List Value) → (let e : Element = record { tag = w.last + 1; class = class; fields = fields } in v ≡ with_added w e) → seen (state_of v bindings cells halted) ≡ added (seen s) class fields
+    pub state_added : (class : ℕ) (fields : List Value) → (let e : Element = record { tag = w.last + 1; class = class; fields = fields } in v ≡ with_added w e) → seen (state_of setting v bindings cells halted) ≡ added (seen s) class fields
     state_added class fields is =
-        cells_as ∙ doing_added (state_of w bindings cells halted) v class fields is ∙ ap (λ (s : State). added (seen s) class fields) view_is
+        cells_as ∙ doing_added (state_of setting w bindings cells halted) v class fields is ∙ ap (λ (s : State). added (seen s) class fields) view_is
 
-    pub state_removed : (tag t : ℕ) → v ≡ with_removed w tag → tag ≡ t → seen (state_of v bindings cells halted) ≡ removed (seen s) t
+    pub state_removed : (tag t : ℕ) → v ≡ with_removed w tag → tag ≡ t → seen (state_of setting v bindings cells halted) ≡ removed (seen s) t
     state_removed tag t is same =
-        cells_as ∙ doing_removed (state_of w bindings cells halted) v tag t is same ∙ ap (λ (s : State). removed (seen s) t) view_is
+        cells_as ∙ doing_removed (state_of setting w bindings cells halted) v tag t is same ∙ ap (λ (s : State). removed (seen s) t) view_is
 
   -- a cell more
-  pub state_bound : (w : Changed) (bindings : List Binding) (cells : List Cell) (halted : Bool) (s : State) → state_of w bindings cells halted ≡ s → (c : Cell) → held_by w.start w.changes c ≡ made_last w.changes
-      → seen (state_of w bindings (cells ++ c ∷ []) halted) ≡ cell_bound (seen s)
-  state_bound w bindings cells halted s view_is c is =
-      let with_cells : List Element → Meant = λ cs. seen (record (state_of w bindings cells halted) { cells = cs }) in
-      ap with_cells (map-append (held_by w.start w.changes) cells (c ∷ []) ∙ ap (λ e. map (held_by w.start w.changes) cells ++ e ∷ []) is)
+  pub state_bound : (setting : Setting) (w : Changed) (bindings : List Binding) (cells : List Cell) (halted : Bool) (s : State) → state_of setting w bindings cells halted ≡ s → (c : Cell) → held_by w.changes c ≡ made_last w.changes
+      → seen (state_of setting w bindings (cells ++ c ∷ []) halted) ≡ cell_bound (seen s)
+  state_bound setting w bindings cells halted s view_is c is =
+      let with_cells : List Element → Meant = λ cs. seen (record (state_of setting w bindings cells halted) { cells = cs }) in
+      ap with_cells (map-append (held_by w.changes) cells (c ∷ []) ∙ ap (λ e. map (held_by w.changes) cells ++ e ∷ []) is)
       ∙ ap (λ (s : State). cell_bound (seen s)) view_is

@@ -6,16 +6,17 @@ use Rattle.ops_base.specs.declared.elements.Change.{Change}
 use Rattle.ops_base.specs.declared.matching.Binding.{Binding}
 use Rattle.ops_base.specs.declared.values.Value.{Value}
 use Rattle.ops_io.specs.Coming.{Coming}
-use Rattle.ops_meaning.specs.Acting.{ActState as Meant, Valued, Filled, element_of, no_element, made_by}
+use Rattle.ops_meaning.specs.Acting.{ActState as Meant, Setting, Valued, Filled, no_element, made_by}
 use Rattle.act_phase.specs.Changed.{Changed, memory_of}
 use Rattle.act_phase.specs.declared.state.Cell.{Cell}
 use Rattle.act_phase.specs.declared.state.Cell.TheVariants as cell
 use Rattle.act_phase.specs.declared.values.Values.{Values}
 use Rattle.act_phase.specs.declared.values.Values.TheVariants as values
 
--- working memory and its changes so far, what the variables are bound to, the elements that the cells hold, and whether
--- `halt` was done
+-- what the right side stands in, working memory and its changes so far, what the variables are bound to, the elements
+-- that the cells hold, and whether `halt` was done
 pub record State : Type 0 where
+  pub setting : Setting
   pub working : Changed
   pub bindings : List Binding
   pub cells : List Element
@@ -25,15 +26,15 @@ pub record State : Type 0 where
 abbrev pub made_at : List Change → ℕ → Element
 made_at changes place = unwrap_or (option_map (made_by no_element) (slice_get changes place)) no_element
 
--- the element that a cell holds, where these changes were made to working memory
-abbrev pub held_by : List Element → List Change → Cell → Element
-held_by start changes (cell.Matched tag) = unwrap_or (element_of start tag) no_element
-held_by start changes (cell.Made place) = made_at changes place
-held_by start changes cell.Nothing = no_element
+-- the element that a cell holds, where these changes were made
+abbrev pub held_by : List Change → Cell → Element
+held_by changes (cell.Matched e) = e.now
+held_by changes (cell.Made place) = made_at changes place
+held_by changes cell.Nothing = no_element
 
 -- the change that a cell names is among this many
 abbrev pub is_there : ℕ → Cell → Bool
-is_there n (cell.Matched tag) = true
+is_there n (cell.Matched e) = true
 is_there n (cell.Made place) = nat_lt place n
 is_there n cell.Nothing = true
 

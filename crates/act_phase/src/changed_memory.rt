@@ -81,13 +81,6 @@ impl<'s> ChangedMemory<'s> {
         }
     }
 
-    /// Working memory at the start.
-    pub(crate) fn store(&self) -> &'s Store
-        ensures { result.now.elements ≡ self.now.start }
-    {
-        self.store
-    }
-
     /// Takes a time that grows with the logarithm of the number of removals, where there are more than eight. An
     /// element that was made here is not looked up.
     fn is_present(&self, tag: u64) -> bool

@@ -72,7 +72,7 @@ fn remainder(a: i128, b: i128) -> Computed
     }
 }
 
-fn operated(op: Op, a: i128, b: i128) -> Computed
+fn calculate(op: Op, a: i128, b: i128) -> Computed
     ensures { result ≡ operated op a b }
 {
     match op {
@@ -85,12 +85,12 @@ fn operated(op: Op, a: i128, b: i128) -> Computed
 }
 
 /// An operation on what its operands gave, of which the right one was computed first.
-fn applied(op: Op, left: Computed, right: Computed) -> Computed
+fn apply(op: Op, left: Computed, right: Computed) -> Computed
     ensures { result ≡ applied op left right }
 {
     match (left, right) {
         (_, Err(kind)) | (Err(kind), Ok(_)) => Err(kind),
-        (Ok(Value::Whole(a)), Ok(Value::Whole(b))) => operated(op, a, b),
+        (Ok(Value::Whole(a)), Ok(Value::Whole(b))) => calculate(op, a, b),
         (Ok(_), Ok(_)) => Err(ActKind::NotNumber),
     }
 }
@@ -136,7 +136,7 @@ fn operate(stack: &mut Operands, op: Op) -> Result<(), OutOfMemory>
     }
     if let Some(left) = stack.pop() {
         if let Some(right) = stack.pop() {
-            put(stack, applied(op, left.given, right.given))?;
+            put(stack, apply(op, left.given, right.given))?;
         }
     }
     Ok(())
@@ -159,7 +159,7 @@ fn step(stack: &mut Operands, bindings: &[Binding], step: Step) -> Result<(), Ou
 
 /// What an expression gives. Takes time in proportion to its operations, and to the bindings for each variable.
 #[tactic(auto, using(crate::proofs::Computed::comes_first, crate::proofs::Computed::comes_last))]
-pub(crate) fn computed(
+pub(crate) fn compute(
     alloc: Global,
     bindings: &[Binding],
     expr: &Expr,

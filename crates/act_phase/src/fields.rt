@@ -20,7 +20,6 @@ use ops_base::memory::OutOfMemory;
 use ops_base::symbols::Names;
 use ops_base::values::Value;
 use ops_io::{Input, Out, Sink, Source};
-use std::alloc::Global;
 
 /// Whether this is the first field of the vector attribute.
 fn is_vector(classes: &[Class], class: usize, field: usize) -> bool
@@ -33,21 +32,21 @@ fn is_vector(classes: &[Class], class: usize, field: usize) -> bool
 }
 
 /// Takes the values of the vector attribute away, where this is its first field.
-fn empty_vector(classes: &[Class], class: usize, field: usize, fields: &mut Vec<Value>)
-    ensures { fields.new.items ≡ emptied (class_of classes.now class) field fields.old.items }
+fn empty_vector(doing: &ActState<'_>, class: usize, field: usize, fields: &mut Vec<Value>)
+    ensures { fields.new.items ≡ emptied (class_of doing.now.setting.classes class) field fields.old.items }
 {
-    if is_vector(classes, class, field) {
+    if is_vector(doing.classes(), class, field) {
         fields.truncate(field);
     }
 }
 
 /// The fields of an element for which no value was given.
-fn no_fields(alloc: Global, classes: &[Class], class: usize) -> Result<Vec<Value>, OutOfMemory>
-    ensures { IfOk result (λ v. v.items ≡ no_fields (class_of classes.now class)) }
+fn no_fields(doing: &ActState<'_>, class: usize) -> Result<Vec<Value>, OutOfMemory>
+    ensures { IfOk result (λ v. v.items ≡ no_fields (class_of doing.now.setting.classes class)) }
 {
-    match classes.get(class) {
-        Some(class) => class.no_fields(alloc),
-        None => Ok(Vec::new(alloc)),
+    match doing.classes().get(class) {
+        Some(class) => class.no_fields(doing.alloc()),
+        None => Ok(Vec::new(doing.alloc())),
     }
 }
 
@@ -81,10 +80,8 @@ fn place_values(fields: &mut Vec<Value>, from: usize, values: &[Value]) -> Resul
 
 /// Gives one attribute the values of its terms. Those of each term are placed before the next one is evaluated.
 fn place_put<I: Source, K: Sink>(
-    alloc: Global,
-    classes: &[Class],
-    names: &mut Names,
     doing: &ActState<'_>,
+    names: &mut Names,
     put: &Put,
     fields: &mut Vec<Value>,
     input: &mut Input,
@@ -98,13 +95,13 @@ fn place_put<I: Source, K: Sink>(
     ensures does { Acts (λ _ c. filled_of fields.new.items (doing_of doing.now names.new c)) result
         (scene names.old input.old (I.left source.old) (I.faults source.old) (K.taken sink.old) (K.faults sink.old) out.old)
         (scene names.new input.new (I.left source.new) (I.faults source.new) (K.taken sink.new) (K.faults sink.new) out.new)
-        (λ c. silent (terms_placed classes.now put.now.field put.now.terms (filled_of fields.old.items (doing_of doing.now names.old c)))) }
+        (λ c. silent (terms_placed doing.now.setting.classes put.now.field put.now.terms (filled_of fields.old.items (doing_of doing.now names.old c)))) }
     ensures written { fails_by is_read_mishap result ≡ true → out.new.held ≡ [] }
     ensures untouched { put_asks put.now ≡ false → (input.new ≡ input.old) × (source.new ≡ source.old) }
 {
     let mut at = put.field;
     for term in put.terms.as_slice() {
-        let values = evaluate(alloc, classes, names, doing, term, input, source, out, sink)?;
+        let values = evaluate(doing, names, term, input, source, out, sink)?;
         place_values(fields, at, values.as_slice())?;
         at += values.as_slice().len();
     }
@@ -113,10 +110,8 @@ fn place_put<I: Source, K: Sink>(
 
 /// The fields of a new element.
 pub(crate) fn made_fields<I: Source, K: Sink>(
-    alloc: Global,
-    classes: &[Class],
-    names: &mut Names,
     doing: &ActState<'_>,
+    names: &mut Names,
     class: usize,
     puts: &[Put],
     input: &mut Input,
@@ -130,34 +125,23 @@ pub(crate) fn made_fields<I: Source, K: Sink>(
     ensures does { Acts (λ v c. filled_of v.items (doing_of doing.now names.new c)) result
         (scene names.old input.old (I.left source.old) (I.faults source.old) (K.taken sink.old) (K.faults sink.old) out.old)
         (scene names.new input.new (I.left source.new) (I.faults source.new) (K.taken sink.new) (K.faults sink.new) out.new)
-        (λ c. silent (made_fields classes.now (class_of classes.now class) puts.now (doing_of doing.now names.old c))) }
+        (λ c. silent (made_fields doing.now.setting.classes (class_of doing.now.setting.classes class) puts.now (doing_of doing.now names.old c))) }
     ensures written { fails_by is_read_mishap result ≡ true → out.new.held ≡ [] }
     ensures untouched { list_any put_asks puts.now ≡ false → (input.new ≡ input.old) × (source.new ≡ source.old) }
 {
-    let mut fields = no_fields(alloc, classes, class)?;
+    let mut fields = no_fields(doing, class)?;
     for put in puts {
-        empty_vector(classes, class, put.field, &mut fields);
-        place_put(
-            alloc,
-            classes,
-            names,
-            doing,
-            put,
-            &mut fields,
-            input,
-            source,
-            out,
-            sink,
-        )?;
+        empty_vector(doing, class, put.field, &mut fields);
+        place_put(doing, names, put, &mut fields, input, source, out, sink)?;
     }
     Ok(fields)
 }
 
 /// A copy of the fields of a cell's element.
-fn fields_of(alloc: Global, doing: &ActState<'_>, cell: usize) -> Result<Vec<Value>, OutOfMemory>
+fn fields_of(doing: &ActState<'_>, cell: usize) -> Result<Vec<Value>, OutOfMemory>
     ensures { IfOk result (λ v. v.items ≡ (held_in doing.now cell).fields) }
 {
-    let mut fields = Vec::new(alloc);
+    let mut fields = Vec::new(doing.alloc());
     if let Some(element) = doing.element(cell) {
         fields.extend_from_slice(element.fields.as_slice())?;
     }
@@ -166,10 +150,8 @@ fn fields_of(alloc: Global, doing: &ActState<'_>, cell: usize) -> Result<Vec<Val
 
 /// The fields of a cell's element with those that are given in their place.
 pub(crate) fn modified_fields<I: Source, K: Sink>(
-    alloc: Global,
-    classes: &[Class],
-    names: &mut Names,
     doing: &ActState<'_>,
+    names: &mut Names,
     cell: usize,
     puts: &[Put],
     input: &mut Input,
@@ -183,24 +165,13 @@ pub(crate) fn modified_fields<I: Source, K: Sink>(
     ensures does { Acts (λ v c. filled_of v.items (doing_of doing.now names.new c)) result
         (scene names.old input.old (I.left source.old) (I.faults source.old) (K.taken sink.old) (K.faults sink.old) out.old)
         (scene names.new input.new (I.left source.new) (I.faults source.new) (K.taken sink.new) (K.faults sink.new) out.new)
-        (λ c. silent (modified_fields classes.now puts.now cell (doing_of doing.now names.old c))) }
+        (λ c. silent (modified_fields doing.now.setting.classes puts.now cell (doing_of doing.now names.old c))) }
     ensures written { fails_by is_read_mishap result ≡ true → out.new.held ≡ [] }
     ensures untouched { list_any put_asks puts.now ≡ false → (input.new ≡ input.old) × (source.new ≡ source.old) }
 {
-    let mut fields = fields_of(alloc, doing, cell)?;
+    let mut fields = fields_of(doing, cell)?;
     for put in puts {
-        place_put(
-            alloc,
-            classes,
-            names,
-            doing,
-            put,
-            &mut fields,
-            input,
-            source,
-            out,
-            sink,
-        )?;
+        place_put(doing, names, put, &mut fields, input, source, out, sink)?;
     }
     Ok(fields)
 }

@@ -15,12 +15,10 @@ use crate::outcome::ActionError;
 use crate::state::ActState;
 use crate::values::evaluate;
 use ops_base::actions::{Item, Term};
-use ops_base::elements::Class;
 use ops_base::symbols::Names;
 use ops_base::values::Value;
 use ops_io::{Input, Out, Sink, Source, WriteFailed};
 use ops_print::{Lead, put_lead, put_tab, put_value, value_length};
-use std::alloc::Global;
 
 /// The length of a value, where its lead asks for that.
 fn length_for(names: &Names, lead: Lead, value: &Value) -> usize
@@ -86,10 +84,8 @@ fn lead_after(item: &Item) -> Lead
 
 /// Puts the values of a term. They are evaluated before the first one is put.
 fn print<I: Source, K: Sink>(
-    alloc: Global,
-    classes: &[Class],
-    names: &mut Names,
     doing: &ActState<'_>,
+    names: &mut Names,
     lead: Lead,
     term: &Term,
     input: &mut Input,
@@ -103,20 +99,18 @@ fn print<I: Source, K: Sink>(
     ensures does { Acts (λ _ c. doing_of doing.now names.new c) result
         (scene names.old input.old (I.left source.old) (I.faults source.old) (K.taken sink.old) (K.faults sink.old) out.old)
         (scene names.new input.new (I.left source.new) (I.faults source.new) (K.taken sink.new) (K.faults sink.new) out.new)
-        (λ c. item_done classes.now (lead_of lead) out.old.column (item.Print term.now) (doing_of doing.now names.old c)) }
+        (λ c. item_done doing.now.setting.classes (lead_of lead) out.old.column (item.Print term.now) (doing_of doing.now names.old c)) }
     ensures written { fails_by is_read_mishap result ≡ true → out.new.held ≡ [] }
     ensures untouched { term_asks term.now ≡ false → (input.new ≡ input.old) × (source.new ≡ source.old) }
 {
-    let values = evaluate(alloc, classes, names, doing, term, input, source, out, sink)?;
+    let values = evaluate(doing, names, term, input, source, out, sink)?;
     Ok(put_values(out, sink, names, lead, values.as_slice())?)
 }
 
 /// Puts one item.
 fn put_item<I: Source, K: Sink>(
-    alloc: Global,
-    classes: &[Class],
-    names: &mut Names,
     doing: &ActState<'_>,
+    names: &mut Names,
     lead: Lead,
     item: &Item,
     input: &mut Input,
@@ -130,14 +124,12 @@ fn put_item<I: Source, K: Sink>(
     ensures does { Acts (λ _ c. doing_of doing.now names.new c) result
         (scene names.old input.old (I.left source.old) (I.faults source.old) (K.taken sink.old) (K.faults sink.old) out.old)
         (scene names.new input.new (I.left source.new) (I.faults source.new) (K.taken sink.new) (K.faults sink.new) out.new)
-        (λ c. item_done classes.now (lead_of lead) out.old.column item.now (doing_of doing.now names.old c)) }
+        (λ c. item_done doing.now.setting.classes (lead_of lead) out.old.column item.now (doing_of doing.now names.old c)) }
     ensures written { fails_by is_read_mishap result ≡ true → out.new.held ≡ [] }
     ensures untouched { item_asks item.now ≡ false → (input.new ≡ input.old) × (source.new ≡ source.old) }
 {
     match item {
-        Item::Print(term) => print(
-            alloc, classes, names, doing, lead, term, input, source, out, sink,
-        ),
+        Item::Print(term) => print(doing, names, lead, term, input, source, out, sink),
         Item::Crlf => Ok(out.put(sink, b"\n")?),
         Item::TabTo(column) => Ok(put_tab(out, sink, usize::from(*column))?),
         Item::RightIn(_) => Ok(()),
@@ -146,10 +138,8 @@ fn put_item<I: Source, K: Sink>(
 
 /// Puts the items of a `write`.
 pub(crate) fn put_items<I: Source, K: Sink>(
-    alloc: Global,
-    classes: &[Class],
-    names: &mut Names,
     doing: &ActState<'_>,
+    names: &mut Names,
     items: &[Item],
     input: &mut Input,
     source: &mut I,
@@ -162,15 +152,13 @@ pub(crate) fn put_items<I: Source, K: Sink>(
     ensures does { Acts (λ _ c. doing_of doing.now names.new c) result
         (scene names.old input.old (I.left source.old) (I.faults source.old) (K.taken sink.old) (K.faults sink.old) out.old)
         (scene names.new input.new (I.left source.new) (I.faults source.new) (K.taken sink.new) (K.faults sink.new) out.new)
-        (λ c. items_done classes.now Apart out.old.column items.now (doing_of doing.now names.old c)) }
+        (λ c. items_done doing.now.setting.classes Apart out.old.column items.now (doing_of doing.now names.old c)) }
     ensures written { fails_by is_read_mishap result ≡ true → out.new.held ≡ [] }
     ensures untouched { list_any item_asks items.now ≡ false → (input.new ≡ input.old) × (source.new ≡ source.old) }
 {
     let mut lead = Lead::Apart;
     for item in items {
-        put_item(
-            alloc, classes, names, doing, lead, item, input, source, out, sink,
-        )?;
+        put_item(doing, names, lead, item, input, source, out, sink)?;
         lead = lead_after(item);
     }
     Ok(())

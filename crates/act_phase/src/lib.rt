@@ -4,8 +4,9 @@
 //! production, no class, no cell or no bound variable, they give an empty list, 0 or `nil`, as the definitions do. A
 //! program that was checked never comes there.
 //!
-//! `alloc`, `names`, `input`, `source`, `out` and `sink` go from call to call, each as a parameter of its own: each is
-//! lent by itself, so that a contract can name what each holds afterwards.
+//! `ActState` has the program, the trace level and the allocator. `names`, `input`, `source`, `out` and `sink` go from
+//! call to call, each as a parameter of its own: each is lent by itself, so that a contract can name what each holds
+//! afterwards.
 #![tactic(auto)]
 
 mod atoms;

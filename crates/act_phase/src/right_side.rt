@@ -24,7 +24,6 @@ use crate::traces::tell_changes;
 use crate::values::evaluate;
 use ops_base::actions::{Action, Put, Term};
 use ops_base::conditions::Part;
-use ops_base::elements::Class;
 use ops_base::memory::OutOfMemory;
 use ops_base::programs::Program;
 use ops_base::rules::Inst;
@@ -35,10 +34,8 @@ use work_store::Store;
 
 /// Makes an element, once all its values are placed.
 fn make<I: Source, K: Sink>(
-    alloc: Global,
-    classes: &[Class],
-    names: &mut Names,
     doing: &mut ActState<'_>,
+    names: &mut Names,
     class: usize,
     puts: &[Put],
     input: &mut Input,
@@ -52,24 +49,21 @@ fn make<I: Source, K: Sink>(
     ensures does { Acts (λ _ c. doing_of doing.new names.new c) result
         (scene names.old input.old (I.left source.old) (I.faults source.old) (K.taken sink.old) (K.faults sink.old) out.old)
         (scene names.new input.new (I.left source.new) (I.faults source.new) (K.taken sink.new) (K.faults sink.new) out.new)
-        (λ c. silent (followed_by (made_fields classes.now (class_of classes.now class) puts.now (doing_of doing.old names.old c))
+        (λ c. silent (followed_by (made_fields doing.old.setting.classes (class_of doing.old.setting.classes class) puts.now (doing_of doing.old names.old c))
         (λ f. Ok (added f.doing class f.fields)))) }
     ensures written { fails_by is_read_mishap result ≡ true → out.new.held ≡ [] }
     ensures untouched { list_any put_asks puts.now ≡ false → (input.new ≡ input.old) × (source.new ≡ source.old) }
     ensures goes_on { OnOk result (GoesOnTo doing.old.working doing.new.working) }
+    ensures setting { doing.new.setting ≡ doing.old.setting }
 {
-    let fields = made_fields(
-        alloc, classes, names, doing, class, puts, input, source, out, sink,
-    )?;
+    let fields = made_fields(doing, names, class, puts, input, source, out, sink)?;
     Ok(doing.make(class, fields)?)
 }
 
 /// Puts a copy with other fields in the place of a cell's element, once all its values are placed.
 fn modify<I: Source, K: Sink>(
-    alloc: Global,
-    classes: &[Class],
-    names: &mut Names,
     doing: &mut ActState<'_>,
+    names: &mut Names,
     cell: usize,
     puts: &[Put],
     input: &mut Input,
@@ -83,24 +77,21 @@ fn modify<I: Source, K: Sink>(
     ensures does { Acts (λ _ c. doing_of doing.new names.new c) result
         (scene names.old input.old (I.left source.old) (I.faults source.old) (K.taken sink.old) (K.faults sink.old) out.old)
         (scene names.new input.new (I.left source.new) (I.faults source.new) (K.taken sink.new) (K.faults sink.new) out.new)
-        (λ c. silent (followed_by (modified_fields classes.now puts.now cell (doing_of doing.old names.old c))
+        (λ c. silent (followed_by (modified_fields doing.old.setting.classes puts.now cell (doing_of doing.old names.old c))
         (λ f. Ok (modified f.doing cell f.fields)))) }
     ensures written { fails_by is_read_mishap result ≡ true → out.new.held ≡ [] }
     ensures untouched { list_any put_asks puts.now ≡ false → (input.new ≡ input.old) × (source.new ≡ source.old) }
     ensures goes_on { OnOk result (GoesOnTo doing.old.working doing.new.working) }
+    ensures setting { doing.new.setting ≡ doing.old.setting }
 {
-    let fields = modified_fields(
-        alloc, classes, names, doing, cell, puts, input, source, out, sink,
-    )?;
+    let fields = modified_fields(doing, names, cell, puts, input, source, out, sink)?;
     Ok(doing.modify(cell, fields)?)
 }
 
 /// Binds a variable to the first value of a term, `nil` where it has none.
 fn bind<I: Source, K: Sink>(
-    alloc: Global,
-    classes: &[Class],
-    names: &mut Names,
     doing: &mut ActState<'_>,
+    names: &mut Names,
     variable: usize,
     term: &Term,
     input: &mut Input,
@@ -114,12 +105,13 @@ fn bind<I: Source, K: Sink>(
     ensures does { Acts (λ _ c. doing_of doing.new names.new c) result
         (scene names.old input.old (I.left source.old) (I.faults source.old) (K.taken sink.old) (K.faults sink.old) out.old)
         (scene names.new input.new (I.left source.new) (I.faults source.new) (K.taken sink.new) (K.faults sink.new) out.new)
-        (λ c. silent (followed_by (evaluated classes.now term.now (doing_of doing.old names.old c))
+        (λ c. silent (followed_by (evaluated doing.old.setting.classes term.now (doing_of doing.old names.old c))
         (λ v. Ok (bound v.doing variable (first_of v.values))))) }
     ensures written { fails_by is_read_mishap result ≡ true → out.new.held ≡ [] }
     ensures untouched { term_asks term.now ≡ false → (input.new ≡ input.old) × (source.new ≡ source.old) }
+    ensures setting { doing.new.setting ≡ doing.old.setting }
 {
-    let values = evaluate(alloc, classes, names, doing, term, input, source, out, sink)?;
+    let values = evaluate(doing, names, term, input, source, out, sink)?;
     let value = values.first();
     Ok(doing.bind(variable, value)?)
 }
@@ -129,6 +121,7 @@ fn remove(doing: &mut ActState<'_>, cells: &[usize]) -> Result<(), OutOfMemory>
     ensures does { OnOk result ((names : Spellings) (coming : Coming)
         → doing_of doing.new names coming ≡ fold (λ d c. removed d (cell_of d c).tag) (doing_of doing.old names coming) cells.now) }
     ensures goes_on { OnOk result (GoesOnTo doing.old.working doing.new.working) }
+    ensures setting { doing.new.setting ≡ doing.old.setting }
 {
     for cell in cells {
         doing.remove(*cell)?;
@@ -138,11 +131,8 @@ fn remove(doing: &mut ActState<'_>, cells: &[usize]) -> Result<(), OutOfMemory>
 
 /// Makes an element, and prints it where elements are traced.
 fn make_and_tell<I: Source, K: Sink>(
-    alloc: Global,
-    program: &Program,
-    names: &mut Names,
     doing: &mut ActState<'_>,
-    watch: u8,
+    names: &mut Names,
     class: usize,
     puts: &[Put],
     input: &mut Input,
@@ -156,25 +146,20 @@ fn make_and_tell<I: Source, K: Sink>(
     ensures does { Acts (λ _ c. doing_of doing.new names.new c) result
         (scene names.old input.old (I.left source.old) (I.faults source.old) (K.taken sink.old) (K.faults sink.old) out.old)
         (scene names.new input.new (I.left source.new) (I.faults source.new) (K.taken sink.new) (K.faults sink.new) out.new)
-        (λ c. action_done (setting_of program.now watch) out.old.column (Action.Make class puts.now) (doing_of doing.old names.old c)) }
+        (λ c. action_done doing.old.setting out.old.column (Action.Make class puts.now) (doing_of doing.old names.old c)) }
     ensures written { fails_by is_read_mishap result ≡ true → out.new.held ≡ [] }
     ensures untouched { list_any put_asks puts.now ≡ false → (input.new ≡ input.old) × (source.new ≡ source.old) }
+    ensures setting { doing.new.setting ≡ doing.old.setting }
 {
     let since = doing.changes().len();
-    let classes = program.classes.as_slice();
-    make(
-        alloc, classes, names, doing, class, puts, input, source, out, sink,
-    )?;
-    Ok(tell_changes(program, names, doing.working(), watch, since, out, sink)?)
+    make(doing, names, class, puts, input, source, out, sink)?;
+    Ok(tell_changes(doing, names, since, out, sink)?)
 }
 
 /// Puts a copy with other fields in the place of a cell's element, and prints both where elements are traced.
 fn modify_and_tell<I: Source, K: Sink>(
-    alloc: Global,
-    program: &Program,
-    names: &mut Names,
     doing: &mut ActState<'_>,
-    watch: u8,
+    names: &mut Names,
     cell: usize,
     puts: &[Put],
     input: &mut Input,
@@ -188,25 +173,20 @@ fn modify_and_tell<I: Source, K: Sink>(
     ensures does { Acts (λ _ c. doing_of doing.new names.new c) result
         (scene names.old input.old (I.left source.old) (I.faults source.old) (K.taken sink.old) (K.faults sink.old) out.old)
         (scene names.new input.new (I.left source.new) (I.faults source.new) (K.taken sink.new) (K.faults sink.new) out.new)
-        (λ c. action_done (setting_of program.now watch) out.old.column (Action.Modify cell puts.now) (doing_of doing.old names.old c)) }
+        (λ c. action_done doing.old.setting out.old.column (Action.Modify cell puts.now) (doing_of doing.old names.old c)) }
     ensures written { fails_by is_read_mishap result ≡ true → out.new.held ≡ [] }
     ensures untouched { list_any put_asks puts.now ≡ false → (input.new ≡ input.old) × (source.new ≡ source.old) }
+    ensures setting { doing.new.setting ≡ doing.old.setting }
 {
     let since = doing.changes().len();
-    let classes = program.classes.as_slice();
-    modify(
-        alloc, classes, names, doing, cell, puts, input, source, out, sink,
-    )?;
-    Ok(tell_changes(program, names, doing.working(), watch, since, out, sink)?)
+    modify(doing, names, cell, puts, input, source, out, sink)?;
+    Ok(tell_changes(doing, names, since, out, sink)?)
 }
 
 /// Does an action.
 fn act_one<I: Source, K: Sink>(
-    alloc: Global,
-    program: &Program,
-    names: &mut Names,
     doing: &mut ActState<'_>,
-    watch: u8,
+    names: &mut Names,
     action: &Action,
     input: &mut Input,
     source: &mut I,
@@ -219,38 +199,32 @@ fn act_one<I: Source, K: Sink>(
     ensures does { Acts (λ _ c. doing_of doing.new names.new c) result
         (scene names.old input.old (I.left source.old) (I.faults source.old) (K.taken sink.old) (K.faults sink.old) out.old)
         (scene names.new input.new (I.left source.new) (I.faults source.new) (K.taken sink.new) (K.faults sink.new) out.new)
-        (λ c. action_done (setting_of program.now watch) out.old.column action.now (doing_of doing.old names.old c)) }
+        (λ c. action_done doing.old.setting out.old.column action.now (doing_of doing.old names.old c)) }
     ensures written { fails_by is_read_mishap result ≡ true → out.new.held ≡ [] }
     ensures untouched { action_asks action.now ≡ false → (input.new ≡ input.old) × (source.new ≡ source.old) }
+    ensures setting { doing.new.setting ≡ doing.old.setting }
 {
-    let classes = program.classes.as_slice();
     match action {
         Action::Make { class, puts } => {
             let puts = puts.as_slice();
-            make_and_tell(
-                alloc, program, names, doing, watch, *class, puts, input, source, out, sink,
-            )
+            make_and_tell(doing, names, *class, puts, input, source, out, sink)
         }
         Action::Modify { cell, puts } => {
             let puts = puts.as_slice();
-            modify_and_tell(
-                alloc, program, names, doing, watch, *cell, puts, input, source, out, sink,
-            )
+            modify_and_tell(doing, names, *cell, puts, input, source, out, sink)
         }
         Action::Remove { cells } => {
             let since = doing.changes().len();
             remove(doing, cells.as_slice())?;
-            Ok(tell_changes(program, names, doing.working(), watch, since, out, sink)?)
+            Ok(tell_changes(doing, names, since, out, sink)?)
         }
         Action::Write { items } => {
             let items = items.as_slice();
-            put_items(
-                alloc, classes, names, doing, items, input, source, out, sink,
-            )
+            put_items(doing, names, items, input, source, out, sink)
         }
-        Action::Bind { variable, term } => bind(
-            alloc, classes, names, doing, *variable, term, input, source, out, sink,
-        ),
+        Action::Bind { variable, term } => {
+            bind(doing, names, *variable, term, input, source, out, sink)
+        }
         Action::Cbind { .. } => Ok(doing.bind_cell()?),
         Action::Halt => {
             doing.halt();
@@ -261,11 +235,8 @@ fn act_one<I: Source, K: Sink>(
 
 /// Does the action with this number.
 fn act_at<I: Source, K: Sink>(
-    alloc: Global,
-    program: &Program,
-    names: &mut Names,
     doing: &mut ActState<'_>,
-    watch: u8,
+    names: &mut Names,
     number: usize,
     action: &Action,
     input: &mut Input,
@@ -279,13 +250,12 @@ fn act_at<I: Source, K: Sink>(
     ensures does { Does (λ _ c. doing_of doing.new names.new c) failure_of is_read result
         (scene names.old input.old (I.left source.old) (I.faults source.old) (K.taken sink.old) (K.faults sink.old) out.old)
         (scene names.new input.new (I.left source.new) (I.faults source.new) (K.taken sink.new) (K.faults sink.new) out.new)
-        (λ c. told_as (λ d. d) (in_action number) (action_done (setting_of program.now watch) out.old.column action.now (doing_of doing.old names.old c))) }
+        (λ c. told_as (λ d. d) (in_action number) (action_done doing.old.setting out.old.column action.now (doing_of doing.old names.old c))) }
     ensures written { is_unread result ≡ true → out.new.held ≡ [] }
     ensures untouched { action_asks action.now ≡ false → (input.new ≡ input.old) × (source.new ≡ source.old) }
+    ensures setting { doing.new.setting ≡ doing.old.setting }
 {
-    match act_one(
-        alloc, program, names, doing, watch, action, input, source, out, sink,
-    ) {
+    match act_one(doing, names, action, input, source, out, sink) {
         Ok(()) => Ok(()),
         Err(mishap) => Err(mishap.in_action(number)),
     }
@@ -311,11 +281,8 @@ fn actions_of(program: &Program, rule: usize) -> &[Action]
 
 /// Does actions in order.
 fn act_all<I: Source, K: Sink>(
-    alloc: Global,
-    program: &Program,
-    names: &mut Names,
     doing: &mut ActState<'_>,
-    watch: u8,
+    names: &mut Names,
     actions: &[Action],
     input: &mut Input,
     source: &mut I,
@@ -328,15 +295,13 @@ fn act_all<I: Source, K: Sink>(
     ensures does { Does (λ _ c. doing_of doing.new names.new c) failure_of is_read result
         (scene names.old input.old (I.left source.old) (I.faults source.old) (K.taken sink.old) (K.faults sink.old) out.old)
         (scene names.new input.new (I.left source.new) (I.faults source.new) (K.taken sink.new) (K.faults sink.new) out.new)
-        (λ c. actions_done (setting_of program.now watch) out.old.column 1 actions.now (doing_of doing.old names.old c)) }
+        (λ c. actions_done doing.old.setting out.old.column 1 actions.now (doing_of doing.old names.old c)) }
     ensures written { is_unread result ≡ true → out.new.held ≡ [] }
     ensures untouched { list_any action_asks actions.now ≡ false → (input.new ≡ input.old) × (source.new ≡ source.old) }
 {
     for (before, action) in actions.iter().enumerate() {
         let number = before + 1;
-        act_at(
-            alloc, program, names, doing, watch, number, action, input, source, out, sink,
-        )?;
+        act_at(doing, names, number, action, input, source, out, sink)?;
     }
     Ok(())
 }
@@ -393,10 +358,8 @@ pub fn act<I: Source, K: Sink>(
     prove!(last < next_tag);
     let conditions = conditions_of(program, inst.rule);
     let tags = inst.tags.as_slice();
-    let mut doing = ActState::new(alloc, store, conditions, tags, next_tag)?;
+    let mut doing = ActState::new(alloc, program, watch, store, conditions, tags, next_tag)?;
     let actions = actions_of(program, inst.rule);
-    act_all(
-        alloc, program, names, &mut doing, watch, actions, input, source, out, sink,
-    )?;
+    act_all(&mut doing, names, actions, input, source, out, sink)?;
     Ok(doing.finish())
 }

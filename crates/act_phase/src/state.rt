@@ -4,74 +4,94 @@ ghost use Rattle.std.specs.List.{list_all};
 ghost use Rattle.std.specs.Option.{option_copied};
 ghost use Rattle.ops_base.specs.Names.{Spellings};
 ghost use Rattle.ops_io.specs.Coming.{Coming};
-ghost use Rattle.ops_meaning.specs.Acting.{elements_of, bindings_of, no_element, made_last, added, removed, modified, cell_bound, bound, left_by};
+ghost use Rattle.ops_meaning.specs.Acting.{element_of, elements_of, bindings_of, no_element, made_last, added, removed, modified, cell_bound, bound, left_by};
 ghost use Rattle.act_phase.specs.Changed.{GoesOnTo};
-ghost use Rattle.act_phase.specs.Outcomes.{acted_of};
+ghost use Rattle.act_phase.specs.Outcomes.{acted_of, setting_of};
 ghost use Rattle.act_phase.specs.State.{held_by, is_there, made_at, held_in, doing_of};
 
 use crate::bindings::bindings_of;
 use crate::changed_memory::ChangedMemory;
 use crate::outcome::Acted;
 use ops_base::conditions::Part;
-use ops_base::elements::{Change, Element};
+use ops_base::elements::{Change, Class, Element};
 use ops_base::list::Listed;
 use ops_base::matching::Binding;
 use ops_base::memory::OutOfMemory;
+use ops_base::programs::Program;
 use ops_base::values::Value;
 use std::alloc::Global;
 use std::marker::Model;
 use work_store::Store;
 
-/// What a cell holds: the element of a tag, which stands in the store, the element that the change at a place adds, or
-/// none.
+/// What a cell holds: an element of the store, the element that the change at a place adds, or none.
 #[derive(Drop)]
-pub(crate) enum Cell {
-    Matched(u64),
+pub(crate) enum Cell<'s> {
+    Matched(&'s Element),
     Made(usize),
     Nothing,
 }
 
-/// The state of a right side between two of its actions. A cell copies no element, and the changes only grow, so that
-/// the change that it names stays where it is.
+/// The state of a right side between two of its actions, with the program and the trace level that it stands in. A cell
+/// copies no element, and the changes only grow, so that the change that it names stays where it is.
 #[derive(Drop)]
 pub(crate) struct ActState<'s> {
+    alloc: Global,
+    program: &'s Program,
+    watch: u8,
     working: ChangedMemory<'s>,
     bindings: Vec<Binding>,
-    cells: Vec<Cell>,
+    cells: Vec<Cell<'s>>,
     halted: bool,
 }
 
 impl<'s> Model for ActState<'s> {
     ghost use Rattle.std.specs.Prelude.{◌≡◌, map, length, true};
+    ghost use Rattle.std.specs.Coded.{codes};
     ghost use Rattle.std.specs.List.{list_all};
+    ghost use Rattle.ops_base.specs.ExpressionCode.{formula_code};
+    ghost use Rattle.act_phase.specs.Outcomes.{setting_of};
     ghost use Rattle.act_phase.specs.State.{State, held_by, is_there};
 
     ghost Value = { State };
 
+    ghost coded = { Prim.hlevel (codes, formula_code) };
+
     ghost view = { λ d. record {
+      setting = setting_of d.program.now d.watch;
       working = d.working;
       bindings = d.bindings.items;
-      cells = map (held_by d.working.start d.working.changes) d.cells.items;
+      cells = map (held_by d.working.changes) d.cells.items;
       halted = d.halted;
     } };
 
     ghost invariant = { λ d. list_all (is_there (length d.working.changes)) d.cells.items ≡ true };
 }
 
-fn cells_of(alloc: Global, store: &Store, tags: &[u64]) -> Result<Vec<Cell>, OutOfMemory>
-    ensures held { IfOk result (λ cells. map (held_by store.now.elements []) cells.items ≡ elements_of store.now.elements tags.now) }
+/// The cell of a tag's element, which is looked up here and not again.
+fn cell_of(store: &Store, tag: u64) -> Cell<'_>
+    ensures held { (changes : List Change) → held_by changes result ≡ unwrap_or (element_of store.now.elements tag) no_element }
+    ensures there { is_there 0 result ≡ true }
+{
+    match store.get(tag) {
+        Some(element) => Cell::Matched(element),
+        None => Cell::Nothing,
+    }
+}
+
+fn cells_of<'s>(alloc: Global, store: &'s Store, tags: &[u64]) -> Result<Vec<Cell<'s>>, OutOfMemory>
+    ensures held { IfOk result (λ cells. map (held_by []) cells.items ≡ elements_of store.now.elements tags.now) }
     ensures there { IfOk result (λ cells. list_all (is_there 0) cells.items ≡ true) }
 {
-    let mut cells = Vec::new(alloc);
+    let mut cells = Vec::with_capacity(alloc, tags.len())?;
     for tag in tags {
-        cells.push(Cell::Matched(*tag))?;
+        cells.push(cell_of(store, *tag))?;
     }
     Ok(cells)
 }
 
 /// A cell of the element that was added last. Looks at the changes since then.
-fn last_made(changes: &[Change]) -> Cell
-    ensures held { (start : List Element) → held_by start changes.now result ≡ made_last changes.now }
+fn last_made<'s>(changes: &[Change]) -> Cell<'s>
+    ensures held { held_by changes.now result ≡ made_last changes.now }
     ensures there { is_there (length changes.now) result ≡ true }
 {
     let mut place = changes.len();
@@ -88,13 +108,16 @@ impl<'s> ActState<'s> {
     /// Nothing is done yet.
     pub(crate) fn new(
         alloc: Global,
+        program: &'s Program,
+        watch: u8,
         store: &'s Store,
         parts: &[Part],
         tags: &[u64],
         next_tag: u64,
     ) -> Result<ActState<'s>, OutOfMemory>
         requires { store.now.last < next_tag }
-        ensures { IfOk result (λ d. (names : Spellings) (coming : Coming) → doing_of d names coming ≡ record {
+        ensures setting { IfOk result (λ d. d.setting ≡ setting_of program.now watch) }
+        ensures begins { IfOk result (λ d. (names : Spellings) (coming : Coming) → doing_of d names coming ≡ record {
           wm = store.now.elements;
           changes = [];
           last = next_tag - 1;
@@ -106,6 +129,9 @@ impl<'s> ActState<'s> {
         }) }
     {
         Ok(ActState {
+            alloc,
+            program,
+            watch,
             working: ChangedMemory::new(alloc, store, next_tag),
             bindings: bindings_of(alloc, store, parts, tags)?,
             cells: cells_of(alloc, store, tags)?,
@@ -113,15 +139,38 @@ impl<'s> ActState<'s> {
         })
     }
 
-    /// The element of a cell, also where it was removed. One of the left side is looked up by its tag.
+    /// The element of a cell, also where it was removed. Nothing is looked up.
     pub(crate) fn element(&self, cell: usize) -> Option<&Element>
         ensures { unwrap_or (option_copied result) no_element ≡ held_in self.now cell }
     {
         match self.cells.get(cell)? {
-            Cell::Matched(tag) => self.working.store().get(*tag),
+            Cell::Matched(element) => Some(*element),
             Cell::Made(place) => self.working.made_at(*place),
             Cell::Nothing => None,
         }
+    }
+
+    pub(crate) fn alloc(&self) -> Global {
+        self.alloc
+    }
+
+    pub(crate) fn program(&self) -> &'s Program
+        ensures { setting_of result.now self.now.setting.watch ≡ self.now.setting }
+    {
+        self.program
+    }
+
+    pub(crate) fn classes(&self) -> &'s [Class]
+        ensures { result.now ≡ self.now.setting.classes }
+    {
+        self.program.classes.as_slice()
+    }
+
+    /// The trace level.
+    pub(crate) fn watch(&self) -> u8
+        ensures { result ≡ self.now.setting.watch }
+    {
+        self.watch
     }
 
     pub(crate) fn working(&self) -> &ChangedMemory<'s>
@@ -143,7 +192,7 @@ impl<'s> ActState<'s> {
         self.bindings.as_slice()
     }
 
-    /// The tag and the class of a cell's element, which is looked up once.
+    /// The tag and the class of a cell's element.
     fn tag_and_class(&self, cell: usize) -> (u64, usize)
         ensures tag { result.0 ≡ (held_in self.now cell).tag }
         ensures class { result.1 ≡ (held_in self.now cell).class }
@@ -159,6 +208,7 @@ impl<'s> ActState<'s> {
         ensures does { OnOk result ((names : Spellings) (coming : Coming) → doing_of self.new names coming ≡ added (doing_of self.old names coming) class fields.items) }
         ensures goes_on { OnOk result (GoesOnTo self.old.working self.new.working) }
         ensures grows { OnOk result (length self.old.working.changes < length self.new.working.changes) }
+        ensures setting { self.new.setting ≡ self.old.setting }
     {
         self.working.add(class, Listed::from_vec(fields))?;
         Ok(())
@@ -168,6 +218,7 @@ impl<'s> ActState<'s> {
     fn remove_tag(&mut self, tag: u64) -> Result<(), OutOfMemory>
         ensures does { OnOk result ((names : Spellings) (coming : Coming) → doing_of self.new names coming ≡ removed (doing_of self.old names coming) tag) }
         ensures goes_on { OnOk result (GoesOnTo self.old.working self.new.working) }
+        ensures setting { self.new.setting ≡ self.old.setting }
     {
         self.working.remove(tag)?;
         Ok(())
@@ -177,16 +228,18 @@ impl<'s> ActState<'s> {
     pub(crate) fn remove(&mut self, cell: usize) -> Result<(), OutOfMemory>
         ensures does { OnOk result ((names : Spellings) (coming : Coming) → doing_of self.new names coming ≡ removed (doing_of self.old names coming) (held_in self.old cell).tag) }
         ensures goes_on { OnOk result (GoesOnTo self.old.working self.new.working) }
+        ensures setting { self.new.setting ≡ self.old.setting }
     {
         let (tag, _) = self.tag_and_class(cell);
         self.remove_tag(tag)
     }
 
     /// Puts an element with these fields in the place of that of a cell, in working memory and in the cell. Nothing is
-    /// copied, and an element of the left side is looked up once for its tag and once for whether it is present.
+    /// copied, and an element of the left side is looked up once, for whether it is present.
     pub(crate) fn modify(&mut self, cell: usize, fields: Vec<Value>) -> Result<(), OutOfMemory>
         ensures does { OnOk result ((names : Spellings) (coming : Coming) → doing_of self.new names coming ≡ modified (doing_of self.old names coming) cell fields.items) }
         ensures goes_on { OnOk result (GoesOnTo self.old.working self.new.working) }
+        ensures setting { self.new.setting ≡ self.old.setting }
     {
         let (tag, class) = self.tag_and_class(cell);
         self.remove_tag(tag)?;
@@ -208,7 +261,8 @@ impl<'s> ActState<'s> {
 
     /// A new cell holds the element that was made last. Looks at the changes since then.
     pub(crate) fn bind_cell(&mut self) -> Result<(), OutOfMemory>
-        ensures { OnOk result ((names : Spellings) (coming : Coming) → doing_of self.new names coming ≡ cell_bound (doing_of self.old names coming)) }
+        ensures does { OnOk result ((names : Spellings) (coming : Coming) → doing_of self.new names coming ≡ cell_bound (doing_of self.old names coming)) }
+        ensures setting { self.new.setting ≡ self.old.setting }
     {
         let made = last_made(self.working.changes());
         self.cells.push(made)?;
@@ -224,7 +278,8 @@ impl<'s> ActState<'s> {
 
     /// Binds a variable, also one that was bound before.
     pub(crate) fn bind(&mut self, variable: usize, value: Value) -> Result<(), OutOfMemory>
-        ensures { OnOk result ((names : Spellings) (coming : Coming) → doing_of self.new names coming ≡ bound (doing_of self.old names coming) variable value) }
+        ensures does { OnOk result ((names : Spellings) (coming : Coming) → doing_of self.new names coming ≡ bound (doing_of self.old names coming) variable value) }
+        ensures setting { self.new.setting ≡ self.old.setting }
     {
         self.bindings.push(Binding { variable, value })?;
         Ok(())

@@ -5,18 +5,16 @@ ghost use Rattle.ops_io.specs.Ports.{port, PutsBytes};
 ghost use Rattle.ops_meaning.specs.Acting.{change_text, change_lines};
 ghost use Rattle.ops_meaning.specs.Layout.{line_at, traced};
 
-use crate::changed_memory::ChangedMemory;
+use crate::state::ActState;
 use ops_base::elements::Change;
-use ops_base::programs::Program;
 use ops_base::symbols::Names;
 use ops_io::{Out, Sink, WriteFailed};
 use ops_print::{put_made_line, put_removed_line};
 
 /// Puts the line of the change at this place.
 fn tell_change<K: Sink>(
-    program: &Program,
+    doing: &ActState<'_>,
     names: &Names,
-    working: &ChangedMemory<'_>,
     place: usize,
     change: &Change,
     out: &mut Out,
@@ -24,18 +22,18 @@ fn tell_change<K: Sink>(
 ) -> Result<(), WriteFailed>
     requires whole { IsTrue out.old.whole }
     requires faults { K.faults sink.old < 2 ^ 63 }
-    requires there { slice_get working.now.changes place ≡ Some change.now }
+    requires there { slice_get doing.now.working.changes place ≡ Some change.now }
     ensures puts { PutsBytes result (port (K.taken sink.old) (K.faults sink.old) out.old)
         (port (K.taken sink.new) (K.faults sink.new) out.new)
-        (line_at out.old.column (change_text names.now program.now.classes
-        (done working.now.start (take place working.now.changes)) change.now)) }
+        (line_at out.old.column (change_text names.now doing.now.setting.classes
+        (done doing.now.working.start (take place doing.now.working.changes)) change.now)) }
     ensures broken { OnErr result (out.new.whole ≡ false) }
 {
     match change {
-        Change::Add(element) => put_made_line(out, sink, names, program, element),
+        Change::Add(element) => put_made_line(out, sink, names, doing.program(), element),
         Change::Remove(tag) => {
-            let element = working.removed_at(place, *tag);
-            put_removed_line(out, sink, names, program, element)
+            let element = doing.working().removed_at(place, *tag);
+            put_removed_line(out, sink, names, doing.program(), element)
         }
     }
 }
@@ -57,10 +55,8 @@ pub fn traces_elements(watch: u8) -> bool
 /// Puts the lines of all changes but the first `since`, where elements are traced. For the line of an element that the
 /// right side has made and removed again it goes back over the changes between.
 pub(crate) fn tell_changes<K: Sink>(
-    program: &Program,
+    doing: &ActState<'_>,
     names: &Names,
-    working: &ChangedMemory<'_>,
-    watch: u8,
     since: usize,
     out: &mut Out,
     sink: &mut K,
@@ -69,16 +65,16 @@ pub(crate) fn tell_changes<K: Sink>(
     requires faults { K.faults sink.old < 2 ^ 63 }
     ensures puts { PutsBytes result (port (K.taken sink.old) (K.faults sink.old) out.old)
         (port (K.taken sink.new) (K.faults sink.new) out.new)
-        (traced watch out.old.column (change_lines names.now program.now.classes
-        (done working.now.start (take since working.now.changes)) (drop since working.now.changes))) }
+        (traced doing.now.setting.watch out.old.column (change_lines names.now doing.now.setting.classes
+        (done doing.now.working.start (take since doing.now.working.changes)) (drop since doing.now.working.changes))) }
     ensures broken { OnErr result (out.new.whole ≡ false) }
 {
-    if !traces_elements(watch) {
+    if !traces_elements(doing.watch()) {
         return Ok(());
     }
-    let changes = working.changes();
+    let changes = doing.changes();
     for place in since..changes.len() {
-        tell_change(program, names, working, place, &changes[place], out, sink)?;
+        tell_change(doing, names, place, &changes[place], out, sink)?;
     }
     Ok(())
 }

@@ -14,7 +14,7 @@ ghost use Rattle.act_phase.specs.Outcomes.{fails_by, is_read_mishap};
 ghost use Rattle.act_phase.specs.State.{doing_of, held_in, values_in, valued_of};
 
 use crate::atoms::accept;
-use crate::expressions::computed;
+use crate::expressions::compute;
 use crate::outcome::ActionError;
 use crate::state::ActState;
 use ops_base::actions::Term;
@@ -24,7 +24,6 @@ use ops_base::matching::bound_value;
 use ops_base::symbols::Names;
 use ops_base::values::{NOTHING, Value};
 use ops_io::{Input, Out, Sink, Source};
-use std::alloc::Global;
 use std::slice;
 
 /// The values of one term. They take no memory.
@@ -101,29 +100,27 @@ fn value_in(doing: &ActState<'_>, variable: usize) -> Value
 }
 
 /// The values of the vector attribute of a cell's element.
-fn row<'d>(classes: &[Class], doing: &'d ActState<'_>, cell: usize) -> &'d [Value]
-    ensures { let e = held_in doing.now cell in result.now ≡ drop (scalar_count (class_of classes.now e.class)) e.fields }
+fn row<'d>(doing: &'d ActState<'_>, cell: usize) -> &'d [Value]
+    ensures { let e = held_in doing.now cell in result.now ≡ drop (scalar_count (class_of doing.now.setting.classes e.class)) e.fields }
 {
     let element = doing.element(cell);
-    rest(element, scalar_count(classes, class(element)))
+    rest(element, scalar_count(doing.classes(), class(element)))
 }
 
 /// The value of an expression.
-fn compute(alloc: Global, doing: &ActState<'_>, expr: &Expr) -> Result<Value, ActionError>
+fn expression_value(doing: &ActState<'_>, expr: &Expr) -> Result<Value, ActionError>
     ensures { Gives (λ v. v) result (value_found (computed (λ v. unwrap_or (value_of doing.now.bindings v) nil) expr.now)) }
 {
-    match computed(alloc, doing.bindings(), expr)? {
+    match compute(doing.alloc(), doing.bindings(), expr)? {
         Ok(value) => Ok(value),
         Err(kind) => Err(ActionError::Fault(kind)),
     }
 }
 
-/// The values of a term. An element of the left side is looked up by its tag.
+/// The values of a term. They are not copied.
 pub(crate) fn evaluate<'d, I: Source, K: Sink>(
-    alloc: Global,
-    classes: &[Class],
-    names: &mut Names,
     doing: &'d ActState<'_>,
+    names: &mut Names,
     term: &Term,
     input: &mut Input,
     source: &mut I,
@@ -136,7 +133,7 @@ pub(crate) fn evaluate<'d, I: Source, K: Sink>(
     ensures does { Acts (λ v c. valued_of v (doing_of doing.now names.new c)) result
         (scene names.old input.old (I.left source.old) (I.faults source.old) (K.taken sink.old) (K.faults sink.old) out.old)
         (scene names.new input.new (I.left source.new) (I.faults source.new) (K.taken sink.new) (K.faults sink.new) out.new)
-        (λ c. silent (evaluated classes.now term.now (doing_of doing.now names.old c))) }
+        (λ c. silent (evaluated doing.now.setting.classes term.now (doing_of doing.now names.old c))) }
     ensures written { fails_by is_read_mishap result ≡ true → out.new.held ≡ [] }
     ensures untouched { term_asks term.now ≡ false → (input.new ≡ input.old) × (source.new ≡ source.old) }
 {
@@ -144,9 +141,9 @@ pub(crate) fn evaluate<'d, I: Source, K: Sink>(
         Term::Constant(value) => Ok(Values::One(*value)),
         Term::Variable(variable) => Ok(Values::One(value_in(doing, *variable))),
         Term::One { cell, field: at } => Ok(Values::One(field(doing.element(*cell), *at))),
-        Term::Rest { cell } => Ok(Values::Row(row(classes, doing, *cell))),
-        Term::Compute(expr) => Ok(Values::One(compute(alloc, doing, expr)?)),
+        Term::Rest { cell } => Ok(Values::Row(row(doing, *cell))),
+        Term::Compute(expr) => Ok(Values::One(expression_value(doing, expr)?)),
         Term::Fresh => Ok(Values::One(Value::Symbol(names.fresh()?))),
-        Term::Accept => Ok(Values::One(accept(alloc, names, input, source, out, sink)?)),
+        Term::Accept => Ok(Values::One(accept(doing.alloc(), names, input, source, out, sink)?)),
     }
 }

@@ -16,7 +16,7 @@ returns-in_err-fields-clause-does g c = still_short _ mishap.OutOfMemory c.from_
 
 pub loop-put-init : goal.loop-put-init
 loop-put-init g c =
-    let classes = c.args.classes.now in
+    let classes = c.args.doing.now.setting.classes in
     let class = class_of classes c.args.class in
     record {
       does =
@@ -28,7 +28,7 @@ loop-put-init g c =
 pub returns-in_err-place_put-clause-does : goal.returns-in_err-place_put-clause-does
 returns-in_err-place_put-clause-does g c =
     let l = c.loop-put in
-    let classes = c.args.classes.now in
+    let classes = c.args.doing.now.setting.classes in
     let class = class_of classes c.args.class in
     put_err (puts_made classes class) (λ (p : Put) (f : Filled). terms_placed classes p.field p.terms (record f { fields = emptied class p.field f.fields })) (λ p ps f. refl)
     c.args.doing.now c.args.puts.now l.put-index c.put-item.result l.fields.items c.loop-put-test.true c.put-item.is l.invariant.does
@@ -38,7 +38,7 @@ returns-in_err-place_put-clause-does g c =
 pub loop-put-preserved : goal.loop-put-preserved
 loop-put-preserved g c =
     let l = c.loop-put in
-    let classes = c.args.classes.now in
+    let classes = c.args.doing.now.setting.classes in
     let class = class_of classes c.args.class in
     record {
       does =

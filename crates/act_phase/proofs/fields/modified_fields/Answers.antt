@@ -18,14 +18,14 @@ loop-put-init g c =
     record {
       does =
           still_same _ (still_all _ _ c.requires.whole)
-          (λ d. ap (λ fields. silent (puts_over c.args.classes.now c.args.puts.now (filled_of fields (doing_of c.args.doing.now c.args.names.now d)))) (sym c.in_ok-fields.ensures));
+          (λ d. ap (λ fields. silent (puts_over c.args.doing.now.setting.classes c.args.puts.now (filled_of fields (doing_of c.args.doing.now c.args.names.now d)))) (sym c.in_ok-fields.ensures));
       untouched = λ _. (refl, refl);
     }
 
 pub returns-in_err-place_put-clause-does : goal.returns-in_err-place_put-clause-does
 returns-in_err-place_put-clause-does g c =
     let l = c.loop-put in
-    put_err (puts_over c.args.classes.now) (λ (p : Put) (f : Filled). terms_placed c.args.classes.now p.field p.terms f) (λ p ps f. refl)
+    put_err (puts_over c.args.doing.now.setting.classes) (λ (p : Put) (f : Filled). terms_placed c.args.doing.now.setting.classes p.field p.terms f) (λ p ps f. refl)
     c.args.doing.now c.args.puts.now l.put-index c.put-item.result l.fields.items c.loop-put-test.true c.put-item.is l.invariant.does (λ d. refl)
     _ _ c.in_err-place_put.field-0.0 c.from_residual-in_err-place_put.ensures.1 c.in_err-place_put.ensures.does
 
@@ -34,7 +34,7 @@ loop-put-preserved g c =
     let l = c.loop-put in
     record {
       does =
-          put_ok (puts_over c.args.classes.now) (λ (p : Put) (f : Filled). terms_placed c.args.classes.now p.field p.terms f) (λ p ps f. refl)
+          put_ok (puts_over c.args.doing.now.setting.classes) (λ (p : Put) (f : Filled). terms_placed c.args.doing.now.setting.classes p.field p.terms f) (λ p ps f. refl)
           c.args.doing.now c.args.puts.now l.put-index c.put-item.result l.fields.items c.loop-put-test.true c.put-item.is l.invariant.does (λ d. refl)
           c.place_put.new.fields.items c.in_ok-place_put.ensures.does;
       untouched = λ none. both_then (l.invariant.untouched none) (c.in_ok-place_put.ensures.untouched (none_at put_asks c.args.puts.now l.put-index c.put-item.result c.loop-put-test.true c.put-item.is none));

@@ -14,7 +14,7 @@ invariant-loop-put g l =
           StillDoes
           (scene l.fn.names l.fn.input (g.I.Source.left l.fn.source) (g.I.Source.faults l.fn.source) (g.K.Sink.taken l.fn.sink) (g.K.Sink.faults l.fn.sink) l.fn.out)
           (scene l.names l.input (g.I.Source.left l.source) (g.I.Source.faults l.source) (g.K.Sink.taken l.sink) (g.K.Sink.faults l.sink) l.out)
-          (λ c. silent (modified_fields l.classes l.puts l.cell (doing_of l.doing l.fn.names c)))
-          (λ c. silent (puts_over l.classes (drop l.put-index l.puts) (filled_of l.fields.items (doing_of l.doing l.names c))));
+          (λ c. silent (modified_fields l.doing.setting.classes l.puts l.cell (doing_of l.doing l.fn.names c)))
+          (λ c. silent (puts_over l.doing.setting.classes (drop l.put-index l.puts) (filled_of l.fields.items (doing_of l.doing l.names c))));
       untouched : list_any put_asks l.puts ≡ false → (l.input ≡ l.fn.input) × (l.source ≡ l.fn.source);
     }

@@ -12,16 +12,16 @@ pub returns-in_err-values-clause-does : goal.returns-in_err-values-clause-does
 returns-in_err-values-clause-does g c =
     let l = c.loop-term in
     let items = c.as_slice-term-items.ensures in
-    term_err c.args.classes.now c.args.doing.now c.args.put.now.terms l.at l.term-index c.term-item.result l.fields.items (rw items at c.loop-term-test.true) (rw items at c.term-item.is) l.invariant.does
+    term_err c.args.doing.now.setting.classes c.args.doing.now c.args.put.now.terms l.at l.term-index c.term-item.result l.fields.items (rw items at c.loop-term-test.true) (rw items at c.term-item.is) l.invariant.does
     _ _ c.in_err-values.field-0.0 c.from_residual.ensures.1 c.in_err-values.ensures.does
 
 pub returns-in_err-place_values-clause-does : goal.returns-in_err-place_values-clause-does
 returns-in_err-place_values-clause-does g c =
     let l = c.loop-term in
     let items = c.as_slice-term-items.ensures in
-    let evaluated = term_ok c.args.classes.now c.args.doing.now c.args.put.now.terms l.at l.term-index c.term-item.result l.fields.items (rw items at c.loop-term-test.true) (rw items at c.term-item.is) l.invariant.does
+    let evaluated = term_ok c.args.doing.now.setting.classes c.args.doing.now c.args.put.now.terms l.at l.term-index c.term-item.result l.fields.items (rw items at c.loop-term-test.true) (rw items at c.term-item.is) l.invariant.does
     c.in_ok-values.values c.in_ok-values.ensures.does in
-    placed_err c.args.classes.now c.args.doing.now (drop (l.term-index + 1) c.args.put.now.terms) l.at l.fields.items c.in_ok-values.values c.as_slice.result.now c.as_slice.ensures evaluated
+    placed_err c.args.doing.now.setting.classes c.args.doing.now (drop (l.term-index + 1) c.args.put.now.terms) l.at l.fields.items c.in_ok-values.values c.as_slice.result.now c.as_slice.ensures evaluated
     (λ (x : Unit {0}). c.place_values.new.fields.items) _ _ c.in_err-place_values.field-0.0 c.from_residual-in_err-place_values.ensures.1 c.in_err-place_values.ensures
 
 pub overflow_add-at : goal.overflow_add-at
@@ -35,10 +35,10 @@ pub loop-term-preserved : goal.loop-term-preserved
 loop-term-preserved g c =
     let l = c.loop-term in
     let items = c.as_slice-term-items.ensures in
-    let evaluated = term_ok c.args.classes.now c.args.doing.now c.args.put.now.terms l.at l.term-index c.term-item.result l.fields.items (rw items at c.loop-term-test.true) (rw items at c.term-item.is) l.invariant.does
+    let evaluated = term_ok c.args.doing.now.setting.classes c.args.doing.now c.args.put.now.terms l.at l.term-index c.term-item.result l.fields.items (rw items at c.loop-term-test.true) (rw items at c.term-item.is) l.invariant.does
     c.in_ok-values.values c.in_ok-values.ensures.does in
     record {
-      does = placed_ok c.args.classes.now c.args.doing.now (drop (l.term-index + 1) c.args.put.now.terms) l.at l.fields.items c.in_ok-values.values c.as_slice.result.now c.as_slice.ensures evaluated
+      does = placed_ok c.args.doing.now.setting.classes c.args.doing.now (drop (l.term-index + 1) c.args.put.now.terms) l.at l.fields.items c.in_ok-values.values c.as_slice.result.now c.as_slice.ensures evaluated
           c.place_values.new.fields.items c.as_slice-in-loop-term.result.now c.in_ok-place_values.ensures c.as_slice-in-loop-term.ensures;
       untouched = λ none. both_then (l.invariant.untouched none) (c.in_ok-values.ensures.untouched (none_at term_asks c.args.put.now.terms l.term-index c.term-item.result (rw items at c.loop-term-test.true) (rw items at c.term-item.is) none));
     }

@@ -12,7 +12,7 @@ loop-item-init g c = record { does = still_all _ _ c.requires.whole; untouched =
 pub returns-in_err-put_item-clause-does : goal.returns-in_err-put_item-clause-does
 returns-in_err-put_item-clause-does g c =
     let l = c.loop-item in
-    item_failed c.args.classes.now c.args.doing.now (lead_of l.lead) c.args.items.now l.item-index c.item-item.result c.loop-item-test.true c.item-item.is l.invariant.does
+    item_failed c.args.doing.now.setting.classes c.args.doing.now (lead_of l.lead) c.args.items.now l.item-index c.item-item.result c.loop-item-test.true c.item-item.is l.invariant.does
     _ _ c.in_err-put_item.field-0.0 c.from_residual.ensures.1 c.in_err-put_item.ensures.does
 
 pub loop-item-preserved : goal.loop-item-preserved
@@ -20,7 +20,7 @@ loop-item-preserved g c =
     let l = c.loop-item in
     record {
       does = rw c.lead_after-lead.ensures
-          (item_put c.args.classes.now c.args.doing.now (lead_of l.lead) c.args.items.now l.item-index c.item-item.result c.loop-item-test.true c.item-item.is l.invariant.does c.in_ok-put_item.ensures.does);
+          (item_put c.args.doing.now.setting.classes c.args.doing.now (lead_of l.lead) c.args.items.now l.item-index c.item-item.result c.loop-item-test.true c.item-item.is l.invariant.does c.in_ok-put_item.ensures.does);
       untouched = λ none. both_then (l.invariant.untouched none) (c.in_ok-put_item.ensures.untouched (none_at item_asks c.args.items.now l.item-index c.item-item.result c.loop-item-test.true c.item-item.is none));
     }
 

@@ -15,7 +15,7 @@ invariant-loop-item g l =
           StillDoes
           (scene l.fn.names l.fn.input (g.I.Source.left l.fn.source) (g.I.Source.faults l.fn.source) (g.K.Sink.taken l.fn.sink) (g.K.Sink.faults l.fn.sink) l.fn.out)
           (scene l.names l.input (g.I.Source.left l.source) (g.I.Source.faults l.source) (g.K.Sink.taken l.sink) (g.K.Sink.faults l.sink) l.out)
-          (λ c. items_done l.classes Apart l.fn.out.column l.items (doing_of l.doing l.fn.names c))
-          (λ c. items_done l.classes (lead_of l.lead) l.out.column (drop l.item-index l.items) (doing_of l.doing l.names c));
+          (λ c. items_done l.doing.setting.classes Apart l.fn.out.column l.items (doing_of l.doing l.fn.names c))
+          (λ c. items_done l.doing.setting.classes (lead_of l.lead) l.out.column (drop l.item-index l.items) (doing_of l.doing l.names c));
       untouched : list_any item_asks l.items ≡ false → (l.input ≡ l.fn.input) × (l.source ≡ l.fn.source);
     }

@@ -1,7 +1,6 @@
 use Rattle.std.proofs.Common.{[], refl, ap, sym, length}
 use Rattle.ops_base.specs.declared.actions.Action.TheVariants as action
 use Rattle.ops_meaning.specs.Effects.{writes}
-use Rattle.act_phase.specs.Outcomes.{setting_of}
 use Rattle.act_phase.specs.State.{doing_of}
 use Rattle.act_phase.specs.declared.outcome.ActionError.TheVariants as mishap
 use Rattle.act_phase.proofs.Deeds.{still_all, still_short}
@@ -16,26 +15,26 @@ returns-in_err-remove-in-Remove-clause-does g c = still_short _ mishap.OutOfMemo
 pub returns-in_err-tell_changes-in-Remove-clause-does : goal.returns-in_err-tell_changes-in-Remove-clause-does
 returns-in_err-tell_changes-in-Remove-clause-does g c =
     bytes_refused _ _
-    (removal_told (setting_of c.args.program.now c.args.watch) c.args.doing.now c.remove.new.doing _ c.args.action.now (length c.changes-since.result.now) c.in-Remove.cells c.as_slice.result.now c.requires.whole c.in-Remove.is c.as_slice.ensures
+    (removal_told c.args.doing.now.setting c.args.doing.now c.remove.new.doing _ c.args.action.now (length c.changes-since.result.now) c.in-Remove.cells c.as_slice.result.now c.requires.whole c.in-Remove.is c.as_slice.ensures
     c.in_ok-remove-in-Remove.ensures.does c.in_ok-remove-in-Remove.ensures.goes_on (ap length c.changes-since.ensures))
-    _ _ c.from_residual-in_err-tell_changes-in-Remove.ensures.1 (rw c.working.ensures at c.in_err-tell_changes-in-Remove.ensures.puts)
+    _ _ c.from_residual-in_err-tell_changes-in-Remove.ensures.1 (rw c.remove.ensures.setting at c.in_err-tell_changes-in-Remove.ensures.puts)
 
 pub returns-in_ok-tell_changes-in-Remove-clause-does : goal.returns-in_ok-tell_changes-in-Remove-clause-does
 returns-in_ok-tell_changes-in-Remove-clause-does g c =
     bytes_put _ _
-    (removal_told (setting_of c.args.program.now c.args.watch) c.args.doing.now c.remove.new.doing _ c.args.action.now (length c.changes-since.result.now) c.in-Remove.cells c.as_slice.result.now c.requires.whole c.in-Remove.is c.as_slice.ensures
+    (removal_told c.args.doing.now.setting c.args.doing.now c.remove.new.doing _ c.args.action.now (length c.changes-since.result.now) c.in-Remove.cells c.as_slice.result.now c.requires.whole c.in-Remove.is c.as_slice.ensures
     c.in_ok-remove-in-Remove.ensures.does c.in_ok-remove-in-Remove.ensures.goes_on (ap length c.changes-since.ensures))
-    _ _ (rw c.working.ensures at c.in_ok-tell_changes-in-Remove.ensures.puts)
+    _ _ (rw c.remove.ensures.setting at c.in_ok-tell_changes-in-Remove.ensures.puts)
 
 pub returns-in_err-bind_cell-in-Cbind-clause-does : goal.returns-in_err-bind_cell-in-Cbind-clause-does
 returns-in_err-bind_cell-in-Cbind-clause-does g c = still_short _ mishap.OutOfMemory c.from_residual-in_err-bind_cell-in-Cbind.ensures.1 refl refl (still_all _ _ c.requires.whole)
 
 pub returns-in_ok-bind_cell-in-Cbind-clause-does : goal.returns-in_ok-bind_cell-in-Cbind-clause-does
 returns-in_ok-bind_cell-in-Cbind-clause-does g c =
-    action_quiet _ (setting_of c.args.program.now c.args.watch) c.args.action.now (action.Cbind c.in-Cbind.cell) c.args.doing.now c.bind_cell.new.self _ c.requires.whole c.in-Cbind.is
-    (λ names d. ap (λ s. writes [] s) (sym (c.in_ok-bind_cell-in-Cbind.ensures names d)))
+    action_quiet _ c.args.doing.now.setting c.args.action.now (action.Cbind c.in-Cbind.cell) c.args.doing.now c.bind_cell.new.self _ c.requires.whole c.in-Cbind.is
+    (λ names d. ap (λ s. writes [] s) (sym (c.in_ok-bind_cell-in-Cbind.ensures.does names d)))
 
 pub returns-in-Halt-clause-does : goal.returns-in-Halt-clause-does
 returns-in-Halt-clause-does g c =
-    action_quiet _ (setting_of c.args.program.now c.args.watch) c.args.action.now action.Halt c.args.doing.now c.halt.new.self _ c.requires.whole c.in-Halt.is
+    action_quiet _ c.args.doing.now.setting c.args.action.now action.Halt c.args.doing.now c.halt.new.self _ c.requires.whole c.in-Halt.is
     (λ names d. ap (λ s. writes [] (doing_of s names d)) (sym c.halt.ensures))

@@ -13,4 +13,4 @@ returns-in_err-bind-clause-does g c = then_short _ _ c.requires.whole _ _ c.in_o
 pub returns-clause-does : goal.returns-clause-does
 returns-clause-does g c =
     then_done _ _ c.requires.whole _ _ c.in_ok-values.ensures.does
-    (λ d. c.in_ok-bind.ensures _ d ∙ ap (λ v. bound (doing_of c.args.doing.now c.evaluate.new.names d) c.args.variable v) c.first-value.ensures)
+    (λ d. c.in_ok-bind.ensures.does _ d ∙ ap (λ v. bound (doing_of c.args.doing.now c.evaluate.new.names d) c.args.variable v) c.first-value.ensures)

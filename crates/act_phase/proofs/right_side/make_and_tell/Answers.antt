@@ -1,24 +1,23 @@
 use Rattle.std.proofs.Common.{ap, length}
-use Rattle.act_phase.specs.Outcomes.{setting_of}
 use Rattle.act_phase.proofs.ItemLemmas.{bytes_put, bytes_refused}
 use Rattle.act_phase.proofs.Told.{still_told, never_told}
 use Rattle.act_phase.proofs.right_side.make_and_tell.Goals as goal
 
 pub returns-in_err-make-clause-does : goal.returns-in_err-make-clause-does
 returns-in_err-make-clause-does g c =
-    never_told (setting_of c.args.program.now c.args.watch) c.args.doing.now c.make.new.doing c.requires.whole _ _ c.from_residual.ensures.1
-    (rw c.as_slice-classes.ensures at c.in_err-make.ensures.does)
+    never_told c.args.doing.now.setting c.args.doing.now c.make.new.doing c.requires.whole _ _ c.from_residual.ensures.1
+    c.in_err-make.ensures.does
 
 pub returns-in_err-tell_changes-clause-does : goal.returns-in_err-tell_changes-clause-does
 returns-in_err-tell_changes-clause-does g c =
     bytes_refused _ _
-    (still_told (setting_of c.args.program.now c.args.watch) c.args.doing.now c.make.new.doing c.requires.whole (length c.changes-since.result.now)
-    (rw c.as_slice-classes.ensures at c.in_ok-make.ensures.does) c.in_ok-make.ensures.goes_on (ap length c.changes-since.ensures))
-    _ _ c.from_residual-in_err-tell_changes.ensures.1 (rw c.working.ensures at c.in_err-tell_changes.ensures.puts)
+    (still_told c.args.doing.now.setting c.args.doing.now c.make.new.doing c.requires.whole (length c.changes-since.result.now)
+    c.in_ok-make.ensures.does c.in_ok-make.ensures.goes_on (ap length c.changes-since.ensures))
+    _ _ c.from_residual-in_err-tell_changes.ensures.1 (rw c.make.ensures.setting at c.in_err-tell_changes.ensures.puts)
 
 pub returns-clause-does : goal.returns-clause-does
 returns-clause-does g c =
     bytes_put _ _
-    (still_told (setting_of c.args.program.now c.args.watch) c.args.doing.now c.make.new.doing c.requires.whole (length c.changes-since.result.now)
-    (rw c.as_slice-classes.ensures at c.in_ok-make.ensures.does) c.in_ok-make.ensures.goes_on (ap length c.changes-since.ensures))
-    _ _ (rw c.working.ensures at c.in_ok-tell_changes.ensures.puts)
+    (still_told c.args.doing.now.setting c.args.doing.now c.make.new.doing c.requires.whole (length c.changes-since.result.now)
+    c.in_ok-make.ensures.does c.in_ok-make.ensures.goes_on (ap length c.changes-since.ensures))
+    _ _ (rw c.make.ensures.setting at c.in_ok-tell_changes.ensures.puts)

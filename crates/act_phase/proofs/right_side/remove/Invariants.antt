@@ -11,4 +11,5 @@ invariant-loop-cell l = record {
   does : (names : Spellings) (coming : Coming) → fold (λ d c. removed d (cell_of d c).tag) (doing_of l.doing names coming) (drop l.cell-index l.cells)
       ≡ fold (λ d c. removed d (cell_of d c).tag) (doing_of l.fn.doing names coming) l.cells;
   goes_on : GoesOnTo l.fn.doing.working l.doing.working;
+  setting : l.doing.setting ≡ l.fn.doing.setting;
 }

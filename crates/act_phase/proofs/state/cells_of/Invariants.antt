@@ -6,6 +6,6 @@ use Rattle.act_phase.proofs.state.cells_of.Given as goal
 
 abbrev pub invariant-loop-tag : goal.invariant-loop-tag
 invariant-loop-tag l = record {
-  held : map (held_by l.store.elements []) l.cells.items ≡ elements_of l.store.elements (take l.tag-index l.tags);
+  held : map (held_by []) l.cells.items ≡ elements_of l.store.elements (take l.tag-index l.tags);
   there : list_all (is_there 0) l.cells.items ≡ true;
 }

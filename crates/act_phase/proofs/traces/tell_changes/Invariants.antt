@@ -8,5 +8,5 @@ use Rattle.act_phase.proofs.traces.tell_changes.Given as goal
 abbrev pub invariant-loop-place : goal.invariant-loop-place
 invariant-loop-place g l =
     Underway (port (g.K.Sink.taken l.fn.sink) (g.K.Sink.faults l.fn.sink) l.fn.out) (port (g.K.Sink.taken l.sink) (g.K.Sink.faults l.sink) l.out)
-    (lines_at l.fn.out.column (change_lines l.names l.program.classes (done l.working.start (take l.since l.working.changes)) (drop l.since l.working.changes)))
-    (lines_at l.out.column (change_lines l.names l.program.classes (done l.working.start (take l.place l.working.changes)) (drop l.place l.working.changes)))
+    (lines_at l.fn.out.column (change_lines l.names l.doing.setting.classes (done l.doing.working.start (take l.since l.doing.working.changes)) (drop l.since l.doing.working.changes)))
+    (lines_at l.out.column (change_lines l.names l.doing.setting.classes (done l.doing.working.start (take l.place l.doing.working.changes)) (drop l.place l.doing.working.changes)))

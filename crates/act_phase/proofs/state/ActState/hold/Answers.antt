@@ -1,4 +1,5 @@
 use Rattle.std.proofs.Common.{length, ap, arith}
+use Rattle.act_phase.specs.Outcomes.{setting_of}
 use Rattle.act_phase.specs.State.{State}
 use Rattle.act_phase.specs.declared.state.Cell.TheVariants as cell
 use Rattle.act_phase.proofs.Cells.{below_is, there_set}
@@ -15,4 +16,4 @@ invariant_of-self c =
 pub returns-then-cell-len : goal.returns-then-cell-len
 returns-then-cell-len c =
     let fields = c.self.inside in
-    state_set fields.working fields.bindings.items fields.cells.items fields.halted c.args.self.now c.self.view_is c.args.cell c.args.place
+    state_set (setting_of fields.program.now fields.watch) fields.working fields.bindings.items fields.cells.items fields.halted c.args.self.now c.self.view_is c.args.cell c.args.place

@@ -1,4 +1,5 @@
 use Rattle.std.proofs.Common.{refl}
+use Rattle.act_phase.specs.Outcomes.{setting_of}
 use Rattle.act_phase.proofs.Cells.{still_there}
 use Rattle.act_phase.proofs.States.{state_removed}
 use Rattle.act_phase.proofs.state.ActState.remove_tag.Goals as goal
@@ -16,5 +17,5 @@ invariant_of-self-2 c =
 pub returns-clause-does : goal.returns-clause-does
 returns-clause-does c = λ names coming.
     let fields = c.self.inside in
-    state_removed names coming fields.working c.remove.new.self fields.bindings.items fields.cells.items fields.halted c.args.self.now c.self.view_is c.remove.ensures.goes_on c.self.invariant
+    state_removed names coming (setting_of fields.program.now fields.watch) fields.working c.remove.new.self fields.bindings.items fields.cells.items fields.halted c.args.self.now c.self.view_is c.remove.ensures.goes_on c.self.invariant
     c.args.tag _ c.in_ok-remove.ensures.does refl
