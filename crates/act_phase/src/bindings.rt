@@ -1,11 +1,16 @@
 //! What the variables of an instantiation are bound to.
-ghost use Rattle.std.specs.Prelude.{◌≡◌, IfOk, []};
+ghost use Rattle.std.specs.Prelude.{◌≡◌, ◌++◌, IfOk, OnOk, Some, None, [], if◌then◌else◌, unwrap_or};
 ghost use Rattle.std.specs.List.{list_any};
+ghost use Rattle.ops_base.specs.Matching.{operand_holds, bound_to, after_test, after_tests};
+ghost use Rattle.ops_base.specs.Values.{are_same};
+ghost use Rattle.ops_base.specs.WorkingMemory.{field_of};
 ghost use Rattle.ops_meaning.specs.Acting.{element_of, matched_by, bindings_of};
 
-use ops_base::conditions::{Condition, Part};
-use ops_base::matching::{Binding, matched};
+use ops_base::conditions::{Condition, Operand, Part, Test};
+use ops_base::elements::Element;
+use ops_base::matching::{Binding, bound_value, holds};
 use ops_base::memory::OutOfMemory;
+use ops_base::values::Value;
 use std::alloc::Global;
 use work_store::Store;
 
@@ -16,42 +21,94 @@ fn binds(condition: &Condition) -> bool
     condition.tests.as_slice().iter().any(|test| test.binds)
 }
 
-#[tactic(auto, using(crate::proofs::Unbound::unbound))]
-/// The bindings after the element of a tag met a condition. Where no test binds, they stay as they are: then nothing is
-/// looked up, and it takes no memory.
-fn matched_by(
-    alloc: Global,
-    condition: &Condition,
-    store: &Store,
-    tag: u64,
-    bindings: Vec<Binding>,
-) -> Result<Vec<Binding>, OutOfMemory>
-    ensures { IfOk result (λ v. v.items ≡ matched_by condition.now (element_of store.now.elements tag) bindings.items) }
+fn is_one_of(values: &[Value], value: Value) -> bool
+    ensures { result ≡ list_any (λ c. are_same value c) values.now }
 {
-    if !binds(condition) {
-        return Ok(bindings);
-    }
-    let Some(e) = store.get(tag) else {
-        return Ok(bindings);
-    };
-    match matched(alloc, condition, e, &bindings)? {
-        Some(next) => Ok(next),
-        None => Ok(bindings),
+    values.iter().any(|each| value == *each)
+}
+
+/// Whether a test that does not bind holds of a value.
+fn meets(test: &Test, value: Value, bindings: &[Binding]) -> bool
+    ensures { result ≡ operand_holds test.now.pred value test.now.operand bindings.now }
+{
+    match &test.operand {
+        Operand::Constant(constant) => holds(test.pred, value, *constant),
+        Operand::OneOf(values) => is_one_of(values.as_slice(), value),
+        Operand::Variable(variable) => match bound_value(bindings, *variable) {
+            Some(bound) => holds(test.pred, value, bound),
+            None => false,
+        },
     }
 }
 
-/// The bindings that the elements of these tags give, one for each positive condition. Only an element whose condition
-/// binds a variable is looked up by its tag and does the tests once more, and then the bindings so far are copied. A
-/// group takes no tag and binds nothing.
+/// Does one test, and adds what it binds. Answers whether it holds.
+fn pass(test: &Test, e: &Element, bindings: &mut Vec<Binding>) -> Result<bool, OutOfMemory>
+    ensures after { IfOk result (λ b. after_test test.now e.now bindings.old.items ≡ (if b then Some bindings.new.items else None)) }
+    ensures adds { OnOk result (bindings.new.items
+        ≡ bindings.old.items ++ (if test.now.binds then bound_to [] test.now.operand (field_of e.now test.now.field) else [])) }
+{
+    let value = e.field(test.field);
+    if !test.binds {
+        return Ok(meets(test, value, bindings.as_slice()));
+    }
+    if let Operand::Variable(variable) = &test.operand {
+        let variable = *variable;
+        bindings.push(Binding { variable, value })?;
+    }
+    Ok(true)
+}
+
+/// Does tests up to the first that does not hold, and adds what they bind. Where one does not hold, the bindings are cut
+/// back to what they were.
+fn bind_tests(tests: &[Test], e: &Element, bindings: &mut Vec<Binding>) -> Result<(), OutOfMemory>
+    ensures { OnOk result (bindings.new.items ≡ unwrap_or (after_tests tests.now e.now bindings.old.items) bindings.old.items) }
+{
+    let before = bindings.len();
+    for test in tests {
+        if !pass(test, e, bindings)? {
+            bindings.truncate(before);
+            return Ok(());
+        }
+    }
+    Ok(())
+}
+
+#[tactic(auto, using(crate::proofs::Unbound::unbound))]
+/// Adds what a condition binds of the element of a tag. Where no test binds, nothing is looked up, and it takes no
+/// memory.
+fn bind_condition(
+    condition: &Condition,
+    store: &Store,
+    tag: u64,
+    bindings: &mut Vec<Binding>,
+) -> Result<(), OutOfMemory>
+    ensures { OnOk result (bindings.new.items ≡ matched_by condition.now (element_of store.now.elements tag) bindings.old.items) }
+{
+    if !binds(condition) {
+        return Ok(());
+    }
+    let Some(e) = store.get(tag) else {
+        return Ok(());
+    };
+    if e.class != condition.class {
+        return Ok(());
+    }
+    bind_tests(condition.tests.as_slice(), e, bindings)
+}
+
+/// The bindings that the elements of these tags give, one for each positive condition, in a list with room for `room`.
+/// Only an element whose condition binds a variable is looked up by its tag and does the tests once more, and no binding
+/// is copied. A group takes no tag and binds nothing.
 pub(crate) fn bindings_of(
     alloc: Global,
     store: &Store,
     parts: &[Part],
     tags: &[u64],
+    room: usize,
 ) -> Result<Vec<Binding>, OutOfMemory>
     ensures { IfOk result (λ v. v.items ≡ bindings_of store.now.elements parts.now tags.now []) }
 {
-    let mut bindings = Vec::new(alloc);
+    let mut bindings = Vec::with_capacity(alloc, room)?;
     let mut rest = tags;
     for part in parts {
         let Some((tag, after)) = rest.split_first() else {
@@ -59,7 +116,7 @@ pub(crate) fn bindings_of(
         };
         match part {
             Part::One(condition) if !condition.negated => {
-                bindings = matched_by(alloc, condition, store, *tag, bindings)?;
+                bind_condition(condition, store, *tag, &mut bindings)?;
                 rest = after;
             }
             Part::One(_) | Part::Group(_) => {}

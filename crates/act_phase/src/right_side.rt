@@ -6,7 +6,7 @@ ghost use Rattle.ops_base.specs.Valid.{class_of};
 ghost use Rattle.ops_base.specs.WorkingMemory.{Lawful};
 ghost use Rattle.ops_io.specs.Coming.{Coming, inlet};
 ghost use Rattle.ops_io.specs.Ports.{port};
-ghost use Rattle.ops_meaning.specs.Acting.{cell_of, removed, added, modified, bound, first_of, evaluated, made_fields, modified_fields, action_done, actions_done, in_action, acted, actions_of, conditions_of};
+ghost use Rattle.ops_meaning.specs.Acting.{cell_of, removed, added, modified, bound, first_of, evaluated, made_fields, modified_fields, action_done, actions_done, in_action, acted, actions_of};
 ghost use Rattle.ops_meaning.specs.Effects.{PerformsOn, CountsReads, told_as, silent, followed_by};
 ghost use Rattle.ops_meaning.specs.Kept.{KeepsNames};
 ghost use Rattle.act_phase.specs.Asking.{action_asks, put_asks, right_side_asks, term_asks};
@@ -23,7 +23,6 @@ use crate::state::ActState;
 use crate::traces::tell_changes;
 use crate::values::evaluate;
 use ops_base::actions::{Action, Put, Term};
-use ops_base::conditions::Part;
 use ops_base::memory::OutOfMemory;
 use ops_base::programs::Program;
 use ops_base::rules::Inst;
@@ -261,15 +260,6 @@ fn act_at<I: Source, K: Sink>(
     }
 }
 
-fn conditions_of(program: &Program, rule: usize) -> &[Part]
-    ensures { result.now ≡ conditions_of program.now.rules rule }
-{
-    match program.rules.as_slice().get(rule) {
-        Some(rule) => rule.conditions.as_slice(),
-        None => &[],
-    }
-}
-
 fn actions_of(program: &Program, rule: usize) -> &[Action]
     ensures { result.now ≡ actions_of program.now.rules rule }
 {
@@ -356,9 +346,7 @@ pub fn act<I: Source, K: Sink>(
     // only the proof needs this: the store is looked at for what it keeps true
     let last = store.last();
     prove!(last < next_tag);
-    let conditions = conditions_of(program, inst.rule);
-    let tags = inst.tags.as_slice();
-    let mut doing = ActState::new(alloc, program, watch, store, conditions, tags, next_tag)?;
+    let mut doing = ActState::new(alloc, program, watch, store, inst, next_tag)?;
     let actions = actions_of(program, inst.rule);
     act_all(&mut doing, names, actions, input, source, out, sink)?;
     Ok(doing.finish())

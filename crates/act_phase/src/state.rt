@@ -4,7 +4,7 @@ ghost use Rattle.std.specs.List.{list_all};
 ghost use Rattle.std.specs.Option.{option_copied};
 ghost use Rattle.ops_base.specs.Names.{Spellings};
 ghost use Rattle.ops_io.specs.Coming.{Coming};
-ghost use Rattle.ops_meaning.specs.Acting.{element_of, elements_of, bindings_of, no_element, made_last, added, removed, modified, cell_bound, bound, left_by};
+ghost use Rattle.ops_meaning.specs.Acting.{element_of, elements_of, conditions_of, begun, no_element, made_last, added, removed, modified, cell_bound, bound, left_by};
 ghost use Rattle.act_phase.specs.Changed.{GoesOnTo};
 ghost use Rattle.act_phase.specs.Outcomes.{acted_of, setting_of};
 ghost use Rattle.act_phase.specs.State.{held_by, is_there, made_at, held_in, doing_of};
@@ -18,6 +18,7 @@ use ops_base::list::Listed;
 use ops_base::matching::Binding;
 use ops_base::memory::OutOfMemory;
 use ops_base::programs::Program;
+use ops_base::rules::Inst;
 use ops_base::values::Value;
 use std::alloc::Global;
 use std::marker::Model;
@@ -89,6 +90,23 @@ fn cells_of<'s>(alloc: Global, store: &'s Store, tags: &[u64]) -> Result<Vec<Cel
     Ok(cells)
 }
 
+fn conditions_of(program: &Program, rule: usize) -> &[Part]
+    ensures { result.now ≡ conditions_of program.now.rules rule }
+{
+    match program.rules.as_slice().get(rule) {
+        Some(rule) => rule.conditions.as_slice(),
+        None => &[],
+    }
+}
+
+/// A number above that of each variable in a production.
+fn variables_of(program: &Program, rule: usize) -> usize {
+    match program.rules.as_slice().get(rule) {
+        Some(rule) => rule.variables,
+        None => 0,
+    }
+}
+
 /// A cell of the element that was added last. Looks at the changes since then.
 fn last_made<'s>(changes: &[Change]) -> Cell<'s>
     ensures held { held_by changes.now result ≡ made_last changes.now }
@@ -111,29 +129,23 @@ impl<'s> ActState<'s> {
         program: &'s Program,
         watch: u8,
         store: &'s Store,
-        parts: &[Part],
-        tags: &[u64],
+        inst: &Inst,
         next_tag: u64,
     ) -> Result<ActState<'s>, OutOfMemory>
         requires { store.now.last < next_tag }
         ensures setting { IfOk result (λ d. d.setting ≡ setting_of program.now watch) }
-        ensures begins { IfOk result (λ d. (names : Spellings) (coming : Coming) → doing_of d names coming ≡ record {
-          wm = store.now.elements;
-          changes = [];
-          last = next_tag - 1;
-          bindings = bindings_of store.now.elements parts.now tags.now [];
-          cells = elements_of store.now.elements tags.now;
-          halted = false;
-          names = names;
-          coming = coming;
-        }) }
+        ensures begins { IfOk result (λ d. (names : Spellings) (coming : Coming) → doing_of d names coming
+            ≡ begun (setting_of program.now watch) inst.now (record { wm = store.now.elements; last = next_tag - 1; names = names; coming = coming })) }
     {
+        let conditions = conditions_of(program, inst.rule);
+        let tags = inst.tags.as_slice();
+        let room = variables_of(program, inst.rule);
         Ok(ActState {
             alloc,
             program,
             watch,
             working: ChangedMemory::new(alloc, store, next_tag),
-            bindings: bindings_of(alloc, store, parts, tags)?,
+            bindings: bindings_of(alloc, store, conditions, tags, room)?,
             cells: cells_of(alloc, store, tags)?,
             halted: false,
         })

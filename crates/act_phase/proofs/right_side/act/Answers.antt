@@ -28,7 +28,7 @@ returns-in_err-doing g c =
 pub returns-in_err-act_all : goal.returns-in_err-act_all
 returns-in_err-act_all g c =
     let old = scene c.args.names.now c.args.input.now (g.I.Source.left c.args.source.now) (g.I.Source.faults c.args.source.now) (g.K.Sink.taken c.args.sink.now) (g.K.Sink.faults c.args.sink.now) c.args.out.now in
-    let begin = rw (c.conditions_of-conditions.ensures, c.as_slice-tags.ensures) at c.in_ok-doing.ensures.begins in
+    let begin = c.in_ok-doing.ensures.begins in
     let p = whole_err (setting_of c.args.program.now c.args.watch) c.args.inst.now c.args.store.now.elements (c.args.next_tag - 1) old c.actions_of-actions.result.now c.actions_of-actions.ensures c.in_ok-doing.doing begin
     (λ (a : Acted) (d : Coming). acted_of a c.act_all.new.names d) c.from_residual-in_err-act_all.result c.from_residual-in_err-act_all.ensures.1 (rw c.in_ok-doing.ensures.setting at c.in_err-act_all.ensures.does) c.requires.whole in
     record {
@@ -45,7 +45,7 @@ returns-in_err-act_all g c =
 pub returns : goal.returns
 returns g c =
     let old = scene c.args.names.now c.args.input.now (g.I.Source.left c.args.source.now) (g.I.Source.faults c.args.source.now) (g.K.Sink.taken c.args.sink.now) (g.K.Sink.faults c.args.sink.now) c.args.out.now in
-    let begin = rw (c.conditions_of-conditions.ensures, c.as_slice-tags.ensures) at c.in_ok-doing.ensures.begins in
+    let begin = c.in_ok-doing.ensures.begins in
     let p = whole_ok (setting_of c.args.program.now c.args.watch) c.args.inst.now c.args.store.now.elements (c.args.next_tag - 1) old c.actions_of-actions.result.now c.actions_of-actions.ensures c.in_ok-doing.doing begin
     c.act_all.new.doing c.finish.result (rw c.in_ok-doing.ensures.setting at c.in_ok-act_all.ensures.does) c.finish.ensures.left c.requires.whole in
     let kept =
