@@ -1,0 +1,30 @@
+-- What the words of the command line mean.
+use Rattle.std.specs.Prelude.{◌≡◌, List, [], ◌∷◌, ◌++◌, codes, Some}
+use Rattle.ops_jobs.specs.declared.jobs.Engine.TheVariants.{Direct, Serial, Rounds, Free}
+use Rattle.ops_jobs.specs.declared.jobs.Job.TheVariants.{Run, Net, Gen}
+use Rattle.ops_jobs.specs.declared.jobs.Options.{Options}
+use Rattle.ops_jobs.specs.CommandLine.{Word, job_of}
+
+-- the options where none is given
+abbrev pub usual : Options
+usual = record { engine = Free; workers = 4; lines = 1024; limit = 1000000 }
+
+abbrev pub file : Word
+file = codes "f.ops"
+
+-- these words before the name of a file run it with these options
+abbrev pub RunsWith : List Word → Options → Type 0
+RunsWith words options = job_of (words ++ file ∷ []) ≡ Some (Run options (file ∷ []))
+
+abbrev pub OptionsMean : Type 0
+OptionsMean =
+    RunsWith [] usual
+    × RunsWith (codes "--match" ∷ codes "direct" ∷ []) (record usual { engine = Direct })
+    × RunsWith (codes "--match" ∷ codes "serial" ∷ []) (record usual { engine = Serial })
+    × RunsWith (codes "--match" ∷ codes "rounds" ∷ []) (record usual { engine = Rounds })
+    × RunsWith (codes "--match=free" ∷ []) usual
+    × RunsWith (codes "--workers" ∷ codes "3" ∷ []) (record usual { workers = 3 })
+    × RunsWith (codes "--lines" ∷ codes "5" ∷ []) (record usual { lines = 5 })
+    × RunsWith (codes "--limit" ∷ codes "9" ∷ []) (record usual { limit = 9 })
+    × (job_of (codes "--net" ∷ file ∷ []) ≡ Some (Net (file ∷ [])))
+    × (job_of (codes "--gen" ∷ codes "8" ∷ codes "6" ∷ []) ≡ Some (Gen usual 8 6))

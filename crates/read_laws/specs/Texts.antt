@@ -1,0 +1,43 @@
+-- What is read in a small text, of which one part is looked at.
+use Rattle.std.specs.Prelude.{ℕ, List, [], ◌∷◌, ◌++◌, codes, Result, Ok, Err}
+use Rattle.ops_base.specs.declared.actions.Action.{Action}
+use Rattle.ops_base.specs.declared.commands.Command.{Command}
+use Rattle.ops_base.specs.declared.conditions.Part.{Part}
+use Rattle.ops_base.specs.declared.rules.Rule.{Rule}
+use Rattle.ops_grammar.specs.Reads.{Read, Placed, reads}
+
+abbrev pub Text : Type 0
+Text = List ℕ
+
+-- two classes: `a` has the attributes x and y, and `l` the attribute u and the vector attribute v
+abbrev pub classes : Text
+classes = codes "(literalize a x y)(vector-attribute v)(literalize l u v)"
+
+abbrev pub rules_in : Result Read Placed → List Rule
+rules_in (Ok r) = r.rules
+rules_in (Err p) = []
+
+abbrev pub parts_in : List Rule → List Part
+parts_in [] = []
+parts_in (r ∷ rs) = r.conditions
+
+abbrev pub actions_in : List Rule → List Action
+actions_in [] = []
+actions_in (r ∷ rs) = r.actions
+
+abbrev pub commands_in : Result Read Placed → List Command
+commands_in (Ok r) = r.commands
+commands_in (Err p) = []
+
+-- the parts of a left side, which this spells
+abbrev pub parts_of : Text → List Part
+parts_of left = parts_in (rules_in (reads (classes ++ codes "(p r " ++ left ++ codes "-->(halt))")))
+
+-- the actions of a right side, which this spells; it stands behind conditions on an `a`, named e, whose x is bound to
+-- the variable 0, and on an `l`, named f
+abbrev pub actions_of : Text → List Action
+actions_of right = actions_in (rules_in (reads (classes ++ codes "(p r {<e>(a ^x <n>)}{<f>(l)}-->" ++ right ++ codes ")")))
+
+-- the commands that this spells, behind a production
+abbrev pub commands_of : Text → List Command
+commands_of text = commands_in (reads (classes ++ codes "(p r(a)-->(halt))" ++ text))

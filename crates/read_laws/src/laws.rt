@@ -1,0 +1,32 @@
+//! What each operator, word and form of the language means, and each word of the command line. Each law is the contract
+//! of a function that does nothing. What it says is computed from the definition of reading, so that a wrong entry
+//! there would be refused, even if the laws of spelling had the same one.
+ghost use Rattle.read_laws.specs.LeftSides.{OperatorsMean, OperandsMean, PartsMean};
+ghost use Rattle.read_laws.specs.RightSides.{ActionsMean, TermsMean, OperationsMean, ItemsMean};
+ghost use Rattle.read_laws.specs.Commands.{CommandsMean};
+ghost use Rattle.read_laws.specs.Options.{OptionsMean};
+
+/// The tests and the conditions of a left side.
+pub fn left_sides_mean()
+    ensures operators { OperatorsMean }
+    ensures operands { OperandsMean }
+    ensures parts { PartsMean }
+{}
+
+/// The actions of a right side, their values, and what `write` prints.
+pub fn right_sides_mean()
+    ensures actions { ActionsMean }
+    ensures terms { TermsMean }
+    ensures operations { OperationsMean }
+    ensures items { ItemsMean }
+{}
+
+/// The commands of a program.
+pub fn commands_mean()
+    ensures { CommandsMean }
+{}
+
+/// The options of the command line.
+pub fn options_mean()
+    ensures { OptionsMean }
+{}
