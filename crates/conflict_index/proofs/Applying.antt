@@ -10,8 +10,7 @@ use Rattle.ops_base.specs.declared.rules.Inst.{Inst}
 use Rattle.ops_base.specs.declared.rules.Rule.{Rule}
 use Rattle.ops_base.specs.Dominance.{specificity_of}
 use Rattle.ops_base.proofs.Members.{IsMember, member_from_contains, contains_from_member, member-map, map_member, all_from_members}
-use Rattle.resolution.specs.declared.keys.Key.{Key}
-use Rattle.resolution.specs.Keys.{same_keys}
+use Rattle.resolution.specs.Keys.{Key, same_keys}
 use Rattle.conflict_index.specs.Rank.{Rank}
 use Rattle.conflict_index.specs.Indexed.{Member, Indexed, insts_of, key_with, KeepsSpecificities}
 use Rattle.conflict_index.specs.Applying.{newcomer, Stays, Comes, IsApplied, IsPart, IsApart}

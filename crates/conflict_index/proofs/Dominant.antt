@@ -18,8 +18,7 @@ use Rattle.ops_base.specs.Dominance.{is_greater}
 use Rattle.ops_base.proofs.Filtered.{filter_member, member-filter, all_before-filter}
 use Rattle.ops_base.proofs.InOrder.{AllBefore}
 use Rattle.ops_base.proofs.Members.{IsMember, contains_from_member, member_left, member_right, member-map, map_member}
-use Rattle.resolution.specs.declared.keys.Key.{Key}
-use Rattle.resolution.specs.Keys.{compare_keys}
+use Rattle.resolution.specs.Keys.{Key, compare_keys}
 use Rattle.resolution.proofs.KeyLaws.{compare_keys_total}
 use Rattle.resolution.proofs.SameKeys.{tied_keys}
 use Rattle.conflict_index.specs.declared.rank.Held.{Held}

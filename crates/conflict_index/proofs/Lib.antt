@@ -1,6 +1,5 @@
 pub mod Members
-pub mod Downwards
-pub mod Halves
+pub mod Tops
 pub mod Ranks
 pub mod Sorted
 pub mod Placing

@@ -24,8 +24,7 @@ use Rattle.ops_base.specs.declared.commands.Strategy.TheVariants.{Lex, Mea}
 use Rattle.ops_base.specs.declared.rules.Inst.{Inst}
 use Rattle.ops_base.proofs.InstOrder.{both_equal, equal_numbers}
 use Rattle.ops_base.proofs.Members.{member_from_contains, contains_from_member, member_left, member_right, member_cases}
-use Rattle.resolution.specs.declared.keys.Key.{Key}
-use Rattle.resolution.specs.Keys.{compare_keys, same_keys}
+use Rattle.resolution.specs.Keys.{Key, compare_keys, same_keys}
 use Rattle.resolution.proofs.SameKeys.{same_parts, same_keys-Decides, tied_keys}
 use Rattle.conflict_index.specs.declared.rank.Held.{Held}
 use Rattle.conflict_index.specs.Rank.{Rank}

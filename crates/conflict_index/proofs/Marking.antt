@@ -19,8 +19,7 @@ use Rattle.ops_base.specs.Refraction.{is_same_inst}
 use Rattle.ops_base.proofs.InOrder.{AllBefore}
 use Rattle.ops_base.proofs.Members.{IsMember, member_from_contains, contains_from_member, member_left, member_right, member_cases, member-map, map_member}
 use Rattle.ops_base.proofs.RefractionLaws.{is_same_inst-Decides}
-use Rattle.resolution.specs.declared.keys.Key.{Key}
-use Rattle.resolution.specs.Keys.{same_keys}
+use Rattle.resolution.specs.Keys.{Key, same_keys}
 use Rattle.conflict_index.specs.declared.rank.Held.{Held}
 use Rattle.conflict_index.specs.Rank.{Rank}
 use Rattle.conflict_index.specs.Applying.{marked}

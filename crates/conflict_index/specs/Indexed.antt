@@ -5,8 +5,7 @@ use Rattle.ops_base.specs.declared.commands.Strategy.TheVariants.{Lex}
 use Rattle.ops_base.specs.declared.rules.Inst.{Inst}
 use Rattle.ops_base.specs.declared.rules.Rule.{Rule}
 use Rattle.ops_base.specs.Dominance.{downwards, first_tag, is_greater, specificity_of}
-use Rattle.resolution.specs.declared.keys.Key.{Key}
-use Rattle.resolution.specs.Keys.{compare_keys}
+use Rattle.resolution.specs.Keys.{Key, compare_keys}
 
 -- an instantiation of the conflict set, the specificity that its production had when it came, and whether it is marked
 -- as fired

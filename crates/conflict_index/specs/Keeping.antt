@@ -10,8 +10,7 @@ use Rattle.ops_base.specs.declared.rules.Inst.{Inst}
 use Rattle.ops_base.specs.declared.rules.Rule.{Rule}
 use Rattle.ops_base.specs.Dominance.{specificity_of}
 use Rattle.ops_base.specs.Instances.{by_rule_and_tags}
-use Rattle.resolution.specs.declared.keys.Key.{Key}
-use Rattle.resolution.specs.Keys.{same_keys}
+use Rattle.resolution.specs.Keys.{Key, same_keys}
 use Rattle.ops_base.specs.Refraction.{is_same_inst}
 use Rattle.conflict_index.specs.declared.rank.Held.{Held}
 use Rattle.conflict_index.specs.Rank.{Rank}

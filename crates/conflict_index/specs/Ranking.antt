@@ -7,8 +7,7 @@ use Rattle.std.specs.declared.cmp.Ordering.TheVariants.{Less, Equal, Greater}
 use Rattle.std.specs.Ordering.{ordering_reverse, ordering_then, nat_cmp}
 use Rattle.ops_base.specs.declared.commands.Strategy.{Strategy}
 use Rattle.ops_base.specs.declared.commands.Strategy.TheVariants.{Lex, Mea}
-use Rattle.resolution.specs.declared.keys.Key.{Key}
-use Rattle.resolution.specs.Keys.{compare_keys}
+use Rattle.resolution.specs.Keys.{Key, compare_keys}
 use Rattle.resolution.proofs.KeyLaws.{compare_keys_total}
 use Rattle.conflict_index.specs.Rank.{Rank}
 

@@ -3,7 +3,6 @@
 #![tactic(auto)]
 
 mod index;
-mod key;
 mod laws;
 mod order;
 mod rank;

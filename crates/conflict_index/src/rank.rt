@@ -5,11 +5,11 @@ ghost use Rattle.std.specs.Ordering.{eq_by_cmp};
 ghost use Rattle.conflict_index.specs.Keeping.{rank_in};
 ghost use Rattle.conflict_index.specs.Ranking.{compare_by_strategy, compare_ranks, compare_ranks_total};
 
-use crate::key::{FlatKey, compare};
 use ops_base::commands::Strategy;
 use ops_base::memory::OutOfMemory;
 use ops_base::programs::Program;
 use ops_base::rules::Inst;
+use resolution::{Key, compare};
 use std::cmp::Ordering;
 use std::marker::Model;
 
@@ -20,12 +20,13 @@ pub(crate) struct Rank {
     /// The tag that the strategy compares first. Where two differ, they decide, and no list is looked at.
     top: u64,
     strategy: Strategy,
-    pub(crate) key: FlatKey,
+    pub(crate) key: Key,
 }
 
 impl Model for Rank {
     ghost use Rattle.std.specs.Prelude.{◌≡◌};
-    ghost use Rattle.conflict_index.specs.Rank.{Rank as Seen, top_of};
+    ghost use Rattle.resolution.specs.Keys.{top_of};
+    ghost use Rattle.conflict_index.specs.Rank.{Rank as Seen};
 
     ghost Value = { Seen };
 
@@ -97,7 +98,7 @@ fn compare_by_strategy(a: &Rank, b: &Rank) -> Ordering
 
 impl Rank {
     /// Takes no memory.
-    pub(crate) fn new(strategy: Strategy, key: FlatKey) -> Rank
+    pub(crate) fn new(strategy: Strategy, key: Key) -> Rank
         ensures { result ≡ record { strategy = strategy; key = key } }
     {
         Rank {

@@ -6,20 +6,19 @@ ghost use Rattle.std.specs.List.{IsDistinct};
 ghost use Rattle.std.specs.Map.{keys_of};
 ghost use Rattle.ops_base.specs.Instances.{AreOf};
 ghost use Rattle.ops_base.specs.Refraction.{is_among, is_same_inst};
-ghost use Rattle.resolution.specs.Keys.{same_keys};
+ghost use Rattle.resolution.specs.Keys.{Key, same_keys};
 ghost use Rattle.conflict_index.specs.Keeping.{rank_in, arrival, ranked_anew, AreToldApart, Gains, Loses, HasSame, marked_held};
 ghost use Rattle.conflict_index.specs.Rank.{Rank};
 ghost use Rattle.conflict_index.specs.declared.rank.Held.{Held};
 ghost use Rattle.ops_base.specs.declared.rules.Inst.{Inst};
-ghost use Rattle.resolution.specs.declared.keys.Key.{Key};
 ghost use Rattle.conflict_index.specs.Ranking.{compare_ranks};
 
-use crate::key::FlatKey;
 use crate::rank::{Held, Rank};
 use ops_base::commands::Strategy;
 use ops_base::memory::OutOfMemory;
 use ops_base::programs::Program;
 use ops_base::rules::Inst;
+use resolution::{Key, key};
 use std::alloc::Global;
 use std::collections::{BTreeMap, HashMap};
 
@@ -27,7 +26,7 @@ use std::collections::{BTreeMap, HashMap};
 pub(crate) type Waiting = BTreeMap<Rank, Held>;
 
 /// Those that fired when they were dominant.
-pub(crate) type Fired = HashMap<FlatKey, Inst>;
+pub(crate) type Fired = HashMap<Key, Inst>;
 
 fn is_same(i: &Inst, j: &Inst) -> bool
     ensures { result ≡ is_same_inst i.now j.now }
@@ -50,7 +49,7 @@ fn rank_of(
     requires { inst.now.rule < length program.now.rules }
     ensures { IfOk result (λ r. r ≡ rank_in strategy program.now.rules inst.now) }
 {
-    let key = FlatKey::of(alloc, program, inst)?;
+    let key = key(alloc, program, inst)?;
     Ok(Rank::new(strategy, key))
 }
 
@@ -209,7 +208,7 @@ pub(crate) fn mark_in_place(waiting: &mut Waiting, inst: &Inst)
 }
 
 /// Puts a mark where there is room for it.
-pub(crate) fn put(fired: &mut Fired, key: FlatKey, inst: Inst)
+pub(crate) fn put(fired: &mut Fired, key: Key, inst: Inst)
     requires room { 0 < spare fired.old }
     requires unique { IsDistinct same_keys (keys_of fired.old.entries) }
     requires absent { get same_keys fired.old key ≡ None }

@@ -13,8 +13,7 @@ use Rattle.ops_base.specs.declared.commands.Strategy.{Strategy}
 use Rattle.ops_base.specs.declared.commands.Strategy.TheVariants.{Lex, Mea}
 use Rattle.ops_base.specs.Dominance.{compare_insts, is_greater, dominates}
 use Rattle.ops_base.proofs.DominanceLaws.{compare_insts_total, compare_insts_itself, equal_insts}
-use Rattle.resolution.specs.declared.keys.Key.{Key}
-use Rattle.resolution.specs.Keys.{IsKey, compare_keys, compare_keys_lex}
+use Rattle.resolution.specs.Keys.{Key, IsKey, compare_keys, compare_keys_lex}
 
 compare_keys_lex_total : IsTotalOrder compare_keys_lex
 compare_keys_lex_total =

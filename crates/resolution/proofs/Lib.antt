@@ -1,2 +1,4 @@
 pub mod KeyLaws
 pub mod SameKeys
+pub mod Downwards
+pub mod Halves

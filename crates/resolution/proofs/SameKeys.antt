@@ -10,8 +10,7 @@ use Rattle.std.proofs.lemmas.Slice.Eq.{bytes_eq-Decides}
 use Rattle.ops_base.specs.declared.commands.Strategy.{Strategy}
 use Rattle.ops_base.specs.declared.commands.Strategy.TheVariants.{Lex, Mea}
 use Rattle.ops_base.proofs.InstOrder.{both_equal, equal_numbers}
-use Rattle.resolution.specs.declared.keys.Key.{Key}
-use Rattle.resolution.specs.Keys.{compare_keys, compare_keys_lex, compare_keys_production, same_keys}
+use Rattle.resolution.specs.Keys.{Key, compare_keys, compare_keys_lex, compare_keys_production, same_keys}
 
 pub same_parts : (a b : Key) → a.first ≡ b.first → a.sorted ≡ b.sorted → a.specificity ≡ b.specificity → a.rule ≡ b.rule → a.tags ≡ b.tags → a ≡ b
 same_parts a b p q r s t = λ k. record { first = p k; sorted = q k; specificity = r k; rule = s k; tags = t k }

@@ -1,5 +1,6 @@
 -- Which key an instantiation has, and how keys compare.
-use Rattle.std.specs.Prelude.{◌≡◌, List, Bool, nat_eq}
+use Rattle.std.specs.Prelude.{◌≡◌, ℕ, ◌/◌, List, Bool, nat_eq, length, take, drop, slice_get}
+use Rattle.std.specs.Option.{unwrap_or}
 use Rattle.std.specs.declared.cmp.Ordering.{Ordering}
 use Rattle.std.specs.Ordering.{nat_cmp, ordering_then, on, eq_of_both}
 use Rattle.std.specs.Cmp.Lexicographic.{slice_cmp, pointwise}
@@ -8,7 +9,40 @@ use Rattle.ops_base.specs.declared.commands.Strategy.TheVariants.{Lex, Mea}
 use Rattle.ops_base.specs.declared.rules.Inst.{Inst}
 use Rattle.ops_base.specs.declared.rules.Rule.{Rule}
 use Rattle.ops_base.specs.Dominance.{downwards, specificity_of, first_tag}
-use Rattle.resolution.specs.declared.keys.Key.{Key}
+
+-- what decides between instantiations
+pub record Key : Type 0 where
+  -- the tag of the first condition
+  pub first : ℕ
+  -- the tags from the greatest down
+  pub sorted : List ℕ
+  pub specificity : ℕ
+  -- the number of the production, from 0 in the order of the text
+  pub rule : ℕ
+  -- the tags in the order of the conditions
+  pub tags : List ℕ
+
+-- the two halves of a list
+abbrev pub front_half : List ℕ → List ℕ
+front_half xs = take (length xs / 2) xs
+
+abbrev pub back_half : List ℕ → List ℕ
+back_half xs = drop (length xs / 2) xs
+
+-- the key of a production, from the tags downwards and after them the tags as they stand
+abbrev pub key_from : List ℕ → ℕ → ℕ → Key
+key_from numbers rule specificity = record {
+  first = unwrap_or (slice_get (back_half numbers) 0) 0;
+  sorted = front_half numbers;
+  specificity = specificity;
+  rule = rule;
+  tags = back_half numbers;
+}
+
+-- the tag that a strategy compares before all others, and 0 where there is none
+abbrev pub top_of : Strategy → Key → ℕ
+top_of Lex k = unwrap_or (slice_get k.sorted 0) 0
+top_of Mea k = k.first
 
 -- the key has what decides between the instantiation and others
 pub record IsKey (rules : List Rule) (i : Inst) (k : Key) : Type 0 where

@@ -1,70 +1,35 @@
 //! Conflict resolution: the keys of instantiations, and their comparison.
 #![tactic(auto)]
 
-ghost use Rattle.std.specs.Prelude.{◌≡◌, ◌<◌, ◌↔◌, List, IfOk, IsTrue, length, unwrap_or, slice_get};
+ghost use Rattle.std.specs.Prelude.{◌≡◌, ◌<◌, ◌↔◌, List, IfOk, IsTrue, length};
 ghost use Rattle.std.specs.declared.cmp.Ordering.{Ordering};
 ghost use Rattle.std.specs.Cmp.{IsTotalOrder};
 ghost use Rattle.std.specs.Ordering.{MatchOrdering};
 ghost use Rattle.ops_base.specs.declared.rules.Inst.{Inst};
 ghost use Rattle.ops_base.specs.declared.rules.Rule.{Rule};
-ghost use Rattle.ops_base.specs.Dominance.{downwards, compare_insts, dominates};
+ghost use Rattle.ops_base.specs.Dominance.{compare_insts, dominates};
 ghost use Rattle.resolution.specs.Keys.{IsKey, compare_keys, compare_keys_lex, compare_keys_production};
 
 mod keys;
 mod sameness;
 
 pub use crate::keys::Key;
+use crate::keys::{key_of, specificity_in};
 use ops_base::commands::Strategy;
-use ops_base::list::Listed;
 use ops_base::memory::OutOfMemory;
 use ops_base::programs::Program;
-use ops_base::rules::{Inst, Rule};
+use ops_base::rules::Inst;
 use std::alloc::Global;
 use std::cmp::Ordering;
 
-fn sorted_downwards(alloc: Global, tags: &[u64]) -> Result<Vec<u64>, OutOfMemory>
-    ensures { IfOk result (λ v. v.items ≡ downwards tags.now) }
-{
-    let mut sorted = Vec::from_slice(alloc, tags)?;
-    sorted.sort_unstable();
-    sorted.reverse();
-    Ok(sorted)
-}
-
-fn first_of(tags: &[u64]) -> u64
-    ensures { result ≡ unwrap_or (slice_get tags.now 0) 0 }
-{
-    match tags.first() {
-        Some(tag) => *tag,
-        None => 0,
-    }
-}
-
-fn key_of(alloc: Global, rule: usize, specificity: u32, tags: &[u64]) -> Result<Key, OutOfMemory>
-    ensures first { IfOk result (λ key. key.first ≡ unwrap_or (slice_get tags.now 0) 0) }
-    ensures sorted { IfOk result (λ key. key.sorted ≡ downwards tags.now) }
-    ensures specificity { IfOk result (λ key. key.specificity ≡ specificity) }
-    ensures rule { IfOk result (λ key. key.rule ≡ rule) }
-    ensures tags { IfOk result (λ key. key.tags ≡ tags.now) }
-{
-    let sorted = sorted_downwards(alloc, tags)?;
-    let copy = Vec::from_slice(alloc, tags)?;
-    Ok(Key {
-        first: first_of(tags),
-        sorted: Listed::from_vec(sorted),
-        specificity,
-        rule,
-        tags: Listed::from_vec(copy),
-    })
-}
-
-/// The key of an instantiation of one of the program's productions. It copies the tags twice and sorts one copy.
+/// The key of an instantiation of one of the program's productions. It copies the tags twice, sorts one copy, and takes
+/// memory once.
 pub fn key(alloc: Global, program: &Program, inst: &Inst) -> Result<Key, OutOfMemory>
     requires { inst.now.rule < length program.now.rules }
     ensures { IfOk result (λ key. IsKey program.now.rules inst.now key) }
 {
-    let rule = &program.rules.as_slice()[inst.rule];
-    key_of(alloc, inst.rule, rule.specificity, inst.tags.as_slice())
+    let specificity = specificity_in(program, inst.rule);
+    key_of(alloc, inst.rule, specificity, inst.tags.as_slice())
 }
 
 /// Decides between instantiations whose tags are the same from the greatest down.
@@ -76,7 +41,7 @@ fn compare_by_production(a: &Key, b: &Key) -> Ordering
         decided => return decided,
     }
     match b.rule.cmp(&a.rule) {
-        Ordering::Equal => a.tags.as_slice().cmp(b.tags.as_slice()),
+        Ordering::Equal => a.tags().cmp(b.tags()),
         decided => decided,
     }
 }
@@ -84,7 +49,7 @@ fn compare_by_production(a: &Key, b: &Key) -> Ordering
 fn compare_by_lex(a: &Key, b: &Key) -> Ordering
     ensures { result ≡ compare_keys_lex a.now b.now }
 {
-    match a.sorted.as_slice().cmp(b.sorted.as_slice()) {
+    match a.sorted().cmp(b.sorted()) {
         Ordering::Equal => compare_by_production(a, b),
         decided => decided,
     }
@@ -95,7 +60,7 @@ fn compare_by(strategy: Strategy, a: &Key, b: &Key) -> Ordering
 {
     match strategy {
         Strategy::Lex => compare_by_lex(a, b),
-        Strategy::Mea => match a.first.cmp(&b.first) {
+        Strategy::Mea => match a.first().cmp(&b.first()) {
             Ordering::Equal => compare_by_lex(a, b),
             decided => decided,
         },
@@ -126,6 +91,8 @@ mod tests {
     use super::*;
     use ops_base::conditions::{Condition, Part};
     use ops_base::elements::Class;
+    use ops_base::list::Listed;
+    use ops_base::rules::Rule;
     use ops_base::values::Sym;
     use std::test::Fail;
 
@@ -169,9 +136,9 @@ mod tests {
         let program = first(rt.alloc())?;
         let tags = Listed::from_vec(Vec::from_slice(rt.alloc(), &[4])?);
         let found = key(rt.alloc(), &program, &Inst { rule: 0, tags })?;
-        assert_eq!(rt; (found.first, found.specificity, found.rule), (4, 1, 0));
-        assert_eq!(rt; found.sorted.as_slice(), [4].as_slice());
-        assert_eq!(rt; found.tags.as_slice(), [4].as_slice());
+        assert_eq!(rt; (found.first(), found.specificity, found.rule), (4, 1, 0));
+        assert_eq!(rt; found.sorted(), [4].as_slice());
+        assert_eq!(rt; found.tags(), [4].as_slice());
         Ok(())
     }
 
@@ -179,9 +146,29 @@ mod tests {
     fn a_key_is_copied(rt: HostRuntime) -> Result<(), Fail> {
         let made = key_of(rt.alloc(), 3, 7, &[4, 9, 4])?;
         let copy = made.copy(rt.alloc())?;
-        assert_eq!(rt; (copy.first, copy.specificity, copy.rule), (4, 7, 3));
-        assert_eq!(rt; copy.sorted.as_slice(), [9, 4, 4].as_slice());
-        assert_eq!(rt; copy.tags.as_slice(), [4, 9, 4].as_slice());
+        assert_eq!(rt; (copy.first(), copy.specificity, copy.rule), (4, 7, 3));
+        assert_eq!(rt; copy.sorted(), [9, 4, 4].as_slice());
+        assert_eq!(rt; copy.tags(), [4, 9, 4].as_slice());
+        Ok(())
+    }
+
+    #[test]
+    fn a_key_becomes_that_of_another(rt: HostRuntime) -> Result<(), Fail> {
+        let program = first(rt.alloc())?;
+        let tags = Listed::from_vec(Vec::from_slice(rt.alloc(), &[8])?);
+        let mut found = key_of(rt.alloc(), 3, 7, &[4, 9, 4])?;
+        found.become_of(&program, &Inst { rule: 0, tags })?;
+        assert_eq!(rt; (found.first(), found.specificity, found.rule), (8, 1, 0));
+        assert_eq!(rt; found.sorted(), [8].as_slice());
+        assert_eq!(rt; found.tags(), [8].as_slice());
+        Ok(())
+    }
+
+    #[test]
+    fn the_top_is_the_tag_that_a_strategy_compares_first(rt: HostRuntime) -> Result<(), Fail> {
+        let made = key_of(rt.alloc(), 0, 1, &[4, 9, 2])?;
+        assert_eq!(rt; made.top(Strategy::Lex), 9);
+        assert_eq!(rt; made.top(Strategy::Mea), 4);
         Ok(())
     }
 

@@ -16,9 +16,7 @@ impl PartialEq for Key {
     fn eq(&self, other: &Key) -> bool {
         self.rule == other.rule
             && self.specificity == other.specificity
-            && self.first == other.first
-            && self.sorted.as_slice() == other.sorted.as_slice()
-            && self.tags.as_slice() == other.tags.as_slice()
+            && self.numbers.as_slice() == other.numbers.as_slice()
     }
 }
 
@@ -34,6 +32,6 @@ impl Hash for Key {
 
     fn hash<H: Hasher>(&self, state: &mut H) {
         state.write_usize(self.rule);
-        self.tags.as_slice().hash(state);
+        self.tags().hash(state);
     }
 }

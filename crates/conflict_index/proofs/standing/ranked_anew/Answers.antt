@@ -3,7 +3,7 @@ use Rattle.std.specs.Prelude.{Contains, is_some}
 use Rattle.std.specs.Map.Iter.{deref_pair}
 use Rattle.std.proofs.lemmas.Map.Iter.{rest_more, rest_all}
 use Rattle.ops_base.proofs.Members.{member_from_contains}
-use Rattle.resolution.specs.declared.keys.Key.{Key}
+use Rattle.resolution.specs.Keys.{Key}
 use Rattle.conflict_index.specs.declared.rank.Held.{Held}
 use Rattle.conflict_index.specs.Rank.{Rank}
 use Rattle.conflict_index.specs.Keeping.{ranked_anew}

@@ -6,7 +6,7 @@ use Rattle.std.specs.List.Sorted.{IsStrictlySortedBy}
 use Rattle.std.specs.Map.{keys_of}
 use Rattle.std.proofs.lemmas.List.{take_all, take_more, map-append}
 use Rattle.ops_base.specs.declared.rules.Inst.{Inst}
-use Rattle.resolution.specs.declared.keys.Key.{Key}
+use Rattle.resolution.specs.Keys.{Key}
 use Rattle.conflict_index.specs.declared.rank.Held.{Held}
 use Rattle.conflict_index.specs.Rank.{Rank}
 use Rattle.conflict_index.specs.Keeping.{Loses}

@@ -1,5 +1,4 @@
 use Rattle.ops_base.specs.declared.rules.Inst.{Inst}
-use Rattle.resolution.specs.declared.keys.Key.{Key}
 use Rattle.conflict_index.specs.declared.rank.Held.{Held}
 use Rattle.std.specs.Prelude.{Contains}
 use Rattle.std.proofs.Common.{◌≢◌, ◌≤◌, length, take, map}
@@ -7,7 +6,7 @@ use Rattle.std.specs.HashMap.{spare}
 use Rattle.std.specs.List.{IsDistinct}
 use Rattle.std.specs.List.Sorted.{IsStrictlySortedBy}
 use Rattle.std.specs.Map.{keys_of}
-use Rattle.resolution.specs.Keys.{same_keys}
+use Rattle.resolution.specs.Keys.{Key, same_keys}
 use Rattle.conflict_index.specs.Rank.{Rank}
 use Rattle.conflict_index.specs.Keeping.{Loses}
 use Rattle.conflict_index.specs.Ranking.{compare_ranks}

@@ -6,8 +6,7 @@ use Rattle.ops_base.proofs.Members.{IsMember, member_right}
 use Rattle.conflict_index.specs.declared.rank.Held.{Held}
 use Rattle.conflict_index.specs.Rank.{Rank}
 use Rattle.conflict_index.specs.Keeping.{Gains}
-use Rattle.resolution.specs.declared.keys.Key.{Key}
-use Rattle.resolution.specs.Keys.{same_keys}
+use Rattle.resolution.specs.Keys.{Key, same_keys}
 use Rattle.conflict_index.specs.Indexed.{Member, Indexed}
 use Rattle.conflict_index.specs.Applying.{marked}
 use Rattle.conflict_index.proofs.Marking.{marked_view, marked_kept, no_mark, moved_view, moved_kept}

@@ -1,7 +1,7 @@
 use Rattle.std.proofs.Common.{◌≡◌, ◌∙◌, rules}
 use Rattle.conflict_index.specs.Rank.{Rank}
 use Rattle.conflict_index.specs.Ranking.{compare_ranks}
-use Rattle.conflict_index.proofs.Halves.{by_tops}
+use Rattle.conflict_index.proofs.Tops.{by_tops}
 use Rattle.conflict_index.proofs.rank.RankOrd.cmp.Goals as goal
 
 pub returns-then-eq : goal.returns-then-eq

@@ -1,7 +1,7 @@
 use Rattle.std.proofs.Common.{List, ℕ, ◌++◌, ap, ◌∙◌, subst, rules}
 use Rattle.std.specs.Prelude.{IsPermutation}
-use Rattle.conflict_index.proofs.Downwards.{downwards_from_sort}
-use Rattle.conflict_index.proofs.key.fill.Goals as goal
+use Rattle.resolution.proofs.Downwards.{downwards_from_sort}
+use Rattle.resolution.proofs.keys.fill.Goals as goal
 
 pub returns : goal.returns
 returns c =

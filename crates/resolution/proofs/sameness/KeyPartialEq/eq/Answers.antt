@@ -1,9 +1,9 @@
 use Rattle.std.proofs.Common.{nat_eq, sym, ◌∙◌}
 use Rattle.std.specs.Cmp.Lexicographic.{pointwise}
 use Rattle.resolution.specs.Keys.{same_keys}
-use Rattle.conflict_index.proofs.Halves.{same_numbers, same_if_equal}
-use Rattle.conflict_index.proofs.key.FlatKeyPartialEq.eq.Goals as goal
-use Rattle.conflict_index.proofs.key.FlatKeyPartialEq.eq.Goals.{then-self-other, else-self-other}
+use Rattle.resolution.proofs.Halves.{same_numbers, same_if_equal}
+use Rattle.resolution.proofs.sameness.KeyPartialEq.eq.Goals as goal
+use Rattle.resolution.proofs.sameness.KeyPartialEq.eq.Goals.{then-self-other, else-self-other}
 
 pub returns-then-self-other-2 : goal.returns-then-self-other-2
 returns-then-self-other-2 c = elim c.if-self-other.branch [
