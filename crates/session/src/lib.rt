@@ -4,12 +4,13 @@
 //! go by a class without attributes, and where no value is given by `nil`. A program that was checked never comes
 //! there.
 //!
-//! `alloc`, `hand`, `names`, `input`, `source`, `out` and `sink` go from call to call, each as a parameter of its own:
-//! each is lent by itself, so that a contract can name what each holds afterwards. `hand` settles the matcher.
+//! `names`, `input`, `source`, `out` and `sink` go from call to call, each as a parameter of its own: each is lent by
+//! itself, so that a contract can name what each holds afterwards. What no command changes goes in one `RunContext`.
 #![tactic(auto)]
 
 mod bounds;
 mod commands;
+mod context;
 mod elements;
 mod lists;
 mod memory_commands;

@@ -13,7 +13,8 @@ ghost use Rattle.cycle.specs.Settles.{Settles};
 ghost use Rattle.session.specs.Courses.{IsUnderWay, ends_unread, standing_in};
 ghost use Rattle.session.specs.Deeds.{Does};
 
-use crate::session::{Session, settle};
+use crate::context::RunContext;
+use crate::session::{Session, make_pending};
 use conflict_index::Index;
 use ops_base::commands::Fixed;
 use ops_base::elements::{Change, Element};
@@ -25,7 +26,6 @@ use ops_base::symbols::Names;
 use ops_base::values::{NOTHING, Value};
 use ops_io::{Out, Sink, WriteFailed};
 use ops_print::{put_element_line, put_inst_line};
-use std::alloc::Global;
 use work_store::{Matcher, Settled, Store};
 
 /// Puts the lines of all elements, by rising tag. Takes no memory.
@@ -100,30 +100,28 @@ pub(crate) fn list_elements<
     H: Fn(M, &[Change]) -> Result<Settled<M>, OutOfMemory>,
     K: Sink,
 >(
-    alloc: Global,
-    hand: &H,
-    program: &Program,
+    context: &RunContext<'_, H>,
     names: &Names,
     session: Session<M>,
     tags: &Listed<u64>,
     out: &mut Out,
     sink: &mut K,
 ) -> Result<Session<M>, Ending>
-    requires settles { Settles M.stored M.found M.stands_for (λ m cs. H.pre hand.now m cs) (λ m cs r. H.post hand.now m cs r) }
-    requires under_way { IsUnderWay M.stored M.stands_for program.now.rules session }
+    requires settles { Settles M.stored M.found M.stands_for (λ m cs. H.pre context.now.settle.now m cs) (λ m cs r. H.post context.now.settle.now m cs r) }
+    requires under_way { IsUnderWay M.stored M.stands_for context.now.program.now.rules session }
     requires whole { IsTrue out.old.whole }
     requires faults { K.faults sink.old < 2 ^ 63 }
-    ensures { Does M.stored M.stands_for program.now.rules names.now session result
+    ensures { Does M.stored M.stands_for context.now.program.now.rules names.now session result
         (port (K.taken sink.old) (K.faults sink.old) out.old)
         (port (K.taken sink.new) (K.faults sink.new) out.new)
-        (λ k. lists out.old.column (element_lines k.course.names program.now.classes (elements_listed k.course.wm tags.now)) k) }
+        (λ k. lists out.old.column (element_lines k.course.names context.now.program.now.classes (elements_listed k.course.wm tags.now)) k) }
 {
-    let session = settle(alloc, hand, program, session)?;
+    let session = make_pending(context, session)?;
     put_elements(
         out,
         sink,
         names,
-        program,
+        context.program,
         session.state.store(),
         tags.as_slice(),
     )?;
@@ -221,26 +219,31 @@ fn put_met<K: Sink>(
 
 /// The command `ppwm`: lists the elements that meet a pattern.
 pub(crate) fn list_met<M: Matcher, H: Fn(M, &[Change]) -> Result<Settled<M>, OutOfMemory>, K: Sink>(
-    alloc: Global,
-    hand: &H,
-    program: &Program,
+    context: &RunContext<'_, H>,
     names: &Names,
     session: Session<M>,
     pattern: &Option<(usize, Listed<Fixed>)>,
     out: &mut Out,
     sink: &mut K,
 ) -> Result<Session<M>, Ending>
-    requires settles { Settles M.stored M.found M.stands_for (λ m cs. H.pre hand.now m cs) (λ m cs r. H.post hand.now m cs r) }
-    requires under_way { IsUnderWay M.stored M.stands_for program.now.rules session }
+    requires settles { Settles M.stored M.found M.stands_for (λ m cs. H.pre context.now.settle.now m cs) (λ m cs r. H.post context.now.settle.now m cs r) }
+    requires under_way { IsUnderWay M.stored M.stands_for context.now.program.now.rules session }
     requires whole { IsTrue out.old.whole }
     requires faults { K.faults sink.old < 2 ^ 63 }
-    ensures { Does M.stored M.stands_for program.now.rules names.now session result
+    ensures { Does M.stored M.stands_for context.now.program.now.rules names.now session result
         (port (K.taken sink.old) (K.faults sink.old) out.old)
         (port (K.taken sink.new) (K.faults sink.new) out.new)
-        (λ k. lists out.old.column (element_lines k.course.names program.now.classes (filter (meets pattern.now) k.course.wm)) k) }
+        (λ k. lists out.old.column (element_lines k.course.names context.now.program.now.classes (filter (meets pattern.now) k.course.wm)) k) }
 {
-    let session = settle(alloc, hand, program, session)?;
-    put_met(out, sink, names, program, session.state.store(), pattern)?;
+    let session = make_pending(context, session)?;
+    put_met(
+        out,
+        sink,
+        names,
+        context.program,
+        session.state.store(),
+        pattern,
+    )?;
     Ok(session)
 }
 
@@ -273,25 +276,23 @@ pub(crate) fn list_standing<
     H: Fn(M, &[Change]) -> Result<Settled<M>, OutOfMemory>,
     K: Sink,
 >(
-    alloc: Global,
-    hand: &H,
-    program: &Program,
+    context: &RunContext<'_, H>,
     names: &Names,
     session: Session<M>,
     out: &mut Out,
     sink: &mut K,
 ) -> Result<Session<M>, Ending>
-    requires settles { Settles M.stored M.found M.stands_for (λ m cs. H.pre hand.now m cs) (λ m cs r. H.post hand.now m cs r) }
-    requires under_way { IsUnderWay M.stored M.stands_for program.now.rules session }
+    requires settles { Settles M.stored M.found M.stands_for (λ m cs. H.pre context.now.settle.now m cs) (λ m cs r. H.post context.now.settle.now m cs r) }
+    requires under_way { IsUnderWay M.stored M.stands_for context.now.program.now.rules session }
     requires whole { IsTrue out.old.whole }
     requires faults { K.faults sink.old < 2 ^ 63 }
-    ensures { Does M.stored M.stands_for program.now.rules names.now session result
+    ensures { Does M.stored M.stands_for context.now.program.now.rules names.now session result
         (port (K.taken sink.old) (K.faults sink.old) out.old)
         (port (K.taken sink.new) (K.faults sink.new) out.new)
-        (λ k. lists out.old.column (map (inst_text k.course.names program.now.rules)
-        (standing_by (conflict_set program.now.rules) program.now.rules k.course)) k) }
+        (λ k. lists out.old.column (map (inst_text k.course.names context.now.program.now.rules)
+        (standing_by (conflict_set context.now.program.now.rules) context.now.program.now.rules k.course)) k) }
 {
-    let session = settle(alloc, hand, program, session)?;
-    put_standing(out, sink, names, program, session.state.index())?;
+    let session = make_pending(context, session)?;
+    put_standing(out, sink, names, context.program, session.state.index())?;
     Ok(session)
 }

@@ -16,8 +16,9 @@ ghost use Rattle.session.specs.Deeds.{Does};
 ghost use Rattle.session.specs.Traces.{AreToldBy};
 
 use crate::bounds::UNREACHED;
+use crate::context::RunContext;
 use crate::elements::fixed_element;
-use crate::session::{Session, settle, settle_piece};
+use crate::session::{Session, make_pending, make_pending_piece};
 use crate::traces::{tell, tell_made};
 use ops_base::commands::Fixed;
 use ops_base::elements::{Change, Element};
@@ -44,22 +45,22 @@ fn next_tag(last: u64) -> Result<u64, OutOfMemory>
 
 /// Does changes in their order, which is one phase.
 fn change<M: Matcher, H: Fn(M, &[Change]) -> Result<Settled<M>, OutOfMemory>>(
-    alloc: Global,
-    hand: &H,
-    program: &Program,
+    context: &RunContext<'_, H>,
     session: Session<M>,
     changes: &[Change],
 ) -> Result<Session<M>, OutOfMemory>
-    requires settles { Settles M.stored M.found M.stands_for (λ m cs. H.pre hand.now m cs) (λ m cs r. H.post hand.now m cs r) }
-    requires under_way { IsUnderWay M.stored M.stands_for program.now.rules session }
+    requires settles { Settles M.stored M.found M.stands_for (λ m cs. H.pre context.now.settle.now m cs) (λ m cs r. H.post context.now.settle.now m cs r) }
+    requires under_way { IsUnderWay M.stored M.stands_for context.now.program.now.rules session }
     requires settled { session.pending ≡ [] }
     requires lawful { Lawful (M.stored session.state.matcher).elements (M.stored session.state.matcher).last changes.now }
     ensures meant { IfOk result (λ s. (n : Spellings) (c : Coming) → meant_by M.stored s n c
         ≡ (let k = meant_by M.stored session n c in with_course k
-        (phase_by (conflict_set program.now.rules) changes.now k.course.firings (last_after k.course.last changes.now) k.course))) }
-    ensures under_way { IfOk result (IsUnderWay M.stored M.stands_for program.now.rules) }
+        (phase_by (conflict_set context.now.program.now.rules) changes.now k.course.firings (last_after k.course.last changes.now) k.course))) }
+    ensures under_way { IfOk result (IsUnderWay M.stored M.stands_for context.now.program.now.rules) }
 {
-    let state = session.state.change(hand, program, changes)?;
+    let state = session
+        .state
+        .change(context.settle, context.program, changes)?;
     let last_tag = state.last_tag();
     Ok(Session {
         state,
@@ -70,41 +71,39 @@ fn change<M: Matcher, H: Fn(M, &[Change]) -> Result<Settled<M>, OutOfMemory>>(
 
 /// One phase, whose changes are printed first where elements are traced.
 fn phase<M: Matcher, H: Fn(M, &[Change]) -> Result<Settled<M>, OutOfMemory>, K: Sink>(
-    alloc: Global,
-    hand: &H,
-    program: &Program,
+    context: &RunContext<'_, H>,
     names: &Names,
     session: Session<M>,
     changes: &[Change],
     out: &mut Out,
     sink: &mut K,
 ) -> Result<Session<M>, Ending>
-    requires settles { Settles M.stored M.found M.stands_for (λ m cs. H.pre hand.now m cs) (λ m cs r. H.post hand.now m cs r) }
-    requires under_way { IsUnderWay M.stored M.stands_for program.now.rules session }
+    requires settles { Settles M.stored M.found M.stands_for (λ m cs. H.pre context.now.settle.now m cs) (λ m cs r. H.post context.now.settle.now m cs r) }
+    requires under_way { IsUnderWay M.stored M.stands_for context.now.program.now.rules session }
     requires settled { session.pending ≡ [] }
     requires lawful { Lawful (M.stored session.state.matcher).elements (M.stored session.state.matcher).last changes.now }
     requires told { AreToldBy (M.stored session.state.matcher).elements changes.now }
     requires whole { IsTrue out.old.whole }
     requires faults { K.faults sink.old < 2 ^ 63 }
-    ensures { Does M.stored M.stands_for program.now.rules names.now session result
+    ensures { Does M.stored M.stands_for context.now.program.now.rules names.now session result
         (port (K.taken sink.old) (K.faults sink.old) out.old)
         (port (K.taken sink.new) (K.faults sink.new) out.new)
-        (λ k. phase_done (setting_of program.now 0) out.old.column changes.now (last_after k.course.last changes.now) k) }
+        (λ k. phase_done (setting_of context.now.program.now 0) out.old.column changes.now (last_after k.course.last changes.now) k) }
 {
     tell(
         out,
         sink,
         names,
-        program,
+        context.program,
         session.watch,
         session.state.store(),
         changes,
     )?;
-    Ok(change(alloc, hand, program, session, changes)?)
+    Ok(change(context, session, changes)?)
 }
 
 /// An element waits for its phase.
-fn with_waiting<M: Matcher>(session: Session<M>, made: Element) -> Result<Session<M>, OutOfMemory>
+fn add_pending<M: Matcher>(session: Session<M>, made: Element) -> Result<Session<M>, OutOfMemory>
     ensures { IfOk result (λ s. s ≡ record session { pending = session.pending ++ Change.Add made ∷ []; last_tag = made.tag }) }
 {
     let mut session = session;
@@ -116,9 +115,7 @@ fn with_waiting<M: Matcher>(session: Session<M>, made: Element) -> Result<Sessio
 /// Makes an element, which is one phase. Where no run was begun it waits. Where elements are traced its line is printed
 /// at once.
 fn make_one<M: Matcher, H: Fn(M, &[Change]) -> Result<Settled<M>, OutOfMemory>, K: Sink>(
-    alloc: Global,
-    hand: &H,
-    program: &Program,
+    context: &RunContext<'_, H>,
     names: &Names,
     session: Session<M>,
     class: usize,
@@ -126,24 +123,24 @@ fn make_one<M: Matcher, H: Fn(M, &[Change]) -> Result<Settled<M>, OutOfMemory>, 
     out: &mut Out,
     sink: &mut K,
 ) -> Result<Session<M>, Ending>
-    requires settles { Settles M.stored M.found M.stands_for (λ m cs. H.pre hand.now m cs) (λ m cs r. H.post hand.now m cs r) }
-    requires under_way { IsUnderWay M.stored M.stands_for program.now.rules session }
+    requires settles { Settles M.stored M.found M.stands_for (λ m cs. H.pre context.now.settle.now m cs) (λ m cs r. H.post context.now.settle.now m cs r) }
+    requires under_way { IsUnderWay M.stored M.stands_for context.now.program.now.rules session }
     requires whole { IsTrue out.old.whole }
     requires faults { K.faults sink.old < 2 ^ 63 }
-    ensures { Does M.stored M.stands_for program.now.rules names.now session result
+    ensures { Does M.stored M.stands_for context.now.program.now.rules names.now session result
         (port (K.taken sink.old) (K.faults sink.old) out.old)
         (port (K.taken sink.new) (K.faults sink.new) out.new)
-        (λ k. phase_done (setting_of program.now 0) out.old.column
-        (Change.Add (element_made program.now.classes class puts.now k.course) ∷ []) (k.course.last + 1) k) }
+        (λ k. phase_done (setting_of context.now.program.now 0) out.old.column
+        (Change.Add (element_made context.now.program.now.classes class puts.now k.course) ∷ []) (k.course.last + 1) k) }
 {
     let tag = next_tag(session.last_tag)?;
-    let made = fixed_element(alloc, program, tag, class, puts.as_slice())?;
+    let made = fixed_element(context.alloc, context.program, tag, class, puts.as_slice())?;
     if session.ran {
         let changes = [Change::Add(made)];
-        return phase(alloc, hand, program, names, session, &changes, out, sink);
+        return phase(context, names, session, &changes, out, sink);
     }
-    tell_made(out, sink, names, program, session.watch, &made)?;
-    Ok(with_waiting(session, made)?)
+    tell_made(out, sink, names, context.program, session.watch, &made)?;
+    Ok(add_pending(session, made)?)
 }
 
 /// The command `make`, which is one phase. Where no run was begun it waits; and once many wait, their phases are made
@@ -153,9 +150,7 @@ pub(crate) fn make_at_top<
     H: Fn(M, &[Change]) -> Result<Settled<M>, OutOfMemory>,
     K: Sink,
 >(
-    alloc: Global,
-    hand: &H,
-    program: &Program,
+    context: &RunContext<'_, H>,
     names: &Names,
     session: Session<M>,
     class: usize,
@@ -163,18 +158,18 @@ pub(crate) fn make_at_top<
     out: &mut Out,
     sink: &mut K,
 ) -> Result<Session<M>, Ending>
-    requires settles { Settles M.stored M.found M.stands_for (λ m cs. H.pre hand.now m cs) (λ m cs r. H.post hand.now m cs r) }
-    requires under_way { IsUnderWay M.stored M.stands_for program.now.rules session }
+    requires settles { Settles M.stored M.found M.stands_for (λ m cs. H.pre context.now.settle.now m cs) (λ m cs r. H.post context.now.settle.now m cs r) }
+    requires under_way { IsUnderWay M.stored M.stands_for context.now.program.now.rules session }
     requires whole { IsTrue out.old.whole }
     requires faults { K.faults sink.old < 2 ^ 63 }
-    ensures { Does M.stored M.stands_for program.now.rules names.now session result
+    ensures { Does M.stored M.stands_for context.now.program.now.rules names.now session result
         (port (K.taken sink.old) (K.faults sink.old) out.old)
         (port (K.taken sink.new) (K.faults sink.new) out.new)
-        (λ k. phase_done (setting_of program.now 0) out.old.column
-        (Change.Add (element_made program.now.classes class puts.now k.course) ∷ []) (k.course.last + 1) k) }
+        (λ k. phase_done (setting_of context.now.program.now 0) out.old.column
+        (Change.Add (element_made context.now.program.now.classes class puts.now k.course) ∷ []) (k.course.last + 1) k) }
 {
-    let session = settle_piece(alloc, hand, program, session)?;
-    make_one(alloc, hand, program, names, session, class, puts, out, sink)
+    let session = make_pending_piece(context, session)?;
+    make_one(context, names, session, class, puts, out, sink)
 }
 
 /// Whether an element of this tag is there.
@@ -224,36 +219,25 @@ fn all_removals(alloc: Global, store: &Store) -> Result<Listed<Change>, OutOfMem
 
 /// The command `remove` with tags: removes their elements, which is one phase.
 pub(crate) fn remove<M: Matcher, H: Fn(M, &[Change]) -> Result<Settled<M>, OutOfMemory>, K: Sink>(
-    alloc: Global,
-    hand: &H,
-    program: &Program,
+    context: &RunContext<'_, H>,
     names: &Names,
     session: Session<M>,
     tags: &Listed<u64>,
     out: &mut Out,
     sink: &mut K,
 ) -> Result<Session<M>, Ending>
-    requires settles { Settles M.stored M.found M.stands_for (λ m cs. H.pre hand.now m cs) (λ m cs r. H.post hand.now m cs r) }
-    requires under_way { IsUnderWay M.stored M.stands_for program.now.rules session }
+    requires settles { Settles M.stored M.found M.stands_for (λ m cs. H.pre context.now.settle.now m cs) (λ m cs r. H.post context.now.settle.now m cs r) }
+    requires under_way { IsUnderWay M.stored M.stands_for context.now.program.now.rules session }
     requires whole { IsTrue out.old.whole }
     requires faults { K.faults sink.old < 2 ^ 63 }
-    ensures { Does M.stored M.stands_for program.now.rules names.now session result
+    ensures { Does M.stored M.stands_for context.now.program.now.rules names.now session result
         (port (K.taken sink.old) (K.faults sink.old) out.old)
         (port (K.taken sink.new) (K.faults sink.new) out.new)
-        (λ k. phase_done (setting_of program.now 0) out.old.column (removals k.course.wm tags.now) k.course.last k) }
+        (λ k. phase_done (setting_of context.now.program.now 0) out.old.column (removals k.course.wm tags.now) k.course.last k) }
 {
-    let session = settle(alloc, hand, program, session)?;
-    let changes = removals(alloc, session.state.store(), tags.as_slice())?;
-    phase(
-        alloc,
-        hand,
-        program,
-        names,
-        session,
-        changes.as_slice(),
-        out,
-        sink,
-    )
+    let session = make_pending(context, session)?;
+    let changes = removals(context.alloc, session.state.store(), tags.as_slice())?;
+    phase(context, names, session, changes.as_slice(), out, sink)
 }
 
 /// The command `remove *`: removes all elements, which is one phase.
@@ -262,33 +246,22 @@ pub(crate) fn remove_all<
     H: Fn(M, &[Change]) -> Result<Settled<M>, OutOfMemory>,
     K: Sink,
 >(
-    alloc: Global,
-    hand: &H,
-    program: &Program,
+    context: &RunContext<'_, H>,
     names: &Names,
     session: Session<M>,
     out: &mut Out,
     sink: &mut K,
 ) -> Result<Session<M>, Ending>
-    requires settles { Settles M.stored M.found M.stands_for (λ m cs. H.pre hand.now m cs) (λ m cs r. H.post hand.now m cs r) }
-    requires under_way { IsUnderWay M.stored M.stands_for program.now.rules session }
+    requires settles { Settles M.stored M.found M.stands_for (λ m cs. H.pre context.now.settle.now m cs) (λ m cs r. H.post context.now.settle.now m cs r) }
+    requires under_way { IsUnderWay M.stored M.stands_for context.now.program.now.rules session }
     requires whole { IsTrue out.old.whole }
     requires faults { K.faults sink.old < 2 ^ 63 }
-    ensures { Does M.stored M.stands_for program.now.rules names.now session result
+    ensures { Does M.stored M.stands_for context.now.program.now.rules names.now session result
         (port (K.taken sink.old) (K.faults sink.old) out.old)
         (port (K.taken sink.new) (K.faults sink.new) out.new)
-        (λ k. phase_done (setting_of program.now 0) out.old.column (map Change.Remove (tags_of k.course.wm)) k.course.last k) }
+        (λ k. phase_done (setting_of context.now.program.now 0) out.old.column (map Change.Remove (tags_of k.course.wm)) k.course.last k) }
 {
-    let session = settle(alloc, hand, program, session)?;
-    let changes = all_removals(alloc, session.state.store())?;
-    phase(
-        alloc,
-        hand,
-        program,
-        names,
-        session,
-        changes.as_slice(),
-        out,
-        sink,
-    )
+    let session = make_pending(context, session)?;
+    let changes = all_removals(context.alloc, session.state.store())?;
+    phase(context, names, session, changes.as_slice(), out, sink)
 }

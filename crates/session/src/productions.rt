@@ -198,7 +198,7 @@ fn toggle(breaks: &mut Vec<bool>, number: Option<usize>)
 }
 
 /// The same for each production that has one of these names.
-fn all_toggled(rules: &[Rule], given: &[Sym], breaks: Listed<bool>) -> Listed<bool>
+fn toggle_all(rules: &[Rule], given: &[Sym], breaks: Listed<bool>) -> Listed<bool>
     ensures { result ≡ all_toggled rules.now given.now breaks }
 {
     let mut breaks = breaks.into_vec();
@@ -233,6 +233,6 @@ pub(crate) fn give_breaks<M: Matcher, K: Sink>(
     }
     put_unknown(out, sink, names, program, given)?;
     let mut session = session;
-    session.breaks = all_toggled(program.rules.as_slice(), given, session.breaks);
+    session.breaks = toggle_all(program.rules.as_slice(), given, session.breaks);
     Ok(session)
 }

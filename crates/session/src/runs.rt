@@ -16,8 +16,9 @@ ghost use Rattle.session.specs.Courses.{IsOf, ends_unread};
 ghost use Rattle.session.specs.Pauses.{meant_last, pause_line};
 
 use crate::bounds::UNREACHED;
+use crate::context::RunContext;
+use crate::session::Session;
 use act_phase::ActFault;
-use cycle::State;
 use ops_base::elements::Change;
 use ops_base::endings::Ending;
 use ops_base::memory::OutOfMemory;
@@ -26,11 +27,10 @@ use ops_base::symbols::Names;
 use ops_base::values::Sym;
 use ops_io::{Input, Out, Sink, Source, WriteFailed};
 use ops_print::{put_line, put_name_line, rule_name};
-use std::alloc::Global;
 use work_store::{Matcher, Settled};
 
 /// How a fault of a right side ends the session.
-fn ended_in(firing: u64, rule: usize, fault: ActFault) -> Ending
+fn ending_of_fault(firing: u64, rule: usize, fault: ActFault) -> Ending
     ensures { of_ending result ≡ failure_as (ended_in firing rule) (failure_of fault) }
 {
     match fault {
@@ -48,44 +48,52 @@ fn ended_in(firing: u64, rule: usize, fault: ActFault) -> Ending
 
 /// The firing of the dominant instantiation, which is of this production.
 fn fire<M: Matcher, H: Fn(M, &[Change]) -> Result<Settled<M>, OutOfMemory>, I: Source, K: Sink>(
-    alloc: Global,
-    hand: &H,
-    program: &Program,
+    context: &RunContext<'_, H>,
     names: &mut Names,
-    state: State<M>,
-    watch: u8,
+    session: Session<M>,
     rule: usize,
     input: &mut Input,
     source: &mut I,
     out: &mut Out,
     sink: &mut K,
-) -> Result<(State<M>, bool), Ending>
-    requires settles { Settles M.stored M.found M.stands_for (λ m cs. H.pre hand.now m cs) (λ m cs r. H.post hand.now m cs r) }
+) -> Result<(Session<M>, bool), Ending>
+    requires settles { Settles M.stored M.found M.stands_for (λ m cs. H.pre context.now.settle.now m cs) (λ m cs r. H.post context.now.settle.now m cs r) }
     requires whole { IsTrue out.old.whole }
     requires faults { K.faults sink.old < 2 ^ 63 }
     requires reads { I.faults source.old < 2 ^ 63 }
-    requires of { IsOf M.stands_for program.now.rules state }
-    requires next { (i : Inst) × (next_to_fire program.now.rules (alone M.stored state) ≡ Some i) × (i.rule ≡ rule) }
-    ensures performs { (i : Inst) → next_to_fire program.now.rules (alone M.stored state) ≡ Some i
-        → PerformsOn (λ r c. record { course = state_course M.stored r.0 names.new c; halted = r.1 }) of_ending result
+    requires of { IsOf M.stands_for context.now.program.now.rules session.state }
+    requires next { (i : Inst) × (next_to_fire context.now.program.now.rules (alone M.stored session.state) ≡ Some i) × (i.rule ≡ rule) }
+    ensures performs { (i : Inst) → next_to_fire context.now.program.now.rules (alone M.stored session.state) ≡ Some i
+        → PerformsOn (λ r c. record { course = state_course M.stored r.0.state names.new c; halted = r.1 }) of_ending result
         (inlet input.old (I.left source.old) (I.faults source.old))
         (inlet input.new (I.left source.new) (I.faults source.new))
         (port (K.taken sink.old) (K.faults sink.old) out.old)
         (port (K.taken sink.new) (K.faults sink.new) out.new)
-        (λ c. firing (setting_of program.now watch) out.old.column i (state_course M.stored state names.old c)) }
+        (λ c. firing (setting_of context.now.program.now session.watch) out.old.column i (state_course M.stored session.state names.old c)) }
     ensures reads { CountsReads (ends_unread result) (I.faults source.old) (I.faults source.new) }
     ensures written { ends_unread result ≡ true → out.new.held ≡ [] }
-    ensures untouched { program_asks program.now.rules ≡ false → (input.new ≡ input.old) × (source.new ≡ source.old) }
+    ensures untouched { program_asks context.now.program.now.rules ≡ false → (input.new ≡ input.old) × (source.new ≡ source.old) }
     ensures names { KeepsNames names.old names.new }
-    ensures of { IfOk result (λ r. IsOf M.stands_for program.now.rules r.0) }
+    ensures of { IfOk result (λ r. IsOf M.stands_for context.now.program.now.rules r.0.state) }
+    ensures kept { IfOk result (λ r. r.0 ≡ record session { state = r.0.state }) }
 {
-    let firings = state.firings();
-    if firings >= UNREACHED || state.last_tag() >= UNREACHED {
+    let firings = session.state.firings();
+    if firings >= UNREACHED || session.state.last_tag() >= UNREACHED {
         return Err(Ending::OutOfMemory);
     }
-    match state.fire(alloc, hand, program, names, watch, input, source, out, sink) {
-        Ok(fired) => Ok(fired),
-        Err(fault) => Err(ended_in(firings + 1, rule, fault)),
+    match session.state.fire(
+        context.alloc,
+        context.settle,
+        context.program,
+        names,
+        session.watch,
+        input,
+        source,
+        out,
+        sink,
+    ) {
+        Ok((state, halted)) => Ok((Session { state, ..session }, halted)),
+        Err(fault) => Err(ending_of_fault(firings + 1, rule, fault)),
     }
 }
 
@@ -199,65 +207,59 @@ pub(crate) fn run<
     I: Source,
     K: Sink,
 >(
-    alloc: Global,
-    hand: &H,
-    program: &Program,
+    context: &RunContext<'_, H>,
     names: &mut Names,
-    state: State<M>,
-    watch: u8,
-    breaks: &[bool],
-    limit: u64,
+    session: Session<M>,
     count: Option<u64>,
     input: &mut Input,
     source: &mut I,
     out: &mut Out,
     sink: &mut K,
-) -> Result<State<M>, Ending>
-    requires settles { Settles M.stored M.found M.stands_for (λ m cs. H.pre hand.now m cs) (λ m cs r. H.post hand.now m cs r) }
+) -> Result<Session<M>, Ending>
+    requires settles { Settles M.stored M.found M.stands_for (λ m cs. H.pre context.now.settle.now m cs) (λ m cs r. H.post context.now.settle.now m cs r) }
     requires whole { IsTrue out.old.whole }
     requires faults { K.faults sink.old < 2 ^ 63 }
     requires reads { I.faults source.old < 2 ^ 63 }
-    requires of { IsOf M.stands_for program.now.rules state }
-    ensures performs { PerformsOn (λ s c. state_course M.stored s names.new c) of_ending result
+    requires of { IsOf M.stands_for context.now.program.now.rules session.state }
+    ensures performs { PerformsOn (λ s c. state_course M.stored s.state names.new c) of_ending result
         (inlet input.old (I.left source.old) (I.faults source.old))
         (inlet input.new (I.left source.new) (I.faults source.new))
         (port (K.taken sink.old) (K.faults sink.old) out.old)
         (port (K.taken sink.new) (K.faults sink.new) out.new)
-        (λ c. run_on (limit - state.firings) (setting_of program.now watch) breaks.now out.old.column None count
-        (state_course M.stored state names.old c)) }
+        (λ c. run_on (context.now.limit - session.state.firings) (setting_of context.now.program.now session.watch) session.breaks out.old.column None count
+        (state_course M.stored session.state names.old c)) }
     ensures reads { CountsReads (ends_unread result) (I.faults source.old) (I.faults source.new) }
     ensures written { ends_unread result ≡ true → out.new.held ≡ [] }
-    ensures untouched { program_asks program.now.rules ≡ false → (input.new ≡ input.old) × (source.new ≡ source.old) }
+    ensures untouched { program_asks context.now.program.now.rules ≡ false → (input.new ≡ input.old) × (source.new ≡ source.old) }
     ensures names { KeepsNames names.old names.new }
-    ensures of { IfOk result (λ s. IsOf M.stands_for program.now.rules s) }
+    ensures of { IfOk result (λ s. IsOf M.stands_for context.now.program.now.rules s.state) }
+    ensures kept { IfOk result (λ s. s ≡ record session { state = s.state }) }
 {
-    let mut state = state;
-    let mut left = limit.saturating_sub(state.firings());
+    let mut session = session;
+    let mut left = context.limit.saturating_sub(session.state.firings());
     let mut count = count;
     let mut last = None;
     'turns: loop {
-        if let Some(pause) = pause_of(program, breaks, last, count) {
+        if let Some(pause) = pause_of(context.program, session.breaks.as_slice(), last, count) {
             put_pause(out, sink, names, pause)?;
-            return Ok(state);
+            return Ok(session);
         }
         // what is next is looked up here, for the end and for its production, and once more as it fires
-        let Some(next) = state.next() else {
+        let Some(next) = session.state.next() else {
             put_line(out, sink, b"end -- no production true")?;
-            return Ok(state);
+            return Ok(session);
         };
         let rule = next.rule;
         if left == 0 {
             return Err(Ending::Limit {
-                firings: state.firings(),
+                firings: session.state.firings(),
             });
         }
         left -= 1;
         count = one_less(count);
-        let (after, halted) = fire(
-            alloc, hand, program, names, state, watch, rule, input, source, out, sink,
-        )?;
+        let (after, halted) = fire(context, names, session, rule, input, source, out, sink)?;
         show(out, sink)?;
-        state = after;
+        session = after;
         last = Some(LastFiring { rule, halted });
     }
 }

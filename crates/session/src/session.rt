@@ -6,6 +6,7 @@ ghost use Rattle.ops_meaning.specs.Running.{begun};
 ghost use Rattle.cycle.specs.Settles.{Settles};
 ghost use Rattle.session.specs.Courses.{IsUnderWay, meant_by};
 
+use crate::context::RunContext;
 use cycle::State;
 use ops_base::elements::Change;
 use ops_base::list::Listed;
@@ -46,7 +47,7 @@ fn no_breaks(alloc: Global, program: &Program) -> Result<Listed<bool>, OutOfMemo
 }
 
 /// A session in which nothing was done yet.
-pub(crate) fn started<M: Matcher>(
+pub(crate) fn start<M: Matcher>(
     alloc: Global,
     program: &Program,
     matcher: M,
@@ -70,48 +71,42 @@ pub(crate) fn started<M: Matcher>(
 }
 
 /// Makes the phases that wait, as one.
-pub(crate) fn settle<M: Matcher, H: Fn(M, &[Change]) -> Result<Settled<M>, OutOfMemory>>(
-    alloc: Global,
-    hand: &H,
-    program: &Program,
+pub(crate) fn make_pending<M: Matcher, H: Fn(M, &[Change]) -> Result<Settled<M>, OutOfMemory>>(
+    context: &RunContext<'_, H>,
     session: Session<M>,
 ) -> Result<Session<M>, OutOfMemory>
-    requires settles { Settles M.stored M.found M.stands_for (λ m cs. H.pre hand.now m cs) (λ m cs r. H.post hand.now m cs r) }
-    requires under_way { IsUnderWay M.stored M.stands_for program.now.rules session }
+    requires settles { Settles M.stored M.found M.stands_for (λ m cs. H.pre context.now.settle.now m cs) (λ m cs r. H.post context.now.settle.now m cs r) }
+    requires under_way { IsUnderWay M.stored M.stands_for context.now.program.now.rules session }
     ensures meant { IfOk result (λ s.
         (n : Spellings) (c : Coming) → meant_by M.stored s n c ≡ meant_by M.stored session n c) }
-    ensures under_way { IfOk result (IsUnderWay M.stored M.stands_for program.now.rules) }
+    ensures under_way { IfOk result (IsUnderWay M.stored M.stands_for context.now.program.now.rules) }
     ensures none_waits { IfOk result (λ s. s.pending ≡ []) }
 {
     if session.pending.is_empty() {
         return Ok(session);
     }
-    let state = session
-        .state
-        .change(hand, program, session.pending.as_slice())?;
+    let state = session.state.change(context.settle, context.program, session.pending.as_slice())?;
     Ok(Session {
         state,
-        pending: Listed::new(alloc),
+        pending: Listed::new(context.alloc),
         ..session
     })
 }
 
 /// Makes the phases that wait, as one, where this many wait that it is time to.
-pub(crate) fn settle_piece<M: Matcher, H: Fn(M, &[Change]) -> Result<Settled<M>, OutOfMemory>>(
-    alloc: Global,
-    hand: &H,
-    program: &Program,
-    session: Session<M>,
-) -> Result<Session<M>, OutOfMemory>
-    requires settles { Settles M.stored M.found M.stands_for (λ m cs. H.pre hand.now m cs) (λ m cs r. H.post hand.now m cs r) }
-    requires under_way { IsUnderWay M.stored M.stands_for program.now.rules session }
+pub(crate) fn make_pending_piece<
+    M: Matcher,
+    H: Fn(M, &[Change]) -> Result<Settled<M>, OutOfMemory>,
+>(context: &RunContext<'_, H>, session: Session<M>) -> Result<Session<M>, OutOfMemory>
+    requires settles { Settles M.stored M.found M.stands_for (λ m cs. H.pre context.now.settle.now m cs) (λ m cs r. H.post context.now.settle.now m cs r) }
+    requires under_way { IsUnderWay M.stored M.stands_for context.now.program.now.rules session }
     ensures meant { IfOk result (λ s.
         (n : Spellings) (c : Coming) → meant_by M.stored s n c ≡ meant_by M.stored session n c) }
-    ensures under_way { IfOk result (IsUnderWay M.stored M.stands_for program.now.rules) }
+    ensures under_way { IfOk result (IsUnderWay M.stored M.stands_for context.now.program.now.rules) }
 {
     let waiting = session.pending.len();
     if waiting < PENDING_LIMIT || waiting < session.state.store().len() {
         return Ok(session);
     }
-    settle(alloc, hand, program, session)
+    make_pending(context, session)
 }

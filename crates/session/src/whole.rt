@@ -13,6 +13,7 @@ ghost use Rattle.session.specs.Endings.{EndsOn, CountsReadFault};
 ghost use Rattle.session.specs.Holding.{EndsHeld};
 
 use crate::commands::do_commands;
+use crate::context::RunContext;
 use crate::session::Session;
 use ops_base::elements::Change;
 use ops_base::endings::Ending;
@@ -26,7 +27,7 @@ use work_store::{Matcher, Settled};
 
 /// What is known of a session once its commands are done. It is not given back piece by piece: the program is about to
 /// end, and that would take a walk over all that it holds.
-fn ended<M: Matcher>(done: Result<Session<M>, Ending>) -> Result<Ending, Stop>
+fn known_ending<M: Matcher>(done: Result<Session<M>, Ending>) -> Result<Ending, Stop>
     ensures { result ≡ ended M.stored done }
 {
     match done {
@@ -92,8 +93,12 @@ pub fn run_session<
     ensures held { HoldsProgram names.old program.now → HoldsProgram names.new program.now × EndsHeld program.now limit names.old }
     ensures sets { GoesByConflictSets (setting_of program.now 0) limit program.now.commands names.old }
 {
-    let done = do_commands(
-        alloc, hand, program, names, matcher, limit, input, source, out, sink,
-    );
-    ended(done)
+    let context = RunContext {
+        alloc,
+        settle: hand,
+        program,
+        limit,
+    };
+    let done = do_commands(&context, names, matcher, input, source, out, sink);
+    known_ending(done)
 }

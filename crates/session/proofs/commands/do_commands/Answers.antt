@@ -12,19 +12,19 @@ returns-in_err-session-2-clause-performs g c =
     let p = err_from_is_err_and c.from_residual-in_err-session-2.result c.from_residual-in_err-session-2.ensures.1 in
     rw (p.1, p.2)
     (seen_err _ _ of_ending _ _ _ _ _ _
-    (session_is (setting_of c.args.program.now 0) c.args.limit c.args.out.now.column c.args.program.now.commands c.args.names.now (λ z. meant_by g.M.Matcher.stored c.in_ok-session.session c.args.names.now z) c.requires.column (λ z. c.in_ok-session.ensures.begun c.args.names.now z))
+    (session_is (setting_of c.args.context.now.program.now 0) c.args.context.now.limit c.args.out.now.column c.args.context.now.program.now.commands c.args.names.now (λ z. meant_by g.M.Matcher.stored c.in_ok-session.session c.args.names.now z) c.requires.column (λ z. c.in_ok-session.ensures.begun c.args.names.now z))
     c.in_err-session-2.field-0.0 c.in_err-session-2.ensures.performs)
 
-pub returns-in_err-settle-clause-performs : goal.returns-in_err-settle-clause-performs
-returns-in_err-settle-clause-performs g c =
-    let p = err_from_is_err_and c.from_residual-in_err-settle.result c.from_residual-in_err-settle.ensures.1 in
+pub returns-in_err-make_pending-clause-performs : goal.returns-in_err-make_pending-clause-performs
+returns-in_err-make_pending-clause-performs g c =
+    let p = err_from_is_err_and c.from_residual-in_err-make_pending.result c.from_residual-in_err-make_pending.ensures.1 in
     rw p.1
     (short_at_end _ _ p.0 p.2 c.in_ok-session-2.session _ _ _ _ _ _
-    (session_is (setting_of c.args.program.now 0) c.args.limit c.args.out.now.column c.args.program.now.commands c.args.names.now (λ z. meant_by g.M.Matcher.stored c.in_ok-session.session c.args.names.now z) c.requires.column (λ z. c.in_ok-session.ensures.begun c.args.names.now z))
+    (session_is (setting_of c.args.context.now.program.now 0) c.args.context.now.limit c.args.out.now.column c.args.context.now.program.now.commands c.args.names.now (λ z. meant_by g.M.Matcher.stored c.in_ok-session.session c.args.names.now z) c.requires.column (λ z. c.in_ok-session.ensures.begun c.args.names.now z))
     c.in_ok-session-2.ensures.reads c.in_ok-session-2.ensures.performs)
 
 pub returns-clause-performs : goal.returns-clause-performs
 returns-clause-performs g c =
     seen_ok _ _ of_ending _ _ _ _ _ _
-    (session_is (setting_of c.args.program.now 0) c.args.limit c.args.out.now.column c.args.program.now.commands c.args.names.now (λ z. meant_by g.M.Matcher.stored c.in_ok-session.session c.args.names.now z) c.requires.column (λ z. c.in_ok-session.ensures.begun c.args.names.now z))
-    c.in_ok-session-2.session c.in_ok-settle.field-0 (λ z. sym (c.in_ok-settle.ensures.meant c.do_each.new.names z)) c.in_ok-session-2.ensures.reads c.in_ok-session-2.ensures.performs
+    (session_is (setting_of c.args.context.now.program.now 0) c.args.context.now.limit c.args.out.now.column c.args.context.now.program.now.commands c.args.names.now (λ z. meant_by g.M.Matcher.stored c.in_ok-session.session c.args.names.now z) c.requires.column (λ z. c.in_ok-session.ensures.begun c.args.names.now z))
+    c.in_ok-session-2.session c.in_ok-make_pending.field-0 (λ z. sym (c.in_ok-make_pending.ensures.meant c.do_each.new.names z)) c.in_ok-session-2.ensures.reads c.in_ok-session-2.ensures.performs

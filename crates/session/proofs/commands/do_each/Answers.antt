@@ -15,7 +15,7 @@ use Rattle.session.proofs.commands.do_each.Goals as goal
 
 pub loop-command-init : goal.loop-command-init
 loop-command-init g c = record {
-  out = commands_begin (setting_of c.args.program.now 0) c.args.limit c.args.program.now.commands c.as_slice-command-items.result.now (λ z. meant_by g.M.Matcher.stored c.args.session c.args.names.now z) _ _ c.requires.whole c.as_slice-command-items.ensures;
+  out = commands_begin (setting_of c.args.context.now.program.now 0) c.args.context.now.limit c.args.context.now.program.now.commands c.as_slice-command-items.result.now (λ z. meant_by g.M.Matcher.stored c.args.session c.args.names.now z) _ _ c.requires.whole c.as_slice-command-items.ensures;
   whole = c.requires.whole;
   faults = refl;
   untouched = λ _. (refl, refl);
@@ -26,8 +26,8 @@ loop-command-init g c = record {
 
 pub returns-then-is_exit-clause-performs : goal.returns-then-is_exit-clause-performs
 returns-then-is_exit-clause-performs g c =
-    commands_end (setting_of c.args.program.now 0) c.args.limit c.as_slice-command-items.result.now c.loop-command.command-index (λ z. meant_by g.M.Matcher.stored c.loop-command.session c.loop-command.names z) c.loop-command.invariant.out c.loop-command.session
-    (λ z. exits (setting_of c.args.program.now 0) c.args.limit c.loop-command.out.column c.as_slice-command-items.result.now c.loop-command.command-index c.command-item.result (meant_by g.M.Matcher.stored c.loop-command.session c.loop-command.names z) c.loop-command-test.true c.command-item.is
+    commands_end (setting_of c.args.context.now.program.now 0) c.args.context.now.limit c.as_slice-command-items.result.now c.loop-command.command-index (λ z. meant_by g.M.Matcher.stored c.loop-command.session c.loop-command.names z) c.loop-command.invariant.out c.loop-command.session
+    (λ z. exits (setting_of c.args.context.now.program.now 0) c.args.context.now.limit c.loop-command.out.column c.as_slice-command-items.result.now c.loop-command.command-index c.command-item.result (meant_by g.M.Matcher.stored c.loop-command.session c.loop-command.names z) c.loop-command-test.true c.command-item.is
     (sym c.is_exit.ensures ∙ c.if-is_exit.true)) c.loop-command.invariant.whole
 
 pub returns-then-is_exit-clause-reads : goal.returns-then-is_exit-clause-reads
@@ -43,7 +43,7 @@ pub returns-in_err-session-clause-performs : goal.returns-in_err-session-clause-
 returns-in_err-session-clause-performs g c =
     let p = err_from_is_err_and c.from_residual.result c.from_residual.ensures.1 in
     rw (p.1, p.2)
-    (last_command (setting_of c.args.program.now 0) c.args.limit c.as_slice-command-items.result.now c.loop-command.command-index (λ z. meant_by g.M.Matcher.stored c.loop-command.session c.loop-command.names z) c.loop-command.invariant.out c.command-item.result c.loop-command-test.true c.command-item.is
+    (last_command (setting_of c.args.context.now.program.now 0) c.args.context.now.limit c.as_slice-command-items.result.now c.loop-command.command-index (λ z. meant_by g.M.Matcher.stored c.loop-command.session c.loop-command.names z) c.loop-command.invariant.out c.command-item.result c.loop-command-test.true c.command-item.is
     (sym c.is_exit.ensures ∙ c.if-is_exit.false) c.in_err-session.field-0.0 c.in_err-session.ensures.performs)
 
 pub returns-in_err-session-clause-names : goal.returns-in_err-session-clause-names
@@ -62,7 +62,7 @@ pub returns-in_err-flush-clause-performs : goal.returns-in_err-flush-clause-perf
 returns-in_err-flush-clause-performs g c =
     let p = err_from_is_err_and c.from_residual-in_err-flush.result c.from_residual-in_err-flush.ensures.1 in
     rw (p.1, p.2)
-    (last_command (setting_of c.args.program.now 0) c.args.limit c.as_slice-command-items.result.now c.loop-command.command-index (λ z. meant_by g.M.Matcher.stored c.loop-command.session c.loop-command.names z) c.loop-command.invariant.out c.command-item.result c.loop-command-test.true c.command-item.is
+    (last_command (setting_of c.args.context.now.program.now 0) c.args.context.now.limit c.as_slice-command-items.result.now c.loop-command.command-index (λ z. meant_by g.M.Matcher.stored c.loop-command.session c.loop-command.names z) c.loop-command.invariant.out c.command-item.result c.loop-command-test.true c.command-item.is
     (sym c.is_exit.ensures ∙ c.if-is_exit.false) ending.WriteFault
     (performs_refused c.in_ok-session.ensures.performs of_ending ending.WriteFault refl c.in_err-flush.ensures.flushes))
 
@@ -79,7 +79,7 @@ pub loop-command-preserved : goal.loop-command-preserved
 loop-command-preserved g c =
     let whole = (performed_put c.in_ok-session.ensures.performs).1.whole in
     let written = c.in_ok-flush.ensures.flushes in
-    let out = one_command (setting_of c.args.program.now 0) c.args.limit c.as_slice-command-items.result.now c.loop-command.command-index (λ z. meant_by g.M.Matcher.stored c.loop-command.session c.loop-command.names z) c.loop-command.invariant.out c.command-item.result c.loop-command-test.true c.command-item.is
+    let out = one_command (setting_of c.args.context.now.program.now 0) c.args.context.now.limit c.as_slice-command-items.result.now c.loop-command.command-index (λ z. meant_by g.M.Matcher.stored c.loop-command.session c.loop-command.names z) c.loop-command.invariant.out c.command-item.result c.loop-command-test.true c.command-item.is
     (sym c.is_exit.ensures ∙ c.if-is_exit.false) c.in_ok-session.session c.in_ok-session.ensures.reads (performs_still c.in_ok-session.ensures.performs (flushed_put _ _ whole written)) in
     let put = pending_put _ _ _ _ _ _ out in
     record {
@@ -96,8 +96,8 @@ pub returns-clause-performs : goal.returns-clause-performs
 returns-clause-performs g c =
     let all = c.as_slice-command-items.result.now in
     let past : length all ≤ c.loop-command.command-index = omega (arith, c.loop-command-test.false) in
-    commands_end (setting_of c.args.program.now 0) c.args.limit all c.loop-command.command-index (λ z. meant_by g.M.Matcher.stored c.loop-command.session c.loop-command.names z) c.loop-command.invariant.out c.loop-command.session
-    (λ z. none_left (setting_of c.args.program.now 0) c.args.limit c.loop-command.out.column all c.loop-command.command-index (meant_by g.M.Matcher.stored c.loop-command.session c.loop-command.names z) past) c.loop-command.invariant.whole
+    commands_end (setting_of c.args.context.now.program.now 0) c.args.context.now.limit all c.loop-command.command-index (λ z. meant_by g.M.Matcher.stored c.loop-command.session c.loop-command.names z) c.loop-command.invariant.out c.loop-command.session
+    (λ z. none_left (setting_of c.args.context.now.program.now 0) c.args.context.now.limit c.loop-command.out.column all c.loop-command.command-index (meant_by g.M.Matcher.stored c.loop-command.session c.loop-command.names z) past) c.loop-command.invariant.whole
 
 pub returns-in_err-session-clause-untouched : goal.returns-in_err-session-clause-untouched
 returns-in_err-session-clause-untouched g c = λ none. both_then (c.loop-command.invariant.untouched none) (c.in_err-session.ensures.untouched none)

@@ -15,12 +15,12 @@ invariant-loop-command g l = record {
       (inlet l.input (g.I.Source.left l.source) (g.I.Source.faults l.source))
       (port (g.K.Sink.taken l.fn.sink) (g.K.Sink.faults l.fn.sink) l.fn.out)
       (port (g.K.Sink.taken l.sink) (g.K.Sink.faults l.sink) l.out)
-      (λ z. commands_done (setting_of l.program 0) l.limit l.fn.out.column l.program.commands (meant_by g.M.Matcher.stored l.fn.session l.fn.names z))
-      (λ z. commands_done (setting_of l.program 0) l.limit l.out.column (drop l.command-index l.command-items) (meant_by g.M.Matcher.stored l.session l.names z));
+      (λ z. commands_done (setting_of l.context.program.now 0) l.context.limit l.fn.out.column l.context.program.now.commands (meant_by g.M.Matcher.stored l.fn.session l.fn.names z))
+      (λ z. commands_done (setting_of l.context.program.now 0) l.context.limit l.out.column (drop l.command-index l.command-items) (meant_by g.M.Matcher.stored l.session l.names z));
   whole : IsTrue l.out.whole;
   faults : g.K.Sink.faults l.sink ≡ g.K.Sink.faults l.fn.sink;
-  untouched : program_asks l.program.rules ≡ false → (l.input ≡ l.fn.input) × (l.source ≡ l.fn.source);
+  untouched : program_asks l.context.program.now.rules ≡ false → (l.input ≡ l.fn.input) × (l.source ≡ l.fn.source);
   names : KeepsNames l.fn.names l.names;
-  under_way : IsUnderWay g.M.Matcher.stored g.M.Matcher.stands_for l.program.rules l.session;
+  under_way : IsUnderWay g.M.Matcher.stored g.M.Matcher.stands_for l.context.program.now.rules l.session;
   flushed : l.fn.out.held ≡ [] → l.out.held ≡ [];
 }

@@ -9,26 +9,26 @@ use Rattle.session.proofs.lists.list_met.Goals as goal
 pub returns-in_err-session : goal.returns-in_err-session
 returns-in_err-session g c =
     let p = err_from_is_err_and c.from_residual.result c.from_residual.ensures.1 in
-    rw p.1 (does_short g.M.Matcher.stored g.M.Matcher.stands_for c.args.program.now.rules c.args.names.now c.args.session _ p.0 _ p.2 c.requires.whole)
+    rw p.1 (does_short g.M.Matcher.stored g.M.Matcher.stands_for c.args.context.now.program.now.rules c.args.names.now c.args.session _ p.0 _ p.2 c.requires.whole)
 
 pub returns-in_err-put_met : goal.returns-in_err-put_met
 returns-in_err-put_met g c =
     let p = err_from_is_err_and c.from_residual-in_err-put_met.result c.from_residual-in_err-put_met.ensures.1 in
     rw p.1
-    (unlisted g.M.Matcher.stored g.M.Matcher.stands_for c.args.program.now.rules c.args.names.now c.args.session c.in_ok-session.session (λ z. c.in_ok-session.ensures.meant c.args.names.now z) _ _
-    (λ k. element_lines k.course.names c.args.program.now.classes (filter (meets c.args.pattern.now) k.course.wm))
-    (element_lines c.args.names.now c.args.program.now.classes (filter (meets c.args.pattern.now) c.store.result.now.elements))
+    (unlisted g.M.Matcher.stored g.M.Matcher.stands_for c.args.context.now.program.now.rules c.args.names.now c.args.session c.in_ok-session.session (λ z. c.in_ok-session.ensures.meant c.args.names.now z) _ _
+    (λ k. element_lines k.course.names c.args.context.now.program.now.classes (filter (meets c.args.pattern.now) k.course.wm))
+    (element_lines c.args.names.now c.args.context.now.program.now.classes (filter (meets c.args.pattern.now) c.store.result.now.elements))
     (λ z.
-    ap (λ (x : Stored). element_lines c.args.names.now c.args.program.now.classes (filter (meets c.args.pattern.now) x.elements)) c.store.ensures
-    ∙ ap (λ wm. element_lines c.args.names.now c.args.program.now.classes (filter (meets c.args.pattern.now) wm)) (all_stored g.M.Matcher.stored c.in_ok-session.session c.args.names.now z c.in_ok-session.ensures.none_waits))
+    ap (λ (x : Stored). element_lines c.args.names.now c.args.context.now.program.now.classes (filter (meets c.args.pattern.now) x.elements)) c.store.ensures
+    ∙ ap (λ wm. element_lines c.args.names.now c.args.context.now.program.now.classes (filter (meets c.args.pattern.now) wm)) (all_stored g.M.Matcher.stored c.in_ok-session.session c.args.names.now z c.in_ok-session.ensures.none_waits))
     p.0 p.2 c.in_err-put_met.ensures)
 
 pub returns : goal.returns
 returns g c =
-    listed g.M.Matcher.stored g.M.Matcher.stands_for c.args.program.now.rules c.args.names.now c.args.session c.in_ok-session.session (λ z. c.in_ok-session.ensures.meant c.args.names.now z) _ _
-    (λ k. element_lines k.course.names c.args.program.now.classes (filter (meets c.args.pattern.now) k.course.wm))
-    (element_lines c.args.names.now c.args.program.now.classes (filter (meets c.args.pattern.now) c.store.result.now.elements))
+    listed g.M.Matcher.stored g.M.Matcher.stands_for c.args.context.now.program.now.rules c.args.names.now c.args.session c.in_ok-session.session (λ z. c.in_ok-session.ensures.meant c.args.names.now z) _ _
+    (λ k. element_lines k.course.names c.args.context.now.program.now.classes (filter (meets c.args.pattern.now) k.course.wm))
+    (element_lines c.args.names.now c.args.context.now.program.now.classes (filter (meets c.args.pattern.now) c.store.result.now.elements))
     (λ z.
-    ap (λ (x : Stored). element_lines c.args.names.now c.args.program.now.classes (filter (meets c.args.pattern.now) x.elements)) c.store.ensures
-    ∙ ap (λ wm. element_lines c.args.names.now c.args.program.now.classes (filter (meets c.args.pattern.now) wm)) (all_stored g.M.Matcher.stored c.in_ok-session.session c.args.names.now z c.in_ok-session.ensures.none_waits))
+    ap (λ (x : Stored). element_lines c.args.names.now c.args.context.now.program.now.classes (filter (meets c.args.pattern.now) x.elements)) c.store.ensures
+    ∙ ap (λ wm. element_lines c.args.names.now c.args.context.now.program.now.classes (filter (meets c.args.pattern.now) wm)) (all_stored g.M.Matcher.stored c.in_ok-session.session c.args.names.now z c.in_ok-session.ensures.none_waits))
     c.in_ok-put_met.ensures c.in_ok-session.ensures.under_way

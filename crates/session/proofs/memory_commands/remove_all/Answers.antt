@@ -17,12 +17,12 @@ use Rattle.session.proofs.memory_commands.remove_all.Goals as goal
 pub returns-in_err-session : goal.returns-in_err-session
 returns-in_err-session g c =
     let p = err_from_is_err_and c.from_residual.result c.from_residual.ensures.1 in
-    rw p.1 (does_short g.M.Matcher.stored g.M.Matcher.stands_for c.args.program.now.rules c.args.names.now c.args.session _ p.0 _ p.2 c.requires.whole)
+    rw p.1 (does_short g.M.Matcher.stored g.M.Matcher.stands_for c.args.context.now.program.now.rules c.args.names.now c.args.session _ p.0 _ p.2 c.requires.whole)
 
 pub returns-in_err-changes : goal.returns-in_err-changes
 returns-in_err-changes g c =
     let p = err_from_is_err_and c.from_residual-in_err-changes.result c.from_residual-in_err-changes.ensures.1 in
-    rw p.1 (does_short g.M.Matcher.stored g.M.Matcher.stands_for c.args.program.now.rules c.args.names.now c.args.session _ p.0 _ p.2 c.requires.whole)
+    rw p.1 (does_short g.M.Matcher.stored g.M.Matcher.stands_for c.args.context.now.program.now.rules c.args.names.now c.args.session _ p.0 _ p.2 c.requires.whole)
 
 pub phase-requires-clause-lawful : goal.phase-requires-clause-lawful
 phase-requires-clause-lawful g c =
@@ -43,8 +43,8 @@ phase-requires-clause-told g c =
 pub returns : goal.returns
 returns g c =
     let is = c.as_slice.ensures ∙ c.in_ok-changes.ensures.changes ∙ ap (λ (x : Stored). map Remove (tags_of x.elements)) c.store.ensures in
-    does_as g.M.Matcher.stored g.M.Matcher.stands_for c.args.program.now.rules c.args.names.now c.in_ok-session.session c.args.session _ _ _ _ _ (λ z. c.in_ok-session.ensures.meant c.args.names.now z)
-    (λ z. phase_as g.M.Matcher.stored (setting_of c.args.program.now 0) c.args.out.now.column c.args.names.now c.in_ok-session.session c.in_ok-session.ensures.none_waits _ (λ k. map Remove (tags_of k.course.wm)) z
+    does_as g.M.Matcher.stored g.M.Matcher.stands_for c.args.context.now.program.now.rules c.args.names.now c.in_ok-session.session c.args.session _ _ _ _ _ (λ z. c.in_ok-session.ensures.meant c.args.names.now z)
+    (λ z. phase_as g.M.Matcher.stored (setting_of c.args.context.now.program.now 0) c.args.out.now.column c.args.names.now c.in_ok-session.session c.in_ok-session.ensures.none_waits _ (λ k. map Remove (tags_of k.course.wm)) z
     (is ∙ ap (λ wm. map Remove (tags_of wm)) (all_stored g.M.Matcher.stored c.in_ok-session.session c.args.names.now z c.in_ok-session.ensures.none_waits))
     (clearing_last (meant_by g.M.Matcher.stored c.in_ok-session.session c.args.names.now z).course.last (tags_of (meant_by g.M.Matcher.stored c.in_ok-session.session c.args.names.now z).course.wm)))
     c.phase.ensures

@@ -12,7 +12,7 @@ pub returns : goal.returns
 returns g c =
     let given = c.as_slice-given.result.now in
     let told = lines_at c.args.out.now.column (map (unknown_line c.args.names.now) (unknown_of c.args.program.now.rules given)) in
-    let toggled = c.all_toggled.ensures ∙ ap (λ rules. all_toggled rules given c.args.session.breaks) c.as_slice-2.ensures in
+    let toggled = c.toggle_all.ensures ∙ ap (λ rules. all_toggled rules given c.args.session.breaks) c.as_slice-2.ensures in
     let p = c.requires.under_way in
     does_all g.M.Matcher.stored g.M.Matcher.stands_for c.args.program.now.rules c.args.names.now c.args.session _ _ _ _ told
     (λ z. let k = meant_by g.M.Matcher.stored c.args.session c.args.names.now z in

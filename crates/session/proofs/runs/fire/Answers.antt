@@ -18,14 +18,14 @@ pub returns-in-Err-clause-performs : goal.returns-in-Err-clause-performs
 returns-in-Err-clause-performs g c i is =
     let n = c.requires.next in
     let rule : c.args.rule ≡ i.rule = sym n.2 ∙ ap (λ (j : Inst). j.rule) (same_some n.0 i (sym n.1 ∙ is)) in
-    let told : of_ending c.ended_in.result ≡ failure_as (ended_in (c.args.state.firings + 1) i.rule) (failure_of c.in-Err.fault) =
-    c.ended_in.ensures ∙ (λ k. failure_as (ended_in (c.firings-firings.ensures k + 1) (rule k)) (failure_of c.in-Err.fault)) in
+    let told : of_ending c.ending_of_fault.result ≡ failure_as (ended_in (c.args.session.state.firings + 1) i.rule) (failure_of c.in-Err.fault) =
+    c.ending_of_fault.ensures ∙ (λ k. failure_as (ended_in (c.firings-firings.ensures k + 1) (rule k)) (failure_of c.in-Err.fault)) in
     on_err _ _ _ _ _ _ _ _ (rw told (fails_on _ _ _ _ _ _ _ _ (c.in-Err.ensures.performs i is)))
 
 pub returns-in-Ok-clause-untouched : goal.returns-in-Ok-clause-untouched
 returns-in-Ok-clause-untouched g c = λ none.
-    let n = c.requires.next in c.in-Ok.ensures.untouched n.0 n.1 (quiet_side c.args.program.now.rules n.0.rule none)
+    let n = c.requires.next in c.in-Ok.ensures.untouched n.0 n.1 (quiet_side c.args.context.now.program.now.rules n.0.rule none)
 
 pub returns-in-Err-clause-untouched : goal.returns-in-Err-clause-untouched
 returns-in-Err-clause-untouched g c = λ none.
-    let n = c.requires.next in c.in-Err.ensures.untouched n.0 n.1 (quiet_side c.args.program.now.rules n.0.rule none)
+    let n = c.requires.next in c.in-Err.ensures.untouched n.0 n.1 (quiet_side c.args.context.now.program.now.rules n.0.rule none)

@@ -17,13 +17,14 @@ invariant-turns g l = record {
       (inlet l.input (g.I.Source.left l.source) (g.I.Source.faults l.source))
       (port (g.K.Sink.taken l.fn.sink) (g.K.Sink.faults l.fn.sink) l.fn.out)
       (port (g.K.Sink.taken l.sink) (g.K.Sink.faults l.sink) l.out)
-      (λ z. run_on (l.fn.limit - l.fn.state.firings) (setting_of l.program l.watch) l.breaks l.fn.out.column None l.fn.count (state_course g.M.Matcher.stored l.fn.state l.fn.names z))
-      (λ z. run_on l.left (setting_of l.program l.watch) l.breaks l.out.column (meant_last l.last) l.count (state_course g.M.Matcher.stored l.state l.names z));
+      (λ z. run_on (l.context.limit - l.fn.session.state.firings) (setting_of l.context.program.now l.fn.session.watch) l.fn.session.breaks l.fn.out.column None l.fn.count (state_course g.M.Matcher.stored l.fn.session.state l.fn.names z))
+      (λ z. run_on l.left (setting_of l.context.program.now l.session.watch) l.session.breaks l.out.column (meant_last l.last) l.count (state_course g.M.Matcher.stored l.session.state l.names z));
   whole : IsTrue l.out.whole;
   faults : g.K.Sink.faults l.sink ≡ g.K.Sink.faults l.fn.sink;
-  untouched : program_asks l.program.rules ≡ false → (l.input ≡ l.fn.input) × (l.source ≡ l.fn.source);
+  untouched : program_asks l.context.program.now.rules ≡ false → (l.input ≡ l.fn.input) × (l.source ≡ l.fn.source);
   names : KeepsNames l.fn.names l.names;
-  of : IsOf g.M.Matcher.stands_for l.program.rules l.state;
+  of : IsOf g.M.Matcher.stands_for l.context.program.now.rules l.session.state;
+  kept : l.session ≡ record l.fn.session { state = l.session.state };
 }
 
 abbrev pub decreases-turns : goal.decreases-turns

@@ -1,5 +1,5 @@
 use Rattle.session.proofs.UnderWay.{started_is}
-use Rattle.session.proofs.session.started.Goals as goal
+use Rattle.session.proofs.session.start.Goals as goal
 
 pub returns-clause-begun : goal.returns-clause-begun
 returns-clause-begun g c = λ n z.

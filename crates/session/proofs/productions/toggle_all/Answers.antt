@@ -1,7 +1,7 @@
 use Rattle.std.proofs.Common.{◌∙◌, ap, sym, ◌+◌, drop}
 use Rattle.ops_meaning.specs.Running.{all_toggled, toggled}
 use Rattle.session.proofs.ProductionLemmas.{toggled_here}
-use Rattle.session.proofs.productions.all_toggled.Goals as goal
+use Rattle.session.proofs.productions.toggle_all.Goals as goal
 
 pub loop-name-preserved : goal.loop-name-preserved
 loop-name-preserved c =
