@@ -1,14 +1,21 @@
 use Rattle.std.proofs.Common.{◌≡◌, ◌+◌, ◌∙◌, ap, sym, Some}
 use Rattle.ops_base.specs.declared.rules.Inst.{Inst}
 use Rattle.ops_meaning.specs.Effects.{failure_as, of_ending}
-use Rattle.ops_meaning.specs.Running.{ended_in}
-use Rattle.ops_meaning.proofs.InletLemmas.{leaves_on, on_ok, fails_on, on_err}
-use Rattle.act_phase.specs.Outcomes.{failure_of}
+use Rattle.ops_meaning.specs.Running.{ended_in, firing}
+use Rattle.ops_meaning.proofs.EffectLemmas.{fails_short}
+use Rattle.ops_meaning.proofs.InletLemmas.{leaves_on, on_ok, fails_apart, fails_on, on_err}
+use Rattle.act_phase.specs.Outcomes.{failure_of, setting_of}
 use Rattle.act_phase.proofs.Asking.{quiet_side}
+use Rattle.cycle.specs.States.{state_course}
 use Rattle.session.proofs.runs.fire.Goals as goal
 
 same_some : (i j : Inst) → Some i ≡ Some j → i ≡ j
 same_some i j e = cc
+
+pub returns-then-firings-ge-UNREACHED-clause-performs : goal.returns-then-firings-ge-UNREACHED-clause-performs
+returns-then-firings-ge-UNREACHED-clause-performs g c i is =
+    on_err _ _ _ _ _ _ _ _ (fails_apart _ _ _ _ _ (λ z.
+    fails_short _ (firing (setting_of c.args.context.now.program.now c.args.session.watch) c.args.out.now.column i (state_course g.M.Matcher.stored c.args.session.state c.args.names.now z)) c.requires.whole))
 
 pub returns-in-Ok-clause-performs : goal.returns-in-Ok-clause-performs
 returns-in-Ok-clause-performs g c i is =
