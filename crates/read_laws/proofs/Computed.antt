@@ -33,7 +33,7 @@ terms = (refl, refl, refl, refl, refl, refl, refl)
 
 pub operations : OperationsMean
 unfolding reads token_at is_operator is_whole is_fraction is_variable decimal step ends goes
-operations = (refl, refl, refl, refl, refl, refl)
+operations = (refl, refl, refl, refl, refl, refl, refl)
 
 pub items : ItemsMean
 unfolding reads token_at is_operator is_whole is_fraction is_variable decimal step ends goes

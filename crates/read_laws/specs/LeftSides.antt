@@ -5,6 +5,7 @@ use Rattle.ops_base.specs.declared.conditions.Operand.{Operand}
 use Rattle.ops_base.specs.declared.conditions.Operand.TheVariants.{Constant, OneOf, Variable}
 use Rattle.ops_base.specs.declared.conditions.Part.{Part}
 use Rattle.ops_base.specs.declared.conditions.Part.TheVariants.{One, Group}
+use Rattle.ops_base.specs.declared.conditions.Test.{Test}
 use Rattle.ops_base.specs.declared.values.Pred.{Pred}
 use Rattle.ops_base.specs.declared.values.Pred.TheVariants.{Eq, Ne, Lt, Le, Gt, Ge, SameKind}
 use Rattle.ops_base.specs.declared.values.Value.TheVariants.{Symbol, Whole}
@@ -27,16 +28,21 @@ OperatorsMean =
 abbrev pub bare : ℕ → Bool → Condition
 bare class negated = record { class = class; negated = negated; tests = [] }
 
--- a negative number, a disjunction, a word that is taken literally, a variable that is bound and one that is compared
+-- a test of a field for the first variable
+abbrev pub at : ℕ → Bool → Test
+at field binds = record { field = field; pred = Eq; operand = Variable 0; binds = binds }
+
+-- A negative number, a disjunction, a symbol, an operator that is taken literally (the twelfth word of the text that
+-- becomes a symbol), and a variable, which is bound at its first place and compared at the second.
 abbrev pub OperandsMean : Type 0
 OperandsMean =
     (parts_of (codes "(a ^x -2)") ≡ tested Eq (Constant (Whole (negsuc 1))) false)
     × (parts_of (codes "(a ^x << 1 2 >>)") ≡ tested Eq (OneOf (Whole (pos 1) ∷ Whole (pos 2) ∷ [])) false)
     × (parts_of (codes "(a ^x nil)") ≡ tested Eq (Constant (Symbol (record { 0 = 0 }))) false)
-    × (parts_of (codes "(a ^x // nil)") ≡ tested Eq (Constant (Symbol (record { 0 = 0 }))) false)
-    × (parts_of (codes "(a ^x <n>)") ≡ tested Eq (Variable 0) true)
+    × (parts_of (codes "(a ^x // <)") ≡ tested Eq (Constant (Symbol (record { 0 = 12 }))) false)
+    × (parts_of (codes "(a ^x <n> ^y <n>)") ≡ One (record { class = 0; negated = false; tests = at 0 true ∷ at 1 false ∷ [] }) ∷ [])
 
--- a class alone, its second attribute, a negated condition and a group
+-- the one class and the other, a negated condition and a group
 abbrev pub PartsMean : Type 0
 PartsMean =
     (parts_of (codes "(a)") ≡ One (bare 0 false) ∷ [])

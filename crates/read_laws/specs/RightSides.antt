@@ -59,6 +59,7 @@ OperationsMean =
     × Computes (codes "7 * <n>") (applied Mul)
     × Computes (codes "7 // <n>") (applied Div)
     × Computes (codes "7 \\ <n>") (applied Rem)
+    × Computes (codes "7 \\\\ <n>") (applied Rem)
     × Computes (codes "7 * 7 - <n>") (apply Mul (number (pos 7)) (applied Sub))
 
 abbrev pub Prints : Text → List Item → Type 0
