@@ -168,6 +168,7 @@ module _ (m n : ℕ) (le : m ≤ n) where
   action_more (action.Bind v t) h = term_more t h
   action_more (action.Cbind c) h = refl
   action_more action.Halt h = refl
+  action_more (action.Build template holes) h = refl
 
   rule_more : (r : Rule) → rule_held m r ≡ true → rule_held n r ≡ true
   rule_more r h =
@@ -195,16 +196,21 @@ module _ (m n : ℕ) (le : m ≤ n) where
   command_more (command.Strategy set) h = refl
   command_more (command.Watch set) h = refl
   command_more (command.Pbreak names) h = all_weaken (symbol_held m) (symbol_held n) symbol_more names h
+  command_more (command.Add r) h = rule_more r h
+  command_more (command.Excise names) h = all_weaken (symbol_held m) (symbol_held n) symbol_more names h
+  command_more (command.Back count) h = refl
+  command_more (command.Matches names) h = all_weaken (symbol_held m) (symbol_held n) symbol_more names h
   command_more command.Exit h = refl
 
   pub rules_more : (rules : List Rule) → list_all (rule_held m) rules ≡ true → list_all (rule_held n) rules ≡ true
   rules_more rules h = all_weaken (rule_held m) (rule_held n) rule_more rules h
 
-  pub program_more : (classes : List Class) (rules : List Rule) (commands : List Command) → is_held m classes rules commands ≡ true → is_held n classes rules commands ≡ true
-  program_more classes rules commands h =
-      let whole = and_parts (list_all (class_held m) classes && list_all (rule_held m) rules) (list_all (command_held m) commands) h in
-      let front = and_parts (list_all (class_held m) classes) (list_all (rule_held m) rules) whole.0 in
-      and_from _ _ (and_from _ _ (all_weaken (class_held m) (class_held n) class_more classes front.0) (rules_more rules front.1))
+  pub program_more : (classes : List Class) (rules templates : List Rule) (commands : List Command) → is_held m classes rules templates commands ≡ true → is_held n classes rules templates commands ≡ true
+  program_more classes rules templates commands h =
+      let whole = and_parts (list_all (class_held m) classes && list_all (rule_held m) rules && list_all (rule_held m) templates) (list_all (command_held m) commands) h in
+      let middle = and_parts (list_all (class_held m) classes && list_all (rule_held m) rules) (list_all (rule_held m) templates) whole.0 in
+      let front = and_parts (list_all (class_held m) classes) (list_all (rule_held m) rules) middle.0 in
+      and_from _ _ (and_from _ _ (and_from _ _ (all_weaken (class_held m) (class_held n) class_more classes front.0) (rules_more rules front.1)) (rules_more templates middle.1))
       (all_weaken (command_held m) (command_held n) command_more commands whole.1)
 
 -- each symbol keeps its spelling, so that as many are held at least
@@ -223,15 +229,16 @@ keeps_as_many old new keeps = by (cases_lt (length new.held) (length old.held))
 pub holds_program : (old new : Spellings) (p : Program) → KeepsNames old new → HoldsProgram old p → HoldsProgram new p
 holds_program old new p keeps h =
     let le = keeps_as_many old new keeps in
-    record { nil = omega (arith, le, h.nil); symbols = program_more (length old.held) (length new.held) le p.classes p.rules p.commands h.symbols }
+    record { nil = omega (arith, le, h.nil); symbols = program_more (length old.held) (length new.held) le p.classes p.rules p.templates p.commands h.symbols }
 
 pub holds_elements : (old new : Spellings) (wm : List Element) → KeepsNames old new → HoldsElements old wm → HoldsElements new wm
 holds_elements old new wm keeps h = elements_more (length old.held) (length new.held) (keeps_as_many old new keeps) wm h
 
-pub rules_of_program : (n : ℕ) (p : Program) → is_held n p.classes p.rules p.commands ≡ true → list_all (rule_held n) p.rules ≡ true
+pub rules_of_program : (n : ℕ) (p : Program) → is_held n p.classes p.rules p.templates p.commands ≡ true → list_all (rule_held n) p.rules ≡ true
 rules_of_program n p h =
-    let whole = and_parts (list_all (class_held n) p.classes && list_all (rule_held n) p.rules) (list_all (command_held n) p.commands) h in
-    (and_parts (list_all (class_held n) p.classes) (list_all (rule_held n) p.rules) whole.0).1
+    let whole = and_parts (list_all (class_held n) p.classes && list_all (rule_held n) p.rules && list_all (rule_held n) p.templates) (list_all (command_held n) p.commands) h in
+    let front = and_parts (list_all (class_held n) p.classes && list_all (rule_held n) p.rules) (list_all (rule_held n) p.templates) whole.0 in
+    (and_parts (list_all (class_held n) p.classes) (list_all (rule_held n) p.rules) front.0).1
 
 -- ---- changes done
 

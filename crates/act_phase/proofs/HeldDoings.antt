@@ -426,6 +426,7 @@ module _ (n : ℕ) (some : 0 < n) where
     changes = p.changes;
   }
   action_done_held s column action.Halt d h p = record { more = p.more; bindings = p.bindings; cells = p.cells; changes = p.changes }
+  action_done_held s column (action.Build template holes) d h p = p
 
   actions_done_held : (s : Setting) (column k : ℕ) (actions : List Action) (d : ActState) → list_all (action_held n) actions ≡ true → Held d → MatchResult (actions_done s column k actions d).outcome Held Any
   actions_done_held s column k [] d h p = p

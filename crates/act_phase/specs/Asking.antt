@@ -1,5 +1,5 @@
 -- Where `accept` stands.
-use Rattle.std.specs.Prelude.{ℕ, List, Bool, true, false}
+use Rattle.std.specs.Prelude.{ℕ, List, Bool, true, false, ◌||◌}
 use Rattle.std.specs.List.{list_any}
 use Rattle.ops_base.specs.declared.actions.Term.{Term}
 use Rattle.ops_base.specs.declared.actions.Term.TheVariants as term
@@ -9,6 +9,8 @@ use Rattle.ops_base.specs.declared.actions.Item.TheVariants as item
 use Rattle.ops_base.specs.declared.actions.Action.{Action}
 use Rattle.ops_base.specs.declared.actions.Action.TheVariants as action
 use Rattle.ops_base.specs.declared.rules.Rule.{Rule}
+use Rattle.ops_base.specs.declared.commands.Command.{Command}
+use Rattle.ops_base.specs.declared.commands.Command.TheVariants as command
 use Rattle.ops_meaning.specs.Acting.{actions_of}
 
 -- the term is `accept`
@@ -31,12 +33,42 @@ action_asks (action.Make class puts) = list_any put_asks puts
 action_asks (action.Modify cell puts) = list_any put_asks puts
 action_asks (action.Write items) = list_any item_asks items
 action_asks (action.Bind variable t) = term_asks t
-action_asks _ = false
+action_asks (action.Remove cells) = false
+action_asks (action.Cbind cell) = false
+action_asks action.Halt = false
+action_asks (action.Build template holes) = false
 
 -- it stands in the right side of the production with this number
 abbrev pub right_side_asks : List Rule → ℕ → Bool
 right_side_asks rules n = list_any action_asks (actions_of rules n)
 
+-- it stands in the right side of the production
+abbrev pub rule_asks : Rule → Bool
+rule_asks r = list_any action_asks r.actions
+
 -- it stands in a right side of these productions
 abbrev pub program_asks : List Rule → Bool
-program_asks rules = list_any (λ r. list_any action_asks r.actions) rules
+program_asks rules = list_any rule_asks rules
+
+-- it stands in the right side of a production that the command adds
+abbrev pub command_asks : Command → Bool
+command_asks (command.Add r) = rule_asks r
+command_asks (command.Make class puts) = false
+command_asks (command.Remove tags) = false
+command_asks command.RemoveAll = false
+command_asks (command.Run count) = false
+command_asks (command.Wm tags) = false
+command_asks (command.Ppwm pattern) = false
+command_asks command.Cs = false
+command_asks (command.Pm names) = false
+command_asks (command.Strategy set) = false
+command_asks (command.Watch set) = false
+command_asks (command.Pbreak names) = false
+command_asks (command.Excise names) = false
+command_asks (command.Back count) = false
+command_asks (command.Matches names) = false
+command_asks command.Exit = false
+
+-- it stands in a right side of these productions, or of one that these commands add
+abbrev pub session_asks : List Rule → List Command → Bool
+session_asks rules commands = program_asks rules || list_any command_asks commands

@@ -21,7 +21,7 @@ change_held n (change.Remove tag) = true
 -- The names hold nil and each symbol of the program.
 pub record HoldsProgram (names : Spellings) (p : Program) : Type 0 where
   pub nil : 0 < length names.held
-  pub symbols : IsTrue (is_held (length names.held) p.classes p.rules p.commands)
+  pub symbols : IsTrue (is_held (length names.held) p.classes p.rules p.templates p.commands)
 
 -- They hold each symbol of working memory.
 abbrev pub HoldsElements : Spellings → List Element → Type 0

@@ -229,6 +229,8 @@ fn act_one<I: Source, K: Sink>(
             doing.halt();
             Ok(())
         }
+        // no text is read as one yet
+        Action::Build { .. } => Ok(()),
     }
 }
 

@@ -43,8 +43,8 @@ compiled links ends rules alphas old mid new b d f g = record {
   rights = has_rights mid new g;
 }
 
-pub all_valid : (classes : List Class) (rules : List Rule) (commands : List Command) (text : ℕ) → is_valid classes rules commands text ≡ true → AreValidRules rules
-all_valid classes rules commands text v k r at = valid_rules classes rules commands text k r v at
+pub all_valid : (classes : List Class) (rules templates : List Rule) (commands : List Command) (text : ℕ) → is_valid classes rules templates commands text ≡ true → AreValidRules rules
+all_valid classes rules templates commands text v k r at = valid_rules classes rules templates commands text k r v at
 
 pub compiled_sound : (rules : List Rule) (alphas : List Alpha) (nodes : List Node) → AreValidRules rules → IsCompiled rules alphas nodes → IsSound alphas nodes
 compiled_sound rules alphas nodes valid c = sound c.links c.ends alphas nodes rules valid c.built c.draft c.children c.rights

@@ -111,7 +111,13 @@ fn first_and_second(alloc: Global) -> Result<Program, OutOfMemory> {
     let first = rule(alloc, 2, [Part::One(any(alloc, 0))], 1, 0, 1)?;
     let second = rule(alloc, 3, [Part::One(any(alloc, 0))], 1, 0, 1)?;
     let rules = Listed::from_array(alloc, [first, second])?;
-    Ok(Program::new(classes, rules, Listed::new(alloc), Listed::new(alloc)))
+    Ok(Program::new(
+        classes,
+        rules,
+        Listed::new(alloc),
+        Listed::new(alloc),
+        Listed::new(alloc),
+    ))
 }
 
 /// `(literalize a) (p lone (a) - { (a) (a) } --> )`
@@ -119,7 +125,13 @@ fn lone(alloc: Global) -> Result<Program, OutOfMemory> {
     let classes = Listed::from_array(alloc, [class(alloc, 1, [])?])?;
     let parts = [Part::One(any(alloc, 0)), pair(alloc, 0, 0)?];
     let rules = Listed::from_array(alloc, [rule(alloc, 2, parts, 3, 0, 1)?])?;
-    Ok(Program::new(classes, rules, Listed::new(alloc), Listed::new(alloc)))
+    Ok(Program::new(
+        classes,
+        rules,
+        Listed::new(alloc),
+        Listed::new(alloc),
+        Listed::new(alloc),
+    ))
 }
 
 /// `(literalize job id) (literalize part job state)`
@@ -136,7 +148,13 @@ fn ready(alloc: Global) -> Result<Program, OutOfMemory> {
     let members = Listed::from_array(alloc, [some_state, other_state])?;
     let parts = [Part::One(of_job), Part::Group(members)];
     let rules = Listed::from_array(alloc, [rule(alloc, 6, parts, 6, 2, 1)?])?;
-    Ok(Program::new(classes, rules, Listed::new(alloc), Listed::new(alloc)))
+    Ok(Program::new(
+        classes,
+        rules,
+        Listed::new(alloc),
+        Listed::new(alloc),
+        Listed::new(alloc),
+    ))
 }
 
 /// `(literalize a) (literalize b)`
@@ -158,7 +176,13 @@ fn same_groups(alloc: Global) -> Result<Program, OutOfMemory> {
     let parts = [Part::One(any(alloc, 0)), other, Part::One(any(alloc, 1))];
     let second = rule(alloc, 4, parts, 4, 0, 2)?;
     let rules = Listed::from_array(alloc, [first, second])?;
-    Ok(Program::new(classes, rules, Listed::new(alloc), Listed::new(alloc)))
+    Ok(Program::new(
+        classes,
+        rules,
+        Listed::new(alloc),
+        Listed::new(alloc),
+        Listed::new(alloc),
+    ))
 }
 
 /// `(p first (a) - { (a) (b) } --> ) (p second (a) - { (a) (a) } --> )`
@@ -169,7 +193,13 @@ fn other_groups(alloc: Global) -> Result<Program, OutOfMemory> {
     let other = pair(alloc, 0, 0)?;
     let second = rule(alloc, 4, [Part::One(any(alloc, 0)), other], 3, 0, 1)?;
     let rules = Listed::from_array(alloc, [first, second])?;
-    Ok(Program::new(classes, rules, Listed::new(alloc), Listed::new(alloc)))
+    Ok(Program::new(
+        classes,
+        rules,
+        Listed::new(alloc),
+        Listed::new(alloc),
+        Listed::new(alloc),
+    ))
 }
 
 /// `(p first (a) - { (a) (b) } --> ) (p second (a) (a) --> )`
@@ -180,7 +210,13 @@ fn member_and_condition(alloc: Global) -> Result<Program, OutOfMemory> {
     let parts = [Part::One(any(alloc, 0)), Part::One(any(alloc, 0))];
     let second = rule(alloc, 4, parts, 2, 0, 2)?;
     let rules = Listed::from_array(alloc, [first, second])?;
-    Ok(Program::new(classes, rules, Listed::new(alloc), Listed::new(alloc)))
+    Ok(Program::new(
+        classes,
+        rules,
+        Listed::new(alloc),
+        Listed::new(alloc),
+        Listed::new(alloc),
+    ))
 }
 
 /// `(p after (a) - (b) - { (a) (b) } --> )`
@@ -191,11 +227,18 @@ fn after_negated(alloc: Global) -> Result<Program, OutOfMemory> {
     let parts = [Part::One(any(alloc, 0)), Part::One(absent), group];
     let after = rule(alloc, 3, parts, 4, 0, 1)?;
     let rules = Listed::from_array(alloc, [after])?;
-    Ok(Program::new(classes, rules, Listed::new(alloc), Listed::new(alloc)))
+    Ok(Program::new(
+        classes,
+        rules,
+        Listed::new(alloc),
+        Listed::new(alloc),
+        Listed::new(alloc),
+    ))
 }
 
 fn nothing(alloc: Global) -> Program {
     Program::new(
+        Listed::new(alloc),
         Listed::new(alloc),
         Listed::new(alloc),
         Listed::new(alloc),

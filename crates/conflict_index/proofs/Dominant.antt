@@ -113,7 +113,7 @@ waiting_is strategy es fired spare k =
           | inr d ↦ absurd (false≢true (sym (ap (λ (w : Member). not w.fired) d.2) ∙ f.1))
         ]
 
-apart_insts : (strategy : Strategy) (waiting : List Entry) (fired : List Mark) (spare : ℕ) → IsKept strategy waiting fired spare → (es : List Entry) → ((e : Entry) → IsMember e es → IsMember e waiting) → AllBefore EntryBefore es
+pub apart_insts : (strategy : Strategy) (waiting : List Entry) (fired : List Mark) (spare : ℕ) → IsKept strategy waiting fired spare → (es : List Entry) → ((e : Entry) → IsMember e es → IsMember e waiting) → AllBefore EntryBefore es
     → AllBefore (λ (m n : Member). m.inst ≢ n.inst) (map held_member es)
 apart_insts strategy waiting fired spare k [] there a = tt
 apart_insts strategy waiting fired spare k (e ∷ es) there a = (first, apart_insts strategy waiting fired spare k es (λ d h. there d (inr h)) a.1)

@@ -9,4 +9,8 @@ pub mod Restoring
 pub mod Applying
 pub mod Marking
 pub mod Dominant
+pub mod Adding
+pub mod Looking
+pub mod Restored
+pub mod Copying
 pub mod Selected

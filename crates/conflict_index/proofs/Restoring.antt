@@ -33,7 +33,7 @@ not_false : (b : Bool) → not b ≡ true → b ≡ false
 not_false true e = cc
 not_false false e = λ i. false
 
-decided_false : (b : Bool) (P : Type 0) → Decides b P → (P → ⊥) → b ≡ false
+pub decided_false : (b : Bool) (P : Type 0) → Decides b P → (P → ⊥) → b ≡ false
 decided_false true P d h = absurd (h (d.0 (λ i. true)))
 decided_false false P d h = λ i. false
 

@@ -30,6 +30,10 @@ insts_of members = map (λ m. m.inst) members
 abbrev pub waiting : List Member → List Member
 waiting members = filter (λ m. not m.fired) members
 
+-- those that are marked as fired
+abbrev pub fired_of : List Member → List Inst
+fired_of members = insts_of (filter (λ m. m.fired) members)
+
 -- the key of an instantiation whose production has this specificity
 abbrev pub key_with : Inst → ℕ → Key
 key_with i specificity = record {

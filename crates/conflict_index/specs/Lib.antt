@@ -2,6 +2,7 @@
 pub mod Indexed
 pub mod Applying
 pub mod Selecting
+pub mod Marks
 pub mod Rank
 pub mod Ranking
 pub mod Keeping

@@ -1,13 +1,15 @@
 //! The index of the conflict set.
-ghost use Rattle.std.specs.Prelude.{◌≡◌, ◌≤◌, ℕ, List, [], length, slice_get, MatchOption, OnOk, OnErr, Contains};
+ghost use Rattle.std.specs.Prelude.{◌≡◌, ◌≤◌, ℕ, List, [], length, slice_get, MatchOption, OnOk, OnErr, Contains, IfOk};
 ghost use Rattle.std.specs.Option.{option_copied};
 ghost use Rattle.ops_base.specs.declared.rules.Rule.{Rule};
 ghost use Rattle.ops_base.specs.Instances.{IsInOrder, AreOf};
-ghost use Rattle.ops_base.specs.Refraction.{dominant};
-ghost use Rattle.conflict_index.specs.Indexed.{Indexed, nothing_indexed, insts_of, waiting, KeepsSpecificities};
+ghost use Rattle.ops_base.specs.Refraction.{dominant, still_fired};
+ghost use Rattle.conflict_index.specs.Indexed.{Indexed, nothing_indexed, insts_of, fired_of, waiting, KeepsSpecificities};
 ghost use Rattle.conflict_index.specs.Applying.{IsApplied, IsPart, IsApart, marked};
+ghost use Rattle.conflict_index.specs.Marks.{members_with};
 ghost use Rattle.conflict_index.specs.Selecting.{IsFirst, IsAt};
 
+use crate::marks::{in_order, marked, with_marks};
 use crate::order::ByDominance;
 use crate::rank::Rank;
 use crate::standing::{
@@ -127,6 +129,44 @@ impl Index {
         self.waiting = ranked_anew(self.alloc, strategy, &self.waiting)?;
         self.strategy = strategy;
         Ok(())
+    }
+
+    /// Copies of those that are marked, in the order of production and tags. It goes over all members, and sorts those
+    /// that are marked.
+    pub fn marks(&self, alloc: Global) -> Result<Vec<Inst>, OutOfMemory>
+        ensures marks { IfOk result (λ v. v.items ≡ fired_of self.now.members) }
+        ensures in_order { IfOk result (λ v. IsInOrder v.items) }
+    {
+        Ok(in_order(marked(alloc, &self.waiting, &self.fired)?))
+    }
+
+    /// The index of these instantiations, of which those are marked that are among the marks; a mark that is none of
+    /// them is left out. Both stand in the order of production and tags. It costs what `apply` costs for what comes, and
+    /// one look at each mark.
+    pub fn with_marks(
+        alloc: Global,
+        strategy: Strategy,
+        program: &Program,
+        come: &[Inst],
+        marks: &[Inst],
+    ) -> Result<Index, OutOfMemory>
+        requires come { AreOf program.now.rules come.now }
+        requires come_in_order { IsInOrder come.now }
+        requires marks_in_order { IsInOrder marks.now }
+        ensures strategy { IfOk result (λ x. x.strategy ≡ strategy) }
+        ensures members { IfOk result (λ x. x.members ≡ members_with program.now.rules marks.now come.now) }
+        ensures insts { IfOk result (λ x. insts_of x.members ≡ come.now) }
+        ensures kept { IfOk result (λ x. KeepsSpecificities program.now.rules x.members) }
+        ensures marks { IfOk result (λ x. fired_of x.members ≡ still_fired come.now marks.now) }
+    {
+        let (waiting, fired) = with_marks(alloc, strategy, program, come, marks)?;
+        Ok(Index {
+            alloc,
+            strategy,
+            waiting,
+            fired,
+            leaving: Vec::new(alloc),
+        })
     }
 
     /// The dominant one of those that have not fired. Takes no memory, and a time that grows with the logarithm of

@@ -4,6 +4,7 @@
 
 mod index;
 mod laws;
+mod marks;
 mod order;
 mod rank;
 mod standing;

@@ -40,7 +40,7 @@ fn is_among(insts: &[Inst], inst: &Inst) -> bool
     insts.iter().any(|other| is_same(inst, other))
 }
 
-fn rank_of(
+pub(crate) fn rank_of(
     alloc: Global,
     strategy: Strategy,
     program: &Program,

@@ -20,7 +20,7 @@ use Rattle.ops_io.proofs.ComingLemmas.{took_nothing}
 use Rattle.ops_meaning.specs.Acting.{Setting, Acted as Meant, Misdeed, acted}
 use Rattle.ops_meaning.specs.Effects.{Effect, led_by, told_as, Failure, failure_as, PerformsOn}
 use Rattle.ops_meaning.specs.Kept.{WellKept, IsLawfulOver}
-use Rattle.ops_meaning.specs.Layout.{firing_bytes}
+use Rattle.ops_meaning.specs.Layout.{firing_bytes, rule_name}
 use Rattle.ops_meaning.specs.Running.{Course, Turned, given_by, phase_by, turned_of, ended_in, firing}
 use Rattle.ops_meaning.proofs.Doings.{ok_goes, EndsActions, KeptActed, acted_kept}
 use Rattle.ops_meaning.proofs.EffectLemmas.{Leaves, told_leaves, told_fails, fails_stopped}
@@ -30,9 +30,9 @@ use Rattle.act_phase.specs.declared.outcome.Acted.{Acted}
 use Rattle.act_phase.specs.declared.outcome.ActFault.{ActFault}
 use Rattle.act_phase.specs.declared.outcome.ActFault.TheVariants as fault
 use Rattle.work_store.specs.Stored.{Stored}
-use Rattle.conflict_index.specs.Indexed.{insts_of}
+use Rattle.conflict_index.specs.Indexed.{insts_of, fired_of}
 use Rattle.conflict_index.specs.Applying.{marked as marked_members}
-use Rattle.cycle.specs.States.{Held, state_course, fired_of}
+use Rattle.cycle.specs.States.{Held, state_course}
 use Rattle.cycle.proofs.Marks.{marked_fired}
 
 -- what was copied is what fires next
@@ -65,10 +65,10 @@ module _ {M : Type 0} (stored : M → Stored) (s : Setting) (column : ℕ) (i : 
 
   -- a firing, after its line
   abbrev fires_of : Coming → Effect Ending Turned
-  fires_of z = told_as (turned_of s.rules i (state_course stored h names z)) (ended_in (h.firings + 1) i.rule) (acts z)
+  fires_of z = told_as (turned_of s.rules i (state_course stored h names z)) (ended_in (h.firings + 1) i.rule (rule_name s.rules i.rule)) (acts z)
 
   abbrev ends : ActFault → Failure Ending
-  ends f = failure_as (ended_in (h.firings + 1) i.rule) (failure_of f)
+  ends f = failure_as (ended_in (h.firings + 1) i.rule (rule_name s.rules i.rule)) (failure_of f)
 
   -- it is marked, and one firing more is counted
   abbrev marked_state : Held M
@@ -117,7 +117,7 @@ module _ {M : Type 0} (stored : M → Stored) (s : Setting) (column : ℕ) (i : 
           ∙ sym (phase z) in
           let turned : Course → Turned = λ k. record { course = k; halted = y.halted } in
           let P : Turned → Type 0 = λ t. Leaves t a b (fires_of w) in
-          subst P (ap turned ended) (told_leaves (turned_of s.rules i (state_course stored h names w)) (ended_in (h.firings + 1) i.rule) x a b (acts w) left)
+          subst P (ap turned ended) (told_leaves (turned_of s.rules i (state_course stored h names w)) (ended_in (h.firings + 1) i.rule (rule_name s.rules i.rule)) x a b (acts w) left)
 
   module _ {p q : Inlet} {a b : Port} (x : Stored) (held : x ≡ stored h.matcher) (w : Inst) (is : w ≡ i) (tag : ℕ) (next_tag : tag ≡ (stored h.matcher).last + 1) (new : Spellings) where
     -- what was done over these is what is to be done
@@ -137,7 +137,7 @@ module _ {M : Type 0} (stored : M → Stored) (s : Setting) (column : ℕ) (i : 
         on_err view ends f p q a b fires_of (record {
           taken = left.taken;
           took = left.took;
-          fails = λ z after. told_fails (turned_of s.rules i (state_course stored h names (preceded_by left.taken z))) (ended_in (h.firings + 1) i.rule) (failure_of f) a b
+          fails = λ z after. told_fails (turned_of s.rules i (state_course stored h names (preceded_by left.taken z))) (ended_in (h.firings + 1) i.rule (rule_name s.rules i.rule)) (failure_of f) a b
               (acts (preceded_by left.taken z)) (left.fails z after);
         })
 
@@ -172,7 +172,7 @@ module _ {M : Type 0} (stored : M → Stored) (s : Setting) (i : Inst) (h : Held
   line_of column number w = firing_bytes s.watch column names s.rules number w
 
   abbrev ends_so : ActFault → Failure Ending
-  ends_so f = failure_as (ended_in (h.firings + 1) i.rule) (failure_of f)
+  ends_so f = failure_as (ended_in (h.firings + 1) i.rule (rule_name s.rules i.rule)) (failure_of f)
 
   -- the line of what was copied is that of what fires next
   line_is : (column number : ℕ) (w : Inst) → number ≡ h.firings + 1 → w ≡ i → line_of column number w ≡ line_of column (h.firings + 1) i

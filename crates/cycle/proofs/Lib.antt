@@ -1,4 +1,5 @@
 pub mod Stores
+mod Above
 mod Members
 pub mod HeldAfter
 pub mod Marks

@@ -16,10 +16,10 @@ use Rattle.ops_base.proofs.InOrder.{AllBefore, before_from_all_pairs}
 use Rattle.ops_base.proofs.Filtered.{filter_member, member-filter, all_before-filter}
 use Rattle.ops_base.proofs.ConflictSetLaws.{same_members}
 use Rattle.ops_base.proofs.RefractionLaws.{is_same_inst-Decides, member-unfired}
-use Rattle.conflict_index.specs.Indexed.{Member, insts_of, waiting, KeepsSpecificities}
+use Rattle.conflict_index.specs.Indexed.{Member, insts_of, fired_of, waiting, KeepsSpecificities}
 use Rattle.conflict_index.specs.Applying.{marked}
 use Rattle.work_store.specs.Stored.{Stored}
-use Rattle.cycle.specs.States.{fired_of, Agree}
+use Rattle.cycle.specs.States.{Agree}
 use Rattle.cycle.proofs.Members.{insts_before-filter, one_member}
 
 -- a member that is marked, for each instantiation that is
@@ -175,5 +175,6 @@ marked_agree stored found stands_for i ms ns is p =
       same = λ j. let P : List Inst → Type 0 = λ w. Contains w j ↔ Contains found j in subst P e (p.same j);
       in_order = let P : List Inst → Type 0 = IsInOrder in subst P e p.in_order;
       well = p.well;
+      above = p.above;
       set = p.set;
     }

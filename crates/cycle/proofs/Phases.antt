@@ -22,9 +22,9 @@ use Rattle.ops_meaning.specs.Kept.{WellKept}
 use Rattle.ops_meaning.specs.Running.{Course, next_to_fire, phase_by}
 use Rattle.work_store.specs.Settling.{IsSettled}
 use Rattle.work_store.specs.Stored.{Stored}
-use Rattle.conflict_index.specs.Indexed.{Member, Indexed, insts_of, waiting, KeepsSpecificities}
+use Rattle.conflict_index.specs.Indexed.{Member, Indexed, insts_of, fired_of, waiting, KeepsSpecificities}
 use Rattle.conflict_index.specs.Applying.{newcomer, Stays, Comes, IsApplied, IsPart, IsApart}
-use Rattle.cycle.specs.States.{Held, Agree, fired_of, state_course}
+use Rattle.cycle.specs.States.{Held, Agree, state_course}
 use Rattle.cycle.proofs.Members.{insts_before-filter, members_computed, set_of, part_of}
 use Rattle.cycle.proofs.Marks.{fired_member, member_fired, inst_member, member_inst, waiting_are}
 

@@ -2,7 +2,9 @@
 //! another.
 #![tactic(auto)]
 
+mod maker;
 mod slot;
 mod state;
 
+pub use maker::{Maker, made_over};
 pub use state::State;

@@ -1,17 +1,17 @@
 //! A state of the cycle, its phases and its firings.
-ghost use Rattle.std.specs.Prelude.{◌≡◌, ◌↔◌, ◌<◌, ◌+◌, ◌^◌, List, [], true, false, Some, IsSome, IsTrue, Contains, MatchOption, OnOk, OnErr, IfOk, IfErr};
+ghost use Rattle.std.specs.Prelude.{◌≡◌, ◌↔◌, ◌<◌, ◌+◌, ◌^◌, List, [], true, false, Some, IsSome, IsTrue, All, Contains, MatchOption, OnOk, OnErr, IfOk, IfErr};
 ghost use Rattle.std.specs.Option.{option_copied};
 ghost use Rattle.ops_base.specs.declared.rules.Inst.{Inst};
 ghost use Rattle.ops_base.specs.declared.rules.Rule.{Rule};
 ghost use Rattle.ops_base.specs.ConflictSet.{conflict_set};
 ghost use Rattle.ops_base.specs.Instances.{IsConflictSet};
 ghost use Rattle.ops_base.specs.Names.{Spellings};
-ghost use Rattle.ops_base.specs.WorkingMemory.{Lawful, done, last_after};
+ghost use Rattle.ops_base.specs.WorkingMemory.{Lawful, done, last_after, tags_of};
 ghost use Rattle.ops_io.specs.Coming.{Coming, inlet};
 ghost use Rattle.ops_io.specs.Ports.{port, PutsBytes};
 ghost use Rattle.ops_meaning.specs.Effects.{PerformsOn, CountsReads, failure_as};
 ghost use Rattle.ops_meaning.specs.Kept.{KeepsNames, WellKept};
-ghost use Rattle.ops_meaning.specs.Layout.{firing_bytes};
+ghost use Rattle.ops_meaning.specs.Layout.{firing_bytes, rule_name};
 ghost use Rattle.ops_meaning.specs.Running.{ended_in, firing, next_to_fire, nothing_yet, phase_by};
 ghost use Rattle.work_store.specs.Settling.{IsSettled};
 ghost use Rattle.act_phase.specs.Asking.{right_side_asks};
@@ -130,7 +130,8 @@ fn settled_by<M: Matcher, H: Fn(M, &[Change]) -> Result<Settled<M>, OutOfMemory>
 impl<M: Matcher> State<M> {
     /// These as one state.
     fn of(matcher: Slot<M>, index: Box<Index>, firings: u64) -> State<M>
-        requires { (i : Inst) → Contains (insts_of index.value.members) i ↔ Contains (M.found matcher) i }
+        requires same { (i : Inst) → Contains (insts_of index.value.members) i ↔ Contains (M.found matcher) i }
+        requires above { All (λ t. 0 < t) (tags_of (M.stored matcher).elements) }
         ensures { result ≡ record { matcher = matcher; index = index.value; firings = firings } }
     {
         // the two are looked at for what they keep true
@@ -160,6 +161,22 @@ impl<M: Matcher> State<M> {
         Ok(State::of(matcher, index, 0))
     }
 
+    /// A state with this matcher, whose conflict set the index has. Takes memory for the places of both.
+    pub fn adopt(
+        alloc: Global,
+        matcher: M,
+        index: Index,
+        firings: u64,
+    ) -> Result<State<M>, OutOfMemory>
+        requires same { (i : Inst) → Contains (insts_of index.members) i ↔ Contains (M.found matcher) i }
+        requires above { All (λ t. 0 < t) (tags_of (M.stored matcher).elements) }
+        ensures { IfOk result (λ s. s ≡ record { matcher = matcher; index = index; firings = firings }) }
+    {
+        let matcher = Slot::new(alloc, matcher)?;
+        let index = Box::new(alloc, index)?;
+        Ok(State::of(matcher, index, firings))
+    }
+
     /// Working memory.
     pub fn store(&self) -> &Store
         ensures { result.now ≡ M.stored self.now.matcher }
@@ -187,6 +204,7 @@ impl<M: Matcher> State<M> {
     pub fn last_tag(&self) -> u64
         ensures last { result ≡ (M.stored self.now.matcher).last }
         ensures kept { WellKept (M.stored self.now.matcher).elements (M.stored self.now.matcher).last }
+        ensures above { All (λ t. 0 < t) (tags_of (M.stored self.now.matcher).elements) }
     {
         last_of(&self.matcher)
     }
@@ -280,7 +298,7 @@ impl<M: Matcher> State<M> {
         requires next { IsSome (next_to_fire program.now.rules (alone M.stored self)) }
         ensures performs { (i : Inst) → next_to_fire program.now.rules (alone M.stored self) ≡ Some i
             → PerformsOn (λ r c. record { course = state_course M.stored r.0 names.new c; halted = r.1 })
-            (λ f. failure_as (ended_in (self.firings + 1) i.rule) (failure_of f)) result
+            (λ f. failure_as (ended_in (self.firings + 1) i.rule (rule_name program.now.rules i.rule)) (failure_of f)) result
             (inlet input.old (I.left source.old) (I.faults source.old))
             (inlet input.new (I.left source.new) (I.faults source.new))
             (port (K.taken sink.old) (K.faults sink.old) out.old)

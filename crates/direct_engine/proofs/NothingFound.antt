@@ -1,6 +1,6 @@
 -- Where no element is present, a valid program has no instantiation.
 use Rattle.std.proofs.Common.{◌≡◌, ℕ, zero, suc, List, [], ◌∷◌, Bool, true, false, not, Some, None, refl, ap, sym, ◌∙◌, inl}
-use Rattle.std.specs.Prelude.{IsTrue, ◌&&◌, nat_le, map, slice_get, Contains}
+use Rattle.std.specs.Prelude.{IsTrue, ◌&&◌, nat_le, length, map, slice_get, Contains}
 use Rattle.std.specs.Bool.{MatchBool}
 use Rattle.std.specs.List.{list_all}
 use Rattle.std.proofs.lemmas.Bool.{and_parts}
@@ -14,7 +14,7 @@ use Rattle.ops_base.specs.declared.rules.Inst.{Inst}
 use Rattle.ops_base.specs.declared.commands.Command.{Command}
 use Rattle.ops_base.specs.Matching.{match_of}
 use Rattle.ops_base.specs.Instances.{Meets, IsInst, IsConflictSet}
-use Rattle.ops_base.specs.Valid.{longest_list, fits, are_distinct, is_valid, class_is_valid, rule_is_valid, command_is_valid, first_is_positive}
+use Rattle.ops_base.specs.Valid.{longest_list, fits, are_distinct, is_valid, class_is_valid, rule_is_valid, template_is_valid, command_is_valid, rule_builds_from, command_builds_from, first_is_positive}
 use Rattle.ops_base.proofs.Members.{contains_from_member, member_from_contains}
 
 -- a positive condition is met by no element
@@ -37,14 +37,17 @@ passes_at p (s ∷ rules) zero r all there =
     let same : s ≡ r = cc in ap p (sym same) ∙ (and_parts (p s) (list_all p rules) all).0
 passes_at p (s ∷ rules) (suc n) r all there = passes_at p rules n r (and_parts (p s) (list_all p rules) all).1 there
 
-fourth_last : (front part a b c : Bool) → (front && part && a && b && c) ≡ true → part ≡ true
-fourth_last front part a b c h =
-    (and_parts front part (and_parts (front && part) a (and_parts (front && part && a) b (and_parts (front && part && a && b) c h).0).0).0).1
+-- the part before the last six
+before_six : (front part a b c d e f : Bool) → (front && part && a && b && c && d && e && f) ≡ true → part ≡ true
+before_six front part a b c d e f h =
+    let third = (and_parts (front && part && a && b && c) d (and_parts (front && part && a && b && c && d) e (and_parts (front && part && a && b && c && d && e) f h).0).0).0 in
+    (and_parts front part (and_parts (front && part) a (and_parts (front && part && a) b (and_parts (front && part && a && b) c third).0).0).0).1
 
-rules_valid : (classes : List Class) (rules : List Rule) (commands : List Command) (text : ℕ) → IsTrue (is_valid classes rules commands text) → list_all (rule_is_valid classes text) rules ≡ true
-rules_valid classes rules commands text valid =
-    fourth_last (fits classes && fits rules && fits commands && nat_le text longest_list && list_all class_is_valid classes)
-    (list_all (rule_is_valid classes text) rules) (list_all (command_is_valid classes) commands)
+rules_valid : (classes : List Class) (rules templates : List Rule) (commands : List Command) (text : ℕ) → IsTrue (is_valid classes rules templates commands text) → list_all (rule_is_valid classes text) rules ≡ true
+rules_valid classes rules templates commands text valid =
+    before_six (fits classes && fits commands && nat_le text longest_list && list_all class_is_valid classes)
+    (list_all (rule_is_valid classes text) rules) (list_all (template_is_valid classes text) templates) (list_all (command_is_valid classes text) commands)
+    (list_all (rule_builds_from (length templates)) rules) (list_all (command_builds_from (length templates)) commands)
     (are_distinct (map (λ c. c.name.0) classes)) (are_distinct (map (λ r. r.name.0) rules)) valid
 
 begins_positive : (classes : List Class) (text : ℕ) (r : Rule) → rule_is_valid classes text r ≡ true → first_is_positive r.conditions ≡ true
@@ -54,13 +57,13 @@ begins_positive classes text r valid = by (first_is_positive r.conditions) refl
     by true e = e
     by false e = let none = rw e at valid in cc
 
-no_inst : (classes : List Class) (rules : List Rule) (commands : List Command) (text : ℕ) (i : Inst) → IsTrue (is_valid classes rules commands text) → IsInst rules [] i → ⊥
-no_inst classes rules commands text i valid is =
-    let rule = passes_at (rule_is_valid classes text) rules i.rule is.0 (rules_valid classes rules commands text valid) is.1 in
+no_inst : (classes : List Class) (rules templates : List Rule) (commands : List Command) (text : ℕ) (i : Inst) → IsTrue (is_valid classes rules templates commands text) → IsInst rules [] i → ⊥
+no_inst classes rules templates commands text i valid is =
+    let rule = passes_at (rule_is_valid classes text) rules i.rule is.0 (rules_valid classes rules templates commands text valid) is.1 in
     first_not_met is.0.conditions i.tags (begins_positive classes text is.0 rule) is.2
 
-pub nothing_found : (classes : List Class) (rules : List Rule) (commands : List Command) (text : ℕ) (found : List Inst) → IsTrue (is_valid classes rules commands text)
+pub nothing_found : (classes : List Class) (rules templates : List Rule) (commands : List Command) (text : ℕ) (found : List Inst) → IsTrue (is_valid classes rules templates commands text)
     → IsConflictSet rules [] found → found ≡ []
-nothing_found classes rules commands text [] valid is = refl
-nothing_found classes rules commands text (i ∷ found) valid is =
-    absurd (no_inst classes rules commands text i valid (is.sound i (contains_from_member i (i ∷ found) (inl refl))))
+nothing_found classes rules templates commands text [] valid is = refl
+nothing_found classes rules templates commands text (i ∷ found) valid is =
+    absurd (no_inst classes rules templates commands text i valid (is.sound i (contains_from_member i (i ∷ found) (inl refl))))

@@ -56,16 +56,7 @@ impl<G> Model for FreeEngine<G> {
     ghost invariant = { λ e. CanSettle e.parts.value.net e.parts.value.store e.parts.value.world e.parts.value.sharing.workers };
 }
 
-impl<G: Gate + Drop> FreeEngine<G> {
-    ghost use Rattle.std.specs.Prelude.{List};
-    ghost use Rattle.ops_base.specs.declared.rules.Rule.{Rule};
-    ghost use Rattle.ops_base.specs.WorkingMemory.{Lawful, done, last_after};
-    ghost use Rattle.work_store.specs.Settling.{IsSettled};
-    ghost use Rattle.work_store.specs.Stored.{HoldsAlso, added_by};
-    ghost use Rattle.net_base.specs.Network.{NetOf};
-    ghost use Rattle.step_core.specs.Phases.{IsBundle};
-    ghost use Rattle.step_core.specs.Found.{found_over};
-
+impl<G: Drop> FreeEngine<G> {
     /// An engine over the network with this many lines and workers. Nothing is stored. It makes each line and looks at
     /// each node, takes memory for its own place, and starts no thread.
     pub fn new(
@@ -99,6 +90,17 @@ impl<G: Gate + Drop> FreeEngine<G> {
         let parts = Box::new(alloc, parts)?;
         Ok(FreeEngine { parts })
     }
+}
+
+impl<G: Gate + Drop> FreeEngine<G> {
+    ghost use Rattle.std.specs.Prelude.{List};
+    ghost use Rattle.ops_base.specs.declared.rules.Rule.{Rule};
+    ghost use Rattle.ops_base.specs.WorkingMemory.{Lawful, done, last_after};
+    ghost use Rattle.work_store.specs.Settling.{IsSettled};
+    ghost use Rattle.work_store.specs.Stored.{HoldsAlso, added_by};
+    ghost use Rattle.net_base.specs.Network.{NetOf};
+    ghost use Rattle.step_core.specs.Phases.{IsBundle};
+    ghost use Rattle.step_core.specs.Found.{found_over};
 
     /// The network. Takes no memory.
     pub fn net(&self) -> &Net

@@ -129,6 +129,7 @@ valid_rule classes text r v =
       positive = left_of _ _ (left_of _ _ third);
     }
 
-pub valid_rules : (classes : List Class) (rules : List Rule) (commands : List Command) (text k : ℕ) (r : Rule) → is_valid classes rules commands text ≡ true → slice_get rules k ≡ Some r → IsValidRule r
-valid_rules classes rules commands text k r v at =
-    valid_rule classes text r (each_holds (rule_is_valid classes text) rules k r (right_of _ _ (left_of _ _ (left_of _ _ (left_of _ _ v)))) at)
+pub valid_rules : (classes : List Class) (rules templates : List Rule) (commands : List Command) (text k : ℕ) (r : Rule) → is_valid classes rules templates commands text ≡ true → slice_get rules k ≡ Some r → IsValidRule r
+valid_rules classes rules templates commands text k r v at =
+    let seventh = left_of _ _ (left_of _ _ (left_of _ _ (left_of _ _ v))) in
+    valid_rule classes text r (each_holds (rule_is_valid classes text) rules k r (right_of _ _ (left_of _ _ (left_of _ _ seventh))) at)

@@ -5,6 +5,9 @@ pub mod Instances
 pub mod ConflictSet
 pub mod Dominance
 pub mod Refraction
+pub mod Live
+pub mod Feeding
+pub mod Filling
 pub mod Expression
 pub mod ExpressionCode
 pub mod Valid

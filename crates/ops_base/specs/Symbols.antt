@@ -61,7 +61,10 @@ action_held n (action.Make c puts) = list_all (put_held n) puts
 action_held n (action.Modify c puts) = list_all (put_held n) puts
 action_held n (action.Write items) = list_all (item_held n) items
 action_held n (action.Bind v t) = term_held n t
-action_held n _ = true
+action_held n (action.Remove cells) = true
+action_held n (action.Cbind cell) = true
+action_held n action.Halt = true
+action_held n (action.Build template holes) = true
 
 abbrev pub rule_held : ℕ → Rule → Bool
 rule_held n r = symbol_held n r.name && list_all (part_held n) r.conditions && list_all (action_held n) r.actions
@@ -79,8 +82,20 @@ command_held n (command.Make c puts) = list_all (fixed_held n) puts
 command_held n (command.Ppwm p) = pattern_held n p
 command_held n (command.Pm names) = list_all (symbol_held n) names
 command_held n (command.Pbreak names) = list_all (symbol_held n) names
-command_held n _ = true
+command_held n (command.Add r) = rule_held n r
+command_held n (command.Excise names) = list_all (symbol_held n) names
+command_held n (command.Matches names) = list_all (symbol_held n) names
+command_held n (command.Remove tags) = true
+command_held n command.RemoveAll = true
+command_held n (command.Run count) = true
+command_held n (command.Wm tags) = true
+command_held n command.Cs = true
+command_held n (command.Strategy set) = true
+command_held n (command.Watch set) = true
+command_held n (command.Back count) = true
+command_held n command.Exit = true
 
--- each symbol of these classes, rules and commands is held among this many
-abbrev pub is_held : ℕ → List Class → List Rule → List Command → Bool
-is_held n classes rules commands = list_all (class_held n) classes && list_all (rule_held n) rules && list_all (command_held n) commands
+-- each symbol of these classes, rules, templates and commands is held among this many
+abbrev pub is_held : ℕ → List Class → List Rule → List Rule → List Command → Bool
+is_held n classes rules templates commands =
+    list_all (class_held n) classes && list_all (rule_held n) rules && list_all (rule_held n) templates && list_all (command_held n) commands

@@ -228,13 +228,17 @@ action_is_valid classes k (action.Write items) = fits items && list_all (item_is
 action_is_valid classes k (action.Bind variable t) = term_is_valid classes k false t
 action_is_valid classes k (action.Cbind cell) = is_some k.made && (cell == length k.cells)
 action_is_valid classes k action.Halt = true
+action_is_valid classes k (action.Build template holes) = list_all (λ h. is_in h.variable k.bound) holes
 
 abbrev pub known_after : Known → Action → Known
 known_after k (action.Make class puts) = record k { made = Some class }
 known_after k (action.Modify cell puts) = record k { made = slice_get k.cells cell }
 known_after k (action.Bind variable t) = record k { bound = k.bound ++ variable ∷ []; given = k.given ++ variable ∷ [] }
 known_after k (action.Cbind cell) = record k { cells = k.cells ++ unwrap_or k.made 0 ∷ [] }
-known_after k _ = k
+known_after k (action.Remove cells) = k
+known_after k (action.Write items) = k
+known_after k action.Halt = k
+known_after k (action.Build template holes) = k
 
 abbrev pub actions_are_valid : List Class → Known → List Action → Bool
 actions_are_valid classes k [] = true
@@ -277,23 +281,52 @@ fixed_are_valid classes class ps =
 abbrev pub is_natural : ℕ → Bool
 is_natural n = nat_le 1 n && nat_lt n (2 ^ 63)
 
-abbrev pub command_is_valid : List Class → Command → Bool
-command_is_valid classes (command.Make class puts) = fixed_are_valid classes class puts
-command_is_valid classes (command.Remove tags) = nat_lt 0 (length tags) && fits tags && list_all is_natural tags
-command_is_valid classes (command.Run None) = true
-command_is_valid classes (command.Run (Some n)) = is_natural n
-command_is_valid classes (command.Wm tags) = fits tags && list_all is_natural tags
-command_is_valid classes (command.Ppwm None) = true
-command_is_valid classes (command.Ppwm (Some p)) = fixed_are_valid classes p.0 p.1
-command_is_valid classes (command.Pm names) = nat_lt 0 (length names) && fits names
-command_is_valid classes (command.Watch None) = true
-command_is_valid classes (command.Watch (Some n)) = nat_le n 2
-command_is_valid classes (command.Pbreak names) = fits names
-command_is_valid classes _ = true
+abbrev pub command_is_valid : List Class → ℕ → Command → Bool
+command_is_valid classes text (command.Make class puts) = fixed_are_valid classes class puts
+command_is_valid classes text (command.Remove tags) = nat_lt 0 (length tags) && fits tags && list_all is_natural tags
+command_is_valid classes text (command.Run None) = true
+command_is_valid classes text (command.Run (Some n)) = is_natural n
+command_is_valid classes text (command.Wm tags) = fits tags && list_all is_natural tags
+command_is_valid classes text (command.Ppwm None) = true
+command_is_valid classes text (command.Ppwm (Some p)) = fixed_are_valid classes p.0 p.1
+command_is_valid classes text (command.Pm names) = nat_lt 0 (length names) && fits names
+command_is_valid classes text (command.Watch None) = true
+command_is_valid classes text (command.Watch (Some n)) = nat_le n 2
+command_is_valid classes text (command.Pbreak names) = fits names
+command_is_valid classes text (command.Add r) = rule_is_valid classes text r
+command_is_valid classes text (command.Excise names) = nat_lt 0 (length names) && fits names
+command_is_valid classes text (command.Back count) = nat_le 1 count && nat_le count 32
+command_is_valid classes text (command.Matches names) = nat_lt 0 (length names) && fits names
+command_is_valid classes text command.RemoveAll = true
+command_is_valid classes text command.Cs = true
+command_is_valid classes text (command.Strategy set) = true
+command_is_valid classes text command.Exit = true
+
+-- a production that is built builds none
+abbrev pub is_build : Action → Bool
+is_build (action.Build template holes) = true
+is_build _ = false
+
+abbrev pub template_is_valid : List Class → ℕ → Rule → Bool
+template_is_valid classes text r = rule_is_valid classes text r && not (list_any is_build r.actions)
+
+-- a template that an action names is among so many
+abbrev pub builds_from : ℕ → Action → Bool
+builds_from templates (action.Build template holes) = nat_lt template templates
+builds_from templates _ = true
+
+abbrev pub rule_builds_from : ℕ → Rule → Bool
+rule_builds_from templates r = list_all (builds_from templates) r.actions
+
+abbrev pub command_builds_from : ℕ → Command → Bool
+command_builds_from templates (command.Add r) = rule_builds_from templates r
+command_builds_from templates _ = true
 
 -- the text has this many bytes
-abbrev pub is_valid : List Class → List Rule → List Command → ℕ → Bool
-is_valid classes rules commands text =
-    fits classes && fits rules && fits commands && nat_le text longest_list
-    && list_all class_is_valid classes && list_all (rule_is_valid classes text) rules && list_all (command_is_valid classes) commands
+abbrev pub is_valid : List Class → List Rule → List Rule → List Command → ℕ → Bool
+is_valid classes rules templates commands text =
+    fits classes && fits commands && nat_le text longest_list
+    && list_all class_is_valid classes && list_all (rule_is_valid classes text) rules
+    && list_all (template_is_valid classes text) templates && list_all (command_is_valid classes text) commands
+    && list_all (rule_builds_from (length templates)) rules && list_all (command_builds_from (length templates)) commands
     && are_distinct (map (λ c. c.name.0) classes) && are_distinct (map (λ r. r.name.0) rules)

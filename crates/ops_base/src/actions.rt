@@ -39,13 +39,41 @@ pub enum Item {
     RightIn(u16),
 }
 
+/// A constant of a template in whose place a variable of the building production stands: its number among the
+/// template's constants in the order of the text, and the variable.
+#[derive(Clone, Copy, Debug, PartialEq, Eq)]
+pub struct Hole {
+    pub number: usize,
+    pub variable: usize,
+}
+
 #[derive(Debug, Drop)]
 pub enum Action {
-    Make { class: usize, puts: Listed<Put> },
-    Modify { cell: usize, puts: Listed<Put> },
-    Remove { cells: Listed<usize> },
-    Write { items: Listed<Item> },
-    Bind { variable: usize, term: Term },
-    Cbind { cell: usize },
+    Make {
+        class: usize,
+        puts: Listed<Put>,
+    },
+    Modify {
+        cell: usize,
+        puts: Listed<Put>,
+    },
+    Remove {
+        cells: Listed<usize>,
+    },
+    Write {
+        items: Listed<Item>,
+    },
+    Bind {
+        variable: usize,
+        term: Term,
+    },
+    Cbind {
+        cell: usize,
+    },
     Halt,
+    /// Builds the production that the program's template of this number gives, with its holes filled.
+    Build {
+        template: usize,
+        holes: Listed<Hole>,
+    },
 }

@@ -2,6 +2,7 @@
 
 use crate::constants::Constants;
 use crate::list::Listed;
+use crate::rules::Rule;
 use crate::values::Sym;
 
 /// The constants given for one attribute.
@@ -49,6 +50,20 @@ pub enum Command {
         set: Option<u8>,
     },
     Pbreak {
+        names: Listed<Sym>,
+    },
+    /// A production that stands after the first `make` or `run`.
+    Add {
+        rule: Rule,
+    },
+    Excise {
+        names: Listed<Sym>,
+    },
+    /// From 1 to 32.
+    Back {
+        count: u8,
+    },
+    Matches {
         names: Listed<Sym>,
     },
     Exit,

@@ -171,6 +171,10 @@ impl Piece for Action {
             },
             Action::Cbind { cell } => Action::Cbind { cell: *cell },
             Action::Halt => Action::Halt,
+            Action::Build { template, holes } => Action::Build {
+                template: *template,
+                holes: holes.copy(alloc)?,
+            },
         })
     }
 }
@@ -247,6 +251,16 @@ impl Piece for Command {
             Command::Pbreak { names } => Command::Pbreak {
                 names: names.copy(alloc)?,
             },
+            Command::Add { rule } => Command::Add {
+                rule: Rule::copy(rule, alloc)?,
+            },
+            Command::Excise { names } => Command::Excise {
+                names: names.copy(alloc)?,
+            },
+            Command::Back { count } => Command::Back { count: *count },
+            Command::Matches { names } => Command::Matches {
+                names: names.copy(alloc)?,
+            },
             Command::Exit => Command::Exit,
         })
     }
@@ -258,8 +272,9 @@ impl Program {
     {
         let classes = copies(alloc, self.classes.as_slice())?;
         let rules = copies(alloc, self.rules.as_slice())?;
+        let templates = copies(alloc, self.templates.as_slice())?;
         let commands = copies(alloc, self.commands.as_slice())?;
         let text = self.text.copy(alloc)?;
-        Ok(Program::new(classes, rules, commands, text))
+        Ok(Program::new(classes, rules, templates, commands, text))
     }
 }

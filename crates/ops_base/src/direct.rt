@@ -145,7 +145,13 @@ fn pass_all(
     Ok(found)
 }
 
-fn walk_parts(alloc: Global, wm: &[&Element], parts: &[Part]) -> Result<Vec<Partial>, OutOfMemory>
+/// The matches of these parts: for each list of elements that meets them, in the order of the tags, its tags and what it
+/// binds.
+pub fn matches_of(
+    alloc: Global,
+    wm: &[&Element],
+    parts: &[Part],
+) -> Result<Vec<Partial>, OutOfMemory>
     ensures { IfOk result (λ v. v.items ≡ matches_of (shown wm.now) parts.now) }
 {
     let mut found = Vec::new(alloc);
@@ -174,7 +180,7 @@ fn insts(alloc: Global, rules: &[Rule], wm: &[&Element]) -> Result<Vec<Inst>, Ou
 {
     let mut found = Vec::new(alloc);
     for (rule, r) in rules.iter().enumerate() {
-        let partials = walk_parts(alloc, wm, r.conditions.as_slice())?;
+        let partials = matches_of(alloc, wm, r.conditions.as_slice())?;
         add_insts(rule, partials, &mut found)?;
     }
     Ok(found)

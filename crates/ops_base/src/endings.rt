@@ -4,6 +4,7 @@ ghost use Rattle.ops_base.specs.FaultTexts.{limit_text, fault_text};
 ghost use Rattle.ops_base.specs.declared.endings.Ending.TheVariants.{OutOfMemory as NoMemory};
 
 use crate::memory::OutOfMemory;
+use crate::values::Sym;
 
 /// Why an action of a firing fails.
 #[derive(Clone, Copy, Debug, PartialEq, Eq)]
@@ -29,6 +30,8 @@ pub enum Ending {
     Act {
         firing: u64,
         rule: usize,
+        /// The name of that production.
+        name: Sym,
         action: usize,
         kind: ActKind,
     },

@@ -13,9 +13,11 @@ use crate::rules::Rule;
 pub struct Program {
     pub classes: Listed<Class>,
     pub rules: Listed<Rule>,
+    /// The productions that actions build, with a constant in the place of each hole.
+    pub templates: Listed<Rule>,
     pub commands: Listed<Command>,
     pub text: Listed<u8>,
-    pub ghost valid: { IsTrue (is_valid classes rules commands (length text)) },
+    pub ghost valid: { IsTrue (is_valid classes rules templates commands (length text)) },
 }
 
 impl Program {
@@ -23,18 +25,21 @@ impl Program {
     pub fn new(
         classes: Listed<Class>,
         rules: Listed<Rule>,
+        templates: Listed<Rule>,
         commands: Listed<Command>,
         text: Listed<u8>,
     ) -> Program
-        requires { IsTrue (is_valid classes rules commands (length text)) }
+        requires { IsTrue (is_valid classes rules templates commands (length text)) }
         ensures classes { result.classes ≡ classes }
         ensures rules { result.rules ≡ rules }
+        ensures templates { result.templates ≡ templates }
         ensures commands { result.commands ≡ commands }
         ensures text { result.text ≡ text }
     {
         Program {
             classes,
             rules,
+            templates,
             commands,
             text,
         }

@@ -1,6 +1,6 @@
 //! Symbols and their spellings.
 ghost use Rattle.std.specs.Prelude.{◌≡◌, ◌<◌, length, IfOk, OnOk, OnErr, slice_get, Some, List, ℕ, codes};
-ghost use Rattle.std.specs.Prelude.{◌++◌, ◌∷◌, [], bytes_eq, false};
+ghost use Rattle.std.specs.Prelude.{◌++◌, ◌∷◌, ◌≤◌, [], take, bytes_eq, false};
 ghost use Rattle.std.specs.List.{list_any};
 ghost use Rattle.ops_base.specs.Names.{spellings, place_of, with_spelling, spelling_of, only_nil, AreDistinct};
 ghost use Rattle.ops_base.specs.Names.{fresh_spelling, is_held, next_fresh, with_fresh, IsNextFresh};
@@ -101,7 +101,36 @@ fn find_free(
     Err(OutOfMemory)
 }
 
+/// Where names stood: how many spellings were held, and the number of the last fresh atom.
+#[derive(Clone, Copy, Debug, PartialEq, Eq)]
+pub struct Point {
+    pub held: u64,
+    pub fresh: u64,
+}
+
 impl Names {
+    /// Where the names stand now. Takes no memory.
+    pub fn point(&self) -> Point
+        ensures held { result.held ≡ length self.now.held }
+        ensures fresh { result.fresh ≡ self.now.made }
+        ensures some { 0 < result.held }
+    {
+        Point {
+            held: self.held.len() as u64,
+            fresh: self.made,
+        }
+    }
+
+    /// Lets the spellings go that came after a point, and has fresh atoms counted from there again. Takes no memory.
+    pub fn back_to(&mut self, point: &Point)
+        requires some { 0 < point.now.held }
+        requires within { point.now.held ≤ length self.old.held }
+        ensures { self.new ≡ record { held = take point.now.held self.old.held; made = point.now.fresh } }
+    {
+        self.held.truncate(point.held as usize);
+        self.made = point.fresh;
+    }
+
     /// Holds `nil` alone, which is the symbol 0.
     pub fn new(alloc: Global) -> Result<Names, OutOfMemory>
         ensures { IfOk result (λ names. names ≡ only_nil) }

@@ -21,7 +21,7 @@ use Rattle.ops_grammar.specs.declared.words.Word.{Word}
 use Rattle.ops_grammar.specs.declared.words.Keyword.{Keyword}
 use Rattle.ops_grammar.specs.declared.words.Keyword.TheVariants as keyword
 use Rattle.ops_grammar.specs.Words.{keyword_of, names_with, word_of, keyword_before, word_before, words_from}
-use Rattle.ops_grammar.specs.Grammar.{Use, InPattern, InPut, InFixed, Target, ToPut, ToTerms, ToConstants, ToItem, ToBind, TagUse, ToRemove, NameUse, Column, Wanted, Forms, Form, ClassDeclared, Attributes, VectorName, VectorNames, RuleName, FirstPattern, Patterns, Pattern, GroupBrace, Members, Braced, ElementName, ClosesBrace, ClassName, Terms, Attribute, Several, Place, Tests, Tested, Choice, Atom, ValueFor, Function, ExpressionUnit, ExpressionRest, Bracketed, SourceCell, SourceAttribute, SourceEnd, Actions, ActionWord, Modified, BoundName, BoundValue, CellName, Cell, Cells, Items, ItemWord, Columns, Count, StrategyName, TagOrAll, Tags, Shown, NamedRule, NamedRules, Level, Closes, State, Step, Next, Refuses, Outcome, is_left, is_right, is_left_brace, is_right_brace, is_caret, is_name, is_variable, is_arrow, is_literal, is_minus, begins_group, has_room, opens_choice, closes_choice, pred_of, constant_of, value_of, atom_of, is_one_of, number_of, bound_value, EndsWhole, may_declare, may_produce, is_class, is_rule, is_second, makes_second, vector_declared, vector_name, form, class_at, attributes_of, behind_attribute, field_at, terms, within, one_of_several, with_several, place, element_at, element_name, cell_bound, variable_tested, constant_tested, tested, predicated, test, chosen, atom_at, term_at, bound_at, constant_at, is_of_action, value_for, Waiting, most_brackets, is_compute, operation_of, unit_bound, unit_at, bracket_at, expression_unit, bracketed, operation_at, expression_ended, with_formula, no_formula, expression_rest, completed, function, source_named, source_cell, source_class, source_at, source_attribute, takes_several, is_inf, ends_at_inf, source_end, action_word, cell_of, with_designated, with_modified, small_of, item_word, columns_at, count_of, counted, count, strategy_of, strategy_set, strategy_name, is_all, tag_at, tag_or_all, tags, class_name, shown, named_rule, named_rules, level_of, level_set, level, step, ends, after, goes}
+use Rattle.ops_grammar.specs.Grammar.{Use, InPattern, InPut, InFixed, Target, ToPut, ToTerms, ToConstants, ToItem, ToBind, TagUse, ToRemove, NameUse, Column, Wanted, Forms, Form, ClassDeclared, Attributes, VectorName, VectorNames, RuleName, FirstPattern, Patterns, Pattern, GroupBrace, Members, Braced, ElementName, ClosesBrace, ClassName, Terms, Attribute, Several, Place, Tests, Tested, Choice, Atom, ValueFor, Function, ExpressionUnit, ExpressionRest, Bracketed, SourceCell, SourceAttribute, SourceEnd, Actions, ActionWord, Modified, BoundName, BoundValue, CellName, Cell, Cells, Items, ItemWord, Columns, Count, StrategyName, TagOrAll, Tags, Shown, NamedRule, NamedRules, Level, Closes, State, Step, Next, Refuses, Outcome, is_left, is_right, is_left_brace, is_right_brace, is_caret, is_name, is_variable, is_arrow, is_literal, is_minus, begins_group, has_room, opens_choice, closes_choice, pred_of, constant_of, value_of, atom_of, is_one_of, number_of, bound_value, EndsWhole, may_declare, is_class, is_rule, is_second, makes_second, vector_declared, vector_name, form, class_at, attributes_of, behind_attribute, field_at, terms, within, one_of_several, with_several, place, element_at, element_name, cell_bound, variable_tested, constant_tested, tested, predicated, test, chosen, atom_at, term_at, bound_at, constant_at, is_of_action, value_for, Waiting, most_brackets, is_compute, operation_of, unit_bound, unit_at, bracket_at, expression_unit, bracketed, operation_at, expression_ended, with_formula, no_formula, expression_rest, completed, function, source_named, source_cell, source_class, source_at, source_attribute, takes_several, is_inf, ends_at_inf, source_end, action_word, cell_of, with_designated, with_modified, small_of, item_word, columns_at, count_of, counted, count, strategy_of, strategy_set, strategy_name, is_all, tag_at, tag_or_all, tags, class_name, shown, named_rule, named_rules, level_of, level_set, level, step, ends, after, goes}
 use Rattle.ops_forms.specs.Forms.{open_behind, is_last, closes_last, stays_open, opens}
 
 -- ---- what is owed
@@ -269,7 +269,7 @@ module _ (w : Word) (quiet : (n : ℕ) → (w.keyword ≡ keyword.Other → ⊥)
   form_balanced : (k : Keyword) (ws : List Wanted) (s : State) → w.keyword ≡ k → stands ws ≡ true → B (Form ∷ ws) (form w k ws s)
   form_balanced keyword.Literalize ws s e h = cond_both (may_declare s) _ _ (B (Form ∷ ws)) (λ _. (h, sym (quiet (1 + owed ws) (λ o. absurd (cc))))) (λ _. tt)
   form_balanced keyword.VectorAttribute ws s e h = cond_both (may_declare s) _ _ (B (Form ∷ ws)) (λ _. (h, sym (quiet (1 + owed ws) (λ o. absurd (cc))))) (λ _. tt)
-  form_balanced keyword.Production ws s e h = cond_both (may_produce s) _ _ (B (Form ∷ ws)) (λ _. (h, sym (quiet (1 + owed ws) (λ o. absurd (cc))))) (λ _. tt)
+  form_balanced keyword.Production ws s e h = (h, sym (quiet (1 + owed ws) (λ o. absurd (cc))))
   form_balanced keyword.Make ws s e h = (h, sym (quiet (1 + owed ws) (λ o. absurd (cc))))
   form_balanced keyword.Remove ws s e h = (h, sym (quiet (1 + owed ws) (λ o. absurd (cc))))
   form_balanced keyword.Run ws s e h = (h, sym (quiet (1 + owed ws) (λ o. absurd (cc))))
@@ -280,6 +280,7 @@ module _ (w : Word) (quiet : (n : ℕ) → (w.keyword ≡ keyword.Other → ⊥)
   form_balanced keyword.Strategy ws s e h = (h, sym (quiet (1 + owed ws) (λ o. absurd (cc))))
   form_balanced keyword.Watch ws s e h = (h, sym (quiet (1 + owed ws) (λ o. absurd (cc))))
   form_balanced keyword.Pbreak ws s e h = (h, sym (quiet (1 + owed ws) (λ o. absurd (cc))))
+  form_balanced keyword.Excise ws s e h = (h, sym (quiet (1 + owed ws) (λ o. absurd (cc))))
   form_balanced keyword.Exit ws s e h = (h, sym (quiet (1 + owed ws) (λ o. absurd (cc))))
   form_balanced _ ws s e h = tt
 

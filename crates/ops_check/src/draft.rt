@@ -1,7 +1,7 @@
 //! What was read so far of a program, and how it grows.
 ghost use Rattle.std.specs.Prelude.{◌≡◌, ◌==◌, position, slice_get};
 ghost use Rattle.ops_base.specs.Valid.{class_of, is_vector};
-ghost use Rattle.ops_grammar.specs.Grammar.{nothing_read, is_class, is_rule, is_one_of, is_second, makes_second, may_declare, may_produce, with_class, with_vector, with_fixed, with_constant, with_command, attributes_of};
+ghost use Rattle.ops_grammar.specs.Grammar.{nothing_read, is_class, is_rule, is_one_of, is_second, makes_second, may_declare, is_beginning, with_class, with_vector, with_fixed, with_constant, with_command, with_production, attributes_of};
 ghost use Rattle.ops_forms.specs.WordWalks.{Becomes};
 ghost use Rattle.ops_check.specs.Walks.{view, target_of};
 
@@ -36,6 +36,7 @@ pub(crate) enum TagUse {
 pub(crate) enum NameUse {
     Print,
     Break,
+    Excise,
 }
 
 /// What the element of a command is for: it is made, or the elements that have its values are shown.
@@ -51,6 +52,7 @@ pub(crate) enum ElementUse {
 #[derive(Drop)]
 pub(crate) struct Draft {
     pub(crate) classes: Classes,
+    /// The productions of the beginning. A later one is added by a command.
     pub(crate) rules: Declared<Rule>,
     pub(crate) commands: GivenCommands,
     /// The names of vector attributes.
@@ -113,11 +115,11 @@ impl Draft {
         self.rules.len() == 0 && self.commands.may_declare()
     }
 
-    // whether a production may still be read: no command was read after which it is late
-    pub(crate) fn may_produce(&self) -> bool
-        ensures { result ≡ may_produce (view self.now) }
+    // whether a production that stands here is one of the beginning: no `make` and no `run` was read
+    fn is_beginning(&self) -> bool
+        ensures { result ≡ is_beginning (view self.now) }
     {
-        self.commands.may_produce()
+        self.commands.is_beginning()
     }
 
     pub(crate) fn is_class(&self, name: Sym) -> bool
@@ -129,7 +131,7 @@ impl Draft {
     pub(crate) fn is_rule(&self, name: Sym) -> bool
         ensures { result ≡ is_rule (view self.now) name }
     {
-        self.rules.place_of(name).is_some()
+        self.rules.place_of(name).is_some() || self.commands.adds(name)
     }
 
     pub(crate) fn is_attribute(&self, name: Sym) -> bool
@@ -194,6 +196,18 @@ impl Draft {
     {
         let values = Constants::one(value);
         self.fixed.push(Fixed { field, values })?;
+        Ok(())
+    }
+
+    // A production of the beginning stands with the others; a later one is added where it stands among the commands.
+    pub(crate) fn add_rule(&mut self, rule: Rule) -> Result<(), Refusal>
+        ensures { Becomes (view self.new) (with_production (view self.old) rule) result }
+    {
+        if self.is_beginning() {
+            self.rules.push(rule)?;
+        } else {
+            self.commands.push(Command::Add { rule })?;
+        }
         Ok(())
     }
 

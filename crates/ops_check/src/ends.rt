@@ -55,7 +55,7 @@ impl Draft {
             return Err(Refusal::OutOfMemory);
         };
         let RightSide { actions, sight } = right;
-        self.rules.push(Rule {
+        let rule = Rule {
             name: self.name,
             conditions: Listed::from_vec(conditions),
             actions: Listed::from_vec(actions),
@@ -64,12 +64,12 @@ impl Draft {
             cells: sight.cells.len(),
             first: self.first,
             past,
-        })?;
+        };
         self.class = 0;
         self.values = sight.values;
         self.elements = sight.elements;
         self.variables = sight.variables;
-        Ok(())
+        self.add_rule(rule)
     }
 }
 

@@ -34,7 +34,7 @@ impl Draft {
     // | make CLASS fixed* ) | remove NAT NAT* ) | remove * )
     // | run [NAT] ) | wm NAT* ) | ppwm ) | ppwm CLASS fixed* ) | cs ) | pm NAME NAME* )
     // | strategy ) | strategy lex ) | strategy mea ) | watch ) | watch 0 ) | watch 1 ) | watch 2 ) | pbreak NAME* )
-    // | exit )
+    // | excise NAME NAME* ) | exit )
     #[tactic(auto, unfolding(ops_grammar::specs::Grammar::goes, ops_grammar::specs::Grammar::step, ops_grammar::specs::Grammar::ends))]
     fn form<'a>(&mut self, words: &'a [Word]) -> Result<&'a [Word], Refusal>
         ensures reads { Reads Form (view self.old) (view self.new) words.now result }
@@ -54,12 +54,7 @@ impl Draft {
                 }
                 self.vector_declaration(rest)
             }
-            Keyword::Production => {
-                if !self.may_produce() {
-                    return refused(Fault::LateProduction, word);
-                }
-                self.production(rest)
-            }
+            Keyword::Production => self.production(rest),
             Keyword::Make => self.make(rest),
             Keyword::Remove => self.remove(rest),
             Keyword::Run => self.run(rest),
@@ -70,6 +65,7 @@ impl Draft {
             Keyword::Strategy => self.strategy(rest),
             Keyword::Watch => self.watch(rest),
             Keyword::Pbreak => self.pbreak(rest),
+            Keyword::Excise => self.excise(rest),
             Keyword::Exit => self.exit(rest),
             _ => refused(Fault::UnknownCommand, word),
         }

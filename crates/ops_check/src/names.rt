@@ -1,6 +1,6 @@
 //! The commands that name productions, whether they are there or not.
 ghost use Rattle.std.specs.Prelude.{◌≡◌, [], ◌∷◌, ◌++◌};
-ghost use Rattle.ops_grammar.specs.Grammar.{goes, NamedRule, NamedRules, ToPrint, ToBreak, name_command, with_named};
+ghost use Rattle.ops_grammar.specs.Grammar.{goes, NamedRule, NamedRules, ToPrint, ToBreak, ToExcise, name_command, with_named};
 ghost use Rattle.ops_forms.specs.WordWalks.{Goes, Reads, Becomes, IsWithin};
 ghost use Rattle.ops_check.specs.Walks.{view, name_use_of};
 
@@ -16,9 +16,29 @@ use std::mem;
 
 impl Draft {
     // NAME NAME* )
-    #[tactic(auto, unfolding(ops_grammar::specs::Grammar::goes, ops_grammar::specs::Grammar::step, ops_grammar::specs::Grammar::ends))]
     pub(crate) fn pm<'a>(&mut self, words: &'a [Word]) -> Result<&'a [Word], Refusal>
         ensures reads { Goes (λ more ws. goes (words.now ++ more) (NamedRule ∷ NamedRules ToPrint ∷ ws) (record (view self.old) { named = [] })) (view self.new) result }
+        ensures within { IsWithin words.now result }
+    {
+        self.some_names(NameUse::Print, words)
+    }
+
+    // NAME NAME* )
+    pub(crate) fn excise<'a>(&mut self, words: &'a [Word]) -> Result<&'a [Word], Refusal>
+        ensures reads { Goes (λ more ws. goes (words.now ++ more) (NamedRule ∷ NamedRules ToExcise ∷ ws) (record (view self.old) { named = [] })) (view self.new) result }
+        ensures within { IsWithin words.now result }
+    {
+        self.some_names(NameUse::Excise, words)
+    }
+
+    // NAME NAME* )
+    #[tactic(auto, unfolding(ops_grammar::specs::Grammar::goes, ops_grammar::specs::Grammar::step, ops_grammar::specs::Grammar::ends))]
+    fn some_names<'a>(
+        &mut self,
+        name_use: NameUse,
+        words: &'a [Word],
+    ) -> Result<&'a [Word], Refusal>
+        ensures reads { Goes (λ more ws. goes (words.now ++ more) (NamedRule ∷ NamedRules (name_use_of name_use) ∷ ws) (record (view self.old) { named = [] })) (view self.new) result }
         ensures within { IsWithin words.now result }
     {
         self.named.clear();
@@ -27,7 +47,7 @@ impl Draft {
             return refused(Fault::BadForm, word);
         }
         self.named.push(word.name)?;
-        self.names(NameUse::Print, rest)
+        self.names(name_use, rest)
     }
 
     // NAME* )
@@ -76,5 +96,6 @@ fn name_command(name_use: NameUse, names: Listed<Sym>) -> Command
     match name_use {
         NameUse::Print => Command::Pm { names },
         NameUse::Break => Command::Pbreak { names },
+        NameUse::Excise => Command::Excise { names },
     }
 }

@@ -226,6 +226,8 @@ fn keyword_of_command(spelling: &[u8]) -> Keyword
         Keyword::Watch
     } else if is(spelling, b"pbreak") {
         Keyword::Pbreak
+    } else if is(spelling, b"excise") {
+        Keyword::Excise
     } else if is(spelling, b"exit") {
         Keyword::Exit
     } else {

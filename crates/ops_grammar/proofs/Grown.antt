@@ -24,20 +24,19 @@ use Rattle.ops_base.specs.declared.actions.Action.TheVariants as action
 use Rattle.ops_base.specs.declared.rules.Rule.{Rule}
 use Rattle.ops_base.specs.declared.commands.Command.{Command}
 use Rattle.ops_base.specs.declared.commands.Command.TheVariants as command
-use Rattle.ops_base.specs.Valid.{longest_list, most_fields, most_conditions, fits, is_in, are_distinct, no_class, class_of, class_is_valid, is_attribute, is_vector, is_field, Sight, operand_is_valid, tests_are_valid, sight_after_tests, nothing_in_sight, cells_of, is_cell, specificity, known_of, Known, known_after, term_is_valid, put_is_valid, action_is_valid, fixed_is_valid, command_is_valid, elements_of}
+use Rattle.ops_base.specs.Valid.{longest_list, most_fields, most_conditions, fits, is_in, are_distinct, no_class, class_of, class_is_valid, is_attribute, is_vector, is_field, Sight, operand_is_valid, tests_are_valid, sight_after_tests, nothing_in_sight, cells_of, is_cell, specificity, known_of, Known, known_after, term_is_valid, put_is_valid, action_is_valid, fixed_is_valid, elements_of, builds_from, command_is_valid}
 use Rattle.ops_grammar.specs.declared.words.Named.{Named}
-use Rattle.ops_grammar.specs.Grammar.{is_one_of, number_of, renumbered, precedes_classes, arranged, has_vector, with_vector_last, put_action}
-use Rattle.ops_grammar.proofs.Lists.{all_push, all_none, all_weaker, all_at, all_in, any_some, distinct_push, in_map, cond_alike, length-parted, parted_distinct}
+use Rattle.ops_grammar.specs.Grammar.{is_one_of, number_of, renumbered, precedes_classes, arranged, has_vector, with_vector_last, put_action, precedes_rules, rules_with, commands_with}
+use Rattle.ops_grammar.proofs.Lists.{all_push, all_none, all_weaker, all_at, all_in, any_some, named_apart, cond_alike, length-parted, parted_distinct}
 use Rattle.ops_grammar.proofs.Parts.{tests_push, sight_push, conditions_push, sight_conditions_push, actions_push, known_push, first_push, some_cell, cells_push, elements_push, members_push, sight_members_push, first_push_group, elements_push_group}
-use Rattle.ops_grammar.proofs.Sound.{IsProgram, IsDeclaring, IsClass, numbers, Variables, seen, all_below, IsHead, known, Side, Knows, IsBody, IsNamed, inside}
+use Rattle.ops_grammar.proofs.Sound.{IsProgram, IsDeclaring, IsClass, numbers, Variables, seen, all_below, IsHead, known, Side, Knows, IsBody, IsNamed, inside, command_is_sound, rule_is_sound, other_is_sound, IsNew}
+use Rattle.ops_grammar.specs.Spelling.{is_add}
+use Rattle.ops_grammar.proofs.Added.{other_builds, late_other, late_rule, titles_front, titles_behind, titles_other}
 
 pub fits_below : {X : Type 0} (xs : List X) (n : ℕ) → length xs ≤ n → n ≤ longest_list → fits xs ≡ true
 fits_below xs n short le = le-leb (length xs) longest_list (omega arith)
 
 -- ---- classes
-
-named_apart : {X : Type 0} (f : X → ℕ) (xs : List X) (x : X) → are_distinct (map f xs) ≡ true → list_any (λ y. f y == f x) xs ≡ false → are_distinct (map f (xs ++ x ∷ [])) ≡ true
-named_apart f xs x h e = ap are_distinct (map-append f xs (x ∷ [])) ∙ distinct_push (map f xs) (f x) h (in_map f xs (f x) ∙ e)
 
 pub class_begun : (classes : List Class) (name : Sym) → list_any (λ c. c.name.0 == name.0) classes ≡ false → IsClass classes name []
 class_begun classes name e = record { is_new = e; few = omega arith; distinct = refl }
@@ -60,26 +59,33 @@ class_arranged vectors attrs name vector few distinct some =
     (some_attribute vector (length (arranged vectors attrs)) (λ v. let lt = some v in omega (arith, same, lt)))
 
 -- a command after which a class may be declared is valid whatever classes there are
-valid_anywhere : (classes others : List Class) (c : Command) → precedes_classes c ≡ true → command_is_valid classes c ≡ true
-    → command_is_valid others c ≡ true
-valid_anywhere classes others (command.Make class puts) before h = absurd (true≢false (sym before))
-valid_anywhere classes others (command.Run count) before h = absurd (true≢false (sym before))
-valid_anywhere classes others (command.Ppwm pattern) before h = absurd (true≢false (sym before))
-valid_anywhere classes others (command.Remove tags) before h = h
-valid_anywhere classes others (command.Wm tags) before h = h
-valid_anywhere classes others (command.Pm names) before h = h
-valid_anywhere classes others (command.Watch None) before h = h
-valid_anywhere classes others (command.Watch (Some n)) before h = h
-valid_anywhere classes others (command.Pbreak names) before h = h
-valid_anywhere classes others _ before h = refl
+valid_anywhere : (text : ℕ) (classes others : List Class) (c : Command) → precedes_classes c ≡ true → command_is_sound classes text c ≡ true
+    → command_is_sound others text c ≡ true
+valid_anywhere text classes others (command.Make class puts) before h = absurd (true≢false (sym before))
+valid_anywhere text classes others (command.Run count) before h = absurd (true≢false (sym before))
+valid_anywhere text classes others (command.Ppwm pattern) before h = absurd (true≢false (sym before))
+valid_anywhere text classes others (command.Add r) before h = absurd (true≢false (sym before))
+valid_anywhere text classes others (command.Remove tags) before h = h
+valid_anywhere text classes others (command.Wm tags) before h = h
+valid_anywhere text classes others (command.Pm names) before h = h
+valid_anywhere text classes others (command.Watch None) before h = h
+valid_anywhere text classes others (command.Watch (Some n)) before h = h
+valid_anywhere text classes others (command.Pbreak names) before h = h
+valid_anywhere text classes others (command.Excise names) before h = h
+valid_anywhere text classes others (command.Back count) before h = h
+valid_anywhere text classes others (command.Matches names) before h = h
+valid_anywhere text classes others command.RemoveAll before h = refl
+valid_anywhere text classes others command.Cs before h = refl
+valid_anywhere text classes others (command.Strategy set) before h = refl
+valid_anywhere text classes others command.Exit before h = refl
 
-commands_valid_anywhere : (classes others : List Class) (commands : List Command) → list_all precedes_classes commands ≡ true
-    → list_all (command_is_valid classes) commands ≡ true → list_all (command_is_valid others) commands ≡ true
-commands_valid_anywhere classes others [] before h = refl
-commands_valid_anywhere classes others (c ∷ cs) before h =
+commands_valid_anywhere : (text : ℕ) (classes others : List Class) (commands : List Command) → list_all precedes_classes commands ≡ true
+    → list_all (command_is_sound classes text) commands ≡ true → list_all (command_is_sound others text) commands ≡ true
+commands_valid_anywhere text classes others [] before h = refl
+commands_valid_anywhere text classes others (c ∷ cs) before h =
     let first = and_parts (precedes_classes c) (list_all precedes_classes cs) before in
-    let valid = and_parts (command_is_valid classes c) (list_all (command_is_valid classes) cs) h in
-    and_from _ _ (valid_anywhere classes others c first.0 valid.0) (commands_valid_anywhere classes others cs first.1 valid.1)
+    let valid = and_parts (command_is_sound classes text c) (list_all (command_is_sound classes text) cs) h in
+    and_from _ _ (valid_anywhere text classes others c first.0 valid.0) (commands_valid_anywhere text classes others cs first.1 valid.1)
 
 pub class_added : (text : ℕ) (classes : List Class) (rules : List Rule) (commands : List Command) (vectors : List Sym) (name : Sym) (attrs : List Sym) → IsDeclaring text classes rules commands → IsClass classes name attrs
     → IsProgram text (classes ++ record { name = name; attrs = arranged vectors attrs; vector = has_vector vectors attrs } ∷ []) rules commands
@@ -89,9 +95,10 @@ class_added text classes rules commands vectors name attrs d c =
       classes_valid = all_push class_is_valid classes added d.program.classes_valid
           (class_arranged vectors attrs name (has_vector vectors attrs) c.few c.distinct (any_some (λ a. is_one_of a vectors) attrs));
       rules_valid = all_none _ rules d.no_rules;
-      commands_valid = commands_valid_anywhere classes (classes ++ added ∷ []) commands d.commands_precede d.program.commands_valid;
+      commands_valid = commands_valid_anywhere text classes (classes ++ added ∷ []) commands d.commands_precede d.program.commands_valid;
       class_names = named_apart (λ c. c.name.0) classes added d.program.class_names c.is_new;
       rule_names = d.program.rule_names;
+      late = d.program.late;
     }
 
 -- the attributes of a valid class
@@ -123,9 +130,10 @@ vector_added text classes rules commands name d =
       program = record {
         classes_valid = vectors_valid name classes d.program.classes_valid;
         rules_valid = all_none _ rules d.no_rules;
-        commands_valid = commands_valid_anywhere classes (map (with_vector_last name) classes) commands d.commands_precede d.program.commands_valid;
+        commands_valid = commands_valid_anywhere text classes (map (with_vector_last name) classes) commands d.commands_precede d.program.commands_valid;
         class_names = ap are_distinct (vectors_names name classes) ∙ d.program.class_names;
         rule_names = d.program.rule_names;
+        late = d.program.late;
       };
       no_rules = d.no_rules;
       commands_precede = d.commands_precede;
@@ -189,7 +197,7 @@ abbrev pub behind_condition : Variables → Variables
 behind_condition v = record v { values = cond v.negated (take v.around v.values) v.values; negated = false }
 
 module _ (text : ℕ) (classes : List Class) (rules : List Rule) (commands : List Command) (name : Sym) where
-  pub head_begun : IsProgram text classes rules commands → list_any (λ r. r.name.0 == name.0) rules ≡ false → IsHead text classes rules commands name (record { values = []; given = 0; negated = false; around = 0; elements = []; grouped = false; members = [] }) [] []
+  pub head_begun : IsProgram text classes rules commands → IsNew name rules commands → IsHead text classes rules commands name (record { values = []; given = 0; negated = false; around = 0; elements = []; grouped = false; members = [] }) [] []
   head_begun p e =
       record { program = p; is_new = e; few = omega arith; valid = refl; within = refl; alone = λ _. refl; first = λ some. absurd (omega arith); bound = refl; below = refl; room = λ n. omega arith; outside = λ n. refl; counted = refl; elements = refl }
 
@@ -427,6 +435,7 @@ module _ (text : ℕ) (classes : List Class) (rules : List Rule) (commands : Lis
         left = h.valid;
         some = h.first some;
         valid = refl;
+        builds = refl;
         knows = record {
           bound = ap (λ (ns : List ℕ). list_all (λ n. is_in n ns) (numbers v.values)) h.bound ∙ all_within_itself (numbers v.values);
           given = h.below;
@@ -437,9 +446,9 @@ module _ (text : ℕ) (classes : List Class) (rules : List Rule) (commands : Lis
         };
       }
 
-  pub action_added : (v v' : Variables) (conditions : List Part) (r r' : Side) (xs : List Action) (a : Action) → IsBody text classes rules commands name v conditions r xs → action_is_valid classes (known conditions xs) a ≡ true
+  pub action_added : (v v' : Variables) (conditions : List Part) (r r' : Side) (xs : List Action) (a : Action) → IsBody text classes rules commands name v conditions r xs → action_is_valid classes (known conditions xs) a ≡ true → builds_from 0 a ≡ true
       → Knows (known_after (known conditions xs) a) v' conditions r' → IsBody text classes rules commands name v' conditions r' (xs ++ a ∷ [])
-  action_added v v' conditions r r' xs a h valid knows =
+  action_added v v' conditions r r' xs a h valid builds knows =
       record {
         program = h.program;
         is_new = h.is_new;
@@ -447,19 +456,42 @@ module _ (text : ℕ) (classes : List Class) (rules : List Rule) (commands : Lis
         left = h.left;
         some = h.some;
         valid = actions_push classes (known_of conditions) xs a h.valid valid;
+        builds = all_push (builds_from 0) xs a h.builds builds;
         knows = subst (λ (k : Known). Knows k v' conditions r') (sym (known_push (known_of conditions) xs a)) knows;
       }
 
+  abbrev whole : Variables → List Part → Side → List Action → ℕ → ℕ → Rule
+  whole v conditions r xs first past =
+      record { name = name; conditions = conditions; actions = xs; specificity = specificity conditions; variables = v.given; cells = length (cells_of conditions ++ r.further); first = first; past = past }
+
+  rule_sound : (v : Variables) (conditions : List Part) (r : Side) (xs : List Action) (first past : ℕ) → IsBody text classes rules commands name v conditions r xs → fits xs ≡ true → first ≤ past → past ≤ text
+      → rule_is_sound classes text (whole v conditions r xs first past) ≡ true
+  rule_sound v conditions r xs first past h short ordered within =
+      and_from _ _ (and_from _ _ (and_from _ _ (and_from _ _ (and_from _ _ (and_from _ _ (and_from _ _ (and_from _ _ (and_from _ _ (and_from _ _ h.some (le-leb _ _ h.few)) h.left) short) h.valid) (eq-eqb (specificity conditions) (specificity conditions) refl)) h.knows.given) (eq-eqb _ _ (ap length (sym h.knows.cells)))) (le-leb _ _ ordered)) (le-leb _ _ within)) h.builds
+
+  -- A production ends: one of the beginning, or one that is added.
   pub rule_added : (v : Variables) (conditions : List Part) (r : Side) (xs : List Action) (first past : ℕ) → IsBody text classes rules commands name v conditions r xs → fits xs ≡ true → first ≤ past → past ≤ text
-      → IsProgram text classes (rules ++ record { name = name; conditions = conditions; actions = xs; specificity = specificity conditions; variables = v.given; cells = length (cells_of conditions ++ r.further); first = first; past = past } ∷ []) commands
-  rule_added v conditions r xs first past h short ordered within =
+      → (b : Bool) → list_all precedes_rules commands ≡ b
+      → IsProgram text classes (rules_with b rules (whole v conditions r xs first past)) (commands_with b commands (whole v conditions r xs first past))
+  rule_added v conditions r xs first past h short ordered within true e =
+      let one = whole v conditions r xs first past in
       record {
         classes_valid = h.program.classes_valid;
-        rules_valid = all_push _ rules _ h.program.rules_valid
-            (and_from _ _ (and_from _ _ (and_from _ _ (and_from _ _ (and_from _ _ (and_from _ _ (and_from _ _ (and_from _ _ (and_from _ _ h.some (le-leb _ _ h.few)) h.left) short) h.valid) (eq-eqb (specificity conditions) (specificity conditions) refl)) h.knows.given) (eq-eqb _ _ (ap length (sym h.knows.cells)))) (le-leb _ _ ordered)) (le-leb _ _ within));
+        rules_valid = all_push (rule_is_sound classes text) rules one h.program.rules_valid (rule_sound v conditions r xs first past h short ordered within);
         commands_valid = h.program.commands_valid;
         class_names = h.program.class_names;
-        rule_names = named_apart (λ r. r.name.0) rules _ h.program.rule_names h.is_new;
+        rule_names = titles_front rules commands one e h.program.rule_names h.is_new;
+        late = h.program.late;
+      }
+  rule_added v conditions r xs first past h short ordered within false e =
+      let one = whole v conditions r xs first past in
+      record {
+        classes_valid = h.program.classes_valid;
+        rules_valid = h.program.rules_valid;
+        commands_valid = all_push (command_is_sound classes text) commands (command.Add one) h.program.commands_valid (rule_sound v conditions r xs first past h short ordered within);
+        class_names = h.program.class_names;
+        rule_names = titles_behind rules commands one h.program.rule_names h.is_new;
+        late = late_rule commands one h.program.late e;
       }
 
 -- ---- right sides
@@ -553,9 +585,17 @@ several_valid classes k c f terms vector short valid =
 
 -- ---- commands
 
-pub command_added : (text : ℕ) (classes : List Class) (rules : List Rule) (commands : List Command) (c : Command) → IsProgram text classes rules commands → command_is_valid classes c ≡ true → IsProgram text classes rules (commands ++ c ∷ [])
+pub command_added : (text : ℕ) (classes : List Class) (rules : List Rule) (commands : List Command) (c : Command) → IsProgram text classes rules commands → other_is_sound classes text c ≡ true → IsProgram text classes rules (commands ++ c ∷ [])
 command_added text classes rules commands c h valid =
-    record { classes_valid = h.classes_valid; rules_valid = h.rules_valid; commands_valid = all_push (command_is_valid classes) commands c h.commands_valid valid; class_names = h.class_names; rule_names = h.rule_names }
+    let parts = and_parts (command_is_valid classes text c) (not (is_add c)) valid in
+    record {
+      classes_valid = h.classes_valid;
+      rules_valid = h.rules_valid;
+      commands_valid = all_push (command_is_sound classes text) commands c h.commands_valid (and_from _ _ parts.0 (other_builds c parts.1));
+      class_names = h.class_names;
+      rule_names = titles_other rules commands c h.rule_names parts.1;
+      late = late_other commands c h.late parts.1;
+    }
 
 -- the attributes of a declared class
 class_few : (classes : List Class) (class : ℕ) → list_all class_is_valid classes ≡ true → class < length classes → length (class_of classes class).attrs ≤ most_fields

@@ -34,7 +34,8 @@ pub mod Arranged
 pub mod PlainKept
 pub mod PlainSteps
 pub mod PlainRead
-pub mod Alike
+pub mod Added
+mod Alike
 pub mod Taken
 pub mod ReadsHeld
 pub mod NamesOf

@@ -1,5 +1,5 @@
 -- Tests of whole lists where one more element stands at the end.
-use Rattle.std.proofs.Common.{◌≡◌, ℕ, ◌<◌, Bool, true, false, not, ◌||◌, ◌==◌, List, [], ◌∷◌, ◌++◌, length, map, refl, sym, ap, ◌∙◌, arith, unwrap_or, nat_lt, length-append}
+use Rattle.std.proofs.Common.{◌≡◌, ℕ, ◌<◌, Bool, true, false, not, ◌&&◌, ◌||◌, ◌==◌, List, [], ◌∷◌, ◌++◌, length, map, refl, sym, ap, ◌∙◌, arith, unwrap_or, nat_lt, length-append}
 use Rattle.std.specs.Prelude.{zero, suc, slice_get, filter, if◌then◌else◌}
 use Rattle.std.specs.List.{list_all, list_any}
 use Rattle.std.proofs.lemmas.Bool.{and_parts, and_from, or_parts, or_from, cond_both, not-true, not_from_false, eqb-true, eqb-false, ne_eqb, ltb-true}
@@ -19,6 +19,11 @@ pub all_weaker : {X : Type 0} (p q : X → Bool) (xs : List X) → ((x : X) → 
 all_weaker p q [] weaker h = refl
 all_weaker p q (x ∷ xs) weaker h =
     let parts = and_parts (p x) (list_all p xs) h in and_from _ _ (weaker x parts.0) (all_weaker p q xs weaker parts.1)
+
+-- what holds of all by two tests holds by each
+pub all_parts : {X : Type 0} (p q : X → Bool) (xs : List X) → list_all (λ x. p x && q x) xs ≡ true → (list_all p xs ≡ true) × (list_all q xs ≡ true)
+all_parts p q xs h =
+    (all_weaker _ p xs (λ x e. (and_parts (p x) (q x) e).0) h, all_weaker _ q xs (λ x e. (and_parts (p x) (q x) e).1) h)
 
 pub all_at : {X : Type 0} (p : X → Bool) (xs : List X) (i : ℕ) (d : X) → list_all p xs ≡ true → i < length xs → p (unwrap_or (slice_get xs i) d) ≡ true
 all_at p [] i d h lt = absurd (omega arith)
@@ -40,6 +45,9 @@ distinct_push (y ∷ ys) x h e =
 pub in_map : {X : Type 0} (f : X → ℕ) (xs : List X) (x : ℕ) → is_in x (map f xs) ≡ list_any (λ y. f y == x) xs
 in_map f [] x = refl
 in_map f (y ∷ ys) x = ap (λ (b : Bool). (f y == x) || b) (in_map f ys x)
+
+pub named_apart : {X : Type 0} (f : X → ℕ) (xs : List X) (x : X) → are_distinct (map f xs) ≡ true → list_any (λ y. f y == f x) xs ≡ false → are_distinct (map f (xs ++ x ∷ [])) ≡ true
+named_apart f xs x h e = ap are_distinct (map-append f xs (x ∷ [])) ∙ distinct_push (map f xs) (f x) h (in_map f xs (f x) ∙ e)
 
 -- a number that each of the list is below is not in it
 pub not_below : (xs : List ℕ) (k : ℕ) → list_all (λ v. nat_lt v k) xs ≡ true → is_in k xs ≡ false

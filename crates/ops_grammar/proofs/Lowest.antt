@@ -10,10 +10,9 @@ use Rattle.ops_base.specs.Valid.{most_fields}
 use Rattle.ops_tokens.specs.declared.token.TokenKind.{TokenKind}
 use Rattle.ops_tokens.specs.declared.token.TokenKind.TheVariants as kind
 use Rattle.ops_grammar.specs.declared.words.Word.{Word}
-use Rattle.ops_grammar.specs.declared.words.Keyword.TheVariants as keyword
 use Rattle.ops_grammar.specs.Grammar.{InPattern, InPut, InFixed, ToConstants, Wanted, Form, ClassDeclared, Attributes, VectorName, VectorNames, RuleName, FirstPattern, Patterns, Braced, ElementName, ClassName, Attribute, Several, Shown, Tested, ValueFor, ExpressionUnit, Bracketed, SourceCell, SourceAttribute, Modified, BoundValue, CellName, Cell, Cells, Items, State, Step, Next, Refuses, is_left, is_right, is_caret, is_name, is_variable, is_literal, value_of, is_one_of, number_of, is_second, attributes, bound_at, constant_at, is_of_action, value_for, within, several, step, Members}
 use Rattle.ops_grammar.specs.Derivation.{is_no_form}
-use Rattle.ops_grammar.specs.Reasons.{fault_number, is_declaration, wants_form, wants_class, wants_attribute, is_declared, gives_second, is_full, nests_deepest, wants_condition, wants_first, wants_bound, designates, wants_cell, is_bad_designator, Because}
+use Rattle.ops_grammar.specs.Reasons.{fault_number, wants_form, wants_class, wants_attribute, is_declared, gives_second, is_full, nests_deepest, wants_condition, wants_first, wants_bound, designates, wants_cell, is_bad_designator, Because}
 use Rattle.ops_grammar.specs.Standing.{IsLowest}
 use Rattle.ops_grammar.proofs.Arranged.{AreArranged}
 use Rattle.ops_grammar.proofs.Proper.{is_proper, literal_marks, mark_kind}
@@ -173,7 +172,6 @@ module _ (w : Word) (ws : List Wanted) (s : State) where
   reason_least fault.DeclaredTwice in_form r = let at = declared_least ws w.name s r.1 in omega (arith, at)
   reason_least fault.TwoVectors in_form r = second_least ws w.name s r.1
   reason_least fault.LateDeclaration in_form r = let at = form_least ws r.0 in omega (arith, at)
-  reason_least fault.LateProduction in_form r = let at = form_least ws r.0 in omega (arith, at)
   reason_least fault.FirstNegated in_form r = let at = first_least ws r.1 in omega (arith, at)
   reason_least fault.UnboundVariable in_form r = let at = bound_least ws r.0 in omega (arith, at)
   reason_least fault.BadDesignator in_form r = let at = designator_least ws w s r in omega (arith, at)
@@ -190,10 +188,6 @@ module _ (w : Word) (ws : List Wanted) (s : State) where
   declared_number fault.DeclaredTwice e r = r.1
   declared_number _ e r = absurd (omega (arith, e))
 
-  late_number : (g : Fault) → fault_number g ≡ 12 → Because g w ws s → is_declaration w.keyword ≡ true
-  late_number fault.LateDeclaration e r = r.1
-  late_number _ e r = absurd (omega (arith, e))
-
   designator_number : (g : Fault) → fault_number g ≡ 16 → Because g w ws s → is_bad_designator ws w s ≡ true
   designator_number fault.BadDesignator e r = r
   designator_number _ e r = absurd (omega (arith, e))
@@ -206,12 +200,6 @@ module _ (w : Word) (ws : List Wanted) (s : State) where
   -- each fault of a word that continues no form
   low : (f : Fault) → fault_number f ≤ 8 → IsLowest f w ws s
   low f le g in_form r = let begins = reason_begins g in_form r in omega (arith, le, begins)
-
-  late_lowest : wants_form ws ≡ true → w.keyword ≡ keyword.Production → IsLowest fault.LateProduction w ws s
-  late_lowest wants is g in_form r =
-      let at = form_least ws wants in
-      let least = reason_least g in_form r in
-      next_number 12 (fault_number g) (omega (arith, at, least)) (λ e. true≢false (sym (late_number g e r) ∙ ap is_declaration is))
 
   ambiguous_lowest : wants_cell ws ≡ true → designates w.kind w.name s ≡ true → IsLowest fault.AmbiguousDesignator w ws s
   ambiguous_lowest wants is g in_form r =
@@ -232,8 +220,6 @@ module _ (w : Word) (ws : List Wanted) (s : State) where
       let at = attribute_least ws r.0 in let here = deepest_least ws deepest in absurd (omega (arith, at, here))
   nesting_lowest left deepest fault.LateDeclaration in_form r =
       let at = form_least ws r.0 in let here = deepest_least ws deepest in absurd (omega (arith, at, here))
-  nesting_lowest left deepest fault.LateProduction in_form r =
-      let at = form_least ws r.0 in let here = deepest_least ws deepest in absurd (omega (arith, at, here))
   nesting_lowest left deepest fault.FirstNegated in_form r =
       let at = first_least ws r.1 in let here = deepest_least ws deepest in absurd (omega (arith, at, here))
   nesting_lowest left deepest fault.BadDesignator in_form r =
@@ -252,7 +238,6 @@ module _ (w : Word) (ws : List Wanted) (s : State) where
   reason_lowest single fault.DeclaredTwice r = let at = declared_least ws w.name s r.1 in lowest_at fault.DeclaredTwice (omega (arith, at))
   reason_lowest single fault.TwoVectors r = let at = second_single ws w.name s single r.1 in lowest_at fault.TwoVectors (omega (arith, at))
   reason_lowest single fault.LateDeclaration r = let at = form_least ws r.0 in lowest_at fault.LateDeclaration (omega (arith, at))
-  reason_lowest single fault.LateProduction r = late_lowest r.0 r.1
   reason_lowest single fault.FirstNegated r = let at = first_least ws r.1 in lowest_at fault.FirstNegated (omega (arith, at))
   reason_lowest single fault.UnboundVariable r = let at = bound_least ws r.0 in lowest_at fault.UnboundVariable (omega (arith, at))
   reason_lowest single fault.BadDesignator r = let at = designator_least ws w s r in lowest_at fault.BadDesignator (omega (arith, at))
@@ -281,7 +266,6 @@ module _ (w : Word) (ws : List Wanted) (s : State) where
   attribute_full new alone fault.UnknownClass in_form r = absurd (true≢false (sym r.0))
   attribute_full new alone fault.UnknownAttribute in_form r = absurd (true≢false (sym r.0))
   attribute_full new alone fault.LateDeclaration in_form r = absurd (true≢false (sym r.0))
-  attribute_full new alone fault.LateProduction in_form r = absurd (true≢false (sym r.0))
   attribute_full new alone fault.FirstNegated in_form r = absurd (true≢false (sym r.1))
   attribute_full new alone fault.UnboundVariable in_form r = absurd (true≢false (sym r.0))
   attribute_full new alone fault.BadDesignator in_form r = absurd (true≢false (sym r))
@@ -324,7 +308,6 @@ module _ (w : Word) (n : ℕ) (ws : List Wanted) (s : State) where
   value_full no_variable fault.UnknownClass in_form r = absurd (true≢false (sym r.0))
   value_full no_variable fault.UnknownAttribute in_form r = absurd (true≢false (sym r.0))
   value_full no_variable fault.LateDeclaration in_form r = absurd (true≢false (sym r.0))
-  value_full no_variable fault.LateProduction in_form r = absurd (true≢false (sym r.0))
   value_full no_variable fault.FirstNegated in_form r = absurd (true≢false (sym r.1))
   value_full no_variable fault.BadDesignator in_form r = absurd (true≢false (sym r))
   value_full no_variable fault.AmbiguousDesignator in_form r = absurd (true≢false (sym r.0))

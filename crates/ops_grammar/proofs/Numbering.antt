@@ -74,7 +74,13 @@ bind_given false k h = bound_given true k.variables h
 
 after_action-given : (k : InSight) (a : Action) → are_given k.variables ≡ true → are_given (after_action k a).variables ≡ true
 after_action-given k (action.Bind n t) h = bind_given (is_in n k.variables.sight) k h
-after_action-given k _ h = h
+after_action-given k (action.Make class puts) h = h
+after_action-given k (action.Modify cell puts) h = h
+after_action-given k (action.Remove cells) h = h
+after_action-given k (action.Write items) h = h
+after_action-given k (action.Cbind cell) h = h
+after_action-given k action.Halt h = h
+after_action-given k (action.Build template holes) h = h
 
 pub after_actions-given : (xs : List Action) (k : InSight) → are_given k.variables ≡ true → are_given (after_actions k xs).variables ≡ true
 after_actions-given [] k h = h

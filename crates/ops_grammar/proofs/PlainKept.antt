@@ -24,12 +24,13 @@ use Rattle.ops_base.specs.declared.commands.Command.{Command}
 use Rattle.ops_base.specs.declared.commands.Command.TheVariants as command
 use Rattle.ops_base.specs.Valid.{most_fields, most_conditions, no_class, class_of, is_vector, is_in, first_is_positive, cells_of, specificity, fixed_is_valid, elements_of}
 use Rattle.ops_grammar.specs.declared.words.Named.{Named}
-use Rattle.ops_grammar.specs.Grammar.{InPattern, InPut, InFixed, Use, State, number_of, precedes_classes, with_test, with_put, with_fixed, with_bound, with_bind, with_several, with_bound_element, classes_of_cells, put_action, with_element, with_cell, with_rule, left_ended, right_begun}
+use Rattle.ops_grammar.specs.Grammar.{InPattern, InPut, InFixed, Use, State, number_of, precedes_classes, with_test, with_put, with_fixed, with_bound, with_bind, with_several, with_bound_element, classes_of_cells, put_action, with_element, with_cell, with_rule, left_ended, right_begun, is_beginning, rules_with, commands_with, rule_of}
 use Rattle.ops_grammar.specs.Spelling.{Numbered, nothing_numbered, operand_is_plain, after_test, after_tests, after_conditions, InSight, at_arrow, after_action, term_is_plain, put_is_plain, action_is_plain, rule_is_plain, command_is_plain, after_members}
 use Rattle.ops_grammar.proofs.Lists.{all_push}
 use Rattle.ops_grammar.proofs.Numbering.{are_given, next_apart, after_conditions-given, after_actions-given}
 use Rattle.ops_grammar.proofs.PlainClasses.{IsArranged}
 use Rattle.ops_grammar.proofs.Plain.{numbers_in, numbered_in, made_is_class, in_sight, IsBase, IsRight, Base, Left, Right, Conditions, IsOfCell, IsElement, HasAttribute, IsVector, HasField, HasSeveral, after_tests-push, tests_push, after_actions-push, actions_push, number_sighted, some_cell, below_more, renumbered_below, cells_are, numbered_inside}
+use Rattle.ops_base.specs.declared.rules.Rule.{Rule}
 
 pub command_kept : (s : State) (c : Command) → Base s → command_is_plain s.classes c ≡ true → IsBase s.vectors s.classes s.rules (s.commands ++ c ∷ [])
 command_kept s c g plain = record { arranged = g.arranged; rules_plain = g.rules_plain; commands_plain = all_push (command_is_plain s.classes) s.commands c g.commands_plain plain }
@@ -44,7 +45,15 @@ command_still classes more (command.Wm tags) before plain = plain
 command_still classes more (command.Pm names) before plain = plain
 command_still classes more (command.Watch None) before plain = refl
 command_still classes more (command.Watch (Some n)) before plain = plain
-command_still classes more _ before plain = refl
+command_still classes more command.RemoveAll before plain = refl
+command_still classes more command.Cs before plain = refl
+command_still classes more (command.Strategy set) before plain = refl
+command_still classes more (command.Pbreak names) before plain = refl
+command_still classes more command.Exit before plain = refl
+command_still classes more (command.Add r) before plain = absurd (true≢false (sym before))
+command_still classes more (command.Excise names) before plain = plain
+command_still classes more (command.Back count) before plain = plain
+command_still classes more (command.Matches names) before plain = plain
 
 pub commands_still : (classes more : List Class) (cs : List Command) → list_all precedes_classes cs ≡ true → list_all (command_is_plain classes) cs ≡ true → list_all (command_is_plain more) cs ≡ true
 commands_still classes more [] before plain = refl
@@ -232,16 +241,23 @@ negated_begun s left none e =
       cells = left.cells;
     }
 
-pub rule_kept : (s : State) (past : ℕ) → Base s → Right s → IsBase s.vectors s.classes (with_rule s past).rules s.commands
+rule_plain : (s : State) (past : ℕ) → Right s → rule_is_plain s.classes (rule_of s past) ≡ true
+rule_plain s past g =
+    and_from _ _ (and_from _ _ (and_from _ _ (and_from _ _ (and_from _ _ (and_from _ _ g.positive (le-leb _ _ g.few)) g.left) g.plain)
+    (eq-eqb s.variables _ (sym (ap (λ (k : InSight). k.variables.given) g.sight)))) (eq-eqb (specificity s.conditions) (specificity s.conditions) refl))
+    (eq-eqb (length (classes_of_cells s)) _ (sym (ap (λ (k : InSight). length k.cells) g.sight)))
+
+-- a production more, of the beginning or added
+production_kept : (vectors : List Sym) (classes : List Class) (rules : List Rule) (commands : List Command) (r : Rule) → IsBase vectors classes rules commands → rule_is_plain classes r ≡ true → (b : Bool)
+    → IsBase vectors classes (rules_with b rules r) (commands_with b commands r)
+production_kept vectors classes rules commands r h plain true =
+    record { arranged = h.arranged; rules_plain = all_push (rule_is_plain classes) rules r h.rules_plain plain; commands_plain = h.commands_plain }
+production_kept vectors classes rules commands r h plain false =
+    record { arranged = h.arranged; rules_plain = h.rules_plain; commands_plain = all_push (command_is_plain classes) commands (command.Add r) h.commands_plain plain }
+
+pub rule_kept : (s : State) (past : ℕ) → Base s → Right s → Base (with_rule s past)
 rule_kept s past b g =
-    record {
-      arranged = b.arranged;
-      rules_plain = all_push (rule_is_plain s.classes) s.rules _ b.rules_plain
-          (and_from _ _ (and_from _ _ (and_from _ _ (and_from _ _ (and_from _ _ (and_from _ _ g.positive (le-leb _ _ g.few)) g.left) g.plain)
-          (eq-eqb s.variables _ (sym (ap (λ (k : InSight). k.variables.given) g.sight)))) (eq-eqb (specificity s.conditions) (specificity s.conditions) refl))
-          (eq-eqb (length (classes_of_cells s)) _ (sym (ap (λ (k : InSight). length k.cells) g.sight))));
-      commands_plain = b.commands_plain;
-    }
+    production_kept s.vectors s.classes s.rules s.commands (rule_of s past) b (rule_plain s past g) (is_beginning s)
 
 -- ---- element variables
 

@@ -7,7 +7,7 @@ use Rattle.ops_base.specs.declared.values.Sym.{Sym}
 use Rattle.ops_base.specs.declared.elements.Class.{Class}
 use Rattle.ops_base.specs.declared.endings.Fault.TheVariants as fault
 use Rattle.ops_base.specs.Names.{Spellings, only_nil}
-use Rattle.ops_base.specs.Valid.{longest_list, are_distinct, class_is_valid, rule_is_valid, command_is_valid}
+use Rattle.ops_base.specs.Valid.{longest_list, are_distinct, class_is_valid, rule_is_valid, command_is_valid, rule_builds_from, command_builds_from}
 use Rattle.ops_tokens.specs.declared.token.LexFault.{LexFault}
 use Rattle.ops_grammar.specs.declared.words.Word.{Word}
 use Rattle.ops_grammar.specs.Words.{lexed, names_from}
@@ -15,7 +15,7 @@ use Rattle.ops_grammar.specs.Grammar.{is_one_of, Wanted, Forms, State, Step, Nex
 use Rattle.ops_grammar.specs.Reads.{Read, Placed, verdict, read_lexed, reads}
 use Rattle.ops_grammar.specs.Standing.{words_of, outcome_of, AreRead}
 use Rattle.ops_grammar.specs.Spelling.{vectors_of, scalars_of, class_is_plain, is_plain, spelled_program}
-use Rattle.ops_grammar.proofs.ReadsValid.{reads-valid}
+use Rattle.ops_grammar.proofs.ReadsValid.{reads-valid, reads-apart}
 use Rattle.ops_grammar.proofs.PlainClasses.{IsArranged, vectors_among, scalars_among}
 use Rattle.ops_grammar.proofs.Plain.{IsBase, Base, IsPlainly, at_forms, Keeps}
 use Rattle.ops_grammar.proofs.PlainSteps.{step_keeps}
@@ -76,10 +76,14 @@ reads-plain text p e =
     let base = found.1 in
     let v1 = and_parts _ (are_distinct (map (λ r. r.name.0) p.rules)) (reads-valid text p e) in
     let v2 = and_parts _ (are_distinct (map (λ c. c.name.0) p.classes)) v1.0 in
-    let v3 = and_parts _ (list_all (command_is_valid p.classes) p.commands) v2.0 in
-    let v4 = and_parts _ (list_all (rule_is_valid p.classes (length text)) p.rules) v3.0 in
-    let v5 = and_parts _ (list_all class_is_valid p.classes) v4.0 in
-    and_from _ _ (and_from _ _ (and_from _ _ (and_from _ _ (classes_plain found.0 (vectors_of p.classes) p.classes (vectors_among found.0 p.classes base.arranged) base.arranged v5.1) base.rules_plain) base.commands_plain) v2.1) v1.1
+    let v3 = and_parts _ (list_all (command_builds_from 0) p.commands) v2.0 in
+    let v4 = and_parts _ (list_all (rule_builds_from 0) p.rules) v3.0 in
+    let v5 = and_parts _ (list_all (command_is_valid p.classes (length text)) p.commands) v4.0 in
+    let v6 = and_parts _ true v5.0 in
+    let v7 = and_parts _ (list_all (rule_is_valid p.classes (length text)) p.rules) v6.0 in
+    let v8 = and_parts _ (list_all class_is_valid p.classes) v7.0 in
+    let apart = reads-apart text p e in
+    and_from _ _ (and_from _ _ (and_from _ _ (and_from _ _ (and_from _ _ (classes_plain found.0 (vectors_of p.classes) p.classes (vectors_among found.0 p.classes base.arranged) base.arranged v8.1) base.rules_plain) base.commands_plain) v2.1) apart.0) apart.1
 
 -- A program that is read is spelled and read back.
 pub reads-again : (text : List ℕ) (p : Read) → reads text ≡ Ok p → AreRead (spelled_program p.classes p.rules p.commands) p.classes p.rules p.commands

@@ -32,7 +32,7 @@ use Rattle.ops_base.specs.declared.commands.Strategy.{Strategy}
 use Rattle.ops_base.specs.declared.endings.Fault.{Fault}
 use Rattle.ops_base.specs.declared.endings.Fault.TheVariants as fault
 use Rattle.ops_base.specs.Names.{Spellings, only_nil, place_of, with_spelling}
-use Rattle.ops_base.specs.Valid.{longest_list, most_fields, most_conditions, class_of, is_vector, specificity, elements_of}
+use Rattle.ops_base.specs.Valid.{longest_list, most_fields, most_conditions, class_of, is_vector, elements_of}
 use Rattle.ops_tokens.specs.declared.token.TokenKind.{TokenKind}
 use Rattle.ops_tokens.specs.declared.token.TokenKind.TheVariants as kind
 use Rattle.ops_tokens.specs.declared.token.LexFault.{LexFault}
@@ -42,7 +42,7 @@ use Rattle.ops_grammar.specs.declared.words.Word.{Word}
 use Rattle.ops_grammar.specs.declared.words.Keyword.{Keyword}
 use Rattle.ops_grammar.specs.declared.words.Keyword.TheVariants as keyword
 use Rattle.ops_grammar.specs.Words.{lexed, has_name, names_with, word_of, words_from, names_from, word_before}
-use Rattle.ops_grammar.specs.Grammar.{Use, Target, Ends, Column, TagUse, NameUse, Waiting, Wanted, State, Step, is_left, is_right, is_left_brace, is_right_brace, is_caret, is_name, is_variable, is_arrow, is_literal, is_minus, opens_choice, closes_choice, pred_of, constant_of, atom_of, value_of, small_of, is_one_of, number_of, may_declare, may_produce, is_class, is_rule, form, class_declared, arranged, has_vector, with_class, is_second, attribute_declared, attributes, with_vector_last, with_vector, makes_second, vector_declared, vector_name, vector_names, class_at, class_name, attributes_of, field_at, attribute, with_test, with_put, with_fixed, with_item, with_bind, with_constant, with_bound, variable_tested, constant_tested, tested, predicated, test, place, tests, with_choice, chosen, choice, atom_at, term_at, bound_at, constant_at, is_of_action, value_for, most_brackets, no_formula, with_formula, completed, unit_bound, unit_at, expression_unit, bracketed, is_compute, operation_of, operation_at, expression_ended, expression_rest, function, source_named, source_cell, source_class, source_at, source_attribute, takes_several, ends_at_inf, source_end, with_action, with_command, with_condition, put_action, fixed_command, with_element, terms, within, one_of_several, with_several, several, rule_name, first_pattern, one_more, more_patterns, patterns, pattern, element_at, element_name, braced, closes_brace, classes_of_cells, with_rule, actions, action_word, cell_of, with_designated, with_modified, bound_name, bound_value, cell_bound, cell_name, cells, items, item_word, column_item, columns_at, ended, closes, count_of, counted, count, strategy_of, strategy_set, strategy_name, tag_at, is_all, tag_or_all, tag_command, tags, shown, named_rule, name_command, named_rules, level_of, level_set, level, forms, step, Outcome, ends, after, goes, nothing_read, InPattern, InPut, InFixed, ToTest, ToPut, ToFixed, ToTerms, ToConstants, ToItem, ToBind, EndsHalt, EndsCrlf, EndsCs, EndsExit, EndsWhole, ToTab, ToRight, ToRemove, ToShow, ToPrint, ToBreak, Forms, Form, ClassDeclared, Attributes, VectorName, VectorNames, RuleName, FirstPattern, Patterns, Pattern, Braced, ElementName, ClosesBrace, ClassName, Terms, Attribute, Several, Place, Tests, Tested, Choice, Atom, ValueFor, Function, ExpressionUnit, ExpressionRest, Bracketed, SourceCell, SourceAttribute, SourceEnd, Actions, ActionWord, Modified, BoundName, BoundValue, CellName, Cell, Cells, Items, ItemWord, Columns, Count, StrategyName, TagOrAll, Tags, Shown, NamedRule, NamedRules, Level, Closes, Next, Refuses, begins_group, GroupBrace, Members, members, group, with_group, with_member, with_one, has_room}
+use Rattle.ops_grammar.specs.Grammar.{Use, Target, Ends, Column, TagUse, NameUse, Waiting, Wanted, State, Step, is_left, is_right, is_left_brace, is_right_brace, is_caret, is_name, is_variable, is_arrow, is_literal, is_minus, opens_choice, closes_choice, pred_of, constant_of, atom_of, value_of, small_of, is_one_of, number_of, may_declare, is_class, is_rule, form, class_declared, arranged, has_vector, with_class, is_second, attribute_declared, attributes, with_vector_last, with_vector, makes_second, vector_declared, vector_name, vector_names, class_at, class_name, attributes_of, field_at, attribute, with_test, with_put, with_fixed, with_item, with_bind, with_constant, with_bound, variable_tested, constant_tested, tested, predicated, test, place, tests, with_choice, chosen, choice, atom_at, term_at, bound_at, constant_at, is_of_action, value_for, most_brackets, no_formula, with_formula, completed, unit_bound, unit_at, expression_unit, bracketed, is_compute, operation_of, operation_at, expression_ended, expression_rest, function, source_named, source_cell, source_class, source_at, source_attribute, takes_several, ends_at_inf, source_end, with_action, with_command, with_condition, put_action, fixed_command, with_element, terms, within, one_of_several, with_several, several, rule_name, first_pattern, one_more, more_patterns, patterns, pattern, element_at, element_name, braced, closes_brace, classes_of_cells, with_rule, actions, action_word, cell_of, with_designated, with_modified, bound_name, bound_value, cell_bound, cell_name, cells, items, item_word, column_item, columns_at, ended, closes, count_of, counted, count, strategy_of, strategy_set, strategy_name, tag_at, is_all, tag_or_all, tag_command, tags, shown, named_rule, name_command, named_rules, level_of, level_set, level, forms, step, Outcome, ends, after, goes, nothing_read, InPattern, InPut, InFixed, ToTest, ToPut, ToFixed, ToTerms, ToConstants, ToItem, ToBind, EndsHalt, EndsCrlf, EndsCs, EndsExit, EndsWhole, ToTab, ToRight, ToRemove, ToShow, ToPrint, ToBreak, Forms, Form, ClassDeclared, Attributes, VectorName, VectorNames, RuleName, FirstPattern, Patterns, Pattern, Braced, ElementName, ClosesBrace, ClassName, Terms, Attribute, Several, Place, Tests, Tested, Choice, Atom, ValueFor, Function, ExpressionUnit, ExpressionRest, Bracketed, SourceCell, SourceAttribute, SourceEnd, Actions, ActionWord, Modified, BoundName, BoundValue, CellName, Cell, Cells, Items, ItemWord, Columns, Count, StrategyName, TagOrAll, Tags, Shown, NamedRule, NamedRules, Level, Closes, Next, Refuses, begins_group, GroupBrace, Members, members, group, with_group, with_member, with_one, has_room, ToExcise, is_beginning, rules_with, commands_with, rule_of}
 use Rattle.ops_grammar.specs.Reads.{Read, Placed, verdict, read_lexed, reads}
 use Rattle.ops_base.specs.Symbols.{symbol_held, value_held, class_held, operand_held, part_held, condition_held, term_held, put_held, item_held, action_held, rule_held, fixed_held, command_held, is_held}
 use Rattle.ops_grammar.proofs.Lists.{all_push}
@@ -194,10 +194,18 @@ module _ (n : ℕ) where
   choice_kept : (s : State) (f : ℕ) → AreHeld n s → AreHeld n (with_choice s f)
   choice_kept s f h = let more = test_kept s f pred.Eq (operand.OneOf s.choice) false h h.choice in assumption (refl, more)
 
+  rules_held : (b : Bool) (rules : List Rule) (r : Rule) → list_all (rule_held n) rules ≡ true → rule_held n r ≡ true → list_all (rule_held n) (rules_with b rules r) ≡ true
+  rules_held true rules r h e = all_push (rule_held n) rules r h e
+  rules_held false rules r h e = h
+
+  commands_held : (b : Bool) (commands : List Command) (r : Rule) → list_all (command_held n) commands ≡ true → rule_held n r ≡ true → list_all (command_held n) (commands_with b commands r) ≡ true
+  commands_held true commands r h e = h
+  commands_held false commands r h e = all_push (command_held n) commands (command.Add r) h e
+
   rule_kept : (s : State) (past : ℕ) → AreHeld n s → AreHeld n (with_rule s past)
   rule_kept s past h =
-      let one : Rule = record { name = s.name; conditions = s.conditions; actions = s.actions; specificity = specificity s.conditions; variables = s.variables; cells = length (classes_of_cells s); first = s.first; past = past } in
-      assumption (refl, all_push (rule_held n) s.rules one h.rules (and_from _ _ (and_from _ _ h.name h.conditions) h.actions))
+      let held : rule_held n (rule_of s past) ≡ true = and_from _ _ (and_from _ _ h.name h.conditions) h.actions in
+      assumption (refl, rules_held (is_beginning s) s.rules (rule_of s past) h.rules held, commands_held (is_beginning s) s.commands (rule_of s past) h.commands held)
 
   -- ---- constants
 
@@ -231,7 +239,7 @@ module _ (n : ℕ) (w : Word) (named : symbol_held n w.name ≡ true) where
   form_keeps : (k : Keyword) (ws : List Wanted) (s : State) → AreHeld n s → Keeps n (form w k ws s)
   form_keeps keyword.Literalize ws s h = cond_both (may_declare s) _ _ (Keeps n) (λ _. h) (λ _. tt)
   form_keeps keyword.VectorAttribute ws s h = cond_both (may_declare s) _ _ (Keeps n) (λ _. h) (λ _. tt)
-  form_keeps keyword.Production ws s h = cond_both (may_produce s) _ _ (Keeps n) (λ _. h) (λ _. tt)
+  form_keeps keyword.Production ws s h = h
   form_keeps keyword.Make ws s h = assumption (refl, h)
   form_keeps keyword.Remove ws s h = assumption h
   form_keeps keyword.Run ws s h = h
@@ -242,6 +250,7 @@ module _ (n : ℕ) (w : Word) (named : symbol_held n w.name ≡ true) where
   form_keeps keyword.Strategy ws s h = h
   form_keeps keyword.Watch ws s h = h
   form_keeps keyword.Pbreak ws s h = assumption (refl, h)
+  form_keeps keyword.Excise ws s h = assumption (refl, h)
   form_keeps keyword.Exit ws s h = h
   form_keeps _ ws s h = tt
 
@@ -625,6 +634,7 @@ module _ (n : ℕ) (w : Word) (named : symbol_held n w.name ≡ true) where
   name_command_held : (u : NameUse) (names : List Sym) → list_all (symbol_held n) names ≡ true → command_held n (name_command u names) ≡ true
   name_command_held ToPrint names h = h
   name_command_held ToBreak names h = h
+  name_command_held ToExcise names h = h
 
   named_rules_keeps : (u : NameUse) (ws : List Wanted) (s : State) → AreHeld n s → Keeps n (named_rules u w ws s)
   named_rules_keeps u ws s h =
@@ -730,12 +740,12 @@ names_grow_on text names (t ∷ ts) =
 
 -- what was read is held
 abbrev IsDone : ℕ → Outcome → Type 0
-IsDone n (Ok s) = is_held n s.classes s.rules s.commands ≡ true
+IsDone n (Ok s) = is_held n s.classes s.rules [] s.commands ≡ true
 IsDone n (Err e) = Unit {0}
 
 ends_held : (n : ℕ) (ws : List Wanted) (s : State) → AreHeld n s → IsDone n (ends ws s)
 unfolding ends
-ends_held n [] s h = and_from _ _ (and_from _ _ h.classes h.rules) h.commands
+ends_held n [] s h = and_from _ _ (and_from _ _ (and_from _ _ h.classes h.rules) refl) h.commands
 ends_held n (Forms ∷ ws) s h = ends_held n ws s h
 ends_held n (w ∷ ws) s h = tt
 
@@ -760,15 +770,15 @@ goes_held source names (t ∷ ts) n ws s some le h =
 nothing_held : (n : ℕ) → 0 < n → AreHeld n nothing_read
 nothing_held n some = assumption (refl, lt-ltb 0 n some)
 
-verdict_held : (text : ℕ) (names : Spellings) (stop : Option LexFault) (o : Outcome) (r : Read) → IsDone (length names.held) o → verdict text names stop o ≡ Ok r → is_held (length r.names.held) r.classes r.rules r.commands ≡ true
+verdict_held : (text : ℕ) (names : Spellings) (stop : Option LexFault) (o : Outcome) (r : Read) → IsDone (length names.held) o → verdict text names stop o ≡ Ok r → is_held (length r.names.held) r.classes r.rules [] r.commands ≡ true
 verdict_held text names stop (Err (f, Some w)) r done e = absurd (cc)
 verdict_held text names stop (Err (f, None)) r done e = absurd (cc)
 verdict_held text names (Some f) (Ok s) r done e = absurd (cc)
 verdict_held text names None (Ok s) r done e =
     let same : record { classes = s.classes; rules = s.rules; commands = s.commands; names = names } ≡ r = cc in
-    ap (λ (q : Read). is_held (length q.names.held) q.classes q.rules q.commands) (sym same) ∙ done
+    ap (λ (q : Read). is_held (length q.names.held) q.classes q.rules [] q.commands) (sym same) ∙ done
 
-by_length : (text : List ℕ) (r : Read) (long : Bool) → (let x : Result Read Placed = cond long (Err (record { fault = fault.TooLong; at = 0 })) (read_lexed text (lexed text)) in x ≡ Ok r) → is_held (length r.names.held) r.classes r.rules r.commands ≡ true
+by_length : (text : List ℕ) (r : Read) (long : Bool) → (let x : Result Read Placed = cond long (Err (record { fault = fault.TooLong; at = 0 })) (read_lexed text (lexed text)) in x ≡ Ok r) → is_held (length r.names.held) r.classes r.rules [] r.commands ≡ true
 by_length text r true e = absurd (cc)
 by_length text r false e =
     let names = names_from text only_nil (lexed text).tokens in
@@ -777,6 +787,6 @@ by_length text r false e =
     (goes_held text only_nil (lexed text).tokens (length names.held) (Forms ∷ []) nothing_read (omega arith) (omega arith) (nothing_held (length names.held) (omega (arith, grown))))
     e
 
-pub reads-held : (text : List ℕ) (r : Read) → reads text ≡ Ok r → is_held (length r.names.held) r.classes r.rules r.commands ≡ true
+pub reads-held : (text : List ℕ) (r : Read) → reads text ≡ Ok r → is_held (length r.names.held) r.classes r.rules [] r.commands ≡ true
 unfolding reads
 reads-held text r e = by_length text r (nat_lt longest_list (length text)) e

@@ -15,16 +15,18 @@ use Rattle.ops_base.specs.Valid.{most_conditions, are_distinct, class_of, class_
 use Rattle.ops_grammar.specs.declared.words.Word.{Word}
 use Rattle.ops_grammar.specs.declared.words.Named.{Named}
 use Rattle.ops_grammar.specs.declared.words.Keyword.TheVariants as keyword
-use Rattle.ops_grammar.specs.Grammar.{Wanted, Forms, FirstPattern, Patterns, Actions, State, Outcome, is_one_of, no_formula, left_begun, left_ended, right_begun, step, may_produce, is_rule, with_rule, ends, goes}
+use Rattle.ops_grammar.specs.Grammar.{Wanted, Forms, FirstPattern, Patterns, Actions, State, Outcome, is_one_of, no_formula, left_begun, left_ended, right_begun, step, is_rule, with_rule, ends, goes, precedes_rules, added, added_by, has_title, rules_with, commands_with}
 use Rattle.ops_grammar.specs.Standing.{outcome_of, AreRead}
-use Rattle.ops_grammar.specs.Spelling.{opening, closing, arrow, spelled_keyword, spelled_name, spelled_each, spelled_class, attribute_name, last_field, spelled_vector, spelled_actions, spelled_condition, spelled_conditions, spelled_rule, spelled_command, spelled_program, at_arrow, after_actions, actions_are_plain, nothing_numbered, after_condition, condition_is_plain, conditions_are_plain, after_conditions, rule_is_plain, vectors_of, scalars_of, class_is_plain, command_is_plain, is_plain}
+use Rattle.ops_grammar.specs.Spelling.{opening, closing, arrow, spelled_keyword, spelled_name, spelled_each, spelled_class, attribute_name, last_field, spelled_vector, spelled_actions, spelled_condition, spelled_conditions, spelled_rule, spelled_command, spelled_program, at_arrow, after_actions, actions_are_plain, nothing_numbered, after_condition, condition_is_plain, conditions_are_plain, after_conditions, rule_is_plain, vectors_of, scalars_of, class_is_plain, command_is_plain, is_plain, titles_are_distinct, adds_late}
 use Rattle.ops_grammar.proofs.Lists.{all_weaker}
 use Rattle.ops_grammar.proofs.Places.{numbered}
 use Rattle.ops_grammar.proofs.Numbering.{after_condition-given, below}
 use Rattle.ops_grammar.proofs.ReadsBack.{apart_before, vector-read, IsUnder, class-read}
-use Rattle.ops_grammar.proofs.ReadsFacts.{AreNamed, fact-read, shown-read, all_shown-read, remove-read, remove_all-read, wm-read, pm-read, pbreak-read, run-read, run_so_often-read, strategy-read, watch-read, watch_at-read, cs-read, exit-read}
+use Rattle.ops_grammar.proofs.ReadsFacts.{AreNamed, fact-read, shown-read, all_shown-read, remove-read, remove_all-read, wm-read, pm-read, pbreak-read, run-read, run_so_often-read, strategy-read, watch-read, watch_at-read, cs-read, exit-read, excise-read}
 use Rattle.ops_grammar.proofs.ReadsRight.{Trail, acted, actions-read}
 use Rattle.ops_grammar.proofs.ReadsRules.{Left, left_after, left_behind, matched, cells_behind, first-read, conditions-read}
+use Rattle.ops_grammar.proofs.Added.{title, distinct_front, late_at}
+use Rattle.std.proofs.lemmas.Grind.{flat_map-append}
 
 -- what a form leaves after that no later one looks at
 pub record Rest : Type 0 where
@@ -103,11 +105,11 @@ after_rule rest r =
       shows = rest.shows;
     }
 
-rule_begun : (r : Rule) (words : List Word) (ws : List Wanted) (s : State) → may_produce s ≡ true → is_rule s r.name ≡ false
+rule_begun : (r : Rule) (words : List Word) (ws : List Wanted) (s : State) → is_rule s r.name ≡ false
     → goes (record opening { first = r.first } ∷ spelled_keyword keyword.Production ∷ spelled_name r.name ∷ words) (Forms ∷ ws) s
     ≡ goes words (FirstPattern ∷ Patterns ∷ Actions ∷ Forms ∷ ws) (record (left_begun s) { first = r.first; name = r.name })
 unfolding goes step
-rule_begun r words ws s none new = rw none (rw new refl)
+rule_begun r words ws s new = rw new refl
 
 arrow_read : (words : List Word) (ws : List Wanted) (s : State) → goes (arrow ∷ words) (Patterns ∷ ws) s ≡ goes words ws (right_begun (left_ended s))
 unfolding goes step
@@ -117,10 +119,10 @@ rule_closed : (past : ℕ) (words : List Word) (ws : List Wanted) (s : State) �
 unfolding goes step
 rule_closed past words ws s = refl
 
-module _ (classes : List Class) (rules : List Rule) (more : List Word) (ws : List Wanted) (names : AreNamed classes) where
+module _ (classes : List Class) (rules : List Rule) (commands : List Command) (more : List Word) (ws : List Wanted) (names : AreNamed classes) where
   -- where the rule's parts are wanted
   abbrev begun : Rest → Rule → State
-  begun rest r = record (left_begun (idle rest classes rules [])) { first = r.first; name = r.name }
+  begun rest r = record (left_begun (idle rest classes rules commands)) { first = r.first; name = r.name }
 
   left_read : (r : Rule) (rest : Rest) (cs : List Part) (words : List Word) → first_is_positive cs ≡ true → length (elements_of cs) ≤ most_conditions → conditions_are_plain classes nothing_numbered cs ≡ true
       → goes (spelled_conditions classes 0 cs ++ words) (FirstPattern ∷ Patterns ∷ Actions ∷ Forms ∷ ws) (begun rest r)
@@ -136,12 +138,18 @@ module _ (classes : List Class) (rules : List Rule) (more : List Word) (ws : Lis
       ∙ first-read c.class c.tests (others ++ words) wanted (begun rest r) at_rule nothing_numbered [] names refl c.negated (not-true _ positive) refl each.0
       ∙ conditions-read cs words (Actions ∷ Forms ∷ ws) (begun rest r) after (after_condition nothing_numbered c) (One c ∷ []) names (after_condition-given nothing_numbered c refl) (cells_behind (One c ∷ []) at_rule nothing_numbered [] refl) few each.1
 
+  -- The production stands with the others, or it is added.
+  abbrev behind : Rule → Rest → Rule → Outcome
+  behind r rest one =
+      let begins = list_all precedes_rules commands in
+      goes more (Forms ∷ ws) (idle (after_rule rest r) classes (rules_with begins rules one) (commands_with begins commands one))
+
   abbrev whole : Rule → Rest → ℕ → ℕ → ℕ → Outcome
-  whole r rest v p c = goes more (Forms ∷ ws) (idle (after_rule rest r) classes (rules ++ record { name = r.name; conditions = r.conditions; actions = r.actions; specificity = p; variables = v; cells = c; first = r.first; past = r.past } ∷ []) [])
+  whole r rest v p c = behind r rest (record { name = r.name; conditions = r.conditions; actions = r.actions; specificity = p; variables = v; cells = c; first = r.first; past = r.past })
 
   -- A production is read back.
-  pub rule-read : (r : Rule) (rest : Rest) → is_rule (idle rest classes rules []) r.name ≡ false → rule_is_plain classes r ≡ true
-      → goes (spelled_rule classes r ++ more) (Forms ∷ ws) (idle rest classes rules []) ≡ goes more (Forms ∷ ws) (idle (after_rule rest r) classes (rules ++ r ∷ []) [])
+  pub rule-read : (r : Rule) (rest : Rest) → is_rule (idle rest classes rules commands) r.name ≡ false → rule_is_plain classes r ≡ true
+      → goes (spelled_rule classes r ++ more) (Forms ∷ ws) (idle rest classes rules commands) ≡ behind r rest r
   rule-read r rest new plain =
       let k = after_conditions nothing_numbered r.conditions in
       let l : Left = left_behind at_rule nothing_numbered r.conditions in
@@ -161,8 +169,8 @@ module _ (classes : List Class) (rules : List Rule) (more : List Word) (ws : Lis
       let acts = actions-read r.actions at_actions from (end ∷ more) (Forms ∷ ws) (left_ended body) [] names (sym (append-nil (cells_of r.conditions))) p4.1 in
       let counted : length (cells_of r.conditions ++ acts.0.further) ≡ cells = ap (λ (xs : List ℕ). length xs) (sym acts.1) in
       let head : List Word = record opening { first = r.first } ∷ spelled_keyword keyword.Production ∷ spelled_name r.name ∷ left in
-      ap (λ (x : List Word). goes x (Forms ∷ ws) (idle rest classes rules [])) (append_assoc (head ++ arrow ∷ right) (end ∷ []) more ∙ append_assoc head (arrow ∷ right) (end ∷ more))
-      ∙ rule_begun r (left ++ (arrow ∷ right ++ (end ∷ more))) ws (idle rest classes rules []) refl new
+      ap (λ (x : List Word). goes x (Forms ∷ ws) (idle rest classes rules commands)) (append_assoc (head ++ arrow ∷ right) (end ∷ []) more ∙ append_assoc head (arrow ∷ right) (end ∷ more))
+      ∙ rule_begun r (left ++ (arrow ∷ right ++ (end ∷ more))) ws (idle rest classes rules commands) new
       ∙ left_read r rest r.conditions (arrow ∷ right ++ (end ∷ more)) p6.0 (leb-true _ _ p6.1) p5.1
       ∙ arrow_read (right ++ (end ∷ more)) (Actions ∷ Forms ∷ ws) body
       ∙ ap (λ (n : ℕ). goes (right ++ (end ∷ more)) (Actions ∷ Forms ∷ ws) (record (right_begun (left_ended body)) { elements = numbered (below n) })) (sym (cells_behind r.conditions at_rule nothing_numbered [] refl))
@@ -277,44 +285,73 @@ rules_read classes (r ∷ rs) done rest names plain distinct =
       behind.0,
       λ more.
           ap (λ (x : List Word). goes x (Forms ∷ []) (idle rest classes done [])) (append_assoc (spelled_rule classes r) others more)
-          ∙ rule-read classes done (others ++ more) [] names r rest (apart_before (λ (r : Rule). r.name.0) done r rs distinct) each.0
+          ∙ rule-read classes done [] (others ++ more) [] names r rest (or_none (has_title r.name done) ∙ apart_before (λ (r : Rule). r.name.0) done r rs distinct) each.0
           ∙ behind.1 more
           ∙ ap (λ (xs : List Rule). goes more (Forms ∷ []) (idle behind.0 classes xs [])) all,
     )
 
-command_read : (classes : List Class) (rules : List Rule) (c : Command) (done : List Command) (rest : Rest) → AreNamed classes → command_is_plain classes c ≡ true
+-- A production that is added has a name of its own, and stands behind a `make` or a `run`.
+abbrev MayCome : List Rule → List Command → Rule → Type 0
+MayCome rules done r =
+    ((has_title r.name rules || has_title r.name (added_by done)) ≡ false) × (list_all precedes_rules done ≡ false)
+
+may_come : (rules : List Rule) (done : List Command) (r : Rule) (cs : List Command) → titles_are_distinct rules (done ++ command.Add r ∷ cs) ≡ true → adds_late (done ++ command.Add r ∷ cs) ≡ true → MayCome rules done r
+may_come rules done r cs distinct late =
+    let all : rules ++ added_by (done ++ command.Add r ∷ cs) ≡ (rules ++ added_by done) ++ r ∷ added_by cs =
+    ap (λ (rs : List Rule). rules ++ rs) (flat_map-append added done (command.Add r ∷ cs)) ∙ sym (append_assoc rules (added_by done) (r ∷ added_by cs)) in (
+      sym (list_any-append (λ (s : Rule). s.name.0 == r.name.0) rules (added_by done))
+          ∙ apart_before title (rules ++ added_by done) r (added_by cs) (subst (λ (rs : List Rule). are_distinct (map title rs) ≡ true) all distinct),
+      late_at done r cs late,
+    )
+
+command_read : (classes : List Class) (rules : List Rule) (c : Command) (done : List Command) (rest : Rest) → AreNamed classes → command_is_plain classes c ≡ true → ((r : Rule) → c ≡ command.Add r → MayCome rules done r)
     → Reads (spelled_command classes c) rest classes rules done classes rules (done ++ c ∷ [])
-command_read classes rules (command.Make class puts) done rest names plain =
+command_read classes rules (command.Make class puts) done rest names plain may =
     let parts = and_parts (nat_lt class (length classes)) (list_all (fixed_is_valid (class_of classes class)) puts) plain in
     (record rest { first = 0; class = class; shows = false }, λ more. fact-read class puts more [] (idle rest classes rules done) names (ltb-true _ _ parts.0) parts.1)
-command_read classes rules (command.Remove tags) done rest names plain =
+command_read classes rules (command.Remove tags) done rest names plain may =
     let parts = and_parts (nat_lt 0 (length tags)) (list_all is_natural tags) plain in
     (record rest { first = 0 }, λ more. remove-read tags more [] (idle rest classes rules done) parts.0 parts.1)
-command_read classes rules command.RemoveAll done rest names plain = (record rest { first = 0 }, λ more. remove_all-read more [] (idle rest classes rules done))
-command_read classes rules (command.Run None) done rest names plain = (record rest { first = 0 }, λ more. run-read more [] (idle rest classes rules done))
-command_read classes rules (command.Run (Some n)) done rest names plain = (record rest { first = 0 }, λ more. run_so_often-read n more [] (idle rest classes rules done) plain)
-command_read classes rules (command.Wm tags) done rest names plain = (record rest { first = 0 }, λ more. wm-read tags more [] (idle rest classes rules done) plain)
-command_read classes rules (command.Ppwm None) done rest names plain = (record rest { first = 0 }, λ more. all_shown-read classes more [] (idle rest classes rules done))
-command_read classes rules (command.Ppwm (Some p)) done rest names plain =
+command_read classes rules command.RemoveAll done rest names plain may = (record rest { first = 0 }, λ more. remove_all-read more [] (idle rest classes rules done))
+command_read classes rules (command.Run None) done rest names plain may = (record rest { first = 0 }, λ more. run-read more [] (idle rest classes rules done))
+command_read classes rules (command.Run (Some n)) done rest names plain may = (record rest { first = 0 }, λ more. run_so_often-read n more [] (idle rest classes rules done) plain)
+command_read classes rules (command.Wm tags) done rest names plain may = (record rest { first = 0 }, λ more. wm-read tags more [] (idle rest classes rules done) plain)
+command_read classes rules (command.Ppwm None) done rest names plain may = (record rest { first = 0 }, λ more. all_shown-read classes more [] (idle rest classes rules done))
+command_read classes rules (command.Ppwm (Some p)) done rest names plain may =
     let parts = and_parts (nat_lt p.0 (length classes)) (list_all (fixed_is_valid (class_of classes p.0)) p.1) plain in
     (record rest { first = 0; class = p.0; shows = true }, λ more. shown-read p.0 p.1 more [] (idle rest classes rules done) names (ltb-true _ _ parts.0) parts.1)
-command_read classes rules command.Cs done rest names plain = (record rest { first = 0 }, λ more. cs-read more [] (idle rest classes rules done))
-command_read classes rules (command.Pm ns) done rest names plain = (record rest { first = 0 }, λ more. pm-read ns more [] (idle rest classes rules done) plain)
-command_read classes rules (command.Strategy set) done rest names plain = (record rest { first = 0 }, λ more. strategy-read set more [] (idle rest classes rules done))
-command_read classes rules (command.Watch None) done rest names plain = (record rest { first = 0 }, λ more. watch-read more [] (idle rest classes rules done))
-command_read classes rules (command.Watch (Some n)) done rest names plain = (record rest { first = 0 }, λ more. watch_at-read n more [] (idle rest classes rules done) plain)
-command_read classes rules (command.Pbreak ns) done rest names plain = (record rest { first = 0 }, λ more. pbreak-read ns more [] (idle rest classes rules done))
-command_read classes rules command.Exit done rest names plain = (record rest { first = 0 }, λ more. exit-read more [] (idle rest classes rules done))
+command_read classes rules command.Cs done rest names plain may = (record rest { first = 0 }, λ more. cs-read more [] (idle rest classes rules done))
+command_read classes rules (command.Pm ns) done rest names plain may = (record rest { first = 0 }, λ more. pm-read ns more [] (idle rest classes rules done) plain)
+command_read classes rules (command.Strategy set) done rest names plain may = (record rest { first = 0 }, λ more. strategy-read set more [] (idle rest classes rules done))
+command_read classes rules (command.Watch None) done rest names plain may = (record rest { first = 0 }, λ more. watch-read more [] (idle rest classes rules done))
+command_read classes rules (command.Watch (Some n)) done rest names plain may = (record rest { first = 0 }, λ more. watch_at-read n more [] (idle rest classes rules done) plain)
+command_read classes rules (command.Pbreak ns) done rest names plain may = (record rest { first = 0 }, λ more. pbreak-read ns more [] (idle rest classes rules done))
+command_read classes rules command.Exit done rest names plain may = (record rest { first = 0 }, λ more. exit-read more [] (idle rest classes rules done))
+command_read classes rules (command.Add r) done rest names plain may =
+    let come = may r refl in (
+      after_rule rest r,
+      λ more.
+          rule-read classes rules done more [] names r rest come.0 plain
+          ∙ ap (λ (b : Bool). goes more (Forms ∷ []) (idle (after_rule rest r) classes (rules_with b rules r) (commands_with b done r))) come.1,
+    )
+command_read classes rules (command.Excise ns) done rest names plain may = (record rest { first = 0 }, λ more. excise-read ns more [] (idle rest classes rules done) plain)
+command_read classes rules (command.Back n) done rest names plain may = absurd (true≢false (sym plain))
+command_read classes rules (command.Matches ns) done rest names plain may = absurd (true≢false (sym plain))
 
 commands_read : (classes : List Class) (rules : List Rule) (cs done : List Command) (rest : Rest) → AreNamed classes → list_all (command_is_plain classes) cs ≡ true
+    → titles_are_distinct rules (done ++ cs) ≡ true → adds_late (done ++ cs) ≡ true
     → Reads (spelled_each (spelled_command classes) cs) rest classes rules done classes rules (done ++ cs)
-commands_read classes rules [] done rest names plain = (rest, λ more. ap (λ (xs : List Command). goes more (Forms ∷ []) (idle rest classes rules xs)) (sym (append-nil done)))
-commands_read classes rules (c ∷ cs) done rest names plain =
+commands_read classes rules [] done rest names plain distinct late = (rest, λ more. ap (λ (xs : List Command). goes more (Forms ∷ []) (idle rest classes rules xs)) (sym (append-nil done)))
+commands_read classes rules (c ∷ cs) done rest names plain distinct late =
     let each = and_parts (command_is_plain classes c) (list_all (command_is_plain classes) cs) plain in
     let all : done ++ c ∷ [] ++ cs ≡ done ++ c ∷ cs = append_assoc done (c ∷ []) cs in
     let others = spelled_each (spelled_command classes) cs in
-    let first = command_read classes rules c done rest names each.0 in
-    let behind = commands_read classes rules cs (done ++ c ∷ []) first.0 names each.1 in (
+    let may : (r : Rule) → c ≡ command.Add r → MayCome rules done r =
+    λ r e. may_come rules done r cs (subst (λ (d : Command). titles_are_distinct rules (done ++ d ∷ cs) ≡ true) e distinct) (subst (λ (d : Command). adds_late (done ++ d ∷ cs) ≡ true) e late) in
+    let first = command_read classes rules c done rest names each.0 may in
+    let behind =
+    commands_read classes rules cs (done ++ c ∷ []) first.0 names each.1
+    (subst (λ (xs : List Command). titles_are_distinct rules xs ≡ true) (sym all) distinct) (subst (λ (xs : List Command). adds_late xs ≡ true) (sym all) late) in (
       behind.0,
       λ more.
           ap (λ (x : List Word). goes x (Forms ∷ []) (idle rest classes rules done)) (append_assoc (spelled_command classes c) others more)
@@ -336,7 +373,8 @@ nothing_left = record { name = record { 0 = 0 }; first = 0; vectors = []; class 
 -- Each program that has a spelling is what its spelling is read as.
 pub program-read : (classes : List Class) (rules : List Rule) (commands : List Command) → is_plain classes rules commands ≡ true → AreRead (spelled_program classes rules commands) classes rules commands
 program-read classes rules commands plain =
-    let p1 = and_parts _ (are_distinct (map (λ r. r.name.0) rules)) plain in
+    let p0 = and_parts _ (adds_late commands) plain in
+    let p1 = and_parts _ (titles_are_distinct rules commands) p0.0 in
     let p2 = and_parts _ (are_distinct (map (λ c. c.name.0) classes)) p1.0 in
     let p3 = and_parts _ (list_all (command_is_plain classes) commands) p2.0 in
     let p4 = and_parts (list_all (class_is_plain (vectors_of classes)) classes) (list_all (rule_is_plain classes) rules) p3.0 in
@@ -347,8 +385,8 @@ program-read classes rules commands plain =
     let last_words = spelled_each (spelled_command classes) commands in
     let vectors = vectors_read classes nothing_left in
     let first = classes_read classes [] vectors.0 (vectors_of classes) vectors.2 (λ n h. h) p4.0 p2.1 in
-    let next = rules_read classes rules [] first.0 names p4.1 p1.1 in
-    let last = commands_read classes rules commands [] next.0 names p3.1 in
+    let next = rules_read classes rules [] first.0 names p4.1 (distinct_front title rules (added_by commands) p1.1) in
+    let last = commands_read classes rules commands [] next.0 names p3.1 p1.1 p0.1 in
     record {
       state = idle last.0 classes rules commands;
       outcome = ap (λ (x : List Word). outcome_of x) (

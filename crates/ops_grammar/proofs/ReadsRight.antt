@@ -246,6 +246,7 @@ module _ (t : Trail) (k : InSight) (more : List Word) (ws : List Wanted) (s : St
   action-read (action.Bind n value) plain = bind_of n value plain
   action-read (action.Cbind cell) plain = cbind_read k.made refl cell plain
   action-read action.Halt plain = (t, in_cells, halt_read ws (acted s t k done) more)
+  action-read (action.Build template holes) plain = absurd (true≢false (sym plain))
 
 -- The actions of a rule are read back.
 pub actions-read : (xs : List Action) (t : Trail) (k : InSight) (more : List Word) (ws : List Wanted) (s : State) (done : List Action) → AreNamed s.classes → AreCells s t k → actions_are_plain s.classes k xs ≡ true

@@ -20,7 +20,7 @@ use Rattle.ops_tokens.specs.declared.token.TokenKind.TheVariants as kind
 use Rattle.ops_grammar.specs.declared.words.Word.{Word}
 use Rattle.ops_grammar.specs.declared.words.Keyword.{Keyword}
 use Rattle.ops_grammar.specs.declared.words.Keyword.TheVariants as keyword
-use Rattle.ops_grammar.specs.Grammar.{Use, InPattern, InPut, InFixed, Target, ToTest, ToPut, ToFixed, ToTerms, ToConstants, ToItem, ToBind, EndsWhole, TagUse, ToRemove, NameUse, Column, Wanted, Forms, Form, ClassDeclared, Attributes, VectorName, VectorNames, RuleName, FirstPattern, Patterns, Pattern, Braced, ElementName, ClosesBrace, ClassName, Terms, Attribute, Several, Place, Tests, Tested, Choice, Atom, ValueFor, Function, Waiting, ExpressionUnit, ExpressionRest, Bracketed, SourceCell, SourceAttribute, SourceEnd, Actions, ActionWord, Modified, BoundName, BoundValue, CellName, Cell, Cells, Items, ItemWord, Columns, Count, StrategyName, TagOrAll, Tags, Shown, NamedRule, NamedRules, Level, Closes, State, Step, Next, Refuses, is_left, is_right, is_left_brace, is_right_brace, is_caret, is_name, is_variable, is_arrow, is_literal, is_minus, opens_choice, closes_choice, pred_of, constant_of, value_of, atom_of, natural_of, small_of, is_one_of, number_of, may_declare, may_produce, is_class, is_rule, is_second, makes_second, vector_name, form, class_at, attributes_of, field_at, variable_tested, constant_tested, tested, predicated, test, place, chosen, atom_at, term_at, bound_at, constant_at, is_of_action, value_for, most_brackets, no_formula, with_formula, unit_bound, unit_at, expression_unit, bracketed, completed, is_compute, operation_of, operation_at, expression_ended, expression_rest, function, source_named, source_class, source_at, takes_several, ends_at_inf, source_end, within, one_of_several, several, element_at, element_name, action_word, designated, numbered_cell, named_cell, cell_of, with_designated, with_modified, cell_bound, item_word, columns_at, counted, count_of, count, strategy_set, strategy_of, strategy_name, tag_at, is_all, tag_or_all, tags, shown, named_rule, named_rules, level_of, level_set, level, step, is_absent, begins_group, GroupBrace, Members, has_room}
+use Rattle.ops_grammar.specs.Grammar.{Use, InPattern, InPut, InFixed, Target, ToTest, ToPut, ToFixed, ToTerms, ToConstants, ToItem, ToBind, EndsWhole, TagUse, ToRemove, NameUse, Column, Wanted, Forms, Form, ClassDeclared, Attributes, VectorName, VectorNames, RuleName, FirstPattern, Patterns, Pattern, Braced, ElementName, ClosesBrace, ClassName, Terms, Attribute, Several, Place, Tests, Tested, Choice, Atom, ValueFor, Function, Waiting, ExpressionUnit, ExpressionRest, Bracketed, SourceCell, SourceAttribute, SourceEnd, Actions, ActionWord, Modified, BoundName, BoundValue, CellName, Cell, Cells, Items, ItemWord, Columns, Count, StrategyName, TagOrAll, Tags, Shown, NamedRule, NamedRules, Level, Closes, State, Step, Next, Refuses, is_left, is_right, is_left_brace, is_right_brace, is_caret, is_name, is_variable, is_arrow, is_literal, is_minus, opens_choice, closes_choice, pred_of, constant_of, value_of, atom_of, natural_of, small_of, is_one_of, number_of, may_declare, is_class, is_rule, is_second, makes_second, vector_name, form, class_at, attributes_of, field_at, variable_tested, constant_tested, tested, predicated, test, place, chosen, atom_at, term_at, bound_at, constant_at, is_of_action, value_for, most_brackets, no_formula, with_formula, unit_bound, unit_at, expression_unit, bracketed, completed, is_compute, operation_of, operation_at, expression_ended, expression_rest, function, source_named, source_class, source_at, takes_several, ends_at_inf, source_end, within, one_of_several, several, element_at, element_name, action_word, designated, numbered_cell, named_cell, cell_of, with_designated, with_modified, cell_bound, item_word, columns_at, counted, count_of, count, strategy_set, strategy_of, strategy_name, tag_at, is_all, tag_or_all, tags, shown, named_rule, named_rules, level_of, level_set, level, step, is_absent, begins_group, GroupBrace, Members, has_room}
 use Rattle.ops_grammar.specs.Derivation.{is_designator}
 use Rattle.ops_grammar.specs.Reasons.{no_form_fault, is_declaration, wants_class, gives_second, is_full, nests_deepest, wants_bound, is_bound, is_positive, is_condition, designates, is_unclear, designates_unclearly, wants_cell, is_bad_designator, Because}
 use Rattle.ops_grammar.proofs.Arranged.{AreArranged, functions_fit}
@@ -58,7 +58,7 @@ module _ (w : Word) (ws : List Wanted) (s : State) where
   form_reason : (k : Keyword) → w.keyword ≡ k → At (Form ∷ ws) (form w k ws s)
   form_reason keyword.Literalize e = cond_both (may_declare s) _ _ (At (Form ∷ ws)) (λ _. tt) (λ late. (refl, ap is_declaration e, late))
   form_reason keyword.VectorAttribute e = cond_both (may_declare s) _ _ (At (Form ∷ ws)) (λ _. tt) (λ late. (refl, ap is_declaration e, late))
-  form_reason keyword.Production e = cond_both (may_produce s) _ _ (At (Form ∷ ws)) (λ _. tt) (λ late. (refl, e, late))
+  form_reason keyword.Production e = tt
   form_reason keyword.Make e = tt
   form_reason keyword.Remove e = tt
   form_reason keyword.Run e = tt
@@ -69,6 +69,7 @@ module _ (w : Word) (ws : List Wanted) (s : State) where
   form_reason keyword.Strategy e = tt
   form_reason keyword.Watch e = tt
   form_reason keyword.Pbreak e = tt
+  form_reason keyword.Excise e = tt
   form_reason keyword.Exit e = tt
   form_reason _ e = refl
 

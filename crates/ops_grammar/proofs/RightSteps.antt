@@ -3,24 +3,25 @@ use Rattle.std.proofs.Common.{◌≡◌, ℕ, ◌-◌, ◌<◌, ◌≤◌, Bool,
 use Rattle.std.specs.List.{list_all, list_any}
 use Rattle.std.proofs.lemmas.Bool.{and_from, cond_both, eq-eqb, lt-ltb}
 use Rattle.ops_base.specs.declared.conditions.Part.{Part}
+use Rattle.ops_base.specs.declared.actions.Put.{Put}
 use Rattle.ops_base.specs.declared.actions.Item.{Item}
 use Rattle.ops_base.specs.declared.actions.Item.TheVariants as item
 use Rattle.ops_base.specs.declared.actions.Action.{Action}
 use Rattle.ops_base.specs.declared.actions.Action.TheVariants as action
-use Rattle.ops_base.specs.declared.rules.Rule.{Rule}
 use Rattle.ops_base.specs.declared.endings.Fault.{Fault}
-use Rattle.ops_base.specs.Valid.{longest_list, class_of, specificity, fits, puts_are_valid, action_is_valid, is_column, Known, known_after, is_cell, cells_of, put_is_valid, item_is_valid}
+use Rattle.ops_base.specs.Valid.{longest_list, class_of, fits, puts_are_valid, action_is_valid, is_column, Known, known_after, is_cell, cells_of, put_is_valid, item_is_valid, builds_from}
 use Rattle.ops_tokens.specs.declared.token.TokenKind.{TokenKind}
 use Rattle.ops_tokens.specs.declared.token.TokenKind.TheVariants as kind
 use Rattle.ops_grammar.specs.declared.words.Word.{Word}
 use Rattle.ops_grammar.specs.declared.words.Keyword.{Keyword}
 use Rattle.ops_grammar.specs.declared.words.Keyword.TheVariants as keyword
-use Rattle.ops_grammar.specs.Grammar.{InPut, EndsHalt, EndsCrlf, EndsWhole, Column, ToTab, ToRight, Forms, Terms, Actions, BoundValue, Cells, Items, Closes, State, Next, is_left, is_right, is_variable, natural_of, small_of, number_of, classes_of_cells, put_action, renumbered, actions, action_word, designated, numbered_cell, named_cell, cell_of, with_designated, cell, with_modified, modified, bound_name, cell_bound, cell_name, cells, items, item_word, column_item, columns_at, closes, is_absent}
+use Rattle.ops_grammar.specs.Grammar.{InPut, EndsHalt, EndsCrlf, EndsWhole, Column, ToTab, ToRight, Forms, Terms, Actions, BoundValue, Cells, Items, Closes, State, Next, is_left, is_right, is_variable, natural_of, small_of, number_of, classes_of_cells, put_action, renumbered, actions, action_word, designated, numbered_cell, named_cell, cell_of, with_designated, cell, with_modified, modified, bound_name, cell_bound, cell_name, cells, items, item_word, column_item, columns_at, closes, is_absent, is_beginning, rule_of, with_rule}
 use Rattle.ops_grammar.proofs.Lists.{all_push}
 use Rattle.ops_grammar.proofs.Parts.{has_cell}
 use Rattle.ops_grammar.proofs.Sound.{IsShort, IsBody, known_in, Knows, IsNamed, HasCells, HasItems, Program, Body, Bare, variables_of, side_of, at_forms, at_class_name, at_terms, InWrite, at_value_end, at_actions, at_action_word, at_modified, at_bound_name, at_bound_value, at_cell_name, at_action_end, at_cell, at_cells, at_items, at_item_word, at_columns, at_crlf, at_halt, Leads}
 use Rattle.ops_grammar.proofs.Grown.{fits_below, rule_added, element_known, cell_known}
 use Rattle.ops_grammar.proofs.ValueSteps.{IsPlaced, added, value_leads, function_leads}
+use Rattle.ops_grammar.proofs.Added.{rules_longer, commands_longer}
 
 module _ (text : ℕ) where
   pub put_action_valid : (s : State) (o : Option ℕ) → IsNamed s.classes (known_in s) s.class o → fits s.puts ≡ true
@@ -29,18 +30,25 @@ module _ (text : ℕ) where
   put_action_valid s (Some cell) named short fields =
       and_from _ _ named.0 (subst (λ (c : ℕ). puts_are_valid s.classes (known_in s) (class_of s.classes c) s.puts ≡ true) named.1 (and_from _ _ short fields))
 
+  pub put_action_builds : (o : Option ℕ) (class : ℕ) (puts : List Put) → builds_from 0 (put_action o class puts) ≡ true
+  put_action_builds None class puts = refl
+  put_action_builds (Some cell) class puts = refl
+
 module _ (text n : ℕ) (w : Word) (fit : text ≤ longest_list) (placed : IsPlaced text n w) where
   place_fits : n ≤ longest_list
   place_fits = omega arith
 
   -- ---- the actions
 
-  rule_leads : (s : State) → IsShort n s → Body text s → Program text (record s { rules = s.rules ++ record { name = s.name; conditions = s.conditions; actions = s.actions; specificity = specificity s.conditions; variables = s.variables; cells = length (classes_of_cells s); first = s.first; past = w.past } ∷ [] })
-  rule_leads s short h = rule_added text s.classes s.rules s.commands s.name (variables_of s) s.conditions (side_of s) s.actions s.first w.past h (fits_below s.actions n short.9 place_fits) (omega arith) placed.within
+  rule_leads : (s : State) → IsShort n s → Body text s → Program text (with_rule s w.past)
+  rule_leads s short h =
+      rule_added text s.classes s.rules s.commands s.name (variables_of s) s.conditions (side_of s) s.actions s.first w.past h (fits_below s.actions n short.9 place_fits) (omega arith) placed.within (is_beginning s) refl
 
   pub actions_leads : (s : State) → IsShort n s → (Body text s) → Leads text w.past (actions w (Forms ∷ []) s)
   actions_leads s short g =
-      cond_both (is_right w.kind) _ _ (Leads text w.past) (λ _. (omega (arith, length-append {A = Rule}), at_forms (rule_leads s short g)))
+      let rules = rules_longer (is_beginning s) s.rules (rule_of s w.past) in
+      let commands = commands_longer (is_beginning s) s.commands (rule_of s w.past) in
+      cond_both (is_right w.kind) _ _ (Leads text w.past) (λ _. (omega (arith, rules, commands), at_forms (rule_leads s short g)))
       (λ _. cond_both (is_left w.kind) _ _ (Leads text w.past) (λ _. (omega arith, at_action_word g)) (λ _. tt))
 
   pub action_word_leads : (s : State) → IsShort n s → (Body text s) → (k : Keyword) → Leads text w.past (action_word k (Actions ∷ Forms ∷ []) s)
@@ -120,7 +128,7 @@ module _ (text n : ℕ) (w : Word) (fit : text ≤ longest_list) (placed : IsPla
       let cell = length (classes_of_cells s) in (
         omega (arith, length-append {A = Action}),
         at_action_end (added text s (action.Cbind cell) (record (variables_of s) { elements = renumbered w.name cell s.elements }) (record { made = s.made; further = s.further ++ class ∷ [] }) g
-            (and_from _ _ (ap is_some (g.knows.made ∙ e)) (eq-eqb _ _ (ap length (sym g.knows.cells))))
+            (and_from _ _ (ap is_some (g.knows.made ∙ e)) (eq-eqb _ _ (ap length (sym g.knows.cells)))) refl
             (cell_known (known_in s) (variables_of s) s.conditions (side_of s) g.knows w.name class e)),
       )
 
@@ -133,16 +141,16 @@ module _ (text n : ℕ) (w : Word) (fit : text ≤ longest_list) (placed : IsPla
   -- ---- remove, write, halt, run
 
   -- an action that leaves what is known as it is
-  known_kept : (s : State) (a : Action) → Body text s → action_is_valid s.classes (known_in s) a ≡ true → known_after (known_in s) a ≡ known_in s
+  known_kept : (s : State) (a : Action) → Body text s → action_is_valid s.classes (known_in s) a ≡ true → builds_from 0 a ≡ true → known_after (known_in s) a ≡ known_in s
       → IsBody text s.classes s.rules s.commands s.name (variables_of s) s.conditions (side_of s) (s.actions ++ a ∷ [])
-  known_kept s a g valid same = added text s a (variables_of s) (side_of s) g valid (subst (λ (k : Known). Knows k (variables_of s) s.conditions (side_of s)) (sym same) g.knows)
+  known_kept s a g valid builds same = added text s a (variables_of s) (side_of s) g valid builds (subst (λ (k : Known). Knows k (variables_of s) s.conditions (side_of s)) (sym same) g.knows)
 
   pub cells_leads : (s : State) → IsShort n s → HasCells text s × (0 < length s.cells) → Leads text w.past (cells w (Actions ∷ Forms ∷ []) s)
   cells_leads s short g =
       cond_both (is_right w.kind) _ _ (Leads text w.past)
       (λ _. (
         omega (arith, length-append {A = Action}),
-        at_actions (known_kept s (action.Remove s.cells) g.0.0 (and_from _ _ (and_from _ _ (lt-ltb _ _ g.1) (fits_below s.cells n short.7 place_fits)) g.0.1) refl),
+        at_actions (known_kept s (action.Remove s.cells) g.0.0 (and_from _ _ (and_from _ _ (lt-ltb _ _ g.1) (fits_below s.cells n short.7 place_fits)) g.0.1) refl refl),
       ))
       (λ _. cell_leads s short g.0)
 
@@ -155,7 +163,7 @@ module _ (text n : ℕ) (w : Word) (fit : text ≤ longest_list) (placed : IsPla
       cond_both (is_right w.kind) _ _ (Leads text w.past)
       (λ _. (
         omega (arith, length-append {A = Action}),
-        at_actions (known_kept s (action.Write s.items) g.0 (and_from _ _ (fits_below s.items n short.8 place_fits) g.1) refl),
+        at_actions (known_kept s (action.Write s.items) g.0 (and_from _ _ (fits_below s.items n short.8 place_fits) g.1) refl refl),
       ))
       (λ _. cond_both (is_left w.kind) _ _ (Leads text w.past) (λ _. (omega arith, at_item_word g)) (λ _. value_leads text n w fit placed InWrite s short g))
 
@@ -194,5 +202,5 @@ module _ (text n : ℕ) (w : Word) (fit : text ≤ longest_list) (placed : IsPla
   pub halt_leads : (s : State) → IsShort n s → (Body text s) → Leads text w.past (closes EndsHalt w (Actions ∷ Forms ∷ []) s)
   halt_leads s short g =
       cond_both (is_right w.kind) _ _ (Leads text w.past)
-      (λ _. (omega (arith, length-append {A = Action}), at_actions (known_kept s action.Halt g refl refl)))
+      (λ _. (omega (arith, length-append {A = Action}), at_actions (known_kept s action.Halt g refl refl refl)))
       (λ _. tt)

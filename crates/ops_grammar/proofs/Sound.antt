@@ -1,5 +1,5 @@
 -- What holds of what was read so far, for each thing that may be wanted next.
-use Rattle.std.proofs.Common.{◌≡◌, ℕ, ◌+◌, ◌<◌, ◌≤◌, Bool, true, false, ◌==◌, List, [], ◌∷◌, ◌++◌, length, map, take, nat_lt, Option, Some, None, unwrap_or, slice_get, suc, ◌||◌, if◌then◌else◌, refl}
+use Rattle.std.proofs.Common.{◌≡◌, ℕ, ◌+◌, ◌<◌, ◌≤◌, Bool, true, false, not, ◌==◌, List, [], ◌∷◌, ◌++◌, length, map, take, nat_lt, Option, Some, None, unwrap_or, slice_get, suc, ◌&&◌, ◌||◌, if◌then◌else◌, refl}
 use Rattle.std.specs.List.{list_all, list_any}
 use Rattle.ops_base.specs.declared.values.Sym.{Sym}
 use Rattle.ops_base.specs.declared.values.Pred.{Pred}
@@ -11,9 +11,10 @@ use Rattle.ops_base.specs.declared.actions.Action.{Action}
 use Rattle.ops_base.specs.declared.rules.Rule.{Rule}
 use Rattle.ops_base.specs.declared.commands.Command.{Command}
 use Rattle.ops_base.specs.Expression.{Formula, all_variables}
-use Rattle.ops_base.specs.Valid.{most_fields, most_conditions, are_distinct, class_of, class_is_valid, is_attribute, is_vector, is_field, is_in, Sight, tests_are_valid, sight_after_tests, parts_are_valid, sight_after_parts, nothing_in_sight, first_is_positive, cells_of, known_of, is_cell, class_of_cell, is_natural, Known, known_after_actions, term_is_valid, put_is_valid, item_is_valid, actions_are_valid, rule_is_valid, fixed_is_valid, command_is_valid, elements_of, members_are_valid, sight_after_members}
+use Rattle.ops_base.specs.Valid.{most_fields, most_conditions, are_distinct, class_of, class_is_valid, is_attribute, is_vector, is_field, is_in, Sight, tests_are_valid, sight_after_tests, parts_are_valid, sight_after_parts, nothing_in_sight, first_is_positive, cells_of, known_of, is_cell, class_of_cell, is_natural, Known, known_after_actions, term_is_valid, put_is_valid, item_is_valid, actions_are_valid, rule_is_valid, fixed_is_valid, command_is_valid, elements_of, members_are_valid, sight_after_members, builds_from, rule_builds_from, command_builds_from}
 use Rattle.ops_grammar.specs.declared.words.Named.{Named}
-use Rattle.ops_grammar.specs.Grammar.{Use, InPattern, InPut, InFixed, Target, ToTest, ToPut, ToFixed, ToTerms, ToConstants, ToItem, ToBind, EndsHalt, EndsCrlf, EndsCs, EndsExit, EndsWhole, Column, TagUse, ToRemove, ToShow, NameUse, ToPrint, ToBreak, Wanted, Forms, Form, ClassDeclared, Attributes, VectorName, VectorNames, RuleName, FirstPattern, Patterns, Pattern, Braced, ElementName, ClosesBrace, ClassName, Terms, Attribute, Several, Place, Tests, Tested, Choice, Atom, ValueFor, Function, Waiting, ExpressionUnit, ExpressionRest, Bracketed, SourceCell, SourceAttribute, SourceEnd, Actions, ActionWord, Modified, BoundName, BoundValue, CellName, Cell, Cells, Items, ItemWord, Columns, Count, StrategyName, TagOrAll, Tags, Shown, NamedRule, NamedRules, Level, Closes, precedes_classes, State, Step, Next, Refuses, GroupBrace, Members, with_several}
+use Rattle.ops_grammar.specs.Grammar.{Use, InPattern, InPut, InFixed, Target, ToTest, ToPut, ToFixed, ToTerms, ToConstants, ToItem, ToBind, EndsHalt, EndsCrlf, EndsCs, EndsExit, EndsWhole, Column, TagUse, ToRemove, ToShow, NameUse, ToPrint, ToBreak, Wanted, Forms, Form, ClassDeclared, Attributes, VectorName, VectorNames, RuleName, FirstPattern, Patterns, Pattern, Braced, ElementName, ClosesBrace, ClassName, Terms, Attribute, Several, Place, Tests, Tested, Choice, Atom, ValueFor, Function, Waiting, ExpressionUnit, ExpressionRest, Bracketed, SourceCell, SourceAttribute, SourceEnd, Actions, ActionWord, Modified, BoundName, BoundValue, CellName, Cell, Cells, Items, ItemWord, Columns, Count, StrategyName, TagOrAll, Tags, Shown, NamedRule, NamedRules, Level, Closes, precedes_classes, State, Step, Next, Refuses, GroupBrace, Members, with_several, ToExcise, added_by, has_title}
+use Rattle.ops_grammar.specs.Spelling.{titles_are_distinct, is_add, adds_late}
 
 -- the form that is read began before the first place, and no list is longer than that place, but those of attributes
 -- with values are not longer than the second
@@ -27,13 +28,29 @@ IsShortBy n m s =
 abbrev pub IsShort : ℕ → State → Type 0
 IsShort n s = IsShortBy n n s
 
+-- It is valid, and no text has a template that it could build from.
+abbrev pub rule_is_sound : List Class → ℕ → Rule → Bool
+rule_is_sound classes text r = rule_is_valid classes text r && rule_builds_from 0 r
+
+abbrev pub command_is_sound : List Class → ℕ → Command → Bool
+command_is_sound classes text c = command_is_valid classes text c && command_builds_from 0 c
+
+-- a valid command that adds no production
+abbrev pub other_is_sound : List Class → ℕ → Command → Bool
+other_is_sound classes text c = command_is_valid classes text c && not (is_add c)
+
+-- no production has that name
+abbrev pub IsNew : Sym → List Rule → List Command → Type 0
+IsNew name rules commands = (has_title name rules || has_title name (added_by commands)) ≡ false
+
 -- the forms that were read
 pub record IsProgram (text : ℕ) (classes : List Class) (rules : List Rule) (commands : List Command) : Type 0 where
   pub classes_valid : list_all class_is_valid classes ≡ true
-  pub rules_valid : list_all (rule_is_valid classes text) rules ≡ true
-  pub commands_valid : list_all (command_is_valid classes) commands ≡ true
+  pub rules_valid : list_all (rule_is_sound classes text) rules ≡ true
+  pub commands_valid : list_all (command_is_sound classes text) commands ≡ true
   pub class_names : are_distinct (map (λ c. c.name.0) classes) ≡ true
-  pub rule_names : are_distinct (map (λ r. r.name.0) rules) ≡ true
+  pub rule_names : titles_are_distinct rules commands ≡ true
+  pub late : adds_late commands ≡ true
 
 -- a class may come
 pub record IsDeclaring (text : ℕ) (classes : List Class) (rules : List Rule) (commands : List Command) : Type 0 where
@@ -80,7 +97,7 @@ all_below k ns = list_all (λ n. nat_lt n k) ns
 -- the left side of a rule up to some tests of a condition
 pub record IsHead (text : ℕ) (classes : List Class) (rules : List Rule) (commands : List Command) (name : Sym) (v : Variables) (conditions : List Part) (tests : List Test) : Type 0 where
   pub program : IsProgram text classes rules commands
-  pub is_new : list_any (λ r. r.name.0 == name.0) rules ≡ false
+  pub is_new : IsNew name rules commands
   pub few : length (elements_of conditions) + length v.members ≤ most_conditions
   pub valid : parts_are_valid classes nothing_in_sight conditions ≡ true
   pub within : members_are_valid classes (seen conditions) v.members ≡ true
@@ -114,11 +131,12 @@ pub record Knows (k : Known) (v : Variables) (conditions : List Part) (r : Side)
 -- a rule up to some actions
 pub record IsBody (text : ℕ) (classes : List Class) (rules : List Rule) (commands : List Command) (name : Sym) (v : Variables) (conditions : List Part) (r : Side) (actions : List Action) : Type 0 where
   pub program : IsProgram text classes rules commands
-  pub is_new : list_any (λ r. r.name.0 == name.0) rules ≡ false
+  pub is_new : IsNew name rules commands
   pub few : length (elements_of conditions) ≤ most_conditions
   pub left : parts_are_valid classes nothing_in_sight conditions ≡ true
   pub some : first_is_positive conditions ≡ true
   pub valid : actions_are_valid classes (known_of conditions) actions ≡ true
+  pub builds : list_all (builds_from 0) actions ≡ true
   pub knows : Knows (known conditions actions) v conditions r
 
 abbrev pub variables_of : State → Variables
@@ -335,6 +353,7 @@ HasTags ToShow tags = Unit {0}
 abbrev pub HasNames : NameUse → List Sym → Type 0
 HasNames ToPrint names = 0 < length names
 HasNames ToBreak names = Unit {0}
+HasNames ToExcise names = 0 < length names
 
 -- a command up to its next tag, or to its next name
 abbrev pub AtTags : TagUse → ℕ → State → Type 0
@@ -407,7 +426,7 @@ pub data IsRead (text : ℕ) (s : State) : List Wanted → Type 0 where
   at_tag_or_all : (Program text s × (s.tags ≡ [])) → IsRead text s (TagOrAll ∷ Forms ∷ [])
   at_tags : (u : TagUse) → (AtTags u text s) → IsRead text s (Tags u ∷ Forms ∷ [])
   at_shown : (Program text s) → IsRead text s (Shown ∷ Forms ∷ [])
-  at_named_rule : (Program text s) → IsRead text s (NamedRule ∷ NamedRules ToPrint ∷ Forms ∷ [])
+  at_named_rule : (u : NameUse) → (Program text s) → IsRead text s (NamedRule ∷ NamedRules u ∷ Forms ∷ [])
   at_named_rules : (u : NameUse) → (AtNames u text s) → IsRead text s (NamedRules u ∷ Forms ∷ [])
   at_level : (Program text s) → IsRead text s (Level ∷ Forms ∷ [])
   at_cs : (Program text s) → IsRead text s (Closes EndsCs ∷ Forms ∷ [])

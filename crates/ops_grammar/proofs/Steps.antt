@@ -20,19 +20,19 @@ use Rattle.ops_base.specs.declared.commands.Fixed.{Fixed}
 use Rattle.ops_base.specs.declared.commands.Command.{Command}
 use Rattle.ops_base.specs.declared.commands.Command.TheVariants as command
 use Rattle.ops_base.specs.declared.commands.Strategy.{Strategy}
-use Rattle.ops_base.specs.Valid.{longest_list, most_fields, most_conditions, is_in, is_natural, no_class, class_of, is_attribute, is_vector, operand_is_valid, tests_are_valid, sight_after_tests, put_is_valid, fits, fixed_is_valid, command_is_valid, elements_of}
+use Rattle.ops_base.specs.Valid.{longest_list, most_fields, most_conditions, is_in, is_natural, no_class, class_of, is_attribute, is_vector, operand_is_valid, tests_are_valid, sight_after_tests, put_is_valid, fits, fixed_is_valid, elements_of}
 use Rattle.ops_tokens.specs.declared.token.TokenKind.{TokenKind}
 use Rattle.ops_tokens.specs.declared.token.TokenKind.TheVariants as kind
 use Rattle.ops_grammar.specs.declared.words.Word.{Word}
 use Rattle.ops_grammar.specs.declared.words.Keyword.{Keyword}
 use Rattle.ops_grammar.specs.declared.words.Keyword.TheVariants as keyword
-use Rattle.ops_grammar.specs.Grammar.{Use, InPattern, InPut, InFixed, ToTest, ToFixed, ToConstants, EndsCs, EndsExit, EndsWhole, TagUse, ToRemove, ToShow, NameUse, ToPrint, ToBreak, Wanted, Forms, Attributes, VectorNames, FirstPattern, Patterns, Pattern, ClosesBrace, Terms, Several, Choice, Actions, Tags, NamedRules, Closes, State, Step, Next, Refuses, is_left, is_right, is_left_brace, is_right_brace, is_caret, is_name, is_variable, is_arrow, is_literal, is_minus, opens_choice, closes_choice, pred_of, constant_of, value_of, atom_of, small_of, count_of, precedes_classes, is_one_of, number_of, may_declare, may_produce, is_class, is_rule, form, class_declared, with_vector_last, makes_second, vector_declared, vector_name, vector_names, is_second, attribute_declared, attributes, class_at, class_name, attributes_of, behind_attribute, field_at, attribute, with_test, with_bound, variable_tested, constant_tested, tested, predicated, test, place, tests, with_choice, chosen, choice, atom_at, bound_at, constant_at, value_for, fixed_command, with_element, terms, within, one_of_several, with_several, several, left_ended, right_begun, rule_name, first_pattern, one_more, patterns, pattern, element_at, element_name, braced, closes_brace, put_action, closes, forms, step, counted, count, strategy_of, strategy_set, strategy_name, with_command, tag_at, is_all, tag_or_all, tag_command, tags, shown, named_rule, name_command, named_rules, level_of, level_set, level, begins_group, members, group, with_group, with_member, with_one, has_room, ClassName}
+use Rattle.ops_grammar.specs.Grammar.{Use, InPattern, InPut, InFixed, ToTest, ToFixed, ToConstants, EndsCs, EndsExit, EndsWhole, TagUse, ToRemove, ToShow, NameUse, ToPrint, ToBreak, Wanted, Forms, Attributes, VectorNames, FirstPattern, Patterns, Pattern, ClosesBrace, Terms, Several, Choice, Actions, Tags, NamedRules, Closes, State, Step, Next, Refuses, is_left, is_right, is_left_brace, is_right_brace, is_caret, is_name, is_variable, is_arrow, is_literal, is_minus, opens_choice, closes_choice, pred_of, constant_of, value_of, atom_of, small_of, count_of, precedes_classes, is_one_of, number_of, may_declare, is_class, is_rule, form, class_declared, with_vector_last, makes_second, vector_declared, vector_name, vector_names, is_second, attribute_declared, attributes, class_at, class_name, attributes_of, behind_attribute, field_at, attribute, with_test, with_bound, variable_tested, constant_tested, tested, predicated, test, place, tests, with_choice, chosen, choice, atom_at, bound_at, constant_at, value_for, fixed_command, with_element, terms, within, one_of_several, with_several, several, left_ended, right_begun, rule_name, first_pattern, one_more, patterns, pattern, element_at, element_name, braced, closes_brace, put_action, closes, forms, step, counted, count, strategy_of, strategy_set, strategy_name, with_command, tag_at, is_all, tag_or_all, tag_command, tags, shown, named_rule, name_command, named_rules, level_of, level_set, level, begins_group, members, group, with_group, with_member, with_one, has_room, ClassName, ToExcise}
 use Rattle.ops_grammar.proofs.Lists.{all_push, not_below}
-use Rattle.ops_grammar.proofs.Sound.{IsShortBy, IsShort, IsHead, known_in, IsNamed, IsOfClass, Program, Declaring, IsClass, Head, Body, Around, IsEmpty, IsElement, Braces, Bare, NamedBefore, NamedBehind, AtField, HasMore, AtPlace, AtSeveral, BeforePattern, AfterPattern, behind, behind_place, behind_test, variables_of, side_of, IsRead, at_forms, at_form, at_class_declared, at_attributes, at_vector_name, at_vector_names, at_rule_name, at_first_pattern, at_patterns, at_pattern, at_braced, at_element_name, at_closes_brace, at_class_name, at_terms, at_attribute, at_several, at_place, at_tests, at_tested, at_choice, at_test_atom, at_fixed_value, at_fixed_atom, at_constants_atom, InScalar, InVector, at_value, at_atom, at_function, at_expression_unit, at_bracketed, at_expression_rest, at_source_cell, at_source_attribute, at_source_end, at_value_end, at_actions, at_action_word, at_modified, at_bound_name, at_bound_value, at_cell_name, at_action_end, at_cell, at_cells, at_items, at_item_word, at_columns, at_crlf, at_halt, at_count, at_strategy_name, HasTags, HasNames, AtTags, AtNames, at_tag_or_all, at_tags, at_shown, at_named_rule, at_named_rules, at_level, at_cs, at_exit, at_command_end, Leads, at, AsMember, AmongMembers, at_group, at_members, inside, outer, several_at}
+use Rattle.ops_grammar.proofs.Sound.{other_is_sound, IsShortBy, IsShort, IsHead, known_in, IsNamed, IsOfClass, Program, Declaring, IsClass, Head, Body, Around, IsEmpty, IsElement, Braces, Bare, NamedBefore, NamedBehind, AtField, HasMore, AtPlace, AtSeveral, BeforePattern, AfterPattern, behind, behind_place, behind_test, variables_of, side_of, IsRead, at_forms, at_form, at_class_declared, at_attributes, at_vector_name, at_vector_names, at_rule_name, at_first_pattern, at_patterns, at_pattern, at_braced, at_element_name, at_closes_brace, at_class_name, at_terms, at_attribute, at_several, at_place, at_tests, at_tested, at_choice, at_test_atom, at_fixed_value, at_fixed_atom, at_constants_atom, InScalar, InVector, at_value, at_atom, at_function, at_expression_unit, at_bracketed, at_expression_rest, at_source_cell, at_source_attribute, at_source_end, at_value_end, at_actions, at_action_word, at_modified, at_bound_name, at_bound_value, at_cell_name, at_action_end, at_cell, at_cells, at_items, at_item_word, at_columns, at_crlf, at_halt, at_count, at_strategy_name, HasTags, HasNames, AtTags, AtNames, at_tag_or_all, at_tags, at_shown, at_named_rule, at_named_rules, at_level, at_cs, at_exit, at_command_end, Leads, at, AsMember, AmongMembers, at_group, at_members, inside, outer, several_at}
 use Rattle.ops_grammar.proofs.Parts.{no_elements}
 use Rattle.ops_grammar.proofs.Grown.{fits_below, class_begun, attribute_added, class_added, vector_added, number_in, head_begun, negated_begun, element_bound, test_kept, test_bound, test_valid, condition_added, body_begun, put_known, vector_parts, several_valid, command_added, fixed_valid, vector_within, constants_valid, group_opened, member_added, group_added}
 use Rattle.ops_grammar.proofs.ValueSteps.{IsPlaced, added, atom_leads, value_leads, bound_value_leads, function_leads, expression_unit_leads, bracketed_leads, expression_rest_leads, source_cell_leads, source_attribute_leads, source_end_leads, value_end_leads}
-use Rattle.ops_grammar.proofs.RightSteps.{put_action_valid, actions_leads, action_word_leads, cell_leads, modified_leads, bound_name_leads, cell_name_leads, action_end_leads, cells_leads, items_leads, item_word_leads, columns_leads, crlf_leads, halt_leads}
+use Rattle.ops_grammar.proofs.RightSteps.{put_action_valid, put_action_builds, actions_leads, action_word_leads, cell_leads, modified_leads, bound_name_leads, cell_name_leads, action_end_leads, cells_leads, items_leads, item_word_leads, columns_leads, crlf_leads, halt_leads}
 
 -- ---- counts, tags, trace levels and constants of commands
 
@@ -56,18 +56,20 @@ tag_enough ToShow tags tag = tt
 name_enough : (u : NameUse) (names : List Sym) (name : Sym) → HasNames u (names ++ name ∷ [])
 name_enough ToPrint names name = omega (arith, length-append names (name ∷ []))
 name_enough ToBreak names name = tt
+name_enough ToExcise names name = omega (arith, length-append names (name ∷ []))
 
-tags_valid : (classes : List Class) (u : TagUse) (tags : List ℕ) → fits tags ≡ true → list_all is_natural tags ≡ true → HasTags u tags → command_is_valid classes (tag_command u tags) ≡ true
-tags_valid classes ToRemove tags short natural enough = and_from _ _ (and_from _ _ (lt-ltb _ _ enough) short) natural
-tags_valid classes ToShow tags short natural enough = and_from _ _ short natural
+tags_valid : (text : ℕ) (classes : List Class) (u : TagUse) (tags : List ℕ) → fits tags ≡ true → list_all is_natural tags ≡ true → HasTags u tags → other_is_sound classes text (tag_command u tags) ≡ true
+tags_valid text classes ToRemove tags short natural enough = and_from _ _ (and_from _ _ (and_from _ _ (lt-ltb _ _ enough) short) natural) refl
+tags_valid text classes ToShow tags short natural enough = and_from _ _ (and_from _ _ short natural) refl
 
-names_valid : (classes : List Class) (u : NameUse) (names : List Sym) → fits names ≡ true → HasNames u names → command_is_valid classes (name_command u names) ≡ true
-names_valid classes ToPrint names short enough = and_from _ _ (lt-ltb _ _ enough) short
-names_valid classes ToBreak names short enough = short
+names_valid : (text : ℕ) (classes : List Class) (u : NameUse) (names : List Sym) → fits names ≡ true → HasNames u names → other_is_sound classes text (name_command u names) ≡ true
+names_valid text classes ToPrint names short enough = and_from _ _ (and_from _ _ (lt-ltb _ _ enough) short) refl
+names_valid text classes ToBreak names short enough = and_from _ _ short refl
+names_valid text classes ToExcise names short enough = and_from _ _ (and_from _ _ (lt-ltb _ _ enough) short) refl
 
-constants_fit : (classes : List Class) (shows : Bool) (class : ℕ) (puts : List Fixed) → class < length classes → fits puts ≡ true → list_all (fixed_is_valid (class_of classes class)) puts ≡ true → command_is_valid classes (fixed_command shows class puts) ≡ true
-constants_fit classes false class puts within short fields = and_from _ _ (and_from _ _ (lt-ltb _ _ within) short) fields
-constants_fit classes true class puts within short fields = and_from _ _ (and_from _ _ (lt-ltb _ _ within) short) fields
+constants_fit : (text : ℕ) (classes : List Class) (shows : Bool) (class : ℕ) (puts : List Fixed) → class < length classes → fits puts ≡ true → list_all (fixed_is_valid (class_of classes class)) puts ≡ true → other_is_sound classes text (fixed_command shows class puts) ≡ true
+constants_fit text classes false class puts within short fields = and_from _ _ (and_from _ _ (and_from _ _ (lt-ltb _ _ within) short) fields) refl
+constants_fit text classes true class puts within short fields = and_from _ _ (and_from _ _ (and_from _ _ (lt-ltb _ _ within) short) fields) refl
 
 module _ (text n : ℕ) (w : Word) (fit : text ≤ longest_list) (placed : IsPlaced text n w) where
   -- ---- declarations
@@ -83,17 +85,18 @@ module _ (text n : ℕ) (w : Word) (fit : text ≤ longest_list) (placed : IsPla
   form_leads : (s : State) → IsShort n s → (Program text s) → (k : Keyword) → Leads text w.past (form w k (Forms ∷ []) s)
   form_leads s short g keyword.Literalize = cond_both (may_declare s) _ _ (Leads text w.past) (λ e. (omega arith, at_class_declared (declaring s g e))) (λ _. tt)
   form_leads s short g keyword.VectorAttribute = cond_both (may_declare s) _ _ (Leads text w.past) (λ e. (omega arith, at_vector_name (declaring s g e))) (λ _. tt)
-  form_leads s short g keyword.Production = cond_both (may_produce s) _ _ (Leads text w.past) (λ _. (omega arith, at_rule_name g)) (λ _. tt)
+  form_leads s short g keyword.Production = (omega arith, at_rule_name g)
   form_leads s short g keyword.Make = (omega arith, at_class_name Bare InFixed (g, refl, tt))
   form_leads s short g keyword.Remove = (omega arith, at_tag_or_all (g, refl))
   form_leads s short g keyword.Run = (omega arith, at_count g)
   form_leads s short g keyword.Wm = (omega arith, at_tags ToShow (g, refl, tt))
   form_leads s short g keyword.Ppwm = (omega arith, at_shown g)
   form_leads s short g keyword.Cs = (omega arith, at_cs g)
-  form_leads s short g keyword.Pm = (omega arith, at_named_rule g)
+  form_leads s short g keyword.Pm = (omega arith, at_named_rule ToPrint g)
   form_leads s short g keyword.Strategy = (omega arith, at_strategy_name g)
   form_leads s short g keyword.Watch = (omega arith, at_level g)
   form_leads s short g keyword.Pbreak = (omega arith, at_named_rules ToBreak (g, tt))
+  form_leads s short g keyword.Excise = (omega arith, at_named_rule ToExcise g)
   form_leads s short g keyword.Exit = (omega arith, at_exit g)
   form_leads s short g _ = tt
 
@@ -368,13 +371,13 @@ module _ (text n : ℕ) (w : Word) (fit : text ≤ longest_list) (placed : IsPla
   element_leads b InPut s short g = (
     omega (arith, length-append {A = Action}),
     at_actions (added text s (put_action s.modified s.class s.puts) (variables_of s) (record { made = Some s.class; further = s.further }) g.around
-        (put_action_valid text s s.modified g.class (fits_below s.puts (n + 1) short.5 behind_fits) g.fields)
+        (put_action_valid text s s.modified g.class (fits_below s.puts (n + 1) short.5 behind_fits) g.fields) (put_action_builds text s.modified s.class s.puts)
         (put_known (known_in s) (variables_of s) s.conditions (side_of s) g.around.knows s.classes s.class s.puts s.modified g.class)),
   )
   element_leads b InFixed s short g = (
     omega (arith, length-append {A = Command}),
     at_forms (command_added text s.classes s.rules s.commands (fixed_command s.shows s.class s.fixed) g.around
-        (constants_fit s.classes s.shows s.class s.fixed g.class (fits_below s.fixed (n + 1) short.6 behind_fits) g.fields)),
+        (constants_fit text s.classes s.shows s.class s.fixed g.class (fits_below s.fixed (n + 1) short.6 behind_fits) g.fields)),
   )
 
   terms_leads : (b : Braces) (u : Use) (s : State) → IsShortBy n (n + 1) s → (IsElement u text s) → Leads text w.past (terms u w (behind (at s b) u) s)
@@ -528,15 +531,15 @@ module _ (text n : ℕ) (w : Word) (fit : text ≤ longest_list) (placed : IsPla
   -- ---- commands
 
   -- a command more, and after it the next form
-  command_leads : (c : Command) (s : State) → IsShort n s → Program text s → command_is_valid s.classes c ≡ true → Leads text w.past (Next (Forms ∷ []) (with_command s c))
+  command_leads : (c : Command) (s : State) → IsShort n s → Program text s → other_is_sound s.classes text c ≡ true → Leads text w.past (Next (Forms ∷ []) (with_command s c))
   command_leads c s short g valid = (omega (arith, length-append {A = Command}), at_forms (command_added text s.classes s.rules s.commands c g valid))
 
   -- or its bracket
-  whole_command_leads : (c : Command) (s : State) → IsShort n s → Program text s → command_is_valid s.classes c ≡ true → Leads text w.past (Next (Closes EndsWhole ∷ Forms ∷ []) (with_command s c))
+  whole_command_leads : (c : Command) (s : State) → IsShort n s → Program text s → other_is_sound s.classes text c ≡ true → Leads text w.past (Next (Closes EndsWhole ∷ Forms ∷ []) (with_command s c))
   whole_command_leads c s short g valid = (omega (arith, length-append {A = Command}), at_command_end (command_added text s.classes s.rules s.commands c g valid))
 
   counted_leads : (s : State) → IsShort n s → Program text s → (o : Option ℕ) → count_of w.kind ≡ o → Leads text w.past (counted o (Forms ∷ []) s)
-  counted_leads s short g (Some k) e = whole_command_leads (command.Run (Some k)) s short g (count_natural w.kind k e)
+  counted_leads s short g (Some k) e = whole_command_leads (command.Run (Some k)) s short g (and_from _ _ (count_natural w.kind k e) refl)
   counted_leads s short g None e = tt
 
   count_leads : (s : State) → IsShort n s → Program text s → Leads text w.past (count w (Forms ∷ []) s)
@@ -554,7 +557,7 @@ module _ (text n : ℕ) (w : Word) (fit : text ≤ longest_list) (placed : IsPla
       (λ _. strategy_set_leads s short g (strategy_of w.keyword))
 
   level_set_leads : (s : State) → IsShort n s → Program text s → (o : Option ℕ) → level_of w.kind ≡ o → Leads text w.past (level_set o (Forms ∷ []) s)
-  level_set_leads s short g (Some k) e = whole_command_leads (command.Watch (Some k)) s short g (level_small w.kind k e)
+  level_set_leads s short g (Some k) e = whole_command_leads (command.Watch (Some k)) s short g (and_from _ _ (level_small w.kind k e) refl)
   level_set_leads s short g None e = tt
 
   level_leads : (s : State) → IsShort n s → Program text s → Leads text w.past (level w (Forms ∷ []) s)
@@ -577,7 +580,7 @@ module _ (text n : ℕ) (w : Word) (fit : text ≤ longest_list) (placed : IsPla
       cond_both (is_right w.kind) _ _ (Leads text w.past)
       (λ _. (
         omega (arith, length-append {A = Command}),
-        at_forms (command_added text s.classes s.rules s.commands (tag_command u s.tags) g.0 (tags_valid s.classes u s.tags (fits_below s.tags n short.12 place_fits) g.1 g.2)),
+        at_forms (command_added text s.classes s.rules s.commands (tag_command u s.tags) g.0 (tags_valid text s.classes u s.tags (fits_below s.tags n short.12 place_fits) g.1 g.2)),
       ))
       (λ _. tag_leads u s short g.0 g.1 (count_of w.kind) refl)
 
@@ -595,7 +598,7 @@ module _ (text n : ℕ) (w : Word) (fit : text ≤ longest_list) (placed : IsPla
       cond_both (is_right w.kind) _ _ (Leads text w.past)
       (λ _. (
         omega (arith, length-append {A = Command}),
-        at_forms (command_added text s.classes s.rules s.commands (name_command u s.named) g.0 (names_valid s.classes u s.named (fits_below s.named n short.13 place_fits) g.1)),
+        at_forms (command_added text s.classes s.rules s.commands (name_command u s.named) g.0 (names_valid text s.classes u s.named (fits_below s.named n short.13 place_fits) g.1)),
       ))
       (λ _. named_rule_leads u s short g.0)
 
@@ -668,7 +671,7 @@ module _ (text n : ℕ) (w : Word) (fit : text ≤ longest_list) (placed : IsPla
   step_leads s ws short (at_tag_or_all g) = tag_or_all_leads s short g
   step_leads s ws short (at_tags u g) = tags_leads u s short g
   step_leads s ws short (at_shown g) = shown_leads s short g
-  step_leads s ws short (at_named_rule g) = named_rule_leads ToPrint s short g
+  step_leads s ws short (at_named_rule u g) = named_rule_leads u s short g
   step_leads s ws short (at_named_rules u g) = named_rules_leads u s short g
   step_leads s ws short (at_level g) = level_leads s short g
   step_leads s ws short (at_cs g) = cs_leads s short g

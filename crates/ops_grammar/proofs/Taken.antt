@@ -16,16 +16,15 @@ use Rattle.ops_tokens.specs.declared.token.TokenKind.TheVariants as kind
 use Rattle.ops_grammar.specs.declared.words.Word.{Word}
 use Rattle.ops_grammar.specs.declared.words.Keyword.{Keyword}
 use Rattle.ops_grammar.specs.declared.words.Keyword.TheVariants as keyword
-use Rattle.ops_grammar.specs.Grammar.{Use, InPattern, InPut, InFixed, Target, ToPut, ToTerms, ToConstants, ToItem, ToBind, Wanted, Form, ClassDeclared, Attributes, VectorName, VectorNames, RuleName, Patterns, Pattern, Braced, ElementName, ClosesBrace, ClassName, Terms, Attribute, Several, Tested, ValueFor, ExpressionUnit, ExpressionRest, Bracketed, EndsWhole, SourceCell, SourceAttribute, SourceEnd, Modified, BoundValue, CellName, Cell, Cells, Items, Shown, Closes, State, Step, Next, Refuses, is_left, is_right, is_left_brace, is_caret, is_name, is_variable, is_arrow, is_literal, is_minus, constant_of, value_of, natural_of, is_one_of, number_of, may_declare, may_produce, is_class, is_rule, is_second, makes_second, vector_name, form, class_at, attributes_of, field_at, variable_tested, constant_tested, tested, term_at, bound_at, constant_at, is_of_action, value_for, most_brackets, unit_bound, unit_at, expression_unit, is_compute, source_named, source_class, source_at, takes_several, ends_at_inf, place, terms, within, one_of_several, with_several, several, element_at, element_name, designated, numbered_cell, named_cell, cell_of, with_designated, with_modified, cell_bound, step, is_absent, begins_group, Members, has_room, is_right_brace}
+use Rattle.ops_grammar.specs.Grammar.{Use, InPattern, InPut, InFixed, Target, ToPut, ToTerms, ToConstants, ToItem, ToBind, Wanted, Form, ClassDeclared, Attributes, VectorName, VectorNames, RuleName, Patterns, Pattern, Braced, ElementName, ClosesBrace, ClassName, Terms, Attribute, Several, Tested, ValueFor, ExpressionUnit, ExpressionRest, Bracketed, EndsWhole, SourceCell, SourceAttribute, SourceEnd, Modified, BoundValue, CellName, Cell, Cells, Items, Shown, Closes, State, Step, Next, Refuses, is_left, is_right, is_left_brace, is_caret, is_name, is_variable, is_arrow, is_literal, is_minus, constant_of, value_of, natural_of, is_one_of, number_of, may_declare, is_class, is_rule, is_second, makes_second, vector_name, form, class_at, attributes_of, field_at, variable_tested, constant_tested, tested, term_at, bound_at, constant_at, is_of_action, value_for, most_brackets, unit_bound, unit_at, expression_unit, is_compute, source_named, source_class, source_at, takes_several, ends_at_inf, place, terms, within, one_of_several, with_several, several, element_at, element_name, designated, numbered_cell, named_cell, cell_of, with_designated, with_modified, cell_bound, step, is_absent, begins_group, Members, has_room, is_right_brace}
 use Rattle.ops_grammar.specs.Derivation.{is_designator}
 use Rattle.ops_grammar.proofs.Follows.{name_not_right, designator_not_right, variable_not_left}
 use Rattle.ops_grammar.specs.Reasons.{gives_second, is_full, is_positive, is_condition, designates, is_unclear, designates_unclearly}
 
--- no declaration and no production is late
+-- no declaration is late
 abbrev pub FormFits : Keyword → State → Type 0
 FormFits keyword.Literalize s = may_declare s ≡ true
 FormFits keyword.VectorAttribute s = may_declare s ≡ true
-FormFits keyword.Production s = may_produce s ≡ true
 FormFits _ s = Unit {0}
 
 -- what was bound before, where the word is a variable
@@ -151,7 +150,6 @@ module _ (w : Word) (ws : List Wanted) (s : State) where
   form_fits : (k : Keyword) → IfTaken (FormFits k s) (form w k ws s)
   form_fits keyword.Literalize = cond_both (may_declare s) _ _ (IfTaken (may_declare s ≡ true)) (λ e. e) (λ _. tt)
   form_fits keyword.VectorAttribute = cond_both (may_declare s) _ _ (IfTaken (may_declare s ≡ true)) (λ e. e) (λ _. tt)
-  form_fits keyword.Production = cond_both (may_produce s) _ _ (IfTaken (may_produce s ≡ true)) (λ e. e) (λ _. tt)
   form_fits keyword.Make = tt
   form_fits keyword.Run = tt
   form_fits _ = tt

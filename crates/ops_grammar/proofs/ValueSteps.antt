@@ -16,7 +16,7 @@ use Rattle.ops_base.specs.declared.actions.Action.TheVariants as action
 use Rattle.ops_base.specs.declared.expression.Op.{Op}
 use Rattle.ops_base.specs.Expression.{Formula}
 use Rattle.ops_base.specs.Expression as formula
-use Rattle.ops_base.specs.Valid.{longest_list, class_of, is_attribute, class_of_cell, Known, known_after, term_is_valid, put_is_valid, item_is_valid, action_is_valid}
+use Rattle.ops_base.specs.Valid.{longest_list, class_of, is_attribute, class_of_cell, Known, known_after, term_is_valid, put_is_valid, item_is_valid, action_is_valid, builds_from}
 use Rattle.ops_tokens.specs.declared.token.TokenKind.{TokenKind}
 use Rattle.ops_tokens.specs.declared.token.TokenKind.TheVariants as kind
 use Rattle.ops_grammar.specs.declared.words.Word.{Word}
@@ -35,9 +35,9 @@ pub record IsPlaced (text n : ℕ) (w : Word) : Type 0 where
 
 module _ (text : ℕ) where
   -- an action more
-  pub added : (s : State) (a : Action) (v : Variables) (r : Side) → Body text s → action_is_valid s.classes (known_in s) a ≡ true → Knows (known_after (known_in s) a) v s.conditions r
+  pub added : (s : State) (a : Action) (v : Variables) (r : Side) → Body text s → action_is_valid s.classes (known_in s) a ≡ true → builds_from 0 a ≡ true → Knows (known_after (known_in s) a) v s.conditions r
       → IsBody text s.classes s.rules s.commands s.name v s.conditions r (s.actions ++ a ∷ [])
-  added s a v r g valid knows = action_added text s.classes s.rules s.commands s.name (variables_of s) v s.conditions (side_of s) r s.actions a g valid knows
+  added s a v r g valid builds knows = action_added text s.classes s.rules s.commands s.name (variables_of s) v s.conditions (side_of s) r s.actions a g valid builds knows
 
   put_added : (s : State) (f : ℕ) (t : Term) → IsElement InPut text s → is_attribute (class_of s.classes s.class) f ≡ true → term_is_valid s.classes (known_in s) false t ≡ true
       → IsElement InPut text (record s { puts = s.puts ++ record { field = f; terms = t ∷ [] } ∷ [] })
@@ -51,10 +51,10 @@ module _ (text : ℕ) where
 
   bind_added : (s : State) (t : Term) → Body text s → term_is_valid s.classes (known_in s) false t ≡ true → (o : Option ℕ) → number_of s.variable s.values ≡ o → Body text (with_bind o s t)
   bind_added s t g valid (Some m) e =
-      added s (action.Bind m t) (variables_of s) (side_of s) g valid
+      added s (action.Bind m t) (variables_of s) (side_of s) g valid refl
       (bound_again (known_in s) (variables_of s) s.conditions (side_of s) g.knows m t (number_in s.variable s.values m e))
   bind_added s t g valid None e =
-      added s (action.Bind s.variables t) (with_one (variables_of s) s.variable) (side_of s) g valid
+      added s (action.Bind s.variables t) (with_one (variables_of s) s.variable) (side_of s) g valid refl
       (bound_first (known_in s) (variables_of s) s.conditions (side_of s) g.knows s.variable t)
 
   -- ---- where a value stands

@@ -1,6 +1,6 @@
 -- The grammar of program texts, as what a word does where something is wanted.
 use Rattle.std.specs.Prelude.{ℕ, suc, ◌+◌, ◌-◌, List, [], ◌∷◌, ◌++◌, length, take, map, filter, position, Bool, true, false, not, ◌==◌, ◌&&◌, ◌||◌, nat_lt, nat_le, if◌then◌else◌, Option, Some, None, Result, Ok, Err, ℤ, pos, negsuc, slice_get, unwrap_or}
-use Rattle.std.specs.List.{list_any, list_all}
+use Rattle.std.specs.List.{list_any, list_all, flat_map}
 use Rattle.ops_base.specs.declared.values.Sym.{Sym}
 use Rattle.ops_base.specs.declared.values.Value.{Value}
 use Rattle.ops_base.specs.declared.values.Value.TheVariants as value
@@ -76,10 +76,11 @@ pub data TagUse : Type 0 where
   ToRemove : TagUse
   ToShow : TagUse
 
--- what the names of a command are for: its productions are printed, or get a break or lose it
+-- what the names of a command are for: its productions are printed, get a break or lose it, or are taken out
 pub data NameUse : Type 0 where
   ToPrint : NameUse
   ToBreak : NameUse
+  ToExcise : NameUse
 
 -- an operand of `compute` and the operation after it, which wait for what stands after them
 pub record Waiting : Type 0 where
@@ -92,7 +93,8 @@ pub data Wanted : Type 0 where
   Forms : Wanted
   -- literalize NAME NAME* ) | vector-attribute NAME NAME* ) | p NAME first condition* --> action* ) | make CLASS fixed* )
   -- | remove NAT NAT* ) | remove * ) | run [NAT] ) | wm NAT* ) | ppwm ) | ppwm CLASS fixed* ) | cs ) | pm NAME NAME* )
-  -- | strategy ) | strategy lex ) | strategy mea ) | watch ) | watch 0 ) | watch 1 ) | watch 2 ) | pbreak NAME* ) | exit )
+  -- | strategy ) | strategy lex ) | strategy mea ) | watch ) | watch 0 ) | watch 1 ) | watch 2 ) | pbreak NAME* )
+  -- | excise NAME NAME* ) | exit )
   Form : Wanted
   -- NAME
   ClassDeclared : Wanted
@@ -397,34 +399,72 @@ abbrev pub precedes_classes : Command → Bool
 precedes_classes (command.Make class puts) = false
 precedes_classes (command.Run count) = false
 precedes_classes (command.Ppwm pattern) = false
-precedes_classes _ = true
+precedes_classes (command.Add r) = false
+precedes_classes (command.Remove tags) = true
+precedes_classes command.RemoveAll = true
+precedes_classes (command.Wm tags) = true
+precedes_classes command.Cs = true
+precedes_classes (command.Pm names) = true
+precedes_classes (command.Strategy set) = true
+precedes_classes (command.Watch set) = true
+precedes_classes (command.Pbreak names) = true
+precedes_classes (command.Excise names) = true
+precedes_classes (command.Back count) = true
+precedes_classes (command.Matches names) = true
+precedes_classes command.Exit = true
 
--- a production may stand after this command
+-- a production that stands after this command may be one of the beginning
 abbrev pub precedes_rules : Command → Bool
 precedes_rules (command.Make class puts) = false
 precedes_rules (command.Run count) = false
-precedes_rules _ = true
+precedes_rules (command.Remove tags) = true
+precedes_rules command.RemoveAll = true
+precedes_rules (command.Wm tags) = true
+precedes_rules (command.Ppwm pattern) = true
+precedes_rules command.Cs = true
+precedes_rules (command.Pm names) = true
+precedes_rules (command.Strategy set) = true
+precedes_rules (command.Watch set) = true
+precedes_rules (command.Pbreak names) = true
+precedes_rules (command.Add r) = false
+precedes_rules (command.Excise names) = true
+precedes_rules (command.Back count) = true
+precedes_rules (command.Matches names) = true
+precedes_rules command.Exit = true
 
 -- no production was read, and no command after which a declaration is late
 abbrev pub may_declare : State → Bool
 may_declare s = (length s.rules == 0) && list_all precedes_classes s.commands
 
--- no command was read after which a production is late
-abbrev pub may_produce : State → Bool
-may_produce s = list_all precedes_rules s.commands
+-- no `make` and no `run` was read: a production that stands here is one of the beginning
+abbrev pub is_beginning : State → Bool
+is_beginning s = list_all precedes_rules s.commands
 
 abbrev pub is_class : State → Sym → Bool
 is_class s name = list_any (λ c. c.name.0 == name.0) s.classes
 
+-- the production that a command adds, if it adds one
+abbrev pub added : Command → List Rule
+added (command.Add r) = r ∷ []
+added _ = []
+
+-- the productions that commands add, in order
+abbrev pub added_by : List Command → List Rule
+added_by commands = flat_map added commands
+
+-- one of the productions has that name
+abbrev pub has_title : Sym → List Rule → Bool
+has_title name rules = list_any (λ r. r.name.0 == name.0) rules
+
+-- a production of that name was read, whether it stands at the beginning or is added
 abbrev pub is_rule : State → Sym → Bool
-is_rule s name = list_any (λ r. r.name.0 == name.0) s.rules
+is_rule s name = has_title name s.rules || has_title name (added_by s.commands)
 
 abbrev pub form : Word → Keyword → List Wanted → State → Step
 form w keyword.Literalize ws s =
     if may_declare s then Next (ClassDeclared ∷ Attributes ∷ ws) s else Refuses fault.LateDeclaration
 form w keyword.VectorAttribute ws s = if may_declare s then Next (VectorName ∷ VectorNames ∷ ws) s else Refuses fault.LateDeclaration
-form w keyword.Production ws s =
-    if may_produce s then Next (RuleName ∷ FirstPattern ∷ Patterns ∷ Actions ∷ ws) s else Refuses fault.LateProduction
+form w keyword.Production ws s = Next (RuleName ∷ FirstPattern ∷ Patterns ∷ Actions ∷ ws) s
 form w keyword.Make ws s = Next (ClassName ∷ Terms InFixed ∷ ws) (record s { fixed = []; shows = false })
 form w keyword.Remove ws s = Next (TagOrAll ∷ ws) (record s { tags = [] })
 form w keyword.Run ws s = Next (Count ∷ ws) s
@@ -435,6 +475,7 @@ form w keyword.Pm ws s = Next (NamedRule ∷ NamedRules ToPrint ∷ ws) (record 
 form w keyword.Strategy ws s = Next (StrategyName ∷ ws) s
 form w keyword.Watch ws s = Next (Level ∷ ws) s
 form w keyword.Pbreak ws s = Next (NamedRules ToBreak ∷ ws) (record s { named = [] })
+form w keyword.Excise ws s = Next (NamedRule ∷ NamedRules ToExcise ∷ ws) (record s { named = [] })
 form w keyword.Exit ws s = Next (Closes EndsExit ∷ ws) s
 form w _ ws s = Refuses fault.UnknownCommand
 
@@ -970,21 +1011,37 @@ with_bound_element s =
 abbrev pub closes_brace : Word → List Wanted → State → Step
 closes_brace w ws s = if is_right_brace w.kind then Next ws (with_bound_element s) else Refuses fault.BadForm
 
-abbrev pub with_rule : State → ℕ → State
-with_rule s past =
-    record (right_begun s) {
-      rules = s.rules ++ record {
-        name = s.name;
-        conditions = s.conditions;
-        actions = s.actions;
-        specificity = specificity s.conditions;
-        variables = s.variables;
-        cells = length (classes_of_cells s);
-        first = s.first;
-        past = past;
-      } ∷ [];
-      conditions = [];
+-- a production of the beginning stands with the others
+abbrev pub rules_with : Bool → List Rule → Rule → List Rule
+rules_with true rules r = rules ++ r ∷ []
+rules_with false rules r = rules
+
+-- a later one is added where it stands among the commands
+abbrev pub commands_with : Bool → List Command → Rule → List Command
+commands_with true commands r = commands
+commands_with false commands r = commands ++ command.Add r ∷ []
+
+abbrev pub with_production : State → Rule → State
+with_production s r =
+    record s { rules = rules_with (is_beginning s) s.rules r; commands = commands_with (is_beginning s) s.commands r }
+
+-- the production that was read up to its last bracket
+abbrev pub rule_of : State → ℕ → Rule
+rule_of s past =
+    record {
+      name = s.name;
+      conditions = s.conditions;
+      actions = s.actions;
+      specificity = specificity s.conditions;
+      variables = s.variables;
+      cells = length (classes_of_cells s);
+      first = s.first;
+      past = past;
     }
+
+-- a production ends
+abbrev pub with_rule : State → ℕ → State
+with_rule s past = with_production (record (right_begun s) { conditions = [] }) (rule_of s past)
 
 abbrev pub actions : Word → List Wanted → State → Step
 actions w ws s =
@@ -1187,6 +1244,7 @@ named_rule w ws s = if is_name w.kind then Next ws (record s { named = s.named +
 abbrev pub name_command : NameUse → List Sym → Command
 name_command ToPrint names = command.Pm names
 name_command ToBreak names = command.Pbreak names
+name_command ToExcise names = command.Excise names
 
 -- a command of names ends
 abbrev pub with_named : NameUse → State → State

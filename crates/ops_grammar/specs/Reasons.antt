@@ -12,10 +12,11 @@ use Rattle.ops_tokens.specs.declared.token.TokenKind.TheVariants as kind
 use Rattle.ops_grammar.specs.declared.words.Word.{Word}
 use Rattle.ops_grammar.specs.declared.words.Keyword.{Keyword}
 use Rattle.ops_grammar.specs.declared.words.Keyword.TheVariants as keyword
-use Rattle.ops_grammar.specs.Grammar.{InPattern, InPut, InFixed, ToTest, ToFixed, ToConstants, Wanted, Forms, Form, ClassDeclared, Attributes, VectorName, VectorNames, RuleName, FirstPattern, Patterns, Braced, ElementName, ClassName, Attribute, Several, Shown, Tested, ValueFor, ExpressionUnit, Bracketed, SourceCell, SourceAttribute, Modified, BoundValue, CellName, Cell, Cells, Items, State, most_brackets, is_left, is_name, is_variable, is_minus, natural_of, is_one_of, number_of, may_declare, may_produce, is_class, is_rule, is_second, makes_second, attributes_of, source_class, is_absent, Members, has_room, begins_group}
+use Rattle.ops_grammar.specs.Grammar.{InPattern, InPut, InFixed, ToTest, ToFixed, ToConstants, Wanted, Forms, Form, ClassDeclared, Attributes, VectorName, VectorNames, RuleName, FirstPattern, Patterns, Braced, ElementName, ClassName, Attribute, Several, Shown, Tested, ValueFor, ExpressionUnit, Bracketed, SourceCell, SourceAttribute, Modified, BoundValue, CellName, Cell, Cells, Items, State, most_brackets, is_left, is_name, is_variable, is_minus, natural_of, is_one_of, number_of, may_declare, is_class, is_rule, is_second, makes_second, attributes_of, source_class, is_absent, Members, has_room, begins_group}
 use Rattle.ops_grammar.specs.Derivation.{is_designator}
 
--- the numbers of the faults, by which one of several at a word is chosen
+-- The numbers of the faults, by which one of several at a word is chosen. No text has a late production any more: one
+-- after the first `make` or `run` is added. Its number stays free.
 abbrev pub fault_number : Fault → ℕ
 fault_number fault.BadByte = 1
 fault_number fault.Unclosed = 2
@@ -182,7 +183,6 @@ Because fault.UnknownAttribute w ws s = (wants_attribute ws ≡ true) × (is_nam
 Because fault.DeclaredTwice w ws s = (is_name w.kind ≡ true) × (is_declared ws w.name s ≡ true)
 Because fault.TwoVectors w ws s = (is_name w.kind ≡ true) × (gives_second ws w.name s ≡ true)
 Because fault.LateDeclaration w ws s = (wants_form ws ≡ true) × (is_declaration w.keyword ≡ true) × (may_declare s ≡ false)
-Because fault.LateProduction w ws s = (wants_form ws ≡ true) × (w.keyword ≡ keyword.Production) × (may_produce s ≡ false)
 Because fault.UnboundVariable w ws s = (wants_bound ws ≡ true) × (is_variable w.kind ≡ true) × (is_bound ws w.name s ≡ false)
 Because fault.BadDesignator w ws s = is_bad_designator ws w s ≡ true
 Because (fault.LimitPassed limit.Fields) w ws s = is_full ws s ≡ true

@@ -35,7 +35,7 @@ use Rattle.ops_tokens.specs.declared.token.TokenKind.TheVariants as kind
 use Rattle.ops_grammar.specs.declared.words.Word.{Word}
 use Rattle.ops_grammar.specs.declared.words.Keyword.{Keyword}
 use Rattle.ops_grammar.specs.declared.words.Keyword.TheVariants as keyword
-use Rattle.ops_grammar.specs.Grammar.{is_one_of, most_brackets, function_depth, is_absent}
+use Rattle.ops_grammar.specs.Grammar.{is_one_of, most_brackets, function_depth, is_absent, precedes_rules, added_by}
 
 -- ---- words, where their places do not matter
 
@@ -133,20 +133,6 @@ keyword_of_strategy Mea = keyword.Mea
 abbrev pub spelled_strategy : Option Strategy → List Word
 spelled_strategy None = []
 spelled_strategy (Some g) = spelled_keyword (keyword_of_strategy g) ∷ []
-
-abbrev pub spelled_command : List Class → Command → List Word
-spelled_command classes (command.Make class puts) = spelled_fact (class_of classes class) puts
-spelled_command classes (command.Remove tags) = spelled_short keyword.Remove (spelled_tags tags)
-spelled_command classes command.RemoveAll = spelled_short keyword.Remove (spelled_keyword keyword.Times ∷ [])
-spelled_command classes (command.Run count) = spelled_short keyword.Run (spelled_count count)
-spelled_command classes (command.Wm tags) = spelled_short keyword.Wm (spelled_tags tags)
-spelled_command classes (command.Ppwm pattern) = spelled_short keyword.Ppwm (spelled_shown classes pattern)
-spelled_command classes command.Cs = spelled_short keyword.Cs []
-spelled_command classes (command.Pm names) = spelled_short keyword.Pm (map spelled_name names)
-spelled_command classes (command.Strategy set) = spelled_short keyword.Strategy (spelled_strategy set)
-spelled_command classes (command.Watch set) = spelled_short keyword.Watch (spelled_count set)
-spelled_command classes (command.Pbreak names) = spelled_short keyword.Pbreak (map spelled_name names)
-spelled_command classes command.Exit = spelled_short keyword.Exit []
 
 -- ---- left sides
 
@@ -298,7 +284,10 @@ after_action k (action.Bind variable t) =
     if is_in variable k.variables.sight then k
     else record k { variables = record { sight = k.variables.sight ++ k.variables.given ∷ []; given = suc k.variables.given } }
 after_action k (action.Cbind cell) = record k { cells = k.cells ++ unwrap_or k.made 0 ∷ [] }
-after_action k _ = k
+after_action k (action.Remove cells) = k
+after_action k (action.Write items) = k
+after_action k action.Halt = k
+after_action k (action.Build template holes) = k
 
 abbrev pub after_actions : InSight → List Action → InSight
 after_actions k [] = k
@@ -373,6 +362,8 @@ spelled_action classes k (action.Write items) = opening ∷ spelled_keyword keyw
 spelled_action classes k (action.Bind variable t) = opening ∷ spelled_keyword keyword.Bind ∷ spelled_variable variable ∷ spelled_term classes k t ++ closing ∷ []
 spelled_action classes k (action.Cbind cell) = opening ∷ spelled_keyword keyword.Cbind ∷ spelled_variable cell ∷ closing ∷ []
 spelled_action classes k action.Halt = opening ∷ spelled_keyword keyword.Halt ∷ closing ∷ []
+-- no text reads as one
+spelled_action classes k (action.Build template holes) = []
 
 abbrev pub spelled_actions : List Class → InSight → List Action → List Word
 spelled_actions classes k [] = []
@@ -424,6 +415,7 @@ action_is_plain classes k (action.Write items) = list_all (item_is_plain classes
 action_is_plain classes k (action.Bind variable t) = can_be_bound k.variables variable && term_is_plain classes k false t
 action_is_plain classes k (action.Cbind cell) = is_some k.made && (cell == length k.cells)
 action_is_plain classes k action.Halt = true
+action_is_plain classes k (action.Build template holes) = false
 
 abbrev pub actions_are_plain : List Class → InSight → List Action → Bool
 actions_are_plain classes k [] = true
@@ -449,6 +441,26 @@ rule_is_plain classes r =
     && (r.cells == length (after_actions (at_arrow r.conditions) r.actions).cells)
 
 -- ---- programs
+
+-- a production that is added is spelled as any other
+abbrev pub spelled_command : List Class → Command → List Word
+spelled_command classes (command.Make class puts) = spelled_fact (class_of classes class) puts
+spelled_command classes (command.Remove tags) = spelled_short keyword.Remove (spelled_tags tags)
+spelled_command classes command.RemoveAll = spelled_short keyword.Remove (spelled_keyword keyword.Times ∷ [])
+spelled_command classes (command.Run count) = spelled_short keyword.Run (spelled_count count)
+spelled_command classes (command.Wm tags) = spelled_short keyword.Wm (spelled_tags tags)
+spelled_command classes (command.Ppwm pattern) = spelled_short keyword.Ppwm (spelled_shown classes pattern)
+spelled_command classes command.Cs = spelled_short keyword.Cs []
+spelled_command classes (command.Pm names) = spelled_short keyword.Pm (map spelled_name names)
+spelled_command classes (command.Strategy set) = spelled_short keyword.Strategy (spelled_strategy set)
+spelled_command classes (command.Watch set) = spelled_short keyword.Watch (spelled_count set)
+spelled_command classes (command.Pbreak names) = spelled_short keyword.Pbreak (map spelled_name names)
+spelled_command classes command.Exit = spelled_short keyword.Exit []
+spelled_command classes (command.Add r) = spelled_rule classes r
+spelled_command classes (command.Excise names) = spelled_short keyword.Excise (map spelled_name names)
+-- no text reads as one of these
+spelled_command classes (command.Back count) = []
+spelled_command classes (command.Matches names) = []
 
 -- the names of the classes' vector attributes
 abbrev pub vectors_of : List Class → List Sym
@@ -478,13 +490,34 @@ command_is_plain classes (command.Ppwm (Some p)) = constants_are_plain classes p
 command_is_plain classes (command.Pm names) = nat_lt 0 (length names)
 command_is_plain classes (command.Watch None) = true
 command_is_plain classes (command.Watch (Some n)) = nat_le n 2
-command_is_plain classes _ = true
+command_is_plain classes command.RemoveAll = true
+command_is_plain classes command.Cs = true
+command_is_plain classes (command.Strategy set) = true
+command_is_plain classes (command.Pbreak names) = true
+command_is_plain classes command.Exit = true
+command_is_plain classes (command.Add r) = rule_is_plain classes r
+command_is_plain classes (command.Excise names) = nat_lt 0 (length names)
+command_is_plain classes (command.Back count) = false
+command_is_plain classes (command.Matches names) = false
+
+-- none of the productions has the name of another, whether it stands at the beginning or is added
+abbrev pub titles_are_distinct : List Rule → List Command → Bool
+titles_are_distinct rules commands = are_distinct (map (λ r. r.name.0) (rules ++ added_by commands))
+
+abbrev pub is_add : Command → Bool
+is_add (command.Add r) = true
+is_add _ = false
+
+-- each production that is added stands behind a `make` or a `run`
+abbrev pub adds_late : List Command → Bool
+adds_late [] = true
+adds_late (c ∷ cs) = not (is_add c) && (if precedes_rules c then adds_late cs else true)
 
 -- the program has a spelling
 abbrev pub is_plain : List Class → List Rule → List Command → Bool
 is_plain classes rules commands =
     list_all (class_is_plain (vectors_of classes)) classes && list_all (rule_is_plain classes) rules && list_all (command_is_plain classes) commands
-    && are_distinct (map (λ c. c.name.0) classes) && are_distinct (map (λ r. r.name.0) rules)
+    && are_distinct (map (λ c. c.name.0) classes) && titles_are_distinct rules commands && adds_late commands
 
 abbrev pub spelled_program : List Class → List Rule → List Command → List Word
 spelled_program classes rules commands =

@@ -37,6 +37,8 @@ pub enum Keyword {
     Watch,
     /// `pbreak`
     Pbreak,
+    /// `excise`
+    Excise,
     /// `exit`
     Exit,
     /// `modify`

@@ -221,6 +221,7 @@ module _ (old : List Element) (given : ℕ) (names : Spellings) (fails : Bool) w
       (evaluated_kept s.classes t d p) (λ v q. kept_beside v.doing _ v.doing.cells v.doing.halted q)
   action_kept s column (action.Cbind cell) d p = kept_beside d d.bindings _ d.halted p
   action_kept s column action.Halt d p = kept_beside d d.bindings d.cells true p
+  action_kept s column (action.Build template holes) d p = p
 
   ends_in : (n : ℕ) (m : ActionError) → Ends m → EndsActions fails (in_action n m)
   ends_in n (Fault kind) p = tt

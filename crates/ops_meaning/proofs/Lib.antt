@@ -6,3 +6,4 @@ pub mod RisingTags
 pub mod InletLemmas
 pub mod Limits
 pub mod Ranked
+pub mod EndingNames

@@ -1,5 +1,6 @@
 -- A session makes at most as many firings as its limit says, and a run with a number at most as many as that says.
 use Rattle.std.proofs.Common.{◌≡◌, ℕ, zero, suc, ◌+◌, ◌-◌, ◌≤◌, List, [], ◌∷◌, Bool, true, false, cond, Option, Some, None, MatchResult, refl, arith}
+use Rattle.std.specs.Prelude.{option_map, unwrap_or, fold}
 use Rattle.std.proofs.lemmas.Bool.{cond_both}
 use Rattle.ops_base.specs.declared.commands.Command.{Command}
 use Rattle.ops_base.specs.declared.commands.Command.TheVariants as command
@@ -14,7 +15,7 @@ use Rattle.ops_meaning.specs.Acting.{Setting, Misdeed, Bad, NoInput, acted}
 use Rattle.ops_meaning.specs.Effects.{Effect, writes, and_then}
 use Rattle.ops_meaning.specs.Kept.{TellsLimit, KeepsLimit, IsLimited, IsCounted}
 use Rattle.ops_meaning.specs.Layout.{firing_bytes, halted_line, broken_line, counted_line, rule_name}
-use Rattle.ops_meaning.specs.Running.{Course, Turned, Session, LastFiring, begun, turn, line_of_pause, has_break, last_of, one_less, given_by, ended_in, with_course, turned_of, firing, run_on, next_to_fire, command_done, commands_done, is_exit, strategy_given, level_given, breaks_given}
+use Rattle.ops_meaning.specs.Running.{Course, Turned, Session, LastFiring, begun, turn, line_of_pause, has_break, last_of, one_less, given_by, ended_in, with_course, turned_of, firing, run_on, next_to_fire, command_done, commands_done, is_exit, strategy_given, level_given, breaks_given, in_force, rule_named, taken_out, taken_out_named, added}
 use Rattle.ops_meaning.proofs.Doings.{goes_on, goes_as, ok_goes, EndsActions, KeptActed, acted_kept}
 
 -- what every turn leaves of a run whose end it does not come to
@@ -33,16 +34,16 @@ module _ (limit : ℕ) where
   abbrev WithinSession : Session → Type 0
   WithinSession k = Within k.course
 
-  ended_tells : (firing rule : ℕ) (e : Misdeed) → firing ≤ limit → TellsLimit limit (ended_in firing rule e)
-  ended_tells firing rule (Bad n k) p = p
-  ended_tells firing rule NoInput p = tt
+  ended_tells : (firing rule : ℕ) (name : Sym) (e : Misdeed) → firing ≤ limit → TellsLimit limit (ended_in firing rule name e)
+  ended_tells firing rule name (Bad n k) p = p
+  ended_tells firing rule name NoInput p = tt
 
   -- a firing is counted, and one that fails is named by its number
   firing_counts : (s : Setting) (column : ℕ) (i : Inst) (m : Course) → m.firings + 1 ≤ limit → MatchResult (firing s column i m).outcome (λ t. t.course.firings ≡ m.firings + 1) (TellsLimit limit)
   firing_counts s column i m within =
       let behind = column_after column (firing_bytes s.watch column m.names s.rules (m.firings + 1) i) in
-      goes_as (KeptActed m.wm m.last m.names m.coming.fails) (λ (t : Turned). t.course.firings ≡ m.firings + 1) (EndsActions m.coming.fails) (TellsLimit limit) (turned_of s.rules i m) (ended_in (m.firings + 1) i.rule) (acted s behind i (given_by m)).outcome
-      (acted_kept s behind i (given_by m)) (λ a q. refl) (λ e q. ended_tells (m.firings + 1) i.rule e within)
+      goes_as (KeptActed m.wm m.last m.names m.coming.fails) (λ (t : Turned). t.course.firings ≡ m.firings + 1) (EndsActions m.coming.fails) (TellsLimit limit) (turned_of s.rules i m) (ended_in (m.firings + 1) i.rule (rule_name s.rules i.rule)) (acted s behind i (given_by m)).outcome
+      (acted_kept s behind i (given_by m)) (λ a q. refl) (λ e q. ended_tells (m.firings + 1) i.rule (rule_name s.rules i.rule) e within)
 
   run_limited : (left : ℕ) (s : Setting) (breaks : List Bool) (column : ℕ) (last : Option LastFiring) (count : Option ℕ) (m : Course) → m.firings + left ≡ limit
       → MatchResult (run_on left s breaks column last count m).outcome Within (TellsLimit limit)
@@ -66,6 +67,23 @@ module _ (limit : ℕ) where
   breaks_limited s column [] k p = p
   breaks_limited s column (n ∷ ns) k p = p
 
+  taken_within : (n : ℕ) (k : Session) → WithinSession k → WithinSession (taken_out n k)
+  taken_within n k p = p
+
+  named_within : (name : Sym) (k : Session) → WithinSession k → WithinSession (taken_out_named name k)
+  named_within name k p = by (rule_named k.rules name)
+    where
+      by : (at : Option ℕ) → WithinSession (unwrap_or (option_map (λ n. taken_out n k) at) k)
+      by None = p
+      by (Some n) = p
+
+  added_within : (r : Rule) (k : Session) → WithinSession k → WithinSession (added r k)
+  added_within r k p = named_within r.name k p
+
+  excised_within : (names : List Sym) (k : Session) → WithinSession k → WithinSession (fold (λ k name. taken_out_named name k) k names)
+  excised_within [] k p = p
+  excised_within (name ∷ names) k p = excised_within names (taken_out_named name k) (named_within name k p)
+
   command_limited : (s : Setting) (column : ℕ) (c : Command) (k : Session) → WithinSession k → KeepsLimit limit (command_done s limit column c k).outcome
   command_limited s column (command.Make class puts) k p = p
   command_limited s column (command.Remove tags) k p = p
@@ -82,15 +100,19 @@ module _ (limit : ℕ) where
   command_limited s column (command.Strategy set) k p = strategy_limited column set k p
   command_limited s column (command.Watch set) k p = level_limited column set k p
   command_limited s column (command.Pbreak names) k p = breaks_limited s column names k p
+  command_limited s column (command.Add r) k p = added_within r k p
+  command_limited s column (command.Excise names) k p = excised_within names k p
+  command_limited s column (command.Back count) k p = p
+  command_limited s column (command.Matches names) k p = p
   command_limited s column command.Exit k p = p
 
   commands_limited : (s : Setting) (column : ℕ) (commands : List Command) (k : Session) → WithinSession k → KeepsLimit limit (commands_done s limit column commands k).outcome
   commands_limited s column [] k p = p
   commands_limited s column (c ∷ rest) k p =
-      let e = command_done s limit column c k in
+      let e = command_done (in_force s k) limit column c k in
       let go_on : ℕ → Session → Effect Ending Session = λ next k. commands_done s limit next rest k in
       cond_both (is_exit c) (writes [] k) (and_then column e go_on) (λ f. KeepsLimit limit f.outcome) (λ _. p)
-      (λ _. goes_on WithinSession WithinSession (TellsLimit limit) e.bytes e.outcome (go_on (column_after column e.bytes)) (command_limited s column c k p)
+      (λ _. goes_on WithinSession WithinSession (TellsLimit limit) e.bytes e.outcome (go_on (column_after column e.bytes)) (command_limited (in_force s k) column c k p)
       (λ k q. commands_limited s (column_after column e.bytes) rest k q))
 
 -- a session keeps to its limit
@@ -132,7 +154,7 @@ run_counted bound (suc left) s breaks column last (suc n) m is =
     counts : (i : Inst) → MatchResult (firing s column i m).outcome (λ (t : Turned). t.course.firings ≡ m.firings + 1) Any
     counts i =
         let behind = column_after column (firing_bytes s.watch column m.names s.rules (m.firings + 1) i) in
-        goes_as (KeptActed m.wm m.last m.names m.coming.fails) (λ (t : Turned). t.course.firings ≡ m.firings + 1) (EndsActions m.coming.fails) Any (turned_of s.rules i m) (ended_in (m.firings + 1) i.rule) (acted s behind i (given_by m)).outcome
+        goes_as (KeptActed m.wm m.last m.names m.coming.fails) (λ (t : Turned). t.course.firings ≡ m.firings + 1) (EndsActions m.coming.fails) Any (turned_of s.rules i m) (ended_in (m.firings + 1) i.rule (rule_name s.rules i.rule)) (acted s behind i (given_by m)).outcome
         (acted_kept s behind i (given_by m)) (λ a q. refl) (λ e q. tt)
 
 -- a run with a number makes at most this many firings

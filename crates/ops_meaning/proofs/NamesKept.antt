@@ -67,7 +67,7 @@ first_and true b h = (refl, h)
 first_and false b h = absurd (cc)
 
 -- the name of a rule is held, and so is that of none, which is nil
-name_held : (held : ℕ) (rules : List Rule) (n : ℕ) → 0 < held → list_all (rule_held held) rules ≡ true → (rule_name rules n).0 < held
+pub name_held : (held : ℕ) (rules : List Rule) (n : ℕ) → 0 < held → list_all (rule_held held) rules ≡ true → (rule_name rules n).0 < held
 name_held held [] n some h = some
 name_held held (r ∷ rules) zero some h =
     let whole = first_and (rule_held held r) (list_all (rule_held held) rules) h in
@@ -75,13 +75,22 @@ name_held held (r ∷ rules) zero some h =
     ltb-true r.name.0 held (first_and (symbol_held held r.name) (list_all (part_held held) r.conditions) front.0).0
 name_held held (r ∷ rules) (suc n) some h = name_held held rules n some (first_and (rule_held held r) (list_all (rule_held held) rules) h).1
 
+-- the production that an ending names has a spelling among this many
+abbrev pub IsToldBy : ℕ → Ending → Type 0
+IsToldBy held (ending.Act firing rule name action k) = name.0 < held
+IsToldBy held (ending.Done f n t) = Unit {0}
+IsToldBy held (ending.Limit f) = Unit {0}
+IsToldBy held ending.ReadFault = Unit {0}
+IsToldBy held ending.WriteFault = Unit {0}
+IsToldBy held ending.OutOfMemory = Unit {0}
+
 -- The line is the same with the names as they were when the rules were read.
-pub last_line_kept : (old new : Spellings) (rules : List Rule) (column : ℕ) (e : Ending) → KeepsNames old new → 0 < length old.held → list_all (rule_held (length old.held)) rules ≡ true → last_line new rules column e ≡ last_line old rules column e
-last_line_kept old new rules column (ending.Act firing rule action k) keeps some h =
-    let same = spelling_kept old new (rule_name rules rule) keeps (name_held (length old.held) rules rule some h) in
+pub last_line_kept : (old new : Spellings) (column : ℕ) (e : Ending) → KeepsNames old new → IsToldBy (length old.held) e → last_line new column e ≡ last_line old column e
+last_line_kept old new column (ending.Act firing rule name action k) keeps held =
+    let same = spelling_kept old new name keeps held in
     rw same refl
-last_line_kept old new rules column (ending.Done f n t) keeps some h = refl
-last_line_kept old new rules column (ending.Limit f) keeps some h = refl
-last_line_kept old new rules column ending.ReadFault keeps some h = refl
-last_line_kept old new rules column ending.WriteFault keeps some h = refl
-last_line_kept old new rules column ending.OutOfMemory keeps some h = refl
+last_line_kept old new column (ending.Done f n t) keeps held = refl
+last_line_kept old new column (ending.Limit f) keeps held = refl
+last_line_kept old new column ending.ReadFault keeps held = refl
+last_line_kept old new column ending.WriteFault keeps held = refl
+last_line_kept old new column ending.OutOfMemory keeps held = refl

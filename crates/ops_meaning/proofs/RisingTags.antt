@@ -2,6 +2,7 @@
 -- conflict set that the session looks at is the set of all instantiations. And what else a session keeps, and the ends
 -- that it comes to.
 use Rattle.std.proofs.Common.{◌≡◌, ℕ, zero, suc, ◌+◌, ◌-◌, ◌≤◌, List, [], ◌∷◌, map, length, Bool, true, cond, Option, Some, None, Result, Ok, Err, IfOk, MatchResult, refl, ap, sym, ◌∙◌, arith}
+use Rattle.std.specs.Prelude.{option_map, unwrap_or, fold}
 use Rattle.std.proofs.lemmas.Bool.{cond_both}
 use Rattle.std.proofs.lemmas.List.Elements.{All-nil}
 use Rattle.ops_base.specs.declared.commands.Command.{Command}
@@ -12,6 +13,7 @@ use Rattle.ops_base.specs.declared.elements.Element.{Element}
 use Rattle.ops_base.specs.declared.endings.Ending.{Ending}
 use Rattle.ops_base.specs.declared.endings.Ending.TheVariants as ending
 use Rattle.ops_base.specs.declared.rules.Inst.{Inst}
+use Rattle.ops_base.specs.declared.rules.Rule.{Rule}
 use Rattle.ops_base.specs.declared.values.Sym.{Sym}
 use Rattle.ops_base.specs.WorkingMemory.{HasRisingTags, tags_of, done}
 use Rattle.ops_base.specs.declared.commands.Strategy.{Strategy}
@@ -24,8 +26,8 @@ use Rattle.ops_io.specs.Output.{column_after}
 use Rattle.ops_meaning.specs.Acting.{Setting, Misdeed, Bad, NoInput, Given, Acted, acted, change_lines}
 use Rattle.ops_meaning.specs.Effects.{Effect, writes, led_by, going_on, and_then, told_as, outcome_as}
 use Rattle.ops_meaning.specs.Kept.{WellKept, KeepsNames, IsLawfulOver, ActsLawfully, FindsConflictSets, GoesByConflictSets}
-use Rattle.ops_meaning.specs.Layout.{firing_bytes, inst_text, traced}
-use Rattle.ops_meaning.specs.Running.{Finder, Course, Turned, Session, LastFiring, nothing_yet, begun, turn, line_of_pause, last_of, one_less, next_by, phase_by, marked, turned_by, given_by, ended_in, firing_by, run_by, with_course, lists, element_made, removals, ranked, standing_by, strategy_given, level_given, breaks_given, run_given, is_exit, phase_told, command_by, commands_by, turned_of, firing, run_on, next_to_fire, phase_done, command_done, commands_done, session_of}
+use Rattle.ops_meaning.specs.Layout.{firing_bytes, inst_text, rule_name, traced}
+use Rattle.ops_meaning.specs.Running.{Finder, Find, in_force, rule_named, taken_out, taken_out_named, added, Course, Turned, Session, LastFiring, nothing_yet, begun, turn, line_of_pause, last_of, one_less, next_by, phase_by, marked, turned_by, given_by, ended_in, firing_by, run_by, with_course, lists, element_made, removals, ranked, standing_by, strategy_given, level_given, breaks_given, run_given, is_exit, phase_told, command_by, commands_by, turned_of, firing, run_on, next_to_fire, phase_done, command_done, commands_done, session_of}
 use Rattle.ops_meaning.proofs.Lawful.{added_kept, kept_after, removals_lawful, removals_last, clearing_lawful, clearing_last}
 use Rattle.ops_meaning.proofs.NamesKept.{names_stay, names_then}
 use Rattle.ops_meaning.proofs.Doings.{goes_on, goes_as, ok_goes, EndsActions, KeptActed, acted_kept}
@@ -46,7 +48,7 @@ pub record KeptCourse (names : Spellings) (fails : Bool) (m : Course) : Type 0 w
 -- A session comes to an end of its own, and to one for want of input only where the input fails.
 abbrev pub EndsSession : Bool → Ending → Type 0
 EndsSession fails (ending.Done f n t) = Unit {0}
-EndsSession fails (ending.Act f r n k) = Unit {0}
+EndsSession fails (ending.Act f r name n k) = Unit {0}
 EndsSession fails (ending.Limit f) = Unit {0}
 EndsSession fails ending.ReadFault = fails ≡ true
 EndsSession fails ending.WriteFault = ⊥
@@ -65,9 +67,9 @@ module _ (names : Spellings) (fails : Bool) where
   abbrev Ends : Ending → Type 0
   Ends e = EndsSession fails e
 
-  ended_kept : (m : Course) (firing rule : ℕ) (e : Misdeed) → Kept m → EndsActions m.coming.fails e → Ends (ended_in firing rule e)
-  ended_kept m firing rule (Bad n k) p q = tt
-  ended_kept m firing rule NoInput p q = sym p.coming ∙ q
+  ended_kept : (m : Course) (firing rule : ℕ) (name : Sym) (e : Misdeed) → Kept m → EndsActions m.coming.fails e → Ends (ended_in firing rule name e)
+  ended_kept m firing rule name (Bad n k) p q = tt
+  ended_kept m firing rule name NoInput p q = sym p.coming ∙ q
 
   turned_kept : (s : Setting) (i : Inst) (m : Course) (a : Acted) → Kept m → KeptActed m.wm m.last m.names m.coming.fails a → KeptTurned (turned_of s.rules i m a)
   turned_kept s i m a p q = record {
@@ -79,8 +81,8 @@ module _ (names : Spellings) (fails : Bool) where
   firing_kept : (s : Setting) (column : ℕ) (i : Inst) (m : Course) → Kept m → MatchResult (firing s column i m).outcome KeptTurned Ends
   firing_kept s column i m p =
       let behind = column_after column (firing_bytes s.watch column m.names s.rules (m.firings + 1) i) in
-      goes_as (KeptActed m.wm m.last m.names m.coming.fails) KeptTurned (EndsActions m.coming.fails) Ends (turned_of s.rules i m) (ended_in (m.firings + 1) i.rule) (acted s behind i (given_by m)).outcome
-      (acted_kept s behind i (given_by m)) (λ a q. turned_kept s i m a p q) (λ e q. ended_kept m (m.firings + 1) i.rule e p q)
+      goes_as (KeptActed m.wm m.last m.names m.coming.fails) KeptTurned (EndsActions m.coming.fails) Ends (turned_of s.rules i m) (ended_in (m.firings + 1) i.rule (rule_name s.rules i.rule)) (acted s behind i (given_by m)).outcome
+      (acted_kept s behind i (given_by m)) (λ a q. turned_kept s i m a p q) (λ e q. ended_kept m (m.firings + 1) i.rule (rule_name s.rules i.rule) e p q)
 
   turn_kept : (column : ℕ) (line : Option (List ℕ)) (m : Course) (next : Option Inst) (go_on : Inst → Effect Ending Course) → Kept m
       → ((i : Inst) → MatchResult (go_on i).outcome Kept Ends) → MatchResult (turn column line m next go_on).outcome Kept Ends
@@ -116,6 +118,24 @@ module _ (names : Spellings) (fails : Bool) where
   breaks_kept s column [] k p = p
   breaks_kept s column (n ∷ ns) k p = p
 
+  -- a production that comes or goes changes no memory, no name and no input
+  taken_kept : (n : ℕ) (k : Session) → KeptSession k → KeptSession (taken_out n k)
+  taken_kept n k p = record { memory = p.memory; keeps = p.keeps; coming = p.coming }
+
+  named_kept : (name : Sym) (k : Session) → KeptSession k → KeptSession (taken_out_named name k)
+  named_kept name k p = by (rule_named k.rules name)
+    where
+      by : (at : Option ℕ) → KeptSession (unwrap_or (option_map (λ n. taken_out n k) at) k)
+      by None = p
+      by (Some n) = taken_kept n k p
+
+  added_kept_well : (r : Rule) (k : Session) → KeptSession k → KeptSession (added r k)
+  added_kept_well r k p = named_kept r.name k p
+
+  excised_kept : (given : List Sym) (k : Session) → KeptSession k → KeptSession (fold (λ k name. taken_out_named name k) k given)
+  excised_kept [] k p = p
+  excised_kept (name ∷ given) k p = excised_kept given (taken_out_named name k) (named_kept name k p)
+
   command_kept : (s : Setting) (limit column : ℕ) (c : Command) (k : Session) → KeptSession k → MatchResult (command_done s limit column c k).outcome KeptSession Ends
   command_kept s limit column (command.Make class puts) k p =
       phase_kept s column (change.Add (element_made s.classes class puts k.course) ∷ []) (k.course.last + 1) k p (added_kept k.course.wm k.course.last _ (omega arith) p.memory)
@@ -136,15 +156,19 @@ module _ (names : Spellings) (fails : Bool) where
   command_kept s limit column (command.Strategy set) k p = strategy_kept column set k p
   command_kept s limit column (command.Watch set) k p = level_kept column set k p
   command_kept s limit column (command.Pbreak names) k p = breaks_kept s column names k p
+  command_kept s limit column (command.Add r) k p = added_kept_well r k p
+  command_kept s limit column (command.Excise given) k p = excised_kept given k p
+  command_kept s limit column (command.Back count) k p = p
+  command_kept s limit column (command.Matches given) k p = p
   command_kept s limit column command.Exit k p = p
 
   commands_kept : (s : Setting) (limit column : ℕ) (commands : List Command) (k : Session) → KeptSession k → MatchResult (commands_done s limit column commands k).outcome KeptSession Ends
   commands_kept s limit column [] k p = p
   commands_kept s limit column (c ∷ rest) k p =
-      let e = command_done s limit column c k in
+      let e = command_done (in_force s k) limit column c k in
       let go_on : ℕ → Session → Effect Ending Session = λ next k. commands_done s limit next rest k in
       cond_both (is_exit c) (writes [] k) (and_then column e go_on) (λ f. MatchResult f.outcome KeptSession Ends) (λ _. p)
-      (λ _. goes_on KeptSession KeptSession Ends e.bytes e.outcome (go_on (column_after column e.bytes)) (command_kept s limit column c k p)
+      (λ _. goes_on KeptSession KeptSession Ends e.bytes e.outcome (go_on (column_after column e.bytes)) (command_kept (in_force s k) limit column c k p)
       (λ k q. commands_kept s limit (column_after column e.bytes) rest k q))
 
 nothing_kept : (names : Spellings) (coming : Coming) → KeptCourse names coming.fails (nothing_yet names coming)
@@ -213,7 +237,7 @@ module _ (s : Setting) (found : Finder) (finds : FindsConflictSets s.rules found
       let behind = column_after column line in
       let e = acted s behind i (given_by m) in
       ap (λ o. let f : Effect Ending Turned = record { bytes = e.bytes; outcome = o } in led_by line f)
-      (same_as (KeptActed m.wm m.last m.names m.coming.fails) (EndsActions m.coming.fails) (turned_of s.rules i m) (turned_by found i m) (ended_in (m.firings + 1) i.rule) e.outcome
+      (same_as (KeptActed m.wm m.last m.names m.coming.fails) (EndsActions m.coming.fails) (turned_of s.rules i m) (turned_by found i m) (ended_in (m.firings + 1) i.rule (rule_name s.rules i.rule)) e.outcome
       (acted_kept s behind i (given_by m)) (λ a q. turned_is i m a (q.lawful p.memory)))
 
   run_is : (left : ℕ) (breaks : List Bool) (column : ℕ) (last : Option LastFiring) (count : Option ℕ) (m : Course) → Well m
@@ -269,21 +293,27 @@ module _ (s : Setting) (found : Finder) (finds : FindsConflictSets s.rules found
   command_is limit column (command.Strategy set) k p = refl
   command_is limit column (command.Watch set) k p = refl
   command_is limit column (command.Pbreak names) k p = refl
+  command_is limit column (command.Add r) k p = refl
+  command_is limit column (command.Excise given) k p = refl
+  command_is limit column (command.Back count) k p = refl
+  command_is limit column (command.Matches given) k p = refl
   command_is limit column command.Exit k p = refl
 
-  commands_are : (limit column : ℕ) (commands : List Command) (k : Session) → WellSession k → commands_done s limit column commands k ≡ commands_by found s limit column commands k
+module _ (s : Setting) (find : Find) (finds : (rules : List Rule) → FindsConflictSets rules (find rules)) (names : Spellings) (fails : Bool) where
+  commands_are : (limit column : ℕ) (commands : List Command) (k : Session) → KeptCourse names fails k.course → commands_done s limit column commands k ≡ commands_by find s limit column commands k
   commands_are limit column [] k p = refl
   commands_are limit column (c ∷ rest) k p =
-      let e = command_done s limit column c k in
+      let e = command_done (in_force s k) limit column c k in
       ap (λ f. cond (is_exit c) (writes [] k) f)
-      (same_then WellSession (EndsSession fails) e.bytes e.outcome
+      (same_then (λ (k : Session). KeptCourse names fails k.course) (EndsSession fails) e.bytes e.outcome
       (λ k. commands_done s limit (column_after column e.bytes) rest k)
-      (λ k. commands_by found s limit (column_after column e.bytes) rest k)
-      (command_kept names fails s limit column c k p)
+      (λ k. commands_by find s limit (column_after column e.bytes) rest k)
+      (command_kept names fails (in_force s k) limit column c k p)
       (λ k q. commands_are limit (column_after column e.bytes) rest k q)
-      ∙ ap (λ e. and_then column e (λ next k. commands_by found s limit next rest k)) (command_is limit column c k p))
+      ∙ ap (λ e. and_then column e (λ next k. commands_by find s limit next rest k))
+      (command_is (in_force s k) (find k.rules) (finds k.rules) names fails limit column c k p))
 
--- a session goes by the conflict sets, however they are found
+-- a session goes by the conflict sets of the productions in force, however they are found
 pub session_goes : (s : Setting) (limit : ℕ) (commands : List Command) (names : Spellings) → GoesByConflictSets s limit commands names
-session_goes s limit commands names found finds coming =
-    commands_are s found finds names coming.fails limit 0 commands (begun s.rules names coming) (nothing_kept names coming)
+session_goes s limit commands names find finds coming =
+    commands_are s find finds names coming.fails limit 0 commands (begun s.rules names coming) (nothing_kept names coming)

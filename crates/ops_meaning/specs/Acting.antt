@@ -299,6 +299,7 @@ action_done s column (action.Bind variable t) d =
     silent (followed_by (evaluated s.classes t d) (λ v. Ok (bound v.doing variable (first_of v.values))))
 action_done s column (action.Cbind cell) d = writes [] (cell_bound d)
 action_done s column action.Halt d = writes [] (record d { halted = true })
+action_done s column (action.Build template holes) d = writes [] d
 
 -- the actions in order, the first of which has this number
 abbrev pub actions_done : Setting → ℕ → ℕ → List Action → ActState → Effect Misdeed ActState

@@ -13,7 +13,7 @@ use Rattle.ops_base.specs.Instances.{IsConflictSet}
 use Rattle.ops_base.specs.Names.{Spellings}
 use Rattle.ops_io.specs.Coming.{Coming}
 use Rattle.ops_meaning.specs.Acting.{Setting, Given, Acted, acted}
-use Rattle.ops_meaning.specs.Running.{Finder, Course, Session, run_on, session_by, session_of}
+use Rattle.ops_meaning.specs.Running.{Finder, Find, Course, Session, run_on, session_by, session_of}
 
 -- The elements stand in the order of their tags, each tag once, and no tag is above the last that was given: so the next
 -- one is free.
@@ -40,16 +40,17 @@ KeepsNames old new = (i : ℕ) (s : List ℕ) → slice_get old.held i ≡ Some 
 abbrev pub FindsConflictSets : List Rule → Finder → Type 0
 FindsConflictSets rules found = (wm : List Element) → HasRisingTags wm → IsConflictSet rules wm (found wm)
 
--- Wherever a session looks for instantiations it looks at the conflict set: whatever finds conflict sets leads it to the
--- same bytes and the same outcome.
+-- Wherever a session looks for instantiations it looks at the conflict set of the productions in force: whatever finds
+-- conflict sets leads it to the same bytes and the same outcome.
 abbrev pub GoesByConflictSets : Setting → ℕ → List Command → Spellings → Type 0
 GoesByConflictSets s limit commands names =
-    (found : Finder) → FindsConflictSets s.rules found → (coming : Coming) → session_of s limit commands names coming ≡ session_by found s limit commands names coming
+    (find : Find) → ((rules : List Rule) → FindsConflictSets rules (find rules)) → (coming : Coming)
+    → session_of s limit commands names coming ≡ session_by find s limit commands names coming
 
 -- the limit that an ending tells is this one, and a firing that failed is within it
 abbrev pub TellsLimit : ℕ → Ending → Type 0
 TellsLimit limit (ending.Done firings elements last) = Unit {0}
-TellsLimit limit (ending.Act firing rule action kind) = firing ≤ limit
+TellsLimit limit (ending.Act firing rule name action kind) = firing ≤ limit
 TellsLimit limit (ending.Limit firings) = firings ≡ limit
 TellsLimit limit ending.ReadFault = Unit {0}
 TellsLimit limit ending.WriteFault = Unit {0}

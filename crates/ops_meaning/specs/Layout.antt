@@ -202,18 +202,20 @@ act_fault_text act_fault.Overflow = codes "overflow"
 act_fault_text act_fault.TooManyFields = codes "too many fields"
 act_fault_text act_fault.InputTooLong = codes "input too long"
 
-abbrev pub act_fault_line : Spellings → List Rule → ℕ → ℕ → ℕ → ActKind → List ℕ
-act_fault_line names rules firing rule action k =
-    codes "ops: firing " ++ decimal firing ++ codes ": " ++ symbol_text names (rule_name rules rule) ++ codes ": action " ++ decimal action
+abbrev pub act_fault_line : Spellings → ℕ → Sym → ℕ → ActKind → List ℕ
+act_fault_line names firing name action k =
+    codes "ops: firing " ++ decimal firing ++ codes ": " ++ symbol_text names name ++ codes ": action " ++ decimal action
     ++ codes ": " ++ act_fault_text k
 
 -- the line that tells an ending
-abbrev pub last_line : Spellings → List Rule → ℕ → Ending → List ℕ
-last_line names rules column (ending.Act firing rule action k) = line_at column (act_fault_line names rules firing rule action k)
-last_line names rules column (ending.Limit firings) =
+abbrev pub last_line : Spellings → ℕ → Ending → List ℕ
+last_line names column (ending.Act firing rule name action k) = line_at column (act_fault_line names firing name action k)
+last_line names column (ending.Limit firings) =
     line_at column (codes "ops: limit of " ++ decimal firings ++ codes " firings reached")
-last_line names rules column ending.ReadFault = line_at column (codes "ops: cannot read the input")
-last_line names rules column _ = []
+last_line names column ending.ReadFault = line_at column (codes "ops: cannot read the input")
+last_line names column (ending.Done firings elements last) = []
+last_line names column ending.WriteFault = []
+last_line names column ending.OutOfMemory = []
 
 abbrev pub usage_line : List ℕ
 usage_line = codes "usage: ops [--match direct|serial|rounds|free] [--workers N] [--lines L] [--limit N] FILE.. | ops --gen SEED SIZE | ops --net FILE..\n"

@@ -20,6 +20,7 @@ use Rattle.ops_base.specs.Valid.{class_of, is_vector}
 use Rattle.ops_base.specs.Values.{are_same}
 use Rattle.ops_base.specs.WorkingMemory.{done, field_of, no_fields, tags_of, without_tag}
 use Rattle.ops_base.specs.ConflictSet.{conflict_set}
+use Rattle.ops_base.specs.Live.{without, moved_insts}
 use Rattle.ops_base.specs.Refraction.{unfired, still_fired, dominant, is_same_inst}
 use Rattle.ops_io.specs.Output.{column_after}
 use Rattle.ops_meaning.specs.Effects.{Effect, writes, ends_with, and_then, told_as, led_by}
@@ -55,6 +56,10 @@ nothing_yet names coming = record { wm = []; strategy = Lex; fired = []; firings
 abbrev pub Finder : Type 0
 Finder = List Element → List Inst
 
+-- the same, for each list of productions
+abbrev pub Find : Type 0
+Find = List Rule → Finder
+
 -- the dominant one of those found that have not fired
 abbrev pub next_by : Finder → List Rule → Course → Option Inst
 next_by found rules m = dominant m.strategy rules (unfired (found m.wm) m.fired)
@@ -79,10 +84,11 @@ turned_by found i m a =
       halted = a.halted;
     }
 
--- a fault of a right side ends the session, and so does an input that fails
-abbrev pub ended_in : ℕ → ℕ → Misdeed → Ending
-ended_in firing rule (Bad action kind) = ending.Act firing rule action kind
-ended_in firing rule NoInput = ending.ReadFault
+-- a fault of a right side, which is that of the production with this number and this name, ends the session, and so does
+-- an input that fails
+abbrev pub ended_in : ℕ → ℕ → Sym → Misdeed → Ending
+ended_in firing rule name (Bad action kind) = ending.Act firing rule name action kind
+ended_in firing rule name NoInput = ending.ReadFault
 
 -- what a right side begins with
 abbrev pub given_by : Course → Given
@@ -92,7 +98,7 @@ given_by m = record { wm = m.wm; last = m.last; names = m.names; coming = m.comi
 abbrev pub firing_by : Finder → Setting → ℕ → Inst → Course → Effect Ending Turned
 firing_by found s column i m =
     let line = firing_bytes s.watch column m.names s.rules (m.firings + 1) i in
-    led_by line (told_as (turned_by found i m) (ended_in (m.firings + 1) i.rule) (acted s (column_after column line) i (given_by m)))
+    led_by line (told_as (turned_by found i m) (ended_in (m.firings + 1) i.rule (rule_name s.rules i.rule)) (acted s (column_after column line) i (given_by m)))
 
 -- ---- a run
 
@@ -144,11 +150,17 @@ run_by found (suc left) s breaks column last count m =
 
 -- ---- commands
 
--- what a session has come to: its course, the trace level, and whether each production has a break
+-- what a session has come to: its course, the productions in force, the trace level, and whether each of these
+-- productions has a break
 pub record Session : Type 0 where
   pub course : Course
+  pub rules : List Rule
   pub watch : ℕ
   pub breaks : List Bool
+
+-- the setting, with the productions in force
+abbrev pub in_force : Setting → Session → Setting
+in_force s k = record s { rules = k.rules }
 
 -- the course goes on
 abbrev pub with_course : Session → Course → Session
@@ -261,14 +273,49 @@ breaks_given s column [] k = lists column (break_lines k.course.names k.breaks 0
 breaks_given s column (n ∷ ns) k =
     writes (lines_at column (map (unknown_line k.course.names) (unknown_of s.rules (n ∷ ns)))) (record k { breaks = all_toggled s.rules (n ∷ ns) k.breaks })
 
+-- ---- productions that come and go
+
+-- The production of this number is taken out, with its break and its marks. The others keep theirs.
+abbrev pub taken_out : ℕ → Session → Session
+taken_out n k = record k {
+  rules = without n k.rules;
+  breaks = without n k.breaks;
+  course = record k.course { fired = moved_insts n k.course.fired };
+}
+
+-- the same of the production of this name, where there is one
+abbrev pub taken_out_named : Sym → Session → Session
+taken_out_named name k = unwrap_or (option_map (λ n. taken_out n k) (rule_named k.rules name)) k
+
+-- A production stands last, without a break and without marks. One of its name is taken out first.
+abbrev pub added : Rule → Session → Session
+added r k = let left = taken_out_named r.name k in record left { rules = left.rules ++ r ∷ []; breaks = left.breaks ++ false ∷ [] }
+
+-- these without the production of this name, where there is one
+abbrev pub without_named : List Rule → Sym → List Rule
+without_named rules name = unwrap_or (option_map (λ n. without n rules) (rule_named rules name)) rules
+
+-- the names of which no production is left when their turn comes, where each takes its own out
+abbrev pub left_unknown : List Rule → List Sym → List Sym
+left_unknown rules [] = []
+left_unknown rules (name ∷ names) =
+    if is_some (rule_named rules name) then left_unknown (without_named rules name) names else name ∷ left_unknown rules names
+
+-- The productions of these names are taken out, one after the other, and a name of none is told.
+abbrev pub excised : ℕ → List Sym → Session → Effect Ending Session
+excised column names k =
+    writes (lines_at column (map (unknown_line k.course.names) (left_unknown k.rules names))) (fold (λ k name. taken_out_named name k) k names)
+
+-- ---- each command
+
 -- A run, in a session that makes at most this many firings.
 abbrev pub run_given : Finder → Setting → ℕ → ℕ → Option ℕ → Session → Effect Ending Session
 run_given found s limit column count k =
     told_as (with_course k) (λ e. e)
     (run_by found (limit - k.course.firings) (record s { watch = k.watch }) k.breaks column None count k.course)
 
--- What one command does from a column on, in a session that makes at most this many firings. A top-level `make` is one
--- phase, and so is a `remove`.
+-- What one command does from a column on, in a session that makes at most this many firings, where the productions of
+-- the setting are in force. A top-level `make` is one phase, and so is a `remove`.
 abbrev pub command_by : Finder → Setting → ℕ → ℕ → Command → Session → Effect Ending Session
 command_by found s limit column (command.Make class puts) k =
     phase_told found s column (change.Add (element_made s.classes class puts k.course) ∷ []) (k.course.last + 1) k
@@ -285,6 +332,10 @@ command_by found s limit column (command.Pm names) k = lists column (map (produc
 command_by found s limit column (command.Strategy set) k = strategy_given column set k
 command_by found s limit column (command.Watch set) k = level_given column set k
 command_by found s limit column (command.Pbreak names) k = breaks_given s column names k
+command_by found s limit column (command.Add r) k = writes [] (added r k)
+command_by found s limit column (command.Excise names) k = excised column names k
+command_by found s limit column (command.Back count) k = writes [] k
+command_by found s limit column (command.Matches names) k = writes [] k
 command_by found s limit column command.Exit k = writes [] k
 
 -- nothing after it is done
@@ -293,11 +344,11 @@ is_exit command.Exit = true
 is_exit _ = false
 
 -- the commands in their order, up to the first `exit`
-abbrev pub commands_by : Finder → Setting → ℕ → ℕ → List Command → Session → Effect Ending Session
-commands_by found s limit column [] k = writes [] k
-commands_by found s limit column (c ∷ rest) k =
+abbrev pub commands_by : Find → Setting → ℕ → ℕ → List Command → Session → Effect Ending Session
+commands_by find s limit column [] k = writes [] k
+commands_by find s limit column (c ∷ rest) k =
     if is_exit c then writes [] k
-    else and_then column (command_by found s limit column c k) (λ next k. commands_by found s limit next rest k)
+    else and_then column (command_by (find k.rules) (in_force s k) limit column c k) (λ next k. commands_by find s limit next rest k)
 
 -- ---- the session
 
@@ -305,16 +356,16 @@ abbrev pub ending_of : Result Session Ending → Ending
 ending_of (Ok k) = ending.Done k.course.firings (length k.course.wm) k.course.last
 ending_of (Err e) = e
 
--- nothing was done yet: no trace, and no break
+-- nothing was done yet: these productions are in force, with no trace, and no break
 abbrev pub begun : List Rule → Spellings → Coming → Session
-begun rules names coming = record { course = nothing_yet names coming; watch = 0; breaks = map (λ r. false) rules }
+begun rules names coming = record { course = nothing_yet names coming; rules = rules; watch = 0; breaks = map (λ r. false) rules }
 
--- the whole session, from column 0 and nothing, where it makes at most this many firings, these names are in use and
--- this input is to come
-abbrev pub session_by : Finder → Setting → ℕ → List Command → Spellings → Coming → Effect Ending Session
-session_by found s limit commands names coming = commands_by found s limit 0 commands (begun s.rules names coming)
+-- the whole session, from column 0 and nothing, where the productions of the setting are in force at first, it makes at
+-- most this many firings, these names are in use and this input is to come
+abbrev pub session_by : Find → Setting → ℕ → List Command → Spellings → Coming → Effect Ending Session
+session_by find s limit commands names coming = commands_by find s limit 0 commands (begun s.rules names coming)
 
--- ---- the same, by the conflict set of the rules
+-- ---- the same, by the conflict set of the productions in force
 
 abbrev pub next_to_fire : List Rule → Course → Option Inst
 next_to_fire rules m = next_by (conflict_set rules) rules m
@@ -335,7 +386,7 @@ abbrev pub command_done : Setting → ℕ → ℕ → Command → Session → Ef
 command_done s limit column c k = command_by (conflict_set s.rules) s limit column c k
 
 abbrev pub commands_done : Setting → ℕ → ℕ → List Command → Session → Effect Ending Session
-commands_done s limit column commands k = commands_by (conflict_set s.rules) s limit column commands k
+commands_done s limit column commands k = commands_by conflict_set s limit column commands k
 
 abbrev pub session_of : Setting → ℕ → List Command → Spellings → Coming → Effect Ending Session
-session_of s limit commands names coming = session_by (conflict_set s.rules) s limit commands names coming
+session_of s limit commands names coming = session_by conflict_set s limit commands names coming

@@ -3,12 +3,10 @@ ghost use Rattle.std.specs.Prelude.{◌≡◌, ◌^◌, ◌<◌, [], ◌∷◌, 
 ghost use Rattle.ops_io.specs.Ports.{port, PutsBytes};
 ghost use Rattle.ops_meaning.specs.Layout.{act_fault_text, last_line, line_at, symbol_text};
 
-use crate::instances::rule_name;
 use crate::lines::{fresh_line, put_line};
 use crate::pieces::put_numbered;
 use crate::symbols::put_symbol;
 use ops_base::endings::{ActKind, Ending};
-use ops_base::programs::Program;
 use ops_base::symbols::Names;
 use ops_base::values::Sym;
 use ops_io::{Out, Sink, WriteFailed};
@@ -26,12 +24,12 @@ fn act_fault_end(kind: ActKind) -> &'static [u8]
     }
 }
 
-/// Puts the line that tells what an action of the rule of this name could not do.
+/// Puts the line that tells what an action of the production of this name could not do.
 fn put_act_fault<K: Sink>(
     out: &mut Out,
     sink: &mut K,
     names: &Names,
-    rule: Sym,
+    name: Sym,
     firing: u64,
     action: usize,
     kind: ActKind,
@@ -40,13 +38,13 @@ fn put_act_fault<K: Sink>(
     requires faults { K.faults sink.old < 2 ^ 63 }
     ensures puts { PutsBytes result (port (K.taken sink.old) (K.faults sink.old) out.old)
         (port (K.taken sink.new) (K.faults sink.new) out.new)
-        (line_at out.old.column (codes "ops: firing " ++ decimal firing ++ codes ": " ++ symbol_text names.now rule
+        (line_at out.old.column (codes "ops: firing " ++ decimal firing ++ codes ": " ++ symbol_text names.now name
         ++ codes ": action " ++ decimal action ++ codes ": " ++ act_fault_text kind)) }
     ensures broken { OnErr result (out.new.whole ≡ false) }
 {
     fresh_line(out, sink)?;
     put_numbered(out, sink, b"ops: firing ", firing, b": ")?;
-    put_symbol(out, sink, names, &rule)?;
+    put_symbol(out, sink, names, &name)?;
     put_numbered(out, sink, b": action ", action as u64, b": ")?;
     out.put(sink, act_fault_end(kind))
 }
@@ -80,26 +78,23 @@ pub fn put_fault<K: Sink>(
     out: &mut Out,
     sink: &mut K,
     names: &Names,
-    program: &Program,
     item: &Ending,
 ) -> Result<(), WriteFailed>
     requires whole { IsTrue out.old.whole }
     requires faults { K.faults sink.old < 2 ^ 63 }
     ensures puts { PutsBytes result (port (K.taken sink.old) (K.faults sink.old) out.old)
         (port (K.taken sink.new) (K.faults sink.new) out.new)
-        (last_line names.now program.now.rules out.old.column item.now) }
+        (last_line names.now out.old.column item.now) }
     ensures broken { OnErr result (out.new.whole ≡ false) }
 {
     match *item {
         Ending::Act {
             firing,
-            rule,
+            name,
             action,
             kind,
-        } => {
-            let name = rule_name(program.rules.as_slice(), rule);
-            put_act_fault(out, sink, names, name, firing, action, kind)
-        }
+            ..
+        } => put_act_fault(out, sink, names, name, firing, action, kind),
         Ending::Limit { firings } => put_limit(out, sink, firings),
         Ending::ReadFault => put_unread(out, sink),
         Ending::Done { .. } | Ending::WriteFault | Ending::OutOfMemory => Ok(()),

@@ -5,7 +5,6 @@ use Rattle.std.proofs.lemmas.Bool.{false≢true}
 use Rattle.ops_base.specs.Names.{Spellings}
 use Rattle.ops_base.specs.declared.endings.Ending.{Ending}
 use Rattle.ops_base.specs.declared.endings.Ending.TheVariants as ending
-use Rattle.ops_base.specs.declared.rules.Rule.{Rule}
 use Rattle.ops_io.specs.Coming.{Coming, Inlet}
 use Rattle.ops_io.specs.Ports.{Port, Stopped, Flushed}
 use Rattle.ops_io.specs.declared.stop.Stop.{Stop}
@@ -56,7 +55,7 @@ answered_alone r o asks Untouched left k n reads b a done d same =
 
 pub counted : (f : Ending) (before now : ℕ) → CountsReadFault (Ok f) before now → (now ≡ before) ⊎ (now ≡ before + 1)
 counted (ending.Done firings elements last_tag) before now h = inl h
-counted (ending.Act firing rule action k) before now h = inl h
+counted (ending.Act firing rule name action k) before now h = inl h
 counted (ending.Limit firings) before now h = inl h
 counted ending.ReadFault before now h = inr h
 counted ending.WriteFault before now h = inl h
@@ -68,7 +67,7 @@ reads_cut stop.OutOfMemory before now h = h
 
 reads_ended : (f : Ending) (before now : ℕ) → CountsReadFault (Ok f) before now → TellsFailedInput (status_of f) before now
 reads_ended (ending.Done firings elements last_tag) before now h = h
-reads_ended (ending.Act firing rule action k) before now h = h
+reads_ended (ending.Act firing rule name action k) before now h = h
 reads_ended (ending.Limit firings) before now h = h
 reads_ended ending.ReadFault before now h = h
 reads_ended ending.WriteFault before now h = inl h
@@ -80,21 +79,21 @@ cut_unrefused stop.OutOfMemory = refl
 
 ended_unrefused : (f : Ending) → is_refused (status_of f) ≡ false
 ended_unrefused (ending.Done firings elements last_tag) = refl
-ended_unrefused (ending.Act firing rule action k) = refl
+ended_unrefused (ending.Act firing rule name action k) = refl
 ended_unrefused (ending.Limit firings) = refl
 ended_unrefused ending.ReadFault = refl
 ended_unrefused ending.WriteFault = refl
 ended_unrefused ending.OutOfMemory = refl
 
 -- the session was told over what the inlet had, from the first port on to the second
-abbrev Told : (asks : Bool) (Untouched : Type 0) (i j : Inlet) (a c : Port) (summed : Bool) (names : Spellings) (rules : List Rule) (e : Coming → Effect Ending Meant) → Result Status Stop → Type 0
-Told asks Untouched i j a c summed names rules e r =
-    IsAnswered r (λ z. told summed names rules (e z)) asks Untouched (devices i.left i.faults a.taken a.faults) (devices j.left j.faults c.taken c.faults)
+abbrev Told : (asks : Bool) (Untouched : Type 0) (i j : Inlet) (a c : Port) (summed : Bool) (names : Spellings) (e : Coming → Effect Ending Meant) → Result Status Stop → Type 0
+Told asks Untouched i j a c summed names e r =
+    IsAnswered r (λ z. told summed names (e z)) asks Untouched (devices i.left i.faults a.taken a.faults) (devices j.left j.faults c.taken c.faults)
 
-module _ {i j : Inlet} {a b : Port} {summed : Bool} {names : Spellings} {rules : List Rule} {e : Coming → Effect Ending Meant} (asks : Bool) (Untouched : Type 0) (quiet : asks ≡ false → Untouched)
+module _ {i j : Inlet} {a b : Port} {summed : Bool} {names : Spellings} {e : Coming → Effect Ending Meant} (asks : Bool) (Untouched : Type 0) (quiet : asks ≡ false → Untouched)
     (empty : i.buffer ≡ record { held = []; ended = false }) (held : a.out.held ≡ []) where
   -- the session was cut, or the line after it
-  pub answered_cut : (why : Stop) → TellsOn (Err why) i j a b summed names rules e → (j.faults ≡ i.faults) ⊎ (j.faults ≡ i.faults + 1) → Told asks Untouched i j a b summed names rules e (Err why)
+  pub answered_cut : (why : Stop) → TellsOn (Err why) i j a b summed names e → (j.faults ≡ i.faults) ⊎ (j.faults ≡ i.faults + 1) → Told asks Untouched i j a b summed names e (Err why)
   answered_cut why p h =
       record {
         delivers = program_cut empty held why p;
@@ -104,9 +103,9 @@ module _ {i j : Inlet} {a b : Port} {summed : Bool} {names : Spellings} {rules :
         refused = λ is. absurd (false≢true (sym (cut_unrefused why) ∙ is));
       }
 
-  module _ {c : Port} (f : Ending) (p : TellsOn (Ok f) i j a b summed names rules e) (h : CountsReadFault (Ok f) i.faults j.faults) where
+  module _ {c : Port} (f : Ending) (p : TellsOn (Ok f) i j a b summed names e) (h : CountsReadFault (Ok f) i.faults j.faults) where
     -- all was put, and not written out
-    pub answered_unflushed : (why : Stop) → Stopped why b c [] → Told asks Untouched i j a c summed names rules e (Err why)
+    pub answered_unflushed : (why : Stop) → Stopped why b c [] → Told asks Untouched i j a c summed names e (Err why)
     answered_unflushed why q =
         record {
           delivers = program_unflushed empty held f p why q;
@@ -117,7 +116,7 @@ module _ {i j : Inlet} {a b : Port} {summed : Bool} {names : Spellings} {rules :
         }
 
     -- all was written out
-    pub answered : (s : Status) → s ≡ status_of f → Flushed b c → Told asks Untouched i j a c summed names rules e (Ok s)
+    pub answered : (s : Status) → s ≡ status_of f → Flushed b c → Told asks Untouched i j a c summed names e (Ok s)
     answered s is q =
         let R : Status → Type 0 = λ s. TellsFailedInput s i.faults j.faults in
         record {

@@ -2,7 +2,6 @@
 use Rattle.std.proofs.Common.{◌≡◌, ℕ, List, [], ◌++◌, Bool, Option, Ok, Err, false, refl, sym, ap, ◌∙◌, subst, nat_lt}
 use Rattle.ops_base.specs.Names.{Spellings}
 use Rattle.ops_base.specs.declared.endings.Ending.{Ending}
-use Rattle.ops_base.specs.declared.rules.Rule.{Rule}
 use Rattle.ops_io.specs.Coming.{Coming, Inlet, preceded_by}
 use Rattle.ops_io.specs.Outside.{GrewBy, GrewByPrefix}
 use Rattle.ops_io.specs.Ports.{Port, Put, Stopped, Flushed, Cause}
@@ -44,27 +43,27 @@ untold o taken faults = (([], o.bytes, refl, sym (append_known-nothing taken)), 
 
 -- ---- a session that is told over an input
 
-module _ {before now : Inlet} {a b : Port} {summed : Bool} {names : Spellings} {rules : List Rule} {e : Coming → Effect Ending Meant} where
+module _ {before now : Inlet} {a b : Port} {summed : Bool} {names : Spellings} {e : Coming → Effect Ending Meant} where
   -- what is told was put
-  pub put_told : (f : Ending) → TellsOn (Ok f) before now a b summed names rules e → (xs : List ℕ) × Put a b xs
+  pub put_told : (f : Ending) → TellsOn (Ok f) before now a b summed names e → (xs : List ℕ) × Put a b xs
   put_told f p =
-      let z = some_failing before now in ((told summed names rules (e (preceded_by p.taken z.0))).bytes, (p.tells z.0 z.1).1)
+      let z = some_failing before now in ((told summed names (e (preceded_by p.taken z.0))).bytes, (p.tells z.0 z.1).1)
 
   module _ (empty : before.buffer ≡ record { held = []; ended = false }) (held : a.out.held ≡ []) where
     -- the session was cut
-    pub program_cut : (why : Stop) → TellsOn (Err why) before now a b summed names rules e → OfInput before.left now.left (nat_lt before.faults now.faults) (λ z. Delivers (Err why) (told summed names rules (e z)) a.taken a.faults b.taken b.faults)
+    pub program_cut : (why : Stop) → TellsOn (Err why) before now a b summed names e → OfInput before.left now.left (nat_lt before.faults now.faults) (λ z. Delivers (Err why) (told summed names (e z)) a.taken a.faults b.taken b.faults)
     program_cut why p =
-        over_input before now p.taken p.took empty (λ z. Delivers (Err why) (told summed names rules (e z)) a.taken a.faults b.taken b.faults)
-        (λ z h. unput why (told summed names rules (e (preceded_by p.taken z))) a b held (p.tells z h))
+        over_input before now p.taken p.took empty (λ z. Delivers (Err why) (told summed names (e z)) a.taken a.faults b.taken b.faults)
+        (λ z h. unput why (told summed names (e (preceded_by p.taken z))) a b held (p.tells z h))
 
-    module _ {c : Port} (f : Ending) (p : TellsOn (Ok f) before now a b summed names rules e) where
+    module _ {c : Port} (f : Ending) (p : TellsOn (Ok f) before now a b summed names e) where
       -- what is told was not written out
-      pub program_unflushed : (why : Stop) → Stopped why b c [] → OfInput before.left now.left (nat_lt before.faults now.faults) (λ z. Delivers (Err why) (told summed names rules (e z)) a.taken a.faults c.taken c.faults)
+      pub program_unflushed : (why : Stop) → Stopped why b c [] → OfInput before.left now.left (nat_lt before.faults now.faults) (λ z. Delivers (Err why) (told summed names (e z)) a.taken a.faults c.taken c.faults)
       program_unflushed why q =
-          over_input before now p.taken p.took empty (λ z. Delivers (Err why) (told summed names rules (e z)) a.taken a.faults c.taken c.faults)
-          (λ z h. unflushed why (told summed names rules (e (preceded_by p.taken z))) a b c held (p.tells z h).1 q)
+          over_input before now p.taken p.took empty (λ z. Delivers (Err why) (told summed names (e z)) a.taken a.faults c.taken c.faults)
+          (λ z h. unflushed why (told summed names (e (preceded_by p.taken z))) a b c held (p.tells z h).1 q)
 
-      pub program_delivered : (s : Status) → s ≡ status_of f → Flushed b c → OfInput before.left now.left (nat_lt before.faults now.faults) (λ z. Delivers (Ok s) (told summed names rules (e z)) a.taken a.faults c.taken c.faults)
+      pub program_delivered : (s : Status) → s ≡ status_of f → Flushed b c → OfInput before.left now.left (nat_lt before.faults now.faults) (λ z. Delivers (Ok s) (told summed names (e z)) a.taken a.faults c.taken c.faults)
       program_delivered s is q =
-          over_input before now p.taken p.took empty (λ z. Delivers (Ok s) (told summed names rules (e z)) a.taken a.faults c.taken c.faults)
-          (λ z h. delivered s (told summed names rules (e (preceded_by p.taken z))) a b c held (is ∙ ap status_of (p.tells z h).0) (p.tells z h).1 q)
+          over_input before now p.taken p.took empty (λ z. Delivers (Ok s) (told summed names (e z)) a.taken a.faults c.taken c.faults)
+          (λ z h. delivered s (told summed names (e (preceded_by p.taken z))) a b c held (is ∙ ap status_of (p.tells z h).0) (p.tells z h).1 q)

@@ -19,7 +19,7 @@ use Rattle.ops_meaning.specs.declared.statuses.Status.{Status}
 use Rattle.ops_meaning.specs.declared.statuses.Status.TheVariants as status
 use Rattle.ops_words.specs.declared.faults.WordsFault.{WordsFault}
 use Rattle.ops_words.specs.declared.faults.WordsFault.TheVariants as words
-use Rattle.act_phase.specs.Asking.{program_asks}
+use Rattle.act_phase.specs.Asking.{session_asks}
 use Rattle.ops_top.specs.Whole.{Reply, Gathered, Joined, answer_gathered, answer_program_by, answer_read, files_in, gathered_for, is_free_run, is_run, net_told, readable, refused_at, session_told, unread, usage, whole_job}
 use Rattle.ops_top.specs.Quiet.{gathered_asks, text_asks}
 use Rattle.ops_top.specs.Calls.{OfContents, OfInput, AskedFor, TellsFailedInput, TellsFailedRead, broken_load, has_text, last_of}
@@ -125,7 +125,7 @@ module _ (job : Job) (r : Result Status Stop) (told : List ℕ → Option (Optio
 
   pub program_run : (before now : Devices) (text : List ℕ) (p : Read) (reply : Coming → Reply) → Gathers (λ g. g ≡ Joined text) → reads text ≡ Ok p
       → ((z : Coming) → answer_program_by conflict_set job z text p ≡ reply z) → (is_run job ≡ false → Untouched) → new.faults ≡ old.faults → AskedFor true (files_in job) old.names new.names
-      → IsAnswered r reply (program_asks p.rules) Untouched before now → IsRun (Some job) r told Untouched old new before now
+      → IsAnswered r reply (session_asks p.rules p.commands) Untouched before now → IsRun (Some job) r told Untouched old new before now
   program_run before now text p reply gathers is replies untouched same names answered =
       let I : (Coming → Type 0) → Type 0 = OfInput before.left now.left (nat_lt before.reads now.reads) in
       let D : Reply → Type 0 = λ o. Delivers r o before.taken before.writes now.taken now.writes in

@@ -27,7 +27,7 @@ IsOfText fails status.OutOfMemory = ⊥
 ended_of_text : (kept : Session → Type 0) (fails : Bool) (o : Result Session Ending) → MatchResult o kept (EndsSession fails) → IsOfText fails (status_of (ending_of o))
 ended_of_text kept fails (Ok k) p = tt
 ended_of_text kept fails (Err (ending.Done f n t)) p = tt
-ended_of_text kept fails (Err (ending.Act f r n k)) p = tt
+ended_of_text kept fails (Err (ending.Act f r name n k)) p = tt
 ended_of_text kept fails (Err (ending.Limit f)) p = tt
 ended_of_text kept fails (Err ending.ReadFault) p = p
 ended_of_text kept fails (Err ending.WriteFault) p = absurd p

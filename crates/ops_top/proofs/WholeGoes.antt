@@ -7,14 +7,15 @@ use Rattle.ops_jobs.specs.CommandLine.{job_of}
 use Rattle.ops_jobs.specs.declared.jobs.Job.{Job}
 use Rattle.ops_jobs.specs.declared.jobs.Job.TheVariants.{Run, Net, Gen}
 use Rattle.ops_meaning.specs.Kept.{FindsConflictSets}
+use Rattle.ops_meaning.specs.Running.{Find}
 use Rattle.ops_grammar.specs.Reads.{Read, Placed, reads}
 use Rattle.ops_meaning.proofs.RisingTags.{session_goes}
-use Rattle.ops_top.specs.Whole.{Find, Gathered, Joined, Unread, Overlong, gathered_for, readable, answer_program_by, answer_read, answer_read_by, answer_gathered, answer_gathered_by, whole_job, whole_job_by, session_told, told, setting_read, GoesByConflictSetsAlone}
+use Rattle.ops_top.specs.Whole.{Gathered, Joined, Unread, Overlong, gathered_for, readable, answer_program_by, answer_read, answer_read_by, answer_gathered, answer_gathered_by, whole_job, whole_job_by, session_told, told, setting_read, GoesByConflictSetsAlone}
 
 module _ (find : Find) (finds : (rules : List Rule) → FindsConflictSets rules (find rules)) (coming : Coming) where
   session_is : (summed : Bool) (limit : ℕ) (text : List ℕ) (p : Read) → session_told conflict_set summed limit coming text p ≡ session_told find summed limit coming text p
   session_is summed limit text p =
-      ap (told summed p.names p.rules) (session_goes (setting_read text p) limit p.commands p.names (find p.rules) (finds p.rules) coming)
+      ap (told summed p.names) (session_goes (setting_read text p) limit p.commands p.names find finds coming)
 
   program_is : (job : Job) (text : List ℕ) (p : Read) → answer_program_by conflict_set job coming text p ≡ answer_program_by find job coming text p
   program_is (Run options files) text p = session_is false options.limit text p

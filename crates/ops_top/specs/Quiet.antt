@@ -1,13 +1,14 @@
 -- Whether a program asks for an atom of the input: where none does, the input is left alone.
-use Rattle.std.specs.Prelude.{ℕ, List, Bool, true, false, Option, option_map, unwrap_or, Result, Ok, Err}
-use Rattle.act_phase.specs.Asking.{program_asks}
+use Rattle.std.specs.Prelude.{ℕ, List, Bool, false, Option, option_map, unwrap_or, Result, Ok, Err}
+use Rattle.act_phase.specs.Asking.{session_asks}
 use Rattle.ops_grammar.specs.Reads.{Read, Placed, reads}
 use Rattle.ops_jobs.specs.CommandLine.{job_of}
 use Rattle.ops_top.specs.Whole.{Gathered, Joined, gathered_for, readable}
 
--- the text is a program, and `accept` stands in it
+-- The text is a program, and `accept` stands in it: in a production that stands before the commands, or in one that a
+-- command adds.
 abbrev pub text_asks : Result Read Placed → Bool
-text_asks (Ok p) = program_asks p.rules
+text_asks (Ok p) = session_asks p.rules p.commands
 text_asks (Err p) = false
 
 -- so is what the text of a job comes to

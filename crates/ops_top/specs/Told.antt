@@ -9,7 +9,6 @@ use Rattle.ops_meaning.specs.declared.statuses.Status.{Status}
 use Rattle.ops_meaning.specs.declared.statuses.Status.TheVariants as status
 use Rattle.ops_meaning.specs.Effects.{Effect}
 use Rattle.ops_top.specs.Whole.{Reply, told}
-use Rattle.ops_base.specs.declared.rules.Rule.{Rule}
 use Rattle.ops_base.specs.Names.{Spellings}
 use Rattle.ops_io.specs.Coming.{Coming, Inlet, preceded_by, Took, ComesAfter}
 use Rattle.ops_meaning.specs.Running.{Session as Meant, ending_of}
@@ -32,12 +31,12 @@ PutsOrStops (Ok x) old new bytes = Put old new bytes
 PutsOrStops (Err why) old new bytes = Stopped why old new bytes
 
 -- The bytes of a session and the line after it were put, and this is its ending; or the call gave up.
-abbrev pub TellsSession : Result Ending Stop → Port → Port → Bool → Spellings → List Rule → Effect Ending Meant → Type 0
-TellsSession (Ok f) old new summed names rules e = (f ≡ ending_of e.outcome) × Put old new (told summed names rules e).bytes
-TellsSession (Err why) old new summed names rules e = Stopped why old new (told summed names rules e).bytes
+abbrev pub TellsSession : Result Ending Stop → Port → Port → Bool → Spellings → Effect Ending Meant → Type 0
+TellsSession (Ok f) old new summed names e = (f ≡ ending_of e.outcome) × Put old new (told summed names e).bytes
+TellsSession (Err why) old new summed names e = Stopped why old new (told summed names e).bytes
 
 -- It took bytes of the input, and whatever may come after them, it tells the session over those and that.
-pub record TellsOn (r : Result Ending Stop) (before now : Inlet) (old new : Port) (summed : Bool) (names : Spellings) (rules : List Rule) (e : Coming → Effect Ending Meant) : Type 0 where
+pub record TellsOn (r : Result Ending Stop) (before now : Inlet) (old new : Port) (summed : Bool) (names : Spellings) (e : Coming → Effect Ending Meant) : Type 0 where
   pub taken : List ℕ
   pub took : Took before now taken
-  pub tells : (c : Coming) → ComesAfter before now c → TellsSession r old new summed names rules (e (preceded_by taken c))
+  pub tells : (c : Coming) → ComesAfter before now c → TellsSession r old new summed names (e (preceded_by taken c))

@@ -23,7 +23,7 @@ use Rattle.ops_meaning.specs.Layout.{usage_line, unread_line, last_line, line_at
 use Rattle.ops_grammar.specs.Places.{line_of, column_of}
 use Rattle.ops_grammar.specs.Reads.{Read, Placed, reads}
 use Rattle.ops_meaning.specs.Acting.{Setting}
-use Rattle.ops_meaning.specs.Running.{Finder, Session, session_by, ending_of}
+use Rattle.ops_meaning.specs.Running.{Find, Session, session_by, ending_of}
 use Rattle.ops_meaning.specs.Kept.{FindsConflictSets}
 use Rattle.net_base.specs.Counting.{shape_of}
 use Rattle.ops_gen.specs.Workload.{workload}
@@ -95,7 +95,7 @@ refused text p = refused_at p.fault (line_of text p.at) (column_of text p.at)
 
 abbrev pub status_of : Ending → Status
 status_of (ending.Done firings elements last_tag) = status.Done
-status_of (ending.Act firing rule action kind) = status.ActFault firing rule action kind
+status_of (ending.Act firing rule name action kind) = status.ActFault firing rule action kind
 status_of (ending.Limit firings) = status.Limit
 status_of ending.ReadFault = status.ReadFault
 status_of ending.WriteFault = status.WriteFault
@@ -103,26 +103,22 @@ status_of ending.OutOfMemory = status.OutOfMemory
 
 -- The line after a session: the one that tells its ending, or, where it came to its end and is to be summed up, its
 -- summary.
-abbrev pub closing : Bool → Spellings → List Rule → ℕ → Ending → List ℕ
-closing summed names rules column (ending.Done firings elements last_tag) =
+abbrev pub closing : Bool → Spellings → ℕ → Ending → List ℕ
+closing summed names column (ending.Done firings elements last_tag) =
     if summed then line_at column (summary_line firings elements last_tag) else []
-closing summed names rules column e = last_line names rules column e
+closing summed names column e = last_line names column e
 
 -- the bytes of a session, and the line after it, with the names of the program
-abbrev pub told : Bool → Spellings → List Rule → Effect Ending Session → Reply
-told summed names rules e =
+abbrev pub told : Bool → Spellings → Effect Ending Session → Reply
+told summed names e =
     record {
-      bytes = e.bytes ++ closing summed names rules (column_after 0 e.bytes) (ending_of e.outcome);
+      bytes = e.bytes ++ closing summed names (column_after 0 e.bytes) (ending_of e.outcome);
       status = status_of (ending_of e.outcome);
     }
 
 -- what a session stands in at its start, where the text is read as this
 abbrev pub setting_read : List ℕ → Read → Setting
 setting_read text p = record { classes = p.classes; rules = p.rules; text = text; watch = 0 }
-
--- What finds the instantiations, for any rules.
-abbrev pub Find : Type 0
-Find = List Rule → Finder
 
 -- how large the network of these rules is
 abbrev pub net_told : List Rule → Reply
@@ -131,7 +127,7 @@ net_told rules = record { bytes = net_lines (shape_of rules); status = status.Do
 -- what the session of a program tells, with at most this many firings
 abbrev pub session_told : Find → Bool → ℕ → Coming → List ℕ → Read → Reply
 session_told find summed limit coming text p =
-    told summed p.names p.rules (session_by (find p.rules) (setting_read text p) limit p.commands p.names coming)
+    told summed p.names (session_by find (setting_read text p) limit p.commands p.names coming)
 
 -- the answer to a program: its session, or its network; the session of a workload is summed up
 abbrev pub answer_program_by : Find → Job → Coming → List ℕ → Read → Reply

@@ -1,8 +1,8 @@
-//! The answer to a program, over a matcher.
-ghost use Rattle.std.specs.Prelude.{◌≡◌, ◌^◌, ◌<◌, [], length, IsTrue};
+//! The answer to a program, over the matchers of a maker.
+ghost use Rattle.std.specs.Prelude.{◌≡◌, ◌^◌, ◌<◌, length, IsTrue};
 ghost use Rattle.ops_base.specs.Symbols.{is_held};
 ghost use Rattle.ops_meaning.specs.Running.{session_of};
-ghost use Rattle.act_phase.specs.Asking.{program_asks};
+ghost use Rattle.act_phase.specs.Asking.{session_asks};
 ghost use Rattle.act_phase.specs.Outcomes.{setting_of};
 ghost use Rattle.cycle.specs.Settles.{Settles};
 ghost use Rattle.ops_top.specs.Whole.{status_of, told};
@@ -10,6 +10,8 @@ ghost use Rattle.ops_top.specs.Answered.{IsAnswered, devices};
 
 use crate::closing::put_closing;
 use crate::engines::Plan;
+use cycle::Maker;
+use live_rules::Live;
 use ops_base::elements::Change;
 use ops_base::endings::Ending;
 use ops_base::memory::OutOfMemory;
@@ -19,7 +21,8 @@ use ops_io::{Input, Out, Sink, Source, Stop};
 use ops_meaning::Status;
 use session::run_session;
 use std::alloc::Global;
-use work_store::{Matcher, Settled};
+use std::mem;
+use work_store::Settled;
 
 fn status_of(ending: Ending) -> Status
     ensures { result ≡ status_of ending }
@@ -29,6 +32,7 @@ fn status_of(ending: Ending) -> Status
         Ending::Act {
             firing,
             rule,
+            name: _,
             action,
             kind,
         } => Status::ActFault {
@@ -44,35 +48,32 @@ fn status_of(ending: Ending) -> Status
     }
 }
 
-/// The answer to a program whose session runs over this matcher, which stands for it. The symbols of the program keep
-/// their spellings in the session, so that the line after it is written with the names as they were.
-pub(crate) fn answer_over<
-    M: Matcher,
-    H: Fn(M, &[Change]) -> Result<Settled<M>, OutOfMemory>,
+/// Runs the session of the program, and writes the line after it. The symbols of the program keep their spellings in the
+/// session, so that the line is written with the names as they were.
+fn answer_live<
+    B: Maker,
+    H: Fn(B::M, &[Change]) -> Result<Settled<B::M>, OutOfMemory>,
     I: Source,
     K: Sink,
 >(
     alloc: Global,
     hand: &H,
-    program: &Program,
+    live: &mut Live,
     names: &mut Names,
-    matcher: M,
+    maker: &B,
     plan: Plan,
     source: &mut I,
     sink: &mut K,
 ) -> Result<Status, Stop>
-    requires settles { Settles M.stored M.found M.stands_for (λ m cs. H.pre hand.now m cs) (λ m cs r. H.post hand.now m cs r) }
-    requires stands { M.stands_for matcher program.now.rules }
-    requires elements { (M.stored matcher).elements ≡ [] }
-    requires last { (M.stored matcher).last ≡ 0 }
+    requires settles { Settles B.M.stored B.M.found B.M.stands_for (λ m cs. H.pre hand.now m cs) (λ m cs r. H.post hand.now m cs r) }
     requires faults { K.faults sink.old < 2 ^ 63 }
     requires reads { I.faults source.old < 2 ^ 63 }
     requires some { 0 < length names.old.held }
-    requires held { IsTrue (is_held (length names.old.held) program.now.classes program.now.rules program.now.commands) }
+    requires held { IsTrue (is_held (length names.old.held) live.old.program.classes live.old.program.rules live.old.program.templates live.old.program.commands) }
     ensures { IsAnswered result
-        (λ coming. told plan.is_summed names.old program.now.rules
-        (session_of (setting_of program.now 0) plan.options.limit program.now.commands names.old coming))
-        (program_asks program.now.rules) (source.new ≡ source.old)
+        (λ coming. told plan.is_summed names.old
+        (session_of (setting_of live.old.program 0) plan.options.limit live.old.program.commands names.old coming))
+        (session_asks live.old.program.rules live.old.program.commands) (source.new ≡ source.old)
         (devices (I.left source.old) (I.faults source.old) (K.taken sink.old) (K.faults sink.old))
         (devices (I.left source.new) (I.faults source.new) (K.taken sink.new) (K.faults sink.new)) }
 {
@@ -80,17 +81,45 @@ pub(crate) fn answer_over<
     let mut out = Out::new(alloc)?;
     let limit = plan.options.limit;
     let ending = run_session(
-        alloc, hand, program, names, matcher, limit, &mut input, source, &mut out, sink,
+        alloc, hand, live, names, maker, limit, &mut input, source, &mut out, sink,
     )?;
-    put_closing(
-        alloc,
-        program,
-        names,
-        &ending,
-        plan.is_summed,
-        &mut out,
-        sink,
-    )?;
+    put_closing(alloc, names, &ending, plan.is_summed, &mut out, sink)?;
     out.flush(sink)?;
     Ok(status_of(ending))
+}
+
+/// The answer to a program whose session runs over the matchers of this maker: one for the productions at its start, and
+/// one more each time that it looks for instantiations after some came or went. The program in force is not given back
+/// piece by piece, since `ops` is about to end.
+pub(crate) fn answer_over<
+    B: Maker,
+    H: Fn(B::M, &[Change]) -> Result<Settled<B::M>, OutOfMemory>,
+    I: Source,
+    K: Sink,
+>(
+    alloc: Global,
+    hand: &H,
+    program: Program,
+    names: &mut Names,
+    maker: &B,
+    plan: Plan,
+    source: &mut I,
+    sink: &mut K,
+) -> Result<Status, Stop>
+    requires settles { Settles B.M.stored B.M.found B.M.stands_for (λ m cs. H.pre hand.now m cs) (λ m cs r. H.post hand.now m cs r) }
+    requires faults { K.faults sink.old < 2 ^ 63 }
+    requires reads { I.faults source.old < 2 ^ 63 }
+    requires some { 0 < length names.old.held }
+    requires held { IsTrue (is_held (length names.old.held) program.classes program.rules program.templates program.commands) }
+    ensures { IsAnswered result
+        (λ coming. told plan.is_summed names.old
+        (session_of (setting_of program 0) plan.options.limit program.commands names.old coming))
+        (session_asks program.rules program.commands) (source.new ≡ source.old)
+        (devices (I.left source.old) (I.faults source.old) (K.taken sink.old) (K.faults sink.old))
+        (devices (I.left source.new) (I.faults source.new) (K.taken sink.new) (K.faults sink.new)) }
+{
+    let mut live = Live::new(alloc, program);
+    let answered = answer_live(alloc, hand, &mut live, names, maker, plan, source, sink);
+    mem::forget(live);
+    answered
 }

@@ -8,7 +8,6 @@ ghost use Rattle.ops_top.specs.Whole.{closing};
 
 use crate::lines::summary_line;
 use ops_base::endings::Ending;
-use ops_base::programs::Program;
 use ops_base::symbols::Names;
 use ops_io::{Out, Sink, Stop};
 use ops_print::{put_fault, put_line};
@@ -35,7 +34,6 @@ fn put_summary<K: Sink>(
 
 /// Puts the line that tells an ending, and nothing for an ending that has none.
 fn put_ending<K: Sink>(
-    program: &Program,
     names: &Names,
     ending: &Ending,
     out: &mut Out,
@@ -44,9 +42,9 @@ fn put_ending<K: Sink>(
     requires whole { IsTrue out.old.whole }
     requires faults { K.faults sink.old < 2 ^ 63 }
     ensures { PutsOrStops result (port (K.taken sink.old) (K.faults sink.old) out.old)
-        (port (K.taken sink.new) (K.faults sink.new) out.new) (last_line names.now program.now.rules out.old.column ending.now) }
+        (port (K.taken sink.new) (K.faults sink.new) out.new) (last_line names.now out.old.column ending.now) }
 {
-    put_fault(out, sink, names, program, ending)?;
+    put_fault(out, sink, names, ending)?;
     Ok(())
 }
 
@@ -54,7 +52,6 @@ fn put_ending<K: Sink>(
 /// summed up.
 pub(crate) fn put_closing<K: Sink>(
     alloc: Global,
-    program: &Program,
     names: &Names,
     ending: &Ending,
     is_summed: bool,
@@ -64,7 +61,7 @@ pub(crate) fn put_closing<K: Sink>(
     requires whole { IsTrue out.old.whole }
     requires faults { K.faults sink.old < 2 ^ 63 }
     ensures { PutsOrStops result (port (K.taken sink.old) (K.faults sink.old) out.old)
-        (port (K.taken sink.new) (K.faults sink.new) out.new) (closing is_summed names.now program.now.rules out.old.column ending.now) }
+        (port (K.taken sink.new) (K.faults sink.new) out.new) (closing is_summed names.now out.old.column ending.now) }
 {
     match *ending {
         Ending::Done {
@@ -82,6 +79,6 @@ pub(crate) fn put_closing<K: Sink>(
         | Ending::Limit { .. }
         | Ending::ReadFault
         | Ending::WriteFault
-        | Ending::OutOfMemory => put_ending(program, names, ending, out, sink),
+        | Ending::OutOfMemory => put_ending(names, ending, out, sink),
     }
 }

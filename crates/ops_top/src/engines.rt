@@ -1,11 +1,11 @@
 //! The engines over which a session can run, and what settles each of them.
-ghost use Rattle.std.specs.Prelude.{◌≡◌, ◌^◌, ◌<◌, List, [], length, false, IfOk, IsTrue};
+ghost use Rattle.std.specs.Prelude.{◌≡◌, ◌^◌, ◌<◌, List, length, false, IfOk, IsTrue};
 ghost use Rattle.ops_base.specs.declared.rules.Rule.{Rule};
 ghost use Rattle.ops_base.specs.Symbols.{is_held};
 ghost use Rattle.ops_base.specs.WorkingMemory.{Lawful, done, last_after};
 ghost use Rattle.ops_jobs.specs.Laws.{IsWithinLimits};
 ghost use Rattle.ops_meaning.specs.Running.{session_of};
-ghost use Rattle.act_phase.specs.Asking.{program_asks};
+ghost use Rattle.act_phase.specs.Asking.{session_asks};
 ghost use Rattle.act_phase.specs.Outcomes.{setting_of};
 ghost use Rattle.work_store.specs.Settling.{IsSettled};
 ghost use Rattle.net_base.specs.Network.{NetOf};
@@ -14,8 +14,8 @@ ghost use Rattle.ops_top.specs.Whole.{is_free, told};
 ghost use Rattle.ops_top.specs.Answered.{IsAnswered, devices};
 
 use crate::answer::answer_over;
-use beta_net::compile;
-use direct_engine::DirectEngine;
+use crate::makers::{DirectMaker, FreeMaker, RoundsMaker, SerialMaker};
+use cycle::Maker;
 use free_engine::FreeEngine;
 use ops_base::elements::Change;
 use ops_base::memory::OutOfMemory;
@@ -25,7 +25,6 @@ use ops_io::{Gate, Sink, Source, Stop};
 use ops_jobs::{Engine, Options};
 use ops_meaning::Status;
 use rounds_engine::RoundsEngine;
-use serial_engine::SerialEngine;
 use std::alloc::Global;
 use std::sync::Wait;
 use std::thread::Threads;
@@ -39,27 +38,24 @@ pub(crate) struct Plan {
     pub(crate) is_summed: bool,
 }
 
-/// The answer to a program whose session runs over this matcher, which settles on the calling thread alone.
-fn answer_alone<M: Matcher<Hand = ()>, I: Source, K: Sink>(
+/// The answer to a program whose session runs over matchers that settle on the calling thread alone.
+fn answer_alone<M: Matcher<Hand = ()>, B: Maker<M = M>, I: Source, K: Sink>(
     alloc: Global,
-    program: &Program,
+    program: Program,
     names: &mut Names,
-    matcher: M,
+    maker: &B,
     plan: Plan,
     source: &mut I,
     sink: &mut K,
 ) -> Result<Status, Stop>
-    requires stands { M.stands_for matcher program.now.rules }
-    requires elements { (M.stored matcher).elements ≡ [] }
-    requires last { (M.stored matcher).last ≡ 0 }
     requires faults { K.faults sink.old < 2 ^ 63 }
     requires reads { I.faults source.old < 2 ^ 63 }
     requires some { 0 < length names.old.held }
-    requires held { IsTrue (is_held (length names.old.held) program.now.classes program.now.rules program.now.commands) }
+    requires held { IsTrue (is_held (length names.old.held) program.classes program.rules program.templates program.commands) }
     ensures { IsAnswered result
-        (λ coming. told plan.is_summed names.old program.now.rules
-        (session_of (setting_of program.now 0) plan.options.limit program.now.commands names.old coming))
-        (program_asks program.now.rules) (source.new ≡ source.old)
+        (λ coming. told plan.is_summed names.old
+        (session_of (setting_of program 0) plan.options.limit program.commands names.old coming))
+        (session_asks program.rules program.commands) (source.new ≡ source.old)
         (devices (I.left source.old) (I.faults source.old) (K.taken sink.old) (K.faults sink.old))
         (devices (I.left source.new) (I.faults source.new) (K.taken sink.new) (K.faults sink.new)) }
 {
@@ -70,15 +66,14 @@ fn answer_alone<M: Matcher<Hand = ()>, I: Source, K: Sink>(
         ensures settled { IfOk result (λ s. IsSettled (M.found matcher) (M.found s.matcher) s.gone.items s.come.items) }
         ensures stands { IfOk result (λ s. (rules : List Rule) → M.stands_for matcher rules → M.stands_for s.matcher rules) }
     { matcher.settle(alloc, &mut (), changes) };
-    answer_over(alloc, &hand, program, names, matcher, plan, source, sink)
+    answer_over(alloc, &hand, program, names, maker, plan, source, sink)
 }
 
-/// The answer to a program whose session runs over the engine of rounds, which shares its rounds among threads. The
-/// network is compiled.
-fn answer_in_rounds<R: Threads + Sync, I: Source, K: Sink, G: Gate + Drop>(
+/// The answer to a program whose session runs over the engine of rounds, which shares its rounds among threads.
+fn answer_in_rounds<R: Threads + Sync, I: Source, K: Sink, G: Gate + Copy>(
     rt: &R,
     alloc: Global,
-    program: &Program,
+    program: Program,
     names: &mut Names,
     plan: Plan,
     source: &mut I,
@@ -89,17 +84,19 @@ fn answer_in_rounds<R: Threads + Sync, I: Source, K: Sink, G: Gate + Drop>(
     requires faults { K.faults sink.old < 2 ^ 63 }
     requires reads { I.faults source.old < 2 ^ 63 }
     requires some { 0 < length names.old.held }
-    requires held { IsTrue (is_held (length names.old.held) program.now.classes program.now.rules program.now.commands) }
+    requires held { IsTrue (is_held (length names.old.held) program.classes program.rules program.templates program.commands) }
     ensures { IsAnswered result
-        (λ coming. told plan.is_summed names.old program.now.rules
-        (session_of (setting_of program.now 0) plan.options.limit program.now.commands names.old coming))
-        (program_asks program.now.rules) (source.new ≡ source.old)
+        (λ coming. told plan.is_summed names.old
+        (session_of (setting_of program 0) plan.options.limit program.commands names.old coming))
+        (session_asks program.rules program.commands) (source.new ≡ source.old)
         (devices (I.left source.old) (I.faults source.old) (K.taken sink.old) (K.faults sink.old))
         (devices (I.left source.new) (I.faults source.new) (K.taken sink.new) (K.faults sink.new)) }
 {
-    let net = compile(alloc, program)?;
-    let options = plan.options;
-    let rounds = RoundsEngine::new(alloc, net, options.lines, options.workers, gate)?;
+    let maker = RoundsMaker {
+        lines: plan.options.lines,
+        workers: plan.options.workers,
+        gate,
+    };
     let hand = |rounds: RoundsEngine<G>, changes: &[Change]| -> Result<
         Settled<RoundsEngine<G>>,
         OutOfMemory,
@@ -110,15 +107,14 @@ fn answer_in_rounds<R: Threads + Sync, I: Source, K: Sink, G: Gate + Drop>(
         ensures settled { IfOk result (λ s. IsSettled (found_over rounds.net.alphas rounds.net.nodes rounds.store.elements) (found_over s.matcher.net.alphas s.matcher.net.nodes s.matcher.store.elements) s.gone.items s.come.items) }
         ensures stands { IfOk result (λ s. (rules : List Rule) → NetOf rounds.net rules → NetOf s.matcher.net rules) }
     { rounds.settle_in_rounds(rt, alloc, changes) };
-    answer_over(alloc, &hand, program, names, rounds, plan, source, sink)
+    answer_over(alloc, &hand, program, names, &maker, plan, source, sink)
 }
 
-/// The answer to a program whose session runs over the engine of free workers, which wait for each other. The network
-/// is compiled.
-fn answer_freely<R: Threads + Wait + Sync, I: Source, K: Sink, G: Gate + Drop>(
+/// The answer to a program whose session runs over the engine of free workers, which wait for each other.
+fn answer_freely<R: Threads + Wait + Sync, I: Source, K: Sink, G: Gate + Copy>(
     rt: &R,
     alloc: Global,
-    program: &Program,
+    program: Program,
     names: &mut Names,
     plan: Plan,
     source: &mut I,
@@ -129,17 +125,19 @@ fn answer_freely<R: Threads + Wait + Sync, I: Source, K: Sink, G: Gate + Drop>(
     requires faults { K.faults sink.old < 2 ^ 63 }
     requires reads { I.faults source.old < 2 ^ 63 }
     requires some { 0 < length names.old.held }
-    requires held { IsTrue (is_held (length names.old.held) program.now.classes program.now.rules program.now.commands) }
+    requires held { IsTrue (is_held (length names.old.held) program.classes program.rules program.templates program.commands) }
     ensures { IsAnswered result
-        (λ coming. told plan.is_summed names.old program.now.rules
-        (session_of (setting_of program.now 0) plan.options.limit program.now.commands names.old coming))
-        (program_asks program.now.rules) (source.new ≡ source.old)
+        (λ coming. told plan.is_summed names.old
+        (session_of (setting_of program 0) plan.options.limit program.commands names.old coming))
+        (session_asks program.rules program.commands) (source.new ≡ source.old)
         (devices (I.left source.old) (I.faults source.old) (K.taken sink.old) (K.faults sink.old))
         (devices (I.left source.new) (I.faults source.new) (K.taken sink.new) (K.faults sink.new)) }
 {
-    let net = compile(alloc, program)?;
-    let options = plan.options;
-    let free = FreeEngine::new(alloc, net, options.lines, options.workers, gate)?;
+    let maker = FreeMaker {
+        lines: plan.options.lines,
+        workers: plan.options.workers,
+        gate,
+    };
     let hand = |free: FreeEngine<G>, changes: &[Change]| -> Result<
         Settled<FreeEngine<G>>,
         OutOfMemory,
@@ -150,15 +148,15 @@ fn answer_freely<R: Threads + Wait + Sync, I: Source, K: Sink, G: Gate + Drop>(
         ensures settled { IfOk result (λ s. IsSettled (found_over free.net.alphas free.net.nodes free.store.elements) (found_over s.matcher.net.alphas s.matcher.net.nodes s.matcher.store.elements) s.gone.items s.come.items) }
         ensures stands { IfOk result (λ s. (rules : List Rule) → NetOf free.net rules → NetOf s.matcher.net rules) }
     { free.settle_freely(rt, alloc, changes) };
-    answer_over(alloc, &hand, program, names, free, plan, source, sink)
+    answer_over(alloc, &hand, program, names, &maker, plan, source, sink)
 }
 
 /// The answer to a program whose session runs over the engine that the plan asks for, which waits for no turn of another
-/// thread. The network is compiled only where that engine needs one.
-pub(crate) fn answer_still<R: Threads + Sync, I: Source, K: Sink, G: Gate + Drop>(
+/// thread.
+pub(crate) fn answer_still<R: Threads + Sync, I: Source, K: Sink, G: Gate + Copy>(
     rt: &R,
     alloc: Global,
-    program: &Program,
+    program: Program,
     names: &mut Names,
     plan: Plan,
     source: &mut I,
@@ -170,23 +168,20 @@ pub(crate) fn answer_still<R: Threads + Sync, I: Source, K: Sink, G: Gate + Drop
     requires faults { K.faults sink.old < 2 ^ 63 }
     requires reads { I.faults source.old < 2 ^ 63 }
     requires some { 0 < length names.old.held }
-    requires held { IsTrue (is_held (length names.old.held) program.now.classes program.now.rules program.now.commands) }
+    requires held { IsTrue (is_held (length names.old.held) program.classes program.rules program.templates program.commands) }
     ensures { IsAnswered result
-        (λ coming. told plan.is_summed names.old program.now.rules
-        (session_of (setting_of program.now 0) plan.options.limit program.now.commands names.old coming))
-        (program_asks program.now.rules) (source.new ≡ source.old)
+        (λ coming. told plan.is_summed names.old
+        (session_of (setting_of program 0) plan.options.limit program.commands names.old coming))
+        (session_asks program.rules program.commands) (source.new ≡ source.old)
         (devices (I.left source.old) (I.faults source.old) (K.taken sink.old) (K.faults sink.old))
         (devices (I.left source.new) (I.faults source.new) (K.taken sink.new) (K.faults sink.new)) }
 {
     match plan.options.engine {
-        Engine::Direct => {
-            let direct = DirectEngine::new(alloc, program)?;
-            answer_alone(alloc, program, names, direct, plan, source, sink)
-        }
+        Engine::Direct => { answer_alone(alloc, program, names, &DirectMaker, plan, source, sink) }
         Engine::Serial => {
-            let net = compile(alloc, program)?;
-            let serial = SerialEngine::new(alloc, net, plan.options.lines, gate)?;
-            answer_alone(alloc, program, names, serial, plan, source, sink)
+            let lines = plan.options.lines;
+            let maker = SerialMaker { lines, gate };
+            answer_alone(alloc, program, names, &maker, plan, source, sink)
         }
         Engine::Rounds => { answer_in_rounds(rt, alloc, program, names, plan, source, sink, gate) }
         Engine::Free => unreachable!(),
@@ -194,10 +189,10 @@ pub(crate) fn answer_still<R: Threads + Sync, I: Source, K: Sink, G: Gate + Drop
 }
 
 /// The answer to a program whose session runs over the engine that the plan asks for.
-pub(crate) fn answer_program<R: Threads + Wait + Sync, I: Source, K: Sink, G: Gate + Drop>(
+pub(crate) fn answer_program<R: Threads + Wait + Sync, I: Source, K: Sink, G: Gate + Copy>(
     rt: &R,
     alloc: Global,
-    program: &Program,
+    program: Program,
     names: &mut Names,
     plan: Plan,
     source: &mut I,
@@ -208,11 +203,11 @@ pub(crate) fn answer_program<R: Threads + Wait + Sync, I: Source, K: Sink, G: Ga
     requires faults { K.faults sink.old < 2 ^ 63 }
     requires reads { I.faults source.old < 2 ^ 63 }
     requires some { 0 < length names.old.held }
-    requires held { IsTrue (is_held (length names.old.held) program.now.classes program.now.rules program.now.commands) }
+    requires held { IsTrue (is_held (length names.old.held) program.classes program.rules program.templates program.commands) }
     ensures { IsAnswered result
-        (λ coming. told plan.is_summed names.old program.now.rules
-        (session_of (setting_of program.now 0) plan.options.limit program.now.commands names.old coming))
-        (program_asks program.now.rules) (source.new ≡ source.old)
+        (λ coming. told plan.is_summed names.old
+        (session_of (setting_of program 0) plan.options.limit program.commands names.old coming))
+        (session_asks program.rules program.commands) (source.new ≡ source.old)
         (devices (I.left source.old) (I.faults source.old) (K.taken sink.old) (K.faults sink.old))
         (devices (I.left source.new) (I.faults source.new) (K.taken sink.new) (K.faults sink.new)) }
 {

@@ -91,7 +91,7 @@ fn program_of_job<'n, H: Shelf>(
         gathered_for job.now (readable contents
         (broken_load (H.names shelf.old) (H.names shelf.new) (H.faults shelf.old) (H.faults shelf.new))) ≡ Joined r.0.text)) }
     ensures read { IfOk result (λ r. reads r.0.text ≡ Ok (record { classes = r.0.classes; rules = r.0.rules; commands = r.0.commands; names = r.1 })) }
-    ensures held { IfOk result (λ r. IsTrue (is_held (length r.1.held) r.0.classes r.0.rules r.0.commands)) }
+    ensures held { IfOk result (λ r. IsTrue (is_held (length r.1.held) r.0.classes r.0.rules r.0.templates r.0.commands)) }
     ensures fault { IfErr result (λ why. OfContents (H.told shelf.old) (files_in job.now) (λ contents. (coming : Coming) → IsReplyTo why
         (answer_gathered job.now coming (gathered_for job.now (readable contents
         (broken_load (H.names shelf.old) (H.names shelf.new) (H.faults shelf.old) (H.faults shelf.new))))))) }
@@ -151,7 +151,7 @@ fn plan_of(job: &Job) -> Option<Plan>
 }
 
 /// Runs a job whose engine waits for no turn of another thread.
-pub(crate) fn run_still<R: Threads + Sync, H: Shelf, I: Source, K: Sink, G: Gate + Drop>(
+pub(crate) fn run_still<R: Threads + Sync, H: Shelf, I: Source, K: Sink, G: Gate + Copy>(
     rt: &R,
     alloc: Global,
     job: &Job,
@@ -174,7 +174,7 @@ pub(crate) fn run_still<R: Threads + Sync, H: Shelf, I: Source, K: Sink, G: Gate
 {
     match program_of_job(alloc, job, shelf) {
         Ok((program, mut names)) => match plan_of(job) {
-            Some(plan) => answer_still(rt, alloc, &program, &mut names, plan, input, sink, gate),
+            Some(plan) => answer_still(rt, alloc, program, &mut names, plan, input, sink, gate),
             None => say_network(alloc, &program, sink),
         },
         Err(why) => say_why(alloc, why, sink),
@@ -182,7 +182,7 @@ pub(crate) fn run_still<R: Threads + Sync, H: Shelf, I: Source, K: Sink, G: Gate
 }
 
 /// Runs a job over any engine.
-pub(crate) fn run_job<R: Threads + Wait + Sync, H: Shelf, I: Source, K: Sink, G: Gate + Drop>(
+pub(crate) fn run_job<R: Threads + Wait + Sync, H: Shelf, I: Source, K: Sink, G: Gate + Copy>(
     rt: &R,
     alloc: Global,
     job: &Job,
@@ -204,7 +204,7 @@ pub(crate) fn run_job<R: Threads + Wait + Sync, H: Shelf, I: Source, K: Sink, G:
 {
     match program_of_job(alloc, job, shelf) {
         Ok((program, mut names)) => match plan_of(job) {
-            Some(plan) => answer_program(rt, alloc, &program, &mut names, plan, input, sink, gate),
+            Some(plan) => answer_program(rt, alloc, program, &mut names, plan, input, sink, gate),
             None => say_network(alloc, &program, sink),
         },
         Err(why) => say_why(alloc, why, sink),

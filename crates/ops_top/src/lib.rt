@@ -8,6 +8,7 @@ mod files;
 mod jobs;
 mod laws;
 mod lines;
+mod makers;
 mod saying;
 mod top;
 

@@ -41,7 +41,7 @@ items = (refl, refl, refl)
 
 pub commands : CommandsMean
 unfolding reads token_at is_operator is_whole is_fraction is_variable decimal step ends goes
-commands = (refl, refl, refl, refl, refl, refl, refl, refl, refl, refl, refl, refl, refl, refl, refl, refl, refl, refl, refl, refl)
+commands = (refl, refl, refl, refl, refl, refl, refl, refl, refl, refl, refl, refl, refl, refl, refl, refl, refl, refl, refl, refl, refl, refl)
 
 pub options : OptionsMean
 unfolding pieces_from

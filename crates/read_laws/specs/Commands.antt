@@ -1,5 +1,7 @@
 -- What a command means.
-use Rattle.std.specs.Prelude.{◌≡◌, pos, [], ◌∷◌, codes, Some, None}
+use Rattle.std.specs.Prelude.{◌≡◌, pos, false, [], ◌∷◌, codes, Some, None}
+use Rattle.ops_base.specs.declared.conditions.Part.TheVariants.{One}
+use Rattle.ops_base.specs.declared.rules.Rule.{Rule}
 use Rattle.ops_base.specs.declared.commands.Command.{Command}
 use Rattle.ops_base.specs.declared.commands.Command.TheVariants as command
 use Rattle.ops_base.specs.declared.commands.Strategy.TheVariants.{Lex, Mea}
@@ -14,6 +16,21 @@ Does text c = commands_of text ≡ c ∷ []
 abbrev pub name : Sym
 name = record { 0 = 10 }
 
+-- the production that stands behind a `run`: its name is the fourteenth word of the text that becomes a symbol
+abbrev pub later : Rule
+later =
+    record {
+      name = record { 0 = 14 };
+      conditions = One (record { class = 0; negated = false; tests = [] }) ∷ [];
+      actions = [];
+      specificity = 1;
+      variables = 0;
+      cells = 1;
+      first = 78;
+      past = 89;
+    }
+
+-- A production behind a `run` is added there.
 abbrev pub CommandsMean : Type 0
 CommandsMean =
     Does (codes "(make a ^y 7)") (command.Make 0 (record { field = 1; values = Whole (pos 7) ∷ [] } ∷ []))
@@ -36,3 +53,5 @@ CommandsMean =
     × Does (codes "(exit)") command.Exit
     × Does (codes "(pm r)") (command.Pm (name ∷ []))
     × Does (codes "(pbreak r)") (command.Pbreak (name ∷ []))
+    × Does (codes "(excise r)") (command.Excise (name ∷ []))
+    × (commands_of (codes "(run)(p s(a)-->)") ≡ command.Run None ∷ command.Add later ∷ [])

@@ -89,6 +89,7 @@ fn row_of(action: &Action) -> (&'static str, usize, usize) {
         Action::Bind { variable, term: _ } => ("bind", *variable, 1),
         Action::Cbind { cell } => ("cbind", *cell, 0),
         Action::Halt => ("halt", 0, 0),
+        Action::Build { template, holes } => ("build", *template, holes.len()),
     }
 }
 

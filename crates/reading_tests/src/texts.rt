@@ -44,7 +44,7 @@ fn program_is_read(rt: HostRuntime) -> Result<(), ProgramFault> {
 }
 
 // texts, each with its fault, line and column
-const FAULTS: [(&[u8], Fault, u64, u64); 52] = [
+const FAULTS: [(&[u8], Fault, u64, u64); 54] = [
     (
         b"(literalize a n) (p r (a) -->) (make a ^n (substr <w> n n))",
         Fault::BadForm,
@@ -238,10 +238,22 @@ const FAULTS: [(&[u8], Fault, u64, u64); 52] = [
         26,
     ),
     (
-        b"(literalize a) (make a) (p r (a) -->)",
-        Fault::LateProduction,
+        b"(literalize a) (p r (a) -->) (make a) (p r (a) -->)",
+        Fault::DeclaredTwice,
         1,
-        26,
+        42,
+    ),
+    (
+        b"(literalize a) (make a) (p r (a) -->) (excise r) (p r (a) -->)",
+        Fault::DeclaredTwice,
+        1,
+        53,
+    ),
+    (
+        b"(literalize a) (make a) (p r (a) -->) (literalize b)",
+        Fault::LateDeclaration,
+        1,
+        40,
     ),
     (
         b"(literalize a) (p r (a) --> (remove 0))",

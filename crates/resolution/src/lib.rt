@@ -128,6 +128,7 @@ mod tests {
             Listed::from_vec(rules),
             Listed::new(alloc),
             Listed::new(alloc),
+            Listed::new(alloc),
         ))
     }
 

@@ -55,16 +55,7 @@ impl<G> Model for RoundsEngine<G> {
     ghost invariant = { λ e. IsAtRestInShards e.parts.value.net e.parts.value.store e.parts.value.world e.parts.value.sharing };
 }
 
-impl<G: Gate + Drop> RoundsEngine<G> {
-    ghost use Rattle.std.specs.Prelude.{List};
-    ghost use Rattle.ops_base.specs.declared.rules.Rule.{Rule};
-    ghost use Rattle.ops_base.specs.WorkingMemory.{Lawful, done, last_after};
-    ghost use Rattle.work_store.specs.Settling.{IsSettled};
-    ghost use Rattle.work_store.specs.Stored.{HoldsAlso, added_by};
-    ghost use Rattle.net_base.specs.Network.{NetOf};
-    ghost use Rattle.step_core.specs.Phases.{IsBundle};
-    ghost use Rattle.step_core.specs.Found.{found_over};
-
+impl<G: Drop> RoundsEngine<G> {
     /// An engine over the network with this many lines and workers. Nothing is stored. It makes each line and looks at
     /// each node, starts no thread, and takes memory for its own place.
     pub fn new(
@@ -100,6 +91,17 @@ impl<G: Gate + Drop> RoundsEngine<G> {
         let parts = Box::new(alloc, parts)?;
         Ok(RoundsEngine { parts })
     }
+}
+
+impl<G: Gate + Drop> RoundsEngine<G> {
+    ghost use Rattle.std.specs.Prelude.{List};
+    ghost use Rattle.ops_base.specs.declared.rules.Rule.{Rule};
+    ghost use Rattle.ops_base.specs.WorkingMemory.{Lawful, done, last_after};
+    ghost use Rattle.work_store.specs.Settling.{IsSettled};
+    ghost use Rattle.work_store.specs.Stored.{HoldsAlso, added_by};
+    ghost use Rattle.net_base.specs.Network.{NetOf};
+    ghost use Rattle.step_core.specs.Phases.{IsBundle};
+    ghost use Rattle.step_core.specs.Found.{found_over};
 
     /// The network. Takes no memory.
     pub fn net(&self) -> &Net

@@ -12,7 +12,7 @@ use Rattle.run_laws.specs.Ending.{IsOfSession}
 
 ends_so : (fails : Bool) (e : Ending) → EndsSession fails e → IsOfSession fails e
 ends_so fails (ending.Done f n t) p = record { writes = λ e. cc; memory = λ e. cc; reads = λ e. absurd (cc) }
-ends_so fails (ending.Act f r n k) p = record { writes = λ e. cc; memory = λ e. cc; reads = λ e. absurd (cc) }
+ends_so fails (ending.Act f r name n k) p = record { writes = λ e. cc; memory = λ e. cc; reads = λ e. absurd (cc) }
 ends_so fails (ending.Limit f) p = record { writes = λ e. cc; memory = λ e. cc; reads = λ e. absurd (cc) }
 ends_so fails ending.ReadFault p = record { writes = λ e. cc; memory = λ e. cc; reads = λ _. p }
 ends_so fails ending.WriteFault p = absurd p

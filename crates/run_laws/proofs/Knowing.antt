@@ -7,6 +7,7 @@ use Rattle.std.proofs.lemmas.List.{map-append, length-map}
 use Rattle.std.proofs.lemmas.List.Folds.{list_any-append, list_all-append}
 use Rattle.std.proofs.lemmas.List.Sums.{fold-append}
 use Rattle.ops_base.specs.declared.actions.Action.{Action}
+use Rattle.ops_base.specs.declared.actions.Hole.{Hole}
 use Rattle.ops_base.specs.declared.actions.Action.TheVariants as action
 use Rattle.ops_base.specs.declared.actions.Item.{Item}
 use Rattle.ops_base.specs.declared.actions.Item.TheVariants as item
@@ -198,6 +199,8 @@ module _ (classes : List Class) where
     action_found (action.Bind v t) h = and_from (term_finds classes d t) (is_single t) (term_found false t h) (single classes k t h)
     action_found (action.Cbind cell) h = made_found k.made refl (and_parts (is_some k.made) (cell == length k.cells) h).0
     action_found action.Halt h = refl
+    action_found (action.Build template holes) h =
+        all_such (λ (w : Hole). is_in w.variable k.bound) (λ (w : Hole). is_bound d w.variable) (λ w e. p.variables w.variable e) holes h
 
   -- ---- what a valid action leaves
 
@@ -289,6 +292,7 @@ action_knows s column k (action.Bind v t) d p h =
 action_knows s column k (action.Cbind cell) d p h =
     cbound_knows s.classes k d k.made refl (and_parts (is_some k.made) (cell == length k.cells) h).0 p
 action_knows s column k action.Halt d p h = record { variables = p.variables; cells = p.cells; exist = p.exist; made = p.made }
+action_knows s column k (action.Build template holes) d p h = p
 
 -- So valid actions find all that they name, one after another.
 pub actions_find : (s : Setting) (column : ℕ) (k : Known) (actions : List Action) (d : ActState) → Knows s.classes k d → actions_are_valid s.classes k actions ≡ true → AllFind s column actions d

@@ -9,10 +9,11 @@ use Rattle.ops_base.specs.declared.elements.Class.{Class}
 use Rattle.ops_base.specs.declared.values.Value.{Value}
 use Rattle.ops_base.specs.Valid.{class_of, is_attribute, is_vector, most_fields, fits, fixed_is_valid, fixed_are_valid, command_is_valid, is_valid}
 use Rattle.ops_meaning.specs.Acting.{Setting}
+use Rattle.run_laws.specs.Programs.{AreValid}
 use Rattle.run_laws.specs.Finding.{is_class, fixed_finds, command_finds}
 use Rattle.run_laws.proofs.Knowing.{there}
 use Rattle.run_laws.proofs.Parts.{all_such}
-use Rattle.run_laws.proofs.Sessions.{sound_setting}
+use Rattle.run_laws.proofs.Sessions.{valid_parts}
 
 fixed_found : (c : Class) (p : Fixed) → fixed_is_valid c p ≡ true → fixed_finds c p ≡ true
 fixed_found c p h =
@@ -33,21 +34,25 @@ puts_found classes class puts h =
     let front = and_parts (nat_lt class (length classes)) (fits puts) whole.0 in
     and_from _ _ (there classes class front.0) (all_such (fixed_is_valid (class_of classes class)) (fixed_finds (class_of classes class)) (fixed_found (class_of classes class)) puts whole.1)
 
-command_found : (classes : List Class) (c : Command) → command_is_valid classes c ≡ true → command_finds classes c ≡ true
-command_found classes (command.Make class puts) h = puts_found classes class puts h
-command_found classes (command.Remove tags) h = refl
-command_found classes command.RemoveAll h = refl
-command_found classes (command.Run count) h = refl
-command_found classes (command.Wm tags) h = refl
-command_found classes (command.Ppwm None) h = refl
-command_found classes (command.Ppwm (Some p)) h = puts_found classes p.0 p.1 h
-command_found classes command.Cs h = refl
-command_found classes (command.Pm names) h = refl
-command_found classes (command.Strategy set) h = refl
-command_found classes (command.Watch set) h = refl
-command_found classes (command.Pbreak names) h = refl
-command_found classes command.Exit h = refl
+command_found : (classes : List Class) (text : ℕ) (c : Command) → command_is_valid classes text c ≡ true → command_finds classes c ≡ true
+command_found classes text (command.Make class puts) h = puts_found classes class puts h
+command_found classes text (command.Remove tags) h = refl
+command_found classes text command.RemoveAll h = refl
+command_found classes text (command.Run count) h = refl
+command_found classes text (command.Wm tags) h = refl
+command_found classes text (command.Ppwm None) h = refl
+command_found classes text (command.Ppwm (Some p)) h = puts_found classes p.0 p.1 h
+command_found classes text command.Cs h = refl
+command_found classes text (command.Pm names) h = refl
+command_found classes text (command.Strategy set) h = refl
+command_found classes text (command.Watch set) h = refl
+command_found classes text (command.Pbreak names) h = refl
+command_found classes text (command.Add r) h = refl
+command_found classes text (command.Excise names) h = refl
+command_found classes text (command.Back count) h = refl
+command_found classes text (command.Matches names) h = refl
+command_found classes text command.Exit h = refl
 
-pub commands_found : (s : Setting) (commands : List Command) → is_valid s.classes s.rules commands (length s.text) ≡ true → list_all (command_finds s.classes) commands ≡ true
+pub commands_found : (s : Setting) (commands : List Command) → AreValid s commands → list_all (command_finds s.classes) commands ≡ true
 commands_found s commands h =
-    all_such (command_is_valid s.classes) (command_finds s.classes) (command_found s.classes) commands (sound_setting s commands h).1
+    all_such (command_is_valid s.classes (length s.text)) (command_finds s.classes) (command_found s.classes (length s.text)) commands (valid_parts s commands h).commands

@@ -16,7 +16,8 @@ use Rattle.ops_base.specs.ConflictSet.{conflict_set}
 use Rattle.ops_base.specs.Dominance.{dominates}
 use Rattle.ops_base.specs.Instances.{Meets}
 use Rattle.ops_base.specs.Matching.{match_of}
-use Rattle.ops_base.specs.Valid.{first_is_positive, specificity, is_valid}
+use Rattle.ops_base.specs.Valid.{first_is_positive, specificity}
+use Rattle.run_laws.specs.Programs.{AreValid}
 use Rattle.ops_base.specs.Refraction.{is_among, unfired, dominant}
 use Rattle.ops_base.specs.WorkingMemory.{HasRisingTags}
 use Rattle.ops_base.proofs.ConflictSetLaws.{conflict_set-is}
@@ -112,11 +113,11 @@ first_tag_there wm (One c ∷ parts) tags h i = by c.negated h i
     by true h i = absurd (cc)
     by false h i = ap (λ ts. is_some (slice_get ts 0)) i.5
 
-pub ranks_found : (s : Setting) (commands : List Command) (wm : List Element) (i : Inst) → is_valid s.classes s.rules commands (length s.text) ≡ true → HasRisingTags wm → Contains (conflict_set s.rules wm) i → HasRank s.rules i
+pub ranks_found : (s : Setting) (commands : List Command) (wm : List Element) (i : Inst) → AreValid s commands → HasRisingTags wm → Contains (conflict_set s.rules wm) i → HasRank s.rules i
 ranks_found s commands wm i h rising in_set =
     let is = (conflict_set-is s.rules wm rising).sound i in_set in
     let r = is.0 in
-    let v = rule_valid s.classes s.rules commands (length s.text) i.rule r h is.1 in
+    let v = rule_valid s.classes s.rules h.0 commands (length s.text) i.rule r h.1 is.1 in
     let sixth = (and_parts _ _ (and_parts _ _ (and_parts _ _ (and_parts _ _ v).0).0).0).0 in
     let third = (and_parts _ _ (and_parts _ _ (and_parts _ _ sixth).0).0).0 in
     let first = (and_parts _ _ (and_parts _ _ third).0).0 in

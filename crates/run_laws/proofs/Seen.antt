@@ -26,8 +26,8 @@ use Rattle.ops_io.specs.Coming.{Coming}
 use Rattle.ops_io.specs.Output.{column_after}
 use Rattle.ops_meaning.specs.Acting.{Setting, ActState, ActionError, Misdeed, Acted, in_action, action_done, actions_done, acted}
 use Rattle.ops_meaning.specs.Effects.{Effect, writes, going_on, outcome_as}
-use Rattle.ops_meaning.specs.Layout.{firing_bytes}
-use Rattle.ops_meaning.specs.Running.{Course, Turned, Session, LastFiring, begun, turn, has_break, line_of_count, line_of_pause, last_of, one_less, given_by, ended_in, turned_of, with_course, is_exit, firing, run_on, next_to_fire, command_done, commands_done}
+use Rattle.ops_meaning.specs.Layout.{firing_bytes, rule_name}
+use Rattle.ops_meaning.specs.Running.{Course, Turned, Session, LastFiring, begun, turn, has_break, line_of_count, line_of_pause, last_of, one_less, given_by, ended_in, turned_of, with_course, is_exit, in_force, firing, run_on, next_to_fire, command_done, commands_done}
 use Rattle.run_laws.specs.Cuts.{GoesOnWith, HasMore, cut_after}
 use Rattle.run_laws.specs.Finding.{EachAction, LeadTo, MembersFind, PartFinds, WalkFinds, condition_finds, test_finds, tests_find}
 use Rattle.run_laws.specs.Firings.{IfGoesOn, EachOfRun, EachOfCommand, EachOfCommands, EachFiring}
@@ -146,7 +146,7 @@ firing_counted : (s : Setting) (column : ℕ) (i : Inst) (m : Course) → IfOk (
 firing_counted s column i m =
     by (acted s (column_after column (firing_bytes s.watch column m.names s.rules (m.firings + 1) i)) i (given_by m)).outcome
   where
-    by : (o : Result Acted Misdeed) → IfOk (outcome_as (turned_of s.rules i m) (ended_in (m.firings + 1) i.rule) o) (λ t. t.course.firings ≡ m.firings + 1)
+    by : (o : Result Acted Misdeed) → IfOk (outcome_as (turned_of s.rules i m) (ended_in (m.firings + 1) i.rule (rule_name s.rules i.rule)) o) (λ t. t.course.firings ≡ m.firings + 1)
     by (Ok a) = refl
     by (Err e) = tt
 
@@ -215,7 +215,7 @@ module _ (P : Setting → ℕ → Inst → Course → Type 0) (s : Setting) (bre
 
 -- ---- a session
 
-module _ (P : Setting → ℕ → Inst → Course → Type 0) (s : Setting) (limit : ℕ) (i : Inst) (done : Session) (room : done.course.firings < limit) (is_next : next_to_fire s.rules done.course ≡ Some i) where
+module _ (P : Setting → ℕ → Inst → Course → Type 0) (s : Setting) (limit : ℕ) (i : Inst) (done : Session) (room : done.course.firings < limit) (is_next : next_to_fire done.rules done.course ≡ Some i) where
   -- what a run leaves that is the last command
   abbrev LeavesLast : List ℕ → Result Course Ending → Session → Result Session Ending
   LeavesLast bytes o k = (going_on bytes (outcome_as (with_course k) (λ (e : Ending). e) o) (λ k. writes [] k)).outcome
@@ -227,33 +227,32 @@ module _ (P : Setting → ℕ → Inst → Course → Type 0) (s : Setting) (lim
   commands_seen : (n column : ℕ) (before after : List Command) (count : Option ℕ) (k : Session) → HasMore count n
       → EachOfCommands P s limit column (before ++ command.Run count ∷ after) k
       → (commands_done s limit column (cut_after before n) k).outcome ≡ Ok done → (commands_done s limit column (cut_after before (suc n)) k).outcome ≢ Ok done
-      → (at : ℕ) × P (record s { watch = done.watch }) at i done.course
+      → (at : ℕ) × P (record (in_force s done) { watch = done.watch }) at i done.course
   commands_seen n column [] after count k has each is more =
-      let at_level : Setting = record s { watch = k.watch } in
+      let at_level : Setting = record (in_force s k) { watch = k.watch } in
       let r = last_left _ (run_on (limit - k.course.firings) at_level k.breaks column None (Some n) k.course).outcome k is in
       let m = r.0 in
       let course : m ≡ done.course = ap (λ (k : Session). k.course) r.2 in
-      let watch : k.watch ≡ done.watch = ap (λ (k : Session). k.watch) r.2 in
       let left_more = run_on (limit - k.course.firings) at_level k.breaks column None (Some (suc n)) k.course in
       let R : Course → Type 0 = λ m. m.firings < limit in
-      let N : Course → Type 0 = λ m. next_to_fire s.rules m ≡ Some i in
-      let seen = run_seen P at_level k.breaks limit i m (subst R (sym course) room) (subst N (sym course) is_next) (limit - k.course.firings) n column None count k.course refl has each.0 r.1
+      let N : Session → Type 0 = λ k. next_to_fire k.rules k.course ≡ Some i in
+      let seen = run_seen P at_level k.breaks limit i m (subst R (sym course) room) (subst N (sym r.2) is_next) (limit - k.course.firings) n column None count k.course refl has each.0 r.1
       (λ same. more (ap (λ o. LeavesLast left_more.bytes o k) same ∙ ap Ok r.2)) in
-      let Q : Session → Type 0 = λ k. P (record s { watch = k.watch }) seen.0 i k.course in
+      let Q : Session → Type 0 = λ k. P (record (in_force s k) { watch = k.watch }) seen.0 i k.course in
       (seen.0, subst Q r.2 seen.1)
   commands_seen n column (c ∷ before) after count k has each is more =
-      let e = command_done s limit column c k in
+      let e = command_done (in_force s k) limit column c k in
       by (is_exit c) e.bytes e.outcome (λ next each is more. commands_seen n (column_after column e.bytes) before after count next has each is more) each is more
     where
       by : (b : Bool) (bytes : List ℕ) (o : Result Session Ending)
           → ((next : Session) → EachOfCommands P s limit (column_after column bytes) (before ++ command.Run count ∷ after) next
           → (commands_done s limit (column_after column bytes) (cut_after before n) next).outcome ≡ Ok done
           → (commands_done s limit (column_after column bytes) (cut_after before (suc n)) next).outcome ≢ Ok done
-          → (at : ℕ) × P (record s { watch = done.watch }) at i done.course)
-          → MatchBool b (Unit {0}) (EachOfCommand P s limit column c k × IfOk o (λ next. EachOfCommands P s limit (column_after column bytes) (before ++ command.Run count ∷ after) next))
+          → (at : ℕ) × P (record (in_force s done) { watch = done.watch }) at i done.course)
+          → MatchBool b (Unit {0}) (EachOfCommand P (in_force s k) limit column c k × IfOk o (λ next. EachOfCommands P s limit (column_after column bytes) (before ++ command.Run count ∷ after) next))
           → (cond b (writes [] k) (going_on bytes o (λ k. commands_done s limit (column_after column bytes) (cut_after before n) k))).outcome ≡ Ok done
           → (cond b (writes [] k) (going_on bytes o (λ k. commands_done s limit (column_after column bytes) (cut_after before (suc n)) k))).outcome ≢ Ok done
-          → (at : ℕ) × P (record s { watch = done.watch }) at i done.course
+          → (at : ℕ) × P (record (in_force s done) { watch = done.watch }) at i done.course
       by true bytes o rest each is more = absurd (more is)
       by false bytes (Ok next) rest each is more = rest next each.1 is more
       by false bytes (Err x) rest each is more = absurd (cc)
@@ -261,6 +260,6 @@ module _ (P : Setting → ℕ → Inst → Course → Type 0) (s : Setting) (lim
 -- P holds of each firing that a run goes on with.
 pub firing_seen : (P : Setting → ℕ → Inst → Course → Type 0) (s : Setting) (limit n : ℕ) (before after : List Command) (count : Option ℕ) (names : Spellings) (coming : Coming) (k : Session) (i : Inst)
     → EachFiring P s limit (before ++ command.Run count ∷ after) names coming → GoesOnWith s limit before count n names coming k i
-    → (column : ℕ) × P (record s { watch = k.watch }) column i k.course
+    → (column : ℕ) × P (record (in_force s k) { watch = k.watch }) column i k.course
 firing_seen P s limit n before after count names coming k i each g =
     commands_seen P s limit i k g.session g.next n 0 before after count (begun s.rules names coming) g.run each g.reached g.more

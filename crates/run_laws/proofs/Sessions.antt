@@ -1,9 +1,9 @@
 -- In each firing of a session of a valid program the elements are whole, and the right side finds all that it names.
-use Rattle.std.proofs.Common.{◌≡◌, ℕ, zero, suc, ◌+◌, ◌-◌, List, [], ◌∷◌, map, length, Bool, true, false, cond, ◌&&◌, Option, Some, None, IfOk, refl, ap, sym, subst, inl, inr, nat_lt, unwrap_or, option_map, arith}
+use Rattle.std.proofs.Common.{◌≡◌, ℕ, zero, suc, ◌+◌, ◌-◌, List, [], ◌∷◌, ◌++◌, map, fold, length, Bool, true, false, cond, ◌&&◌, Option, Some, None, IfOk, refl, ap, sym, subst, inl, inr, nat_lt, unwrap_or, option_map, arith}
 use Rattle.std.specs.Prelude.{Contains, MatchOption}
 use Rattle.std.specs.Bool.{MatchBool}
 use Rattle.std.specs.List.{list_all}
-use Rattle.std.proofs.lemmas.Bool.{and_parts}
+use Rattle.std.proofs.lemmas.Bool.{and_parts, and_from}
 use Rattle.std.proofs.lemmas.List.Elements.{All-nil}
 use Rattle.ops_base.specs.declared.actions.Action.{Action}
 use Rattle.ops_base.specs.declared.commands.Command.{Command}
@@ -33,10 +33,13 @@ use Rattle.ops_meaning.specs.Acting.{Setting, Acted, acted, actions_of, actions_
 use Rattle.ops_meaning.specs.Acting as acting
 use Rattle.ops_meaning.specs.Effects.{Effect, writes, and_then}
 use Rattle.ops_meaning.specs.Kept.{WellKept, IsLawfulOver}
-use Rattle.ops_meaning.specs.Running.{Course, Turned, Session, LastFiring, begun, turn, line_of_pause, last_of, one_less, given_by, ended_in, turned_of, with_course, element_made, removals, strategy_given, level_given, breaks_given, is_exit, firing, run_on, next_to_fire, command_done, commands_done, session_of}
+use Rattle.ops_meaning.specs.Layout.{rule_name}
+use Rattle.ops_meaning.specs.Running.{Course, Turned, Session, LastFiring, begun, turn, line_of_pause, last_of, one_less, given_by, ended_in, turned_of, with_course, element_made, removals, strategy_given, level_given, breaks_given, is_exit, in_force, rule_named, taken_out, taken_out_named, added, firing, run_on, next_to_fire, command_done, commands_done, session_of}
 use Rattle.ops_meaning.proofs.Lawful.{added_kept, kept_after, removals_lawful, removals_last, clearing_lawful, clearing_last}
 use Rattle.ops_meaning.proofs.RisingTags.{acts_lawfully}
 use Rattle.run_laws.specs.Elements.{IsWhole, AreWhole}
+use Rattle.ops_base.specs.Live.{without, moved_insts}
+use Rattle.run_laws.specs.Programs.{AreValid}
 use Rattle.run_laws.specs.Finding.{AllFind}
 use Rattle.run_laws.specs.Firings.{IfGoesOn, EachOfRun, EachOfCommand, EachOfCommands, EachFiring, FindsAll, HoldWhole, column_after_line}
 use Rattle.run_laws.proofs.Beginnings.{begins_as_matched, whole_match}
@@ -52,11 +55,11 @@ pub record IsSound (s : Setting) : Type 0 where
   rules : list_all (rule_is_valid s.classes (length s.text)) s.rules ≡ true
 
 -- working memory is well kept, and its elements are whole
-record IsGood (s : Setting) (m : Course) : Type 0 where
+record IsGood (classes : List Class) (m : Course) : Type 0 where
   kept : WellKept m.wm m.last
-  whole : EachWhole s.classes m.wm
+  whole : EachWhole classes m.wm
 
-all_whole : (s : Setting) (m : Course) → IsGood s m → AreWhole s.classes m.wm
+all_whole : (s : Setting) (m : Course) → IsGood s.classes m → AreWhole s.classes m.wm
 all_whole s m g = all_from_members (IsWhole s.classes) m.wm g.whole
 
 -- ---- a firing
@@ -80,7 +83,7 @@ record Beginning (s : Setting) (m : Course) (i : Inst) : Type 0 where
   knows : Holds s.classes (known_of rule.conditions) (acting.begun s i (given_by m)).bindings (acting.begun s i (given_by m)).cells []
   cells : EachWhole s.classes (acting.begun s i (given_by m)).cells
 
-beginning : (s : Setting) (m : Course) (i : Inst) → IsSound s → IsGood s m → Contains (conflict_set s.rules m.wm) i → Beginning s m i
+beginning : (s : Setting) (m : Course) (i : Inst) → IsSound s → IsGood s.classes m → Contains (conflict_set s.rules m.wm) i → Beginning s m i
 beginning s m i sound good in_set =
     let is = (conflict_set-is s.rules m.wm good.kept.0).sound i in_set in
     let r = is.0 in
@@ -98,7 +101,7 @@ beginning s m i sound good in_set =
       cells = λ e k. good.whole e (among e k);
     }
 
-finds_all : (s : Setting) (column : ℕ) (i : Inst) (m : Course) → IsSound s → IsGood s m → Contains (conflict_set s.rules m.wm) i → FindsAll s column i m
+finds_all : (s : Setting) (column : ℕ) (i : Inst) (m : Course) → IsSound s → IsGood s.classes m → Contains (conflict_set s.rules m.wm) i → FindsAll s column i m
 finds_all s column i m sound good in_set =
     let b = beginning s m i sound good in_set in
     let start = acting.begun s i (given_by m) in
@@ -112,7 +115,7 @@ finds_all s column i m sound good in_set =
       cells = subst Q (sym b.actions) (actions_hold_whole s sound.classes (column_after_line s column i m) (known_of b.rule.conditions) b.rule.actions start b.knows w b.valid);
     }
 
-acted_whole : (s : Setting) (column : ℕ) (i : Inst) (m : Course) → IsSound s → IsGood s m → Contains (conflict_set s.rules m.wm) i → IfOk (acted s column i (given_by m)).outcome (λ a. MakesWhole s.classes a.changes)
+acted_whole : (s : Setting) (column : ℕ) (i : Inst) (m : Course) → IsSound s → IsGood s.classes m → Contains (conflict_set s.rules m.wm) i → IfOk (acted s column i (given_by m)).outcome (λ a. MakesWhole s.classes a.changes)
 acted_whole s column i m sound good in_set =
     let b = beginning s m i sound good in_set in
     let start = acting.begun s i (given_by m) in
@@ -122,29 +125,29 @@ acted_whole s column i m sound good in_set =
     (subst P (sym b.actions) (actions_whole s sound.classes column 1 (known_of b.rule.conditions) b.rule.actions start b.knows w b.valid))
     (λ d q. q.made)
 
-firing_good : (s : Setting) (column : ℕ) (i : Inst) (m : Course) → IsSound s → IsGood s m → Contains (conflict_set s.rules m.wm) i → IfOk (firing s column i m).outcome (λ t. IsGood s t.course)
+firing_good : (s : Setting) (column : ℕ) (i : Inst) (m : Course) → IsSound s → IsGood s.classes m → Contains (conflict_set s.rules m.wm) i → IfOk (firing s column i m).outcome (λ t. IsGood s.classes t.course)
 firing_good s column i m sound good in_set =
     let start = column_after_line s column i m in
     let a = acted s start i (given_by m) in
     let P : Acted → Type 0 = λ a. IsLawfulOver m.wm m.last a × MakesWhole s.classes a.changes in
-    ok_as P (λ (t : Turned). IsGood s t.course) (turned_of s.rules i m) (ended_in (m.firings + 1) i.rule) a.outcome
+    ok_as P (λ (t : Turned). IsGood s.classes t.course) (turned_of s.rules i m) (ended_in (m.firings + 1) i.rule (rule_name s.rules i.rule)) a.outcome
     (ok_both (IsLawfulOver m.wm m.last) (λ (a : Acted). MakesWhole s.classes a.changes) a.outcome (acts_lawfully s start i (given_by m) good.kept) (acted_whole s start i m sound good in_set))
     (λ a q. let lawful = q.0 in record { kept = lawful.kept; whole = done_whole s.classes m.wm a.changes good.whole q.1 })
 
 -- what holds of what is next where working memory is good
 abbrev HoldsNext : (Setting → ℕ → Inst → Course → Type 0) → Type 0
-HoldsNext P = (s : Setting) (column : ℕ) (i : Inst) (m : Course) → IsSound s → IsGood s m → Contains (conflict_set s.rules m.wm) i → P s column i m
+HoldsNext P = (s : Setting) (column : ℕ) (i : Inst) (m : Course) → IsSound s → IsGood s.classes m → Contains (conflict_set s.rules m.wm) i → P s column i m
 
 -- ---- a run
 
-turn_good : (s : Setting) (column : ℕ) (line : Option (List ℕ)) (m : Course) (next : Option Inst) (go_on : Inst → Effect Ending Course) (Q : Inst → Type 0) → IsGood s m
-    → ((i : Inst) → next ≡ Some i → Q i × IfOk (go_on i).outcome (IsGood s)) → IfGoesOn line next Q × IfOk (turn column line m next go_on).outcome (IsGood s)
+turn_good : (s : Setting) (column : ℕ) (line : Option (List ℕ)) (m : Course) (next : Option Inst) (go_on : Inst → Effect Ending Course) (Q : Inst → Type 0) → IsGood s.classes m
+    → ((i : Inst) → next ≡ Some i → Q i × IfOk (go_on i).outcome (IsGood s.classes)) → IfGoesOn line next Q × IfOk (turn column line m next go_on).outcome (IsGood s.classes)
 turn_good s column (Some line) m next go_on Q good on = (tt, good)
 turn_good s column None m None go_on Q good on = (tt, good)
 turn_good s column None m (Some i) go_on Q good on = on i refl
 
-run_good : (P : Setting → ℕ → Inst → Course → Type 0) → HoldsNext P → (left : ℕ) (s : Setting) (breaks : List Bool) (column : ℕ) (last : Option LastFiring) (count : Option ℕ) (m : Course) → IsSound s → IsGood s m
-    → EachOfRun P left s breaks column last count m × IfOk (run_on left s breaks column last count m).outcome (IsGood s)
+run_good : (P : Setting → ℕ → Inst → Course → Type 0) → HoldsNext P → (left : ℕ) (s : Setting) (breaks : List Bool) (column : ℕ) (last : Option LastFiring) (count : Option ℕ) (m : Course) → IsSound s → IsGood s.classes m
+    → EachOfRun P left s breaks column last count m × IfOk (run_on left s breaks column last count m).outcome (IsGood s.classes)
 run_good P holds zero s breaks column last count m sound good =
     (tt, (turn_good s column (line_of_pause m.names s.rules breaks last count) m (next_to_fire s.rules m) _ (λ i. Unit {0}) good (λ i is. (tt, tt))).1)
 run_good P holds (suc left) s breaks column last count m sound good =
@@ -152,14 +155,14 @@ run_good P holds (suc left) s breaks column last count m sound good =
     (λ i is.
     let in_set = next_there s m i is in
     let e = firing s column i m in
-    let Good : Turned → Type 0 = λ t. IsGood s t.course in
+    let Good : Turned → Type 0 = λ t. IsGood s.classes t.course in
     let rest : Turned → Type 0 = λ t. EachOfRun P left s breaks (column_after column e.bytes) (last_of i t) (one_less count) t.course in
     let one = firing_good s column i m sound good in_set in (
       (
         holds s column i m sound good in_set,
         ok_more Good rest e.outcome one (λ t g. (run_good P holds left s breaks (column_after column e.bytes) (last_of i t) (one_less count) t.course sound g).0),
       ),
-      ok_on Good (IsGood s) e.bytes e.outcome (λ t. run_on left s breaks (column_after column e.bytes) (last_of i t) (one_less count) t.course) one
+      ok_on Good (IsGood s.classes) e.bytes e.outcome (λ t. run_on left s breaks (column_after column e.bytes) (last_of i t) (one_less count) t.course) one
           (λ t g. (run_good P holds left s breaks (column_after column e.bytes) (last_of i t) (one_less count) t.course sound g).1),
     ))
 
@@ -193,61 +196,115 @@ made_whole s class puts m sound h =
       fields = fixed_fields_room (class_of s.classes class) puts (fits_class (class_of s.classes class) (all_at class_is_valid s.classes class no_class sound.classes front.0)) whole.1;
     }
 
-module _ (P : Setting → ℕ → Inst → Course → Type 0) (holds : HoldsNext P) (s : Setting) (sound : IsSound s) (limit : ℕ) where
+without_all : {X : Type 0} (p : X → Bool) (n : ℕ) (xs : List X) → list_all p xs ≡ true → list_all p (without n xs) ≡ true
+without_all p n [] h = refl
+without_all p zero (x ∷ xs) h = (and_parts (p x) (list_all p xs) h).1
+without_all p (suc n) (x ∷ xs) h =
+    let parts = and_parts (p x) (list_all p xs) h in and_from _ _ parts.0 (without_all p n xs parts.1)
+
+with_all : {X : Type 0} (p : X → Bool) (xs : List X) (x : X) → list_all p xs ≡ true → p x ≡ true → list_all p (xs ++ x ∷ []) ≡ true
+with_all p [] x h k = and_from _ _ k refl
+with_all p (y ∷ xs) x h k =
+    let parts = and_parts (p y) (list_all p xs) h in and_from _ _ parts.0 (with_all p xs x parts.1 k)
+
+-- what a command leaves of a session whose productions in force are valid
+record StillGood (classes : List Class) (text : ℕ) (k : Session) : Type 0 where
+  course : IsGood classes k.course
+  rules : list_all (rule_is_valid classes text) k.rules ≡ true
+
+module _ (P : Setting → ℕ → Inst → Course → Type 0) (holds : HoldsNext P) (s : Setting) (classes_valid : list_all class_is_valid s.classes ≡ true) (limit : ℕ) where
   abbrev GoodSession : Session → Type 0
-  GoodSession k = IsGood s k.course
+  GoodSession k = StillGood s.classes (length s.text) k
+
+  sound_in : (k : Session) → GoodSession k → IsSound (in_force s k)
+  sound_in k g = record { classes = classes_valid; rules = g.rules }
 
   strategy_good : (column : ℕ) (set : Option Strategy) (k : Session) → GoodSession k → IfOk (strategy_given column set k).outcome GoodSession
   strategy_good column None k g = g
-  strategy_good column (Some x) k g = record { kept = g.kept; whole = g.whole }
+  strategy_good column (Some x) k g = record { course = record { kept = g.course.kept; whole = g.course.whole }; rules = g.rules }
 
   level_good : (column : ℕ) (set : Option ℕ) (k : Session) → GoodSession k → IfOk (level_given column set k).outcome GoodSession
   level_good column None k g = g
-  level_good column (Some n) k g = g
+  level_good column (Some n) k g = record { course = g.course; rules = g.rules }
 
-  breaks_good : (column : ℕ) (names : List Sym) (k : Session) → GoodSession k → IfOk (breaks_given s column names k).outcome GoodSession
-  breaks_good column [] k g = g
-  breaks_good column (n ∷ ns) k g = g
+  breaks_good : (t : Setting) (column : ℕ) (names : List Sym) (k : Session) → GoodSession k → IfOk (breaks_given t column names k).outcome GoodSession
+  breaks_good t column [] k g = g
+  breaks_good t column (n ∷ ns) k g = record { course = g.course; rules = g.rules }
 
-  command_good : (column : ℕ) (c : Command) (k : Session) → command_is_valid s.classes c ≡ true → GoodSession k → EachOfCommand P s limit column c k × IfOk (command_done s limit column c k).outcome GoodSession
+  taken_good : (n : ℕ) (k : Session) → GoodSession k → GoodSession (taken_out n k)
+  taken_good n k g = record {
+    course = record { kept = g.course.kept; whole = g.course.whole };
+    rules = without_all (rule_is_valid s.classes (length s.text)) n k.rules g.rules;
+  }
+
+  named_good : (name : Sym) (k : Session) → GoodSession k → GoodSession (taken_out_named name k)
+  named_good name k g = by (rule_named k.rules name)
+    where
+      by : (at : Option ℕ) → GoodSession (unwrap_or (option_map (λ n. taken_out n k) at) k)
+      by None = g
+      by (Some n) = taken_good n k g
+
+  added_good : (r : Rule) (k : Session) → rule_is_valid s.classes (length s.text) r ≡ true → GoodSession k → GoodSession (added r k)
+  added_good r k h g =
+      let left = named_good r.name k g in
+      record { course = left.course; rules = with_all (rule_is_valid s.classes (length s.text)) (taken_out_named r.name k).rules r left.rules h }
+
+  excised_good : (names : List Sym) (k : Session) → GoodSession k → GoodSession (fold (λ k name. taken_out_named name k) k names)
+  excised_good [] k g = g
+  excised_good (name ∷ names) k g = excised_good names (taken_out_named name k) (named_good name k g)
+
+  command_good : (column : ℕ) (c : Command) (k : Session) → command_is_valid s.classes (length s.text) c ≡ true → GoodSession k
+      → EachOfCommand P (in_force s k) limit column c k × IfOk (command_done (in_force s k) limit column c k).outcome GoodSession
   command_good column (command.Make class puts) k h g =
       let e = element_made s.classes class puts k.course in
-      (tt, record { kept = added_kept k.course.wm k.course.last e (omega arith) g.kept; whole = one_more s.classes k.course.wm e g.whole (made_whole s class puts k.course sound h) })
+      (tt, record {
+        course = record { kept = added_kept k.course.wm k.course.last e (omega arith) g.course.kept; whole = one_more s.classes k.course.wm e g.course.whole (made_whole (in_force s k) class puts k.course (sound_in k g) h) };
+        rules = g.rules;
+      })
   command_good column (command.Remove tags) k h g = (
     tt,
     record {
-      kept = kept_after k.course.wm k.course.last (removals k.course.wm tags) g.kept (removals_lawful k.course.wm k.course.last tags) (removals_last k.course.wm k.course.last tags);
-      whole = done_whole s.classes k.course.wm (removals k.course.wm tags) g.whole (removals_make s.classes k.course.wm tags);
+      course = record {
+        kept = kept_after k.course.wm k.course.last (removals k.course.wm tags) g.course.kept (removals_lawful k.course.wm k.course.last tags) (removals_last k.course.wm k.course.last tags);
+        whole = done_whole s.classes k.course.wm (removals k.course.wm tags) g.course.whole (removals_make s.classes k.course.wm tags);
+      };
+      rules = g.rules;
     },
   )
   command_good column command.RemoveAll k h g = (
     tt,
     record {
-      kept = kept_after k.course.wm k.course.last (map change.Remove (tags_of k.course.wm)) g.kept (clearing_lawful k.course.wm k.course.last g.kept.0) (clearing_last k.course.last (tags_of k.course.wm));
-      whole = done_whole s.classes k.course.wm (map change.Remove (tags_of k.course.wm)) g.whole (clearing_make s.classes (tags_of k.course.wm));
+      course = record {
+        kept = kept_after k.course.wm k.course.last (map change.Remove (tags_of k.course.wm)) g.course.kept (clearing_lawful k.course.wm k.course.last g.course.kept.0) (clearing_last k.course.last (tags_of k.course.wm));
+        whole = done_whole s.classes k.course.wm (map change.Remove (tags_of k.course.wm)) g.course.whole (clearing_make s.classes (tags_of k.course.wm));
+      };
+      rules = g.rules;
     },
   )
   command_good column (command.Run count) k h g =
-      let at : Setting = record s { watch = k.watch } in
-      let sound_at : IsSound at = record { classes = sound.classes; rules = sound.rules } in
-      let good_at : IsGood at k.course = record { kept = g.kept; whole = g.whole } in
-      let r = run_good P holds (limit - k.course.firings) at k.breaks column None count k.course sound_at good_at in
-      (r.0, ok_as (IsGood at) GoodSession (with_course k) (λ e. e) (run_on (limit - k.course.firings) at k.breaks column None count k.course).outcome r.1 (λ m q. record { kept = q.kept; whole = q.whole }))
+      let at : Setting = record (in_force s k) { watch = k.watch } in
+      let sound_at : IsSound at = record { classes = classes_valid; rules = g.rules } in
+      let r = run_good P holds (limit - k.course.firings) at k.breaks column None count k.course sound_at g.course in
+      (r.0, ok_as (IsGood s.classes) GoodSession (with_course k) (λ e. e) (run_on (limit - k.course.firings) at k.breaks column None count k.course).outcome r.1 (λ m q. record { course = q; rules = g.rules }))
   command_good column (command.Wm tags) k h g = (tt, g)
   command_good column (command.Ppwm pattern) k h g = (tt, g)
   command_good column command.Cs k h g = (tt, g)
   command_good column (command.Pm names) k h g = (tt, g)
   command_good column (command.Strategy set) k h g = (tt, strategy_good column set k g)
   command_good column (command.Watch set) k h g = (tt, level_good column set k g)
-  command_good column (command.Pbreak names) k h g = (tt, breaks_good column names k g)
+  command_good column (command.Pbreak names) k h g = (tt, breaks_good (in_force s k) column names k g)
+  command_good column (command.Add r) k h g = (tt, added_good r k h g)
+  command_good column (command.Excise names) k h g = (tt, excised_good names k g)
+  command_good column (command.Back count) k h g = (tt, g)
+  command_good column (command.Matches names) k h g = (tt, g)
   command_good column command.Exit k h g = (tt, g)
 
-  commands_good : (column : ℕ) (commands : List Command) (k : Session) → list_all (command_is_valid s.classes) commands ≡ true → GoodSession k
+  commands_good : (column : ℕ) (commands : List Command) (k : Session) → list_all (command_is_valid s.classes (length s.text)) commands ≡ true → GoodSession k
       → EachOfCommands P s limit column commands k × IfOk (commands_done s limit column commands k).outcome GoodSession
   commands_good column [] k h g = (tt, g)
   commands_good column (c ∷ rest) k h g =
-      let parts = and_parts (command_is_valid s.classes c) (list_all (command_is_valid s.classes) rest) h in
-      let e = command_done s limit column c k in
+      let parts = and_parts (command_is_valid s.classes (length s.text) c) (list_all (command_is_valid s.classes (length s.text)) rest) h in
+      let e = command_done (in_force s k) limit column c k in
       let one = command_good column c k parts.0 g in
       let More : Session → Type 0 = λ next. EachOfCommands P s limit (column_after column e.bytes) rest next in
       by (is_exit c)
@@ -255,39 +312,46 @@ module _ (P : Setting → ℕ → Inst → Course → Type 0) (holds : HoldsNext
       (ok_on GoodSession GoodSession e.bytes e.outcome (λ next. commands_done s limit (column_after column e.bytes) rest next) one.1
       (λ next q. (commands_good (column_after column e.bytes) rest next parts.1 q).1))
     where
-      by : (b : Bool) → (let e = command_done s limit column c k in EachOfCommand P s limit column c k × IfOk e.outcome (λ next. EachOfCommands P s limit (column_after column e.bytes) rest next))
-          → IfOk (and_then column (command_done s limit column c k) (λ next k. commands_done s limit next rest k)).outcome GoodSession
-          → MatchBool b (Unit {0}) (let e = command_done s limit column c k in EachOfCommand P s limit column c k × IfOk e.outcome (λ next. EachOfCommands P s limit (column_after column e.bytes) rest next))
-          × IfOk (cond b (writes [] k) (and_then column (command_done s limit column c k) (λ next k. commands_done s limit next rest k))).outcome GoodSession
+      by : (b : Bool) → (let e = command_done (in_force s k) limit column c k in EachOfCommand P (in_force s k) limit column c k × IfOk e.outcome (λ next. EachOfCommands P s limit (column_after column e.bytes) rest next))
+          → IfOk (and_then column (command_done (in_force s k) limit column c k) (λ next k. commands_done s limit next rest k)).outcome GoodSession
+          → MatchBool b (Unit {0}) (let e = command_done (in_force s k) limit column c k in EachOfCommand P (in_force s k) limit column c k × IfOk e.outcome (λ next. EachOfCommands P s limit (column_after column e.bytes) rest next))
+          × IfOk (cond b (writes [] k) (and_then column (command_done (in_force s k) limit column c k) (λ next k. commands_done s limit next rest k))).outcome GoodSession
       by true each rest = (tt, g)
       by false each rest = (each, rest)
 
 -- ---- a session
 
-pub sound_setting : (s : Setting) (commands : List Command) → is_valid s.classes s.rules commands (length s.text) ≡ true → IsSound s × (list_all (command_is_valid s.classes) commands ≡ true)
-sound_setting s commands h =
-    let seventh = (and_parts _ _ (and_parts _ _ h).0).0 in
-    let sixth = and_parts _ _ (and_parts _ _ seventh).0 in
-    (record { classes = (and_parts _ _ sixth.0).1; rules = sixth.1 }, (and_parts _ _ seventh).1)
+-- what is valid of a program
+pub record ValidParts (s : Setting) (cs : List Command) : Type 0 where
+  classes : list_all class_is_valid s.classes ≡ true
+  rules : list_all (rule_is_valid s.classes (length s.text)) s.rules ≡ true
+  pub commands : list_all (command_is_valid s.classes (length s.text)) cs ≡ true
 
-session_good : (P : Setting → ℕ → Inst → Course → Type 0) → HoldsNext P → (s : Setting) (limit : ℕ) (commands : List Command) (names : Spellings) (coming : Coming) → is_valid s.classes s.rules commands (length s.text) ≡ true
-    → EachFiring P s limit commands names coming × IfOk (session_of s limit commands names coming).outcome (λ k. IsGood s k.course)
+pub valid_parts : (s : Setting) (commands : List Command) → AreValid s commands → ValidParts s commands
+valid_parts s commands h =
+    let seventh = (and_parts _ _ (and_parts _ _ (and_parts _ _ (and_parts _ _ h.1).0).0).0).0 in
+    let sixth = and_parts _ _ seventh in
+    let fifth = and_parts _ _ (and_parts _ _ sixth.0).0 in
+    record { classes = (and_parts _ _ fifth.0).1; rules = fifth.1; commands = sixth.1 }
+
+session_good : (P : Setting → ℕ → Inst → Course → Type 0) → HoldsNext P → (s : Setting) (limit : ℕ) (commands : List Command) (names : Spellings) (coming : Coming) → AreValid s commands
+    → EachFiring P s limit commands names coming × IfOk (session_of s limit commands names coming).outcome (StillGood s.classes (length s.text))
 session_good P holds s limit commands names coming h =
-    let valid = sound_setting s commands h in
-    commands_good P holds s valid.0 limit 0 commands (begun s.rules names coming) valid.1
-    (record { kept = (λ k within. absurd (omega arith), All-nil _); whole = λ e m. absurd m })
+    let valid = valid_parts s commands h in
+    commands_good P holds s valid.classes limit 0 commands (begun s.rules names coming) valid.commands
+    (record { course = record { kept = (λ k within. absurd (omega arith), All-nil _); whole = λ e m. absurd m }; rules = valid.rules })
 
-pub each_firing_finds : (s : Setting) (limit : ℕ) (commands : List Command) (names : Spellings) (coming : Coming) → is_valid s.classes s.rules commands (length s.text) ≡ true → EachFiring FindsAll s limit commands names coming
+pub each_firing_finds : (s : Setting) (limit : ℕ) (commands : List Command) (names : Spellings) (coming : Coming) → AreValid s commands → EachFiring FindsAll s limit commands names coming
 each_firing_finds s limit commands names coming h = (session_good FindsAll finds_all s limit commands names coming h).0
 
 -- the same, whatever the column is
-pub each_firing_finds_anywhere : (s : Setting) (limit : ℕ) (commands : List Command) (names : Spellings) (coming : Coming) → is_valid s.classes s.rules commands (length s.text) ≡ true
+pub each_firing_finds_anywhere : (s : Setting) (limit : ℕ) (commands : List Command) (names : Spellings) (coming : Coming) → AreValid s commands
     → EachFiring (λ s column i m. (at : ℕ) → FindsAll s at i m) s limit commands names coming
 each_firing_finds_anywhere s limit commands names coming h =
     (session_good (λ s column i m. (at : ℕ) → FindsAll s at i m) (λ s column i m sound good in_set at. finds_all s at i m sound good in_set) s limit commands names coming h).0
 
-pub session_whole : (s : Setting) (limit : ℕ) (commands : List Command) (names : Spellings) (coming : Coming) → is_valid s.classes s.rules commands (length s.text) ≡ true
+pub session_whole : (s : Setting) (limit : ℕ) (commands : List Command) (names : Spellings) (coming : Coming) → AreValid s commands
     → IfOk (session_of s limit commands names coming).outcome (λ k. AreWhole s.classes k.course.wm)
 session_whole s limit commands names coming h =
-    ok_more (λ (k : Session). IsGood s k.course) (λ (k : Session). AreWhole s.classes k.course.wm) (session_of s limit commands names coming).outcome
-    (session_good FindsAll finds_all s limit commands names coming h).1 (λ k g. all_whole s k.course g)
+    ok_more (StillGood s.classes (length s.text)) (λ (k : Session). AreWhole s.classes k.course.wm) (session_of s limit commands names coming).outcome
+    (session_good FindsAll finds_all s limit commands names coming h).1 (λ k g. all_whole s k.course g.course)

@@ -27,6 +27,7 @@ use Rattle.ops_base.proofs.ConflictSetLaws.{conflict_set-is}
 use Rattle.ops_base.proofs.Members.{IsMember, flat_map_member, member_from_contains}
 use Rattle.ops_base.proofs.WalkFinds.{lengthened_is, negated_is, meets-matches_of}
 use Rattle.ops_meaning.specs.Acting.{Setting, Given, elements_of, conditions_of, actions_of, begun}
+use Rattle.run_laws.specs.Programs.{AreValid}
 use Rattle.run_laws.specs.Finding.{is_class, operand_finds, tests_find, condition_finds, MembersFind, PartFinds, WalkFinds, AllFind}
 use Rattle.run_laws.proofs.Beginnings.{classes_in, whole_match, bindings_begun}
 use Rattle.run_laws.proofs.Knowing.{AreBound, bound_more, Holds, there, actions_find}
@@ -156,9 +157,10 @@ each_at p [] k x h at = absurd (cc)
 each_at p (y ∷ xs) zero x h at = let same : y ≡ x = cc in ap p (sym same) ∙ (and_parts (p y) (list_all p xs) h).0
 each_at p (y ∷ xs) (suc k) x h at = each_at p xs k x (and_parts (p y) (list_all p xs) h).1 at
 
-pub rule_valid : (classes : List Class) (rules : List Rule) (commands : List Command) (text k : ℕ) (r : Rule) → is_valid classes rules commands text ≡ true → slice_get rules k ≡ Some r → rule_is_valid classes text r ≡ true
-rule_valid classes rules commands text k r h at =
-    each_at (rule_is_valid classes text) rules k r (and_parts _ _ (and_parts _ _ (and_parts _ _ (and_parts _ _ h).0).0).0).1 at
+pub rule_valid : (classes : List Class) (rules templates : List Rule) (commands : List Command) (text k : ℕ) (r : Rule) → is_valid classes rules templates commands text ≡ true → slice_get rules k ≡ Some r → rule_is_valid classes text r ≡ true
+rule_valid classes rules templates commands text k r h at =
+    let seventh = (and_parts _ _ (and_parts _ _ (and_parts _ _ (and_parts _ _ h).0).0).0).0 in
+    each_at (rule_is_valid classes text) rules k r (and_parts _ _ (and_parts _ _ (and_parts _ _ seventh).0).0).1 at
 
 pub sides_valid : (classes : List Class) (text : ℕ) (r : Rule) → rule_is_valid classes text r ≡ true → (parts_are_valid classes nothing_in_sight r.conditions ≡ true) × (actions_are_valid classes (known_of r.conditions) r.actions ≡ true)
 sides_valid classes text r h =
@@ -166,9 +168,9 @@ sides_valid classes text r h =
     let third = (and_parts _ _ (and_parts _ _ fifth).0).0 in
     ((and_parts _ _ third).1, (and_parts _ _ fifth).1)
 
-pub left_side_finds : (s : Setting) (commands : List Command) (wm : List Element) (k : ℕ) (r : Rule) → is_valid s.classes s.rules commands (length s.text) ≡ true → slice_get s.rules k ≡ Some r → WalkFinds s.classes wm r.conditions (empty_partial ∷ [])
+pub left_side_finds : (s : Setting) (commands : List Command) (wm : List Element) (k : ℕ) (r : Rule) → AreValid s commands → slice_get s.rules k ≡ Some r → WalkFinds s.classes wm r.conditions (empty_partial ∷ [])
 left_side_finds s commands wm k r h at =
-    let sides = sides_valid s.classes (length s.text) r (rule_valid s.classes s.rules commands (length s.text) k r h at) in
+    let sides = sides_valid s.classes (length s.text) r (rule_valid s.classes s.rules h.0 commands (length s.text) k r h.1 at) in
     walk_found s.classes wm r.conditions nothing_in_sight (empty_partial ∷ []) nothing_seen sides.0
 
 -- the classes of the positive conditions are there
@@ -199,12 +201,12 @@ begun_knows s g i r rising same valid q m t =
       made = λ c is. absurd (cc);
     }
 
-pub right_side_finds : (s : Setting) (commands : List Command) (column : ℕ) (g : Given) (i : Inst) → is_valid s.classes s.rules commands (length s.text) ≡ true → HasRisingTags g.wm → Contains (conflict_set s.rules g.wm) i
+pub right_side_finds : (s : Setting) (commands : List Command) (column : ℕ) (g : Given) (i : Inst) → AreValid s commands → HasRisingTags g.wm → Contains (conflict_set s.rules g.wm) i
     → AllFind s column (actions_of s.rules i.rule) (begun s i g)
 right_side_finds s commands column g i h rising in_set =
     let is = (conflict_set-is s.rules g.wm rising).sound i in_set in
     let r = is.0 in
-    let sides = sides_valid s.classes (length s.text) r (rule_valid s.classes s.rules commands (length s.text) i.rule r h is.1) in
+    let sides = sides_valid s.classes (length s.text) r (rule_valid s.classes s.rules h.0 commands (length s.text) i.rule r h.1 is.1) in
     let conditions : conditions_of s.rules i.rule ≡ r.conditions = ap (λ o. unwrap_or (option_map (λ (r : Rule). r.conditions) o) []) is.1 in
     let actions : actions_of s.rules i.rule ≡ r.actions = ap (λ o. unwrap_or (option_map (λ (r : Rule). r.actions) o) []) is.1 in
     let f = meets-matches_of g.wm r.conditions i.tags is.2 in

@@ -17,11 +17,11 @@ abbrev pub HasMore : Option ℕ → ℕ → Type 0
 HasMore count n = IfSome count (λ all. n < all)
 
 -- Commands, and then this many firings of a run, lead to this state, and the run goes on with this instantiation: the
--- run and the session may make more firings, this one is next, and with one firing more the session does not end in
--- this state, so that no break and no `halt` stopped the run here.
+-- run and the session may make more firings, this one is next of the productions in force, and with one firing more the
+-- session does not end in this state, so that no break and no `halt` stopped the run here.
 pub record GoesOnWith (s : Setting) (limit : ℕ) (before : List Command) (count : Option ℕ) (n : ℕ) (names : Spellings) (coming : Coming) (k : Session) (i : Inst) : Type 0 where
   pub reached : (session_of s limit (cut_after before n) names coming).outcome ≡ Ok k
   pub run : HasMore count n
   pub session : k.course.firings < limit
-  pub next : next_to_fire s.rules k.course ≡ Some i
+  pub next : next_to_fire k.rules k.course ≡ Some i
   pub more : (session_of s limit (cut_after before (suc n)) names coming).outcome ≢ Ok k

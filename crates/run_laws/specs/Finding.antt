@@ -1,6 +1,6 @@
 -- What productions and commands name is there: each variable, cell and class, and the number of each field. So nothing
 -- is met of what the definitions take where one of these is absent.
-use Rattle.std.specs.Prelude.{◌≡◌, ℕ, List, [], ◌∷◌, Bool, true, false, ◌&&◌, ◌||◌, Some, slice_get, is_some, unwrap_or, option_map, Contains, IsTrue, IfOk}
+use Rattle.std.specs.Prelude.{◌≡◌, ℕ, List, [], ◌∷◌, Bool, true, false, ◌&&◌, ◌||◌, Some, None, slice_get, is_some, unwrap_or, option_map, Contains, IsTrue, IfOk}
 use Rattle.std.specs.List.{flat_map, list_all, list_any}
 use Rattle.ops_base.specs.declared.actions.Action.{Action}
 use Rattle.ops_base.specs.declared.actions.Action.TheVariants as action
@@ -145,6 +145,7 @@ action_finds classes d (action.Write items) = list_all (item_finds classes d) it
 action_finds classes d (action.Bind variable t) = term_finds classes d t && is_single t
 action_finds classes d (action.Cbind cell) = has_made d
 action_finds classes d action.Halt = true
+action_finds classes d (action.Build template holes) = list_all (λ h. is_bound d h.variable) holes
 
 -- From a column and a state on, P holds of each action with the state to which those before it lead.
 abbrev pub EachAction : (Action → ActState → Type 0) → Setting → ℕ → List Action → ActState → Type 0
@@ -180,4 +181,18 @@ abbrev pub command_finds : List Class → Command → Bool
 command_finds classes (command.Make class puts) =
     is_class classes class && list_all (fixed_finds (class_of classes class)) puts
 command_finds classes (command.Ppwm (Some p)) = is_class classes p.0 && list_all (fixed_finds (class_of classes p.0)) p.1
-command_finds classes _ = true
+command_finds classes (command.Ppwm None) = true
+command_finds classes (command.Remove tags) = true
+command_finds classes command.RemoveAll = true
+command_finds classes (command.Run count) = true
+command_finds classes (command.Wm tags) = true
+command_finds classes command.Cs = true
+command_finds classes (command.Pm names) = true
+command_finds classes (command.Strategy set) = true
+command_finds classes (command.Watch set) = true
+command_finds classes (command.Pbreak names) = true
+command_finds classes (command.Add r) = true
+command_finds classes (command.Excise names) = true
+command_finds classes (command.Back count) = true
+command_finds classes (command.Matches names) = true
+command_finds classes command.Exit = true

@@ -11,7 +11,7 @@ use Rattle.ops_io.specs.Output.{column_after}
 use Rattle.ops_meaning.specs.Acting.{Setting, ActState, actions_of}
 use Rattle.ops_meaning.specs.Acting as acting
 use Rattle.ops_meaning.specs.Layout.{firing_bytes}
-use Rattle.ops_meaning.specs.Running.{Course, Session, LastFiring, begun, command_done, firing, given_by, is_exit, last_of, line_of_pause, next_to_fire, one_less}
+use Rattle.ops_meaning.specs.Running.{Course, Session, LastFiring, begun, command_done, firing, given_by, in_force, is_exit, last_of, line_of_pause, next_to_fire, one_less}
 use Rattle.run_laws.specs.Beginning.{BeginsAsMatched}
 use Rattle.run_laws.specs.Elements.{AreWhole}
 use Rattle.run_laws.specs.Finding.{AllFind, EachAction}
@@ -43,8 +43,8 @@ abbrev pub EachOfCommands : (Setting → ℕ → Inst → Course → Type 0) →
 EachOfCommands P s limit column [] k = Unit {0}
 EachOfCommands P s limit column (c ∷ rest) k =
     MatchBool (is_exit c) (Unit {0})
-    (let e = command_done s limit column c k in
-    EachOfCommand P s limit column c k
+    (let e = command_done (in_force s k) limit column c k in
+    EachOfCommand P (in_force s k) limit column c k
     × IfOk e.outcome (λ next. EachOfCommands P s limit (column_after column e.bytes) rest next))
 
 -- P holds of each firing of a session.

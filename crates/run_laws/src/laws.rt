@@ -25,7 +25,7 @@ ghost use Rattle.ops_base.specs.WorkingMemory.{HasRisingTags, tags_of};
 ghost use Rattle.ops_io.specs.Coming.{Coming};
 ghost use Rattle.ops_meaning.specs.Acting.{Setting, Given, ActState, actions_of, action_done, actions_done, begun, evaluated, values_placed};
 ghost use Rattle.ops_meaning.specs.Layout.{inst_text};
-ghost use Rattle.ops_meaning.specs.Running.{Course, Session, command_done, element_lines, ending_of, lists, meets, removals, session_of, standing_by};
+ghost use Rattle.ops_meaning.specs.Running.{Course, Session, command_done, element_lines, ending_of, in_force, lists, meets, removals, session_of, standing_by};
 ghost use Rattle.run_laws.specs.Beginning.{BeginsAsMatched};
 ghost use Rattle.run_laws.specs.Cuts.{GoesOnWith};
 ghost use Rattle.run_laws.specs.Elements.{AreFieldsOf, AreWhole};
@@ -73,7 +73,7 @@ pub fn firings_find_what_they_name()
     ensures any { (s : Setting) (limit n : ℕ) (before after : List Command) (count : Option ℕ) (names : Spellings)
         → (coming : Coming) (k : Session) (column : ℕ) (i : Inst)
         → AreValid s (before ++ Command.Run count ∷ after) → GoesOnWith s limit before count n names coming k i
-        → FindsAll (record s { watch = k.watch }) column i k.course }
+        → FindsAll (record (in_force s k) { watch = k.watch }) column i k.course }
     ensures elements { (s : Setting) (limit : ℕ) (commands : List Command) (names : Spellings) (coming : Coming)
         → AreValid s commands
         → IfOk (session_of s limit commands names coming).outcome (λ k. AreWhole s.classes k.course.wm) }
@@ -160,5 +160,5 @@ pub fn nothing_is_passed_over()
         → (names : Spellings) (coming : Coming) (k : Session) (i : Inst)
         → EachFiring (λ s column i m. IsTrue (test s column i m)) s limit (before ++ Command.Run count ∷ after) names coming
         → GoesOnWith s limit before count n names coming k i
-        → (column : ℕ) × IsTrue (test (record s { watch = k.watch }) column i k.course) }
+        → (column : ℕ) × IsTrue (test (record (in_force s k) { watch = k.watch }) column i k.course) }
 {}

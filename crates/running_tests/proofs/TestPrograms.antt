@@ -36,6 +36,7 @@ rule_of name conditions specificity = record {
 }
 
 -- a program is valid where the program that it is equal to is
-pub valid_from : (classes classes' : List Class) (rules rules' : List Rule) (commands : List Command) (text : List ℕ) → classes ≡ classes' → rules ≡ rules' → commands ≡ [] → text ≡ []
-    → is_valid classes' rules' [] 0 ≡ true → is_valid classes rules commands (length text) ≡ true
-valid_from classes classes' rules rules' commands text c r k t valid = (λ i. is_valid (c i) (r i) (k i) (length (t i))) ∙ valid
+pub valid_from : (classes classes' : List Class) (rules rules' templates : List Rule) (commands : List Command) (text : List ℕ) → classes ≡ classes' → rules ≡ rules' → templates ≡ [] → commands ≡ [] → text ≡ []
+    → is_valid classes' rules' [] [] 0 ≡ true → is_valid classes rules templates commands (length text) ≡ true
+valid_from classes classes' rules rules' templates commands text c r m k t valid =
+    (λ i. is_valid (c i) (r i) (m i) (k i) (length (t i))) ∙ valid

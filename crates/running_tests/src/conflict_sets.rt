@@ -125,7 +125,13 @@ fn old_and_new(alloc: Global) -> Result<Program, OutOfMemory>
     let old = rule(alloc, 3, both, 3);
     let new = rule(alloc, 4, one(alloc, with_n(alloc, 0, 2)?)?, 2);
     let rules = two(alloc, old, new)?;
-    Ok(Program::new(classes, rules, Listed::new(alloc), Listed::new(alloc)))
+    Ok(Program::new(
+        classes,
+        rules,
+        Listed::new(alloc),
+        Listed::new(alloc),
+        Listed::new(alloc),
+    ))
 }
 
 /// `(p two (a ^n 1) (b ^n 1) --> ) (p three (a) (b) (c) --> )`
@@ -136,7 +142,13 @@ fn two_and_three(alloc: Global) -> Result<Program, OutOfMemory>
     let short = two(alloc, with_n(alloc, 0, 1)?, with_n(alloc, 1, 1)?)?;
     let long = three(alloc, any(alloc, 0), any(alloc, 1), any(alloc, 2))?;
     let rules = two(alloc, rule(alloc, 4, short, 4), rule(alloc, 5, long, 3))?;
-    Ok(Program::new(classes, rules, Listed::new(alloc), Listed::new(alloc)))
+    Ok(Program::new(
+        classes,
+        rules,
+        Listed::new(alloc),
+        Listed::new(alloc),
+        Listed::new(alloc),
+    ))
 }
 
 /// `(p first (a) --> ) (p second (a) --> )`
@@ -147,7 +159,13 @@ fn first_and_second(alloc: Global) -> Result<Program, OutOfMemory>
     let first = rule(alloc, 2, one(alloc, any(alloc, 0))?, 1);
     let second = rule(alloc, 3, one(alloc, any(alloc, 0))?, 1);
     let rules = two(alloc, first, second)?;
-    Ok(Program::new(classes, rules, Listed::new(alloc), Listed::new(alloc)))
+    Ok(Program::new(
+        classes,
+        rules,
+        Listed::new(alloc),
+        Listed::new(alloc),
+        Listed::new(alloc),
+    ))
 }
 
 fn inst(alloc: Global, rule: usize, tags: &[u64]) -> Result<Inst, OutOfMemory>
@@ -231,6 +249,27 @@ fn fire(index: &mut Index, program: &Program, inst: &Inst)
     index.mark(inst);
 }
 
+/// An index with the same members and marks.
+fn made_anew(
+    alloc: Global,
+    program: &Program,
+    index: &Index,
+    first: &[u64],
+    second: &[u64],
+) -> Result<Index, OutOfMemory>
+    requires { length program.now.rules ≡ 2 }
+{
+    let come = two(alloc, inst(alloc, 0, first)?, inst(alloc, 1, second)?)?;
+    let marks = index.marks(alloc)?;
+    Index::with_marks(
+        alloc,
+        index.strategy(),
+        program,
+        come.as_slice(),
+        marks.as_slice(),
+    )
+}
+
 #[test]
 fn nothing_is_indexed(rt: HostRuntime) -> Result<(), Fail> {
     let index = Index::new(rt.alloc());
@@ -300,5 +339,23 @@ fn a_mark_is_forgotten_where_its_member_goes(rt: HostRuntime) -> Result<(), Fail
     leave(&mut index, &program, &only)?;
     enter(&mut index, &program, &only)?;
     assert_eq!(rt; (selected(&index), rule_at(&index, 0)), (Some(1), Some(1)));
+    Ok(())
+}
+
+#[test]
+fn marks_are_kept_in_an_index_made_anew(rt: HostRuntime) -> Result<(), Fail> {
+    let alloc = rt.alloc();
+    let program = first_and_second(alloc)?;
+    let only = inst(alloc, 1, &[4])?;
+    let mut index = Index::new(alloc);
+    enter(&mut index, &program, &only)?;
+    fire(&mut index, &program, &only);
+    assert_eq!(rt; index.marks(alloc)?.len(), 1);
+    let next = made_anew(alloc, &program, &index, &[4], &[4])?;
+    assert_eq!(rt; (selected(&next), rule_at(&next, 1)), (Some(0), None));
+    assert_eq!(rt; next.marks(alloc)?.len(), 1);
+    let other = made_anew(alloc, &program, &index, &[4], &[5])?;
+    assert_eq!(rt; (selected(&other), rule_at(&other, 1)), (Some(1), Some(0)));
+    assert_eq!(rt; other.marks(alloc)?.len(), 0);
     Ok(())
 }

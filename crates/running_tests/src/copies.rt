@@ -176,6 +176,7 @@ fn programs(rt: HostRuntime) -> Result<(), Fail> {
     let program = Program::new(
         Listed::from_array(alloc, [class])?,
         Listed::from_array(alloc, [rule(alloc)?])?,
+        Listed::new(alloc),
         Listed::from_array(alloc, [command])?,
         text,
     );

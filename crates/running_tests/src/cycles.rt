@@ -61,7 +61,7 @@ fn condition(alloc: Global, class: usize, negated: bool) -> Part
 
 /// `(literalize a) (literalize stop) (p .. (a) - (stop) --> ..)`
 fn program(alloc: Global, actions: Listed<Action>, cells: usize) -> Result<Program, OutOfMemory>
-    requires { IsTrue (is_valid classes (production actions cells ∷ []) [] 0) }
+    requires { IsTrue (is_valid classes (production actions cells ∷ []) [] [] 0) }
     ensures { IfOk result (λ p. p.rules ≡ production actions cells ∷ []) }
 {
     let conditions = two(alloc, condition(alloc, 0, false), condition(alloc, 1, true))?;
@@ -79,6 +79,7 @@ fn program(alloc: Global, actions: Listed<Action>, cells: usize) -> Result<Progr
     Ok(Program::new(
         classes,
         one(alloc, rule)?,
+        Listed::new(alloc),
         Listed::new(alloc),
         Listed::new(alloc),
     ))

@@ -2,9 +2,7 @@
 ghost use Rattle.std.specs.Prelude.{◌≡◌, IfOk};
 
 use ops_base::endings::Ending;
-use ops_base::list::Listed;
 use ops_base::memory::OutOfMemory;
-use ops_base::programs::Program;
 use ops_base::symbols::Names;
 use ops_base::values::{NIL, Value};
 use ops_io::{MemSink, Out};
@@ -77,25 +75,15 @@ fn many_spaces(rt: HostRuntime) -> Result<(), Fail> {
     Ok(())
 }
 
-fn nothing(alloc: Global) -> Program {
-    Program::new(
-        Listed::new(alloc),
-        Listed::new(alloc),
-        Listed::new(alloc),
-        Listed::new(alloc),
-    )
-}
-
 #[test]
 fn lines_of_endings(rt: HostRuntime) -> Result<(), Fail> {
     let alloc = rt.alloc();
     let names = Names::new(alloc)?;
-    let program = nothing(alloc);
     let mut sink = sink(alloc)?;
     let mut out = Out::new(alloc)?;
     fresh_line(&mut out, &mut sink)?;
     let limit = Ending::Limit { firings: 7 };
-    put_fault(&mut out, &mut sink, &names, &program, &limit)?;
+    put_fault(&mut out, &mut sink, &names, &limit)?;
     out.flush(&mut sink)?;
     let line = b"ops: limit of 7 firings reached\n";
     assert_eq!(rt; sink.written(), line.as_slice());

@@ -108,7 +108,13 @@ fn program(alloc: Global) -> Result<Program, OutOfMemory> {
     };
     let classes = one(alloc, class(alloc)?)?;
     let rules = one(alloc, rule)?;
-    Ok(Program::new(classes, rules, Listed::new(alloc), Listed::new(alloc)))
+    Ok(Program::new(
+        classes,
+        rules,
+        Listed::new(alloc),
+        Listed::new(alloc),
+        Listed::new(alloc),
+    ))
 }
 
 /// What the right side answers for the one box.

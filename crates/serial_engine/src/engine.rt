@@ -51,15 +51,7 @@ impl<G> Model for SerialEngine<G> {
     ghost invariant = { λ e. IsAtRest e.parts.value.net e.parts.value.store e.parts.value.world };
 }
 
-impl<G: Gate + Drop> SerialEngine<G> {
-    ghost use Rattle.ops_base.specs.declared.rules.Rule.{Rule};
-    ghost use Rattle.ops_base.specs.WorkingMemory.{Lawful, done, last_after};
-    ghost use Rattle.net_base.specs.Network.{NetOf};
-    ghost use Rattle.work_store.specs.Settling.{IsSettled};
-    ghost use Rattle.work_store.specs.Stored.{HoldsAlso, added_by};
-    ghost use Rattle.step_core.specs.Found.{found_over};
-    ghost use Rattle.step_core.specs.Phases.{IsBundle};
-
+impl<G: Drop> SerialEngine<G> {
     /// An engine over the network with this many lines. Nothing is stored. It makes each line and looks at each node,
     /// and takes memory for its own place.
     pub fn new(
@@ -85,6 +77,16 @@ impl<G: Gate + Drop> SerialEngine<G> {
         let parts = Box::new(alloc, parts)?;
         Ok(SerialEngine { parts })
     }
+}
+
+impl<G: Gate + Drop> SerialEngine<G> {
+    ghost use Rattle.ops_base.specs.declared.rules.Rule.{Rule};
+    ghost use Rattle.ops_base.specs.WorkingMemory.{Lawful, done, last_after};
+    ghost use Rattle.net_base.specs.Network.{NetOf};
+    ghost use Rattle.work_store.specs.Settling.{IsSettled};
+    ghost use Rattle.work_store.specs.Stored.{HoldsAlso, added_by};
+    ghost use Rattle.step_core.specs.Found.{found_over};
+    ghost use Rattle.step_core.specs.Phases.{IsBundle};
 
     /// The network. Takes no memory.
     pub fn net(&self) -> &Net

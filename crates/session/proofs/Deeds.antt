@@ -29,7 +29,7 @@ module _ {M H : Type 0} (stored : M → Stored) (stands_for : M → List Rule �
 
   -- what the session has come to
   abbrev pub come : Session M H → Coming → Meant
-  come s z = meant_by stored s names z
+  come s z = meant_by stored rules s names z
 
   module _ (s : Session M H) (e : Deed) where
     -- memory ran out before anything was put
@@ -55,7 +55,7 @@ module _ {M H : Type 0} (stored : M → Stored) (stands_for : M → List Rule �
     -- all was put, and the session has come to what is meant
     pub does_all : (t : Session M H) (a b : Port) (bytes : List ℕ) → ((z : Coming) → e (come s z) ≡ writes bytes (come t z)) → Put a b bytes → IsUnderWay stored stands_for rules t → DoesSo s (Ok t) a b e
     does_all t a b bytes is put under_way = record {
-      performs = λ z. let P : Effect Ending Meant → Type 0 = Performs (λ t. meant_by stored t names z) of_ending (let r : Result (Session M H) Ending = Ok t in r) a b in subst P (sym (is z)) (refl, put);
+      performs = λ z. let P : Effect Ending Meant → Type 0 = Performs (λ t. meant_by stored rules t names z) of_ending (let r : Result (Session M H) Ending = Ok t in r) a b in subst P (sym (is z)) (refl, put);
       reads = refl;
       under_way = under_way;
     }
@@ -63,7 +63,7 @@ module _ {M H : Type 0} (stored : M → Stored) (stands_for : M → List Rule �
   -- the same of a session that has come to the same, where the same is meant
   pub does_as : (s t : Session M H) (r : Result (Session M H) Ending) (a b : Port) (e f : Deed) → ((z : Coming) → come s z ≡ come t z) → ((z : Coming) → e (come s z) ≡ f (come s z)) → DoesSo s r a b e → DoesSo t r a b f
   does_as s t r a b e f same meant p = record {
-    performs = λ z. let P : Effect Ending Meant → Type 0 = Performs (λ t. meant_by stored t names z) of_ending r a b in subst P (meant z ∙ ap f (same z)) (p.performs z);
+    performs = λ z. let P : Effect Ending Meant → Type 0 = Performs (λ t. meant_by stored rules t names z) of_ending r a b in subst P (meant z ∙ ap f (same z)) (p.performs z);
     reads = p.reads;
     under_way = p.under_way;
   }
@@ -98,8 +98,8 @@ module _ {M H : Type 0} (stored : M → Stored) (stands_for : M → List Rule �
 
 -- a command is done that reads no input
 pub commanded : {M H : Type 0} (stored : M → Stored) (stands_for : M → List Rule → Type 0) (rules : List Rule) (names : Spellings) (at : Setting) (limit : ℕ) (c x : Command) (s : Session M H) (r : Result (Session M H) Ending) (i : Inlet) (a b : Port) → c ≡ x
-    → Does stored stands_for rules names s r a b (λ k. command_done at limit a.out.column x k) → PerformsOn (λ t z. meant_by stored t names z) of_ending r i i a b (λ z. command_done at limit a.out.column c (meant_by stored s names z))
+    → Does stored stands_for rules names s r a b (λ k. command_done at limit a.out.column x k) → PerformsOn (λ t z. meant_by stored rules t names z) of_ending r i i a b (λ z. command_done at limit a.out.column c (meant_by stored rules s names z))
 commanded stored stands_for rules names at limit c x s r i a b is p =
-    performs_apart (λ t z. meant_by stored t names z) of_ending r i a b (λ z. command_done at limit a.out.column c (meant_by stored s names z))
-    (λ z. let P : Command → Type 0 = λ c. Performs (λ t. meant_by stored t names z) of_ending r a b (command_done at limit a.out.column c (meant_by stored s names z)) in
+    performs_apart (λ t z. meant_by stored rules t names z) of_ending r i a b (λ z. command_done at limit a.out.column c (meant_by stored rules s names z))
+    (λ z. let P : Command → Type 0 = λ c. Performs (λ t. meant_by stored rules t names z) of_ending r a b (command_done at limit a.out.column c (meant_by stored rules s names z)) in
     subst P (sym is) (p.performs z))

@@ -13,13 +13,13 @@ use Rattle.ops_io.specs.Coming.{Coming}
 use Rattle.ops_io.specs.Output.{column_after}
 use Rattle.ops_meaning.specs.Acting.{Setting, Misdeed, Bad, NoInput, acted}
 use Rattle.ops_meaning.specs.Effects.{Effect, writes, and_then, going_on, outcome_as}
-use Rattle.ops_meaning.specs.Layout.{firing_bytes}
-use Rattle.ops_meaning.specs.Running.{Course, Session, LastFiring, begun, turn, line_of_pause, last_of, one_less, given_by, ended_in, with_course, turned_of, firing, run_on, next_to_fire, command_done, commands_done, session_of, is_exit, strategy_given, level_given, breaks_given}
+use Rattle.ops_meaning.specs.Layout.{firing_bytes, rule_name}
+use Rattle.ops_meaning.specs.Running.{Course, Session, LastFiring, begun, turn, line_of_pause, last_of, one_less, given_by, ended_in, with_course, turned_of, firing, run_on, next_to_fire, command_done, commands_done, session_of, in_force, is_exit, strategy_given, level_given, breaks_given}
 
 -- an ending of a session whose commands are not all done
 abbrev pub IsEarly : Ending → Type 0
 IsEarly (ending.Done firings elements last) = ⊥
-IsEarly (ending.Act firing rule action kind) = Unit {0}
+IsEarly (ending.Act firing rule name action kind) = Unit {0}
 IsEarly (ending.Limit firings) = Unit {0}
 IsEarly ending.ReadFault = Unit {0}
 IsEarly ending.WriteFault = Unit {0}
@@ -33,10 +33,10 @@ then_early : {S T : Type 0} (bytes : List ℕ) (r : Result S Ending) (next : S �
 then_early bytes (Ok s) next p q = q s
 then_early bytes (Err e) next p q = p
 
-misdeed_early : {S T : Type 0} (left : S → T) (firing rule : ℕ) (r : Result S Misdeed) → EndsEarly (outcome_as left (ended_in firing rule) r)
-misdeed_early left firing rule (Ok s) = tt
-misdeed_early left firing rule (Err (Bad action kind)) = tt
-misdeed_early left firing rule (Err NoInput) = tt
+misdeed_early : {S T : Type 0} (left : S → T) (firing rule : ℕ) (name : Sym) (r : Result S Misdeed) → EndsEarly (outcome_as left (ended_in firing rule name) r)
+misdeed_early left firing rule name (Ok s) = tt
+misdeed_early left firing rule name (Err (Bad action kind)) = tt
+misdeed_early left firing rule name (Err NoInput) = tt
 
 told_early : {S T : Type 0} (left : S → T) (r : Result S Ending) → EndsEarly r → EndsEarly (outcome_as left (λ e. e) r)
 told_early left (Ok s) p = tt
@@ -50,7 +50,7 @@ turn_early column None m (Some i) go_on p = p i
 firing_early : (s : Setting) (column : ℕ) (i : Inst) (m : Course) → EndsEarly (firing s column i m).outcome
 firing_early s column i m =
     let behind = column_after column (firing_bytes s.watch column m.names s.rules (m.firings + 1) i) in
-    misdeed_early (turned_of s.rules i m) (m.firings + 1) i.rule (acted s behind i (given_by m)).outcome
+    misdeed_early (turned_of s.rules i m) (m.firings + 1) i.rule (rule_name s.rules i.rule) (acted s behind i (given_by m)).outcome
 
 run_early : (left : ℕ) (s : Setting) (breaks : List Bool) (column : ℕ) (last : Option LastFiring) (count : Option ℕ) (m : Course) → EndsEarly (run_on left s breaks column last count m).outcome
 run_early zero s breaks column last count m =
@@ -88,15 +88,19 @@ command_early s limit column (command.Wm tags) k = tt
 command_early s limit column (command.Ppwm pattern) k = tt
 command_early s limit column command.Cs k = tt
 command_early s limit column (command.Pm names) k = tt
+command_early s limit column (command.Add r) k = tt
+command_early s limit column (command.Excise names) k = tt
+command_early s limit column (command.Back count) k = tt
+command_early s limit column (command.Matches names) k = tt
 command_early s limit column command.Exit k = tt
 
 commands_early : (s : Setting) (limit column : ℕ) (commands : List Command) (k : Session) → EndsEarly (commands_done s limit column commands k).outcome
 commands_early s limit column [] k = tt
 commands_early s limit column (c ∷ rest) k =
-    let e = command_done s limit column c k in
+    let e = command_done (in_force s k) limit column c k in
     let go_on : ℕ → Session → Effect Ending Session = λ next k. commands_done s limit next rest k in
     cond_both (is_exit c) (writes [] k) (and_then column e go_on) (λ f. EndsEarly f.outcome) (λ _. tt)
-    (λ _. then_early e.bytes e.outcome (go_on (column_after column e.bytes)) (command_early s limit column c k)
+    (λ _. then_early e.bytes e.outcome (go_on (column_after column e.bytes)) (command_early (in_force s k) limit column c k)
     (λ k. commands_early s limit (column_after column e.bytes) rest k))
 
 -- A session that comes to no end of its commands ends early.

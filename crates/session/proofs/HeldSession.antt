@@ -1,6 +1,6 @@
 -- What a session makes is held by its names, as what its right sides make is.
 use Rattle.std.proofs.Common.{◌≡◌, ℕ, zero, suc, ◌+◌, ◌-◌, ◌<◌, ◌≤◌, List, [], ◌∷◌, ◌++◌, length, map, fold, Bool, true, ◌&&◌, Option, Some, None, MatchResult, refl, arith}
-use Rattle.std.specs.Prelude.{slice_set}
+use Rattle.std.specs.Prelude.{slice_set, option_map, unwrap_or, Result, Ok, Err, IfOk}
 use Rattle.std.specs.List.{list_all}
 use Rattle.std.proofs.lemmas.Bool.{and_parts, and_from, cond_both}
 use Rattle.ops_base.specs.declared.commands.Command.{Command}
@@ -11,8 +11,10 @@ use Rattle.ops_base.specs.declared.elements.Change.TheVariants as change
 use Rattle.ops_base.specs.declared.elements.Class.{Class}
 use Rattle.ops_base.specs.declared.elements.Element.{Element}
 use Rattle.ops_base.specs.declared.endings.Ending.{Ending}
+use Rattle.ops_base.specs.declared.endings.Ending.TheVariants as ending
 use Rattle.ops_base.specs.declared.programs.Program.{Program}
 use Rattle.ops_base.specs.declared.rules.Inst.{Inst}
+use Rattle.ops_base.specs.declared.rules.Rule.{Rule}
 use Rattle.ops_base.specs.declared.values.Sym.{Sym}
 use Rattle.ops_base.specs.declared.values.Value.{Value}
 use Rattle.ops_base.specs.Names.{Spellings}
@@ -22,14 +24,17 @@ use Rattle.ops_base.specs.WorkingMemory.{no_fields, tags_of, without_tag}
 use Rattle.ops_io.specs.Output.{column_after}
 use Rattle.ops_meaning.specs.Acting.{Setting, acted, emptied, first_of, has_tag}
 use Rattle.ops_meaning.specs.Effects.{Effect, writes, and_then}
-use Rattle.ops_meaning.specs.Layout.{firing_bytes}
-use Rattle.ops_meaning.specs.Running.{Course, Turned, Session, LastFiring, begun, turn, line_of_pause, last_of, one_less, given_by, ended_in, with_course, with_values, fixed_fields, element_made, removals, turned_of, firing, run_on, next_to_fire, command_done, commands_done, is_exit, strategy_given, level_given, breaks_given, session_of}
+use Rattle.ops_meaning.specs.Layout.{firing_bytes, rule_name}
+use Rattle.ops_meaning.specs.Running.{Course, Turned, Session, LastFiring, begun, turn, line_of_pause, last_of, one_less, given_by, ended_in, with_course, with_values, fixed_fields, element_made, removals, turned_of, firing, run_on, next_to_fire, command_done, commands_done, in_force, rule_named, taken_out, taken_out_named, added, is_exit, strategy_given, level_given, breaks_given, session_of}
 use Rattle.ops_meaning.proofs.Doings.{goes_on, goes_as, ok_goes}
 use Rattle.act_phase.specs.Held.{element_held, change_held, HoldsProgram, HoldsElements}
 use Rattle.act_phase.specs.Outcomes.{setting_of}
-use Rattle.act_phase.proofs.Held.{all_set, all_both, elements_more, command_more, rules_more, program_more, rules_of_program, done_held}
+use Rattle.act_phase.proofs.Held.{all_set, all_both, all_push, elements_more, command_more, rules_more, program_more, rules_of_program, done_held}
 use Rattle.act_phase.proofs.HeldDoings.{Any, HeldActed, acted_held, first_held, emptied_held, no_fields_held}
-use Rattle.session.specs.Holding.{EndsHeld}
+use Rattle.ops_meaning.proofs.NamesKept.{IsToldBy}
+use Rattle.ops_meaning.proofs.EndingNames.{session_told}
+use Rattle.live_rules.proofs.Valid.{all_without}
+use Rattle.session.specs.Holding.{EndsHeld, NamesHeld}
 
 -- ---- what commands make and remove
 
@@ -74,14 +79,15 @@ module _ (n : ℕ) (some : 0 < n) where
   abbrev HeldTurned : Turned → Type 0
   HeldTurned t = Held t.course
 
+  -- and each of the productions in force
   abbrev HeldSession : Session → Type 0
-  HeldSession k = Held k.course
+  HeldSession k = Held k.course × (list_all (rule_held n) k.rules ≡ true)
 
   firing_held : (s : Setting) (column : ℕ) (i : Inst) (m : Course) → list_all (rule_held n) s.rules ≡ true → Held m → MatchResult (firing s column i m).outcome HeldTurned Any
   firing_held s column i m h p =
       let behind = column_after column (firing_bytes s.watch column m.names s.rules (m.firings + 1) i) in
       let now = length m.names.held in
-      goes_as (HeldActed now) HeldTurned Any Any (turned_of s.rules i m) (ended_in (m.firings + 1) i.rule) (acted s behind i (given_by m)).outcome
+      goes_as (HeldActed now) HeldTurned Any Any (turned_of s.rules i m) (ended_in (m.firings + 1) i.rule (rule_name s.rules i.rule)) (acted s behind i (given_by m)).outcome
       (acted_held s behind i (given_by m) (omega (arith, some, p.more)) (rules_more n now p.more s.rules h) p.memory)
       (λ a q. record {
         more = omega (arith, p.more, q.more);
@@ -108,7 +114,7 @@ module _ (n : ℕ) (some : 0 < n) where
 
   strategy_held : (column : ℕ) (set : Option Strategy) (k : Session) → HeldSession k → MatchResult (strategy_given column set k).outcome HeldSession Any
   strategy_held column None k p = p
-  strategy_held column (Some g) k p = record { more = p.more; memory = p.memory }
+  strategy_held column (Some g) k p = (record { more = p.0.more; memory = p.0.memory }, p.1)
 
   level_held : (column : ℕ) (set : Option ℕ) (k : Session) → HeldSession k → MatchResult (level_given column set k).outcome HeldSession Any
   level_held column None k p = p
@@ -118,51 +124,97 @@ module _ (n : ℕ) (some : 0 < n) where
   breaks_held s column [] k p = p
   breaks_held s column (x ∷ xs) k p = p
 
-  command_kept : (s : Setting) (limit column : ℕ) (c : Command) (k : Session) → list_all (rule_held n) s.rules ≡ true → command_held n c ≡ true → HeldSession k → MatchResult (command_done s limit column c k).outcome HeldSession Any
-  command_kept s limit column (command.Make class puts) k h e p =
-      let now = length k.course.names.held in
-      let made = element_made s.classes class puts k.course in
-      record {
-        more = p.more;
-        memory = done_held now k.course.wm (change.Add made ∷ []) p.memory (and_from _ _ (fixed_fields_held now (omega (arith, some, p.more)) (class_of s.classes class) puts (command_more n now p.more (command.Make class puts) e)) refl);
-      }
-  command_kept s limit column (command.Remove tags) k h e p =
-      let now = length k.course.names.held in
-      record { more = p.more; memory = done_held now k.course.wm (removals k.course.wm tags) p.memory (removals_held now k.course.wm tags) }
-  command_kept s limit column command.RemoveAll k h e p =
-      let now = length k.course.names.held in
-      record { more = p.more; memory = done_held now k.course.wm (map change.Remove (tags_of k.course.wm)) p.memory (clearing_held now (tags_of k.course.wm)) }
-  command_kept s limit column (command.Run count) k h e p =
-      let at : Setting = record s { watch = k.watch } in
-      let left = limit - k.course.firings in
-      goes_as Held HeldSession Any Any (with_course k) (λ e. e) (run_on left at k.breaks column None count k.course).outcome (run_held left at k.breaks column None count k.course h p) (λ m q. q) (λ e q. q)
-  command_kept s limit column (command.Wm tags) k h e p = p
-  command_kept s limit column (command.Ppwm pattern) k h e p = p
-  command_kept s limit column command.Cs k h e p = p
-  command_kept s limit column (command.Pm names) k h e p = p
-  command_kept s limit column (command.Strategy set) k h e p = strategy_held column set k p
-  command_kept s limit column (command.Watch set) k h e p = level_held column set k p
-  command_kept s limit column (command.Pbreak names) k h e p = breaks_held s column names k p
-  command_kept s limit column command.Exit k h e p = p
+  taken_held : (at : ℕ) (k : Session) → HeldSession k → HeldSession (taken_out at k)
+  taken_held at k p = (record { more = p.0.more; memory = p.0.memory }, all_without (rule_held n) at k.rules p.1)
 
-  commands_kept : (s : Setting) (limit column : ℕ) (commands : List Command) (k : Session) → list_all (rule_held n) s.rules ≡ true → list_all (command_held n) commands ≡ true → HeldSession k
+  named_held : (name : Sym) (k : Session) → HeldSession k → HeldSession (taken_out_named name k)
+  named_held name k p = by (rule_named k.rules name)
+    where
+      by : (at : Option ℕ) → HeldSession (unwrap_or (option_map (λ at. taken_out at k) at) k)
+      by None = p
+      by (Some at) = taken_held at k p
+
+  added_held : (r : Rule) (k : Session) → rule_held n r ≡ true → HeldSession k → HeldSession (added r k)
+  added_held r k h p =
+      let left = named_held r.name k p in (left.0, all_push (rule_held n) (taken_out_named r.name k).rules r left.1 h)
+
+  excised_held : (given : List Sym) (k : Session) → HeldSession k → HeldSession (fold (λ k name. taken_out_named name k) k given)
+  excised_held [] k p = p
+  excised_held (name ∷ given) k p = excised_held given (taken_out_named name k) (named_held name k p)
+
+  command_kept : (s : Setting) (limit column : ℕ) (c : Command) (k : Session) → command_held n c ≡ true → HeldSession k → MatchResult (command_done (in_force s k) limit column c k).outcome HeldSession Any
+  command_kept s limit column (command.Make class puts) k e p =
+      let now = length k.course.names.held in
+      let made = element_made s.classes class puts k.course in (
+        record {
+          more = p.0.more;
+          memory = done_held now k.course.wm (change.Add made ∷ []) p.0.memory (and_from _ _ (fixed_fields_held now (omega (arith, some, p.0.more)) (class_of s.classes class) puts (command_more n now p.0.more (command.Make class puts) e)) refl);
+        },
+        p.1,
+      )
+  command_kept s limit column (command.Remove tags) k e p =
+      let now = length k.course.names.held in
+      (record { more = p.0.more; memory = done_held now k.course.wm (removals k.course.wm tags) p.0.memory (removals_held now k.course.wm tags) }, p.1)
+  command_kept s limit column command.RemoveAll k e p =
+      let now = length k.course.names.held in
+      (record { more = p.0.more; memory = done_held now k.course.wm (map change.Remove (tags_of k.course.wm)) p.0.memory (clearing_held now (tags_of k.course.wm)) }, p.1)
+  command_kept s limit column (command.Run count) k e p =
+      let at : Setting = record (in_force s k) { watch = k.watch } in
+      let left = limit - k.course.firings in
+      goes_as Held HeldSession Any Any (with_course k) (λ e. e) (run_on left at k.breaks column None count k.course).outcome (run_held left at k.breaks column None count k.course p.1 p.0) (λ m q. (q, p.1)) (λ e q. q)
+  command_kept s limit column (command.Wm tags) k e p = p
+  command_kept s limit column (command.Ppwm pattern) k e p = p
+  command_kept s limit column command.Cs k e p = p
+  command_kept s limit column (command.Pm names) k e p = p
+  command_kept s limit column (command.Strategy set) k e p = strategy_held column set k p
+  command_kept s limit column (command.Watch set) k e p = level_held column set k p
+  command_kept s limit column (command.Pbreak names) k e p = breaks_held (in_force s k) column names k p
+  command_kept s limit column (command.Add r) k e p = added_held r k e p
+  command_kept s limit column (command.Excise given) k e p = excised_held given k p
+  command_kept s limit column (command.Back count) k e p = p
+  command_kept s limit column (command.Matches names) k e p = p
+  command_kept s limit column command.Exit k e p = p
+
+  commands_kept : (s : Setting) (limit column : ℕ) (commands : List Command) (k : Session) → list_all (command_held n) commands ≡ true → HeldSession k
       → MatchResult (commands_done s limit column commands k).outcome HeldSession Any
-  commands_kept s limit column [] k h e p = p
-  commands_kept s limit column (c ∷ rest) k h e p =
+  commands_kept s limit column [] k e p = p
+  commands_kept s limit column (c ∷ rest) k e p =
       let parts = and_parts (command_held n c) (list_all (command_held n) rest) e in
-      let f = command_done s limit column c k in
+      let f = command_done (in_force s k) limit column c k in
       let go_on : ℕ → Session → Effect Ending Session = λ next k. commands_done s limit next rest k in
       cond_both (is_exit c) (writes [] k) (and_then column f go_on) (λ f. MatchResult f.outcome HeldSession Any) (λ _. p)
-      (λ _. goes_on HeldSession HeldSession Any f.bytes f.outcome (go_on (column_after column f.bytes)) (command_kept s limit column c k h parts.0 p)
-      (λ k q. commands_kept s limit (column_after column f.bytes) rest k h parts.1 q))
+      (λ _. goes_on HeldSession HeldSession Any f.bytes f.outcome (go_on (column_after column f.bytes)) (command_kept s limit column c k parts.0 p)
+      (λ k q. commands_kept s limit (column_after column f.bytes) rest k parts.1 q))
+
+abbrev Anything : Session → Type 0
+Anything k = Unit {0}
+
+any_goes : (P : Session → Type 0) (R : Ending → Type 0) (o : Result Session Ending) → MatchResult o P R → MatchResult o Anything R
+any_goes P R (Ok k) p = tt
+any_goes P R (Err e) p = p
+
+-- the name of the production that an ending tells
+told_held : (names : Spellings) (e : Ending) → IsToldBy (length names.held) e → NamesHeld names e
+told_held names (ending.Act firing rule name action kind) p = p
+told_held names (ending.Done firings elements last) p = tt
+told_held names (ending.Limit firings) p = tt
+told_held names ending.ReadFault p = tt
+told_held names ending.WriteFault p = tt
+told_held names ending.OutOfMemory p = tt
+
+both_ends : {S E : Type 0} (P Q : S → Type 0) (R U : E → Type 0) (o : Result S E) → IfOk o P → MatchResult o Q R → ((s : S) → P s → P s) → ((e : E) → R e → U e) → MatchResult o P U
+both_ends P Q R U (Ok s) p q f g = p
+both_ends P Q R U (Err e) p q f g = g e q
 
 -- a session ends with names that hold what it has come to
 pub session_held : (p : Program) (limit : ℕ) (names : Spellings) → HoldsProgram names p → EndsHeld p limit names
 session_held p limit names h coming =
     let n = length names.held in
-    let whole = and_parts (list_all (class_held n) p.classes && list_all (rule_held n) p.rules) (list_all (command_held n) p.commands) h.symbols in
-    ok_goes (λ (k : Session). HeldCourse n k.course) (λ k. HoldsProgram k.course.names p × HoldsElements k.course.names k.course.wm) Any
-    (session_of (setting_of p 0) limit p.commands names coming).outcome
-    (commands_kept n h.nil (setting_of p 0) limit 0 p.commands (begun p.rules names coming) (rules_of_program n p h.symbols) whole.1 (record { more = omega arith; memory = refl }))
+    let whole = and_parts (list_all (class_held n) p.classes && list_all (rule_held n) p.rules && list_all (rule_held n) p.templates) (list_all (command_held n) p.commands) h.symbols in
+    let o = (session_of (setting_of p 0) limit p.commands names coming).outcome in
+    both_ends (λ k. HoldsProgram k.course.names p × HoldsElements k.course.names k.course.wm) Anything (IsToldBy n) (NamesHeld names) o
+    (ok_goes (HeldSession n h.nil) (λ k. HoldsProgram k.course.names p × HoldsElements k.course.names k.course.wm) Any o
+    (commands_kept n h.nil (setting_of p 0) limit 0 p.commands (begun p.rules names coming) whole.1 (record { more = omega arith; memory = refl }, rules_of_program n p h.symbols))
     (λ k q. let now = length k.course.names.held in
-    (record { nil = omega (arith, h.nil, q.more); symbols = program_more n now q.more p.classes p.rules p.commands h.symbols }, q.memory))
+    (record { nil = omega (arith, h.nil, q.0.more); symbols = program_more n now q.0.more p.classes p.rules p.templates p.commands h.symbols }, q.0.memory)))
+    (any_goes _ _ o (session_told n h.nil (setting_of p 0) limit p.commands names coming (rules_of_program n p h.symbols) whole.1)) (λ k q. q) (told_held names)

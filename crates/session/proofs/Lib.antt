@@ -18,3 +18,6 @@ pub mod RunLemmas
 pub mod Sequence
 pub mod Early
 pub mod SessionEnds
+pub mod Following
+pub mod Changing
+pub mod Asks

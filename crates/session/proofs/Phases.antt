@@ -19,7 +19,7 @@ use Rattle.session.proofs.UnderWay.{all_stored}
 
 module _ {M H : Type 0} (stored : M → Stored) (at : Setting) (column : ℕ) (names : Spellings) (s : Session M H) where
   abbrev come : Coming → Meant
-  come z = meant_by stored s names z
+  come z = meant_by stored at.rules s names z
 
   module _ (none : s.pending ≡ []) (changes : List Change) where
     -- the lines that tell the changes by what the matcher stores
@@ -33,8 +33,8 @@ module _ {M H : Type 0} (stored : M → Stored) (at : Setting) (column : ℕ) (n
     phase_bytes z =
         ap (λ wm. traced s.watch column (change_lines names at.classes wm changes)) (all_stored stored s names z none)
 
-    pub phase_is : (t : Session M H) → ((n : Spellings) (z : Coming) → meant_by stored t n z ≡ (let k = meant_by stored s n z in with_course k (phase_by (conflict_set at.rules) changes k.course.firings (last_after k.course.last changes) k.course)))
-        → (z : Coming) → phase (come z) ≡ writes told (meant_by stored t names z)
+    pub phase_is : (t : Session M H) → ((n : Spellings) (z : Coming) → meant_by stored at.rules t n z ≡ (let k = meant_by stored at.rules s n z in with_course k (phase_by (conflict_set at.rules) changes k.course.firings (last_after k.course.last changes) k.course)))
+        → (z : Coming) → phase (come z) ≡ writes told (meant_by stored at.rules t names z)
     phase_is t meant z =
         ap (λ bytes. writes bytes (phase_left z)) (sym (phase_bytes z)) ∙ ap (writes told) (sym (meant names z))
       where
@@ -56,8 +56,8 @@ module _ {M H : Type 0} (stored : M → Stored) (at : Setting) (column : ℕ) (n
       ap (λ (x : Element). traced s.watch column ((codes "=>WM: " ++ tagged_text names at.classes x) ∷ [])) is
 
   -- it waits, once that is told
-  pub made_waiting : (e : Element) (f : Meant → Element) (last : Meant → ℕ) (t : Session M H) (z : Coming) → e ≡ f (come z) → (let k = come z in meant_by stored t names z ≡ with_course k (phase_by (conflict_set at.rules) (Add (f k) ∷ []) k.course.firings (last k) k.course))
-      → phase_done at column (Add (f (come z)) ∷ []) (last (come z)) (come z) ≡ writes (traced s.watch column ((codes "=>WM: " ++ tagged_text names at.classes e) ∷ [])) (meant_by stored t names z)
+  pub made_waiting : (e : Element) (f : Meant → Element) (last : Meant → ℕ) (t : Session M H) (z : Coming) → e ≡ f (come z) → (let k = come z in meant_by stored at.rules t names z ≡ with_course k (phase_by (conflict_set at.rules) (Add (f k) ∷ []) k.course.firings (last k) k.course))
+      → phase_done at column (Add (f (come z)) ∷ []) (last (come z)) (come z) ≡ writes (traced s.watch column ((codes "=>WM: " ++ tagged_text names at.classes e) ∷ [])) (meant_by stored at.rules t names z)
   made_waiting e f last t z is waits =
       let k = come z in
       let told = traced s.watch column ((codes "=>WM: " ++ tagged_text names at.classes e) ∷ []) in

@@ -29,13 +29,15 @@ found_passes p q (x ∷ rules) r all is =
         let P : Rule → Type 0 = λ w. q w ≡ true in subst P same first
     by false first later is = later is
 
-rules_valid : (classes : List Class) (rules : List Rule) (commands : List Command) (text : ℕ) → is_valid classes rules commands text ≡ true → list_all (rule_is_valid classes text) rules ≡ true
-rules_valid classes rules commands text h = (and_parts _ _ (and_parts _ _ (and_parts _ _ (and_parts _ _ h).0).0).0).1
+rules_valid : (classes : List Class) (rules templates : List Rule) (commands : List Command) (text : ℕ) → is_valid classes rules templates commands text ≡ true → list_all (rule_is_valid classes text) rules ≡ true
+rules_valid classes rules templates commands text h =
+    let seventh = (and_parts _ _ (and_parts _ _ (and_parts _ _ (and_parts _ _ h).0).0).0).0 in
+    (and_parts _ _ (and_parts _ _ (and_parts _ _ seventh).0).0).1
 
 -- a production that is found stands within the text
-pub found_within : (classes : List Class) (rules : List Rule) (commands : List Command) (text : ℕ) (p : Rule → Bool) (r : Rule) → is_valid classes rules commands text ≡ true → find p rules ≡ Some r → (r.first ≤ r.past) × (r.past ≤ text)
-found_within classes rules commands text p r valid is =
-    let whole = and_parts _ _ (found_passes p (rule_is_valid classes text) rules r (rules_valid classes rules commands text valid) is) in
+pub found_within : (classes : List Class) (rules templates : List Rule) (commands : List Command) (text : ℕ) (p : Rule → Bool) (r : Rule) → is_valid classes rules templates commands text ≡ true → find p rules ≡ Some r → (r.first ≤ r.past) × (r.past ≤ text)
+found_within classes rules templates commands text p r valid is =
+    let whole = and_parts _ _ (found_passes p (rule_is_valid classes text) rules r (rules_valid classes rules templates commands text valid) is) in
     let front = and_parts _ _ whole.0 in
     (leb-true r.first r.past front.1, leb-true r.past text whole.1)
 

@@ -30,3 +30,8 @@ pub runs_short : {X F E S : Type 0} (view : X → Coming → S) (failure : F →
 runs_short {E = E} view failure f i a e is w =
     let P : Failure E → Type 0 = λ g. FailsOn g i i a a e in
     on_err view failure f i i a a e (subst P (sym is) (fails_apart (OfPort stop.OutOfMemory) i a a e (λ z. fails_short a (e z) w)))
+
+-- the same is performed, where it is put another way
+pub performs_same : {X F E S : Type 0} (view : X → Coming → S) (failure : F → Failure E) (r : Result X F) (i j : Inlet) (a b : Port) (e f : Coming → Effect E S) → ((z : Coming) → e z ≡ f z) → PerformsOn view failure r i j a b e → PerformsOn view failure r i j a b f
+performs_same {E = E} {S = S} view failure r i j a b e f same p =
+    let P : (Coming → Effect E S) → Type 0 = λ g. PerformsOn view failure r i j a b g in subst P (λ n z. same z n) p

@@ -1,5 +1,5 @@
 -- How what the commands of a session leave ends it.
-use Rattle.std.proofs.Common.{◌≡◌, ◌∙◌, ap, sym, subst, refl, ℕ, [], length, true, Result, Ok, Err, IfOk, OnOk}
+use Rattle.std.proofs.Common.{◌≡◌, ◌∙◌, ap, sym, subst, refl, ℕ, List, [], length, true, Result, Ok, Err, IfOk, OnOk}
 use Rattle.ops_base.specs.Names.{Spellings}
 use Rattle.ops_base.specs.declared.endings.Ending.{Ending}
 use Rattle.ops_base.specs.declared.endings.Ending.TheVariants as ending
@@ -7,16 +7,17 @@ use Rattle.ops_io.specs.Coming.{Coming, Inlet, preceded_by}
 use Rattle.ops_io.specs.Ports.{Port, Put}
 use Rattle.ops_io.specs.declared.stop.Stop.{Stop}
 use Rattle.ops_meaning.specs.Effects.{Effect, Fails, Performs, PerformsOn, CountsReads, of_ending}
-use Rattle.ops_meaning.specs.Running.{Course, Session as Meant, ending_of}
+use Rattle.ops_meaning.specs.Running.{Session as Meant, ending_of}
+use Rattle.ops_base.specs.declared.rules.Rule.{Rule}
+use Rattle.ops_base.specs.WorkingMemory.{done, last_after}
 use Rattle.work_store.specs.Stored.{Stored}
 use Rattle.session.specs.Courses.{meant_by, ended, ends_unread}
 use Rattle.session.specs.Endings.{Leaves, EndsSession, EndsOn, CountsReadFault}
 use Rattle.session.specs.declared.session.Session.{Session}
 use Rattle.session.proofs.Comings.{some_failing}
 use Rattle.session.proofs.Early.{EndsEarly}
-use Rattle.session.proofs.UnderWay.{nothing_waits}
 
-module _ {M : Type 0} (H : Type 0) (stored : M → Stored) where
+module _ {M : Type 0} (H : Type 0) (stored : M → Stored) (rules : List Rule) where
   abbrev told : Result (Session M H) Ending → Result Ending Stop
   told r = ended stored r
 
@@ -30,18 +31,18 @@ module _ {M : Type 0} (H : Type 0) (stored : M → Stored) where
     ended_fails ending.WriteFault a b e p = p
     ended_fails ending.OutOfMemory a b e p = p
     ended_fails (ending.Done f n t) a b e p = ends_so (ending.Done f n t) a b e p
-    ended_fails (ending.Act f r n k) a b e p = ends_so (ending.Act f r n k) a b e p
+    ended_fails (ending.Act f r name n k) a b e p = ends_so (ending.Act f r name n k) a b e p
     ended_fails (ending.Limit f) a b e p = ends_so (ending.Limit f) a b e p
     ended_fails ending.ReadFault a b e p = ends_so ending.ReadFault a b e p
 
-    ended_performs : (r : Result (Session M H) Ending) (a b : Port) (e : Effect Ending Meant) → IfOk r (λ s. s.pending ≡ []) → Performs (λ s. meant_by stored s new z) of_ending r a b e → EndsSession (told r) a b new z e
+    ended_performs : (r : Result (Session M H) Ending) (a b : Port) (e : Effect Ending Meant) → IfOk r (λ s. s.pending ≡ []) → Performs (λ s. meant_by stored rules s new z) of_ending r a b e → EndsSession (told r) a b new z e
     ended_performs (Ok s) a b e none p =
         let P : Result Meant Ending → Type 0 = λ o. Leaves o new z in
-        (ap (λ (m : Course). ending.Done m.firings (length m.wm) m.last) (nothing_waits stored s new z none) ∙ ap ending_of (sym p.0), p.1, subst P (sym p.0) (refl, refl))
+        (ap (λ changes. ending.Done s.state.firings (length (done (stored s.state.matcher).elements changes)) (last_after (stored s.state.matcher).last changes)) (sym none) ∙ ap ending_of (sym p.0), p.1, subst P (sym p.0) (refl, refl))
     ended_performs (Err f) a b e none p = ended_fails f a b e p
 
   -- the session ends so, whatever may come
-  pub ends_on : (new : Spellings) (r : Result (Session M H) Ending) (i j : Inlet) (a b : Port) (e : Coming → Effect Ending Meant) → IfOk r (λ s. s.pending ≡ []) → PerformsOn (λ s z. meant_by stored s new z) of_ending r i j a b e → EndsOn (told r) i j a b new e
+  pub ends_on : (new : Spellings) (r : Result (Session M H) Ending) (i j : Inlet) (a b : Port) (e : Coming → Effect Ending Meant) → IfOk r (λ s. s.pending ≡ []) → PerformsOn (λ s z. meant_by stored rules s new z) of_ending r i j a b e → EndsOn (told r) i j a b new e
   ends_on new r i j a b e none p =
       record { taken = p.taken; took = p.took; ends = λ z h. ended_performs new z r a b (e (preceded_by p.taken z)) none (p.performs z h) }
 
@@ -51,7 +52,7 @@ module _ {M : Type 0} (H : Type 0) (stored : M → Stored) where
   ended_reads (Err ending.WriteFault) before now p = p
   ended_reads (Err ending.OutOfMemory) before now p = p
   ended_reads (Err (ending.Done f n t)) before now p = p
-  ended_reads (Err (ending.Act f r n k)) before now p = p
+  ended_reads (Err (ending.Act f r name n k)) before now p = p
   ended_reads (Err (ending.Limit f)) before now p = p
   ended_reads (Err ending.ReadFault) before now p = p
 
@@ -61,13 +62,13 @@ module _ {M : Type 0} (H : Type 0) (stored : M → Stored) where
   ended_unread (Err ending.WriteFault) e = cc
   ended_unread (Err ending.OutOfMemory) e = cc
   ended_unread (Err (ending.Done f n t)) e = cc
-  ended_unread (Err (ending.Act f r n k)) e = cc
+  ended_unread (Err (ending.Act f r name n k)) e = cc
   ended_unread (Err (ending.Limit f)) e = cc
   ended_unread (Err ending.ReadFault) e = refl
 
   -- it is told as done only where its commands came to their end
   pub ended_done : (new : Spellings) (r : Result (Session M H) Ending) (i j : Inlet) (a b : Port) (e : Coming → Effect Ending Meant) (P : Type 0) (f n t : ℕ) → ((z : Coming) → EndsEarly (e z).outcome)
-      → PerformsOn (λ s z. meant_by stored s new z) of_ending r i j a b e → OnOk r P → told r ≡ Ok (ending.Done f n t) → P
+      → PerformsOn (λ s z. meant_by stored rules s new z) of_ending r i j a b e → OnOk r P → told r ≡ Ok (ending.Done f n t) → P
   ended_done new (Ok s) i j a b e P f n t early p h is = h
   ended_done new (Err ending.WriteFault) i j a b e P f n t early p h is = absurd (let no = is in cc)
   ended_done new (Err ending.OutOfMemory) i j a b e P f n t early p h is = absurd (let no = is in cc)
@@ -76,6 +77,6 @@ module _ {M : Type 0} (H : Type 0) (stored : M → Stored) where
       let k = preceded_by p.taken z.0 in
       let Q : Result Meant Ending → Type 0 = EndsEarly in
       absurd (subst Q (p.performs z.0 z.1).0 (early k))
-  ended_done new (Err (ending.Act g r m u)) i j a b e P f n t early p h is = absurd (let no = is in cc)
+  ended_done new (Err (ending.Act g r name m u)) i j a b e P f n t early p h is = absurd (let no = is in cc)
   ended_done new (Err (ending.Limit g)) i j a b e P f n t early p h is = absurd (let no = is in cc)
   ended_done new (Err ending.ReadFault) i j a b e P f n t early p h is = absurd (let no = is in cc)

@@ -15,10 +15,9 @@ use Rattle.ops_base.specs.Refraction.{is_among, unfired}
 use Rattle.ops_base.proofs.Filtered.{Contains-filter}
 use Rattle.ops_meaning.specs.Running.{ranked}
 use Rattle.ops_meaning.proofs.Ranked.{AreDistinct, in_order_distinct, ranked_from, ranked_over}
-use Rattle.conflict_index.specs.Indexed.{Indexed, Member, insts_of, waiting, outranks, KeepsSpecificities}
+use Rattle.conflict_index.specs.Indexed.{Indexed, Member, insts_of, fired_of, waiting, outranks, KeepsSpecificities}
 use Rattle.conflict_index.specs.Selecting.{IsAt}
 use Rattle.conflict_index.proofs.Ranks.{outranks-dominates}
-use Rattle.cycle.specs.States.{fired_of}
 use Rattle.cycle.proofs.Marks.{waiting_are}
 use Rattle.session.specs.Courses.{standing_in}
 

@@ -14,6 +14,6 @@ use Rattle.session.specs.declared.session.Session.{Session}
 -- Whatever input is to come, it performs this on what the session has come to. No read fails in it, and the session is
 -- under way still.
 pub record Does {M H : Type 0} (stored : M → Stored) (stands_for : M → List Rule → Type 0) (rules : List Rule) (names : Spellings) (before : Session M H) (r : Result (Session M H) Ending) (old new : Port) (e : Meant → Effect Ending Meant) : Type 0 where
-  pub performs : (c : Coming) → Performs (λ s. meant_by stored s names c) of_ending r old new (e (meant_by stored before names c))
+  pub performs : (c : Coming) → Performs (λ s. meant_by stored rules s names c) of_ending r old new (e (meant_by stored rules before names c))
   pub reads : ends_unread r ≡ false
   pub under_way : IfOk r (IsUnderWay stored stands_for rules)

@@ -1,5 +1,6 @@
 pub mod Courses
 pub mod Deeds
+pub mod Changing
 pub mod Endings
 pub mod Holding
 pub mod Pauses

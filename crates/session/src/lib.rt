@@ -9,12 +9,14 @@
 #![tactic(auto)]
 
 mod bounds;
+mod changes;
 mod commands;
 mod context;
 mod elements;
 mod lists;
 mod memory_commands;
 mod productions;
+mod ready;
 mod runs;
 mod session;
 mod settings;

@@ -1,5 +1,5 @@
 //! The commands that list elements and instantiations.
-ghost use Rattle.std.specs.Prelude.{◌≡◌, ◌^◌, ◌<◌, [], ◌∷◌, map, filter, drop, slice_get, unwrap_or, false, IsTrue};
+ghost use Rattle.std.specs.Prelude.{◌≡◌, ◌^◌, ◌<◌, [], ◌∷◌, map, filter, drop, slice_get, unwrap_or, None, false, IsTrue};
 ghost use Rattle.std.specs.List.{list_all, cons_option};
 ghost use Rattle.ops_base.specs.Values.{are_same, nil};
 ghost use Rattle.ops_io.specs.Ports.{port, PutsBytes};
@@ -14,7 +14,7 @@ ghost use Rattle.session.specs.Courses.{IsUnderWay, ends_unread, standing_in};
 ghost use Rattle.session.specs.Deeds.{Does};
 
 use crate::context::RunContext;
-use crate::session::{Session, make_pending};
+use crate::session::Session;
 use conflict_index::Index;
 use ops_base::commands::Fixed;
 use ops_base::elements::{Change, Element};
@@ -109,6 +109,7 @@ pub(crate) fn list_elements<
 ) -> Result<Session<M>, Ending>
     requires settles { Settles M.stored M.found M.stands_for (λ m cs. H.pre context.now.settle.now m cs) (λ m cs r. H.post context.now.settle.now m cs r) }
     requires under_way { IsUnderWay M.stored M.stands_for context.now.program.now.rules session }
+    requires none_waits { session.pending ≡ [] }
     requires whole { IsTrue out.old.whole }
     requires faults { K.faults sink.old < 2 ^ 63 }
     ensures { Does M.stored M.stands_for context.now.program.now.rules names.now session result
@@ -116,7 +117,6 @@ pub(crate) fn list_elements<
         (port (K.taken sink.new) (K.faults sink.new) out.new)
         (λ k. lists out.old.column (element_lines k.course.names context.now.program.now.classes (elements_listed k.course.wm tags.now)) k) }
 {
-    let session = make_pending(context, session)?;
     put_elements(
         out,
         sink,
@@ -228,6 +228,7 @@ pub(crate) fn list_met<M: Matcher, H: Fn(M, &[Change]) -> Result<Settled<M>, Out
 ) -> Result<Session<M>, Ending>
     requires settles { Settles M.stored M.found M.stands_for (λ m cs. H.pre context.now.settle.now m cs) (λ m cs r. H.post context.now.settle.now m cs r) }
     requires under_way { IsUnderWay M.stored M.stands_for context.now.program.now.rules session }
+    requires none_waits { session.pending ≡ [] }
     requires whole { IsTrue out.old.whole }
     requires faults { K.faults sink.old < 2 ^ 63 }
     ensures { Does M.stored M.stands_for context.now.program.now.rules names.now session result
@@ -235,7 +236,6 @@ pub(crate) fn list_met<M: Matcher, H: Fn(M, &[Change]) -> Result<Settled<M>, Out
         (port (K.taken sink.new) (K.faults sink.new) out.new)
         (λ k. lists out.old.column (element_lines k.course.names context.now.program.now.classes (filter (meets pattern.now) k.course.wm)) k) }
 {
-    let session = make_pending(context, session)?;
     put_met(
         out,
         sink,
@@ -284,6 +284,8 @@ pub(crate) fn list_standing<
 ) -> Result<Session<M>, Ending>
     requires settles { Settles M.stored M.found M.stands_for (λ m cs. H.pre context.now.settle.now m cs) (λ m cs r. H.post context.now.settle.now m cs r) }
     requires under_way { IsUnderWay M.stored M.stands_for context.now.program.now.rules session }
+    requires none_waits { session.pending ≡ [] }
+    requires current { session.moved ≡ None }
     requires whole { IsTrue out.old.whole }
     requires faults { K.faults sink.old < 2 ^ 63 }
     ensures { Does M.stored M.stands_for context.now.program.now.rules names.now session result
@@ -292,7 +294,6 @@ pub(crate) fn list_standing<
         (λ k. lists out.old.column (map (inst_text k.course.names context.now.program.now.rules)
         (standing_by (conflict_set context.now.program.now.rules) context.now.program.now.rules k.course)) k) }
 {
-    let session = make_pending(context, session)?;
     put_standing(out, sink, names, context.program, session.state.index())?;
     Ok(session)
 }

@@ -1,5 +1,5 @@
 //! The commands that change working memory. Each is one phase.
-ghost use Rattle.std.specs.Prelude.{◌≡◌, ◌^◌, ◌<◌, ◌+◌, ◌++◌, ◌&&◌, [], ◌∷◌, not, map, IsTrue, IfOk};
+ghost use Rattle.std.specs.Prelude.{◌≡◌, ◌^◌, ◌<◌, ◌+◌, ◌++◌, ◌&&◌, [], ◌∷◌, not, map, true, None, IsTrue, IfOk};
 ghost use Rattle.std.specs.BTreeSet.{contains};
 ghost use Rattle.std.specs.Ordering.{nat_cmp};
 ghost use Rattle.ops_base.specs.Names.{Spellings};
@@ -18,7 +18,7 @@ ghost use Rattle.session.specs.Traces.{AreToldBy};
 use crate::bounds::UNREACHED;
 use crate::context::RunContext;
 use crate::elements::fixed_element;
-use crate::session::{Session, make_pending, make_pending_piece};
+use crate::session::Session;
 use crate::traces::{tell, tell_made};
 use ops_base::commands::Fixed;
 use ops_base::elements::{Change, Element};
@@ -52,9 +52,10 @@ fn change<M: Matcher, H: Fn(M, &[Change]) -> Result<Settled<M>, OutOfMemory>>(
     requires settles { Settles M.stored M.found M.stands_for (λ m cs. H.pre context.now.settle.now m cs) (λ m cs r. H.post context.now.settle.now m cs r) }
     requires under_way { IsUnderWay M.stored M.stands_for context.now.program.now.rules session }
     requires settled { session.pending ≡ [] }
+    requires current { session.moved ≡ None }
     requires lawful { Lawful (M.stored session.state.matcher).elements (M.stored session.state.matcher).last changes.now }
-    ensures meant { IfOk result (λ s. (n : Spellings) (c : Coming) → meant_by M.stored s n c
-        ≡ (let k = meant_by M.stored session n c in with_course k
+    ensures meant { IfOk result (λ s. (n : Spellings) (c : Coming) → meant_by M.stored context.now.program.now.rules s n c
+        ≡ (let k = meant_by M.stored context.now.program.now.rules session n c in with_course k
         (phase_by (conflict_set context.now.program.now.rules) changes.now k.course.firings (last_after k.course.last changes.now) k.course))) }
     ensures under_way { IfOk result (IsUnderWay M.stored M.stands_for context.now.program.now.rules) }
 {
@@ -81,6 +82,7 @@ fn phase<M: Matcher, H: Fn(M, &[Change]) -> Result<Settled<M>, OutOfMemory>, K: 
     requires settles { Settles M.stored M.found M.stands_for (λ m cs. H.pre context.now.settle.now m cs) (λ m cs r. H.post context.now.settle.now m cs r) }
     requires under_way { IsUnderWay M.stored M.stands_for context.now.program.now.rules session }
     requires settled { session.pending ≡ [] }
+    requires current { session.moved ≡ None }
     requires lawful { Lawful (M.stored session.state.matcher).elements (M.stored session.state.matcher).last changes.now }
     requires told { AreToldBy (M.stored session.state.matcher).elements changes.now }
     requires whole { IsTrue out.old.whole }
@@ -125,6 +127,7 @@ fn make_one<M: Matcher, H: Fn(M, &[Change]) -> Result<Settled<M>, OutOfMemory>, 
 ) -> Result<Session<M>, Ending>
     requires settles { Settles M.stored M.found M.stands_for (λ m cs. H.pre context.now.settle.now m cs) (λ m cs r. H.post context.now.settle.now m cs r) }
     requires under_way { IsUnderWay M.stored M.stands_for context.now.program.now.rules session }
+    requires current { session.ran ≡ true → session.moved ≡ None }
     requires whole { IsTrue out.old.whole }
     requires faults { K.faults sink.old < 2 ^ 63 }
     ensures { Does M.stored M.stands_for context.now.program.now.rules names.now session result
@@ -143,8 +146,8 @@ fn make_one<M: Matcher, H: Fn(M, &[Change]) -> Result<Settled<M>, OutOfMemory>, 
     Ok(add_pending(session, made)?)
 }
 
-/// The command `make`, which is one phase. Where no run was begun it waits; and once many wait, their phases are made
-/// before it. Where elements are traced its line is printed at once.
+/// The command `make`, which is one phase. Where no run was begun it waits. Where elements are traced its line is printed
+/// at once.
 pub(crate) fn make_at_top<
     M: Matcher,
     H: Fn(M, &[Change]) -> Result<Settled<M>, OutOfMemory>,
@@ -160,6 +163,7 @@ pub(crate) fn make_at_top<
 ) -> Result<Session<M>, Ending>
     requires settles { Settles M.stored M.found M.stands_for (λ m cs. H.pre context.now.settle.now m cs) (λ m cs r. H.post context.now.settle.now m cs r) }
     requires under_way { IsUnderWay M.stored M.stands_for context.now.program.now.rules session }
+    requires current { session.ran ≡ true → session.moved ≡ None }
     requires whole { IsTrue out.old.whole }
     requires faults { K.faults sink.old < 2 ^ 63 }
     ensures { Does M.stored M.stands_for context.now.program.now.rules names.now session result
@@ -168,7 +172,6 @@ pub(crate) fn make_at_top<
         (λ k. phase_done (setting_of context.now.program.now 0) out.old.column
         (Change.Add (element_made context.now.program.now.classes class puts.now k.course) ∷ []) (k.course.last + 1) k) }
 {
-    let session = make_pending_piece(context, session)?;
     make_one(context, names, session, class, puts, out, sink)
 }
 
@@ -228,6 +231,8 @@ pub(crate) fn remove<M: Matcher, H: Fn(M, &[Change]) -> Result<Settled<M>, OutOf
 ) -> Result<Session<M>, Ending>
     requires settles { Settles M.stored M.found M.stands_for (λ m cs. H.pre context.now.settle.now m cs) (λ m cs r. H.post context.now.settle.now m cs r) }
     requires under_way { IsUnderWay M.stored M.stands_for context.now.program.now.rules session }
+    requires settled { session.pending ≡ [] }
+    requires current { session.moved ≡ None }
     requires whole { IsTrue out.old.whole }
     requires faults { K.faults sink.old < 2 ^ 63 }
     ensures { Does M.stored M.stands_for context.now.program.now.rules names.now session result
@@ -235,7 +240,6 @@ pub(crate) fn remove<M: Matcher, H: Fn(M, &[Change]) -> Result<Settled<M>, OutOf
         (port (K.taken sink.new) (K.faults sink.new) out.new)
         (λ k. phase_done (setting_of context.now.program.now 0) out.old.column (removals k.course.wm tags.now) k.course.last k) }
 {
-    let session = make_pending(context, session)?;
     let changes = removals(context.alloc, session.state.store(), tags.as_slice())?;
     phase(context, names, session, changes.as_slice(), out, sink)
 }
@@ -254,6 +258,8 @@ pub(crate) fn remove_all<
 ) -> Result<Session<M>, Ending>
     requires settles { Settles M.stored M.found M.stands_for (λ m cs. H.pre context.now.settle.now m cs) (λ m cs r. H.post context.now.settle.now m cs r) }
     requires under_way { IsUnderWay M.stored M.stands_for context.now.program.now.rules session }
+    requires settled { session.pending ≡ [] }
+    requires current { session.moved ≡ None }
     requires whole { IsTrue out.old.whole }
     requires faults { K.faults sink.old < 2 ^ 63 }
     ensures { Does M.stored M.stands_for context.now.program.now.rules names.now session result
@@ -261,7 +267,6 @@ pub(crate) fn remove_all<
         (port (K.taken sink.new) (K.faults sink.new) out.new)
         (λ k. phase_done (setting_of context.now.program.now 0) out.old.column (map Change.Remove (tags_of k.course.wm)) k.course.last k) }
 {
-    let session = make_pending(context, session)?;
     let changes = all_removals(context.alloc, session.state.store())?;
     phase(context, names, session, changes.as_slice(), out, sink)
 }

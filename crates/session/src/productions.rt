@@ -28,7 +28,7 @@ fn production(rules: &[Rule], name: Sym) -> Option<&Rule>
 }
 
 /// The number of the production of a name. Looks at one after the other.
-fn rule_named(rules: &[Rule], name: Sym) -> Option<usize>
+pub(crate) fn rule_named(rules: &[Rule], name: Sym) -> Option<usize>
     ensures { result ≡ rule_named rules.now name }
 {
     rules.iter().position(|rule| rule.name == name)

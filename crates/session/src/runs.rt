@@ -30,13 +30,14 @@ use ops_print::{put_line, put_name_line, rule_name};
 use work_store::{Matcher, Settled};
 
 /// How a fault of a right side ends the session.
-fn ending_of_fault(firing: u64, rule: usize, fault: ActFault) -> Ending
-    ensures { of_ending result ≡ failure_as (ended_in firing rule) (failure_of fault) }
+fn ending_of_fault(firing: u64, rule: usize, name: Sym, fault: ActFault) -> Ending
+    ensures { of_ending result ≡ failure_as (ended_in firing rule name) (failure_of fault) }
 {
     match fault {
         ActFault::Bad { action, kind } => Ending::Act {
             firing,
             rule,
+            name,
             action,
             kind,
         },
@@ -93,7 +94,10 @@ fn fire<M: Matcher, H: Fn(M, &[Change]) -> Result<Settled<M>, OutOfMemory>, I: S
         sink,
     ) {
         Ok((state, halted)) => Ok((Session { state, ..session }, halted)),
-        Err(fault) => Err(ending_of_fault(firings + 1, rule, fault)),
+        Err(fault) => {
+            let name = rule_name(context.program.rules.as_slice(), rule);
+            Err(ending_of_fault(firings + 1, rule, name, fault))
+        }
     }
 }
 

@@ -1,5 +1,5 @@
 //! `Session`, which is a session between two of its commands, and the phases that wait in it.
-ghost use Rattle.std.specs.Prelude.{◌≡◌, [], length, replicate, false, IfOk};
+ghost use Rattle.std.specs.Prelude.{◌≡◌, [], length, replicate, false, None, IfOk};
 ghost use Rattle.ops_base.specs.Names.{Spellings};
 ghost use Rattle.ops_io.specs.Coming.{Coming};
 ghost use Rattle.ops_meaning.specs.Running.{begun};
@@ -8,6 +8,7 @@ ghost use Rattle.session.specs.Courses.{IsUnderWay, meant_by};
 
 use crate::context::RunContext;
 use cycle::State;
+use live_rules::Moved;
 use ops_base::elements::Change;
 use ops_base::list::Listed;
 use ops_base::memory::OutOfMemory;
@@ -36,6 +37,8 @@ pub(crate) struct Session<M: Matcher> {
     pub(crate) watch: u8,
     /// Whether each production has a break.
     pub(crate) breaks: Listed<bool>,
+    /// The new numbers of the productions of the state, if productions came or went since it was made.
+    pub(crate) moved: Option<Moved>,
 }
 
 /// No production has a break.
@@ -55,7 +58,7 @@ pub(crate) fn start<M: Matcher>(
     requires stands { M.stands_for matcher program.now.rules }
     requires elements { (M.stored matcher).elements ≡ [] }
     requires last { (M.stored matcher).last ≡ 0 }
-    ensures begun { IfOk result (λ s. (n : Spellings) (c : Coming) → meant_by M.stored s n c ≡ begun program.now.rules n c) }
+    ensures begun { IfOk result (λ s. (n : Spellings) (c : Coming) → meant_by M.stored program.now.rules s n c ≡ begun program.now.rules n c) }
     ensures under_way { IfOk result (IsUnderWay M.stored M.stands_for program.now.rules) }
 {
     let breaks = no_breaks(alloc, program)?;
@@ -67,6 +70,7 @@ pub(crate) fn start<M: Matcher>(
         ran: false,
         watch: 0,
         breaks,
+        moved: None,
     })
 }
 
@@ -77,9 +81,11 @@ pub(crate) fn make_pending<M: Matcher, H: Fn(M, &[Change]) -> Result<Settled<M>,
 ) -> Result<Session<M>, OutOfMemory>
     requires settles { Settles M.stored M.found M.stands_for (λ m cs. H.pre context.now.settle.now m cs) (λ m cs r. H.post context.now.settle.now m cs r) }
     requires under_way { IsUnderWay M.stored M.stands_for context.now.program.now.rules session }
-    ensures meant { IfOk result (λ s.
-        (n : Spellings) (c : Coming) → meant_by M.stored s n c ≡ meant_by M.stored session n c) }
+    requires current { session.moved ≡ None }
+    ensures meant { IfOk result (λ s. (n : Spellings) (c : Coming)
+        → meant_by M.stored context.now.program.now.rules s n c ≡ meant_by M.stored context.now.program.now.rules session n c) }
     ensures under_way { IfOk result (IsUnderWay M.stored M.stands_for context.now.program.now.rules) }
+    ensures current { IfOk result (λ s. s.moved ≡ None) }
     ensures none_waits { IfOk result (λ s. s.pending ≡ []) }
 {
     if session.pending.is_empty() {
@@ -93,20 +99,8 @@ pub(crate) fn make_pending<M: Matcher, H: Fn(M, &[Change]) -> Result<Settled<M>,
     })
 }
 
-/// Makes the phases that wait, as one, where this many wait that it is time to.
-pub(crate) fn make_pending_piece<
-    M: Matcher,
-    H: Fn(M, &[Change]) -> Result<Settled<M>, OutOfMemory>,
->(context: &RunContext<'_, H>, session: Session<M>) -> Result<Session<M>, OutOfMemory>
-    requires settles { Settles M.stored M.found M.stands_for (λ m cs. H.pre context.now.settle.now m cs) (λ m cs r. H.post context.now.settle.now m cs r) }
-    requires under_way { IsUnderWay M.stored M.stands_for context.now.program.now.rules session }
-    ensures meant { IfOk result (λ s.
-        (n : Spellings) (c : Coming) → meant_by M.stored s n c ≡ meant_by M.stored session n c) }
-    ensures under_way { IfOk result (IsUnderWay M.stored M.stands_for context.now.program.now.rules) }
-{
+/// Whether so many makes wait that it is time to make their phases.
+pub(crate) fn is_full<M: Matcher>(session: &Session<M>) -> bool {
     let waiting = session.pending.len();
-    if waiting < PENDING_LIMIT || waiting < session.state.store().len() {
-        return Ok(session);
-    }
-    make_pending(context, session)
+    waiting >= PENDING_LIMIT && waiting >= session.state.store().len()
 }

@@ -4,7 +4,7 @@ ghost use Rattle.ops_io.specs.Coming.{inlet};
 ghost use Rattle.ops_io.specs.Ports.{port};
 ghost use Rattle.ops_meaning.specs.Kept.{KeepsNames, GoesByConflictSets};
 ghost use Rattle.ops_meaning.specs.Running.{session_of};
-ghost use Rattle.act_phase.specs.Asking.{program_asks};
+ghost use Rattle.act_phase.specs.Asking.{session_asks};
 ghost use Rattle.act_phase.specs.Held.{HoldsProgram};
 ghost use Rattle.act_phase.specs.Outcomes.{setting_of};
 ghost use Rattle.cycle.specs.Settles.{Settles};
@@ -13,12 +13,13 @@ ghost use Rattle.session.specs.Endings.{EndsOn, CountsReadFault};
 ghost use Rattle.session.specs.Holding.{EndsHeld};
 
 use crate::commands::do_commands;
-use crate::context::RunContext;
+use crate::context::SessionContext;
 use crate::session::Session;
+use cycle::Maker;
+use live_rules::Live;
 use ops_base::elements::Change;
 use ops_base::endings::Ending;
 use ops_base::memory::OutOfMemory;
-use ops_base::programs::Program;
 use ops_base::symbols::Names;
 use ops_io::{Input, Out, Sink, Source, Stop};
 use std::alloc::Global;
@@ -46,29 +47,28 @@ fn known_ending<M: Matcher>(done: Result<Session<M>, Ending>) -> Result<Ending, 
     }
 }
 
-/// Does the commands of a program in order, from nothing. Each symbol keeps its spelling, and wherever the session
-/// looks for instantiations it looks at the conflict set. Where a read fails, all that was put before is written out.
+/// Does the commands of a program in order, from nothing. At first the productions are those before the first `make` or
+/// `run`; `live` has those in force at the end, and no commands. Each symbol keeps its spelling, and wherever the session
+/// looks for instantiations it looks at the conflict set of the productions in force. Where a read fails, all that was
+/// put before is written out.
 pub fn run_session<
-    M: Matcher,
-    H: Fn(M, &[Change]) -> Result<Settled<M>, OutOfMemory>,
+    B: Maker,
+    H: Fn(B::M, &[Change]) -> Result<Settled<B::M>, OutOfMemory>,
     I: Source,
     K: Sink,
 >(
     alloc: Global,
     hand: &H,
-    program: &Program,
+    live: &mut Live,
     names: &mut Names,
-    matcher: M,
+    maker: &B,
     limit: u64,
     input: &mut Input,
     source: &mut I,
     out: &mut Out,
     sink: &mut K,
 ) -> Result<Ending, Stop>
-    requires settles { Settles M.stored M.found M.stands_for (λ m cs. H.pre hand.now m cs) (λ m cs r. H.post hand.now m cs r) }
-    requires stands { M.stands_for matcher program.now.rules }
-    requires elements { (M.stored matcher).elements ≡ [] }
-    requires last { (M.stored matcher).last ≡ 0 }
+    requires settles { Settles B.M.stored B.M.found B.M.stands_for (λ m cs. H.pre hand.now m cs) (λ m cs r. H.post hand.now m cs r) }
     requires whole { IsTrue out.old.whole }
     requires faults { K.faults sink.old < 2 ^ 63 }
     requires reads { I.faults source.old < 2 ^ 63 }
@@ -79,26 +79,27 @@ pub fn run_session<
         (port (K.taken sink.old) (K.faults sink.old) out.old)
         (port (K.taken sink.new) (K.faults sink.new) out.new)
         names.new
-        (λ c. session_of (setting_of program.now 0) limit program.now.commands names.old c) }
+        (λ c. session_of (setting_of live.old.program 0) limit live.old.program.commands names.old c) }
     ensures reads { CountsReadFault result (I.faults source.old) (I.faults source.new) }
     ensures written { result ≡ Ok Ending.ReadFault → out.new.held ≡ [] }
 
     // Where no `accept` stands in the program, the input is left as it was.
-    ensures untouched { program_asks program.now.rules ≡ false → (input.new ≡ input.old) × (source.new ≡ source.old) }
+    ensures untouched { session_asks live.old.program.rules live.old.program.commands ≡ false → (input.new ≡ input.old) × (source.new ≡ source.old) }
     ensures flushed { out.old.held ≡ [] → (firings elements last_tag : ℕ)
         → result ≡ Ok (Ending.Done firings elements last_tag) → out.new.held ≡ [] }
     ensures names { KeepsNames names.old names.new }
 
-    // Where the names hold each symbol of the program, they hold at the end those of the program and of working memory.
-    ensures held { HoldsProgram names.old program.now → HoldsProgram names.new program.now × EndsHeld program.now limit names.old }
-    ensures sets { GoesByConflictSets (setting_of program.now 0) limit program.now.commands names.old }
+    // Where the names hold each symbol of the program, they hold at the end those of the program and of working memory,
+    // and the name of the production that an ending tells.
+    ensures held { HoldsProgram names.old live.old.program → HoldsProgram names.new live.old.program × EndsHeld live.old.program limit names.old }
+    ensures sets { GoesByConflictSets (setting_of live.old.program 0) limit live.old.program.commands names.old }
 {
-    let context = RunContext {
+    let context = SessionContext {
         alloc,
+        maker,
         settle: hand,
-        program,
         limit,
     };
-    let done = do_commands(&context, names, matcher, input, source, out, sink);
+    let done = do_commands(&context, live, names, input, source, out, sink);
     known_ending(done)
 }

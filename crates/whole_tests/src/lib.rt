@@ -8,6 +8,8 @@ mod gates;
 #[cfg(test)]
 mod limits;
 #[cfg(test)]
+mod live_rows;
+#[cfg(test)]
 mod rows;
 #[cfg(test)]
 mod runs;

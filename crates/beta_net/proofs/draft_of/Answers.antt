@@ -16,7 +16,7 @@ add_children-requires-clause-ordered c =
 pub add_rights-requires-clause-ordered : goal.add_rights-requires-clause-ordered
 add_rights-requires-clause-ordered c =
     let rules = c.args.program.now.rules in
-    let valid = all_valid c.args.program.now.classes rules c.args.program.now.commands (length c.args.program.now.text) c.args.program.now.valid in
+    let valid = all_valid c.args.program.now.classes rules c.args.program.now.templates c.args.program.now.commands (length c.args.program.now.text) c.args.program.now.valid in
     let built = subst (λ (z : List Rule). AreBuilt c.in_ok-built.built.links.list.items c.in_ok-built.built.ends.items z) c.as_slice.ensures c.in_ok-built.ensures in
     let d = subst (λ (z : List Link). IsDraft z c.in_ok-built.built.ends.items c.in_ok-draft.draft.alphas.items c.in_ok-draft.draft.nodes.items) c.as_slice-2.ensures.value
     (subst (λ (z : List End). IsDraft c.as_slice-2.result.now z c.in_ok-draft.draft.alphas.items c.in_ok-draft.draft.nodes.items) c.as_slice-3.ensures.value c.in_ok-draft.ensures.draft) in

@@ -38,3 +38,8 @@ pub returns-in-Halt-clause-does : goal.returns-in-Halt-clause-does
 returns-in-Halt-clause-does g c =
     action_quiet _ c.args.doing.now.setting c.args.action.now action.Halt c.args.doing.now c.halt.new.self _ c.requires.whole c.in-Halt.is
     (λ names d. ap (λ s. writes [] (doing_of s names d)) (sym c.halt.ensures))
+
+pub returns-in-Build-clause-does : goal.returns-in-Build-clause-does
+returns-in-Build-clause-does g c =
+    action_quiet _ c.args.doing.now.setting c.args.action.now (action.Build c.in-Build.template c.in-Build.holes) c.args.doing.now c.args.doing.now _ c.requires.whole c.in-Build.is
+    (λ names d. refl)

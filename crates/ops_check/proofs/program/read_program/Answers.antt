@@ -47,7 +47,7 @@ returns-in-Ok-clause-again c =
 pub returns-in-Ok-clause-named : goal.returns-in-Ok-clause-named
 returns-in-Ok-clause-named c =
     let parts = c.program_of.ensures in
-    rw (parts.classes, parts.rules, parts.commands)
+    rw (parts.classes, parts.rules, parts.templates, parts.commands)
     (reads-held c.args.text.items (read_of c.in-Ok.draft c.in-Ok.names) (ap reads (sym c.as_slice.ensures.value) ∙ c.in-Ok.ensures))
 
 pub returns-in-Ok-clause-names : goal.returns-in-Ok-clause-names

@@ -1,80 +1,41 @@
-use Rattle.std.proofs.Common.{refl}
-use Rattle.ops_io.proofs.PortLemmas.{put_nothing}
+use Rattle.std.proofs.Common.{◌∙◌, ap, sym, []}
+use Rattle.std.proofs.lemmas.Result.{err_from_is_err_and}
+use Rattle.ops_base.specs.declared.endings.Ending.{Ending}
+use Rattle.ops_meaning.specs.Effects.{Effect, writes, of_ending}
+use Rattle.ops_meaning.specs.Running.{Session as Meant, command_done}
+use Rattle.ops_meaning.proofs.InletLemmas.{performs_apart}
+use Rattle.act_phase.specs.Asking.{command_asks}
 use Rattle.act_phase.specs.Outcomes.{setting_of}
-use Rattle.session.proofs.Deeds.{commanded}
+use Rattle.session.specs.Courses.{meant_by}
+use Rattle.session.proofs.Asks.{added_quiet, excised_quiet}
+use Rattle.session.proofs.Seen.{does_silently, runs_short}
 use Rattle.session.proofs.commands.do_command.Goals as goal
 
-pub returns-in-Make-clause-performs : goal.returns-in-Make-clause-performs
-returns-in-Make-clause-performs g c =
-    commanded g.M.Matcher.stored g.M.Matcher.stands_for c.args.context.now.program.now.rules c.args.names.now (setting_of c.args.context.now.program.now 0) c.args.context.now.limit c.args.command.now _ c.args.session _ _ _ _ c.in-Make.is c.make_at_top.ensures
+pub returns-in_err-add_production-in-Add-clause-performs : goal.returns-in_err-add_production-in-Add-clause-performs
+returns-in_err-add_production-in-Add-clause-performs g c =
+    let p = err_from_is_err_and c.from_residual.result c.from_residual.ensures.1 in
+    rw p.1 (runs_short _ of_ending p.0 _ _ _ (ap of_ending p.2) c.requires.whole)
 
-pub returns-in-Remove-clause-performs : goal.returns-in-Remove-clause-performs
-returns-in-Remove-clause-performs g c =
-    commanded g.M.Matcher.stored g.M.Matcher.stands_for c.args.context.now.program.now.rules c.args.names.now (setting_of c.args.context.now.program.now 0) c.args.context.now.limit c.args.command.now _ c.args.session _ _ _ _ c.in-Remove.is c.remove.ensures
+pub returns-in_ok-add_production-in-Add-clause-performs : goal.returns-in_ok-add_production-in-Add-clause-performs
+returns-in_ok-add_production-in-Add-clause-performs g c =
+    does_silently _ of_ending c.in_ok-add_production-in-Add.field-0 _ _ _ c.requires.whole
+    (λ z. let k = meant_by g.B.M.Matcher.stored c.args.live.now.program.rules c.args.session c.args.names.now z in
+    ap (λ x. command_done (setting_of c.args.live.now.program 0) c.args.context.now.limit c.args.out.now.column x k) c.in-Add.is
+    ∙ ap (λ (m : Meant). let e : Effect Ending Meant = writes [] m in e) (sym (c.in_ok-add_production-in-Add.ensures.meant c.args.names.now z)))
 
-pub returns-in-RemoveAll-clause-performs : goal.returns-in-RemoveAll-clause-performs
-returns-in-RemoveAll-clause-performs g c =
-    commanded g.M.Matcher.stored g.M.Matcher.stands_for c.args.context.now.program.now.rules c.args.names.now (setting_of c.args.context.now.program.now 0) c.args.context.now.limit c.args.command.now _ c.args.session _ _ _ _ c.in-RemoveAll.is c.remove_all.ensures
+pub returns-in_ok-add_production-in-Add-clause-quiet : goal.returns-in_ok-add_production-in-Add-clause-quiet
+returns-in_ok-add_production-in-Add-clause-quiet g c = λ none quiet.
+    added_quiet g.B.M.Matcher.stored g.B.M.Matcher.stands_for c.args.live.now.program c.add_production.new.live.program c.args.session c.in-Add.rule c.in_ok-add_production-in-Add.field-0 c.in_ok-add_production-in-Add.ensures.meant c.args.names.now none
+    (sym (ap command_asks c.in-Add.is) ∙ quiet)
 
-pub returns-in-Wm-clause-performs : goal.returns-in-Wm-clause-performs
-returns-in-Wm-clause-performs g c =
-    commanded g.M.Matcher.stored g.M.Matcher.stands_for c.args.context.now.program.now.rules c.args.names.now (setting_of c.args.context.now.program.now 0) c.args.context.now.limit c.args.command.now _ c.args.session _ _ _ _ c.in-Wm.is c.list_elements.ensures
+pub returns-in-Excise-clause-performs : goal.returns-in-Excise-clause-performs
+returns-in-Excise-clause-performs g c =
+    performs_apart _ of_ending c.excise.result _ _ _ _
+    (λ z. rw c.in-Excise.is (rw (sym c.as_slice.ensures) (c.excise.ensures.performs z)))
 
-pub returns-in-Ppwm-clause-performs : goal.returns-in-Ppwm-clause-performs
-returns-in-Ppwm-clause-performs g c =
-    commanded g.M.Matcher.stored g.M.Matcher.stands_for c.args.context.now.program.now.rules c.args.names.now (setting_of c.args.context.now.program.now 0) c.args.context.now.limit c.args.command.now _ c.args.session _ _ _ _ c.in-Ppwm.is c.list_met.ensures
+pub returns-in-Excise-clause-quiet : goal.returns-in-Excise-clause-quiet
+returns-in-Excise-clause-quiet g c =
+    excised_quiet g.B.M.Matcher.stored g.B.M.Matcher.stands_for c.args.live.now.program c.excise.new.live.program c.args.session _ c.args.names.now _ c.excise.result _ _ c.excise.ensures
 
-pub returns-in-Cs-clause-performs : goal.returns-in-Cs-clause-performs
-returns-in-Cs-clause-performs g c =
-    commanded g.M.Matcher.stored g.M.Matcher.stands_for c.args.context.now.program.now.rules c.args.names.now (setting_of c.args.context.now.program.now 0) c.args.context.now.limit c.args.command.now _ c.args.session _ _ _ _ c.in-Cs.is c.list_standing.ensures
-
-pub returns-in-Pm-clause-performs : goal.returns-in-Pm-clause-performs
-returns-in-Pm-clause-performs g c =
-    commanded g.M.Matcher.stored g.M.Matcher.stands_for c.args.context.now.program.now.rules c.args.names.now (setting_of c.args.context.now.program.now 0) c.args.context.now.limit c.args.command.now _ c.args.session _ _ _ _ c.in-Pm.is c.list_productions.ensures
-
-pub returns-in-Pbreak-clause-performs : goal.returns-in-Pbreak-clause-performs
-returns-in-Pbreak-clause-performs g c =
-    commanded g.M.Matcher.stored g.M.Matcher.stands_for c.args.context.now.program.now.rules c.args.names.now (setting_of c.args.context.now.program.now 0) c.args.context.now.limit c.args.command.now _ c.args.session _ _ _ _ c.in-Pbreak.is c.give_breaks.ensures
-
-pub returns-in-Strategy-clause-performs : goal.returns-in-Strategy-clause-performs
-returns-in-Strategy-clause-performs g c =
-    commanded g.M.Matcher.stored g.M.Matcher.stands_for c.args.context.now.program.now.rules c.args.names.now (setting_of c.args.context.now.program.now 0) c.args.context.now.limit c.args.command.now _ c.args.session _ _ _ _ c.in-Strategy.is (c.give_strategy.ensures c.args.context.now.program.now.rules c.args.names.now c.requires.under_way)
-
-pub returns-in-Strategy-clause-reads : goal.returns-in-Strategy-clause-reads
-returns-in-Strategy-clause-reads g c =
-    let deed = c.give_strategy.ensures c.args.context.now.program.now.rules c.args.names.now c.requires.under_way in
-    rw deed.reads
-
-pub returns-in-Strategy-clause-written : goal.returns-in-Strategy-clause-written
-returns-in-Strategy-clause-written g c = λ unread.
-    let deed = c.give_strategy.ensures c.args.context.now.program.now.rules c.args.names.now c.requires.under_way in
-    cc deed.reads
-
-pub returns-in-Strategy-clause-under_way : goal.returns-in-Strategy-clause-under_way
-returns-in-Strategy-clause-under_way g c =
-    let deed = c.give_strategy.ensures c.args.context.now.program.now.rules c.args.names.now c.requires.under_way in
-    deed.under_way
-
-pub returns-in-Watch-clause-performs : goal.returns-in-Watch-clause-performs
-returns-in-Watch-clause-performs g c =
-    commanded g.M.Matcher.stored g.M.Matcher.stands_for c.args.context.now.program.now.rules c.args.names.now (setting_of c.args.context.now.program.now 0) c.args.context.now.limit c.args.command.now _ c.args.session _ _ _ _ c.in-Watch.is (c.give_level.ensures c.args.context.now.program.now.rules c.args.names.now c.requires.under_way)
-
-pub returns-in-Watch-clause-reads : goal.returns-in-Watch-clause-reads
-returns-in-Watch-clause-reads g c =
-    let deed = c.give_level.ensures c.args.context.now.program.now.rules c.args.names.now c.requires.under_way in
-    rw deed.reads
-
-pub returns-in-Watch-clause-written : goal.returns-in-Watch-clause-written
-returns-in-Watch-clause-written g c = λ unread.
-    let deed = c.give_level.ensures c.args.context.now.program.now.rules c.args.names.now c.requires.under_way in
-    cc deed.reads
-
-pub returns-in-Watch-clause-under_way : goal.returns-in-Watch-clause-under_way
-returns-in-Watch-clause-under_way g c =
-    let deed = c.give_level.ensures c.args.context.now.program.now.rules c.args.names.now c.requires.under_way in
-    deed.under_way
-
-pub returns-in-Exit-clause-performs : goal.returns-in-Exit-clause-performs
-returns-in-Exit-clause-performs g c =
-    commanded g.M.Matcher.stored g.M.Matcher.stands_for c.args.context.now.program.now.rules c.args.names.now (setting_of c.args.context.now.program.now 0) c.args.context.now.limit c.args.command.now _ c.args.session _ _ _ _ c.in-Exit.is
-    (record { performs = λ z. (refl, put_nothing _ c.requires.whole); reads = refl; under_way = c.requires.under_way })
+pub returns-in_default-clause-performs : goal.returns-in_default-clause-performs
+returns-in_default-clause-performs g c = c.do_at_once-done.ensures.performs

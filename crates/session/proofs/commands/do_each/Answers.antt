@@ -1,50 +1,66 @@
-use Rattle.std.proofs.Common.{◌≤◌, ◌∙◌, ap, sym, length, arith, refl}
+use Rattle.std.proofs.Common.{◌≡◌, ◌∙◌, ap, sym, subst, refl, [], ◌∷◌, length, false, List, IsTrue, arith}
+use Rattle.std.specs.List.{list_all}
+use Rattle.std.specs.Vec.Iter.{into_iter_items}
+use Rattle.std.proofs.lemmas.List.{nil_from_length}
 use Rattle.std.proofs.lemmas.Result.{err_from_is_err_and}
+use Rattle.ops_base.specs.declared.commands.Command.{Command}
 use Rattle.ops_base.specs.declared.endings.Ending.TheVariants as ending
+use Rattle.ops_base.specs.Valid.{command_builds_from, command_is_valid}
+use Rattle.ops_io.specs.Coming.{Coming}
 use Rattle.ops_io.specs.Output.{OutState}
 use Rattle.ops_io.proofs.PortLemmas.{flushed_put}
 use Rattle.ops_meaning.specs.Effects.{of_ending}
-use Rattle.act_phase.specs.Outcomes.{setting_of}
+use Rattle.ops_meaning.specs.Running.{Session as Meant}
 use Rattle.ops_meaning.proofs.NamesKept.{names_stay, names_then}
+use Rattle.act_phase.specs.Asking.{session_asks}
+use Rattle.act_phase.specs.Outcomes.{setting_of}
+use Rattle.act_phase.proofs.Asking.{both_then}
 use Rattle.session.specs.Courses.{meant_by}
+use Rattle.session.proofs.Asks.{quiet_on, quiet_with, rest_builds, rest_valid, setting_is, with_then}
 use Rattle.session.proofs.Comings.{pending_put, performed_put}
 use Rattle.session.proofs.Flushes.{performs_still, performs_refused}
 use Rattle.session.proofs.Sequence.{exits, none_left, commands_begin, commands_end, one_command, last_command}
-use Rattle.act_phase.proofs.Asking.{both_then}
 use Rattle.session.proofs.commands.do_each.Goals as goal
 
 pub loop-command-init : goal.loop-command-init
-loop-command-init g c = record {
-  out = commands_begin (setting_of c.args.context.now.program.now 0) c.args.context.now.limit c.args.context.now.program.now.commands c.as_slice-command-items.result.now (λ z. meant_by g.M.Matcher.stored c.args.session c.args.names.now z) _ _ c.requires.whole c.as_slice-command-items.ensures;
-  whole = c.requires.whole;
-  faults = refl;
-  untouched = λ _. (refl, refl);
-  names = names_stay c.args.names.now;
-  under_way = c.requires.under_way;
-  flushed = λ e. e;
-}
+loop-command-init g c =
+    let gives = c.into_iter-command-iterator.ensures.into_iter_gives in
+    let p = c.args.live.now.program in
+    let V : List Command → Type 0 = λ cs. IsTrue (list_all (command_is_valid p.classes (length p.text)) cs) in
+    let B : List Command → Type 0 = λ cs. IsTrue (list_all (command_builds_from (length p.templates)) cs) in
+    record {
+      out = commands_begin (setting_of p 0) c.args.context.now.limit c.args.commands.items (into_iter_items c.into_iter-command-iterator.result) (λ z. meant_by g.B.M.Matcher.stored p.rules c.args.session c.args.names.now z) _ _ c.requires.whole gives.0;
+      whole = c.requires.whole;
+      faults = refl;
+      untouched = λ _. (refl, refl);
+      quiet = λ h. ap (session_asks p.rules) gives.0 ∙ h;
+      names = names_stay c.args.names.now;
+      under_way = c.requires.under_way;
+      program = record { rules_are = refl; commands_are = refl; classes = refl; templates = refl; text = refl };
+      valid = subst V (sym gives.0) c.requires.valid;
+      builds = subst B (sym gives.0) c.requires.builds;
+      number = gives.1 ∙ c.args.commands.ok.0 ∙ sym (ap length gives.0);
+      flushed = λ e. e;
+    }
 
 pub returns-then-is_exit-clause-performs : goal.returns-then-is_exit-clause-performs
 returns-then-is_exit-clause-performs g c =
-    commands_end (setting_of c.args.context.now.program.now 0) c.args.context.now.limit c.as_slice-command-items.result.now c.loop-command.command-index (λ z. meant_by g.M.Matcher.stored c.loop-command.session c.loop-command.names z) c.loop-command.invariant.out c.loop-command.session
-    (λ z. exits (setting_of c.args.context.now.program.now 0) c.args.context.now.limit c.loop-command.out.column c.as_slice-command-items.result.now c.loop-command.command-index c.command-item.result (meant_by g.M.Matcher.stored c.loop-command.session c.loop-command.names z) c.loop-command-test.true c.command-item.is
-    (sym c.is_exit.ensures ∙ c.if-is_exit.true)) c.loop-command.invariant.whole
-
-pub returns-then-is_exit-clause-reads : goal.returns-then-is_exit-clause-reads
-returns-then-is_exit-clause-reads g c = c.loop-command.invariant.out.steady
-
-pub returns-then-is_exit-clause-names : goal.returns-then-is_exit-clause-names
-returns-then-is_exit-clause-names g c = c.loop-command.invariant.names
-
-pub returns-then-is_exit-clause-under_way : goal.returns-then-is_exit-clause-under_way
-returns-then-is_exit-clause-under_way g c = c.loop-command.invariant.under_way
+    let at = c.loop-command in
+    let s = setting_of c.args.live.now.program 0 in
+    let steps : into_iter_items at.command-iterator ≡ c.in-Some.command ∷ into_iter_items c.next.new.self = c.in-Some.ensures.steps.0 in
+    commands_end s c.args.context.now.limit (into_iter_items at.command-iterator) (into_iter_items c.next.new.self) (λ z. meant_by g.B.M.Matcher.stored at.live.program.rules at.session at.names z) at.invariant.out at.session
+    (λ z. exits s c.args.context.now.limit at.out.column (into_iter_items at.command-iterator) (into_iter_items c.next.new.self) c.in-Some.command (meant_by g.B.M.Matcher.stored at.live.program.rules at.session at.names z) steps
+    (sym c.is_exit.ensures ∙ c.if-is_exit.true)) at.invariant.whole
 
 pub returns-in_err-session-clause-performs : goal.returns-in_err-session-clause-performs
 returns-in_err-session-clause-performs g c =
+    let at = c.loop-command in
+    let steps : into_iter_items at.command-iterator ≡ c.in-Some.command ∷ into_iter_items c.next.new.self = c.in-Some.ensures.steps.0 in
+    let come : Coming → Meant = λ z. meant_by g.B.M.Matcher.stored at.live.program.rules at.session at.names z in
     let p = err_from_is_err_and c.from_residual.result c.from_residual.ensures.1 in
     rw (p.1, p.2)
-    (last_command (setting_of c.args.context.now.program.now 0) c.args.context.now.limit c.as_slice-command-items.result.now c.loop-command.command-index (λ z. meant_by g.M.Matcher.stored c.loop-command.session c.loop-command.names z) c.loop-command.invariant.out c.command-item.result c.loop-command-test.true c.command-item.is
-    (sym c.is_exit.ensures ∙ c.if-is_exit.false) c.in_err-session.field-0.0 c.in_err-session.ensures.performs)
+    (last_command (setting_of c.args.live.now.program 0) c.args.context.now.limit (into_iter_items at.command-iterator) (into_iter_items c.next.new.self) come at.invariant.out c.in-Some.command steps
+    (sym c.is_exit.ensures ∙ c.if-is_exit.false) (setting_of at.live.program 0) (λ z. setting_is c.args.live.now.program at.live.program c.args.live.now.program.commands at.invariant.program (come z) refl) c.in_err-session.field-0.0 c.in_err-session.ensures.performs)
 
 pub returns-in_err-session-clause-names : goal.returns-in_err-session-clause-names
 returns-in_err-session-clause-names g c =
@@ -58,49 +74,54 @@ flush-requires-clause-faults g c =
     let same = (performed_put c.in_ok-session.ensures.performs).1.faults in
     rw (same, c.loop-command.invariant.faults) c.requires.faults
 
+pub loop-command-preserved : goal.loop-command-preserved
+loop-command-preserved g c =
+    let at = c.loop-command in
+    let steps : into_iter_items at.command-iterator ≡ c.in-Some.command ∷ into_iter_items c.next.new.self = c.in-Some.ensures.steps.0 in
+    let come : Coming → Meant = λ z. meant_by g.B.M.Matcher.stored at.live.program.rules at.session at.names z in
+    let whole = (performed_put c.in_ok-session.ensures.performs).1.whole in
+    let written = c.in_ok-flush.ensures.flushes in
+    let out = one_command (setting_of c.args.live.now.program 0) c.args.context.now.limit (into_iter_items at.command-iterator) (into_iter_items c.next.new.self) come at.invariant.out c.in-Some.command steps
+    (sym c.is_exit.ensures ∙ c.if-is_exit.false) (setting_of at.live.program 0) (λ z. setting_is c.args.live.now.program at.live.program c.args.live.now.program.commands at.invariant.program (come z) refl)
+    c.in_ok-session.session c.in_ok-session.ensures.reads (performs_still c.in_ok-session.ensures.performs (flushed_put _ _ whole written)) in
+    let put = pending_put _ _ _ _ _ _ out in
+    let quiet = λ (h : session_asks c.args.live.now.program.rules c.args.commands.items ≡ false). quiet_on at.live.program.rules c.in-Some.command (into_iter_items c.next.new.self) (sym (ap (session_asks at.live.program.rules) steps) ∙ at.invariant.quiet h) in
+    let V : List Command → Type 0 = λ cs. IsTrue (list_all (command_is_valid at.live.program.classes (length at.live.program.text)) cs) in
+    let B : List Command → Type 0 = λ cs. IsTrue (list_all (command_builds_from (length at.live.program.templates)) cs) in
+    record {
+      out = out;
+      whole = put.1.whole;
+      faults = put.1.faults;
+      untouched = λ h. both_then (at.invariant.untouched h) (c.in_ok-session.ensures.untouched (quiet h).0);
+      quiet = λ h. quiet_with c.do_command.new.live.program.rules (into_iter_items c.next.new.self) (c.in_ok-session.ensures.quiet (quiet h).0 (quiet h).1) (quiet h).2;
+      names = names_then c.args.names.now at.names c.do_command.new.names at.invariant.names c.in_ok-session.ensures.names;
+      under_way = c.in_ok-session.ensures.under_way;
+      program = with_then c.args.live.now.program at.live.program c.args.live.now.program.commands at.invariant.program c.do_command.new.live.program c.in_ok-session.ensures.program;
+      valid = rest_valid at.live.program c.do_command.new.live.program at.live.program.commands c.in_ok-session.ensures.program c.in-Some.command (into_iter_items c.next.new.self) (subst V steps at.invariant.valid);
+      builds = rest_builds at.live.program c.do_command.new.live.program at.live.program.commands c.in_ok-session.ensures.program c.in-Some.command (into_iter_items c.next.new.self) (subst B steps at.invariant.builds);
+      number = (let was = at.invariant.number in let gone = c.in-Some.ensures.steps.1 in let short = ap length steps in omega arith);
+      flushed = λ _. ap (λ (o : OutState). o.held) written.out;
+    }
+
 pub returns-in_err-flush-clause-performs : goal.returns-in_err-flush-clause-performs
 returns-in_err-flush-clause-performs g c =
+    let at = c.loop-command in
+    let steps : into_iter_items at.command-iterator ≡ c.in-Some.command ∷ into_iter_items c.next.new.self = c.in-Some.ensures.steps.0 in
+    let come : Coming → Meant = λ z. meant_by g.B.M.Matcher.stored at.live.program.rules at.session at.names z in
     let p = err_from_is_err_and c.from_residual-in_err-flush.result c.from_residual-in_err-flush.ensures.1 in
     rw (p.1, p.2)
-    (last_command (setting_of c.args.context.now.program.now 0) c.args.context.now.limit c.as_slice-command-items.result.now c.loop-command.command-index (λ z. meant_by g.M.Matcher.stored c.loop-command.session c.loop-command.names z) c.loop-command.invariant.out c.command-item.result c.loop-command-test.true c.command-item.is
-    (sym c.is_exit.ensures ∙ c.if-is_exit.false) ending.WriteFault
+    (last_command (setting_of c.args.live.now.program 0) c.args.context.now.limit (into_iter_items at.command-iterator) (into_iter_items c.next.new.self) come at.invariant.out c.in-Some.command steps
+    (sym c.is_exit.ensures ∙ c.if-is_exit.false) (setting_of at.live.program 0) (λ z. setting_is c.args.live.now.program at.live.program c.args.live.now.program.commands at.invariant.program (come z) refl) ending.WriteFault
     (performs_refused c.in_ok-session.ensures.performs of_ending ending.WriteFault refl c.in_err-flush.ensures.flushes))
-
-pub returns-in_err-flush-clause-reads : goal.returns-in_err-flush-clause-reads
-returns-in_err-flush-clause-reads g c =
-    let p = err_from_is_err_and c.from_residual-in_err-flush.result c.from_residual-in_err-flush.ensures.1 in
-    rw (p.1, p.2) (c.in_ok-session.ensures.reads ∙ c.loop-command.invariant.out.steady)
 
 pub returns-in_err-flush-clause-names : goal.returns-in_err-flush-clause-names
 returns-in_err-flush-clause-names g c =
     names_then c.args.names.now c.loop-command.names c.do_command.new.names c.loop-command.invariant.names c.in_ok-session.ensures.names
 
-pub loop-command-preserved : goal.loop-command-preserved
-loop-command-preserved g c =
-    let whole = (performed_put c.in_ok-session.ensures.performs).1.whole in
-    let written = c.in_ok-flush.ensures.flushes in
-    let out = one_command (setting_of c.args.context.now.program.now 0) c.args.context.now.limit c.as_slice-command-items.result.now c.loop-command.command-index (λ z. meant_by g.M.Matcher.stored c.loop-command.session c.loop-command.names z) c.loop-command.invariant.out c.command-item.result c.loop-command-test.true c.command-item.is
-    (sym c.is_exit.ensures ∙ c.if-is_exit.false) c.in_ok-session.session c.in_ok-session.ensures.reads (performs_still c.in_ok-session.ensures.performs (flushed_put _ _ whole written)) in
-    let put = pending_put _ _ _ _ _ _ out in
-    record {
-      out = out;
-      whole = put.1.whole;
-      faults = put.1.faults;
-      untouched = λ none. both_then (c.loop-command.invariant.untouched none) (c.in_ok-session.ensures.untouched none);
-      names = names_then c.args.names.now c.loop-command.names c.do_command.new.names c.loop-command.invariant.names c.in_ok-session.ensures.names;
-      under_way = c.in_ok-session.ensures.under_way;
-      flushed = λ _. ap (λ (o : OutState). o.held) written.out;
-    }
-
 pub returns-clause-performs : goal.returns-clause-performs
 returns-clause-performs g c =
-    let all = c.as_slice-command-items.result.now in
-    let past : length all ≤ c.loop-command.command-index = omega (arith, c.loop-command-test.false) in
-    commands_end (setting_of c.args.context.now.program.now 0) c.args.context.now.limit all c.loop-command.command-index (λ z. meant_by g.M.Matcher.stored c.loop-command.session c.loop-command.names z) c.loop-command.invariant.out c.loop-command.session
-    (λ z. none_left (setting_of c.args.context.now.program.now 0) c.args.context.now.limit c.loop-command.out.column all c.loop-command.command-index (meant_by g.M.Matcher.stored c.loop-command.session c.loop-command.names z) past) c.loop-command.invariant.whole
-
-pub returns-in_err-session-clause-untouched : goal.returns-in_err-session-clause-untouched
-returns-in_err-session-clause-untouched g c = λ none. both_then (c.loop-command.invariant.untouched none) (c.in_err-session.ensures.untouched none)
-
-pub returns-in_err-flush-clause-untouched : goal.returns-in_err-flush-clause-untouched
-returns-in_err-flush-clause-untouched g c = λ none. both_then (c.loop-command.invariant.untouched none) (c.in_ok-session.ensures.untouched none)
+    let at = c.loop-command in
+    let s = setting_of c.args.live.now.program 0 in
+    let none : into_iter_items at.command-iterator ≡ [] = nil_from_length (into_iter_items at.command-iterator) (sym at.invariant.number ∙ c.in-None.ensures.steps.0) in
+    commands_end s c.args.context.now.limit (into_iter_items at.command-iterator) [] (λ z. meant_by g.B.M.Matcher.stored at.live.program.rules at.session at.names z) at.invariant.out at.session
+    (λ z. none_left s c.args.context.now.limit at.out.column (into_iter_items at.command-iterator) (meant_by g.B.M.Matcher.stored at.live.program.rules at.session at.names z) none) at.invariant.whole

@@ -1,11 +1,15 @@
-use Rattle.std.proofs.Common.{◌≡◌, false, [], drop, IsTrue}
+use Rattle.std.proofs.Common.{◌≡◌, false, [], length, IsTrue}
+use Rattle.std.specs.List.{list_all}
+use Rattle.std.specs.Vec.Iter.{into_iter_items, into_iter_len}
+use Rattle.ops_base.specs.Valid.{command_builds_from, command_is_valid}
 use Rattle.ops_io.specs.Coming.{inlet}
 use Rattle.ops_io.specs.Ports.{port}
 use Rattle.ops_meaning.specs.Effects.{PendingOn}
 use Rattle.ops_meaning.specs.Kept.{KeepsNames}
 use Rattle.ops_meaning.specs.Running.{commands_done}
-use Rattle.act_phase.specs.Asking.{program_asks}
+use Rattle.act_phase.specs.Asking.{session_asks}
 use Rattle.act_phase.specs.Outcomes.{setting_of}
+use Rattle.live_rules.specs.Moves.{IsWith}
 use Rattle.session.specs.Courses.{IsUnderWay, meant_by}
 use Rattle.session.proofs.commands.do_each.Given as goal
 
@@ -15,12 +19,17 @@ invariant-loop-command g l = record {
       (inlet l.input (g.I.Source.left l.source) (g.I.Source.faults l.source))
       (port (g.K.Sink.taken l.fn.sink) (g.K.Sink.faults l.fn.sink) l.fn.out)
       (port (g.K.Sink.taken l.sink) (g.K.Sink.faults l.sink) l.out)
-      (λ z. commands_done (setting_of l.context.program.now 0) l.context.limit l.fn.out.column l.context.program.now.commands (meant_by g.M.Matcher.stored l.fn.session l.fn.names z))
-      (λ z. commands_done (setting_of l.context.program.now 0) l.context.limit l.out.column (drop l.command-index l.command-items) (meant_by g.M.Matcher.stored l.session l.names z));
+      (λ z. commands_done (setting_of l.fn.live.program 0) l.context.limit l.fn.out.column l.fn.commands.items (meant_by g.B.M.Matcher.stored l.fn.live.program.rules l.fn.session l.fn.names z))
+      (λ z. commands_done (setting_of l.fn.live.program 0) l.context.limit l.out.column (into_iter_items l.command-iterator) (meant_by g.B.M.Matcher.stored l.live.program.rules l.session l.names z));
   whole : IsTrue l.out.whole;
   faults : g.K.Sink.faults l.sink ≡ g.K.Sink.faults l.fn.sink;
-  untouched : program_asks l.context.program.now.rules ≡ false → (l.input ≡ l.fn.input) × (l.source ≡ l.fn.source);
+  untouched : session_asks l.fn.live.program.rules l.fn.commands.items ≡ false → (l.input ≡ l.fn.input) × (l.source ≡ l.fn.source);
+  quiet : session_asks l.fn.live.program.rules l.fn.commands.items ≡ false → session_asks l.live.program.rules (into_iter_items l.command-iterator) ≡ false;
   names : KeepsNames l.fn.names l.names;
-  under_way : IsUnderWay g.M.Matcher.stored g.M.Matcher.stands_for l.context.program.now.rules l.session;
+  under_way : IsUnderWay g.B.M.Matcher.stored g.B.M.Matcher.stands_for l.live.program.rules l.session;
+  program : IsWith l.live.program.rules l.fn.live.program.commands l.fn.live.program l.live.program;
+  valid : IsTrue (list_all (command_is_valid l.live.program.classes (length l.live.program.text)) (into_iter_items l.command-iterator));
+  builds : IsTrue (list_all (command_builds_from (length l.live.program.templates)) (into_iter_items l.command-iterator));
+  number : into_iter_len l.command-iterator ≡ length (into_iter_items l.command-iterator);
   flushed : l.fn.out.held ≡ [] → l.out.held ≡ [];
 }

@@ -1,4 +1,4 @@
-use Rattle.std.proofs.Common.{◌∙◌, ap, sym, subst, List, map}
+use Rattle.std.proofs.Common.{refl, ◌∙◌, ap, sym, subst, List, map}
 use Rattle.std.proofs.lemmas.Result.{err_from_is_err_and}
 use Rattle.ops_base.specs.declared.elements.Change.{Change}
 use Rattle.ops_base.specs.WorkingMemory.{HasRisingTags, Lawful, tags_of}
@@ -14,14 +14,9 @@ use Rattle.session.proofs.Told.{removed_told, clearing_removes}
 use Rattle.session.proofs.UnderWay.{all_stored}
 use Rattle.session.proofs.memory_commands.remove_all.Goals as goal
 
-pub returns-in_err-session : goal.returns-in_err-session
-returns-in_err-session g c =
-    let p = err_from_is_err_and c.from_residual.result c.from_residual.ensures.1 in
-    rw p.1 (does_short g.M.Matcher.stored g.M.Matcher.stands_for c.args.context.now.program.now.rules c.args.names.now c.args.session _ p.0 _ p.2 c.requires.whole)
-
 pub returns-in_err-changes : goal.returns-in_err-changes
 returns-in_err-changes g c =
-    let p = err_from_is_err_and c.from_residual-in_err-changes.result c.from_residual-in_err-changes.ensures.1 in
+    let p = err_from_is_err_and c.from_residual.result c.from_residual.ensures.1 in
     rw p.1 (does_short g.M.Matcher.stored g.M.Matcher.stands_for c.args.context.now.program.now.rules c.args.names.now c.args.session _ p.0 _ p.2 c.requires.whole)
 
 pub phase-requires-clause-lawful : goal.phase-requires-clause-lawful
@@ -29,22 +24,22 @@ phase-requires-clause-lawful g c =
     let R : Stored → Type 0 = λ x. HasRisingTags x.elements in
     let rising = subst R c.store.ensures c.all_removals.ensures.rising in
     let is = c.as_slice.ensures ∙ c.in_ok-changes.ensures.changes ∙ ap (λ (x : Stored). map Remove (tags_of x.elements)) c.store.ensures in
-    let P : List Change → Type 0 = Lawful (g.M.Matcher.stored c.in_ok-session.session.state.matcher).elements (g.M.Matcher.stored c.in_ok-session.session.state.matcher).last in
-    subst P (sym is) (clearing_lawful (g.M.Matcher.stored c.in_ok-session.session.state.matcher).elements (g.M.Matcher.stored c.in_ok-session.session.state.matcher).last rising)
+    let P : List Change → Type 0 = Lawful (g.M.Matcher.stored c.args.session.state.matcher).elements (g.M.Matcher.stored c.args.session.state.matcher).last in
+    subst P (sym is) (clearing_lawful (g.M.Matcher.stored c.args.session.state.matcher).elements (g.M.Matcher.stored c.args.session.state.matcher).last rising)
 
 pub phase-requires-clause-told : goal.phase-requires-clause-told
 phase-requires-clause-told g c =
     let R : Stored → Type 0 = λ x. HasRisingTags x.elements in
     let rising = subst R c.store.ensures c.all_removals.ensures.rising in
     let is = c.as_slice.ensures ∙ c.in_ok-changes.ensures.changes ∙ ap (λ (x : Stored). map Remove (tags_of x.elements)) c.store.ensures in
-    let P : List Change → Type 0 = AreToldBy (g.M.Matcher.stored c.in_ok-session.session.state.matcher).elements in
-    subst P (sym is) (removed_told (g.M.Matcher.stored c.in_ok-session.session.state.matcher).elements (g.M.Matcher.stored c.in_ok-session.session.state.matcher).last (map Remove (tags_of (g.M.Matcher.stored c.in_ok-session.session.state.matcher).elements)) (clearing_removes (tags_of (g.M.Matcher.stored c.in_ok-session.session.state.matcher).elements)) (clearing_lawful (g.M.Matcher.stored c.in_ok-session.session.state.matcher).elements (g.M.Matcher.stored c.in_ok-session.session.state.matcher).last rising))
+    let P : List Change → Type 0 = AreToldBy (g.M.Matcher.stored c.args.session.state.matcher).elements in
+    subst P (sym is) (removed_told (g.M.Matcher.stored c.args.session.state.matcher).elements (g.M.Matcher.stored c.args.session.state.matcher).last (map Remove (tags_of (g.M.Matcher.stored c.args.session.state.matcher).elements)) (clearing_removes (tags_of (g.M.Matcher.stored c.args.session.state.matcher).elements)) (clearing_lawful (g.M.Matcher.stored c.args.session.state.matcher).elements (g.M.Matcher.stored c.args.session.state.matcher).last rising))
 
 pub returns : goal.returns
 returns g c =
     let is = c.as_slice.ensures ∙ c.in_ok-changes.ensures.changes ∙ ap (λ (x : Stored). map Remove (tags_of x.elements)) c.store.ensures in
-    does_as g.M.Matcher.stored g.M.Matcher.stands_for c.args.context.now.program.now.rules c.args.names.now c.in_ok-session.session c.args.session _ _ _ _ _ (λ z. c.in_ok-session.ensures.meant c.args.names.now z)
-    (λ z. phase_as g.M.Matcher.stored (setting_of c.args.context.now.program.now 0) c.args.out.now.column c.args.names.now c.in_ok-session.session c.in_ok-session.ensures.none_waits _ (λ k. map Remove (tags_of k.course.wm)) z
-    (is ∙ ap (λ wm. map Remove (tags_of wm)) (all_stored g.M.Matcher.stored c.in_ok-session.session c.args.names.now z c.in_ok-session.ensures.none_waits))
-    (clearing_last (meant_by g.M.Matcher.stored c.in_ok-session.session c.args.names.now z).course.last (tags_of (meant_by g.M.Matcher.stored c.in_ok-session.session c.args.names.now z).course.wm)))
+    does_as g.M.Matcher.stored g.M.Matcher.stands_for c.args.context.now.program.now.rules c.args.names.now c.args.session c.args.session _ _ _ _ _ (λ z. refl)
+    (λ z. phase_as g.M.Matcher.stored (setting_of c.args.context.now.program.now 0) c.args.out.now.column c.args.names.now c.args.session c.requires.settled _ (λ k. map Remove (tags_of k.course.wm)) z
+    (is ∙ ap (λ wm. map Remove (tags_of wm)) (all_stored g.M.Matcher.stored c.args.session c.args.names.now z c.requires.settled))
+    (clearing_last (meant_by g.M.Matcher.stored c.args.context.now.program.now.rules c.args.session c.args.names.now z).course.last (tags_of (meant_by g.M.Matcher.stored c.args.context.now.program.now.rules c.args.session c.args.names.now z).course.wm)))
     c.phase.ensures

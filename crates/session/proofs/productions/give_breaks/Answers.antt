@@ -15,7 +15,7 @@ returns g c =
     let toggled = c.toggle_all.ensures ∙ ap (λ rules. all_toggled rules given c.args.session.breaks) c.as_slice-2.ensures in
     let p = c.requires.under_way in
     does_all g.M.Matcher.stored g.M.Matcher.stands_for c.args.program.now.rules c.args.names.now c.args.session _ _ _ _ told
-    (λ z. let k = meant_by g.M.Matcher.stored c.args.session c.args.names.now z in
+    (λ z. let k = meant_by g.M.Matcher.stored c.args.program.now.rules c.args.session c.args.names.now z in
     ap (λ ns. breaks_given (setting_of c.args.program.now 0) c.args.out.now.column ns k) (sym c.as_slice-given.ensures)
     ∙ breaks_some (setting_of c.args.program.now 0) c.args.out.now.column given k (sym c.is_empty.ensures ∙ c.if-is_empty.false)
     ∙ ap (λ breaks. let t : Meant = record k { breaks = breaks } in writes told t) (sym toggled))

@@ -1,3 +1,4 @@
+use Rattle.cycle.proofs.Above.{phase_above}
 use Rattle.cycle.proofs.Phases.{members_of, specificities, gone_of, come_of, is_part, is_apart, again, phase_done}
 use Rattle.cycle.proofs.state.State.change.Goals as goal
 
@@ -37,11 +38,16 @@ apply-requires-clause-apart g c =
     c.in_ok-matcher.field-0.matcher c.in_ok-matcher.field-0.gone.items c.in_ok-matcher.field-0.come.items c.as_slice.result.now c.as_slice-2.result.now c.in_ok-matcher.ensures.settled c.as_slice.ensures.value c.as_slice-2.ensures.value
     c.last_of-last.ensures.kept c.last_of-last.ensures.set c.in_ok-matcher.ensures.stands)
 
-pub of-requires : goal.of-requires
-of-requires g c =
+pub of-requires-clause-same : goal.of-requires-clause-same
+of-requires-clause-same g c =
     again g.M.Matcher.stored g.M.Matcher.found g.M.Matcher.stands_for c.self.inside.matcher c.self.inside.index.value c.self.inside.firings c.self.invariant c.args.self c.self.view_is c.args.program.now.rules c.requires.stands
     c.in_ok-matcher.field-0.matcher c.in_ok-matcher.field-0.gone.items c.in_ok-matcher.field-0.come.items c.as_slice.result.now c.as_slice-2.result.now c.in_ok-matcher.ensures.settled c.as_slice.ensures.value c.as_slice-2.ensures.value
     c.last_of-last.ensures.kept c.last_of-last.ensures.set c.in_ok-matcher.ensures.stands c.apply.new.self (rw c.as_mut.ensures.value at c.in_ok-apply.ensures.ok)
+
+pub of-requires-clause-above : goal.of-requires-clause-above
+of-requires-clause-above g c =
+    phase_above g.M.Matcher.stored (record { matcher = c.self.inside.matcher; index = c.self.inside.index.value; firings = c.self.inside.firings }) c.args.self c.self.view_is c.self.invariant.above c.args.changes.now
+    c.requires.lawful (g.M.Matcher.stored c.in_ok-matcher.field-0.matcher).elements c.in_ok-matcher.ensures.elements
 
 pub returns-clause-course : goal.returns-clause-course
 returns-clause-course g c = λ names coming.

@@ -1,0 +1,61 @@
+-- The numbers of productions, and the marks of instantiations, where productions come and go.
+use Rattle.std.specs.Prelude.{◌≡◌, ℕ, zero, suc, List, [], ◌∷◌, ◌++◌, length, map, Option, Some, None, option_map, option_and_then, slice_get}
+use Rattle.std.specs.List.{filter_map}
+use Rattle.ops_base.specs.declared.commands.Command.{Command}
+use Rattle.ops_base.specs.declared.programs.Program.{Program}
+use Rattle.ops_base.specs.declared.rules.Inst.{Inst}
+use Rattle.ops_base.specs.declared.rules.Rule.{Rule}
+use Rattle.ops_base.specs.Live.{without, moved, renumbered}
+
+-- the new program is the old one with these productions and these commands
+pub record IsWith (rules : List Rule) (commands : List Command) (old new : Program) : Type 0 where
+  pub rules_are : new.rules ≡ rules
+  pub commands_are : new.commands ≡ commands
+  pub classes : new.classes ≡ old.classes
+  pub templates : new.templates ≡ old.templates
+  pub text : new.text ≡ old.text
+
+-- the new number of each old production, none where it is gone
+abbrev pub Places : Type 0
+Places = List (Option ℕ)
+
+-- so many productions, the first of which has this number
+abbrev pub numbered_from : ℕ → ℕ → Places
+numbered_from first zero = []
+numbered_from first (suc n) = Some first ∷ numbered_from (suc first) n
+
+-- so many productions, each with the number that it had
+abbrev pub unmoved : ℕ → Places
+unmoved n = numbered_from 0 n
+
+-- the same once the production that has this number now is gone
+abbrev pub behind : ℕ → Places → Places
+behind k places = map (λ place. option_and_then (moved k) place) places
+
+-- the same once one is gone, where one goes
+abbrev pub behind_any : Option ℕ → Places → Places
+behind_any None places = places
+behind_any (Some k) places = behind k places
+
+-- these without the one with this number, where there is one
+abbrev pub without_any : {X : Type 0} → Option ℕ → List X → List X
+without_any None xs = xs
+without_any (Some k) xs = without k xs
+
+-- the new number of the old production with this one
+abbrev pub place_of : Places → ℕ → Option ℕ
+place_of places n = option_and_then (λ place. place) (slice_get places n)
+
+-- an instantiation under the new number of its production, none where that is gone
+abbrev pub inst_moved : Places → Inst → Option Inst
+inst_moved places i = option_map (renumbered i) (place_of places i.rule)
+
+abbrev pub insts_moved : Places → List Inst → List Inst
+insts_moved places insts = filter_map (inst_moved places) insts
+
+-- From the old productions to the new ones some were taken out, one after the other, and some came, each behind all
+-- that stood; and these are the new numbers.
+pub data Leads : Places → List Rule → List Rule → Type 0 where
+  stays : (rules : List Rule) → Leads (unmoved (length rules)) rules rules
+  goes : {places : Places} {old new : List Rule} → (k : ℕ) → Leads places old new → Leads (behind k places) old (without k new)
+  comes : {places : Places} {old new : List Rule} → (r : Rule) → Leads places old new → Leads places old (new ++ r ∷ [])

@@ -1,0 +1,10 @@
+//! The program in force, whose productions come and go, and the state of the cycle that follows it.
+#![tactic(auto)]
+
+mod live;
+mod moved;
+mod renewing;
+
+pub use live::Live;
+pub use moved::Moved;
+pub use renewing::renew;

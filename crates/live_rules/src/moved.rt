@@ -1,0 +1,74 @@
+//! The new numbers of productions.
+ghost use Rattle.std.specs.Prelude.{◌≡◌, IfOk, length, option_and_then};
+ghost use Rattle.ops_base.specs.Live.{moved};
+ghost use Rattle.live_rules.specs.Moves.{behind, behind_any, place_of, unmoved};
+
+use ops_base::memory::OutOfMemory;
+use ops_base::programs::Program;
+use std::alloc::Global;
+use std::marker::Model;
+
+/// The numbers that productions have now, which had others when a matcher was made for them.
+#[derive(Drop)]
+pub struct Moved {
+    places: Vec<Option<usize>>,
+}
+
+impl Model for Moved {
+    ghost use Rattle.live_rules.specs.Moves.{Places};
+
+    ghost Value = { Places };
+
+    ghost view = { λ m. m.places.items };
+}
+
+/// The number now of the production that had this one, once that with the number `gone` is taken out.
+fn behind(gone: usize, place: Option<usize>) -> Option<usize>
+    ensures { result ≡ option_and_then (moved gone) place }
+{
+    let number = place?;
+    if number < gone {
+        Some(number)
+    } else if number == gone {
+        None
+    } else {
+        Some(number - 1)
+    }
+}
+
+fn move_behind(gone: usize, places: &mut [Option<usize>])
+    ensures { places.new ≡ behind gone places.old }
+{
+    for place in places.iter_mut() {
+        *place = behind(gone, *place);
+    }
+}
+
+impl Moved {
+    /// Each production of the program has the number that it had.
+    pub fn nothing(alloc: Global, program: &Program) -> Result<Moved, OutOfMemory>
+        ensures { IfOk result (λ m. m ≡ unmoved (length program.now.rules)) }
+    {
+        let mut places = Vec::with_capacity(alloc, program.rules.len())?;
+        for number in 0..program.rules.len() {
+            places.push(Some(number))?;
+        }
+        Ok(Moved { places })
+    }
+
+    /// The number now of the production that had this one, none if it is gone. Takes no memory.
+    pub fn place(&self, number: usize) -> Option<usize>
+        ensures { result ≡ place_of self.now number }
+    {
+        self.places.get(number).copied().flatten()
+    }
+
+    /// The production that has this number now, if it is one, is taken out. Goes over all.
+    pub(crate) fn take_out_any(&mut self, number: Option<usize>)
+        ensures { self.new ≡ behind_any number self.old }
+    {
+        if let Some(number) = number {
+            move_behind(number, self.places.as_mut_slice());
+        }
+    }
+}

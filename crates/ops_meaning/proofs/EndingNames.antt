@@ -1,0 +1,148 @@
+-- The production that a session names at its end has a spelling, where each symbol of its productions has one, also of those
+-- that come.
+use Rattle.std.proofs.Common.{◌≡◌, ℕ, zero, suc, ◌+◌, ◌-◌, ◌<◌, List, [], ◌∷◌, ◌++◌, Bool, true, false, ◌&&◌, Option, Some, None, MatchResult, refl}
+use Rattle.std.specs.Prelude.{option_map, unwrap_or, fold}
+use Rattle.std.specs.List.{list_all}
+use Rattle.std.proofs.lemmas.Bool.{cond_both}
+use Rattle.ops_base.specs.declared.commands.Command.{Command}
+use Rattle.ops_base.specs.declared.commands.Command.TheVariants as command
+use Rattle.ops_base.specs.declared.commands.Strategy.{Strategy}
+use Rattle.ops_base.specs.declared.endings.Ending.{Ending}
+use Rattle.ops_base.specs.declared.rules.Inst.{Inst}
+use Rattle.ops_base.specs.declared.rules.Rule.{Rule}
+use Rattle.ops_base.specs.declared.values.Sym.{Sym}
+use Rattle.ops_base.specs.Live.{without}
+use Rattle.ops_base.specs.Names.{Spellings}
+use Rattle.ops_base.specs.Symbols.{rule_held, command_held}
+use Rattle.ops_io.specs.Coming.{Coming}
+use Rattle.ops_io.specs.Output.{column_after}
+use Rattle.ops_meaning.specs.Acting.{Setting, Misdeed, Bad, NoInput, acted}
+use Rattle.ops_meaning.specs.Effects.{Effect, writes, and_then}
+use Rattle.ops_meaning.specs.Layout.{firing_bytes, rule_name}
+use Rattle.ops_meaning.specs.Running.{Course, Turned, Session, LastFiring, begun, in_force, turn, line_of_pause, last_of, one_less, given_by, ended_in, with_course, turned_of, firing, run_on, next_to_fire, command_done, commands_done, session_of, is_exit, strategy_given, level_given, breaks_given, rule_named, taken_out, taken_out_named, added}
+use Rattle.ops_meaning.proofs.Doings.{goes_on, goes_as, EndsActions, KeptActed, acted_kept}
+use Rattle.ops_meaning.proofs.NamesKept.{IsToldBy, name_held}
+
+both : (a b : Bool) → (a && b) ≡ true → (a ≡ true) × (b ≡ true)
+both true b h = (refl, h)
+both false b h = absurd (cc)
+
+together : (a b : Bool) → a ≡ true → b ≡ true → (a && b) ≡ true
+together true b h k = k
+together false b h k = absurd (cc)
+
+abbrev Any : {X : Type 0} → X → Type 0
+Any x = Unit {0}
+
+module _ (n : ℕ) (some : 0 < n) where
+  abbrev AreHeld : List Rule → Type 0
+  AreHeld rules = list_all (rule_held n) rules ≡ true
+
+  abbrev Held : Session → Type 0
+  Held k = AreHeld k.rules
+
+  abbrev Told : Ending → Type 0
+  Told e = IsToldBy n e
+
+  held_without : (at : ℕ) (rules : List Rule) → AreHeld rules → AreHeld (without at rules)
+  held_without at [] h = refl
+  held_without zero (r ∷ rules) h = (both (rule_held n r) (list_all (rule_held n) rules) h).1
+  held_without (suc at) (r ∷ rules) h =
+      let parts = both (rule_held n r) (list_all (rule_held n) rules) h in
+      together (rule_held n r) (list_all (rule_held n) (without at rules)) parts.0 (held_without at rules parts.1)
+
+  held_with : (rules : List Rule) (r : Rule) → AreHeld rules → rule_held n r ≡ true → AreHeld (rules ++ r ∷ [])
+  held_with [] r h k = together (rule_held n r) true k refl
+  held_with (q ∷ rules) r h k =
+      let parts = both (rule_held n q) (list_all (rule_held n) rules) h in
+      together (rule_held n q) (list_all (rule_held n) (rules ++ r ∷ [])) parts.0 (held_with rules r parts.1 k)
+
+  named_held : (name : Sym) (k : Session) → Held k → Held (taken_out_named name k)
+  named_held name k p = by (rule_named k.rules name)
+    where
+      by : (at : Option ℕ) → Held (unwrap_or (option_map (λ at. taken_out at k) at) k)
+      by None = p
+      by (Some at) = held_without at k.rules p
+
+  added_held : (r : Rule) (k : Session) → Held k → rule_held n r ≡ true → Held (added r k)
+  added_held r k p h = let left = taken_out_named r.name k in held_with left.rules r (named_held r.name k p) h
+
+  excised_held : (given : List Sym) (k : Session) → Held k → Held (fold (λ k name. taken_out_named name k) k given)
+  excised_held [] k p = p
+  excised_held (name ∷ given) k p = excised_held given (taken_out_named name k) (named_held name k p)
+
+  -- a firing that fails names its own production
+  ended_told : (firing rule : ℕ) (name : Sym) (e : Misdeed) → name.0 < n → Told (ended_in firing rule name e)
+  ended_told firing rule name (Bad a k) p = p
+  ended_told firing rule name NoInput p = tt
+
+  firing_told : (s : Setting) (column : ℕ) (i : Inst) (m : Course) → AreHeld s.rules → MatchResult (firing s column i m).outcome Any Told
+  firing_told s column i m p =
+      let behind = column_after column (firing_bytes s.watch column m.names s.rules (m.firings + 1) i) in
+      goes_as (KeptActed m.wm m.last m.names m.coming.fails) Any (EndsActions m.coming.fails) Told (turned_of s.rules i m) (ended_in (m.firings + 1) i.rule (rule_name s.rules i.rule)) (acted s behind i (given_by m)).outcome
+      (acted_kept s behind i (given_by m)) (λ a q. tt) (λ e q. ended_told (m.firings + 1) i.rule (rule_name s.rules i.rule) e (name_held n s.rules i.rule some p))
+
+  turn_told : (column : ℕ) (line : Option (List ℕ)) (m : Course) (next : Option Inst) (go_on : Inst → Effect Ending Course)
+      → ((i : Inst) → MatchResult (go_on i).outcome Any Told) → MatchResult (turn column line m next go_on).outcome Any Told
+  turn_told column (Some line) m next go_on q = tt
+  turn_told column None m None go_on q = tt
+  turn_told column None m (Some i) go_on q = q i
+
+  run_told : (left : ℕ) (s : Setting) (breaks : List Bool) (column : ℕ) (last : Option LastFiring) (count : Option ℕ) (m : Course) → AreHeld s.rules
+      → MatchResult (run_on left s breaks column last count m).outcome Any Told
+  run_told zero s breaks column last count m p =
+      turn_told column (line_of_pause m.names s.rules breaks last count) m (next_to_fire s.rules m) _ (λ i. tt)
+  run_told (suc left) s breaks column last count m p =
+      turn_told column (line_of_pause m.names s.rules breaks last count) m (next_to_fire s.rules m) _
+      (λ i. let e = firing s column i m in
+      goes_on Any Any Told e.bytes e.outcome (λ (t : Turned). run_on left s breaks (column_after column e.bytes) (last_of i t) (one_less count) t.course) (firing_told s column i m p)
+      (λ t q. run_told left s breaks (column_after column e.bytes) (last_of i t) (one_less count) t.course p))
+
+  strategy_told : (column : ℕ) (set : Option Strategy) (k : Session) → Held k → MatchResult (strategy_given column set k).outcome Held Told
+  strategy_told column None k p = p
+  strategy_told column (Some g) k p = p
+
+  level_told : (column : ℕ) (set : Option ℕ) (k : Session) → Held k → MatchResult (level_given column set k).outcome Held Told
+  level_told column None k p = p
+  level_told column (Some l) k p = p
+
+  breaks_told : (s : Setting) (column : ℕ) (names : List Sym) (k : Session) → Held k → MatchResult (breaks_given s column names k).outcome Held Told
+  breaks_told s column [] k p = p
+  breaks_told s column (x ∷ xs) k p = p
+
+  command_told : (s : Setting) (limit column : ℕ) (c : Command) (k : Session) → Held k → command_held n c ≡ true → MatchResult (command_done (in_force s k) limit column c k).outcome Held Told
+  command_told s limit column (command.Make class puts) k p h = p
+  command_told s limit column (command.Remove tags) k p h = p
+  command_told s limit column command.RemoveAll k p h = p
+  command_told s limit column (command.Run count) k p h =
+      let at : Setting = record s { rules = k.rules; watch = k.watch } in
+      let left = limit - k.course.firings in
+      goes_as Any Held Told Told (with_course k) (λ e. e) (run_on left at k.breaks column None count k.course).outcome
+      (run_told left at k.breaks column None count k.course p) (λ m q. p) (λ e q. q)
+  command_told s limit column (command.Wm tags) k p h = p
+  command_told s limit column (command.Ppwm pattern) k p h = p
+  command_told s limit column command.Cs k p h = p
+  command_told s limit column (command.Pm names) k p h = p
+  command_told s limit column (command.Strategy set) k p h = strategy_told column set k p
+  command_told s limit column (command.Watch set) k p h = level_told column set k p
+  command_told s limit column (command.Pbreak names) k p h = breaks_told (in_force s k) column names k p
+  command_told s limit column (command.Add r) k p h = added_held r k p h
+  command_told s limit column (command.Excise given) k p h = excised_held given k p
+  command_told s limit column (command.Back count) k p h = p
+  command_told s limit column (command.Matches given) k p h = p
+  command_told s limit column command.Exit k p h = p
+
+  commands_told : (s : Setting) (limit column : ℕ) (commands : List Command) (k : Session) → Held k → list_all (command_held n) commands ≡ true
+      → MatchResult (commands_done s limit column commands k).outcome Held Told
+  commands_told s limit column [] k p h = p
+  commands_told s limit column (c ∷ rest) k p h =
+      let parts = both (command_held n c) (list_all (command_held n) rest) h in
+      let e = command_done (in_force s k) limit column c k in
+      let go_on : ℕ → Session → Effect Ending Session = λ next k. commands_done s limit next rest k in
+      cond_both (is_exit c) (writes [] k) (and_then column e go_on) (λ f. MatchResult f.outcome Held Told) (λ _. p)
+      (λ _. goes_on Held Held Told e.bytes e.outcome (go_on (column_after column e.bytes)) (command_told s limit column c k p parts.0)
+      (λ k q. commands_told s limit (column_after column e.bytes) rest k q parts.1))
+
+  pub session_told : (s : Setting) (limit : ℕ) (commands : List Command) (names : Spellings) (coming : Coming) → list_all (rule_held n) s.rules ≡ true → list_all (command_held n) commands ≡ true
+      → MatchResult (session_of s limit commands names coming).outcome Held Told
+  session_told s limit commands names coming rules h = commands_told s limit 0 commands (begun s.rules names coming) rules h
