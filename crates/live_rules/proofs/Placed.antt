@@ -33,7 +33,7 @@ use Rattle.work_store.specs.Stored.{Stored}
 use Rattle.conflict_index.specs.Indexed.{Indexed, Member, insts_of, fired_of}
 use Rattle.cycle.specs.States.{Held, state_course}
 use Rattle.cycle.proofs.Marks.{fired_member, member_inst}
-use Rattle.live_rules.specs.Moves.{Places, numbered_from, unmoved, behind, place_of, inst_moved, insts_moved, Leads, stays, goes, comes}
+use Rattle.live_rules.specs.Moves.{Places, numbered_from, unmoved, places_moved, place_of, inst_moved, insts_moved, Leads, stays, goes, comes}
 use Rattle.live_rules.specs.Renewing.{moved_course}
 
 -- ---- the new numbers
@@ -41,7 +41,7 @@ use Rattle.live_rules.specs.Renewing.{moved_course}
 some_is : {X : Type 0} (x y : X) → Some x ≡ Some y → x ≡ y
 some_is x y e = cc
 
--- what was found in a list is found once one comes behind
+-- what was found in a list is found once one comes after it
 get_more : {X : Type 0} (xs ys : List X) (n : ℕ) (x : X) → slice_get xs n ≡ Some x → slice_get (xs ++ ys) n ≡ Some x
 get_more [] ys n x e = cc
 get_more (y ∷ xs) ys zero x e = e
@@ -59,8 +59,8 @@ numbered_place first (suc count) zero m e =
 numbered_place first (suc count) (suc n) m e =
     let h = numbered_place (suc first) count n m e in (omega (arith, h.0), omega (arith, h.1))
 
-behind_place : (k n : ℕ) (places : Places) → place_of (behind k places) n ≡ option_and_then (moved k) (place_of places n)
-behind_place k n places =
+place_of_moved : (k n : ℕ) (places : Places) → place_of (places_moved k places) n ≡ option_and_then (moved k) (place_of places n)
+place_of_moved k n places =
     ap (option_and_then (λ (o : Option ℕ). o)) (slice_get-map (λ (o : Option ℕ). option_and_then (moved k) o) places n)
     ∙ by (slice_get places n)
   where
@@ -95,19 +95,19 @@ stays_placed rules = record { same = same; order = order }
         let b = (numbered_place 0 (length rules) m j f).0 in
         omega (arith, a, b, h)
 
-goes_placed : (k : ℕ) (places : Places) (old new : List Rule) → IsPlaced places old new → IsPlaced (behind k places) old (without k new)
+goes_placed : (k : ℕ) (places : Places) (old new : List Rule) → IsPlaced places old new → IsPlaced (places_moved k places) old (without k new)
 goes_placed k places old new before = record { same = same; order = order }
   where
-    same : (n m : ℕ) → place_of (behind k places) n ≡ Some m → (r : Rule) × (slice_get old n ≡ Some r) × (slice_get (without k new) m ≡ Some r)
+    same : (n m : ℕ) → place_of (places_moved k places) n ≡ Some m → (r : Rule) × (slice_get old n ≡ Some r) × (slice_get (without k new) m ≡ Some r)
     same n m e =
-        let w = was_place k m (place_of places n) (sym (behind_place k n places) ∙ e) in
+        let w = was_place k m (place_of places n) (sym (place_of_moved k n places) ∙ e) in
         let f = before.same n w.0 w.1 in
         (f.0, f.1, without_get k w.0 m new w.2 ∙ f.2)
 
-    order : (n m i j : ℕ) → place_of (behind k places) n ≡ Some i → place_of (behind k places) m ≡ Some j → n < m → i < j
+    order : (n m i j : ℕ) → place_of (places_moved k places) n ≡ Some i → place_of (places_moved k places) m ≡ Some j → n < m → i < j
     order n m i j e f h =
-        let v = was_place k i (place_of places n) (sym (behind_place k n places) ∙ e) in
-        let w = was_place k j (place_of places m) (sym (behind_place k m places) ∙ f) in
+        let v = was_place k i (place_of places n) (sym (place_of_moved k n places) ∙ e) in
+        let w = was_place k j (place_of places m) (sym (place_of_moved k m places) ∙ f) in
         let less : v.0 < w.0 = before.order n m v.0 w.0 v.1 w.1 h in
         let compared : nat_cmp i j ≡ Less = moved_order k v.0 w.0 i j v.2 w.2 ∙ sym (nat_cmp_is v.0 w.0 Less less) in
         ranked i j Less (sym compared)

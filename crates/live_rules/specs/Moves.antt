@@ -19,23 +19,23 @@ pub record IsWith (rules : List Rule) (commands : List Command) (old new : Progr
 abbrev pub Places : Type 0
 Places = List (Option ℕ)
 
--- so many productions, the first of which has this number
+-- the numbers of a count of productions, the first of which has this number
 abbrev pub numbered_from : ℕ → ℕ → Places
 numbered_from first zero = []
 numbered_from first (suc n) = Some first ∷ numbered_from (suc first) n
 
--- so many productions, each with the number that it had
+-- the numbers of a count of productions that have not moved
 abbrev pub unmoved : ℕ → Places
 unmoved n = numbered_from 0 n
 
 -- the same once the production that has this number now is gone
-abbrev pub behind : ℕ → Places → Places
-behind k places = map (λ place. option_and_then (moved k) place) places
+abbrev pub places_moved : ℕ → Places → Places
+places_moved k places = map (λ place. option_and_then (moved k) place) places
 
 -- the same once one is gone, where one goes
-abbrev pub behind_any : Option ℕ → Places → Places
-behind_any None places = places
-behind_any (Some k) places = behind k places
+abbrev pub places_moved_any : Option ℕ → Places → Places
+places_moved_any None places = places
+places_moved_any (Some k) places = places_moved k places
 
 -- these without the one with this number, where there is one
 abbrev pub without_any : {X : Type 0} → Option ℕ → List X → List X
@@ -53,9 +53,9 @@ inst_moved places i = option_map (renumbered i) (place_of places i.rule)
 abbrev pub insts_moved : Places → List Inst → List Inst
 insts_moved places insts = filter_map (inst_moved places) insts
 
--- From the old productions to the new ones some were taken out, one after the other, and some came, each behind all
+-- From the old productions to the new ones some were taken out, one after the other, and some came, each after all
 -- that stood; and these are the new numbers.
 pub data Leads : Places → List Rule → List Rule → Type 0 where
   stays : (rules : List Rule) → Leads (unmoved (length rules)) rules rules
-  goes : {places : Places} {old new : List Rule} → (k : ℕ) → Leads places old new → Leads (behind k places) old (without k new)
+  goes : {places : Places} {old new : List Rule} → (k : ℕ) → Leads places old new → Leads (places_moved k places) old (without k new)
   comes : {places : Places} {old new : List Rule} → (r : Rule) → Leads places old new → Leads places old (new ++ r ∷ [])

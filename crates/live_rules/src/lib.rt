@@ -5,6 +5,6 @@ mod live;
 mod moved;
 mod renewing;
 
-pub use live::Live;
+pub use live::{Live, rule_named, without_any};
 pub use moved::Moved;
 pub use renewing::renew;

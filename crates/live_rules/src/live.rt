@@ -2,7 +2,7 @@
 ghost use Rattle.std.specs.Prelude.{◌≡◌, ◌++◌, ◌∷◌, [], length, IsTrue, IfOk, OnOk, OnErr};
 ghost use Rattle.ops_base.specs.Valid.{rule_builds_from, rule_is_valid};
 ghost use Rattle.ops_meaning.specs.Running.{rule_named, without_named};
-ghost use Rattle.live_rules.specs.Moves.{IsWith, behind_any, without_any};
+ghost use Rattle.live_rules.specs.Moves.{IsWith, places_moved_any, without_any};
 
 use crate::moved::Moved;
 use ops_base::commands::Command;
@@ -32,25 +32,25 @@ fn no_program(alloc: Global) -> Program {
 }
 
 /// The number of the production of a name. Looks at one after the other.
-fn rule_named(rules: &[Rule], name: Sym) -> Option<usize>
+pub fn rule_named(rules: &[Rule], name: Sym) -> Option<usize>
     ensures { result ≡ rule_named rules.now name }
 {
     rules.iter().position(|rule| rule.name == name)
 }
 
-/// These without the one of this number, if it is one.
-fn without_any(rules: Listed<Rule>, number: Option<usize>) -> Listed<Rule>
-    ensures { result ≡ without_any number rules }
+/// These without the one of this number, if there is one. Takes no memory. Goes over those after it.
+pub fn without_any<T: Drop>(items: Listed<T>, number: Option<usize>) -> Listed<T>
+    ensures { result ≡ without_any number items }
 {
     let Some(number) = number else {
-        return rules;
+        return items;
     };
-    if rules.len() <= number {
-        return rules;
+    if items.len() <= number {
+        return items;
     }
-    let mut rules = rules.into_vec();
-    rules.remove(number);
-    Listed::from_vec(rules)
+    let mut items = items.into_vec();
+    items.remove(number);
+    Listed::from_vec(items)
 }
 
 impl Live {
@@ -82,7 +82,7 @@ impl Live {
     pub fn excise(&mut self, name: Sym, moved: &mut Moved) -> Option<usize>
         ensures number { result ≡ rule_named self.old.program.rules name }
         ensures program { IsWith (without_named self.old.program.rules name) self.old.program.commands self.old.program self.new.program }
-        ensures moved { moved.new ≡ behind_any result moved.old }
+        ensures moved { moved.new ≡ places_moved_any result moved.old }
     {
         let number = rule_named(self.program.rules.as_slice(), name);
         let Program {
@@ -98,14 +98,14 @@ impl Live {
         number
     }
 
-    /// Adds a production behind all others. One of its name is taken out, and its number is returned. If memory runs
+    /// Adds a production after all others. One of its name is taken out, and its number is returned. If memory runs
     /// out, nothing has changed. Goes over the productions.
     pub fn add(&mut self, rule: Rule, moved: &mut Moved) -> Result<Option<usize>, OutOfMemory>
         requires valid { IsTrue (rule_is_valid self.old.program.classes (length self.old.program.text) rule) }
         requires builds { IsTrue (rule_builds_from (length self.old.program.templates) rule) }
         ensures number { IfOk result (λ number. number ≡ rule_named self.old.program.rules rule.name) }
         ensures program { OnOk result (IsWith (without_named self.old.program.rules rule.name ++ rule ∷ []) self.old.program.commands self.old.program self.new.program) }
-        ensures moved { IfOk result (λ number. moved.new ≡ behind_any number moved.old) }
+        ensures moved { IfOk result (λ number. moved.new ≡ places_moved_any number moved.old) }
         ensures err { OnErr result (IsWith self.old.program.rules self.old.program.commands self.old.program self.new.program) }
         ensures unmoved { OnErr result (moved.new ≡ moved.old) }
     {

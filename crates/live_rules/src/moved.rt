@@ -1,7 +1,7 @@
 //! The new numbers of productions.
 ghost use Rattle.std.specs.Prelude.{◌≡◌, IfOk, length, option_and_then};
 ghost use Rattle.ops_base.specs.Live.{moved};
-ghost use Rattle.live_rules.specs.Moves.{behind, behind_any, place_of, unmoved};
+ghost use Rattle.live_rules.specs.Moves.{place_of, places_moved, places_moved_any, unmoved};
 
 use ops_base::memory::OutOfMemory;
 use ops_base::programs::Program;
@@ -23,7 +23,7 @@ impl Model for Moved {
 }
 
 /// The number now of the production that had this one, once that with the number `gone` is taken out.
-fn behind(gone: usize, place: Option<usize>) -> Option<usize>
+fn place_moved(gone: usize, place: Option<usize>) -> Option<usize>
     ensures { result ≡ option_and_then (moved gone) place }
 {
     let number = place?;
@@ -36,11 +36,11 @@ fn behind(gone: usize, place: Option<usize>) -> Option<usize>
     }
 }
 
-fn move_behind(gone: usize, places: &mut [Option<usize>])
-    ensures { places.new ≡ behind gone places.old }
+fn move_places(gone: usize, places: &mut [Option<usize>])
+    ensures { places.new ≡ places_moved gone places.old }
 {
     for place in places.iter_mut() {
-        *place = behind(gone, *place);
+        *place = place_moved(gone, *place);
     }
 }
 
@@ -65,10 +65,10 @@ impl Moved {
 
     /// The production that has this number now, if it is one, is taken out. Goes over all.
     pub(crate) fn take_out_any(&mut self, number: Option<usize>)
-        ensures { self.new ≡ behind_any number self.old }
+        ensures { self.new ≡ places_moved_any number self.old }
     {
         if let Some(number) = number {
-            move_behind(number, self.places.as_mut_slice());
+            move_places(number, self.places.as_mut_slice());
         }
     }
 }

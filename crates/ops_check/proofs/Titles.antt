@@ -1,4 +1,4 @@
--- The name of a production that a command adds stands behind those that the commands before it add.
+-- The name of a production that a command adds stands after those that the commands before it add.
 use Rattle.std.proofs.Common.{◌≡◌, Bool, List, [], ◌∷◌, ◌++◌, ◌==◌, ◌||◌, map, refl, ap, ◌∙◌, append-nil}
 use Rattle.std.specs.List.{list_any}
 use Rattle.std.proofs.lemmas.Grind.{flat_map-append}

@@ -42,7 +42,7 @@ added_other cs c e =
 pub added_rule : (cs : List Command) (r : Rule) → added_by (cs ++ command.Add r ∷ []) ≡ added_by cs ++ r ∷ []
 added_rule cs r = flat_map-append added cs (command.Add r ∷ [])
 
--- ---- behind a `make` or a `run`
+-- ---- after a `make` or a `run`
 
 still_late : (b : Bool) {x y : Bool} → (x ≡ true → y ≡ true) → (if b then x else true) ≡ true → (if b then y else true) ≡ true
 still_late true f h = f h

@@ -290,7 +290,7 @@ rules_read classes (r ∷ rs) done rest names plain distinct =
           ∙ ap (λ (xs : List Rule). goes more (Forms ∷ []) (idle behind.0 classes xs [])) all,
     )
 
--- A production that is added has a name of its own, and stands behind a `make` or a `run`.
+-- A production that is added has a name of its own, and stands after a `make` or a `run`.
 abbrev MayCome : List Rule → List Command → Rule → Type 0
 MayCome rules done r =
     ((has_title r.name rules || has_title r.name (added_by done)) ≡ false) × (list_all precedes_rules done ≡ false)

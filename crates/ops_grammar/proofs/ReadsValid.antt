@@ -42,7 +42,7 @@ lexed_placed (suc n) text from le =
 
 -- ---- the walk over their words
 
--- A program is valid, its productions have names of their own, and those that are added stand behind a `make` or a `run`.
+-- A program is valid, its productions have names of their own, and those that are added stand after a `make` or a `run`.
 abbrev is_sound : List Class → List Rule → List Command → ℕ → Bool
 is_sound classes rules commands text = is_valid classes rules [] commands text && titles_are_distinct rules commands && adds_late commands
 

@@ -508,7 +508,7 @@ abbrev pub is_add : Command → Bool
 is_add (command.Add r) = true
 is_add _ = false
 
--- each production that is added stands behind a `make` or a `run`
+-- each production that is added stands after a `make` or a `run`
 abbrev pub adds_late : List Command → Bool
 adds_late [] = true
 adds_late (c ∷ cs) = not (is_add c) && (if precedes_rules c then adds_late cs else true)

@@ -23,7 +23,7 @@ use Rattle.ops_meaning.proofs.EffectLemmas.{fails_short, pending_start, pending_
 use Rattle.ops_io.proofs.PortLemmas.{put_nothing}
 use Rattle.work_store.specs.Stored.{Stored}
 use Rattle.cycle.specs.States.{no_input, state_course}
-use Rattle.live_rules.specs.Moves.{IsWith, Places, goes, comes, behind, behind_any, place_of, insts_moved, without_any}
+use Rattle.live_rules.specs.Moves.{IsWith, Places, goes, comes, places_moved, places_moved_any, place_of, insts_moved, without_any}
 use Rattle.session.specs.Changing.{Excises}
 use Rattle.session.specs.Courses.{meant_by, IsUnderWay}
 use Rattle.session.specs.declared.session.Session.{Session}
@@ -31,8 +31,8 @@ use Rattle.session.proofs.Lines.{lines-append}
 
 -- ---- marks
 
-behind_place : (k n : ℕ) (places : Places) → place_of (behind k places) n ≡ option_and_then (moved k) (place_of places n)
-behind_place k n places =
+place_of_moved : (k n : ℕ) (places : Places) → place_of (places_moved k places) n ≡ option_and_then (moved k) (place_of places n)
+place_of_moved k n places =
     ap (option_and_then (λ (o : Option ℕ). o)) (slice_get-map (λ (o : Option ℕ). option_and_then (moved k) o) places n)
     ∙ by (slice_get places n)
   where
@@ -42,14 +42,14 @@ behind_place k n places =
     by (Some p) = refl
 
 -- the marks move once more where a production goes
-behind_insts : (k : ℕ) (places : Places) (insts : List Inst) → insts_moved (behind k places) insts ≡ moved_insts k (insts_moved places insts)
-behind_insts k places [] = refl
-behind_insts k places (i ∷ insts) =
-    ap (λ o. cons_option (option_map (renumbered i) o) (insts_moved (behind k places) insts)) (behind_place k i.rule places)
-    ∙ by (place_of places i.rule) (behind_insts k places insts)
+insts_of_moved : (k : ℕ) (places : Places) (insts : List Inst) → insts_moved (places_moved k places) insts ≡ moved_insts k (insts_moved places insts)
+insts_of_moved k places [] = refl
+insts_of_moved k places (i ∷ insts) =
+    ap (λ o. cons_option (option_map (renumbered i) o) (insts_moved (places_moved k places) insts)) (place_of_moved k i.rule places)
+    ∙ by (place_of places i.rule) (insts_of_moved k places insts)
   where
-    by : (o : Option ℕ) → insts_moved (behind k places) insts ≡ moved_insts k (insts_moved places insts)
-        → cons_option (option_map (renumbered i) (option_and_then (moved k) o)) (insts_moved (behind k places) insts) ≡ moved_insts k (cons_option (option_map (renumbered i) o) (insts_moved places insts))
+    by : (o : Option ℕ) → insts_moved (places_moved k places) insts ≡ moved_insts k (insts_moved places insts)
+        → cons_option (option_map (renumbered i) (option_and_then (moved k) o)) (insts_moved (places_moved k places) insts) ≡ moved_insts k (cons_option (option_map (renumbered i) o) (insts_moved places insts))
     by None rest = rest
     by (Some m) rest = ap (cons_option (option_map (renumbered i) (moved k m))) rest
 
@@ -61,7 +61,7 @@ module _ {M H : Type 0} (stored : M → Stored) (stands_for : M → List Rule �
 
   -- the one of this number goes, if it is one
   abbrev pub without_one : Option ℕ → Session M H
-  without_one o = record s { breaks = without_any o s.breaks; moved = Some (behind_any o places) }
+  without_one o = record s { breaks = without_any o s.breaks; moved = Some (places_moved_any o places) }
 
   pub without_meant : (o : Option ℕ) (n : Spellings) (z : Coming)
       → meant_by stored (without_any o rules) (without_one o) n z ≡ (let k = meant_by stored rules numbered n z in unwrap_or (option_map (λ a. taken_out a k) o) k)
@@ -69,7 +69,7 @@ module _ {M H : Type 0} (stored : M → Stored) (stands_for : M → List Rule �
   without_meant (Some a) n z =
       let k = meant_by stored rules numbered n z in
       let by : List Inst → Meant = λ fired. record k { rules = without a rules; breaks = without a s.breaks; course = record k.course { fired = fired } } in
-      ap by (behind_insts a places (state_course stored s.state n z).fired)
+      ap by (insts_of_moved a places (state_course stored s.state n z).fired)
 
   pub without_under_way : (o : Option ℕ) → IsUnderWay stored stands_for rules numbered → IsUnderWay stored stands_for (without_any o rules) (without_one o)
   without_under_way None p = record { state = p.state; unmarked = p.unmarked; none_waits = p.none_waits; lawful = p.lawful; last = p.last }
@@ -87,7 +87,7 @@ named_is rules None = refl
 named_is rules (Some n) = refl
 
 module _ {M H : Type 0} (stored : M → Stored) (stands_for : M → List Rule → Type 0) (old new : Program) (s apart : Session M H) (places : Places) (name : Sym) (number : Option ℕ)
-    (apart_is : apart ≡ record s { moved = None }) (is : number ≡ rule_named old.rules name) (numbers : Places) (moves : numbers ≡ behind_any number places)
+    (apart_is : apart ≡ record s { moved = None }) (is : number ≡ rule_named old.rules name) (numbers : Places) (moves : numbers ≡ places_moved_any number places)
     (same : (n : Spellings) (z : Coming) → meant_by stored old.rules (record s { moved = Some places }) n z ≡ meant_by stored old.rules s n z)
     (p : IsUnderWay stored stands_for old.rules (record s { moved = Some places })) where
   -- the session with these breaks
@@ -242,13 +242,13 @@ excised_first column x rest k =
     let here = map line (left_unknown k.rules (x ∷ [])) in
     let told : List ℕ → Effect Ending Meant = λ bytes. writes bytes (fold (λ k name. taken_out_named name k) t rest) in
     let others : Spellings → List Rule → List (List ℕ) = λ ns rules. map (unknown_line ns) (left_unknown rules rest) in
-    let behind = column_after column (lines_at column here) in
+    let next = column_after column (lines_at column here) in
     ap told
     (ap (λ ns. lines_at column (map line ns)) (unknown_first k.rules x rest)
     ∙ ap (lines_at column) (map-append line (left_unknown k.rules (x ∷ [])) (left_unknown (without_named k.rules x) rest))
     ∙ lines-append column here (others k.course.names (without_named k.rules x))
-    ∙ ap (λ rules. lines_at column here ++ lines_at behind (others k.course.names rules)) (sym (taken_rules x k))
-    ∙ ap (λ ns. lines_at column here ++ lines_at behind (others ns t.rules)) (sym (taken_names x k)))
+    ∙ ap (λ rules. lines_at column here ++ lines_at next (others k.course.names rules)) (sym (taken_rules x k))
+    ∙ ap (λ ns. lines_at column here ++ lines_at next (others ns t.rules)) (sym (taken_names x k)))
 
 -- the names from a place on begin with the one there
 excised_here : (column : ℕ) (given : List Sym) (i : ℕ) (d x : Sym) (k : Meant) → i < length given → x ≡ get_or given i d

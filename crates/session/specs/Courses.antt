@@ -48,7 +48,7 @@ pub record IsOf {M : Type 0} (stands_for : M → List Rule → Type 0) (rules : 
   pub stands : stands_for s.matcher rules
   pub specificities : KeepsSpecificities rules s.index.members
 
--- the new numbers so far, where there are so many productions and none has moved yet
+-- the new numbers so far, where there are this many productions and none has moved yet
 abbrev pub places_of : Option Places → ℕ → Places
 places_of None n = unmoved n
 places_of (Some places) n = places

@@ -6,15 +6,13 @@ ghost use Rattle.ops_base.specs.Valid.{rule_builds_from, rule_is_valid};
 ghost use Rattle.ops_io.specs.Coming.{Coming};
 ghost use Rattle.ops_io.specs.Ports.{port};
 ghost use Rattle.ops_meaning.specs.Running.{added};
-ghost use Rattle.live_rules.specs.Moves.{IsWith, without_any};
+ghost use Rattle.live_rules.specs.Moves.{IsWith};
 ghost use Rattle.session.specs.Changing.{Excises};
 ghost use Rattle.session.specs.Courses.{IsUnderWay, meant_by, places_of};
 
-use crate::productions::rule_named;
 use crate::session::Session;
-use live_rules::{Live, Moved};
+use live_rules::{Live, Moved, rule_named, without_any};
 use ops_base::endings::Ending;
-use ops_base::list::Listed;
 use ops_base::memory::OutOfMemory;
 use ops_base::rules::Rule;
 use ops_base::symbols::Names;
@@ -72,21 +70,6 @@ fn numbers_apart<M: Matcher>(
     Ok((session, moved))
 }
 
-/// These without the one of this number, if it is one.
-fn without_any(breaks: Listed<bool>, number: Option<usize>) -> Listed<bool>
-    ensures { result ≡ without_any number breaks }
-{
-    let Some(number) = number else {
-        return breaks;
-    };
-    if breaks.len() <= number {
-        return breaks;
-    }
-    let mut breaks = breaks.into_vec();
-    breaks.remove(number);
-    Listed::from_vec(breaks)
-}
-
 /// A late `p`: adds its production to those in force, in the place of one of its name.
 pub(crate) fn add_production<M: Matcher>(
     alloc: Global,
@@ -113,7 +96,7 @@ pub(crate) fn add_production<M: Matcher>(
     })
 }
 
-/// Takes the production of a name out of those in force, or tells that there is none.
+/// Takes the production of a name out of those in force, or writes that there is none.
 fn excise_one<M: Matcher, K: Sink>(
     alloc: Global,
     live: &mut Live,
@@ -148,8 +131,8 @@ fn excise_one<M: Matcher, K: Sink>(
     }
 }
 
-/// The command `excise`: takes the productions of these names out of those in force, one after the other, and tells the
-/// names of none.
+/// The command `excise`: takes the productions of these names out of those in force, one after the other, and writes
+/// which names no production has.
 pub(crate) fn excise<M: Matcher, K: Sink>(
     alloc: Global,
     live: &mut Live,

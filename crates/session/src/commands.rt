@@ -118,9 +118,9 @@ fn do_in_force<
         Command::Run { count } => {
             run_from(context, names, session, *count, input, source, out, sink)
         }
-        Command::Wm { tags } => list_elements(context, names, session, tags, out, sink),
-        Command::Ppwm { pattern } => list_met(context, names, session, pattern, out, sink),
-        Command::Cs => list_standing(context, names, session, out, sink),
+        Command::Wm { tags } => list_elements(context.program, names, session, tags, out, sink),
+        Command::Ppwm { pattern } => list_met(context.program, names, session, pattern, out, sink),
+        Command::Cs => list_standing(context.program, names, session, out, sink),
         Command::Pm { names: given } => {
             list_productions(context.program, names, session, given, out, sink)
         }

@@ -9,24 +9,21 @@ ghost use Rattle.ops_meaning.specs.Layout.{inst_text, lines_at};
 ghost use Rattle.ops_meaning.specs.Running.{Session as Meant, element_lines, elements_listed, has_values, lists, meets, standing_by};
 ghost use Rattle.ops_base.specs.ConflictSet.{conflict_set};
 ghost use Rattle.conflict_index.specs.Indexed.{KeepsSpecificities};
-ghost use Rattle.cycle.specs.Settles.{Settles};
 ghost use Rattle.session.specs.Courses.{IsUnderWay, ends_unread, standing_in};
 ghost use Rattle.session.specs.Deeds.{Does};
 
-use crate::context::RunContext;
 use crate::session::Session;
 use conflict_index::Index;
 use ops_base::commands::Fixed;
-use ops_base::elements::{Change, Element};
+use ops_base::elements::Element;
 use ops_base::endings::Ending;
 use ops_base::list::Listed;
-use ops_base::memory::OutOfMemory;
 use ops_base::programs::Program;
 use ops_base::symbols::Names;
 use ops_base::values::{NOTHING, Value};
 use ops_io::{Out, Sink, WriteFailed};
 use ops_print::{put_element_line, put_inst_line};
-use work_store::{Matcher, Settled, Store};
+use work_store::{Matcher, Store};
 
 /// Puts the lines of all elements, by rising tag. Takes no memory.
 fn put_all<K: Sink>(
@@ -95,33 +92,28 @@ fn put_elements<K: Sink>(
 }
 
 /// The command `wm`: lists the elements of these tags, or all where no tag is given.
-pub(crate) fn list_elements<
-    M: Matcher,
-    H: Fn(M, &[Change]) -> Result<Settled<M>, OutOfMemory>,
-    K: Sink,
->(
-    context: &RunContext<'_, H>,
+pub(crate) fn list_elements<M: Matcher, K: Sink>(
+    program: &Program,
     names: &Names,
     session: Session<M>,
     tags: &Listed<u64>,
     out: &mut Out,
     sink: &mut K,
 ) -> Result<Session<M>, Ending>
-    requires settles { Settles M.stored M.found M.stands_for (λ m cs. H.pre context.now.settle.now m cs) (λ m cs r. H.post context.now.settle.now m cs r) }
-    requires under_way { IsUnderWay M.stored M.stands_for context.now.program.now.rules session }
+    requires under_way { IsUnderWay M.stored M.stands_for program.now.rules session }
     requires none_waits { session.pending ≡ [] }
     requires whole { IsTrue out.old.whole }
     requires faults { K.faults sink.old < 2 ^ 63 }
-    ensures { Does M.stored M.stands_for context.now.program.now.rules names.now session result
+    ensures { Does M.stored M.stands_for program.now.rules names.now session result
         (port (K.taken sink.old) (K.faults sink.old) out.old)
         (port (K.taken sink.new) (K.faults sink.new) out.new)
-        (λ k. lists out.old.column (element_lines k.course.names context.now.program.now.classes (elements_listed k.course.wm tags.now)) k) }
+        (λ k. lists out.old.column (element_lines k.course.names program.now.classes (elements_listed k.course.wm tags.now)) k) }
 {
     put_elements(
         out,
         sink,
         names,
-        context.program,
+        program,
         session.state.store(),
         tags.as_slice(),
     )?;
@@ -218,32 +210,24 @@ fn put_met<K: Sink>(
 }
 
 /// The command `ppwm`: lists the elements that meet a pattern.
-pub(crate) fn list_met<M: Matcher, H: Fn(M, &[Change]) -> Result<Settled<M>, OutOfMemory>, K: Sink>(
-    context: &RunContext<'_, H>,
+pub(crate) fn list_met<M: Matcher, K: Sink>(
+    program: &Program,
     names: &Names,
     session: Session<M>,
     pattern: &Option<(usize, Listed<Fixed>)>,
     out: &mut Out,
     sink: &mut K,
 ) -> Result<Session<M>, Ending>
-    requires settles { Settles M.stored M.found M.stands_for (λ m cs. H.pre context.now.settle.now m cs) (λ m cs r. H.post context.now.settle.now m cs r) }
-    requires under_way { IsUnderWay M.stored M.stands_for context.now.program.now.rules session }
+    requires under_way { IsUnderWay M.stored M.stands_for program.now.rules session }
     requires none_waits { session.pending ≡ [] }
     requires whole { IsTrue out.old.whole }
     requires faults { K.faults sink.old < 2 ^ 63 }
-    ensures { Does M.stored M.stands_for context.now.program.now.rules names.now session result
+    ensures { Does M.stored M.stands_for program.now.rules names.now session result
         (port (K.taken sink.old) (K.faults sink.old) out.old)
         (port (K.taken sink.new) (K.faults sink.new) out.new)
-        (λ k. lists out.old.column (element_lines k.course.names context.now.program.now.classes (filter (meets pattern.now) k.course.wm)) k) }
+        (λ k. lists out.old.column (element_lines k.course.names program.now.classes (filter (meets pattern.now) k.course.wm)) k) }
 {
-    put_met(
-        out,
-        sink,
-        names,
-        context.program,
-        session.state.store(),
-        pattern,
-    )?;
+    put_met(out, sink, names, program, session.state.store(), pattern)?;
     Ok(session)
 }
 
@@ -271,29 +255,24 @@ fn put_standing<K: Sink>(
 }
 
 /// The command `cs`: lists the instantiations that have not fired, the dominant one first.
-pub(crate) fn list_standing<
-    M: Matcher,
-    H: Fn(M, &[Change]) -> Result<Settled<M>, OutOfMemory>,
-    K: Sink,
->(
-    context: &RunContext<'_, H>,
+pub(crate) fn list_standing<M: Matcher, K: Sink>(
+    program: &Program,
     names: &Names,
     session: Session<M>,
     out: &mut Out,
     sink: &mut K,
 ) -> Result<Session<M>, Ending>
-    requires settles { Settles M.stored M.found M.stands_for (λ m cs. H.pre context.now.settle.now m cs) (λ m cs r. H.post context.now.settle.now m cs r) }
-    requires under_way { IsUnderWay M.stored M.stands_for context.now.program.now.rules session }
+    requires under_way { IsUnderWay M.stored M.stands_for program.now.rules session }
     requires none_waits { session.pending ≡ [] }
     requires current { session.moved ≡ None }
     requires whole { IsTrue out.old.whole }
     requires faults { K.faults sink.old < 2 ^ 63 }
-    ensures { Does M.stored M.stands_for context.now.program.now.rules names.now session result
+    ensures { Does M.stored M.stands_for program.now.rules names.now session result
         (port (K.taken sink.old) (K.faults sink.old) out.old)
         (port (K.taken sink.new) (K.faults sink.new) out.new)
-        (λ k. lists out.old.column (map (inst_text k.course.names context.now.program.now.rules)
-        (standing_by (conflict_set context.now.program.now.rules) context.now.program.now.rules k.course)) k) }
+        (λ k. lists out.old.column (map (inst_text k.course.names program.now.rules)
+        (standing_by (conflict_set program.now.rules) program.now.rules k.course)) k) }
 {
-    put_standing(out, sink, names, context.program, session.state.index())?;
+    put_standing(out, sink, names, program, session.state.index())?;
     Ok(session)
 }

@@ -3,13 +3,14 @@ ghost use Rattle.std.specs.Prelude.{◌≡◌, ◌==◌, ◌^◌, ◌<◌, ◌�
 ghost use Rattle.std.specs.Option.{option_copied};
 ghost use Rattle.ops_io.specs.Ports.{port, PutsBytes};
 ghost use Rattle.ops_meaning.specs.Layout.{break_line, line_at, lines_at, unknown_line};
-ghost use Rattle.ops_meaning.specs.Running.{all_toggled, break_lines, breaks_given, lists, production_line, rule_named, rule_text, toggled, unknown_of};
+ghost use Rattle.ops_meaning.specs.Running.{all_toggled, break_lines, breaks_given, lists, production_line, rule_text, toggled, unknown_of};
 ghost use Rattle.act_phase.specs.Outcomes.{setting_of};
 ghost use Rattle.session.specs.Courses.{IsUnderWay};
 ghost use Rattle.session.specs.Deeds.{Does};
 
 use crate::runs::has_break;
 use crate::session::Session;
+use live_rules::rule_named;
 use ops_base::endings::Ending;
 use ops_base::list::Listed;
 use ops_base::programs::Program;
@@ -25,13 +26,6 @@ fn production(rules: &[Rule], name: Sym) -> Option<&Rule>
     ensures { option_copied result ≡ find (λ r. r.name.0 == name.0) rules.now }
 {
     rules.iter().find(|rule| rule.name == name)
-}
-
-/// The number of the production of a name. Looks at one after the other.
-pub(crate) fn rule_named(rules: &[Rule], name: Sym) -> Option<usize>
-    ensures { result ≡ rule_named rules.now name }
-{
-    rules.iter().position(|rule| rule.name == name)
 }
 
 /// The bytes of a production, from its bracket to its bracket.

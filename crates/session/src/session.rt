@@ -99,7 +99,7 @@ pub(crate) fn make_pending<M: Matcher, H: Fn(M, &[Change]) -> Result<Settled<M>,
     })
 }
 
-/// Whether so many makes wait that it is time to make their phases.
+/// Whether enough makes wait for their phases to be made.
 pub(crate) fn is_full<M: Matcher>(session: &Session<M>) -> bool {
     let waiting = session.pending.len();
     waiting >= PENDING_LIMIT && waiting >= session.state.store().len()

@@ -48,9 +48,9 @@ fn known_ending<M: Matcher>(done: Result<Session<M>, Ending>) -> Result<Ending, 
 }
 
 /// Does the commands of a program in order, from nothing. At first the productions are those before the first `make` or
-/// `run`; `live` has those in force at the end, and no commands. Each symbol keeps its spelling, and wherever the session
-/// looks for instantiations it looks at the conflict set of the productions in force. Where a read fails, all that was
-/// put before is written out.
+/// `run`. The commands are taken from `live`, and its productions come and go with them. Each symbol keeps its spelling,
+/// and wherever the session looks for instantiations it looks at the conflict set of the productions in force. Where a
+/// read fails, all that was put before is written out.
 pub fn run_session<
     B: Maker,
     H: Fn(B::M, &[Change]) -> Result<Settled<B::M>, OutOfMemory>,

@@ -10,22 +10,22 @@ pub returns-in_err-put_elements : goal.returns-in_err-put_elements
 returns-in_err-put_elements g c =
     let p = err_from_is_err_and c.from_residual.result c.from_residual.ensures.1 in
     rw p.1
-    (unlisted g.M.Matcher.stored g.M.Matcher.stands_for c.args.context.now.program.now.rules c.args.names.now c.args.session c.args.session (λ z. refl) _ _
-    (λ k. element_lines k.course.names c.args.context.now.program.now.classes (elements_listed k.course.wm c.args.tags.now))
-    (element_lines c.args.names.now c.args.context.now.program.now.classes (elements_listed c.store.result.now.elements c.as_slice.result.now))
+    (unlisted g.M.Matcher.stored g.M.Matcher.stands_for c.args.program.now.rules c.args.names.now c.args.session c.args.session (λ z. refl) _ _
+    (λ k. element_lines k.course.names c.args.program.now.classes (elements_listed k.course.wm c.args.tags.now))
+    (element_lines c.args.names.now c.args.program.now.classes (elements_listed c.store.result.now.elements c.as_slice.result.now))
     (λ z.
-    ap (λ (x : Stored). element_lines c.args.names.now c.args.context.now.program.now.classes (elements_listed x.elements c.as_slice.result.now)) c.store.ensures
-    ∙ ap (λ tags. element_lines c.args.names.now c.args.context.now.program.now.classes (elements_listed (g.M.Matcher.stored c.args.session.state.matcher).elements tags)) c.as_slice.ensures
-    ∙ ap (λ wm. element_lines c.args.names.now c.args.context.now.program.now.classes (elements_listed wm c.args.tags.now)) (all_stored g.M.Matcher.stored c.args.session c.args.names.now z c.requires.none_waits))
+    ap (λ (x : Stored). element_lines c.args.names.now c.args.program.now.classes (elements_listed x.elements c.as_slice.result.now)) c.store.ensures
+    ∙ ap (λ tags. element_lines c.args.names.now c.args.program.now.classes (elements_listed (g.M.Matcher.stored c.args.session.state.matcher).elements tags)) c.as_slice.ensures
+    ∙ ap (λ wm. element_lines c.args.names.now c.args.program.now.classes (elements_listed wm c.args.tags.now)) (all_stored g.M.Matcher.stored c.args.session c.args.names.now z c.requires.none_waits))
     p.0 p.2 c.in_err-put_elements.ensures)
 
 pub returns : goal.returns
 returns g c =
-    listed g.M.Matcher.stored g.M.Matcher.stands_for c.args.context.now.program.now.rules c.args.names.now c.args.session c.args.session (λ z. refl) _ _
-    (λ k. element_lines k.course.names c.args.context.now.program.now.classes (elements_listed k.course.wm c.args.tags.now))
-    (element_lines c.args.names.now c.args.context.now.program.now.classes (elements_listed c.store.result.now.elements c.as_slice.result.now))
+    listed g.M.Matcher.stored g.M.Matcher.stands_for c.args.program.now.rules c.args.names.now c.args.session c.args.session (λ z. refl) _ _
+    (λ k. element_lines k.course.names c.args.program.now.classes (elements_listed k.course.wm c.args.tags.now))
+    (element_lines c.args.names.now c.args.program.now.classes (elements_listed c.store.result.now.elements c.as_slice.result.now))
     (λ z.
-    ap (λ (x : Stored). element_lines c.args.names.now c.args.context.now.program.now.classes (elements_listed x.elements c.as_slice.result.now)) c.store.ensures
-    ∙ ap (λ tags. element_lines c.args.names.now c.args.context.now.program.now.classes (elements_listed (g.M.Matcher.stored c.args.session.state.matcher).elements tags)) c.as_slice.ensures
-    ∙ ap (λ wm. element_lines c.args.names.now c.args.context.now.program.now.classes (elements_listed wm c.args.tags.now)) (all_stored g.M.Matcher.stored c.args.session c.args.names.now z c.requires.none_waits))
+    ap (λ (x : Stored). element_lines c.args.names.now c.args.program.now.classes (elements_listed x.elements c.as_slice.result.now)) c.store.ensures
+    ∙ ap (λ tags. element_lines c.args.names.now c.args.program.now.classes (elements_listed (g.M.Matcher.stored c.args.session.state.matcher).elements tags)) c.as_slice.ensures
+    ∙ ap (λ wm. element_lines c.args.names.now c.args.program.now.classes (elements_listed wm c.args.tags.now)) (all_stored g.M.Matcher.stored c.args.session c.args.names.now z c.requires.none_waits))
     c.in_ok-put_elements.ensures c.requires.under_way

@@ -2,7 +2,7 @@ use Rattle.std.proofs.Common.{◌≡◌, ℕ, ◌-◌, ◌<◌, ◌≤◌, suc, 
 use Rattle.std.specs.Prelude.{option_and_then}
 use Rattle.ops_base.specs.Live.{moved}
 use Rattle.live_rules.proofs.Numbers.{moved_same, moved_above, moved_below}
-use Rattle.live_rules.proofs.moved.behind.Goals as goal
+use Rattle.live_rules.proofs.moved.place_moved.Goals as goal
 
 -- where the place is this number
 at : (gone number : ℕ) (place : Option ℕ) → place ≡ Some number → moved gone number ≡ option_and_then (moved gone) place
