@@ -66,7 +66,13 @@ fn program(alloc: Global) -> Result<Program, OutOfMemory> {
         past: 0,
     };
     let rules = one(alloc, rule)?;
-    Ok(Program::new(classes, rules, Listed::new(alloc), Listed::new(alloc)))
+    Ok(Program::new(
+        classes,
+        rules,
+        Listed::new(alloc),
+        Listed::new(alloc),
+        Listed::new(alloc),
+    ))
 }
 
 fn element(alloc: Global, tag: u64, class: usize) -> Element
