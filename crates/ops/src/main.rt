@@ -1,31 +1,19 @@
 //! Runs programs of OPS5.
 #![tactic(auto)]
 
-ghost use Rattle.std.specs.Prelude.{◌≡◌, IfOk, drop};
-ghost use Rattle.std.specs.Iterator.{IsFinite};
-ghost use Rattle.std.specs.Iterator.Runs.{WholeRun};
-
 use ops_io::{OpenGate, StdShelf, StdSink, StdSource};
 use ops_top::{Status, code, ops_run};
+use ops_words::words_after_name;
 use std::alloc::{AllocError, AllocGlobal, Global};
 use std::io::IsTerminal;
 use std::process::ExitCode;
 use std::rt::Env;
 use std::{env, io};
 
-/// All of these words but the first, in their order.
-fn rest_of<I: Iterator<Item = String>>(alloc: Global, words: I) -> Result<Vec<String>, AllocError>
-    requires can { I.can_next words }
-    requires finite { IsFinite (I.remaining words) }
-    ensures { IfOk result (λ rest. WholeRun I.next_gives words (λ all. rest.items ≡ drop 1 all.items)) }
-{
-    words.skip(1).collect(alloc)
-}
-
 /// The words after the program's name. Where one is not UTF-8 no words are given, which fit as little as that one.
 fn words_of<R: Env + AllocGlobal>(alloc: Global, rt: &R) -> Result<Vec<String>, AllocError> {
     match env::args(rt) {
-        Ok(words) => rest_of(alloc, words),
+        Ok(arguments) => words_after_name(alloc, arguments),
         Err(error) => {
             if error.kind() == io::ErrorKind::OutOfMemory {
                 return Err(AllocError);

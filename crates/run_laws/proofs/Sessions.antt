@@ -256,11 +256,13 @@ module _ (P : Setting → ℕ → Inst → Course → Type 0) (holds : HoldsNext
   command_good : (column : ℕ) (c : Command) (k : Session) → command_is_valid s.classes (length s.text) c ≡ true → GoodSession k
       → EachOfCommand P (in_force s k) limit column c k × IfOk (command_done (in_force s k) limit column c k).outcome GoodSession
   command_good column (command.Make class puts) k h g =
-      let e = element_made s.classes class puts k.course in
-      (tt, record {
-        course = record { kept = added_kept k.course.wm k.course.last e (omega arith) g.course.kept; whole = one_more s.classes k.course.wm e g.course.whole (made_whole (in_force s k) class puts k.course (sound_in k g) h) };
-        rules = g.rules;
-      })
+      let e = element_made s.classes class puts k.course in (
+        tt,
+        record {
+          course = record { kept = added_kept k.course.wm k.course.last e (omega arith) g.course.kept; whole = one_more s.classes k.course.wm e g.course.whole (made_whole (in_force s k) class puts k.course (sound_in k g) h) };
+          rules = g.rules;
+        },
+      )
   command_good column (command.Remove tags) k h g = (
     tt,
     record {

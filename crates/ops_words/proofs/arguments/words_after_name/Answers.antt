@@ -1,6 +1,6 @@
 use Rattle.std.proofs.Common.{◌∙◌}
 use Rattle.std.proofs.lemmas.Result.{IfOk-weaker}
-use Rattle.ops.proofs.rest_of.Goals as goal
+use Rattle.ops_words.proofs.arguments.words_after_name.Goals as goal
 
 pub returns : goal.returns
 returns g c =
