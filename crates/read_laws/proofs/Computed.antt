@@ -10,6 +10,8 @@ use Rattle.read_laws.specs.LeftSides.{OperatorsMean, OperandsMean, PartsMean}
 use Rattle.read_laws.specs.RightSides.{ActionsMean, TermsMean, OperationsMean, ItemsMean}
 use Rattle.read_laws.specs.Commands.{CommandsMean}
 use Rattle.read_laws.specs.Options.{OptionsMean}
+use Rattle.read_laws.specs.Groups.{GroupsCount}
+use Rattle.read_laws.specs.Faults.{FormsFail, GroupsFail, RightSidesFail, FunctionsFail, CommandsFail}
 
 pub operators : OperatorsMean
 unfolding reads token_at is_operator is_whole is_fraction is_variable decimal step ends goes
@@ -46,3 +48,27 @@ commands = (refl, refl, refl, refl, refl, refl, refl, refl, refl, refl, refl, re
 pub options : OptionsMean
 unfolding pieces_from
 options = (refl, refl, refl, refl, refl, refl, refl, refl, refl, refl)
+
+pub groups : GroupsCount
+unfolding reads token_at is_operator is_whole is_fraction is_variable decimal step ends goes
+groups = (refl, refl, refl, refl, refl)
+
+pub forms_fail : FormsFail
+unfolding reads token_at is_operator is_whole is_fraction is_variable decimal step ends goes
+forms_fail = (refl, refl, refl, refl, refl, refl, refl, refl, refl, refl, refl, refl, refl, refl, refl, refl, refl, refl, refl, refl, refl, refl, refl, refl, refl, refl, refl, refl, refl, refl, refl, refl, refl, refl, refl, refl, refl, refl, refl, refl, refl, refl, refl, refl, refl, refl, refl, refl, refl, refl, refl, refl, refl, refl)
+
+pub groups_fail : GroupsFail
+unfolding reads token_at is_operator is_whole is_fraction is_variable decimal step ends goes
+groups_fail = (refl, refl, refl, refl, refl, refl, refl, refl, refl, refl, refl, refl, refl, refl, refl, refl, refl, refl, refl, refl, refl, refl, refl, refl, refl)
+
+pub right_sides_fail : RightSidesFail
+unfolding reads token_at is_operator is_whole is_fraction is_variable decimal step ends goes
+right_sides_fail = (refl, refl, refl, refl, refl, refl, refl, refl, refl, refl, refl, refl, refl, refl, refl, refl, refl, refl, refl, refl, refl, refl, refl, refl, refl, refl, refl, refl, refl, refl)
+
+pub functions_fail : FunctionsFail
+unfolding reads token_at is_operator is_whole is_fraction is_variable decimal step ends goes
+functions_fail = (refl, refl, refl, refl, refl, refl, refl, refl, refl, refl)
+
+pub commands_fail : CommandsFail
+unfolding reads token_at is_operator is_whole is_fraction is_variable decimal step ends goes
+commands_fail = (refl, refl, refl, refl, refl, refl, refl, refl, refl, refl, refl, refl, refl, refl, refl, refl, refl, refl, refl)

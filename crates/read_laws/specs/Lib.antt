@@ -4,3 +4,5 @@ pub mod LeftSides
 pub mod RightSides
 pub mod Commands
 pub mod Options
+pub mod Groups
+pub mod Faults

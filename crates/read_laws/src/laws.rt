@@ -5,6 +5,8 @@ ghost use Rattle.read_laws.specs.LeftSides.{OperatorsMean, OperandsMean, PartsMe
 ghost use Rattle.read_laws.specs.RightSides.{ActionsMean, TermsMean, OperationsMean, ItemsMean};
 ghost use Rattle.read_laws.specs.Commands.{CommandsMean};
 ghost use Rattle.read_laws.specs.Options.{OptionsMean};
+ghost use Rattle.read_laws.specs.Groups.{GroupsCount};
+ghost use Rattle.read_laws.specs.Faults.{FormsFail, GroupsFail, RightSidesFail, FunctionsFail, CommandsFail};
 
 /// The tests and the conditions of a left side.
 pub fn left_sides_mean()
@@ -29,4 +31,18 @@ pub fn commands_mean()
 /// The options of the command line.
 pub fn options_mean()
     ensures { OptionsMean }
+{}
+
+/// The variables and the specificity of productions with groups.
+pub fn groups_count()
+    ensures { GroupsCount }
+{}
+
+/// Texts that are no program: the fault of each, with its line and its column.
+pub fn faults_stand()
+    ensures forms { FormsFail }
+    ensures groups { GroupsFail }
+    ensures right_sides { RightSidesFail }
+    ensures functions { FunctionsFail }
+    ensures commands { CommandsFail }
 {}

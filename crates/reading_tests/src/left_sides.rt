@@ -3,7 +3,6 @@ ghost use Rattle.std.specs.Prelude.{◌≡◌, IfOk};
 
 use ops_base::conditions::Part;
 use ops_base::elements::Class;
-use ops_base::endings::Fault;
 use ops_base::list::Listed;
 use ops_base::memory::OutOfMemory;
 use ops_base::symbols::Names;
@@ -104,18 +103,4 @@ fn group_is_read(rt: HostRuntime) -> Result<(), ReadFault> {
     assert_eq!(rt; scope.cells.as_slice(), &[0, 1][..]);
     assert_eq!(rt; scope.conditions.as_slice(), &[Some(0), None, Some(1)][..]);
     Ok(())
-}
-
-#[test]
-fn refusals_have_bytes(rt: HostRuntime) {
-    let rows: [(&[u8], Fault, usize); 2] = [
-        (b"(p r (a ^q 1) --> (halt))", Fault::UnknownAttribute, 9),
-        (b"(p r (a ^x 1) ", Fault::Unclosed, 13),
-    ];
-    for (text, fault, at) in rows {
-        assert_eq!(rt;
-            read(rt.alloc(), text).err(),
-            Some(ReadFault::At { fault, at })
-        );
-    }
 }

@@ -8,8 +8,6 @@ mod devices;
 #[cfg(test)]
 mod forms;
 #[cfg(test)]
-mod functions;
-#[cfg(test)]
 mod groups;
 #[cfg(test)]
 mod left_sides;

@@ -151,21 +151,3 @@ fn brackets_are_limited(rt: HostRuntime) -> Result<(), OutOfMemory> {
     }
     Ok(())
 }
-
-#[test]
-fn refusals_have_bytes(rt: HostRuntime) {
-    let rows: [(&[u8], Fault, usize); 6] = [
-        (b"(p r --> (bind <w> <w>))", Fault::UnboundVariable, 19),
-        (b"(p r --> (remove 3))", Fault::AmbiguousDesignator, 17),
-        (b"(p r --> (make b ^q 1))", Fault::UnknownAttribute, 18),
-        (b"(p r --> (write (tabto 1025)))", Fault::BadForm, 23),
-        (b"(p r --> (write (compute 1 +)))", Fault::BadForm, 28),
-        (b"(p r --> (halt) ", Fault::Unclosed, 15),
-    ];
-    for (text, fault, at) in rows {
-        assert_eq!(rt;
-            read(rt.alloc(), text).err(),
-            Some(ReadFault::At { fault, at })
-        );
-    }
-}
