@@ -249,27 +249,6 @@ fn fire(index: &mut Index, program: &Program, inst: &Inst)
     index.mark(inst);
 }
 
-/// An index with the same members and marks.
-fn made_anew(
-    alloc: Global,
-    program: &Program,
-    index: &Index,
-    first: &[u64],
-    second: &[u64],
-) -> Result<Index, OutOfMemory>
-    requires { length program.now.rules ≡ 2 }
-{
-    let come = two(alloc, inst(alloc, 0, first)?, inst(alloc, 1, second)?)?;
-    let marks = index.marks(alloc)?;
-    Index::with_marks(
-        alloc,
-        index.strategy(),
-        program,
-        come.as_slice(),
-        marks.as_slice(),
-    )
-}
-
 #[test]
 fn nothing_is_indexed(rt: HostRuntime) -> Result<(), Fail> {
     let index = Index::new(rt.alloc());
@@ -339,23 +318,5 @@ fn a_mark_is_forgotten_where_its_member_goes(rt: HostRuntime) -> Result<(), Fail
     leave(&mut index, &program, &only)?;
     enter(&mut index, &program, &only)?;
     assert_eq!(rt; (selected(&index), rule_at(&index, 0)), (Some(1), Some(1)));
-    Ok(())
-}
-
-#[test]
-fn marks_are_kept_in_an_index_made_anew(rt: HostRuntime) -> Result<(), Fail> {
-    let alloc = rt.alloc();
-    let program = first_and_second(alloc)?;
-    let only = inst(alloc, 1, &[4])?;
-    let mut index = Index::new(alloc);
-    enter(&mut index, &program, &only)?;
-    fire(&mut index, &program, &only);
-    assert_eq!(rt; index.marks(alloc)?.len(), 1);
-    let next = made_anew(alloc, &program, &index, &[4], &[4])?;
-    assert_eq!(rt; (selected(&next), rule_at(&next, 1)), (Some(0), None));
-    assert_eq!(rt; next.marks(alloc)?.len(), 1);
-    let other = made_anew(alloc, &program, &index, &[4], &[5])?;
-    assert_eq!(rt; (selected(&other), rule_at(&other, 1)), (Some(1), Some(0)));
-    assert_eq!(rt; other.marks(alloc)?.len(), 0);
     Ok(())
 }
