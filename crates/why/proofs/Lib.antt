@@ -1,0 +1,5 @@
+pub mod Walks
+pub mod Once
+pub mod PartialMatches
+pub mod Explanations
+pub mod Instantiations

@@ -1,0 +1,3 @@
+pub mod Partials
+pub mod Bindings
+pub mod Explaining

@@ -1,0 +1,10 @@
+//! Why a rule does not fire: its partial matches, and its instantiations with what they bind or else the first part up
+//! to which nothing meets its parts.
+#![tactic(auto)]
+
+pub mod explaining;
+pub mod laws;
+pub mod partials;
+
+pub use explaining::{BoundInst, Why, explain};
+pub use partials::upto;
