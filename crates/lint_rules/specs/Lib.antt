@@ -1,0 +1,4 @@
+pub mod Texts
+pub mod Spelled
+pub mod Slips
+pub mod Walks

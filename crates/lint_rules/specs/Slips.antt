@@ -1,0 +1,120 @@
+-- The words of a text that are probably slips, by what stands before them.
+use Rattle.std.specs.Prelude.{ℕ, ◌+◌, ◌-◌, List, [], ◌∷◌, ◌++◌, codes, bytes_eq, Bool, true, false, ◌==◌, ◌&&◌, nat_lt, if◌then◌else◌, Option, Some, None}
+use Rattle.ops_tokens.specs.declared.token.Token.{Token}
+use Rattle.ops_tokens.specs.declared.token.TokenKind.{TokenKind}
+use Rattle.ops_tokens.specs.declared.token.TokenKind.TheVariants as kind
+use Rattle.ops_tokens.specs.Tokens.{spelling}
+use Rattle.ops_grammar.specs.Words.{lexed}
+use Rattle.lint_rules.specs.declared.slips.Slip.{Slip}
+use Rattle.lint_rules.specs.declared.slips.Slip.TheVariants as slip
+use Rattle.lint_rules.specs.declared.slips.Warning.{Warning}
+use Rattle.lint_rules.specs.declared.walk.Before.{Before}
+use Rattle.lint_rules.specs.declared.walk.Before.TheVariants as before
+use Rattle.lint_rules.specs.declared.walk.Context.{Context}
+use Rattle.lint_rules.specs.Spelled.{is_clips_variable, is_clips_test, is_joined, is_joined_variable, is_string}
+
+-- ---- what stands before a word
+
+abbrev pub at_start : Context
+at_start = record { depth = 0; conditions = false; write = 0; choice = false; before = before.Other }
+
+abbrev pub is_literal : Before → Bool
+is_literal before.Literal = true
+is_literal _ = false
+
+-- What stands right before it is no bracket, no `//` and no `p`.
+abbrev pub plain : Context → Context
+plain c = record c { before = before.Other }
+
+abbrev pub behind_left : Context → Context
+behind_left c = record c { depth = c.depth + 1; choice = false; before = before.Bracket }
+
+abbrev pub behind_right : Context → Context
+behind_right c =
+    record {
+      depth = c.depth - 1;
+      conditions = c.conditions && nat_lt 1 c.depth;
+      write = if c.write == c.depth then 0 else c.write;
+      choice = false;
+      before = before.Other;
+    }
+
+-- `//` makes a literal of the word behind it. An operator that is such a literal has no other meaning, but >> always
+-- ends a choice, in which `//` is a value.
+abbrev pub behind_operator : Context → List ℕ → Context
+behind_operator c s =
+    if bytes_eq s (codes "//") then record c { before = before.Literal }
+    else if bytes_eq s (codes ">>") then record c { choice = false; before = before.Other }
+    else if is_literal c.before then plain c
+    else if bytes_eq s (codes "<<") then record c { choice = true; before = before.Other }
+    else if bytes_eq s (codes "-->") then record c { conditions = false; before = before.Other }
+    else plain c
+
+-- The first word of a form tells that conditions follow its name, and the first word behind any bracket that values
+-- are written.
+abbrev pub behind_head : Context → List ℕ → Context
+behind_head c s =
+    if bytes_eq s (codes "p") && (c.depth == 1) then record c { conditions = true; before = before.Production }
+    else if bytes_eq s (codes "write") then record c { write = c.depth; before = before.Other }
+    else plain c
+
+abbrev pub behind_symbol : Before → Context → List ℕ → Context
+behind_symbol before.Bracket c s = behind_head c s
+behind_symbol _ c s = plain c
+
+-- behind a token of this kind and spelling
+abbrev pub behind : TokenKind → Context → List ℕ → Context
+behind kind.Left c s = behind_left c
+behind kind.Right c s = behind_right c
+behind kind.Operator c s = behind_operator c s
+behind kind.Symbol c s = behind_symbol c.before c s
+behind _ c s = plain c
+
+-- ---- which words are told
+
+-- a symbol: as a variable of CLIPS and a string anywhere, as a test in conditions alone, and `crlf` among the values
+-- of a `write`
+abbrev pub slip_of_symbol : Context → List ℕ → Option Slip
+slip_of_symbol c s =
+    if is_clips_variable s then Some slip.ClipsVariable
+    else if c.conditions && is_clips_test s then Some slip.ClipsTest
+    else if c.conditions && is_joined s then Some slip.JoinedPredicate
+    else if is_string s then Some slip.QuotedString
+    else if bytes_eq s (codes "crlf") && nat_lt 0 c.write && (c.write == c.depth) then Some slip.PlainCrlf
+    else None
+
+abbrev pub slip_of_variable : Context → List ℕ → Option Slip
+slip_of_variable c s =
+    if c.choice then Some slip.ChosenVariable
+    else if c.conditions && is_joined_variable s then Some slip.JoinedVariable
+    else None
+
+abbrev pub slip_by : TokenKind → Context → List ℕ → Option Slip
+slip_by kind.Symbol c s = slip_of_symbol c s
+slip_by kind.Variable c s = slip_of_variable c s
+slip_by _ c s = None
+
+-- neither a literal nor the name of a production is told
+abbrev pub slip_behind : Before → TokenKind → Context → List ℕ → Option Slip
+slip_behind before.Literal k c s = None
+slip_behind before.Production k c s = None
+slip_behind _ k c s = slip_by k c s
+
+abbrev pub slip_of : TokenKind → Context → List ℕ → Option Slip
+slip_of k c s = slip_behind c.before k c s
+
+-- ---- the words of a text
+
+abbrev pub told_of : Token → Option Slip → List Warning
+told_of t None = []
+told_of t (Some s) = record { slip = s; first = t.first; past = t.past } ∷ []
+
+-- the slips among tokens of a text, in order
+abbrev pub slips_among : List ℕ → Context → List Token → List Warning
+slips_among text c [] = []
+slips_among text c (t ∷ ts) =
+    told_of t (slip_of t.kind c (spelling text t)) ++ slips_among text (behind t.kind c (spelling text t)) ts
+
+-- all slips of a text, up to its first lexical fault
+abbrev pub slips_of : List ℕ → List Warning
+slips_of text = slips_among text at_start (lexed text).tokens

@@ -1,0 +1,254 @@
+//! The walk over the tokens of a text.
+ghost use Rattle.std.specs.Prelude.{◌≡◌, ◌<◌, ◌≤◌, ◌+◌, ◌^◌, ◌++◌, take, length, IfOk, OnOk};
+ghost use Rattle.ops_tokens.specs.Tokens.{spelling, LiesIn};
+ghost use Rattle.lint_rules.specs.Slips.{behind_left, behind_right, behind_operator, behind_head, behind_symbol, behind, slip_of_symbol, slip_of_variable, slip_by, slip_of, slips_of, plain, told_of};
+ghost use Rattle.lint_rules.specs.Walks.{StandsBefore};
+
+use crate::bytes::{
+    is, is_clips_test, is_clips_variable, is_joined, is_joined_variable, is_string,
+};
+use crate::slips::{Slip, Warning};
+use ops_base::memory::OutOfMemory;
+use ops_tokens::{Scanner, Token, TokenKind, spelling_of};
+use std::alloc::Global;
+
+/// What stands right before a word.
+#[derive(Clone, Copy, Debug, PartialEq, Eq)]
+pub(crate) enum Before {
+    /// An opening bracket.
+    Bracket,
+    /// The `p` of a production.
+    Production,
+    /// `//`
+    Literal,
+    Other,
+}
+
+/// What stands before a word.
+#[derive(Clone, Copy, Debug, PartialEq, Eq)]
+pub(crate) struct Context {
+    /// How many brackets are open.
+    depth: usize,
+    /// Whether it stands among the conditions of a production.
+    conditions: bool,
+    /// How many brackets are open among the values of the `write` that is open, or 0.
+    write: usize,
+    /// Whether it stands between `<<` and `>>`.
+    choice: bool,
+    before: Before,
+}
+
+fn plain(context: Context) -> Context
+    ensures { result ≡ plain context }
+{
+    Context {
+        before: Before::Other,
+        ..context
+    }
+}
+
+fn behind_left(context: Context) -> Context
+    requires { context.depth < 2 ^ 63 }
+    ensures { result ≡ behind_left context }
+{
+    Context {
+        depth: context.depth + 1,
+        choice: false,
+        before: Before::Bracket,
+        ..context
+    }
+}
+
+fn behind_right(context: Context) -> Context
+    ensures { result ≡ behind_right context }
+{
+    let closes_write = context.write == context.depth;
+    Context {
+        depth: context.depth.saturating_sub(1),
+        conditions: context.conditions && 1 < context.depth,
+        write: if closes_write { 0 } else { context.write },
+        choice: false,
+        before: Before::Other,
+    }
+}
+
+fn behind_operator(context: Context, spelling: &[u8]) -> Context
+    ensures { result ≡ behind_operator context spelling.now }
+{
+    if is(spelling, b"//") {
+        return Context {
+            before: Before::Literal,
+            ..context
+        };
+    }
+    if is(spelling, b">>") {
+        return Context {
+            choice: false,
+            before: Before::Other,
+            ..context
+        };
+    }
+    if matches!(context.before, Before::Literal) {
+        return plain(context);
+    }
+    if is(spelling, b"<<") {
+        return Context {
+            choice: true,
+            before: Before::Other,
+            ..context
+        };
+    }
+    if is(spelling, b"-->") {
+        return Context {
+            conditions: false,
+            before: Before::Other,
+            ..context
+        };
+    }
+    plain(context)
+}
+
+fn behind_head(context: Context, spelling: &[u8]) -> Context
+    ensures { result ≡ behind_head context spelling.now }
+{
+    if is(spelling, b"p") && context.depth == 1 {
+        return Context {
+            conditions: true,
+            before: Before::Production,
+            ..context
+        };
+    }
+    if is(spelling, b"write") {
+        return Context {
+            write: context.depth,
+            before: Before::Other,
+            ..context
+        };
+    }
+    plain(context)
+}
+
+fn behind_symbol(context: Context, spelling: &[u8]) -> Context
+    ensures { result ≡ behind_symbol context.before context spelling.now }
+{
+    match context.before {
+        Before::Bracket => behind_head(context, spelling),
+        _ => plain(context),
+    }
+}
+
+fn behind(kind: TokenKind, context: Context, spelling: &[u8]) -> Context
+    requires { context.depth < 2 ^ 63 }
+    ensures { result ≡ behind kind context spelling.now }
+{
+    match kind {
+        TokenKind::Left => behind_left(context),
+        TokenKind::Right => behind_right(context),
+        TokenKind::Operator => behind_operator(context, spelling),
+        TokenKind::Symbol => behind_symbol(context, spelling),
+        _ => plain(context),
+    }
+}
+
+fn slip_of_symbol(context: Context, spelling: &[u8]) -> Option<Slip>
+    ensures { result ≡ slip_of_symbol context spelling.now }
+{
+    if is_clips_variable(spelling) {
+        Some(Slip::ClipsVariable)
+    } else if context.conditions && is_clips_test(spelling) {
+        Some(Slip::ClipsTest)
+    } else if context.conditions && is_joined(spelling) {
+        Some(Slip::JoinedPredicate)
+    } else if is_string(spelling) {
+        Some(Slip::QuotedString)
+    } else if is(spelling, b"crlf") && 0 < context.write && context.write == context.depth {
+        Some(Slip::PlainCrlf)
+    } else {
+        None
+    }
+}
+
+fn slip_of_variable(context: Context, spelling: &[u8]) -> Option<Slip>
+    ensures { result ≡ slip_of_variable context spelling.now }
+{
+    if context.choice {
+        Some(Slip::ChosenVariable)
+    } else if context.conditions && is_joined_variable(spelling) {
+        Some(Slip::JoinedVariable)
+    } else {
+        None
+    }
+}
+
+fn slip_by(kind: TokenKind, context: Context, spelling: &[u8]) -> Option<Slip>
+    ensures { result ≡ slip_by kind context spelling.now }
+{
+    match kind {
+        TokenKind::Symbol => slip_of_symbol(context, spelling),
+        TokenKind::Variable => slip_of_variable(context, spelling),
+        _ => None,
+    }
+}
+
+fn slip_of(kind: TokenKind, context: Context, spelling: &[u8]) -> Option<Slip>
+    ensures { result ≡ slip_of kind context spelling.now }
+{
+    match context.before {
+        Before::Literal | Before::Production => None,
+        _ => slip_by(kind, context, spelling),
+    }
+}
+
+/// The token that stands next, where one does.
+fn token_from(scanner: &Scanner, text: &[u8], from: usize) -> Option<Token>
+    requires { from ≤ length text.now }
+    ensures { StandsBefore text.now from result }
+{
+    match scanner.next_token(text, from) {
+        Ok(found) => found,
+        Err(_) => None,
+    }
+}
+
+/// Adds the word of a token, where it is a slip.
+fn note(found: &mut Vec<Warning>, token: Token, slip: Option<Slip>) -> Result<(), OutOfMemory>
+    ensures { OnOk result (found.new.items ≡ found.old.items ++ told_of token slip) }
+{
+    if let Some(slip) = slip {
+        found.push(Warning {
+            slip,
+            first: token.first,
+            past: token.past,
+        })?;
+    }
+    Ok(())
+}
+
+/// The first words of a text that are probably slips, at most this many, in the order in which they stand. Only words
+/// before the first lexical fault are looked at. Takes time in proportion to the text, and memory in proportion to what
+/// it finds.
+pub fn word_slips(alloc: Global, text: &[u8], most: usize) -> Result<Vec<Warning>, OutOfMemory>
+    ensures slips { IfOk result (λ found. found.items ≡ take most (slips_of text.now)) }
+{
+    let scanner = Scanner::new();
+    let mut found = Vec::new(alloc);
+    let mut context = Context {
+        depth: 0,
+        conditions: false,
+        write: 0,
+        choice: false,
+        before: Before::Other,
+    };
+    let mut from = 0;
+    'words: while found.len() < most {
+        let Some(token) = token_from(&scanner, text, from) else {
+            return Ok(found);
+        };
+        let spelling = spelling_of(text, &token);
+        let slip = slip_of(token.kind, context, spelling);
+        note(&mut found, token, slip)?;
+        context = behind(token.kind, context, spelling);
+        from = token.past;
+    }
+    Ok(found)
+}
