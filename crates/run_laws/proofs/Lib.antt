@@ -13,3 +13,4 @@ pub mod Wholes
 pub mod Sessions
 pub mod Seen
 pub mod Ordered
+pub mod Computed

@@ -9,3 +9,4 @@ pub mod Firings
 pub mod Cuts
 pub mod Patterns
 pub mod Ranking
+pub mod Computing

@@ -27,6 +27,7 @@ ghost use Rattle.ops_meaning.specs.Acting.{Setting, Given, ActState, actions_of,
 ghost use Rattle.ops_meaning.specs.Layout.{inst_text};
 ghost use Rattle.ops_meaning.specs.Running.{Course, Session, command_done, element_lines, ending_of, in_force, lists, meets, removals, session_of, standing_by};
 ghost use Rattle.run_laws.specs.Beginning.{BeginsAsMatched};
+ghost use Rattle.run_laws.specs.Computing.{OperandsAre, QuotientsAre, SumsAre};
 ghost use Rattle.run_laws.specs.Cuts.{GoesOnWith};
 ghost use Rattle.run_laws.specs.Elements.{AreFieldsOf, AreWhole};
 ghost use Rattle.run_laws.specs.Ending.{IsOfSession};
@@ -161,4 +162,12 @@ pub fn nothing_is_passed_over()
         → EachFiring (λ s column i m. IsTrue (test s column i m)) s limit (before ++ Command.Run count ∷ after) names coming
         → GoesOnWith s limit before count n names coming k i
         → (column : ℕ) × IsTrue (test (record (in_force s k) { watch = k.watch }) column i k.course) }
+{}
+
+/// Small formulas with what they give: numbers at the limit, quotients and remainders by their signs, and the order in
+/// which operands are computed.
+pub fn formulas_give()
+    ensures sums { SumsAre }
+    ensures quotients { QuotientsAre }
+    ensures operands { OperandsAre }
 {}

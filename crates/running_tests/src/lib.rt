@@ -2,8 +2,6 @@
 #![tactic(auto)]
 
 #[cfg(test)]
-mod computing;
-#[cfg(test)]
 mod conflict_sets;
 #[cfg(test)]
 mod copies;

@@ -1,22 +1,7 @@
-//! Predicates of two values, and a conflict set by direct matching.
-ghost use Rattle.std.specs.Prelude.{◌≡◌, IfOk};
+//! Predicates of two values.
 
-use ops_base::direct::direct_set;
-use ops_base::elements::Element;
-use ops_base::list::Listed;
 use ops_base::matching::holds;
-use ops_base::memory::OutOfMemory;
-use ops_base::programs::Program;
-use ops_base::symbols::Names;
 use ops_base::values::{NOTHING, Pred, Sym, Value};
-use ops_check::read_program;
-use std::alloc::Global;
-use std::test::Fail;
-
-const TWIN: &[u8] = b"(literalize a n)
-(literalize b n)
-(p twin (a ^n <x>) (a ^n <x>) - (b ^n <x>) -->)
-";
 
 #[test]
 fn predicates(rt: HostRuntime) {
@@ -36,37 +21,4 @@ fn predicates(rt: HostRuntime) {
     for (pred, a, b, want) in cases {
         assert_eq!(rt; holds(pred, a, b), want, "{pred:?} of {a:?} and {b:?}");
     }
-}
-
-fn element(alloc: Global, tag: u64, class: usize, n: i128) -> Result<Element, OutOfMemory>
-    ensures { IfOk result (λ e. e.tag ≡ tag) }
-{
-    let fields = Listed::from_array(alloc, [Value::Whole(n)])?;
-    Ok(Element { tag, class, fields })
-}
-
-pub(super) fn read(alloc: Global, text: &[u8]) -> Result<(Program, Names), Fail> {
-    match read_program(alloc, Vec::from_slice(alloc, text)?) {
-        Ok(read) => Ok(read),
-        Err(_) => Err(Fail::from("the text is refused")),
-    }
-}
-
-#[test]
-fn joins_and_blocks(rt: HostRuntime) -> Result<(), Fail> {
-    let alloc = rt.alloc();
-    let (program, _names) = read(alloc, TWIN)?;
-    let wm = [
-        element(alloc, 1, 0, 5)?,
-        element(alloc, 2, 0, 5)?,
-        element(alloc, 3, 0, 6)?,
-        element(alloc, 4, 1, 6)?,
-    ];
-    let set = direct_set(alloc, &program, &wm)?.into_vec();
-    let mut tags = Vec::new(alloc);
-    for inst in &set {
-        tags.extend_from_slice(inst.tags.as_slice())?;
-    }
-    assert_eq!(rt; tags.as_slice(), [1, 1, 1, 2, 2, 1, 2, 2].as_slice());
-    Ok(())
 }

@@ -16,7 +16,7 @@ use std::alloc::Global;
 use std::test::Fail;
 use work_store::Store;
 
-pub(super) fn one<T: Drop>(alloc: Global, item: T) -> Result<Listed<T>, OutOfMemory>
+fn one<T: Drop>(alloc: Global, item: T) -> Result<Listed<T>, OutOfMemory>
     ensures { IfOk result (λ l. l ≡ item ∷ []) }
 {
     let mut items = Vec::new(alloc);
@@ -64,7 +64,7 @@ fn condition(alloc: Global) -> Result<Part, OutOfMemory>
 }
 
 /// One box with tag 1, of size 7.
-pub(super) fn store(alloc: Global) -> Result<Store, OutOfMemory>
+fn store(alloc: Global) -> Result<Store, OutOfMemory>
     ensures { IfOk result (λ s. s.last ≡ 1) }
 {
     let mut store = Store::new(alloc);

@@ -1,0 +1,57 @@
+-- What small formulas give.
+use Rattle.std.specs.Prelude.{◌≡◌, ℕ, zero, suc, ℤ, pos, negsuc, Ok, Err}
+use Rattle.ops_base.specs.declared.endings.ActKind.TheVariants.{Overflow, ZeroDivisor}
+use Rattle.ops_base.specs.declared.expression.Op.TheVariants.{Add, Sub, Mul, Div, Rem}
+use Rattle.ops_base.specs.declared.values.Value.{Value}
+use Rattle.ops_base.specs.declared.values.Value.TheVariants.{Whole}
+use Rattle.ops_base.specs.Expression.{Formula, number, variable, apply}
+use Rattle.ops_base.specs.Values.{nil}
+use Rattle.ops_meaning.specs.Computing.{Computed, computed}
+
+-- the first variable is 7, and each other one is `nil`
+abbrev pub valued : ℕ → Value
+valued zero = Whole (pos 7)
+valued (suc v) = nil
+
+abbrev pub Gives : Formula → Computed → Type 0
+Gives f result = computed valued f ≡ result
+
+-- a whole number, and a negative one
+abbrev pub whole : ℕ → Formula
+whole n = number (pos n)
+
+abbrev pub minus_one_less : ℕ → Formula
+minus_one_less n = number (negsuc n)
+
+-- Sums, differences and products are exact, or too large. The largest number is 170141183460469231731687303715884105727.
+abbrev pub SumsAre : Type 0
+SumsAre =
+    Gives (apply Add (whole 3) (whole 4)) (Ok (Whole (pos 7)))
+    × Gives (apply Add (whole 170141183460469231731687303715884105726) (whole 1)) (Ok (Whole (pos 170141183460469231731687303715884105727)))
+    × Gives (apply Add (whole 170141183460469231731687303715884105727) (whole 1)) (Err Overflow)
+    × Gives (apply Sub (whole 3) (whole 4)) (Ok (Whole (negsuc 0)))
+    × Gives (apply Sub (minus_one_less 170141183460469231731687303715884105726) (whole 1)) (Ok (Whole (negsuc 170141183460469231731687303715884105727)))
+    × Gives (apply Sub (minus_one_less 170141183460469231731687303715884105727) (whole 1)) (Err Overflow)
+    × Gives (apply Mul (minus_one_less 2) (whole 4)) (Ok (Whole (negsuc 11)))
+    × Gives (apply Mul (whole 9223372036854775807) (whole 9223372036854775807)) (Ok (Whole (pos 85070591730234615847396907784232501249)))
+    × Gives (apply Mul (minus_one_less 9223372036854775807) (whole 18446744073709551616)) (Ok (Whole (negsuc 170141183460469231731687303715884105727)))
+    × Gives (apply Mul (whole 9223372036854775808) (whole 18446744073709551616)) (Err Overflow)
+
+-- A quotient is truncated towards zero, and a remainder has the sign of the dividend.
+abbrev pub QuotientsAre : Type 0
+QuotientsAre =
+    Gives (apply Div (minus_one_less 6) (whole 2)) (Ok (Whole (negsuc 2)))
+    × Gives (apply Div (whole 1) (whole 0)) (Err ZeroDivisor)
+    × Gives (apply Div (minus_one_less 9223372036854775807) (minus_one_less 0)) (Ok (Whole (pos 9223372036854775808)))
+    × Gives (apply Div (minus_one_less 170141183460469231731687303715884105727) (minus_one_less 0)) (Err Overflow)
+    × Gives (apply Rem (minus_one_less 6) (whole 2)) (Ok (Whole (negsuc 0)))
+    × Gives (apply Rem (whole 7) (minus_one_less 1)) (Ok (Whole (pos 1)))
+    × Gives (apply Rem (whole 1) (whole 0)) (Err ZeroDivisor)
+    × Gives (apply Rem (minus_one_less 170141183460469231731687303715884105727) (minus_one_less 0)) (Ok (Whole (pos 0)))
+
+-- The right operand comes first; a variable alone gives its value, also a symbol.
+abbrev pub OperandsAre : Type 0
+OperandsAre =
+    Gives (apply Mul (whole 2) (apply Add (whole 3) (variable 0))) (Ok (Whole (pos 20)))
+    × Gives (variable 1) (Ok nil)
+    × Gives (apply Add (variable 1) (apply Div (whole 1) (whole 0))) (Err ZeroDivisor)
