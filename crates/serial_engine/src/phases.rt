@@ -21,6 +21,10 @@ use step_core::laws::{match_laws, settle_laws};
 use step_core::{Gathered, World, gather_worked};
 use work_store::Store;
 
+/// While changes are fed, this many tasks in flight are done before the next change is fed. So a phase of many changes
+/// holds a few hundred kilobytes of tasks at a time, which stay near the processor, and not all that its changes feed.
+const TASKS_AT_ONCE: usize = 4_096;
+
 /// Whether this many tasks are in flight, where a number is asked for.
 fn is_full(world: &World, most: Option<usize>) -> bool
     ensures { result ≡ is_full most (length world.now.flight.items) }
@@ -162,8 +166,80 @@ fn work_picks<F: Fn(usize)>(
     Ok(())
 }
 
-/// Does all that the changes feed: all of them are fed first, then a task is done for each pick, and then the last task
-/// in flight is next.
+/// Does all tasks in flight where these are `TASKS_AT_ONCE` or more, and none otherwise.
+fn make_room<F: Fn(usize)>(
+    alloc: Global,
+    net: &Net,
+    store: &Store,
+    enter: &F,
+    world: &mut World,
+) -> Result<(), OutOfMemory>
+    requires enter { F.IsAlwaysCallable enter.now }
+    requires ready { IsReady net.now.nodes store.now world.old }
+    ensures went { OnOk result (Went net.now.alphas net.now.nodes store.now (length world.old.lines.items) world.old [] world.new) }
+    ensures done { OnOk result ((world_of world.new).done ≡ (world_of world.old).done) }
+    ensures ready { IsReady net.now.nodes store.now world.new }
+    ensures lines { numbers_of world.new ≡ numbers_of world.old }
+{
+    if world.in_flight() < TASKS_AT_ONCE {
+        return Ok(());
+    }
+    work_all(alloc, net, store, enter, world, None)
+}
+
+/// Puts the tasks of the changes into flight, in the order of the changes. Before each change room is made, so few more
+/// than `TASKS_AT_ONCE` are in flight at a time. `enter` gets the line of each task just before it is done.
+fn feed_in_turns<F: Fn(usize)>(
+    alloc: Global,
+    net: &Net,
+    store: &Store,
+    enter: &F,
+    world: &mut World,
+    changes: &[Change],
+) -> Result<(), OutOfMemory>
+    requires enter { F.IsAlwaysCallable enter.now }
+    requires ready { IsReady net.now.nodes store.now world.old }
+    requires known { All (IsKnown store.now) changes.now }
+    ensures went { OnOk result (Went net.now.alphas net.now.nodes store.now (length world.old.lines.items) world.old changes.now world.new) }
+    ensures done { OnOk result ((world_of world.new).done ≡ (world_of world.old).done) }
+    ensures ready { IsReady net.now.nodes store.now world.new }
+    ensures lines { numbers_of world.new ≡ numbers_of world.old }
+{
+    for change in changes {
+        make_room(alloc, net, store, enter, world)?;
+        world.feed(alloc, net, store, change)?;
+    }
+    Ok(())
+}
+
+/// Puts the tasks of the changes into flight. Without picks some are done between two changes, as room asks for it; with
+/// picks all changes are fed first, and then a task is done for each pick.
+fn feed_changes<F: Fn(usize)>(
+    alloc: Global,
+    net: &Net,
+    store: &Store,
+    enter: &F,
+    world: &mut World,
+    changes: &[Change],
+    picks: &[usize],
+) -> Result<(), OutOfMemory>
+    requires enter { F.IsAlwaysCallable enter.now }
+    requires ready { IsReady net.now.nodes store.now world.old }
+    requires known { All (IsKnown store.now) changes.now }
+    ensures went { OnOk result (Went net.now.alphas net.now.nodes store.now (length world.old.lines.items) world.old changes.now world.new) }
+    ensures done { OnOk result ((world_of world.new).done ≡ (world_of world.old).done) }
+    ensures ready { IsReady net.now.nodes store.now world.new }
+    ensures lines { numbers_of world.new ≡ numbers_of world.old }
+{
+    if picks.is_empty() {
+        return feed_in_turns(alloc, net, store, enter, world, changes);
+    }
+    feed_all(alloc, net, store, world, changes)?;
+    work_picks(alloc, net, store, enter, world, picks)?;
+    Ok(())
+}
+
+/// Does all that the changes feed. Once all are fed the last task in flight is next, until none is left.
 fn work_changes<F: Fn(usize)>(
     alloc: Global,
     net: &Net,
@@ -175,7 +251,6 @@ fn work_changes<F: Fn(usize)>(
 ) -> Result<(), OutOfMemory>
     requires enter { F.IsAlwaysCallable enter.now }
     requires ready { IsReady net.now.nodes store.now world.old }
-    requires flight { world.old.flight.items ≡ [] }
     requires known { All (IsKnown store.now) changes.now }
     ensures went { OnOk result (Went net.now.alphas net.now.nodes store.now (length world.old.lines.items) world.old changes.now world.new) }
     ensures flight { OnOk result (world.new.flight.items ≡ []) }
@@ -183,8 +258,7 @@ fn work_changes<F: Fn(usize)>(
     ensures ready { IsReady net.now.nodes store.now world.new }
     ensures lines { numbers_of world.new ≡ numbers_of world.old }
 {
-    feed_all(alloc, net, store, world, changes)?;
-    work_picks(alloc, net, store, enter, world, picks)?;
+    feed_changes(alloc, net, store, enter, world, changes, picks)?;
     work_all(alloc, net, store, enter, world, None)?;
     Ok(())
 }
@@ -233,9 +307,10 @@ pub fn do_changes(alloc: Global, store: &mut Store, changes: &[Change]) -> Resul
 }
 
 /// Does the changes to the store, and their phase over lines that hold just the tokens over it. The lines then hold
-/// just the tokens over the store with the changes done, and their entries are a bundle of the changes. All changes are
-/// fed at once, and a task is done for each pick; once the picks have ended, the last task in flight is next. `enter`
-/// gets the line of each task just before it is done.
+/// just the tokens over the store with the changes done, and their entries are a bundle of the changes. With picks, all
+/// changes are fed at once, and a task is done for each pick. Otherwise tasks are done while changes are fed, as soon as
+/// `TASKS_AT_ONCE` are in flight. At the end the last task in flight is next. `enter` gets the line of each task just
+/// before it is done.
 pub fn settle<F: Fn(usize)>(
     alloc: Global,
     net: &Net,

@@ -6,7 +6,7 @@ use Rattle.work_store.specs.Stored.{held_of}
 use Rattle.token_line.specs.Held.{TaskFits}
 use Rattle.step_core.specs.inner.Doing.{entry_of}
 use Rattle.step_core.specs.Worlds.{EntryFits, placed}
-use Rattle.serial_engine.proofs.PhaseLemmas.{counter_none, none_in_flight, none_is_done, done_stays, flight_stays, phase_bundle}
+use Rattle.serial_engine.proofs.PhaseLemmas.{counter_none, none_in_flight, none_is_done, done_stays, phase_bundle}
 use Rattle.serial_engine.proofs.phases.run_phase.Goals as goal
 
 pub work_changes-requires-clause-ready : goal.work_changes-requires-clause-ready
@@ -19,13 +19,6 @@ work_changes-requires-clause-ready g c =
       done = subst (All (EntryFits nodes s)) (sym (ap (map entry_of) (none_is_done old c.requires.quiet))) (All-nil (EntryFits nodes s));
       lines = c.requires.counted;
     })
-
-pub work_changes-requires-clause-flight : goal.work_changes-requires-clause-flight
-work_changes-requires-clause-flight g c =
-    let net = c.args.net.now in
-    let s = c.args.store.now in
-    let old = c.args.world.now in
-    flight_stays net.alphas net.nodes s net.sound old c.clear_phase.new.self c.requires.quiet (c.clear_phase.ensures.steps (held_of s) net.alphas net.nodes (placed (held_of s) net.nodes (length old.lines.items)))
 
 pub returns-clause-quiet : goal.returns-clause-quiet
 returns-clause-quiet g c =
