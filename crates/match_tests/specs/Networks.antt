@@ -6,7 +6,7 @@ use Rattle.ops_base.specs.declared.values.Value.TheVariants.{Whole}
 use Rattle.net_base.specs.declared.nodes.Alpha.{Alpha}
 use Rattle.net_base.specs.declared.nodes.JoinTest.{JoinTest}
 use Rattle.net_base.specs.declared.nodes.Kind.{Kind}
-use Rattle.net_base.specs.declared.nodes.Kind.TheVariants.{Join, Negated, Group, Terminal}
+use Rattle.net_base.specs.declared.nodes.Kind.TheVariants.{Join, Negated, Terminal}
 use Rattle.net_base.specs.declared.nodes.Node.{Node}
 
 -- an element whose one field is 7
@@ -42,14 +42,6 @@ terminal_at parent depth = record { kind = Terminal 0; parent = Some parent; cla
 
 -- ---- networks
 
--- `(p one (a) -->)`
-abbrev pub one_join : List Node
-one_join = root_with (1 ∷ []) ∷ terminal_at 0 2 ∷ []
-
--- `(p alone (a) - (a) -->)`
-abbrev pub one_negated : List Node
-one_negated = root_with (1 ∷ []) ∷ second_of Negated 0 [] ∷ terminal_at 1 3 ∷ []
-
 -- `(p free (a) - (b) -->)`
 abbrev pub free : List Node
 free = root_with (1 ∷ []) ∷ second_of Negated 1 [] ∷ terminal_at 1 3 ∷ []
@@ -61,15 +53,3 @@ twin = root_with (1 ∷ []) ∷ second_of Join 0 (same ∷ []) ∷ terminal_at 1
 -- `(p pair (a ^n <x>) (b ^n <x>) -->)`
 abbrev pub pair : List Node
 pair = root_with (1 ∷ []) ∷ second_of Join 1 (same ∷ []) ∷ terminal_at 1 3 ∷ []
-
--- ---- `(p none (a) - { (b) (b) } -->)`
-
--- the second member, to whose tokens the group listens
-abbrev pub last_member : Node
-last_member = record { kind = Join; parent = Some 1; class = 1; alpha = 1; joins = []; children = []; rights = 3 ∷ []; depth = 3 }
-
-abbrev pub group_of_two : Node
-group_of_two = record { kind = Group 2 1 2; parent = Some 0; class = 0; alpha = 0; joins = []; children = 4 ∷ []; rights = []; depth = 4 }
-
-abbrev pub one_group : List Node
-one_group = root_with (1 ∷ 3 ∷ []) ∷ second_of Join 1 [] ∷ last_member ∷ group_of_two ∷ terminal_at 3 5 ∷ []

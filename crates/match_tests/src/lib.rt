@@ -1,12 +1,8 @@
-//! Tests of the match: lines, activations, worlds of steps, groups, and two engines over small networks.
+//! Tests of the match, of what no clause says: what a line keeps, codes of tokens, and the calls of a gate.
 #![tactic(auto)]
 
 #[cfg(test)]
-mod activations;
-#[cfg(test)]
 mod counting;
-#[cfg(test)]
-mod groups;
 #[cfg(test)]
 mod lines;
 #[cfg(test)]
@@ -15,5 +11,3 @@ mod networks;
 mod serial;
 #[cfg(test)]
 mod sharing;
-#[cfg(test)]
-mod worlds;

@@ -1,7 +1,7 @@
 //! Small networks and their elements, with ample memory. Each network is sound by its type.
 ghost use Rattle.std.specs.Prelude.{◌≡◌, [], ◌∷◌, IfOk, Some};
 ghost use Rattle.work_store.specs.Stored.{held_of};
-ghost use Rattle.match_tests.specs.Networks.{alpha_of, element_of, free, group_of_two, last_member, one_class, one_group, one_join, one_negated, pair, root_with, same, second_of, terminal_at, twin, two_classes};
+ghost use Rattle.match_tests.specs.Networks.{alpha_of, element_of, free, one_class, pair, root_with, same, second_of, terminal_at, twin, two_classes};
 
 use net_base::net::Net;
 use net_base::nodes::{Alpha, JoinTest, Kind, Node};
@@ -120,23 +120,6 @@ fn terminal(alloc: Global, parent: usize, depth: usize) -> Node
     }
 }
 
-pub(crate) fn one_join(alloc: Global) -> Result<Net, OutOfMemory>
-    ensures { IfOk result (λ net. net.nodes ≡ one_join) }
-{
-    let alphas = one_class(alloc)?;
-    let nodes = Listed::from_array(alloc, [root(alloc)?, terminal(alloc, 0, 2)])?;
-    Net::new(alloc, alphas, nodes)
-}
-
-pub(crate) fn one_negated(alloc: Global) -> Result<Net, OutOfMemory>
-    ensures { IfOk result (λ net. net.nodes ≡ one_negated) }
-{
-    let alphas = one_class(alloc)?;
-    let negated = second(alloc, Kind::Negated, 0, no_tests(alloc))?;
-    let nodes = Listed::from_array(alloc, [root(alloc)?, negated, terminal(alloc, 1, 3)])?;
-    Net::new(alloc, alphas, nodes)
-}
-
 pub(crate) fn free(alloc: Global) -> Result<Net, OutOfMemory>
     ensures { IfOk result (λ net. net.nodes ≡ free) }
 {
@@ -161,74 +144,5 @@ pub(crate) fn pair(alloc: Global) -> Result<Net, OutOfMemory>
     let alphas = two_classes(alloc)?;
     let join = second(alloc, Kind::Join, 1, same(alloc)?)?;
     let nodes = Listed::from_array(alloc, [root(alloc)?, join, terminal(alloc, 1, 3)])?;
-    Net::new(alloc, alphas, nodes)
-}
-
-fn root_of_group(alloc: Global) -> Result<Node, OutOfMemory>
-    ensures { IfOk result (λ x. x ≡ root_with (1 ∷ 3 ∷ [])) }
-{
-    Ok(Node {
-        kind: Kind::Join,
-        parent: None,
-        class: 0,
-        alpha: 0,
-        joins: Listed::new(alloc),
-        children: Listed::from_array(alloc, [1, 3])?,
-        rights: Listed::new(alloc),
-        depth: 1,
-    })
-}
-
-fn last_member(alloc: Global) -> Result<Node, OutOfMemory>
-    ensures { IfOk result (λ x. x ≡ last_member) }
-{
-    Ok(Node {
-        kind: Kind::Join,
-        parent: Some(1),
-        class: 1,
-        alpha: 1,
-        joins: Listed::new(alloc),
-        children: Listed::new(alloc),
-        rights: Listed::from_array(alloc, [3])?,
-        depth: 3,
-    })
-}
-
-fn group_of_two(alloc: Global) -> Result<Node, OutOfMemory>
-    ensures { IfOk result (λ x. x ≡ group_of_two) }
-{
-    Ok(Node {
-        kind: Kind::Group {
-            giver: 2,
-            width: 1,
-            members: 2,
-        },
-        parent: Some(0),
-        class: 0,
-        alpha: 0,
-        joins: Listed::new(alloc),
-        children: Listed::from_array(alloc, [4])?,
-        rights: Listed::new(alloc),
-        depth: 4,
-    })
-}
-
-pub(crate) fn one_group(alloc: Global) -> Result<Net, OutOfMemory>
-    ensures { IfOk result (λ net. net.nodes ≡ one_group) }
-{
-    let alphas = two_classes(alloc)?;
-    let member = second(alloc, Kind::Join, 1, no_tests(alloc))?;
-    let last = last_member(alloc)?;
-    let group = group_of_two(alloc)?;
-    let nodes = Listed::from_array(
-        alloc,
-        [
-            root_of_group(alloc)?,
-            member,
-            last,
-            group,
-            terminal(alloc, 3, 5),
-        ],
-    )?;
     Net::new(alloc, alphas, nodes)
 }

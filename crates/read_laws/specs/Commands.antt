@@ -16,7 +16,7 @@ Does text c = commands_of text ≡ c ∷ []
 abbrev pub name : Sym
 name = record { 0 = 10 }
 
--- the production that stands behind a `run`: its name is the fourteenth word of the text that becomes a symbol
+-- the production that stands after a `run`: its name is the fourteenth word of the text that becomes a symbol
 abbrev pub later : Rule
 later =
     record {
@@ -30,7 +30,7 @@ later =
       past = 89;
     }
 
--- A production behind a `run` is added there.
+-- A production after a `run` is added there.
 abbrev pub CommandsMean : Type 0
 CommandsMean =
     Does (codes "(make a ^y 7)") (command.Make 0 (record { field = 1; values = Whole (pos 7) ∷ [] } ∷ []))

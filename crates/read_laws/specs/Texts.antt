@@ -33,11 +33,11 @@ commands_in (Err p) = []
 abbrev pub parts_of : Text → List Part
 parts_of left = parts_in (rules_in (reads (classes ++ codes "(p r " ++ left ++ codes "-->(halt))")))
 
--- the actions of a right side, which this spells; it stands behind conditions on an `a`, named e, whose x is bound to
+-- the actions of a right side, which this spells; it stands after conditions on an `a`, named e, whose x is bound to
 -- the variable 0, and on an `l`, named f
 abbrev pub actions_of : Text → List Action
 actions_of right = actions_in (rules_in (reads (classes ++ codes "(p r {<e>(a ^x <n>)}{<f>(l)}-->" ++ right ++ codes ")")))
 
--- the commands that this spells, behind a production
+-- the commands that this spells, after a production
 abbrev pub commands_of : Text → List Command
 commands_of text = commands_in (reads (classes ++ codes "(p r(a)-->(halt))" ++ text))

@@ -1,17 +1,9 @@
-//! Tests of reading: devices, forms, both sides of productions, and whole texts.
+//! Tests of reading, of what no clause says: real files and streams, limits, and faults as they are shown.
 #![tactic(auto)]
 
 #[cfg(test)]
-mod commands;
-#[cfg(test)]
 mod devices;
 #[cfg(test)]
-mod forms;
+mod expressions;
 #[cfg(test)]
-mod groups;
-#[cfg(test)]
-mod left_sides;
-#[cfg(test)]
-mod right_sides;
-#[cfg(test)]
-mod texts;
+mod limits;

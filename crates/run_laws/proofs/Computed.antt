@@ -1,6 +1,7 @@
--- What small formulas give, as the definition computes it.
+-- What small formulas give and of what predicates hold, as the definitions compute it.
 use Rattle.std.proofs.Common.{refl}
 use Rattle.run_laws.specs.Computing.{SumsAre, QuotientsAre, OperandsAre}
+use Rattle.run_laws.specs.Predicates.{EqualityHolds, OrderHolds, KindHolds}
 
 pub sums : SumsAre
 sums = (refl, refl, refl, refl, refl, refl, refl, refl, refl, refl)
@@ -10,3 +11,12 @@ quotients = (refl, refl, refl, refl, refl, refl, refl, refl)
 
 pub operands : OperandsAre
 operands = (refl, refl, refl)
+
+pub equality : EqualityHolds
+equality = (((refl, refl, refl), (refl, refl, refl), refl, refl), (refl, refl, refl), (refl, refl, refl), refl, refl)
+
+pub order : OrderHolds
+order = (((refl, refl, refl), (refl, refl, refl), refl, refl), ((refl, refl, refl), (refl, refl, refl), refl, refl), ((refl, refl, refl), (refl, refl, refl), refl, refl), (refl, refl, refl), (refl, refl, refl), refl, refl)
+
+pub kind : KindHolds
+kind = ((refl, refl, refl), (refl, refl, refl), refl, refl)

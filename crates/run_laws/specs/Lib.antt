@@ -10,3 +10,4 @@ pub mod Cuts
 pub mod Patterns
 pub mod Ranking
 pub mod Computing
+pub mod Predicates

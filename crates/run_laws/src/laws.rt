@@ -28,6 +28,7 @@ ghost use Rattle.ops_meaning.specs.Layout.{inst_text};
 ghost use Rattle.ops_meaning.specs.Running.{Course, Session, command_done, element_lines, ending_of, in_force, lists, meets, removals, session_of, standing_by};
 ghost use Rattle.run_laws.specs.Beginning.{BeginsAsMatched};
 ghost use Rattle.run_laws.specs.Computing.{OperandsAre, QuotientsAre, SumsAre};
+ghost use Rattle.run_laws.specs.Predicates.{EqualityHolds, OrderHolds, KindHolds};
 ghost use Rattle.run_laws.specs.Cuts.{GoesOnWith};
 ghost use Rattle.run_laws.specs.Elements.{AreFieldsOf, AreWhole};
 ghost use Rattle.run_laws.specs.Ending.{IsOfSession};
@@ -170,4 +171,11 @@ pub fn formulas_give()
     ensures sums { SumsAre }
     ensures quotients { QuotientsAre }
     ensures operands { OperandsAre }
+{}
+
+/// Of which symbols and numbers each predicate holds.
+pub fn predicates_hold()
+    ensures equality { EqualityHolds }
+    ensures order { OrderHolds }
+    ensures kind { KindHolds }
 {}

@@ -1,3 +1,0 @@
-pub mod AppliedInsts
-pub mod TestPrograms
-mod Quiet

@@ -1,2 +1,0 @@
--- What the matcher of the tests finds.
-pub mod Quiet
