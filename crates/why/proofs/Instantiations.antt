@@ -1,5 +1,5 @@
 -- Instantiations, by the parts of their rule.
-use Rattle.std.proofs.Common.{◌≡◌, ℕ, zero, suc, ◌<◌, List, [], ◌∷◌, length, take, Some, refl, ap, sym, ◌∙◌, subst, arith}
+use Rattle.std.proofs.Common.{◌≡◌, ℕ, zero, suc, ◌<◌, List, [], ◌∷◌, length, take, true, Some, refl, ap, sym, ◌∙◌, subst, arith}
 use Rattle.std.specs.Prelude.{slice_get, ◌↔◌}
 use Rattle.std.specs.Option.{option_map_or}
 use Rattle.std.proofs.lemmas.Option.{slice_get_within}
@@ -15,7 +15,9 @@ use Rattle.ops_base.proofs.InOrder.{tags_in_order}
 use Rattle.why.specs.Bindings.{MeetsWith, Binds, values_in}
 use Rattle.why.specs.Partials.{parts_of, IsPartialMatch}
 use Rattle.why.proofs.Walks.{meets_with-meets, meets-meets_with}
+use Rattle.why.specs.Checking.{agrees}
 use Rattle.why.proofs.Once.{binds_once}
+use Rattle.why.proofs.Agreement.{agrees-leads, leads-agrees}
 
 rule_there : (rules : List Rule) (n : ℕ) → n < length rules → (r : Rule) × (slice_get rules n ≡ Some r)
 rule_there [] n h = absurd (omega arith)
@@ -63,3 +65,16 @@ binds rules wm i = (
 pub once : (rules : List Rule) (wm : List Element) (i : Inst) (values other : List Value) → HasRisingTags wm → Binds rules wm i values → Binds rules wm i other → other ≡ values
 once rules wm i values other rising a b =
     b.3 ∙ ap values_in (binds_once wm (tags_in_order wm rising) (parts_of rules i.rule) [] i.tags a.1 b.1 a.2 b.2) ∙ sym a.3
+
+-- The test over the parts of a rule that is there holds exactly where this is an instantiation that binds these values.
+pub checked : (rules : List Rule) (wm : List Element) (i : Inst) (bound : List Value) (r : Rule) → HasRisingTags wm → slice_get rules i.rule ≡ Some r → (agrees wm r.conditions [] i.tags bound ≡ true) ↔ (IsInst rules wm i × Binds rules wm i bound)
+checked rules wm i bound r rising there =
+    let parts : parts_of rules i.rule ≡ r.conditions = parts_are rules i.rule r there in
+    let P : List Part → Type 0 = λ w. (final : List Binding) × MeetsWith wm w [] i.tags final × (bound ≡ values_in final) in (
+      λ h. (let led = subst P (sym parts) (agrees-leads wm r.conditions [] i.tags bound h) in
+          let b : Binds rules wm i bound = (slice_get_within rules i.rule r there, led.0, led.1, led.2) in
+          ((binds rules wm i).1 (bound, b), b)),
+      λ both. (let b = both.1 in
+          let led = subst P parts (b.1, b.2, b.3) in
+          leads-agrees wm (tags_in_order wm rising) r.conditions [] i.tags bound led.0 led.2 led.1),
+    )

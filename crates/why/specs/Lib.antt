@@ -1,3 +1,4 @@
 pub mod Partials
 pub mod Bindings
 pub mod Explaining
+pub mod Checking

@@ -2,9 +2,12 @@
 //! to which nothing meets its parts.
 #![tactic(auto)]
 
+pub mod checking;
 pub mod explaining;
+mod known;
 pub mod laws;
 pub mod partials;
 
+pub use checking::check;
 pub use explaining::{BoundInst, Why, explain};
 pub use partials::upto;
