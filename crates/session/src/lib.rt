@@ -5,7 +5,7 @@
 //! there.
 //!
 //! `names`, `input`, `source`, `out` and `sink` go from call to call, each as a parameter of its own: each is lent by
-//! itself, so that a contract can name what each holds afterwards. What no command changes goes in one `RunContext`.
+//! itself, so that a contract can name what each holds afterwards. What no command changes goes in one `SessionContext`.
 #![tactic(auto)]
 
 mod bounds;
