@@ -13,10 +13,10 @@ pub operands : OperandsAre
 operands = (refl, refl, refl)
 
 pub equality : EqualityHolds
-equality = (((refl, refl, refl), (refl, refl, refl), refl, refl), (refl, refl, refl), (refl, refl, refl), refl, refl)
+equality = (((refl, refl, refl), (refl, refl, refl), (refl, refl)), (refl, refl, refl), (refl, refl, refl), (refl, refl))
 
 pub order : OrderHolds
-order = (((refl, refl, refl), (refl, refl, refl), refl, refl), ((refl, refl, refl), (refl, refl, refl), refl, refl), ((refl, refl, refl), (refl, refl, refl), refl, refl), (refl, refl, refl), (refl, refl, refl), refl, refl)
+order = (((refl, refl, refl), (refl, refl, refl), (refl, refl)), ((refl, refl, refl), (refl, refl, refl), (refl, refl)), ((refl, refl, refl), (refl, refl, refl), (refl, refl)), (refl, refl, refl), (refl, refl, refl), (refl, refl))
 
 pub kind : KindHolds
-kind = ((refl, refl, refl), (refl, refl, refl), refl, refl)
+kind = ((refl, refl, refl), (refl, refl, refl), (refl, refl))

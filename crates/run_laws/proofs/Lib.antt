@@ -14,3 +14,4 @@ pub mod Sessions
 pub mod Seen
 pub mod Ordered
 pub mod Computed
+pub mod Standings

@@ -11,3 +11,4 @@ pub mod Patterns
 pub mod Ranking
 pub mod Computing
 pub mod Predicates
+pub mod Standing

@@ -17,7 +17,9 @@ ghost use Rattle.ops_base.specs.declared.matching.Binding.{Binding};
 ghost use Rattle.ops_base.specs.declared.rules.Inst.{Inst};
 ghost use Rattle.ops_base.specs.declared.rules.Rule.{Rule};
 ghost use Rattle.ops_base.specs.declared.values.Value.{Value};
-ghost use Rattle.ops_base.specs.ConflictSet.{conflict_set, empty_partial, walk};
+ghost use Rattle.ops_base.specs.ConflictSet.{conflict_set, empty_partial, insts_of, matches_of, walk};
+ghost use Rattle.ops_base.specs.Instances.{AreOf};
+ghost use Rattle.ops_base.specs.Live.{moved_insts};
 ghost use Rattle.ops_base.specs.Matching.{after_tests, match_of};
 ghost use Rattle.ops_base.specs.Names.{Spellings};
 ghost use Rattle.ops_base.specs.Valid.{is_attribute};
@@ -25,7 +27,7 @@ ghost use Rattle.ops_base.specs.WorkingMemory.{HasRisingTags, tags_of};
 ghost use Rattle.ops_io.specs.Coming.{Coming};
 ghost use Rattle.ops_meaning.specs.Acting.{Setting, Given, ActState, actions_of, action_done, actions_done, begun, evaluated, values_placed};
 ghost use Rattle.ops_meaning.specs.Layout.{inst_text};
-ghost use Rattle.ops_meaning.specs.Running.{Course, Session, command_done, element_lines, ending_of, in_force, lists, meets, removals, session_of, standing_by};
+ghost use Rattle.ops_meaning.specs.Running.{Course, Session, added, command_done, element_lines, ending_of, in_force, lists, meets, removals, rule_named, session_of, standing_by, taken_out};
 ghost use Rattle.run_laws.specs.Beginning.{BeginsAsMatched};
 ghost use Rattle.run_laws.specs.Computing.{OperandsAre, QuotientsAre, SumsAre};
 ghost use Rattle.run_laws.specs.Predicates.{EqualityHolds, OrderHolds, KindHolds};
@@ -38,6 +40,7 @@ ghost use Rattle.run_laws.specs.Patterns.{condition_with, meeting};
 ghost use Rattle.run_laws.specs.Placing.{StandAt};
 ghost use Rattle.run_laws.specs.Programs.{AreValid};
 ghost use Rattle.run_laws.specs.Ranking.{HasRank, IsRanking};
+ghost use Rattle.run_laws.specs.Standing.{stands_in};
 
 /// A right side begins with the bindings with which the walk over its conditions accepted the instantiation, and with
 /// its elements in the cells.
@@ -178,4 +181,12 @@ pub fn predicates_hold()
     ensures equality { EqualityHolds }
     ensures order { OrderHolds }
     ensures kind { KindHolds }
+{}
+
+/// If a production is taken out, those stand that stood before and are of other productions, under the new numbers of
+/// these. If one is added under a name that no production has, its instantiations stand beside those that stood.
+pub fn others_stand_as_before()
+    ensures taken { (n : ℕ) (k : Session) → stands_in (taken_out n k) ≡ moved_insts n (stands_in k) }
+    ensures added { (r : Rule) (k : Session) → rule_named k.rules r.name ≡ None → AreOf k.rules k.course.fired
+        → stands_in (added r k) ≡ stands_in k ++ insts_of (length k.rules) (matches_of k.course.wm r.conditions) }
 {}
