@@ -1,5 +1,5 @@
 -- The words of a text that are probably slips, by what stands before them.
-use Rattle.std.specs.Prelude.{ℕ, ◌+◌, ◌-◌, List, [], ◌∷◌, ◌++◌, codes, bytes_eq, Bool, true, false, ◌==◌, ◌&&◌, nat_lt, if◌then◌else◌, Option, Some, None}
+use Rattle.std.specs.Prelude.{ℕ, ◌+◌, ◌-◌, List, [], ◌∷◌, ◌++◌, codes, bytes_eq, Bool, true, false, not, ◌==◌, ◌&&◌, nat_lt, if◌then◌else◌, Option, Some, None}
 use Rattle.ops_tokens.specs.declared.token.Token.{Token}
 use Rattle.ops_tokens.specs.declared.token.TokenKind.{TokenKind}
 use Rattle.ops_tokens.specs.declared.token.TokenKind.TheVariants as kind
@@ -26,11 +26,11 @@ is_literal _ = false
 abbrev pub plain : Context → Context
 plain c = record c { before = before.Other }
 
-abbrev pub behind_left : Context → Context
-behind_left c = record c { depth = c.depth + 1; choice = false; before = before.Bracket }
+abbrev pub after_left : Context → Context
+after_left c = record c { depth = c.depth + 1; choice = false; before = before.Bracket }
 
-abbrev pub behind_right : Context → Context
-behind_right c =
+abbrev pub after_right : Context → Context
+after_right c =
     record {
       depth = c.depth - 1;
       conditions = c.conditions && nat_lt 1 c.depth;
@@ -39,10 +39,10 @@ behind_right c =
       before = before.Other;
     }
 
--- `//` makes a literal of the word behind it. An operator that is such a literal has no other meaning, but >> always
+-- `//` makes a literal of the word after it. An operator that is such a literal has no other meaning, but >> always
 -- ends a choice, in which `//` is a value.
-abbrev pub behind_operator : Context → List ℕ → Context
-behind_operator c s =
+abbrev pub after_operator : Context → List ℕ → Context
+after_operator c s =
     if bytes_eq s (codes "//") then record c { before = before.Literal }
     else if bytes_eq s (codes ">>") then record c { choice = false; before = before.Other }
     else if is_literal c.before then plain c
@@ -50,27 +50,27 @@ behind_operator c s =
     else if bytes_eq s (codes "-->") then record c { conditions = false; before = before.Other }
     else plain c
 
--- The first word of a form tells that conditions follow its name, and the first word behind any bracket that values
--- are written.
-abbrev pub behind_head : Context → List ℕ → Context
-behind_head c s =
+-- The first word of a form says that conditions follow its name, and the first word after a bracket outside conditions
+-- that values are written: among conditions `write` is the name of a class.
+abbrev pub after_head : Context → List ℕ → Context
+after_head c s =
     if bytes_eq s (codes "p") && (c.depth == 1) then record c { conditions = true; before = before.Production }
-    else if bytes_eq s (codes "write") then record c { write = c.depth; before = before.Other }
+    else if bytes_eq s (codes "write") && not c.conditions then record c { write = c.depth; before = before.Other }
     else plain c
 
-abbrev pub behind_symbol : Before → Context → List ℕ → Context
-behind_symbol before.Bracket c s = behind_head c s
-behind_symbol _ c s = plain c
+abbrev pub after_symbol : Before → Context → List ℕ → Context
+after_symbol before.Bracket c s = after_head c s
+after_symbol _ c s = plain c
 
--- behind a token of this kind and spelling
-abbrev pub behind : TokenKind → Context → List ℕ → Context
-behind kind.Left c s = behind_left c
-behind kind.Right c s = behind_right c
-behind kind.Operator c s = behind_operator c s
-behind kind.Symbol c s = behind_symbol c.before c s
-behind _ c s = plain c
+-- after a token of this kind and spelling
+abbrev pub after : TokenKind → Context → List ℕ → Context
+after kind.Left c s = after_left c
+after kind.Right c s = after_right c
+after kind.Operator c s = after_operator c s
+after kind.Symbol c s = after_symbol c.before c s
+after _ c s = plain c
 
--- ---- which words are told
+-- ---- which words are reported
 
 -- a symbol: as a variable of CLIPS and a string anywhere, as a test in conditions alone, and `crlf` among the values
 -- of a `write`
@@ -94,26 +94,26 @@ slip_by kind.Symbol c s = slip_of_symbol c s
 slip_by kind.Variable c s = slip_of_variable c s
 slip_by _ c s = None
 
--- neither a literal nor the name of a production is told
-abbrev pub slip_behind : Before → TokenKind → Context → List ℕ → Option Slip
-slip_behind before.Literal k c s = None
-slip_behind before.Production k c s = None
-slip_behind _ k c s = slip_by k c s
+-- neither a literal nor the name of a production is reported
+abbrev pub slip_after : Before → TokenKind → Context → List ℕ → Option Slip
+slip_after before.Literal k c s = None
+slip_after before.Production k c s = None
+slip_after _ k c s = slip_by k c s
 
 abbrev pub slip_of : TokenKind → Context → List ℕ → Option Slip
-slip_of k c s = slip_behind c.before k c s
+slip_of k c s = slip_after c.before k c s
 
 -- ---- the words of a text
 
-abbrev pub told_of : Token → Option Slip → List Warning
-told_of t None = []
-told_of t (Some s) = record { slip = s; first = t.first; past = t.past } ∷ []
+abbrev pub warnings_of : Token → Option Slip → List Warning
+warnings_of t None = []
+warnings_of t (Some s) = record { slip = s; first = t.first; past = t.past } ∷ []
 
 -- the slips among tokens of a text, in order
 abbrev pub slips_among : List ℕ → Context → List Token → List Warning
 slips_among text c [] = []
 slips_among text c (t ∷ ts) =
-    told_of t (slip_of t.kind c (spelling text t)) ++ slips_among text (behind t.kind c (spelling text t)) ts
+    warnings_of t (slip_of t.kind c (spelling text t)) ++ slips_among text (after t.kind c (spelling text t)) ts
 
 -- all slips of a text, up to its first lexical fault
 abbrev pub slips_of : List ℕ → List Warning

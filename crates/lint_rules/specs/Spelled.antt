@@ -34,7 +34,7 @@ abbrev pub is_joined : List ℕ → Bool
 is_joined word =
     (begins_with 60 word || begins_with 62 word || begins_with 61 word || ends_with 62 word) && list_any (λ b. is_letter b || is_digit b) word
 
--- a < stands behind its first byte
+-- a < stands after its first byte
 abbrev pub is_joined_variable : List ℕ → Bool
 is_joined_variable word = list_any (λ b. b == 60) (drop 1 word)
 

@@ -1,4 +1,4 @@
-//! The slips that are told, and their texts.
+//! The slips that are reported, and their texts.
 ghost use Rattle.std.specs.Prelude.{◌≡◌};
 ghost use Rattle.lint_rules.specs.Texts.{slip_text};
 

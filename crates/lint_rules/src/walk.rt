@@ -1,8 +1,8 @@
 //! The walk over the tokens of a text.
-ghost use Rattle.std.specs.Prelude.{◌≡◌, ◌<◌, ◌≤◌, ◌+◌, ◌^◌, ◌++◌, take, length, IfOk, OnOk};
+ghost use Rattle.std.specs.Prelude.{◌≡◌, ◌<◌, ◌≤◌, ◌+◌, ◌^◌, ◌++◌, take, length, All, IfOk, OnOk};
 ghost use Rattle.ops_tokens.specs.Tokens.{spelling, LiesIn};
-ghost use Rattle.lint_rules.specs.Slips.{behind_left, behind_right, behind_operator, behind_head, behind_symbol, behind, slip_of_symbol, slip_of_variable, slip_by, slip_of, slips_of, plain, told_of};
-ghost use Rattle.lint_rules.specs.Walks.{StandsBefore};
+ghost use Rattle.lint_rules.specs.Slips.{after_left, after_right, after_operator, after_head, after_symbol, after, slip_of_symbol, slip_of_variable, slip_by, slip_of, slips_of, plain, warnings_of};
+ghost use Rattle.lint_rules.specs.Walks.{LiesWithin, StandsBefore};
 
 use crate::bytes::{
     is, is_clips_test, is_clips_variable, is_joined, is_joined_variable, is_string,
@@ -47,9 +47,9 @@ fn plain(context: Context) -> Context
     }
 }
 
-fn behind_left(context: Context) -> Context
+fn after_left(context: Context) -> Context
     requires { context.depth < 2 ^ 63 }
-    ensures { result ≡ behind_left context }
+    ensures { result ≡ after_left context }
 {
     Context {
         depth: context.depth + 1,
@@ -59,8 +59,8 @@ fn behind_left(context: Context) -> Context
     }
 }
 
-fn behind_right(context: Context) -> Context
-    ensures { result ≡ behind_right context }
+fn after_right(context: Context) -> Context
+    ensures { result ≡ after_right context }
 {
     let closes_write = context.write == context.depth;
     Context {
@@ -72,8 +72,8 @@ fn behind_right(context: Context) -> Context
     }
 }
 
-fn behind_operator(context: Context, spelling: &[u8]) -> Context
-    ensures { result ≡ behind_operator context spelling.now }
+fn after_operator(context: Context, spelling: &[u8]) -> Context
+    ensures { result ≡ after_operator context spelling.now }
 {
     if is(spelling, b"//") {
         return Context {
@@ -108,8 +108,8 @@ fn behind_operator(context: Context, spelling: &[u8]) -> Context
     plain(context)
 }
 
-fn behind_head(context: Context, spelling: &[u8]) -> Context
-    ensures { result ≡ behind_head context spelling.now }
+fn after_head(context: Context, spelling: &[u8]) -> Context
+    ensures { result ≡ after_head context spelling.now }
 {
     if is(spelling, b"p") && context.depth == 1 {
         return Context {
@@ -118,7 +118,7 @@ fn behind_head(context: Context, spelling: &[u8]) -> Context
             ..context
         };
     }
-    if is(spelling, b"write") {
+    if is(spelling, b"write") && !context.conditions {
         return Context {
             write: context.depth,
             before: Before::Other,
@@ -128,24 +128,24 @@ fn behind_head(context: Context, spelling: &[u8]) -> Context
     plain(context)
 }
 
-fn behind_symbol(context: Context, spelling: &[u8]) -> Context
-    ensures { result ≡ behind_symbol context.before context spelling.now }
+fn after_symbol(context: Context, spelling: &[u8]) -> Context
+    ensures { result ≡ after_symbol context.before context spelling.now }
 {
     match context.before {
-        Before::Bracket => behind_head(context, spelling),
+        Before::Bracket => after_head(context, spelling),
         _ => plain(context),
     }
 }
 
-fn behind(kind: TokenKind, context: Context, spelling: &[u8]) -> Context
+fn after(kind: TokenKind, context: Context, spelling: &[u8]) -> Context
     requires { context.depth < 2 ^ 63 }
-    ensures { result ≡ behind kind context spelling.now }
+    ensures { result ≡ after kind context spelling.now }
 {
     match kind {
-        TokenKind::Left => behind_left(context),
-        TokenKind::Right => behind_right(context),
-        TokenKind::Operator => behind_operator(context, spelling),
-        TokenKind::Symbol => behind_symbol(context, spelling),
+        TokenKind::Left => after_left(context),
+        TokenKind::Right => after_right(context),
+        TokenKind::Operator => after_operator(context, spelling),
+        TokenKind::Symbol => after_symbol(context, spelling),
         _ => plain(context),
     }
 }
@@ -212,7 +212,7 @@ fn token_from(scanner: &Scanner, text: &[u8], from: usize) -> Option<Token>
 
 /// Adds the word of a token, where it is a slip.
 fn note(found: &mut Vec<Warning>, token: Token, slip: Option<Slip>) -> Result<(), OutOfMemory>
-    ensures { OnOk result (found.new.items ≡ found.old.items ++ told_of token slip) }
+    ensures { OnOk result (found.new.items ≡ found.old.items ++ warnings_of token slip) }
 {
     if let Some(slip) = slip {
         found.push(Warning {
@@ -229,6 +229,7 @@ fn note(found: &mut Vec<Warning>, token: Token, slip: Option<Slip>) -> Result<()
 /// it finds.
 pub fn word_slips(alloc: Global, text: &[u8], most: usize) -> Result<Vec<Warning>, OutOfMemory>
     ensures slips { IfOk result (λ found. found.items ≡ take most (slips_of text.now)) }
+    ensures places { IfOk result (λ found. All (LiesWithin text.now) found.items) }
 {
     let scanner = Scanner::new();
     let mut found = Vec::new(alloc);
@@ -247,7 +248,7 @@ pub fn word_slips(alloc: Global, text: &[u8], most: usize) -> Result<Vec<Warning
         let spelling = spelling_of(text, &token);
         let slip = slip_of(token.kind, context, spelling);
         note(&mut found, token, slip)?;
-        context = behind(token.kind, context, spelling);
+        context = after(token.kind, context, spelling);
         from = token.past;
     }
     Ok(found)

@@ -1,0 +1,8 @@
+//! What the definitions give for small texts. The law is the contract of a function that does nothing, and is computed.
+ghost use Rattle.lint_rules.specs.SmallTexts.{SlipsAreFound, NoSlipIsFound};
+
+/// Each kind of slip in a small text, with its line and its column, and texts without one.
+pub fn small_texts()
+    ensures found { SlipsAreFound }
+    ensures none { NoSlipIsFound }
+{}
