@@ -1,6 +1,7 @@
 -- What is computed explains why a rule does not fire.
-use Rattle.std.proofs.Common.{◌≡◌, ℕ, zero, suc, ◌<◌, ◌≤◌, List, [], ◌∷◌, map, take, length, refl, ap, sym, ◌∙◌, subst, inl, inr, arith}
+use Rattle.std.proofs.Common.{◌≡◌, ℕ, zero, suc, ◌+◌, ◌-◌, ◌==◌, ◌<◌, ◌≤◌, Bool, true, false, cond, List, [], ◌∷◌, map, take, length, refl, ap, sym, ◌∙◌, subst, inl, inr, arith, below_more}
 use Rattle.std.specs.Prelude.{Contains}
+use Rattle.std.proofs.lemmas.Bool.{eqb-true}
 use Rattle.ops_base.specs.declared.conditions.Part.{Part}
 use Rattle.ops_base.specs.declared.direct.Partial.{Partial}
 use Rattle.ops_base.specs.declared.elements.Element.{Element}
@@ -14,10 +15,11 @@ use Rattle.ops_base.proofs.InOrder.{PartialBefore, all_before-map, all_pairs_fro
 use Rattle.ops_base.proofs.Members.{IsMember, member_from_contains, contains_from_member, map_member}
 use Rattle.ops_base.proofs.WalkFinds.{matches_of-meets, meets-matches_of}
 use Rattle.why.specs.declared.explaining.BoundInst.{BoundInst}
+use Rattle.why.specs.declared.explaining.Why.TheVariants.{Found, Missing}
 use Rattle.why.specs.Bindings.{Binds}
-use Rattle.why.specs.Explaining.{AreBoundInsts, IsInstOf, IsMissing, bound_inst, insts_in}
+use Rattle.why.specs.Explaining.{AreBoundInsts, Explains, IsInstOf, IsMissing, bound_inst, insts_in, place_from, missing_place, explained, explanation}
 use Rattle.why.specs.Partials.{parts_of, IsPartialMatch}
-use Rattle.why.proofs.Instantiations.{inst-from_parts, inst-meets}
+use Rattle.why.proofs.Instantiations.{inst-from_parts, inst-meets, take-all}
 use Rattle.why.proofs.Walks.{matches_of-meets_with}
 
 abbrev inst : ℕ → List ℕ → Inst
@@ -126,3 +128,80 @@ first_is_met wm ps (suc k) lt none = absurd (omega arith)
 pub some_parts : (wm : List Element) (ps : List Part) → matches_of wm ps ≡ [] → 1 ≤ length ps
 some_parts wm [] none = cc
 some_parts wm (p ∷ ps) none = omega arith
+
+-- ---- the place, as it is computed
+
+-- one place further
+pub place_on : (wm : List Element) (ps : List Part) (place : ℕ) → place < length ps → (length (matches_of wm (take place ps)) == 0) ≡ false → place_from wm ps place (length ps - place) ≡ place_from wm ps (place + 1) (length ps - (place + 1))
+place_on wm ps place lt some =
+    let left : length ps - place ≡ suc (length ps - (place + 1)) = omega arith in
+    ap (place_from wm ps place) left ∙ ap (λ b. cond b place (place_from wm ps (place + 1) (length ps - (place + 1)))) some
+
+-- here it is
+pub place_here : (wm : List Element) (ps : List Part) (place : ℕ) → place < length ps → (length (matches_of wm (take place ps)) == 0) ≡ true → place_from wm ps place (length ps - place) ≡ place
+place_here wm ps place lt none =
+    let left : length ps - place ≡ suc (length ps - (place + 1)) = omega arith in
+    ap (place_from wm ps place) left ∙ ap (λ b. cond b place (place_from wm ps (place + 1) (length ps - (place + 1)))) none
+
+-- it is the last one
+pub place_last : (wm : List Element) (ps : List Part) (place : ℕ) → length ps ≤ place → place_from wm ps place (length ps - place) ≡ place
+place_last wm ps place past =
+    let left : length ps - place ≡ 0 = omega arith in
+    ap (place_from wm ps place) left
+
+none_where : (ms : List Partial) → (length ms == 0) ≡ true → ms ≡ []
+none_where [] e = refl
+none_where (m ∷ ms) e =
+    let zero : length (m ∷ ms) ≡ 0 = eqb-true (length (m ∷ ms)) 0 e in
+    absurd (omega arith)
+
+some_where : (ms : List Partial) → (length ms == 0) ≡ false → ms ≡ [] → ⊥
+some_where [] e none = cc
+some_where (m ∷ ms) e none = cc
+
+-- what the first place up to which nothing is computed is
+record IsPlace (wm : List Element) (ps : List Part) (place : ℕ) : Type 0 where
+  first : 1 ≤ place
+  last : place ≤ length ps
+  none : matches_of wm (take place ps) ≡ []
+  before : (k : ℕ) → k < place → matches_of wm (take k ps) ≡ [] → ⊥
+
+module _ (wm : List Element) (ps : List Part) (all : matches_of wm ps ≡ []) where
+  whole_none : (place : ℕ) → place ≡ length ps → matches_of wm (take place ps) ≡ []
+  whole_none place is = ap (λ n. matches_of wm (take n ps)) is ∙ ap (matches_of wm) (take-all ps) ∙ all
+
+  place_is : (place left : ℕ) → 1 ≤ place → place + left ≡ length ps → ((k : ℕ) → k < place → matches_of wm (take k ps) ≡ [] → ⊥) → IsPlace wm ps (place_from wm ps place left)
+  place_is place zero first sum before = record { first = first; last = omega arith; none = whole_none place (omega arith); before = before }
+  place_is place (suc left) first sum before = by (λ b. place_is (place + 1) left (omega arith) (omega arith) b) (length (matches_of wm (take place ps)) == 0) refl
+    where
+      by : (((k : ℕ) → k < place + 1 → matches_of wm (take k ps) ≡ [] → ⊥) → IsPlace wm ps (place_from wm ps (place + 1) left)) → (b : Bool) → (length (matches_of wm (take place ps)) == 0) ≡ b
+          → IsPlace wm ps (cond b place (place_from wm ps (place + 1) left))
+      by ih true e = record { first = first; last = omega arith; none = none_where (matches_of wm (take place ps)) e; before = before }
+      by ih false e = ih (below_more _ _ before (some_where (matches_of wm (take place ps)) e))
+
+-- what is computed explains the rule
+pub computed_explains : (rules : List Rule) (wm : List Element) (rule : ℕ) → rule < length rules → HasRisingTags wm → Explains rules wm rule (explanation rules wm rule)
+computed_explains rules wm rule there rising = by (matches_of wm (parts_of rules rule)) refl
+  where
+    by : (ms : List Partial) → matches_of wm (parts_of rules rule) ≡ ms → Explains rules wm rule (explained rule (missing_place wm (parts_of rules rule)) ms)
+    by [] none =
+        let ps = parts_of rules rule in
+        let some = some_parts wm ps none in
+        let is = place_is wm ps none 1 (length ps - 1) (omega arith) (omega arith) (λ k. first_is_met wm ps k) in
+        is_missing rules wm rule (missing_place wm ps) there is.first is.last none is.none is.before
+    by (p ∷ ms) are =
+        are_bound rules wm rule (map (bound_inst rule) (p ∷ ms)) there rising (λ none. (let bad : p ∷ ms ≡ [] = sym are ∙ none in cc)) (ap (map (bound_inst rule)) (sym are))
+
+-- the same of a list of parts that is the rule's
+pub parts_explained : (rules : List Rule) (wm : List Element) (rule place : ℕ) (ps : List Part) → ps ≡ parts_of rules rule → matches_of wm ps ≡ [] → place ≡ missing_place wm ps → Missing place ≡ explanation rules wm rule
+parts_explained rules wm rule place ps e all is =
+    ap Missing (is ∙ ap (missing_place wm) e)
+    ∙ sym (ap (explained rule (missing_place wm (parts_of rules rule))) (sym (ap (matches_of wm) e) ∙ all))
+
+pub parts_found : (rules : List Rule) (wm : List Element) (rule : ℕ) (ps : List Part) (ms : List Partial) (found : List BoundInst) → ps ≡ parts_of rules rule → ms ≡ matches_of wm ps → (ms ≡ [] → ⊥) → found ≡ map (bound_inst rule) ms → Found found ≡ explanation rules wm rule
+parts_found rules wm rule ps ms found e computed some is =
+    ap Found is ∙ sym (by ms some) ∙ ap (explained rule (missing_place wm (parts_of rules rule))) (computed ∙ ap (matches_of wm) e)
+  where
+    by : (ms : List Partial) → (ms ≡ [] → ⊥) → explained rule (missing_place wm (parts_of rules rule)) ms ≡ Found (map (bound_inst rule) ms)
+    by [] some = absurd (some refl)
+    by (m ∷ ms) some = refl

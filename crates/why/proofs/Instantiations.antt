@@ -41,7 +41,7 @@ pub inst-meets : (rules : List Rule) (wm : List Element) (i : Inst) → IsInst r
 inst-meets rules wm i is =
     let P : List Part → Type 0 = λ w. Meets wm w [] i.tags in subst P (sym (parts_are rules i.rule is.0 is.1)) is.2
 
-take-all : (ps : List Part) → take (length ps) ps ≡ ps
+pub take-all : (ps : List Part) → take (length ps) ps ≡ ps
 take-all [] = refl
 take-all (p ∷ ps) = ap (λ w. p ∷ w) (take-all ps)
 

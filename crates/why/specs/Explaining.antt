@@ -1,9 +1,11 @@
 -- Why a rule does not fire.
-use Rattle.std.specs.Prelude.{◌≡◌, ℕ, ◌<◌, ◌≤◌, List, map, length, AllPairs, Contains}
+use Rattle.std.specs.Prelude.{◌≡◌, ℕ, zero, suc, ◌+◌, ◌-◌, ◌==◌, ◌<◌, ◌≤◌, if◌then◌else◌, List, [], ◌∷◌, map, length, take, AllPairs, Contains}
 use Rattle.ops_base.specs.declared.direct.Partial.{Partial}
 use Rattle.ops_base.specs.declared.elements.Element.{Element}
 use Rattle.ops_base.specs.declared.rules.Inst.{Inst}
 use Rattle.ops_base.specs.declared.rules.Rule.{Rule}
+use Rattle.ops_base.specs.declared.conditions.Part.{Part}
+use Rattle.ops_base.specs.ConflictSet.{matches_of}
 use Rattle.ops_base.specs.Instances.{IsInst, IsInOrder}
 use Rattle.why.specs.declared.explaining.BoundInst.{BoundInst}
 use Rattle.why.specs.declared.explaining.Why.{Why}
@@ -42,3 +44,23 @@ pub record IsMissing (rules : List Rule) (wm : List Element) (rule place : ℕ) 
 abbrev pub Explains : List Rule → List Element → ℕ → Why → Type 0
 Explains rules wm rule (Found found) = AreBoundInsts rules wm rule found
 Explains rules wm rule (Missing place) = IsMissing rules wm rule place
+
+-- ---- the same, as it can be computed
+
+-- the first place, from this one on, up to which nothing meets the parts, where this many come after it
+abbrev pub place_from : List Element → List Part → ℕ → ℕ → ℕ
+place_from wm parts place zero = place
+place_from wm parts place (suc left) =
+    if length (matches_of wm (take place parts)) == 0 then place else place_from wm parts (place + 1) left
+
+abbrev pub missing_place : List Element → List Part → ℕ
+missing_place wm parts = place_from wm parts 1 (length parts - 1)
+
+abbrev pub explained : ℕ → ℕ → List Partial → Why
+explained rule place [] = Missing place
+explained rule place (p ∷ ps) = Found (map (bound_inst rule) (p ∷ ps))
+
+-- the one explanation of a rule
+abbrev pub explanation : List Rule → List Element → ℕ → Why
+explanation rules wm rule =
+    let parts = parts_of rules rule in explained rule (missing_place wm parts) (matches_of wm parts)

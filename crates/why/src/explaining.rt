@@ -3,7 +3,7 @@ ghost use Rattle.std.specs.Prelude.{◌≡◌, ℕ, ◌<◌, ◌≤◌, [], leng
 ghost use Rattle.ops_base.specs.ConflictSet.{matches_of};
 ghost use Rattle.ops_base.specs.WorkingMemory.{HasRisingTags, shown};
 ghost use Rattle.why.specs.Bindings.{values_in};
-ghost use Rattle.why.specs.Explaining.{Explains, bound_inst};
+ghost use Rattle.why.specs.Explaining.{Explains, bound_inst, explanation, missing_place};
 
 use crate::partials::parts_of;
 use ops_base::conditions::Part;
@@ -68,6 +68,7 @@ fn missing_place(alloc: Global, wm: &[&Element], parts: &[Part]) -> Result<usize
     ensures none { IfOk result (λ place. matches_of (shown wm.now) (take place parts.now) ≡ []) }
     ensures before { IfOk result
         (λ place. (k : ℕ) → k < place → matches_of (shown wm.now) (take k parts.now) ≡ [] → ⊥) }
+    ensures computed { IfOk result (λ place. place ≡ missing_place (shown wm.now) parts.now) }
 {
     for place in 1..parts.len() {
         if matches_of(alloc, wm, &parts[..place])?.is_empty() {
@@ -88,7 +89,8 @@ pub fn explain(
 ) -> Result<Why, OutOfMemory>
     requires there { rule < length program.now.rules }
     requires rising { HasRisingTags (shown wm.now) }
-    ensures { IfOk result (Explains program.now.rules (shown wm.now) rule) }
+    ensures explains { IfOk result (Explains program.now.rules (shown wm.now) rule) }
+    ensures computed { IfOk result (λ why. why ≡ explanation program.now.rules (shown wm.now) rule) }
 {
     let parts = parts_of(program, rule);
     let found = matches_of(alloc, wm, parts)?;

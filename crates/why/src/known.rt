@@ -24,7 +24,8 @@ pub(crate) enum Known<'a> {
     },
 }
 
-fn variable_of(test: &Test) -> Option<usize>
+/// The variable that a test binds.
+pub fn variable_of(test: &Test) -> Option<usize>
     ensures { result ≡ variable_of test.now }
 {
     match &test.operand {

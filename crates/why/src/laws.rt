@@ -1,5 +1,5 @@
 //! What holds of the definitions of this crate: the contracts of functions that do nothing.
-ghost use Rattle.std.specs.Prelude.{◌≡◌, ℕ, List, length, ◌↔◌};
+ghost use Rattle.std.specs.Prelude.{◌≡◌, ℕ, ◌<◌, List, length, ◌↔◌};
 ghost use Rattle.ops_base.specs.declared.conditions.Part.{Part};
 ghost use Rattle.ops_base.specs.declared.elements.Element.{Element};
 ghost use Rattle.ops_base.specs.declared.matching.Binding.{Binding};
@@ -9,6 +9,7 @@ ghost use Rattle.ops_base.specs.declared.values.Value.{Value};
 ghost use Rattle.ops_base.specs.Instances.{Meets, IsInst};
 ghost use Rattle.ops_base.specs.WorkingMemory.{HasRisingTags};
 ghost use Rattle.why.specs.Bindings.{MeetsWith, Binds};
+ghost use Rattle.why.specs.Explaining.{Explains, explanation};
 ghost use Rattle.why.specs.Partials.{parts_of, IsPartialMatch};
 
 /// The walk that keeps its bindings is the walk that defines an instantiation.
@@ -29,4 +30,10 @@ pub fn instantiations_bind_once()
         → IsInst rules wm i ↔ ((values : List Value) × Binds rules wm i values) }
     ensures once { (rules : List Rule) (wm : List Element) (i : Inst) (values other : List Value)
         → HasRisingTags wm → Binds rules wm i values → Binds rules wm i other → other ≡ values }
+{}
+
+/// What is computed explains each rule.
+pub fn explanations_explain()
+    ensures { (rules : List Rule) (wm : List Element) (rule : ℕ)
+        → rule < length rules → HasRisingTags wm → Explains rules wm rule (explanation rules wm rule) }
 {}

@@ -10,4 +10,5 @@ pub mod partials;
 
 pub use checking::check;
 pub use explaining::{BoundInst, Why, explain};
-pub use partials::upto;
+pub use known::variable_of;
+pub use partials::{parts_of, upto};

@@ -11,7 +11,8 @@ use ops_base::memory::OutOfMemory;
 use ops_base::programs::Program;
 use std::alloc::Global;
 
-pub(crate) fn parts_of(program: &Program, rule: usize) -> &[Part]
+/// The parts of a rule's left side, none where there is no such rule.
+pub fn parts_of(program: &Program, rule: usize) -> &[Part]
     ensures { result.now ≡ parts_of program.now.rules rule }
 {
     match program.rules.as_slice().get(rule) {
