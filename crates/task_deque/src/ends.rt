@@ -87,7 +87,10 @@ impl<J: Fitting> OwnEnd<J> {
         ensures fits { IfSome result J.fits }
         ensures all { IfNone result (IsWhole self.new → AreSame (pushed self.new) (popped self.new ++ stolen self.new)) }
     {
-        self.worker.pop_as::<Pop<J>>()
+        match self.worker.pop_as::<Pop<J>>() {
+            Some(first) => Some(first),
+            None => None,
+        }
     }
 }
 
