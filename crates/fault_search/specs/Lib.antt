@@ -1,0 +1,4 @@
+pub mod Forms
+pub mod Blanks
+pub mod First
+pub mod Search

@@ -1,0 +1,8 @@
+//! The files of a text, joined in their order, and in which file each place of that text stands.
+#![tactic(auto)]
+
+mod files;
+mod parts;
+
+pub use files::{FilesFault, JoinedText, load_files};
+pub use parts::{Part, part_at};

@@ -1,0 +1,18 @@
+use Rattle.std.proofs.Common.{sym, subst}
+use Rattle.ops_jobs.specs.Words.{word_bytes}
+use Rattle.joined_files.specs.Files.{Gathered}
+use Rattle.joined_files.proofs.Contents.{contents_map}
+use Rattle.lint_top.specs.Whole.{answer_gathered}
+use Rattle.lint_top.specs.Calls.{Delivers}
+use Rattle.lint_top.proofs.lint.answer_files.Goals as goal
+
+pub returns-in-Ok-clause-delivers : goal.returns-in-Ok-clause-delivers
+returns-in-Ok-clause-delivers g c =
+    let names = word_bytes c.args.names.now in
+    let D : Gathered → Type 0 = λ found. Delivers c.say_report.result (answer_gathered names found) (g.K.Sink.taken c.args.sink.now) (g.K.Sink.faults c.args.sink.now) (g.K.Sink.taken c.say_report.new.sink) (g.K.Sink.faults c.say_report.new.sink) in
+    contents_map (g.H.Shelf.told c.args.shelf.now) names _ _ (λ contents e. subst D (sym e) c.say_report.ensures.delivers) c.in-Ok.ensures.text
+
+pub returns-in-Err-clause-delivers : goal.returns-in-Err-clause-delivers
+returns-in-Err-clause-delivers g c =
+    let names = word_bytes c.args.names.now in
+    contents_map (g.H.Shelf.told c.args.shelf.now) names _ _ (λ contents h. c.say_why.ensures.delivers names _ h) c.in-Err.ensures.fault

@@ -1,0 +1,19 @@
+use Rattle.std.proofs.Common.{sym, ◌∙◌}
+use Rattle.ops_jobs.specs.Words.{word_bytes}
+use Rattle.joined_files.proofs.Contents.{contents_map, contents_any}
+use Rattle.lint_top.proofs.Answering.{files_answer, usage_answers}
+use Rattle.lint_top.proofs.lint.lint_run.Goals as goal
+
+pub returns-then-are_files-clause-answers : goal.returns-then-are_files-clause-answers
+returns-then-are_files-clause-answers g c =
+    let words = word_bytes c.args.words.now in
+    let fit = sym c.are_files.ensures ∙ c.if-are_files.true in
+    contents_map (g.H.Shelf.told c.args.shelf.now) words _ _
+    (λ contents d. files_answer words contents _ c.status_after.result c.answer_files-answered.result _ _ _ _ c.status_after.ensures fit d) c.answer_files-answered.ensures.delivers
+
+pub returns-clause-answers : goal.returns-clause-answers
+returns-clause-answers g c =
+    let words = word_bytes c.args.words.now in
+    let unfit = sym c.are_files.ensures ∙ c.if-are_files.false in
+    contents_any (g.H.Shelf.told c.args.shelf.now) words _
+    (λ contents. usage_answers words contents _ c.status_after-2.result c.say_usage-answered.result _ _ _ _ c.status_after-2.ensures unfit c.say_usage-answered.ensures.delivers)

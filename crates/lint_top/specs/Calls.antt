@@ -1,0 +1,27 @@
+-- What a call of the program leaves.
+use Rattle.std.specs.Prelude.{◌≡◌, ℕ, List, Option, Result, Ok, Err}
+use Rattle.ops_io.specs.Outside.{GrewBy, GrewByPrefix}
+use Rattle.ops_io.specs.Ports.{Cause}
+use Rattle.ops_io.specs.declared.stop.Stop.{Stop}
+use Rattle.ops_io.specs.declared.stop.Stop.TheVariants as stop
+use Rattle.lint_top.specs.declared.statuses.LintStatus.{LintStatus}
+use Rattle.lint_top.specs.declared.statuses.LintStatus.TheVariants as status
+use Rattle.lint_top.specs.Report.{Reply}
+
+-- All bytes of the reply went out and its status is answered; or the call gave up, for the reason that the count of
+-- failed writes gives, and a prefix went out.
+abbrev pub Delivers : Result LintStatus Stop → Reply → Option (List ℕ) → ℕ → Option (List ℕ) → ℕ → Type 0
+Delivers (Ok s) o old before new now = (s ≡ o.status) × GrewBy old new o.bytes × (now ≡ before)
+Delivers (Err why) o old before new now = GrewByPrefix old new o.bytes × Cause why before now
+
+-- the status of a call that may have given up
+abbrev pub status_after : Result LintStatus Stop → LintStatus
+status_after (Ok s) = s
+status_after (Err stop.Write) = status.Unwritten
+status_after (Err stop.OutOfMemory) = status.OutOfMemory
+
+-- All bytes went out, with their status; or the output refused or memory ran out, and a prefix of them went out.
+abbrev pub Answers : LintStatus → Reply → Option (List ℕ) → Option (List ℕ) → Type 0
+Answers status.OutOfMemory o old new = GrewByPrefix old new o.bytes
+Answers status.Unwritten o old new = GrewByPrefix old new o.bytes
+Answers s o old new = (s ≡ o.status) × GrewBy old new o.bytes

@@ -1,0 +1,6 @@
+pub mod Parts
+pub mod Report
+pub mod Whole
+pub mod Calls
+pub mod Codes
+pub mod Translated
