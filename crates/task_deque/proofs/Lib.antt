@@ -1,0 +1,2 @@
+-- Each step keeps the rule.
+pub mod Steps

@@ -1,0 +1,3 @@
+-- The rule of a deque with one owner and one thief, and what its ends know.
+pub mod Rule
+pub mod Ends
