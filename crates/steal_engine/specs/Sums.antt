@@ -1,0 +1,19 @@
+-- What a worker did, and what all workers did together.
+use Rattle.std.specs.Prelude.{◌≡◌, ℕ, ◌+◌, List, map, flat_map, sum_by}
+use Rattle.net_base.specs.declared.tasks.Task.{Task}
+use Rattle.steal_engine.specs.declared.rounds.Round.{Round}
+
+abbrev pub round : Task → List Task → Round
+round task children = record { task = task; children = children }
+
+abbrev pub tasks_in : List Round → List Task
+tasks_in rs = map (λ (r : Round). r.task) rs
+
+abbrev pub children_in : List Round → List Task
+children_in rs = flat_map (λ (r : Round). r.children) rs
+
+-- What the worker did, with what it pushed and what is left in its list, is the children of that, with what was dealt
+-- to it and what it popped and stole. What was dealt is counted among what was pushed.
+abbrev pub AreFair : List Round → List Task → List Task → List Task → List Task → List Task → Type 0
+AreFair rounds dealt pushed popped stolen list =
+    (h : Task → ℕ) → (sum_by h (tasks_in rounds) + sum_by h pushed) + sum_by h list ≡ ((sum_by h (children_in rounds) + sum_by h dealt) + sum_by h popped) + sum_by h stolen
