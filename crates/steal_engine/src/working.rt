@@ -166,10 +166,11 @@ struct Presence {
 }
 
 impl Presence {
+    /// Each worker is counted from the beginning, so that none ends before the others have begun.
     fn new() -> Presence {
         Presence {
             backoff: Backoff::new(),
-            counted: false,
+            counted: true,
         }
     }
 
