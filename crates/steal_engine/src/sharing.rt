@@ -124,7 +124,7 @@ fn share_picked<R: Threads + Wait + Sync, G: Gate, J: Fitting + Send + Sync>(
     let passes = split_all(alloc, &cells, &mut first, workers)?;
     let mut owns = deques::<J>(alloc, workers)?;
     deal(&mut owns, flight)?;
-    let busy = AtomicUsize::new(workers);
+    let busy = AtomicUsize::new(0);
     let phase = Phase {
         alloc,
         cells: &cells,

@@ -158,7 +158,8 @@ pub(crate) fn work<R: Wait, G: Gate, J: Fitting>(
     unreachable!()
 }
 
-/// Whether a worker is counted among those at work, and how long it looked in vain.
+/// Whether a worker is counted among those at work, and how long it looked in vain. It is counted once it has a task, and
+/// not before: where a thread can't be started, its worker begins after another one on the same thread has ended.
 #[derive(Drop)]
 struct Presence {
     backoff: Backoff,
@@ -166,11 +167,10 @@ struct Presence {
 }
 
 impl Presence {
-    /// Each worker is counted from the beginning, so that none ends before the others have begun.
     fn new() -> Presence {
         Presence {
             backoff: Backoff::new(),
-            counted: true,
+            counted: false,
         }
     }
 
