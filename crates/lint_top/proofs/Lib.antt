@@ -1,5 +1,4 @@
 pub mod Deliveries
 pub mod Answering
-pub mod Adding
 pub mod Translating
 pub mod Words
