@@ -1,5 +1,5 @@
 //! What holds of programs by the definitions of running: the contracts of functions that do nothing.
-ghost use Rattle.std.specs.Prelude.{◌≡◌, ℕ, ◌≤◌, List, [], ◌∷◌, ◌++◌, length, drop, map, slice_get, Some, if◌then◌else◌, Option, None, Ok, Bool, Contains, IsTrue, IfOk};
+ghost use Rattle.std.specs.Prelude.{◌≡◌, ℕ, ◌<◌, ◌≤◌, List, [], ◌∷◌, ◌++◌, length, drop, map, slice_get, Some, if◌then◌else◌, Option, None, Ok, Bool, Contains, IsTrue, IfOk};
 ghost use Rattle.std.specs.List.{list_all};
 ghost use Rattle.ops_base.specs.declared.actions.Action.{Action};
 ghost use Rattle.ops_base.specs.declared.actions.Term.{Term};
@@ -25,6 +25,7 @@ ghost use Rattle.ops_base.specs.WorkingMemory.{HasRisingTags, tags_of};
 ghost use Rattle.ops_io.specs.Coming.{Coming};
 ghost use Rattle.ops_meaning.specs.Acting.{Setting, Given, ActState, actions_of, action_done, actions_done, begun, evaluated, values_placed};
 ghost use Rattle.ops_meaning.specs.Layout.{inst_text};
+ghost use Rattle.ops_meaning.specs.Partials.{left_side, partial_tags};
 ghost use Rattle.ops_meaning.specs.Running.{Course, Session, command_done, element_lines, ending_of, in_force, lists, meets, removals, session_of, standing_by};
 ghost use Rattle.run_laws.specs.Beginning.{BeginsAsMatched};
 ghost use Rattle.run_laws.specs.Computing.{OperandsAre, QuotientsAre, SumsAre};
@@ -37,6 +38,7 @@ ghost use Rattle.run_laws.specs.Patterns.{condition_with, meeting};
 ghost use Rattle.run_laws.specs.Placing.{StandAt};
 ghost use Rattle.run_laws.specs.Programs.{AreValid};
 ghost use Rattle.run_laws.specs.Ranking.{HasRank, IsRanking};
+ghost use Rattle.why.specs.Partials.{AreUpTo};
 
 /// A right side begins with the bindings with which the walk over its conditions accepted the instantiation, and with
 /// its elements in the cells.
@@ -170,4 +172,11 @@ pub fn formulas_give()
     ensures sums { SumsAre }
     ensures quotients { QuotientsAre }
     ensures operands { OperandsAre }
+{}
+
+/// What `matches` lists of a production up to a part are the tags of all partial matches of the parts so far, and nothing
+/// else, in lexicographic order, each once.
+pub fn partial_matches_are_listed()
+    ensures { (rules : List Rule) (wm : List Element) (rule k : ℕ)
+        → HasRisingTags wm → rule < length rules → AreUpTo rules wm rule k (partial_tags wm (left_side rules rule) k) }
 {}
