@@ -281,6 +281,7 @@ module _ (w : Word) (quiet : (n : ℕ) → (w.keyword ≡ keyword.Other → ⊥)
   form_balanced keyword.Watch ws s e h = (h, sym (quiet (1 + owed ws) (λ o. absurd (cc))))
   form_balanced keyword.Pbreak ws s e h = (h, sym (quiet (1 + owed ws) (λ o. absurd (cc))))
   form_balanced keyword.Excise ws s e h = (h, sym (quiet (1 + owed ws) (λ o. absurd (cc))))
+  form_balanced keyword.Matches ws s e h = (h, sym (quiet (1 + owed ws) (λ o. absurd (cc))))
   form_balanced keyword.Exit ws s e h = (h, sym (quiet (1 + owed ws) (λ o. absurd (cc))))
   form_balanced _ ws s e h = tt
 

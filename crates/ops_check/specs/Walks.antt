@@ -1,7 +1,7 @@
 -- How the code's walk over the words goes along with the definition's.
 use Rattle.std.specs.Prelude.{◌≡◌, Bool, true, false, ◌||◌, is_some, List, [], ◌∷◌, ◌++◌, Some, None, Result, Ok, Err}
 use Rattle.ops_grammar.specs.declared.words.Word.{Word}
-use Rattle.ops_grammar.specs.Grammar.{Target as Goal, ToFixed, ToConstants, TagUse as TagGoal, ToRemove, ToShow, NameUse as NameGoal, ToPrint, ToBreak, ToExcise, Forms, State, is_literal, value_of, no_formula, goes}
+use Rattle.ops_grammar.specs.Grammar.{Target as Goal, ToFixed, ToConstants, TagUse as TagGoal, ToRemove, ToShow, NameUse as NameGoal, ToPrint, ToBreak, ToExcise, ToMatch, Forms, State, is_literal, value_of, no_formula, goes}
 use Rattle.ops_forms.specs.declared.refusals.Refusal.{Refusal}
 use Rattle.ops_forms.specs.declared.refusals.Refusal.TheVariants as refusal
 use Rattle.ops_check.specs.declared.draft.Draft.{Draft}
@@ -73,6 +73,7 @@ abbrev pub name_use_of : NameUse → NameGoal
 name_use_of name_use.Print = ToPrint
 name_use_of name_use.Break = ToBreak
 name_use_of name_use.Excise = ToExcise
+name_use_of name_use.Match = ToMatch
 
 -- a call read all words as forms
 abbrev pub ReadsAll : State → State → List Word → Result Unit Refusal → Type 0

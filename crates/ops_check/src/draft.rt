@@ -37,6 +37,7 @@ pub(crate) enum NameUse {
     Print,
     Break,
     Excise,
+    Match,
 }
 
 /// What the element of a command is for: it is made, or the elements that have its values are shown.

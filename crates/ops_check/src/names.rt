@@ -1,6 +1,6 @@
 //! The commands that name productions, whether they are there or not.
 ghost use Rattle.std.specs.Prelude.{◌≡◌, [], ◌∷◌, ◌++◌};
-ghost use Rattle.ops_grammar.specs.Grammar.{goes, NamedRule, NamedRules, ToPrint, ToBreak, ToExcise, name_command, with_named};
+ghost use Rattle.ops_grammar.specs.Grammar.{goes, NamedRule, NamedRules, ToPrint, ToBreak, ToExcise, ToMatch, name_command, with_named};
 ghost use Rattle.ops_forms.specs.WordWalks.{Goes, Reads, Becomes, IsWithin};
 ghost use Rattle.ops_check.specs.Walks.{view, name_use_of};
 
@@ -29,6 +29,14 @@ impl Draft {
         ensures within { IsWithin words.now result }
     {
         self.some_names(NameUse::Excise, words)
+    }
+
+    // NAME NAME* )
+    pub(crate) fn matches<'a>(&mut self, words: &'a [Word]) -> Result<&'a [Word], Refusal>
+        ensures reads { Goes (λ more ws. goes (words.now ++ more) (NamedRule ∷ NamedRules ToMatch ∷ ws) (record (view self.old) { named = [] })) (view self.new) result }
+        ensures within { IsWithin words.now result }
+    {
+        self.some_names(NameUse::Match, words)
     }
 
     // NAME NAME* )
@@ -97,5 +105,6 @@ fn name_command(name_use: NameUse, names: Listed<Sym>) -> Command
         NameUse::Print => Command::Pm { names },
         NameUse::Break => Command::Pbreak { names },
         NameUse::Excise => Command::Excise { names },
+        NameUse::Match => Command::Matches { names },
     }
 }

@@ -228,6 +228,8 @@ fn keyword_of_command(spelling: &[u8]) -> Keyword
         Keyword::Pbreak
     } else if is(spelling, b"excise") {
         Keyword::Excise
+    } else if is(spelling, b"matches") {
+        Keyword::Matches
     } else if is(spelling, b"exit") {
         Keyword::Exit
     } else {

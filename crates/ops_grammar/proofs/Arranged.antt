@@ -143,6 +143,7 @@ module _ (w : Word) where
   form_stays keyword.Watch ws s h = h
   form_stays keyword.Pbreak ws s h = h
   form_stays keyword.Excise ws s h = h
+  form_stays keyword.Matches ws s h = h
   form_stays keyword.Exit ws s h = h
   form_stays _ ws s h = tt
 

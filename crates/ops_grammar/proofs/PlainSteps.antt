@@ -37,7 +37,7 @@ use Rattle.ops_tokens.specs.declared.token.TokenKind.TheVariants as kind
 use Rattle.ops_grammar.specs.declared.words.Word.{Word}
 use Rattle.ops_grammar.specs.declared.words.Keyword.{Keyword}
 use Rattle.ops_grammar.specs.declared.words.Keyword.TheVariants as keyword
-use Rattle.ops_grammar.specs.Grammar.{Use, InPattern, InPut, InFixed, Target, ToTest, ToPut, ToFixed, ToTerms, ToConstants, ToItem, ToBind, EndsWhole, Column, ToTab, ToRight, TagUse, ToRemove, ToShow, NameUse, ToPrint, ToBreak, Wanted, Forms, Attributes, VectorNames, Patterns, Pattern, ClosesBrace, Terms, Several, Choice, ExpressionRest, SourceAttribute, Actions, Cells, Items, Tags, NamedRules, Closes, is_left, is_right, is_left_brace, is_right_brace, is_caret, is_name, is_variable, is_arrow, is_literal, is_minus, opens_choice, closes_choice, pred_of, constant_of, atom_of, value_of, natural_of, small_of, is_one_of, number_of, precedes_classes, may_declare, is_class, is_rule, form, class_declared, is_second, attribute_declared, attributes, arranged, has_vector, makes_second, vector_declared, vector_name, class_at, class_name, attributes_of, behind_attribute, field_at, with_test, with_item, with_constant, with_bound, variable_tested, constant_tested, tested, predicated, test, with_choice, chosen, choice, atom_at, term_at, bound_at, constant_at, is_of_action, value_for, function, function_depth, most_brackets, no_formula, with_formula, Waiting, completed, is_compute, operation_of, unit_bound, unit_at, expression_unit, bracketed, operation_at, expression_rest, source_named, source_class, source_at, takes_several, is_inf, ends_at_inf, source_end, with_command, fixed_command, with_element, with_several, terms, within, one_of_several, several, place, one_more, patterns, element_at, element_name, action_word, classes_of_cells, designated, numbered_cell, named_cell, cell_of, with_designated, with_modified, bound_value, cell_bound, item_word, column_item, columns_at, count_of, counted, count, strategy_of, strategy_set, strategy_name, tag_at, is_all, tag_or_all, tag_command, tags, shown, named_rule, name_command, named_rules, level_of, level_set, level, State, Step, Next, Refuses, step, is_absent, begins_group, members, group, with_member, with_one, has_room, ClassName, ToExcise}
+use Rattle.ops_grammar.specs.Grammar.{Use, InPattern, InPut, InFixed, Target, ToTest, ToPut, ToFixed, ToTerms, ToConstants, ToItem, ToBind, EndsWhole, Column, ToTab, ToRight, TagUse, ToRemove, ToShow, NameUse, ToPrint, ToBreak, Wanted, Forms, Attributes, VectorNames, Patterns, Pattern, ClosesBrace, Terms, Several, Choice, ExpressionRest, SourceAttribute, Actions, Cells, Items, Tags, NamedRules, Closes, is_left, is_right, is_left_brace, is_right_brace, is_caret, is_name, is_variable, is_arrow, is_literal, is_minus, opens_choice, closes_choice, pred_of, constant_of, atom_of, value_of, natural_of, small_of, is_one_of, number_of, precedes_classes, may_declare, is_class, is_rule, form, class_declared, is_second, attribute_declared, attributes, arranged, has_vector, makes_second, vector_declared, vector_name, class_at, class_name, attributes_of, behind_attribute, field_at, with_test, with_item, with_constant, with_bound, variable_tested, constant_tested, tested, predicated, test, with_choice, chosen, choice, atom_at, term_at, bound_at, constant_at, is_of_action, value_for, function, function_depth, most_brackets, no_formula, with_formula, Waiting, completed, is_compute, operation_of, unit_bound, unit_at, expression_unit, bracketed, operation_at, expression_rest, source_named, source_class, source_at, takes_several, is_inf, ends_at_inf, source_end, with_command, fixed_command, with_element, with_several, terms, within, one_of_several, several, place, one_more, patterns, element_at, element_name, action_word, classes_of_cells, designated, numbered_cell, named_cell, cell_of, with_designated, with_modified, bound_value, cell_bound, item_word, column_item, columns_at, count_of, counted, count, strategy_of, strategy_set, strategy_name, tag_at, is_all, tag_or_all, tag_command, tags, shown, named_rule, name_command, named_rules, level_of, level_set, level, State, Step, Next, Refuses, step, is_absent, begins_group, members, group, with_member, with_one, has_room, ClassName, ToExcise, ToMatch}
 use Rattle.ops_grammar.specs.Spelling.{nothing_numbered, tests_are_plain, after_tests, after_conditions, InSight, cell_is_plain, term_is_plain, put_is_plain, item_is_plain, command_is_plain, after_members, members_are_plain, Numbered}
 use Rattle.ops_grammar.proofs.Lists.{all_push, all_none, all_at}
 use Rattle.ops_grammar.proofs.Parts.{has_cell, elements_push, no_elements, elements_push_group}
@@ -112,6 +112,7 @@ name_enough : (u : NameUse) (names : List Sym) (name : Sym) → HasNames u (name
 name_enough ToPrint names name = omega (arith, length-append names (name ∷ []))
 name_enough ToBreak names name = tt
 name_enough ToExcise names name = omega (arith, length-append names (name ∷ []))
+name_enough ToMatch names name = omega (arith, length-append names (name ∷ []))
 
 tags_plain : (classes : List Class) (u : TagUse) (tags : List ℕ) → list_all is_natural tags ≡ true → HasTags u tags → command_is_plain classes (tag_command u tags) ≡ true
 tags_plain classes ToRemove tags natural enough = and_from _ _ (lt-ltb _ _ enough) natural
@@ -121,6 +122,7 @@ names_plain : (classes : List Class) (u : NameUse) (names : List Sym) → HasNam
 names_plain classes ToPrint names enough = lt-ltb _ _ enough
 names_plain classes ToBreak names enough = refl
 names_plain classes ToExcise names enough = lt-ltb _ _ enough
+names_plain classes ToMatch names enough = lt-ltb _ _ enough
 
 constants_plain : (classes : List Class) (shows : Bool) (class : ℕ) (puts : List Fixed) → class < length classes → list_all (fixed_is_valid (class_of classes class)) puts ≡ true → command_is_plain classes (fixed_command shows class puts) ≡ true
 constants_plain classes false class puts lt fields = and_from _ _ (lt-ltb _ _ lt) fields
@@ -197,6 +199,7 @@ module _ (w : Word) where
   form_keeps s g keyword.Watch = at_level g
   form_keeps s g keyword.Pbreak = at_named_rules ToBreak (g, tt)
   form_keeps s g keyword.Excise = at_named_rule ToExcise g
+  form_keeps s g keyword.Matches = at_named_rule ToMatch g
   form_keeps s g keyword.Exit = at_exit g
   form_keeps s g _ = tt
 

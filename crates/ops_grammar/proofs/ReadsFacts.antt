@@ -14,7 +14,7 @@ use Rattle.ops_base.specs.declared.commands.Strategy.TheVariants.{Lex, Mea}
 use Rattle.ops_base.specs.Valid.{most_fields, are_distinct, class_is_valid, no_class, class_of, is_attribute, is_vector, is_natural, fixed_is_valid}
 use Rattle.ops_grammar.specs.declared.words.Word.{Word}
 use Rattle.ops_grammar.specs.declared.words.Keyword.TheVariants as keyword
-use Rattle.ops_grammar.specs.Grammar.{Use, InFixed, TagUse, ToRemove, ToShow, NameUse, ToPrint, ToBreak, Wanted, Forms, ClassName, Terms, Attribute, Several, ValueFor, ToFixed, TagOrAll, Tags, Shown, NamedRule, NamedRules, State, Next, is_right, is_caret, behind_attribute, field_at, terms, one_of_several, with_fixed, with_several, fixed_command, with_element, with_tags, with_named, step, after, goes, ToExcise}
+use Rattle.ops_grammar.specs.Grammar.{Use, InFixed, TagUse, ToRemove, ToShow, NameUse, ToPrint, ToBreak, Wanted, Forms, ClassName, Terms, Attribute, Several, ValueFor, ToFixed, TagOrAll, Tags, Shown, NamedRule, NamedRules, State, Next, is_right, is_caret, behind_attribute, field_at, terms, one_of_several, with_fixed, with_several, fixed_command, with_element, with_tags, with_named, step, after, goes, ToExcise, ToMatch}
 use Rattle.ops_grammar.specs.Spelling.{unnamed, opening, closing, caret, spelled_keyword, spelled_name, spelled_value, spelled_each, attribute_name, spelled_attribute, spelled_fixed, spelled_constants, spelled_short, spelled_fact, spelled_shown, spelled_tags, spelled_count, spelled_strategy}
 use Rattle.ops_grammar.proofs.Places.{place_found}
 use Rattle.ops_grammar.proofs.ReadsBack.{by_word, class_parts}
@@ -300,6 +300,10 @@ module _ (words : List Word) (ws : List Wanted) (s : State) where
   unfolding goes step
   excise_begun = refl
 
+  matches_begun : goes (opening ∷ spelled_keyword keyword.Matches ∷ words) (Forms ∷ ws) s ≡ goes words (NamedRule ∷ NamedRules ToMatch ∷ Forms ∷ ws) (record s { first = 0; named = [] })
+  unfolding goes step
+  matches_begun = refl
+
   pbreak_begun : goes (opening ∷ spelled_keyword keyword.Pbreak ∷ words) (Forms ∷ ws) s ≡ goes words (NamedRules ToBreak ∷ Forms ∷ ws) (record s { first = 0; named = [] })
   unfolding goes step
   pbreak_begun = refl
@@ -327,6 +331,18 @@ excise-read (n ∷ ns) more ws s some =
     excise_begun (spelled_name n ∷ behind) ws s
     ∙ by_word (spelled_name n) behind (NamedRule ∷ wanted) wanted begun next (first_name n wanted begun)
     ∙ names_done ToExcise ns more (Forms ∷ ws) next
+
+pub matches-read : (ns : List Sym) (more : List Word) (ws : List Wanted) (s : State) → nat_lt 0 (length ns) ≡ true
+    → goes (spelled_short keyword.Matches (map spelled_name ns) ++ more) (Forms ∷ ws) s ≡ goes more (Forms ∷ ws) (record s { first = 0; named = []; commands = s.commands ++ command.Matches ns ∷ [] })
+matches-read [] more ws s some = absurd (true≢false (sym some))
+matches-read (n ∷ ns) more ws s some =
+    let behind : List Word = map spelled_name ns ++ closing ∷ [] ++ more in
+    let wanted : List Wanted = NamedRules ToMatch ∷ Forms ∷ ws in
+    let begun : State = record s { first = 0; named = [] } in
+    let next : State = record s { first = 0; named = n ∷ [] } in
+    matches_begun (spelled_name n ∷ behind) ws s
+    ∙ by_word (spelled_name n) behind (NamedRule ∷ wanted) wanted begun next (first_name n wanted begun)
+    ∙ names_done ToMatch ns more (Forms ∷ ws) next
 
 pub pbreak-read : (ns : List Sym) (more : List Word) (ws : List Wanted) (s : State)
     → goes (spelled_short keyword.Pbreak (map spelled_name ns) ++ more) (Forms ∷ ws) s ≡ goes more (Forms ∷ ws) (record s { first = 0; named = []; commands = s.commands ++ command.Pbreak ns ∷ [] })

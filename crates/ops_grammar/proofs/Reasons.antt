@@ -70,6 +70,7 @@ module _ (w : Word) (ws : List Wanted) (s : State) where
   form_reason keyword.Watch e = tt
   form_reason keyword.Pbreak e = tt
   form_reason keyword.Excise e = tt
+  form_reason keyword.Matches e = tt
   form_reason keyword.Exit e = tt
   form_reason _ e = refl
 

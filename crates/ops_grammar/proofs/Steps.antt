@@ -26,7 +26,7 @@ use Rattle.ops_tokens.specs.declared.token.TokenKind.TheVariants as kind
 use Rattle.ops_grammar.specs.declared.words.Word.{Word}
 use Rattle.ops_grammar.specs.declared.words.Keyword.{Keyword}
 use Rattle.ops_grammar.specs.declared.words.Keyword.TheVariants as keyword
-use Rattle.ops_grammar.specs.Grammar.{Use, InPattern, InPut, InFixed, ToTest, ToFixed, ToConstants, EndsCs, EndsExit, EndsWhole, TagUse, ToRemove, ToShow, NameUse, ToPrint, ToBreak, Wanted, Forms, Attributes, VectorNames, FirstPattern, Patterns, Pattern, ClosesBrace, Terms, Several, Choice, Actions, Tags, NamedRules, Closes, State, Step, Next, Refuses, is_left, is_right, is_left_brace, is_right_brace, is_caret, is_name, is_variable, is_arrow, is_literal, is_minus, opens_choice, closes_choice, pred_of, constant_of, value_of, atom_of, small_of, count_of, precedes_classes, is_one_of, number_of, may_declare, is_class, is_rule, form, class_declared, with_vector_last, makes_second, vector_declared, vector_name, vector_names, is_second, attribute_declared, attributes, class_at, class_name, attributes_of, behind_attribute, field_at, attribute, with_test, with_bound, variable_tested, constant_tested, tested, predicated, test, place, tests, with_choice, chosen, choice, atom_at, bound_at, constant_at, value_for, fixed_command, with_element, terms, within, one_of_several, with_several, several, left_ended, right_begun, rule_name, first_pattern, one_more, patterns, pattern, element_at, element_name, braced, closes_brace, put_action, closes, forms, step, counted, count, strategy_of, strategy_set, strategy_name, with_command, tag_at, is_all, tag_or_all, tag_command, tags, shown, named_rule, name_command, named_rules, level_of, level_set, level, begins_group, members, group, with_group, with_member, with_one, has_room, ClassName, ToExcise}
+use Rattle.ops_grammar.specs.Grammar.{Use, InPattern, InPut, InFixed, ToTest, ToFixed, ToConstants, EndsCs, EndsExit, EndsWhole, TagUse, ToRemove, ToShow, NameUse, ToPrint, ToBreak, Wanted, Forms, Attributes, VectorNames, FirstPattern, Patterns, Pattern, ClosesBrace, Terms, Several, Choice, Actions, Tags, NamedRules, Closes, State, Step, Next, Refuses, is_left, is_right, is_left_brace, is_right_brace, is_caret, is_name, is_variable, is_arrow, is_literal, is_minus, opens_choice, closes_choice, pred_of, constant_of, value_of, atom_of, small_of, count_of, precedes_classes, is_one_of, number_of, may_declare, is_class, is_rule, form, class_declared, with_vector_last, makes_second, vector_declared, vector_name, vector_names, is_second, attribute_declared, attributes, class_at, class_name, attributes_of, behind_attribute, field_at, attribute, with_test, with_bound, variable_tested, constant_tested, tested, predicated, test, place, tests, with_choice, chosen, choice, atom_at, bound_at, constant_at, value_for, fixed_command, with_element, terms, within, one_of_several, with_several, several, left_ended, right_begun, rule_name, first_pattern, one_more, patterns, pattern, element_at, element_name, braced, closes_brace, put_action, closes, forms, step, counted, count, strategy_of, strategy_set, strategy_name, with_command, tag_at, is_all, tag_or_all, tag_command, tags, shown, named_rule, name_command, named_rules, level_of, level_set, level, begins_group, members, group, with_group, with_member, with_one, has_room, ClassName, ToExcise, ToMatch}
 use Rattle.ops_grammar.proofs.Lists.{all_push, not_below}
 use Rattle.ops_grammar.proofs.Sound.{other_is_sound, IsShortBy, IsShort, IsHead, known_in, IsNamed, IsOfClass, Program, Declaring, IsClass, Head, Body, Around, IsEmpty, IsElement, Braces, Bare, NamedBefore, NamedBehind, AtField, HasMore, AtPlace, AtSeveral, BeforePattern, AfterPattern, behind, behind_place, behind_test, variables_of, side_of, IsRead, at_forms, at_form, at_class_declared, at_attributes, at_vector_name, at_vector_names, at_rule_name, at_first_pattern, at_patterns, at_pattern, at_braced, at_element_name, at_closes_brace, at_class_name, at_terms, at_attribute, at_several, at_place, at_tests, at_tested, at_choice, at_test_atom, at_fixed_value, at_fixed_atom, at_constants_atom, InScalar, InVector, at_value, at_atom, at_function, at_expression_unit, at_bracketed, at_expression_rest, at_source_cell, at_source_attribute, at_source_end, at_value_end, at_actions, at_action_word, at_modified, at_bound_name, at_bound_value, at_cell_name, at_action_end, at_cell, at_cells, at_items, at_item_word, at_columns, at_crlf, at_halt, at_count, at_strategy_name, HasTags, HasNames, AtTags, AtNames, at_tag_or_all, at_tags, at_shown, at_named_rule, at_named_rules, at_level, at_cs, at_exit, at_command_end, Leads, at, AsMember, AmongMembers, at_group, at_members, inside, outer, several_at}
 use Rattle.ops_grammar.proofs.Parts.{no_elements}
@@ -57,6 +57,7 @@ name_enough : (u : NameUse) (names : List Sym) (name : Sym) → HasNames u (name
 name_enough ToPrint names name = omega (arith, length-append names (name ∷ []))
 name_enough ToBreak names name = tt
 name_enough ToExcise names name = omega (arith, length-append names (name ∷ []))
+name_enough ToMatch names name = omega (arith, length-append names (name ∷ []))
 
 tags_valid : (text : ℕ) (classes : List Class) (u : TagUse) (tags : List ℕ) → fits tags ≡ true → list_all is_natural tags ≡ true → HasTags u tags → other_is_sound classes text (tag_command u tags) ≡ true
 tags_valid text classes ToRemove tags short natural enough = and_from _ _ (and_from _ _ (and_from _ _ (lt-ltb _ _ enough) short) natural) refl
@@ -66,6 +67,7 @@ names_valid : (text : ℕ) (classes : List Class) (u : NameUse) (names : List Sy
 names_valid text classes ToPrint names short enough = and_from _ _ (and_from _ _ (lt-ltb _ _ enough) short) refl
 names_valid text classes ToBreak names short enough = and_from _ _ short refl
 names_valid text classes ToExcise names short enough = and_from _ _ (and_from _ _ (lt-ltb _ _ enough) short) refl
+names_valid text classes ToMatch names short enough = and_from _ _ (and_from _ _ (lt-ltb _ _ enough) short) refl
 
 constants_fit : (text : ℕ) (classes : List Class) (shows : Bool) (class : ℕ) (puts : List Fixed) → class < length classes → fits puts ≡ true → list_all (fixed_is_valid (class_of classes class)) puts ≡ true → other_is_sound classes text (fixed_command shows class puts) ≡ true
 constants_fit text classes false class puts within short fields = and_from _ _ (and_from _ _ (and_from _ _ (lt-ltb _ _ within) short) fields) refl
@@ -97,6 +99,7 @@ module _ (text n : ℕ) (w : Word) (fit : text ≤ longest_list) (placed : IsPla
   form_leads s short g keyword.Watch = (omega arith, at_level g)
   form_leads s short g keyword.Pbreak = (omega arith, at_named_rules ToBreak (g, tt))
   form_leads s short g keyword.Excise = (omega arith, at_named_rule ToExcise g)
+  form_leads s short g keyword.Matches = (omega arith, at_named_rule ToMatch g)
   form_leads s short g keyword.Exit = (omega arith, at_exit g)
   form_leads s short g _ = tt
 

@@ -9,7 +9,7 @@ use Rattle.ops_tokens.specs.declared.token.TokenKind.{TokenKind}
 use Rattle.ops_tokens.specs.declared.token.TokenKind.TheVariants as kind
 use Rattle.ops_grammar.specs.declared.words.Word.{Word}
 use Rattle.ops_grammar.specs.declared.words.Keyword.TheVariants as keyword
-use Rattle.ops_grammar.specs.Grammar.{Use, InPattern, InPut, InFixed, Target, ToTest, ToTerms, ToConstants, ToItem, ToBind, Ends, EndsHalt, EndsCrlf, EndsCs, EndsExit, EndsWhole, TagUse, ToRemove, ToShow, NameUse, ToPrint, ToBreak, ToExcise, Column, ToTab, ToRight, Wanted, Forms, Form, ClassDeclared, Attributes, VectorName, VectorNames, RuleName, FirstPattern, Patterns, Pattern, Braced, ElementName, ClosesBrace, ClassName, Terms, Attribute, Several, Place, Tests, Tested, Choice, Atom, ValueFor, Function, Waiting, ExpressionUnit, ExpressionRest, Bracketed, SourceCell, SourceAttribute, SourceEnd, Actions, ActionWord, Modified, BoundName, BoundValue, CellName, Cell, Cells, Items, ItemWord, Columns, Count, StrategyName, TagOrAll, Tags, Shown, NamedRule, NamedRules, Level, Closes, is_left, is_right, is_left_brace, is_right_brace, is_caret, is_name, is_variable, is_literal, is_inf, operation_of, function_depth, is_of_action, takes_several, is_minus, opens_choice, closes_choice, pred_of, constant_of, value_of, atom_of, small_of, count_of, strategy_of, is_all, level_of, is_one_of, behind_attribute, GroupBrace, Members, begins_group}
+use Rattle.ops_grammar.specs.Grammar.{Use, InPattern, InPut, InFixed, Target, ToTest, ToTerms, ToConstants, ToItem, ToBind, Ends, EndsHalt, EndsCrlf, EndsCs, EndsExit, EndsWhole, TagUse, ToRemove, ToShow, NameUse, ToPrint, ToBreak, ToExcise, ToMatch, Column, ToTab, ToRight, Wanted, Forms, Form, ClassDeclared, Attributes, VectorName, VectorNames, RuleName, FirstPattern, Patterns, Pattern, Braced, ElementName, ClosesBrace, ClassName, Terms, Attribute, Several, Place, Tests, Tested, Choice, Atom, ValueFor, Function, Waiting, ExpressionUnit, ExpressionRest, Bracketed, SourceCell, SourceAttribute, SourceEnd, Actions, ActionWord, Modified, BoundName, BoundValue, CellName, Cell, Cells, Items, ItemWord, Columns, Count, StrategyName, TagOrAll, Tags, Shown, NamedRule, NamedRules, Level, Closes, is_left, is_right, is_left_brace, is_right_brace, is_caret, is_name, is_variable, is_literal, is_inf, operation_of, function_depth, is_of_action, takes_several, is_minus, opens_choice, closes_choice, pred_of, constant_of, value_of, atom_of, small_of, count_of, strategy_of, is_all, level_of, is_one_of, behind_attribute, GroupBrace, Members, begins_group}
 
 -- WHOLE
 abbrev pub is_whole : TokenKind → Bool
@@ -101,10 +101,11 @@ pub data Derives : List Sym → List Wanted → List Word → Type 0 where
   -- form = ( cs ), form = ( exit )
   a_cs : {vs : List Sym} {ws : List Wanted} {w : Word} {ts : List Word} → w.keyword ≡ keyword.Cs → Derives vs (Closes EndsCs ∷ ws) ts → Derives vs (Form ∷ ws) (w ∷ ts)
   an_exit : {vs : List Sym} {ws : List Wanted} {w : Word} {ts : List Word} → w.keyword ≡ keyword.Exit → Derives vs (Closes EndsExit ∷ ws) ts → Derives vs (Form ∷ ws) (w ∷ ts)
-  -- form = ( pm NAME NAME* ), form = ( pbreak NAME* ), form = ( excise NAME NAME* )
+  -- form = ( pm NAME NAME* ), form = ( pbreak NAME* ), form = ( excise NAME NAME* ), form = ( matches NAME NAME* )
   a_pm : {vs : List Sym} {ws : List Wanted} {w : Word} {ts : List Word} → w.keyword ≡ keyword.Pm → Derives vs (NamedRule ∷ NamedRules ToPrint ∷ ws) ts → Derives vs (Form ∷ ws) (w ∷ ts)
   a_pbreak : {vs : List Sym} {ws : List Wanted} {w : Word} {ts : List Word} → w.keyword ≡ keyword.Pbreak → Derives vs (NamedRules ToBreak ∷ ws) ts → Derives vs (Form ∷ ws) (w ∷ ts)
   an_excise : {vs : List Sym} {ws : List Wanted} {w : Word} {ts : List Word} → w.keyword ≡ keyword.Excise → Derives vs (NamedRule ∷ NamedRules ToExcise ∷ ws) ts → Derives vs (Form ∷ ws) (w ∷ ts)
+  a_matches : {vs : List Sym} {ws : List Wanted} {w : Word} {ts : List Word} → w.keyword ≡ keyword.Matches → Derives vs (NamedRule ∷ NamedRules ToMatch ∷ ws) ts → Derives vs (Form ∷ ws) (w ∷ ts)
   a_named_rule : {vs : List Sym} {ws : List Wanted} {w : Word} {ts : List Word} → is_name w.kind ≡ true → Derives vs ws ts → Derives vs (NamedRule ∷ ws) (w ∷ ts)
   one_more_rule : {vs : List Sym} {u : NameUse} {ws : List Wanted} {w : Word} {ts : List Word} → is_name w.kind ≡ true → Derives vs (NamedRules u ∷ ws) ts → Derives vs (NamedRules u ∷ ws) (w ∷ ts)
   no_more_rules : {vs : List Sym} {u : NameUse} {ws : List Wanted} {w : Word} {ts : List Word} → is_right w.kind ≡ true → Derives vs ws ts → Derives vs (NamedRules u ∷ ws) (w ∷ ts)

@@ -81,6 +81,7 @@ pub data NameUse : Type 0 where
   ToPrint : NameUse
   ToBreak : NameUse
   ToExcise : NameUse
+  ToMatch : NameUse
 
 -- an operand of `compute` and the operation after it, which wait for what stands after them
 pub record Waiting : Type 0 where
@@ -94,7 +95,7 @@ pub data Wanted : Type 0 where
   -- literalize NAME NAME* ) | vector-attribute NAME NAME* ) | p NAME first condition* --> action* ) | make CLASS fixed* )
   -- | remove NAT NAT* ) | remove * ) | run [NAT] ) | wm NAT* ) | ppwm ) | ppwm CLASS fixed* ) | cs ) | pm NAME NAME* )
   -- | strategy ) | strategy lex ) | strategy mea ) | watch ) | watch 0 ) | watch 1 ) | watch 2 ) | pbreak NAME* )
-  -- | excise NAME NAME* ) | exit )
+  -- | excise NAME NAME* ) | matches NAME NAME* ) | exit )
   Form : Wanted
   -- NAME
   ClassDeclared : Wanted
@@ -476,6 +477,7 @@ form w keyword.Strategy ws s = Next (StrategyName ∷ ws) s
 form w keyword.Watch ws s = Next (Level ∷ ws) s
 form w keyword.Pbreak ws s = Next (NamedRules ToBreak ∷ ws) (record s { named = [] })
 form w keyword.Excise ws s = Next (NamedRule ∷ NamedRules ToExcise ∷ ws) (record s { named = [] })
+form w keyword.Matches ws s = Next (NamedRule ∷ NamedRules ToMatch ∷ ws) (record s { named = [] })
 form w keyword.Exit ws s = Next (Closes EndsExit ∷ ws) s
 form w _ ws s = Refuses fault.UnknownCommand
 
@@ -1245,6 +1247,7 @@ abbrev pub name_command : NameUse → List Sym → Command
 name_command ToPrint names = command.Pm names
 name_command ToBreak names = command.Pbreak names
 name_command ToExcise names = command.Excise names
+name_command ToMatch names = command.Matches names
 
 -- a command of names ends
 abbrev pub with_named : NameUse → State → State

@@ -458,9 +458,9 @@ spelled_command classes (command.Pbreak names) = spelled_short keyword.Pbreak (m
 spelled_command classes command.Exit = spelled_short keyword.Exit []
 spelled_command classes (command.Add r) = spelled_rule classes r
 spelled_command classes (command.Excise names) = spelled_short keyword.Excise (map spelled_name names)
--- no text reads as one of these
+spelled_command classes (command.Matches names) = spelled_short keyword.Matches (map spelled_name names)
+-- no text reads as this one
 spelled_command classes (command.Back count) = []
-spelled_command classes (command.Matches names) = []
 
 -- the names of the classes' vector attributes
 abbrev pub vectors_of : List Class → List Sym
@@ -497,8 +497,8 @@ command_is_plain classes (command.Pbreak names) = true
 command_is_plain classes command.Exit = true
 command_is_plain classes (command.Add r) = rule_is_plain classes r
 command_is_plain classes (command.Excise names) = nat_lt 0 (length names)
+command_is_plain classes (command.Matches names) = nat_lt 0 (length names)
 command_is_plain classes (command.Back count) = false
-command_is_plain classes (command.Matches names) = false
 
 -- none of the productions has the name of another, whether it stands at the beginning or is added
 abbrev pub titles_are_distinct : List Rule → List Command → Bool

@@ -24,6 +24,7 @@ keyword_of_command s =
     else if bytes_eq s (codes "watch") then keyword.Watch
     else if bytes_eq s (codes "pbreak") then keyword.Pbreak
     else if bytes_eq s (codes "excise") then keyword.Excise
+    else if bytes_eq s (codes "matches") then keyword.Matches
     else if bytes_eq s (codes "exit") then keyword.Exit
     else keyword.Other
 

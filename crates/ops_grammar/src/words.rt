@@ -39,6 +39,8 @@ pub enum Keyword {
     Pbreak,
     /// `excise`
     Excise,
+    /// `matches`
+    Matches,
     /// `exit`
     Exit,
     /// `modify`

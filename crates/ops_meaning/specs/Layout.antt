@@ -151,6 +151,10 @@ tags_text (t ∷ ts) = 32 ∷ decimal t ++ tags_text ts
 abbrev pub inst_text : Spellings → List Rule → Inst → List ℕ
 inst_text names rules i = symbol_text names (rule_name rules i.rule) ++ tags_text i.tags
 
+-- NAME K: TAG TAG
+abbrev pub partial_text : Spellings → Sym → ℕ → List ℕ → List ℕ
+partial_text names name k tags = symbol_text names name ++ codes " " ++ decimal k ++ codes ":" ++ tags_text tags
+
 -- ---- the trace
 
 -- the line of a firing with this number, where firings are traced

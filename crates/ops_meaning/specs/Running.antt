@@ -1,6 +1,6 @@
 -- The recognise-act cycle and the session.
 use Rattle.std.specs.Prelude.{ℕ, zero, suc, ◌+◌, ◌-◌, List, [], ◌∷◌, ◌++◌, length, map, filter, find, position, fold, take, drop, slice_get, slice_set, if◌then◌else◌, Bool, true, false, not, ◌==◌, ◌&&◌, Option, Some, None, is_some, option_map, unwrap_or, Result, Ok, Err}
-use Rattle.std.specs.List.{list_all, filter_map}
+use Rattle.std.specs.List.{list_all, filter_map, flat_map}
 use Rattle.ops_base.specs.declared.values.Sym.{Sym}
 use Rattle.ops_base.specs.declared.values.Value.{Value}
 use Rattle.ops_base.specs.declared.elements.Class.{Class}
@@ -27,6 +27,7 @@ use Rattle.ops_meaning.specs.Effects.{Effect, writes, ends_with, and_then, told_
 use Rattle.ops_meaning.specs.Layout.{line_at, lines_at, traced, firing_bytes, tagged_text, inst_text, rule_name, strategy_line, level_line, break_line, unknown_line, halted_line, no_more_line, counted_line, broken_line}
 use Rattle.ops_base.specs.Names.{Spellings}
 use Rattle.ops_io.specs.Coming.{Coming}
+use Rattle.ops_meaning.specs.Partials.{left_side, all_partial_lines}
 use Rattle.ops_meaning.specs.Acting.{Setting, Misdeed, Bad, NoInput, Given, Acted, acted, emptied, first_of, element_of, has_tag, change_lines}
 
 -- what a session has come to: working memory, the strategy, the instantiations that are marked as fired, how many
@@ -238,6 +239,11 @@ rule_text text r = drop r.first (take r.past text)
 abbrev pub production_line : Setting → Spellings → Sym → List ℕ
 production_line s names name = unwrap_or (option_map (rule_text s.text) (find (λ r. r.name.0 == name.0) s.rules)) (unknown_line names name)
 
+-- the lines of the partial matches of the production of this name, or the line that there is none
+abbrev pub matches_told : Spellings → List Rule → List Element → Sym → List (List ℕ)
+matches_told names rules wm name =
+    unwrap_or (option_map (λ n. all_partial_lines names name wm (left_side rules n)) (rule_named rules name)) (unknown_line names name ∷ [])
+
 -- A strategy is set, or printed where none is given.
 abbrev pub strategy_given : ℕ → Option Strategy → Session → Effect Ending Session
 strategy_given column None k = lists column (strategy_line k.course.strategy ∷ []) k
@@ -335,7 +341,8 @@ command_by found s limit column (command.Pbreak names) k = breaks_given s column
 command_by found s limit column (command.Add r) k = writes [] (added r k)
 command_by found s limit column (command.Excise names) k = excised column names k
 command_by found s limit column (command.Back count) k = writes [] k
-command_by found s limit column (command.Matches names) k = writes [] k
+command_by found s limit column (command.Matches names) k =
+    lists column (flat_map (matches_told k.course.names s.rules k.course.wm) names) k
 command_by found s limit column command.Exit k = writes [] k
 
 -- nothing after it is done

@@ -60,3 +60,7 @@ element_line_pieces fresh before tag element = simp append_assoc
 -- the line of a firing
 pub firing_pieces : (fresh firing inst : List ℕ) → fresh ++ ((firing ++ codes ". " ++ inst) ++ 10 ∷ []) ≡ fresh ++ ((firing ++ codes ". ") ++ (inst ++ 10 ∷ []))
 firing_pieces fresh firing inst = simp append_assoc
+
+-- the line of a partial match
+pub partial_pieces : (fresh name parts tags : List ℕ) → fresh ++ ((name ++ codes " " ++ parts ++ codes ":" ++ tags) ++ 10 ∷ []) ≡ fresh ++ (name ++ ((codes " " ++ parts ++ codes ":") ++ (tags ++ 10 ∷ [])))
+partial_pieces fresh name parts tags = simp append_assoc

@@ -1,7 +1,7 @@
 //! Instantiations, and the lines that tell of them.
 ghost use Rattle.std.specs.Prelude.{◌≡◌, ◌^◌, ◌<◌, ◌++◌, IsTrue, OnErr, false, codes, decimal};
 ghost use Rattle.ops_io.specs.Ports.{port, PutsBytes};
-ghost use Rattle.ops_meaning.specs.Layout.{rule_name, tags_text, inst_text, line_at};
+ghost use Rattle.ops_meaning.specs.Layout.{rule_name, tags_text, inst_text, partial_text, line_at};
 
 use crate::lines::fresh_line;
 use crate::pieces::put_numbered;
@@ -72,6 +72,30 @@ pub fn put_inst_line<K: Sink>(
 {
     fresh_line(out, sink)?;
     put_inst(out, sink, names, program, item)?;
+    out.put(sink, b"\n")
+}
+
+/// Puts a partial match on a line of its own: the name of its production, the number of parts that its elements meet, and
+/// its tags. Takes no memory.
+pub fn put_partial_line<K: Sink>(
+    out: &mut Out,
+    sink: &mut K,
+    names: &Names,
+    name: &Sym,
+    parts: usize,
+    tags: &[u64],
+) -> Result<(), WriteFailed>
+    requires whole { IsTrue out.old.whole }
+    requires faults { K.faults sink.old < 2 ^ 63 }
+    ensures puts { PutsBytes result (port (K.taken sink.old) (K.faults sink.old) out.old)
+        (port (K.taken sink.new) (K.faults sink.new) out.new)
+        (line_at out.old.column (partial_text names.now name.now parts tags.now)) }
+    ensures broken { OnErr result (out.new.whole ≡ false) }
+{
+    fresh_line(out, sink)?;
+    put_symbol(out, sink, names, name)?;
+    put_numbered(out, sink, b" ", parts as u64, b":")?;
+    put_tags(out, sink, tags)?;
     out.put(sink, b"\n")
 }
 

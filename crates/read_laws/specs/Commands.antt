@@ -54,4 +54,5 @@ CommandsMean =
     × Does (codes "(pm r)") (command.Pm (name ∷ []))
     × Does (codes "(pbreak r)") (command.Pbreak (name ∷ []))
     × Does (codes "(excise r)") (command.Excise (name ∷ []))
+    × Does (codes "(matches r)") (command.Matches (name ∷ []))
     × (commands_of (codes "(run)(p s(a)-->)") ≡ command.Run None ∷ command.Add later ∷ [])

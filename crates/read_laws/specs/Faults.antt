@@ -175,3 +175,7 @@ CommandsFail =
     × Stands (codes "(excise r 1)") fault.BadForm 1 11
     × Stands (codes "(excise <r>)") fault.BadForm 1 9
     × Stands (codes "(excise r") fault.Unclosed 1 10
+    × Stands (codes "(matches)") fault.BadForm 1 9
+    × Stands (codes "(matches r 1)") fault.BadForm 1 12
+    × Stands (codes "(matches <r>)") fault.BadForm 1 10
+    × Stands (codes "(matches r") fault.Unclosed 1 11

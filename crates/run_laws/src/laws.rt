@@ -1,5 +1,5 @@
 //! What holds of programs by the definitions of running: the contracts of functions that do nothing.
-ghost use Rattle.std.specs.Prelude.{◌≡◌, ℕ, ◌≤◌, List, [], ◌∷◌, ◌++◌, length, drop, map, slice_get, Some, if◌then◌else◌, Option, None, Ok, Bool, Contains, IsTrue, IfOk};
+ghost use Rattle.std.specs.Prelude.{◌≡◌, ℕ, ◌<◌, ◌≤◌, List, [], ◌∷◌, ◌++◌, length, drop, map, slice_get, Some, if◌then◌else◌, Option, None, Ok, Bool, Contains, IsTrue, IfOk};
 ghost use Rattle.std.specs.List.{list_all};
 ghost use Rattle.ops_base.specs.declared.actions.Action.{Action};
 ghost use Rattle.ops_base.specs.declared.actions.Term.{Term};
@@ -27,6 +27,7 @@ ghost use Rattle.ops_base.specs.WorkingMemory.{HasRisingTags, tags_of};
 ghost use Rattle.ops_io.specs.Coming.{Coming};
 ghost use Rattle.ops_meaning.specs.Acting.{Setting, Given, ActState, actions_of, action_done, actions_done, begun, evaluated, values_placed};
 ghost use Rattle.ops_meaning.specs.Layout.{inst_text};
+ghost use Rattle.ops_meaning.specs.Partials.{left_side, partial_tags};
 ghost use Rattle.ops_meaning.specs.Running.{Course, Session, added, command_done, element_lines, ending_of, in_force, lists, meets, removals, rule_named, session_of, standing_by, taken_out};
 ghost use Rattle.run_laws.specs.Beginning.{BeginsAsMatched};
 ghost use Rattle.run_laws.specs.Computing.{OperandsAre, QuotientsAre, SumsAre};
@@ -41,6 +42,7 @@ ghost use Rattle.run_laws.specs.Placing.{StandAt};
 ghost use Rattle.run_laws.specs.Programs.{AreValid};
 ghost use Rattle.run_laws.specs.Ranking.{HasRank, IsRanking};
 ghost use Rattle.run_laws.specs.Standing.{stands_in};
+ghost use Rattle.why.specs.Partials.{AreUpTo};
 
 /// A right side begins with the bindings with which the walk over its conditions accepted the instantiation, and with
 /// its elements in the cells.
@@ -189,4 +191,11 @@ pub fn others_stand_as_before()
     ensures taken { (n : ℕ) (k : Session) → stands_in (taken_out n k) ≡ moved_insts n (stands_in k) }
     ensures added { (r : Rule) (k : Session) → rule_named k.rules r.name ≡ None → AreOf k.rules k.course.fired
         → stands_in (added r k) ≡ stands_in k ++ insts_of (length k.rules) (matches_of k.course.wm r.conditions) }
+{}
+
+/// What `matches` lists of a production up to a part are the tags of all partial matches of the parts so far, and nothing
+/// else, in lexicographic order, each once.
+pub fn partial_matches_are_listed()
+    ensures { (rules : List Rule) (wm : List Element) (rule k : ℕ)
+        → HasRisingTags wm → rule < length rules → AreUpTo rules wm rule k (partial_tags wm (left_side rules rule) k) }
 {}

@@ -4,6 +4,7 @@ pub mod Flushes
 pub mod Turns
 pub mod HeldSession
 pub mod Lines
+pub mod PartialLines
 pub mod Told
 pub mod Removals
 pub mod ProductionLemmas

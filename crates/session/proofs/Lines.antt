@@ -4,9 +4,10 @@ use Rattle.std.specs.List.{filter_map, cons_option}
 use Rattle.std.proofs.lemmas.List.{append-nil, map-append, drop_more}
 use Rattle.ops_io.specs.Output.{column_after}
 use Rattle.ops_io.specs.Ports.{Port, Put, Stopped, Underway}
+use Rattle.ops_io.specs.declared.stop.Stop.{Stop}
 use Rattle.ops_io.specs.declared.stop.Stop.TheVariants as stop
 use Rattle.ops_io.proofs.Known.{column-append}
-use Rattle.ops_io.proofs.PortLemmas.{put_nothing, underway_step, underway_stop, underway_done}
+use Rattle.ops_io.proofs.PortLemmas.{put_nothing, put_short, underway_step, underway_stop, underway_done}
 use Rattle.ops_meaning.specs.Layout.{fresh_line, line_at, lines_at}
 
 -- after a line the column is 0
@@ -44,11 +45,11 @@ module _ (start now next : Port) (all rest some more : List (List ℕ)) (left : 
       underway_step start now next (lines_at start.out.column all) (lines_at column rest) (lines_at column some) (lines_at next.out.column more) left split put
 
   -- they are refused
-  pub lines_stop : Stopped stop.Write now next (lines_at now.out.column some) → Stopped stop.Write start next (lines_at start.out.column all)
-  lines_stop stopped =
+  pub lines_stop : {why : Stop} → Stopped why now next (lines_at now.out.column some) → Stopped why start next (lines_at start.out.column all)
+  lines_stop {why = why} stopped =
       let column = now.out.column in
       let behind = column_after column (lines_at column some) in
-      underway_stop stop.Write start now next (lines_at start.out.column all) (lines_at column rest) (lines_at column some) (lines_at behind more) left
+      underway_stop why start now next (lines_at start.out.column all) (lines_at column rest) (lines_at column some) (lines_at behind more) left
       (ap (lines_at column) is ∙ lines-append column some more) stopped
 
 module _ (start now next : Port) (all rest more : List (List ℕ)) (one : List ℕ) (left : LinesLeft start now all rest) (is : rest ≡ one ∷ more) where
@@ -75,6 +76,12 @@ pub lines_end : (start now : Port) (all rest : List (List ℕ)) → LinesLeft st
 lines_end start now all rest left none =
     let P : List (List ℕ) → Type 0 = LinesLeft start now all in
     underway_done start now (lines_at start.out.column all) (subst P none left)
+
+-- memory runs out before the rest
+pub lines_short : (start now : Port) (all rest : List (List ℕ)) → LinesLeft start now all rest → Stopped stop.OutOfMemory start now (lines_at start.out.column all)
+lines_short start now all rest left =
+    let P : List ℕ → Type 0 = Stopped stop.OutOfMemory start now in
+    subst P (sym left.split) (put_short start now left.sofar (lines_at now.out.column rest) left.put)
 
 -- ---- lists of lines
 

@@ -93,6 +93,7 @@ IsReadyFor (command.Run count) s = (s.pending ≡ []) × (s.moved ≡ None)
 IsReadyFor command.Cs s = (s.pending ≡ []) × (s.moved ≡ None)
 IsReadyFor (command.Wm tags) s = s.pending ≡ []
 IsReadyFor (command.Ppwm pattern) s = s.pending ≡ []
+IsReadyFor (command.Matches names) s = s.pending ≡ []
 IsReadyFor (command.Pm names) s = Unit {0}
 IsReadyFor (command.Strategy set) s = Unit {0}
 IsReadyFor (command.Watch set) s = Unit {0}
@@ -100,7 +101,6 @@ IsReadyFor (command.Pbreak names) s = Unit {0}
 IsReadyFor (command.Add r) s = Unit {0}
 IsReadyFor (command.Excise names) s = Unit {0}
 IsReadyFor (command.Back count) s = Unit {0}
-IsReadyFor (command.Matches names) s = Unit {0}
 IsReadyFor command.Exit s = Unit {0}
 
 -- it adds productions to those in force, or takes some out

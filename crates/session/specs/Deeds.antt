@@ -1,10 +1,11 @@
 -- What a command leaves that reads no input.
-use Rattle.std.specs.Prelude.{◌≡◌, List, false, Result, IfOk}
+use Rattle.std.specs.Prelude.{◌≡◌, ℕ, List, false, Result, Ok, Err, IfOk}
 use Rattle.ops_base.specs.declared.endings.Ending.{Ending}
 use Rattle.ops_base.specs.declared.rules.Rule.{Rule}
 use Rattle.ops_base.specs.Names.{Spellings}
 use Rattle.ops_io.specs.Coming.{Coming}
-use Rattle.ops_io.specs.Ports.{Port}
+use Rattle.ops_io.specs.Ports.{Port, Put, Stopped}
+use Rattle.ops_io.specs.declared.stop.Stop.{Stop}
 use Rattle.ops_meaning.specs.Effects.{Effect, Performs, of_ending}
 use Rattle.ops_meaning.specs.Running.{Session as Meant}
 use Rattle.work_store.specs.Stored.{Stored}
@@ -17,3 +18,9 @@ pub record Does {M H : Type 0} (stored : M → Stored) (stands_for : M → List 
   pub performs : (c : Coming) → Performs (λ s. meant_by stored rules s names c) of_ending r old new (e (meant_by stored rules before names c))
   pub reads : ends_unread r ≡ false
   pub under_way : IfOk r (IsUnderWay stored stands_for rules)
+
+-- What a call leaves that puts these bytes and may take memory: all of them are put, or the sink refused a write or memory
+-- ran out, and the sink has got a prefix.
+abbrev pub PutsOrStops : {X : Type 0} → Result X Stop → Port → Port → List ℕ → Type 0
+PutsOrStops (Ok x) old new bytes = Put old new bytes
+PutsOrStops (Err why) old new bytes = Stopped why old new bytes

@@ -18,6 +18,7 @@ use crate::changes::{add_production, excise};
 use crate::context::{RunContext, SessionContext};
 use crate::lists::{list_elements, list_met, list_standing};
 use crate::memory_commands::{make_at_top, remove, remove_all};
+use crate::partials::list_matches;
 use crate::productions::{give_breaks, list_productions};
 use crate::ready::{make_ready, settle_pending};
 use crate::runs::run;
@@ -129,8 +130,19 @@ fn do_in_force<
         Command::Pbreak { names: given } => {
             give_breaks(context.program, names, session, given, out, sink)
         }
+        Command::Matches { names: given } => {
+            list_matches(
+                context.alloc,
+                context.program,
+                names,
+                session,
+                given,
+                out,
+                sink,
+            )
+        }
         // the reader gives no such command yet
-        Command::Back { .. } | Command::Matches { .. } => Ok(session),
+        Command::Back { .. } => Ok(session),
         // the definition is total: whoever does the commands in order stops before it
         Command::Exit => Ok(session),
         Command::Add { .. } | Command::Excise { .. } => unreachable!(),

@@ -15,6 +15,7 @@ mod context;
 mod elements;
 mod lists;
 mod memory_commands;
+mod partials;
 mod productions;
 mod ready;
 mod runs;

@@ -152,7 +152,9 @@ pub(crate) fn make_ready<B: Maker, H: Fn(B::M, &[Change]) -> Result<Settled<B::M
         Command::Remove { .. } | Command::RemoveAll | Command::Run { .. } | Command::Cs => {
             settle_all(context, maker, session)
         }
-        Command::Wm { .. } | Command::Ppwm { .. } => settle_pending(context, maker, session),
+        Command::Wm { .. } | Command::Ppwm { .. } | Command::Matches { .. } => {
+            settle_pending(context, maker, session)
+        }
         Command::Pm { .. }
         | Command::Strategy { .. }
         | Command::Watch { .. }
@@ -160,7 +162,6 @@ pub(crate) fn make_ready<B: Maker, H: Fn(B::M, &[Change]) -> Result<Settled<B::M
         | Command::Add { .. }
         | Command::Excise { .. }
         | Command::Back { .. }
-        | Command::Matches { .. }
         | Command::Exit => Ok(session),
     }
 }

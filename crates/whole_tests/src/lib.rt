@@ -10,6 +10,8 @@ mod limits;
 #[cfg(test)]
 mod live_rows;
 #[cfg(test)]
+mod partial_rows;
+#[cfg(test)]
 mod rows;
 #[cfg(test)]
 mod runs;

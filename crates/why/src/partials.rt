@@ -1,5 +1,6 @@
 //! The partial matches of a rule.
-ghost use Rattle.std.specs.Prelude.{◌≡◌, ◌<◌, ◌≤◌, length, map, IfOk};
+ghost use Rattle.std.specs.Prelude.{◌≡◌, ◌<◌, ◌≤◌, length, map, take, IfOk};
+ghost use Rattle.ops_base.specs.ConflictSet.{matches_of};
 ghost use Rattle.ops_base.specs.WorkingMemory.{HasRisingTags, shown};
 ghost use Rattle.why.specs.Partials.{AreUpTo, parts_of};
 
@@ -45,7 +46,9 @@ pub fn upto(
     requires first { 1 ≤ k }
     requires last { k ≤ length (parts_of program.now.rules rule) }
     requires rising { HasRisingTags (shown wm.now) }
-    ensures { IfOk result (AreUpTo program.now.rules (shown wm.now) rule k) }
+    ensures all { IfOk result (AreUpTo program.now.rules (shown wm.now) rule k) }
+    ensures computed { IfOk result
+        (λ v. v ≡ map (λ p. p.tags) (matches_of (shown wm.now) (take k (parts_of program.now.rules rule)))) }
 {
     let first = &parts_of(program, rule)[..k];
     let found = matches_of(alloc, wm, first)?;

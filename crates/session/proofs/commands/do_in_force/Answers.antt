@@ -32,6 +32,10 @@ pub returns-in-Pm-clause-performs : goal.returns-in-Pm-clause-performs
 returns-in-Pm-clause-performs g c =
     commanded g.M.Matcher.stored g.M.Matcher.stands_for c.args.context.now.program.now.rules c.args.names.now (setting_of c.args.context.now.program.now 0) c.args.context.now.limit c.args.command.now _ c.args.session _ _ _ _ c.in-Pm.is c.list_productions.ensures
 
+pub returns-in-Matches-clause-performs : goal.returns-in-Matches-clause-performs
+returns-in-Matches-clause-performs g c =
+    commanded g.M.Matcher.stored g.M.Matcher.stands_for c.args.context.now.program.now.rules c.args.names.now (setting_of c.args.context.now.program.now 0) c.args.context.now.limit c.args.command.now _ c.args.session _ _ _ _ c.in-Matches.is c.list_matches.ensures
+
 pub returns-in-Pbreak-clause-performs : goal.returns-in-Pbreak-clause-performs
 returns-in-Pbreak-clause-performs g c =
     commanded g.M.Matcher.stored g.M.Matcher.stands_for c.args.context.now.program.now.rules c.args.names.now (setting_of c.args.context.now.program.now 0) c.args.context.now.limit c.args.command.now _ c.args.session _ _ _ _ c.in-Pbreak.is c.give_breaks.ensures
