@@ -73,6 +73,7 @@ fn put_explanations<M: Matcher, K: Sink>(
 {
     let wm = session.state.store().present(alloc)?;
     put_why(alloc, names, program, &wm, out, sink)?;
+    drop(wm);
     out.flush(sink)?;
     Ok(session)
 }
