@@ -1,5 +1,5 @@
 //! Pieces of a line, each added to a text in memory.
-ghost use Rattle.std.specs.Prelude.{◌≡◌, ◌++◌, OnOk, decimal};
+ghost use Rattle.std.specs.Prelude.{◌≡◌, ◌++◌, OnOk, decimal, true};
 ghost use Rattle.ops_base.specs.Valid.{class_of};
 ghost use Rattle.ops_meaning.specs.Layout.{is_symbol, is_plain_symbol, symbol_text, shown_value, tags_text, inst_text};
 ghost use Rattle.why_lines.specs.WhyLines.{attribute_of, field_text, binding_text, bindings_text};

@@ -33,7 +33,7 @@ pub fn put_why<K: Sink>(
         (lists out.old.column (why_lines names.now program.now.classes program.now.rules (shown wm.now)) k) }
 {
     let text = why_text(alloc, names, program, wm)?;
-    if text.is_empty() {
+    if text.as_slice().is_empty() {
         return Ok(());
     }
     fresh_line(out, sink)?;
