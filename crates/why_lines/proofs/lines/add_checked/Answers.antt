@@ -19,6 +19,6 @@ loop-item-preserved c =
     let right = c.requires.right item (contains_from_member item found (member_at found i item c.loop-item-test.true c.item-item.is)) in
     let yes : c.check.result ≡ true = c.check.ensures.1 (right.0, subst P (sym c.as_slice.ensures) right.1) in
     elim c.if-check.branch [
-      then-check+in_ok-add_found w ↦ rw w.text-is (ap (λ (t : List ℕ). t ++ text_of (map line (drop (i + 1) found))) w.in_ok-add_found.ensures ∙ sym here ∙ c.loop-item.invariant)
+      | then-check+in_ok-add_found w ↦ rw w.text-is (ap (λ (t : List ℕ). t ++ text_of (map line (drop (i + 1) found))) w.in_ok-add_found.ensures ∙ sym here ∙ c.loop-item.invariant)
       | else-check w ↦ absurd (let bad : true ≡ false = sym yes ∙ w.if-check.false in cc)
     ]
