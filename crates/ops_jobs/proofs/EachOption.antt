@@ -22,11 +22,12 @@ each_option P a b c d name is =
     go false false false true e f g h is = same _ h d
     go false false false false e f g h is = absurd (true≢false (sym is))
 
--- and what holds of the two flags holds of whatever is a flag
-pub each_flag : (P : Word → Type 0) → P (codes "gen") → P (codes "net") → (name : Word) → is_flag name ≡ true → P name
-each_flag P a b name is = go (bytes_eq (codes "gen") name) (bytes_eq (codes "net") name) refl refl is
+-- and what holds of the three flags holds of whatever is a flag
+pub each_flag : (P : Word → Type 0) → P (codes "gen") → P (codes "net") → P (codes "why") → (name : Word) → is_flag name ≡ true → P name
+each_flag P a b c name is = go (bytes_eq (codes "gen") name) (bytes_eq (codes "net") name) (bytes_eq (codes "why") name) refl refl refl is
   where
-    go : (s t : Bool) → bytes_eq (codes "gen") name ≡ s → bytes_eq (codes "net") name ≡ t → (s || (t || false)) ≡ true → P name
-    go true t e f is = subst P ((bytes_eq-Decides (codes "gen") name).0 e) a
-    go false true e f is = subst P ((bytes_eq-Decides (codes "net") name).0 f) b
-    go false false e f is = absurd (true≢false (sym is))
+    go : (s t u : Bool) → bytes_eq (codes "gen") name ≡ s → bytes_eq (codes "net") name ≡ t → bytes_eq (codes "why") name ≡ u → (s || (t || (u || false))) ≡ true → P name
+    go true t u e f g is = subst P ((bytes_eq-Decides (codes "gen") name).0 e) a
+    go false true u e f g is = subst P ((bytes_eq-Decides (codes "net") name).0 f) b
+    go false false true e f g is = subst P ((bytes_eq-Decides (codes "why") name).0 g) c
+    go false false false e f g is = absurd (true≢false (sym is))

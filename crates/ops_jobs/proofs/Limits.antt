@@ -13,10 +13,10 @@ use Rattle.ops_jobs.specs.declared.jobs.Engine.{Engine}
 use Rattle.ops_jobs.specs.declared.jobs.Engine.TheVariants.{Direct, Serial, Rounds, Free}
 use Rattle.ops_jobs.specs.declared.jobs.Options.{Options}
 use Rattle.ops_jobs.specs.declared.jobs.Job.{Job}
-use Rattle.ops_jobs.specs.declared.jobs.Job.TheVariants.{Run, Net, Gen}
-use Rattle.ops_jobs.specs.CommandLine.{Piece, Word, engine_from, files_of, is_complete, is_number, is_option, is_raised, job_by, job_from, job_of, number_from, number_of, options_of, pieces_of, value_of, workload_of}
-use Rattle.ops_jobs.specs.Laws.{IsWithinLimits, IsWorkload, KeepsLimits}
-use Rattle.ops_jobs.proofs.EachOption.{each_option}
+use Rattle.ops_jobs.specs.declared.jobs.Job.TheVariants.{Run, Net, Gen, Why}
+use Rattle.ops_jobs.specs.CommandLine.{Piece, Word, engine_from, files_of, is_complete, is_flag, is_number, is_option, is_raised, job_by, job_from, job_of, number_from, number_of, options_of, pieces_of, value_of, workload_of}
+use Rattle.ops_jobs.specs.Laws.{IsExplanation, IsWithinLimits, IsWorkload, KeepsLimits}
+use Rattle.ops_jobs.proofs.EachOption.{each_flag, each_option}
 
 -- ---- a number
 
@@ -89,13 +89,13 @@ record IsJobOf (pieces : List Piece) (job : Job) : Type 0 where
   options : Options
   complete : is_complete pieces ≡ true
   from : options_of pieces ≡ Some options
-  job_is : job_by (is_raised (codes "gen") pieces) (is_raised (codes "net") pieces) options (files_of pieces) ≡ Some job
+  job_is : job_by (is_raised (codes "gen") pieces) (is_raised (codes "net") pieces) (is_raised (codes "why") pieces) options (files_of pieces) ≡ Some job
 
 job_parts : (pieces : List Piece) (job : Job) → job_from pieces ≡ Some job → IsJobOf pieces job
 job_parts pieces job e = go (is_complete pieces) refl (options_of pieces) refl e
   where
     go : (t : Bool) → is_complete pieces ≡ t → (o : Option Options) → options_of pieces ≡ o
-        → cond t (option_and_then (λ options. job_by (is_raised (codes "gen") pieces) (is_raised (codes "net") pieces) options (files_of pieces)) o) None ≡ Some job
+        → cond t (option_and_then (λ options. job_by (is_raised (codes "gen") pieces) (is_raised (codes "net") pieces) (is_raised (codes "why") pieces) options (files_of pieces)) o) None ≡ Some job
         → IsJobOf pieces job
     go false incomplete o from none = absurd (true≢false (sym (ap is_some none)))
     go true complete None from none = absurd (true≢false (sym (ap is_some none)))
@@ -159,23 +159,28 @@ workload_parts options (seed ∷ size ∷ []) job e = go (number_of 0 GREATEST_S
         }
 
 -- whatever the job is
-job_keeps : (gen net : Bool) (options : Options) (names : List Word) (job : Job) → job_by gen net options names ≡ Some job
+job_keeps : (gen net why : Bool) (options : Options) (names : List Word) (job : Job) → job_by gen net why options names ≡ Some job
     → IsWithinLimits options → 1 ≤ length names → KeepsLimits job
-job_keeps false false options names job e within some =
+job_keeps false false false options names job e within some =
     let same : Run options names ≡ job = cc in
     subst KeepsLimits same (within, some)
-job_keeps false true options names job e within some =
+job_keeps false false true options names job e within some =
+    let same : Why options names ≡ job = cc in
+    subst KeepsLimits same (within, some)
+job_keeps false true false options names job e within some =
     let same : Net names ≡ job = cc in
     subst KeepsLimits same some
-job_keeps true false options names job e within some =
+job_keeps true false false options names job e within some =
     let is = workload_parts options names job e in
     subst KeepsLimits (sym is.job_is) (within, is.few_seeds, is.some_items, is.few_items)
-job_keeps true true options names job e within some = absurd (true≢false (sym (ap is_some e)))
+job_keeps false true true options names job e within some = absurd (true≢false (sym (ap is_some e)))
+job_keeps true true why options names job e within some = absurd (true≢false (sym (ap is_some e)))
+job_keeps true false true options names job e within some = absurd (true≢false (sym (ap is_some e)))
 
 pub job_within : (words : List Word) (job : Job) → job_of words ≡ Some job → KeepsLimits job
 job_within words job e =
     let of = of_words words job e in
-    job_keeps (is_raised (codes "gen") of.0) (is_raised (codes "net") of.0) of.2.options (files_of of.0) job of.2.job_is
+    job_keeps (is_raised (codes "gen") of.0) (is_raised (codes "net") of.0) (is_raised (codes "why") of.0) of.2.options (files_of of.0) job of.2.job_is
     (options_within of.0 of.2.options of.2.from) (leb-true 1 (length (files_of of.0)) (and_parts _ _ of.2.complete).1)
 
 -- ---- no value is dashed
@@ -230,34 +235,87 @@ no_dashed_value words job pieces option value e are known is =
     let same : of.0 ≡ pieces = cc in
     value_not_dashed of.0 of.2.options of.2.from option known value (rw same is)
 
--- ---- a network, and a workload
+-- ---- the flags
 
-network_is : (gen : Bool) (options : Options) (names : List Word) (job : Job) → job_by gen true options names ≡ Some job → job ≡ Net names
-network_is false options names job e = sym (cc)
-network_is true options names job e = absurd (true≢false (sym (ap is_some e)))
+-- the job of these flags
+abbrev flagged_job : List Piece → (gen net why : Bool) → Options → Option Job
+flagged_job pieces gen net why options = job_by gen net why options (files_of pieces)
 
-workload_is : (net : Bool) (options : Options) (names : List Word) (job : Job) → job_by true net options names ≡ Some job → IsSpelled options names job
-workload_is false options names job e = workload_parts options names job e
-workload_is true options names job e = absurd (true≢false (sym (ap is_some e)))
+network_is : (gen why : Bool) (options : Options) (names : List Word) (job : Job) → job_by gen true why options names ≡ Some job → job ≡ Net names
+network_is false false options names job e = sym (cc)
+network_is false true options names job e = absurd (true≢false (sym (ap is_some e)))
+network_is true why options names job e = absurd (true≢false (sym (ap is_some e)))
+
+workload_is : (net why : Bool) (options : Options) (names : List Word) (job : Job) → job_by true net why options names ≡ Some job → IsSpelled options names job
+workload_is false false options names job e = workload_parts options names job e
+workload_is false true options names job e = absurd (true≢false (sym (ap is_some e)))
+workload_is true why options names job e = absurd (true≢false (sym (ap is_some e)))
+
+explanation_is : (gen net : Bool) (options : Options) (names : List Word) (job : Job) → job_by gen net true options names ≡ Some job → job ≡ Why options names
+explanation_is false false options names job e = sym (cc)
+explanation_is false true options names job e = absurd (true≢false (sym (ap is_some e)))
+explanation_is true false options names job e = absurd (true≢false (sym (ap is_some e)))
+explanation_is true true options names job e = absurd (true≢false (sym (ap is_some e)))
+
+-- the job comes from these pieces
+of_pieces : (words : List Word) (job : Job) (pieces : List Piece) → job_of words ≡ Some job → pieces_of words ≡ Some pieces → IsJobOf pieces job
+of_pieces words job pieces e are =
+    let of = of_words words job e in
+    let same : of.0 ≡ pieces = cc in
+    subst (λ ps. IsJobOf ps job) same of.2
 
 pub network_of_files : (words : List Word) (job : Job) (pieces : List Piece) → job_of words ≡ Some job → pieces_of words ≡ Some pieces
     → is_raised (codes "net") pieces ≡ true → job ≡ Net (files_of pieces)
 network_of_files words job pieces e are raised =
-    let of = of_words words job e in
-    let same : of.0 ≡ pieces = cc in
-    let is : is_raised (codes "net") of.0 ≡ true = ap (is_raised (codes "net")) same ∙ raised in
-    let job_is : job_by (is_raised (codes "gen") of.0) true of.2.options (files_of of.0) ≡ Some job =
-    sym (ap (λ t. job_by (is_raised (codes "gen") of.0) t of.2.options (files_of of.0)) is) ∙ of.2.job_is in
-    network_is (is_raised (codes "gen") of.0) of.2.options (files_of of.0) job job_is ∙ ap (λ (ps : List Piece). Net (files_of ps)) same
+    let of = of_pieces words job pieces e are in
+    network_is (is_raised (codes "gen") pieces) (is_raised (codes "why") pieces) of.options (files_of pieces) job
+    (sym (ap (λ t. flagged_job pieces (is_raised (codes "gen") pieces) t (is_raised (codes "why") pieces) of.options) raised) ∙ of.job_is)
 
 pub workload_of_numbers : (words : List Word) (job : Job) (pieces : List Piece) → job_of words ≡ Some job → pieces_of words ≡ Some pieces
     → is_raised (codes "gen") pieces ≡ true → IsWorkload pieces job
 workload_of_numbers words job pieces e are raised =
-    let of = of_words words job e in
-    let same : of.0 ≡ pieces = cc in
-    let is : is_raised (codes "gen") of.0 ≡ true = ap (is_raised (codes "gen")) same ∙ raised in
-    let job_is : job_by true (is_raised (codes "net") of.0) of.2.options (files_of of.0) ≡ Some job =
-    sym (ap (λ t. job_by t (is_raised (codes "net") of.0) of.2.options (files_of of.0)) is) ∙ of.2.job_is in
-    let parts = workload_is (is_raised (codes "net") of.0) of.2.options (files_of of.0) job job_is in
-    subst (λ ps. IsWorkload ps job) same
-    (record { options = of.2.options; seed = parts.seed; size = parts.size; from = of.2.from; names = parts.names_are; is = parts.job_is })
+    let of = of_pieces words job pieces e are in
+    let parts = workload_is (is_raised (codes "net") pieces) (is_raised (codes "why") pieces) of.options (files_of pieces) job
+    (sym (ap (λ t. flagged_job pieces t (is_raised (codes "net") pieces) (is_raised (codes "why") pieces) of.options) raised) ∙ of.job_is) in
+    record { options = of.options; seed = parts.seed; size = parts.size; from = of.from; names = parts.names_are; is = parts.job_is }
+
+pub explanation_of_files : (words : List Word) (job : Job) (pieces : List Piece) → job_of words ≡ Some job → pieces_of words ≡ Some pieces
+    → is_raised (codes "why") pieces ≡ true → IsExplanation pieces job
+explanation_of_files words job pieces e are raised =
+    let of = of_pieces words job pieces e are in
+    let is = explanation_is (is_raised (codes "gen") pieces) (is_raised (codes "net") pieces) of.options (files_of pieces) job
+    (sym (ap (λ t. flagged_job pieces (is_raised (codes "gen") pieces) (is_raised (codes "net") pieces) t of.options) raised) ∙ of.job_is) in
+    record { options = of.options; from = of.from; is = is }
+
+-- ---- one flag alone
+
+-- which variant a job is
+abbrev variant_of : Job → ℕ
+variant_of (Run options files) = 0
+variant_of (Net files) = 1
+variant_of (Gen options seed size) = 2
+variant_of (Why options files) = 3
+
+abbrev variant_for : Word → ℕ
+variant_for flag = cond (bytes_eq flag (codes "net")) 1 (cond (bytes_eq flag (codes "gen")) 2 3)
+
+-- the flag tells the variant of the job
+told_by : (words : List Word) (job : Job) (pieces : List Piece) → job_of words ≡ Some job → pieces_of words ≡ Some pieces → (flag : Word) → is_flag flag ≡ true
+    → is_raised flag pieces ≡ true → variant_of job ≡ variant_for flag
+told_by words job pieces e are =
+    each_flag (λ flag. is_raised flag pieces ≡ true → variant_of job ≡ variant_for flag)
+    (λ raised. ap variant_of (workload_of_numbers words job pieces e are raised).is)
+    (λ raised. ap variant_of (network_of_files words job pieces e are raised))
+    (λ raised. ap variant_of (explanation_of_files words job pieces e are raised).is)
+
+same_variant : (one : Word) → is_flag one ≡ true → (other : Word) → is_flag other ≡ true → variant_for one ≡ variant_for other → one ≡ other
+same_variant =
+    each_flag (λ one. (other : Word) → is_flag other ≡ true → variant_for one ≡ variant_for other → one ≡ other)
+    (each_flag (λ other. 2 ≡ variant_for other → codes "gen" ≡ other) (λ e. refl) (λ e. absurd (omega arith)) (λ e. absurd (omega arith)))
+    (each_flag (λ other. 1 ≡ variant_for other → codes "net" ≡ other) (λ e. absurd (omega arith)) (λ e. refl) (λ e. absurd (omega arith)))
+    (each_flag (λ other. 3 ≡ variant_for other → codes "why" ≡ other) (λ e. absurd (omega arith)) (λ e. absurd (omega arith)) (λ e. refl))
+
+pub one_flag : (words : List Word) (job : Job) (pieces : List Piece) (one other : Word) → job_of words ≡ Some job → pieces_of words ≡ Some pieces
+    → is_flag one ≡ true → is_flag other ≡ true → is_raised one pieces ≡ true → is_raised other pieces ≡ true → one ≡ other
+one_flag words job pieces one other e are first second raised also =
+    same_variant one first other second (sym (told_by words job pieces e are one first raised) ∙ told_by words job pieces e are other second also)

@@ -3,7 +3,7 @@ use Rattle.std.proofs.Common.{◌≡◌, [], ◌∷◌, Some, None, codes, refl}
 use Rattle.ops_jobs.specs.CommandLine.{Word, job_of, pieces_from}
 use Rattle.ops_jobs.specs.declared.jobs.Engine.TheVariants.{Direct, Serial, Rounds, Free}
 use Rattle.ops_jobs.specs.declared.jobs.Options.{Options}
-use Rattle.ops_jobs.specs.declared.jobs.Job.TheVariants.{Gen, Net, Run}
+use Rattle.ops_jobs.specs.declared.jobs.Job.TheVariants.{Gen, Net, Run, Why}
 
 abbrev usual : Options
 usual = record { engine = Free; workers = 4; lines = 1024; limit = 1000000 }
@@ -255,3 +255,31 @@ a_network_with_a_limit_of_zero = refl
 a_flag_as_a_value : job_of (codes "--limit" ∷ codes "--net" ∷ codes "f" ∷ []) ≡ None
 unfolding pieces_from
 a_flag_as_a_value = refl
+
+an_explanation : job_of (codes "--why" ∷ codes "f" ∷ []) ≡ Some (Why usual (codes "f" ∷ []))
+unfolding pieces_from
+an_explanation = refl
+
+an_explanation_with_a_limit : job_of (codes "f" ∷ codes "--why" ∷ codes "--limit=3" ∷ codes "g" ∷ []) ≡ Some (Why (record usual { limit = 3 }) (codes "f" ∷ codes "g" ∷ []))
+unfolding pieces_from
+an_explanation_with_a_limit = refl
+
+an_explanation_without_a_file : job_of (codes "--why" ∷ []) ≡ None
+unfolding pieces_from
+an_explanation_without_a_file = refl
+
+two_explanations : job_of (codes "--why" ∷ codes "--why" ∷ codes "f" ∷ []) ≡ None
+unfolding pieces_from
+two_explanations = refl
+
+an_explanation_of_a_network : job_of (codes "--why" ∷ codes "--net" ∷ codes "f" ∷ []) ≡ None
+unfolding pieces_from
+an_explanation_of_a_network = refl
+
+an_explanation_of_a_workload : job_of (codes "--gen" ∷ codes "--why" ∷ codes "7" ∷ codes "1" ∷ []) ≡ None
+unfolding pieces_from
+an_explanation_of_a_workload = refl
+
+an_explanation_with_a_value : job_of (codes "--why=1" ∷ codes "f" ∷ []) ≡ None
+unfolding pieces_from
+an_explanation_with_a_value = refl

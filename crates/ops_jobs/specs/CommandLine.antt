@@ -9,7 +9,7 @@ use Rattle.ops_jobs.specs.declared.jobs.Engine.{Engine}
 use Rattle.ops_jobs.specs.declared.jobs.Engine.TheVariants.{Direct, Serial, Rounds, Free}
 use Rattle.ops_jobs.specs.declared.jobs.Options.{Options}
 use Rattle.ops_jobs.specs.declared.jobs.Job.{Job}
-use Rattle.ops_jobs.specs.declared.jobs.Job.TheVariants.{Run, Net, Gen}
+use Rattle.ops_jobs.specs.declared.jobs.Job.TheVariants.{Run, Net, Gen, Why}
 
 abbrev pub Word : Type 0
 Word = List ℕ
@@ -24,7 +24,7 @@ is_option name = list_any (λ option. bytes_eq option name) option_names
 
 -- flags take no value
 abbrev pub flag_names : List Word
-flag_names = codes "gen" ∷ codes "net" ∷ []
+flag_names = codes "gen" ∷ codes "net" ∷ codes "why" ∷ []
 
 abbrev pub is_flag : Word → Bool
 is_flag name = list_any (λ flag. bytes_eq flag name) flag_names
@@ -181,18 +181,19 @@ workload_of options (seed ∷ size ∷ []) =
     option_and_then (λ from. option_map (Gen options from) (number_of 1 GREATEST_SIZE size)) (number_of 0 GREATEST_SEED seed)
 workload_of options _ = None
 
--- The names are those of files, or with `--gen` a seed and a size. The options have no effect with `--net`, and both
+-- The names are those of files, or with `--gen` a seed and a size. The options have no effect with `--net`, and two
 -- flags together ask for nothing.
-abbrev pub job_by : (gen net : Bool) → Options → List Word → Option Job
-job_by false false options words = Some (Run options words)
-job_by false true options words = Some (Net words)
-job_by true false options words = workload_of options words
-job_by true true options words = None
+abbrev pub job_by : (gen net why : Bool) → Options → List Word → Option Job
+job_by false false false options words = Some (Run options words)
+job_by false false true options words = Some (Why options words)
+job_by false true false options words = Some (Net words)
+job_by true false false options words = workload_of options words
+job_by gen net why options words = None
 
 abbrev pub job_from : List Piece → Option Job
 job_from pieces =
     if is_complete pieces
-    then option_and_then (λ options. job_by (is_raised (codes "gen") pieces) (is_raised (codes "net") pieces) options (files_of pieces)) (options_of pieces)
+    then option_and_then (λ options. job_by (is_raised (codes "gen") pieces) (is_raised (codes "net") pieces) (is_raised (codes "why") pieces) options (files_of pieces)) (options_of pieces)
     else None
 
 -- the job that the words ask for, where they fit

@@ -5,7 +5,7 @@ use Rattle.ops_jobs.specs.CommandLine.{Word, Piece, given, flagged, file, files_
 use Rattle.ops_jobs.specs.declared.jobs.TheConstants.{GREATEST_WORKERS, GREATEST_LINES, GREATEST_LIMIT, GREATEST_SEED, GREATEST_SIZE}
 use Rattle.ops_jobs.specs.declared.jobs.Options.{Options}
 use Rattle.ops_jobs.specs.declared.jobs.Job.{Job}
-use Rattle.ops_jobs.specs.declared.jobs.Job.TheVariants.{Run, Net, Gen}
+use Rattle.ops_jobs.specs.declared.jobs.Job.TheVariants.{Run, Net, Gen, Why}
 
 -- The words spell the pieces: `--OPTION=VALUE`, or `--OPTION` and `VALUE`, for an option with its value, `--FLAG` for a
 -- flag, a word that is not dashed for a file, and after `--` each word for a file.
@@ -37,6 +37,7 @@ pub record IsWithinLimits (options : Options) : Type 0 where
 -- so are the numbers of a job, and it has a file, or an item
 abbrev pub KeepsLimits : Job → Type 0
 KeepsLimits (Run options files) = IsWithinLimits options × (1 ≤ length files)
+KeepsLimits (Why options files) = IsWithinLimits options × (1 ≤ length files)
 KeepsLimits (Net files) = 1 ≤ length files
 KeepsLimits (Gen options seed size) = IsWithinLimits options × (seed ≤ GREATEST_SEED) × (1 ≤ size) × (size ≤ GREATEST_SIZE)
 
@@ -49,3 +50,9 @@ pub record IsWorkload (pieces : List Piece) (job : Job) : Type 0 where
   pub from : options_of pieces ≡ Some options
   pub names : files_of pieces ≡ seed ∷ size ∷ []
   pub is : job ≡ Gen options (digits_value 10 seed) (digits_value 10 size)
+
+-- The job explains the program of the files, with the options of the pieces.
+pub record IsExplanation (pieces : List Piece) (job : Job) : Type 0 where
+  pub options : Options
+  pub from : options_of pieces ≡ Some options
+  pub is : job ≡ Why options (files_of pieces)

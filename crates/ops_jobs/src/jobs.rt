@@ -57,6 +57,11 @@ pub enum Job {
         options: Options,
         files: FileList,
     },
+    /// To run that program and then to explain its productions: what each fires on, or where its match ends.
+    Why {
+        options: Options,
+        files: FileList,
+    },
     /// To tell how large the network of that program is. The options are checked and have no effect.
     Net {
         files: FileList,

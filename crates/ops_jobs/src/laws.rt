@@ -1,7 +1,7 @@
 //! Laws of the words that hold of the definitions alone: the contracts of functions that do nothing.
 ghost use Rattle.std.specs.Prelude.{◌≡◌, ◌↔◌, ◌≢◌, List, Some, true, codes, slice_index};
-ghost use Rattle.ops_jobs.specs.CommandLine.{Word, Piece, files_of, is_option, is_raised, job_of, pieces_of, value_of};
-ghost use Rattle.ops_jobs.specs.Laws.{IsWorkload, KeepsLimits, SayTheSame, Spells};
+ghost use Rattle.ops_jobs.specs.CommandLine.{Word, Piece, files_of, is_flag, is_option, is_raised, job_of, pieces_of, value_of};
+ghost use Rattle.ops_jobs.specs.Laws.{IsExplanation, IsWorkload, KeepsLimits, SayTheSame, Spells};
 ghost use Rattle.ops_jobs.specs.declared.jobs.Job.{Job};
 ghost use Rattle.ops_jobs.specs.declared.jobs.Job.TheVariants.{Net};
 
@@ -37,4 +37,16 @@ pub fn networks_have_no_options()
 pub fn workloads_are_of_two_numbers()
     ensures { (words : List Word) (job : Job) (pieces : List Piece) → job_of words ≡ Some job → pieces_of words ≡ Some pieces
         → is_raised (codes "gen") pieces ≡ true → IsWorkload pieces job }
+{}
+
+/// Where `--why` stands, the job explains the program of the files, with the options.
+pub fn explanations_are_of_files()
+    ensures { (words : List Word) (job : Job) (pieces : List Piece) → job_of words ≡ Some job → pieces_of words ≡ Some pieces
+        → is_raised (codes "why") pieces ≡ true → IsExplanation pieces job }
+{}
+
+/// No two flags stand together.
+pub fn flags_stand_alone()
+    ensures { (words : List Word) (job : Job) (pieces : List Piece) (one other : Word) → job_of words ≡ Some job → pieces_of words ≡ Some pieces
+        → is_flag one ≡ true → is_flag other ≡ true → is_raised one pieces ≡ true → is_raised other pieces ≡ true → one ≡ other }
 {}

@@ -11,6 +11,7 @@ pub use jobs::{
     GREATEST_SEED, GREATEST_SIZE, GREATEST_WORKERS, Job, Options,
 };
 pub use laws::{
-    jobs_keep_limits, networks_have_no_options, no_value_is_dashed, options_stand_anywhere,
-    words_spell_their_pieces, workloads_are_of_two_numbers,
+    explanations_are_of_files, flags_stand_alone, jobs_keep_limits, networks_have_no_options,
+    no_value_is_dashed, options_stand_anywhere, words_spell_their_pieces,
+    workloads_are_of_two_numbers,
 };

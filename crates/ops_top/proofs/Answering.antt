@@ -1,5 +1,5 @@
 -- What a delivered whole tells of the answer.
-use Rattle.std.proofs.Common.{◌≡◌, ℕ, List, [], Bool, true, false, Option, Some, None, is_some, Result, Ok, Err, is_ok, refl, sym, ◌∙◌, subst, nat_lt, ◌⊎◌, inl, inr, arith}
+use Rattle.std.proofs.Common.{◌≡◌, ℕ, List, [], Bool, true, false, Option, Some, None, is_some, Result, Ok, Err, is_ok, refl, ap, sym, ◌∙◌, subst, nat_lt, ◌⊎◌, inl, inr, arith}
 use Rattle.std.proofs.lemmas.Bool.Decides.{nat_tests}
 use Rattle.std.proofs.lemmas.List.{append-nil}
 use Rattle.ops_base.specs.ConflictSet.{conflict_set}
@@ -10,11 +10,12 @@ use Rattle.ops_io.specs.declared.stop.Stop.{Stop}
 use Rattle.ops_io.specs.declared.stop.Stop.TheVariants as stop
 use Rattle.ops_jobs.specs.CommandLine.{job_of}
 use Rattle.ops_jobs.specs.declared.jobs.Job.{Job}
-use Rattle.ops_jobs.specs.declared.jobs.Job.TheVariants.{Run, Net, Gen}
+use Rattle.ops_jobs.specs.declared.jobs.Job.TheVariants.{Run, Net, Gen, Why}
 use Rattle.ops_meaning.specs.declared.statuses.Status.{Status}
 use Rattle.ops_meaning.specs.declared.statuses.Status.TheVariants as status
 use Rattle.ops_grammar.specs.Reads.{Read, Placed, reads}
 use Rattle.ops_meaning.specs.Running.{Session, session_of, ending_of}
+use Rattle.why_lines.proofs.Explained.{explained_ends}
 use Rattle.ops_top.specs.Whole.{Reply, Answers, Gathered, Joined, Unread, Overlong, status_of, answer_program_by, answer_read, answer_to, answer_gathered, gathered_for, readable, setting_read, usage, whole_job, whole, words_fit, files_of}
 use Rattle.ops_top.specs.Calls.{OfContents, OfInput, TellsFailedWrite, TellsWords, RunsThrough, all_told, program_runs_through, text_runs_through, gathered_runs_through, job_runs_over, runs_over}
 use Rattle.ops_top.specs.Told.{Delivers, status_after}
@@ -182,6 +183,9 @@ done_session (Err f) h = absurd (cc)
 
 done_program : (job : Job) (z : Coming) (text : List ℕ) (p : Read) → program_runs_through job z text p ≡ true → (answer_program_by conflict_set job z text p).status ≡ status.Done
 done_program (Run options files) z text p h = done_session (session_of (setting_read text p) options.limit p.commands p.names z).outcome h
+done_program (Why options files) z text p h =
+    let e = session_of (setting_read text p) options.limit p.commands p.names z in
+    ap (λ (o : Result Session Ending). status_of (ending_of o)) (explained_ends true p.classes e) ∙ done_session e.outcome h
 done_program (Net files) z text p h = refl
 done_program (Gen options seed size) z text p h = done_session (session_of (setting_read text p) options.limit p.commands p.names z).outcome h
 

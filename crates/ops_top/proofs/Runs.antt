@@ -13,7 +13,7 @@ use Rattle.ops_io.specs.Coming.{Coming}
 use Rattle.ops_io.specs.declared.stop.Stop.{Stop}
 use Rattle.ops_io.specs.declared.stop.Stop.TheVariants as stop
 use Rattle.ops_jobs.specs.declared.jobs.Job.{Job}
-use Rattle.ops_jobs.specs.declared.jobs.Job.TheVariants.{Run, Net, Gen}
+use Rattle.ops_jobs.specs.declared.jobs.Job.TheVariants.{Run, Net, Gen, Why}
 use Rattle.ops_jobs.specs.declared.jobs.Options.{Options}
 use Rattle.ops_meaning.specs.declared.statuses.Status.{Status}
 use Rattle.ops_meaning.specs.declared.statuses.Status.TheVariants as status
@@ -38,21 +38,29 @@ use Rattle.ops_top.proofs.Refusals.{refusal_is}
 
 -- ---- the plan of a job
 
+planned_told : (options : Options) (plan : Plan) (explained summed : Bool) → (plan.options ≡ options) × (plan.is_explained ≡ explained) × (plan.is_summed ≡ summed) → (z : Coming) (text : List ℕ) (p : Read)
+    → session_told conflict_set explained summed options.limit z text p ≡ session_told conflict_set plan.is_explained plan.is_summed plan.options.limit z text p
+planned_told options plan explained summed h z text p =
+    ap (λ (o : Options). session_told conflict_set explained summed o.limit z text p) (sym h.0)
+    ∙ ap (λ (b : Bool). session_told conflict_set b summed plan.options.limit z text p) (sym h.1)
+    ∙ ap (λ (b : Bool). session_told conflict_set plan.is_explained b plan.options.limit z text p) (sym h.2)
+
 pub plan_replies : (job : Job) (plan : Plan) → IsPlanOf job plan → (z : Coming) (text : List ℕ) (p : Read)
-    → answer_program_by conflict_set job z text p ≡ session_told conflict_set plan.is_summed plan.options.limit z text p
-plan_replies (Run options files) plan h z text p =
-    ap (λ (o : Options). session_told conflict_set false o.limit z text p) (sym h.0) ∙ ap (λ (b : Bool). session_told conflict_set b plan.options.limit z text p) (sym h.1)
+    → answer_program_by conflict_set job z text p ≡ session_told conflict_set plan.is_explained plan.is_summed plan.options.limit z text p
+plan_replies (Run options files) plan h z text p = planned_told options plan false false h z text p
+plan_replies (Why options files) plan h z text p = planned_told options plan true false h z text p
 plan_replies (Net files) plan h z text p = absurd h
-plan_replies (Gen options seed size) plan h z text p =
-    ap (λ (o : Options). session_told conflict_set true o.limit z text p) (sym h.0) ∙ ap (λ (b : Bool). session_told conflict_set b plan.options.limit z text p) (sym h.1)
+plan_replies (Gen options seed size) plan h z text p = planned_told options plan false true h z text p
 
 pub plan_runs : (job : Job) (plan : Plan) (Q : Type 0) → IsPlanOf job plan → is_run job ≡ false → Q
 plan_runs (Run options files) plan Q h none = absurd (cc)
+plan_runs (Why options files) plan Q h none = absurd (cc)
 plan_runs (Net files) plan Q h none = absurd h
 plan_runs (Gen options seed size) plan Q h none = absurd (cc)
 
 pub net_replies : (job : Job) → is_run job ≡ false → (z : Coming) (text : List ℕ) (p : Read) → answer_program_by conflict_set job z text p ≡ net_told p.rules
 net_replies (Run options files) none z text p = absurd (cc)
+net_replies (Why options files) none z text p = absurd (cc)
 net_replies (Net files) none z text p = refl
 net_replies (Gen options seed size) none z text p = absurd (cc)
 

@@ -18,6 +18,8 @@ use Rattle.act_phase.specs.Outcomes.{setting_of}
 use Rattle.session.specs.Endings.{EndsSession, EndsOn}
 use Rattle.session.specs.Holding.{EndsHeld, NamesHeld}
 use Rattle.session.proofs.Comings.{some_failing}
+use Rattle.why_lines.specs.Explained.{explained_if}
+use Rattle.why_lines.proofs.Explained.{explained_ends}
 use Rattle.ops_top.specs.Whole.{closing, told}
 use Rattle.ops_top.specs.Told.{TellsOn}
 
@@ -51,11 +53,13 @@ ended_told P names (Ok k) h = tt
 ended_told P names (Err f) h = named_told names f h
 
 -- the names at the start of a program's session hold it
-pub names_tell : (p : Program) (limit : ℕ) (names : Spellings) → EndsHeld p limit names → (coming : Coming)
-    → IsToldBy (length names.held) (ending_of (session_of (setting_of p 0) limit p.commands names coming).outcome)
-names_tell p limit names held coming =
-    ended_told (λ k. HoldsProgram k.course.names p × HoldsElements k.course.names k.course.wm) names
-    (session_of (setting_of p 0) limit p.commands names coming).outcome (held coming)
+pub names_tell : (explained : Bool) (p : Program) (limit : ℕ) (names : Spellings) → EndsHeld p limit names → (coming : Coming)
+    → IsToldBy (length names.held) (ending_of (explained_if explained p.classes (session_of (setting_of p 0) limit p.commands names coming)).outcome)
+names_tell explained p limit names held coming =
+    let P : Result Meant Ending → Type 0 = λ o. IsToldBy (length names.held) (ending_of o) in
+    subst P (sym (explained_ends explained p.classes (session_of (setting_of p 0) limit p.commands names coming)))
+    (ended_told (λ k. HoldsProgram k.course.names p × HoldsElements k.course.names k.course.wm) names
+    (session_of (setting_of p 0) limit p.commands names coming).outcome (held coming))
 
 -- ---- what is told
 

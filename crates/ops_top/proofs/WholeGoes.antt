@@ -5,22 +5,26 @@ use Rattle.ops_base.specs.declared.rules.Rule.{Rule}
 use Rattle.ops_io.specs.Coming.{Coming}
 use Rattle.ops_jobs.specs.CommandLine.{job_of}
 use Rattle.ops_jobs.specs.declared.jobs.Job.{Job}
-use Rattle.ops_jobs.specs.declared.jobs.Job.TheVariants.{Run, Net, Gen}
+use Rattle.ops_jobs.specs.declared.jobs.Job.TheVariants.{Run, Net, Gen, Why}
 use Rattle.ops_meaning.specs.Kept.{FindsConflictSets}
-use Rattle.ops_meaning.specs.Running.{Find}
+use Rattle.ops_base.specs.declared.endings.Ending.{Ending}
+use Rattle.ops_meaning.specs.Effects.{Effect}
+use Rattle.ops_meaning.specs.Running.{Find, Session}
+use Rattle.why_lines.specs.Explained.{explained_if}
 use Rattle.ops_grammar.specs.Reads.{Read, Placed, reads}
 use Rattle.ops_meaning.proofs.RisingTags.{session_goes}
 use Rattle.ops_top.specs.Whole.{Gathered, Joined, Unread, Overlong, gathered_for, readable, answer_program_by, answer_read, answer_read_by, answer_gathered, answer_gathered_by, whole_job, whole_job_by, session_told, told, setting_read, GoesByConflictSetsAlone}
 
 module _ (find : Find) (finds : (rules : List Rule) → FindsConflictSets rules (find rules)) (coming : Coming) where
-  session_is : (summed : Bool) (limit : ℕ) (text : List ℕ) (p : Read) → session_told conflict_set summed limit coming text p ≡ session_told find summed limit coming text p
-  session_is summed limit text p =
-      ap (told summed p.names) (session_goes (setting_read text p) limit p.commands p.names find finds coming)
+  session_is : (explained summed : Bool) (limit : ℕ) (text : List ℕ) (p : Read) → session_told conflict_set explained summed limit coming text p ≡ session_told find explained summed limit coming text p
+  session_is explained summed limit text p =
+      ap (λ (e : Effect Ending Session). told summed p.names (explained_if explained p.classes e)) (session_goes (setting_read text p) limit p.commands p.names find finds coming)
 
   program_is : (job : Job) (text : List ℕ) (p : Read) → answer_program_by conflict_set job coming text p ≡ answer_program_by find job coming text p
-  program_is (Run options files) text p = session_is false options.limit text p
+  program_is (Run options files) text p = session_is false false options.limit text p
+  program_is (Why options files) text p = session_is true false options.limit text p
   program_is (Net files) text p = refl
-  program_is (Gen options seed size) text p = session_is true options.limit text p
+  program_is (Gen options seed size) text p = session_is false true options.limit text p
 
   answer_is : (job : Job) (text : List ℕ) (r : Result Read Placed) → answer_read job coming text r ≡ answer_read_by find job coming text r
   answer_is job text (Err p) = refl

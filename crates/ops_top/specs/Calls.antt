@@ -9,7 +9,7 @@ use Rattle.ops_grammar.specs.Reads.{Read, Placed, reads}
 use Rattle.ops_meaning.specs.Running.{session_of}
 use Rattle.ops_jobs.specs.CommandLine.{job_of}
 use Rattle.ops_jobs.specs.declared.jobs.Job.{Job}
-use Rattle.ops_jobs.specs.declared.jobs.Job.TheVariants.{Run, Net, Gen}
+use Rattle.ops_jobs.specs.declared.jobs.Job.TheVariants.{Run, Net, Gen, Why}
 use Rattle.ops_top.specs.Whole.{Gathered, Joined, gathered_for, files_of, setting_read}
 
 -- It holds for the content that is known of a file, or for some content where none is known.
@@ -103,6 +103,7 @@ last_of names = slice_index_or names (length names - 1) []
 -- The program's session finishes, within its limit, over this input. A job that asks for its network always finishes.
 abbrev pub program_runs_through : Job → Coming → List ℕ → Read → Bool
 program_runs_through (Run options files) coming text p = is_ok (session_of (setting_read text p) options.limit p.commands p.names coming).outcome
+program_runs_through (Why options files) coming text p = is_ok (session_of (setting_read text p) options.limit p.commands p.names coming).outcome
 program_runs_through (Net files) coming text p = true
 program_runs_through (Gen options seed size) coming text p = is_ok (session_of (setting_read text p) options.limit p.commands p.names coming).outcome
 

@@ -5,7 +5,7 @@ use Rattle.ops_base.specs.declared.endings.Fault.TheVariants as fault
 use Rattle.ops_check.specs.declared.faults.ProgramFault.TheVariants as refusal
 use Rattle.ops_io.specs.declared.stop.Stop.{Stop}
 use Rattle.ops_jobs.specs.declared.jobs.Job.{Job}
-use Rattle.ops_jobs.specs.declared.jobs.Job.TheVariants.{Run, Net, Gen}
+use Rattle.ops_jobs.specs.declared.jobs.Job.TheVariants.{Run, Net, Gen, Why}
 use Rattle.ops_meaning.specs.declared.statuses.Status.{Status}
 use Rattle.ops_top.specs.Whole.{Reply, files_in, gathered_for, is_run, readable, refused_at, unread, whole_job}
 use Rattle.ops_top.specs.Quiet.{gathered_asks}
@@ -54,11 +54,13 @@ IsOfLastLoad why names = Unit {0}
 
 -- ---- a job that is run
 
--- so is the session of a job run: with its options, and summed up where it is a workload
+-- so is the session of a job run: with its options, explained where that is asked for, and summed up where it is a
+-- workload
 abbrev pub IsPlanOf : Job → Plan → Type 0
-IsPlanOf (Run options files) plan = (plan.options ≡ options) × (plan.is_summed ≡ false)
+IsPlanOf (Run options files) plan = (plan.options ≡ options) × (plan.is_explained ≡ false) × (plan.is_summed ≡ false)
+IsPlanOf (Why options files) plan = (plan.options ≡ options) × (plan.is_explained ≡ true) × (plan.is_summed ≡ false)
 IsPlanOf (Net files) plan = ⊥
-IsPlanOf (Gen options seed size) plan = (plan.options ≡ options) × (plan.is_summed ≡ true)
+IsPlanOf (Gen options seed size) plan = (plan.options ≡ options) × (plan.is_explained ≡ false) × (plan.is_summed ≡ true)
 
 -- The names that a shelf was asked for, and how many of its loads failed.
 pub record Shelved : Type 0 where

@@ -4,7 +4,7 @@ use Rattle.ops_jobs.specs.CommandLine.{job_of}
 use Rattle.ops_jobs.specs.declared.jobs.Engine.{Engine}
 use Rattle.ops_jobs.specs.declared.jobs.Engine.TheVariants.{Direct, Serial, Rounds, Free}
 use Rattle.ops_jobs.specs.declared.jobs.Job.{Job}
-use Rattle.ops_jobs.specs.declared.jobs.Job.TheVariants.{Run, Net, Gen}
+use Rattle.ops_jobs.specs.declared.jobs.Job.TheVariants.{Run, Net, Gen, Why}
 use Rattle.ops_base.specs.declared.rules.Rule.{Rule}
 use Rattle.ops_base.specs.ConflictSet.{conflict_set}
 use Rattle.ops_base.specs.Valid.{longest_list}
@@ -29,6 +29,7 @@ use Rattle.net_base.specs.Counting.{shape_of}
 use Rattle.ops_gen.specs.Workload.{workload}
 use Rattle.ops_top.specs.NetLines.{net_lines}
 use Rattle.ops_top.specs.Summary.{summary_line}
+use Rattle.why_lines.specs.Explained.{explained_if}
 
 -- the bytes that are written, and the status
 pub record Reply : Type 0 where
@@ -42,11 +43,13 @@ words_fit words = is_some (job_of words)
 
 abbrev pub files_in : Job → List (List ℕ)
 files_in (Run options files) = files
+files_in (Why options files) = files
 files_in (Net files) = files
 files_in (Gen options seed size) = []
 
 abbrev pub is_run : Job → Bool
 is_run (Run options files) = true
+is_run (Why options files) = true
 is_run (Net files) = false
 is_run (Gen options seed size) = true
 
@@ -63,6 +66,7 @@ is_free Free = true
 -- a session over the engine of free workers
 abbrev pub is_free_run : Job → Bool
 is_free_run (Run options files) = is_free options.engine
+is_free_run (Why options files) = is_free options.engine
 is_free_run (Net files) = false
 is_free_run (Gen options seed size) = is_free options.engine
 
@@ -124,16 +128,19 @@ setting_read text p = record { classes = p.classes; rules = p.rules; text = text
 abbrev pub net_told : List Rule → Reply
 net_told rules = record { bytes = net_lines (shape_of rules); status = status.Done }
 
--- what the session of a program tells, with at most this many firings
-abbrev pub session_told : Find → Bool → ℕ → Coming → List ℕ → Read → Reply
-session_told find summed limit coming text p =
-    told summed p.names (session_by find (setting_read text p) limit p.commands p.names coming)
+-- what the session of a program tells, with at most this many firings, and with explanations where they are asked for
+abbrev pub session_told : Find → (explained summed : Bool) → ℕ → Coming → List ℕ → Read → Reply
+session_told find explained summed limit coming text p =
+    told summed p.names (explained_if explained p.classes (session_by find (setting_read text p) limit p.commands p.names coming))
 
--- the answer to a program: its session, or its network; the session of a workload is summed up
+-- The answer to a program: its session, or its network. The session of a workload is summed up. Where explanations are
+-- asked for, a session that came to its end is followed by the lines of `why_lines`, over the productions in force and
+-- working memory at that end.
 abbrev pub answer_program_by : Find → Job → Coming → List ℕ → Read → Reply
-answer_program_by find (Run options files) coming text p = session_told find false options.limit coming text p
+answer_program_by find (Run options files) coming text p = session_told find false false options.limit coming text p
+answer_program_by find (Why options files) coming text p = session_told find true false options.limit coming text p
 answer_program_by find (Net files) coming text p = net_told p.rules
-answer_program_by find (Gen options seed size) coming text p = session_told find true options.limit coming text p
+answer_program_by find (Gen options seed size) coming text p = session_told find false true options.limit coming text p
 
 abbrev pub answer_read_by : Find → Job → Coming → List ℕ → Result Read Placed → Reply
 answer_read_by find job coming text (Err p) = refused text p

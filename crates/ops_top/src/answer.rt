@@ -7,6 +7,7 @@ ghost use Rattle.act_phase.specs.Outcomes.{setting_of};
 ghost use Rattle.cycle.specs.Settles.{Settles};
 ghost use Rattle.ops_top.specs.Whole.{status_of, told};
 ghost use Rattle.ops_top.specs.Answered.{IsAnswered, devices};
+ghost use Rattle.why_lines.specs.Explained.{explained_if};
 
 use crate::closing::put_closing;
 use crate::engines::Plan;
@@ -72,7 +73,8 @@ fn answer_live<
     requires held { IsTrue (is_held (length names.old.held) live.old.program.classes live.old.program.rules live.old.program.templates live.old.program.commands) }
     ensures { IsAnswered result
         (λ coming. told plan.is_summed names.old
-        (session_of (setting_of live.old.program 0) plan.options.limit live.old.program.commands names.old coming))
+        (explained_if plan.is_explained live.old.program.classes
+        (session_of (setting_of live.old.program 0) plan.options.limit live.old.program.commands names.old coming)))
         (session_asks live.old.program.rules live.old.program.commands) (source.new ≡ source.old)
         (devices (I.left source.old) (I.faults source.old) (K.taken sink.old) (K.faults sink.old))
         (devices (I.left source.new) (I.faults source.new) (K.taken sink.new) (K.faults sink.new)) }
@@ -80,8 +82,19 @@ fn answer_live<
     let mut input = Input::new(alloc)?;
     let mut out = Out::new(alloc)?;
     let limit = plan.options.limit;
+    let is_explained = plan.is_explained;
     let ending = run_session(
-        alloc, hand, live, names, maker, limit, &mut input, source, &mut out, sink,
+        alloc,
+        hand,
+        live,
+        names,
+        maker,
+        limit,
+        is_explained,
+        &mut input,
+        source,
+        &mut out,
+        sink,
     )?;
     put_closing(alloc, names, &ending, plan.is_summed, &mut out, sink)?;
     out.flush(sink)?;
@@ -113,7 +126,8 @@ pub(crate) fn answer_over<
     requires held { IsTrue (is_held (length names.old.held) program.classes program.rules program.templates program.commands) }
     ensures { IsAnswered result
         (λ coming. told plan.is_summed names.old
-        (session_of (setting_of program 0) plan.options.limit program.commands names.old coming))
+        (explained_if plan.is_explained program.classes
+        (session_of (setting_of program 0) plan.options.limit program.commands names.old coming)))
         (session_asks program.rules program.commands) (source.new ≡ source.old)
         (devices (I.left source.old) (I.faults source.old) (K.taken sink.old) (K.faults sink.old))
         (devices (I.left source.new) (I.faults source.new) (K.taken sink.new) (K.faults sink.new)) }

@@ -12,6 +12,7 @@ ghost use Rattle.net_base.specs.Network.{NetOf};
 ghost use Rattle.step_core.specs.Found.{found_over};
 ghost use Rattle.ops_top.specs.Whole.{is_free, told};
 ghost use Rattle.ops_top.specs.Answered.{IsAnswered, devices};
+ghost use Rattle.why_lines.specs.Explained.{explained_if};
 
 use crate::answer::answer_over;
 use crate::makers::{DirectMaker, FreeMaker, RoundsMaker, SerialMaker};
@@ -34,6 +35,8 @@ use work_store::{Matcher, Settled};
 #[derive(Clone, Copy)]
 pub(crate) struct Plan {
     pub(crate) options: Options,
+    /// Whether its productions are explained at its end.
+    pub(crate) is_explained: bool,
     /// Whether it is summed up at its end.
     pub(crate) is_summed: bool,
 }
@@ -54,7 +57,8 @@ fn answer_alone<M: Matcher<Hand = ()>, B: Maker<M = M>, I: Source, K: Sink>(
     requires held { IsTrue (is_held (length names.old.held) program.classes program.rules program.templates program.commands) }
     ensures { IsAnswered result
         (λ coming. told plan.is_summed names.old
-        (session_of (setting_of program 0) plan.options.limit program.commands names.old coming))
+        (explained_if plan.is_explained program.classes
+        (session_of (setting_of program 0) plan.options.limit program.commands names.old coming)))
         (session_asks program.rules program.commands) (source.new ≡ source.old)
         (devices (I.left source.old) (I.faults source.old) (K.taken sink.old) (K.faults sink.old))
         (devices (I.left source.new) (I.faults source.new) (K.taken sink.new) (K.faults sink.new)) }
@@ -87,7 +91,8 @@ fn answer_in_rounds<R: Threads + Sync, I: Source, K: Sink, G: Gate + Copy>(
     requires held { IsTrue (is_held (length names.old.held) program.classes program.rules program.templates program.commands) }
     ensures { IsAnswered result
         (λ coming. told plan.is_summed names.old
-        (session_of (setting_of program 0) plan.options.limit program.commands names.old coming))
+        (explained_if plan.is_explained program.classes
+        (session_of (setting_of program 0) plan.options.limit program.commands names.old coming)))
         (session_asks program.rules program.commands) (source.new ≡ source.old)
         (devices (I.left source.old) (I.faults source.old) (K.taken sink.old) (K.faults sink.old))
         (devices (I.left source.new) (I.faults source.new) (K.taken sink.new) (K.faults sink.new)) }
@@ -128,7 +133,8 @@ fn answer_freely<R: Threads + Wait + Sync, I: Source, K: Sink, G: Gate + Copy>(
     requires held { IsTrue (is_held (length names.old.held) program.classes program.rules program.templates program.commands) }
     ensures { IsAnswered result
         (λ coming. told plan.is_summed names.old
-        (session_of (setting_of program 0) plan.options.limit program.commands names.old coming))
+        (explained_if plan.is_explained program.classes
+        (session_of (setting_of program 0) plan.options.limit program.commands names.old coming)))
         (session_asks program.rules program.commands) (source.new ≡ source.old)
         (devices (I.left source.old) (I.faults source.old) (K.taken sink.old) (K.faults sink.old))
         (devices (I.left source.new) (I.faults source.new) (K.taken sink.new) (K.faults sink.new)) }
@@ -171,7 +177,8 @@ pub(crate) fn answer_still<R: Threads + Sync, I: Source, K: Sink, G: Gate + Copy
     requires held { IsTrue (is_held (length names.old.held) program.classes program.rules program.templates program.commands) }
     ensures { IsAnswered result
         (λ coming. told plan.is_summed names.old
-        (session_of (setting_of program 0) plan.options.limit program.commands names.old coming))
+        (explained_if plan.is_explained program.classes
+        (session_of (setting_of program 0) plan.options.limit program.commands names.old coming)))
         (session_asks program.rules program.commands) (source.new ≡ source.old)
         (devices (I.left source.old) (I.faults source.old) (K.taken sink.old) (K.faults sink.old))
         (devices (I.left source.new) (I.faults source.new) (K.taken sink.new) (K.faults sink.new)) }
@@ -206,7 +213,8 @@ pub(crate) fn answer_program<R: Threads + Wait + Sync, I: Source, K: Sink, G: Ga
     requires held { IsTrue (is_held (length names.old.held) program.classes program.rules program.templates program.commands) }
     ensures { IsAnswered result
         (λ coming. told plan.is_summed names.old
-        (session_of (setting_of program 0) plan.options.limit program.commands names.old coming))
+        (explained_if plan.is_explained program.classes
+        (session_of (setting_of program 0) plan.options.limit program.commands names.old coming)))
         (session_asks program.rules program.commands) (source.new ≡ source.old)
         (devices (I.left source.old) (I.faults source.old) (K.taken sink.old) (K.faults sink.old))
         (devices (I.left source.new) (I.faults source.new) (K.taken sink.new) (K.faults sink.new)) }

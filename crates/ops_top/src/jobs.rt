@@ -42,6 +42,7 @@ pub(crate) fn asks_to_wait(job: &Job) -> bool
 {
     match job {
         Job::Run { options, .. } => options.engine == Engine::Free,
+        Job::Why { options, .. } => options.engine == Engine::Free,
         Job::Net { .. } => false,
         Job::Gen { options, .. } => options.engine == Engine::Free,
     }
@@ -70,6 +71,7 @@ fn text_of_job<'n, H: Shelf>(
 {
     match job {
         Job::Run { files, .. } => load_files(alloc, files.as_slice(), shelf),
+        Job::Why { files, .. } => load_files(alloc, files.as_slice(), shelf),
         Job::Net { files } => load_files(alloc, files.as_slice(), shelf),
         Job::Gen { seed, size, .. } => match gen_text(alloc, *seed, *size) {
             Ok(text) => Ok(text),
@@ -140,11 +142,18 @@ fn plan_of(job: &Job) -> Option<Plan>
     match job {
         Job::Run { options, .. } => Some(Plan {
             options: *options,
+            is_explained: false,
+            is_summed: false,
+        }),
+        Job::Why { options, .. } => Some(Plan {
+            options: *options,
+            is_explained: true,
             is_summed: false,
         }),
         Job::Net { .. } => None,
         Job::Gen { options, .. } => Some(Plan {
             options: *options,
+            is_explained: false,
             is_summed: true,
         }),
     }

@@ -42,11 +42,11 @@ no_defaults (a ∷ rs) rows e =
 
 -- and the flags have one
 abbrev defaulted : List Row → List Row
-defaulted rows = with_default (with_default rows (built_flag (codes "gen"))) (built_flag (codes "net"))
+defaulted rows = with_default (with_default (with_default rows (built_flag (codes "gen"))) (built_flag (codes "net"))) (built_flag (codes "why"))
 
 finished_rows : (h : Held) → finished top.rules h ≡ defaulted (settled top.rules h).rows
 finished_rows h =
-    ap (λ rows. fold with_default rows (built_flag (codes "gen") ∷ built_flag (codes "net") ∷ built_files ∷ [])) (no_defaults options (settled top.rules h).rows refl)
+    ap (λ rows. fold with_default rows (built_flag (codes "gen") ∷ built_flag (codes "net") ∷ built_flag (codes "why") ∷ built_files ∷ [])) (no_defaults options (settled top.rules h).rows refl)
     ∙ no_defaults (built_files ∷ []) (defaulted (settled top.rules h).rows) refl
 
 -- ---- the rows after the default of one flag
@@ -87,22 +87,26 @@ pub record Ends (pieces : List Piece) (rows : List Row) : Type 0 where
   pub row : (id : Text) → is_flag id ≡ false → row_of id rows ≡ row_with id (said id pieces)
   pub flag : (name : Text) → is_flag name ≡ true → one_of name rows ≡ Some (unwrap_or (value_of name pieces) (codes "false"))
 
-neither : (s t : Bool) → (s || (t || false)) ≡ false → (s ≡ false) × (t ≡ false)
-neither true t e = absurd (true≢false e)
-neither false true e = absurd (true≢false e)
-neither false false e = (refl, refl)
+none_of : (s t u : Bool) → (s || (t || (u || false))) ≡ false → (s ≡ false) × (t ≡ false) × (u ≡ false)
+none_of true t u e = absurd (true≢false e)
+none_of false true u e = absurd (true≢false e)
+none_of false false true e = absurd (true≢false e)
+none_of false false false e = (refl, refl, refl)
 
 ends : (pieces : List Piece) (rows : List Row) → Shows pieces rows → Ends pieces (defaulted rows)
 ends pieces rows shows =
     let first = defaults (codes "gen") (values_of (codes "gen") pieces) rows (shows.row (codes "gen")) in
     let next = with_default rows (built_flag (codes "gen")) in
     let second = defaults (codes "net") (values_of (codes "net") pieces) next (first.other (codes "net") refl ∙ shows.row (codes "net")) in
+    let further = with_default next (built_flag (codes "net")) in
+    let third = defaults (codes "why") (values_of (codes "why") pieces) further (second.other (codes "why") refl ∙ (first.other (codes "why") refl ∙ shows.row (codes "why"))) in
     record {
       row = λ id none.
-          let apart = neither (bytes_eq (codes "gen") id) (bytes_eq (codes "net") id) none in
-          second.other id apart.1 ∙ (first.other id apart.0 ∙ shows.row id);
+          let apart = none_of (bytes_eq (codes "gen") id) (bytes_eq (codes "net") id) (bytes_eq (codes "why") id) none in
+          third.other id apart.2 ∙ (second.other id apart.1 ∙ (first.other id apart.0 ∙ shows.row id));
       flag = each_flag (λ name. one_of name (defaulted rows) ≡ Some (unwrap_or (value_of name pieces) (codes "false")))
-          (ap (option_and_then row_text) (second.other (codes "gen") refl) ∙ first.value) second.value;
+          (ap (option_and_then row_text) (third.other (codes "gen") refl ∙ second.other (codes "gen") refl) ∙ first.value)
+          (ap (option_and_then row_text) (third.other (codes "net") refl) ∙ second.value) third.value;
     }
 
 pub finished_ends : (pieces : List Piece) (h : Held) → Shows pieces (settled top.rules h).rows → Ends pieces (finished top.rules h)

@@ -1,5 +1,5 @@
 -- The job that what `clap` found asks for.
-use Rattle.std.proofs.Common.{◌≡◌, ◌∙◌, Bool, true, false, List, [], Option, Some, codes, refl, sym, ap, option_map}
+use Rattle.std.proofs.Common.{◌≡◌, ◌∙◌, Bool, true, false, List, [], Option, Some, None, codes, refl, sym, ap, option_map}
 use Rattle.std.specs.Prelude.{if◌then◌else◌, unwrap_or}
 use Rattle.clap.specs.Matches.{first_value, found_of, matched_of, one_text, raw_values}
 use Rattle.clap.specs.declared.parser.matches.ArgMatches.{ArgMatches}
@@ -33,9 +33,15 @@ flag-pieces words m name flag found known is = go (is_raised name found.pieces) 
     go false e = sym (is.1 e)
 
 -- they are the job that the words ask for
-pub job_found : (words : List Word) (m : ArgMatches) (options : Options) (gen net : Bool) (files : List Word) → Finds words m → options_found m ≡ Some options
-    → IsFlagFound m (codes "gen") gen → IsFlagFound m (codes "net") net → files ≡ files_found m → job_of words ≡ job_by gen net options files
-job_found words m options gen net files found from generated network are =
+pub job_found : (words : List Word) (m : ArgMatches) (options : Options) (gen net why : Bool) (files : List Word) → Finds words m → options_found m ≡ Some options
+    → IsFlagFound m (codes "gen") gen → IsFlagFound m (codes "net") net → IsFlagFound m (codes "why") why → files ≡ files_found m → job_of words ≡ job_by gen net why options files
+job_found words m options gen net why files found from generated network explained are =
     let same : options_of found.pieces ≡ Some options = sym (options-pieces words m found) ∙ from in
     let all : files_of found.pieces ≡ files = sym (are ∙ ap (λ o. unwrap_or o []) found.files) in
-    rw (found.are, found.complete, same, flag-pieces words m (codes "gen") gen found refl generated, flag-pieces words m (codes "net") net found refl network, all) refl
+    rw (found.are, found.complete, same, flag-pieces words m (codes "gen") gen found refl generated, flag-pieces words m (codes "net") net found refl network, flag-pieces words m (codes "why") why found refl explained, all) refl
+
+-- options that are not fit ask for nothing
+pub no_job_found : (words : List Word) (m : ArgMatches) → Finds words m → options_found m ≡ None → job_of words ≡ None
+no_job_found words m found none =
+    let same : options_of found.pieces ≡ None = sym (options-pieces words m found) ∙ none in
+    rw (found.are, found.complete, same) refl

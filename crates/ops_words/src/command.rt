@@ -48,6 +48,7 @@ fn command_line<'a>(alloc: Global) -> Result<Command<'a>, AllocError>
         .arg(option_named(alloc, "limit"))?
         .arg(flag_named(alloc, "gen"))?
         .arg(flag_named(alloc, "net"))?
+        .arg(flag_named(alloc, "why"))?
         .arg(files(alloc))
 }
 

@@ -28,17 +28,27 @@ fn workload_of(options: Options, names: &[String]) -> Option<Job>
 }
 
 /// The job of these flags, options and names.
-fn job_by(generated: bool, network: bool, options: Options, names: FileList) -> Option<Job>
-    ensures { result ≡ job_by generated network options names }
+fn job_by(
+    generated: bool,
+    network: bool,
+    explained: bool,
+    options: Options,
+    names: FileList,
+) -> Option<Job>
+    ensures { result ≡ job_by generated network explained options names }
 {
-    match (generated, network) {
-        (false, false) => Some(Job::Run {
+    match (generated, network, explained) {
+        (false, false, false) => Some(Job::Run {
             options,
             files: names,
         }),
-        (false, true) => Some(Job::Net { files: names }),
-        (true, false) => workload_of(options, names.as_slice()),
-        (true, true) => None,
+        (false, false, true) => Some(Job::Why {
+            options,
+            files: names,
+        }),
+        (false, true, false) => Some(Job::Net { files: names }),
+        (true, false, false) => workload_of(options, names.as_slice()),
+        _ => None,
     }
 }
 
@@ -56,6 +66,7 @@ pub fn read_words(alloc: Global, words: &[String]) -> Result<Job, WordsFault>
     match job_by(
         matches.get_flag("gen"),
         matches.get_flag("net"),
+        matches.get_flag("why"),
         options,
         names,
     ) {

@@ -108,6 +108,12 @@ const NETWORKS: [(&[&str], &[&str]); 3] = [
     (&["--net", "--", "--net"], &["--net"]),
 ];
 
+/// Words that ask for explanations, with the options that they set, and with their files.
+const EXPLANATIONS: [(&[&str], Options, &[&str]); 2] = [
+    (&["--why", "f"], USUAL, &["f"]),
+    (&["f", "--match=serial", "--why", "g"], SERIAL, &["f", "g"]),
+];
+
 /// Words that ask for a workload, with the options, the seed and the size that they set.
 const WORKLOADS: [(&[&str], Options, u64, u64); 4] = [
     (&["--gen", "7", "1"], USUAL, 7, 1),
@@ -135,7 +141,7 @@ const WORKLOADS: [(&[&str], Options, u64, u64); 4] = [
 ];
 
 /// Words that do not fit.
-const UNFIT: [&[&str]; 42] = [
+const UNFIT: [&[&str]; 46] = [
     &[],
     &["--"],
     &["--limit=3"],
@@ -178,6 +184,10 @@ const UNFIT: [&[&str]; 42] = [
     &["--net", "--net", "f"],
     &["--net", "--limit=0", "f"],
     &["--limit", "--net", "f"],
+    &["--why"],
+    &["--why", "--why", "f"],
+    &["--why", "--net", "f"],
+    &["--gen", "--why", "7", "1"],
 ];
 
 #[test]
@@ -201,6 +211,21 @@ fn networks(rt: HostRuntime) -> Result<(), Fail> {
         let Job::Net { files } = read(rt.alloc(), words)? else {
             panic!(rt; "no network");
         };
+        assert_eq!(rt; files.len(), names.len());
+        for (file, name) in files.as_slice().iter().zip(names) {
+            assert_eq!(rt; file.as_str(), *name);
+        }
+    }
+    Ok(())
+}
+
+#[test]
+fn explanations(rt: HostRuntime) -> Result<(), Fail> {
+    for (words, wanted, names) in EXPLANATIONS {
+        let Job::Why { options, files } = read(rt.alloc(), words)? else {
+            panic!(rt; "no explanation");
+        };
+        assert_eq!(rt; options, wanted);
         assert_eq!(rt; files.len(), names.len());
         for (file, name) in files.as_slice().iter().zip(names) {
             assert_eq!(rt; file.as_str(), *name);

@@ -22,3 +22,4 @@ pub mod SessionEnds
 pub mod Following
 pub mod Changing
 pub mod Asks
+pub mod Explained

@@ -298,6 +298,7 @@ fn do_each<
     ensures untouched { session_asks live.old.program.rules commands.items ≡ false → (input.new ≡ input.old) × (source.new ≡ source.old) }
     ensures names { KeepsNames names.old names.new }
     ensures under_way { IfOk result (IsUnderWay B.M.stored B.M.stands_for live.new.program.rules) }
+    ensures classes { OnOk result (live.new.program.classes ≡ live.old.program.classes) }
     ensures flushed { out.old.held ≡ [] → OnOk result (out.new.held ≡ []) }
 {
     let mut session = session;
@@ -345,6 +346,7 @@ pub(crate) fn do_commands<
     ensures names { KeepsNames names.old names.new }
     ensures none_waits { IfOk result (λ s. s.pending ≡ []) }
     ensures kept { IfOk result (λ s. WellKept (B.M.stored s.state.matcher).elements (B.M.stored s.state.matcher).last) }
+    ensures classes { OnOk result (live.new.program.classes ≡ live.old.program.classes) }
     ensures flushed { out.old.held ≡ [] → OnOk result (out.new.held ≡ []) }
 {
     let commands = live.take_commands().into_vec();

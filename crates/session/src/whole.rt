@@ -1,16 +1,18 @@
 //! A whole session, and what is known of it at its end.
-ghost use Rattle.std.specs.Prelude.{◌≡◌, ℕ, ◌^◌, ◌<◌, [], Ok, IsTrue, false};
-ghost use Rattle.ops_io.specs.Coming.{inlet};
+ghost use Rattle.std.specs.Prelude.{◌≡◌, ℕ, ◌^◌, ◌<◌, [], Ok, IfOk, OnOk, IsTrue, true, false};
+ghost use Rattle.ops_io.specs.Coming.{Coming, inlet};
 ghost use Rattle.ops_io.specs.Ports.{port};
+ghost use Rattle.ops_meaning.specs.Effects.{CountsReads, Performs, PerformsOn, of_ending};
 ghost use Rattle.ops_meaning.specs.Kept.{KeepsNames, GoesByConflictSets};
 ghost use Rattle.ops_meaning.specs.Running.{session_of};
 ghost use Rattle.act_phase.specs.Asking.{session_asks};
 ghost use Rattle.act_phase.specs.Held.{HoldsProgram};
 ghost use Rattle.act_phase.specs.Outcomes.{setting_of};
 ghost use Rattle.cycle.specs.Settles.{Settles};
-ghost use Rattle.session.specs.Courses.{ended};
+ghost use Rattle.session.specs.Courses.{ended, ends_unread, meant_by};
 ghost use Rattle.session.specs.Endings.{EndsOn, CountsReadFault};
 ghost use Rattle.session.specs.Holding.{EndsHeld};
+ghost use Rattle.why_lines.specs.Explained.{explained_if, explains};
 
 use crate::commands::do_commands;
 use crate::context::SessionContext;
@@ -20,10 +22,12 @@ use live_rules::Live;
 use ops_base::elements::Change;
 use ops_base::endings::Ending;
 use ops_base::memory::OutOfMemory;
+use ops_base::programs::Program;
 use ops_base::symbols::Names;
 use ops_io::{Input, Out, Sink, Source, Stop};
 use std::alloc::Global;
 use std::mem;
+use why_lines::put_why;
 use work_store::{Matcher, Settled};
 
 /// What is known of a session once its commands are done. It is not given back piece by piece: the program is about to
@@ -47,7 +51,76 @@ fn known_ending<M: Matcher>(done: Result<Session<M>, Ending>) -> Result<Ending, 
     }
 }
 
-/// Does the commands of a program in order, from nothing. At first the productions are those before the first `make` or
+/// Puts the lines that explain the productions in force, and writes out all that was put.
+fn put_explanations<M: Matcher, K: Sink>(
+    alloc: Global,
+    program: &Program,
+    names: &Names,
+    session: Session<M>,
+    out: &mut Out,
+    sink: &mut K,
+) -> Result<Session<M>, Ending>
+    requires none_waits { session.pending ≡ [] }
+    requires whole { IsTrue out.old.whole }
+    requires faults { K.faults sink.old < 2 ^ 63 }
+    ensures performs { (c : Coming) → Performs (λ s. meant_by M.stored program.now.rules s names.now c) of_ending result
+        (port (K.taken sink.old) (K.faults sink.old) out.old)
+        (port (K.taken sink.new) (K.faults sink.new) out.new)
+        (explains program.now.classes out.old.column (meant_by M.stored program.now.rules session names.now c)) }
+    ensures reads { ends_unread result ≡ false }
+    ensures none_waits { IfOk result (λ s. s.pending ≡ []) }
+    ensures flushed { OnOk result (out.new.held ≡ []) }
+{
+    let wm = session.state.store().present(alloc)?;
+    put_why(alloc, names, program, &wm, out, sink)?;
+    drop(wm);
+    out.flush(sink)?;
+    Ok(session)
+}
+
+/// Does the commands of a program from nothing, and then explains the productions in force where that is asked for.
+fn do_all<
+    B: Maker,
+    H: Fn(B::M, &[Change]) -> Result<Settled<B::M>, OutOfMemory>,
+    I: Source,
+    K: Sink,
+>(
+    context: &SessionContext<'_, B, H>,
+    is_explained: bool,
+    live: &mut Live,
+    names: &mut Names,
+    input: &mut Input,
+    source: &mut I,
+    out: &mut Out,
+    sink: &mut K,
+) -> Result<Session<B::M>, Ending>
+    requires settles { Settles B.M.stored B.M.found B.M.stands_for (λ m cs. H.pre context.now.settle.now m cs) (λ m cs r. H.post context.now.settle.now m cs r) }
+    requires whole { IsTrue out.old.whole }
+    requires faults { K.faults sink.old < 2 ^ 63 }
+    requires reads { I.faults source.old < 2 ^ 63 }
+    requires column { out.old.column ≡ 0 }
+    ensures performs { PerformsOn (λ s c. meant_by B.M.stored live.new.program.rules s names.new c) of_ending result
+        (inlet input.old (I.left source.old) (I.faults source.old))
+        (inlet input.new (I.left source.new) (I.faults source.new))
+        (port (K.taken sink.old) (K.faults sink.old) out.old)
+        (port (K.taken sink.new) (K.faults sink.new) out.new)
+        (λ c. explained_if is_explained live.old.program.classes (session_of (setting_of live.old.program 0) context.now.limit live.old.program.commands names.old c)) }
+    ensures reads { CountsReads (ends_unread result) (I.faults source.old) (I.faults source.new) }
+    ensures written { ends_unread result ≡ true → out.new.held ≡ [] }
+    ensures untouched { session_asks live.old.program.rules live.old.program.commands ≡ false → (input.new ≡ input.old) × (source.new ≡ source.old) }
+    ensures names { KeepsNames names.old names.new }
+    ensures none_waits { IfOk result (λ s. s.pending ≡ []) }
+    ensures flushed { out.old.held ≡ [] → OnOk result (out.new.held ≡ []) }
+{
+    let session = do_commands(context, live, names, input, source, out, sink)?;
+    if !is_explained {
+        return Ok(session);
+    }
+    put_explanations(context.alloc, &live.program, names, session, out, sink)
+}
+
+/// Does the commands of a program in order, from nothing, and at their end puts the lines that explain the productions in
+/// force where they are asked for. At first the productions are those before the first `make` or
 /// `run`. The commands are taken from `live`, and its productions come and go with them. Each symbol keeps its spelling,
 /// and wherever the session looks for instantiations it looks at the conflict set of the productions in force. Where a
 /// read fails, all that was put before is written out.
@@ -63,6 +136,7 @@ pub fn run_session<
     names: &mut Names,
     maker: &B,
     limit: u64,
+    is_explained: bool,
     input: &mut Input,
     source: &mut I,
     out: &mut Out,
@@ -79,7 +153,7 @@ pub fn run_session<
         (port (K.taken sink.old) (K.faults sink.old) out.old)
         (port (K.taken sink.new) (K.faults sink.new) out.new)
         names.new
-        (λ c. session_of (setting_of live.old.program 0) limit live.old.program.commands names.old c) }
+        (λ c. explained_if is_explained live.old.program.classes (session_of (setting_of live.old.program 0) limit live.old.program.commands names.old c)) }
     ensures reads { CountsReadFault result (I.faults source.old) (I.faults source.new) }
     ensures written { result ≡ Ok Ending.ReadFault → out.new.held ≡ [] }
 
@@ -100,6 +174,15 @@ pub fn run_session<
         settle: hand,
         limit,
     };
-    let done = do_commands(&context, live, names, input, source, out, sink);
+    let done = do_all(
+        &context,
+        is_explained,
+        live,
+        names,
+        input,
+        source,
+        out,
+        sink,
+    );
     known_ending(done)
 }

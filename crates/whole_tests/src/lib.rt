@@ -22,4 +22,6 @@ mod still;
 #[cfg(test)]
 mod texts;
 #[cfg(test)]
+mod why_rows;
+#[cfg(test)]
 mod words;

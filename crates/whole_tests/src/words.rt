@@ -7,10 +7,10 @@ use ops_top::{code, still_run};
 use std::test::Fail;
 
 const USAGE: &[u8] =
-    b"usage: ops [--match direct|serial|rounds|free] [--workers N] [--lines L] [--limit N] FILE.. | ops --gen SEED SIZE | ops --net FILE..\n";
+    b"usage: ops [--match direct|serial|rounds|free] [--workers N] [--lines L] [--limit N] FILE.. | ops --gen SEED SIZE | ops --net FILE.. | ops --why FILE..\n";
 
 /// Words that don't fit.
-const UNFIT: [&[&str]; 13] = [
+const UNFIT: [&[&str]; 16] = [
     &[],
     &["-x", "f"],
     &["--net=1", "f"],
@@ -22,6 +22,9 @@ const UNFIT: [&[&str]; 13] = [
     &["--match=steal", "f"],
     &["--gen", "7", "0"],
     &["--gen", "--net", "7", "1"],
+    &["--why", "--why", "f"],
+    &["--why", "--net", "f"],
+    &["--gen", "--why", "7", "1"],
     &["--match=serial", "--lines=0", "f"],
     &["--match=serial", "--lines=65537", "f"],
 ];

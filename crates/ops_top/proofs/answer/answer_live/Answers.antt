@@ -37,7 +37,7 @@ pub returns-in_err-put_closing : goal.returns-in_err-put_closing
 returns-in_err-put_closing g c =
     let p = err_from_is_err_and c.from_residual-in_err-put_closing.result c.from_residual-in_err-put_closing.ensures.1 in
     let told = tells_cut c.args.plan.is_summed c.args.names.now c.run_session.new.names c.in_ok-ending.ensures.names
-    (names_tell c.args.live.now.program c.args.plan.options.limit c.args.names.now
+    (names_tell c.args.plan.is_explained c.args.live.now.program c.args.plan.options.limit c.args.names.now
     (c.in_ok-ending.ensures.held (record { nil = c.requires.some; symbols = c.requires.held })).1) _
     (ap (λ (o : OutState). o.column) c.in_ok-out.ensures) c.in_ok-ending.ending c.in_ok-ending.ensures.ends c.in_err-put_closing.field-0.0 c.in_err-put_closing.ensures in
     rw (p.1, p.2)
@@ -47,7 +47,7 @@ returns-in_err-put_closing g c =
 pub flush-requires-clause-whole : goal.flush-requires-clause-whole
 flush-requires-clause-whole g c =
     let told = tells_all c.args.plan.is_summed c.args.names.now c.run_session.new.names c.in_ok-ending.ensures.names
-    (names_tell c.args.live.now.program c.args.plan.options.limit c.args.names.now
+    (names_tell c.args.plan.is_explained c.args.live.now.program c.args.plan.options.limit c.args.names.now
     (c.in_ok-ending.ensures.held (record { nil = c.requires.some; symbols = c.requires.held })).1) _
     (ap (λ (o : OutState). o.column) c.in_ok-out.ensures) c.in_ok-ending.ending c.in_ok-ending.ensures.ends c.in_ok-put_closing.ensures in
     (put_told c.in_ok-ending.ending told).1.whole
@@ -55,7 +55,7 @@ flush-requires-clause-whole g c =
 pub flush-requires-clause-faults : goal.flush-requires-clause-faults
 flush-requires-clause-faults g c =
     let told = tells_all c.args.plan.is_summed c.args.names.now c.run_session.new.names c.in_ok-ending.ensures.names
-    (names_tell c.args.live.now.program c.args.plan.options.limit c.args.names.now
+    (names_tell c.args.plan.is_explained c.args.live.now.program c.args.plan.options.limit c.args.names.now
     (c.in_ok-ending.ensures.held (record { nil = c.requires.some; symbols = c.requires.held })).1) _
     (ap (λ (o : OutState). o.column) c.in_ok-out.ensures) c.in_ok-ending.ending c.in_ok-ending.ensures.ends c.in_ok-put_closing.ensures in
     rw (put_told c.in_ok-ending.ending told).1.faults c.requires.faults
@@ -64,7 +64,7 @@ pub returns-in_err-flush : goal.returns-in_err-flush
 returns-in_err-flush g c =
     let p = err_from_is_err_and c.from_residual-in_err-flush.result c.from_residual-in_err-flush.ensures.1 in
     let told = tells_all c.args.plan.is_summed c.args.names.now c.run_session.new.names c.in_ok-ending.ensures.names
-    (names_tell c.args.live.now.program c.args.plan.options.limit c.args.names.now
+    (names_tell c.args.plan.is_explained c.args.live.now.program c.args.plan.options.limit c.args.names.now
     (c.in_ok-ending.ensures.held (record { nil = c.requires.some; symbols = c.requires.held })).1) _
     (ap (λ (o : OutState). o.column) c.in_ok-out.ensures) c.in_ok-ending.ending c.in_ok-ending.ensures.ends c.in_ok-put_closing.ensures in
     rw (p.1, p.2)
@@ -73,7 +73,7 @@ returns-in_err-flush g c =
 pub returns : goal.returns
 returns g c =
     let told = tells_all c.args.plan.is_summed c.args.names.now c.run_session.new.names c.in_ok-ending.ensures.names
-    (names_tell c.args.live.now.program c.args.plan.options.limit c.args.names.now
+    (names_tell c.args.plan.is_explained c.args.live.now.program c.args.plan.options.limit c.args.names.now
     (c.in_ok-ending.ensures.held (record { nil = c.requires.some; symbols = c.requires.held })).1) _
     (ap (λ (o : OutState). o.column) c.in_ok-out.ensures) c.in_ok-ending.ending c.in_ok-ending.ensures.ends c.in_ok-put_closing.ensures in
     answered _ _ (λ none. (c.in_ok-ending.ensures.untouched none).1) c.in_ok-input.ensures (ap (λ (o : OutState). o.held) c.in_ok-out.ensures) c.in_ok-ending.ending told c.in_ok-ending.ensures.reads c.status_of.result c.status_of.ensures c.in_ok-flush.ensures.flushes

@@ -11,7 +11,7 @@ returns-in-Some-clause-runs g c =
     let text = c.in-Ok.program.text in
     let read : Read = record { classes = c.in-Ok.program.classes; rules = c.in-Ok.program.rules; commands = c.in-Ok.program.commands; names = c.in-Ok.names } in
     let plan = c.in-Some.plan in
-    program_run c.args.job.now c.answer_program.result _ _ _ _ _ _ text read (λ z. session_told conflict_set plan.is_summed plan.options.limit z text read) c.in-Ok.ensures.text c.in-Ok.ensures.read
+    program_run c.args.job.now c.answer_program.result _ _ _ _ _ _ text read (λ z. session_told conflict_set plan.is_explained plan.is_summed plan.options.limit z text read) c.in-Ok.ensures.text c.in-Ok.ensures.read
     (λ z. plan_replies c.args.job.now plan c.in-Some.ensures.plan z text read) (plan_runs c.args.job.now plan _ c.in-Some.ensures.plan) c.in-Ok.ensures.cause c.in-Ok.ensures.names c.answer_program.ensures
 
 pub returns-in-None-clause-runs : goal.returns-in-None-clause-runs

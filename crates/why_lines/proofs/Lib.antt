@@ -1,0 +1,4 @@
+pub mod Texts
+pub mod OneText
+pub mod Explained
+pub mod Sums

@@ -1,0 +1,2 @@
+pub mod WhyLines
+pub mod Explained

@@ -1,0 +1,9 @@
+//! The lines that explain the productions in force: what each fires on, or where its match ends.
+#![tactic(auto)]
+
+mod lines;
+mod pieces;
+mod putting;
+mod spots;
+
+pub use putting::put_why;
