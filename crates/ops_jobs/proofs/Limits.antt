@@ -10,7 +10,7 @@ use Rattle.std.proofs.lemmas.Bool.{and_parts, leb-true, true≢false}
 use Rattle.std.proofs.lemmas.Slice.Eq.{bytes_eq-Decides}
 use Rattle.ops_jobs.specs.declared.jobs.TheConstants.{DEFAULT_WORKERS, DEFAULT_LINES, DEFAULT_LIMIT, GREATEST_WORKERS, GREATEST_LINES, GREATEST_LIMIT, GREATEST_SEED, GREATEST_SIZE}
 use Rattle.ops_jobs.specs.declared.jobs.Engine.{Engine}
-use Rattle.ops_jobs.specs.declared.jobs.Engine.TheVariants.{Direct, Serial, Rounds, Free}
+use Rattle.ops_jobs.specs.declared.jobs.Engine.TheVariants.{Direct, Serial, Rounds, Free, Steal}
 use Rattle.ops_jobs.specs.declared.jobs.Options.{Options}
 use Rattle.ops_jobs.specs.declared.jobs.Job.{Job}
 use Rattle.ops_jobs.specs.declared.jobs.Job.TheVariants.{Run, Net, Gen, Why}
@@ -197,26 +197,29 @@ number_not_dashed usual greatest word n e = digits_not_dashed word (number_parts
 
 engine_not_dashed : (word : Word) (engine : Engine) → engine_from (Some word) ≡ Some engine → slice_index word 0 ≢ 45
 engine_not_dashed word engine e =
-    go (bytes_eq word (codes "direct")) (bytes_eq word (codes "serial")) (bytes_eq word (codes "rounds")) (bytes_eq word (codes "free")) refl refl refl refl e
+    go (bytes_eq word (codes "direct")) (bytes_eq word (codes "serial")) (bytes_eq word (codes "rounds")) (bytes_eq word (codes "free")) (bytes_eq word (codes "steal")) refl refl refl refl refl e
   where
     begins_with : (name : Word) (first : ℕ) → bytes_eq word name ≡ true → slice_index name 0 ≡ first → slice_index word 0 ≡ first
     begins_with name first is begins = ap (λ (w : Word). slice_index w 0) ((bytes_eq-Decides word name).0 is) ∙ begins
 
-    go : (s t u v : Bool) → bytes_eq word (codes "direct") ≡ s → bytes_eq word (codes "serial") ≡ t → bytes_eq word (codes "rounds") ≡ u → bytes_eq word (codes "free") ≡ v
-        → cond s (Some Direct) (cond t (Some Serial) (cond u (Some Rounds) (cond v (Some Free) None))) ≡ Some engine → slice_index word 0 ≢ 45
-    go true t u v is other third fourth same dashed =
+    go : (s t u v w : Bool) → bytes_eq word (codes "direct") ≡ s → bytes_eq word (codes "serial") ≡ t → bytes_eq word (codes "rounds") ≡ u → bytes_eq word (codes "free") ≡ v → bytes_eq word (codes "steal") ≡ w
+        → cond s (Some Direct) (cond t (Some Serial) (cond u (Some Rounds) (cond v (Some Free) (cond w (Some Steal) None)))) ≡ Some engine → slice_index word 0 ≢ 45
+    go true t u v w is other third fourth fifth same dashed =
         let bad : 100 ≡ 45 = sym (begins_with (codes "direct") 100 is refl) ∙ dashed in
         omega (arith, bad)
-    go false true u v other is third fourth same dashed =
+    go false true u v w other is third fourth fifth same dashed =
         let bad : 115 ≡ 45 = sym (begins_with (codes "serial") 115 is refl) ∙ dashed in
         omega (arith, bad)
-    go false false true v other another is fourth same dashed =
+    go false false true v w other another is fourth fifth same dashed =
         let bad : 114 ≡ 45 = sym (begins_with (codes "rounds") 114 is refl) ∙ dashed in
         omega (arith, bad)
-    go false false false true d s r is same dashed =
+    go false false false true w d s r is fifth same dashed =
         let bad : 102 ≡ 45 = sym (begins_with (codes "free") 102 is refl) ∙ dashed in
         omega (arith, bad)
-    go false false false false d s r f none dashed = absurd (true≢false (sym (ap is_some none)))
+    go false false false false true d s r f is same dashed =
+        let bad : 115 ≡ 45 = sym (begins_with (codes "steal") 115 is refl) ∙ dashed in
+        omega (arith, bad)
+    go false false false false false d s r f w none dashed = absurd (true≢false (sym (ap is_some none)))
 
 value_not_dashed : (pieces : List Piece) (o : Options) → options_of pieces ≡ Some o → (option : Word) → is_option option ≡ true → (value : Word) → value_of option pieces ≡ Some value
     → slice_index value 0 ≢ 45

@@ -1,7 +1,7 @@
 -- Rows of words with what they ask for, which the definition computes.
 use Rattle.std.proofs.Common.{◌≡◌, [], ◌∷◌, Some, None, codes, refl}
 use Rattle.ops_jobs.specs.CommandLine.{Word, job_of, pieces_from}
-use Rattle.ops_jobs.specs.declared.jobs.Engine.TheVariants.{Direct, Serial, Rounds, Free}
+use Rattle.ops_jobs.specs.declared.jobs.Engine.TheVariants.{Direct, Serial, Rounds, Free, Steal}
 use Rattle.ops_jobs.specs.declared.jobs.Options.{Options}
 use Rattle.ops_jobs.specs.declared.jobs.Job.TheVariants.{Gen, Net, Run, Why}
 
@@ -76,13 +76,17 @@ no_file_behind_a_close : job_of (codes "--" ∷ []) ≡ None
 unfolding pieces_from
 no_file_behind_a_close = refl
 
-another_engine : job_of (codes "--match=steal" ∷ codes "f" ∷ []) ≡ None
+another_engine : job_of (codes "--match=queue" ∷ codes "f" ∷ []) ≡ None
 unfolding pieces_from
 another_engine = refl
 
 rounds : job_of (codes "--match=rounds" ∷ codes "f" ∷ []) ≡ Some (Run (record usual { engine = Rounds }) (codes "f" ∷ []))
 unfolding pieces_from
 rounds = refl
+
+deques : job_of (codes "--match=steal" ∷ codes "f" ∷ []) ≡ Some (Run (record usual { engine = Steal }) (codes "f" ∷ []))
+unfolding pieces_from
+deques = refl
 
 an_engine_in_capitals : job_of (codes "--match=Serial" ∷ codes "f" ∷ []) ≡ None
 unfolding pieces_from

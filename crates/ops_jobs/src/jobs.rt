@@ -37,6 +37,8 @@ pub enum Engine {
     Rounds,
     /// That network's tasks wait in a pool, from which each worker takes one after another.
     Free,
+    /// That network's tasks stand in a deque for each worker, who also takes from that of the next one.
+    Steal,
 }
 
 /// What the options of the command line say.

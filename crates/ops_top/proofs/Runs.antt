@@ -20,7 +20,7 @@ use Rattle.ops_meaning.specs.declared.statuses.Status.TheVariants as status
 use Rattle.ops_words.specs.declared.faults.WordsFault.{WordsFault}
 use Rattle.ops_words.specs.declared.faults.WordsFault.TheVariants as words
 use Rattle.act_phase.specs.Asking.{session_asks}
-use Rattle.ops_top.specs.Whole.{Reply, Gathered, Joined, answer_gathered, answer_program_by, answer_read, files_in, gathered_for, is_free_run, is_run, net_told, readable, refused_at, session_told, unread, usage, whole_job}
+use Rattle.ops_top.specs.Whole.{Reply, Gathered, Joined, answer_gathered, answer_program_by, answer_read, files_in, gathered_for, is_waiting_run, is_run, net_told, readable, refused_at, session_told, unread, usage, whole_job}
 use Rattle.ops_top.specs.Quiet.{gathered_asks, text_asks}
 use Rattle.ops_top.specs.Calls.{OfContents, OfInput, AskedFor, TellsFailedInput, TellsFailedRead, broken_load, has_text, last_of}
 use Rattle.ops_top.specs.Loads.{ComesTo}
@@ -248,12 +248,12 @@ unfit_run asked r told Untouched old left k n reads b a f unfit d same =
 
 -- ---- words that ask to wait
 
-pub job_waits : (asked : Option Job) (job : Job) (Q : Type 0) → asked ≡ Some job → is_free_run job ≡ false → unwrap_or (option_map is_free_run asked) false ≡ true → Q
+pub job_waits : (asked : Option Job) (job : Job) (Q : Type 0) → asked ≡ Some job → is_waiting_run job ≡ false → unwrap_or (option_map is_waiting_run asked) false ≡ true → Q
 job_waits asked job Q is still waits =
-    let W : Option Job → Type 0 = λ asked. unwrap_or (option_map is_free_run asked) false ≡ true in absurd (false≢true (sym still ∙ subst W is waits))
+    let W : Option Job → Type 0 = λ asked. unwrap_or (option_map is_waiting_run asked) false ≡ true in absurd (false≢true (sym still ∙ subst W is waits))
 
 pub unfit_waits : (asked : Option Job) (r : Result Status Stop) (f : WordsFault) → (f ≡ words.Usage → asked ≡ None) → (f ≡ words.OutOfMemory → r ≡ Err stop.OutOfMemory)
-    → unwrap_or (option_map is_free_run asked) false ≡ true → status_after r ≡ status.OutOfMemory
+    → unwrap_or (option_map is_waiting_run asked) false ≡ true → status_after r ≡ status.OutOfMemory
 unfit_waits asked r words.Usage unfit short waits =
-    let W : Option Job → Type 0 = λ asked. unwrap_or (option_map is_free_run asked) false ≡ true in absurd (false≢true (subst W (unfit refl) waits))
+    let W : Option Job → Type 0 = λ asked. unwrap_or (option_map is_waiting_run asked) false ≡ true in absurd (false≢true (subst W (unfit refl) waits))
 unfit_waits asked r words.OutOfMemory unfit short waits = ap status_after (short refl)

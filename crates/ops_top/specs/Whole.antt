@@ -2,7 +2,7 @@
 use Rattle.std.specs.Prelude.{◌≡◌, ℕ, ◌-◌, List, [], ◌∷◌, ◌++◌, length, slice_set, Bool, true, false, ◌==◌, nat_le, if◌then◌else◌, Option, Some, None, is_some, option_map, unwrap_or, Result, Ok, Err}
 use Rattle.ops_jobs.specs.CommandLine.{job_of}
 use Rattle.ops_jobs.specs.declared.jobs.Engine.{Engine}
-use Rattle.ops_jobs.specs.declared.jobs.Engine.TheVariants.{Direct, Serial, Rounds, Free}
+use Rattle.ops_jobs.specs.declared.jobs.Engine.TheVariants.{Direct, Serial, Rounds, Free, Steal}
 use Rattle.ops_jobs.specs.declared.jobs.Job.{Job}
 use Rattle.ops_jobs.specs.declared.jobs.Job.TheVariants.{Run, Net, Gen, Why}
 use Rattle.ops_base.specs.declared.rules.Rule.{Rule}
@@ -57,22 +57,23 @@ is_run (Gen options seed size) = true
 abbrev pub ask_for_run : List (List ℕ) → Bool
 ask_for_run words = unwrap_or (option_map is_run (job_of words)) false
 
-abbrev pub is_free : Engine → Bool
-is_free Direct = false
-is_free Serial = false
-is_free Rounds = false
-is_free Free = true
+abbrev pub may_wait : Engine → Bool
+may_wait Direct = false
+may_wait Serial = false
+may_wait Rounds = false
+may_wait Free = true
+may_wait Steal = true
 
--- a session over the engine of free workers
-abbrev pub is_free_run : Job → Bool
-is_free_run (Run options files) = is_free options.engine
-is_free_run (Why options files) = is_free options.engine
-is_free_run (Net files) = false
-is_free_run (Gen options seed size) = is_free options.engine
+-- a session over the engine of free workers, or over the stealing one
+abbrev pub is_waiting_run : Job → Bool
+is_waiting_run (Run options files) = may_wait options.engine
+is_waiting_run (Why options files) = may_wait options.engine
+is_waiting_run (Net files) = false
+is_waiting_run (Gen options seed size) = may_wait options.engine
 
 -- the words fit, and ask for such a session, whose workers wait for each other
 abbrev pub ask_to_wait : List (List ℕ) → Bool
-ask_to_wait words = unwrap_or (option_map is_free_run (job_of words)) false
+ask_to_wait words = unwrap_or (option_map is_waiting_run (job_of words)) false
 
 -- the files that are asked for, in their order, where the words fit
 abbrev pub files_of : List (List ℕ) → List (List ℕ)

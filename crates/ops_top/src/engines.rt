@@ -10,12 +10,12 @@ ghost use Rattle.act_phase.specs.Outcomes.{setting_of};
 ghost use Rattle.work_store.specs.Settling.{IsSettled};
 ghost use Rattle.net_base.specs.Network.{NetOf};
 ghost use Rattle.step_core.specs.Found.{found_over};
-ghost use Rattle.ops_top.specs.Whole.{is_free, told};
+ghost use Rattle.ops_top.specs.Whole.{may_wait, told};
 ghost use Rattle.ops_top.specs.Answered.{IsAnswered, devices};
 ghost use Rattle.why_lines.specs.Explained.{explained_if};
 
 use crate::answer::answer_over;
-use crate::makers::{DirectMaker, FreeMaker, RoundsMaker, SerialMaker};
+use crate::makers::{DirectMaker, FreeMaker, RoundsMaker, SerialMaker, StealMaker};
 use cycle::Maker;
 use free_engine::FreeEngine;
 use ops_base::elements::Change;
@@ -29,6 +29,7 @@ use rounds_engine::RoundsEngine;
 use std::alloc::Global;
 use std::sync::Wait;
 use std::thread::Threads;
+use steal_engine::StealEngine;
 use work_store::{Matcher, Settled};
 
 /// How a session is run.
@@ -157,6 +158,48 @@ fn answer_freely<R: Threads + Wait + Sync, I: Source, K: Sink, G: Gate + Copy>(
     answer_over(alloc, &hand, program, names, &maker, plan, source, sink)
 }
 
+/// The answer to a program whose session runs over the stealing engine, whose workers wait for each other.
+fn answer_by_stealing<R: Threads + Wait + Sync, I: Source, K: Sink, G: Gate + Copy>(
+    rt: &R,
+    alloc: Global,
+    program: Program,
+    names: &mut Names,
+    plan: Plan,
+    source: &mut I,
+    sink: &mut K,
+    gate: G,
+) -> Result<Status, Stop>
+    requires limits { IsWithinLimits plan.options }
+    requires faults { K.faults sink.old < 2 ^ 63 }
+    requires reads { I.faults source.old < 2 ^ 63 }
+    requires some { 0 < length names.old.held }
+    requires held { IsTrue (is_held (length names.old.held) program.classes program.rules program.templates program.commands) }
+    ensures { IsAnswered result
+        (λ coming. told plan.is_summed names.old
+        (explained_if plan.is_explained program.classes
+        (session_of (setting_of program 0) plan.options.limit program.commands names.old coming)))
+        (session_asks program.rules program.commands) (source.new ≡ source.old)
+        (devices (I.left source.old) (I.faults source.old) (K.taken sink.old) (K.faults sink.old))
+        (devices (I.left source.new) (I.faults source.new) (K.taken sink.new) (K.faults sink.new)) }
+{
+    let maker = StealMaker {
+        lines: plan.options.lines,
+        workers: plan.options.workers,
+        gate,
+    };
+    let hand = |steal: StealEngine<G>, changes: &[Change]| -> Result<
+        Settled<StealEngine<G>>,
+        OutOfMemory,
+    >
+        requires { Lawful steal.store.elements steal.store.last changes.now }
+        ensures elements { IfOk result (λ s. s.matcher.store.elements ≡ done steal.store.elements changes.now) }
+        ensures last { IfOk result (λ s. s.matcher.store.last ≡ last_after steal.store.last changes.now) }
+        ensures settled { IfOk result (λ s. IsSettled (found_over steal.net.alphas steal.net.nodes steal.store.elements) (found_over s.matcher.net.alphas s.matcher.net.nodes s.matcher.store.elements) s.gone.items s.come.items) }
+        ensures stands { IfOk result (λ s. (rules : List Rule) → NetOf steal.net rules → NetOf s.matcher.net rules) }
+    { steal.settle_shared(rt, alloc, changes) };
+    answer_over(alloc, &hand, program, names, &maker, plan, source, sink)
+}
+
 /// The answer to a program whose session runs over the engine that the plan asks for, which waits for no turn of another
 /// thread.
 pub(crate) fn answer_still<R: Threads + Sync, I: Source, K: Sink, G: Gate + Copy>(
@@ -169,7 +212,7 @@ pub(crate) fn answer_still<R: Threads + Sync, I: Source, K: Sink, G: Gate + Copy
     sink: &mut K,
     gate: G,
 ) -> Result<Status, Stop>
-    requires still { is_free plan.options.engine ≡ false }
+    requires still { may_wait plan.options.engine ≡ false }
     requires limits { IsWithinLimits plan.options }
     requires faults { K.faults sink.old < 2 ^ 63 }
     requires reads { I.faults source.old < 2 ^ 63 }
@@ -191,7 +234,7 @@ pub(crate) fn answer_still<R: Threads + Sync, I: Source, K: Sink, G: Gate + Copy
             answer_alone(alloc, program, names, &maker, plan, source, sink)
         }
         Engine::Rounds => { answer_in_rounds(rt, alloc, program, names, plan, source, sink, gate) }
-        Engine::Free => unreachable!(),
+        Engine::Free | Engine::Steal => unreachable!(),
     }
 }
 
@@ -221,6 +264,7 @@ pub(crate) fn answer_program<R: Threads + Wait + Sync, I: Source, K: Sink, G: Ga
 {
     match plan.options.engine {
         Engine::Free => answer_freely(rt, alloc, program, names, plan, source, sink, gate),
+        Engine::Steal => { answer_by_stealing(rt, alloc, program, names, plan, source, sink, gate) }
         Engine::Direct | Engine::Serial | Engine::Rounds => {
             answer_still(rt, alloc, program, names, plan, source, sink, gate)
         }

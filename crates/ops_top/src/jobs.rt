@@ -4,7 +4,7 @@ ghost use Rattle.ops_base.specs.Symbols.{is_held};
 ghost use Rattle.ops_grammar.specs.Reads.{reads};
 ghost use Rattle.ops_io.specs.Coming.{Coming};
 ghost use Rattle.ops_jobs.specs.Laws.{KeepsLimits, IsWithinLimits};
-ghost use Rattle.ops_top.specs.Whole.{Joined, Reply, answer_gathered, files_in, gathered_for, is_free_run, is_run, readable};
+ghost use Rattle.ops_top.specs.Whole.{Joined, Reply, answer_gathered, files_in, gathered_for, is_run, is_waiting_run, may_wait, readable};
 ghost use Rattle.ops_top.specs.Calls.{OfContents, AskedFor, broken_load};
 ghost use Rattle.ops_top.specs.Loads.{ComesTo, CountsUnread, IsOfLast};
 ghost use Rattle.ops_top.specs.Told.{Delivers};
@@ -36,15 +36,26 @@ pub(crate) enum NoProgram<'n> {
     Text(ProgramFault),
 }
 
-/// Whether a job asks for a session over the engine of free workers, whose workers wait for each other.
+/// Whether the workers of this engine wait for each other.
+fn may_wait(engine: Engine) -> bool
+    ensures { result ≡ may_wait engine }
+{
+    match engine {
+        Engine::Free | Engine::Steal => true,
+        Engine::Direct | Engine::Serial | Engine::Rounds => false,
+    }
+}
+
+/// Whether a job asks for a session over the engine of free workers or the stealing one, whose workers wait for each
+/// other.
 pub(crate) fn asks_to_wait(job: &Job) -> bool
-    ensures { result ≡ is_free_run job.now }
+    ensures { result ≡ is_waiting_run job.now }
 {
     match job {
-        Job::Run { options, .. } => options.engine == Engine::Free,
-        Job::Why { options, .. } => options.engine == Engine::Free,
+        Job::Run { options, .. } => may_wait(options.engine),
+        Job::Why { options, .. } => may_wait(options.engine),
         Job::Net { .. } => false,
-        Job::Gen { options, .. } => options.engine == Engine::Free,
+        Job::Gen { options, .. } => may_wait(options.engine),
     }
 }
 
@@ -169,7 +180,7 @@ pub(crate) fn run_still<R: Threads + Sync, H: Shelf, I: Source, K: Sink, G: Gate
     sink: &mut K,
     gate: G,
 ) -> Result<Status, Stop>
-    requires still { is_free_run job.now ≡ false }
+    requires still { is_waiting_run job.now ≡ false }
     requires limits { KeepsLimits job.now }
     requires shelf { H.faults shelf.old < 2 ^ 63 }
     requires loads { length (H.names shelf.old) < 2 ^ 63 }

@@ -11,6 +11,7 @@ use ops_io::Gate;
 use rounds_engine::RoundsEngine;
 use serial_engine::SerialEngine;
 use std::alloc::Global;
+use steal_engine::StealEngine;
 
 /// Makes engines that match each production directly.
 #[derive(Clone, Copy)]
@@ -78,5 +79,25 @@ impl<G: Gate + Copy> Maker for FreeMaker<G> {
     fn make(&self, alloc: Global, program: &Program) -> Result<FreeEngine<G>, OutOfMemory> {
         let net = compile(alloc, program)?;
         FreeEngine::new(alloc, net, self.lines, self.workers, self.gate)
+    }
+}
+
+/// Makes stealing engines. They start no thread before they settle.
+#[derive(Drop)]
+pub(crate) struct StealMaker<G> {
+    pub(crate) lines: usize,
+    pub(crate) workers: usize,
+    pub(crate) gate: G,
+    ghost some_lines: { 1 ≤ lines },
+    ghost some_workers: { 1 ≤ workers },
+    ghost few_workers: { workers ≤ 2 ^ 32 },
+}
+
+impl<G: Gate + Copy> Maker for StealMaker<G> {
+    type M = StealEngine<G>;
+
+    fn make(&self, alloc: Global, program: &Program) -> Result<StealEngine<G>, OutOfMemory> {
+        let net = compile(alloc, program)?;
+        StealEngine::new(alloc, net, self.lines, self.workers, self.gate)
     }
 }

@@ -52,6 +52,7 @@ fn engine_named(word: &str) -> Option<Engine>
         "serial" => Some(Engine::Serial),
         "rounds" => Some(Engine::Rounds),
         "free" => Some(Engine::Free),
+        "steal" => Some(Engine::Steal),
         _ => None,
     }
 }

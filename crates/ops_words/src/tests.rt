@@ -145,7 +145,7 @@ const UNFIT: [&[&str]; 46] = [
     &[],
     &["--"],
     &["--limit=3"],
-    &["--match=steal", "f"],
+    &["--match=queue", "f"],
     &["--match", "Serial", "f"],
     &["--match=", "f"],
     &["--match", "--workers", "7", "f"],

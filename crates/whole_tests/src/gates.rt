@@ -66,10 +66,11 @@ fn activations_counted(rt: HostRuntime) -> Result<(), Fail> {
 
 /// Words that run a workload, each with the least number of activations and one that is too large. Direct matching
 /// makes none, and takes too long for a test on more items.
-const GATED_RUNS: [(&[&str], u64, u64); 4] = [
+const GATED_RUNS: [(&[&str], u64, u64); 5] = [
     (&["--gen", "7", "400", "--match", "serial"], 1_001, 20_000),
     (&["--gen", "7", "400", "--match", "rounds"], 1_001, 20_000),
     (&["--gen", "7", "400", "--match", "free"], 1_001, 20_000),
+    (&["--gen", "7", "400", "--match", "steal"], 1_001, 20_000),
     (&["--gen", "7", "20", "--match", "direct"], 0, 1),
 ];
 
@@ -244,6 +245,23 @@ fn two_activations_meet(rt: HostRuntime) -> Result<(), Fail> {
         if are_on_four_lines(alloc, &net, lines)? {
             let gate = Meeting::of(2);
             let status = answer_to_two(&rt, alloc, "free", lines, &gate)?;
+            assert_eq!(rt; status, Status::Done);
+            assert_eq!(rt; gate.met.load(Ordering::SeqCst) >= 2, true);
+            return Ok(());
+        }
+    }
+    panic!(rt; "no number of lines has them on four lines");
+}
+
+/// The same of workers with a deque each.
+#[test]
+fn two_stealing_workers_meet(rt: HostRuntime) -> Result<(), Fail> {
+    let alloc = rt.alloc();
+    let net = net_of_two(alloc)?;
+    for lines in 2..100 {
+        if are_on_four_lines(alloc, &net, lines)? {
+            let gate = Meeting::of(2);
+            let status = answer_to_two(&rt, alloc, "steal", lines, &gate)?;
             assert_eq!(rt; status, Status::Done);
             assert_eq!(rt; gate.met.load(Ordering::SeqCst) >= 2, true);
             return Ok(());

@@ -10,15 +10,16 @@ use std::test::Fail;
 use std::thread::Threads;
 
 /// The words of each engine.
-pub(super) const ENGINES: [&[&str]; 4] = [
+pub(super) const ENGINES: [&[&str]; 5] = [
     &["--match=direct"],
     &["--match=serial"],
     &["--match=rounds", "--workers=2"],
     &["--match=free", "--workers=2"],
+    &["--match=steal", "--workers=2"],
 ];
 
 /// Words that run the file `a`, with each engine.
-pub(super) const RUNS: [&[&str]; 11] = [
+pub(super) const RUNS: [&[&str]; 14] = [
     &["a"],
     &["--match=direct", "a"],
     &["--match", "serial", "a"],
@@ -30,6 +31,9 @@ pub(super) const RUNS: [&[&str]; 11] = [
     &["--match=free", "a", "--workers=1"],
     &["--match=free", "--workers", "2", "a"],
     &["a", "--match=free", "--workers=7", "--lines=9"],
+    &["--match=steal", "a", "--workers=1"],
+    &["--match=steal", "--workers", "2", "a"],
+    &["a", "--match=steal", "--workers=7", "--lines=9"],
 ];
 
 /// It asks for a name and tells it.

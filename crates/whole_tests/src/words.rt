@@ -7,7 +7,7 @@ use ops_top::{code, still_run};
 use std::test::Fail;
 
 const USAGE: &[u8] =
-    b"usage: ops [--match direct|serial|rounds|free] [--workers N] [--lines L] [--limit N] FILE.. | ops --gen SEED SIZE | ops --net FILE.. | ops --why FILE..\n";
+    b"usage: ops [--match direct|serial|rounds|free|steal] [--workers N] [--lines L] [--limit N] FILE.. | ops --gen SEED SIZE | ops --net FILE.. | ops --why FILE..\n";
 
 /// Words that don't fit.
 const UNFIT: [&[&str]; 16] = [
@@ -19,7 +19,7 @@ const UNFIT: [&[&str]; 16] = [
     &["--limit", "0", "f"],
     &["--limit", "3", "--limit", "3", "f"],
     &["--workers", "65", "f"],
-    &["--match=steal", "f"],
+    &["--match=queue", "f"],
     &["--gen", "7", "0"],
     &["--gen", "--net", "7", "1"],
     &["--why", "--why", "f"],
